@@ -1,0 +1,26 @@
+-- The numbers of nodes on the wire.
+use Rattle.std.specs.Prelude.{ℕ, ◌+◌, ◌-◌, ◌&&◌, Bool, Option, Some, None, nat_le, nat_eq, if◌then◌else◌}
+use Rattle.afs_num.specs.declared.types.Node.{Node}
+use Rattle.afs_num.specs.declared.types.Node.TheVariants.{Loc, Server, Client, Admin}
+
+-- the location database is 0, server i is i, client i is 100 + i, administrator i is 200 + i
+abbrev pub node_number : Node → ℕ
+node_number Loc = 0
+node_number (Server i) = i
+node_number (Client i) = 100 + i
+node_number (Admin i) = 200 + i
+
+abbrev pub is_between : ℕ → ℕ → ℕ → Bool
+is_between low high n = nat_le low n && nat_le n high
+
+-- there are at most 8 servers, 16 clients and 4 administrators; any other number is no node
+abbrev pub node_of : ℕ → Option Node
+node_of n =
+    if nat_eq n 0 then Some Loc
+    else (if is_between 1 8 n then Some (Server n)
+    else (if is_between 101 116 n then Some (Client (n - 100))
+    else (if is_between 201 204 n then Some (Admin (n - 200))
+    else None)))
+
+abbrev pub same_node : Node → Node → Bool
+same_node a b = nat_eq (node_number a) (node_number b)

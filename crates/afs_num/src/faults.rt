@@ -1,0 +1,9 @@
+/// Why a journal answered no number: the record doesn't fit (the journal's length and the disk's capacity, in
+/// bytes), the disk failed in this call, it failed in an earlier one, or memory was wanting.
+#[derive(Clone, Copy, Debug, PartialEq, Eq)]
+pub enum JournalFault {
+    Full(u64, u64),
+    Failed,
+    Closed,
+    OutOfMemory,
+}
