@@ -1,0 +1,90 @@
+ghost use Rattle.std.specs.Prelude.{◌≡◌, ◌<◌, ◌^◌, [], ◌++◌, length, replicate, IfOk, OnOk, OnErr};
+ghost use Rattle.afs_xdr.specs.Words.{word, opaque};
+
+use crate::reading::pad_of;
+use bytes::{BufMut, BytesMut};
+use std::alloc::{AllocError, Global};
+use std::marker::Model;
+
+/// Appends fields one after another. Want of memory leaves it as it was.
+#[derive(Drop)]
+pub struct Writer {
+    bytes: BytesMut,
+}
+
+impl Model for Writer {
+    ghost use Rattle.std.specs.Prelude.{ℕ, List};
+
+    ghost Value = { List ℕ };
+
+    ghost view = { λ w. w.bytes.items };
+}
+
+impl Writer {
+    /// No bytes yet. It takes no memory.
+    pub fn new(alloc: Global) -> Writer
+        ensures { result ≡ [] }
+    {
+        Writer {
+            bytes: BytesMut::new(alloc),
+        }
+    }
+
+    /// No bytes yet, and room for so many.
+    pub fn with_capacity(alloc: Global, capacity: usize) -> Result<Writer, AllocError>
+        ensures { IfOk result (λ w. w ≡ []) }
+    {
+        Ok(Writer {
+            bytes: BytesMut::with_capacity(alloc, capacity)?,
+        })
+    }
+
+    /// Appends a word.
+    #[tactic(auto, unfolding(crate::specs::Words::word))]
+    pub fn word(&mut self, n: u32) -> Result<(), AllocError>
+        ensures ok { OnOk result (self.new ≡ self.old ++ word n) }
+        ensures fits { n < 2 ^ 32 }
+        ensures err { OnErr result (self.new ≡ self.old) }
+    {
+        self.bytes.put_u32(n)
+    }
+
+    /// Appends an opaque.
+    #[tactic(auto, unfolding(crate::specs::Words::opaque, crate::specs::Words::word, crate::specs::Words::pad))]
+    pub fn opaque(&mut self, bytes: &[u8]) -> Result<(), AllocError>
+        requires { length bytes.now < 2 ^ 32 }
+        ensures ok { OnOk result (self.new ≡ self.old ++ opaque bytes.now) }
+        ensures err { OnErr result (self.new ≡ self.old) }
+    {
+        let pad = pad_of(bytes.len());
+        self.bytes.reserve(4 + bytes.len() + pad)?;
+        self.bytes.put_u32(bytes.len() as u32)?;
+        self.bytes.put_slice(bytes)?;
+        self.bytes.put_slice(zeros(pad))?;
+        Ok(())
+    }
+
+    /// The bytes.
+    pub fn into_vec(self) -> Result<Vec<u8>, AllocError>
+        ensures { IfOk result (λ v. v.items ≡ self) }
+    {
+        let Writer { bytes } = self;
+        match bytes.into_vec() {
+            Ok(items) => Ok(items),
+            Err(_) => Err(AllocError),
+        }
+    }
+}
+
+/// So many zero bytes, at most three.
+fn zeros(count: usize) -> &'static [u8]
+    requires { count < 4 }
+    ensures { result.now ≡ replicate count 0 }
+{
+    match count {
+        0 => &[],
+        1 => &[0],
+        2 => &[0, 0],
+        _ => &[0, 0, 0],
+    }
+}
