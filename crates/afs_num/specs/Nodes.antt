@@ -1,5 +1,5 @@
 -- The numbers of nodes on the wire.
-use Rattle.std.specs.Prelude.{ℕ, ◌+◌, ◌-◌, ◌&&◌, Bool, Option, Some, None, nat_le, nat_eq, if◌then◌else◌}
+use Rattle.std.specs.Prelude.{ℕ, ◌+◌, ◌-◌, ◌&&◌, Bool, true, false, Option, Some, None, nat_le, nat_eq, if◌then◌else◌}
 use Rattle.afs_num.specs.declared.types.Node.{Node}
 use Rattle.afs_num.specs.declared.types.Node.TheVariants.{Loc, Server, Client, Admin}
 
@@ -22,5 +22,10 @@ node_of n =
     else (if is_between 201 204 n then Some (Admin (n - 200))
     else None)))
 
+-- equality of nodes, as a test
 abbrev pub same_node : Node → Node → Bool
-same_node a b = nat_eq (node_number a) (node_number b)
+same_node Loc Loc = true
+same_node (Server i) (Server j) = nat_eq i j
+same_node (Client i) (Client j) = nat_eq i j
+same_node (Admin i) (Admin j) = nat_eq i j
+same_node a b = false

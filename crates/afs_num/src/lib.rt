@@ -7,4 +7,5 @@ pub mod histories;
 pub mod messages;
 pub mod scripts;
 pub mod sequences;
+pub mod states;
 pub mod types;

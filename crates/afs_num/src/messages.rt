@@ -30,5 +30,5 @@ pub enum Received {
     Unknown { head: Head },
     /// A call whose user or fields can't be read.
     Unreadable { head: Head },
-    Message { message: Message },
+    Whole { message: Message },
 }

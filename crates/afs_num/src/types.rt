@@ -37,7 +37,20 @@ pub enum Node {
 }
 
 impl Node {
-    ghost use Rattle.afs_num.specs.Nodes.{node_number, node_of};
+    ghost use Rattle.afs_num.specs.Nodes.{node_number, node_of, same_node};
+
+    /// Whether both are one node.
+    pub fn is(&self, other: &Node) -> bool
+        ensures { result ≡ same_node self.now other.now }
+    {
+        match (*self, *other) {
+            (Node::Loc, Node::Loc) => true,
+            (Node::Server(i), Node::Server(j)) => i == j,
+            (Node::Client(i), Node::Client(j)) => i == j,
+            (Node::Admin(i), Node::Admin(j)) => i == j,
+            _ => false,
+        }
+    }
 
     /// The node's number on the wire.
     pub fn number(&self) -> u32

@@ -1,0 +1,6 @@
+pub mod Messages
+pub mod Steps
+pub mod ServerRow
+pub mod ClientRow
+pub mod Runs
+pub mod Acts

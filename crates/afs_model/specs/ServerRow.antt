@@ -1,0 +1,249 @@
+-- The row of a file server: what it decides on a message, and what it then does.
+use Rattle.std.specs.Prelude.{ℕ, ◌+◌, List, [], ◌∷◌, ◌++◌, Bool, true, false, not, ◌&&◌, Option, Some, None, ℤ, pos, negsuc, nat_eq, nat_lt, map, filter, find, length, if◌then◌else◌}
+use Rattle.afs_num.specs.Fids.{same_fid}
+use Rattle.afs_num.specs.Nodes.{same_node}
+use Rattle.afs_num.specs.declared.types.Fid.{Fid}
+use Rattle.afs_num.specs.declared.types.Node.{Node}
+use Rattle.afs_num.specs.declared.types.Half.TheVariants as halves
+use Rattle.afs_num.specs.declared.types.Head.{Head}
+use Rattle.afs_num.specs.declared.types.Key.{Key}
+use Rattle.afs_num.specs.declared.calls.AfsFetchStatus.{AfsFetchStatus}
+use Rattle.afs_num.specs.declared.calls.AfsVolSync.{AfsVolSync}
+use Rattle.afs_num.specs.declared.calls.AfsCallBack.{AfsCallBack}
+use Rattle.afs_num.specs.declared.calls.FsCall.{FsCall}
+use Rattle.afs_num.specs.declared.calls.FsCall.TheVariants as calls
+use Rattle.afs_num.specs.declared.calls.FsReply.TheVariants as replies
+use Rattle.afs_num.specs.declared.messages.Carried.{Carried}
+use Rattle.afs_num.specs.declared.messages.Carried.TheVariants as carried
+use Rattle.afs_num.specs.declared.messages.Message.{Message}
+use Rattle.afs_num.specs.declared.messages.Received.{Received}
+use Rattle.afs_num.specs.declared.messages.Received.TheVariants.{Nothing, Unknown, Unreadable, Whole}
+use Rattle.afs_num.specs.declared.histories.Body.{Body}
+use Rattle.afs_num.specs.declared.histories.Body.TheVariants as bodies
+use Rattle.afs_num.specs.declared.histories.Version.{Version}
+use Rattle.afs_num.specs.declared.histories.Line.{Line}
+use Rattle.afs_num.specs.declared.histories.Line.TheVariants as lines
+use Rattle.afs_num.specs.declared.states.StoredFile.{StoredFile}
+use Rattle.afs_num.specs.declared.states.Seat.{Seat}
+use Rattle.afs_num.specs.declared.states.ServerState.{ServerState}
+use Rattle.afs_model.specs.Steps.{Step}
+
+-- ---- the pair of a call, against the last one of its caller
+
+-- a call is older than the caller's last one, is that very call, or is a newer one
+pub data Standing : Type 0 where
+  is_older : Standing
+  is_last : Option Message → Standing
+  is_newer : Standing
+
+abbrev pub pair_below : ℕ → ℕ → ℕ → ℕ → Bool
+pair_below epoch number other_epoch other_number =
+    if nat_lt epoch other_epoch then true else (nat_eq epoch other_epoch && nat_lt number other_number)
+
+abbrev pub standing : Head → Option Seat → Standing
+standing head None = is_newer
+standing head (Some seat) =
+    if pair_below head.epoch head.number seat.epoch seat.number then is_older
+    else (if pair_below seat.epoch seat.number head.epoch head.number then is_newer else is_last seat.reply)
+
+abbrev pub seat_of : Node → List Seat → Option Seat
+seat_of caller seats = find (λ s. same_node s.caller caller) seats
+
+abbrev pub seated : Seat → List Seat → List Seat
+seated seat seats = filter (λ s. not (same_node s.caller seat.caller)) seats ++ seat ∷ []
+
+-- ---- files
+
+abbrev pub find_file : Fid → List StoredFile → Option StoredFile
+find_file fid files = find (λ v. same_fid v.fid fid) files
+
+-- the file after a store of these bytes at this time
+abbrev pub stored : List ℕ → ℕ → StoredFile → StoredFile
+stored contents clock file = record file { index = file.index + 1; data_version = file.data_version + 1; server_time = clock; contents = contents }
+
+abbrev pub with_stored : Fid → List ℕ → ℕ → StoredFile → StoredFile
+with_stored fid contents clock file = if same_fid file.fid fid then stored contents clock file else file
+
+-- the status of a file; all have all rights, and the volume's root is its parent
+abbrev pub status_of : StoredFile → AfsFetchStatus
+status_of file = record {
+  interface_version = 1;
+  file_type = 1;
+  link_count = 1;
+  length = length file.contents;
+  data_version = file.data_version;
+  author = 0;
+  owner = 0;
+  caller_access = 127;
+  anonymous_access = 127;
+  unix_mode_bits = 420;
+  parent_vnode = 1;
+  parent_unique = 1;
+  seg_size = 0;
+  client_mod_time = 0;
+  server_mod_time = file.server_time;
+  group = 0;
+  sync_counter = file.index;
+  spare1 = 0;
+  spare2 = 0;
+  spare3 = 0;
+  spare4 = 0;
+}
+
+-- that of a read-write volume
+abbrev pub no_release : AfsVolSync
+no_release = record { release = 0; spare1 = 0; spare2 = 0; spare3 = 0; spare4 = 0; spare5 = 0 }
+
+-- a promise lasts so many ticks
+abbrev pub promise_ticks : ℕ
+promise_ticks = 7200
+
+-- a shared promise
+abbrev pub promise_until : ℕ → AfsCallBack
+promise_until expiry = record { version = 1; expiration_time = expiry; kind = 2 }
+
+abbrev pub version_of : StoredFile → Version
+version_of file = record { fid = file.fid; index = file.index; data_version = file.data_version; body = bodies.File file.contents }
+
+-- ---- decisions
+
+pub data Decision : Type 0 where
+  drops : Decision
+  tells_boot : Head → Decision
+  repeats : Message → Decision
+  refuses : Head → ℤ → Decision
+  grants : Head → StoredFile → Decision
+  saves : Head → List ℕ → StoredFile → Decision
+
+-- no such file
+abbrev pub no_file : ℤ
+no_file = pos 102
+
+-- no such call here, and fields that can't be read
+abbrev pub no_call : ℤ
+no_call = negsuc 454
+
+abbrev pub bad_fields : ℤ
+bad_fields = negsuc 452
+
+abbrev pub fetches : Head → Option StoredFile → Decision
+fetches head None = refuses head no_file
+fetches head (Some file) = grants head file
+
+abbrev pub stores : Head → List ℕ → Option StoredFile → Decision
+stores head contents None = refuses head no_file
+stores head contents (Some file) = saves head contents file
+
+-- what a call asks, once it is to run
+pub data Request : Type 0 where
+  asks : FsCall → Request
+  asks_unknown : Request
+  asks_unreadable : Request
+
+abbrev pub runs : List StoredFile → Head → Request → Decision
+runs files head (asks (calls.FetchData fid position length)) = fetches head (find_file fid files)
+runs files head (asks (calls.StoreData fid status position length file_length contents)) = stores head contents (find_file fid files)
+runs files head (asks call) = refuses head no_call
+runs files head asks_unknown = refuses head no_call
+runs files head asks_unreadable = refuses head bad_fields
+
+abbrev pub answers_again : Option Message → Decision
+answers_again None = drops
+answers_again (Some reply) = repeats reply
+
+abbrev pub admits : List StoredFile → Head → Request → Standing → Decision
+admits files head request is_older = drops
+admits files head request (is_last reply) = answers_again reply
+admits files head request is_newer = runs files head request
+
+-- first the boot number is compared, then the pair
+abbrev pub called : Node → ServerState → Head → Request → Decision
+called me s head request =
+    if same_node head.to me then
+    (if nat_eq head.boot s.boot then admits s.files head request (standing head (seat_of head.from s.seats)) else tells_boot head)
+    else drops
+
+abbrev pub hears : Node → ServerState → Head → Carried → Decision
+hears me s head (carried.Call user call) = called me s head (asks call)
+hears me s head (carried.Refusal code) = drops
+hears me s head (carried.Reply reply) = drops
+hears me s head carried.Notice = drops
+
+-- a message without a readable header, one to another node, a reply and a notice are dropped
+abbrev pub decides : Node → ServerState → Received → Decision
+decides me s Nothing = drops
+decides me s (Unknown head) = called me s head asks_unknown
+decides me s (Unreadable head) = called me s head asks_unreadable
+decides me s (Whole m) = hears me s m.head m.carried
+
+-- ---- effects
+
+abbrev pub key_of : Head → Key
+key_of head = record { node = head.from; epoch = head.epoch; number = head.number }
+
+-- the header of the reply to a call, by a server of this boot
+abbrev pub reply_head : ℕ → Head → Head
+reply_head boot head = record {
+  half = halves.Reply;
+  from = head.to;
+  to = head.from;
+  epoch = head.epoch;
+  number = head.number;
+  boot = boot;
+  stamp = 0;
+  opcode = head.opcode;
+}
+
+abbrev pub replied : ℕ → Head → Carried → Message
+replied boot head c = record { head = reply_head boot head; carried = c }
+
+abbrev pub boot_told : ℕ → Head → Message
+boot_told boot head = record { head = record (reply_head boot head) { half = halves.Boot }; carried = carried.Notice }
+
+abbrev pub refusal : ℕ → Head → ℤ → Message
+refusal boot head code = replied boot head (carried.Refusal (record { 0 = code }))
+
+abbrev pub fetched_reply : ℕ → Head → StoredFile → ℕ → Message
+fetched_reply boot head file expiry = replied boot head (carried.Reply (replies.FetchData file.contents (status_of file) (promise_until expiry) no_release))
+
+abbrev pub stored_reply : ℕ → Head → StoredFile → Message
+stored_reply boot head file = replied boot head (carried.Reply (replies.StoreData (status_of file) no_release))
+
+-- the reply is kept beside the pair of its call
+abbrev pub keeps : Head → Message → ServerState → ServerState
+keeps head reply s = record s { seats = seated (record { caller = head.from; epoch = head.epoch; number = head.number; reply = Some reply }) s.seats }
+
+abbrev pub saved : Fid → List ℕ → ℕ → ServerState → ServerState
+saved fid contents clock s = record s { files = map (with_stored fid contents clock) s.files }
+
+abbrev pub told : ServerState → ℕ → List Message → Step ServerState
+told s place sent = record { state = s; lines = lines.Given place ∷ []; sent = sent }
+
+abbrev pub refuses_step : ServerState → ℕ → Head → ℤ → Step ServerState
+refuses_step s place head code = told (keeps head (refusal s.boot head code) s) place (refusal s.boot head code ∷ [])
+
+abbrev pub grants_step : Node → ServerState → ℕ → Head → StoredFile → ℕ → Step ServerState
+grants_step me s place head file expiry = record {
+  state = keeps head (fetched_reply s.boot head file expiry) s;
+  lines = lines.Given place ∷ lines.Grant me head.from file.fid file.index expiry ∷ [];
+  sent = fetched_reply s.boot head file expiry ∷ [];
+}
+
+abbrev pub saves_step : Node → ServerState → ℕ → ℕ → Head → List ℕ → StoredFile → Step ServerState
+saves_step me s clock place head contents file = record {
+  state = keeps head (stored_reply s.boot head (stored contents clock file)) (saved file.fid contents clock s);
+  lines = lines.Given place ∷ lines.Change me (key_of head) 1 ∷ lines.Version (version_of (stored contents clock file)) ∷ [];
+  sent = stored_reply s.boot head (stored contents clock file) ∷ [];
+}
+
+abbrev pub does : Node → ServerState → ℕ → ℕ → Decision → Step ServerState
+does me s clock place drops = told s place []
+does me s clock place (tells_boot head) = told s place (boot_told s.boot head ∷ [])
+does me s clock place (repeats reply) = told s place (reply ∷ [])
+does me s clock place (refuses head code) = refuses_step s place head code
+does me s clock place (grants head file) = grants_step me s place head file (clock + promise_ticks)
+does me s clock place (saves head contents file) = saves_step me s clock place head contents file
+
+-- the server `me`, given the message of this place
+unfoldable pub server_row : Node → ServerState → ℕ → ℕ → Received → Step ServerState
+server_row me s clock place m = does me s clock place (decides me s m)

@@ -1,0 +1,2 @@
+//! The definitions of the cell, and laws about them.
+#![tactic(auto)]

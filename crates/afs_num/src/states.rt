@@ -1,0 +1,60 @@
+//! The states of the nodes, as the rows of the definitions and the nodes themselves know them.
+
+use crate::messages::Message;
+use crate::scripts::Act;
+use crate::sequences::{Octets, Sequence};
+use crate::types::{Fid, Node};
+
+/// A file that a server holds. The server's time is the clock at its last change, in ticks.
+#[derive(Drop)]
+pub struct StoredFile {
+    pub fid: Fid,
+    pub index: u32,
+    pub data_version: u32,
+    pub server_time: u32,
+    pub contents: Octets,
+}
+
+pub type StoredFiles = Sequence<StoredFile>;
+
+/// What a callee knows of a caller: the epoch and number of its last call, and the reply to that call; none while
+/// the call is in progress.
+#[derive(Drop)]
+pub struct Seat {
+    pub caller: Node,
+    pub epoch: u32,
+    pub number: u32,
+    pub reply: Option<Message>,
+}
+
+pub type Seats = Sequence<Seat>;
+
+/// A file server: its boot number, the files of its volumes, and its callers.
+#[derive(Drop)]
+pub struct ServerState {
+    pub boot: u32,
+    pub files: StoredFiles,
+    pub seats: Seats,
+}
+
+/// A file that a client has cached. It is trusted until the clock reaches the expiry.
+#[derive(Drop)]
+pub struct CacheEntry {
+    pub fid: Fid,
+    pub index: u32,
+    pub expiry: u32,
+    pub contents: Octets,
+}
+
+pub type CacheEntries = Sequence<CacheEntry>;
+
+/// A cache manager: its epoch, the number of its last call in it, the boot number of its server as it knows it, the
+/// act that waits for the reply to that call, and its cache, the entry that was used last first.
+#[derive(Drop)]
+pub struct ClientState {
+    pub epoch: u32,
+    pub last: u32,
+    pub boot: u32,
+    pub running: Option<Act>,
+    pub cache: CacheEntries,
+}
