@@ -6,6 +6,7 @@ use crate::faults::XdrFault;
 use std::marker::Model;
 
 /// Reads fields one after another from bytes. A refusal leaves it as it was, and no call takes memory.
+#[derive(Drop)]
 pub struct Reader<'a> {
     size: usize,
     left: &'a [u8],
@@ -70,6 +71,7 @@ impl<'a> Reader<'a> {
     #[tactic(auto, unfolding(crate::specs::Words::opaque_at))]
     pub fn opaque(&mut self, max: u32) -> Result<&'a [u8], XdrFault>
         ensures value { Reads (opaque_at max) (λ b. b.now) self.old self.new result }
+        ensures limit { IfOk result (λ b. length b.now ≤ max) }
         ensures end { KeepsEnd self.old self.new }
         ensures err { OnErr result (self.new ≡ self.old) }
     {
@@ -114,6 +116,7 @@ fn word_of(bytes: &[u8]) -> Result<(u32, &[u8]), XdrFault>
 #[tactic(auto, unfolding(crate::specs::Words::counted_at))]
 fn counted_of(bytes: &[u8], count: u32) -> Result<(&[u8], &[u8]), XdrFault>
     ensures value { Gives (λ r. (r.0.now, r.1.now)) (counted_at count bytes.now) result }
+    ensures count { IfOk result (λ r. length r.0.now ≡ count) }
     ensures shorter { IfOk result (λ r. length r.1.now ≤ length bytes.now) }
 {
     let count = count as usize;
@@ -134,6 +137,7 @@ fn counted_of(bytes: &[u8], count: u32) -> Result<(&[u8], &[u8]), XdrFault>
 #[tactic(auto, unfolding(crate::specs::Words::opaque_at))]
 fn opaque_of(bytes: &[u8], max: u32) -> Result<(&[u8], &[u8]), XdrFault>
     ensures value { Gives (λ r. (r.0.now, r.1.now)) (opaque_at max bytes.now) result }
+    ensures limit { IfOk result (λ r. length r.0.now ≤ max) }
     ensures shorter { IfOk result (λ r. length r.1.now ≤ length bytes.now) }
 {
     let (count, rest) = word_of(bytes)?;

@@ -1,0 +1,4 @@
+//! The nodes of the cell, and the cell.
+#![tactic(auto)]
+
+pub mod decoding;
