@@ -1,9 +1,9 @@
 -- The spelling of messages, and what a node reads in the bytes that it is given.
 -- A message is a header of eight words; then a call has its user and its fields, a reply its code and, exactly where
 -- that is 0, its fields, a boot notice nothing. So far FetchData (130) and StoreData (133) have rows.
-use Rattle.std.specs.Prelude.{ℕ, ◌||◌, List, [], ◌∷◌, ◌++◌, Bool, true, false, Option, Some, None, Result, Ok, Err, ℤ, pos, negsuc, nat_eq, if◌then◌else◌}
+use Rattle.std.specs.Prelude.{◌≡◌, ◌≤◌, ◌<◌, ◌^◌, ℕ, ◌||◌, length, FitsSigned, List, [], ◌∷◌, ◌++◌, Bool, true, false, Option, Some, None, Result, Ok, Err, ℤ, pos, negsuc, nat_eq, if◌then◌else◌}
 use Rattle.std.specs.Int.{w32, cast_signed, cast_unsigned}
-use Rattle.afs_num.specs.Nodes.{node_number, node_of}
+use Rattle.afs_num.specs.Nodes.{IsNode, node_number, node_of}
 use Rattle.afs_num.specs.declared.types.Fid.{Fid}
 use Rattle.afs_num.specs.declared.types.Node.{Node}
 use Rattle.afs_num.specs.declared.types.Half.{Half}
@@ -96,6 +96,7 @@ spelled m = words (head_words m.head) ++ carried_bytes m.carried
 abbrev pub half_of : ℕ → Option Half
 half_of n = if nat_eq n 1 then Some halves.Call else (if nat_eq n 2 then Some halves.Reply else (if nat_eq n 3 then Some halves.Boot else None))
 
+-- a word that stands for a value; any other is refused
 abbrev pub known : {A : Type 0} → Option A → List ℕ → Result (A × List ℕ) XdrFault
 known (Some x) rest = Ok (x, rest)
 known None rest = Err BadHead
@@ -314,6 +315,78 @@ behind_head (Err e) = Nothing
 
 unfoldable pub received : List ℕ → Received
 received bytes = behind_head (head_at bytes)
+
+-- ---- which messages have a spelling
+
+abbrev pub IsWord : ℕ → Type 0
+IsWord n = n < 2 ^ 32
+
+abbrev pub AreWords : List ℕ → Type 0
+AreWords [] = Unit {0}
+AreWords (n ∷ ns) = IsWord n × AreWords ns
+
+-- the header's nodes are nodes, and its numbers are words
+pub record FitsHead (h : Head) : Type 0 where
+  pub from : IsNode h.from
+  pub to : IsNode h.to
+  pub numbers : AreWords (head_words h)
+
+-- a call that has a row, under its opcode, with words and contents within their limits
+abbrev pub FitsCall : ℕ → FsCall → Type 0
+FitsCall opcode (calls.FetchData fid position count) =
+    (opcode ≡ fetch_data) × (AreWords (fid_words fid) × (FitsSigned w32 position × FitsSigned w32 count))
+FitsCall opcode (calls.StoreData fid status position count file_length contents) =
+    (opcode ≡ store_data) × (AreWords (fid_words fid) × (AreWords (store_status_words status)
+    × (FitsSigned w32 position × (FitsSigned w32 count × (FitsSigned w32 file_length × (length contents ≤ contents_limit))))))
+FitsCall opcode call = ⊥
+
+abbrev pub FitsReply : ℕ → FsReply → Type 0
+FitsReply opcode (replies.FetchData contents status callback sync) =
+    (opcode ≡ fetch_data) × ((length contents ≤ contents_limit) × (AreWords (status_words status) × (AreWords (callback_words callback) × AreWords (sync_words sync))))
+FitsReply opcode (replies.StoreData status sync) = (opcode ≡ store_data) × (AreWords (status_words status) × AreWords (sync_words sync))
+FitsReply opcode reply = ⊥
+
+abbrev pub FitsCarried : Half → ℕ → Carried → Type 0
+FitsCarried half opcode (carried.Call user call) = (half ≡ halves.Call) × ((length user ≤ user_limit) × FitsCall opcode call)
+FitsCarried half opcode (carried.Refusal code) = (half ≡ halves.Reply) × (FitsSigned w32 code.0 × (is_zero code.0 ≡ false))
+FitsCarried half opcode (carried.Reply reply) = (half ≡ halves.Reply) × FitsReply opcode reply
+FitsCarried half opcode carried.Notice = half ≡ halves.Boot
+
+-- a message that a node may send
+pub record Fits (m : Message) : Type 0 where
+  pub head : FitsHead m.head
+  pub carried : FitsCarried m.head.half m.head.opcode m.carried
+
+-- ---- the same, without the bounds that the types of the fields keep by themselves
+
+abbrev pub IsSoundCall : ℕ → FsCall → Type 0
+IsSoundCall opcode (calls.FetchData fid position count) = opcode ≡ fetch_data
+IsSoundCall opcode (calls.StoreData fid status position count file_length contents) = (opcode ≡ store_data) × (length contents ≤ contents_limit)
+IsSoundCall opcode call = ⊥
+
+abbrev pub IsSoundReply : ℕ → FsReply → Type 0
+IsSoundReply opcode (replies.FetchData contents status callback sync) = (opcode ≡ fetch_data) × (length contents ≤ contents_limit)
+IsSoundReply opcode (replies.StoreData status sync) = opcode ≡ store_data
+IsSoundReply opcode reply = ⊥
+
+abbrev pub IsSoundCarried : Half → ℕ → Carried → Type 0
+IsSoundCarried half opcode (carried.Call user call) = (half ≡ halves.Call) × ((length user ≤ user_limit) × IsSoundCall opcode call)
+IsSoundCarried half opcode (carried.Refusal code) = (half ≡ halves.Reply) × (is_zero code.0 ≡ false)
+IsSoundCarried half opcode (carried.Reply reply) = (half ≡ halves.Reply) × IsSoundReply opcode reply
+IsSoundCarried half opcode carried.Notice = half ≡ halves.Boot
+
+abbrev pub IsSoundHead : Head → Type 0
+IsSoundHead h = IsNode h.from × IsNode h.to
+
+abbrev pub IsSoundMessage : Message → Type 0
+IsSoundMessage m = IsSoundHead m.head × IsSoundCarried m.head.half m.head.opcode m.carried
+
+-- what is found in bytes is sound
+abbrev pub IsSound : Received → Type 0
+IsSound Nothing = Unit {0}
+IsSound (Unknown head) = IsSoundHead head
+IsSound (Unreadable head) = IsSoundHead head
+IsSound (Whole m) = IsSoundMessage m
 
 -- ---- messages under way, as bytes and as values
 

@@ -1,5 +1,5 @@
 -- The numbers of nodes on the wire.
-use Rattle.std.specs.Prelude.{ℕ, ◌+◌, ◌-◌, ◌&&◌, Bool, true, false, Option, Some, None, nat_le, nat_eq, if◌then◌else◌}
+use Rattle.std.specs.Prelude.{◌≡◌, ℕ, ◌+◌, ◌-◌, ◌&&◌, Bool, true, false, Option, Some, None, nat_le, nat_eq, if◌then◌else◌}
 use Rattle.afs_num.specs.declared.types.Node.{Node}
 use Rattle.afs_num.specs.declared.types.Node.TheVariants.{Loc, Server, Client, Admin}
 
@@ -21,6 +21,10 @@ node_of n =
     else (if is_between 101 116 n then Some (Client (n - 100))
     else (if is_between 201 204 n then Some (Admin (n - 200))
     else None)))
+
+-- a node within the cell's counts
+abbrev pub IsNode : Node → Type 0
+IsNode n = node_of (node_number n) ≡ Some n
 
 -- equality of nodes, as a test
 abbrev pub same_node : Node → Node → Bool

@@ -1,4 +1,4 @@
-ghost use Rattle.std.specs.Prelude.{◌≡◌, ◌==◌, ◌%◌};
+ghost use Rattle.std.specs.Prelude.{◌≡◌, ◌==◌, ◌%◌, IfSome};
 
 use crate::sequences::{Octets, Sequence};
 use std::alloc::AllocError;
@@ -67,7 +67,8 @@ impl Node {
     /// The node of this number: servers are 1 to 8, clients 101 to 116, administrators 201 to 204, the location
     /// database is 0. Any other number is no node.
     pub fn from_number(n: u32) -> Option<Node>
-        ensures { result ≡ node_of n }
+        ensures value { result ≡ node_of n }
+        ensures number { IfSome result (λ m. node_number m ≡ n) }
     {
         match n {
             0 => Some(Node::Loc),

@@ -1,13 +1,9 @@
 -- What decoding gives, in terms of the bytes that were left. Want of memory says nothing of them.
-use Rattle.std.specs.Prelude.{◌≡◌, ◌≤◌, List, ℕ, length, Result, Ok, Err}
+use Rattle.std.specs.Prelude.{◌≡◌, List, ℕ, Result, Ok, Err}
 use Rattle.afs_num.specs.declared.types.Head.{Head}
-use Rattle.afs_num.specs.declared.calls.FsCall.{FsCall}
-use Rattle.afs_num.specs.declared.calls.FsCall.TheVariants as calls
 use Rattle.afs_num.specs.declared.messages.Carried.{Carried}
-use Rattle.afs_num.specs.declared.messages.Carried.TheVariants as carried
 use Rattle.afs_num.specs.declared.messages.Received.{Received}
-use Rattle.afs_num.specs.declared.messages.Received.TheVariants.{Nothing, Unknown, Unreadable, Whole}
-use Rattle.afs_model.specs.Messages.{contents_limit}
+use Rattle.afs_num.specs.declared.messages.Received.TheVariants.{Nothing, Whole}
 use Rattle.afs_xdr.specs.declared.faults.XdrFault.{XdrFault}
 use Rattle.afs_xdr.specs.Reading.{Reading}
 use Rattle.afs_world.specs.declared.decoding.DecodeFault.{DecodeFault}
@@ -29,19 +25,6 @@ Ends read (Err OutOfMemory) = Unit {0}
 abbrev pub Finds : Received → Result Received DecodeFault → Type 0
 Finds what (Ok x) = x ≡ what
 Finds what (Err e) = e ≡ OutOfMemory
-
--- the contents that a call stores are within their limit
-abbrev pub IsShortCall : FsCall → Type 0
-IsShortCall (calls.StoreData fid status position count file_length contents) = length contents ≤ contents_limit
-IsShortCall call = Unit {0}
-
-abbrev pub IsShortCarried : Carried → Type 0
-IsShortCarried (carried.Call user call) = IsShortCall call
-IsShortCarried c = Unit {0}
-
-abbrev pub IsShort : Received → Type 0
-IsShort (Whole m) = IsShortCarried m.carried
-IsShort r = Unit {0}
 
 -- what is found behind the header of a reply or a notice
 abbrev pub IsHeard : Head → Result Carried DecodeFault → Result Received DecodeFault → Type 0

@@ -1,12 +1,13 @@
 //! What a node finds in the bytes that it is given. The layout of headers, calls and replies is this project's
 //! profile of the AFS-3 Programmer's Reference, File Server/Cache Manager Interface.
 
-ghost use Rattle.std.specs.Prelude.{◌≡◌, ◌≤◌, length, IfOk};
+ghost use Rattle.std.specs.Prelude.{◌≡◌, ◌≤◌, length, true, false, IfOk};
 ghost use Rattle.afs_xdr.specs.Reading.{Reads};
 ghost use Rattle.afs_xdr.specs.Words.{opaque_at};
-ghost use Rattle.afs_model.specs.Messages.{half_of, half_at, node_at, head_at, signed_at, fid_at, store_status_at, status_at, callback_at, sync_at, fetch_call_at, store_call_at, call_at, asked_at, fetch_reply_at, store_reply_at, reply_at, answer_at, refusal_at, replied_at, notice_at, received, behind, has_row, is_zero};
+ghost use Rattle.afs_model.specs.Messages.{half_of, half_at, node_at, head_at, signed_at, fid_at, store_status_at, status_at, callback_at, sync_at, fetch_call_at, store_call_at, call_at, asked_at, fetch_reply_at, store_reply_at, reply_at, answer_at, refusal_at, replied_at, notice_at, received, behind, has_row, is_zero, fetch_data, store_data, IsSoundCall, IsSoundReply, IsSoundCarried, IsSoundHead, IsSound};
+ghost use Rattle.afs_num.specs.Nodes.{IsNode};
 ghost use Rattle.afs_num.specs.declared.types.Half.TheVariants as halves;
-ghost use Rattle.afs_world.specs.Decoding.{Takes, Ends, Finds, IsShortCall, IsShortCarried, IsShort, IsHeard};
+ghost use Rattle.afs_world.specs.Decoding.{Takes, Ends, Finds, IsHeard};
 ghost use Rattle.afs_world.specs.declared.decoding.DecodeFault.TheVariants.{Spelling, OutOfMemory};
 
 use afs_num::calls::{AfsCallBack, AfsFetchStatus, AfsStoreStatus, AfsVolSync, FsCall, FsReply};
@@ -61,15 +62,20 @@ fn read_half(r: &mut Reader) -> Result<Half, XdrFault>
 
 #[tactic(auto, unfolding(afs_model::specs::Messages::node_at))]
 fn read_node(r: &mut Reader) -> Result<Node, XdrFault>
-    ensures { Reads node_at (λ x. x) r.old r.new result }
+    ensures value { Reads node_at (λ x. x) r.old r.new result }
+    ensures sound { IfOk result IsNode }
 {
     let n = r.word()?;
-    Node::from_number(n).ok_or(XdrFault::BadHead)
+    match Node::from_number(n) {
+        Some(node) => Ok(node),
+        None => Err(XdrFault::BadHead),
+    }
 }
 
 #[tactic(auto, unfolding(afs_model::specs::Messages::head_at))]
 fn read_head(r: &mut Reader) -> Result<Head, XdrFault>
-    ensures { Reads head_at (λ x. x) r.old r.new result }
+    ensures value { Reads head_at (λ x. x) r.old r.new result }
+    ensures sound { IfOk result IsSoundHead }
 {
     let half = read_half(r)?;
     let from = read_node(r)?;
@@ -230,7 +236,7 @@ fn read_octets(alloc: Global, r: &mut Reader, max: u32) -> Result<Octets, Decode
 #[tactic(auto, unfolding(afs_model::specs::Messages::fetch_call_at))]
 fn read_fetch_call(r: &mut Reader) -> Result<FsCall, DecodeFault>
     ensures value { Ends (fetch_call_at r.old.left) result }
-    ensures short { IfOk result IsShortCall }
+    ensures sound { IfOk result (IsSoundCall fetch_data) }
 {
     let fid = read_fid(r)?;
     let position = read_signed(r)?;
@@ -246,7 +252,7 @@ fn read_fetch_call(r: &mut Reader) -> Result<FsCall, DecodeFault>
 #[tactic(auto, unfolding(afs_model::specs::Messages::store_call_at))]
 fn read_store_call(alloc: Global, r: &mut Reader) -> Result<FsCall, DecodeFault>
     ensures value { Ends (store_call_at r.old.left) result }
-    ensures short { IfOk result IsShortCall }
+    ensures sound { IfOk result (IsSoundCall store_data) }
 {
     let fid = read_fid(r)?;
     let status = read_store_status(r)?;
@@ -267,8 +273,9 @@ fn read_store_call(alloc: Global, r: &mut Reader) -> Result<FsCall, DecodeFault>
 
 #[tactic(auto, unfolding(afs_model::specs::Messages::asked_at))]
 fn read_asked(alloc: Global, r: &mut Reader, opcode: u32) -> Result<Carried, DecodeFault>
+    requires { has_row opcode ≡ true }
     ensures value { Ends (asked_at opcode r.old.left) result }
-    ensures short { IfOk result IsShortCarried }
+    ensures sound { IfOk result (IsSoundCarried halves.Call opcode) }
 {
     let user = read_octets(alloc, r, 64)?;
     let call = if opcode == 130 {
@@ -281,7 +288,8 @@ fn read_asked(alloc: Global, r: &mut Reader, opcode: u32) -> Result<Carried, Dec
 
 #[tactic(auto, unfolding(afs_model::specs::Messages::fetch_reply_at))]
 fn read_fetch_reply(alloc: Global, r: &mut Reader) -> Result<FsReply, DecodeFault>
-    ensures { Ends (fetch_reply_at r.old.left) result }
+    ensures value { Ends (fetch_reply_at r.old.left) result }
+    ensures sound { IfOk result (IsSoundReply fetch_data) }
 {
     let contents = read_octets(alloc, r, 2_097_152)?;
     let status = read_status(r)?;
@@ -298,7 +306,8 @@ fn read_fetch_reply(alloc: Global, r: &mut Reader) -> Result<FsReply, DecodeFaul
 
 #[tactic(auto, unfolding(afs_model::specs::Messages::store_reply_at))]
 fn read_store_reply(r: &mut Reader) -> Result<FsReply, DecodeFault>
-    ensures { Ends (store_reply_at r.old.left) result }
+    ensures value { Ends (store_reply_at r.old.left) result }
+    ensures sound { IfOk result (IsSoundReply store_data) }
 {
     let status = read_status(r)?;
     let sync = read_sync(r)?;
@@ -308,7 +317,8 @@ fn read_store_reply(r: &mut Reader) -> Result<FsReply, DecodeFault>
 
 /// The fields of a reply to this call.
 fn read_reply(alloc: Global, r: &mut Reader, opcode: u32) -> Result<FsReply, DecodeFault>
-    ensures { Ends (reply_at opcode r.old.left) result }
+    ensures value { Ends (reply_at opcode r.old.left) result }
+    ensures sound { IfOk result (IsSoundReply opcode) }
 {
     match opcode {
         130 => read_fetch_reply(alloc, r),
@@ -320,7 +330,7 @@ fn read_reply(alloc: Global, r: &mut Reader, opcode: u32) -> Result<FsReply, Dec
 #[tactic(auto, unfolding(afs_model::specs::Messages::answer_at))]
 fn read_answer(alloc: Global, r: &mut Reader, opcode: u32) -> Result<Carried, DecodeFault>
     ensures value { Ends (answer_at opcode r.old.left) result }
-    ensures short { IfOk result IsShortCarried }
+    ensures sound { IfOk result (IsSoundCarried halves.Reply opcode) }
 {
     let reply = read_reply(alloc, r, opcode)?;
     Ok(Carried::Reply { reply })
@@ -328,8 +338,9 @@ fn read_answer(alloc: Global, r: &mut Reader, opcode: u32) -> Result<Carried, De
 
 #[tactic(auto, unfolding(afs_model::specs::Messages::refusal_at))]
 fn read_refusal(r: &Reader, code: i32) -> Result<Carried, DecodeFault>
+    requires { is_zero code ≡ false }
     ensures value { Ends (refusal_at code r.now.left) result }
-    ensures short { IfOk result IsShortCarried }
+    ensures is { IfOk result (λ c. c ≡ Carried.Refusal (record { 0 = code })) }
 {
     r.end()?;
     Ok(Carried::Refusal { code: Code(code) })
@@ -338,7 +349,7 @@ fn read_refusal(r: &Reader, code: i32) -> Result<Carried, DecodeFault>
 #[tactic(auto, unfolding(afs_model::specs::Messages::replied_at))]
 fn read_replied(alloc: Global, r: &mut Reader, opcode: u32) -> Result<Carried, DecodeFault>
     ensures value { Ends (replied_at opcode r.old.left) result }
-    ensures short { IfOk result IsShortCarried }
+    ensures sound { IfOk result (IsSoundCarried halves.Reply opcode) }
 {
     let code = read_signed(r)?;
     if is_zero_code(code) {
@@ -357,7 +368,7 @@ fn is_zero_code(code: i32) -> bool
 #[tactic(auto, unfolding(afs_model::specs::Messages::notice_at))]
 fn read_notice(r: &Reader) -> Result<Carried, DecodeFault>
     ensures value { Ends (notice_at r.now.left) result }
-    ensures short { IfOk result IsShortCarried }
+    ensures is { IfOk result (λ c. c ≡ Carried.Notice) }
 {
     r.end()?;
     Ok(Carried::Notice)
@@ -370,8 +381,10 @@ fn is_known(opcode: u32) -> bool
 }
 
 fn read_call(alloc: Global, r: &mut Reader, head: Head) -> Result<Received, DecodeFault>
+    requires half { head.half ≡ halves.Call }
+    requires sound { IsSoundHead head }
     ensures value { Finds (behind head halves.Call r.old.left) result }
-    ensures short { IfOk result IsShort }
+    ensures sound { IfOk result IsSound }
 {
     if !is_known(head.opcode) {
         return Ok(Received::Unknown { head });
@@ -388,7 +401,7 @@ fn read_call(alloc: Global, r: &mut Reader, head: Head) -> Result<Received, Deco
 /// What is found behind the header of a reply or a notice; bytes that spell none are no message.
 fn heard(head: Head, carried: Result<Carried, DecodeFault>) -> Result<Received, DecodeFault>
     ensures value { IsHeard head carried result }
-    ensures short { IfOk carried IsShortCarried → IfOk result IsShort }
+    ensures sound { IsSoundHead head → IfOk carried (IsSoundCarried head.half head.opcode) → IfOk result IsSound }
 {
     match carried {
         Ok(carried) => Ok(Received::Whole {
@@ -400,8 +413,9 @@ fn heard(head: Head, carried: Result<Carried, DecodeFault>) -> Result<Received, 
 }
 
 fn read_behind(alloc: Global, r: &mut Reader, head: Head) -> Result<Received, DecodeFault>
+    requires { IsSoundHead head }
     ensures value { Finds (behind head head.half r.old.left) result }
-    ensures short { IfOk result IsShort }
+    ensures sound { IfOk result IsSound }
 {
     match head.half {
         Half::Call => read_call(alloc, r, head),
@@ -420,7 +434,7 @@ fn read_behind(alloc: Global, r: &mut Reader, head: Head) -> Result<Received, De
 #[tactic(auto, unfolding(afs_model::specs::Messages::received))]
 pub fn read_message(alloc: Global, bytes: &[u8]) -> Result<Received, AllocError>
     ensures value { IfOk result (λ x. x ≡ received bytes.now) }
-    ensures short { IfOk result IsShort }
+    ensures sound { IfOk result IsSound }
 {
     let mut r = Reader::new(bytes);
     let Ok(head) = read_head(&mut r) else {

@@ -2,3 +2,4 @@
 #![tactic(auto)]
 
 pub mod decoding;
+pub mod encoding;
