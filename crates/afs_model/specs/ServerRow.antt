@@ -61,8 +61,9 @@ find_file fid files = find (λ v. same_fid v.fid fid) files
 abbrev pub stored : List ℕ → ℕ → StoredFile → StoredFile
 stored contents clock file = record file { index = file.index + 1; data_version = file.data_version + 1; server_time = clock; contents = contents }
 
-abbrev pub with_stored : Fid → List ℕ → ℕ → StoredFile → StoredFile
-with_stored fid contents clock file = if same_fid file.fid fid then stored contents clock file else file
+-- a file takes the place of the one with its fid
+abbrev pub with_file : StoredFile → List StoredFile → List StoredFile
+with_file file files = filter (λ v. not (same_fid v.fid file.fid)) files ++ file ∷ []
 
 -- the status of a file; all have all rights, and the volume's root is its parent
 abbrev pub status_of : StoredFile → AfsFetchStatus
@@ -213,8 +214,8 @@ stored_reply boot head file = replied boot head (carried.Reply (replies.StoreDat
 abbrev pub keeps : Head → Message → ServerState → ServerState
 keeps head reply s = record s { seats = seated (record { caller = head.from; epoch = head.epoch; number = head.number; reply = Some reply }) s.seats }
 
-abbrev pub saved : Fid → List ℕ → ℕ → ServerState → ServerState
-saved fid contents clock s = record s { files = map (with_stored fid contents clock) s.files }
+abbrev pub saved : StoredFile → ServerState → ServerState
+saved file s = record s { files = with_file file s.files }
 
 abbrev pub told : ServerState → ℕ → List Message → Step ServerState
 told s place sent = record { state = s; lines = lines.Given place ∷ []; sent = sent }
@@ -231,7 +232,7 @@ grants_step me s place head file expiry = record {
 
 abbrev pub saves_step : Node → ServerState → ℕ → ℕ → Head → List ℕ → StoredFile → Step ServerState
 saves_step me s clock place head contents file = record {
-  state = keeps head (stored_reply s.boot head (stored contents clock file)) (saved file.fid contents clock s);
+  state = keeps head (stored_reply s.boot head (stored contents clock file)) (saved (stored contents clock file) s);
   lines = lines.Given place ∷ lines.Change me (key_of head) 1 ∷ lines.Version (version_of (stored contents clock file)) ∷ [];
   sent = stored_reply s.boot head (stored contents clock file) ∷ [];
 }
