@@ -1,13 +1,31 @@
 //! What a script is read as.
 
+ghost use Rattle.std.specs.Prelude.{◌≡◌, IfOk};
+
 use crate::sequences::{Names, Octets, Sequence};
 use crate::types::{Fid, Node};
+use std::alloc::{AllocError, Global};
 
 /// An act of a client.
 #[derive(Drop)]
 pub enum Act {
     Open { fid: Fid },
     Close { fid: Fid, contents: Octets },
+}
+
+impl Act {
+    /// A copy.
+    pub fn copy(&self, alloc: Global) -> Result<Act, AllocError>
+        ensures { IfOk result (λ a. a ≡ self.now) }
+    {
+        match self {
+            Act::Open { fid } => Ok(Act::Open { fid: *fid }),
+            Act::Close { fid, contents } => Ok(Act::Close {
+                fid: *fid,
+                contents: contents.copy(alloc)?,
+            }),
+        }
+    }
 }
 
 /// An act, and the node that is to do it.

@@ -1,2 +1,3 @@
 pub mod Decoding
 pub mod Serving
+pub mod Asking

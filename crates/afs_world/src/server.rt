@@ -12,13 +12,13 @@ ghost use Rattle.afs_num.specs.declared.states.ServerState.{ServerState};
 ghost use Rattle.afs_world.specs.Serving.{asked_by, fetches_step, stores_step, saved_step, IsSoundRequest, KeepsSound, IsKept, IsWithin, count_limit};
 
 use crate::decoding::read_message;
-use crate::encoding::encode;
+use crate::giving::{given, outs_with};
 use afs_num::calls::{AfsCallBack, AfsFetchStatus, AfsVolSync, FsCall, FsReply};
 use afs_num::histories::{Body, Line, Lines, Outs, Version};
 use afs_num::messages::{Carried, Message, Received};
 use afs_num::sequences::{Octets, Sequence};
 use afs_num::states::{Seat, Seats, ServerState, StoredFile, StoredFiles};
-use afs_num::types::{Code, Fid, Half, Head, Key, Node, Parcel};
+use afs_num::types::{Code, Fid, Half, Head, Key, Node};
 use std::alloc::{AllocError, Global};
 use std::mem;
 
@@ -249,29 +249,6 @@ fn head_of_reply(boot: u32, head: &Head) -> Head
         stamp: 0,
         opcode: head.opcode,
     }
-}
-
-/// What a step gives out that sends this one message.
-fn outs_with(alloc: Global, lines: Lines, message: &Message) -> Result<Outs, AllocError>
-    requires { IsSoundMessage message.now }
-    ensures lines { IfOk result (λ o. o.lines ≡ lines) }
-    ensures sent { IfOk result (λ o. found o.parcels ≡ meant (message.now ∷ [])) }
-{
-    let bytes = encode(alloc, message)?;
-    let mut parcels = Sequence::new(alloc);
-    parcels.push(Parcel {
-        head: message.head,
-        bytes,
-    })?;
-    Ok(Outs { parcels, lines })
-}
-
-fn given(alloc: Global, place: u64) -> Result<Lines, AllocError>
-    ensures { IfOk result (λ ls. ls ≡ Line.Given place ∷ []) }
-{
-    let mut lines = Sequence::new(alloc);
-    lines.push(Line::Given { place })?;
-    Ok(lines)
 }
 
 fn key(head: &Head) -> Key
