@@ -1,1 +1,5 @@
 pub mod Limits
+pub mod Parcels
+pub mod Within
+pub mod Clients
+pub mod Telling

@@ -1,3 +1,4 @@
 pub mod Decoding
 pub mod Serving
 pub mod Asking
+pub mod Worlds

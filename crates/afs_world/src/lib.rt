@@ -6,3 +6,4 @@ pub mod decoding;
 pub mod encoding;
 mod giving;
 pub mod server;
+pub mod world;

@@ -597,6 +597,7 @@ impl FileServer {
         requires limits { IsWithin count_limit self.old.state }
         requires now { now ≤ 1000000000 }
         ensures ok { IfOk result (Makes (server_row self.old.node self.old.state now place (received bytes.now)) self.new.state) }
+        ensures sound { OnOk result (IsSound (received bytes.now)) }
         ensures err { OnErr result (self.new ≡ self.old) }
         ensures node { self.new.node ≡ self.old.node }
     {

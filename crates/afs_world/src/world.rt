@@ -1,0 +1,215 @@
+//! The cell: its nodes, the messages under way, and what is told of its run.
+
+ghost use Rattle.std.specs.Prelude.{◌≡◌, ◌≤◌, ◌<◌, ◌+◌, ℕ, [], ◌∷◌, ◌++◌, length, map, take, drop, Some, None, IfOk, OnOk, OnErr};
+ghost use Rattle.std.specs.Option.{option_copied};
+ghost use Rattle.std.specs.List.{All};
+ghost use Rattle.afs_model.specs.Runs.{start, moved, voided, gives, begins};
+ghost use Rattle.afs_model.specs.Acts.{events_of};
+ghost use Rattle.afs_model.specs.Playing.{Played, as_played, begun, played, entries_of, cell_after, all_acts, IsOwnEvent};
+ghost use Rattle.afs_world.specs.Asking.{IsShortAct};
+ghost use Rattle.afs_world.specs.Worlds.{messages_of, told, told_all, AreRead, cell_of, acts_left, parcel_of_place, Holds, Tells, TellsMoved, TellsPlayed, IsShortTask, IsPlayable};
+
+use crate::client::CacheManager;
+use crate::server::FileServer;
+use afs_num::histories::{Entry, History, Line, Outs};
+use afs_num::scripts::{Act, Event, Events, Script, SetupLine, Task, VolumeLine};
+use afs_num::sequences::Sequence;
+use afs_num::states::{ClientState, ServerState, StoredFile, StoredFiles};
+use afs_num::types::{Fid, Node, Parcel, Parcels};
+use std::alloc::{AllocError, Global};
+
+/// One server, one client, all messages that were sent, and the history so far.
+#[derive(Drop)]
+pub struct World {
+    pub server: FileServer,
+    pub client: CacheManager,
+    pub sent: Parcels,
+    pub history: History,
+}
+
+/// The parcel of a place; the first one sent has place 1.
+fn parcel_at(sent: &Parcels, place: u64) -> Option<&Parcel>
+    ensures { option_copied result ≡ parcel_of_place sent.now place }
+{
+    if place == 0 {
+        return None;
+    }
+    let index = usize::try_from(place - 1).ok()?;
+    sent.as_slice().get(index)
+}
+
+fn copy_parcel(alloc: Global, parcel: &Parcel) -> Result<Parcel, AllocError>
+    ensures { IfOk result (λ p. p ≡ parcel.now) }
+{
+    Ok(Parcel {
+        head: parcel.head,
+        bytes: parcel.bytes.copy(alloc)?,
+    })
+}
+
+/// Appends copies of these parcels.
+fn send_all(alloc: Global, sent: &mut Parcels, parcels: &Parcels) -> Result<(), AllocError>
+    ensures { OnOk result (sent.new ≡ sent.old ++ parcels.now) }
+{
+    for parcel in parcels.as_slice() {
+        sent.push(copy_parcel(alloc, parcel)?)?;
+    }
+    Ok(())
+}
+
+impl World {
+    /// Tells one step.
+    fn tell(&mut self, alloc: Global, node: Option<Node>, outs: Outs) -> Result<(), AllocError>
+        ensures sent { OnOk result (self.new.sent ≡ self.old.sent ++ outs.parcels) }
+        ensures history { OnOk result (self.new.history ≡ self.old.history ++ record { node = node; lines = outs.lines; parcels = outs.parcels } ∷ []) }
+        ensures server { self.new.server ≡ self.old.server }
+        ensures client { self.new.client ≡ self.old.client }
+    {
+        send_all(alloc, &mut self.sent, &outs.parcels)?;
+        let Outs { parcels, lines } = outs;
+        self.history.push(Entry {
+            node,
+            lines,
+            parcels,
+        })?;
+        Ok(())
+    }
+
+    /// Nothing happens.
+    fn skip(&mut self, alloc: Global) -> Result<(), AllocError>
+        ensures sent { OnOk result (self.new.sent ≡ self.old.sent) }
+        ensures history { OnOk result (self.new.history ≡ self.old.history ++ record { node = None; lines = Line.Void ∷ []; parcels = [] } ∷ []) }
+        ensures server { self.new.server ≡ self.old.server }
+        ensures client { self.new.client ≡ self.old.client }
+    {
+        let mut lines = Sequence::new(alloc);
+        lines.push(Line::Void)?;
+        self.history.push(Entry {
+            node: None,
+            lines,
+            parcels: Sequence::new(alloc),
+        })?;
+        Ok(())
+    }
+
+    /// The message of this place is given to a client that isn't there: it notes it, and no more.
+    fn note(&mut self, alloc: Global, client: u8, place: u64) -> Result<(), AllocError>
+        ensures sent { OnOk result (self.new.sent ≡ self.old.sent) }
+        ensures history { OnOk result (self.new.history ≡ self.old.history ++ record { node = Some (Node.Client client); lines = Line.Given place ∷ []; parcels = [] } ∷ []) }
+        ensures server { self.new.server ≡ self.old.server }
+        ensures client { self.new.client ≡ self.old.client }
+    {
+        let mut lines = Sequence::new(alloc);
+        lines.push(Line::Given { place })?;
+        self.history.push(Entry {
+            node: Some(Node::Client(client)),
+            lines,
+            parcels: Sequence::new(alloc),
+        })?;
+        Ok(())
+    }
+
+    /// The message of this place is given to its receiver.
+    fn deliver(&mut self, alloc: Global, place: u64) -> Result<(), AllocError>
+        requires holds { Holds self.old }
+        requires length { length self.old.history < 1000000 }
+        ensures { OnOk result (TellsMoved self.old (moved (cell_of self.old) (gives place)) self.new) }
+    {
+        let Some(parcel) = parcel_at(&self.sent, place) else {
+            self.skip(alloc)?;
+            return Ok(());
+        };
+        match parcel.head.to {
+            Node::Server(1) => {
+                let outs = self
+                    .server
+                    .handle(alloc, place, 0, parcel.bytes.as_slice())?;
+                self.tell(alloc, Some(Node::Server(1)), outs)?;
+                Ok(())
+            }
+            Node::Client(1) => {
+                let outs = self
+                    .client
+                    .receive(alloc, place, 0, parcel.bytes.as_slice())?;
+                self.tell(alloc, Some(Node::Client(1)), outs)?;
+                Ok(())
+            }
+            Node::Client(n) => {
+                self.note(alloc, n, place)?;
+                Ok(())
+            }
+            Node::Server(_) => {
+                self.skip(alloc)?;
+                Ok(())
+            }
+            Node::Loc => {
+                self.skip(alloc)?;
+                Ok(())
+            }
+            Node::Admin(_) => {
+                self.skip(alloc)?;
+                Ok(())
+            }
+        }
+    }
+
+    /// The client, which is idle, begins this act.
+    fn begin(&mut self, alloc: Global, act: &Act) -> Result<(), AllocError>
+        requires holds { Holds self.old }
+        requires length { length self.old.history < 1000000 }
+        requires idle { self.old.client.state.running ≡ None }
+        requires short { IsShortAct act.now }
+        ensures { OnOk result (TellsMoved self.old (moved (cell_of self.old) (begins 1 act.now)) self.new) }
+    {
+        let outs = self.client.begin(alloc, 0, act)?;
+        self.tell(alloc, Some(Node::Client(1)), outs)?;
+        Ok(())
+    }
+
+    /// The client begins the first of these tasks, where it is idle; the tasks that are left.
+    fn act<'a>(&mut self, alloc: Global, tasks: &'a [Task]) -> Result<&'a [Task], AllocError>
+        requires holds { Holds self.old }
+        requires length { length self.old.history < 1000000 }
+        requires short { All IsShortTask tasks.now }
+        ensures told { OnOk result (TellsPlayed self.old (begun (cell_of self.old) (acts_left tasks.entry.now) self.old.client.state.running) self.new) }
+        ensures left { IfOk result (λ rest. acts_left rest.now ≡ (begun (cell_of self.old) (acts_left tasks.entry.now) self.old.client.state.running).left) }
+        ensures short { IfOk result (λ rest. All IsShortTask rest.now) }
+    {
+        let Some((task, rest)) = tasks.split_first() else {
+            self.skip(alloc)?;
+            return Ok(tasks);
+        };
+        if self.client.state.running.is_some() {
+            self.skip(alloc)?;
+            return Ok(tasks);
+        }
+        self.begin(alloc, &task.act)?;
+        Ok(rest)
+    }
+
+    /// Plays one event; the tasks that are left.
+    fn step<'a>(
+        &mut self,
+        alloc: Global,
+        event: &Event,
+        tasks: &'a [Task],
+    ) -> Result<&'a [Task], AllocError>
+        requires holds { Holds self.old }
+        requires length { length self.old.history < 1000000 }
+        requires short { All IsShortTask tasks.now }
+        ensures told { OnOk result (TellsPlayed self.old (played (cell_of self.old) (acts_left tasks.entry.now) event.now) self.new) }
+        ensures left { IfOk result (λ rest. acts_left rest.now ≡ (played (cell_of self.old) (acts_left tasks.entry.now) event.now).left) }
+        ensures short { IfOk result (λ rest. All IsShortTask rest.now) }
+    {
+        match event {
+            Event::Act { .. } => {
+                let rest = self.act(alloc, tasks)?;
+                Ok(rest)
+            }
+            Event::Deliver { place } => {
+                self.deliver(alloc, *place)?;
+                Ok(tasks)
+            }
+        }
+    }
+}
