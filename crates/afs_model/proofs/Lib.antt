@@ -1,1 +1,5 @@
 pub mod Rereading
+pub mod Basics
+pub mod Facts
+pub mod Passing
+pub mod Serving
