@@ -226,6 +226,10 @@ AreNew seats ls = (k : Key) → Above (seat_of k.node seats) k.epoch k.number �
 abbrev pub AreUnheard : List Seat → ℕ → List Entry → Type 0
 AreUnheard seats boot past = (k : Key) → Above (seat_of k.node seats) k.epoch k.number → IsUnheard k boot past
 
+-- the last version of a fid has its highest index
+abbrev pub HasTop : List Line → Type 0
+HasTop ls = (f : Fid) (i : ℕ) (b : Body) → HasVersion f i b ls → i ≤ index_of (last_version f ls)
+
 pub record Holds (s : Script) (c : Cell) (past : List Entry) : Type 0 where
   pub files : HasLast c.server.files (lines_of past)
   pub home : AreHome s c.server.files (lines_of past)
@@ -234,6 +238,7 @@ pub record Holds (s : Script) (c : Cell) (past : List Entry) : Type 0 where
   pub clients : (j : ℕ) → ClientFacts j (view c j) past
   pub sent : SentFacts c.sent (view c) past
   pub clock : clock_of (lines_of past) ≡ c.clock
+  pub top : HasTop (lines_of past)
 
 pub record Goes (s : Script) (past : List Entry) (m : Moved) : Type 0 where
   pub good : AreGood s past [] m.entry.lines

@@ -3,3 +3,4 @@ pub mod Basics
 pub mod Facts
 pub mod Passing
 pub mod Serving
+pub mod Asking

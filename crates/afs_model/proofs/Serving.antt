@@ -49,7 +49,7 @@ use Rattle.afs_model.specs.Runs.{server_moves}
 use Rattle.afs_model.specs.ServerRow.{Standing, is_older, is_last, is_newer, standing, seated, stored, with_stored, status_of, no_release, promise_ticks, promise_until, Decision, drops, tells_boot, repeats, refuses, grants, saves, no_file, fetches, stores, Request, asks, runs, answers_again, admits, called, hears, decides, key_of, reply_head, replied, boot_told, refusal, fetched_reply, stored_reply, keeps, saved, told, refuses_step, grants_step, saves_step, does, server_row}
 use Rattle.afs_model.specs.Ideal.{fetched_from, stored_on, next_version, is_number}
 use Rattle.afs_model.proofs.Basics.{both, same_fid-true, same_fid-refl, apart, apart-found, same_node-true, same_node-refl, client_number, up_to_below, below_up_to, below_not, up_to_both, up_to_same, newer_above, not_newer, LastSeat, last_seat, own_seat, at_seat, found-fid, found-mapped, OfCall, each_more, each_map, each_at, if_call, if_reply, raised_up_to, some_of}
-use Rattle.afs_model.proofs.Facts.{View, view_of, view, last_key, LastRan, Reached, index_of, Held, IsNewest, Plain, Overtaken, Stands, IsCurrent, HasCurrent, IsFetched, Fits, Answers, HasAnswer, IsReply, KeptReply, ClientFacts, IsSafe, CallFact, CallIn, ReplyFact, ReplyIn, Origin, SentFacts, HasLast, AreHome, AreNew, AreUnheard, stored_index, Holds, Goes}
+use Rattle.afs_model.proofs.Facts.{View, view_of, view, last_key, LastRan, Reached, index_of, Held, IsNewest, Plain, Overtaken, Stands, IsCurrent, HasCurrent, IsFetched, Fits, Answers, HasAnswer, IsReply, KeptReply, ClientFacts, IsSafe, CallFact, CallIn, ReplyFact, ReplyIn, Origin, SentFacts, HasLast, AreHome, AreNew, AreUnheard, HasTop, stored_index, Holds, Goes}
 use Rattle.afs_model.proofs.Passing.{PassesGrant, PassesFile, PassesAct, PassesReach, StaysNewest, stays, current_over, stands_over, reached_more, client_over, client_still, News, more_sent, asked_over}
 
 -- ---- a message that runs nothing
@@ -65,13 +65,13 @@ at_told : (s : Script) (c : Cell) (past : List Entry) (p : ℕ) (m : Message) �
 at_told s c past p m h at = ap (λ (ms : List Message). message_at ms p) h.sent.told ∙ at
 
 -- what no line of a version, a read or an answer touches
-told_file : (j p : ℕ) (f : Fid) (o : Option Node) (ms : List Message) (past : List Entry) → PassesFile j f (record { node = o; lines = lines.Given p ∷ []; sent = ms }) past
+pub told_file : (j p : ℕ) (f : Fid) (o : Option Node) (ms : List Message) (past : List Entry) → PassesFile j f (record { node = o; lines = lines.Given p ∷ []; sent = ms }) past
 told_file j p f o ms past = record { grant = record { version = λ i b l s. s; dropped = λ s l d. d; withdrawn = λ s l w. w }; fetched = refl }
 
-told_reach : (j p : ℕ) (f : Fid) (o : Option Node) (ms : List Message) (past : List Entry) → PassesReach j f (record { node = o; lines = lines.Given p ∷ []; sent = ms }) past
+pub told_reach : (j p : ℕ) (f : Fid) (o : Option Node) (ms : List Message) (past : List Entry) → PassesReach j f (record { node = o; lines = lines.Given p ∷ []; sent = ms }) past
 told_reach j p f o ms past i h = record { made = h.made; seen = h.seen }
 
-told_act : (j p : ℕ) (o : Option Node) (ms : List Message) (past : List Entry) → PassesAct j (record { node = o; lines = lines.Given p ∷ []; sent = ms }) past
+pub told_act : (j p : ℕ) (o : Option Node) (ms : List Message) (past : List Entry) → PassesAct j (record { node = o; lines = lines.Given p ∷ []; sent = ms }) past
 told_act j p o ms past = record { begun = λ l. refl; asked = λ k x. asked_over j k (record { node = o; lines = lines.Given p ∷ []; sent = ms }) past refl x }
 
 quiet : (s : Script) (c : Cell) (past : List Entry) (p : ℕ) (m : Message) (ms : List Message) → Holds s c past → message_at c.sent p ≡ Some m → Dull c.server.seats c.server.boot m
@@ -88,6 +88,7 @@ quiet s c past p m ms h at d n =
         clients = λ j. client_still j (view c j) e past (λ f. told_file j p f (Some the_server) ms past) (λ f. told_reach j p f (Some the_server) ms past) (told_act j p (Some the_server) ms past) (λ f. refl) (h.clients j);
         sent = more_sent c.sent (view c) (view c) e past h.sent h.sent.calls h.sent.replies (n (e ∷ past));
         clock = h.clock;
+        top = h.top;
       };
     }
 
@@ -135,7 +136,7 @@ dull_after c n h r user act k x above =
     let yes : Below h.epoch h.number h.epoch h.number = subst (λ (o : Option Seat). Above o h.epoch h.number) (own_seat (taken n h r) c.server.seats) own in
     below_not h.epoch h.number h.epoch h.number yes (up_to_same h.epoch h.number h.epoch h.number refl refl)
 
-not_ran : (v : View) (e k : ℕ) → Above v.seat e k → UpTo e k v.epoch v.last → LastRan v → ⊥
+pub not_ran : (v : View) (e k : ℕ) → Above v.seat e k → UpTo e k v.epoch v.last → LastRan v → ⊥
 not_ran v e k a b ran =
     let l : Below ran.seat.epoch ran.seat.number e k = subst (λ (o : Option Seat). Above o e k) ran.at a in
     below_not _ _ _ _ l (subst (λ (n : ℕ). UpTo e k ran.seat.epoch n) (sym ran.number) (subst (λ (n : ℕ). UpTo e k n v.last) (sym ran.epoch) b))
@@ -288,7 +289,7 @@ current_same s c past p n h user act r e H w pass reach_pass l none f u found la
       | inr o ↦ absurd (not_ran (view c n) h.epoch h.number w.above w.fact.behind o.ran)
       ]) cur
 
-reached_still : (s : Script) (c : Cell) (past : List Entry) (j : ℕ) (e : Entry) → Holds s c past → ((f : Fid) → PassesReach j f e past) → ((f : Fid) → last_version f (lines_of (e ∷ past)) ≡ last_version f (lines_of past))
+pub reached_still : (s : Script) (c : Cell) (past : List Entry) (j : ℕ) (e : Entry) → Holds s c past → ((f : Fid) → PassesReach j f e past) → ((f : Fid) → last_version f (lines_of (e ∷ past)) ≡ last_version f (lines_of past))
     → (f : Fid) → Reached (Client j) f (index_of (last_version f (lines_of (e ∷ past)))) (e ∷ past)
 reached_still s c past j e H r l f = subst (λ (o : Option Version). Reached (Client j) f (index_of o) (e ∷ past)) (sym (l f)) (r f (index_of (last_version f (lines_of past))) ((H.clients j).reached f))
 
@@ -334,6 +335,7 @@ refuses_goes s c past p n h user act H w none =
         sent = more_sent c.sent (view c) (views_after c n h r) e past H.sent (calls_after s c past n h r H w.above) (replies_after s c past n h r H w.above)
           (record { calls = (tt, tt); replies = (reply_now c n h r refl refl refl, tt); origins = (tt, tt) });
         clock = H.clock;
+        top = H.top;
       };
     }
 
@@ -391,6 +393,7 @@ grants_goes s c past p n h user file H w found =
         sent = more_sent c.sent (view c) (views_after c n h r) e past H.sent (calls_after s c past n h r H w.above) (replies_after s c past n h r H w.above)
           (record { calls = (tt, tt); replies = (reply_now c n h r refl refl refl, tt); origins = (tt, tt) });
         clock = H.clock;
+        top = H.top;
       };
     }
 
@@ -456,7 +459,7 @@ higher_by : (t : Bool) (w v : Version) (f : Fid) (o : Option Version) → same_f
 higher_by true w v f o t at le = subst (λ (x : Option Version). index_of x ≤ w.index) (sym (at (same_fid-true w.fid f t))) le
 higher_by false w v f o t at le = omega arith
 
-same_target : (f g : Fid) (b y : List ℕ) → Close f b ≡ Close g y → f ≡ g
+pub same_target : (f g : Fid) (b y : List ℕ) → Close f b ≡ Close g y → f ≡ g
 same_target f g b y e = cc
 
 -- the caller's own entries
@@ -494,6 +497,17 @@ own_reached : (t : Bool) (c : Cell) (past : List Entry) (n p : ℕ) (k : Key) (f
 own_reached true c past n p k file b time r f t old h =
     saves_reach n p k _ r past f (file.index + 1) (λ x y. omega arith) (reached_more (Client n) f file.index (file.index + 1) past (omega arith) (subst (λ (x : Fid). Reached (Client n) x file.index past) (same_fid-true file.fid f t) old))
 own_reached false c past n p k file b time r f t old h = saves_reach n p k _ r past f _ (λ x y. absurd cc) h
+
+-- the new version is the highest
+top_by : (t : Bool) (w v : Version) (g : Fid) (i : ℕ) (b : Body) (ls : List Line) → same_fid w.fid g ≡ t → (w.fid ≡ g → last_version g ls ≡ Some v) → v.index ≤ w.index → HasTop ls
+    → ((w.fid ≡ g) × ((w.index ≡ i) × (w.body ≡ b))) ⊎ HasVersion g i b ls → i ≤ index_of (cond t (Some w) (last_version g ls))
+top_by true w v g i b ls t at le top (inl x) = let e : w.index ≡ i = x.1.0 in omega arith
+top_by true w v g i b ls t at le top (inr x) =
+    let below : i ≤ index_of (last_version g ls) = top g i b x in
+    let is : index_of (last_version g ls) ≡ v.index = ap index_of (at (same_fid-true w.fid g t)) in
+    omega arith
+top_by false w v g i b ls t at le top (inl x) = absurd (apart w.fid g t x.0)
+top_by false w v g i b ls t at le top (inr x) = top g i b x
 
 not_there : (o : Option CacheEntry) (u : CacheEntry) → o ≡ Some u → o ≡ None → ⊥
 not_there o u a b = absurd cc
@@ -544,6 +558,7 @@ saves_goes s c past p n h user b file H w found =
         sent = more_sent c.sent (view c) (views_after c n h r) e past H.sent (calls_after s c past n h r H w.above) (replies_after s c past n h r H w.above)
           (record { calls = (tt, tt); replies = (reply_now c n h r refl refl refl, tt); origins = (tt, tt) });
         clock = H.clock;
+        top = λ g i x y. top_by (same_fid file.fid g) made (version_of file) g i x (lines_of past) refl (λ fg. ap (λ (z : Fid). last_version z (lines_of past)) (sym fg) ∙ last) (omega arith) H.top y;
       };
     }
 
@@ -592,9 +607,6 @@ IsJust c past p (grants head file) = JustGrant c past p head file
 IsJust c past p (saves head contents file) = JustSave c past p head contents file
 
 -- ---- what is decided is just
-
-abbrev IsDue : Cell → List Entry → ℕ → ℕ → Head → List ℕ → Act → Type 0
-IsDue c past p n h user act = Now c past p n h user act
 
 due : (c : Cell) (past : List Entry) (p n : ℕ) (h : Head) (user : List ℕ) (act : Act) → Now c past p n h user act → Due c past p (client_head n h) act
 due c past p n h user act w = record { client = n; from = refl; user = user; now = record { at = w.at; boot = w.boot; above = w.above; fact = w.fact; origin = w.origin } }
