@@ -58,25 +58,25 @@ use Rattle.afs_model.proofs.Serving.{told_file, told_reach, told_act, not_ran, r
 
 -- ---- what any step of client n needs
 
-abbrev step_entry : ℕ → List Line → List Message → Entry
+abbrev pub step_entry : ℕ → List Line → List Message → Entry
 step_entry n ls ms = record { node = Some (Client n); lines = ls; sent = ms }
 
 -- what its lines leave as it was
-record Passes (s : Script) (n : ℕ) (ls : List Line) (ms : List Message) (past : List Entry) : Type 0 where
-  file : (j : ℕ) → (n ≡ j → ⊥) → (f : Fid) → PassesFile j f (step_entry n ls ms) past
-  reach : (j : ℕ) → (n ≡ j → ⊥) → (f : Fid) → PassesReach j f (step_entry n ls ms) past
-  act : (j : ℕ) → (n ≡ j → ⊥) → PassesAct j (step_entry n ls ms) past
-  last : (f : Fid) (o : List Line) → last_version f (onto o ls) ≡ last_version f o
-  back : (f : Fid) (i : ℕ) (b : Body) (o : List Line) → HasVersion f i b (onto o ls) → HasVersion f i b o
-  new : (k : Key) (o : List Line) → IsNew k o → IsNew k (onto o ls)
-  clock : (o : List Line) → clock_of (onto o ls) ≡ clock_of o
-  home : (id : ℕ) (o : List Line) → Accepts s id the_server o → Accepts s id the_server (onto o ls)
-  dull : (k : Key) (boot : ℕ) → IsCallUnder k boot (given_message ls (sent_of past)) → ⊥
+pub record Passes (s : Script) (n : ℕ) (ls : List Line) (ms : List Message) (past : List Entry) : Type 0 where
+  pub file : (j : ℕ) → (n ≡ j → ⊥) → (f : Fid) → PassesFile j f (step_entry n ls ms) past
+  pub reach : (j : ℕ) → (n ≡ j → ⊥) → (f : Fid) → PassesReach j f (step_entry n ls ms) past
+  pub act : (j : ℕ) → (n ≡ j → ⊥) → PassesAct j (step_entry n ls ms) past
+  pub last : (f : Fid) (o : List Line) → last_version f (onto o ls) ≡ last_version f o
+  pub back : (f : Fid) (i : ℕ) (b : Body) (o : List Line) → HasVersion f i b (onto o ls) → HasVersion f i b o
+  pub new : (k : Key) (o : List Line) → IsNew k o → IsNew k (onto o ls)
+  pub clock : (o : List Line) → clock_of (onto o ls) ≡ clock_of o
+  pub home : (id : ℕ) (o : List Line) → Accepts s id the_server o → Accepts s id the_server (onto o ls)
+  pub dull : (k : Key) (boot : ℕ) → IsCallUnder k boot (given_message ls (sent_of past)) → ⊥
 
-abbrev view_after : Cell → ℕ → ClientState → View
+abbrev pub view_after : Cell → ℕ → ClientState → View
 view_after c n x = view_of c.clock x (seat_of (Client n) c.server.seats)
 
-abbrev views_after : Cell → ℕ → ClientState → ℕ → View
+abbrev pub views_after : Cell → ℕ → ClientState → ℕ → View
 views_after c n x j = view_of c.clock (put n x c.clients j) (seat_of (Client j) c.server.seats)
 
 calls_moved : (c : Cell) (n : ℕ) (x : ClientState) (sent : List Message) → ((head : Head) (call : FsCall) → CallFact (view c n) head call → CallFact (view_after c n x) head call) → Each (IfCall (CallIn (view c))) sent → Each (IfCall (CallIn (views_after c n x))) sent
@@ -90,7 +90,7 @@ calls_moved c n x sent w h = each_map (IfCall (CallIn (view c))) (IfCall (CallIn
 replies_moved : (c : Cell) (n : ℕ) (x : ClientState) (sent : List Message) → Each (IfReply (ReplyIn (view c))) sent → Each (IfReply (ReplyIn (views_after c n x))) sent
 replies_moved c n x sent h = each_map (IfReply (ReplyIn (view c))) (IfReply (ReplyIn (views_after c n x))) (if_reply (ReplyIn (view c)) (ReplyIn (views_after c n x)) (λ m f. record { client = f.client; to = f.to; fact = f.fact })) sent h
 
-moves : (s : Script) (c : Cell) (past : List Entry) (n : ℕ) (st : Step ClientState) → Holds s c past → AreGood s past [] st.lines → Passes s n st.lines st.sent past
+pub moves : (s : Script) (c : Cell) (past : List Entry) (n : ℕ) (st : Step ClientState) → Holds s c past → AreGood s past [] st.lines → Passes s n st.lines st.sent past
     → ClientFacts n (view_after c n st.state) ((client_moves c n st).entry ∷ past)
     → ((head : Head) (call : FsCall) → CallFact (view c n) head call → CallFact (view_after c n st.state) head call)
     → News st.sent (views_after c n st.state) ((client_moves c n st).entry ∷ past) → Goes s past (client_moves c n st)
@@ -112,21 +112,21 @@ moves s c past n st h good p own w news =
       };
     }
 
-nothing_new : (views : ℕ → View) (past : List Entry) → News [] views past
+pub nothing_new : (views : ℕ → View) (past : List Entry) → News [] views past
 nothing_new views past = record { calls = tt; replies = tt; origins = tt }
 
 -- ---- the message that a client is given
 
-record Heard (c : Cell) (p : ℕ) (m : Message) : Type 0 where
-  at : message_at c.sent p ≡ Some m
-  not_call : IsCall m.carried → ⊥
+pub record Heard (c : Cell) (p : ℕ) (m : Message) : Type 0 where
+  pub at : message_at c.sent p ≡ Some m
+  pub not_call : IsCall m.carried → ⊥
 
 heard_dull : (s : Script) (c : Cell) (past : List Entry) (p : ℕ) (m : Message) → Holds s c past → Heard c p m → (k : Key) (boot : ℕ) → IsCallUnder k boot (message_at (sent_of past) p) → ⊥
 heard_dull s c past p m h d k boot x = d.not_call (subst (λ (o : Option Message). IsCallUnder k boot o) (ap (λ (ms : List Message). message_at ms p) h.sent.told ∙ d.at) x).0
 
 -- ---- the lines of a client
 
-told_passes : (s : Script) (c : Cell) (past : List Entry) (n p : ℕ) (m : Message) (ms : List Message) → Holds s c past → Heard c p m → Passes s n (lines.Given p ∷ []) ms past
+pub told_passes : (s : Script) (c : Cell) (past : List Entry) (n p : ℕ) (m : Message) (ms : List Message) → Holds s c past → Heard c p m → Passes s n (lines.Given p ∷ []) ms past
 told_passes s c past n p m ms h d = record {
   file = λ j ne f. told_file j p f (Some (Client n)) ms past;
   reach = λ j ne f. told_reach j p f (Some (Client n)) ms past;
@@ -171,14 +171,14 @@ begin_passes s n a ms past = record {
   dull = λ k boot x. x;
 }
 
-abbrev shown_lines : ℕ → Act → Fid → ℕ → List ℕ → List Line
+abbrev pub shown_lines : ℕ → Act → Fid → ℕ → List ℕ → List Line
 shown_lines n a f i b = lines.Begin (Client n) a ∷ lines.Read (Client n) f i Cached (bodies.File b) ∷ lines.Answer (Client n) zero_code ∷ []
 
-shown_file : (n j i : ℕ) (a : Act) (f g : Fid) (b : List ℕ) (past : List Entry) → PassesFile j g (step_entry n (shown_lines n a f i b) []) past
+pub shown_file : (n j i : ℕ) (a : Act) (f g : Fid) (b : List ℕ) (past : List Entry) → PassesFile j g (step_entry n (shown_lines n a f i b) []) past
 shown_file n j i a f g b past = record { grant = record { version = λ k x l y. y; dropped = λ q l d. d; withdrawn = λ q l w. w }; fetched = refl }
 
 -- a read raises what its client has seen of its fid
-shown_reach : (n j i : ℕ) (a : Act) (f g : Fid) (b : List ℕ) (past : List Entry) (k : ℕ) → (same_node (Client n) (Client j) ≡ true → same_fid f g ≡ true → i ≤ k) → Reached (Client j) g k past → Reached (Client j) g k (step_entry n (shown_lines n a f i b) [] ∷ past)
+pub shown_reach : (n j i : ℕ) (a : Act) (f g : Fid) (b : List ℕ) (past : List Entry) (k : ℕ) → (same_node (Client n) (Client j) ≡ true → same_fid f g ≡ true → i ≤ k) → Reached (Client j) g k past → Reached (Client j) g k (step_entry n (shown_lines n a f i b) [] ∷ past)
 shown_reach n j i a f g b past k le h =
     let r = reach (Client j) g past in
     record {
@@ -191,7 +191,7 @@ shown_reach n j i a f g b past k le h =
 not_client : (n j : ℕ) → (n ≡ j → ⊥) → same_node (Client n) (Client j) ≡ true → ⊥
 not_client n j ne t = ne (client_number n j (same_node-true (Client n) (Client j) t))
 
-shown_passes : (s : Script) (n i : ℕ) (a : Act) (f : Fid) (b : List ℕ) (past : List Entry) → Passes s n (shown_lines n a f i b) [] past
+pub shown_passes : (s : Script) (n i : ℕ) (a : Act) (f : Fid) (b : List ℕ) (past : List Entry) → Passes s n (shown_lines n a f i b) [] past
 shown_passes s n i a f b past = record {
   file = λ j ne g. shown_file n j i a f g b past;
   reach = λ j ne g k h. shown_reach n j i a f g b past k (λ t u. absurd (not_client n j ne t)) h;
@@ -204,16 +204,16 @@ shown_passes s n i a f b past = record {
   dull = λ k boot x. x;
 }
 
-abbrev answered_lines : ℕ → ℕ → Code → List Line
+abbrev pub answered_lines : ℕ → ℕ → Code → List Line
 answered_lines n p code = lines.Given p ∷ lines.Answer (Client n) code ∷ []
 
-answered_file : (n j p : ℕ) (code : Code) (past : List Entry) (f : Fid) → PassesFile j f (step_entry n (answered_lines n p code) []) past
+pub answered_file : (n j p : ℕ) (code : Code) (past : List Entry) (f : Fid) → PassesFile j f (step_entry n (answered_lines n p code) []) past
 answered_file n j p code past f = record { grant = record { version = λ k x l y. y; dropped = λ q l d. d; withdrawn = λ q l w. w }; fetched = refl }
 
-answered_reach : (n j p : ℕ) (code : Code) (past : List Entry) (f : Fid) → PassesReach j f (step_entry n (answered_lines n p code) []) past
+pub answered_reach : (n j p : ℕ) (code : Code) (past : List Entry) (f : Fid) → PassesReach j f (step_entry n (answered_lines n p code) []) past
 answered_reach n j p code past f i h = let r = reach (Client j) f past in record { made = h.made; seen = raised_up_to _ r.made r.seen i (λ t. h.made) h.seen }
 
-answered_passes : (s : Script) (c : Cell) (past : List Entry) (n p : ℕ) (m : Message) (code : Code) → Holds s c past → Heard c p m → Passes s n (answered_lines n p code) [] past
+pub answered_passes : (s : Script) (c : Cell) (past : List Entry) (n p : ℕ) (m : Message) (code : Code) → Holds s c past → Heard c p m → Passes s n (answered_lines n p code) [] past
 answered_passes s c past n p m code h d = record {
   file = λ j ne f. answered_file n j p code past f;
   reach = λ j ne f. answered_reach n j p code past f;
@@ -226,7 +226,7 @@ answered_passes s c past n p m code h d = record {
   dull = heard_dull s c past p m h d;
 }
 
-abbrev used_lines : ℕ → ℕ → Fid → ℕ → List ℕ → List Line
+abbrev pub used_lines : ℕ → ℕ → Fid → ℕ → List ℕ → List Line
 used_lines n p f i b = lines.Given p ∷ lines.Read (Client n) f i Fetched (bodies.File b) ∷ lines.Answer (Client n) zero_code ∷ []
 
 used_by : (a b : Bool) → (a ≡ true → b ≡ true → ⊥) → cond (a && b) true false ≡ false
@@ -234,13 +234,13 @@ used_by true true h = absurd (h refl refl)
 used_by true false h = refl
 used_by false b h = refl
 
-used_grant : (n j p i : ℕ) (f g : Fid) (b : List ℕ) (past : List Entry) → PassesGrant j g (step_entry n (used_lines n p f i b) []) past
+pub used_grant : (n j p i : ℕ) (f g : Fid) (b : List ℕ) (past : List Entry) → PassesGrant j g (step_entry n (used_lines n p f i b) []) past
 used_grant n j p i f g b past = record { version = λ k x l y. y; dropped = λ q l d. d; withdrawn = λ q l w. w }
 
-used_file : (n j p i : ℕ) (f g : Fid) (b : List ℕ) (past : List Entry) → (n ≡ j → f ≡ g → ⊥) → PassesFile j g (step_entry n (used_lines n p f i b) []) past
+pub used_file : (n j p i : ℕ) (f g : Fid) (b : List ℕ) (past : List Entry) → (n ≡ j → f ≡ g → ⊥) → PassesFile j g (step_entry n (used_lines n p f i b) []) past
 used_file n j p i f g b past ne = record { grant = used_grant n j p i f g b past; fetched = used_by (same_node (Client n) (Client j)) (same_fid f g) (λ x y. ne (client_number n j (same_node-true (Client n) (Client j) x)) (same_fid-true f g y)) }
 
-used_reach : (n j p i : ℕ) (f g : Fid) (b : List ℕ) (past : List Entry) (k : ℕ) → (same_node (Client n) (Client j) ≡ true → same_fid f g ≡ true → i ≤ k) → Reached (Client j) g k past → Reached (Client j) g k (step_entry n (used_lines n p f i b) [] ∷ past)
+pub used_reach : (n j p i : ℕ) (f g : Fid) (b : List ℕ) (past : List Entry) (k : ℕ) → (same_node (Client n) (Client j) ≡ true → same_fid f g ≡ true → i ≤ k) → Reached (Client j) g k past → Reached (Client j) g k (step_entry n (used_lines n p f i b) [] ∷ past)
 used_reach n j p i f g b past k le h =
     let r = reach (Client j) g past in
     record {
@@ -249,7 +249,7 @@ used_reach n j p i f g b past k le h =
         (raised_up_to (same_node (Client n) (Client j) && same_fid f g) i r.seen k (λ t. let q = both (same_node (Client n) (Client j)) (same_fid f g) t in le q.0 q.1) h.seen);
     }
 
-used_passes : (s : Script) (c : Cell) (past : List Entry) (n p i : ℕ) (f : Fid) (b : List ℕ) (m : Message) → Holds s c past → Heard c p m → Passes s n (used_lines n p f i b) [] past
+pub used_passes : (s : Script) (c : Cell) (past : List Entry) (n p i : ℕ) (f : Fid) (b : List ℕ) (m : Message) → Holds s c past → Heard c p m → Passes s n (used_lines n p f i b) [] past
 used_passes s c past n p i f b m h d = record {
   file = λ j ne g. used_file n j p i f g b past (λ q x. ne q);
   reach = λ j ne g k x. used_reach n j p i f g b past k (λ t u. absurd (not_client n j ne t)) x;
@@ -264,14 +264,14 @@ used_passes s c past n p i f b m h d = record {
 
 -- ---- a message that changes nothing
 
-quiet : (s : Script) (c : Cell) (past : List Entry) (n p : ℕ) (m : Message) → Holds s c past → Heard c p m → Goes s past (client_moves c n (ignores (c.clients n) p))
+pub quiet : (s : Script) (c : Cell) (past : List Entry) (n p : ℕ) (m : Message) → Holds s c past → Heard c p m → Goes s past (client_moves c n (ignores (c.clients n) p))
 quiet s c past n p m h d = moves s c past n (ignores (c.clients n) p) h (tt, tt) (told_passes s c past n p m [] h d)
     (client_still n (view c n) (step_entry n (lines.Given p ∷ []) []) past (λ f. told_file n p f (Some (Client n)) [] past) (λ f. told_reach n p f (Some (Client n)) [] past) (told_act n p (Some (Client n)) [] past) (λ f. refl) (h.clients n))
     (λ head call f. f) (nothing_new _ _)
 
 -- ---- a call is sent
 
-call_is : (act : Act) → call_of act ≡ asked act
+pub call_is : (act : Act) → call_of act ≡ asked act
 call_is (Open f) = refl
 call_is (Close f contents) = refl
 
@@ -281,17 +281,17 @@ safe_over (calls.StoreData f status position wanted file_length contents) e l d 
 safe_over (calls.StoreData f status position wanted file_length contents) e l d m running other cache head shut (inr x) = inr x
 safe_over call e l d m running other cache head shut x = tt
 
-safe_cache : (call : FsCall) (e l : ℕ) (running : Option Act) (cache other : List CacheEntry) (head : Head) → ((f : Fid) → find_cached f cache ≡ None → find_cached f other ≡ None) → IsSafe e l running cache head call → IsSafe e l running other head call
+pub safe_cache : (call : FsCall) (e l : ℕ) (running : Option Act) (cache other : List CacheEntry) (head : Head) → ((f : Fid) → find_cached f cache ≡ None → find_cached f other ≡ None) → IsSafe e l running cache head call → IsSafe e l running other head call
 safe_cache (calls.StoreData f status position wanted file_length contents) e l running cache other head w (inl x) = inl x
 safe_cache (calls.StoreData f status position wanted file_length contents) e l running cache other head w (inr x) = inr (w f x)
 safe_cache call e l running cache other head w x = tt
 
-safe_own : (act : Act) (e l : ℕ) (running : Option Act) (cache : List CacheEntry) (head : Head) → running ≡ Some act → head.epoch ≡ e → head.number ≡ l → IsSafe e l running cache head (call_of act)
+pub safe_own : (act : Act) (e l : ℕ) (running : Option Act) (cache : List CacheEntry) (head : Head) → running ≡ Some act → head.epoch ≡ e → head.number ≡ l → IsSafe e l running cache head (call_of act)
 safe_own (Open f) e l running cache head r x y = tt
 safe_own (Close f contents) e l running cache head r x y = inl (r, (x, y))
 
 -- the message of a call that the client sends now
-own_call : (c : Cell) (past : List Entry) (n : ℕ) (x : ClientState) (act : Act) (ls : List Line) → x.running ≡ Some act → begun (Client n) (onto (lines_of past) ls) ≡ Some act
+pub own_call : (c : Cell) (past : List Entry) (n : ℕ) (x : ClientState) (act : Act) (ls : List Line) → x.running ≡ Some act → begun (Client n) (onto (lines_of past) ls) ≡ Some act
     → News (call_message (Client n) x act ∷ []) (views_after c n x) (step_entry n ls (call_message (Client n) x act ∷ []) ∷ past)
 own_call c past n x act ls runs at = record {
   calls = (record {
@@ -312,7 +312,7 @@ sent_by : (t x : Bool) → t ≡ true → cond (cond t true false) true x ≡ tr
 sent_by true x e = refl
 sent_by false x e = absurd cc
 
-asks : (s : Script) (c : Cell) (past : List Entry) (n : ℕ) (act : Act) (l : Line) → Holds s c past → AreGood s past [] (l ∷ []) → Passes s n (l ∷ []) (call_message (Client n) (asking (c.clients n) act) act ∷ []) past
+pub asks : (s : Script) (c : Cell) (past : List Entry) (n : ℕ) (act : Act) (l : Line) → Holds s c past → AreGood s past [] (l ∷ []) → Passes s n (l ∷ []) (call_message (Client n) (asking (c.clients n) act) act ∷ []) past
     → ((f : Fid) → PassesFile n f (step_entry n (l ∷ []) (call_message (Client n) (asking (c.clients n) act) act ∷ [])) past) → ((f : Fid) → PassesReach n f (step_entry n (l ∷ []) (call_message (Client n) (asking (c.clients n) act) act ∷ [])) past)
     → ((f : Fid) (y : List ℕ) → (c.clients n).running ≡ Some (Close f y) → ⊥) → begun (Client n) (l ∷ lines_of past) ≡ Some act → Goes s past (client_moves c n (calls_step (Client n) (c.clients n) act l))
 asks s c past n act l h good p q r shut at =
@@ -342,8 +342,8 @@ asks s c past n act l h good p q r shut at =
       })
       (own_call c past n x act (l ∷ []) refl at)
 
-own_begun : (n : ℕ) (act : Act) (o : Option Act) → cond (same_node (Client n) (Client n)) (Some act) o ≡ Some act
+pub own_begun : (n : ℕ) (act : Act) (o : Option Act) → cond (same_node (Client n) (Client n)) (Some act) o ≡ Some act
 own_begun n act o = rw (same_node-refl (Client n)) refl
 
-idle_asks : (s : Script) (c : Cell) (past : List Entry) (n : ℕ) (act : Act) → Holds s c past → (c.clients n).running ≡ None → Goes s past (client_moves c n (calls_step (Client n) (c.clients n) act (lines.Begin (Client n) act)))
+pub idle_asks : (s : Script) (c : Cell) (past : List Entry) (n : ℕ) (act : Act) → Holds s c past → (c.clients n).running ≡ None → Goes s past (client_moves c n (calls_step (Client n) (c.clients n) act (lines.Begin (Client n) act)))
 idle_asks s c past n act h none = asks s c past n act (lines.Begin (Client n) act) h (tt, tt) (begin_passes s n act _ past) (begin_file n n act _ past) (begin_reach n n act _ past) (λ f y e. absurd cc) (own_begun n act (begun (Client n) (lines_of past)))

@@ -4,3 +4,5 @@ pub mod Facts
 pub mod Passing
 pub mod Serving
 pub mod Asking
+pub mod Answering
+pub mod Law

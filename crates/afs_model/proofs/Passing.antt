@@ -119,7 +119,7 @@ stays j f e past p l server i newer q (inr at) = inr (ap (option_map (λ (v : Ve
 
 -- ---- a cached entry
 
-fetch_reply_by : (t : Bool) (o u : Option Message) → t ≡ false → cond t o u ≡ u
+pub fetch_reply_by : (t : Bool) (o u : Option Message) → t ≡ false → cond t o u ≡ u
 fetch_reply_by true o u e = absurd cc
 fetch_reply_by false o u e = refl
 

@@ -9,3 +9,4 @@ pub mod Past
 pub mod Ideal
 pub mod Grants
 pub mod Legal
+pub mod OneServer
