@@ -95,7 +95,7 @@ legal_after s (x ∷ xs) c past (e ∷ es) end h r =
 
 -- ---- the set-up
 
-onto_last : (o ls : List Line) (l : Line) → onto o (ls ++ l ∷ []) ≡ l ∷ onto o ls
+pub onto_last : (o ls : List Line) (l : Line) → onto o (ls ++ l ∷ []) ≡ l ∷ onto o ls
 onto_last o [] l = refl
 onto_last o (k ∷ ls) l = onto_last (k ∷ o) ls l
 

@@ -6,3 +6,4 @@ pub mod Serving
 pub mod Asking
 pub mod Answering
 pub mod Law
+pub mod KeysOnce

@@ -10,3 +10,5 @@ pub mod Ideal
 pub mod Grants
 pub mod Legal
 pub mod OneServer
+pub mod Once
+pub mod Laws
