@@ -1,21 +1,19 @@
 -- The clients' steps that answer an act.
-use Rattle.std.proofs.Common.{◌≡◌, ℕ, zero, suc, ◌+◌, ◌<◌, ◌≤◌, ◌⊎◌, inl, inr, Bool, true, false, cond, eqb, ltb, nat_eq, nat_lt, not, max, List, [], ◌∷◌, ◌++◌, map, Option, Some, None, ℤ, pos, refl, sym, ap, subst, ◌∙◌, arith, eq-eqb, ne_eqb, eqb-true, ltb-true, lt-ltb, ltb-false, le-ltb, le_of_eq, append-nil}
-use Rattle.std.specs.Prelude.{find, filter, ◌&&◌, ⊤, if◌then◌else◌}
+use Rattle.std.proofs.Common.{◌≡◌, ℕ, ◌<◌, ◌≤◌, inl, inr, Bool, true, false, cond, nat_lt, not, List, [], ◌∷◌, map, Option, Some, None, ℤ, refl, sym, ap, subst, ◌∙◌, eqb-true, ltb-true, lt-ltb, le_of_eq, append-nil}
+use Rattle.std.specs.Prelude.{◌&&◌}
 use Rattle.std.specs.Option.{option_map}
 use Rattle.afs_num.specs.Fids.{same_fid}
 use Rattle.afs_num.specs.Nodes.{same_node}
 use Rattle.afs_num.specs.declared.types.Code.{Code}
 use Rattle.afs_num.specs.declared.types.Fid.{Fid}
-use Rattle.afs_num.specs.declared.types.Half.{Half}
 use Rattle.afs_num.specs.declared.types.Head.{Head}
 use Rattle.afs_num.specs.declared.types.Key.{Key}
 use Rattle.afs_num.specs.declared.types.Node.{Node}
-use Rattle.afs_num.specs.declared.types.Node.TheVariants.{Loc, Server, Client, Admin}
+use Rattle.afs_num.specs.declared.types.Node.TheVariants.{Client}
 use Rattle.afs_num.specs.declared.calls.AfsCallBack.{AfsCallBack}
 use Rattle.afs_num.specs.declared.calls.AfsFetchStatus.{AfsFetchStatus}
 use Rattle.afs_num.specs.declared.calls.AfsVolSync.{AfsVolSync}
 use Rattle.afs_num.specs.declared.calls.FsCall.{FsCall}
-use Rattle.afs_num.specs.declared.calls.FsCall.TheVariants as calls
 use Rattle.afs_num.specs.declared.calls.FsReply.{FsReply}
 use Rattle.afs_num.specs.declared.calls.FsReply.TheVariants as replies
 use Rattle.afs_num.specs.declared.messages.Carried.{Carried}
@@ -25,37 +23,30 @@ use Rattle.afs_num.specs.declared.messages.Received.TheVariants.{Whole}
 use Rattle.afs_num.specs.declared.scripts.Act.{Act}
 use Rattle.afs_num.specs.declared.scripts.Act.TheVariants.{Open, Close}
 use Rattle.afs_num.specs.declared.scripts.Script.{Script}
-use Rattle.afs_num.specs.declared.histories.Body.{Body}
 use Rattle.afs_num.specs.declared.histories.Body.TheVariants as bodies
 use Rattle.afs_num.specs.declared.histories.Line.{Line}
 use Rattle.afs_num.specs.declared.histories.Line.TheVariants as lines
-use Rattle.afs_num.specs.declared.histories.ReadSource.{ReadSource}
 use Rattle.afs_num.specs.declared.histories.ReadSource.TheVariants.{Cached, Fetched}
-use Rattle.afs_num.specs.declared.histories.Version.{Version}
 use Rattle.afs_num.specs.declared.states.CacheEntry.{CacheEntry}
 use Rattle.afs_num.specs.declared.states.ClientState.{ClientState}
 use Rattle.afs_num.specs.declared.states.Seat.{Seat}
-use Rattle.afs_num.specs.declared.states.ServerState.{ServerState}
-use Rattle.afs_num.specs.declared.states.StoredFile.{StoredFile}
-use Rattle.afs_model.specs.Runs.{Entry, Cell, Moved, message_at}
-use Rattle.afs_model.specs.ServerRow.{seat_of, find_file, version_of}
+use Rattle.afs_model.specs.Runs.{Entry, Cell, message_at}
+use Rattle.afs_model.specs.ServerRow.{seat_of}
 use Rattle.afs_model.specs.ClientRow.{the_server, find_cached}
-use Rattle.afs_model.specs.Past.{onto, lines_on, lines_of, sent_of, given_message, called_key, answered_key, begun, is_of_act, Called, IsUnheard, IsCall, IsCallUnder, Ran}
-use Rattle.afs_model.specs.Ideal.{last_version, IsLast, HasVersion, Accepts, clock_of, user_of, asked, op, Reach, reach, reach_over, raised}
-use Rattle.afs_model.specs.Grants.{has_fetched, fetch_reply, GrantOf, since, IsWithdrawn, IsDropped}
-use Rattle.afs_model.specs.Legal.{IsNew, Cause, AreGood}
-use Rattle.afs_model.proofs.Basics.{Below, UpTo, Above, Each, IfCall, IfReply, OfReply}
-use Rattle.afs_num.specs.declared.calls.AfsStoreStatus.{AfsStoreStatus}
+use Rattle.afs_model.specs.Past.{onto, lines_of, sent_of, given_message, answered_key, begun, is_of_act, IsCall}
+use Rattle.afs_model.specs.Ideal.{last_version, HasVersion}
+use Rattle.afs_model.specs.Grants.{has_fetched, fetch_reply, since}
+use Rattle.afs_model.specs.Legal.{Cause}
+use Rattle.afs_model.proofs.Basics.{UpTo, IfCall, IfReply, OfReply}
 use Rattle.afs_model.specs.Steps.{Step}
-use Rattle.afs_model.specs.Runs.{put, client_moves, begun_by, voided}
-use Rattle.afs_model.specs.ClientRow.{used_first, is_trusted, refreshed, guest, opcode_of, call_of, call_head, call_message, asking, calls_step, zero_code, shows_step, opens, begin_row, ignores, ended, answers_step, uses_step, takes_fetched, takes_stored, takes, resends_step, counts, is_awaited, awaits, client_row}
-use Rattle.afs_model.specs.Past.{same_key}
-use Rattle.afs_model.specs.Legal.{code_told, GoodRead, GoodCode, IsDone}
-use Rattle.afs_model.proofs.Basics.{both, same_fid-true, same_fid-refl, apart, apart-found, same_node-true, same_node-refl, node_apart, client_number, same_key-refl, up_to_both, up_to_same, up_to_next, next_not, at_put, found-cached-fid, found-first, none-first, found-refreshed, OfCall, each_map, each_at, if_call, if_reply, raised_up_to, some_of}
-use Rattle.afs_model.proofs.Facts.{View, view_of, view, last_key, LastRan, Reached, index_of, Held, IsNewest, Plain, Overtaken, Stands, IsCurrent, HasCurrent, IsFetched, Fits, Answers, HasAnswer, stored_index, KeptReply, ClientFacts, IsSafe, CallFact, CallIn, ReplyFact, ReplyIn, Origin, SentFacts, HasTop, Holds, Goes}
-use Rattle.afs_model.proofs.Passing.{PassesGrant, PassesFile, PassesAct, PassesReach, StaysNewest, stays, held_over, cause_over, fetch_reply_by, current_over, stands_over, reached_more, client_over, client_still, older_origins, News, more_sent, asked_over}
+use Rattle.afs_model.specs.Runs.{client_moves, begun_by, voided}
+use Rattle.afs_model.specs.ClientRow.{used_first, refreshed, call_message, calls_step, zero_code, shows_step, opens, begin_row, ignores, ended, answers_step, uses_step, takes_stored, takes, resends_step, counts, is_awaited, awaits, client_row}
+use Rattle.afs_model.specs.Legal.{code_told, GoodCode, IsDone}
+use Rattle.afs_model.proofs.Basics.{both, same_fid-true, same_fid-refl, same_node-refl, client_number, up_to_both, found-cached-fid, found-first, none-first, found-refreshed, OfCall, each_at, some_of}
+use Rattle.afs_model.proofs.Facts.{View, view, last_key, LastRan, Reached, index_of, IsNewest, Overtaken, Stands, IsCurrent, HasCurrent, Answers, stored_index, ClientFacts, CallFact, CallIn, ReplyFact, ReplyIn, Holds, Goes}
+use Rattle.afs_model.proofs.Passing.{PassesFile, PassesAct, PassesReach, StaysNewest, stays, held_over, fetch_reply_by, current_over, client_still, older_origins}
 use Rattle.afs_model.proofs.Serving.{told_file, told_reach, told_act, not_ran, reached_still, same_target}
-use Rattle.afs_model.proofs.Asking.{step_entry, view_after, moves, nothing_new, Heard, told_passes, shown_lines, shown_file, shown_reach, shown_passes, answered_lines, answered_file, answered_reach, answered_passes, used_lines, used_grant, used_file, used_reach, used_passes, quiet, call_is, safe_cache, safe_own, own_call, asks, own_begun, idle_asks}
+use Rattle.afs_model.proofs.Asking.{step_entry, view_after, moves, nothing_new, Heard, told_passes, shown_lines, shown_file, shown_reach, shown_passes, answered_lines, answered_file, answered_reach, answered_passes, used_lines, used_grant, used_file, used_reach, used_passes, quiet, safe_cache, own_call, asks, own_begun, idle_asks}
 
 -- ---- an entry is shown
 
@@ -65,9 +56,9 @@ same_entry a b o x y = some_of a b (sym x ∙ y)
 -- what is found where an entry was used was found before
 used_found : (g : Fid) (u : CacheEntry) (cache : List CacheEntry) (v : CacheEntry) → find_cached u.fid cache ≡ Some u → find_cached g (used_first u cache) ≡ Some v → find_cached g cache ≡ Some v
 used_found g u cache v at found = elim (found-first g u cache v found) [
-    inl q ↦ subst (λ (x : Fid). find_cached x cache ≡ Some v) q.0 (subst (λ (x : CacheEntry). find_cached u.fid cache ≡ Some x) q.1 at)
+  | inl q ↦ subst (λ (x : Fid). find_cached x cache ≡ Some v) q.0 (subst (λ (x : CacheEntry). find_cached u.fid cache ≡ Some x) q.1 at)
   | inr q ↦ q.1
-  ]
+]
 
 not_waiting : (j : ℕ) (f : Fid) (server : Node) (newer : List Line) (v : View) (past : List Entry) → v.running ≡ None → Overtaken j f server newer v past → ⊥
 not_waiting j f server newer v past none o = let runs = o.runs in absurd cc
@@ -95,37 +86,42 @@ shown_now s c past n f u h none found lasts =
     let own : u.fid ≡ f = same_fid-true u.fid f (found-cached-fid f (c.clients n).cache u found) in
     let first : find_cached u.fid (c.clients n).cache ≡ Some u = ap (λ (x : Fid). find_cached x (c.clients n).cache) own ∙ found in
     let old : Reached (Client n) f u.index past = idle_reached n f u.index _ _ (view c n) past none cur.state in
-    moves s c past n st h
-      (tt, (record {
-        whole = cur.held.whole;
-        not_older = old.seen;
-        reply = cur.reply;
-        by = cur.by;
-        expiry = u.expiry;
-        grant = cur.held.grant;
-        lasts = subst (λ (t : ℕ). t < u.expiry) (sym h.clock) lt;
-        kept = cur.held.kept;
-        newest = idle_newest n f u.index _ _ (view c n) past none cur.state;
-      }, (inr (refl, done_open n f u.index u.contents _ (own_begun n a (begun (Client n) (lines_of past)))), tt)))
-      (shown_passes s n u.index a f u.contents past)
-      (record {
-        behind = d.behind;
-        kept = d.kept;
-        answer = λ b m y ran z. absurd cc;
-        current = λ g w at lasts'.
+    moves s c past n st h (
+      tt,
+      (
+        record {
+          whole = cur.held.whole;
+          not_older = old.seen;
+          reply = cur.reply;
+          by = cur.by;
+          expiry = u.expiry;
+          grant = cur.held.grant;
+          lasts = subst (λ (t : ℕ). t < u.expiry) (sym h.clock) lt;
+          kept = cur.held.kept;
+          newest = idle_newest n f u.index _ _ (view c n) past none cur.state;
+        },
+        (inr (refl, done_open n f u.index u.contents _ (own_begun n a (begun (Client n) (lines_of past)))), tt),
+      ),
+    )
+    (shown_passes s n u.index a f u.contents past)
+    (record {
+      behind = d.behind;
+      kept = d.kept;
+      answer = λ b m y ran z. absurd cc;
+      current = λ g w at lasts'.
           let before : find_cached g (c.clients n).cache ≡ Some w = used_found g u (c.clients n).cache w first at in
           current_over n g w (view c n) (view_after c n st.state) e past (shown_file n n u.index a f g u.contents past)
-            (λ server newer q stands. inl (record {
-              reached = shown_reach n n u.index a f g u.contents past w.index (λ t y. le_of_eq (ap (λ (x : CacheEntry). x.index) (same_entry u w (find_cached g (c.clients n).cache) (ap (λ (x : Fid). find_cached x (c.clients n).cache) (sym (same_fid-true f g y)) ∙ found) before))) (idle_reached n g w.index server newer (view c n) past none stands);
-              newest = idle_newest n g w.index server newer (view c n) past none stands;
-              before = λ y is ran. absurd cc;
-            })) (d.current g w before lasts');
-        begun = λ b y. absurd cc;
-        asked = λ b y. absurd cc;
-        reached = λ g. shown_reach n n u.index a f g u.contents past (index_of (last_version g (lines_of past))) (λ t y. subst (λ (x : Fid). u.index ≤ index_of (last_version x (lines_of past))) (same_fid-true f g y) (h.top f u.index (bodies.File u.contents) cur.held.whole)) (d.reached g);
-      })
-      (λ head call w. record { behind = w.behind; own = w.own; safe = λ above. safe_cache call (c.clients n).epoch (c.clients n).last (c.clients n).running (c.clients n).cache (used_first u (c.clients n).cache) head (λ g y. none-first g u (c.clients n).cache first y) (w.safe above) })
-      (nothing_new _ _)
+          (λ server newer q stands. inl (record {
+            reached = shown_reach n n u.index a f g u.contents past w.index (λ t y. le_of_eq (ap (λ (x : CacheEntry). x.index) (same_entry u w (find_cached g (c.clients n).cache) (ap (λ (x : Fid). find_cached x (c.clients n).cache) (sym (same_fid-true f g y)) ∙ found) before))) (idle_reached n g w.index server newer (view c n) past none stands);
+            newest = idle_newest n g w.index server newer (view c n) past none stands;
+            before = λ y is ran. absurd cc;
+          })) (d.current g w before lasts');
+      begun = λ b y. absurd cc;
+      asked = λ b y. absurd cc;
+      reached = λ g. shown_reach n n u.index a f g u.contents past (index_of (last_version g (lines_of past))) (λ t y. subst (λ (x : Fid). u.index ≤ index_of (last_version x (lines_of past))) (same_fid-true f g y) (h.top f u.index (bodies.File u.contents) cur.held.whole)) (d.reached g);
+    })
+    (λ head call w. record { behind = w.behind; own = w.own; safe = λ above. safe_cache call (c.clients n).epoch (c.clients n).last (c.clients n).running (c.clients n).cache (used_first u (c.clients n).cache) head (λ g y. none-first g u (c.clients n).cache first y) (w.safe above) })
+    (nothing_new _ _)
 
 trusted_goes : (s : Script) (c : Cell) (past : List Entry) (n : ℕ) (f : Fid) (u : CacheEntry) (t : Bool) → Holds s c past → (c.clients n).running ≡ None → find_cached f (c.clients n).cache ≡ Some u → nat_lt c.clock u.expiry ≡ t
     → Goes s past (client_moves c n (cond t (shows_step (Client n) (c.clients n) f u) (calls_step (Client n) (c.clients n) (Open f) (lines.Begin (Client n) (Open f)))))
@@ -195,14 +191,14 @@ takes_refused s c past n p act head code h d =
     let m : Message = record { head = head; carried = carried.Refusal code } in
     let e : Entry = step_entry n (answered_lines n p code) [] in
     moves s c past n (answers_step (Client n) (c.clients n) p code) h
-      (tt, (good_code s c past n p act m code (lines.Given p ∷ []) h d refl refl, tt))
-      (answered_passes s c past n p m code h d.heard)
-      (ended_facts s c past n (c.clients n).cache e h
-        (λ f u found lasts. current_over n f u (view c n) _ e past (answered_file n n p code past f)
-          (ended_stands c past n (c.clients n).cache e f u.index (answered_reach n n p code past f) (stays n f e past (answered_file n n p code past f).grant refl)
-            (λ contents index ran k runs kept told. let same : m ≡ k = one_reply (view c n) d.ran ran m k d.kept kept in let none : stored_index k.carried ≡ None = ap (λ (x : Message). stored_index x.carried) (sym same) in absurd cc)) ((h.clients n).current f u found lasts))
-        (reached_still s c past n e h (answered_reach n n p code past) (λ f. refl)))
-      (ended_calls s c past n p act m (c.clients n).cache d) (nothing_new _ _)
+    (tt, (good_code s c past n p act m code (lines.Given p ∷ []) h d refl refl, tt))
+    (answered_passes s c past n p m code h d.heard)
+    (ended_facts s c past n (c.clients n).cache e h
+    (λ f u found lasts. current_over n f u (view c n) _ e past (answered_file n n p code past f)
+    (ended_stands c past n (c.clients n).cache e f u.index (answered_reach n n p code past f) (stays n f e past (answered_file n n p code past f).grant refl)
+    (λ contents index ran k runs kept told. let same : m ≡ k = one_reply (view c n) d.ran ran m k d.kept kept in let none : stored_index k.carried ≡ None = ap (λ (x : Message). stored_index x.carried) (sym same) in absurd cc)) ((h.clients n).current f u found lasts))
+    (reached_still s c past n e h (answered_reach n n p code past) (λ f. refl)))
+    (ended_calls s c past n p act m (c.clients n).cache d) (nothing_new _ _)
 
 -- ---- a fetched file
 
@@ -224,37 +220,42 @@ takes_used s c past n p f head contents status callback sync h d lasts =
     let e : Entry = step_entry n (used_lines n p f i contents) [] in
     let a = d.answers.fits in
     let lt : c.clock < x = ltb-true _ _ lasts in
-    moves s c past n (uses_step (Client n) (c.clients n) p new) h
-      (tt, (record {
-        whole = a.held.whole;
-        not_older = a.reached.seen;
+    moves s c past n (uses_step (Client n) (c.clients n) p new) h (
+      tt,
+      (
+        record {
+          whole = a.held.whole;
+          not_older = a.reached.seen;
+          reply = m;
+          by = d.at;
+          expiry = x;
+          grant = a.held.grant;
+          lasts = subst (λ (t : ℕ). t < x) (sym h.clock) lt;
+          kept = a.held.kept;
+          newest = a.newest;
+        },
+        (good_code s c past n p (Open f) m zero_code (lines.Read (Client n) f i Fetched (bodies.File contents) ∷ lines.Given p ∷ []) h d refl refl, tt),
+      ),
+    )
+    (used_passes s c past n p i f contents m h d.heard)
+    (ended_facts s c past n cache e h
+    (λ g u found lasts'. elim (found-first g new (c.clients n).cache u found) [
+      | inl q ↦ subst (λ (y : CacheEntry). IsCurrent n g y (view_after c n (ended (c.clients n) cache)) (e ∷ past)) q.1 (subst (λ (y : Fid). IsCurrent n y new (view_after c n (ended (c.clients n) cache)) (e ∷ past)) q.0 (record {
         reply = m;
-        by = d.at;
-        expiry = x;
-        grant = a.held.grant;
-        lasts = subst (λ (t : ℕ). t < x) (sym h.clock) lt;
-        kept = a.held.kept;
-        newest = a.newest;
-      }, (good_code s c past n p (Open f) m zero_code (lines.Read (Client n) f i Fetched (bodies.File contents) ∷ lines.Given p ∷ []) h d refl refl, tt)))
-      (used_passes s c past n p i f contents m h d.heard)
-      (ended_facts s c past n cache e h
-        (λ g u found lasts'. elim (found-first g new (c.clients n).cache u found) [
-            inl q ↦ subst (λ (y : CacheEntry). IsCurrent n g y (view_after c n (ended (c.clients n) cache)) (e ∷ past)) q.1 (subst (λ (y : Fid). IsCurrent n y new (view_after c n (ended (c.clients n) cache)) (e ∷ past)) q.0 (record {
-              reply = m;
-              by = used_reply n f (given_message e.lines (sent_of past)) (fetch_reply (Client n) f past) ∙ d.at;
-              held = held_over n f i contents x m e past (used_grant n n p i f f contents past) a.held;
-              state = inl (record {
-                reached = used_reach n n p i f f contents past i (λ t y. le_of_eq refl) a.reached;
-                newest = a.newest;
-                before = λ y is ran. absurd cc;
-              });
-            }))
-          | inr q ↦ current_over n g u (view c n) _ e past (used_file n n p i f g contents past (λ y z. q.0 z))
-              (ended_stands c past n cache e g u.index (λ k. used_reach n n p i f g contents past k (λ t y. absurd (q.0 (same_fid-true f g y)))) (stays n g e past (used_grant n n p i f g contents past) refl)
-                (λ b index ran k runs kept told. not_close c past n p f g b m d runs)) ((h.clients n).current g u q.1 lasts')
-          ])
-        (λ g. used_reach n n p i f g contents past (index_of (last_version g (lines_of past))) (λ t y. subst (λ (z : Fid). i ≤ index_of (last_version z (lines_of past))) (same_fid-true f g y) (h.top f i (bodies.File contents) a.held.whole)) ((h.clients n).reached g)))
-      (ended_calls s c past n p (Open f) m cache d) (nothing_new _ _)
+        by = used_reply n f (given_message e.lines (sent_of past)) (fetch_reply (Client n) f past) ∙ d.at;
+        held = held_over n f i contents x m e past (used_grant n n p i f f contents past) a.held;
+        state = inl (record {
+          reached = used_reach n n p i f f contents past i (λ t y. le_of_eq refl) a.reached;
+          newest = a.newest;
+          before = λ y is ran. absurd cc;
+        });
+      }))
+      | inr q ↦ current_over n g u (view c n) _ e past (used_file n n p i f g contents past (λ y z. q.0 z))
+          (ended_stands c past n cache e g u.index (λ k. used_reach n n p i f g contents past k (λ t y. absurd (q.0 (same_fid-true f g y)))) (stays n g e past (used_grant n n p i f g contents past) refl)
+          (λ b index ran k runs kept told. not_close c past n p f g b m d runs)) ((h.clients n).current g u q.1 lasts')
+    ])
+    (λ g. used_reach n n p i f g contents past (index_of (last_version g (lines_of past))) (λ t y. subst (λ (z : Fid). i ≤ index_of (last_version z (lines_of past))) (same_fid-true f g y) (h.top f i (bodies.File contents) a.held.whole)) ((h.clients n).reached g)))
+    (ended_calls s c past n p (Open f) m cache d) (nothing_new _ _)
 
 fetched_goes : (s : Script) (c : Cell) (past : List Entry) (n p : ℕ) (f : Fid) (head : Head) (contents : List ℕ) (status : AfsFetchStatus) (callback : AfsCallBack) (sync : AfsVolSync) (t : Bool) → Holds s c past
     → Due c past n p (Open f) (record { head = head; carried = carried.Reply (replies.FetchData contents status callback sync) }) → nat_lt c.clock callback.expiration_time ≡ t
@@ -300,8 +301,8 @@ stored_by : (t live : Bool) (s : Script) (c : Cell) (past : List Entry) (n p : �
 stored_by true true s c past n p f g b m index x u e cache d told whole pass r stay t live own found is lasts h =
     let fg : f ≡ g = sym (same_fid-true x.fid f t) ∙ same_fid-true x.fid g own in
     subst (λ (y : CacheEntry). IsCurrent n g y (view_after c n (ended (c.clients n) cache)) (e ∷ past)) is
-      (subst (λ (y : Fid). IsCurrent n y (record x { index = index; contents = b }) (view_after c n (ended (c.clients n) cache)) (e ∷ past)) fg
-        (stored_own s c past n p f b m index x e cache d told whole (pass f) (r f) (stay f) ((h.clients n).current f x (ap (λ (y : Fid). find_cached y (c.clients n).cache) fg ∙ found) (ltb-true _ _ live))))
+    (subst (λ (y : Fid). IsCurrent n y (record x { index = index; contents = b }) (view_after c n (ended (c.clients n) cache)) (e ∷ past)) fg
+    (stored_own s c past n p f b m index x e cache d told whole (pass f) (r f) (stay f) ((h.clients n).current f x (ap (λ (y : Fid). find_cached y (c.clients n).cache) fg ∙ found) (ltb-true _ _ live))))
 stored_by true false s c past n p f g b m index x u e cache d told whole pass r stay t live own found is lasts h =
     let lasts' : c.clock < x.expiry = subst (λ (y : CacheEntry). c.clock < y.expiry) (sym is) lasts in
     let yes : nat_lt c.clock x.expiry ≡ true = lt-ltb _ _ lasts' in
@@ -310,8 +311,8 @@ stored_by false live s c past n p f g b m index x u e cache d told whole pass r 
     let ne : f ≡ g → ⊥ = λ q. let yes : same_fid x.fid f ≡ true = ap (same_fid x.fid) q ∙ own in absurd cc in
     let lasts' : c.clock < x.expiry = subst (λ (y : CacheEntry). c.clock < y.expiry) (sym is) lasts in
     subst (λ (y : CacheEntry). IsCurrent n g y (view_after c n (ended (c.clients n) cache)) (e ∷ past)) is
-      (current_over n g x (view c n) _ e past (pass g) (ended_stands c past n cache e g x.index (r g) (stay g)
-        (λ contents k ran reply runs kept y. ne (same_target f g b contents (some_of _ _ (sym d.running ∙ runs))))) ((h.clients n).current g x found lasts'))
+    (current_over n g x (view c n) _ e past (pass g) (ended_stands c past n cache e g x.index (r g) (stay g)
+    (λ contents k ran reply runs kept y. ne (same_target f g b contents (some_of _ _ (sym d.running ∙ runs))))) ((h.clients n).current g x found lasts'))
 
 stored_of : (o : Option CacheEntry) (s : Script) (c : Cell) (past : List Entry) (n p : ℕ) (f g : Fid) (b : List ℕ) (m : Message) (index : ℕ) (u : CacheEntry) (e : Entry) (cache : List CacheEntry) → Due c past n p (Close f b) m → stored_index m.carried ≡ Some index
     → HasVersion f index (bodies.File b) (lines_of past) → ((h : Fid) → PassesFile n h e past) → ((h : Fid) → PassesReach n h e past) → ((h : Fid) → StaysNewest n h e past)
@@ -329,13 +330,13 @@ takes_saved s c past n p f b head status sync h d =
     let cache : List CacheEntry = map (refreshed c.clock f i b) (c.clients n).cache in
     let e : Entry = step_entry n (answered_lines n p zero_code) [] in
     moves s c past n (takes_stored (Client n) (c.clients n) c.clock p f i b) h
-      (tt, (good_code s c past n p (Close f b) m zero_code (lines.Given p ∷ []) h d refl refl, tt))
-      (answered_passes s c past n p m zero_code h d.heard)
-      (ended_facts s c past n cache e h
-        (λ g u found lasts. stored_of (find_cached g (c.clients n).cache) s c past n p f g b m i u e cache d refl d.answers.fits (answered_file n n p zero_code past) (answered_reach n n p zero_code past) (λ k. stays n k e past (answered_file n n p zero_code past k).grant refl)
-          refl (sym (found-refreshed c.clock f g i b (c.clients n).cache) ∙ found) lasts h)
-        (reached_still s c past n e h (answered_reach n n p zero_code past) (λ g. refl)))
-      (ended_calls s c past n p (Close f b) m cache d) (nothing_new _ _)
+    (tt, (good_code s c past n p (Close f b) m zero_code (lines.Given p ∷ []) h d refl refl, tt))
+    (answered_passes s c past n p m zero_code h d.heard)
+    (ended_facts s c past n cache e h
+    (λ g u found lasts. stored_of (find_cached g (c.clients n).cache) s c past n p f g b m i u e cache d refl d.answers.fits (answered_file n n p zero_code past) (answered_reach n n p zero_code past) (λ k. stays n k e past (answered_file n n p zero_code past k).grant refl)
+    refl (sym (found-refreshed c.clock f g i b (c.clients n).cache) ∙ found) lasts h)
+    (reached_still s c past n e h (answered_reach n n p zero_code past) (λ g. refl)))
+    (ended_calls s c past n p (Close f b) m cache d) (nothing_new _ _)
 
 -- ---- a boot notice
 
@@ -344,9 +345,9 @@ resends_goes s c past n p act m boot h d runs =
     let x : ClientState = record (c.clients n) { boot = boot } in
     let ms : List Message = call_message (Client n) x act ∷ [] in
     moves s c past n (resends_step (Client n) (c.clients n) p act boot) h (tt, tt) (told_passes s c past n p m ms h d)
-      (client_still n (view c n) (step_entry n (lines.Given p ∷ []) ms) past (λ f. told_file n p f (Some (Client n)) ms past) (λ f. told_reach n p f (Some (Client n)) ms past) (told_act n p (Some (Client n)) ms past) (λ f. refl) (h.clients n))
-      (λ head call f. f)
-      (own_call c past n x act (lines.Given p ∷ []) runs ((h.clients n).begun act runs))
+    (client_still n (view c n) (step_entry n (lines.Given p ∷ []) ms) past (λ f. told_file n p f (Some (Client n)) ms past) (λ f. told_reach n p f (Some (Client n)) ms past) (told_act n p (Some (Client n)) ms past) (λ f. refl) (h.clients n))
+    (λ head call f. f)
+    (own_call c past n x act (lines.Given p ∷ []) runs ((h.clients n).begun act runs))
 
 -- ---- the row, by its cases
 
@@ -375,7 +376,7 @@ is_due s c past n p act m h heard to f w runs =
     let fact : ReplyFact (seat_of (Client n) c.server.seats) m = subst (λ (j : ℕ). ReplyFact (seat_of (Client j) c.server.seats) m) one f.fact in
     let d = h.clients n in
     let up : UpTo fact.seat.epoch fact.seat.number m.head.epoch m.head.number =
-      subst (λ (x : ℕ). UpTo fact.seat.epoch fact.seat.number x m.head.number) (sym w.epoch) (subst (λ (x : ℕ). UpTo fact.seat.epoch fact.seat.number (c.clients n).epoch x) (sym w.number) (d.behind fact.seat fact.at)) in
+    subst (λ (x : ℕ). UpTo fact.seat.epoch fact.seat.number x m.head.number) (sym w.epoch) (subst (λ (x : ℕ). UpTo fact.seat.epoch fact.seat.number (c.clients n).epoch x) (sym w.number) (d.behind fact.seat fact.at)) in
     let same = up_to_both _ _ _ _ fact.behind up in
     let ran : LastRan (view c n) = record { seat = fact.seat; at = fact.at; epoch = sym same.0 ∙ w.epoch; number = sym same.1 ∙ w.number } in
     let kept : fact.seat.reply ≡ Some m = fact.kept same.0 same.1 in

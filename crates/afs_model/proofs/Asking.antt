@@ -1,27 +1,16 @@
 -- The clients' steps.
-use Rattle.std.proofs.Common.{◌≡◌, ℕ, zero, suc, ◌+◌, ◌<◌, ◌≤◌, ◌⊎◌, inl, inr, Bool, true, false, cond, eqb, ltb, nat_eq, nat_lt, not, max, List, [], ◌∷◌, ◌++◌, map, Option, Some, None, ℤ, pos, refl, sym, ap, subst, ◌∙◌, arith, eq-eqb, ne_eqb, eqb-true, ltb-true, ltb-false, le-ltb, append-nil}
-use Rattle.std.specs.Prelude.{find, filter, ◌&&◌, ⊤, if◌then◌else◌}
-use Rattle.std.specs.Option.{option_map}
+use Rattle.std.proofs.Common.{◌≡◌, ℕ, ◌+◌, ◌≤◌, inl, inr, Bool, true, false, cond, List, [], ◌∷◌, Option, Some, None, refl, sym, ap, subst, ◌∙◌, arith}
+use Rattle.std.specs.Prelude.{◌&&◌}
 use Rattle.afs_num.specs.Fids.{same_fid}
 use Rattle.afs_num.specs.Nodes.{same_node}
 use Rattle.afs_num.specs.declared.types.Code.{Code}
 use Rattle.afs_num.specs.declared.types.Fid.{Fid}
-use Rattle.afs_num.specs.declared.types.Half.{Half}
 use Rattle.afs_num.specs.declared.types.Head.{Head}
 use Rattle.afs_num.specs.declared.types.Key.{Key}
-use Rattle.afs_num.specs.declared.types.Node.{Node}
-use Rattle.afs_num.specs.declared.types.Node.TheVariants.{Loc, Server, Client, Admin}
-use Rattle.afs_num.specs.declared.calls.AfsCallBack.{AfsCallBack}
-use Rattle.afs_num.specs.declared.calls.AfsFetchStatus.{AfsFetchStatus}
-use Rattle.afs_num.specs.declared.calls.AfsVolSync.{AfsVolSync}
+use Rattle.afs_num.specs.declared.types.Node.TheVariants.{Client}
 use Rattle.afs_num.specs.declared.calls.FsCall.{FsCall}
 use Rattle.afs_num.specs.declared.calls.FsCall.TheVariants as calls
-use Rattle.afs_num.specs.declared.calls.FsReply.{FsReply}
-use Rattle.afs_num.specs.declared.calls.FsReply.TheVariants as replies
-use Rattle.afs_num.specs.declared.messages.Carried.{Carried}
-use Rattle.afs_num.specs.declared.messages.Carried.TheVariants as carried
 use Rattle.afs_num.specs.declared.messages.Message.{Message}
-use Rattle.afs_num.specs.declared.messages.Received.TheVariants.{Whole}
 use Rattle.afs_num.specs.declared.scripts.Act.{Act}
 use Rattle.afs_num.specs.declared.scripts.Act.TheVariants.{Open, Close}
 use Rattle.afs_num.specs.declared.scripts.Script.{Script}
@@ -29,32 +18,24 @@ use Rattle.afs_num.specs.declared.histories.Body.{Body}
 use Rattle.afs_num.specs.declared.histories.Body.TheVariants as bodies
 use Rattle.afs_num.specs.declared.histories.Line.{Line}
 use Rattle.afs_num.specs.declared.histories.Line.TheVariants as lines
-use Rattle.afs_num.specs.declared.histories.ReadSource.{ReadSource}
 use Rattle.afs_num.specs.declared.histories.ReadSource.TheVariants.{Cached, Fetched}
 use Rattle.afs_num.specs.declared.histories.Version.{Version}
 use Rattle.afs_num.specs.declared.states.CacheEntry.{CacheEntry}
 use Rattle.afs_num.specs.declared.states.ClientState.{ClientState}
-use Rattle.afs_num.specs.declared.states.Seat.{Seat}
-use Rattle.afs_num.specs.declared.states.ServerState.{ServerState}
-use Rattle.afs_num.specs.declared.states.StoredFile.{StoredFile}
-use Rattle.afs_model.specs.Runs.{Entry, Cell, Moved, message_at}
-use Rattle.afs_model.specs.ServerRow.{seat_of, find_file, version_of}
+use Rattle.afs_model.specs.Runs.{Entry, Cell, message_at}
+use Rattle.afs_model.specs.ServerRow.{seat_of}
 use Rattle.afs_model.specs.ClientRow.{the_server, find_cached}
-use Rattle.afs_model.specs.Past.{onto, lines_on, lines_of, sent_of, given_message, called_key, answered_key, begun, is_of_act, Called, IsUnheard, IsCall, IsCallUnder, Ran}
-use Rattle.afs_model.specs.Ideal.{last_version, IsLast, HasVersion, Accepts, clock_of, user_of, asked, op, Reach, reach, reach_over, raised}
-use Rattle.afs_model.specs.Grants.{has_fetched, fetch_reply, GrantOf, since, IsWithdrawn, IsDropped}
-use Rattle.afs_model.specs.Legal.{IsNew, Cause, AreGood}
-use Rattle.afs_model.proofs.Basics.{Below, UpTo, Above, Each, IfCall, IfReply, OfReply}
-use Rattle.afs_num.specs.declared.calls.AfsStoreStatus.{AfsStoreStatus}
+use Rattle.afs_model.specs.Past.{onto, lines_of, sent_of, given_message, begun, IsCall, IsCallUnder}
+use Rattle.afs_model.specs.Ideal.{last_version, HasVersion, Accepts, clock_of, asked, reach, raised}
+use Rattle.afs_model.specs.Legal.{IsNew, AreGood}
+use Rattle.afs_model.proofs.Basics.{Each, IfCall, IfReply}
 use Rattle.afs_model.specs.Steps.{Step}
-use Rattle.afs_model.specs.Runs.{put, client_moves, begun_by, voided}
-use Rattle.afs_model.specs.ClientRow.{used_first, is_trusted, refreshed, guest, opcode_of, call_of, call_head, call_message, asking, calls_step, zero_code, shows_step, opens, begin_row, ignores, ended, answers_step, uses_step, takes_fetched, takes_stored, takes, resends_step, counts, is_awaited, awaits, client_row}
-use Rattle.afs_model.specs.Past.{same_key}
-use Rattle.afs_model.specs.Legal.{code_told, GoodRead, GoodCode, IsDone}
-use Rattle.afs_model.proofs.Basics.{both, same_fid-true, same_fid-refl, apart, apart-found, same_node-true, same_node-refl, node_apart, client_number, same_key-refl, up_to_both, up_to_same, up_to_next, next_not, at_put, found-cached-fid, found-first, none-first, found-refreshed, OfCall, each_map, each_at, if_call, if_reply, raised_up_to, some_of}
-use Rattle.afs_model.proofs.Facts.{View, view_of, view, last_key, LastRan, Reached, index_of, Held, IsNewest, Plain, Overtaken, Stands, IsCurrent, HasCurrent, IsFetched, Fits, Answers, HasAnswer, stored_index, KeptReply, ClientFacts, IsSafe, CallFact, CallIn, ReplyFact, ReplyIn, Origin, SentFacts, HasTop, Holds, Goes}
-use Rattle.afs_model.proofs.Passing.{PassesGrant, PassesFile, PassesAct, PassesReach, StaysNewest, stays, held_over, cause_over, current_over, stands_over, reached_more, client_over, client_still, older_origins, News, more_sent, asked_over}
-use Rattle.afs_model.proofs.Serving.{told_file, told_reach, told_act, not_ran, reached_still, same_target}
+use Rattle.afs_model.specs.Runs.{put, client_moves}
+use Rattle.afs_model.specs.ClientRow.{call_of, call_head, call_message, asking, calls_step, zero_code, ignores}
+use Rattle.afs_model.proofs.Basics.{both, same_fid-true, same_node-true, same_node-refl, node_apart, client_number, same_key-refl, up_to_same, up_to_next, next_not, at_put, each_map, if_call, if_reply, raised_up_to, some_of}
+use Rattle.afs_model.proofs.Facts.{View, view_of, view, last_key, LastRan, Reached, index_of, ClientFacts, IsSafe, CallFact, CallIn, ReplyIn, Holds, Goes}
+use Rattle.afs_model.proofs.Passing.{PassesGrant, PassesFile, PassesAct, PassesReach, stays, current_over, client_still, News, more_sent, asked_over}
+use Rattle.afs_model.proofs.Serving.{told_file, told_reach, told_act, reached_still}
 
 -- ---- what any step of client n needs
 
@@ -81,11 +62,13 @@ views_after c n x j = view_of c.clock (put n x c.clients j) (seat_of (Client j) 
 
 calls_moved : (c : Cell) (n : ℕ) (x : ClientState) (sent : List Message) → ((head : Head) (call : FsCall) → CallFact (view c n) head call → CallFact (view_after c n x) head call) → Each (IfCall (CallIn (view c))) sent → Each (IfCall (CallIn (views_after c n x))) sent
 calls_moved c n x sent w h = each_map (IfCall (CallIn (view c))) (IfCall (CallIn (views_after c n x))) (if_call (CallIn (view c)) (CallIn (views_after c n x)) (λ head user call f. record {
-    client = f.client; from = f.from; to = f.to;
-    fact = at_put n f.client (λ u. CallFact (view_of c.clock u (seat_of (Client f.client) c.server.seats)) head call) x c.clients
+  client = f.client;
+  from = f.from;
+  to = f.to;
+  fact = at_put n f.client (λ u. CallFact (view_of c.clock u (seat_of (Client f.client) c.server.seats)) head call) x c.clients
       (λ e. subst (λ (m : ℕ). CallFact (view_of c.clock x (seat_of (Client m) c.server.seats)) head call) e (w head call (subst (λ (m : ℕ). CallFact (view c m) head call) (sym e) f.fact)))
       (λ ne. f.fact);
-  })) sent h
+})) sent h
 
 replies_moved : (c : Cell) (n : ℕ) (x : ClientState) (sent : List Message) → Each (IfReply (ReplyIn (view c))) sent → Each (IfReply (ReplyIn (views_after c n x))) sent
 replies_moved c n x sent h = each_map (IfReply (ReplyIn (view c))) (IfReply (ReplyIn (views_after c n x))) (if_reply (ReplyIn (view c)) (ReplyIn (views_after c n x)) (λ m f. record { client = f.client; to = f.to; fact = f.fact })) sent h
@@ -104,8 +87,8 @@ moves s c past n st h good p own w news =
         new = λ k above. p.new k (lines_of past) (h.new k above);
         unheard = λ k above. (λ x. p.dull k c.server.boot x, h.unheard k above);
         clients = λ j. at_put n j (λ u. ClientFacts j (view_of c.clock u (seat_of (Client j) c.server.seats)) (e ∷ past)) st.state c.clients
-          (λ q. subst (λ (m : ℕ). ClientFacts m (view_of c.clock st.state (seat_of (Client m) c.server.seats)) (e ∷ past)) q own)
-          (λ ne. client_still j (view c j) e past (p.file j ne) (p.reach j ne) (p.act j ne) (λ f. p.last f (lines_of past)) (h.clients j));
+            (λ q. subst (λ (m : ℕ). ClientFacts m (view_of c.clock st.state (seat_of (Client m) c.server.seats)) (e ∷ past)) q own)
+            (λ ne. client_still j (view c j) e past (p.file j ne) (p.reach j ne) (p.act j ne) (λ f. p.last f (lines_of past)) (h.clients j));
         sent = more_sent c.sent (view c) (views_after c n st.state) e past h.sent (calls_moved c n st.state c.sent w h.sent.calls) (replies_moved c n st.state c.sent h.sent.replies) news;
         clock = p.clock (lines_of past) ∙ h.clock;
         top = λ f i b x. subst (λ (o : Option Version). i ≤ index_of o) (sym (p.last f (lines_of past))) (h.top f i b (p.back f i b (lines_of past) x));
@@ -184,8 +167,8 @@ shown_reach n j i a f g b past k le h =
     record {
       made = reset_up_to (same_node (Client n) (Client j)) r.made k h.made;
       seen = raised_up_to (same_node (Client n) (Client j) && true) (cond (same_node (Client n) (Client j)) 0 r.made) (raised (same_node (Client n) (Client j) && same_fid f g) i r.seen) k
-        (λ t. reset_up_to (same_node (Client n) (Client j)) r.made k h.made)
-        (raised_up_to (same_node (Client n) (Client j) && same_fid f g) i r.seen k (λ t. let q = both (same_node (Client n) (Client j)) (same_fid f g) t in le q.0 q.1) h.seen);
+          (λ t. reset_up_to (same_node (Client n) (Client j)) r.made k h.made)
+          (raised_up_to (same_node (Client n) (Client j) && same_fid f g) i r.seen k (λ t. let q = both (same_node (Client n) (Client j)) (same_fid f g) t in le q.0 q.1) h.seen);
     }
 
 not_client : (n j : ℕ) → (n ≡ j → ⊥) → same_node (Client n) (Client j) ≡ true → ⊥
@@ -246,7 +229,7 @@ used_reach n j p i f g b past k le h =
     record {
       made = h.made;
       seen = raised_up_to (same_node (Client n) (Client j) && true) r.made (raised (same_node (Client n) (Client j) && same_fid f g) i r.seen) k (λ t. h.made)
-        (raised_up_to (same_node (Client n) (Client j) && same_fid f g) i r.seen k (λ t. let q = both (same_node (Client n) (Client j)) (same_fid f g) t in le q.0 q.1) h.seen);
+          (raised_up_to (same_node (Client n) (Client j) && same_fid f g) i r.seen k (λ t. let q = both (same_node (Client n) (Client j)) (same_fid f g) t in le q.0 q.1) h.seen);
     }
 
 pub used_passes : (s : Script) (c : Cell) (past : List Entry) (n p i : ℕ) (f : Fid) (b : List ℕ) (m : Message) → Holds s c past → Heard c p m → Passes s n (used_lines n p f i b) [] past
@@ -294,16 +277,21 @@ safe_own (Close f contents) e l running cache head r x y = inl (r, (x, y))
 pub own_call : (c : Cell) (past : List Entry) (n : ℕ) (x : ClientState) (act : Act) (ls : List Line) → x.running ≡ Some act → begun (Client n) (onto (lines_of past) ls) ≡ Some act
     → News (call_message (Client n) x act ∷ []) (views_after c n x) (step_entry n ls (call_message (Client n) x act ∷ []) ∷ past)
 own_call c past n x act ls runs at = record {
-  calls = (record {
-    client = n; from = refl; to = refl;
-    fact = at_put n n (λ u. CallFact (view_of c.clock u (seat_of (Client n) c.server.seats)) (call_head (Client n) x act) (call_of act)) x c.clients
-      (λ q. record {
-        behind = up_to_same _ _ _ _ refl refl;
-        own = λ b y e k. call_is act ∙ ap asked (some_of act b (sym runs ∙ y));
-        safe = λ above. safe_own act x.epoch x.last x.running x.cache (call_head (Client n) x act) runs refl refl;
-      })
-      (λ ne. absurd (ne refl));
-  }, tt);
+  calls = (
+    record {
+      client = n;
+      from = refl;
+      to = refl;
+      fact = at_put n n (λ u. CallFact (view_of c.clock u (seat_of (Client n) c.server.seats)) (call_head (Client n) x act) (call_of act)) x c.clients
+          (λ q. record {
+            behind = up_to_same _ _ _ _ refl refl;
+            own = λ b y e k. call_is act ∙ ap asked (some_of act b (sym runs ∙ y));
+            safe = λ above. safe_own act x.epoch x.last x.running x.cache (call_head (Client n) x act) runs refl refl;
+          })
+          (λ ne. absurd (ne refl));
+    },
+    tt,
+  );
   replies = (tt, tt);
   origins = (record { act = act; called = inl (refl, (inl (refl, refl), at)); own_user = refl; own_call = call_is act }, tt);
 }
@@ -323,24 +311,24 @@ asks s c past n act l h good p q r shut at =
     let not : LastRan v → ⊥ = λ ran. next_not _ _ _ _ (d.behind ran.seat ran.at) ran.epoch ran.number in
     let last : (f : Fid) → last_version f (lines_of (e ∷ past)) ≡ last_version f (lines_of past) = λ f. p.last f (lines_of past) in
     moves s c past n (calls_step (Client n) (c.clients n) act l) h good p
-      (record {
-        behind = λ seat y. up_to_next _ _ _ _ (d.behind seat y);
-        kept = d.kept;
-        answer = λ b m y ran z. absurd (not ran);
-        current = λ f u found lasts. current_over n f u (view c n) v e past (q f) (λ server newer z st. elim st [
-            inl a ↦ inl (record { reached = r f u.index a.reached; newest = stays n f e past (q f).grant (last f) server u.index newer z a.newest; before = λ y is ran. not ran })
-          | inr o ↦ absurd (shut f o.contents o.runs)
-          ]) (d.current f u found lasts);
-        begun = λ b y. at ∙ y;
-        asked = λ b y. sent_by _ _ (same_key-refl (last_key n v));
-        reached = reached_still s c past n e h r last;
-      })
-      (λ head call f. record {
-        behind = up_to_next _ _ _ _ f.behind;
-        own = λ b y z w. absurd (next_not _ _ _ _ f.behind z w);
-        safe = λ above. safe_over call (c.clients n).epoch (c.clients n).last (c.clients n).epoch ((c.clients n).last + 1) (c.clients n).running (Some act) (c.clients n).cache head shut (f.safe above);
-      })
-      (own_call c past n x act (l ∷ []) refl at)
+    (record {
+      behind = λ seat y. up_to_next _ _ _ _ (d.behind seat y);
+      kept = d.kept;
+      answer = λ b m y ran z. absurd (not ran);
+      current = λ f u found lasts. current_over n f u (view c n) v e past (q f) (λ server newer z st. elim st [
+        | inl a ↦ inl (record { reached = r f u.index a.reached; newest = stays n f e past (q f).grant (last f) server u.index newer z a.newest; before = λ y is ran. not ran })
+        | inr o ↦ absurd (shut f o.contents o.runs)
+      ]) (d.current f u found lasts);
+      begun = λ b y. at ∙ y;
+      asked = λ b y. sent_by _ _ (same_key-refl (last_key n v));
+      reached = reached_still s c past n e h r last;
+    })
+    (λ head call f. record {
+      behind = up_to_next _ _ _ _ f.behind;
+      own = λ b y z w. absurd (next_not _ _ _ _ f.behind z w);
+      safe = λ above. safe_over call (c.clients n).epoch (c.clients n).last (c.clients n).epoch ((c.clients n).last + 1) (c.clients n).running (Some act) (c.clients n).cache head shut (f.safe above);
+    })
+    (own_call c past n x act (l ∷ []) refl at)
 
 pub own_begun : (n : ℕ) (act : Act) (o : Option Act) → cond (same_node (Client n) (Client n)) (Some act) o ≡ Some act
 own_begun n act o = rw (same_node-refl (Client n)) refl

@@ -1,50 +1,37 @@
 -- What holds of the cell and of all that was told before, after every entry.
-use Rattle.std.proofs.Common.{◌≡◌, ℕ, zero, suc, ◌+◌, ◌<◌, ◌≤◌, ◌⊎◌, inl, inr, Bool, true, false, cond, eqb, ltb, nat_eq, nat_lt, not, max, List, [], ◌∷◌, ◌++◌, map, Option, Some, None, ℤ, pos, refl, sym, ap, subst, ◌∙◌, arith, eq-eqb, ne_eqb, eqb-true, ltb-true, ltb-false, le-ltb, append-nil}
-use Rattle.std.specs.Prelude.{find, filter, ◌&&◌, ⊤, if◌then◌else◌}
+use Rattle.std.proofs.Common.{◌≡◌, ℕ, ◌<◌, ◌≤◌, ◌⊎◌, true, List, [], ◌∷◌, Option, Some, None, ℤ}
+use Rattle.std.specs.Prelude.{⊤}
 use Rattle.std.specs.Option.{option_map}
-use Rattle.afs_num.specs.Fids.{same_fid}
-use Rattle.afs_num.specs.Nodes.{same_node}
-use Rattle.afs_num.specs.declared.types.Code.{Code}
 use Rattle.afs_num.specs.declared.types.Fid.{Fid}
-use Rattle.afs_num.specs.declared.types.Half.{Half}
 use Rattle.afs_num.specs.declared.types.Head.{Head}
 use Rattle.afs_num.specs.declared.types.Key.{Key}
 use Rattle.afs_num.specs.declared.types.Node.{Node}
-use Rattle.afs_num.specs.declared.types.Node.TheVariants.{Loc, Server, Client, Admin}
-use Rattle.afs_num.specs.declared.calls.AfsCallBack.{AfsCallBack}
-use Rattle.afs_num.specs.declared.calls.AfsFetchStatus.{AfsFetchStatus}
-use Rattle.afs_num.specs.declared.calls.AfsVolSync.{AfsVolSync}
+use Rattle.afs_num.specs.declared.types.Node.TheVariants.{Client}
 use Rattle.afs_num.specs.declared.calls.FsCall.{FsCall}
 use Rattle.afs_num.specs.declared.calls.FsCall.TheVariants as calls
-use Rattle.afs_num.specs.declared.calls.FsReply.{FsReply}
 use Rattle.afs_num.specs.declared.calls.FsReply.TheVariants as replies
 use Rattle.afs_num.specs.declared.messages.Carried.{Carried}
 use Rattle.afs_num.specs.declared.messages.Carried.TheVariants as carried
 use Rattle.afs_num.specs.declared.messages.Message.{Message}
-use Rattle.afs_num.specs.declared.messages.Received.TheVariants.{Whole}
 use Rattle.afs_num.specs.declared.scripts.Act.{Act}
 use Rattle.afs_num.specs.declared.scripts.Act.TheVariants.{Open, Close}
 use Rattle.afs_num.specs.declared.scripts.Script.{Script}
 use Rattle.afs_num.specs.declared.histories.Body.{Body}
 use Rattle.afs_num.specs.declared.histories.Body.TheVariants as bodies
 use Rattle.afs_num.specs.declared.histories.Line.{Line}
-use Rattle.afs_num.specs.declared.histories.Line.TheVariants as lines
-use Rattle.afs_num.specs.declared.histories.ReadSource.{ReadSource}
-use Rattle.afs_num.specs.declared.histories.ReadSource.TheVariants.{Cached, Fetched}
 use Rattle.afs_num.specs.declared.histories.Version.{Version}
 use Rattle.afs_num.specs.declared.states.CacheEntry.{CacheEntry}
 use Rattle.afs_num.specs.declared.states.ClientState.{ClientState}
 use Rattle.afs_num.specs.declared.states.Seat.{Seat}
-use Rattle.afs_num.specs.declared.states.ServerState.{ServerState}
 use Rattle.afs_num.specs.declared.states.StoredFile.{StoredFile}
-use Rattle.afs_model.specs.Runs.{Entry, Cell, Moved, message_at}
+use Rattle.afs_model.specs.Runs.{Entry, Cell, Moved}
 use Rattle.afs_model.specs.ServerRow.{seat_of, find_file, version_of}
 use Rattle.afs_model.specs.ClientRow.{the_server, find_cached}
-use Rattle.afs_model.specs.Past.{onto, lines_on, lines_of, sent_of, given_message, called_key, answered_key, begun, is_of_act, Called, IsUnheard, IsCall, IsCallUnder, Ran}
-use Rattle.afs_model.specs.Ideal.{last_version, IsLast, HasVersion, Accepts, clock_of, user_of, asked, op, Reach, reach, reach_over, raised}
-use Rattle.afs_model.specs.Grants.{has_fetched, fetch_reply, GrantOf, since, IsWithdrawn, IsDropped}
+use Rattle.afs_model.specs.Past.{lines_of, sent_of, called_key, begun, is_of_act, Called, IsUnheard}
+use Rattle.afs_model.specs.Ideal.{last_version, IsLast, HasVersion, Accepts, clock_of, user_of, asked, reach}
+use Rattle.afs_model.specs.Grants.{fetch_reply, GrantOf, since, IsWithdrawn, IsDropped}
 use Rattle.afs_model.specs.Legal.{IsNew, Cause, AreGood}
-use Rattle.afs_model.proofs.Basics.{Below, UpTo, Above, Each, IfCall, IfReply, OfReply}
+use Rattle.afs_model.proofs.Basics.{UpTo, Above, Each, IfCall, IfReply, OfReply}
 
 -- ---- what the facts on a client read
 

@@ -1,63 +1,39 @@
 -- Every run of a script is legal.
-use Rattle.std.proofs.Common.{◌≡◌, ℕ, zero, suc, ◌+◌, ◌<◌, ◌≤◌, ◌⊎◌, inl, inr, Bool, true, false, cond, eqb, ltb, nat_eq, nat_lt, not, max, List, [], ◌∷◌, ◌++◌, map, Option, Some, None, ℤ, pos, refl, sym, ap, subst, ◌∙◌, arith, eq-eqb, ne_eqb, eqb-true, ltb-true, ltb-false, le-ltb, append-nil}
-use Rattle.std.specs.Prelude.{find, filter, ◌&&◌, ⊤, if◌then◌else◌}
+use Rattle.std.proofs.Common.{◌≡◌, ℕ, ◌+◌, ◌≤◌, ◌⊎◌, inl, inr, Bool, true, false, cond, nat_eq, List, [], ◌∷◌, ◌++◌, Option, Some, None, refl, sym, ap, subst, ◌∙◌, arith, eqb-true, append-nil}
+use Rattle.std.specs.Prelude.{⊤}
 use Rattle.std.specs.Option.{option_map}
 use Rattle.afs_num.specs.Fids.{same_fid}
-use Rattle.afs_num.specs.Nodes.{same_node}
-use Rattle.afs_num.specs.declared.types.Code.{Code}
 use Rattle.afs_num.specs.declared.types.Fid.{Fid}
-use Rattle.afs_num.specs.declared.types.Half.{Half}
-use Rattle.afs_num.specs.declared.types.Head.{Head}
 use Rattle.afs_num.specs.declared.types.Key.{Key}
 use Rattle.afs_num.specs.declared.types.Node.{Node}
 use Rattle.afs_num.specs.declared.types.Node.TheVariants.{Loc, Server, Client, Admin}
-use Rattle.afs_num.specs.declared.calls.AfsCallBack.{AfsCallBack}
-use Rattle.afs_num.specs.declared.calls.AfsFetchStatus.{AfsFetchStatus}
-use Rattle.afs_num.specs.declared.calls.AfsVolSync.{AfsVolSync}
-use Rattle.afs_num.specs.declared.calls.FsCall.{FsCall}
-use Rattle.afs_num.specs.declared.calls.FsCall.TheVariants as calls
-use Rattle.afs_num.specs.declared.calls.FsReply.{FsReply}
-use Rattle.afs_num.specs.declared.calls.FsReply.TheVariants as replies
-use Rattle.afs_num.specs.declared.messages.Carried.{Carried}
-use Rattle.afs_num.specs.declared.messages.Carried.TheVariants as carried
 use Rattle.afs_num.specs.declared.messages.Message.{Message}
 use Rattle.afs_num.specs.declared.messages.Received.TheVariants.{Whole}
-use Rattle.afs_num.specs.declared.scripts.Act.{Act}
-use Rattle.afs_num.specs.declared.scripts.Act.TheVariants.{Open, Close}
 use Rattle.afs_num.specs.declared.scripts.Script.{Script}
 use Rattle.afs_num.specs.declared.histories.Body.{Body}
 use Rattle.afs_num.specs.declared.histories.Body.TheVariants as bodies
 use Rattle.afs_num.specs.declared.histories.Line.{Line}
 use Rattle.afs_num.specs.declared.histories.Line.TheVariants as lines
-use Rattle.afs_num.specs.declared.histories.ReadSource.{ReadSource}
-use Rattle.afs_num.specs.declared.histories.ReadSource.TheVariants.{Cached, Fetched}
 use Rattle.afs_num.specs.declared.histories.Version.{Version}
-use Rattle.afs_num.specs.declared.states.CacheEntry.{CacheEntry}
-use Rattle.afs_num.specs.declared.states.ClientState.{ClientState}
-use Rattle.afs_num.specs.declared.states.Seat.{Seat}
-use Rattle.afs_num.specs.declared.states.ServerState.{ServerState}
 use Rattle.afs_num.specs.declared.states.StoredFile.{StoredFile}
-use Rattle.afs_model.specs.Runs.{Entry, Cell, Moved, message_at}
-use Rattle.afs_model.specs.ServerRow.{seat_of, find_file, version_of}
-use Rattle.afs_model.specs.ClientRow.{the_server, find_cached}
-use Rattle.afs_model.specs.Past.{onto, lines_on, lines_of, sent_of, given_message, called_key, answered_key, begun, is_of_act, Called, IsUnheard, IsCall, IsCallUnder, Ran}
-use Rattle.afs_model.specs.Ideal.{last_version, IsLast, HasVersion, Accepts, clock_of, user_of, asked, op, Reach, reach, reach_over, raised}
-use Rattle.afs_model.specs.Grants.{has_fetched, fetch_reply, GrantOf, since, IsWithdrawn, IsDropped}
-use Rattle.afs_model.specs.Legal.{IsNew, Cause, AreGood}
-use Rattle.afs_model.proofs.Basics.{Below, UpTo, Above, Each, IfCall, IfReply, OfReply}
+use Rattle.afs_model.specs.Runs.{Entry, Cell, message_at}
+use Rattle.afs_model.specs.ServerRow.{find_file, version_of}
+use Rattle.afs_model.specs.ClientRow.{the_server}
+use Rattle.afs_model.specs.Past.{onto, lines_of, given_message, IsCallUnder}
+use Rattle.afs_model.specs.Ideal.{last_version, HasVersion, Accepts, clock_of, Reach, reach_over}
+use Rattle.afs_model.specs.Legal.{IsNew}
 use Rattle.std.specs.List.{flat_map}
 use Rattle.afs_num.specs.declared.scripts.SetupLine.{SetupLine}
 use Rattle.afs_num.specs.declared.scripts.SetupLine.TheVariants as setup
 use Rattle.afs_num.specs.declared.scripts.VolumeLine.{VolumeLine}
-use Rattle.afs_model.specs.Runs.{Input, begins, gives, nothing, moved, voided, server_moves, client_moves, given_to, given_at, Leads, first_files, files_of, start, RunsTo}
+use Rattle.afs_model.specs.Runs.{Input, begins, gives, nothing, moved, voided, server_moves, given_to, given_at, Leads, first_files, files_of, start, RunsTo}
 use Rattle.afs_model.specs.ServerRow.{server_row}
-use Rattle.afs_model.specs.ClientRow.{client_row}
 use Rattle.afs_model.specs.Ideal.{first_version, first_lines, set_up, is_at}
 use Rattle.afs_model.specs.Legal.{LegalAfter, Legal}
 use Rattle.afs_model.specs.OneServer.{AreAtServer, IsOneServer}
-use Rattle.afs_model.proofs.Basics.{same_fid-true, apart, found-fid, some_of}
-use Rattle.afs_model.proofs.Facts.{View, view, Reached, index_of, HasLast, AreHome, AreNew, HasTop, ClientFacts, Holds, Goes}
-use Rattle.afs_model.proofs.Serving.{server_goes, last_has}
+use Rattle.afs_model.proofs.Basics.{apart, some_of}
+use Rattle.afs_model.proofs.Facts.{Reached, index_of, HasLast, HasTop, Holds, Goes}
+use Rattle.afs_model.proofs.Serving.{server_goes}
 use Rattle.afs_model.proofs.Answering.{client_goes, begun_goes, voids}
 
 -- ---- every input
@@ -91,7 +67,7 @@ legal_after s [] c past (e ∷ es) end h r = absurd r
 legal_after s (x ∷ xs) c past [] end h r = absurd r
 legal_after s (x ∷ xs) c past (e ∷ es) end h r =
     subst (λ (y : Entry). LegalAfter s past (y ∷ es)) (sym r.0)
-      ((goes s c past x h).good, legal_after s xs (moved c x).cell ((moved c x).entry ∷ past) es end (goes s c past x h).holds r.1)
+    ((goes s c past x h).good, legal_after s xs (moved c x).cell ((moved c x).entry ∷ past) es end (goes s c past x h).holds r.1)
 
 -- ---- the set-up
 
@@ -148,16 +124,16 @@ first_low : (files : List StoredFile) → AreFirst files → (f : Fid) (i : ℕ)
 first_low [] h f i b x = absurd x
 first_low (file ∷ files) h f i b x =
     elim (subst (HasVersion f i b) (onto_last [] (first_lines files) (lines.Version (first_version file))) x) [
-        inl y ↦ let e : file.index ≡ i = y.1.0 in let one : file.index ≡ 1 = h.0 in omega arith
+      | inl y ↦ let e : file.index ≡ i = y.1.0 in let one : file.index ≡ 1 = h.0 in omega arith
       | inr y ↦ first_low files h.1 f i b y
-      ]
+    ]
 
 first_top : (files : List StoredFile) → AreFirst files → HasTop (onto [] (first_lines files))
 first_top [] h f i b x = absurd x
 first_top (file ∷ files) h f i b x =
     subst (λ (ls : List Line). i ≤ index_of (last_version f ls)) (sym (onto_last [] (first_lines files) (lines.Version (first_version file))))
-      (higher (same_fid file.fid f) file f i b (last_version f (onto [] (first_lines files))) (HasVersion f i b (onto [] (first_lines files))) refl h.0 (first_low files h.1 f i b) (first_top files h.1 f i b)
-        (subst (HasVersion f i b) (onto_last [] (first_lines files) (lines.Version (first_version file))) x))
+    (higher (same_fid file.fid f) file f i b (last_version f (onto [] (first_lines files))) (HasVersion f i b (onto [] (first_lines files))) refl h.0 (first_low files h.1 f i b) (first_top files h.1 f i b)
+    (subst (HasVersion f i b) (onto_last [] (first_lines files) (lines.Version (first_version file))) x))
 
 append_again : (a : List Line) (l : Line) (b : List Line) → (a ++ l ∷ []) ++ b ≡ a ++ l ∷ b
 append_again [] l b = refl
@@ -171,7 +147,7 @@ reach_first c f past r (file ∷ files) ls = ap (λ (x : List Line). reach_over 
 reached_first : (c : Node) (f : Fid) (i : ℕ) (files : List StoredFile) → Reached c f i (record { node = None; lines = first_lines files; sent = [] } ∷ [])
 reached_first c f i files =
     let at : reach_over c f [] false (record { made = 0; seen = 0 }) (first_lines files) ≡ record { made = 0; seen = 0 } =
-      ap (λ (x : List Line). reach_over c f [] false (record { made = 0; seen = 0 }) x) (sym (append-nil (first_lines files))) ∙ reach_first c f [] (record { made = 0; seen = 0 }) files [] in
+    ap (λ (x : List Line). reach_over c f [] false (record { made = 0; seen = 0 }) x) (sym (append-nil (first_lines files))) ∙ reach_first c f [] (record { made = 0; seen = 0 }) files [] in
     record { made = subst (λ (r : Reach). r.made ≤ i) (sym at) (omega arith); seen = subst (λ (r : Reach). r.seen ≤ i) (sym at) (omega arith) }
 
 -- ---- files stand in volumes of the server
@@ -196,9 +172,9 @@ found_in id f u (file ∷ a) b h x = first_or (same_fid file.fid f) id f file u 
 found_home : (vs : List VolumeLine) → AreAtServer vs → (f : Fid) (u : StoredFile) → find_file f (flat_map files_of vs) ≡ Some u → is_at u.fid.volume the_server vs
 found_home [] one f u x = absurd cc
 found_home (v ∷ vs) one f u x = elim (found_in v.id f u (files_of v) (flat_map files_of vs) (all_of v.id 1 v.lines) x) [
-    inl y ↦ inl (sym y, one.0)
+  | inl y ↦ inl (sym y, one.0)
   | inr y ↦ inr (found_home vs one.1 f u y)
-  ]
+]
 
 -- no message is given at set-up
 none_given : (files : List StoredFile) (ls : List Line) (sent : List Message) → given_message (first_lines files ++ ls) sent ≡ given_message ls sent

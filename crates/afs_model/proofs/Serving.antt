@@ -1,23 +1,17 @@
 -- The server's steps.
-use Rattle.std.proofs.Common.{◌≡◌, ℕ, zero, suc, ◌+◌, ◌<◌, ◌≤◌, ◌⊎◌, inl, inr, Bool, true, false, cond, eqb, ltb, nat_eq, nat_lt, not, max, length, List, [], ◌∷◌, ◌++◌, map, Option, Some, None, ℤ, pos, refl, sym, ap, subst, ◌∙◌, arith, eq-eqb, ne_eqb, eqb-true, ltb-true, ltb-false, le-ltb, append-nil}
-use Rattle.std.specs.Prelude.{find, filter, ◌&&◌, ⊤, if◌then◌else◌}
+use Rattle.std.proofs.Common.{◌≡◌, ℕ, ◌+◌, ◌≤◌, ◌⊎◌, inl, inr, Bool, true, false, cond, nat_eq, length, List, [], ◌∷◌, map, Option, Some, None, ℤ, pos, refl, sym, ap, subst, ◌∙◌, arith, eq-eqb, eqb-true}
+use Rattle.std.specs.Prelude.{◌&&◌}
 use Rattle.std.specs.Option.{option_map}
 use Rattle.afs_num.specs.Fids.{same_fid}
 use Rattle.afs_num.specs.Nodes.{same_node}
 use Rattle.afs_num.specs.declared.types.Code.{Code}
 use Rattle.afs_num.specs.declared.types.Fid.{Fid}
-use Rattle.afs_num.specs.declared.types.Half.{Half}
 use Rattle.afs_num.specs.declared.types.Head.{Head}
 use Rattle.afs_num.specs.declared.types.Key.{Key}
 use Rattle.afs_num.specs.declared.types.Node.{Node}
-use Rattle.afs_num.specs.declared.types.Node.TheVariants.{Loc, Server, Client, Admin}
-use Rattle.afs_num.specs.declared.calls.AfsCallBack.{AfsCallBack}
-use Rattle.afs_num.specs.declared.calls.AfsFetchStatus.{AfsFetchStatus}
-use Rattle.afs_num.specs.declared.calls.AfsVolSync.{AfsVolSync}
+use Rattle.afs_num.specs.declared.types.Node.TheVariants.{Client}
 use Rattle.afs_num.specs.declared.calls.FsCall.{FsCall}
 use Rattle.afs_num.specs.declared.calls.FsCall.TheVariants as calls
-use Rattle.afs_num.specs.declared.calls.FsReply.{FsReply}
-use Rattle.afs_num.specs.declared.calls.FsReply.TheVariants as replies
 use Rattle.afs_num.specs.declared.messages.Carried.{Carried}
 use Rattle.afs_num.specs.declared.messages.Carried.TheVariants as carried
 use Rattle.afs_num.specs.declared.messages.Message.{Message}
@@ -29,28 +23,23 @@ use Rattle.afs_num.specs.declared.histories.Body.{Body}
 use Rattle.afs_num.specs.declared.histories.Body.TheVariants as bodies
 use Rattle.afs_num.specs.declared.histories.Line.{Line}
 use Rattle.afs_num.specs.declared.histories.Line.TheVariants as lines
-use Rattle.afs_num.specs.declared.histories.ReadSource.{ReadSource}
-use Rattle.afs_num.specs.declared.histories.ReadSource.TheVariants.{Cached, Fetched}
 use Rattle.afs_num.specs.declared.histories.Version.{Version}
 use Rattle.afs_num.specs.declared.states.CacheEntry.{CacheEntry}
-use Rattle.afs_num.specs.declared.states.ClientState.{ClientState}
 use Rattle.afs_num.specs.declared.states.Seat.{Seat}
-use Rattle.afs_num.specs.declared.states.ServerState.{ServerState}
 use Rattle.afs_num.specs.declared.states.StoredFile.{StoredFile}
-use Rattle.afs_model.specs.Runs.{Entry, Cell, Moved, message_at}
+use Rattle.afs_model.specs.Runs.{Entry, Cell, message_at}
 use Rattle.afs_model.specs.ServerRow.{seat_of, find_file, version_of}
 use Rattle.afs_model.specs.ClientRow.{the_server, find_cached}
-use Rattle.afs_model.specs.Past.{onto, lines_on, lines_of, sent_of, given_message, called_key, answered_key, begun, is_of_act, Called, IsUnheard, IsCall, IsCallUnder, Ran}
-use Rattle.afs_model.specs.Ideal.{last_version, IsLast, HasVersion, Accepts, clock_of, user_of, asked, op, Reach, reach, reach_over, raised}
-use Rattle.afs_model.specs.Grants.{has_fetched, fetch_reply, GrantOf, since, IsWithdrawn, IsDropped}
-use Rattle.afs_model.specs.Legal.{IsNew, Cause, AreGood}
+use Rattle.afs_model.specs.Past.{onto, lines_of, sent_of, given_message, called_key, is_of_act, IsCallUnder, Ran}
+use Rattle.afs_model.specs.Ideal.{last_version, HasVersion, Accepts, asked, op, reach}
+use Rattle.afs_model.specs.Grants.{IsWithdrawn}
 use Rattle.afs_model.proofs.Basics.{Below, UpTo, Above, Each, IfCall, IfReply, OfReply}
 use Rattle.afs_model.specs.Runs.{server_moves}
-use Rattle.afs_model.specs.ServerRow.{Standing, is_older, is_last, is_newer, standing, seated, stored, with_stored, status_of, no_release, promise_ticks, promise_until, Decision, drops, tells_boot, repeats, refuses, grants, saves, no_file, fetches, stores, Request, asks, runs, answers_again, admits, called, hears, decides, key_of, reply_head, replied, boot_told, refusal, fetched_reply, stored_reply, keeps, saved, told, refuses_step, grants_step, saves_step, does, server_row}
-use Rattle.afs_model.specs.Ideal.{fetched_from, stored_on, next_version, is_number}
-use Rattle.afs_model.proofs.Basics.{both, same_fid-true, same_fid-refl, apart, apart-found, same_node-true, same_node-refl, client_number, up_to_below, below_up_to, below_not, up_to_both, up_to_same, newer_above, not_newer, LastSeat, last_seat, own_seat, at_seat, found-fid, found-mapped, OfCall, each_more, each_map, each_at, if_call, if_reply, raised_up_to, some_of}
-use Rattle.afs_model.proofs.Facts.{View, view_of, view, last_key, LastRan, Reached, index_of, Held, IsNewest, Plain, Overtaken, Stands, IsCurrent, HasCurrent, IsFetched, Fits, Answers, HasAnswer, IsReply, KeptReply, ClientFacts, IsSafe, CallFact, CallIn, ReplyFact, ReplyIn, Origin, SentFacts, HasLast, AreHome, AreNew, AreUnheard, HasTop, stored_index, Holds, Goes}
-use Rattle.afs_model.proofs.Passing.{PassesGrant, PassesFile, PassesAct, PassesReach, StaysNewest, stays, current_over, stands_over, reached_more, client_over, client_still, News, more_sent, asked_over}
+use Rattle.afs_model.specs.ServerRow.{Standing, is_older, is_last, is_newer, standing, seated, stored, with_stored, promise_ticks, Decision, drops, tells_boot, repeats, refuses, grants, saves, no_file, fetches, stores, asks, runs, answers_again, admits, called, hears, boot_told, refusal, fetched_reply, stored_reply, told, does, server_row}
+use Rattle.afs_model.specs.Ideal.{is_number}
+use Rattle.afs_model.proofs.Basics.{both, same_fid-true, same_fid-refl, apart, apart-found, same_node-true, client_number, up_to_below, below_up_to, below_not, up_to_same, newer_above, not_newer, LastSeat, last_seat, own_seat, at_seat, found-fid, found-mapped, OfCall, each_map, each_at, if_call, if_reply, raised_up_to, some_of}
+use Rattle.afs_model.proofs.Facts.{View, view_of, view, LastRan, Reached, index_of, Stands, IsCurrent, HasCurrent, Fits, Answers, IsReply, KeptReply, ClientFacts, CallFact, CallIn, ReplyFact, ReplyIn, Origin, HasLast, AreHome, AreNew, AreUnheard, HasTop, stored_index, Holds, Goes}
+use Rattle.afs_model.proofs.Passing.{PassesFile, PassesAct, PassesReach, StaysNewest, stays, current_over, reached_more, client_over, client_still, News, more_sent, asked_over}
 
 -- ---- a message that runs nothing
 
@@ -144,10 +133,10 @@ not_ran v e k a b ran =
 reply_after : (c : Cell) (n : ℕ) (h : Head) (r m : Message) (j : ℕ) → Above (seat_of (Client n) c.server.seats) h.epoch h.number → ReplyFact (seat_of (Client j) c.server.seats) m → ReplyFact (seat_of (Client j) (seats_after c n h r)) m
 reply_after c n h r m j a f = at_seat (taken n h r) (Client j) c.server.seats (λ o. ReplyFact o m)
     (λ q.
-      let at : seat_of (Client n) c.server.seats ≡ Some f.seat = ap (λ (x : Node). seat_of x c.server.seats) q ∙ f.at in
-      let l : Below f.seat.epoch f.seat.number h.epoch h.number = subst (λ (o : Option Seat). Above o h.epoch h.number) at a in
-      let b : Below m.head.epoch m.head.number h.epoch h.number = up_to_below _ _ _ _ _ _ f.behind l in
-      record { seat = taken n h r; at = refl; behind = below_up_to _ _ _ _ b; kept = λ x y. absurd (below_not _ _ _ _ b (up_to_same _ _ _ _ (sym x) (sym y))) })
+    let at : seat_of (Client n) c.server.seats ≡ Some f.seat = ap (λ (x : Node). seat_of x c.server.seats) q ∙ f.at in
+    let l : Below f.seat.epoch f.seat.number h.epoch h.number = subst (λ (o : Option Seat). Above o h.epoch h.number) at a in
+    let b : Below m.head.epoch m.head.number h.epoch h.number = up_to_below _ _ _ _ _ _ f.behind l in
+    record { seat = taken n h r; at = refl; behind = below_up_to _ _ _ _ b; kept = λ x y. absurd (below_not _ _ _ _ b (up_to_same _ _ _ _ (sym x) (sym y))) })
     (λ ne. f)
 
 replies_after : (s : Script) (c : Cell) (past : List Entry) (n : ℕ) (h : Head) (r : Message) → Holds s c past → Above (seat_of (Client n) c.server.seats) h.epoch h.number → Each (IfReply (ReplyIn (views_after c n h r))) c.sent
@@ -157,7 +146,9 @@ replies_after s c past n h r H a = each_map (IfReply (ReplyIn (view c))) (IfRepl
 calls_after : (s : Script) (c : Cell) (past : List Entry) (n : ℕ) (h : Head) (r : Message) → Holds s c past → Above (seat_of (Client n) c.server.seats) h.epoch h.number → Each (IfCall (CallIn (views_after c n h r))) c.sent
 calls_after s c past n h r H a = each_map (IfCall (CallIn (view c))) (IfCall (CallIn (views_after c n h r)))
     (if_call (CallIn (view c)) (CallIn (views_after c n h r)) (λ head user call f. record {
-      client = f.client; from = f.from; to = f.to;
+      client = f.client;
+      from = f.from;
+      to = f.to;
       fact = record { behind = f.fact.behind; own = f.fact.own; safe = λ b. f.fact.safe (above_before c n h r (Client f.client) head.epoch head.number a b) };
     })) c.sent H.sent.calls
 
@@ -170,7 +161,8 @@ unheard_after s c past p n h user act r e H w is = unheard_over (seats_after c n
 
 reply_now : (c : Cell) (n : ℕ) (h : Head) (r : Message) → r.head.to ≡ Client n → r.head.epoch ≡ h.epoch → r.head.number ≡ h.number → ReplyIn (views_after c n h r) r
 reply_now c n h r to e k = record {
-  client = n; to = to;
+  client = n;
+  to = to;
   fact = record { seat = taken n h r; at = own_seat (taken n h r) c.server.seats; behind = up_to_same _ _ _ _ e k; kept = λ x y. refl };
 }
 
@@ -215,12 +207,12 @@ caller_after s c past p n h user act r e H w q k a cur reached =
     record {
       behind = λ seat x. subst (λ (y : Seat). UpTo y.epoch y.number (c.clients n).epoch (c.clients n).last) (some_of _ _ x) w.fact.behind;
       kept = λ seat m x y. let one : taken n h r ≡ seat = some_of _ _ x in
-        let reply : Some r ≡ Some m = ap (λ (z : Seat). z.reply) one ∙ y in
-        subst (λ (z : Seat). KeptReply n z m) one (subst (λ (z : Message). KeptReply n (taken n h r) z) (some_of _ _ reply) k);
+          let reply : Some r ≡ Some m = ap (λ (z : Seat). z.reply) one ∙ y in
+          subst (λ (z : Seat). KeptReply n z m) one (subst (λ (z : Message). KeptReply n (taken n h r) z) (some_of _ _ reply) k);
       answer = λ b m x ran y. let one : taken n h r ≡ ran.seat = some_of _ _ ran.at in
-        let reply : Some r ≡ Some m = ap (λ (z : Seat). z.reply) one ∙ y in
-        let own : asked act ≡ asked b = w.fact.own b x (ap (λ (z : Seat). z.epoch) one ∙ ran.epoch) (ap (λ (z : Seat). z.number) one ∙ ran.number) in
-        subst (λ (z : Act). Answers n z m (e ∷ past)) (same_act act b own) (subst (λ (z : Message). Answers n act z (e ∷ past)) (some_of _ _ reply) a);
+          let reply : Some r ≡ Some m = ap (λ (z : Seat). z.reply) one ∙ y in
+          let own : asked act ≡ asked b = w.fact.own b x (ap (λ (z : Seat). z.epoch) one ∙ ran.epoch) (ap (λ (z : Seat). z.number) one ∙ ran.number) in
+          subst (λ (z : Act). Answers n z m (e ∷ past)) (same_act act b own) (subst (λ (z : Message). Answers n act z (e ∷ past)) (some_of _ _ reply) a);
       current = cur;
       begun = λ b x. q.begun (lines_of past) ∙ d.begun b x;
       asked = λ b x. q.asked _ (d.asked b x);
@@ -281,13 +273,13 @@ current_same : (s : Script) (c : Cell) (past : List Entry) (p n : ℕ) (h : Head
 current_same s c past p n h user act r e H w pass reach_pass l none f u found lasts =
     let cur : IsCurrent n f u (view c n) past = (H.clients n).current f u found lasts in
     current_over n f u (view c n) (seated_view c n (Some (taken n h r))) e past (pass f) (λ server newer q st. elim st [
-        inl a ↦ inl (record {
-          reached = reach_pass f u.index a.reached;
-          newest = stays n f e past (pass f).grant (l f) server u.index newer q a.newest;
-          before = λ y x ran. none_has f u.index (bodies.File u.contents) (lines_of past) (none f y (running_act c past p n h user act r w (Close f y) x ran)) cur.held.whole;
-        })
+      | inl a ↦ inl (record {
+        reached = reach_pass f u.index a.reached;
+        newest = stays n f e past (pass f).grant (l f) server u.index newer q a.newest;
+        before = λ y x ran. none_has f u.index (bodies.File u.contents) (lines_of past) (none f y (running_act c past p n h user act r w (Close f y) x ran)) cur.held.whole;
+      })
       | inr o ↦ absurd (not_ran (view c n) h.epoch h.number w.above w.fact.behind o.ran)
-      ]) cur
+    ]) cur
 
 pub reached_still : (s : Script) (c : Cell) (past : List Entry) (j : ℕ) (e : Entry) → Holds s c past → ((f : Fid) → PassesReach j f e past) → ((f : Fid) → last_version f (lines_of (e ∷ past)) ≡ last_version f (lines_of past))
     → (f : Fid) → Reached (Client j) f (index_of (last_version f (lines_of (e ∷ past)))) (e ∷ past)
@@ -325,15 +317,15 @@ refuses_goes s c past p n h user act H w none =
         new = new_after s c past n h r H w.above;
         unheard = unheard_after s c past p n h user act r e H w refl;
         clients = λ j. at_seat (taken n h r) (Client j) c.server.seats (λ o. ClientFacts j (seated_view c j o) (e ∷ past))
-          (λ q. subst (λ (m : ℕ). ClientFacts m (seated_view c m (Some (taken n h r))) (e ∷ past)) (client_number n j q)
+            (λ q. subst (λ (m : ℕ). ClientFacts m (seated_view c m (Some (taken n h r))) (e ∷ past)) (client_number n j q)
             (caller_after s c past p n h user act r e H w (told_act n p (Some the_server) (r ∷ []) past)
-              (record { to = refl; from = refl; epoch = refl; number = refl; is_reply = λ x. x })
-              (record { fits = refusal_fits n act r _ (e ∷ past); code = pos 102; cause = record { told = refl; ran = ran_now s c past p n h user act e H w refl; user = user; call = asked act; carries = refl; gives = refusal_code user act (lines_of past) none } })
-              (current_same s c past p n h user act r e H w (λ f. told_file n p f (Some the_server) (r ∷ []) past) (λ f. told_reach n p f (Some the_server) (r ∷ []) past) (λ f. refl) (none_close act (lines_of past) none))
-              (reached_still s c past n e H (λ f. told_reach n p f (Some the_server) (r ∷ []) past) (λ f. refl))))
-          (λ ne. client_still j (view c j) e past (λ f. told_file j p f (Some the_server) (r ∷ []) past) (λ f. told_reach j p f (Some the_server) (r ∷ []) past) (told_act j p (Some the_server) (r ∷ []) past) (λ f. refl) (H.clients j));
+            (record { to = refl; from = refl; epoch = refl; number = refl; is_reply = λ x. x })
+            (record { fits = refusal_fits n act r _ (e ∷ past); code = pos 102; cause = record { told = refl; ran = ran_now s c past p n h user act e H w refl; user = user; call = asked act; carries = refl; gives = refusal_code user act (lines_of past) none } })
+            (current_same s c past p n h user act r e H w (λ f. told_file n p f (Some the_server) (r ∷ []) past) (λ f. told_reach n p f (Some the_server) (r ∷ []) past) (λ f. refl) (none_close act (lines_of past) none))
+            (reached_still s c past n e H (λ f. told_reach n p f (Some the_server) (r ∷ []) past) (λ f. refl))))
+            (λ ne. client_still j (view c j) e past (λ f. told_file j p f (Some the_server) (r ∷ []) past) (λ f. told_reach j p f (Some the_server) (r ∷ []) past) (told_act j p (Some the_server) (r ∷ []) past) (λ f. refl) (H.clients j));
         sent = more_sent c.sent (view c) (views_after c n h r) e past H.sent (calls_after s c past n h r H w.above) (replies_after s c past n h r H w.above)
-          (record { calls = (tt, tt); replies = (reply_now c n h r refl refl refl, tt); origins = (tt, tt) });
+            (record { calls = (tt, tt); replies = (reply_now c n h r refl refl refl, tt); origins = (tt, tt) });
         clock = H.clock;
         top = H.top;
       };
@@ -370,28 +362,28 @@ grants_goes s c past p n h user file H w found =
         new = new_after s c past n h r H w.above;
         unheard = unheard_after s c past p n h user act r e H w refl;
         clients = λ j. at_seat (taken n h r) (Client j) c.server.seats (λ o. ClientFacts j (seated_view c j o) (e ∷ past))
-          (λ q. subst (λ (m : ℕ). ClientFacts m (seated_view c m (Some (taken n h r))) (e ∷ past)) (client_number n j q)
+            (λ q. subst (λ (m : ℕ). ClientFacts m (seated_view c m (Some (taken n h r))) (e ∷ past)) (client_number n j q)
             (caller_after s c past p n h user act r e H w (grants_act n p the_server (Client n) file.fid file.index x (Some the_server) (r ∷ []) past)
-              (record { to = refl; from = refl; epoch = refl; number = refl; is_reply = λ y. y })
-              (record {
-                fits = record {
-                  held = record {
-                    grant = record { ran = ran_now s c past p n h user act e H w refl; server = the_server; index = file.index; before = lines.Given p ∷ []; after = []; line = refl };
-                    server = refl;
-                    kept = λ d. d;
-                    whole = last_has file.fid (lines_of past) (version_of file) last;
-                  };
-                  reached = record { made = old.made; seen = old.seen };
-                  newest = inr (ap (option_map (λ (v : Version). v.index)) last);
+            (record { to = refl; from = refl; epoch = refl; number = refl; is_reply = λ y. y })
+            (record {
+              fits = record {
+                held = record {
+                  grant = record { ran = ran_now s c past p n h user act e H w refl; server = the_server; index = file.index; before = lines.Given p ∷ []; after = []; line = refl };
+                  server = refl;
+                  kept = λ d. d;
+                  whole = last_has file.fid (lines_of past) (version_of file) last;
                 };
-                code = pos 0;
-                cause = record { told = refl; ran = ran_now s c past p n h user act e H w refl; user = user; call = asked act; carries = refl; gives = rw last refl };
-              })
-              (current_same s c past p n h user act r e H w (grants_file n p the_server (Client n) file.fid file.index x (Some the_server) (r ∷ []) past) (grants_reach n p the_server (Client n) file.fid file.index x (Some the_server) (r ∷ []) past) (λ f. refl) (λ f y is. absurd cc))
-              (reached_still s c past n e H (grants_reach n p the_server (Client n) file.fid file.index x (Some the_server) (r ∷ []) past) (λ f. refl))))
-          (λ ne. client_still j (view c j) e past (grants_file j p the_server (Client n) file.fid file.index x (Some the_server) (r ∷ []) past) (grants_reach j p the_server (Client n) file.fid file.index x (Some the_server) (r ∷ []) past) (grants_act j p the_server (Client n) file.fid file.index x (Some the_server) (r ∷ []) past) (λ f. refl) (H.clients j));
+                reached = record { made = old.made; seen = old.seen };
+                newest = inr (ap (option_map (λ (v : Version). v.index)) last);
+              };
+              code = pos 0;
+              cause = record { told = refl; ran = ran_now s c past p n h user act e H w refl; user = user; call = asked act; carries = refl; gives = rw last refl };
+            })
+            (current_same s c past p n h user act r e H w (grants_file n p the_server (Client n) file.fid file.index x (Some the_server) (r ∷ []) past) (grants_reach n p the_server (Client n) file.fid file.index x (Some the_server) (r ∷ []) past) (λ f. refl) (λ f y is. absurd cc))
+            (reached_still s c past n e H (grants_reach n p the_server (Client n) file.fid file.index x (Some the_server) (r ∷ []) past) (λ f. refl))))
+            (λ ne. client_still j (view c j) e past (grants_file j p the_server (Client n) file.fid file.index x (Some the_server) (r ∷ []) past) (grants_reach j p the_server (Client n) file.fid file.index x (Some the_server) (r ∷ []) past) (grants_act j p the_server (Client n) file.fid file.index x (Some the_server) (r ∷ []) past) (λ f. refl) (H.clients j));
         sent = more_sent c.sent (view c) (views_after c n h r) e past H.sent (calls_after s c past n h r H w.above) (replies_after s c past n h r H w.above)
-          (record { calls = (tt, tt); replies = (reply_now c n h r refl refl refl, tt); origins = (tt, tt) });
+            (record { calls = (tt, tt); replies = (reply_now c n h r refl refl refl, tt); origins = (tt, tt) });
         clock = H.clock;
         top = H.top;
       };
@@ -438,7 +430,7 @@ saves_act j p k w r past = record { begun = λ l. refl; asked = λ l y. asked_ov
 saves_reach : (j p : ℕ) (k : Key) (w : Version) (r : Message) (past : List Entry) (f : Fid) (i : ℕ) → ((same_node k.node (Client j) && is_of_act (Client j) k past) ≡ true → same_fid w.fid f ≡ true → w.index ≤ i) → Reached (Client j) f i past → Reached (Client j) f i (saved_entry p k w r ∷ past)
 saves_reach j p k w r past f i le h = record {
   made = raised_up_to ((same_node k.node (Client j) && is_of_act (Client j) k past) && same_fid w.fid f) w.index (reach (Client j) f past).made i
-    (λ t. let q = both (same_node k.node (Client j) && is_of_act (Client j) k past) (same_fid w.fid f) t in le q.0 q.1) h.made;
+      (λ t. let q = both (same_node k.node (Client j) && is_of_act (Client j) k past) (same_fid w.fid f) t in le q.0 q.1) h.made;
   seen = h.seen;
 }
 
@@ -471,24 +463,24 @@ own_stands t c past p n h user file b r g i server newer w q told old there (inr
 own_stands true c past p n h user file b r g i server newer w q told old there (inl a) =
     let fg : file.fid ≡ g = same_fid-true file.fid g q in
     elim (w.fact.safe w.above) [
-        inl own ↦ inr (record {
-          contents = b;
-          index = file.index + 1;
-          runs = own.0 ∙ ap (λ (x : Fid). Some (Close x b)) fg;
-          ran = record { seat = taken n h r; at = refl; epoch = own.1.0; number = own.1.1 };
-          reply = r;
-          kept = refl;
-          told = told;
-          reached = saves_reach n p _ _ r past g (file.index + 1) (λ x y. omega arith) (reached_more (Client n) g file.index (file.index + 1) past (omega arith) (subst (λ (x : Fid). Reached (Client n) x file.index past) fg old));
-          newest = inr (rw q refl);
-        })
+      | inl own ↦ inr (record {
+        contents = b;
+        index = file.index + 1;
+        runs = own.0 ∙ ap (λ (x : Fid). Some (Close x b)) fg;
+        ran = record { seat = taken n h r; at = refl; epoch = own.1.0; number = own.1.1 };
+        reply = r;
+        kept = refl;
+        told = told;
+        reached = saves_reach n p _ _ r past g (file.index + 1) (λ x y. omega arith) (reached_more (Client n) g file.index (file.index + 1) past (omega arith) (subst (λ (x : Fid). Reached (Client n) x file.index past) fg old));
+        newest = inr (rw q refl);
+      })
       | inr none ↦ absurd (there (ap (λ (x : Fid). find_cached x (c.clients n).cache) (sym fg) ∙ none))
-      ]
+    ]
 own_stands false c past p n h user file b r g i server newer w q told old there (inl a) = inl (record {
   reached = saves_reach n p _ _ r past g i (λ x y. absurd cc) a.reached;
   newest = elim a.newest [ inl x ↦ inl (inr x) | inr at ↦ inr (rw q at) ];
   before = λ y x ran. let is : Close file.fid b ≡ Close g y = running_act c past p n h user (Close file.fid b) r w (Close g y) x ran in
-    absurd (apart file.fid g q (same_target file.fid g b y is));
+      absurd (apart file.fid g q (same_target file.fid g b y is));
 })
 
 own_reached : (t : Bool) (c : Cell) (past : List Entry) (n p : ℕ) (k : Key) (file : StoredFile) (b : List ℕ) (time : ℕ) (r : Message) (f : Fid) → same_fid file.fid f ≡ t → Reached (Client n) file.fid file.index past
@@ -523,40 +515,46 @@ saves_goes s c past p n h user b file H w found =
     let last : last_version file.fid (lines_of past) ≡ Some (version_of file) = last_before file.fid c.server.files file (lines_of past) found H.files in
     let old : Reached (Client n) file.fid file.index past = reached_at s c past n file.fid (version_of file) H last in
     record {
-      good = (tt, (record {
-        fresh = H.new k w.above;
-        user = user;
-        call = asked act;
-        act = w.origin.act;
-        called = w.origin.called;
-        own_user = w.origin.own_user;
-        own_call = w.origin.own_call;
-        code = rw (whole_file b, last) refl;
-        versions = rw (whole_file b, last) refl;
-        number = refl;
-        home = (H.home file.fid file found, tt);
-      }, (tt, tt)));
+      good = (
+        tt,
+        (
+          record {
+            fresh = H.new k w.above;
+            user = user;
+            call = asked act;
+            act = w.origin.act;
+            called = w.origin.called;
+            own_user = w.origin.own_user;
+            own_call = w.origin.own_call;
+            code = rw (whole_file b, last) refl;
+            versions = rw (whole_file b, last) refl;
+            number = refl;
+            home = (H.home file.fid file found, tt);
+          },
+          (tt, tt),
+        ),
+      );
       holds = record {
         files = files_after file b c.clock c.server.files the_server k (lines.Given p ∷ lines_of past) found H.files;
         home = home_after s file.fid b c.clock c.server.files (lines_of (e ∷ past)) H.home;
         new = λ l above. (λ same. dull_after c n h r user act l (tt, (sym same, w.boot)) above, new_after s c past n h r H w.above l above);
         unheard = unheard_after s c past p n h user act r e H w refl;
         clients = λ j. at_seat (taken n h r) (Client j) c.server.seats (λ o. ClientFacts j (seated_view c j o) (e ∷ past))
-          (λ q. subst (λ (m : ℕ). ClientFacts m (seated_view c m (Some (taken n h r))) (e ∷ past)) (client_number n j q)
+            (λ q. subst (λ (m : ℕ). ClientFacts m (seated_view c m (Some (taken n h r))) (e ∷ past)) (client_number n j q)
             (caller_after s c past p n h user act r e H w (saves_act n p k made r past)
-              (record { to = refl; from = refl; epoch = refl; number = refl; is_reply = λ y. y })
-              (record {
-                fits = inl (refl, (refl, refl));
-                code = pos 0;
-                cause = record { told = refl; ran = ran_now s c past p n h user act e H w refl; user = user; call = asked act; carries = refl; gives = rw (whole_file b, last) refl };
-              })
-              (λ f u at lasts. current_over n f u (view c n) (seated_view c n (Some (taken n h r))) e past (saves_file n p k made r past f)
-                (λ server newer q st. own_stands (same_fid file.fid f) c past p n h user file b r f u.index server newer w refl refl old (not_there _ u at) st) ((H.clients n).current f u at lasts))
-              (λ f. own_reached (same_fid file.fid f) c past n p k file b c.clock r f refl old ((H.clients n).reached f))))
-          (λ ne. client_over j (view c j) e past (saves_file j p k made r past) (λ f. other_reach j n p k made r past f refl ne) (λ f. other_newest j n p k made r past f refl ne) (saves_act j p k made r past)
+            (record { to = refl; from = refl; epoch = refl; number = refl; is_reply = λ y. y })
+            (record {
+              fits = inl (refl, (refl, refl));
+              code = pos 0;
+              cause = record { told = refl; ran = ran_now s c past p n h user act e H w refl; user = user; call = asked act; carries = refl; gives = rw (whole_file b, last) refl };
+            })
+            (λ f u at lasts. current_over n f u (view c n) (seated_view c n (Some (taken n h r))) e past (saves_file n p k made r past f)
+            (λ server newer q st. own_stands (same_fid file.fid f) c past p n h user file b r f u.index server newer w refl refl old (not_there _ u at) st) ((H.clients n).current f u at lasts))
+            (λ f. own_reached (same_fid file.fid f) c past n p k file b c.clock r f refl old ((H.clients n).reached f))))
+            (λ ne. client_over j (view c j) e past (saves_file j p k made r past) (λ f. other_reach j n p k made r past f refl ne) (λ f. other_newest j n p k made r past f refl ne) (saves_act j p k made r past)
             (λ f. higher_by (same_fid file.fid f) made (version_of file) f (last_version f (lines_of past)) refl (λ fg. ap (λ (x : Fid). last_version x (lines_of past)) (sym fg) ∙ last) (omega arith)) (H.clients j));
         sent = more_sent c.sent (view c) (views_after c n h r) e past H.sent (calls_after s c past n h r H w.above) (replies_after s c past n h r H w.above)
-          (record { calls = (tt, tt); replies = (reply_now c n h r refl refl refl, tt); origins = (tt, tt) });
+            (record { calls = (tt, tt); replies = (reply_now c n h r refl refl refl, tt); origins = (tt, tt) });
         clock = H.clock;
         top = λ g i x y. top_by (same_fid file.fid g) made (version_of file) g i x (lines_of past) refl (λ fg. ap (λ (z : Fid). last_version z (lines_of past)) (sym fg) ∙ last) (omega arith) H.top y;
       };
@@ -668,11 +666,11 @@ called_just s c past p head user call H at f from =
     let act : Act = from.act in
     let own : call ≡ asked act = from.own_call in
     subst (λ (x : Head). IsJust c past p (called the_server c.server x (asks call))) (sym is)
-      (subst (λ (x : FsCall). IsJust c past p (called the_server c.server (client_head n head) (asks x))) (sym own)
-        (booted_just s c past p n head user act (nat_eq head.boot c.server.boot) H
-          (subst (λ (x : FsCall). message_at c.sent p ≡ Some (record { head = client_head n head; carried = carried.Call user x })) own (subst (λ (x : Head). message_at c.sent p ≡ Some (record { head = x; carried = carried.Call user call })) is at)) refl
-          (subst (λ (x : FsCall). CallFact (view c n) (client_head n head) x) own (subst (λ (x : Head). CallFact (view c n) x call) is f.fact))
-          (subst (λ (x : FsCall). Origin past (client_head n head) user x) own (subst (λ (x : Head). Origin past x user call) is from))))
+    (subst (λ (x : FsCall). IsJust c past p (called the_server c.server (client_head n head) (asks x))) (sym own)
+    (booted_just s c past p n head user act (nat_eq head.boot c.server.boot) H
+    (subst (λ (x : FsCall). message_at c.sent p ≡ Some (record { head = client_head n head; carried = carried.Call user x })) own (subst (λ (x : Head). message_at c.sent p ≡ Some (record { head = x; carried = carried.Call user call })) is at)) refl
+    (subst (λ (x : FsCall). CallFact (view c n) (client_head n head) x) own (subst (λ (x : Head). CallFact (view c n) x call) is f.fact))
+    (subst (λ (x : FsCall). Origin past (client_head n head) user x) own (subst (λ (x : Head). Origin past x user call) is from))))
 
 hears_just : (s : Script) (c : Cell) (past : List Entry) (p : ℕ) (head : Head) (x : Carried) → Holds s c past → message_at c.sent p ≡ Some (record { head = head; carried = x }) → OfCall (CallIn (view c)) head x → OfCall (Origin past) head x → IsJust c past p (hears the_server c.server head x)
 hears_just s c past p head (carried.Call user call) H at f from = called_just s c past p head user call H at f from
@@ -699,10 +697,14 @@ repeated s c past reply past' H k =
     let d : KeptReply k.client k.seat reply = (H.clients k.client).kept k.seat reply k.at k.kept in
     record {
       calls = (no_call (CallIn (view c)) reply.head reply.carried d.is_reply, tt);
-      replies = (of_reply_any (ReplyIn (view c) reply) reply.carried (record {
-        client = k.client; to = d.to;
-        fact = record { seat = k.seat; at = k.at; behind = up_to_same _ _ _ _ d.epoch d.number; kept = λ x y. k.kept };
-      }), tt);
+      replies = (
+        of_reply_any (ReplyIn (view c) reply) reply.carried (record {
+          client = k.client;
+          to = d.to;
+          fact = record { seat = k.seat; at = k.at; behind = up_to_same _ _ _ _ d.epoch d.number; kept = λ x y. k.kept };
+        }),
+        tt,
+      );
       origins = (no_call (Origin past') reply.head reply.carried d.is_reply, tt);
     }
 
@@ -712,14 +714,14 @@ does_goes s c past p (tells_boot head) H j = quiet s c past p j.message (boot_to
 does_goes s c past p (repeats reply) H j = quiet s c past p j.0.message (reply ∷ []) H j.0.at j.0.dull (λ x. repeated s c past reply x H j.1)
 does_goes s c past p (refuses head code) H j =
     subst (λ (x : Head). Goes s past (server_moves c (does the_server c.server c.clock p (refuses x code)))) (sym j.due.from)
-      (subst (λ (x : ℤ). Goes s past (server_moves c (does the_server c.server c.clock p (refuses (client_head j.due.client head) x)))) (sym j.is)
-        (refuses_goes s c past p j.due.client head j.due.user j.act H j.due.now j.none))
+    (subst (λ (x : ℤ). Goes s past (server_moves c (does the_server c.server c.clock p (refuses (client_head j.due.client head) x)))) (sym j.is)
+    (refuses_goes s c past p j.due.client head j.due.user j.act H j.due.now j.none))
 does_goes s c past p (grants head file) H j =
     subst (λ (x : Head). Goes s past (server_moves c (does the_server c.server c.clock p (grants x file)))) (sym j.due.from)
-      (grants_goes s c past p j.due.client head j.due.user file H j.due.now j.found)
+    (grants_goes s c past p j.due.client head j.due.user file H j.due.now j.found)
 does_goes s c past p (saves head contents file) H j =
     subst (λ (x : Head). Goes s past (server_moves c (does the_server c.server c.clock p (saves x contents file)))) (sym j.due.from)
-      (saves_goes s c past p j.due.client head j.due.user contents file H j.due.now j.found)
+    (saves_goes s c past p j.due.client head j.due.user contents file H j.due.now j.found)
 
 pub server_goes : (s : Script) (c : Cell) (past : List Entry) (p : ℕ) (m : Message) → Holds s c past → message_at c.sent p ≡ Some m → Goes s past (server_moves c (server_row the_server c.server c.clock p (Whole m)))
 unfolding server_row
