@@ -20,7 +20,7 @@ use Rattle.afs_num.specs.declared.states.CacheEntry.{CacheEntry}
 use Rattle.afs_model.specs.Past.{same_key}
 use Rattle.afs_model.specs.Ideal.{raised}
 use Rattle.afs_model.specs.Runs.{put, message_at}
-use Rattle.afs_model.specs.ServerRow.{pair_below, Standing, is_older, is_last, is_newer, standing, seat_of, seated, find_file, stored, with_stored}
+use Rattle.afs_model.specs.ServerRow.{pair_below, Standing, is_older, is_last, is_newer, standing, seat_of, seated, find_file, with_file}
 use Rattle.afs_model.specs.ClientRow.{find_cached, used_first, is_trusted, refreshed}
 
 -- ---- fids, nodes, keys
@@ -267,17 +267,42 @@ pub found-fid : (f : Fid) (vs : List StoredFile) (v : StoredFile) → find_file 
 found-fid f [] v e = absurd cc
 found-fid f (u ∷ us) v e = found_by (same_fid u.fid f) f u us v (λ h. found-fid f us v h) refl e
 
-with_fid_by : (c : Bool) (b : List ℕ) (t : ℕ) (v : StoredFile) → (cond c (stored b t v) v).fid ≡ v.fid
-with_fid_by true b t v = refl
-with_fid_by false b t v = refl
+file_last : (x : StoredFile) (f : Fid) (files : List StoredFile) → same_fid x.fid f ≡ false → find_file f (files ++ x ∷ []) ≡ find_file f files
+file_last x f [] e = rw e refl
+file_last x f (y ∷ files) e = ap (λ (o : Option StoredFile). cond (same_fid y.fid f) (Some y) o) (file_last x f files e)
 
-mapped_by : (c : Bool) (h : StoredFile → StoredFile) (v : StoredFile) (o : Option StoredFile) → cond c (Some (h v)) (option_map h o) ≡ option_map h (cond c (Some v) o)
-mapped_by true h v o = refl
-mapped_by false h v o = refl
+file_kept_by : (b t : Bool) (x y : StoredFile) (f : Fid) (rest old : List StoredFile) → same_fid y.fid x.fid ≡ b → same_fid y.fid f ≡ t → (x.fid ≡ f → ⊥) → find_file f rest ≡ find_file f old → find_file f (cond (not b) (y ∷ rest) rest) ≡ cond t (Some y) (find_file f old)
+file_kept_by true true x y f rest old a t ne ih = absurd (ne (sym (same_fid-true _ _ a) ∙ same_fid-true _ _ t))
+file_kept_by true false x y f rest old a t ne ih = ih
+file_kept_by false t x y f rest old a e ne ih = rw (e, ih) refl
 
-pub found-mapped : (f g : Fid) (b : List ℕ) (t : ℕ) (vs : List StoredFile) → find_file g (map (with_stored f b t) vs) ≡ option_map (with_stored f b t) (find_file g vs)
-found-mapped f g b t [] = refl
-found-mapped f g b t (v ∷ vs) = rw (with_fid_by (same_fid v.fid f) b t v, found-mapped f g b t vs) (mapped_by (same_fid v.fid g) (with_stored f b t) v (find_file g vs))
+file_kept : (x : StoredFile) (f : Fid) (files : List StoredFile) → (x.fid ≡ f → ⊥) → find_file f (filter (λ v. not (same_fid v.fid x.fid)) files) ≡ find_file f files
+file_kept x f [] ne = refl
+file_kept x f (y ∷ files) ne = file_kept_by (same_fid y.fid x.fid) (same_fid y.fid f) x y f (filter (λ v. not (same_fid v.fid x.fid)) files) files refl refl ne (file_kept x f files ne)
+
+file_gone_by : (b : Bool) (x y : StoredFile) (rest : List StoredFile) → same_fid y.fid x.fid ≡ b → find_file x.fid rest ≡ None → find_file x.fid (cond (not b) (y ∷ rest) rest) ≡ None
+file_gone_by true x y rest a ih = ih
+file_gone_by false x y rest a ih = rw (a, ih) refl
+
+file_gone : (x : StoredFile) (files : List StoredFile) → find_file x.fid (filter (λ v. not (same_fid v.fid x.fid)) files) ≡ None
+file_gone x [] = refl
+file_gone x (y ∷ files) = file_gone_by (same_fid y.fid x.fid) x y _ refl (file_gone x files)
+
+file_end_by : (b : Bool) (x y : StoredFile) (files : List StoredFile) → cond b (Some y) (find_file x.fid files) ≡ None → (find_file x.fid files ≡ None → find_file x.fid (files ++ x ∷ []) ≡ Some x) → cond b (Some y) (find_file x.fid (files ++ x ∷ [])) ≡ Some x
+file_end_by true x y files e ih = absurd cc
+file_end_by false x y files e ih = ih e
+
+file_end : (x : StoredFile) (files : List StoredFile) → find_file x.fid files ≡ None → find_file x.fid (files ++ x ∷ []) ≡ Some x
+file_end x [] e = rw (same_fid-refl x.fid) refl
+file_end x (y ∷ files) e = file_end_by (same_fid y.fid x.fid) x y files e (file_end x files)
+
+found_with_by : (t : Bool) (x : StoredFile) (f : Fid) (files : List StoredFile) → same_fid x.fid f ≡ t → find_file f (with_file x files) ≡ cond t (Some x) (find_file f files)
+found_with_by true x f files t = ap (λ (g : Fid). find_file g (with_file x files)) (sym (same_fid-true x.fid f t)) ∙ file_end x _ (file_gone x files)
+found_with_by false x f files t = file_last x f _ t ∙ file_kept x f files (apart x.fid f t)
+
+-- a file that took a place is found under its fid, and another as before
+pub found-with_file : (x : StoredFile) (f : Fid) (files : List StoredFile) → find_file f (with_file x files) ≡ cond (same_fid x.fid f) (Some x) (find_file f files)
+found-with_file x f files = found_with_by (same_fid x.fid f) x f files refl
 
 -- ---- caches
 

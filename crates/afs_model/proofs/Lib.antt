@@ -7,3 +7,4 @@ pub mod Asking
 pub mod Answering
 pub mod Law
 pub mod KeysOnce
+pub mod Worked

@@ -35,9 +35,9 @@ use Rattle.afs_model.specs.Ideal.{last_version, HasVersion, Accepts, asked, op, 
 use Rattle.afs_model.specs.Grants.{IsWithdrawn}
 use Rattle.afs_model.proofs.Basics.{Below, UpTo, Above, Each, IfCall, IfReply, OfReply}
 use Rattle.afs_model.specs.Runs.{server_moves}
-use Rattle.afs_model.specs.ServerRow.{Standing, is_older, is_last, is_newer, standing, seated, stored, with_stored, promise_ticks, Decision, drops, tells_boot, repeats, refuses, grants, saves, no_file, fetches, stores, asks, runs, answers_again, admits, called, hears, boot_told, refusal, fetched_reply, stored_reply, told, does, server_row}
+use Rattle.afs_model.specs.ServerRow.{Standing, is_older, is_last, is_newer, standing, seated, stored, with_file, promise_ticks, Decision, drops, tells_boot, repeats, refuses, grants, saves, no_file, fetches, stores, asks, runs, answers_again, admits, called, hears, boot_told, refusal, fetched_reply, stored_reply, told, does, server_row}
 use Rattle.afs_model.specs.Ideal.{is_number}
-use Rattle.afs_model.proofs.Basics.{both, same_fid-true, same_fid-refl, apart, apart-found, same_node-true, client_number, up_to_below, below_up_to, below_not, up_to_same, newer_above, not_newer, LastSeat, last_seat, own_seat, at_seat, found-fid, found-mapped, OfCall, each_map, each_at, if_call, if_reply, raised_up_to, some_of}
+use Rattle.afs_model.proofs.Basics.{both, same_fid-true, same_fid-refl, apart, apart-found, same_node-true, client_number, up_to_below, below_up_to, below_not, up_to_same, newer_above, not_newer, LastSeat, last_seat, own_seat, at_seat, found-fid, found-with_file, OfCall, each_map, each_at, if_call, if_reply, raised_up_to, some_of}
 use Rattle.afs_model.proofs.Facts.{View, view_of, view, LastRan, Reached, index_of, Stands, IsCurrent, HasCurrent, Fits, Answers, IsReply, KeptReply, ClientFacts, CallFact, CallIn, ReplyFact, ReplyIn, Origin, HasLast, AreHome, AreNew, AreUnheard, HasTop, stored_index, Holds, Goes}
 use Rattle.afs_model.proofs.Passing.{PassesFile, PassesAct, PassesReach, StaysNewest, stays, current_over, reached_more, client_over, client_still, News, more_sent, asked_over}
 
@@ -391,31 +391,20 @@ grants_goes s c past p n h user file H w found =
 
 -- ---- a store
 
-other_by : (f g : Fid) (b : List ℕ) (t : ℕ) (files : List StoredFile) (o : Option StoredFile) → same_fid f g ≡ false → find_file g files ≡ o → option_map version_of (option_map (with_stored f b t) o) ≡ option_map version_of o
-other_by f g b t files None ne e = refl
-other_by f g b t files (Some w) ne e = rw (apart-found w.fid f g ne (found-fid g files w e)) refl
+shown_by : (t : Bool) (x : StoredFile) (o : Option StoredFile) → option_map version_of (cond t (Some x) o) ≡ cond t (Some (version_of x)) (option_map version_of o)
+shown_by true x o = refl
+shown_by false x o = refl
 
-files_by : (q : Bool) (file : StoredFile) (g : Fid) (b : List ℕ) (t : ℕ) (files : List StoredFile) (ls : List Line) → same_fid file.fid g ≡ q → find_file file.fid files ≡ Some file → HasLast files ls
-    → option_map version_of (option_map (with_stored file.fid b t) (find_file g files)) ≡ cond q (Some (version_of (stored b t file))) (last_version g ls)
-files_by true file g b t files ls q e h =
-    let at : find_file g files ≡ Some file = ap (λ (x : Fid). find_file x files) (sym (same_fid-true file.fid g q)) ∙ e in
-    rw (at, same_fid-refl file.fid) refl
-files_by false file g b t files ls q e h = other_by file.fid g b t files (find_file g files) q refl ∙ h g
+files_after : (x : StoredFile) (files : List StoredFile) (server : Node) (k : Key) (ls : List Line) → HasLast files ls → HasLast (with_file x files) (lines.Version (version_of x) ∷ lines.Change server k 1 ∷ ls)
+files_after x files server k ls h g =
+    ap (option_map version_of) (found-with_file x g files) ∙ (shown_by (same_fid x.fid g) x (find_file g files) ∙ ap (λ (o : Option Version). cond (same_fid x.fid g) (Some (version_of x)) o) (h g))
 
-files_after : (file : StoredFile) (b : List ℕ) (t : ℕ) (files : List StoredFile) (server : Node) (k : Key) (ls : List Line) → find_file file.fid files ≡ Some file → HasLast files ls
-    → HasLast (map (with_stored file.fid b t) files) (lines.Version (version_of (stored b t file)) ∷ lines.Change server k 1 ∷ ls)
-files_after file b t files server k ls e h g = ap (option_map version_of) (found-mapped file.fid g b t files) ∙ files_by (same_fid file.fid g) file g b t files ls refl e h
+home_by : (t : Bool) (s : Script) (x u : StoredFile) (o : Option StoredFile) (ls : List Line) → Accepts s x.fid.volume the_server ls → (o ≡ Some u → Accepts s u.fid.volume the_server ls) → cond t (Some x) o ≡ Some u → Accepts s u.fid.volume the_server ls
+home_by true s x u o ls h w e = subst (λ (y : StoredFile). Accepts s y.fid.volume the_server ls) (some_of x u e) h
+home_by false s x u o ls h w e = w e
 
-home_by : (q : Bool) (s : Script) (b : List ℕ) (t : ℕ) (w u : StoredFile) (ls : List Line) → cond q (stored b t w) w ≡ u → Accepts s w.fid.volume the_server ls → Accepts s u.fid.volume the_server ls
-home_by true s b t w u ls e h = subst (λ (x : StoredFile). Accepts s x.fid.volume the_server ls) e h
-home_by false s b t w u ls e h = subst (λ (x : StoredFile). Accepts s x.fid.volume the_server ls) e h
-
-home_of : (o : Option StoredFile) (s : Script) (f g : Fid) (b : List ℕ) (t : ℕ) (files : List StoredFile) (u : StoredFile) (ls : List Line) → find_file g files ≡ o → AreHome s files ls → option_map (with_stored f b t) o ≡ Some u → Accepts s u.fid.volume the_server ls
-home_of None s f g b t files u ls at h e = absurd cc
-home_of (Some w) s f g b t files u ls at h e = home_by (same_fid w.fid f) s b t w u ls (some_of _ _ e) (h g w at)
-
-home_after : (s : Script) (f : Fid) (b : List ℕ) (t : ℕ) (files : List StoredFile) (ls : List Line) → AreHome s files ls → AreHome s (map (with_stored f b t) files) ls
-home_after s f b t files ls h g u e = home_of (find_file g files) s f g b t files u ls refl h (sym (found-mapped f g b t files) ∙ e)
+home_after : (s : Script) (x : StoredFile) (files : List StoredFile) (ls : List Line) → Accepts s x.fid.volume the_server ls → AreHome s files ls → AreHome s (with_file x files) ls
+home_after s x files ls at h g u e = home_by (same_fid x.fid g) s x u (find_file g files) ls at (h g u) (sym (found-with_file x g files) ∙ e)
 
 abbrev saved_entry : ℕ → Key → Version → Message → Entry
 saved_entry p k w r = record { node = Some the_server; lines = lines.Given p ∷ lines.Change the_server k 1 ∷ lines.Version w ∷ []; sent = r ∷ [] }
@@ -535,8 +524,8 @@ saves_goes s c past p n h user b file H w found =
         ),
       );
       holds = record {
-        files = files_after file b c.clock c.server.files the_server k (lines.Given p ∷ lines_of past) found H.files;
-        home = home_after s file.fid b c.clock c.server.files (lines_of (e ∷ past)) H.home;
+        files = files_after (stored b c.clock file) c.server.files the_server k (lines.Given p ∷ lines_of past) H.files;
+        home = home_after s (stored b c.clock file) c.server.files (lines_of (e ∷ past)) (H.home file.fid file found) H.home;
         new = λ l above. (λ same. dull_after c n h r user act l (tt, (sym same, w.boot)) above, new_after s c past n h r H w.above l above);
         unheard = unheard_after s c past p n h user act r e H w refl;
         clients = λ j. at_seat (taken n h r) (Client j) c.server.seats (λ o. ClientFacts j (seated_view c j o) (e ∷ past))
