@@ -317,3 +317,57 @@ missing_stored g = elim g.1.1.0.1.0 [
         (only_here (pos 102) (call 1 133 (store missing (codes "def"))) _ _ refl refl, (not_here (pos 102) _ _ refl, (not_here (pos 102) _ _ refl, tt))) x.cause)
   | inr x ↦ x.1
   ]
+
+-- a read whose call was run without a grant
+is_grant : Line → Bool
+is_grant (lines.Grant server client f index expiry) = true
+is_grant l = false
+
+has_grant : List Line → Bool
+has_grant [] = false
+has_grant (l ∷ ls) = cond (is_grant l) true (has_grant ls)
+
+found_later : (t x : Bool) → x ≡ true → cond t true x ≡ true
+found_later true x e = refl
+found_later false x e = e
+
+grant_found : (before after : List Line) (server client : Node) (f : Fid) (index expiry : ℕ) → has_grant (before ++ lines.Grant server client f index expiry ∷ after) ≡ true
+unfolding has_grant is_grant
+grant_found [] after server client f index expiry = refl
+grant_found (l ∷ before) after server client f index expiry = found_later (is_grant l) _ (grant_found before after server client f index expiry)
+
+HasNoGrant : Entry → List Entry → Type 0
+HasNoGrant at older = has_grant at.lines ≡ false
+
+none_granted : (c : Node) (f : Fid) (expiry : ℕ) (r : Message) (past : List Entry) → AtEach HasNoGrant past → GrantOf c f expiry r past → ⊥
+unfolding HasNoGrant
+none_granted c f expiry r past h g = yes_no (has_grant g.ran.at.lines) (ap has_grant g.line ∙ grant_found g.before g.after g.server c f g.index expiry) (at_split HasNoGrant past g.ran.newer g.ran.at g.ran.older g.ran.split h)
+
+read_ungranted : Legal (asks_open ∷ server_entry (lines.Given 1 ∷ []) (reply 1 130 fetched ∷ []) ∷ shows ∷ []) script → ⊥
+unfolding HasNoGrant has_grant is_grant
+read_ungranted g = none_granted (Client 1) file _ g.1.1.0.1.0.reply (server_entry (lines.Given 1 ∷ []) (reply 1 130 fetched ∷ []) ∷ asks_open ∷ set_up script ∷ []) (refl, (refl, (refl, tt))) g.1.1.0.1.0.grant
+
+-- a change by a call with other bytes than its act's
+bytes_of : Carried → Body
+bytes_of (carried.Call user (calls.StoreData f given position wanted file_length contents)) = bodies.File contents
+bytes_of c = bodies.File []
+
+other_call : (user : List ℕ) (c : FsCall) (act : Act) → carried.Call (codes "guest") (store file (codes "def")) ≡ carried.Call user c → Some (Close file (codes "abc")) ≡ Some act → c ≡ asked act → ⊥
+unfolding bytes_of
+other_call user c act sent began own =
+    other_bytes (ap bytes_of (sent ∙ ap (λ (x : FsCall). carried.Call user x) (own ∙ ap asked (sym (some_of _ _ began)))))
+
+other_bytes_stored : Legal (client_entry (lines.Begin (Client 1) (Close file (codes "abc")) ∷ []) (call 1 133 (store file (codes "def")) ∷ []) ∷ server_entry (lines.Given 1 ∷ lines.Change (Server 1) (key 1) 1 ∷ version 2 (codes "def") ∷ []) (reply 1 133 stored ∷ []) ∷ []) script → ⊥
+other_bytes_stored g = let change = g.1.0.1.0 in elim change.called [
+    inl x ↦ elim x.1.0 [ inl y ↦ other_call change.user change.call change.act y.1 x.1.1 change.own_call | inr y ↦ y ]
+  | inr x ↦ elim x [ inl y ↦ y.1.0 | inr y ↦ y ]
+  ]
+
+-- a change at a server that doesn't accept stores of the volume
+server_number : Node → ℕ
+server_number (Server n) = n
+server_number n = 0
+
+other_server : Legal (asks_open ∷ grants ∷ shows ∷ asks_close ∷ server_entry (lines.Given 3 ∷ lines.Change (Server 2) (key 2) 1 ∷ version 2 (codes "def") ∷ []) (reply 2 133 stored ∷ []) ∷ []) script → ⊥
+unfolding server_number
+other_server g = elim g.1.1.1.1.0.1.0.home.0 [ inl x ↦ apart_numbers 1 2 refl (ap server_number x.1) | inr x ↦ x ]
