@@ -370,6 +370,12 @@ awaited c n act m t =
     let k = both _ _ e.1 in
     record { epoch = eqb-true _ _ e.0; number = eqb-true _ _ k.0 }
 
+abbrev key_by : Node → ℕ → ℕ → Key
+key_by node epoch number = record { node = node; epoch = epoch; number = number }
+
+same_parts : (a b : Node) (e d n m : ℕ) → a ≡ b → e ≡ d → n ≡ m → key_by a e n ≡ key_by b d m
+same_parts a b e d n m x y z = ap (λ (q : Node). key_by q e n) x ∙ (ap (λ (q : ℕ). key_by b q n) y ∙ ap (λ (q : ℕ). key_by b d q) z)
+
 is_due : (s : Script) (c : Cell) (past : List Entry) (n p : ℕ) (act : Act) (m : Message) → Holds s c past → Heard c p m → m.head.to ≡ Client n → ReplyIn (view c) m → Awaited c n act m → (c.clients n).running ≡ Some act → Due c past n p act m
 is_due s c past n p act m h heard to f w runs =
     let one : f.client ≡ n = client_number f.client n (sym f.to ∙ to) in
@@ -384,7 +390,7 @@ is_due s c past n p act m h heard to f w runs =
       running = runs;
       ran = ran;
       kept = kept;
-      key = ap (λ (x : Node). record { node = x; epoch = m.head.epoch; number = m.head.number }) to ∙ (ap (λ (x : ℕ). record { node = Client n; epoch = x; number = m.head.number }) w.epoch ∙ ap (λ (x : ℕ). record { node = Client n; epoch = (c.clients n).epoch; number = x }) w.number);
+      key = same_parts m.head.to (Client n) m.head.epoch (c.clients n).epoch m.head.number (c.clients n).last to w.epoch w.number;
       answers = d.answer act m runs ran kept;
       heard = heard;
       at = ap (λ (ms : List Message). message_at ms p) h.sent.told ∙ heard.at;

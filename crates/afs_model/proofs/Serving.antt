@@ -1,5 +1,5 @@
 -- The server's steps.
-use Rattle.std.proofs.Common.{◌≡◌, ℕ, ◌+◌, ◌≤◌, ◌⊎◌, inl, inr, Bool, true, false, cond, nat_eq, length, List, [], ◌∷◌, map, Option, Some, None, ℤ, pos, refl, sym, ap, subst, ◌∙◌, arith, eq-eqb, eqb-true}
+use Rattle.std.proofs.Common.{◌≡◌, ℕ, ◌+◌, ◌≤◌, ◌⊎◌, inl, inr, Bool, true, false, cond, nat_eq, length, List, [], ◌∷◌, Option, Some, None, ℤ, pos, refl, sym, ap, subst, ◌∙◌, arith, eq-eqb, eqb-true}
 use Rattle.std.specs.Prelude.{◌&&◌}
 use Rattle.std.specs.Option.{option_map}
 use Rattle.afs_num.specs.Fids.{same_fid}
@@ -37,7 +37,7 @@ use Rattle.afs_model.proofs.Basics.{Below, UpTo, Above, Each, IfCall, IfReply, O
 use Rattle.afs_model.specs.Runs.{server_moves}
 use Rattle.afs_model.specs.ServerRow.{Standing, is_older, is_last, is_newer, standing, seated, stored, with_file, promise_ticks, Decision, drops, tells_boot, repeats, refuses, grants, saves, no_file, fetches, stores, asks, runs, answers_again, admits, called, hears, boot_told, refusal, fetched_reply, stored_reply, told, does, server_row}
 use Rattle.afs_model.specs.Ideal.{is_number}
-use Rattle.afs_model.proofs.Basics.{both, same_fid-true, same_fid-refl, apart, apart-found, same_node-true, client_number, up_to_below, below_up_to, below_not, up_to_same, newer_above, not_newer, LastSeat, last_seat, own_seat, at_seat, found-fid, found-with_file, OfCall, each_map, each_at, if_call, if_reply, raised_up_to, some_of}
+use Rattle.afs_model.proofs.Basics.{both, same_fid-true, same_fid-refl, apart, same_node-true, client_number, up_to_below, below_up_to, below_not, up_to_same, newer_above, not_newer, LastSeat, last_seat, own_seat, at_seat, found-fid, found-with_file, OfCall, each_map, each_at, if_call, if_reply, raised_up_to, some_of}
 use Rattle.afs_model.proofs.Facts.{View, view_of, view, LastRan, Reached, index_of, Stands, IsCurrent, HasCurrent, Fits, Answers, IsReply, KeptReply, ClientFacts, CallFact, CallIn, ReplyFact, ReplyIn, Origin, HasLast, AreHome, AreNew, AreUnheard, HasTop, stored_index, Holds, Goes}
 use Rattle.afs_model.proofs.Passing.{PassesFile, PassesAct, PassesReach, StaysNewest, stays, current_over, reached_more, client_over, client_still, News, more_sent, asked_over}
 

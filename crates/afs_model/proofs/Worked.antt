@@ -1,27 +1,19 @@
 -- The definition of a legal history, on worked histories and on wrong ones, each wrong for one reason.
-use Rattle.std.proofs.Common.{◌≡◌, ℕ, zero, suc, ◌+◌, ◌<◌, ◌≤◌, ◌⊎◌, inl, inr, Bool, true, false, cond, eqb, ltb, nat_eq, nat_lt, not, max, length, List, [], ◌∷◌, ◌++◌, map, Option, Some, None, ℤ, pos, refl, sym, ap, subst, ◌∙◌, arith, eq-eqb, ne_eqb, eqb-true, ltb-true, ltb-false, le-ltb, append-nil}
-use Rattle.std.specs.Prelude.{find, filter, ◌&&◌, ⊤, if◌then◌else◌}
-use Rattle.std.specs.Option.{option_map}
-use Rattle.afs_num.specs.Fids.{same_fid}
-use Rattle.afs_num.specs.Nodes.{same_node}
-use Rattle.afs_num.specs.declared.types.Code.{Code}
+use Rattle.std.proofs.Common.{◌≡◌, ℕ, ◌≤◌, inl, inr, Bool, true, false, cond, nat_eq, length, List, [], ◌∷◌, ◌++◌, Option, Some, None, ℤ, pos, refl, sym, ap, subst, ◌∙◌, arith, eq-eqb}
+use Rattle.std.specs.Prelude.{⊤}
 use Rattle.afs_num.specs.declared.types.Fid.{Fid}
 use Rattle.afs_num.specs.declared.types.Half.{Half}
 use Rattle.afs_num.specs.declared.types.Head.{Head}
 use Rattle.afs_num.specs.declared.types.Key.{Key}
 use Rattle.afs_num.specs.declared.types.Node.{Node}
-use Rattle.afs_num.specs.declared.types.Node.TheVariants.{Loc, Server, Client, Admin}
-use Rattle.afs_num.specs.declared.calls.AfsCallBack.{AfsCallBack}
+use Rattle.afs_num.specs.declared.types.Node.TheVariants.{Server, Client}
 use Rattle.afs_num.specs.declared.calls.AfsFetchStatus.{AfsFetchStatus}
-use Rattle.afs_num.specs.declared.calls.AfsVolSync.{AfsVolSync}
 use Rattle.afs_num.specs.declared.calls.FsCall.{FsCall}
 use Rattle.afs_num.specs.declared.calls.FsCall.TheVariants as calls
-use Rattle.afs_num.specs.declared.calls.FsReply.{FsReply}
 use Rattle.afs_num.specs.declared.calls.FsReply.TheVariants as replies
 use Rattle.afs_num.specs.declared.messages.Carried.{Carried}
 use Rattle.afs_num.specs.declared.messages.Carried.TheVariants as carried
 use Rattle.afs_num.specs.declared.messages.Message.{Message}
-use Rattle.afs_num.specs.declared.messages.Received.TheVariants.{Whole}
 use Rattle.afs_num.specs.declared.scripts.Act.{Act}
 use Rattle.afs_num.specs.declared.scripts.Act.TheVariants.{Open, Close}
 use Rattle.afs_num.specs.declared.scripts.Script.{Script}
@@ -32,28 +24,19 @@ use Rattle.afs_num.specs.declared.histories.Line.TheVariants as lines
 use Rattle.afs_num.specs.declared.histories.ReadSource.{ReadSource}
 use Rattle.afs_num.specs.declared.histories.ReadSource.TheVariants.{Cached, Fetched}
 use Rattle.afs_num.specs.declared.histories.Version.{Version}
-use Rattle.afs_num.specs.declared.states.CacheEntry.{CacheEntry}
-use Rattle.afs_num.specs.declared.states.ClientState.{ClientState}
-use Rattle.afs_num.specs.declared.states.Seat.{Seat}
-use Rattle.afs_num.specs.declared.states.ServerState.{ServerState}
-use Rattle.afs_num.specs.declared.states.StoredFile.{StoredFile}
-use Rattle.afs_model.specs.Runs.{Entry, Cell, Moved, message_at}
-use Rattle.afs_model.specs.ServerRow.{seat_of, find_file, version_of}
-use Rattle.afs_model.specs.ClientRow.{the_server, find_cached}
-use Rattle.afs_model.specs.Past.{onto, lines_on, lines_of, sent_of, given_message, called_key, answered_key, begun, is_of_act, Called, IsUnheard, IsCall, IsCallUnder, Ran}
-use Rattle.afs_model.specs.Ideal.{last_version, IsLast, HasVersion, Accepts, clock_of, user_of, asked, op, Reach, reach, reach_over, raised}
-use Rattle.afs_model.specs.Grants.{has_fetched, fetch_reply, GrantOf, since, IsWithdrawn, IsDropped}
-use Rattle.afs_model.specs.Legal.{IsNew, Cause, AreGood}
-use Rattle.afs_model.proofs.Basics.{Below, UpTo, Above, Each, IfCall, IfReply, OfReply}
+use Rattle.afs_model.specs.Runs.{Entry, Cell}
+use Rattle.afs_model.specs.Past.{lines_of, sent_of, given_message, answered_key, is_of_act}
+use Rattle.afs_model.specs.Ideal.{last_version, asked, op}
+use Rattle.afs_model.specs.Grants.{GrantOf}
+use Rattle.afs_model.specs.Legal.{Cause}
 use Rattle.std.specs.Prelude.{codes}
 use Rattle.afs_num.specs.declared.types.Half.TheVariants as halves
 use Rattle.afs_num.specs.declared.scripts.SetupLine.TheVariants as setup
-use Rattle.afs_num.specs.declared.scripts.VolumeLine.{VolumeLine}
-use Rattle.afs_model.specs.Runs.{Input, begins, gives, moved, start, Leads, RunsTo}
+use Rattle.afs_model.specs.Runs.{Input, begins, gives, moved, start, RunsTo}
 use Rattle.afs_model.specs.ServerRow.{status_of, no_release, promise_until, server_row}
 use Rattle.afs_model.specs.ClientRow.{begin_row, client_row}
 use Rattle.afs_model.specs.Ideal.{set_up, seen, fetched_from, stored_on}
-use Rattle.afs_model.specs.Legal.{GoodRead, GoodChange, GoodCode, IsCaused, Legal, versions_first}
+use Rattle.afs_model.specs.Legal.{Legal}
 use Rattle.afs_model.proofs.Basics.{some_of, yes_no}
 use Rattle.afs_model.proofs.Law.{legal}
 
@@ -263,9 +246,9 @@ earlier_by r past other by own = let one : reply 1 130 fetched ≡ r = some_of _
 
 earlier_reply : Legal (asks_open ∷ grants ∷ shows ∷ asks_close ∷ client_entry (lines.Given 2 ∷ code 0 ∷ []) [] ∷ []) script → ⊥
 earlier_reply g = elim g.1.1.1.1.0.1.0 [
-    inl x ↦ earlier_by x.reply (asks_close ∷ shows ∷ grants ∷ asks_open ∷ set_up script ∷ []) refl x.by x.of_act
+  | inl x ↦ earlier_by x.reply (asks_close ∷ shows ∷ grants ∷ asks_open ∷ set_up script ∷ []) refl x.by x.of_act
   | inr x ↦ x.1
-  ]
+]
 
 -- ---- what the entry that ran a call must have: by all entries of the past
 
@@ -305,18 +288,18 @@ not_here z at older e k user c given carries = absurd cc
 there_refused : Legal (asks_open ∷ server_entry (lines.Given 1 ∷ []) (reply 1 130 no_such_file ∷ []) ∷ client_entry (lines.Given 2 ∷ code 102 ∷ []) [] ∷ []) script → ⊥
 unfolding op_of
 there_refused g = elim g.1.1.0.1.0 [
-    inl x ↦ apart_codes 102 0 refl (gives_only (pos 0) (pos 102) x.reply (server_entry (lines.Given 1 ∷ []) (reply 1 130 no_such_file ∷ []) ∷ asks_open ∷ set_up script ∷ []) (only_here (pos 0) (call 1 130 (fetch file)) _ _ refl refl, (not_here (pos 0) _ _ refl, (not_here (pos 0) _ _ refl, tt))) x.cause)
+  | inl x ↦ apart_codes 102 0 refl (gives_only (pos 0) (pos 102) x.reply (server_entry (lines.Given 1 ∷ []) (reply 1 130 no_such_file ∷ []) ∷ asks_open ∷ set_up script ∷ []) (only_here (pos 0) (call 1 130 (fetch file)) _ _ refl refl, (not_here (pos 0) _ _ refl, (not_here (pos 0) _ _ refl, tt))) x.cause)
   | inr x ↦ apart_codes 102 0 refl x.0
-  ]
+]
 
 -- 0 for one that is not
 missing_stored : Legal (client_entry (lines.Begin (Client 1) (Close missing (codes "def")) ∷ []) (call 1 133 (store missing (codes "def")) ∷ []) ∷ server_entry (lines.Given 1 ∷ []) (reply 1 133 stored ∷ []) ∷ client_entry (lines.Given 2 ∷ code 0 ∷ []) [] ∷ []) script → ⊥
 unfolding op_of
 missing_stored g = elim g.1.1.0.1.0 [
-    inl x ↦ apart_codes 0 102 refl (gives_only (pos 102) (pos 0) x.reply (server_entry (lines.Given 1 ∷ []) (reply 1 133 stored ∷ []) ∷ client_entry (lines.Begin (Client 1) (Close missing (codes "def")) ∷ []) (call 1 133 (store missing (codes "def")) ∷ []) ∷ set_up script ∷ [])
-        (only_here (pos 102) (call 1 133 (store missing (codes "def"))) _ _ refl refl, (not_here (pos 102) _ _ refl, (not_here (pos 102) _ _ refl, tt))) x.cause)
+  | inl x ↦ apart_codes 0 102 refl (gives_only (pos 102) (pos 0) x.reply (server_entry (lines.Given 1 ∷ []) (reply 1 133 stored ∷ []) ∷ client_entry (lines.Begin (Client 1) (Close missing (codes "def")) ∷ []) (call 1 133 (store missing (codes "def")) ∷ []) ∷ set_up script ∷ [])
+      (only_here (pos 102) (call 1 133 (store missing (codes "def"))) _ _ refl refl, (not_here (pos 102) _ _ refl, (not_here (pos 102) _ _ refl, tt))) x.cause)
   | inr x ↦ x.1
-  ]
+]
 
 -- a read whose call was run without a grant
 is_grant : Line → Bool
@@ -359,9 +342,9 @@ other_call user c act sent began own =
 
 other_bytes_stored : Legal (client_entry (lines.Begin (Client 1) (Close file (codes "abc")) ∷ []) (call 1 133 (store file (codes "def")) ∷ []) ∷ server_entry (lines.Given 1 ∷ lines.Change (Server 1) (key 1) 1 ∷ version 2 (codes "def") ∷ []) (reply 1 133 stored ∷ []) ∷ []) script → ⊥
 other_bytes_stored g = let change = g.1.0.1.0 in elim change.called [
-    inl x ↦ elim x.1.0 [ inl y ↦ other_call change.user change.call change.act y.1 x.1.1 change.own_call | inr y ↦ y ]
+  | inl x ↦ elim x.1.0 [ inl y ↦ other_call change.user change.call change.act y.1 x.1.1 change.own_call | inr y ↦ y ]
   | inr x ↦ elim x [ inl y ↦ y.1.0 | inr y ↦ y ]
-  ]
+]
 
 -- a change at a server that doesn't accept stores of the volume
 server_number : Node → ℕ
