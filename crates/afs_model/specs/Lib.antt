@@ -5,3 +5,10 @@ pub mod ClientRow
 pub mod Runs
 pub mod Acts
 pub mod Playing
+pub mod Past
+pub mod Ideal
+pub mod Grants
+pub mod Legal
+pub mod OneServer
+pub mod Once
+pub mod Laws

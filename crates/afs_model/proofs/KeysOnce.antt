@@ -1,0 +1,102 @@
+-- A key changes something at most once in a run.
+use Rattle.std.proofs.Common.{◌≡◌, List, [], ◌∷◌, ◌++◌, map, refl, sym, ap, subst, ◌∙◌}
+use Rattle.afs_num.specs.declared.types.Key.{Key}
+use Rattle.afs_num.specs.declared.scripts.Script.{Script}
+use Rattle.afs_num.specs.declared.histories.Line.{Line}
+use Rattle.afs_num.specs.declared.histories.Line.TheVariants as lines
+use Rattle.afs_num.specs.declared.states.StoredFile.{StoredFile}
+use Rattle.afs_model.specs.Runs.{Entry, Cell}
+use Rattle.afs_model.specs.ClientRow.{the_server}
+use Rattle.afs_model.specs.Past.{onto, lines_on, lines_of}
+use Rattle.afs_model.specs.Legal.{IsNew, AreGood}
+use Rattle.std.specs.List.{flat_map}
+use Rattle.afs_num.specs.declared.scripts.VolumeLine.{VolumeLine}
+use Rattle.afs_model.specs.Runs.{files_of, start, first_client, first_server, RunsTo, Leads}
+use Rattle.afs_model.specs.Ideal.{first_version, first_lines, set_up}
+use Rattle.afs_model.specs.Legal.{LegalAfter, Legal}
+use Rattle.afs_model.specs.OneServer.{AreAtServer}
+use Rattle.afs_model.specs.Once.{AreOnce, past_of, ChangesOnce}
+use Rattle.afs_model.proofs.Law.{onto_last, legal}
+
+-- ---- a legal history changes under each key once
+
+entry_once : (s : Script) (past : List Entry) (own ls : List Line) → AreGood s past own ls → AreOnce (own ++ lines_of past) → AreOnce (onto (own ++ lines_of past) ls)
+entry_once s past own [] g h = h
+entry_once s past own (lines.Begin n a ∷ ls) g h = entry_once s past (lines.Begin n a ∷ own) ls g.1 h
+entry_once s past own (lines.Given p ∷ ls) g h = entry_once s past (lines.Given p ∷ own) ls g.1 h
+entry_once s past own (lines.Grant q c f i x ∷ ls) g h = entry_once s past (lines.Grant q c f i x ∷ own) ls g.1 h
+entry_once s past own (lines.Change q k n ∷ ls) g h = entry_once s past (lines.Change q k n ∷ own) ls g.1 (g.0.fresh, h)
+entry_once s past own (lines.Version v ∷ ls) g h = entry_once s past (lines.Version v ∷ own) ls g.1 h
+entry_once s past own (lines.Read c f i r b ∷ ls) g h = entry_once s past (lines.Read c f i r b ∷ own) ls g.1 h
+entry_once s past own (lines.Answer n m ∷ ls) g h = entry_once s past (lines.Answer n m ∷ own) ls g.1 h
+entry_once s past own (lines.Void ∷ ls) g h = entry_once s past (lines.Void ∷ own) ls g.1 h
+
+after_once : (s : Script) (past es : List Entry) → LegalAfter s past es → AreOnce (lines_of past) → AreOnce (lines_of (past_of past es))
+after_once s past [] g h = h
+after_once s past (e ∷ es) g h = after_once s (e ∷ past) es g.1 (entry_once s past [] e.lines g.0 h)
+
+first_once : (files : List StoredFile) → AreOnce (onto [] (first_lines files))
+first_once [] = tt
+first_once (file ∷ files) = subst AreOnce (sym (onto_last [] (first_lines files) (lines.Version (first_version file)))) (first_once files)
+
+-- ---- without the set-up
+
+onto_front : (a b ls : List Line) → onto (a ++ b) ls ≡ onto a ls ++ b
+onto_front a b [] = refl
+onto_front a b (l ∷ ls) = onto_front (l ∷ a) b ls
+
+lines_front : (base : List Line) (past : List Entry) → lines_on base past ≡ lines_of past ++ base
+lines_front base [] = refl
+lines_front base (e ∷ past) = ap (λ (ls : List Line). onto ls e.lines) (lines_front base past) ∙ onto_front (lines_of past) base e.lines
+
+new_front : (k : Key) (a b : List Line) → IsNew k (a ++ b) → IsNew k a
+new_front k [] b h = tt
+new_front k (lines.Begin n x ∷ a) b h = new_front k a b h
+new_front k (lines.Given p ∷ a) b h = new_front k a b h
+new_front k (lines.Grant q c f i x ∷ a) b h = new_front k a b h
+new_front k (lines.Change q l n ∷ a) b h = (h.0, new_front k a b h.1)
+new_front k (lines.Version v ∷ a) b h = new_front k a b h
+new_front k (lines.Read c f i r x ∷ a) b h = new_front k a b h
+new_front k (lines.Answer n m ∷ a) b h = new_front k a b h
+new_front k (lines.Void ∷ a) b h = new_front k a b h
+
+once_front : (a b : List Line) → AreOnce (a ++ b) → AreOnce a
+once_front [] b h = tt
+once_front (lines.Begin n x ∷ a) b h = once_front a b h
+once_front (lines.Given p ∷ a) b h = once_front a b h
+once_front (lines.Grant q c f i x ∷ a) b h = once_front a b h
+once_front (lines.Change q l n ∷ a) b h = (new_front l a b h.0, once_front a b h.1)
+once_front (lines.Version v ∷ a) b h = once_front a b h
+once_front (lines.Read c f i r x ∷ a) b h = once_front a b h
+once_front (lines.Answer n m ∷ a) b h = once_front a b h
+once_front (lines.Void ∷ a) b h = once_front a b h
+
+-- the set-up stands under all entries
+set_up_under : (u : Entry) (past es : List Entry) → lines_of (past_of (past ++ u ∷ []) es) ≡ lines_on (lines_of (u ∷ [])) (past_of past es)
+set_up_under u [] [] = refl
+set_up_under u (e ∷ past) [] = ap (λ (ls : List Line). onto ls e.lines) (set_up_under u past [])
+set_up_under u past (e ∷ es) = set_up_under u (e ∷ past) es
+
+legal_once : (s : Script) (h : List Entry) → Legal h s → ChangesOnce h
+legal_once s h g =
+    once_front (lines_of (past_of [] h)) (lines_of (set_up s ∷ []))
+    (subst AreOnce (set_up_under (set_up s) [] h ∙ lines_front (lines_of (set_up s ∷ [])) (past_of [] h)) (after_once s (set_up s ∷ []) h g (first_once (flat_map files_of s.volumes))))
+
+-- ---- a run doesn't read the servers of the script's volumes
+
+abbrev at_server : VolumeLine → VolumeLine
+at_server v = record v { server = the_server }
+
+same_files : (vs : List VolumeLine) → flat_map files_of (map at_server vs) ≡ flat_map files_of vs
+same_files [] = refl
+same_files (v ∷ vs) = ap (λ (files : List StoredFile). files_of v ++ files) (same_files vs)
+
+all_at : (vs : List VolumeLine) → AreAtServer (map at_server vs)
+all_at [] = tt
+all_at (v ∷ vs) = (refl, all_at vs)
+
+pub once : (s : Script) (h : List Entry) (end : Cell) → RunsTo h s end → ChangesOnce h
+once s h end r =
+    let one : Script = record s { volumes = map at_server s.volumes } in
+    let same : start s ≡ start one = ap (λ (files : List StoredFile). record { server = first_server files; clients = λ n. first_client; sent = []; clock = 0 }) (sym (same_files s.volumes)) in
+    legal_once one h (legal one h end (all_at s.volumes) (record { inputs = r.inputs; leads = subst (λ (c : Cell). Leads c r.inputs h end) same r.leads }))

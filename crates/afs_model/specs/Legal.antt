@@ -1,0 +1,145 @@
+-- Which histories are legal: those of which each line is good after all that stands before it.
+-- `past` are the entries before, the newest first, `own` the entry's own lines before, the newest first, and `next` its
+-- lines after.
+use Rattle.std.specs.Prelude.{◌≡◌, ℕ, ◌≤◌, ◌<◌, List, [], ◌∷◌, ◌++◌, true, Option, Some, None, ℤ, pos, length, ⊤, ◌⊎◌}
+use Rattle.afs_num.specs.declared.types.Code.{Code}
+use Rattle.afs_num.specs.declared.types.Fid.{Fid}
+use Rattle.afs_num.specs.declared.types.Key.{Key}
+use Rattle.afs_num.specs.declared.types.Node.{Node}
+use Rattle.afs_num.specs.declared.calls.FsCall.{FsCall}
+use Rattle.afs_num.specs.declared.messages.Carried.{Carried}
+use Rattle.afs_num.specs.declared.messages.Carried.TheVariants as carried
+use Rattle.afs_num.specs.declared.messages.Message.{Message}
+use Rattle.afs_num.specs.declared.scripts.Act.{Act}
+use Rattle.afs_num.specs.declared.scripts.Act.TheVariants.{Open, Close}
+use Rattle.afs_num.specs.declared.scripts.Script.{Script}
+use Rattle.afs_num.specs.declared.histories.Body.{Body}
+use Rattle.afs_num.specs.declared.histories.Line.{Line}
+use Rattle.afs_num.specs.declared.histories.Line.TheVariants as lines
+use Rattle.afs_num.specs.declared.histories.ReadSource.{ReadSource}
+use Rattle.afs_num.specs.declared.histories.ReadSource.TheVariants.{Cached}
+use Rattle.afs_num.specs.declared.histories.Version.{Version}
+use Rattle.afs_model.specs.Runs.{Entry}
+use Rattle.afs_model.specs.Past.{lines_of, sent_of, given_message, answered_key, is_of_act, begun, Called, Ran}
+use Rattle.afs_model.specs.Ideal.{set_up, IsLast, HasVersion, Accepts, clock_of, user_of, asked, op, seen}
+use Rattle.afs_model.specs.Grants.{read_reply, GrantOf, since, IsWithdrawn, IsDropped}
+
+-- ---- reads
+
+-- a read is whole: it shows a version; it is not older than any that the client has seen; and it is the newest unless its
+-- grant, which lasts and was not given up, was withdrawn
+pub record GoodRead (c : Node) (f : Fid) (index : ℕ) (source : ReadSource) (body : Body) (past : List Entry) (own : List Line) : Type 0 where
+  pub whole : HasVersion f index body (own ++ lines_of past)
+  pub not_older : seen c f past own ≤ index
+  pub reply : Message
+  pub by : read_reply c f source past own ≡ Some reply
+  pub expiry : ℕ
+  pub grant : GrantOf c f expiry reply past
+  pub lasts : clock_of (own ++ lines_of past) < expiry
+  pub kept : IsDropped grant.server c f (own ++ since c f expiry reply past grant) → ⊥
+  pub newest : IsWithdrawn grant.server c f (own ++ since c f expiry reply past grant) ⊎ IsLast f index (own ++ lines_of past)
+
+-- ---- changes
+
+-- no change has this key
+abbrev pub IsNew : Key → List Line → Type 0
+IsNew k [] = ⊤
+IsNew k (lines.Change s l count ∷ older) = (k ≡ l → ⊥) × IsNew k older
+IsNew k (l ∷ older) = IsNew k older
+
+-- the versions that stand first
+abbrev pub versions_first : List Line → List Version
+versions_first (lines.Version v ∷ ls) = v ∷ versions_first ls
+versions_first ls = []
+
+abbrev pub AcceptsAll : Script → Node → List Line → List Version → Type 0
+AcceptsAll s server older [] = ⊤
+AcceptsAll s server older (v ∷ vs) = Accepts s v.fid.volume server older × AcceptsAll s server older vs
+
+-- a change runs a key for the first time, at a server that accepts stores of the volume. The key's call was sent by its
+-- node, for its user, and is that of the act that ran there, with the act's own bytes. The versions that follow are just
+-- those of the ideal operation
+pub record GoodChange (s : Script) (server : Node) (k : Key) (count : ℕ) (past : List Entry) (own next : List Line) : Type 0 where
+  pub fresh : IsNew k (own ++ lines_of past)
+  pub user : List ℕ
+  pub call : FsCall
+  pub act : Act
+  pub called : Called k user call act past
+  pub own_user : user ≡ user_of k.node
+  pub own_call : call ≡ asked act
+  pub code : (op user call (own ++ lines_of past)).code ≡ pos 0
+  pub versions : versions_first next ≡ (op user call (own ++ lines_of past)).versions
+  pub number : count ≡ length (versions_first next)
+  pub home : AcceptsAll s server (own ++ lines_of past) (versions_first next)
+
+-- a version stands under its change; that these are not too many is said of the change
+abbrev pub IsUnderChange : List Line → Type 0
+IsUnderChange (lines.Change s k count ∷ own) = ⊤
+IsUnderChange (lines.Version v ∷ own) = IsUnderChange own
+IsUnderChange own = ⊥
+
+-- ---- answers
+
+-- the code of a reply
+abbrev pub code_told : Carried → Option ℤ
+code_told (carried.Refusal code) = Some code.0
+code_told (carried.Reply reply) = Some (pos 0)
+code_told c = None
+
+-- the reply has this code, and so has the ideal operation where the call ran
+pub record Cause (reply : Message) (code : ℤ) (past : List Entry) : Type 0 where
+  pub told : code_told reply.carried ≡ Some code
+  pub ran : Ran (answered_key reply.head) reply.head.boot past
+  pub user : List ℕ
+  pub call : FsCall
+  pub carries : ran.message.carried ≡ carried.Call user call
+  pub gives : (op user call (lines_of ran.older)).code ≡ code
+
+-- the reply that the answer's entry was given is to a call of the act, and is the cause of the code
+pub record IsCaused (c : Node) (code : ℤ) (past : List Entry) (own : List Line) : Type 0 where
+  pub reply : Message
+  pub by : given_message own (sent_of past) ≡ Some reply
+  pub of_act : is_of_act c (answered_key reply.head) past ≡ true
+  pub cause : Cause reply code past
+
+-- since the act began, the entry has cached reads alone
+abbrev pub AreAllCached : Node → List Line → Type 0
+AreAllCached c (lines.Begin m act ∷ own) = m ≡ c
+AreAllCached c (lines.Read m f index Cached body ∷ own) = AreAllCached c own
+AreAllCached c own = ⊥
+
+abbrev pub HasRead : Node → Fid → List Line → Type 0
+HasRead c f [] = ⊥
+HasRead c f (lines.Read m g index source body ∷ own) = ((m ≡ c) × (g ≡ f)) ⊎ HasRead c f own
+HasRead c f (l ∷ own) = HasRead c f own
+
+-- the act was done without a call
+abbrev pub IsDone : Node → Option Act → List Line → Type 0
+IsDone c None own = ⊥
+IsDone c (Some (Open fid)) own = AreAllCached c own × HasRead c fid own
+IsDone c (Some (Close fid contents)) own = ⊥
+
+-- an act ran, and its answer has its cause: the reply to its call, or for 0 that it had no call to make
+abbrev pub GoodCode : Node → Code → List Entry → List Line → Type 0
+GoodCode c code past own =
+    IsCaused c code.0 past own ⊎ ((code.0 ≡ pos 0) × IsDone c (begun c (own ++ lines_of past)) own)
+
+-- ---- histories
+
+abbrev pub IsGood : Script → Line → List Entry → List Line → List Line → Type 0
+IsGood s (lines.Read c f index source body) past own next = GoodRead c f index source body past own
+IsGood s (lines.Change server k count) past own next = GoodChange s server k count past own next
+IsGood s (lines.Version v) past own next = IsUnderChange own
+IsGood s (lines.Answer c code) past own next = GoodCode c code past own
+IsGood s l past own next = ⊤
+
+abbrev pub AreGood : Script → List Entry → List Line → List Line → Type 0
+AreGood s past own [] = ⊤
+AreGood s past own (l ∷ next) = IsGood s l past own next × AreGood s past (l ∷ own) next
+
+abbrev pub LegalAfter : Script → List Entry → List Entry → Type 0
+LegalAfter s past [] = ⊤
+LegalAfter s past (e ∷ es) = AreGood s past [] e.lines × LegalAfter s (e ∷ past) es
+
+abbrev pub Legal : List Entry → Script → Type 0
+Legal history s = LegalAfter s (set_up s ∷ []) history

@@ -1,0 +1,119 @@
+-- The past of a moment: the entries before it, the newest first, and what can be looked up in them.
+use Rattle.std.specs.Prelude.{◌≡◌, ℕ, List, [], ◌∷◌, ◌++◌, Bool, true, false, ◌&&◌, Option, Some, None, nat_eq, if◌then◌else◌, ⊤, ◌⊎◌}
+use Rattle.afs_num.specs.Nodes.{same_node}
+use Rattle.afs_num.specs.declared.types.Head.{Head}
+use Rattle.afs_num.specs.declared.types.Key.{Key}
+use Rattle.afs_num.specs.declared.types.Node.{Node}
+use Rattle.afs_num.specs.declared.calls.FsCall.{FsCall}
+use Rattle.afs_num.specs.declared.messages.Carried.{Carried}
+use Rattle.afs_num.specs.declared.messages.Carried.TheVariants as carried
+use Rattle.afs_num.specs.declared.messages.Message.{Message}
+use Rattle.afs_num.specs.declared.scripts.Act.{Act}
+use Rattle.afs_num.specs.declared.histories.Line.{Line}
+use Rattle.afs_num.specs.declared.histories.Line.TheVariants as lines
+use Rattle.afs_model.specs.Runs.{Entry, message_at}
+
+-- ---- lines, the newest first
+
+-- further lines on older ones
+abbrev pub onto : List Line → List Line → List Line
+onto older [] = older
+onto older (l ∷ ls) = onto (l ∷ older) ls
+
+-- the lines of entries on older lines
+abbrev pub lines_on : List Line → List Entry → List Line
+lines_on older [] = older
+lines_on older (e ∷ past) = onto (lines_on older past) e.lines
+
+abbrev pub lines_of : List Entry → List Line
+lines_of past = lines_on [] past
+
+-- ---- messages
+
+-- all messages that were sent, from the first
+abbrev pub sent_of : List Entry → List Message
+sent_of [] = []
+sent_of (e ∷ past) = sent_of past ++ e.sent
+
+-- the message that an entry of these lines was given, where these messages were sent before it
+abbrev pub given_message : List Line → List Message → Option Message
+given_message [] sent = None
+given_message (lines.Given place ∷ ls) sent = message_at sent place
+given_message (l ∷ ls) sent = given_message ls sent
+
+-- the key of a call, by its header
+abbrev pub called_key : Head → Key
+called_key head = record { node = head.from; epoch = head.epoch; number = head.number }
+
+-- the key of the call that this is the reply to
+abbrev pub answered_key : Head → Key
+answered_key head = record { node = head.to; epoch = head.epoch; number = head.number }
+
+abbrev pub same_key : Key → Key → Bool
+same_key k l = same_node k.node l.node && (nat_eq k.epoch l.epoch && nat_eq k.number l.number)
+
+-- ---- acts and their calls
+
+-- the act that the node began last
+abbrev pub begun : Node → List Line → Option Act
+begun n [] = None
+begun n (lines.Begin m act ∷ older) = if same_node m n then Some act else begun n older
+begun n (l ∷ older) = begun n older
+
+abbrev pub has_begun : Node → List Line → Bool
+has_begun n [] = false
+has_begun n (lines.Begin m act ∷ ls) = if same_node m n then true else has_begun n ls
+has_begun n (l ∷ ls) = has_begun n ls
+
+-- whether a call of this key is among the messages
+abbrev pub is_called : Key → Head → Carried → Bool
+is_called k head (carried.Call user call) = same_key (called_key head) k
+is_called k head c = false
+
+abbrev pub has_sent : Key → List Message → Bool
+has_sent k [] = false
+has_sent k (m ∷ ms) = if is_called k m.head m.carried then true else has_sent k ms
+
+-- whether the call of this key is one of the act that the node began last
+abbrev pub is_of_act : Node → Key → List Entry → Bool
+is_of_act n k [] = false
+is_of_act n k (e ∷ past) = if has_sent k e.sent then true else (if has_begun n e.lines then false else is_of_act n k past)
+
+-- this call was sent under this key, for this user
+abbrev pub Sends : Key → List ℕ → FsCall → List Message → Type 0
+Sends k user call [] = ⊥
+Sends k user call (m ∷ ms) = ((called_key m.head ≡ k) × (m.carried ≡ carried.Call user call)) ⊎ Sends k user call ms
+
+-- the same, by the key's node while this act ran there
+abbrev pub Called : Key → List ℕ → FsCall → Act → List Entry → Type 0
+Called k user call act [] = ⊥
+Called k user call act (e ∷ past) =
+    ((e.node ≡ Some k.node) × (Sends k user call e.sent × (begun k.node (lines_of (e ∷ past)) ≡ Some act))) ⊎ Called k user call act past
+
+-- ---- the entry that ran a call
+
+abbrev pub IsCall : Carried → Type 0
+IsCall (carried.Call user call) = ⊤
+IsCall c = ⊥
+
+-- a call under this key, to this boot of its callee
+abbrev pub IsCallUnder : Key → ℕ → Option Message → Type 0
+IsCallUnder k boot None = ⊥
+IsCallUnder k boot (Some m) = IsCall m.carried × ((called_key m.head ≡ k) × (m.head.boot ≡ boot))
+
+abbrev pub IsUnheard : Key → ℕ → List Entry → Type 0
+IsUnheard k boot [] = ⊤
+IsUnheard k boot (e ∷ past) = (IsCallUnder k boot (given_message e.lines (sent_of past)) → ⊥) × IsUnheard k boot past
+
+-- The past, split at the entry that ran the call of this key in this boot of its callee: the first that was given it
+-- there. A later one finds the kept reply, and a callee runs no call to another boot.
+pub record Ran (k : Key) (boot : ℕ) (past : List Entry) : Type 0 where
+  pub newer : List Entry
+  pub at : Entry
+  pub older : List Entry
+  pub split : past ≡ newer ++ (at ∷ older)
+  pub message : Message
+  pub given : given_message at.lines (sent_of older) ≡ Some message
+  pub key : called_key message.head ≡ k
+  pub boot_called : message.head.boot ≡ boot
+  pub first : IsUnheard k boot older
