@@ -5,3 +5,5 @@ pub mod ClientRow
 pub mod Runs
 pub mod Acts
 pub mod Playing
+pub mod ScriptWords
+pub mod Script
