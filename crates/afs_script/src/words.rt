@@ -1,10 +1,10 @@
 //! The words of a line, read from left to right.
 
-ghost use Rattle.std.specs.Prelude.{◌≡◌, ◌≤◌, ◌<◌, ◌+◌, ◌-◌, ◌*◌, ◌^◌, ◌&&◌, ℕ, Bool, Some, None, Ok, length, nat_eq, nat_le, is_none, IfSome, IfNone, IfOk, true, ◌∷◌, OnOk, SomeIff, codes, drop, option_map, List, if◌then◌else◌};
+ghost use Rattle.std.specs.Prelude.{◌≡◌, ◌≤◌, ◌<◌, ◌+◌, ◌-◌, ◌*◌, ◌^◌, ◌&&◌, ℕ, Bool, Some, None, Ok, length, nat_eq, nat_le, is_none, IfSome, IfNone, IfOk, true, [], ◌∷◌, ◌++◌, OnOk, SomeIff, codes, drop, option_map, List, if◌then◌else◌};
 ghost use Rattle.std.specs.List.{starts_with, list_all, list_any};
 ghost use Rattle.std.specs.Option.{option_copied};
 ghost use Rattle.std.specs.Str.{bytes_eq};
-ghost use Rattle.afs_num.specs.Names.{is_in};
+ghost use Rattle.afs_num.specs.Names.{is_in, is_name_of};
 ghost use Rattle.afs_model.specs.ScriptWords.{must, parts, word_at, ended, first_word, number_from, numeral, ranged, number_at, node_number, node_at, is_hex, hex_value, hex_from, contents_of, contents_at, path_of, field_at, fid_of, operand_of, fid_at, is_act, has_names, is_unbuilt_word, is_unbuilt_operand, is_unbuilt_act, is_unbuilt_do, is_unbuilt};
 ghost use Rattle.afs_script.specs.Reads.{Reads, ReadsInMemory, Cuts};
 
@@ -15,7 +15,7 @@ use afs_num::names::is_name_of;
 use afs_num::scripts::Reason;
 use afs_num::sequences::Octets;
 use afs_num::types::Fid;
-use std::alloc::Global;
+use std::alloc::{AllocError, Global};
 
 /// A test that has to pass.
 pub fn must(good: bool, reason: Reason) -> Result<(), Reason>
@@ -190,4 +190,108 @@ fn hex_byte(high: u8, low: u8) -> Option<u8>
     } else {
         None
     }
+}
+
+/// The bytes that the digits stand for.
+fn unhexed(alloc: Global, digits: &[u8]) -> Result<Option<Octets>, AllocError>
+    ensures { IfOk result (λ bytes. bytes ≡ hex_from [] digits.now) }
+{
+    let mut bytes = Octets::new(alloc);
+    let mut rest = digits;
+    while let Some((high, low, more)) = next_pair(rest) {
+        match hex_byte(high, low) {
+            Some(byte) => bytes.push(byte)?,
+            None => return Ok(None),
+        }
+        rest = more;
+    }
+    if rest.is_empty() { Ok(Some(bytes)) } else { Ok(None) }
+}
+
+#[tactic(auto, unfolding(afs_model::specs::ScriptWords::contents_of))]
+fn contents_of(alloc: Global, word: &[u8]) -> Result<Option<Octets>, AllocError>
+    ensures { IfOk result (λ bytes. bytes ≡ contents_of word.now) }
+{
+    if word.starts_with(b"hex:") {
+        unhexed(alloc, word.split_at(4).1)
+    } else {
+        Ok(None)
+    }
+}
+
+/// Contents of at most so many bytes.
+#[tactic(auto, unfolding(afs_model::specs::ScriptWords::contents_at))]
+pub fn contents(alloc: Global, words: &mut Parts<'_>, most: usize) -> Result<Octets, LineFault>
+    ensures { ReadsInMemory (contents_at most) (λ c. c) words.old words.new result }
+{
+    let word = word(words)?;
+    let contents = contents_of(alloc, word)?.ok_or(Reason::Contents)?;
+    must(contents.len() <= most, Reason::Limit)?;
+    Ok(contents)
+}
+
+fn are_names(mut names: Parts<'_>) -> bool
+    ensures { result ≡ list_all (λ name. is_name_of 256 name) names.entry }
+{
+    while let Some(name) = names.part() {
+        if !is_name_of(256, name) {
+            return false;
+        }
+    }
+    true
+}
+
+/// A volume's name and the names below its root, of a path of `size` bytes.
+#[tactic(auto, unfolding(afs_model::specs::ScriptWords::path_of))]
+pub fn path<'a>(size: usize, names: &mut Parts<'a>) -> Result<&'a [u8], Reason>
+    ensures { Reads (path_of size) (λ v. v.now) names.old names.new result }
+{
+    let volume = names.part().ok_or(Reason::Name)?;
+    must(is_name_of(32, volume), Reason::Name)?;
+    must(are_names(names.again()), Reason::Path)?;
+    must(size <= 1024, Reason::Limit)?;
+    Ok(volume)
+}
+
+#[tactic(auto, unfolding(afs_model::specs::ScriptWords::field_at))]
+fn field(fields: &mut Parts<'_>) -> Result<u32, Reason>
+    ensures { Reads field_at (λ n. n) fields.old fields.new result }
+{
+    let word = fields.part().ok_or(Reason::Path)?;
+    let number = ranged(0, 4_294_967_295, word).ok_or(Reason::Path)?;
+    Ok(number as u32)
+}
+
+/// A fid's three numbers.
+#[tactic(auto, unfolding(afs_model::specs::ScriptWords::fid_of))]
+fn fid_of(mut fields: Parts<'_>) -> Result<Fid, Reason>
+    ensures { result ≡ fid_of fields.entry }
+{
+    let volume = field(&mut fields)?;
+    let vnode = field(&mut fields)?;
+    let unique = field(&mut fields)?;
+    must(fields.part().is_none(), Reason::Path)?;
+    Ok(Fid {
+        volume,
+        vnode,
+        unique,
+    })
+}
+
+#[tactic(auto, unfolding(afs_model::specs::ScriptWords::operand_of))]
+fn operand(word: &[u8]) -> Result<Fid, Reason>
+    ensures { result ≡ operand_of word.now }
+{
+    match word {
+        [b'@', fields @ ..] => fid_of(Parts::new(fields, b'.')),
+        _ => Err(Reason::Word),
+    }
+}
+
+#[tactic(auto, unfolding(afs_model::specs::ScriptWords::fid_at))]
+pub fn fid(words: &mut Parts<'_>) -> Result<Fid, Reason>
+    ensures { Reads fid_at (λ f. f) words.old words.new result }
+{
+    let word = word(words)?;
+    operand(word)
 }
