@@ -1,6 +1,6 @@
 //! The words of a line, read from left to right.
 
-ghost use Rattle.std.specs.Prelude.{◌≡◌, ◌≤◌, ◌<◌, ◌+◌, ◌-◌, ◌*◌, ◌^◌, ◌&&◌, ℕ, Bool, Some, None, Ok, length, nat_eq, nat_le, is_none, IfSome, IfNone, IfOk, true, [], ◌∷◌, ◌++◌, OnOk, SomeIff, codes, drop, option_map, List, if◌then◌else◌};
+ghost use Rattle.std.specs.Prelude.{◌||◌, ◌≡◌, ◌≤◌, ◌<◌, ◌+◌, ◌-◌, ◌*◌, ◌^◌, ◌&&◌, ℕ, Bool, Some, None, Ok, length, nat_eq, nat_le, is_none, IfSome, IfNone, IfOk, true, [], ◌∷◌, ◌++◌, OnOk, SomeIff, codes, drop, option_map, List, if◌then◌else◌};
 ghost use Rattle.std.specs.List.{starts_with, list_all, list_any};
 ghost use Rattle.std.specs.Option.{option_copied};
 ghost use Rattle.std.specs.Str.{bytes_eq};
@@ -294,4 +294,87 @@ pub fn fid(words: &mut Parts<'_>) -> Result<Fid, Reason>
 {
     let word = word(words)?;
     operand(word)
+}
+
+fn is_act(word: &[u8]) -> bool
+    ensures { result ≡ is_act word.now }
+{
+    word == b"open".as_slice() || word == b"close".as_slice()
+}
+
+fn has_names(first: FirstWord) -> bool
+    ensures { result ≡ has_names first }
+{
+    matches!(first, FirstWord::File | FirstWord::Do)
+}
+
+fn has_escape(word: &[u8]) -> bool
+    ensures { result ≡ list_any (λ b. nat_eq b 37) word.now }
+{
+    word.iter().any(|byte| *byte == b'%')
+}
+
+fn is_unbuilt_name(named: bool, word: &[u8]) -> bool
+    ensures { result ≡ (named && list_any (λ b. nat_eq b 37) word.now) }
+{
+    named && has_escape(word)
+}
+
+#[tactic(auto, unfolding(afs_model::specs::ScriptWords::is_unbuilt_word))]
+fn is_unbuilt_word(named: bool, word: &[u8]) -> bool
+    ensures { result ≡ is_unbuilt_word named word.now }
+{
+    word.starts_with(b"fill:") || is_unbuilt_name(named, word)
+}
+
+fn has_unbuilt_word(named: bool, mut words: Parts<'_>) -> bool
+    ensures { result ≡ list_any (is_unbuilt_word named) words.entry }
+{
+    while let Some(word) = words.part() {
+        if is_unbuilt_word(named, word) {
+            return true;
+        }
+    }
+    false
+}
+
+#[tactic(auto, unfolding(afs_model::specs::ScriptWords::is_unbuilt_operand))]
+fn is_unbuilt_operand(mut words: Parts<'_>) -> bool
+    ensures { result ≡ is_unbuilt_operand words.entry }
+{
+    match words.part() {
+        Some(operand) => !operand.starts_with(b"@"),
+        None => false,
+    }
+}
+
+/// Whether the act of a node, or its operand, is of a form that isn't built yet.
+#[tactic(auto, unfolding(afs_model::specs::ScriptWords::is_unbuilt_act))]
+fn is_unbuilt_act(mut words: Parts<'_>) -> bool
+    ensures { result ≡ is_unbuilt_act words.entry }
+{
+    if words.part().is_none() {
+        return false;
+    }
+    match words.part() {
+        Some(act) => !is_act(act) || is_unbuilt_operand(words),
+        None => false,
+    }
+}
+
+fn is_unbuilt_do(first: FirstWord, words: Parts<'_>) -> bool
+    ensures { result ≡ is_unbuilt_do first words.entry }
+{
+    match first {
+        FirstWord::Do => is_unbuilt_act(words),
+        _ => false,
+    }
+}
+
+/// Whether a word behind the first is of a form that isn't built yet.
+#[tactic(auto, unfolding(afs_model::specs::ScriptWords::is_unbuilt))]
+pub fn is_unbuilt(first: FirstWord, words: &Parts<'_>) -> bool
+    ensures { result ≡ is_unbuilt first words.now }
+{
+    is_unbuilt_do(first, words.again()) || has_unbuilt_word(has_names(first), words.again())
 }
