@@ -22,6 +22,9 @@ use std::marker::Model;
 /// The most bytes that this form of script has in a file or in a store.
 const CONTENTS_HERE: usize = 1024;
 
+/// The most bytes that contents have in any script.
+const CONTENTS: usize = 2_097_152;
+
 /// What the lines so far told.
 #[derive(Drop)]
 pub struct Reading {
@@ -143,4 +146,220 @@ fn is_file_here(fid: Fid) -> bool
     ensures { result ≡ is_file_here fid }
 {
     fid.volume == 536_870_912 && fid.vnode % 2 == 0
+}
+
+/// The acts that a client may be given.
+#[tactic(auto, unfolding(afs_model::specs::Script::open_at))]
+fn open_act(words: &mut Parts<'_>) -> Result<Act, LineFault>
+    ensures { Gives (open_at words.old) result }
+{
+    let fid = fid(words)?;
+    end(words)?;
+    must(is_file_here(fid), Reason::Path)?;
+    Ok(Act::Open { fid })
+}
+
+#[tactic(auto, unfolding(afs_model::specs::Script::close_at))]
+fn close_act(alloc: Global, words: &mut Parts<'_>) -> Result<Act, LineFault>
+    ensures { Gives (close_at words.old) result }
+{
+    let fid = fid(words)?;
+    let contents = contents(alloc, words, CONTENTS)?;
+    end(words)?;
+    must(is_file_here(fid), Reason::Path)?;
+    must(contents.len() <= CONTENTS_HERE, Reason::Limit)?;
+    Ok(Act::Close { fid, contents })
+}
+
+#[tactic(auto, unfolding(afs_model::specs::Script::act_of))]
+fn act(alloc: Global, word: &[u8], words: &mut Parts<'_>) -> Result<Act, LineFault>
+    ensures { Gives (act_of word.now words.old) result }
+{
+    if word == b"open".as_slice() {
+        open_act(words)
+    } else if word == b"close".as_slice() {
+        close_act(alloc, words)
+    } else {
+        Err(LineFault::Bad(Reason::Word))
+    }
+}
+
+/// A volume's set-up with one more file in its root.
+#[tactic(auto, unfolding(afs_model::specs::Script::laid))]
+fn lay(alloc: Global, name: &[u8], names: &mut Parts<'_>, contents: Octets, volume: VolumeLine) -> Result<VolumeLine, LineFault>
+    ensures { Gives (laid name.now names.old contents volume) result }
+{
+    must(volume.name.as_slice() == name, Reason::Path)?;
+    let name = name_in_root(names)?;
+    must(name_ok(name), Reason::Path)?;
+    must(!is_laid(name, volume.lines.as_slice()), Reason::Path)?;
+    must(volume.lines.is_empty(), Reason::Limit)?;
+    must(contents.len() <= CONTENTS_HERE, Reason::Limit)?;
+    let mut path = Names::new(alloc);
+    path.push(Octets::from_slice(alloc, name)?)?;
+    let mut volume = volume;
+    volume.lines.push(SetupLine::File { path, contents })?;
+    Ok(volume)
+}
+
+impl Reading {
+    ghost use Rattle.afs_model.specs.Script.{nothing_read};
+
+    /// Nothing is read yet.
+    pub fn new(alloc: Global) -> Self
+        ensures { result ≡ nothing_read }
+    {
+        Reading {
+            turn: 0,
+            servers: 0,
+            clients: 0,
+            volume: None,
+            tasks: Tasks::new(alloc),
+            events: Events::new(alloc),
+            delivered: BTreeSet::new(alloc),
+        }
+    }
+
+    #[tactic(auto, unfolding(afs_model::specs::Script::cell_line))]
+    fn cell(self, words: &mut Parts<'_>) -> Result<Reading, LineFault>
+        ensures { Gives (cell_line self words.old) result }
+    {
+        number(words, 1, 1)?;
+        end(words)?;
+        Ok(self)
+    }
+
+    #[tactic(auto, unfolding(afs_model::specs::Script::servers_line))]
+    fn servers(mut self, words: &mut Parts<'_>) -> Result<Reading, LineFault>
+        ensures { Gives (servers_line self words.old) result }
+    {
+        let count = number(words, 1, 8)?;
+        end(words)?;
+        must(count == 1, Reason::Limit)?;
+        self.servers = count as u8;
+        Ok(self)
+    }
+
+    #[tactic(auto, unfolding(afs_model::specs::Script::clients_line))]
+    fn clients(mut self, words: &mut Parts<'_>) -> Result<Reading, LineFault>
+        ensures { Gives (clients_line self words.old) result }
+    {
+        let count = number(words, 0, 16)?;
+        end(words)?;
+        must(count == 1, Reason::Limit)?;
+        self.clients = count as u8;
+        Ok(self)
+    }
+
+    #[tactic(auto, unfolding(afs_model::specs::Script::volume_line))]
+    fn volume(mut self, alloc: Global, words: &mut Parts<'_>) -> Result<Reading, LineFault>
+        ensures { Gives (volume_line self words.old) result }
+    {
+        let name = word(words)?;
+        must(volume_name_ok(name), Reason::Name)?;
+        must(!has_name(&self.volume, name), Reason::Name)?;
+        let server = node(words, b's', self.servers)?;
+        let quota = number(words, 1, 16_384)?;
+        end(words)?;
+        must(self.volume.is_none(), Reason::Limit)?;
+        must(1000 <= quota, Reason::Number)?;
+        self.volume = Some(VolumeLine {
+            id: 536_870_912,
+            name: Octets::from_slice(alloc, name)?,
+            server: Node::Server(server),
+            quota: quota as u32,
+            lines: SetupLines::new(alloc),
+        });
+        Ok(self)
+    }
+
+    #[tactic(auto, unfolding(afs_model::specs::Script::file_line))]
+    fn file(mut self, alloc: Global, words: &mut Parts<'_>) -> Result<Reading, LineFault>
+        ensures { Gives (file_line self words.old) result }
+    {
+        let word = word(words)?;
+        let mut names = Parts::new(word, b'/');
+        let name = path(word.len(), &mut names)?;
+        let contents = contents(alloc, words, CONTENTS)?;
+        end(words)?;
+        let volume = self.volume.take().ok_or(Reason::Path)?;
+        self.volume = Some(lay(alloc, name, &mut names, contents, volume)?);
+        Ok(self)
+    }
+
+    #[tactic(auto, unfolding(afs_model::specs::Script::do_line))]
+    fn task(mut self, alloc: Global, words: &mut Parts<'_>) -> Result<Reading, LineFault>
+        ensures { Gives (do_line self words.old) result }
+    {
+        let client = node(words, b'c', self.clients)?;
+        let word = word(words)?;
+        let act = act(alloc, word, words)?;
+        self.tasks.push(Task {
+            node: Node::Client(client),
+            act,
+        })?;
+        Ok(self)
+    }
+
+    #[tactic(auto, unfolding(afs_model::specs::Script::act_line))]
+    fn begin(mut self, words: &mut Parts<'_>) -> Result<Reading, LineFault>
+        ensures { Gives (act_line self words.old) result }
+    {
+        let client = node(words, b'c', self.clients)?;
+        end(words)?;
+        self.events.push(Event::Act {
+            node: Node::Client(client),
+        })?;
+        Ok(self)
+    }
+
+    #[tactic(auto, unfolding(afs_model::specs::Script::deliver_line))]
+    fn deliver(mut self, words: &mut Parts<'_>) -> Result<Reading, LineFault>
+        ensures { Gives (deliver_line self words.old) result }
+    {
+        let place = number(words, 1, u64::MAX)?;
+        end(words)?;
+        must(!self.delivered.contains(&place), Reason::Order)?;
+        self.events.push(Event::Deliver { place })?;
+        match self.delivered.insert(place) {
+            Ok(_) => Ok(self),
+            Err(_) => Err(LineFault::OutOfMemory),
+        }
+    }
+
+    #[tactic(auto, unfolding(afs_model::specs::Script::bare_line))]
+    fn bare(self, words: &mut Parts<'_>) -> Result<Reading, LineFault>
+        ensures { Gives (bare_line self words.old) result }
+    {
+        end(words)?;
+        Ok(self)
+    }
+
+    fn told(self, alloc: Global, first: FirstWord, words: &mut Parts<'_>) -> Result<Reading, LineFault>
+        ensures { Gives (told first self words.old) result }
+    {
+        match first {
+            FirstWord::Cell => self.cell(words),
+            FirstWord::Servers => self.servers(words),
+            FirstWord::Clients => self.clients(words),
+            FirstWord::Volume => self.volume(alloc, words),
+            FirstWord::File => self.file(alloc, words),
+            FirstWord::Do => self.task(alloc, words),
+            FirstWord::Act => self.begin(words),
+            FirstWord::Deliver => self.deliver(words),
+            FirstWord::Schedule | FirstWord::End => self.bare(words),
+        }
+    }
+
+    #[tactic(auto, unfolding(afs_model::specs::Script::line_of))]
+    fn line_of(mut self, alloc: Global, words: &mut Parts<'_>) -> Result<Reading, LineFault>
+        ensures { Gives (line_of self words.old) result }
+    {
+        let word = word(words)?;
+        let first = first_word(word).ok_or(Reason::Word)?;
+        must(is_due(self.turn, first), Reason::Order)?;
+        must(!is_unbuilt(first, words), Reason::Word)?;
+        self.turn = next_turn(first);
+        self.told(alloc, first, words)
+    }
 }
