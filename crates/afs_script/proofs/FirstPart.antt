@@ -1,7 +1,7 @@
 -- The first part of bytes, and the others.
 use Rattle.std.proofs.Common.{◌≡◌, ℕ, ◌<◌, ◌≤◌, ◌+◌, List, [], ◌∷◌, length, take, drop, nat_eq, arith, ap, sym, ◌∙◌, subst}
 use Rattle.std.specs.List.{position_or_len, before_first, after_first}
-use Rattle.std.proofs.lemmas.List.Splits.{slice_split_first, slice_split_none}
+use Rattle.std.proofs.lemmas.List.Splits.{slice_split_first, slice_split_none, length-slice_split}
 use Rattle.std.proofs.lemmas.List.Sums.{fails_before_first}
 use Rattle.afs_model.specs.ScriptWords.{parts}
 
@@ -18,3 +18,6 @@ first_part cut at bytes front back e lt f b =
 
 pub only_part : (cut at : ℕ) (bytes : List ℕ) → at ≡ position_or_len (λ b. nat_eq b cut) bytes → length bytes ≤ at → parts cut bytes ≡ bytes ∷ []
 only_part cut at bytes e le = slice_split_none (λ b. nat_eq b cut) bytes (λ k d lt. fails_before_first (λ b. nat_eq b cut) bytes k d (omega (arith, e)))
+
+pub some_part : (cut : ℕ) (bytes : List ℕ) → 0 < length (parts cut bytes)
+some_part cut bytes = omega (arith, length-slice_split (λ b. nat_eq b cut) bytes)

@@ -1,5 +1,5 @@
 -- What a function tells of a definition that reads.
-use Rattle.std.specs.Prelude.{◌≡◌, ℕ, List, [], ◌∷◌, Option, Some, None, Result, Ok, Err}
+use Rattle.std.specs.Prelude.{◌≡◌, ℕ, List, [], ◌∷◌, Option, Some, None, Result, Ok, Err, ◌<◌, ◌≤◌, length}
 use Rattle.afs_num.specs.declared.scripts.Reason.{Reason}
 use Rattle.afs_num.specs.declared.scripts.Script.{Script}
 use Rattle.afs_script.specs.declared.faults.LineFault.{LineFault}
@@ -34,3 +34,14 @@ GivesAtLine given (Err ends.OutOfMemory) = Unit {0}
 abbrev pub Cuts : List (List ℕ) → List (List ℕ) → Option (List ℕ) → Type 0
 Cuts old new None = (old ≡ []) × (new ≡ [])
 Cuts old new (Some part) = old ≡ part ∷ new
+
+-- the first part, where others are behind it
+abbrev pub CutsClosed : List (List ℕ) → List (List ℕ) → Option (List ℕ) → Type 0
+CutsClosed old new None = (new ≡ old) × (length old ≤ 1)
+CutsClosed old new (Some part) = (old ≡ part ∷ new) × (0 < length new)
+
+-- the outcome, with the number where it is a reason
+abbrev pub IsAtLine : {A : Type 0} → ℕ → Result A LineFault → Result A ScriptFault → Type 0
+IsAtLine number (Ok x) told = told ≡ Ok x
+IsAtLine number (Err (faults.Bad reason)) told = told ≡ Err (ends.Line number reason)
+IsAtLine number (Err faults.OutOfMemory) told = told ≡ Err ends.OutOfMemory

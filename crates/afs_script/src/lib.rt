@@ -4,8 +4,9 @@
 mod faults;
 mod lines;
 mod parts;
-pub mod reader;
+mod reader;
 mod words;
 
 pub use faults::ScriptFault;
+pub use reader::read_script;
 

@@ -1,6 +1,6 @@
 //! What the lines of a script tell, one function for each kind of line.
 
-ghost use Rattle.std.specs.Prelude.{◌≡◌, ◌&&◌, ℕ, Bool, Some, None, Ok, length, nat_eq, nat_le, IfOk, IfErr, Err, not};
+ghost use Rattle.std.specs.Prelude.{◌≡◌, ◌&&◌, ℕ, Bool, Some, None, Ok, length, nat_eq, nat_le, IfOk, OnOk, IfErr, ◌<◌, ◌≤◌, Err, not};
 ghost use Rattle.std.specs.List.{list_any};
 ghost use Rattle.std.specs.Option.{option_copied};
 ghost use Rattle.afs_model.specs.ScriptWords.{parts};
@@ -24,6 +24,15 @@ const CONTENTS_HERE: usize = 1024;
 
 /// The most bytes that contents have in any script.
 const CONTENTS: usize = 2_097_152;
+
+/// The most lines of a script.
+const LINES: u32 = 200_000;
+
+/// The most bytes of a line, without its newline.
+const LINE_BYTES: usize = 4_200_000;
+
+/// The turn that the line `end` leads to.
+const ENDED: u8 = 8;
 
 /// What the lines so far told.
 #[derive(Drop)]
@@ -361,5 +370,71 @@ impl Reading {
         must(!is_unbuilt(first, words), Reason::Word)?;
         self.turn = next_turn(first);
         self.told(alloc, first, words)
+    }
+}
+
+/// An empty line or a comment.
+fn is_silent(line: &[u8]) -> bool
+    ensures { result ≡ is_silent line.now }
+{
+    match line {
+        [] => true,
+        [first, ..] => *first == b'#',
+    }
+}
+
+impl Reading {
+    #[tactic(auto, unfolding(afs_model::specs::Script::line_at))]
+    pub fn line(self, alloc: Global, number: u32, room: usize, line: &[u8]) -> Result<Reading, LineFault>
+        ensures value { Gives (line_at self number room line.now) result }
+        ensures within { OnOk result (length line.now < room) }
+        ensures few { OnOk result (number ≤ 200000) }
+    {
+        must(line.len() < room, Reason::Limit)?;
+        must(number <= LINES, Reason::Limit)?;
+        must(line.len() <= LINE_BYTES, Reason::Limit)?;
+        must(self.turn != ENDED, Reason::Order)?;
+        if is_silent(line) {
+            return Ok(self);
+        }
+        self.line_of(alloc, &mut Parts::new(line, b' '))
+    }
+
+    fn script(self, alloc: Global) -> Result<Script, AllocError>
+        ensures { IfOk result (λ script. script ≡ script_in self) }
+    {
+        let Reading {
+            turn: _,
+            servers,
+            clients,
+            volume,
+            tasks,
+            events,
+            delivered: _,
+        } = self;
+        let mut volumes = VolumeLines::new(alloc);
+        if let Some(volume) = volume {
+            volumes.push(volume)?;
+        }
+        Ok(Script {
+            servers,
+            clients,
+            volumes,
+            tasks,
+            schedule: Some(events),
+        })
+    }
+
+    /// The script, where nothing stands behind its last newline.
+    #[tactic(auto, unfolding(afs_model::specs::Script::last_at))]
+    pub fn last(self, alloc: Global, number: u32, room: usize, last: &[u8]) -> Result<Script, LineFault>
+        ensures { Gives (last_at self number room last.now) result }
+    {
+        must(last.len() <= room, Reason::Limit)?;
+        must(self.turn == ENDED, Reason::Missing)?;
+        must(last.is_empty() || number <= LINES, Reason::Limit)?;
+        must(last.len() <= LINE_BYTES, Reason::Limit)?;
+        must(last.is_empty(), Reason::Order)?;
+        Ok(self.script(alloc)?)
     }
 }

@@ -1,10 +1,10 @@
 //! Bytes cut at each byte of one value.
 
-ghost use Rattle.std.specs.Prelude.{◌≡◌, [], ◌∷◌, ◌<◌, length, nat_eq, IfSome, IfNone};
+ghost use Rattle.std.specs.Prelude.{◌≡◌, [], ◌∷◌, ◌<◌, ◌≤◌, length, nat_eq, IfSome, IfNone};
 ghost use Rattle.std.specs.List.{position_or_len};
 ghost use Rattle.std.specs.Option.{option_copied};
 ghost use Rattle.afs_model.specs.ScriptWords.{parts};
-ghost use Rattle.afs_script.specs.Reads.{Cuts};
+ghost use Rattle.afs_script.specs.Reads.{Cuts, CutsClosed};
 ghost use Rattle.afs_script.specs.Parts.{parts_left};
 
 use std::marker::Model;
@@ -46,6 +46,17 @@ fn cut_at(cut: u8, bytes: &[u8]) -> (&[u8], Option<&[u8]>)
     }
 }
 
+/// The bytes before the first cut, and those behind it.
+fn closed_cut(cut: u8, bytes: &[u8]) -> Option<(&[u8], &[u8])>
+    ensures none { IfNone result (length (parts cut bytes.now) ≤ 1) }
+    ensures some { IfSome result (λ p. parts cut bytes.now ≡ p.0.now ∷ parts cut p.1.now) }
+    ensures more { IfSome result (λ p. 0 < length (parts cut p.1.now)) }
+{
+    let (part, rest) = cut_at(cut, bytes);
+    let more = rest?;
+    Some((part, more))
+}
+
 impl<'a> Parts<'a> {
     /// All parts of these bytes: one more than there are cuts.
     pub fn new(bytes: &'a [u8], cut: u8) -> Self
@@ -74,6 +85,15 @@ impl<'a> Parts<'a> {
         let bytes = self.rest?;
         let (part, rest) = cut_at(self.cut, bytes);
         self.rest = rest;
+        Some(part)
+    }
+
+    /// The next part, if a cut stands behind it.
+    pub fn closed_part(&mut self) -> Option<&'a [u8]>
+        ensures { CutsClosed self.old self.new (option_copied result) }
+    {
+        let (part, more) = closed_cut(self.cut, self.rest?)?;
+        self.rest = Some(more);
         Some(part)
     }
 }
