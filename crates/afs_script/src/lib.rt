@@ -10,3 +10,5 @@ mod words;
 pub use faults::ScriptFault;
 pub use reader::read_script;
 
+#[cfg(test)]
+mod tests;

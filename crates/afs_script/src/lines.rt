@@ -12,7 +12,9 @@ use crate::parts::Parts;
 use crate::words::{contents, end, fid, first_word, is_unbuilt, must, node, number, path, word};
 use afs_num::grammar::FirstWord;
 use afs_num::names::{name_ok, volume_name_ok};
-use afs_num::scripts::{Act, Event, Events, Reason, Script, SetupLine, SetupLines, Task, Tasks, VolumeLine, VolumeLines};
+use afs_num::scripts::{
+    Act, Event, Events, Reason, Script, SetupLine, SetupLines, Task, Tasks, VolumeLine, VolumeLines,
+};
 use afs_num::sequences::{Names, Octets};
 use afs_num::types::{Fid, Node};
 use std::alloc::{AllocError, Global};
@@ -195,7 +197,13 @@ fn act(alloc: Global, word: &[u8], words: &mut Parts<'_>) -> Result<Act, LineFau
 
 /// A volume's set-up with one more file in its root.
 #[tactic(auto, unfolding(afs_model::specs::Script::laid))]
-fn lay(alloc: Global, name: &[u8], names: &mut Parts<'_>, contents: Octets, volume: VolumeLine) -> Result<VolumeLine, LineFault>
+fn lay(
+    alloc: Global,
+    name: &[u8],
+    names: &mut Parts<'_>,
+    contents: Octets,
+    volume: VolumeLine,
+) -> Result<VolumeLine, LineFault>
     ensures { Gives (laid name.now names.old contents volume) result }
 {
     must(volume.name.as_slice() == name, Reason::Path)?;
@@ -344,7 +352,12 @@ impl Reading {
         Ok(self)
     }
 
-    fn told(self, alloc: Global, first: FirstWord, words: &mut Parts<'_>) -> Result<Reading, LineFault>
+    fn told(
+        self,
+        alloc: Global,
+        first: FirstWord,
+        words: &mut Parts<'_>,
+    ) -> Result<Reading, LineFault>
         ensures { Gives (told first self words.old) result }
     {
         match first {
@@ -385,7 +398,13 @@ fn is_silent(line: &[u8]) -> bool
 
 impl Reading {
     #[tactic(auto, unfolding(afs_model::specs::Script::line_at))]
-    pub fn line(self, alloc: Global, number: u32, room: usize, line: &[u8]) -> Result<Reading, LineFault>
+    pub fn line(
+        self,
+        alloc: Global,
+        number: u32,
+        room: usize,
+        line: &[u8],
+    ) -> Result<Reading, LineFault>
         ensures value { Gives (line_at self number room line.now) result }
         ensures within { OnOk result (length line.now < room) }
         ensures few { OnOk result (number ≤ 200000) }
@@ -427,7 +446,13 @@ impl Reading {
 
     /// The script, where nothing stands behind its last newline.
     #[tactic(auto, unfolding(afs_model::specs::Script::last_at))]
-    pub fn last(self, alloc: Global, number: u32, room: usize, last: &[u8]) -> Result<Script, LineFault>
+    pub fn last(
+        self,
+        alloc: Global,
+        number: u32,
+        room: usize,
+        last: &[u8],
+    ) -> Result<Script, LineFault>
         ensures { Gives (last_at self number room last.now) result }
     {
         must(last.len() <= room, Reason::Limit)?;

@@ -83,7 +83,9 @@ fn appended(high: u64, number: u64, digit: u8) -> Option<u64>
     if !digit.is_ascii_digit() {
         return None;
     }
-    let next = number.checked_mul(10)?.checked_add(u64::from(digit - b'0'))?;
+    let next = number
+        .checked_mul(10)?
+        .checked_add(u64::from(digit - b'0'))?;
     if next <= high { Some(next) } else { None }
 }
 
@@ -205,7 +207,11 @@ fn unhexed(alloc: Global, digits: &[u8]) -> Result<Option<Octets>, AllocError>
         }
         rest = more;
     }
-    if rest.is_empty() { Ok(Some(bytes)) } else { Ok(None) }
+    if rest.is_empty() {
+        Ok(Some(bytes))
+    } else {
+        Ok(None)
+    }
 }
 
 #[tactic(auto, unfolding(afs_model::specs::ScriptWords::contents_of))]
