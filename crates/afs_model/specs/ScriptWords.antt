@@ -6,8 +6,6 @@ use Rattle.std.specs.Option.{ok_or}
 use Rattle.std.specs.Str.{bytes_eq}
 use Rattle.afs_num.specs.Names.{is_in, is_name_of}
 use Rattle.afs_num.specs.declared.types.Fid.{Fid}
-use Rattle.afs_num.specs.declared.scripts.Act.{Act}
-use Rattle.afs_num.specs.declared.scripts.Act.TheVariants as acts
 use Rattle.afs_num.specs.declared.scripts.Reason.{Reason}
 use Rattle.afs_num.specs.declared.scripts.Reason.TheVariants as reasons
 use Rattle.afs_num.specs.declared.grammar.FirstWord.{FirstWord}

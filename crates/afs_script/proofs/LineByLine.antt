@@ -1,5 +1,5 @@
 -- A good line leads to the reading of the lines behind it.
-use Rattle.std.proofs.Common.{◌≡◌, ℕ, ◌+◌, ◌-◌, ◌<◌, List, [], ◌∷◌, length, Ok, Result, ap, ◌∙◌, arith, refl}
+use Rattle.std.proofs.Common.{◌≡◌, ℕ, ◌+◌, ◌-◌, ◌<◌, List, [], ◌∷◌, length, Ok, Result, ap, ◌∙◌, arith}
 use Rattle.afs_num.specs.declared.scripts.Reason.{Reason}
 use Rattle.afs_model.specs.ScriptWords.{◌>>=◌}
 use Rattle.afs_model.specs.Script.{Reading, at_line, line_at, lines_at}

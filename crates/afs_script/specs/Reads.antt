@@ -1,7 +1,6 @@
 -- What a function tells of a definition that reads.
 use Rattle.std.specs.Prelude.{◌≡◌, ℕ, List, [], ◌∷◌, Option, Some, None, Result, Ok, Err, ◌<◌, ◌≤◌, length}
 use Rattle.afs_num.specs.declared.scripts.Reason.{Reason}
-use Rattle.afs_num.specs.declared.scripts.Script.{Script}
 use Rattle.afs_script.specs.declared.faults.LineFault.{LineFault}
 use Rattle.afs_script.specs.declared.faults.LineFault.TheVariants as faults
 use Rattle.afs_script.specs.declared.faults.ScriptFault.{ScriptFault}

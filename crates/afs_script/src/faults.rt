@@ -2,11 +2,14 @@
 
 use afs_num::scripts::Reason;
 use std::alloc::AllocError;
+use thiserror::Error;
 
 /// Why nothing was read: the first bad line, counted from 1, and its reason; or want of memory.
-#[derive(Clone, Copy, Debug)]
+#[derive(Clone, Copy, Debug, Error)]
 pub enum ScriptFault {
+    #[error("line {0}: {1:?}")]
     Line(u32, Reason),
+    #[error("out of memory")]
     OutOfMemory,
 }
 

@@ -10,7 +10,7 @@ const GOOD: &str =
     "cell 1\nservers 1\nclients 1\nvolume proj s1 1000\nfile proj/a hex:616263\ndo c1 open @536870912.2.2\ndo c1 close @536870912.2.2 hex:646566\nschedule\nact c1\ndeliver 1\n";
 
 /// The reasons of first lines, each behind so many lines of the good script.
-const BAD: [(usize, &str, Reason); 66] = [
+const BAD: [(u8, &str, Reason); 66] = [
     (0, "cell 2", Reason::Number),
     (0, "cell 01", Reason::Number),
     (0, "cell one", Reason::Number),
@@ -103,10 +103,10 @@ fn expect_bad(rt: &impl Abort, alloc: Global, text: &str, number: u32, reason: R
 #[test]
 fn bad_line_has_its_reason(rt: HostRuntime) -> Result<(), Fail> {
     for (count, line, reason) in BAD {
-        let mut text = first_lines(rt.alloc(), count)?;
+        let mut text = first_lines(rt.alloc(), usize::from(count))?;
         text.push_str(line)?;
         text.push('\n')?;
-        expect_bad(&rt, rt.alloc(), text.as_str(), count as u32 + 1, reason);
+        expect_bad(&rt, rt.alloc(), text.as_str(), u32::from(count) + 1, reason);
     }
     Ok(())
 }

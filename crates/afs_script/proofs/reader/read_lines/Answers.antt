@@ -1,4 +1,4 @@
-use Rattle.std.proofs.Common.{◌≡◌, ◌∙◌, sym, arith}
+use Rattle.std.proofs.Common.{◌∙◌, sym}
 use Rattle.afs_script.proofs.LineByLine.{line_by_line}
 use Rattle.afs_script.proofs.reader.read_lines.Goals as goal
 
