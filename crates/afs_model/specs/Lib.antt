@@ -7,3 +7,4 @@ pub mod Acts
 pub mod Playing
 pub mod ScriptWords
 pub mod Script
+pub mod ScriptText
