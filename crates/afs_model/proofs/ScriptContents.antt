@@ -1,7 +1,7 @@
 -- Contents that are written are read again.
-use Rattle.std.proofs.Common.{◌≡◌, ◌≢◌, ℕ, zero, suc, ◌+◌, ◌-◌, ◌*◌, ◌/◌, ◌%◌, ◌^◌, ◌<◌, ◌≤◌, Bool, true, false, ◌&&◌, ◌||◌, not, List, [], ◌∷◌, ◌++◌, length, get_or, nat_eq, nat_le, Option, Some, None, if◌then◌else◌, ap, sym, ◌∙◌, arith, refl, le-leb, leb-true, leb-false, append_assoc, drop, codes}
+use Rattle.std.proofs.Common.{◌≡◌, ℕ, ◌+◌, ◌-◌, ◌*◌, ◌/◌, ◌%◌, ◌<◌, ◌≤◌, Bool, true, false, ◌&&◌, ◌||◌, List, [], ◌∷◌, ◌++◌, nat_le, Some, None, ap, sym, ◌∙◌, arith, refl, le-leb, leb-true, leb-false, append_assoc, codes}
 use Rattle.std.proofs.lemmas.Bool.{lt-leb}
-use Rattle.std.specs.List.{list_all, flat_map, starts_with}
+use Rattle.std.specs.List.{list_all, flat_map}
 use Rattle.afs_num.specs.Names.{is_in}
 use Rattle.afs_model.specs.ScriptWords.{is_hex, hex_value, hex_from, contents_of}
 use Rattle.afs_model.specs.ScriptText.{hex_digit, hex_byte, contents_word, AreBytes}
@@ -20,13 +20,15 @@ within low high b p q = both_true (nat_le low b) (nat_le b high) (le-leb low b p
 
 low_hex : (n : ℕ) → n ≤ 9 → (is_hex (48 + n) ≡ true) × (hex_value (48 + n) ≡ n)
 low_hex n le = (
-    either_left (is_in 48 57 (48 + n)) (is_in 97 102 (48 + n)) (within 48 57 (48 + n) (omega arith) (omega arith)),
-    if_true (nat_le (48 + n) 57) (48 + n - 48) (48 + n - 87) (le-leb (48 + n) 57 (omega arith)) ∙ (let z : 48 + n - 48 ≡ n = omega arith in z))
+  either_left (is_in 48 57 (48 + n)) (is_in 97 102 (48 + n)) (within 48 57 (48 + n) (omega arith) (omega arith)),
+  if_true (nat_le (48 + n) 57) (48 + n - 48) (48 + n - 87) (le-leb (48 + n) 57 (omega arith)) ∙ (let z : 48 + n - 48 ≡ n = omega arith in z),
+)
 
 high_hex : (n : ℕ) → 9 < n → n < 16 → (is_hex (87 + n) ≡ true) × (hex_value (87 + n) ≡ n)
 high_hex n ge lt = (
-    either_right (is_in 48 57 (87 + n)) (is_in 97 102 (87 + n)) (within 97 102 (87 + n) (omega arith) (omega arith)),
-    if_false (nat_le (87 + n) 57) (87 + n - 48) (87 + n - 87) (lt-leb (87 + n) 57 (omega arith)) ∙ (let z : 87 + n - 87 ≡ n = omega arith in z))
+  either_right (is_in 48 57 (87 + n)) (is_in 97 102 (87 + n)) (within 97 102 (87 + n) (omega arith) (omega arith)),
+  if_false (nat_le (87 + n) 57) (87 + n - 48) (87 + n - 87) (lt-leb (87 + n) 57 (omega arith)) ∙ (let z : 87 + n - 87 ≡ n = omega arith in z),
+)
 
 along : (b c n : ℕ) → b ≡ c → (is_hex c ≡ true) × (hex_value c ≡ n) → (is_hex b ≡ true) × (hex_value b ≡ n)
 along b c n e h = (ap is_hex e ∙ h.0, ap hex_value e ∙ h.1)
@@ -66,7 +68,7 @@ hex_digits_only : (contents : List ℕ) → AreBytes contents → list_all is_he
 hex_digits_only [] h = refl
 hex_digits_only (b ∷ bs) h =
     both_true (is_hex (hex_digit (b / 16))) (is_hex (hex_digit (b % 16)) && list_all is_hex (flat_map hex_byte bs)) (hex_again (b / 16) (omega arith)).0
-        (both_true (is_hex (hex_digit (b % 16))) (list_all is_hex (flat_map hex_byte bs)) (hex_again (b % 16) (omega arith)).0 (hex_digits_only bs h.1))
+    (both_true (is_hex (hex_digit (b % 16))) (list_all is_hex (flat_map hex_byte bs)) (hex_again (b % 16) (omega arith)).0 (hex_digits_only bs h.1))
 
 -- the characters of the words of contents
 pub contents_chars : (p : ℕ → Bool) → ((b : ℕ) → is_hex b ≡ true → p b ≡ true) → list_all p (codes "hex:") ≡ true → (contents : List ℕ) → AreBytes contents → list_all p (contents_word contents) ≡ true

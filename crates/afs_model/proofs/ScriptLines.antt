@@ -1,12 +1,12 @@
 -- The first bad line of a script decides.
-use Rattle.std.proofs.Common.{◌≡◌, ℕ, ◌+◌, ◌-◌, ◌<◌, ◌≤◌, Bool, true, false, ◌&&◌, not, List, [], ◌∷◌, ◌++◌, length, nat_eq, Ok, Err, Result, ap, sym, ◌∙◌, arith, refl, append_assoc}
-use Rattle.std.specs.List.{list_all, slice_split, onto_first}
+use Rattle.std.proofs.Common.{◌≡◌, ℕ, ◌+◌, ◌-◌, ◌<◌, Bool, true, false, ◌&&◌, not, List, [], ◌∷◌, ◌++◌, length, nat_eq, Ok, Err, Result, ap, ◌∙◌, arith, refl, append_assoc}
+use Rattle.std.specs.List.{list_all, onto_first}
 use Rattle.std.proofs.lemmas.List.Splits.{slice_split-cons_yes, slice_split-cons_no, length-slice_split}
 use Rattle.afs_num.specs.declared.scripts.Reason.{Reason}
 use Rattle.afs_num.specs.declared.scripts.Script.{Script}
 use Rattle.afs_model.specs.ScriptWords.{◌>>=◌, parts}
 use Rattle.afs_model.specs.Script.{Reading, nothing_read, at_line, line_at, last_at, lines_at, script_of}
-use Rattle.afs_model.specs.ScriptText.{is_part, closed, lines_read, room_behind, FirstBadLineDecides, LastLineDecides}
+use Rattle.afs_model.specs.ScriptText.{is_part, closed, lines_read, room_behind}
 
 pub both : (a b : Bool) → (a && b) ≡ true → (a ≡ true) × (b ≡ true)
 both true b h = (refl, h)
@@ -59,8 +59,8 @@ behind_lines (line ∷ lines) old r number room rest h e =
     ap (λ (bs : List ℕ). lines_at old number room (parts 10 bs)) (append_assoc line (10 ∷ closed lines) rest)
     ∙ (line_then old number room line (closed lines ++ rest) hs.0
     ∙ onward (at_line (number + 1) (line_at old (number + 1) room line)) r (λ s. lines_read s (number + 1) (room - (length line + 1)) lines) (λ s. lines_at s (number + 1) (room - (length line + 1)) (parts 10 (closed lines ++ rest))) _ e
-        (λ s f. behind_lines lines s r (number + 1) (room - (length line + 1)) rest hs.1 f
-            ∙ ap (λ (k : ℕ). lines_at r k (room_behind (room - (length line + 1)) lines) (parts 10 rest)) (let z : number + 1 + length lines ≡ number + length (line ∷ lines) = omega arith in z)))
+    (λ s f. behind_lines lines s r (number + 1) (room - (length line + 1)) rest hs.1 f
+    ∙ ap (λ (k : ℕ). lines_at r k (room_behind (room - (length line + 1)) lines) (parts 10 rest)) (let z : number + 1 + length lines ≡ number + length (line ∷ lines) = omega arith in z)))
 
 zero_more : (n : ℕ) → 0 + n ≡ n
 zero_more n = omega arith

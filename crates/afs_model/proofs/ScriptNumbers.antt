@@ -1,11 +1,10 @@
 -- A number that is written is read again.
-use Rattle.std.proofs.Common.{◌≡◌, ◌≢◌, ℕ, zero, suc, ◌+◌, ◌-◌, ◌*◌, ◌/◌, ◌%◌, ◌^◌, ◌<◌, ◌≤◌, Bool, true, false, ◌&&◌, ◌||◌, not, List, [], ◌∷◌, ◌++◌, length, get_or, nat_eq, nat_le, Option, Some, None, if◌then◌else◌, ap, sym, ◌∙◌, arith, refl, le-leb, decimal, lit<}
+use Rattle.std.proofs.Common.{◌≡◌, ℕ, zero, suc, ◌+◌, ◌-◌, ◌*◌, ◌/◌, ◌%◌, ◌^◌, ◌<◌, ◌≤◌, Bool, true, false, ◌&&◌, List, [], ◌∷◌, ◌++◌, length, get_or, nat_eq, nat_le, Option, Some, None, if◌then◌else◌, ap, ◌∙◌, arith, refl, le-leb, decimal, lit<}
 use Rattle.std.specs.List.{list_all}
 use Rattle.std.proofs.lemmas.Fmt.{decimal_by_steps, decimal_digit, decimal_nonempty, first_decimal}
 use Rattle.std.proofs.lemmas.Bool.Decides.{nat_tests}
 use Rattle.afs_num.specs.Names.{is_in}
 use Rattle.afs_model.specs.ScriptWords.{number_from, numeral, at_least, ranged}
-use Rattle.afs_model.specs.ScriptText.{is_part}
 use Rattle.afs_model.proofs.ScriptLines.{both}
 
 pub both_true : (a b : Bool) → a ≡ true → b ≡ true → (a && b) ≡ true
@@ -51,11 +50,11 @@ more_digit high d m (x ∷ xs) a lt le e =
 decimal_from : (high n : ℕ) → n < 2 ^ 64 → n ≤ high → number_from high 0 (decimal n) ≡ Some n
 decimal_from high n lt =
     decimal_by_steps (λ (k : ℕ) (ds : List ℕ). k ≤ high → number_from high 0 ds ≡ Some k)
-        (λ k small le. digit_read high 0 k small (omega arith) ∙ ap (λ (j : ℕ). Some j) (let z : 0 * 10 + k ≡ k = omega arith in z))
-        (λ k ds large ih le.
-            more_digit high (k % 10) (k / 10) ds 0 (omega arith) (omega arith) (ih (omega arith))
-            ∙ ap (λ (j : ℕ). Some j) (let z : k / 10 * 10 + k % 10 ≡ k = omega arith in z))
-        n lt
+    (λ k small le. digit_read high 0 k small (omega arith) ∙ ap (λ (j : ℕ). Some j) (let z : 0 * 10 + k ≡ k = omega arith in z))
+    (λ k ds large ih le.
+    more_digit high (k % 10) (k / 10) ds 0 (omega arith) (omega arith) (ih (omega arith))
+    ∙ ap (λ (j : ℕ). Some j) (let z : k / 10 * 10 + k % 10 ≡ k = omega arith in z))
+    n lt
 
 positive_numeral : (high : ℕ) (ds : List ℕ) → 0 < length ds → 48 < get_or ds 0 0 → numeral high ds ≡ number_from high 0 ds
 unfolding numeral
@@ -96,6 +95,6 @@ all_append p (x ∷ xs) ys h k =
 pub digits_only : (n : ℕ) → n < 2 ^ 64 → list_all (is_in 48 57) (decimal n) ≡ true
 digits_only n lt =
     decimal_by_steps (λ (k : ℕ) (ds : List ℕ). list_all (is_in 48 57) ds ≡ true)
-        (λ k small. both_true (is_in 48 57 (48 + k)) true (is_digit k small) refl)
-        (λ k ds large ih. all_append (is_in 48 57) ds ((48 + k % 10) ∷ []) ih (both_true (is_in 48 57 (48 + k % 10)) true (is_digit (k % 10) (omega arith)) refl))
-        n lt
+    (λ k small. both_true (is_in 48 57 (48 + k)) true (is_digit k small) refl)
+    (λ k ds large ih. all_append (is_in 48 57) ds ((48 + k % 10) ∷ []) ih (both_true (is_in 48 57 (48 + k % 10)) true (is_digit (k % 10) (omega arith)) refl))
+    n lt

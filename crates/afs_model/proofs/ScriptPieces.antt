@@ -1,17 +1,15 @@
 -- Words that are written: none has a byte that parts words or lines, and each is read again.
-use Rattle.std.proofs.Common.{◌≡◌, ◌≢◌, ℕ, zero, suc, ◌+◌, ◌-◌, ◌*◌, ◌/◌, ◌%◌, ◌^◌, ◌<◌, ◌≤◌, Bool, true, false, ◌&&◌, ◌||◌, not, List, [], ◌∷◌, ◌++◌, length, get_or, take, nat_eq, nat_le, Option, Some, None, Result, Ok, Err, ok_or, if◌then◌else◌, ap, sym, ◌∙◌, arith, refl, le-leb, leb-true, append_assoc, drop, codes, decimal, lit<}
-use Rattle.std.specs.List.{list_all, list_any, flat_map, starts_with}
+use Rattle.std.proofs.Common.{◌≡◌, ℕ, ◌^◌, ◌<◌, ◌≤◌, Bool, true, false, ◌&&◌, ◌||◌, not, List, [], ◌∷◌, ◌++◌, length, nat_eq, nat_le, ap, ◌∙◌, arith, refl, leb-true, codes, decimal, lit<}
+use Rattle.std.specs.List.{list_all, list_any, starts_with}
 use Rattle.std.proofs.lemmas.Bool.Decides.{nat_tests}
 use Rattle.std.proofs.lemmas.Fmt.{decimal_nonempty}
 use Rattle.afs_num.specs.Names.{is_in, is_plain}
-use Rattle.afs_num.specs.declared.scripts.Reason.{Reason}
-use Rattle.afs_num.specs.declared.scripts.Reason.TheVariants as reasons
 use Rattle.afs_num.specs.declared.types.Fid.{Fid}
-use Rattle.afs_model.specs.ScriptWords.{◌>>=◌, must, parts, word_at, ended, ranged, number_at, node_number, node_at, is_hex, contents_of, contents_at, field_at, fid_of, operand_of, fid_at, is_unbuilt_word}
+use Rattle.afs_model.specs.ScriptWords.{parts, is_hex, is_unbuilt_word}
 use Rattle.afs_model.specs.ScriptText.{is_part, spaced, fid_word, contents_word, AreBytes}
 use Rattle.afs_model.proofs.ScriptLines.{both, no, cut_off, uncut}
-use Rattle.afs_model.proofs.ScriptNumbers.{both_true, if_true, if_false, all_append, all_then, digits_only, ranged_again}
-use Rattle.afs_model.proofs.ScriptContents.{within, contents_again, contents_chars}
+use Rattle.afs_model.proofs.ScriptNumbers.{both_true, all_append, all_then, digits_only}
+use Rattle.afs_model.proofs.ScriptContents.{within, contents_chars}
 
 -- a byte of a range is none below it
 pub above : (low high cut b : ℕ) → cut < low → is_in low high b ≡ true → not (nat_eq b cut) ≡ true
@@ -121,7 +119,7 @@ unfolding fid_word
 fid_is_word fid p q r = record {
   some = omega arith;
   chars = all_append (is_in 43 122) (decimal fid.volume) (46 ∷ (decimal fid.vnode ++ 46 ∷ decimal fid.unique)) (digit_chars fid.volume p)
-    (all_append (is_in 43 122) (decimal fid.vnode) (46 ∷ decimal fid.unique) (digit_chars fid.vnode q) (digit_chars fid.unique r));
+      (all_append (is_in 43 122) (decimal fid.vnode) (46 ∷ decimal fid.unique) (digit_chars fid.vnode q) (digit_chars fid.unique r));
   built = refl;
 }
 

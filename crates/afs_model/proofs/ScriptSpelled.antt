@@ -1,30 +1,18 @@
 -- Lines that are written are read again.
-use Rattle.std.proofs.Common.{◌≡◌, ◌≢◌, ℕ, zero, suc, ◌+◌, ◌-◌, ◌*◌, ◌/◌, ◌%◌, ◌^◌, ◌<◌, ◌≤◌, Bool, true, false, ◌&&◌, ◌||◌, not, List, [], ◌∷◌, ◌++◌, length, map, nat_eq, nat_le, nat_lt, Option, Some, None, Result, Ok, Err, ok_or, if◌then◌else◌, ap, sym, ◌∙◌, subst, arith, refl, le-leb, le-ltb, lt-ltb, length-append, append_assoc, codes, decimal, lit<, lit≤}
-use Rattle.std.specs.List.{list_all, list_any, flat_map}
-use Rattle.afs_num.specs.Names.{is_in, is_plain, has_size, is_name_of, name_ok, volume_name_ok}
+use Rattle.std.proofs.Common.{◌≡◌, ℕ, ◌^◌, ◌<◌, ◌≤◌, Bool, true, false, not, List, [], ◌∷◌, ◌++◌, length, nat_eq, nat_le, nat_lt, Some, Ok, ap, sym, ◌∙◌, subst, arith, refl, le-leb, lt-ltb, decimal, lit<, lit≤}
+use Rattle.std.specs.List.{list_all}
+use Rattle.afs_num.specs.Names.{is_in, is_name_of}
 use Rattle.afs_num.specs.declared.grammar.FirstWord.{FirstWord}
-use Rattle.afs_num.specs.declared.grammar.FirstWord.TheVariants as words
 use Rattle.afs_num.specs.declared.scripts.Reason.{Reason}
 use Rattle.afs_num.specs.declared.scripts.Reason.TheVariants as reasons
 use Rattle.afs_num.specs.declared.types.Fid.{Fid}
-use Rattle.afs_num.specs.declared.types.Node.{Node}
-use Rattle.afs_num.specs.declared.types.Node.TheVariants as nodes
-use Rattle.afs_num.specs.declared.scripts.Act.{Act}
-use Rattle.afs_num.specs.declared.scripts.Act.TheVariants as acts
-use Rattle.afs_num.specs.declared.scripts.Task.{Task}
-use Rattle.afs_num.specs.declared.scripts.Event.{Event}
-use Rattle.afs_num.specs.declared.scripts.Event.TheVariants as events
-use Rattle.afs_num.specs.declared.scripts.SetupLine.{SetupLine}
-use Rattle.afs_num.specs.declared.scripts.SetupLine.TheVariants as setups
-use Rattle.afs_num.specs.declared.scripts.VolumeLine.{VolumeLine}
-use Rattle.afs_num.specs.declared.scripts.Script.{Script}
-use Rattle.afs_model.specs.ScriptWords.{◌>>=◌, must, parts, word_at, ended, first_word, ranged, number_at, node_number, node_at, contents_of, contents_at, path_of, field_at, fid_of, operand_of, fid_at, is_unbuilt_word, has_names, is_unbuilt_operand, is_unbuilt_act, is_unbuilt_do, is_unbuilt}
-use Rattle.afs_model.specs.Script.{Reading, nothing_read, next_turn, is_due, has_ended, cell_line, servers_line, clients_line, volume_line, name_in_root, laid, file_line, is_file_here, open_at, close_at, act_of, do_line, act_line, delivers, deliver_line, bare_line, told, line_of, is_silent, line_at, script_in, last_at, at_line, script_of}
-use Rattle.afs_model.specs.ScriptText.{is_part, closed, lines_read, room_behind, spaced, node_word, fid_word, contents_word, path_word, setup_line, volume_lines, act_words, task_line, event_line, schedule_lines, script_lines, script_text, AreBytes, IsContents, IsFile, IsAct, AreTasks, IsRootPath, IsSetup, AreSetup, IsVolume, AreVolumes, AreEvents, IsSchedule, IsOfForm, AreShort, IsWithinLimits}
-use Rattle.afs_model.proofs.ScriptLines.{both, no, cut_off, uncut, last_line}
-use Rattle.afs_model.proofs.ScriptNumbers.{both_true, if_true, if_false, all_append, all_then, digits_only, ranged_again}
+use Rattle.afs_model.specs.ScriptWords.{must, parts, word_at, first_word, ranged, number_at, node_number, node_at, contents_at, path_of, field_at, fid_of, operand_of, fid_at, is_unbuilt}
+use Rattle.afs_model.specs.Script.{Reading, next_turn, is_due, has_ended, told, line_of, is_silent, line_at}
+use Rattle.afs_model.specs.ScriptText.{is_part, fid_word, contents_word, AreBytes}
+use Rattle.afs_model.proofs.ScriptLines.{cut_off, uncut}
+use Rattle.afs_model.proofs.ScriptNumbers.{both_true, if_false, all_then, digits_only, ranged_again}
 use Rattle.afs_model.proofs.ScriptContents.{contents_again}
-use Rattle.afs_model.proofs.ScriptPieces.{IsWord, AreWords, above, neither, words_again, one_line, all_built, plain_word, number_word, letter_word, fid_is_word, contents_is_word}
+use Rattle.afs_model.proofs.ScriptPieces.{above, number_word, contents_is_word}
 
 pub must_true : (t : Bool) (reason : Reason) → t ≡ true → must t reason ≡ Ok tt
 must_true true reason e = refl
@@ -108,7 +96,7 @@ pub good_line : (r s : Reading) (number room : ℕ) (line : List ℕ) → Step r
 unfolding line_at
 good_line r s number room line h p q t =
     rw (must_true (nat_lt (length line) room) reasons.Limit (lt-ltb (length line) room p), must_true (nat_le number 200000) reasons.Limit (le-leb number 200000 q), must_true (nat_le (length line) 4200000) reasons.Limit (le-leb (length line) 4200000 t), must_true (not (has_ended r.turn)) reasons.Order (ap not h.going))
-        (if_false (is_silent line) (Ok r) (line_of r (parts 32 line)) h.speaks ∙ h.read)
+    (if_false (is_silent line) (Ok r) (line_of r (parts 32 line)) h.speaks ∙ h.read)
 
 abbrev pub Leads : Reading → List (List ℕ) → Reading → Type 0
 Leads r [] t = r ≡ t

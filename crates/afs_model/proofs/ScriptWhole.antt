@@ -1,5 +1,5 @@
 -- A script that is written is read as that script.
-use Rattle.std.proofs.Common.{◌≡◌, ◌≢◌, ℕ, zero, suc, ◌+◌, ◌-◌, ◌*◌, ◌/◌, ◌%◌, ◌^◌, ◌<◌, ◌≤◌, Bool, true, false, ◌&&◌, ◌||◌, not, List, [], ◌∷◌, ◌++◌, length, map, nat_eq, nat_le, nat_lt, Option, Some, None, Result, Ok, Err, ok_or, if◌then◌else◌, ap, sym, ◌∙◌, subst, arith, refl, le-leb, le-ltb, lt-ltb, length-append, append_assoc, codes, decimal, lit<, lit≤}
+use Rattle.std.proofs.Common.{◌≡◌, ℕ, ◌+◌, ◌-◌, ◌%◌, ◌^◌, ◌<◌, ◌≤◌, true, false, ◌&&◌, not, List, [], ◌∷◌, ◌++◌, length, map, nat_eq, nat_le, nat_lt, Option, Some, None, Result, Ok, ap, sym, ◌∙◌, subst, arith, refl, le-leb, lt-ltb, length-append, append_assoc, codes, decimal, lit<, lit≤}
 use Rattle.std.specs.List.{list_all, list_any, flat_map}
 use Rattle.afs_num.specs.Names.{is_in, is_plain, has_size, is_name_of, name_ok, volume_name_ok}
 use Rattle.afs_num.specs.declared.grammar.FirstWord.{FirstWord}
@@ -18,13 +18,12 @@ use Rattle.afs_num.specs.declared.scripts.SetupLine.{SetupLine}
 use Rattle.afs_num.specs.declared.scripts.SetupLine.TheVariants as setups
 use Rattle.afs_num.specs.declared.scripts.VolumeLine.{VolumeLine}
 use Rattle.afs_num.specs.declared.scripts.Script.{Script}
-use Rattle.afs_model.specs.ScriptWords.{◌>>=◌, must, parts, word_at, ended, first_word, ranged, number_at, node_number, node_at, contents_of, contents_at, path_of, field_at, fid_of, operand_of, fid_at, is_unbuilt_word, has_names, is_unbuilt_operand, is_unbuilt_act, is_unbuilt_do, is_unbuilt}
-use Rattle.afs_model.specs.Script.{Reading, nothing_read, next_turn, is_due, has_ended, cell_line, servers_line, clients_line, volume_line, name_in_root, laid, file_line, is_file_here, open_at, close_at, act_of, do_line, act_line, delivers, deliver_line, bare_line, told, line_of, is_silent, line_at, script_in, last_at, at_line, script_of}
-use Rattle.afs_model.specs.ScriptText.{is_part, closed, lines_read, room_behind, spaced, node_word, fid_word, contents_word, path_word, setup_line, volume_lines, act_words, task_line, event_line, schedule_lines, script_lines, script_text, AreBytes, IsContents, IsFile, IsAct, AreTasks, IsRootPath, IsSetup, AreSetup, IsVolume, AreVolumes, AreEvents, IsSchedule, IsOfForm, AreShort, IsWithinLimits}
-use Rattle.afs_model.proofs.ScriptLines.{both, no, cut_off, uncut, last_line}
-use Rattle.afs_model.proofs.ScriptNumbers.{both_true, if_true, if_false, all_append, all_then, digits_only, ranged_again}
-use Rattle.afs_model.proofs.ScriptContents.{contents_again}
-use Rattle.afs_model.proofs.ScriptPieces.{IsWord, AreWords, above, neither, words_again, one_line, all_built, plain_word, plain_char, plain_no_colon, no_colon_no_fill, number_word, letter_word, fid_is_word, contents_is_word}
+use Rattle.afs_model.specs.ScriptWords.{◌>>=◌, ended, first_word, is_unbuilt_word, has_names, is_unbuilt_operand, is_unbuilt_act, is_unbuilt_do, is_unbuilt}
+use Rattle.afs_model.specs.Script.{Reading, nothing_read, next_turn, is_due, has_ended, cell_line, servers_line, clients_line, volume_line, name_in_root, laid, file_line, is_file_here, open_at, close_at, act_of, do_line, act_line, delivers, deliver_line, bare_line, told, line_of, is_silent, script_in, last_at, at_line, script_of}
+use Rattle.afs_model.specs.ScriptText.{is_part, closed, lines_read, room_behind, spaced, node_word, fid_word, contents_word, setup_line, volume_lines, act_words, task_line, event_line, schedule_lines, script_lines, script_text, IsContents, IsFile, IsAct, AreTasks, AreSetup, AreVolumes, AreEvents, IsSchedule, IsOfForm, AreShort, IsWithinLimits}
+use Rattle.afs_model.proofs.ScriptLines.{both, last_line}
+use Rattle.afs_model.proofs.ScriptNumbers.{both_true, all_append, all_then}
+use Rattle.afs_model.proofs.ScriptPieces.{IsWord, AreWords, neither, words_again, one_line, all_built, plain_word, plain_char, plain_no_colon, no_colon_no_fill, number_word, letter_word, fid_is_word, contents_is_word}
 use Rattle.std.proofs.Common.{bytes_eq, ltb-true, leb-true, eqb-true}
 use Rattle.std.proofs.lemmas.Slice.Eq.{bytes_eq-Decides}
 use Rattle.std.proofs.lemmas.Bool.Decides.{nat_tests}
@@ -38,7 +37,7 @@ line_step r s first kind ws chars lt known speaks hs going due built e = record 
   speaks = speaks;
   going = going;
   read = ap (line_of r) (words_again first ws chars hs)
-    ∙ line_of_again r s first kind ws lt known due (unfold is_unbuilt in neither (is_unbuilt_do kind ws) (list_any (is_unbuilt_word (has_names kind)) ws) built (all_built (has_names kind) ws hs)) e;
+      ∙ line_of_again r s first kind ws lt known due (unfold is_unbuilt in neither (is_unbuilt_do kind ws) (list_any (is_unbuilt_word (has_names kind)) ws) built (all_built (has_names kind) ws hs)) e;
 }
 
 -- a reading in which one server and one client stand
@@ -104,18 +103,20 @@ laid_volume name quota lines = record { id = 536870912; name = name; server = no
 volume_told : (name : List ℕ) (quota : ℕ) → volume_name_ok name ≡ true → 1000 ≤ quota → quota ≤ 16384 → volume_line (reading 4 None [] []) (name ∷ (115 ∷ decimal 1) ∷ decimal quota ∷ []) ≡ Ok (reading 4 (Some (laid_volume name quota [])) [] [])
 unfolding volume_line ended laid_volume
 volume_told name quota good least most =
-    rw (word_again name ((115 ∷ decimal 1) ∷ decimal quota ∷ []) (name_facts 22 name (volume_is_name name good)).some,
-        must_true (volume_name_ok name) reasons.Name good,
-        server_again (decimal quota ∷ []),
-        number_again 1 16384 quota [] (omega arith) (omega arith) most,
-        must_true (nat_le 1000 quota) reasons.Number (le-leb 1000 quota least)) refl
+    rw (
+      word_again name ((115 ∷ decimal 1) ∷ decimal quota ∷ []) (name_facts 22 name (volume_is_name name good)).some,
+      must_true (volume_name_ok name) reasons.Name good,
+      server_again (decimal quota ∷ []),
+      number_again 1 16384 quota [] (omega arith) (omega arith) most,
+      must_true (nat_le 1000 quota) reasons.Number (le-leb 1000 quota least),
+    ) refl
 
 volume_step : (name : List ℕ) (quota : ℕ) → volume_name_ok name ≡ true → 1000 ≤ quota → quota ≤ 16384 → Step (reading 3 None [] []) (spaced (codes "volume") (name ∷ node_word (nodes.Server 1) ∷ decimal quota ∷ [])) (reading 4 (Some (laid_volume name quota [])) [] [])
 unfolding first_word
 volume_step name quota good least most =
     let f = name_facts 22 name (volume_is_name name good) in
     line_step (reading 3 None [] []) (reading 4 (Some (laid_volume name quota [])) [] []) (codes "volume") words.Volume (name ∷ (115 ∷ decimal 1) ∷ decimal quota ∷ []) refl (omega arith) refl refl
-        (plain_word name f.some f.plain, (letter_word 115 1 refl (lit< tt), (number_word quota (omega arith), tt))) refl refl refl (volume_told name quota good least most)
+    (plain_word name f.some f.plain, (letter_word 115 1 refl (lit< tt), (number_word quota (omega arith), tt))) refl refl refl (volume_told name quota good least most)
 
 path_is_word : (volume name : List ℕ) → list_all is_plain volume ≡ true → list_all is_plain name ≡ true → IsWord (volume ++ 47 ∷ name)
 path_is_word volume name p q = record {
@@ -131,13 +132,15 @@ file_told volume name contents quota good spelled fine c =
     let f = name_facts 22 volume named in
     let g = name_facts 256 name spelled in
     let sized : length (volume ++ 47 ∷ name) ≤ 1024 = omega (arith, length-append volume (47 ∷ name), f.size, g.size) in
-    rw (word_again (volume ++ 47 ∷ name) (contents_word contents ∷ []) (path_is_word volume name f.plain g.plain).some,
-        name_parts volume name (all_then is_plain (λ b. not (nat_eq b 47)) plain_no_slash volume f.plain) (all_then is_plain (λ b. not (nat_eq b 47)) plain_no_slash name g.plain),
-        path_again (length (volume ++ 47 ∷ name)) volume name sized (wider_name volume named) spelled,
-        contents_at_again 2097152 contents [] c.bytes (let z : length contents ≤ 2097152 = omega (arith, c.size) in z),
-        must_true (bytes_eq volume volume) reasons.Path ((bytes_eq-Decides volume volume).1 refl),
-        must_true (name_ok name) reasons.Path fine,
-        must_true (nat_le (length contents) 1024) reasons.Limit (le-leb (length contents) 1024 c.size)) refl
+    rw (
+      word_again (volume ++ 47 ∷ name) (contents_word contents ∷ []) (path_is_word volume name f.plain g.plain).some,
+      name_parts volume name (all_then is_plain (λ b. not (nat_eq b 47)) plain_no_slash volume f.plain) (all_then is_plain (λ b. not (nat_eq b 47)) plain_no_slash name g.plain),
+      path_again (length (volume ++ 47 ∷ name)) volume name sized (wider_name volume named) spelled,
+      contents_at_again 2097152 contents [] c.bytes (let z : length contents ≤ 2097152 = omega (arith, c.size) in z),
+      must_true (bytes_eq volume volume) reasons.Path ((bytes_eq-Decides volume volume).1 refl),
+      must_true (name_ok name) reasons.Path fine,
+      must_true (nat_le (length contents) 1024) reasons.Limit (le-leb (length contents) 1024 c.size),
+    ) refl
 
 file_step : (volume name contents : List ℕ) (quota : ℕ) → volume_name_ok volume ≡ true → is_name_of 256 name ≡ true → name_ok name ≡ true → IsContents contents → Step (reading 4 (Some (laid_volume volume quota [])) [] []) (setup_line volume (setups.File (name ∷ []) contents)) (reading 5 (Some (laid_volume volume quota (setups.File (name ∷ []) contents ∷ []))) [] [])
 unfolding first_word
@@ -145,7 +148,7 @@ file_step volume name contents quota good spelled fine c =
     let f = name_facts 22 volume (volume_is_name volume good) in
     let g = name_facts 256 name spelled in
     line_step (reading 4 (Some (laid_volume volume quota [])) [] []) (reading 5 (Some (laid_volume volume quota (setups.File (name ∷ []) contents ∷ []))) [] []) (codes "file") words.File ((volume ++ 47 ∷ name) ∷ contents_word contents ∷ []) refl (omega arith) refl refl
-        (path_is_word volume name f.plain g.plain, (contents_is_word contents c.bytes, tt)) refl refl refl (file_told volume name contents quota good spelled fine c)
+    (path_is_word volume name f.plain g.plain, (contents_is_word contents c.bytes, tt)) refl refl refl (file_told volume name contents quota good spelled fine c)
 
 open_told : (fid : Fid) → IsFile fid → fid.volume < 2 ^ 32 → open_at (fid_word fid ∷ []) ≡ Ok (acts.Open fid)
 unfolding open_at ended
@@ -154,10 +157,12 @@ open_told fid f lt = rw (fid_again fid [] lt f.vnode f.unique, must_true (is_fil
 close_told : (fid : Fid) (contents : List ℕ) → IsFile fid → fid.volume < 2 ^ 32 → IsContents contents → close_at (fid_word fid ∷ contents_word contents ∷ []) ≡ Ok (acts.Close fid contents)
 unfolding close_at ended
 close_told fid contents f lt c =
-    rw (fid_again fid (contents_word contents ∷ []) lt f.vnode f.unique,
-        contents_at_again 2097152 contents [] c.bytes (let z : length contents ≤ 2097152 = omega (arith, c.size) in z),
-        must_true (is_file_here fid) reasons.Path f.here,
-        must_true (nat_le (length contents) 1024) reasons.Limit (le-leb (length contents) 1024 c.size)) refl
+    rw (
+      fid_again fid (contents_word contents ∷ []) lt f.vnode f.unique,
+      contents_at_again 2097152 contents [] c.bytes (let z : length contents ≤ 2097152 = omega (arith, c.size) in z),
+      must_true (is_file_here fid) reasons.Path f.here,
+      must_true (nat_le (length contents) 1024) reasons.Limit (le-leb (length contents) 1024 c.size),
+    ) refl
 
 here_small : (fid : Fid) → is_file_here fid ≡ true → fid.volume < 2 ^ 32
 here_small fid h = omega (arith, eqb-true fid.volume 536870912 (both (nat_eq fid.volume 536870912) (nat_eq (fid.vnode % 2) 0) h).0)
@@ -190,7 +195,7 @@ do_step : (turn : ℕ) (act : Act) (volume : Option VolumeLine) (tasks : List Ta
 unfolding first_word
 do_step turn act volume tasks filling h =
     line_step (reading turn volume tasks []) (reading 6 volume (tasks ++ task_of act ∷ []) []) (codes "do") words.Do ((99 ∷ decimal 1) ∷ act_words act) refl (omega arith) refl refl
-        (letter_word 99 1 refl (lit< tt), act_are_words act h) filling.going filling.due (act_built act) (do_told act volume tasks h)
+    (letter_word 99 1 refl (lit< tt), act_are_words act h) filling.going filling.due (act_built act) (do_told act volume tasks h)
 
 same_task : (task : Task) → task.node ≡ nodes.Client 1 → task ≡ task_of task.act
 unfolding task_of
@@ -221,11 +226,12 @@ nil_right {A} (x ∷ xs) = ap (λ (l : List A). x ∷ l) (nil_right xs)
 leads_tasks : (more : List Task) (turn : ℕ) (volume : Option VolumeLine) (tasks : List Task) → Filling turn → AreTasks more → Leads (reading turn volume tasks []) (map task_line more) (reading (turn_after turn more) volume (tasks ++ more) [])
 leads_tasks [] turn volume tasks filling h = ap (λ (l : List Task). reading turn volume l []) (sym (nil_right tasks))
 leads_tasks (task ∷ more) turn volume tasks filling h = (
-    reading 6 volume (tasks ++ task ∷ []) [],
-    task_step turn task volume tasks filling h.0.0 h.0.1,
-    leads_to (map task_line more) (reading 6 volume (tasks ++ task ∷ []) []) (reading (turn_after 6 more) volume ((tasks ++ task ∷ []) ++ more) []) (reading 6 volume (tasks ++ task ∷ more) [])
-        (leads_tasks more 6 volume (tasks ++ task ∷ []) (record { due = refl; going = refl }) h.1)
-        (ap (λ (t : ℕ). reading t volume ((tasks ++ task ∷ []) ++ more) []) (six_after more) ∙ ap (λ (l : List Task). reading 6 volume l []) (append_assoc tasks (task ∷ []) more)))
+  reading 6 volume (tasks ++ task ∷ []) [],
+  task_step turn task volume tasks filling h.0.0 h.0.1,
+  leads_to (map task_line more) (reading 6 volume (tasks ++ task ∷ []) []) (reading (turn_after 6 more) volume ((tasks ++ task ∷ []) ++ more) []) (reading 6 volume (tasks ++ task ∷ more) [])
+      (leads_tasks more 6 volume (tasks ++ task ∷ []) (record { due = refl; going = refl }) h.1)
+      (ap (λ (t : ℕ). reading t volume ((tasks ++ task ∷ []) ++ more) []) (six_after more) ∙ ap (λ (l : List Task). reading 6 volume l []) (append_assoc tasks (task ∷ []) more)),
+)
 
 filling_after : (tasks : List Task) (turn : ℕ) → Filling turn → Filling (turn_after turn tasks)
 filling_after [] turn h = h
@@ -264,17 +270,19 @@ leads_events : (more : List Event) (volume : Option VolumeLine) (tasks : List Ta
 leads_events [] volume tasks old h = ap (λ (l : List Event). reading 7 volume tasks l) (sym (nil_right old))
 leads_events (events.Act node ∷ more) volume tasks old h =
     let P : Node → Type 0 = λ n. Step (reading 7 volume tasks old) (spaced (codes "act") (node_word n ∷ [])) (reading 7 volume tasks (old ++ events.Act n ∷ [])) in (
-    reading 7 volume tasks (old ++ events.Act node ∷ []),
-    subst P (sym h.0) (act_step volume tasks old),
-    leads_to (map event_line more) (reading 7 volume tasks (old ++ events.Act node ∷ [])) (reading 7 volume tasks ((old ++ events.Act node ∷ []) ++ more)) (reading 7 volume tasks (old ++ events.Act node ∷ more))
-        (leads_events more volume tasks (old ++ events.Act node ∷ []) h.1)
-        (ap (λ (l : List Event). reading 7 volume tasks l) (append_assoc old (events.Act node ∷ []) more)))
+      reading 7 volume tasks (old ++ events.Act node ∷ []),
+      subst P (sym h.0) (act_step volume tasks old),
+      leads_to (map event_line more) (reading 7 volume tasks (old ++ events.Act node ∷ [])) (reading 7 volume tasks ((old ++ events.Act node ∷ []) ++ more)) (reading 7 volume tasks (old ++ events.Act node ∷ more))
+          (leads_events more volume tasks (old ++ events.Act node ∷ []) h.1)
+          (ap (λ (l : List Event). reading 7 volume tasks l) (append_assoc old (events.Act node ∷ []) more)),
+    )
 leads_events (events.Deliver place ∷ more) volume tasks old h = (
-    reading 7 volume tasks (old ++ events.Deliver place ∷ []),
-    deliver_step place volume tasks old h.0.0 h.0.1 h.0.2,
-    leads_to (map event_line more) (reading 7 volume tasks (old ++ events.Deliver place ∷ [])) (reading 7 volume tasks ((old ++ events.Deliver place ∷ []) ++ more)) (reading 7 volume tasks (old ++ events.Deliver place ∷ more))
-        (leads_events more volume tasks (old ++ events.Deliver place ∷ []) h.1)
-        (ap (λ (l : List Event). reading 7 volume tasks l) (append_assoc old (events.Deliver place ∷ []) more)))
+  reading 7 volume tasks (old ++ events.Deliver place ∷ []),
+  deliver_step place volume tasks old h.0.0 h.0.1 h.0.2,
+  leads_to (map event_line more) (reading 7 volume tasks (old ++ events.Deliver place ∷ [])) (reading 7 volume tasks ((old ++ events.Deliver place ∷ []) ++ more)) (reading 7 volume tasks (old ++ events.Deliver place ∷ more))
+      (leads_events more volume tasks (old ++ events.Deliver place ∷ []) h.1)
+      (ap (λ (l : List Event). reading 7 volume tasks l) (append_assoc old (events.Deliver place ∷ []) more)),
+)
 
 abbrev turn_of : List SetupLine → ℕ
 turn_of [] = 4
@@ -299,9 +307,10 @@ leads_read [] r t number room h few short size = (refl, ap (λ (q : Reading). ok
 leads_read (line ∷ lines) r t number room h few short size =
     let long = length-append line (10 ∷ closed lines) in
     let good = good_line r h.0 (number + 1) room line h.1 (let z : length line < room = omega (arith, long, size) in z) (let z : number + 1 ≤ 200000 = omega (arith, few) in z) short.0 in
-    let others = leads_read lines h.0 t (number + 1) (room - (length line + 1)) h.2 (let z : number + 1 + length lines ≤ 200000 = omega (arith, few) in z) short.1 (let z : length (closed lines) ≤ room - (length line + 1) = omega (arith, long, size) in z) in
-    (both_true (is_part 10 line) (list_all (is_part 10) lines) h.1.one others.0,
-        ap (λ (o : Result Reading Reason). at_line (number + 1) o >>= (λ (q : Reading). lines_read q (number + 1) (room - (length line + 1)) lines)) good ∙ others.1)
+    let others = leads_read lines h.0 t (number + 1) (room - (length line + 1)) h.2 (let z : number + 1 + length lines ≤ 200000 = omega (arith, few) in z) short.1 (let z : length (closed lines) ≤ room - (length line + 1) = omega (arith, long, size) in z) in (
+      both_true (is_part 10 line) (list_all (is_part 10) lines) h.1.one others.0,
+      ap (λ (o : Result Reading Reason). at_line (number + 1) o >>= (λ (q : Reading). lines_read q (number + 1) (room - (length line + 1)) lines)) good ∙ others.1,
+    )
 
 last_told : (volume : Option VolumeLine) (tasks : List Task) (es : List Event) (number room : ℕ) → last_at (reading 8 volume tasks es) number room [] ≡ Ok (script_in (reading 8 volume tasks es))
 unfolding last_at
@@ -319,16 +328,28 @@ made_leads name quota lines tasks es good least most setup chores schedule =
     let second : Reading = record nothing_read { turn = 2; servers = 1 } in
     let third : Reading = reading 3 None [] [] in
     let fourth : Reading = reading (turn_of lines) (Some (laid_volume name quota lines)) [] [] in
-    let turn : ℕ = turn_after (turn_of lines) tasks in
-    (first, cell_step nothing_read refl, (second, servers_step first refl, (third, clients_step second refl,
-    leads_append (flat_map volume_lines (laid_volume name quota lines ∷ [])) (map task_line tasks ++ (schedule_lines (Some es) ++ codes "end" ∷ [])) third fourth (reading 8 (Some (laid_volume name quota lines)) tasks es)
-        (reading 4 (Some (laid_volume name quota [])) [] [], volume_step name quota good least most, leads_append (map (setup_line name) lines) [] (reading 4 (Some (laid_volume name quota [])) [] []) fourth fourth (leads_setup lines name quota good setup) refl)
-        (leads_append (map task_line tasks) (schedule_lines (Some es) ++ codes "end" ∷ []) fourth (reading turn (Some (laid_volume name quota lines)) tasks []) (reading 8 (Some (laid_volume name quota lines)) tasks es)
-            (leads_tasks tasks (turn_of lines) (Some (laid_volume name quota lines)) [] (filling_of lines) chores)
-            (reading 7 (Some (laid_volume name quota lines)) tasks [], schedule_step turn (Some (laid_volume name quota lines)) tasks (filling_after tasks (turn_of lines) (filling_of lines)),
+    let turn : ℕ = turn_after (turn_of lines) tasks in (
+      first,
+      cell_step nothing_read refl,
+      (
+        second,
+        servers_step first refl,
+        (
+          third,
+          clients_step second refl,
+          leads_append (flat_map volume_lines (laid_volume name quota lines ∷ [])) (map task_line tasks ++ (schedule_lines (Some es) ++ codes "end" ∷ [])) third fourth (reading 8 (Some (laid_volume name quota lines)) tasks es)
+              (reading 4 (Some (laid_volume name quota [])) [] [], volume_step name quota good least most, leads_append (map (setup_line name) lines) [] (reading 4 (Some (laid_volume name quota [])) [] []) fourth fourth (leads_setup lines name quota good setup) refl)
+              (leads_append (map task_line tasks) (schedule_lines (Some es) ++ codes "end" ∷ []) fourth (reading turn (Some (laid_volume name quota lines)) tasks []) (reading 8 (Some (laid_volume name quota lines)) tasks es)
+              (leads_tasks tasks (turn_of lines) (Some (laid_volume name quota lines)) [] (filling_of lines) chores) (
+                reading 7 (Some (laid_volume name quota lines)) tasks [],
+                schedule_step turn (Some (laid_volume name quota lines)) tasks (filling_after tasks (turn_of lines) (filling_of lines)),
                 leads_append (map event_line es) (codes "end" ∷ []) (reading 7 (Some (laid_volume name quota lines)) tasks []) (reading 7 (Some (laid_volume name quota lines)) tasks es) (reading 8 (Some (laid_volume name quota lines)) tasks es)
                     (leads_events es (Some (laid_volume name quota lines)) tasks [] schedule)
-                    (reading 8 (Some (laid_volume name quota lines)) tasks es, end_step (Some (laid_volume name quota lines)) tasks es, refl))))))
+                    (reading 8 (Some (laid_volume name quota lines)) tasks es, end_step (Some (laid_volume name quota lines)) tasks es, refl),
+              )),
+        ),
+      ),
+    )
 
 made_read : (name : List ℕ) (quota : ℕ) (lines : List SetupLine) (tasks : List Task) (es : List Event) → volume_name_ok name ≡ true → 1000 ≤ quota → quota ≤ 16384 → AreSetup lines → AreTasks tasks → AreEvents [] es → IsWithinLimits (script_lines (made name quota lines tasks es)) → script_of (script_text (made name quota lines tasks es)) ≡ Ok (made name quota lines tasks es)
 unfolding script_text

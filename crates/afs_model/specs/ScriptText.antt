@@ -1,5 +1,5 @@
 -- Scripts as they are written, and what holds of their reading.
-use Rattle.std.specs.Prelude.{ℕ, Bool, true, false, List, [], ◌∷◌, ◌++◌, ◌+◌, ◌-◌, ◌*◌, ◌/◌, ◌%◌, ◌^◌, ◌<◌, ◌≤◌, ◌≡◌, not, nat_eq, nat_le, length, map, Option, Some, None, Result, Ok, Err, if◌then◌else◌, codes}
+use Rattle.std.specs.Prelude.{ℕ, Bool, true, false, List, [], ◌∷◌, ◌++◌, ◌+◌, ◌-◌, ◌/◌, ◌%◌, ◌^◌, ◌<◌, ◌≤◌, ◌≡◌, not, nat_eq, nat_le, length, map, Option, Some, None, Result, Ok, Err, if◌then◌else◌, codes}
 use Rattle.std.specs.List.{list_all, list_any, flat_map}
 use Rattle.std.specs.Fmt.{decimal}
 use Rattle.afs_num.specs.Names.{is_name_of, name_ok, volume_name_ok}
@@ -16,7 +16,7 @@ use Rattle.afs_num.specs.declared.scripts.SetupLine.TheVariants as setups
 use Rattle.afs_num.specs.declared.scripts.VolumeLine.{VolumeLine}
 use Rattle.afs_num.specs.declared.scripts.Script.{Script}
 use Rattle.afs_num.specs.declared.scripts.Reason.{Reason}
-use Rattle.afs_model.specs.ScriptWords.{◌>>=◌, parts}
+use Rattle.afs_model.specs.ScriptWords.{◌>>=◌}
 use Rattle.afs_model.specs.Script.{Reading, nothing_read, at_line, line_at, last_at, script_of, is_file_here, delivers}
 
 -- no byte of the part is the cut

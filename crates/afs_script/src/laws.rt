@@ -6,17 +6,14 @@ ghost use Rattle.afs_model.specs.ScriptText.{FirstBadLineDecides, LastLineDecide
 /// follows it.
 pub fn first_bad_line_decides()
     ensures { FirstBadLineDecides }
-{
-}
+{}
 
 /// Where lines are good and no newline is behind them, what stands after the last newline decides.
 pub fn last_line_decides()
     ensures { LastLineDecides }
-{
-}
+{}
 
 /// What is written by the grammar of a script, within the limits, is read as that script.
 pub fn spelled_is_read()
     ensures { SpelledIsRead }
-{
-}
+{}
