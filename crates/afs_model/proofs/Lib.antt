@@ -8,3 +8,9 @@ pub mod Answering
 pub mod Law
 pub mod KeysOnce
 pub mod Worked
+pub mod ScriptLines
+pub mod ScriptNumbers
+pub mod ScriptContents
+pub mod ScriptPieces
+pub mod ScriptSpelled
+pub mod ScriptWhole

@@ -12,3 +12,6 @@ pub mod Legal
 pub mod OneServer
 pub mod Once
 pub mod Laws
+pub mod ScriptWords
+pub mod Script
+pub mod ScriptText

@@ -3,8 +3,10 @@
 
 pub mod calls;
 pub mod faults;
+pub mod grammar;
 pub mod histories;
 pub mod messages;
+pub mod names;
 pub mod scripts;
 pub mod sequences;
 pub mod states;
