@@ -4,3 +4,4 @@ pub mod ServerRow
 pub mod ClientRow
 pub mod Runs
 pub mod Acts
+pub mod Text

@@ -8,4 +8,5 @@ pub mod messages;
 pub mod scripts;
 pub mod sequences;
 pub mod states;
+pub mod texts;
 pub mod types;
