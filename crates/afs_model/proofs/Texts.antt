@@ -58,7 +58,6 @@ known_rest : {A : Type 0} (o : Option A) (rest : List ℕ) (r : A × List ℕ) �
 known_rest {A} (Some x) rest r h = let e : (let p : A × List ℕ = (x, rest) in p) ≡ r = cc in sym (ap (λ (p : A × List ℕ). p.1) e)
 known_rest None rest r h = cc
 
-
 half_rest : (bytes : List ℕ) (r : Half × List ℕ) → half_at bytes ≡ Ok r → r.1 ≡ drop 4 bytes
 unfolding half_at
 half_rest bytes r h =

@@ -189,9 +189,12 @@ wire_history_text h = wire_entries_text 1 1 h
 -- ---- the final part
 
 -- what a set-up line names in the volume's root; so far files stand in the root alone
+abbrev pub first_name : List (List ℕ) → List ℕ
+first_name [] = []
+first_name (name ∷ names) = name
+
 abbrev pub root_name : SetupLine → List ℕ
-root_name (File [] contents) = []
-root_name (File (name ∷ names) contents) = name
+root_name (File path contents) = first_name path
 
 abbrev pub comma_before : ℕ → List ℕ
 comma_before k = if nat_eq k 1 then [] else codes ","
