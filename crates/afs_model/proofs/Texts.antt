@@ -1,6 +1,6 @@
 -- An entry with bytes and the entry with the values that they are read as have one text.
-use Rattle.std.proofs.Common.{◌≡◌, ℕ, suc, ◌+◌, List, [], ◌∷◌, ◌++◌, length, drop, refl, ap, sym, ◌∙◌, Result, Ok, Err, Option, Some, None, ℤ, pos, negsuc, Bool, true, false, arith}
-use Rattle.std.specs.Prelude.{nat_lt, take, if◌then◌else◌}
+use Rattle.std.proofs.Common.{◌≡◌, ℕ, suc, ◌+◌, List, [], ◌∷◌, ◌++◌, length, drop, refl, ap, sym, ◌∙◌, Result, Ok, Err, Option, Some, None, ℤ, pos, negsuc, Bool, true, false}
+use Rattle.std.specs.Prelude.{nat_lt, if◌then◌else◌}
 use Rattle.afs_xdr.specs.declared.faults.XdrFault.TheVariants.{Short}
 use Rattle.std.proofs.lemmas.Bool.{eqb-true}
 use Rattle.std.proofs.lemmas.List.{drop-drop}
@@ -16,8 +16,6 @@ use Rattle.afs_num.specs.declared.messages.Message.{Message}
 use Rattle.afs_num.specs.declared.messages.Received.TheVariants.{Nothing, Unknown, Unreadable, Whole}
 use Rattle.afs_xdr.specs.declared.faults.XdrFault.{XdrFault}
 use Rattle.afs_xdr.specs.Words.{◌>>=◌, word_at}
-use Rattle.afs_num.specs.declared.types.Code.{Code}
-use Rattle.afs_num.specs.declared.calls.FsReply.{FsReply}
 use Rattle.afs_num.specs.declared.messages.Received.{Received}
 use Rattle.afs_num.specs.declared.histories.Entry.{Entry as WireEntry}
 use Rattle.afs_num.specs.declared.histories.Line.{Line}
@@ -26,7 +24,7 @@ use Rattle.afs_num.specs.declared.states.StoredFile.{StoredFile}
 use Rattle.afs_xdr.specs.Words.{end_at}
 use Rattle.afs_model.specs.Messages.{head_at, half_at, node_at, known, half_of, signed_at, is_zero, has_row, asked_at, reply_at, answer_at, refusal_at, replied_at, notice_at, heard, behind, behind_head, received, found, meant}
 use Rattle.afs_model.specs.Runs.{Entry, Cell}
-use Rattle.afs_model.specs.Text.{sent_text, route_text, half_text, call_text, code_of, code_read, code_at, message_text, messages_text, parcel_text, parcels_text, step_text, lines_text, entry_text, wire_entry_text, entries_text, wire_entries_text, history_text, wire_history_text, final_text, text, wire_text, Carries, CarryAll}
+use Rattle.afs_model.specs.Text.{sent_text, route_text, half_text, code_of, code_read, code_at, message_text, messages_text, parcel_text, parcels_text, step_text, lines_text, entry_text, wire_entry_text, entries_text, wire_entries_text, history_text, wire_history_text, final_text, text, wire_text, Carries, CarryAll}
 
 -- what is read next was read, where the whole is
 pub record Went {A B : Type 0} (r : Result A XdrFault) (f : A → Result B XdrFault) (x : B) : Type 0 where

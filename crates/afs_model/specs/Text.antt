@@ -1,7 +1,7 @@
 -- The text of a run: what is told of each step, and then what stands at the end.
 -- Every line has one definition below both forms of an entry, that of the rows, whose messages are values, and that of
 -- the nodes, whose messages are bytes.
-use Rattle.std.specs.Prelude.{◌≡◌, ℕ, ◌+◌, ◌*◌, ◌/◌, ◌%◌, ◌&&◌, ◌||◌, ◌==◌, List, [], ◌∷◌, ◌++◌, Bool, true, false, nat_eq, Option, Some, None, Result, Ok, Err, ℤ, pos, codes, drop, length, if◌then◌else◌}
+use Rattle.std.specs.Prelude.{◌≡◌, ℕ, ◌+◌, ◌*◌, ◌/◌, ◌%◌, ◌||◌, List, [], ◌∷◌, ◌++◌, Bool, true, false, nat_eq, Option, Some, None, Result, Ok, Err, ℤ, pos, codes, drop, length, if◌then◌else◌}
 use Rattle.std.specs.List.{flat_map}
 use Rattle.std.specs.Fmt.{decimal, signed_decimal, digit_glyph}
 use Rattle.afs_num.specs.Nodes.{is_between}

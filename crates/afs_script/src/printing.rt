@@ -613,7 +613,9 @@ mod tests {
             b"entry 3 c1\ngiven 2\nread c1 536870912.2.2 1 fetched f:616263ff\nanswer c1 -453\n";
         assert_eq!(rt; read.as_slice(), told.as_slice());
 
-        let stored = print_entry(alloc, &stored_entry(alloc)?, 5, 18446744073709551614)?;
+        let entry = stored_entry(alloc)?;
+        assert_eq!(rt; entry.parcels.len(), 2);
+        let stored = print_entry(alloc, &entry, 5, 18446744073709551614)?;
         let told =
             b"entry 5 s1\nchange s1 c1.1.2 1\nversion 536870912.2.2 2 3 f:\nsent 18446744073709551614 s1 c1 reply 133 1.2 -453\nsent 18446744073709551615 c1 s1 call 133 1.2\n";
         assert_eq!(rt; stored.as_slice(), told.as_slice());

@@ -1,5 +1,5 @@
 -- Fewer bytes than a header's are no word behind it.
-use Rattle.std.proofs.Common.{◌≡◌, ◌<◌, true, length, drop, refl, arith, length-drop}
+use Rattle.std.proofs.Common.{◌≡◌, true, length, drop, refl, arith, length-drop}
 use Rattle.std.proofs.lemmas.Bool.{lt-ltb}
 use Rattle.std.proofs.Math.Dec.{ltb}
 use Rattle.afs_xdr.specs.Words.{word_at}
