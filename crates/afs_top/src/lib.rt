@@ -1,0 +1,5 @@
+//! The program: what it is given, what it gives, and the call that does all of it.
+#![tactic(auto)]
+
+pub mod outside;
+pub mod statuses;
