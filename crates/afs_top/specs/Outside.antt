@@ -55,10 +55,3 @@ Prints IsTextOf (Some input) old new = (text : List ℕ) × IsTextOf input text 
 abbrev pub PrintsFront : (List ℕ → List ℕ → Type 0) → Option (List ℕ) → Option (List ℕ) → Option (List ℕ) → Type 0
 PrintsFront IsTextOf None old new = Unit {0}
 PrintsFront IsTextOf (Some input) old new = (text : List ℕ) × IsTextOf input text × AppendsFront old new text
-
--- ---- in memory
-
--- a source or sink in memory: its bytes, and its count of faults
-pub record Held : Type 0 where
-  pub bytes : List ℕ
-  pub faults : ℕ

@@ -8,6 +8,7 @@ ghost use Rattle.afs_top.specs.Outside.{Rose, HasCause, HadAll, IsLonger, TakesA
 
 use afs_num::sequences::Octets;
 use std::alloc::Global;
+use std::io::{Read, Write};
 
 /// A call to the outside failed.
 #[derive(Clone, Copy, Debug, PartialEq, Eq)]
@@ -84,5 +85,114 @@ fn read_piece<S: Source>(
             Err(_) => Err(ReadError::OutOfMemory),
         },
         Err(Failed) => Err(ReadError::Failed),
+    }
+}
+
+/// All that the source has left. It stops once one byte above the limit was taken.
+pub fn read_all<S: Source>(alloc: Global, source: &mut S, limit: u32) -> Result<Octets, ReadError>
+    ensures all { IfOk result (λ bytes. HadAll (S.left source.old) bytes) }
+    ensures end { OnOk result (IsAtEnd (S.left source.new)) }
+    ensures short { IfOk result (λ bytes. length bytes ≤ limit) }
+    ensures too_long { result ≡ Err ReadError.TooLong → IsLonger limit (S.left source.old) }
+    ensures stops { TakesAtMost (limit + 1) (S.left source.old) (S.left source.new) }
+    ensures kept { S.faults source.old ≤ S.faults source.new }
+    ensures fault { result ≡ Err ReadError.Failed → Rose (S.faults source.old) (S.faults source.new) }
+{
+    let limit = limit as usize;
+    let mut bytes = Vec::new(alloc);
+    while bytes.len() <= limit {
+        let most = limit + 1 - bytes.len();
+        if read_piece(source, &mut bytes, most)? == 0 {
+            return Ok(Octets::from_vec(bytes));
+        }
+    }
+    Err(ReadError::TooLong)
+}
+
+/// Writes all of these bytes and passes them on.
+pub fn write_all<K: Sink>(sink: &mut K, bytes: &[u8]) -> Result<(), Failed>
+    ensures ok { OnOk result (Appends (K.held sink.old) (K.held sink.new) bytes.now) }
+    ensures err { OnErr result (AppendsFront (K.held sink.old) (K.held sink.new) bytes.now) }
+    ensures cause { HasCause (K.faults sink.old) (K.faults sink.new) result }
+{
+    let mut at = 0;
+    while at < bytes.len() {
+        at += sink.write(bytes.split_at(at).1)?;
+    }
+    sink.flush()?;
+    Ok(())
+}
+
+/// The bytes of a reader, as a standard stream.
+#[derive(Drop)]
+pub struct HostSource<R> {
+    inner: R,
+    faults: u64,
+}
+
+impl<R: Read> HostSource<R> {
+    pub fn new(inner: R) -> Self
+        ensures left { ⟦<HostSource<R> as Source>⟧.left result ≡ R.remaining inner }
+        ensures faults { ⟦<HostSource<R> as Source>⟧.faults result ≡ 0 }
+    {
+        HostSource { inner, faults: 0 }
+    }
+}
+
+impl<R: Read> Source for HostSource<R> {
+    ghost left = { λ s. R.remaining s.inner };
+
+    ghost faults = { λ s. s.faults };
+
+    fn read(&mut self, buf: &mut [u8]) -> Result<usize, Failed> {
+        match self.inner.read(buf) {
+            Ok(n) => Ok(n),
+            Err(_) => {
+                self.faults = self.faults.saturating_add(1);
+                Err(Failed)
+            }
+        }
+    }
+}
+
+/// The bytes that a writer takes, as a standard stream.
+#[derive(Drop)]
+pub struct HostSink<W> {
+    inner: W,
+    faults: u64,
+}
+
+impl<W: Write> HostSink<W> {
+    pub fn new(inner: W) -> Self
+        ensures held { ⟦<HostSink<W> as Sink>⟧.held result ≡ W.contents inner }
+        ensures faults { ⟦<HostSink<W> as Sink>⟧.faults result ≡ 0 }
+    {
+        HostSink { inner, faults: 0 }
+    }
+}
+
+impl<W: Write> Sink for HostSink<W> {
+    ghost held = { λ s. W.contents s.inner };
+
+    ghost faults = { λ s. s.faults };
+
+    fn write(&mut self, bytes: &[u8]) -> Result<usize, Failed> {
+        match self.inner.write(bytes) {
+            Ok(n) if n > 0 => Ok(n),
+            Ok(_) | Err(_) => {
+                self.faults = self.faults.saturating_add(1);
+                Err(Failed)
+            }
+        }
+    }
+
+    fn flush(&mut self) -> Result<(), Failed> {
+        match self.inner.flush() {
+            Ok(()) => Ok(()),
+            Err(_) => {
+                self.faults = self.faults.saturating_add(1);
+                Err(Failed)
+            }
+        }
     }
 }

@@ -94,3 +94,42 @@ pub fn form_of(words: &[String]) -> Option<Form>
         _ => None,
     }
 }
+
+#[cfg(test)]
+mod tests {
+    use super::*;
+    use std::test::Fail;
+
+    #[test]
+    fn each_status_has_a_number_and_a_line(rt: HostRuntime) -> Result<(), Fail> {
+        let table = [
+            (Status::Done, 0, ""),
+            (Status::Usage, 2, "usage: afscell replay"),
+            (Status::Script(7, Reason::Node), 3, "script: line 7: Node"),
+            (Status::ReadFault, 4, "read fault"),
+            (Status::WriteFault, 5, "write fault"),
+            (Status::OutOfMemory, 7, "out of memory"),
+        ];
+        for (status, number, line) in table {
+            assert_eq!(rt; status.number(), number);
+            assert_eq!(rt; status.to_string(rt.alloc())?.as_str(), line);
+        }
+        Ok(())
+    }
+
+    #[test]
+    fn replay_is_the_one_form(rt: HostRuntime) -> Result<(), Fail> {
+        let alloc = rt.alloc();
+        let replay = [String::from_str(alloc, "replay")?];
+        assert_eq!(rt; form_of(&replay), Some(Form::Replay));
+        let twice = [
+            String::from_str(alloc, "replay")?,
+            String::from_str(alloc, "replay")?,
+        ];
+        assert_eq!(rt; form_of(&twice), None);
+        assert_eq!(rt; form_of(&[]), None);
+        let other = [String::from_str(alloc, "Replay")?];
+        assert_eq!(rt; form_of(&other), None);
+        Ok(())
+    }
+}
