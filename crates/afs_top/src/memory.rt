@@ -26,6 +26,7 @@ fn is_due(failing: &mut &[u8]) -> bool
 }
 
 /// Bytes in memory. Its nth call fails where the nth byte of its plan is 1.
+#[derive(Drop)]
 pub struct MemSource<'a> {
     left: &'a [u8],
     failing: &'a [u8],

@@ -1,5 +1,5 @@
 -- What was taken before, and at most as much again as the limit leaves.
-use Rattle.std.proofs.Common.{rules, arith}
+use Rattle.std.proofs.Common.{rules}
 use Rattle.afs_top.proofs.Pieces.{takes_more}
 use Rattle.afs_top.proofs.outside.read_all.Goals as goal
 

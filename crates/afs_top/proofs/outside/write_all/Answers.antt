@@ -1,5 +1,5 @@
 -- A piece that was written goes on behind those before it.
-use Rattle.std.proofs.Common.{rules, arith}
+use Rattle.std.proofs.Common.{rules}
 use Rattle.afs_top.proofs.Pieces.{appends_more}
 use Rattle.afs_top.proofs.outside.write_all.Goals as goal
 
