@@ -1,8 +1,10 @@
 -- What passes between the program and the outside. What a source has left and what a sink holds are known only where
 -- these tell them; of the others nothing is said.
-use Rattle.std.specs.Prelude.{◌≡◌, ℕ, ◌+◌, ◌-◌, ◌^◌, ◌<◌, ◌≤◌, min, List, ◌++◌, length, take, Option, Some, None, Result, IfSome, OnErr}
+use Rattle.std.specs.Prelude.{◌≡◌, ℕ, ◌+◌, ◌-◌, ◌^◌, ◌<◌, ◌≤◌, min, List, ◌++◌, length, take, Option, Some, None, Result, Ok, Err, IfSome, OnErr}
 use Rattle.std.specs.Io.KnownBytes.{Appends, Consumes, IsAtEnd}
 use Rattle.afs_top.specs.declared.outside.Failed.{Failed}
+use Rattle.afs_top.specs.declared.outside.ReadError.{ReadError}
+use Rattle.afs_top.specs.declared.outside.ReadError.TheVariants.{TooLong, OutOfMemory, Failed as ReadFailed}
 
 -- the count of faults rose; one that stands at the end of its type counts as risen
 abbrev pub Rose : ℕ → ℕ → Type 0
@@ -20,8 +22,18 @@ abbrev pub HadAll : Option (List ℕ) → List ℕ → Type 0
 HadAll None bytes = Unit {0}
 HadAll (Some left) bytes = left ≡ bytes
 
-abbrev pub IsLonger : ℕ → Option (List ℕ) → Type 0
-IsLonger limit left = IfSome left (λ bytes. limit < length bytes)
+-- more bytes than the limit were taken, by one, and the source goes on behind them
+pub record TakesTooMuch (limit : ℕ) (old new : Option (List ℕ)) (bytes : List ℕ) : Type 0 where
+  pub size : length bytes ≡ limit + 1
+  pub consumed : Consumes old new bytes
+  pub longer : IfSome old (λ left. limit < length left)
+
+-- what is said of bytes that are too many
+abbrev pub IfTooLong : {T : Type 0} → Result T ReadError → (List ℕ → Type 0) → Type 0
+IfTooLong (Err (TooLong bytes)) P = P bytes
+IfTooLong (Err ReadFailed) P = Unit {0}
+IfTooLong (Err OutOfMemory) P = Unit {0}
+IfTooLong (Ok x) P = Unit {0}
 
 -- at most so many bytes were taken from the source
 pub record TakesAtMost (most : ℕ) (old new : Option (List ℕ)) : Type 0 where

@@ -4,7 +4,7 @@
 ghost use Rattle.std.specs.Prelude.{◌≡◌, ◌≢◌, ◌+◌, ◌<◌, ◌≤◌, Err, length, IfOk, OnOk, OnErr, Option, List, ℕ};
 ghost use Rattle.std.specs.Io.{ReadsAtMost, WritesAtMost};
 ghost use Rattle.std.specs.Io.KnownBytes.{Appends, IsAtEnd, Keeps, ReadConsumes, WriteAppends};
-ghost use Rattle.afs_top.specs.Outside.{Rose, HasCause, HadAll, IsLonger, TakesAtMost, TakesPiece, AppendsFront};
+ghost use Rattle.afs_top.specs.Outside.{Rose, HasCause, HadAll, IfTooLong, TakesTooMuch, TakesAtMost, TakesPiece, AppendsFront};
 
 use afs_num::sequences::Octets;
 use std::alloc::Global;
@@ -53,11 +53,11 @@ pub trait Sink {
 }
 
 /// Why a source was not read to its end.
-#[derive(Clone, Copy, Debug, PartialEq, Eq)]
+#[derive(Debug, Drop)]
 pub enum ReadError {
     Failed,
-    /// It has more bytes than the limit.
-    TooLong,
+    /// It has more bytes than the limit. These are as many as the limit and one more.
+    TooLong(Octets),
     OutOfMemory,
 }
 
@@ -75,7 +75,7 @@ fn read_piece<S: Source>(
     ensures stops { TakesAtMost most (S.left source.old) (S.left source.new) }
     ensures kept { S.faults source.old ≤ S.faults source.new }
     ensures fault { result ≡ Err ReadError.Failed → Rose (S.faults source.old) (S.faults source.new) }
-    ensures never_too_long { result ≢ Err ReadError.TooLong }
+    ensures never_too_long { IfTooLong result (λ _. ⊥) }
 {
     let mut buffer = [0; PIECE];
     let room = most.min(PIECE);
@@ -93,7 +93,7 @@ pub fn read_all<S: Source>(alloc: Global, source: &mut S, limit: u32) -> Result<
     ensures all { IfOk result (λ bytes. HadAll (S.left source.old) bytes) }
     ensures end { OnOk result (IsAtEnd (S.left source.new)) }
     ensures short { IfOk result (λ bytes. length bytes ≤ limit) }
-    ensures too_long { result ≡ Err ReadError.TooLong → IsLonger limit (S.left source.old) }
+    ensures too_long { IfTooLong result (λ bytes. TakesTooMuch limit (S.left source.old) (S.left source.new) bytes) }
     ensures stops { TakesAtMost (limit + 1) (S.left source.old) (S.left source.new) }
     ensures kept { S.faults source.old ≤ S.faults source.new }
     ensures fault { result ≡ Err ReadError.Failed → Rose (S.faults source.old) (S.faults source.new) }
@@ -106,7 +106,7 @@ pub fn read_all<S: Source>(alloc: Global, source: &mut S, limit: u32) -> Result<
             return Ok(Octets::from_vec(bytes));
         }
     }
-    Err(ReadError::TooLong)
+    Err(ReadError::TooLong(Octets::from_vec(bytes)))
 }
 
 /// Writes all of these bytes and passes them on.
