@@ -50,6 +50,11 @@ pub record TakesPiece (most n : ℕ) (old new : Option (List ℕ)) (before after
   pub consumed : Consumes old new piece
   pub end : n ≡ 0 → IsAtEnd new
 
+-- the source told what it had left, and this holds of it
+abbrev pub Gives : (List ℕ → Type 0) → Option (List ℕ) → Type 0
+Gives P None = ⊥
+Gives P (Some left) = P left
+
 -- ---- a sink
 
 -- a beginning of these bytes was appended

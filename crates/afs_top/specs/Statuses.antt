@@ -1,5 +1,5 @@
 -- What a status is to the system and to a reader.
-use Rattle.std.specs.Prelude.{ℕ, List, ◌++◌, codes, []}
+use Rattle.std.specs.Prelude.{ℕ, List, ◌++◌, codes, [], Option, Some, None}
 use Rattle.std.specs.Fmt.{decimal}
 use Rattle.afs_num.specs.declared.scripts.Reason.{Reason}
 use Rattle.afs_num.specs.declared.scripts.Reason.TheVariants as reasons
@@ -34,3 +34,9 @@ status_text (statuses.Script line reason) = codes "script: line " ++ (decimal li
 status_text statuses.ReadFault = codes "read fault"
 status_text statuses.WriteFault = codes "write fault"
 status_text statuses.OutOfMemory = codes "out of memory"
+
+-- where the source told what it had, a script is refused by a line and a reason of that input
+abbrev pub Refuses : (ℕ → Reason → List ℕ → Type 0) → Status → Option (List ℕ) → Type 0
+Refuses IsBad (statuses.Script line reason) (Some input) = IsBad line reason input
+Refuses IsBad (statuses.Script line reason) None = Unit {0}
+Refuses IsBad status left = Unit {0}
