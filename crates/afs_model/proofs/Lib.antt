@@ -14,3 +14,4 @@ pub mod ScriptContents
 pub mod ScriptPieces
 pub mod ScriptSpelled
 pub mod ScriptWhole
+pub mod Texts

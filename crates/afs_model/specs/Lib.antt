@@ -15,3 +15,4 @@ pub mod Laws
 pub mod ScriptWords
 pub mod Script
 pub mod ScriptText
+pub mod Text

@@ -1,3 +1,4 @@
 pub mod Nodes
 pub mod Fids
 pub mod Names
+pub mod Texts

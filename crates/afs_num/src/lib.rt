@@ -10,4 +10,5 @@ pub mod names;
 pub mod scripts;
 pub mod sequences;
 pub mod states;
+pub mod texts;
 pub mod types;

@@ -1,0 +1,284 @@
+-- An entry with bytes and the entry with the values that they are read as have one text.
+use Rattle.std.proofs.Common.{◌≡◌, ℕ, suc, ◌+◌, List, [], ◌∷◌, ◌++◌, length, drop, refl, ap, sym, ◌∙◌, Result, Ok, Err, Option, Some, None, ℤ, pos, negsuc, Bool, true, false}
+use Rattle.std.specs.Prelude.{nat_lt, if◌then◌else◌}
+use Rattle.afs_xdr.specs.declared.faults.XdrFault.TheVariants.{Short}
+use Rattle.std.proofs.lemmas.Bool.{eqb-true}
+use Rattle.std.proofs.lemmas.List.{drop-drop}
+use Rattle.afs_num.specs.Nodes.{node_of}
+use Rattle.afs_num.specs.declared.types.Half.{Half}
+use Rattle.afs_num.specs.declared.types.Half.TheVariants as halves
+use Rattle.afs_num.specs.declared.types.Node.{Node}
+use Rattle.afs_num.specs.declared.types.Head.{Head}
+use Rattle.afs_num.specs.declared.types.Parcel.{Parcel}
+use Rattle.afs_num.specs.declared.messages.Carried.{Carried}
+use Rattle.afs_num.specs.declared.messages.Carried.TheVariants as carried
+use Rattle.afs_num.specs.declared.messages.Message.{Message}
+use Rattle.afs_num.specs.declared.messages.Received.TheVariants.{Nothing, Unknown, Unreadable, Whole}
+use Rattle.afs_xdr.specs.declared.faults.XdrFault.{XdrFault}
+use Rattle.afs_xdr.specs.Words.{◌>>=◌, word_at}
+use Rattle.afs_num.specs.declared.messages.Received.{Received}
+use Rattle.afs_num.specs.declared.histories.Entry.{Entry as WireEntry}
+use Rattle.afs_num.specs.declared.histories.Line.{Line}
+use Rattle.afs_num.specs.declared.scripts.Script.{Script}
+use Rattle.afs_num.specs.declared.states.StoredFile.{StoredFile}
+use Rattle.afs_xdr.specs.Words.{end_at}
+use Rattle.afs_model.specs.Messages.{head_at, half_at, node_at, known, half_of, signed_at, is_zero, has_row, asked_at, reply_at, answer_at, refusal_at, replied_at, notice_at, heard, behind, behind_head, received, found, meant}
+use Rattle.afs_model.specs.Runs.{Entry, Cell}
+use Rattle.afs_model.specs.Text.{sent_text, route_text, half_text, code_of, code_read, code_at, message_text, messages_text, parcel_text, parcels_text, step_text, lines_text, entry_text, wire_entry_text, entries_text, wire_entries_text, history_text, wire_history_text, final_text, text, wire_text, Carries, CarryAll}
+
+-- what is read next was read, where the whole is
+pub record Went {A B : Type 0} (r : Result A XdrFault) (f : A → Result B XdrFault) (x : B) : Type 0 where
+  pub mid : A
+  pub first : r ≡ Ok mid
+  pub next : f mid ≡ Ok x
+
+pub went : {A B : Type 0} (r : Result A XdrFault) (f : A → Result B XdrFault) (x : B) → r >>= f ≡ Ok x → Went r f x
+went (Ok y) f x h = record { mid = y; first = refl; next = h }
+went (Err e) f x h = cc
+
+if_ok : {A : Type 0} (b : Bool) (x r : A) (e : XdrFault) → (let v : Result A XdrFault = (if b then Err e else Ok x) in v) ≡ Ok r → r ≡ x
+if_ok true x r e h = cc
+if_ok false x r e h = cc
+
+-- what was read is that
+ok_is : {A : Type 0} {x y : A} → (let v : Result A XdrFault = Ok x in v) ≡ Ok y → x ≡ y
+ok_is h = cc
+
+whole_is : {x y : Message} → Whole x ≡ Whole y → x ≡ y
+whole_is h = cc
+
+word_rest : (k : ℕ) (whole bytes : List ℕ) (r : ℕ × List ℕ) → bytes ≡ drop k whole → word_at bytes ≡ Ok r → r.1 ≡ drop (k + 4) whole
+unfolding word_at
+word_rest k whole bytes r at h =
+    ap (λ (p : ℕ × List ℕ). p.1) (if_ok (nat_lt (length bytes) 4) _ r Short h) ∙ (ap (drop 4) at ∙ drop-drop 4 k whole)
+
+known_rest : {A : Type 0} (o : Option A) (rest : List ℕ) (r : A × List ℕ) → known o rest ≡ Ok r → r.1 ≡ rest
+known_rest {A} (Some x) rest r h = let e : (let p : A × List ℕ = (x, rest) in p) ≡ r = cc in sym (ap (λ (p : A × List ℕ). p.1) e)
+known_rest None rest r h = cc
+
+half_rest : (bytes : List ℕ) (r : Half × List ℕ) → half_at bytes ≡ Ok r → r.1 ≡ drop 4 bytes
+unfolding half_at
+half_rest bytes r h =
+    let w = went (word_at bytes) (λ n. known (half_of n.0) n.1) r h in
+    known_rest (half_of w.mid.0) w.mid.1 r w.next ∙ word_rest 0 bytes bytes w.mid refl w.first
+
+node_rest : (k : ℕ) (whole bytes : List ℕ) (r : Node × List ℕ) → bytes ≡ drop k whole → node_at bytes ≡ Ok r → r.1 ≡ drop (k + 4) whole
+unfolding node_at
+node_rest k whole bytes r at h =
+    let w = went (word_at bytes) (λ n. known (node_of n.0) n.1) r h in
+    known_rest (node_of w.mid.0) w.mid.1 r w.next ∙ word_rest k whole bytes w.mid at w.first
+
+-- a header, field by field
+
+abbrev Headed : Type 0
+Headed = Result (Head × List ℕ) XdrFault
+
+abbrev with_opcode : Half → Node → Node → ℕ → ℕ → ℕ → ℕ → ℕ × List ℕ → Headed
+with_opcode half from to epoch number boot stamp opcode =
+    Ok (record { half = half; from = from; to = to; epoch = epoch; number = number; boot = boot; stamp = stamp; opcode = opcode.0 }, opcode.1)
+
+abbrev with_stamp : Half → Node → Node → ℕ → ℕ → ℕ → ℕ × List ℕ → Headed
+with_stamp half from to epoch number boot stamp = word_at stamp.1 >>= with_opcode half from to epoch number boot stamp.0
+
+abbrev with_boot : Half → Node → Node → ℕ → ℕ → ℕ × List ℕ → Headed
+with_boot half from to epoch number boot = word_at boot.1 >>= with_stamp half from to epoch number boot.0
+
+abbrev with_number : Half → Node → Node → ℕ → ℕ × List ℕ → Headed
+with_number half from to epoch number = word_at number.1 >>= with_boot half from to epoch number.0
+
+abbrev with_epoch : Half → Node → Node → ℕ × List ℕ → Headed
+with_epoch half from to epoch = word_at epoch.1 >>= with_number half from to epoch.0
+
+abbrev with_to : Half → Node → Node × List ℕ → Headed
+with_to half from to = word_at to.1 >>= with_epoch half from to.0
+
+abbrev with_from : Half → Node × List ℕ → Headed
+with_from half from = node_at from.1 >>= with_to half from.0
+
+abbrev with_half : Half × List ℕ → Headed
+with_half half = node_at half.1 >>= with_from half.0
+
+-- a header takes 32 bytes: each field goes on behind the one before
+
+opcode_end : (bytes : List ℕ) (half : Half) (from : Node) (to : Node) (epoch : ℕ) (number : ℕ) (boot : ℕ) (stamp : ℕ) (opcode : ℕ × List ℕ) (r : Head × List ℕ) → opcode.1 ≡ drop 32 bytes → with_opcode half from to epoch number boot stamp opcode ≡ Ok r → r.1 ≡ drop 32 bytes
+opcode_end bytes half from to epoch number boot stamp opcode r at h =
+    let whole : Head × List ℕ = (record { half = half; from = from; to = to; epoch = epoch; number = number; boot = boot; stamp = stamp; opcode = opcode.0 }, opcode.1) in
+    let e : whole ≡ r = cc in
+    sym (ap (λ (p : Head × List ℕ). p.1) e) ∙ at
+
+stamp_end : (bytes : List ℕ) (half : Half) (from : Node) (to : Node) (epoch : ℕ) (number : ℕ) (boot : ℕ) (stamp : ℕ × List ℕ) (r : Head × List ℕ) → stamp.1 ≡ drop 28 bytes → with_stamp half from to epoch number boot stamp ≡ Ok r → r.1 ≡ drop 32 bytes
+stamp_end bytes half from to epoch number boot stamp r at h =
+    let w = went (word_at stamp.1) (with_opcode half from to epoch number boot stamp.0) r h in
+    opcode_end bytes half from to epoch number boot stamp.0 w.mid r (word_rest 28 bytes stamp.1 w.mid at w.first) w.next
+
+boot_end : (bytes : List ℕ) (half : Half) (from : Node) (to : Node) (epoch : ℕ) (number : ℕ) (boot : ℕ × List ℕ) (r : Head × List ℕ) → boot.1 ≡ drop 24 bytes → with_boot half from to epoch number boot ≡ Ok r → r.1 ≡ drop 32 bytes
+boot_end bytes half from to epoch number boot r at h =
+    let w = went (word_at boot.1) (with_stamp half from to epoch number boot.0) r h in
+    stamp_end bytes half from to epoch number boot.0 w.mid r (word_rest 24 bytes boot.1 w.mid at w.first) w.next
+
+number_end : (bytes : List ℕ) (half : Half) (from : Node) (to : Node) (epoch : ℕ) (number : ℕ × List ℕ) (r : Head × List ℕ) → number.1 ≡ drop 20 bytes → with_number half from to epoch number ≡ Ok r → r.1 ≡ drop 32 bytes
+number_end bytes half from to epoch number r at h =
+    let w = went (word_at number.1) (with_boot half from to epoch number.0) r h in
+    boot_end bytes half from to epoch number.0 w.mid r (word_rest 20 bytes number.1 w.mid at w.first) w.next
+
+epoch_end : (bytes : List ℕ) (half : Half) (from : Node) (to : Node) (epoch : ℕ × List ℕ) (r : Head × List ℕ) → epoch.1 ≡ drop 16 bytes → with_epoch half from to epoch ≡ Ok r → r.1 ≡ drop 32 bytes
+epoch_end bytes half from to epoch r at h =
+    let w = went (word_at epoch.1) (with_number half from to epoch.0) r h in
+    number_end bytes half from to epoch.0 w.mid r (word_rest 16 bytes epoch.1 w.mid at w.first) w.next
+
+to_end : (bytes : List ℕ) (half : Half) (from : Node) (to : Node × List ℕ) (r : Head × List ℕ) → to.1 ≡ drop 12 bytes → with_to half from to ≡ Ok r → r.1 ≡ drop 32 bytes
+to_end bytes half from to r at h =
+    let w = went (word_at to.1) (with_epoch half from to.0) r h in
+    epoch_end bytes half from to.0 w.mid r (word_rest 12 bytes to.1 w.mid at w.first) w.next
+
+from_end : (bytes : List ℕ) (half : Half) (from : Node × List ℕ) (r : Head × List ℕ) → from.1 ≡ drop 8 bytes → with_from half from ≡ Ok r → r.1 ≡ drop 32 bytes
+from_end bytes half from r at h =
+    let w = went (node_at from.1) (with_to half from.0) r h in
+    to_end bytes half from.0 w.mid r (node_rest 8 bytes from.1 w.mid at w.first) w.next
+
+half_end : (bytes : List ℕ) (half : Half × List ℕ) (r : Head × List ℕ) → half.1 ≡ drop 4 bytes → with_half half ≡ Ok r → r.1 ≡ drop 32 bytes
+half_end bytes half r at h =
+    let w = went (node_at half.1) (with_from half.0) r h in
+    from_end bytes half.0 w.mid r (node_rest 4 bytes half.1 w.mid at w.first) w.next
+
+pub head_rest : (bytes : List ℕ) (r : Head × List ℕ) → head_at bytes ≡ Ok r → r.1 ≡ drop 32 bytes
+unfolding head_at
+head_rest bytes r h =
+    let w = went (half_at bytes) with_half r h in
+    half_end bytes w.mid r (half_rest bytes w.mid w.first) w.next
+
+-- ---- the code of a reply
+
+is_pos_zero : (z : ℤ) → is_zero z ≡ true → z ≡ pos 0
+is_pos_zero (pos n) h = ap pos (eqb-true n 0 h)
+is_pos_zero (negsuc n) h = cc
+
+refusal_code : (code : ℤ) (bytes : List ℕ) (c : Carried) → refusal_at code bytes ≡ Ok c → code_of c ≡ code
+unfolding refusal_at
+refusal_code code bytes c h =
+    let w = went (end_at bytes) (λ u. Ok (carried.Refusal (record { 0 = code }))) c h in
+    let e : (let v : Carried = carried.Refusal (record { 0 = code }) in v) ≡ c = ok_is w.next in
+    sym (ap code_of e)
+
+answer_code : (opcode : ℕ) (bytes : List ℕ) (c : Carried) → answer_at opcode bytes ≡ Ok c → code_of c ≡ pos 0
+unfolding answer_at
+answer_code opcode bytes c h =
+    let w = went (reply_at opcode bytes) (λ r. Ok (carried.Reply r)) c h in
+    sym (ap code_of (ok_is w.next))
+
+code_by : (opcode : ℕ) (code : ℤ) (rest : List ℕ) (c : Carried) (b : Bool) → is_zero code ≡ b → (if b then answer_at opcode rest else refusal_at code rest) ≡ Ok c → code ≡ code_of c
+code_by opcode code rest c true z h = is_pos_zero code z ∙ sym (answer_code opcode rest c h)
+code_by opcode code rest c false z h = sym (refusal_code code rest c h)
+
+replied_code : (opcode : ℕ) (bytes : List ℕ) (c : Carried) → replied_at opcode bytes ≡ Ok c → code_read (signed_at bytes) ≡ code_of c
+unfolding replied_at
+replied_code opcode bytes c h =
+    let w = went (signed_at bytes) (λ code. if is_zero code.0 then answer_at opcode code.1 else refusal_at code.0 code.1) c h in
+    ap code_read w.first ∙ code_by opcode w.mid.0 w.mid.1 c (is_zero w.mid.0) refl w.next
+
+heard_code : (head : Head) (bytes : List ℕ) (m : Message) (o : Result Carried XdrFault) → replied_at head.opcode bytes ≡ o → heard Nothing head o ≡ Whole m → code_read (signed_at bytes) ≡ code_of m.carried
+heard_code head bytes m (Ok c) r h = replied_code head.opcode bytes c r ∙ ap code_of (ap (λ (n : Message). n.carried) (whole_is h))
+heard_code head bytes m (Err e) r h = cc
+
+-- what isn't a reply is found as something else
+called_half : (head : Head) (m : Message) (b : Bool) (o : Result Carried XdrFault) → (if b then heard (Unreadable head) head o else Unknown head) ≡ Whole m → head ≡ m.head
+called_half head m true (Ok c) h = ap (λ (n : Message). n.head) (whole_is h)
+called_half head m true (Err e) h = cc
+called_half head m false o h = cc
+
+noticed_half : (head : Head) (m : Message) (o : Result Carried XdrFault) → heard Nothing head o ≡ Whole m → head ≡ m.head
+noticed_half head m (Ok c) h = ap (λ (n : Message). n.head) (whole_is h)
+noticed_half head m (Err e) h = cc
+
+behind_code : (head : Head) (half : Half) (rest : List ℕ) (m : Message) → head.half ≡ half → m.head.half ≡ halves.Reply → behind head half rest ≡ Whole m → code_read (signed_at rest) ≡ code_of m.carried
+behind_code head halves.Call rest m is reply h =
+    let e : halves.Call ≡ halves.Reply = sym is ∙ (ap (λ (x : Head). x.half) (called_half head m (has_row head.opcode) (asked_at head.opcode rest) h) ∙ reply) in
+    cc
+behind_code head halves.Reply rest m is reply h = heard_code head rest m (replied_at head.opcode rest) refl h
+behind_code head halves.Boot rest m is reply h =
+    let e : halves.Boot ≡ halves.Reply = sym is ∙ (ap (λ (x : Head). x.half) (noticed_half head m (notice_at rest) h) ∙ reply) in
+    cc
+
+found_code : (bytes : List ℕ) (m : Message) (o : Result (Head × List ℕ) XdrFault) → head_at bytes ≡ o → m.head.half ≡ halves.Reply → behind_head o ≡ Whole m → code_at bytes ≡ code_of m.carried
+unfolding code_at
+found_code bytes m (Ok h) at reply w =
+    ap (λ (rest : List ℕ). code_read (signed_at rest)) (sym (head_rest bytes h at)) ∙ behind_code h.0 h.0.half h.1 m refl reply w
+found_code bytes m (Err e) at reply w = cc
+
+-- the code of a reply stands in its bytes
+pub reply_code : (bytes : List ℕ) (m : Message) → m.head.half ≡ halves.Reply → received bytes ≡ Whole m → code_at bytes ≡ code_of m.carried
+unfolding received
+reply_code bytes m reply w = found_code bytes m (head_at bytes) refl reply w
+
+-- ---- messages
+
+half_same : (half : Half) (h : Head) (a b : ℤ) → (half ≡ halves.Reply → a ≡ b) → half_text half h a ≡ half_text half h b
+unfolding half_text
+half_same halves.Call h a b same = refl
+half_same halves.Reply h a b same = ap (λ (z : ℤ). half_text halves.Reply h z) (same refl)
+half_same halves.Boot h a b same = refl
+
+sent_same : (place : ℕ) (h : Head) (a b : ℤ) → (h.half ≡ halves.Reply → a ≡ b) → sent_text place h a ≡ sent_text place h b
+unfolding sent_text
+sent_same place h a b same = ap (λ (t : List ℕ). route_text place h ++ t) (half_same h.half h a b same)
+
+-- the bytes of a message are read as it
+pub parcel_same : (place : ℕ) (p : Parcel) (m : Message) → p.head ≡ m.head → received p.bytes ≡ Whole m → parcel_text place p ≡ message_text place m
+unfolding parcel_text message_text
+parcel_same place p m head bytes =
+    ap (λ (h : Head). sent_text place h (code_at p.bytes)) head
+    ∙ sent_same place m.head (code_at p.bytes) (code_of m.carried) (λ reply. reply_code p.bytes m reply bytes)
+
+Found : Type 0
+Found = Head × Received
+
+first_is : {A : Type 0} {x y : A} {xs ys : List A} → x ∷ xs ≡ y ∷ ys → x ≡ y
+first_is h = cc
+
+others_are : {A : Type 0} {x y : A} {xs ys : List A} → x ∷ xs ≡ y ∷ ys → xs ≡ ys
+others_are h = cc
+
+pub parcels_same : (place : ℕ) (ps : List Parcel) (ms : List Message) → found ps ≡ meant ms → parcels_text place ps ≡ messages_text place ms
+parcels_same place [] [] h = refl
+parcels_same place [] (m ∷ ms) h = cc
+parcels_same place (p ∷ ps) [] h = cc
+parcels_same place (p ∷ ps) (m ∷ ms) h =
+    let e = first_is h in
+    let one = parcel_same place p m (ap (λ (x : Head × Received). x.0) e) (ap (λ (x : Head × Received). x.1) e) in
+    let more = parcels_same (place + 1) ps ms (others_are h) in
+    ap (λ (t : List ℕ). t ++ parcels_text (place + 1) ps) one ∙ ap (λ (t : List ℕ). message_text place m ++ t) more
+
+pub parcels_length : (ps : List Parcel) (ms : List Message) → found ps ≡ meant ms → length ps ≡ length ms
+parcels_length [] [] h = refl
+parcels_length [] (m ∷ ms) h = cc
+parcels_length (p ∷ ps) [] h = cc
+parcels_length (p ∷ ps) (m ∷ ms) h = ap (λ (n : ℕ). suc n) (parcels_length ps ms (others_are h))
+
+-- ---- entries
+
+pub entry_same : (number place : ℕ) (w : WireEntry) (e : Entry) → Carries w e → wire_entry_text number place w ≡ entry_text number place e
+unfolding wire_entry_text entry_text
+entry_same number place w e c =
+    ap (λ (n : Option Node). step_text number n ++ (lines_text w.lines ++ parcels_text place w.parcels)) c.node
+    ∙ (ap (λ (ls : List Line). step_text number e.node ++ (lines_text ls ++ parcels_text place w.parcels)) c.lines
+    ∙ ap (λ (t : List ℕ). step_text number e.node ++ (lines_text e.lines ++ t)) (parcels_same place w.parcels e.sent c.sent))
+
+pub entries_same : (number place : ℕ) (ws : List WireEntry) (es : List Entry) → CarryAll ws es → wire_entries_text number place ws ≡ entries_text number place es
+entries_same number place [] [] c = refl
+entries_same number place [] (e ∷ es) c = absurd c
+entries_same number place (w ∷ ws) [] c = absurd c
+entries_same number place (w ∷ ws) (e ∷ es) c =
+    let one = entry_same number place w e c.0 in
+    let at = ap (λ (n : ℕ). wire_entry_text number place w ++ wire_entries_text (number + 1) (place + n) ws) (parcels_length w.parcels e.sent c.0.sent) in
+    let more = entries_same (number + 1) (place + length e.sent) ws es c.1 in
+    at ∙ (ap (λ (t : List ℕ). t ++ wire_entries_text (number + 1) (place + length e.sent) ws) one ∙ ap (λ (t : List ℕ). entry_text number place e ++ t) more)
+
+pub history_same : (ws : List WireEntry) (es : List Entry) → CarryAll ws es → wire_history_text ws ≡ history_text es
+unfolding wire_history_text history_text
+history_same ws es c = entries_same 1 1 ws es c
+
+-- the whole text: the entries carry those of the history, and the files are the server's at the end
+pub text_same : (s : Script) (ws : List WireEntry) (files : List StoredFile) (es : List Entry) (end : Cell) → CarryAll ws es → files ≡ end.server.files → wire_text s ws files ≡ text s es end
+unfolding wire_text text
+text_same s ws files es end c f =
+    ap (λ (t : List ℕ). t ++ final_text s files) (history_same ws es c) ∙ ap (λ (fs : List StoredFile). history_text es ++ final_text s fs) f

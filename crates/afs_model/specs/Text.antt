@@ -1,0 +1,257 @@
+-- The text of a run: what is told of each step, and then what stands at the end.
+-- Every line has one definition below both forms of an entry, that of the rows, whose messages are values, and that of
+-- the nodes, whose messages are bytes.
+use Rattle.std.specs.Prelude.{◌≡◌, ℕ, ◌+◌, ◌*◌, ◌/◌, ◌%◌, ◌||◌, List, [], ◌∷◌, ◌++◌, Bool, true, false, nat_eq, Option, Some, None, Result, Ok, Err, ℤ, pos, codes, drop, length, if◌then◌else◌}
+use Rattle.std.specs.List.{flat_map}
+use Rattle.std.specs.Fmt.{decimal, signed_decimal, digit_glyph}
+use Rattle.afs_num.specs.Nodes.{is_between}
+use Rattle.afs_num.specs.Texts.{node_text, fid_text, key_text}
+use Rattle.afs_num.specs.declared.types.Code.{Code}
+use Rattle.afs_num.specs.declared.types.Fid.{Fid}
+use Rattle.afs_num.specs.declared.types.Half.{Half}
+use Rattle.afs_num.specs.declared.types.Half.TheVariants as halves
+use Rattle.afs_num.specs.declared.types.Head.{Head}
+use Rattle.afs_num.specs.declared.types.Key.{Key}
+use Rattle.afs_num.specs.declared.types.Node.{Node}
+use Rattle.afs_num.specs.declared.types.Parcel.{Parcel}
+use Rattle.afs_num.specs.declared.messages.Carried.{Carried}
+use Rattle.afs_num.specs.declared.messages.Carried.TheVariants as carried
+use Rattle.afs_num.specs.declared.messages.Message.{Message}
+use Rattle.afs_num.specs.declared.scripts.Act.{Act}
+use Rattle.afs_num.specs.declared.scripts.Act.TheVariants.{Open, Close}
+use Rattle.afs_num.specs.declared.scripts.Script.{Script}
+use Rattle.afs_num.specs.declared.scripts.SetupLine.{SetupLine}
+use Rattle.afs_num.specs.declared.scripts.SetupLine.TheVariants.{File}
+use Rattle.afs_num.specs.declared.scripts.VolumeLine.{VolumeLine}
+use Rattle.afs_num.specs.declared.histories.Body.{Body}
+use Rattle.afs_num.specs.declared.histories.Body.TheVariants as bodies
+use Rattle.afs_num.specs.declared.histories.Entry.{Entry as WireEntry}
+use Rattle.afs_num.specs.declared.histories.Line.{Line}
+use Rattle.afs_num.specs.declared.histories.Line.TheVariants as lines
+use Rattle.afs_num.specs.declared.histories.ReadSource.{ReadSource}
+use Rattle.afs_num.specs.declared.histories.ReadSource.TheVariants.{Cached, Fetched}
+use Rattle.afs_num.specs.declared.histories.Version.{Version}
+use Rattle.afs_num.specs.declared.states.StoredFile.{StoredFile}
+use Rattle.afs_xdr.specs.declared.faults.XdrFault.{XdrFault}
+use Rattle.afs_model.specs.Messages.{signed_at, found, meant}
+use Rattle.afs_model.specs.Runs.{Entry, Cell}
+
+-- ---- bytes
+
+-- a byte as two lower-case hexadecimal digits
+abbrev pub hex_byte : ℕ → List ℕ
+hex_byte b = digit_glyph false (b / 16) ∷ digit_glyph false (b % 16) ∷ []
+
+unfoldable pub hex_text : List ℕ → List ℕ
+hex_text bytes = flat_map hex_byte bytes
+
+-- a letter, a digit, `.`, `_` or `-`
+abbrev pub is_plain : ℕ → Bool
+is_plain b = is_between 97 122 b || (is_between 65 90 b || (is_between 48 57 b || (nat_eq b 46 || (nat_eq b 95 || nat_eq b 45))))
+
+-- any other byte of a name is `%` and two upper-case hexadecimal digits
+abbrev pub name_byte : ℕ → List ℕ
+name_byte b = if is_plain b then b ∷ [] else 37 ∷ digit_glyph true (b / 16) ∷ digit_glyph true (b % 16) ∷ []
+
+unfoldable pub name_text : List ℕ → List ℕ
+name_text name = flat_map name_byte name
+
+-- ---- lines
+
+unfoldable pub act_text : Act → List ℕ
+act_text (Open fid) = codes "open @" ++ fid_text fid
+act_text (Close fid contents) = (codes "close @" ++ (fid_text fid ++ codes " hex:")) ++ hex_text contents
+
+unfoldable pub body_text : Body → List ℕ
+body_text (bodies.File contents) = codes "f:" ++ hex_text contents
+
+unfoldable pub begin_text : Node → Act → List ℕ
+begin_text node act = (codes "begin " ++ (node_text node ++ codes " ")) ++ (act_text act ++ codes "\n")
+
+unfoldable pub grant_text : Node → Node → Fid → ℕ → ℕ → List ℕ
+grant_text server client fid index expiry =
+    codes "grant " ++ (node_text server ++ (codes " " ++ (node_text client ++ (codes " " ++ (fid_text fid ++ (codes " " ++ (decimal index ++ (codes " " ++ (decimal expiry ++ codes "\n")))))))))
+
+unfoldable pub change_text : Node → Key → ℕ → List ℕ
+change_text server key count = codes "change " ++ (node_text server ++ (codes " " ++ (key_text key ++ (codes " " ++ (decimal count ++ codes "\n")))))
+
+unfoldable pub version_text : Version → List ℕ
+version_text v =
+    (codes "version " ++ (fid_text v.fid ++ (codes " " ++ (decimal v.index ++ (codes " " ++ (decimal v.data_version ++ codes " "))))))
+    ++ (body_text v.body ++ codes "\n")
+
+abbrev pub source_text : ReadSource → List ℕ
+source_text Cached = codes "cached"
+source_text Fetched = codes "fetched"
+
+unfoldable pub read_text : Node → Fid → ℕ → ReadSource → Body → List ℕ
+read_text client fid index source body =
+    (codes "read " ++ (node_text client ++ (codes " " ++ (fid_text fid ++ (codes " " ++ (decimal index ++ (codes " " ++ (source_text source ++ codes " "))))))))
+    ++ (body_text body ++ codes "\n")
+
+unfoldable pub answer_text : Node → Code → List ℕ
+answer_text node code = codes "answer " ++ (node_text node ++ (codes " " ++ (signed_decimal code.0 ++ codes "\n")))
+
+unfoldable pub line_text : Line → List ℕ
+line_text (lines.Begin node act) = begin_text node act
+line_text (lines.Given place) = codes "given " ++ (decimal place ++ codes "\n")
+line_text (lines.Grant server client fid index expiry) = grant_text server client fid index expiry
+line_text (lines.Change server key count) = change_text server key count
+line_text (lines.Version version) = version_text version
+line_text (lines.Read client fid index source body) = read_text client fid index source body
+line_text (lines.Answer node code) = answer_text node code
+line_text lines.Void = codes "void\n"
+
+unfoldable pub lines_text : List Line → List ℕ
+lines_text ls = flat_map line_text ls
+
+-- ---- messages
+
+-- the opcode, and epoch and number of the call
+abbrev pub call_text : Head → List ℕ → List ℕ
+call_text h rest = decimal h.opcode ++ (codes " " ++ (decimal h.epoch ++ (codes "." ++ (decimal h.number ++ rest))))
+
+-- a reply alone has its code
+unfoldable pub half_text : Half → Head → ℤ → List ℕ
+half_text halves.Call h code = codes "call " ++ call_text h (codes "\n")
+half_text halves.Reply h code = codes "reply " ++ call_text h (codes " " ++ (signed_decimal code ++ codes "\n"))
+half_text halves.Boot h code = codes "boot " ++ call_text h (codes "\n")
+
+abbrev pub route_text : ℕ → Head → List ℕ
+route_text place h = codes "sent " ++ (decimal place ++ (codes " " ++ (node_text h.from ++ (codes " " ++ (node_text h.to ++ codes " ")))))
+
+-- the message of this place is sent
+unfoldable pub sent_text : ℕ → Head → ℤ → List ℕ
+sent_text place h code = route_text place h ++ half_text h.half h code
+
+-- the code of a reply
+abbrev pub code_of : Carried → ℤ
+code_of (carried.Refusal code) = code.0
+code_of c = pos 0
+
+unfoldable pub message_text : ℕ → Message → List ℕ
+message_text place m = sent_text place m.head (code_of m.carried)
+
+abbrev pub messages_text : ℕ → List Message → List ℕ
+messages_text place [] = []
+messages_text place (m ∷ ms) = message_text place m ++ messages_text (place + 1) ms
+
+-- the code of a reply is its first word behind the header, which has 32 bytes
+abbrev pub code_read : Result (ℤ × List ℕ) XdrFault → ℤ
+code_read (Ok r) = r.0
+code_read (Err e) = pos 0
+
+unfoldable pub code_at : List ℕ → ℤ
+code_at bytes = code_read (signed_at (drop 32 bytes))
+
+unfoldable pub parcel_text : ℕ → Parcel → List ℕ
+parcel_text place p = sent_text place p.head (code_at p.bytes)
+
+abbrev pub parcels_text : ℕ → List Parcel → List ℕ
+parcels_text place [] = []
+parcels_text place (p ∷ ps) = parcel_text place p ++ parcels_text (place + 1) ps
+
+-- ---- entries
+
+-- the number of an entry and its node; none where nothing happened
+unfoldable pub step_text : ℕ → Option Node → List ℕ
+step_text number (Some node) = codes "entry " ++ (decimal number ++ (codes " " ++ (node_text node ++ codes "\n")))
+step_text number None = codes "entry " ++ (decimal number ++ codes " none\n")
+
+-- an entry of this number, whose first message has this place; its messages come last
+unfoldable pub entry_text : ℕ → ℕ → Entry → List ℕ
+entry_text number place e = step_text number e.node ++ (lines_text e.lines ++ messages_text place e.sent)
+
+unfoldable pub wire_entry_text : ℕ → ℕ → WireEntry → List ℕ
+wire_entry_text number place e = step_text number e.node ++ (lines_text e.lines ++ parcels_text place e.parcels)
+
+-- entries are numbered one after another, and so are the places of all messages
+abbrev pub entries_text : ℕ → ℕ → List Entry → List ℕ
+entries_text number place [] = []
+entries_text number place (e ∷ es) = entry_text number place e ++ entries_text (number + 1) (place + length e.sent) es
+
+abbrev pub wire_entries_text : ℕ → ℕ → List WireEntry → List ℕ
+wire_entries_text number place [] = []
+wire_entries_text number place (e ∷ es) = wire_entry_text number place e ++ wire_entries_text (number + 1) (place + length e.parcels) es
+
+-- how many messages were sent
+abbrev pub parcels_sent : List WireEntry → ℕ
+parcels_sent [] = 0
+parcels_sent (e ∷ es) = length e.parcels + parcels_sent es
+
+-- the first entry and the first message have number 1
+unfoldable pub history_text : List Entry → List ℕ
+history_text h = entries_text 1 1 h
+
+unfoldable pub wire_history_text : List WireEntry → List ℕ
+wire_history_text h = wire_entries_text 1 1 h
+
+-- ---- the final part
+
+-- what a set-up line names in the volume's root; so far files stand in the root alone
+abbrev pub first_name : List (List ℕ) → List ℕ
+first_name [] = []
+first_name (name ∷ names) = name
+
+abbrev pub root_name : SetupLine → List ℕ
+root_name (File path contents) = first_name path
+
+abbrev pub comma_before : ℕ → List ℕ
+comma_before k = if nat_eq k 1 then [] else codes ","
+
+-- the kth set-up line of a volume made the file of the kth even vnode
+unfoldable pub named_text : ℕ → SetupLine → List ℕ
+named_text k l = comma_before k ++ (name_text (root_name l) ++ (codes "=" ++ (decimal (2 * k) ++ (codes "." ++ decimal (k + 1)))))
+
+-- the names of the set-up lines from the kth on
+abbrev pub names_text : ℕ → List SetupLine → List ℕ
+names_text k [] = []
+names_text k (l ∷ ls) = named_text k l ++ names_text (k + 1) ls
+
+-- a read-write volume that accepts stores: kind and flags are 0
+unfoldable pub volume_line_text : VolumeLine → List ℕ
+volume_line_text v = (codes "volume " ++ (node_text v.server ++ (codes " " ++ (decimal v.id ++ codes " ")))) ++ (name_text v.name ++ codes " 0 0\n")
+
+-- the volume's root, which no call has changed so far
+unfoldable pub root_text : VolumeLine → List ℕ
+root_text v = (codes "vnode " ++ (decimal v.id ++ codes ".1.1 2 1 1 d:")) ++ (names_text 1 v.lines ++ codes "\n")
+
+unfoldable pub file_text : StoredFile → List ℕ
+file_text f =
+    (codes "vnode " ++ (fid_text f.fid ++ (codes " 1 " ++ (decimal f.index ++ (codes " " ++ (decimal f.data_version ++ codes " f:"))))))
+    ++ (hex_text f.contents ++ codes "\n")
+
+abbrev pub file_text_in : ℕ → StoredFile → List ℕ
+file_text_in id f = if nat_eq f.fid.volume id then file_text f else []
+
+-- a volume, its root, and its files in the order of their vnodes
+unfoldable pub volume_text : List StoredFile → VolumeLine → List ℕ
+volume_text files v = volume_line_text v ++ (root_text v ++ flat_map (file_text_in v.id) files)
+
+-- the volumes of the script, by the server's files at the end
+unfoldable pub final_text : Script → List StoredFile → List ℕ
+final_text s files = codes "final\n" ++ (flat_map (volume_text files) s.volumes ++ codes "end\n")
+
+-- ---- the whole text
+
+-- the text of a history of this script that ends in this cell
+unfoldable pub text : Script → List Entry → Cell → List ℕ
+text s history end = history_text history ++ final_text s end.server.files
+
+unfoldable pub wire_text : Script → List WireEntry → List StoredFile → List ℕ
+wire_text s history files = wire_history_text history ++ final_text s files
+
+-- ---- entries with bytes, and those with values
+
+-- the entry with bytes tells of the same step: the bytes of each of its messages are read as that message
+pub record Carries (w : WireEntry) (e : Entry) : Type 0 where
+  pub node : w.node ≡ e.node
+  pub lines : w.lines ≡ e.lines
+  pub sent : found w.parcels ≡ meant e.sent
+
+-- so do these entries, one for one
+abbrev pub CarryAll : List WireEntry → List Entry → Type 0
+CarryAll [] [] = Unit {0}
+CarryAll (w ∷ ws) (e ∷ es) = Carries w e × CarryAll ws es
+CarryAll [] (e ∷ es) = ⊥
+CarryAll (w ∷ ws) [] = ⊥

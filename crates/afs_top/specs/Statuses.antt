@@ -1,0 +1,42 @@
+-- What a status is to the system and to a reader.
+use Rattle.std.specs.Prelude.{ℕ, List, ◌++◌, codes, [], Option, Some, None}
+use Rattle.std.specs.Fmt.{decimal}
+use Rattle.afs_num.specs.declared.scripts.Reason.{Reason}
+use Rattle.afs_num.specs.declared.scripts.Reason.TheVariants as reasons
+use Rattle.afs_top.specs.declared.statuses.Status.{Status}
+use Rattle.afs_top.specs.declared.statuses.Status.TheVariants as statuses
+
+-- the number that the program ends with
+abbrev pub status_number : Status → ℕ
+status_number statuses.Done = 0
+status_number statuses.Usage = 2
+status_number (statuses.Script line reason) = 3
+status_number statuses.ReadFault = 4
+status_number statuses.WriteFault = 5
+status_number statuses.OutOfMemory = 7
+
+abbrev pub reason_word : Reason → List ℕ
+reason_word reasons.Word = codes "Word"
+reason_word reasons.Number = codes "Number"
+reason_word reasons.Node = codes "Node"
+reason_word reasons.Name = codes "Name"
+reason_word reasons.Path = codes "Path"
+reason_word reasons.Contents = codes "Contents"
+reason_word reasons.Order = codes "Order"
+reason_word reasons.Limit = codes "Limit"
+reason_word reasons.Missing = codes "Missing"
+
+-- the line on standard error; there is none where all is done
+abbrev pub status_text : Status → List ℕ
+status_text statuses.Done = []
+status_text statuses.Usage = codes "usage: afscell replay"
+status_text (statuses.Script line reason) = codes "script: line " ++ (decimal line ++ (codes ": " ++ reason_word reason))
+status_text statuses.ReadFault = codes "read fault"
+status_text statuses.WriteFault = codes "write fault"
+status_text statuses.OutOfMemory = codes "out of memory"
+
+-- where the source told what it had, a script is refused by a line and a reason of that input
+abbrev pub Refuses : (ℕ → Reason → List ℕ → Type 0) → Status → Option (List ℕ) → Type 0
+Refuses IsBad (statuses.Script line reason) (Some input) = IsBad line reason input
+Refuses IsBad (statuses.Script line reason) None = Unit {0}
+Refuses IsBad status left = Unit {0}

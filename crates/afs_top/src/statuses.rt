@@ -1,0 +1,135 @@
+//! What the program answers to its caller, and what its words ask.
+
+ghost use Rattle.std.specs.Prelude.{◌≡◌, ◌↔◌, ◌∷◌, [], codes, map, string_bytes, IsSome, IsTrue};
+ghost use Rattle.afs_top.specs.Statuses.{reason_word};
+
+use afs_num::scripts::Reason;
+use std::fmt;
+
+/// How the program ended. A script is refused by the number of its first bad line, from 1, and the reason there.
+#[derive(Clone, Copy, Debug, PartialEq, Eq)]
+pub enum Status {
+    Done,
+    Usage,
+    Script(u32, Reason),
+    ReadFault,
+    WriteFault,
+    OutOfMemory,
+}
+
+impl Status {
+    ghost use Rattle.afs_top.specs.Statuses.{status_number};
+
+    /// The number that the program ends with.
+    pub fn number(&self) -> u8
+        ensures { result ≡ status_number self.now }
+    {
+        match self {
+            Status::Done => 0,
+            Status::Usage => 2,
+            Status::Script(_, _) => 3,
+            Status::ReadFault => 4,
+            Status::WriteFault => 5,
+            Status::OutOfMemory => 7,
+        }
+    }
+}
+
+/// The name of a reason.
+fn reason_word(reason: Reason) -> &'static str
+    ensures { result.now ≡ reason_word reason }
+{
+    match reason {
+        Reason::Word => "Word",
+        Reason::Number => "Number",
+        Reason::Node => "Node",
+        Reason::Name => "Name",
+        Reason::Path => "Path",
+        Reason::Contents => "Contents",
+        Reason::Order => "Order",
+        Reason::Limit => "Limit",
+        Reason::Missing => "Missing",
+    }
+}
+
+impl fmt::Display for Status {
+    ghost use Rattle.std.specs.Prelude.{Some};
+    ghost use Rattle.afs_top.specs.Statuses.{status_text};
+
+    ghost output = { λ s. Some (status_text s) };
+
+    fn fmt<W: fmt::Write>(&self, f: &mut fmt::Formatter<W>) -> fmt::Result {
+        match *self {
+            Status::Done => Ok(()),
+            Status::Usage => write!(f, "usage: afscell replay"),
+            Status::Script(line, reason) => {
+                write!(f, "script: line {line}: {}", reason_word(reason))
+            }
+            Status::ReadFault => write!(f, "read fault"),
+            Status::WriteFault => write!(f, "write fault"),
+            Status::OutOfMemory => write!(f, "out of memory"),
+        }
+    }
+}
+
+/// What the words of the command line ask.
+#[derive(Clone, Copy, Debug, PartialEq, Eq)]
+pub enum Form {
+    /// A script is played by its schedule.
+    Replay,
+}
+
+fn is_replay(word: &str) -> bool
+    ensures { IsTrue result ↔ (word.now ≡ codes "replay") }
+{
+    word == "replay"
+}
+
+/// The form of the words behind the program's name, where they have one.
+pub fn form_of(words: &[String]) -> Option<Form>
+    ensures { IsSome result ↔ (map string_bytes words.now ≡ codes "replay" ∷ []) }
+{
+    match words {
+        [word] if is_replay(word.as_str()) => Some(Form::Replay),
+        _ => None,
+    }
+}
+
+#[cfg(test)]
+mod tests {
+    use super::*;
+    use std::test::Fail;
+
+    #[test]
+    fn each_status_has_a_number_and_a_line(rt: HostRuntime) -> Result<(), Fail> {
+        let table = [
+            (Status::Done, 0, ""),
+            (Status::Usage, 2, "usage: afscell replay"),
+            (Status::Script(7, Reason::Node), 3, "script: line 7: Node"),
+            (Status::ReadFault, 4, "read fault"),
+            (Status::WriteFault, 5, "write fault"),
+            (Status::OutOfMemory, 7, "out of memory"),
+        ];
+        for (status, number, line) in table {
+            assert_eq!(rt; status.number(), number);
+            assert_eq!(rt; status.to_string(rt.alloc())?.as_str(), line);
+        }
+        Ok(())
+    }
+
+    #[test]
+    fn replay_is_the_one_form(rt: HostRuntime) -> Result<(), Fail> {
+        let alloc = rt.alloc();
+        let replay = [String::from_str(alloc, "replay")?];
+        assert_eq!(rt; form_of(&replay), Some(Form::Replay));
+        let twice = [
+            String::from_str(alloc, "replay")?,
+            String::from_str(alloc, "replay")?,
+        ];
+        assert_eq!(rt; form_of(&twice), None);
+        assert_eq!(rt; form_of(&[]), None);
+        let other = [String::from_str(alloc, "Replay")?];
+        assert_eq!(rt; form_of(&other), None);
+        Ok(())
+    }
+}
