@@ -15,3 +15,4 @@ pub mod ScriptPieces
 pub mod ScriptSpelled
 pub mod ScriptWhole
 pub mod Texts
+pub mod ScriptServer

@@ -16,3 +16,5 @@ pub mod ScriptWords
 pub mod Script
 pub mod ScriptText
 pub mod Text
+pub mod ScriptLaws
+pub mod Form
