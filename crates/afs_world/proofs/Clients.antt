@@ -18,7 +18,8 @@ use Rattle.afs_num.specs.declared.states.ClientState.{ClientState}
 use Rattle.afs_num.specs.declared.histories.Line.TheVariants as lines
 use Rattle.afs_model.specs.Steps.{Step}
 use Rattle.afs_model.specs.ClientRow.{find_cached, is_trusted, opens, begin_row, takes, takes_fetched, counts, is_awaited, awaits, takes_in, client_row, asking, shows_step, calls_step, uses_step, ignores}
-use Rattle.afs_world.specs.Asking.{IsShortAct, IsShortRunning}
+use Rattle.afs_world.specs.Asking.{IsShortRunning}
+use Rattle.afs_model.specs.Form.{IsShortAct}
 
 -- the state after a step
 pub record IsNext (c d : ClientState) : Type 0 where

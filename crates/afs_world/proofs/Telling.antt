@@ -1,6 +1,6 @@
 -- Each way in which the program's cell goes on is a step of the cell that it stands for.
-use Rattle.std.proofs.Common.{◌≡◌, ℕ, ◌+◌, ◌≤◌, Bool, true, false, cond, List, [], ◌∷◌, ◌++◌, Option, Some, None, length, map, refl, sym, ap, subst, ◌∙◌, append-nil, arith}
-use Rattle.std.specs.Prelude.{nat_eq}
+use Rattle.std.proofs.Common.{◌≡◌, ℕ, suc, ◌+◌, ◌≤◌, Bool, true, false, cond, List, [], ◌∷◌, ◌++◌, Option, Some, None, length, map, refl, sym, ap, subst, ◌∙◌, append-nil, append_assoc, arith}
+use Rattle.std.specs.Prelude.{nat_eq, is_some}
 use Rattle.std.specs.List.{All}
 use Rattle.std.proofs.lemmas.Bool.{ne_eqb}
 use Rattle.std.proofs.lemmas.Bool.Decides.{eqb_tells}
@@ -24,10 +24,15 @@ use Rattle.afs_model.specs.Steps.{Step, Makes}
 use Rattle.afs_model.specs.ServerRow.{server_row}
 use Rattle.afs_model.specs.ClientRow.{the_server, begin_row, client_row, takes_in, ignores}
 use Rattle.afs_model.specs.Runs.{Entry, Cell, Moved, put, voided, server_moves, client_moves, message_at, given_to, given_at, begun_by, moved, gives, begins, first_client}
+use Rattle.afs_num.specs.declared.scripts.Event.{Event}
+use Rattle.afs_num.specs.declared.scripts.Task.{Task}
+use Rattle.afs_model.specs.Playing.{begun, played, entries_of, cell_after}
+use Rattle.afs_model.specs.Text.{CarryAll, parcels_sent}
 use Rattle.afs_world.specs.declared.world.World.{World}
 use Rattle.afs_world.specs.Serving.{IsWithin}
-use Rattle.afs_world.specs.Asking.{IsShortAct, IsShortRunning}
-use Rattle.afs_world.specs.Worlds.{messages_of, told, told_all, AreRead, cell_of, parcel_of_place, Holds, Tells}
+use Rattle.afs_world.specs.Asking.{IsShortRunning}
+use Rattle.afs_model.specs.Form.{IsShortAct, IsShortTask}
+use Rattle.afs_world.specs.Worlds.{messages_of, told, told_all, AreRead, cell_of, parcel_of_place, Holds, Tells, TellsPlayed, acts_left}
 use Rattle.afs_world.proofs.Parcels.{messages_of-found, are_read, messages_of-append, AreRead-append, AtPlace, Carries, at_place}
 use Rattle.afs_world.proofs.Within.{within_more, row_within}
 use Rattle.afs_world.proofs.Clients.{IsNext, begins_next, row_next}
@@ -66,6 +71,12 @@ other_is_first n c ne = rw (ne_eqb 1 n ne) refl
 told_more : (es : List wire.Entry) (e : wire.Entry) → told_all (es ++ e ∷ []) ≡ told_all es ++ told e ∷ []
 told_more es e = map-append told es (e ∷ [])
 
+parcels_more : (es : List wire.Entry) (e : wire.Entry) → parcels_sent (es ++ e ∷ []) ≡ parcels_sent es + length e.parcels
+parcels_more [] e = omega arith
+parcels_more (x ∷ es) e =
+    let more = parcels_more es e in
+    omega (arith, more)
+
 counted : (es : List wire.Entry) (e : wire.Entry) → length (es ++ e ∷ []) ≡ length es + 1
 counted es e = length-append es (e ∷ [])
 
@@ -92,6 +103,7 @@ record Leaves (old new : World) (entry : wire.Entry) : Type 0 where
   within : IsWithin (length old.history + 2) new.server.state
   next : IsNext old.client.state new.client.state
   sent : AreRead new.sent
+  places : length new.sent ≡ length old.sent + length entry.parcels
   read : AreRead entry.parcels
 
 leaves_tell : (old new : World) (entry : wire.Entry) (e : Entry) (c : Cell) → Holds old → Leaves old new entry → told entry ≡ e → cell_of new ≡ c → Tells old e c new
@@ -111,6 +123,7 @@ leaves_tell old new entry e c h l same reached =
         running = l.next.running;
         sent = l.sent;
         history = subst (λ (es : List wire.Entry). All (λ x. AreRead x.parcels) es) (sym l.history) (All-push (λ x. AreRead x.parcels) old.history entry h.history l.read);
+        places = ap parcels_sent l.history ∙ parcels_more old.history entry ∙ ap (λ (n : ℕ). n + length entry.parcels) h.places ∙ sym l.places;
       };
     }
 
@@ -133,6 +146,7 @@ quiet_leaves old new n ls h told s c sent = record {
   within = same_within old new.server.state h (ap (λ x. x.state) s);
   next = stays_next old new.client.state h (ap (λ x. x.state) c);
   sent = subst AreRead (sym sent) h.sent;
+  places = ap (λ (ps : List Parcel). length ps) sent ∙ omega arith;
   read = refl;
 }
 
@@ -158,6 +172,7 @@ server_tells old new st outs h within made node c sent history =
       within = subst (IsWithin (length old.history + 2)) (sym made.state) within;
       next = stays_next old new.client.state h (ap (λ x. x.state) c);
       sent = subst AreRead (sym sent) (AreRead-append old.sent outs.parcels h.sent read);
+      places = ap (λ (ps : List Parcel). length ps) sent ∙ length-append old.sent outs.parcels;
       read = read;
     })
     (entry_is _ _ _ _ _ made.lines ms)
@@ -178,6 +193,7 @@ client_tells old new st outs h next made node s sent history =
       within = same_within old new.server.state h (ap (λ x. x.state) s);
       next = subst (IsNext old.client.state) (sym made.state) next;
       sent = subst AreRead (sym sent) (AreRead-append old.sent outs.parcels h.sent read);
+      places = ap (λ (ps : List Parcel). length ps) sent ∙ length-append old.sent outs.parcels;
       read = read;
     })
     (entry_is _ _ _ _ _ made.lines ms)
@@ -305,3 +321,46 @@ begun_tells old new act outs h short idle made node s sent history =
     (begins_next (Client 1) old.client.state 0 act h.running short)
     (subst (λ n. Makes (begin_row n old.client.state 0 act) new.client.state outs) h.client made)
     node s sent history)
+
+-- ---- a schedule is played
+
+pub carry_all : (es : List wire.Entry) → All (λ e. AreRead e.parcels) es → CarryAll es (told_all es)
+carry_all [] h = tt
+carry_all (e ∷ es) h =
+    (record { node = refl; lines = refl; sent = h 0 e (omega arith) }, carry_all es (λ k d lt. h (suc k) d (omega (arith, lt))))
+
+-- nothing is begun where no task is left, or an act runs
+pub none_begun : (old new : World) (ts : List Task) (o : Option Act) → length ts ≡ 0 → Tells old (voided (cell_of old)).entry (cell_of old) new → TellsPlayed old (begun (cell_of old) (acts_left ts) o) new
+none_begun old new [] o e t = t
+none_begun old new (x ∷ ts) o e t = absurd (omega (arith, e))
+
+pub short_rest : (ts : List Task) (t : Task) (rest : List Task) → ts ≡ t ∷ rest → All IsShortTask ts → All IsShortTask rest
+short_rest ts t rest e h =
+    let all : All IsShortTask (t ∷ rest) = subst (λ (l : List Task). All IsShortTask l) e h in
+    λ k d lt. all (suc k) d (omega (arith, lt))
+
+pub busy_begun : (old new : World) (left : List Act) (o : Option Act) → is_some o ≡ true → Tells old (voided (cell_of old)).entry (cell_of old) new → TellsPlayed old (begun (cell_of old) left o) new
+busy_begun old new [] o e t = t
+busy_begun old new (act ∷ left) None e t = absurd cc
+busy_begun old new (act ∷ left) (Some other) e t = t
+
+-- one event more
+pub one_more : (w v : World) (left rest : List Act) (x : Event) (xs : List Event) (all : List Entry)
+    → told_all w.history ++ entries_of (cell_of w) left (x ∷ xs) ≡ all → TellsPlayed w (played (cell_of w) left x) v → rest ≡ (played (cell_of w) left x).left
+    → told_all v.history ++ entries_of (cell_of v) rest xs ≡ all
+unfolding entries_of
+one_more w v left rest x xs all e t r =
+    let p = played (cell_of w) left x in
+    ap (λ (h : List Entry). h ++ entries_of (cell_of v) rest xs) t.history
+    ∙ append_assoc (told_all w.history) (p.entry ∷ []) (entries_of (cell_of v) rest xs)
+    ∙ ap (λ (c : Cell). told_all w.history ++ p.entry ∷ entries_of c rest xs) t.cell
+    ∙ ap (λ (l : List Act). told_all w.history ++ p.entry ∷ entries_of p.cell l xs) r
+    ∙ e
+
+pub one_on : (w v : World) (left rest : List Act) (x : Event) (xs : List Event) (end : Cell)
+    → cell_after (cell_of w) left (x ∷ xs) ≡ end → TellsPlayed w (played (cell_of w) left x) v → rest ≡ (played (cell_of w) left x).left
+    → cell_after (cell_of v) rest xs ≡ end
+unfolding cell_after
+one_on w v left rest x xs end e t r =
+    let p = played (cell_of w) left x in
+    ap (λ (c : Cell). cell_after c rest xs) t.cell ∙ ap (λ (l : List Act). cell_after p.cell l xs) r ∙ e

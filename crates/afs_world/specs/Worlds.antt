@@ -8,15 +8,14 @@ use Rattle.afs_num.specs.declared.messages.Received.{Received}
 use Rattle.afs_num.specs.declared.messages.Received.TheVariants.{Whole}
 use Rattle.afs_num.specs.declared.histories.Entry as wire
 use Rattle.afs_num.specs.declared.scripts.Act.{Act}
-use Rattle.afs_num.specs.declared.scripts.Script.{Script}
 use Rattle.afs_num.specs.declared.scripts.Task.{Task}
 use Rattle.afs_model.specs.Messages.{received, found, meant}
-use Rattle.afs_model.specs.Runs.{Entry, Cell, Moved, put, first_client, start}
-use Rattle.afs_model.specs.Acts.{events_of}
-use Rattle.afs_model.specs.Playing.{Played, HasOneClient}
+use Rattle.afs_model.specs.Runs.{Entry, Cell, Moved, put, first_client}
+use Rattle.afs_model.specs.Playing.{Played}
+use Rattle.afs_model.specs.Text.{parcels_sent}
 use Rattle.afs_world.specs.declared.world.World.{World}
 use Rattle.afs_world.specs.Serving.{IsWithin}
-use Rattle.afs_world.specs.Asking.{IsShortAct, IsShortRunning}
+use Rattle.afs_world.specs.Asking.{IsShortRunning}
 
 abbrev pub with_received : Received → List Message → List Message
 with_received (Whole m) ms = m ∷ ms
@@ -58,6 +57,7 @@ pub record Holds (w : World) : Type 0 where
   pub running : IsShortRunning w.client.state.running
   pub sent : AreRead w.sent
   pub history : All (λ e. AreRead e.parcels) w.history
+  pub places : parcels_sent w.history ≡ length w.sent
 
 -- the world told this entry and stands for this cell
 pub record Tells (old : World) (entry : Entry) (reached : Cell) (new : World) : Type 0 where
@@ -72,16 +72,6 @@ TellsMoved old m new = Tells old m.entry m.cell new
 
 abbrev pub TellsPlayed : World → Played → World → Type 0
 TellsPlayed old p new = Tells old p.entry p.cell new
-
-abbrev pub IsShortTask : Task → Type 0
-IsShortTask t = IsShortAct t.act
-
--- a script that the cell can play: its tasks and act events are client 1's, and its contents are within their limits
-pub record IsPlayable (s : Script) : Type 0 where
-  pub client : HasOneClient s
-  pub acts : All IsShortTask s.tasks
-  pub files : IsWithin 1 (start s).server
-  pub events : length (events_of s.schedule) ≤ 1000000
 
 -- the parcel of a place; the first one has place 1
 abbrev pub parcel_of_place : List Parcel → ℕ → Option Parcel

@@ -7,7 +7,8 @@ ghost use Rattle.afs_num.specs.Fids.{same_fid};
 ghost use Rattle.afs_model.specs.Messages.{found, meant, received, IsSoundMessage};
 ghost use Rattle.afs_model.specs.Steps.{Step, Makes};
 ghost use Rattle.afs_model.specs.ClientRow.{find_cached, used_first, is_trusted, refreshed, guest, opcode_of, nothing_set, call_of, call_head, call_message, asking, calls_step, zero_code, shows_step, opens, begin_row, ignores, ended, answers_step, uses_step, takes_fetched, takes_stored, takes, counts, resends_step, is_awaited, awaits, client_row};
-ghost use Rattle.afs_world.specs.Asking.{IsShortAct, IsShortRunning};
+ghost use Rattle.afs_world.specs.Asking.{IsShortRunning};
+ghost use Rattle.afs_model.specs.Form.{IsShortAct};
 
 use crate::decoding::read_message;
 use crate::giving::{given, outs_with};

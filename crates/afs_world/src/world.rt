@@ -1,18 +1,19 @@
 //! The cell: its nodes, the messages under way, and what is told of its run.
 
-ghost use Rattle.std.specs.Prelude.{◌≡◌, ◌≤◌, ◌<◌, ◌+◌, ℕ, [], ◌∷◌, ◌++◌, length, map, take, drop, Some, None, IfOk, OnOk, OnErr};
+ghost use Rattle.std.specs.Prelude.{◌≡◌, ◌≤◌, ◌<◌, ◌+◌, ◌^◌, [], ◌∷◌, ◌++◌, length, Some, None, IfOk, OnOk, OnErr};
 ghost use Rattle.std.specs.Option.{option_copied};
-ghost use Rattle.std.specs.List.{All};
-ghost use Rattle.afs_model.specs.Runs.{start, moved, voided, gives, begins};
+ghost use Rattle.std.specs.List.{All, flat_map};
+ghost use Rattle.afs_model.specs.Text.{CarryAll, parcels_sent};
+ghost use Rattle.afs_model.specs.Runs.{start, moved, gives, begins, files_of};
 ghost use Rattle.afs_model.specs.Acts.{events_of};
-ghost use Rattle.afs_model.specs.Playing.{Played, as_played, begun, played, entries_of, cell_after, all_acts, IsOwnEvent};
-ghost use Rattle.afs_world.specs.Asking.{IsShortAct};
-ghost use Rattle.afs_world.specs.Worlds.{messages_of, told, told_all, AreRead, cell_of, acts_left, parcel_of_place, Holds, Tells, TellsMoved, TellsPlayed, IsShortTask, IsPlayable};
+ghost use Rattle.afs_model.specs.Playing.{Played, as_played, begun, played, entries_of, cell_after, all_acts};
+ghost use Rattle.afs_model.specs.Form.{IsShortAct, IsShortTask, HasForm};
+ghost use Rattle.afs_world.specs.Worlds.{messages_of, told, told_all, AreRead, cell_of, acts_left, parcel_of_place, Holds, Tells, TellsMoved, TellsPlayed};
 
 use crate::client::CacheManager;
 use crate::server::FileServer;
 use afs_num::histories::{Entry, History, Line, Outs};
-use afs_num::scripts::{Act, Event, Events, Script, SetupLine, Task, VolumeLine};
+use afs_num::scripts::{Act, Event, Script, SetupLine, Task, VolumeLine, VolumeLines};
 use afs_num::sequences::Sequence;
 use afs_num::states::{ClientState, ServerState, StoredFile, StoredFiles};
 use afs_num::types::{Fid, Node, Parcel, Parcels};
@@ -212,4 +213,112 @@ impl World {
             }
         }
     }
+
+    /// The cell at set-up.
+    fn new(alloc: Global, script: &Script) -> Result<World, AllocError>
+        requires { HasForm script.now }
+        ensures cell { IfOk result (λ w. cell_of w ≡ start script.now) }
+        ensures holds { IfOk result Holds }
+        ensures history { IfOk result (λ w. w.history ≡ []) }
+    {
+        let files = first_files(alloc, &script.volumes)?;
+        Ok(World {
+            server: FileServer {
+                node: Node::Server(1),
+                state: ServerState {
+                    boot: 1,
+                    files,
+                    seats: Sequence::new(alloc),
+                },
+            },
+            client: CacheManager {
+                node: Node::Client(1),
+                state: ClientState {
+                    epoch: 1,
+                    last: 0,
+                    boot: 1,
+                    running: None,
+                    cache: Sequence::new(alloc),
+                },
+            },
+            sent: Sequence::new(alloc),
+            history: Sequence::new(alloc),
+        })
+    }
+
+    /// Plays these events.
+    #[tactic(auto, unfolding(afs_model::specs::Playing::entries_of, afs_model::specs::Playing::cell_after))]
+    fn play(&mut self, alloc: Global, events: &[Event], tasks: &[Task]) -> Result<(), AllocError>
+        requires holds { Holds self.old }
+        requires length { length self.old.history + length events.now ≤ 1000000 }
+        requires short { All IsShortTask tasks.now }
+        ensures told { OnOk result (told_all self.new.history ≡ told_all self.old.history ++ entries_of (cell_of self.old) (acts_left tasks.now) events.now) }
+        ensures cell { OnOk result (cell_of self.new ≡ cell_after (cell_of self.old) (acts_left tasks.now) events.now) }
+        ensures holds { OnOk result (Holds self.new) }
+    {
+        let mut left = tasks;
+        for event in events {
+            left = self.step(alloc, event, left)?;
+        }
+        Ok(())
+    }
+}
+
+/// Plays a script: the history of its run, and the cell at its end.
+pub fn play(alloc: Global, script: &Script) -> Result<World, AllocError>
+    requires { HasForm script.now }
+    ensures history { IfOk result (λ w. CarryAll w.history (entries_of (start script.now) (all_acts script.now) (events_of script.now.schedule))) }
+    ensures files { IfOk result (λ w. w.server.state.files ≡ (cell_after (start script.now) (all_acts script.now) (events_of script.now.schedule)).server.files) }
+    ensures places { IfOk result (λ w. parcels_sent w.history < 2 ^ 63) }
+{
+    let mut world = World::new(alloc, script)?;
+    world.play(alloc, events(script), script.tasks.as_slice())?;
+    let _places = world.sent.len();
+    Ok(world)
+}
+
+/// The events of the schedule; none without one.
+fn events(script: &Script) -> &[Event]
+    ensures { result.now ≡ events_of script.now.schedule }
+{
+    match &script.schedule {
+        Some(events) => events.as_slice(),
+        None => &[],
+    }
+}
+
+/// Appends the files that a volume's set-up lines make.
+fn lay(alloc: Global, files: &mut StoredFiles, volume: &VolumeLine) -> Result<(), AllocError>
+    ensures { OnOk result (files.new ≡ files.old ++ files_of volume.now) }
+{
+    let mut k = 1u32;
+    for line in volume.lines.as_slice() {
+        let SetupLine::File { contents, .. } = line;
+        let next = k.checked_add(1).ok_or(AllocError)?;
+        let vnode = k.checked_mul(2).ok_or(AllocError)?;
+        files.push(StoredFile {
+            fid: Fid {
+                volume: volume.id,
+                vnode,
+                unique: next,
+            },
+            index: 1,
+            data_version: 1,
+            server_time: 0,
+            contents: contents.copy(alloc)?,
+        })?;
+        k = next;
+    }
+    Ok(())
+}
+
+/// The files that the set-up lines of all volumes make.
+fn first_files(alloc: Global, volumes: &VolumeLines) -> Result<StoredFiles, AllocError>
+    ensures { IfOk result (λ files. files ≡ flat_map files_of volumes.now) }
+{
+    let mut files = Sequence::new(alloc);
+    for volume in volumes.as_slice() {
+        lay(alloc, &mut files, volume)?;
+    }
+    Ok(files)
 }
