@@ -16,3 +16,4 @@ pub mod ScriptSpelled
 pub mod ScriptWhole
 pub mod Texts
 pub mod ScriptServer
+pub mod ScriptForm

@@ -25,30 +25,30 @@ use Rattle.afs_model.specs.Script.{has_name, name_in_root, lays, delivers, act_o
 
 -- ---- a reader that succeeded
 
-record Bound (A B E : Type 0) (x : Result A E) (f : A → Result B E) (b : B) : Type 0 where
-  value : A
-  first : x ≡ Ok value
-  rest : f value ≡ Ok b
+pub record Bound (A B E : Type 0) (x : Result A E) (f : A → Result B E) (b : B) : Type 0 where
+  pub value : A
+  pub first : x ≡ Ok value
+  pub rest : f value ≡ Ok b
 
-bound : (A B E : Type 0) (x : Result A E) (f : A → Result B E) (b : B) → (x >>= f) ≡ Ok b → Bound A B E x f b
+pub bound : (A B E : Type 0) (x : Result A E) (f : A → Result B E) (b : B) → (x >>= f) ≡ Ok b → Bound A B E x f b
 bound A B E (Ok a) f b e = record { value = a; first = refl; rest = e }
 bound A B E (Err y) f b e = absurd cc
 
-ok_of : (A E : Type 0) (x y : A) → ◌≡◌ {A = Result A E} (Ok x) (Ok y) → x ≡ y
+pub ok_of : (A E : Type 0) (x y : A) → ◌≡◌ {A = Result A E} (Ok x) (Ok y) → x ≡ y
 ok_of A E x y e = cc
 
-must_true : (t : Bool) (reason : Reason) (u : Unit {0}) → must t reason ≡ Ok u → t ≡ true
+pub must_true : (t : Bool) (reason : Reason) (u : Unit {0}) → must t reason ≡ Ok u → t ≡ true
 must_true true reason u e = refl
 must_true false reason u e = absurd cc
 
-some_in : (A E : Type 0) (o : Option A) (y : E) (x : A) → ok_or o y ≡ Ok x → o ≡ Some x
+pub some_in : (A E : Type 0) (o : Option A) (y : E) (x : A) → ok_or o y ≡ Ok x → o ≡ Some x
 some_in A E None y x e = absurd cc
 some_in A E (Some z) y x e = ap (λ (w : A). Some w) (ok_of A E z x e)
 
 some_number : (m n : ℕ) → Some m ≡ Some n → m ≡ n
 some_number m n e = cc
 
-le_of_test : (m n : ℕ) → nat_le m n ≡ true → m ≤ n
+pub le_of_test : (m n : ℕ) → nat_le m n ≡ true → m ≤ n
 le_of_test m n e = leb-true m n e
 
 -- ---- numbers in their range
@@ -93,7 +93,7 @@ unfolding node_number
 node_range letter count n [] e = absurd cc
 node_range letter count n (b ∷ digits) e = letter_by (nat_eq b letter) count n digits e
 
-node_at_range : (letter count : ℕ) (more : List (List ℕ)) (x : ℕ × List (List ℕ)) → node_at letter count more ≡ Ok x → (1 ≤ x.0) × (x.0 ≤ count)
+pub node_at_range : (letter count : ℕ) (more : List (List ℕ)) (x : ℕ × List (List ℕ)) → node_at letter count more ≡ Ok x → (1 ≤ x.0) × (x.0 ≤ count)
 unfolding node_at
 node_at_range letter count more x e =
     let a = bound (List ℕ × List (List ℕ)) _ Reason (word_at more) _ _ e in
@@ -123,7 +123,7 @@ servers_fit r x more h e =
     let one : a.value.0 ≡ 1 = eqb-true _ _ (must_true _ _ _ c.first) in
     subst Fits (ok_of _ _ _ _ c.rest) (record { servers = le_of_eq one; volume = h.volume })
 
-only_server : (n servers : ℕ) → 1 ≤ n → n ≤ servers → servers ≤ 1 → n ≡ 1
+pub only_server : (n servers : ℕ) → 1 ≤ n → n ≤ servers → servers ≤ 1 → n ≡ 1
 only_server n servers a b c = omega arith
 
 volume_fits : (r x : Reading) (more : List (List ℕ)) → Fits r → volume_line r more ≡ Ok x → Fits x
@@ -242,7 +242,7 @@ line_at_fits r x number room line h e =
     let more = bound (Unit {0}) _ Reason (must (not (has_ended r.turn)) reasons.Order) _ _ short.rest in
     silent_fits (is_silent line) r x (parts 32 line) h more.rest
 
-at_line_ok : (A : Type 0) (number : ℕ) (x : Result A Reason) (y : A) → at_line number x ≡ Ok y → x ≡ Ok y
+pub at_line_ok : (A : Type 0) (number : ℕ) (x : Result A Reason) (y : A) → at_line number x ≡ Ok y → x ≡ Ok y
 at_line_ok A number (Ok z) y e = ap (λ (w : A). Ok w) (ok_of _ _ _ _ e)
 at_line_ok A number (Err reason) y e = absurd cc
 
