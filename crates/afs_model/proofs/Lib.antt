@@ -16,3 +16,5 @@ pub mod ScriptSpelled
 pub mod ScriptWhole
 pub mod Texts
 pub mod ScriptServer
+pub mod Firsts
+pub mod Sameness
