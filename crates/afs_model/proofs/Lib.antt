@@ -18,3 +18,4 @@ pub mod Texts
 pub mod ScriptServer
 pub mod Firsts
 pub mod Sameness
+pub mod Schedules
