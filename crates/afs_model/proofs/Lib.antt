@@ -19,3 +19,4 @@ pub mod ScriptServer
 pub mod Firsts
 pub mod Sameness
 pub mod Schedules
+pub mod Prefixes
