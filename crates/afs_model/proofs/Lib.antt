@@ -20,3 +20,4 @@ pub mod Firsts
 pub mod Sameness
 pub mod Schedules
 pub mod Prefixes
+pub mod Respelling

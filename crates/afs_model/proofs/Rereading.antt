@@ -69,7 +69,7 @@ opaque_again most bytes rest le lt =
       few,
     ) (counted_again bytes rest)
 
-word_of_signed : (z : ℤ) → FitsSigned w32 z → signed z < 2 ^ 32
+pub word_of_signed : (z : ℤ) → FitsSigned w32 z → signed z < 2 ^ 32
 word_of_signed z fits = Fits-lt-pow (Fits-of_z fits)
 
 pub signed_again : (z : ℤ) (rest : List ℕ) → FitsSigned w32 z → signed_at (word (signed z) ++ rest) ≡ Ok (z, rest)
