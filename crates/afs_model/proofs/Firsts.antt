@@ -1,10 +1,8 @@
 -- How the entry of a step begins: with what was given.
-use Rattle.std.proofs.Common.{◌≡◌, ℕ, zero, suc, ◌+◌, Bool, true, false, cond, List, [], ◌∷◌, ◌++◌, Option, Some, None, refl, sym, ap, subst, ◌∙◌}
-use Rattle.afs_num.specs.declared.types.Code.{Code}
+use Rattle.std.proofs.Common.{ℕ, Bool, true, false, cond, Option, Some, None, refl}
 use Rattle.afs_num.specs.declared.types.Fid.{Fid}
 use Rattle.afs_num.specs.declared.types.Head.{Head}
 use Rattle.afs_num.specs.declared.types.Node.{Node}
-use Rattle.afs_num.specs.declared.types.Node.TheVariants.{Loc, Server, Client, Admin}
 use Rattle.afs_num.specs.declared.calls.FsReply.{FsReply}
 use Rattle.afs_num.specs.declared.calls.FsReply.TheVariants as replies
 use Rattle.afs_num.specs.declared.messages.Carried.{Carried}
@@ -14,14 +12,12 @@ use Rattle.afs_num.specs.declared.messages.Received.{Received}
 use Rattle.afs_num.specs.declared.messages.Received.TheVariants.{Nothing, Unknown, Unreadable, Whole}
 use Rattle.afs_num.specs.declared.scripts.Act.{Act}
 use Rattle.afs_num.specs.declared.scripts.Act.TheVariants.{Open, Close}
-use Rattle.afs_num.specs.declared.histories.Line.{Line}
 use Rattle.afs_num.specs.declared.histories.Line.TheVariants as lines
 use Rattle.afs_num.specs.declared.states.CacheEntry.{CacheEntry}
 use Rattle.afs_num.specs.declared.states.ClientState.{ClientState}
 use Rattle.afs_num.specs.declared.states.ServerState.{ServerState}
-use Rattle.afs_model.specs.Steps.{Step}
 use Rattle.afs_model.specs.ServerRow.{Decision, drops, tells_boot, repeats, refuses, grants, saves, decides, does, server_row}
-use Rattle.afs_model.specs.ClientRow.{the_server, is_trusted, find_cached, calls_step, shows_step, opens, begin_row, uses_step, takes_fetched, takes, counts, is_awaited, awaits, takes_in, client_row, ignores}
+use Rattle.afs_model.specs.ClientRow.{is_trusted, find_cached, calls_step, shows_step, opens, begin_row, uses_step, takes, counts, is_awaited, awaits, takes_in, client_row, ignores}
 use Rattle.afs_model.specs.Acts.{BeginsWith}
 
 -- ---- a message is given

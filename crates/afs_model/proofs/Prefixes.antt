@@ -1,6 +1,6 @@
 -- No message's spelling begins another's.
-use Rattle.std.proofs.Common.{◌≡◌, ℕ, zero, suc, ◌^◌, ◌<◌, ◌≤◌, Bool, true, false, eqb, List, [], ◌∷◌, ◌++◌, length, Result, Ok, Err, refl, sym, ap, subst, ◌∙◌, append_assoc, append-nil, lit<, arith, eqb-true}
-use Rattle.std.specs.Prelude.{ℤ, pos, FitsSigned}
+use Rattle.std.proofs.Common.{◌≡◌, ℕ, suc, ◌≤◌, Bool, true, false, eqb, List, [], ◌∷◌, ◌++◌, length, Err, refl, sym, ap, subst, ◌∙◌, append_assoc, append-nil, lit<, arith, eqb-true}
+use Rattle.std.specs.Prelude.{ℤ, FitsSigned}
 use Rattle.std.specs.Int.{w32}
 use Rattle.afs_num.specs.declared.types.Code.{Code}
 use Rattle.afs_num.specs.declared.types.Fid.{Fid}
@@ -19,7 +19,6 @@ use Rattle.afs_num.specs.declared.messages.Carried.TheVariants as carried
 use Rattle.afs_num.specs.declared.messages.Message.{Message}
 use Rattle.afs_num.specs.declared.messages.Received.{Received}
 use Rattle.afs_num.specs.declared.messages.Received.TheVariants.{Nothing, Unknown, Unreadable, Whole}
-use Rattle.afs_xdr.specs.declared.faults.XdrFault.{XdrFault}
 use Rattle.afs_xdr.specs.declared.faults.XdrFault.TheVariants.{Extra}
 use Rattle.afs_xdr.specs.Words.{word, words, opaque, end_at}
 use Rattle.afs_model.specs.Messages.{head_words, signed, fid_words, store_status_words, status_words, callback_words, sync_words, FitsCall, FitsReply, FitsCarried, Fits, user_limit, contents_limit, fetch_data, store_data, is_zero, call_bytes, reply_bytes, carried_bytes, fetch_call_at, store_call_at, call_at, asked_at, fetch_reply_at, store_reply_at, reply_at, refusal_at, answer_at, replied_at, notice_at, behind, received, spelled}
@@ -146,7 +145,7 @@ message_more m x more fits =
     rw (append_assoc (words (head_words m.head)) (carried_bytes m.carried) (x ∷ more), head_again m.head (carried_bytes m.carried ++ x ∷ more) fits.head)
     (behind_more m.head m.head.half m.carried x more fits.carried)
 
-whole_of : (m n : Message) → ◌≡◌ {A = Received} (Whole m) (Whole n) → m ≡ n
+pub whole_of : (m n : Message) → ◌≡◌ {A = Received} (Whole m) (Whole n) → m ≡ n
 whole_of m n e = cc
 
 pub same_spelling : (m n : Message) → Fits m → Fits n → spelled m ≡ spelled n → m ≡ n

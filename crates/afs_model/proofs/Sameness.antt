@@ -1,5 +1,5 @@
 -- Two runs of one script and schedule have the same entries.
-use Rattle.std.proofs.Common.{◌≡◌, ℕ, zero, suc, ◌+◌, Bool, true, false, cond, List, [], ◌∷◌, ◌++◌, Option, Some, None, refl, sym, ap, subst, ◌∙◌}
+use Rattle.std.proofs.Common.{◌≡◌, ℕ, Bool, true, false, cond, List, [], ◌∷◌, ◌++◌, Option, Some, None, refl, sym, ap, subst, ◌∙◌}
 use Rattle.std.specs.Prelude.{nat_eq}
 use Rattle.afs_num.specs.declared.types.Node.{Node}
 use Rattle.afs_num.specs.declared.types.Node.TheVariants.{Loc, Server, Client, Admin}
@@ -14,8 +14,8 @@ use Rattle.afs_num.specs.declared.histories.Line.{Line}
 use Rattle.afs_num.specs.declared.histories.Line.TheVariants as lines
 use Rattle.std.specs.Prelude.{slice_get}
 use Rattle.afs_model.specs.ServerRow.{server_row}
-use Rattle.afs_model.specs.ClientRow.{the_server, begin_row, client_row}
-use Rattle.afs_model.specs.Runs.{Entry, Cell, Input, begins, gives, nothing, Moved, voided, client_moves, server_moves, message_at, given_to, given_at, begun_by, moved, Leads, start, RunsTo}
+use Rattle.afs_model.specs.ClientRow.{the_server}
+use Rattle.afs_model.specs.Runs.{Entry, Cell, Input, begins, gives, nothing, Moved, voided, server_moves, message_at, given_to, given_at, begun_by, moved, Leads, start, RunsTo}
 use Rattle.afs_model.specs.Acts.{lines_before, sent_before, begun_count, is_busy, acts_of, BeginsWith, IsVoid, IsAct, IsDelivery, IsEvent, AreEvents, events_of, Acts}
 use Rattle.afs_model.proofs.Firsts.{server_first, client_first, begin_first}
 

@@ -1,24 +1,21 @@
 -- What is played of a schedule, for a script whose one client is client 1: the entries are the script's acts and events,
 -- and a run.
-use Rattle.std.proofs.Common.{◌≡◌, ℕ, zero, suc, ◌+◌, Bool, true, false, cond, not, eqb, List, [], ◌∷◌, ◌++◌, map, Option, Some, None, refl, sym, ap, subst, ◌∙◌, arith, append_assoc, append-nil, eqb-true}
-use Rattle.std.specs.Prelude.{nat_eq, is_some, slice_get, filter, find, ℤ}
+use Rattle.std.proofs.Common.{◌≡◌, ℕ, zero, suc, ◌+◌, Bool, true, false, cond, not, List, [], ◌∷◌, ◌++◌, map, Option, Some, None, refl, sym, ap, subst, ◌∙◌, arith, append_assoc, append-nil, eqb-true}
+use Rattle.std.specs.Prelude.{nat_eq, is_some, slice_get, filter}
 use Rattle.std.specs.List.{AllByRecursion}
 use Rattle.std.proofs.lemmas.List.Elements.{recursion_from_All}
 use Rattle.afs_num.specs.Nodes.{same_node}
-use Rattle.afs_num.specs.declared.types.Code.{Code}
 use Rattle.afs_num.specs.declared.types.Fid.{Fid}
 use Rattle.afs_num.specs.declared.types.Head.{Head}
 use Rattle.afs_num.specs.declared.types.Node.{Node}
 use Rattle.afs_num.specs.declared.types.Node.TheVariants.{Loc, Server, Client, Admin}
-use Rattle.afs_num.specs.declared.calls.FsCall.{FsCall}
 use Rattle.afs_num.specs.declared.calls.FsCall.TheVariants as calls
 use Rattle.afs_num.specs.declared.calls.FsReply.{FsReply}
 use Rattle.afs_num.specs.declared.calls.FsReply.TheVariants as replies
 use Rattle.afs_num.specs.declared.messages.Carried.{Carried}
 use Rattle.afs_num.specs.declared.messages.Carried.TheVariants as carried
 use Rattle.afs_num.specs.declared.messages.Message.{Message}
-use Rattle.afs_num.specs.declared.messages.Received.{Received}
-use Rattle.afs_num.specs.declared.messages.Received.TheVariants.{Nothing, Unknown, Unreadable, Whole}
+use Rattle.afs_num.specs.declared.messages.Received.TheVariants.{Whole}
 use Rattle.afs_num.specs.declared.scripts.Act.{Act}
 use Rattle.afs_num.specs.declared.scripts.Act.TheVariants.{Open, Close}
 use Rattle.afs_num.specs.declared.scripts.Event.{Event}
@@ -34,9 +31,9 @@ use Rattle.afs_num.specs.declared.states.ServerState.{ServerState}
 use Rattle.afs_num.specs.declared.states.StoredFile.{StoredFile}
 use Rattle.afs_model.specs.Steps.{Step}
 use Rattle.afs_model.specs.ServerRow.{pair_below, Standing, is_older, is_last, is_newer, standing, seat_of, seated, find_file, Decision, drops, tells_boot, repeats, refuses, grants, saves, fetches, stores, Request, asks, asks_unknown, asks_unreadable, runs, answers_again, admits, called, hears, decides, does, server_row}
-use Rattle.afs_model.specs.ClientRow.{the_server, is_trusted, find_cached, call_message, asking, calls_step, shows_step, opens, begin_row, uses_step, takes_fetched, takes, counts, is_awaited, awaits, takes_in, client_row, ignores}
-use Rattle.afs_model.specs.Runs.{Entry, Cell, Input, begins, gives, nothing, Moved, put, voided, client_moves, server_moves, message_at, given_to, given_at, begun_by, moved, Leads, start, RunsTo}
-use Rattle.afs_model.specs.Acts.{lines_before, sent_before, begun_count, is_busy, acts_of, BeginsWith, IsVoid, IsAct, IsDelivery, IsEvent, AreEvents, events_of, Acts}
+use Rattle.afs_model.specs.ClientRow.{the_server, is_trusted, find_cached, calls_step, shows_step, opens, begin_row, uses_step, takes, counts, is_awaited, awaits, client_row, ignores}
+use Rattle.afs_model.specs.Runs.{Entry, Cell, Input, begins, gives, nothing, Moved, voided, client_moves, server_moves, message_at, given_to, given_at, begun_by, moved, Leads, start, RunsTo}
+use Rattle.afs_model.specs.Acts.{lines_before, sent_before, begun_count, is_busy, acts_of, IsVoid, IsAct, IsDelivery, IsEvent, AreEvents, events_of, Acts}
 use Rattle.afs_model.specs.Playing.{Played, as_played, begun, played, entries_of, cell_after, all_acts, IsOwnTask, IsOwnEvent, HasOneClient}
 use Rattle.afs_model.proofs.Firsts.{server_first, client_first, begin_first}
 
@@ -356,12 +353,12 @@ ties_more tasks c left rest before count m t g r =
     let sent : sent_before (before ++ m.entry ∷ []) ≡ c.sent ++ m.entry.sent = sent_more before m.entry ∙ ap (λ (ms : List Message). ms ++ m.entry.sent) t.sent in
     record {
       busy = ap (is_busy (Client 1) false) (lines_more before m.entry)
-        ∙ (busy_more (Client 1) false (lines_before before) m.entry.lines ∙ (ap (λ (b : Bool). is_busy (Client 1) b m.entry.lines) t.busy ∙ g.busy));
+          ∙ (busy_more (Client 1) false (lines_before before) m.entry.lines ∙ (ap (λ (b : Bool). is_busy (Client 1) b m.entry.lines) t.busy ∙ g.busy));
       next = λ k.
-        let now : begun_count (Client 1) (lines_before (before ++ m.entry ∷ [])) ≡ begun_count (Client 1) (lines_before before) + begun_count (Client 1) m.entry.lines = count_more before m.entry in
-        let one : begun_count (Client 1) m.entry.lines ≡ count = g.begun in
-        let at : begun_count (Client 1) (lines_before (before ++ m.entry ∷ [])) + k ≡ begun_count (Client 1) (lines_before before) + (count + k) = omega arith in
-        ap (slice_get (acts_of (Client 1) tasks)) at ∙ (t.next (count + k) ∙ r k);
+          let now : begun_count (Client 1) (lines_before (before ++ m.entry ∷ [])) ≡ begun_count (Client 1) (lines_before before) + begun_count (Client 1) m.entry.lines = count_more before m.entry in
+          let one : begun_count (Client 1) m.entry.lines ≡ count = g.begun in
+          let at : begun_count (Client 1) (lines_before (before ++ m.entry ∷ [])) + k ≡ begun_count (Client 1) (lines_before before) + (count + k) = omega arith in
+          ap (slice_get (acts_of (Client 1) tasks)) at ∙ (t.next (count + k) ∙ r k);
       sent = sent ∙ sym g.sent;
       ours = subst AreOurs (sym g.sent) (ours_more c.sent m.entry.sent t.ours g.ours);
       kept = g.kept;
