@@ -32,6 +32,7 @@ use Rattle.afs_xdr.specs.Words.{◌>>=◌, word, words, pad, pad_length, opaque,
 use Rattle.afs_model.specs.Messages.{IsWord, AreWords, FitsHead, signed, signed_at, fid_at, fid_words, store_status_words, store_status_at, status_words, status_at, callback_words, callback_at, sync_words, sync_at, FitsCall, FitsReply, FitsCarried, Fits, contents_limit, user_limit, fetch_data, store_data, has_row, is_zero, call_bytes, reply_bytes, carried_bytes, fetch_call_at, store_call_at, call_at, asked_at, fetch_reply_at, store_reply_at, reply_at, refusal_at, answer_at, replied_at, notice_at, heard, behind, behind_head, received, spelled, half_number, half_of, half_at, node_at, head_at, head_words, known}
 use Rattle.afs_model.specs.SpellingLaws.{IsBytes}
 use Rattle.afs_model.proofs.Rereading.{word_of_signed}
+use Rattle.afs_model.proofs.Basics.{some_of, both}
 use Rattle.afs_model.proofs.Prefixes.{whole_of}
 
 bytes_drop : (n : ℕ) (bytes : List ℕ) → IsBytes bytes → IsBytes (drop n bytes)
@@ -106,10 +107,10 @@ word_takes : IsReader word_at word IsWord
 unfolding word_at word
 word_takes bytes n rest fits e =
     let g = guard_ok (ltb (length bytes) 4) Short (Ok (from_be_bytes w32 (take 4 bytes), drop 4 bytes)) (n, rest) e in
-    let both : ◌≡◌ {A = ℕ × List ℕ} (from_be_bytes w32 (take 4 bytes), drop 4 bytes) (n, rest) = ok_is (from_be_bytes w32 (take 4 bytes), drop 4 bytes) (n, rest) g.1 in
+    let pair : ◌≡◌ {A = ℕ × List ℕ} (from_be_bytes w32 (take 4 bytes), drop 4 bytes) (n, rest) = ok_is (from_be_bytes w32 (take 4 bytes), drop 4 bytes) (n, rest) g.1 in
     let long : 4 ≤ length bytes = ltb-false _ _ g.0 in
-    let n-is : from_be_bytes w32 (take 4 bytes) ≡ n = ap (λ (p : ℕ × List ℕ). p.0) both in
-    let rest-is : drop 4 bytes ≡ rest = ap (λ (p : ℕ × List ℕ). p.1) both in
+    let n-is : from_be_bytes w32 (take 4 bytes) ≡ n = ap (λ (p : ℕ × List ℕ). p.0) pair in
+    let rest-is : drop 4 bytes ≡ rest = ap (λ (p : ℕ × List ℕ). p.1) pair in
     let front : to_be_bytes w32 n ≡ take 4 bytes = be_bytes_4 (take 4 bytes) n (omega (arith, length-take 4 bytes)) (bytes_take 4 bytes fits) (sym n-is) in
     record {
       parts = sym (take-append-drop 4 bytes) ∙ (ap (λ (t : List ℕ). t ++ drop 4 bytes) (sym front) ∙ ap (λ (t : List ℕ). to_be_bytes w32 n ++ t) rest-is);
@@ -133,7 +134,7 @@ fid_takes bytes x rest fits e =
     word_step r1 _ _ t1.left e1 (λ n2 r2 t2 e2.
     word_step r2 _ _ t2.left e2 (λ n3 r3 t3 e3.
     subst (λ (p : Fid × List ℕ). Front bytes (words (fid_words p.0)) p.1 (AreWords (fid_words p.0))) (ok_is _ _ e3)
-    (more n1 (n2 ∷ n3 ∷ []) t1 (more n2 (n3 ∷ []) t2 (more n3 ([]) t3 (none r3 t3.left)))))))
+    (more n1 (n2 ∷ n3 ∷ []) t1 (more n2 (n3 ∷ []) t2 (more n3 [] t3 (none r3 t3.left)))))))
 
 store_status_takes : IsReader store_status_at (λ x. words (store_status_words x)) (λ x. AreWords (store_status_words x))
 unfolding store_status_at
@@ -145,7 +146,7 @@ store_status_takes bytes x rest fits e =
     word_step r4 _ _ t4.left e4 (λ n5 r5 t5 e5.
     word_step r5 _ _ t5.left e5 (λ n6 r6 t6 e6.
     subst (λ (p : AfsStoreStatus × List ℕ). Front bytes (words (store_status_words p.0)) p.1 (AreWords (store_status_words p.0))) (ok_is _ _ e6)
-    (more n1 (n2 ∷ n3 ∷ n4 ∷ n5 ∷ n6 ∷ []) t1 (more n2 (n3 ∷ n4 ∷ n5 ∷ n6 ∷ []) t2 (more n3 (n4 ∷ n5 ∷ n6 ∷ []) t3 (more n4 (n5 ∷ n6 ∷ []) t4 (more n5 (n6 ∷ []) t5 (more n6 ([]) t6 (none r6 t6.left)))))))))))))
+    (more n1 (n2 ∷ n3 ∷ n4 ∷ n5 ∷ n6 ∷ []) t1 (more n2 (n3 ∷ n4 ∷ n5 ∷ n6 ∷ []) t2 (more n3 (n4 ∷ n5 ∷ n6 ∷ []) t3 (more n4 (n5 ∷ n6 ∷ []) t4 (more n5 (n6 ∷ []) t5 (more n6 [] t6 (none r6 t6.left)))))))))))))
 
 status_takes : IsReader status_at (λ x. words (status_words x)) (λ x. AreWords (status_words x))
 unfolding status_at
@@ -172,7 +173,7 @@ status_takes bytes x rest fits e =
     word_step r19 _ _ t19.left e19 (λ n20 r20 t20 e20.
     word_step r20 _ _ t20.left e20 (λ n21 r21 t21 e21.
     subst (λ (p : AfsFetchStatus × List ℕ). Front bytes (words (status_words p.0)) p.1 (AreWords (status_words p.0))) (ok_is _ _ e21)
-    (more n1 (n2 ∷ n3 ∷ n4 ∷ n5 ∷ n6 ∷ n7 ∷ n8 ∷ n9 ∷ n10 ∷ n11 ∷ n12 ∷ n13 ∷ n14 ∷ n15 ∷ n16 ∷ n17 ∷ n18 ∷ n19 ∷ n20 ∷ n21 ∷ []) t1 (more n2 (n3 ∷ n4 ∷ n5 ∷ n6 ∷ n7 ∷ n8 ∷ n9 ∷ n10 ∷ n11 ∷ n12 ∷ n13 ∷ n14 ∷ n15 ∷ n16 ∷ n17 ∷ n18 ∷ n19 ∷ n20 ∷ n21 ∷ []) t2 (more n3 (n4 ∷ n5 ∷ n6 ∷ n7 ∷ n8 ∷ n9 ∷ n10 ∷ n11 ∷ n12 ∷ n13 ∷ n14 ∷ n15 ∷ n16 ∷ n17 ∷ n18 ∷ n19 ∷ n20 ∷ n21 ∷ []) t3 (more n4 (n5 ∷ n6 ∷ n7 ∷ n8 ∷ n9 ∷ n10 ∷ n11 ∷ n12 ∷ n13 ∷ n14 ∷ n15 ∷ n16 ∷ n17 ∷ n18 ∷ n19 ∷ n20 ∷ n21 ∷ []) t4 (more n5 (n6 ∷ n7 ∷ n8 ∷ n9 ∷ n10 ∷ n11 ∷ n12 ∷ n13 ∷ n14 ∷ n15 ∷ n16 ∷ n17 ∷ n18 ∷ n19 ∷ n20 ∷ n21 ∷ []) t5 (more n6 (n7 ∷ n8 ∷ n9 ∷ n10 ∷ n11 ∷ n12 ∷ n13 ∷ n14 ∷ n15 ∷ n16 ∷ n17 ∷ n18 ∷ n19 ∷ n20 ∷ n21 ∷ []) t6 (more n7 (n8 ∷ n9 ∷ n10 ∷ n11 ∷ n12 ∷ n13 ∷ n14 ∷ n15 ∷ n16 ∷ n17 ∷ n18 ∷ n19 ∷ n20 ∷ n21 ∷ []) t7 (more n8 (n9 ∷ n10 ∷ n11 ∷ n12 ∷ n13 ∷ n14 ∷ n15 ∷ n16 ∷ n17 ∷ n18 ∷ n19 ∷ n20 ∷ n21 ∷ []) t8 (more n9 (n10 ∷ n11 ∷ n12 ∷ n13 ∷ n14 ∷ n15 ∷ n16 ∷ n17 ∷ n18 ∷ n19 ∷ n20 ∷ n21 ∷ []) t9 (more n10 (n11 ∷ n12 ∷ n13 ∷ n14 ∷ n15 ∷ n16 ∷ n17 ∷ n18 ∷ n19 ∷ n20 ∷ n21 ∷ []) t10 (more n11 (n12 ∷ n13 ∷ n14 ∷ n15 ∷ n16 ∷ n17 ∷ n18 ∷ n19 ∷ n20 ∷ n21 ∷ []) t11 (more n12 (n13 ∷ n14 ∷ n15 ∷ n16 ∷ n17 ∷ n18 ∷ n19 ∷ n20 ∷ n21 ∷ []) t12 (more n13 (n14 ∷ n15 ∷ n16 ∷ n17 ∷ n18 ∷ n19 ∷ n20 ∷ n21 ∷ []) t13 (more n14 (n15 ∷ n16 ∷ n17 ∷ n18 ∷ n19 ∷ n20 ∷ n21 ∷ []) t14 (more n15 (n16 ∷ n17 ∷ n18 ∷ n19 ∷ n20 ∷ n21 ∷ []) t15 (more n16 (n17 ∷ n18 ∷ n19 ∷ n20 ∷ n21 ∷ []) t16 (more n17 (n18 ∷ n19 ∷ n20 ∷ n21 ∷ []) t17 (more n18 (n19 ∷ n20 ∷ n21 ∷ []) t18 (more n19 (n20 ∷ n21 ∷ []) t19 (more n20 (n21 ∷ []) t20 (more n21 ([]) t21 (none r21 t21.left)))))))))))))))))))))))))))))))))))))))))))
+    (more n1 (n2 ∷ n3 ∷ n4 ∷ n5 ∷ n6 ∷ n7 ∷ n8 ∷ n9 ∷ n10 ∷ n11 ∷ n12 ∷ n13 ∷ n14 ∷ n15 ∷ n16 ∷ n17 ∷ n18 ∷ n19 ∷ n20 ∷ n21 ∷ []) t1 (more n2 (n3 ∷ n4 ∷ n5 ∷ n6 ∷ n7 ∷ n8 ∷ n9 ∷ n10 ∷ n11 ∷ n12 ∷ n13 ∷ n14 ∷ n15 ∷ n16 ∷ n17 ∷ n18 ∷ n19 ∷ n20 ∷ n21 ∷ []) t2 (more n3 (n4 ∷ n5 ∷ n6 ∷ n7 ∷ n8 ∷ n9 ∷ n10 ∷ n11 ∷ n12 ∷ n13 ∷ n14 ∷ n15 ∷ n16 ∷ n17 ∷ n18 ∷ n19 ∷ n20 ∷ n21 ∷ []) t3 (more n4 (n5 ∷ n6 ∷ n7 ∷ n8 ∷ n9 ∷ n10 ∷ n11 ∷ n12 ∷ n13 ∷ n14 ∷ n15 ∷ n16 ∷ n17 ∷ n18 ∷ n19 ∷ n20 ∷ n21 ∷ []) t4 (more n5 (n6 ∷ n7 ∷ n8 ∷ n9 ∷ n10 ∷ n11 ∷ n12 ∷ n13 ∷ n14 ∷ n15 ∷ n16 ∷ n17 ∷ n18 ∷ n19 ∷ n20 ∷ n21 ∷ []) t5 (more n6 (n7 ∷ n8 ∷ n9 ∷ n10 ∷ n11 ∷ n12 ∷ n13 ∷ n14 ∷ n15 ∷ n16 ∷ n17 ∷ n18 ∷ n19 ∷ n20 ∷ n21 ∷ []) t6 (more n7 (n8 ∷ n9 ∷ n10 ∷ n11 ∷ n12 ∷ n13 ∷ n14 ∷ n15 ∷ n16 ∷ n17 ∷ n18 ∷ n19 ∷ n20 ∷ n21 ∷ []) t7 (more n8 (n9 ∷ n10 ∷ n11 ∷ n12 ∷ n13 ∷ n14 ∷ n15 ∷ n16 ∷ n17 ∷ n18 ∷ n19 ∷ n20 ∷ n21 ∷ []) t8 (more n9 (n10 ∷ n11 ∷ n12 ∷ n13 ∷ n14 ∷ n15 ∷ n16 ∷ n17 ∷ n18 ∷ n19 ∷ n20 ∷ n21 ∷ []) t9 (more n10 (n11 ∷ n12 ∷ n13 ∷ n14 ∷ n15 ∷ n16 ∷ n17 ∷ n18 ∷ n19 ∷ n20 ∷ n21 ∷ []) t10 (more n11 (n12 ∷ n13 ∷ n14 ∷ n15 ∷ n16 ∷ n17 ∷ n18 ∷ n19 ∷ n20 ∷ n21 ∷ []) t11 (more n12 (n13 ∷ n14 ∷ n15 ∷ n16 ∷ n17 ∷ n18 ∷ n19 ∷ n20 ∷ n21 ∷ []) t12 (more n13 (n14 ∷ n15 ∷ n16 ∷ n17 ∷ n18 ∷ n19 ∷ n20 ∷ n21 ∷ []) t13 (more n14 (n15 ∷ n16 ∷ n17 ∷ n18 ∷ n19 ∷ n20 ∷ n21 ∷ []) t14 (more n15 (n16 ∷ n17 ∷ n18 ∷ n19 ∷ n20 ∷ n21 ∷ []) t15 (more n16 (n17 ∷ n18 ∷ n19 ∷ n20 ∷ n21 ∷ []) t16 (more n17 (n18 ∷ n19 ∷ n20 ∷ n21 ∷ []) t17 (more n18 (n19 ∷ n20 ∷ n21 ∷ []) t18 (more n19 (n20 ∷ n21 ∷ []) t19 (more n20 (n21 ∷ []) t20 (more n21 [] t21 (none r21 t21.left)))))))))))))))))))))))))))))))))))))))))))
 
 callback_takes : IsReader callback_at (λ x. words (callback_words x)) (λ x. AreWords (callback_words x))
 unfolding callback_at
@@ -181,7 +182,7 @@ callback_takes bytes x rest fits e =
     word_step r1 _ _ t1.left e1 (λ n2 r2 t2 e2.
     word_step r2 _ _ t2.left e2 (λ n3 r3 t3 e3.
     subst (λ (p : AfsCallBack × List ℕ). Front bytes (words (callback_words p.0)) p.1 (AreWords (callback_words p.0))) (ok_is _ _ e3)
-    (more n1 (n2 ∷ n3 ∷ []) t1 (more n2 (n3 ∷ []) t2 (more n3 ([]) t3 (none r3 t3.left)))))))
+    (more n1 (n2 ∷ n3 ∷ []) t1 (more n2 (n3 ∷ []) t2 (more n3 [] t3 (none r3 t3.left)))))))
 
 sync_takes : IsReader sync_at (λ x. words (sync_words x)) (λ x. AreWords (sync_words x))
 unfolding sync_at
@@ -193,18 +194,15 @@ sync_takes bytes x rest fits e =
     word_step r4 _ _ t4.left e4 (λ n5 r5 t5 e5.
     word_step r5 _ _ t5.left e5 (λ n6 r6 t6 e6.
     subst (λ (p : AfsVolSync × List ℕ). Front bytes (words (sync_words p.0)) p.1 (AreWords (sync_words p.0))) (ok_is _ _ e6)
-    (more n1 (n2 ∷ n3 ∷ n4 ∷ n5 ∷ n6 ∷ []) t1 (more n2 (n3 ∷ n4 ∷ n5 ∷ n6 ∷ []) t2 (more n3 (n4 ∷ n5 ∷ n6 ∷ []) t3 (more n4 (n5 ∷ n6 ∷ []) t4 (more n5 (n6 ∷ []) t5 (more n6 ([]) t6 (none r6 t6.left)))))))))))))
+    (more n1 (n2 ∷ n3 ∷ n4 ∷ n5 ∷ n6 ∷ []) t1 (more n2 (n3 ∷ n4 ∷ n5 ∷ n6 ∷ []) t2 (more n3 (n4 ∷ n5 ∷ n6 ∷ []) t3 (more n4 (n5 ∷ n6 ∷ []) t4 (more n5 (n6 ∷ []) t5 (more n6 [] t6 (none r6 t6.left)))))))))))))
 
 -- ---- headers
 
 known_ok : {A : Type 0} (o : Option A) (rest : List ℕ) (x : A) (left : List ℕ) → known o rest ≡ Ok (x, left) → (o ≡ Some x) × (rest ≡ left)
 known_ok {A} (Some z) rest x left e =
-    let both : ◌≡◌ {A = A × List ℕ} (z, rest) (x, left) = ok_is (z, rest) (x, left) e in
-    (ap (λ (p : A × List ℕ). Some p.0) both, ap (λ (p : A × List ℕ). p.1) both)
+    let pair : ◌≡◌ {A = A × List ℕ} (z, rest) (x, left) = ok_is (z, rest) (x, left) e in
+    (ap (λ (p : A × List ℕ). Some p.0) pair, ap (λ (p : A × List ℕ). p.1) pair)
 known_ok None rest x left e = absurd cc
-
-some_of : {A : Type 0} (x y : A) → Some x ≡ Some y → x ≡ y
-some_of x y e = cc
 
 half_by : (n : ℕ) (h : Half) (a b c : Bool) → eqb n 1 ≡ a → eqb n 2 ≡ b → eqb n 3 ≡ c → cond a (Some halves.Call) (cond b (Some halves.Reply) (cond c (Some halves.Boot) None)) ≡ Some h → half_number h ≡ n
 half_by n h true b c x y z e = ap half_number (sym (some_of halves.Call h e)) ∙ sym (eqb-true n 1 x)
@@ -227,15 +225,11 @@ half_takes bytes h rest fits e =
     let k = known_ok (half_of n) r h rest e1 in
     stands_for n (half_number h) t (half_is n h k.0) k.1)
 
-both_true : (a b : Bool) → (a && b) ≡ true → (a ≡ true) × (b ≡ true)
-both_true true b e = (refl, e)
-both_true false b e = absurd cc
-
 from_100 : (n : ℕ) → is_between 101 116 n ≡ true → 100 + (n - 100) ≡ n
-from_100 n e = let low : 101 ≤ n = leb-true 101 n (both_true (nat_le 101 n) (nat_le n 116) e).0 in omega arith
+from_100 n e = let low : 101 ≤ n = leb-true 101 n (both (nat_le 101 n) (nat_le n 116) e).0 in omega arith
 
 from_200 : (n : ℕ) → is_between 201 204 n ≡ true → 200 + (n - 200) ≡ n
-from_200 n e = let low : 201 ≤ n = leb-true 201 n (both_true (nat_le 201 n) (nat_le n 204) e).0 in omega arith
+from_200 n e = let low : 201 ≤ n = leb-true 201 n (both (nat_le 201 n) (nat_le n 204) e).0 in omega arith
 
 node_by : (n : ℕ) (m : Node) (a b c d : Bool) → eqb n 0 ≡ a → is_between 1 8 n ≡ b → is_between 101 116 n ≡ c → is_between 201 204 n ≡ d
     → cond a (Some Loc) (cond b (Some (Server n)) (cond c (Some (Client (n - 100))) (cond d (Some (Admin (n - 200))) None))) ≡ Some m → node_number m ≡ n

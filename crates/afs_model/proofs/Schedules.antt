@@ -35,6 +35,7 @@ use Rattle.afs_model.specs.ClientRow.{the_server, is_trusted, find_cached, calls
 use Rattle.afs_model.specs.Runs.{Entry, Cell, Input, begins, gives, nothing, Moved, voided, client_moves, server_moves, message_at, given_to, given_at, begun_by, moved, Leads, start, RunsTo}
 use Rattle.afs_model.specs.Acts.{lines_before, sent_before, begun_count, is_busy, acts_of, IsVoid, IsAct, IsDelivery, IsEvent, AreEvents, events_of, Acts}
 use Rattle.afs_model.specs.Playing.{Played, as_played, begun, played, entries_of, cell_after, all_acts, IsOwnTask, IsOwnEvent, HasOneClient}
+use Rattle.afs_model.proofs.Basics.{some_of}
 use Rattle.afs_model.proofs.Firsts.{server_first, client_first, begin_first}
 
 -- ---- what stood before, and one entry more
@@ -80,9 +81,6 @@ AreOurs (m ∷ ms) = IsOurHead m.head × AreOurs ms
 ours_more : (ms ks : List Message) → AreOurs ms → AreOurs ks → AreOurs (ms ++ ks)
 ours_more [] ks a b = b
 ours_more (m ∷ ms) ks a b = (a.0, ours_more ms ks a.1 b)
-
-some_of : {A : Type 0} (x y : A) → Some x ≡ Some y → x ≡ y
-some_of x y e = cc
 
 our_at : (ms : List Message) (place : ℕ) (m : Message) → AreOurs ms → message_at ms place ≡ Some m → IsOurHead m.head
 our_at [] place m a e = absurd cc
