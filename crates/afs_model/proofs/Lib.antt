@@ -17,3 +17,8 @@ pub mod ScriptWhole
 pub mod Texts
 pub mod ScriptServer
 pub mod ScriptForm
+pub mod Firsts
+pub mod Sameness
+pub mod Schedules
+pub mod Prefixes
+pub mod Respelling

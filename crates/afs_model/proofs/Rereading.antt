@@ -69,7 +69,7 @@ opaque_again most bytes rest le lt =
       few,
     ) (counted_again bytes rest)
 
-word_of_signed : (z : ℤ) → FitsSigned w32 z → signed z < 2 ^ 32
+pub word_of_signed : (z : ℤ) → FitsSigned w32 z → signed z < 2 ^ 32
 word_of_signed z fits = Fits-lt-pow (Fits-of_z fits)
 
 pub signed_again : (z : ℤ) (rest : List ℕ) → FitsSigned w32 z → signed_at (word (signed z) ++ rest) ≡ Ok (z, rest)
@@ -94,7 +94,7 @@ node_again : (n : Node) (ns rest : List ℕ) → IsNode n → node_number n < 2 
 unfolding node_at
 node_again n ns rest is lt = rw (words_again (node_number n) ns rest lt, is) refl
 
-head_again : (h : Head) (rest : List ℕ) → FitsHead h → head_at (words (head_words h) ++ rest) ≡ Ok (h, rest)
+pub head_again : (h : Head) (rest : List ℕ) → FitsHead h → head_at (words (head_words h) ++ rest) ≡ Ok (h, rest)
 unfolding head_at
 head_again h rest fits =
     let n = fits.numbers in
@@ -111,11 +111,11 @@ head_again h rest fits =
 
 -- ---- fields
 
-fid_again : (f : Fid) (rest : List ℕ) → AreWords (fid_words f) → fid_at (words (fid_words f) ++ rest) ≡ Ok (f, rest)
+pub fid_again : (f : Fid) (rest : List ℕ) → AreWords (fid_words f) → fid_at (words (fid_words f) ++ rest) ≡ Ok (f, rest)
 unfolding fid_at
 fid_again f rest n = rw (words_again f.volume (f.vnode ∷ f.unique ∷ []) rest n.0, words_again f.vnode (f.unique ∷ []) rest n.1.0, words_again f.unique [] rest n.1.1.0) refl
 
-store_status_again : (s : AfsStoreStatus) (rest : List ℕ) → AreWords (store_status_words s) → store_status_at (words (store_status_words s) ++ rest) ≡ Ok (s, rest)
+pub store_status_again : (s : AfsStoreStatus) (rest : List ℕ) → AreWords (store_status_words s) → store_status_at (words (store_status_words s) ++ rest) ≡ Ok (s, rest)
 unfolding store_status_at
 store_status_again s rest n = rw (
   words_again s.mask (s.client_mod_time ∷ s.owner ∷ s.group ∷ s.unix_mode_bits ∷ s.seg_size ∷ []) rest n.0,
@@ -126,7 +126,7 @@ store_status_again s rest n = rw (
   words_again s.seg_size [] rest n.1.1.1.1.1.0,
 ) refl
 
-status_again : (s : AfsFetchStatus) (rest : List ℕ) → AreWords (status_words s) → status_at (words (status_words s) ++ rest) ≡ Ok (s, rest)
+pub status_again : (s : AfsFetchStatus) (rest : List ℕ) → AreWords (status_words s) → status_at (words (status_words s) ++ rest) ≡ Ok (s, rest)
 unfolding status_at
 status_again s rest n = rw (
   words_again s.interface_version (s.file_type ∷ s.link_count ∷ s.length ∷ s.data_version ∷ s.author ∷ s.owner ∷ s.caller_access ∷ s.anonymous_access ∷ s.unix_mode_bits ∷ s.parent_vnode ∷ s.parent_unique ∷ s.seg_size ∷ s.client_mod_time ∷ s.server_mod_time ∷ s.group ∷ s.sync_counter ∷ s.spare1 ∷ s.spare2 ∷ s.spare3 ∷ s.spare4 ∷ []) rest n.0,
@@ -152,7 +152,7 @@ status_again s rest n = rw (
   words_again s.spare4 [] rest n.1.1.1.1.1.1.1.1.1.1.1.1.1.1.1.1.1.1.1.1.0,
 ) refl
 
-callback_again : (c : AfsCallBack) (rest : List ℕ) → AreWords (callback_words c) → callback_at (words (callback_words c) ++ rest) ≡ Ok (c, rest)
+pub callback_again : (c : AfsCallBack) (rest : List ℕ) → AreWords (callback_words c) → callback_at (words (callback_words c) ++ rest) ≡ Ok (c, rest)
 unfolding callback_at
 callback_again c rest n = rw (
   words_again c.version (c.expiration_time ∷ c.kind ∷ []) rest n.0,
@@ -160,7 +160,7 @@ callback_again c rest n = rw (
   words_again c.kind [] rest n.1.1.0,
 ) refl
 
-sync_again : (v : AfsVolSync) (rest : List ℕ) → AreWords (sync_words v) → sync_at (words (sync_words v) ++ rest) ≡ Ok (v, rest)
+pub sync_again : (v : AfsVolSync) (rest : List ℕ) → AreWords (sync_words v) → sync_at (words (sync_words v) ++ rest) ≡ Ok (v, rest)
 unfolding sync_at
 sync_again v rest n = rw (
   words_again v.release (v.spare1 ∷ v.spare2 ∷ v.spare3 ∷ v.spare4 ∷ v.spare5 ∷ []) rest n.0,
@@ -188,7 +188,7 @@ fetch_call_again fid position count fits =
 last : {A : Type 0} (at : List ℕ → Result (A × List ℕ) XdrFault) (spelling : List ℕ) (x : A) → at (spelling ++ []) ≡ Ok (x, []) → at spelling ≡ Ok (x, [])
 last at spelling x e = ap at (sym (append-nil spelling)) ∙ e
 
-limit_is_word : contents_limit < 2 ^ 32
+pub limit_is_word : contents_limit < 2 ^ 32
 limit_is_word = lit< tt
 
 store_call_again : (fid : Fid) (status : AfsStoreStatus) (position count file_length : ℤ) (contents : List ℕ) → FitsCall store_data (calls.StoreData fid status position count file_length contents) → store_call_at (call_bytes (calls.StoreData fid status position count file_length contents)) ≡ Ok (calls.StoreData fid status position count file_length contents)
@@ -230,7 +230,7 @@ call_again opcode (calls.StoreData fid status position count file_length content
 call_again opcode call fits = absurd fits
 
 -- a call that fits has a row
-has_its_row : (opcode : ℕ) (call : FsCall) → FitsCall opcode call → has_row opcode ≡ true
+pub has_its_row : (opcode : ℕ) (call : FsCall) → FitsCall opcode call → has_row opcode ≡ true
 has_its_row opcode (calls.FetchData fid position count) fits = ap (λ (o : ℕ). has_row o) fits.0
 has_its_row opcode (calls.StoreData fid status position count file_length contents) fits = ap (λ (o : ℕ). has_row o) fits.0
 has_its_row opcode call fits = absurd fits
@@ -252,7 +252,7 @@ refusal_again : (opcode : ℕ) (code : Code) → FitsSigned w32 code.0 → is_ze
 unfolding replied_at refusal_at
 refusal_again opcode code fits some = rw (last signed_at (word (signed code.0)) code.0 (signed_again code.0 [] fits), some) refl
 
-zero_again : (rest : List ℕ) → signed_at (word 0 ++ rest) ≡ Ok (pos 0, rest)
+pub zero_again : (rest : List ℕ) → signed_at (word 0 ++ rest) ≡ Ok (pos 0, rest)
 unfolding signed_at
 zero_again rest = rw (word_again 0 rest (lit< tt)) refl
 

@@ -18,3 +18,5 @@ pub mod ScriptText
 pub mod Text
 pub mod ScriptLaws
 pub mod Form
+pub mod ActsLaws
+pub mod SpellingLaws
