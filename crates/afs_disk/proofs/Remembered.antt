@@ -1,9 +1,9 @@
 -- How what a crash may leave of a disk in memory goes on.
-use Rattle.std.proofs.Common.{◌≡◌, ◌≤◌, ◌⊎◌, inl, inr, ⊎_elim, ℕ, zero, suc, ◌+◌, ◌==◌, Bool, true, false, if◌then◌else◌, List, [], ◌∷◌, ◌++◌, length, take, drop, refl, sym, ◌∙◌, ap, subst, arith, length-append}
+use Rattle.std.proofs.Common.{◌≡◌, ◌≤◌, ◌⊎◌, inl, inr, ⊎_elim, ℕ, zero, suc, ◌==◌, Bool, true, false, if◌then◌else◌, List, [], ◌∷◌, ◌++◌, length, take, drop, refl, sym, ◌∙◌, ap, subst, arith, length-append}
 use Rattle.afs_model.specs.Disk.{overwritten, Torn, CutShort, ComesBy, LeavesJust, Passes}
 use Rattle.afs_disk.specs.Images.{Held, MayLeave, image, paint, painted}
 use Rattle.afs_disk.specs.Past.{HadLeft, Since}
-use Rattle.afs_disk.proofs.Painting.{torn_painted, torn_here, torn_same, torn_written, painted-push, painted-take, length-painted, cut_same, cut_front}
+use Rattle.afs_disk.proofs.Painting.{torn_painted, torn_here, torn_same, torn_written, painted-push, painted-take, cut_same, cut_front}
 
 keeps : (past : List Held) (held : Held) (c : List ℕ) → HadLeft past c → HadLeft (past ++ held ∷ []) c
 keeps [] held c had = absurd had

@@ -3,7 +3,7 @@ use Rattle.std.proofs.Common.{◌≡◌, ◌≤◌, inl, inr, ℕ, ◌+◌, ◌-
 use Rattle.std.proofs.lemmas.List.{length-take, length-take-le, take_all, drop_all, take_at, drop_at, take-append-le, drop-append-le, append-nil, drop-drop, drop-take, take-take}
 use Rattle.std.proofs.lemmas.Bool.{cases_lt}
 use Rattle.afs_disk.specs.declared.medium.Span.{Span}
-use Rattle.afs_disk.specs.Spans.{Fit, ranges, unwound}
+use Rattle.afs_disk.specs.Spans.{Fit, unwound}
 use Rattle.afs_model.specs.Disk.{overwritten}
 use Rattle.afs_disk.proofs.Painting.{length-overwritten}
 

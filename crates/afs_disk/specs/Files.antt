@@ -1,5 +1,5 @@
 -- A disk over a file, which tells nothing but lengths and counts.
-use Rattle.std.specs.Prelude.{◌≡◌, ℕ, ◌-◌, List, Option, None, Some}
+use Rattle.std.specs.Prelude.{◌≡◌, ℕ, ◌-◌, List, None, Some}
 use Rattle.afs_model.specs.Disk.{Room}
 use Rattle.afs_disk.specs.Fuses.{last_count}
 

@@ -1,9 +1,9 @@
 -- A disk in memory, with all that a crash might have left of it since it was made.
-use Rattle.std.specs.Prelude.{◌≡◌, ◌⊎◌, ℕ, ◌+◌, ◌-◌, ◌^◌, min, Option, Some, List, [], ◌∷◌, length, drop, take}
+use Rattle.std.specs.Prelude.{◌≡◌, ◌⊎◌, ℕ, ◌-◌, min, Some, List, [], ◌∷◌, length, drop}
 use Rattle.std.proofs.Common.{inl, inr, ap}
 use Rattle.afs_model.specs.Disk.{Room}
 use Rattle.afs_disk.specs.Fuses.{last_count}
-use Rattle.afs_disk.specs.Images.{Held, MayLeave, image}
+use Rattle.afs_disk.specs.Images.{Held, MayLeave}
 
 -- What is held now and what was held before each device call that changed something, the capacity, which device calls are
 -- to fail (call n where byte n - 1 is 1), how many came and how many failed, and for how many more the past has room.

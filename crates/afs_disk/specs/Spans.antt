@@ -1,5 +1,5 @@
 -- How what was written over since the last sync is put back.
-use Rattle.std.specs.Prelude.{◌≡◌, ◌≤◌, ℕ, ◌+◌, ◌-◌, List, [], ◌∷◌, length, take, drop, map}
+use Rattle.std.specs.Prelude.{◌≡◌, ◌≤◌, ℕ, ◌+◌, ◌-◌, List, [], ◌∷◌, take, drop, map}
 use Rattle.afs_disk.specs.declared.medium.Span.{Span}
 use Rattle.afs_model.specs.Disk.{overwritten}
 

@@ -40,11 +40,11 @@ impl Model for MemBank {
     ghost Value = { Lending };
 
     ghost view = { λ b. record {
-        lends = b.lends.items;
-        given = map (λ g. (g.node, g.disk.held.now)) b.given.items;
-        failing = b.failing;
-        calls = b.calls;
-        faults = b.faults;
+      lends = b.lends.items;
+      given = map (λ g. (g.node, g.disk.held.now)) b.given.items;
+      failing = b.failing;
+      calls = b.calls;
+      faults = b.faults;
     } };
 }
 
@@ -119,7 +119,12 @@ impl Bank for MemBank {
         let failing = failing_of(self.alloc, self.disks.as_slice(), self.lends.len())?;
         let place = place.copy(self.alloc)?;
         // The room for the disks that are to come back, this one among them.
-        self.given.reserve(self.lends.len().saturating_sub(self.given.len()).saturating_add(1))?;
+        self.given.reserve(
+            self.lends
+                .len()
+                .saturating_sub(self.given.len())
+                .saturating_add(1),
+        )?;
         self.lends.push(Lend {
             place,
             node,

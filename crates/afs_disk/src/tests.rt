@@ -78,10 +78,17 @@ fn a_call_fails_where_the_list_says_so(rt: HostRuntime) -> Result<(), Fail> {
 #[test]
 fn a_bank_in_memory_tells_what_it_lent(rt: HostRuntime) -> Result<(), Fail> {
     let alloc = rt.alloc();
-    let mut bank = MemBank::new(alloc, Octets::from_slice(alloc, &[0, 1])?, Records::new(alloc));
+    let mut bank = MemBank::new(
+        alloc,
+        Octets::from_slice(alloc, &[0, 1])?,
+        Records::new(alloc),
+    );
     let mut disk = bank.lend(&Place::Memory, 3, 50).map_err(|_| "not lent")?;
     assert_eq!(rt; disk.capacity(), 50);
-    assert_eq!(rt; bank.lend(&Place::Memory, 4, 50).err(), Some(LendFault::Failed));
+    assert_eq!(rt;
+        bank.lend(&Place::Memory, 4, 50).err(),
+        Some(LendFault::Failed)
+    );
     write_after(&mut disk, 0, b"abc")?;
     bank.give_back(3, disk)?;
     assert_eq!(rt; bank.lends().len(), 1);

@@ -1,8 +1,8 @@
 -- What a crash leaves between the device calls of an append.
-use Rattle.std.proofs.Common.{◌≡◌, ◌<◌, ◌⊎◌, inl, inr, ℕ, suc, ◌+◌, ◌^◌, List, [], ◌∷◌, ◌++◌, length, Option, Some, None, refl, sym, ◌∙◌, ap, subst, arith, length-append}
+use Rattle.std.proofs.Common.{◌≡◌, ◌<◌, inl, ℕ, suc, ◌+◌, ◌^◌, List, [], ◌∷◌, ◌++◌, length, Option, Some, sym, ◌∙◌, ap, subst, arith, length-append}
 use Rattle.std.specs.Prelude.{option_map, IfSome}
 use Rattle.afs_model.specs.Disk.{overwritten, Torn, ComesBy, LeavesJust, Passes, LeavesOnly}
-use Rattle.afs_model.specs.Journal.{place_of, blocks, journal_bytes, whole_records, IsBeforeOrAfter, Fit}
+use Rattle.afs_model.specs.Journal.{place_of, blocks, journal_bytes, whole_records, IsBeforeOrAfter}
 use Rattle.afs_model.proofs.Crash.{torn_behind, torn_gate, written_behind, written_gate, whole_opened, staged}
 use Rattle.afs_model.proofs.Journal.{fit-push}
 use Rattle.afs_model.proofs.Moments.{begins, goes_on}

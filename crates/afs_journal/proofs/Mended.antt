@@ -1,9 +1,9 @@
 -- What a crash leaves between the device calls that begin or repair a journal.
-use Rattle.std.proofs.Common.{◌≡◌, ◌<◌, ◌⊎◌, inl, inr, ℕ, suc, ◌+◌, ◌^◌, List, [], ◌∷◌, ◌++◌, length, get_or, take, drop, Option, Some, None, refl, sym, ◌∙◌, ap, subst, arith, length-append, length-drop, take-append-drop}
+use Rattle.std.proofs.Common.{◌≡◌, ℕ, ◌+◌, List, [], ◌∷◌, ◌++◌, length, get_or, take, Option, Some, refl, sym, ◌∙◌, ap, subst, arith}
 use Rattle.std.specs.Prelude.{option_map, IfSome}
-use Rattle.std.proofs.lemmas.List.{take_all, length-take-le}
+use Rattle.std.proofs.lemmas.List.{length-take-le}
 use Rattle.afs_model.specs.Disk.{overwritten, Torn, CutShort, ComesBy, LeavesJust, Passes, LeavesOnly}
-use Rattle.afs_model.specs.Journal.{blocks, journal_bytes, whole_records, Fit, EndsAt}
+use Rattle.afs_model.specs.Journal.{blocks, journal_bytes, whole_records, EndsAt}
 use Rattle.afs_model.proofs.Crash.{torn_new, cut_keeps, cut_done, torn_end, written_end, found, journal_stands}
 use Rattle.afs_model.proofs.Journal.{stands_for_nothing}
 use Rattle.afs_model.proofs.Moments.{begins, goes_on}

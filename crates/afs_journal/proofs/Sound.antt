@@ -1,11 +1,11 @@
 -- When a journal over a disk is sound, and what an append makes of that.
-use Rattle.std.proofs.Common.{◌≡◌, ◌<◌, ◌≤◌, ℕ, suc, ◌+◌, ◌*◌, ◌^◌, Bool, false, inl, List, [], ◌∷◌, ◌++◌, length, Option, Some, None, refl, sym, ◌∙◌, ap, subst, arith, length-append}
+use Rattle.std.proofs.Common.{◌≡◌, ◌<◌, ℕ, ◌+◌, ◌^◌, inl, List, [], ◌∷◌, ◌++◌, length, Option, Some, None, refl, sym, ◌∙◌, ap, subst, arith, length-append}
 use Rattle.std.specs.Prelude.{IsSome}
-use Rattle.afs_model.specs.Disk.{LeavesJust, SameDisk, LeavesOnly}
+use Rattle.afs_model.specs.Disk.{SameDisk, LeavesOnly}
 use Rattle.afs_model.specs.Journal.{place_of, journal_bytes, whole_records, IsBeforeOrAfter, Fit}
 use Rattle.afs_model.proofs.Journal.{length-place_of}
 use Rattle.afs_model.proofs.Moments.{and_on, unmoved}
-use Rattle.afs_journal.specs.Log.{Log, IsSettled, IsJournal, IsSound, AtRest, Spells}
+use Rattle.afs_journal.specs.Log.{IsSettled, IsJournal, Spells}
 
 some_is : (a b : List ℕ) → Some a ≡ Some b → a ≡ b
 some_is a b e = cc

@@ -1,5 +1,5 @@
 -- A journal over a disk: what callers see of it, and when it is sound.
-use Rattle.std.specs.Prelude.{◌≡◌, ◌<◌, ◌≤◌, ℕ, suc, ◌+◌, ◌*◌, ◌^◌, Bool, false, List, ◌++◌, [], ◌∷◌, length, Option, Some, None, Result, Ok, Err, IfErr, IsErrOf, OnOk, min, ◌-◌, ◌⊎◌}
+use Rattle.std.specs.Prelude.{◌≡◌, ◌<◌, ◌≤◌, ℕ, suc, ◌+◌, ◌*◌, ◌^◌, Bool, false, List, ◌++◌, [], ◌∷◌, length, Option, Some, Result, Ok, Err, IfErr, IsErrOf, OnOk, min, ◌-◌, ◌⊎◌}
 use Rattle.afs_num.specs.declared.faults.JournalFault.{JournalFault}
 use Rattle.afs_num.specs.declared.faults.JournalFault.TheVariants.{Full, Failed, Closed, OutOfMemory}
 use Rattle.afs_model.specs.Disk.{LeavesJust, Room, Holds, Rose, Setting, Trips, PassesAll, SameDisk}

@@ -1,7 +1,6 @@
-use Rattle.std.proofs.Common.{◌≡◌, ◌≤◌, ◌+◌, ◌-◌, ◌⊎◌, inl, inr, ⊎_elim, ℕ, List, length, take, drop, replicate, ◌++◌, refl, sym, ◌∙◌, ap, arith, rules, length-drop}
+use Rattle.std.proofs.Common.{◌≡◌, ◌+◌, ◌-◌, ◌⊎◌, inl, inr, ⊎_elim, ℕ, List, length, take, drop, replicate, ◌++◌, sym, ◌∙◌, ap, arith, rules, length-drop}
 use Rattle.std.proofs.lemmas.Bool.{cases_lt}
 use Rattle.std.proofs.lemmas.List.{length-take}
-use Rattle.afs_disk.specs.Images.{paint}
 use Rattle.afs_disk.proofs.Painting.{paint_mid, paint_past}
 use Rattle.afs_disk.proofs.medium.paint_over.Goals as goal
 

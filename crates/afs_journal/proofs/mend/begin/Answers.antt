@@ -1,5 +1,5 @@
 -- A device call after another: what each may leave is what `Mended` says.
-use Rattle.std.proofs.Common.{◌≡◌, [], refl}
+use Rattle.std.proofs.Common.{[], refl}
 use Rattle.afs_journal.proofs.Mended.{began, begun, is_begun}
 use Rattle.afs_journal.proofs.mend.begin.Goals as goal
 

@@ -1,5 +1,4 @@
 -- A device call after another: what each may leave is what `Mended` says.
-use Rattle.std.proofs.Common.{◌≡◌, refl}
 use Rattle.afs_journal.proofs.Mended.{cut, kept, closing, mended, is_mended}
 use Rattle.afs_journal.proofs.mend.repair.Goals as goal
 

@@ -1,5 +1,4 @@
 -- A device call after another: what each may leave is what `Appended` says.
-use Rattle.std.proofs.Common.{◌≡◌}
 use Rattle.afs_journal.proofs.Appended.{written, synced, opened, ended, added}
 use Rattle.afs_journal.proofs.put.put.Goals as goal
 

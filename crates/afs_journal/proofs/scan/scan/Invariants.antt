@@ -1,4 +1,4 @@
-use Rattle.std.proofs.Common.{◌≡◌, ◌<◌, ◌+◌, ℕ, suc, List, ◌++◌, length}
+use Rattle.std.proofs.Common.{◌≡◌, ◌<◌, suc, ◌++◌, length}
 use Rattle.afs_model.specs.Journal.{blocks, Fit}
 use Rattle.afs_journal.proofs.scan.scan.Given as goal
 

@@ -1,4 +1,3 @@
-use Rattle.std.proofs.Common.{ℕ, List}
 use Rattle.afs_disk.proofs.Painting.{cut_same}
 use Rattle.afs_disk.proofs.file.FileDiskDisk.cut.Goals as goal
 

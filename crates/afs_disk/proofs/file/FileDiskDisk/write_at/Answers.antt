@@ -1,4 +1,4 @@
-use Rattle.std.proofs.Common.{ℕ, List, length}
+use Rattle.std.proofs.Common.{length}
 use Rattle.afs_disk.proofs.Painting.{torn_same}
 use Rattle.afs_disk.proofs.file.FileDiskDisk.write_at.Goals as goal
 

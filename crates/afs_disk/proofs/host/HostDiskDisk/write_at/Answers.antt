@@ -1,4 +1,4 @@
-use Rattle.std.proofs.Common.{ℕ, List, length, sym, subst}
+use Rattle.std.proofs.Common.{length, sym, subst}
 use Rattle.afs_disk.specs.declared.host.HostDisk.{HostDisk}
 use Rattle.afs_disk.specs.Hosts.{host_leaves}
 use Rattle.afs_disk.proofs.Painting.{torn_same}

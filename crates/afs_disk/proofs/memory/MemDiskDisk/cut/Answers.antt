@@ -1,9 +1,9 @@
-use Rattle.std.proofs.Common.{◌≡◌, ◌≤◌, ◌+◌, ◌++◌, ◌∷◌, [], List, ℕ, length, arith, sym, ◌∙◌, ap, subst}
-use Rattle.afs_model.specs.Disk.{ComesBy, CutShort, Torn}
-use Rattle.afs_disk.specs.Images.{Held, MayLeave, image}
+use Rattle.std.proofs.Common.{◌++◌, ◌∷◌, [], List, ◌∙◌, ap, subst}
+use Rattle.afs_model.specs.Disk.{ComesBy, CutShort}
+use Rattle.afs_disk.specs.Images.{Held, MayLeave}
 use Rattle.afs_disk.specs.Past.{Memory}
-use Rattle.afs_disk.proofs.Painting.{torn_same, cut_same}
-use Rattle.afs_disk.proofs.Remembered.{passes, comes_by_write, comes_by_cut}
+use Rattle.afs_disk.proofs.Painting.{cut_same}
+use Rattle.afs_disk.proofs.Remembered.{passes, comes_by_cut}
 use Rattle.afs_disk.proofs.memory.MemDiskDisk.cut.Goals as goal
 
 pub returns-in_err-admits-clause-crash : goal.returns-in_err-admits-clause-crash

@@ -1,9 +1,7 @@
-use Rattle.std.proofs.Common.{◌≡◌, ◌≤◌, ◌+◌, ◌++◌, ◌∷◌, [], List, ℕ, length, arith, sym, ◌∙◌, ap, subst}
-use Rattle.afs_model.specs.Disk.{ComesBy, CutShort, Torn}
-use Rattle.afs_disk.specs.Images.{Held, MayLeave, image}
+use Rattle.std.proofs.Common.{◌++◌, ◌∷◌, [], List, ◌∙◌, ap}
+use Rattle.afs_disk.specs.Images.{Held}
 use Rattle.afs_disk.specs.Past.{Memory}
-use Rattle.afs_disk.proofs.Painting.{torn_same, cut_same}
-use Rattle.afs_disk.proofs.Remembered.{passes, comes_by_write, comes_by_cut}
+use Rattle.afs_disk.proofs.Remembered.{passes}
 use Rattle.afs_disk.proofs.memory.MemDiskDisk.sync.Goals as goal
 
 pub returns-clause-time : goal.returns-clause-time

@@ -1,9 +1,9 @@
-use Rattle.std.proofs.Common.{◌≡◌, ◌≤◌, ◌+◌, ◌++◌, ◌∷◌, [], List, ℕ, length, arith, sym, ◌∙◌, ap, subst}
-use Rattle.afs_model.specs.Disk.{ComesBy, CutShort, Torn}
-use Rattle.afs_disk.specs.Images.{Held, MayLeave, image}
+use Rattle.std.proofs.Common.{◌≤◌, ◌++◌, ◌∷◌, [], List, length, arith, ◌∙◌, ap, subst}
+use Rattle.afs_model.specs.Disk.{ComesBy, Torn}
+use Rattle.afs_disk.specs.Images.{Held, MayLeave}
 use Rattle.afs_disk.specs.Past.{Memory}
-use Rattle.afs_disk.proofs.Painting.{torn_same, cut_same}
-use Rattle.afs_disk.proofs.Remembered.{passes, comes_by_write, comes_by_cut}
+use Rattle.afs_disk.proofs.Painting.{torn_same}
+use Rattle.afs_disk.proofs.Remembered.{passes, comes_by_write}
 use Rattle.afs_disk.proofs.memory.MemDiskDisk.write_at.Goals as goal
 
 pub returns-in_err-admits-clause-crash : goal.returns-in_err-admits-clause-crash
