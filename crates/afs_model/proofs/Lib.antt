@@ -22,3 +22,6 @@ pub mod Sameness
 pub mod Schedules
 pub mod Prefixes
 pub mod Respelling
+pub mod Crash
+pub mod Journal
+pub mod Moments

@@ -2,6 +2,7 @@
 #![tactic(auto)]
 
 pub mod calls;
+pub mod devices;
 pub mod faults;
 pub mod grammar;
 pub mod histories;

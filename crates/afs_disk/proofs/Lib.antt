@@ -1,0 +1,3 @@
+mod Painting
+mod Remembered
+mod Unwinding

@@ -1,0 +1,10 @@
+-- A bank in memory: its lends, the disks given back with their bytes, which calls are to fail, and its counts.
+use Rattle.std.specs.Prelude.{ℕ, List}
+use Rattle.afs_disk.specs.declared.bank.Lend.{Lend}
+
+pub record Lending : Type 0 where
+  pub lends : List Lend
+  pub given : List (ℕ × List ℕ)
+  pub failing : List ℕ
+  pub calls : ℕ
+  pub faults : ℕ

@@ -1,0 +1,43 @@
+-- A disk in memory, with all that a crash might have left of it since it was made.
+use Rattle.std.specs.Prelude.{◌≡◌, ◌⊎◌, ℕ, ◌-◌, min, Some, List, [], ◌∷◌, length, drop}
+use Rattle.std.proofs.Common.{inl, inr, ap}
+use Rattle.afs_model.specs.Disk.{Room}
+use Rattle.afs_disk.specs.Fuses.{last_count}
+use Rattle.afs_disk.specs.Images.{Held, MayLeave}
+
+-- What is held now and what was held before each device call that changed something, the capacity, which device calls are
+-- to fail (call n where byte n - 1 is 1), how many came and how many failed, and for how many more the past has room.
+pub record Memory : Type 0 where
+  pub held : Held
+  pub past : List Held
+  pub limit : ℕ
+  pub failing : List ℕ
+  pub calls : ℕ
+  pub faults : ℕ
+  pub spare : ℕ
+
+-- a crash in one of these states might have left this
+abbrev pub HadLeft : List Held → List ℕ → Type 0
+HadLeft [] c = ⊥
+HadLeft (held ∷ past) c = MayLeave held c ⊎ HadLeft past c
+
+abbrev pub Since : List Held → Held → ℕ → List ℕ → Type 0
+Since past held t c = MayLeave held c ⊎ HadLeft (drop t past) c
+
+abbrev pub memory_room : Memory → Room
+memory_room m = record { calls = min m.held.room.calls (min m.spare (last_count - m.calls)); bytes = m.held.room.bytes; end = m.held.room.end }
+
+none_left : (past : List Held) (c : List ℕ) → HadLeft (drop (length past) past) c → ⊥
+none_left [] c had = had
+none_left (held ∷ past) c had = none_left past c had
+
+-- since this moment there is what a crash may leave now
+pub only_now : (past : List Held) (held : Held) (c : List ℕ) → Since past held (length past) c → MayLeave held c
+only_now past held c (inl now) = now
+only_now past held c (inr had) = absurd (none_left past c had)
+
+pub shown : (now bytes : List ℕ) → Some now ≡ Some bytes → bytes ≡ now
+shown now bytes told = cc
+
+pub measured : (now bytes : List ℕ) → Some now ≡ Some bytes → length bytes ≡ length now
+measured now bytes told = ap length (shown now bytes told)

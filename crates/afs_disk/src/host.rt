@@ -1,0 +1,212 @@
+// The program's disks: in memory, or files of a folder.
+ghost use Rattle.std.specs.Prelude.{◌≡◌, ◌≤◌, None, IfOk};
+ghost use Rattle.afs_model.specs.Disk.{Rose};
+ghost use Rattle.afs_disk.specs.Hosts.{host_calls, host_counts, host_faults, host_just, host_leaves, host_limit, host_measures, host_moment, host_seen, host_setting, host_shows, host_since, host_size, host_space};
+
+use crate::bank::{Bank, LendFault, Place};
+use crate::disk::Disk;
+use crate::file::FileDisk;
+use crate::memory::MemDisk;
+use afs_num::devices::Failed;
+use afs_num::sequences::Octets;
+use afs_num::types::Mem;
+use std::alloc::Global;
+use std::fs::File;
+use std::rt::Files;
+
+/// A disk that the program lends.
+#[derive(Drop)]
+pub enum HostDisk {
+    Memory(MemDisk),
+    File(FileDisk),
+}
+
+impl Disk for HostDisk {
+    ghost seen = { host_seen };
+
+    ghost size = { host_size };
+
+    ghost may_leave = { host_leaves };
+
+    ghost moment = { host_moment };
+
+    ghost left_since = { host_since };
+
+    ghost faults = { host_faults };
+
+    ghost own_faults = { host_faults };
+
+    ghost calls = { host_calls };
+
+    ghost setting = { host_setting };
+
+    ghost limit = { host_limit };
+
+    ghost space = { host_space };
+
+    ghost counts_now = { host_counts };
+
+    ghost just_now = { host_just };
+
+    ghost shows = { host_shows };
+
+    ghost measures = { host_measures };
+
+    fn len(&self) -> u64 {
+        match self {
+            HostDisk::Memory(disk) => disk.len(),
+            HostDisk::File(disk) => disk.len(),
+        }
+    }
+
+    fn capacity(&self) -> u64 {
+        match self {
+            HostDisk::Memory(disk) => disk.capacity(),
+            HostDisk::File(disk) => disk.capacity(),
+        }
+    }
+
+    fn read(&mut self, at: u64, buf: &mut [u8]) -> Result<usize, Failed> {
+        match self {
+            HostDisk::Memory(disk) => disk.read(at, buf),
+            HostDisk::File(disk) => disk.read(at, buf),
+        }
+    }
+
+    fn write_at(&mut self, at: u64, bytes: &[u8]) -> Result<(), Failed> {
+        match self {
+            HostDisk::Memory(disk) => disk.write_at(at, bytes),
+            HostDisk::File(disk) => disk.write_at(at, bytes),
+        }
+    }
+
+    fn cut(&mut self, len: u64) -> Result<(), Failed> {
+        match self {
+            HostDisk::Memory(disk) => disk.cut(len),
+            HostDisk::File(disk) => disk.cut(len),
+        }
+    }
+
+    fn room(&mut self, end: u64, bytes: u64) -> Mem<()> {
+        match self {
+            HostDisk::Memory(disk) => disk.room(end, bytes),
+            HostDisk::File(disk) => disk.room(end, bytes),
+        }
+    }
+
+    fn sync(&mut self) -> Result<(), Failed> {
+        match self {
+            HostDisk::Memory(disk) => disk.sync(),
+            HostDisk::File(disk) => disk.sync(),
+        }
+    }
+
+    fn crash(&mut self, pick: u8) {
+        match self {
+            HostDisk::Memory(disk) => disk.crash(pick),
+            HostDisk::File(disk) => disk.crash(pick),
+        }
+    }
+}
+
+/// Lends the program's disks. It tells neither its lends nor what it was given back.
+#[derive(Drop)]
+pub struct HostBank<'a, R: Files<File = File>> {
+    files: &'a R,
+    alloc: Global,
+    faults: u64,
+}
+
+// The file of a node's disk in a folder. It is made where there is none, and keeps what it holds where there is one.
+fn opened<R: Files<File = File>>(
+    files: &R,
+    alloc: Global,
+    folder: &[u8],
+    node: u32,
+) -> Result<File, LendFault> {
+    let folder = match str::from_utf8(folder) {
+        Ok(folder) => folder,
+        Err(_) => return Err(LendFault::Failed),
+    };
+    let path = format!(in alloc; "{folder}/disk{node}")?;
+    match File::options()
+        .read(true)
+        .write(true)
+        .create(true)
+        .open(files, path.as_str())
+    {
+        Ok(file) => Ok(file),
+        Err(_) => Err(LendFault::Failed),
+    }
+}
+
+// A disk of this capacity in a folder.
+fn disk_in<R: Files<File = File>>(
+    files: &R,
+    alloc: Global,
+    folder: &[u8],
+    node: u32,
+    capacity: u64,
+) -> Result<FileDisk, LendFault>
+    ensures { IfOk result (λ disk. disk.limit ≡ capacity) }
+{
+    let file = opened(files, alloc, folder, node)?;
+    match FileDisk::over(file, capacity) {
+        Ok(disk) => Ok(disk),
+        Err(_) => Err(LendFault::Failed),
+    }
+}
+
+// Counts a fault.
+fn counted(fault: LendFault, faults: &mut u64)
+    ensures cause { fault ≡ LendFault.Failed → Rose faults.old faults.new }
+    ensures never_falls { faults.old ≤ faults.new }
+{
+    match fault {
+        LendFault::Failed => *faults = faults.saturating_add(1),
+        LendFault::OutOfMemory => {}
+    }
+}
+
+impl<'a, R: Files<File = File>> HostBank<'a, R> {
+    /// The bank of a program that may reach files.
+    pub fn new(files: &'a R, alloc: Global) -> HostBank<'a, R> {
+        HostBank {
+            files,
+            alloc,
+            faults: 0,
+        }
+    }
+}
+
+impl<'a, R: Files<File = File>> Bank for HostBank<'a, R> {
+    type D = HostDisk;
+
+    ghost lends = { λ b. None };
+
+    ghost given = { λ b. None };
+
+    ghost faults = { λ b. b.faults };
+
+    fn lend(&mut self, place: &Place, node: u32, capacity: u64) -> Result<HostDisk, LendFault> {
+        match place {
+            Place::Memory => {
+                let failing = Octets::new(self.alloc);
+                Ok(HostDisk::Memory(MemDisk::new(self.alloc, capacity, failing)))
+            }
+            Place::Folder(folder) => {
+                match disk_in(self.files, self.alloc, folder.as_slice(), node, capacity) {
+                    Ok(disk) => Ok(HostDisk::File(disk)),
+                    Err(fault) => {
+                        counted(fault, &mut self.faults);
+                        Err(fault)
+                    }
+                }
+            }
+        }
+    }
+
+    fn give_back(&mut self, _node: u32, _disk: HostDisk) -> Result<(), Failed> {
+        Ok(())
+    }
+}

@@ -1,0 +1,15 @@
+use Rattle.std.proofs.Common.{◌≡◌, ◌<◌, suc, ◌++◌, length}
+use Rattle.afs_model.specs.Journal.{blocks, Fit}
+use Rattle.afs_journal.proofs.scan.scan.Given as goal
+
+-- the bytes are the records found so far, and the rest
+abbrev pub invariant-loop-body : goal.invariant-loop-body
+invariant-loop-body l = record {
+  split : l.bytes ≡ blocks 1 l.found ++ l.rest;
+  more : 0 < length l.rest;
+  fit : Fit 1 l.found;
+  counted : l.number ≡ suc (length l.found);
+}
+
+abbrev pub decreases-loop-body : goal.decreases-loop-body
+decreases-loop-body l = length l.rest

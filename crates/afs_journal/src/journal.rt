@@ -1,0 +1,177 @@
+ghost use Rattle.std.specs.Prelude.{◌≡◌, ◌≤◌, ◌<◌, ◌+◌, ◌++◌, ◌∷◌, [], ◌↔◌, ◌*◌, ◌^◌, List, ℕ, Some, true, false, length, MatchResult, IfOk, IfErr, OnOk, IsOk, IsErrOf, IsTrue, IsSome};
+ghost use Rattle.afs_model.specs.Disk.{LeavesOnly, PassesAll};
+ghost use Rattle.afs_model.specs.Journal.{whole_records, IsBeforeOrAfter};
+ghost use Rattle.afs_journal.specs.Log.{Appended, HasRoom, IsCaused, IsJournal, LeavesUnchanged, SameCounts, Served, StandsAsBefore, Taken, Unchanged};
+
+use crate::mend::settle;
+use crate::opening::open;
+use crate::put::put;
+use crate::spelling::{SPELLED, TAKEN, make_room, spell};
+use afs_disk::Disk;
+use afs_num::faults::JournalFault;
+use afs_num::sequences::Records;
+use afs_num::types::Mem;
+use std::alloc::Global;
+use std::marker::Model;
+
+/// Records on a disk, in the order in which they were appended.
+#[derive(Drop)]
+pub struct Journal<D: Disk> {
+    pub(crate) disk: D,
+    found: Records,
+    count: u64,
+    gate: u64,
+    closed: bool,
+    place: Vec<u8>,
+}
+
+impl<D: Disk> Model for Journal<D> {
+    ghost use Rattle.std.specs.Vec.{vec_capacity};
+    ghost use Rattle.afs_journal.specs.Log.{Log, IsSound};
+
+    ghost Value = { Log D };
+
+    ghost view = { λ j. record { disk = j.disk; found = j.found; count = j.count; gate = j.gate; closed = j.closed; spelled = vec_capacity j.place } };
+
+    ghost invariant = { λ j. IsSound D.seen D.size D.may_leave D.limit (record { disk = j.disk; found = j.found; count = j.count; gate = j.gate; closed = j.closed; spelled = vec_capacity j.place }) };
+}
+
+// Whether a record of so many bytes fits behind a journal of this length.
+fn fits(used: u64, len: u64, capacity: u64) -> bool
+    requires { capacity < 2 ^ 63 }
+    ensures { IsTrue result ↔ (used + len + 9 ≤ capacity) }
+{
+    used.saturating_add(len).saturating_add(SPELLED) <= capacity
+}
+
+// Finds the whole records of a disk, and makes a journal at rest of it.
+fn take_up<D: Disk>(alloc: Global, disk: &mut D) -> Result<(Records, u64), JournalFault>
+    ensures size { IfOk result (λ r. D.size disk.new ≡ r.1 + 1) }
+    ensures counts { IfOk result (λ r. (9 * length r.0 ≤ r.1) × (r.1 < 2 ^ 63)) }
+    ensures found { IfOk result (λ r. (bytes : List ℕ) → D.seen disk.old ≡ Some bytes → r.0 ≡ whole_records bytes) }
+    ensures told { OnOk result (IsSome (D.seen disk.new) → IsSome (D.seen disk.old)) }
+    ensures done { OnOk result ((bytes : List ℕ) → D.seen disk.old ≡ Some bytes → IsJournal (whole_records bytes) (D.seen disk.new) (D.may_leave disk.new)) }
+    ensures any_moment { (bytes : List ℕ) → D.seen disk.old ≡ Some bytes → LeavesOnly D.moment D.left_since disk.old disk.new (StandsAsBefore (D.may_leave disk.old)) }
+    ensures calls { (D.calls disk.old ≤ D.calls disk.new) × (D.calls disk.new ≤ D.calls disk.old + 6) }
+    ensures setting { D.setting disk.new ≡ D.setting disk.old }
+    ensures cause { Served (D.setting disk.old) (D.calls disk.old) (D.calls disk.new) (D.faults disk.old) (D.faults disk.new) (D.own_faults disk.old) (D.own_faults disk.new) result }
+    ensures limit { D.limit disk.new ≡ D.limit disk.old }
+{
+    let bytes = open(alloc, disk)?;
+    let (found, gate) = settle(alloc, disk, &bytes)?;
+    Ok((found, gate))
+}
+
+impl<D: Disk> Journal<D> {
+    /// Finds the whole records of a disk that a crash may have left, and makes a journal at rest of it. It begins with a
+    /// sync. Each refusal hands the disk back; a crash at any moment leaves records that one before the call might have
+    /// left, so none is lost.
+    pub fn attach(alloc: Global, disk: D) -> Result<Journal<D>, (JournalFault, D)>
+        requires { D.limit disk ≤ 268435456 }
+
+        ensures found { IfOk result (λ j. (bytes : List ℕ) → D.seen disk ≡ Some bytes → j.found ≡ whole_records bytes) }
+        ensures at_rest { IfOk result (λ j. (bytes : List ℕ) → D.seen disk ≡ Some bytes → IsJournal (whole_records bytes) (D.seen j.disk) (D.may_leave j.disk)) }
+        ensures counts { IfOk result (λ j. (j.count ≡ length j.found) × (D.size j.disk ≡ j.gate + 1) × (j.closed ≡ false)) }
+        ensures any_moment { (bytes : List ℕ) → D.seen disk ≡ Some bytes → MatchResult result
+            (λ j. LeavesOnly D.moment D.left_since disk j.disk (StandsAsBefore (D.may_leave disk)))
+            (λ e. LeavesOnly D.moment D.left_since disk e.1 (StandsAsBefore (D.may_leave disk))) }
+        ensures ok { IfOk result (λ j. Taken D.faults D.own_faults D.calls D.setting disk j.disk × PassesAll (D.setting disk) (D.calls disk) (D.calls j.disk)) }
+        ensures err { IfErr result (λ e. Taken D.faults D.own_faults D.calls D.setting disk e.1 × IsCaused (D.setting disk) (D.calls e.1) (D.faults disk) (D.faults e.1) (D.own_faults disk) (D.own_faults e.1) e.0) }
+        ensures limit { MatchResult result (λ j. D.limit j.disk ≡ D.limit disk) (λ e. D.limit e.1 ≡ D.limit disk) }
+    {
+        let mut disk = disk;
+        match take_up(alloc, &mut disk) {
+            Ok((found, gate)) => Ok(Journal {
+                disk,
+                count: found.len() as u64,
+                found,
+                gate,
+                closed: false,
+                place: Vec::new(alloc),
+            }),
+            Err(fault) => Err((fault, disk)),
+        }
+    }
+
+    /// The records that `attach` found, in order. It takes no memory.
+    pub fn records(&self) -> &Records
+        ensures { result.now ≡ self.now.found }
+    {
+        &self.found
+    }
+
+    /// Makes room, so that the next `append` of at most so many bytes wants no memory. Nothing else changes.
+    pub fn reserve(&mut self, len: u64) -> Mem<()>
+        ensures ok { OnOk result (HasRoom D.limit D.space len self.new) }
+        ensures succeeds { HasRoom D.limit D.space len self.old → IsOk result }
+        ensures same { Unchanged D.seen D.size D.may_leave D.moment D.left_since self.old self.new }
+        ensures disk { SameCounts D.faults D.own_faults D.calls D.setting D.limit self.old.disk self.new.disk }
+    {
+        let most = len.min(self.disk.capacity().saturating_sub(self.gate + TAKEN));
+        make_room(&mut self.disk, &mut self.place, self.gate, most)?;
+        Ok(())
+    }
+
+    /// Appends a record, and answers its number: the first is 1. At `Ok` it is acknowledged, and every crash leaves it;
+    /// a crash at any moment of the call leaves the records from before, with this one or without. After a `Failed` the
+    /// journal is closed: take the disk, and attach it again.
+    pub fn append(&mut self, rec: &[u8]) -> Result<u64, JournalFault>
+        ensures closed { IsErrOf result JournalFault.Closed ↔ (self.old.closed ≡ true) }
+        ensures full { (used capacity : ℕ) → IsErrOf result (JournalFault.Full used capacity) ↔ ((self.old.closed ≡ false) × (used ≡ self.old.gate + 1) × (capacity ≡ D.limit self.old.disk) × (capacity < used + length rec.now + 9)) }
+        ensures failed { IsErrOf result JournalFault.Failed → self.new.closed ≡ true }
+        ensures memory { HasRoom D.limit D.space (length rec.now) self.old → IsErrOf result JournalFault.OutOfMemory → ⊥ }
+        ensures number { IfOk result (λ n. (n ≡ self.old.count + 1) × (self.new.count ≡ n) × (self.new.gate ≡ self.old.gate + length rec.now + 9) × (self.new.closed ≡ false)) }
+
+        // Where the disk tells: every crash leaves the new record too.
+        ensures added { OnOk result ((bytes : List ℕ) → D.seen self.old.disk ≡ Some bytes → IsJournal (whole_records bytes ++ rec.now ∷ []) (D.seen self.new.disk) (D.may_leave self.new.disk)) }
+
+        // A crash at any moment leaves the records from before the call, with the new one or without.
+        ensures any_moment { self.old.closed ≡ false → (bytes : List ℕ) → D.seen self.old.disk ≡ Some bytes
+            → LeavesOnly D.moment D.left_since self.old.disk self.new.disk (IsBeforeOrAfter (whole_records bytes) rec.now) }
+
+        ensures unchanged { LeavesUnchanged result (Unchanged D.seen D.size D.may_leave D.moment D.left_since self.old self.new) }
+        ensures uncounted { LeavesUnchanged result (SameCounts D.faults D.own_faults D.calls D.setting D.limit self.old.disk self.new.disk) }
+        ensures calls { OnOk result (D.calls self.new.disk ≡ D.calls self.old.disk + 4) }
+        ensures most { (D.calls self.old.disk ≤ D.calls self.new.disk) × (D.calls self.new.disk ≤ D.calls self.old.disk + 4) }
+        ensures cause { Appended (D.setting self.old.disk) (D.calls self.old.disk) (D.calls self.new.disk) (D.faults self.old.disk) (D.faults self.new.disk) (D.own_faults self.old.disk) (D.own_faults self.new.disk) result }
+        ensures kept { (self.new.found ≡ self.old.found) × (D.limit self.new.disk ≡ D.limit self.old.disk) × (D.setting self.new.disk ≡ D.setting self.old.disk) }
+    {
+        if self.closed {
+            return Err(JournalFault::Closed);
+        }
+        let used = self.gate + 1;
+        let capacity = self.disk.capacity();
+        let len = rec.len() as u64;
+        if !fits(used, len, capacity) {
+            return Err(JournalFault::Full(used, capacity));
+        }
+        make_room(&mut self.disk, &mut self.place, self.gate, len)?;
+        spell(&mut self.place, self.count + 1, rec)?;
+        match put(&mut self.disk, self.gate, &self.place) {
+            Ok(()) => {
+                self.count += 1;
+                self.gate += len + SPELLED;
+                Ok(self.count)
+            }
+            Err(_) => {
+                self.closed = true;
+                Err(JournalFault::Failed)
+            }
+        }
+    }
+
+    /// The disk.
+    pub fn into_disk(self) -> D
+        ensures { result ≡ self.disk }
+    {
+        let Journal {
+            disk,
+            found: _,
+            count: _,
+            gate: _,
+            closed: _,
+            place: _,
+        } = self;
+        disk
+    }
+}

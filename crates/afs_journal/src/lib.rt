@@ -1,0 +1,15 @@
+//! A journal: records on a disk, each of them on it before it is acknowledged, whatever the disk does.
+#![tactic(auto)]
+
+mod fused;
+mod journal;
+mod mend;
+mod opening;
+mod put;
+mod scan;
+mod spelling;
+
+pub use journal::Journal;
+
+#[cfg(test)]
+mod tests;

@@ -1,0 +1,65 @@
+// The whole records of bytes that a crash may have left.
+ghost use Rattle.std.specs.Prelude.{◌≡◌, ◌≤◌, ◌<◌, ◌+◌, ◌*◌, IfOk, IfSome, IfNone, IsTrue, length, None};
+ghost use Rattle.afs_model.specs.Journal.{number_at, is_whole, record_at, whole_records, StartsWith, EndsAt};
+
+use afs_num::sequences::{Octets, Records};
+use std::alloc::{AllocError, Global};
+
+// The gate byte of a whole record.
+const OPEN: u8 = 1;
+
+// What stands before a record's bytes: its gate, its length and its number.
+const HEAD: usize = 9;
+
+// The number that four bytes spell, the highest first.
+#[tactic(auto, unfolding(afs_model::specs::Journal::number_at))]
+fn word(bytes: &[u8], at: usize) -> u32
+    requires { at + 4 ≤ length bytes.now }
+    ensures { result ≡ number_at at bytes.now }
+{
+    u32::from_be_bytes([bytes[at], bytes[at + 1], bytes[at + 2], bytes[at + 3]])
+}
+
+// Whether the bytes begin with a whole record of this number.
+#[tactic(auto, unfolding(afs_model::specs::Journal::is_whole))]
+fn is_record(number: u64, bytes: &[u8]) -> bool
+    ensures is { result ≡ is_whole number bytes.now }
+    ensures inside { IsTrue result → number_at 1 bytes.now + 9 < length bytes.now }
+{
+    bytes.len() > HEAD
+        && bytes[0] == OPEN
+        && word(bytes, 1) as usize + HEAD < bytes.len()
+        && word(bytes, 5) as u64 == number
+}
+
+// The record of this number with which the bytes begin, and what is behind it.
+fn first(number: u64, bytes: &[u8]) -> Option<(&[u8], &[u8])>
+    ensures some { IfSome result (λ r. StartsWith number r.0.now r.1.now bytes.now) }
+    ensures none { IfNone result (record_at number bytes.now ≡ None) }
+{
+    if !is_record(number, bytes) {
+        return None;
+    }
+    let size = word(bytes, 1) as usize;
+    let (_, behind) = bytes.split_at(HEAD);
+    Some(behind.split_at(size))
+}
+
+/// The whole records of these bytes, and the place of the gate behind the last of them.
+pub(crate) fn scan(alloc: Global, bytes: &[u8]) -> Result<(Records, u64), AllocError>
+    requires { 0 < length bytes.now }
+    ensures ends { IfOk result (λ r. EndsAt r.1 r.0 bytes.now) }
+    ensures whole { IfOk result (λ r. r.0 ≡ whole_records bytes.now) }
+    ensures counts { IfOk result (λ r. (9 * length r.0 ≤ r.1) × (r.1 < length bytes.now)) }
+{
+    let mut found = Records::new(alloc);
+    let mut number = 1;
+    let mut rest = bytes;
+    while let Some((body, behind)) = first(number, rest) {
+        found.push(Octets::from_slice(alloc, body)?)?;
+        number += 1;
+        rest = behind;
+    }
+    let gate = bytes.len() - rest.len();
+    Ok((found, gate as u64))
+}
