@@ -1,2 +1,4 @@
 pub mod Loops
 pub mod Spellable
+pub mod Laws
+pub mod FieldLaws

@@ -2,3 +2,4 @@ pub mod Spelling
 pub mod Items
 pub mod Reading
 pub mod Tables
+pub mod Parts

@@ -1,6 +1,8 @@
 -- Tables of shapes, and what fields have a shape.
-use Rattle.std.specs.Prelude.{ℕ, ◌<◌, ◌≤◌, ◌^◌, ◌==◌, List, [], ◌∷◌, length, take, Bool, true, false, Option, find}
-use Rattle.std.specs.List.{prefix_len}
+use Rattle.std.specs.Prelude.{ℕ, ◌<◌, ◌≤◌, ◌^◌, ◌==◌, List, [], ◌∷◌, length, take, Bool, true, false, Option, find, FitsSigned}
+use Rattle.std.specs.Int.{w32}
+use Rattle.std.specs.List.{prefix_len, AllByRecursion}
+use Rattle.afs_shape.specs.Spelling.{fid_words, store_status_words, status_words, callback_words, sync_words}
 use Rattle.afs_shape.specs.declared.kinds.Kind.{Kind}
 use Rattle.afs_shape.specs.declared.kinds.Kind.TheVariants as kinds
 use Rattle.afs_shape.specs.declared.kinds.Field.{Field}
@@ -43,3 +45,24 @@ abbrev pub AreOf : List Kind → List Field → Type 0
 AreOf [] [] = Unit {0}
 AreOf (k ∷ ks) (f ∷ fs) = IsOf k f × AreOf ks fs
 AreOf _ _ = ⊥
+
+abbrev pub AreWords : List ℕ → Type 0
+AreWords ns = AllByRecursion (λ n. n < 2 ^ 32) ns
+
+-- its numbers are words
+abbrev pub IsInRange : Field → Type 0
+IsInRange (fields.Word n) = n < 2 ^ 32
+IsInRange (fields.Signed z) = FitsSigned w32 z
+IsInRange (fields.VolumeKind n) = n < 2 ^ 32
+IsInRange (fields.Fid f) = AreWords (fid_words f)
+IsInRange (fields.StoreStatus s) = AreWords (store_status_words s)
+IsInRange (fields.FetchStatus s) = AreWords (status_words s)
+IsInRange (fields.CallBack c) = AreWords (callback_words c)
+IsInRange (fields.VolSync v) = AreWords (sync_words v)
+IsInRange (fields.Opaque bytes) = Unit {0}
+IsInRange (fields.Fids fs) = AllByRecursion (λ f. AreWords (fid_words f)) fs
+IsInRange (fields.CallBacks cs) = AllByRecursion (λ c. AreWords (callback_words c)) cs
+IsInRange (fields.Statuses ss) = AllByRecursion (λ s. AreWords (status_words s)) ss
+
+abbrev pub AreInRange : List Field → Type 0
+AreInRange fs = AllByRecursion IsInRange fs

@@ -3,16 +3,17 @@
 ghost use Rattle.std.specs.Prelude.{◌≡◌, ◌++◌, ◌<◌, ◌^◌, length, OnOk, OnErr};
 ghost use Rattle.afs_xdr.specs.Reading.{Reads, KeepsEnd};
 ghost use Rattle.afs_xdr.specs.Words.{word, opaque, opaque_at};
-ghost use Rattle.afs_shape.specs.Spelling.{field_spelled, list, Extends, IsSpellable};
+ghost use Rattle.afs_shape.specs.Spelling.{field_spelled, Extends, IsSpellable};
+ghost use Rattle.afs_shape.specs.Parts.{field_of, field_size};
 ghost use Rattle.afs_shape.specs.Reading.{ReadsField, small_at, signed_at, field_at};
 ghost use Rattle.std.specs.Int.{w32, cast_unsigned};
 
 use crate::faults::FieldFault;
 use crate::items::Item;
-use crate::kinds::{Field, Kind};
+use crate::kinds::{Field, Kind, Part};
 use crate::lists::{read_list, write_list};
 use afs_num::calls::{AfsCallBack, AfsFetchStatus, AfsStoreStatus, AfsVolSync};
-use afs_num::sequences::{Octets, Sequence};
+use afs_num::sequences::Octets;
 use afs_num::types::{Fid, Mem};
 use afs_xdr::faults::XdrFault;
 use afs_xdr::reading::Reader;
@@ -37,9 +38,9 @@ macro_rules! with_kinds {
             ]
             [
                 Opaque(read_octets, write_octets),
-                Fids(read_list, write_sequence),
-                CallBacks(read_list, write_sequence),
-                Statuses(read_list, write_sequence)
+                Fids(read_list, write_list),
+                CallBacks(read_list, write_list),
+                Statuses(read_list, write_list)
             ]
         }
     };
@@ -69,13 +70,13 @@ macro_rules! reading_arms {
 /// The arms of the writing.
 macro_rules! writing_arms {
     (
-        ($field:expr, $w:expr)
+        ($part:expr, $w:expr)
         [$($fixed:ident($read:path, $write:path)),*]
         [$($limited:ident($read_most:path, $write_all:path)),*]
     ) => {
-        match $field {
-            $(Field::$fixed(value) => $write(value, $w),)*
-            $(Field::$limited(values) => $write_all(values, $w),)*
+        match $part {
+            $(Part::$fixed(value) => $write(value, $w),)*
+            $(Part::$limited(values) => $write_all(values, $w),)*
         }
     };
 }
@@ -113,34 +114,26 @@ fn read_octets(alloc: Global, r: &mut Reader, most: u32) -> Result<Octets, Field
     Ok(octets)
 }
 
-fn write_word(n: &u32, w: &mut Writer) -> Mem<()>
-    ensures ok { OnOk result (w.new ≡ w.old ++ word n.now) }
+fn write_word(n: u32, w: &mut Writer) -> Mem<()>
+    ensures ok { OnOk result (w.new ≡ w.old ++ word n) }
     ensures err { OnErr result (w.new ≡ w.old) }
 {
-    w.word(*n)
+    w.word(n)
 }
 
-fn write_signed(z: &i32, w: &mut Writer) -> Mem<()>
-    ensures ok { OnOk result (w.new ≡ w.old ++ word (cast_unsigned w32 z.now)) }
+fn write_signed(z: i32, w: &mut Writer) -> Mem<()>
+    ensures ok { OnOk result (w.new ≡ w.old ++ word (cast_unsigned w32 z)) }
     ensures err { OnErr result (w.new ≡ w.old) }
 {
     w.word(z.cast_unsigned())
 }
 
-fn write_octets(octets: &Octets, w: &mut Writer) -> Mem<()>
-    requires { length octets.now < 2 ^ 32 }
-    ensures ok { OnOk result (w.new ≡ w.old ++ opaque octets.now) }
+fn write_octets(bytes: &[u8], w: &mut Writer) -> Mem<()>
+    requires { length bytes.now < 2 ^ 32 }
+    ensures ok { OnOk result (w.new ≡ w.old ++ opaque bytes.now) }
     ensures err { OnErr result (w.new ≡ w.old) }
 {
-    w.opaque(octets.as_slice())
-}
-
-fn write_sequence<T: Item>(items: &Sequence<T>, w: &mut Writer) -> Mem<()>
-    requires { length items.now < 2 ^ 32 }
-    ensures ok { OnOk result (w.new ≡ w.old ++ list T.item items.now) }
-    ensures err { OnErr result (Extends w.old w.new) }
-{
-    write_list(w, items.as_slice())
+    w.opaque(bytes)
 }
 
 /// Reads a field of this kind.
@@ -153,10 +146,28 @@ pub fn read_field(alloc: Global, kind: Kind, r: &mut Reader) -> Result<Field, Fi
 }
 
 /// Appends a field. After want of memory bytes of it may stand behind those from before.
-pub fn write_field(field: &Field, w: &mut Writer) -> Mem<()>
-    requires { IsSpellable field.now }
-    ensures ok { OnOk result (w.new ≡ w.old ++ field_spelled field.now) }
+pub fn write_part(part: Part, w: &mut Writer) -> Mem<()>
+    requires { IsSpellable (field_of part) }
+    ensures ok { OnOk result (w.new ≡ w.old ++ field_spelled (field_of part.entry)) }
     ensures err { OnErr result (Extends w.old w.new) }
 {
-    with_kinds!(writing_arms(field, w))
+    with_kinds!(writing_arms(part, w))
+}
+
+/// How many bytes a field takes.
+pub fn size_of(part: Part) -> usize
+    requires { IsSpellable (field_of part) }
+    ensures value { result ≡ field_size (field_of part.entry) }
+    ensures small { result < 2 ^ 40 }
+{
+    match part {
+        Part::Word(_) | Part::Signed(_) | Part::VolumeKind(_) => 4,
+        Part::Fid(_) | Part::CallBack(_) => 12,
+        Part::StoreStatus(_) | Part::VolSync(_) => 24,
+        Part::FetchStatus(_) => 84,
+        Part::Opaque(bytes) => 4 + (bytes.len() + (4 - bytes.len() % 4) % 4),
+        Part::Fids(fids) => 4 + fids.len() * 12,
+        Part::CallBacks(callbacks) => 4 + callbacks.len() * 12,
+        Part::Statuses(statuses) => 4 + statuses.len() * 84,
+    }
 }

@@ -60,3 +60,44 @@ pub enum Field {
 
 /// The values of a message's fields, in order.
 pub type Fields = Sequence<Field>;
+
+/// The value of a field that lies elsewhere: what a message is written from.
+#[derive(Clone, Copy)]
+pub enum Part<'a> {
+    Word(u32),
+    Signed(i32),
+    VolumeKind(u32),
+    Fid(&'a Fid),
+    StoreStatus(&'a AfsStoreStatus),
+    FetchStatus(&'a AfsFetchStatus),
+    CallBack(&'a AfsCallBack),
+    VolSync(&'a AfsVolSync),
+    Opaque(&'a [u8]),
+    Fids(&'a [Fid]),
+    CallBacks(&'a [AfsCallBack]),
+    Statuses(&'a [AfsFetchStatus]),
+}
+
+impl Field {
+    ghost use Rattle.afs_shape.specs.Parts.{field_of};
+
+    /// The field, as what it is written from.
+    pub fn part(&self) -> Part<'_>
+        ensures { field_of result ≡ self.now }
+    {
+        match self {
+            Field::Word(n) => Part::Word(*n),
+            Field::Signed(z) => Part::Signed(*z),
+            Field::VolumeKind(n) => Part::VolumeKind(*n),
+            Field::Fid(fid) => Part::Fid(fid),
+            Field::StoreStatus(status) => Part::StoreStatus(status),
+            Field::FetchStatus(status) => Part::FetchStatus(status),
+            Field::CallBack(callback) => Part::CallBack(callback),
+            Field::VolSync(sync) => Part::VolSync(sync),
+            Field::Opaque(octets) => Part::Opaque(octets.as_slice()),
+            Field::Fids(fids) => Part::Fids(fids.as_slice()),
+            Field::CallBacks(callbacks) => Part::CallBacks(callbacks.as_slice()),
+            Field::Statuses(statuses) => Part::Statuses(statuses.as_slice()),
+        }
+    }
+}

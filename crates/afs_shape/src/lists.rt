@@ -53,7 +53,7 @@ pub fn read_list<T: Item>(
 }
 
 /// Appends items, one after the other.
-fn write_items<T: Item>(w: &mut Writer, items: &[T]) -> Mem<()>
+fn write_items<T: Item>(items: &[T], w: &mut Writer) -> Mem<()>
     ensures ok { OnOk result (w.new ≡ w.old ++ flat_map T.item items.now) }
     ensures err { OnErr result (Extends w.old w.new) }
 {
@@ -64,11 +64,11 @@ fn write_items<T: Item>(w: &mut Writer, items: &[T]) -> Mem<()>
 }
 
 /// Appends a list. After want of memory bytes of it may stand behind those from before.
-pub fn write_list<T: Item>(w: &mut Writer, items: &[T]) -> Mem<()>
+pub fn write_list<T: Item>(items: &[T], w: &mut Writer) -> Mem<()>
     requires { length items.now < 2 ^ 32 }
     ensures ok { OnOk result (w.new ≡ w.old ++ list T.item items.now) }
     ensures err { OnErr result (Extends w.old w.new) }
 {
     w.word(items.len() as u32)?;
-    write_items(w, items)
+    write_items(items, w)
 }
