@@ -22,3 +22,6 @@ pub mod Sameness
 pub mod Schedules
 pub mod Prefixes
 pub mod Respelling
+pub mod HeadLaws
+pub mod FsLaws
+pub mod FsMade

@@ -20,3 +20,5 @@ pub mod ScriptLaws
 pub mod Form
 pub mod ActsLaws
 pub mod SpellingLaws
+pub mod FsRows
+pub mod FsMaking

@@ -69,15 +69,15 @@ field_again _ _ rest h r = absurd h
 
 -- ---- the fields of a shape
 
-bind_ok : {A B E : Type 0} (r : Result A E) (f : A → Result B E) (y : B) → (r >>= f) ≡ Ok y → (x : A) × (r ≡ Ok x) × (f x ≡ Ok y)
+pub bind_ok : {A B E : Type 0} (r : Result A E) (f : A → Result B E) (y : B) → (r >>= f) ≡ Ok y → (x : A) × (r ≡ Ok x) × (f x ≡ Ok y)
 bind_ok (Ok x) f y e = (x, refl, e)
 bind_ok (Err d) f y e = absurd cc
 
-in_place_ok : {A : Type 0} (place : ℕ) (r : Result A XdrFault) (x : A) → in_place place r ≡ Ok x → r ≡ Ok x
+pub in_place_ok : {A : Type 0} (place : ℕ) (r : Result A XdrFault) (x : A) → in_place place r ≡ Ok x → r ≡ Ok x
 in_place_ok place (Ok y) x e = cc
 in_place_ok place (Err f) x e = absurd cc
 
-shape_done : {A : Type 0} → A → Result A ShapeFault
+abbrev pub shape_done : {A : Type 0} → A → Result A ShapeFault
 shape_done x = Ok x
 
 -- fields that were taken from the front, of these kinds
@@ -86,12 +86,11 @@ pub record TakesFields (ks : List Kind) (bytes : List ℕ) (fs : List Field) (re
   pub are_of : AreOf ks fs
   pub in_range : AreInRange fs
 
-shape_ok_is : {A : Type 0} (x y : A) → shape_done x ≡ shape_done y → x ≡ y
-unfolding shape_done
+pub shape_ok_is : {A : Type 0} (x y : A) → shape_done x ≡ shape_done y → x ≡ y
 shape_ok_is x y e = cc
 
 pub fields_take : (place : ℕ) (ks : List Kind) (bytes : List ℕ) (fs : List Field) (rest : List ℕ) → IsBytes bytes → fields_at place ks bytes ≡ Ok (fs, rest) → TakesFields ks bytes fs rest
-unfolding fields_at shape_done
+unfolding fields_at
 fields_take place [] bytes fs rest fits e =
     subst (λ (y : List Field × List ℕ). TakesFields [] bytes y.0 y.1) (shape_ok_is ([], bytes) (fs, rest) e) (record { takes = record { parts = refl; rest_fits = fits }; are_of = tt; in_range = tt })
 fields_take place (k ∷ ks) bytes fs rest fits e =

@@ -88,7 +88,7 @@ word_again n rest lt =
 pub word_codec : IsCodec word_at word (λ n. n < 2 ^ 32)
 word_codec = record { takes = word_takes; again = word_again }
 
-bind_assoc : {A B C : Type 0} (r : Result A XdrFault) (f : A → Result B XdrFault) (g : B → Result C XdrFault) → ((r >>= f) >>= g) ≡ (r >>= λ x. f x >>= g)
+pub bind_assoc : {A B C : Type 0} (r : Result A XdrFault) (f : A → Result B XdrFault) (g : B → Result C XdrFault) → ((r >>= f) >>= g) ≡ (r >>= λ x. f x >>= g)
 bind_assoc (Ok x) f g = refl
 bind_assoc (Err e) f g = refl
 

@@ -3,3 +3,4 @@ pub mod Items
 pub mod Reading
 pub mod Tables
 pub mod Parts
+pub mod Taking

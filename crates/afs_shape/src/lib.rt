@@ -8,3 +8,4 @@ pub mod items;
 pub mod kinds;
 pub mod lists;
 pub mod tables;
+pub mod taking;
