@@ -2,7 +2,7 @@
 use Rattle.std.proofs.Common.{◌≡◌, ℕ, Bool, true, false, cond, eqb, List, [], ◌∷◌, Option, Some, None, refl, sym, ap, subst, ◌∙◌}
 use Rattle.std.specs.Prelude.{nat_eq, ◌==◌, find}
 use Rattle.std.specs.Option.{option_map}
-use Rattle.std.proofs.lemmas.Bool.{eqb-true}
+use Rattle.std.proofs.lemmas.Bool.{eqb-true, eqb-false, eq-eqb, ne_eqb}
 use Rattle.afs_num.specs.declared.calls.FsCall.{FsCall}
 use Rattle.afs_num.specs.declared.calls.FsCall.TheVariants as calls
 use Rattle.afs_num.specs.declared.calls.FsReply.{FsReply}
@@ -11,9 +11,9 @@ use Rattle.afs_shape.specs.declared.kinds.Kind.{Kind}
 use Rattle.afs_shape.specs.declared.kinds.Kind.TheVariants as kinds
 use Rattle.afs_shape.specs.declared.kinds.Field.{Field}
 use Rattle.afs_shape.specs.declared.kinds.Field.TheVariants as fields
-use Rattle.afs_shape.specs.Tables.{AreOf}
+use Rattle.afs_shape.specs.Tables.{kinds_in, AreOf}
 use Rattle.afs_model.specs.Messages.{contents_limit}
-use Rattle.afs_model.specs.FsRows.{call_rows, reply_rows, kinds_in, call_number, call_fields, reply_number, reply_fields}
+use Rattle.afs_model.specs.FsRows.{call_rows, reply_rows, call_number, call_fields, reply_number, reply_fields}
 use Rattle.afs_model.specs.FsMaking.{made_in, call_makers, call_of, reply_makers, reply_of, fetch_data_call, fetch_acl_call, fetch_status_call, store_data_call, store_acl_call, store_status_call, remove_file_call, create_file_call, rename_call, symlink_call, link_call, make_dir_call, remove_dir_call, give_up_call_backs_call, get_volume_status_call, get_time_call, bulk_status_call, call_back_call, init_call_back_state_call, probe_call, fetch_data_reply, fetch_acl_reply, fetch_status_reply, store_data_reply, store_acl_reply, store_status_reply, remove_file_reply, create_file_reply, rename_reply, symlink_reply, link_reply, make_dir_reply, remove_dir_reply, give_up_call_backs_reply, get_volume_status_reply, get_time_reply, bulk_status_reply, call_back_reply, init_call_back_state_reply, probe_reply}
 
 -- a value that the fields make, of this number, that has these fields
@@ -286,3 +286,51 @@ reply_again (replies.BulkStatus statuses callbacks sync) = refl
 reply_again replies.CallBack = refl
 reply_again replies.InitCallBackState = refl
 reply_again replies.Probe = refl
+
+-- ---- whatever row it is
+
+eqb_swap : (a b m : ℕ) → eqb a b ≡ true → a ≡ m → nat_eq b m ≡ true
+eqb_swap a b m e h = eq-eqb b m (sym (eqb-true a b e) ∙ h)
+
+eqb_apart : (a b m : ℕ) → eqb a b ≡ false → a ≡ m → nat_eq b m ≡ false
+eqb_apart a b m e h = ne_eqb b m (λ same. eqb-false a b e (h ∙ sym same))
+
+some_is : {A : Type 0} (x y : A) → Some x ≡ Some y → x ≡ y
+some_is x y e = cc
+
+made_step : {X : Type 0} (told : X → List Field) (number : X → ℕ) (n : ℕ) (r : ℕ × List Kind) (m : ℕ × (List Field → Option X)) (o : Option (ℕ × List Kind)) (rest : Option X) (ks : List Kind) (fs : List Field) (b : Bool)
+    → eqb r.0 n ≡ b → r.0 ≡ m.0 → ((gs : List Field) → AreOf r.1 gs → Made told number r.0 (m.1 gs) gs) → (option_map (λ x. x.1) o ≡ Some ks → Made told number n rest fs)
+    → option_map (λ x. x.1) (cond b (Some r) o) ≡ Some ks → AreOf ks fs → Made told number n (cond (nat_eq n m.0) (m.1 fs) rest) fs
+made_step {X} told number n r m o rest ks fs true e same made further is are =
+    let here : r.1 ≡ ks = some_is r.1 ks is in
+    let made_here = made fs (subst (λ (k : List Kind). AreOf k fs) (sym here) are) in
+    let yes : nat_eq n m.0 ≡ true = eqb_swap r.0 n m.0 e same in
+    record {
+      value = made_here.value;
+      is = ap (λ (b : Bool). cond b (m.1 fs) rest) yes ∙ made_here.is;
+      told_is = made_here.told_is;
+      number_is = made_here.number_is ∙ eqb-true r.0 n e;
+    }
+made_step {X} told number n r m o rest ks fs false e same made further is are =
+    let later = further is in
+    let no : nat_eq n m.0 ≡ false = eqb_apart r.0 n m.0 e same in
+    record {
+      value = later.value;
+      is = ap (λ (b : Bool). cond b (m.1 fs) rest) no ∙ later.is;
+      told_is = later.told_is;
+      number_is = later.number_is;
+    }
+
+made_by : {X : Type 0} (told : X → List Field) (number : X → ℕ) (rows : List (ℕ × List Kind)) (makers : List (ℕ × (List Field → Option X))) → Agree told number rows makers
+    → (n : ℕ) (ks : List Kind) (fs : List Field) → kinds_in n rows ≡ Some ks → AreOf ks fs → Made told number n (made_in n fs makers) fs
+made_by {X} told number [] [] agree n ks fs e h = absurd cc
+made_by {X} told number (r ∷ rs) (m ∷ ms) agree n ks fs e h =
+    made_step told number n r m (find (λ p. p.0 == n) rs) (made_in n fs ms) ks fs (r.0 == n) refl agree.0 agree.1 (λ later. made_by told number rs ms agree.2 n ks fs later h) e h
+made_by {X} told number [] (m ∷ ms) agree n ks fs e h = absurd agree
+made_by {X} told number (r ∷ rs) [] agree n ks fs e h = absurd agree
+
+pub call_made : (n : ℕ) (ks : List Kind) (fs : List Field) → kinds_in n call_rows ≡ Some ks → AreOf ks fs → Made call_fields call_number n (call_of n fs) fs
+call_made n ks fs e h = made_by call_fields call_number call_rows call_makers calls_agree n ks fs e h
+
+pub reply_made : (n : ℕ) (ks : List Kind) (fs : List Field) → kinds_in n reply_rows ≡ Some ks → AreOf ks fs → Made reply_fields reply_number n (reply_of n fs) fs
+reply_made n ks fs e h = made_by reply_fields reply_number reply_rows reply_makers replies_agree n ks fs e h

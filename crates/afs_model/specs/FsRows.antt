@@ -1,7 +1,6 @@
 -- The calls of the File Server/Cache Manager Interface and their replies: which fields each has, of which kinds, in
 -- the order of the AFS-3 Programmer's Reference; how a call and a reply are spelled, and how bytes are read as one.
-use Rattle.std.specs.Prelude.{◌≡◌, ℕ, ◌+◌, ◌≤◌, ◌==◌, List, [], ◌∷◌, ◌++◌, length, Bool, true, false, Option, Some, None, Result, Ok, Err, ℤ, IsSome, IsSomeAnd, FitsSigned, if◌then◌else◌, find}
-use Rattle.std.specs.Option.{option_map}
+use Rattle.std.specs.Prelude.{◌≡◌, ℕ, ◌+◌, ◌≤◌, List, [], ◌∷◌, ◌++◌, length, Bool, true, false, Option, Some, None, Result, Ok, Err, ℤ, IsSome, IsSomeAnd, FitsSigned, if◌then◌else◌}
 use Rattle.std.specs.Int.{w32}
 use Rattle.afs_num.specs.declared.types.Half.{Half}
 use Rattle.afs_num.specs.declared.types.Half.TheVariants as halves
@@ -21,7 +20,7 @@ use Rattle.afs_shape.specs.declared.kinds.Field.{Field}
 use Rattle.afs_shape.specs.declared.kinds.Field.TheVariants as fields
 use Rattle.afs_shape.specs.Spelling.{fields_spelled}
 use Rattle.afs_shape.specs.Reading.{◌>>=◌, in_place, signed_at, fields_at}
-use Rattle.afs_shape.specs.Tables.{AreOf, AreInRange}
+use Rattle.afs_shape.specs.Tables.{kinds_in, AreOf, AreInRange}
 use Rattle.afs_model.specs.Messages.{user_limit, contents_limit, head_words, head_at, signed, is_zero, FitsHead}
 
 -- ---- the rows
@@ -75,9 +74,6 @@ reply_rows =
     ∷ (205, [])
     ∷ (206, [])
     ∷ []
-
-abbrev pub kinds_in : ℕ → List (ℕ × List Kind) → Option (List Kind)
-kinds_in opcode rows = option_map (λ r. r.1) (find (λ r. r.0 == opcode) rows)
 
 -- ---- calls and replies as their fields
 
@@ -244,22 +240,67 @@ last_fields_at ks bytes = do
   nothing ← in_place (length fs.0 + 1) (end_at fs.1)
   Ok fs.0
 
+-- the user, and the fields of these kinds
+unfoldable pub asked_parts_at : List Kind → List ℕ → Result (List ℕ × List Field) ShapeFault
+asked_parts_at ks bytes = do
+  user ← in_place 0 (opaque_at user_limit bytes)
+  fs ← last_fields_at ks user.1
+  Ok (user.0, fs)
+
 unfoldable pub call_parts_at : List ℕ → Result (Head × List ℕ × List Field) ShapeFault
 call_parts_at bytes = do
   head ← half_head_at halves.Call bytes
   ks ← row_at head.0.opcode (kinds_in head.0.opcode call_rows)
-  user ← in_place 0 (opaque_at user_limit head.1)
-  fs ← last_fields_at ks user.1
-  Ok (head.0, user.0, fs)
+  parts ← asked_parts_at ks head.1
+  Ok (head.0, parts.0, parts.1)
 
 -- a reply whose code isn't 0 has no fields
 abbrev pub kinds_behind : ℤ → List Kind → List Kind
 kinds_behind code ks = if is_zero code then ks else []
 
+-- the code, and the fields of these kinds
+unfoldable pub replied_parts_at : List Kind → List ℕ → Result (ℤ × List Field) ShapeFault
+replied_parts_at ks bytes = do
+  code ← in_place 0 (signed_at bytes)
+  fs ← last_fields_at (kinds_behind code.0 ks) code.1
+  Ok (code.0, fs)
+
 unfoldable pub reply_parts_at : List ℕ → Result (Head × ℤ × List Field) ShapeFault
 reply_parts_at bytes = do
   head ← half_head_at halves.Reply bytes
   ks ← row_at head.0.opcode (kinds_in head.0.opcode reply_rows)
-  code ← in_place 0 (signed_at head.1)
-  fs ← last_fields_at (kinds_behind code.0 ks) code.1
-  Ok (head.0, code.0, fs)
+  parts ← replied_parts_at ks head.1
+  Ok (head.0, parts.0, parts.1)
+
+-- what was read, without the bytes behind it
+abbrev pub first_of : {A E : Type 0} → Result (A × List ℕ) E → Result A E
+first_of (Ok x) = Ok x.0
+first_of (Err e) = Err e
+
+-- ---- what a call of the code gives
+
+-- the result is this value, unless memory ran out
+abbrev pub IsUnless : {X : Type 0} → X → Result X ShapeFault → Type 0
+IsUnless x (Ok y) = y ≡ x
+IsUnless x (Err faults.OutOfMemory) = Unit {0}
+IsUnless x (Err _) = ⊥
+
+-- the result is what was read, with its fields as those of a call
+abbrev pub ReadsCall : List ℕ → Result (Head × List ℕ × FsCall) ShapeFault → Type 0
+ReadsCall bytes (Ok m) = (call_parts_at bytes ≡ Ok (m.0, m.1, call_fields m.2)) × (call_number m.2 ≡ m.0.opcode)
+ReadsCall bytes (Err faults.OutOfMemory) = Unit {0}
+ReadsCall bytes (Err (faults.Head f)) = call_parts_at bytes ≡ Err (faults.Head f)
+ReadsCall bytes (Err (faults.NoRow n)) = call_parts_at bytes ≡ Err (faults.NoRow n)
+ReadsCall bytes (Err (faults.Field i f)) = call_parts_at bytes ≡ Err (faults.Field i f)
+
+-- the fields of a reply, by its code: where that isn't 0 there is no reply, and no field
+abbrev pub IsReplied : ℕ → ℤ → List Field → Option FsReply → Type 0
+IsReplied opcode code fs None = (is_zero code ≡ false) × (fs ≡ [])
+IsReplied opcode code fs (Some reply) = (is_zero code ≡ true) × (fs ≡ reply_fields reply) × (reply_number reply ≡ opcode)
+
+abbrev pub ReadsReply : List ℕ → Result (Head × ℤ × Option FsReply) ShapeFault → Type 0
+ReadsReply bytes (Ok m) = (fs : List Field) × (reply_parts_at bytes ≡ Ok (m.0, m.1, fs)) × IsReplied m.0.opcode m.1 fs m.2
+ReadsReply bytes (Err faults.OutOfMemory) = Unit {0}
+ReadsReply bytes (Err (faults.Head f)) = reply_parts_at bytes ≡ Err (faults.Head f)
+ReadsReply bytes (Err (faults.NoRow n)) = reply_parts_at bytes ≡ Err (faults.NoRow n)
+ReadsReply bytes (Err (faults.Field i f)) = reply_parts_at bytes ≡ Err (faults.Field i f)

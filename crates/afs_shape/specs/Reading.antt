@@ -81,3 +81,11 @@ ReadsShape read view old new (Err faults.OutOfMemory) = Unit {0}
 ReadsShape read view old new (Err (faults.Head f)) = read old.left ≡ Err (faults.Head f)
 ReadsShape read view old new (Err (faults.NoRow n)) = read old.left ≡ Err (faults.NoRow n)
 ReadsShape read view old new (Err (faults.Field i f)) = read old.left ≡ Err (faults.Field i f)
+
+-- The result, seen by view, is what was read, unless memory ran out.
+abbrev pub GivesShape : {X Y : Type 0} → (X → Y) → Result Y ShapeFault → Result X ShapeFault → Type 0
+GivesShape view read (Ok x) = read ≡ Ok (view x)
+GivesShape view read (Err faults.OutOfMemory) = Unit {0}
+GivesShape view read (Err (faults.Head f)) = read ≡ Err (faults.Head f)
+GivesShape view read (Err (faults.NoRow n)) = read ≡ Err (faults.NoRow n)
+GivesShape view read (Err (faults.Field i f)) = read ≡ Err (faults.Field i f)

@@ -1,5 +1,5 @@
 -- Tables of shapes, and what fields have a shape.
-use Rattle.std.specs.Prelude.{ℕ, ◌<◌, ◌≤◌, ◌^◌, ◌==◌, List, [], ◌∷◌, length, take, Bool, true, false, Option, find, FitsSigned}
+use Rattle.std.specs.Prelude.{ℕ, ◌<◌, ◌≤◌, ◌^◌, ◌==◌, List, [], ◌∷◌, length, take, Bool, true, false, Option, find, map, option_map, FitsSigned}
 use Rattle.std.specs.Int.{w32}
 use Rattle.std.specs.List.{prefix_len, AllByRecursion}
 use Rattle.afs_shape.specs.Spelling.{fid_words, store_status_words, status_words, callback_words, sync_words}
@@ -19,6 +19,17 @@ kinds_of ks = take (prefix_len is_field ks) ks
 
 abbrev pub find_row : {N : ℕ} → ℕ → List (Row N) → Option (Row N)
 find_row n rows = find (λ r. r.opcode == n) rows
+
+-- a row, as its opcode and the kinds of its fields
+abbrev pub told_row : {N : ℕ} → Row N → ℕ × List Kind
+told_row r = (r.opcode, kinds_of r.shape.kinds)
+
+abbrev pub rows_of : {N : ℕ} → List (Row N) → List (ℕ × List Kind)
+rows_of rows = map told_row rows
+
+-- the kinds of the row of this opcode
+abbrev pub kinds_in : ℕ → List (ℕ × List Kind) → Option (List Kind)
+kinds_in opcode rows = option_map (λ r. r.1) (find (λ r. r.0 == opcode) rows)
 
 -- a count of at most so many, and a word
 abbrev pub IsCount : ℕ → ℕ → Type 0

@@ -7,7 +7,7 @@ ghost use Rattle.afs_xdr.specs.Reading.{KeepsEnd};
 ghost use Rattle.afs_shape.specs.Spelling.{fields_spelled, Extends, IsSpellable};
 ghost use Rattle.afs_shape.specs.Parts.{field_of, fields_of, field_size};
 ghost use Rattle.afs_shape.specs.Reading.{ReadsShape, fields_at};
-ghost use Rattle.afs_shape.specs.Tables.{is_field, kinds_of, AreOf, find_row};
+ghost use Rattle.afs_shape.specs.Tables.{is_field, kinds_of, AreOf, find_row, rows_of, kinds_in};
 ghost use Rattle.afs_shape.specs.declared.faults.ShapeFault.TheVariants.{NoRow};
 
 use crate::faults::ShapeFault;
@@ -19,17 +19,20 @@ use afs_xdr::writing::Writer;
 use std::alloc::Global;
 
 /// The kinds of a message's fields in order, and `Nothing` in the places behind the last.
+#[derive(Drop)]
 pub struct Shape<const N: usize> {
     pub kinds: [Kind; N],
 }
 
 /// The shape of the messages of one opcode.
+#[derive(Drop)]
 pub struct Row<const N: usize> {
     pub opcode: u32,
     pub shape: Shape<N>,
 }
 
 /// Shapes by opcode.
+#[derive(Drop)]
 pub struct Table<const R: usize, const N: usize> {
     pub rows: [Row<N>; R],
 }
@@ -44,7 +47,8 @@ fn count_of(kinds: &[Kind]) -> usize
 
 /// The kinds before the first `Nothing`.
 fn before_nothing(kinds: &[Kind]) -> &[Kind]
-    ensures { result.now ≡ kinds_of kinds.now }
+    ensures value { result.now ≡ kinds_of kinds.now }
+    ensures within { length result.now ≤ length kinds.now }
 {
     let count = count_of(kinds);
     kinds.split_at(count).0
@@ -55,6 +59,7 @@ fn before_nothing(kinds: &[Kind]) -> &[Kind]
 fn read_kinds(alloc: Global, kinds: &[Kind], r: &mut Reader) -> Result<Fields, ShapeFault>
     requires { length kinds.now < 2 ^ 31 }
     ensures value { ReadsShape (fields_at 1 kinds.now) (λ fs. fs) r.old r.new result }
+    ensures count { IfOk result (λ fs. length fs ≡ length kinds.now) }
     ensures end { KeepsEnd r.old r.new }
 {
     let mut fields = Fields::new(alloc);
@@ -126,7 +131,8 @@ fn row_in<const N: usize>(rows: &[Row<N>], opcode: u32) -> Option<&Row<N>>
 impl<const N: usize> Shape<N> {
     /// The kinds of the fields.
     pub fn kinds(&self) -> &[Kind]
-        ensures { result.now ≡ kinds_of self.now.kinds }
+        ensures value { result.now ≡ kinds_of self.now.kinds }
+        ensures within { length result.now ≤ N }
     {
         before_nothing(&self.kinds)
     }
@@ -136,6 +142,7 @@ impl<const N: usize> Shape<N> {
     pub fn read_fields(&self, alloc: Global, r: &mut Reader) -> Result<Fields, ShapeFault>
         requires { N < 2 ^ 31 }
         ensures value { ReadsShape (fields_at 1 (kinds_of self.now.kinds)) (λ fs. fs) r.old r.new result }
+        ensures few { IfOk result (λ fs. length fs ≤ N) }
         ensures end { KeepsEnd r.old r.new }
         ensures err { OnErr result (r.new ≡ r.old) }
     {
@@ -167,7 +174,8 @@ impl<const R: usize, const N: usize> Table<R, N> {
     pub fn shape(&self, opcode: u32) -> Result<&Shape<N>, ShapeFault>
         requires { (R < 1000) × (N < 1000) }
         ensures row { IfOk result (λ s. option_map (λ r. r.shape) (find_row opcode self.now.rows) ≡ Some s.now) }
-        ensures none { IfErr result (λ e. (e ≡ NoRow opcode) × (find_row opcode self.now.rows ≡ None)) }
+        ensures kinds { IfOk result (λ s. kinds_in opcode (rows_of self.now.rows) ≡ Some (kinds_of s.now.kinds)) }
+        ensures none { IfErr result (λ e. (e ≡ NoRow opcode) × (kinds_in opcode (rows_of self.now.rows) ≡ None)) }
     {
         match row_in(&self.rows, opcode) {
             Some(row) => Ok(&row.shape),

@@ -1,4 +1,4 @@
-use Rattle.std.proofs.Common.{◌≡◌, ◌+◌, drop}
+use Rattle.std.proofs.Common.{◌≡◌, ◌+◌, drop, length}
 use Rattle.afs_xdr.specs.Reading.{KeepsEnd}
 use Rattle.afs_shape.specs.Reading.{fields_at}
 use Rattle.afs_shape.proofs.Loops.{with_front}
@@ -8,6 +8,7 @@ use Rattle.afs_shape.proofs.tables.read_kinds.Given as goal
 abbrev pub invariant-loop-kind : goal.invariant-loop-kind
 invariant-loop-kind l = record {
   place : l.place ≡ l.kind-index + 1;
+  count : length l.fields ≡ l.kind-index;
   all : with_front l.fields (fields_at l.place (drop l.kind-index l.kinds) l.r.left) ≡ fields_at 1 l.kinds l.fn.r.left;
   end : KeepsEnd l.fn.r l.r;
 }
