@@ -73,7 +73,7 @@ half_head_takes half bytes h rest fits e =
     let here : TakesHalf half bytes a.0.0 a.0.1 = record { takes = t.takes; is_head = (same_half-true a.0.0.half half k.0, t.fits) } in
     subst (λ (p : Head × List ℕ). TakesHalf half bytes p.0 p.1) k.1 here
 
-half_head_again : (half : Half) (h : Head) (rest : List ℕ) → IsHead half h → half_head_at half (words (head_words h) ++ rest) ≡ Ok (h, rest)
+pub half_head_again : (half : Half) (h : Head) (rest : List ℕ) → IsHead half h → half_head_at half (words (head_words h) ++ rest) ≡ Ok (h, rest)
 unfolding half_head_at
 half_head_again half h rest is =
     let same : same_half h.half half ≡ true = ap (λ (x : Half). same_half h.half x) (sym is.0) ∙ same_half-refl h.half in
@@ -174,7 +174,7 @@ found : (o : Option (List Kind)) (fs : List Field) → IsSomeAnd o (λ ks. AreOf
 found (Some ks) fs h = (ks, refl, h)
 found None fs h = absurd h
 
-found_row : (rows : List (ℕ × List Kind)) (opcode : ℕ) (fs : List Field) → HasRow rows opcode fs → (ks : List Kind) × (kinds_in opcode rows ≡ Some ks) × AreOf ks fs
+pub found_row : (rows : List (ℕ × List Kind)) (opcode : ℕ) (fs : List Field) → HasRow rows opcode fs → (ks : List Kind) × (kinds_in opcode rows ≡ Some ks) × AreOf ks fs
 found_row rows opcode fs h = found (kinds_in opcode rows) fs h
 
 asked_parts_again : (ks : List Kind) (user : List ℕ) (fs : List Field) → length user ≤ user_limit → AreOf ks fs → AreInRange fs → asked_parts_at ks (opaque user ++ fields_spelled fs) ≡ Ok (user, fs)

@@ -295,7 +295,7 @@ eqb_swap a b m e h = eq-eqb b m (sym (eqb-true a b e) ∙ h)
 eqb_apart : (a b m : ℕ) → eqb a b ≡ false → a ≡ m → nat_eq b m ≡ false
 eqb_apart a b m e h = ne_eqb b m (λ same. eqb-false a b e (h ∙ sym same))
 
-some_is : {A : Type 0} (x y : A) → Some x ≡ Some y → x ≡ y
+pub some_is : {A : Type 0} (x y : A) → Some x ≡ Some y → x ≡ y
 some_is x y e = cc
 
 made_step : {X : Type 0} (told : X → List Field) (number : X → ℕ) (n : ℕ) (r : ℕ × List Kind) (m : ℕ × (List Field → Option X)) (o : Option (ℕ × List Kind)) (rest : Option X) (ks : List Kind) (fs : List Field) (b : Bool)

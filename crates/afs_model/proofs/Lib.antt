@@ -25,3 +25,4 @@ pub mod Respelling
 pub mod HeadLaws
 pub mod FsLaws
 pub mod FsMade
+pub mod FsMessages
