@@ -5,6 +5,7 @@
 
 pub mod calls;
 pub mod heads;
+pub mod laws;
 mod making;
 mod parts;
 mod reading;

@@ -14,7 +14,11 @@ fn fetch_data_call(mut fields: Taking) -> Option<FsCall>
     let position = fields.signed()?;
     let length = fields.signed()?;
     fields.end()?;
-    Some(FsCall::FetchData { fid, position, length })
+    Some(FsCall::FetchData {
+        fid,
+        position,
+        length,
+    })
 }
 
 #[tactic(auto, unfolding(afs_model::specs::FsMaking::fetch_acl_call))]
@@ -46,7 +50,14 @@ fn store_data_call(mut fields: Taking) -> Option<FsCall>
     let file_length = fields.signed()?;
     let contents = fields.octets()?;
     fields.end()?;
-    Some(FsCall::StoreData { fid, status, position, length, file_length, contents })
+    Some(FsCall::StoreData {
+        fid,
+        status,
+        position,
+        length,
+        file_length,
+        contents,
+    })
 }
 
 #[tactic(auto, unfolding(afs_model::specs::FsMaking::store_acl_call))]
@@ -87,7 +98,11 @@ fn create_file_call(mut fields: Taking) -> Option<FsCall>
     let name = fields.octets()?;
     let status = fields.store_status()?;
     fields.end()?;
-    Some(FsCall::CreateFile { directory, name, status })
+    Some(FsCall::CreateFile {
+        directory,
+        name,
+        status,
+    })
 }
 
 #[tactic(auto, unfolding(afs_model::specs::FsMaking::rename_call))]
@@ -99,7 +114,12 @@ fn rename_call(mut fields: Taking) -> Option<FsCall>
     let new_directory = fields.fid()?;
     let new_name = fields.octets()?;
     fields.end()?;
-    Some(FsCall::Rename { old_directory, old_name, new_directory, new_name })
+    Some(FsCall::Rename {
+        old_directory,
+        old_name,
+        new_directory,
+        new_name,
+    })
 }
 
 #[tactic(auto, unfolding(afs_model::specs::FsMaking::symlink_call))]
@@ -111,7 +131,12 @@ fn symlink_call(mut fields: Taking) -> Option<FsCall>
     let target = fields.octets()?;
     let status = fields.store_status()?;
     fields.end()?;
-    Some(FsCall::Symlink { directory, name, target, status })
+    Some(FsCall::Symlink {
+        directory,
+        name,
+        target,
+        status,
+    })
 }
 
 #[tactic(auto, unfolding(afs_model::specs::FsMaking::link_call))]
@@ -122,7 +147,11 @@ fn link_call(mut fields: Taking) -> Option<FsCall>
     let name = fields.octets()?;
     let existing = fields.fid()?;
     fields.end()?;
-    Some(FsCall::Link { directory, name, existing })
+    Some(FsCall::Link {
+        directory,
+        name,
+        existing,
+    })
 }
 
 #[tactic(auto, unfolding(afs_model::specs::FsMaking::make_dir_call))]
@@ -133,7 +162,11 @@ fn make_dir_call(mut fields: Taking) -> Option<FsCall>
     let name = fields.octets()?;
     let status = fields.store_status()?;
     fields.end()?;
-    Some(FsCall::MakeDir { directory, name, status })
+    Some(FsCall::MakeDir {
+        directory,
+        name,
+        status,
+    })
 }
 
 #[tactic(auto, unfolding(afs_model::specs::FsMaking::remove_dir_call))]
@@ -246,7 +279,12 @@ fn fetch_data_reply(mut fields: Taking) -> Option<FsReply>
     let callback = fields.callback()?;
     let sync = fields.sync()?;
     fields.end()?;
-    Some(FsReply::FetchData { contents, status, callback, sync })
+    Some(FsReply::FetchData {
+        contents,
+        status,
+        callback,
+        sync,
+    })
 }
 
 #[tactic(auto, unfolding(afs_model::specs::FsMaking::fetch_acl_reply))]
@@ -268,7 +306,11 @@ fn fetch_status_reply(mut fields: Taking) -> Option<FsReply>
     let callback = fields.callback()?;
     let sync = fields.sync()?;
     fields.end()?;
-    Some(FsReply::FetchStatus { status, callback, sync })
+    Some(FsReply::FetchStatus {
+        status,
+        callback,
+        sync,
+    })
 }
 
 #[tactic(auto, unfolding(afs_model::specs::FsMaking::store_data_reply))]
@@ -321,7 +363,13 @@ fn create_file_reply(mut fields: Taking) -> Option<FsReply>
     let callback = fields.callback()?;
     let sync = fields.sync()?;
     fields.end()?;
-    Some(FsReply::CreateFile { fid, status, directory, callback, sync })
+    Some(FsReply::CreateFile {
+        fid,
+        status,
+        directory,
+        callback,
+        sync,
+    })
 }
 
 #[tactic(auto, unfolding(afs_model::specs::FsMaking::rename_reply))]
@@ -332,7 +380,11 @@ fn rename_reply(mut fields: Taking) -> Option<FsReply>
     let new_directory = fields.status()?;
     let sync = fields.sync()?;
     fields.end()?;
-    Some(FsReply::Rename { old_directory, new_directory, sync })
+    Some(FsReply::Rename {
+        old_directory,
+        new_directory,
+        sync,
+    })
 }
 
 #[tactic(auto, unfolding(afs_model::specs::FsMaking::symlink_reply))]
@@ -344,7 +396,12 @@ fn symlink_reply(mut fields: Taking) -> Option<FsReply>
     let directory = fields.status()?;
     let sync = fields.sync()?;
     fields.end()?;
-    Some(FsReply::Symlink { fid, status, directory, sync })
+    Some(FsReply::Symlink {
+        fid,
+        status,
+        directory,
+        sync,
+    })
 }
 
 #[tactic(auto, unfolding(afs_model::specs::FsMaking::link_reply))]
@@ -355,7 +412,11 @@ fn link_reply(mut fields: Taking) -> Option<FsReply>
     let directory = fields.status()?;
     let sync = fields.sync()?;
     fields.end()?;
-    Some(FsReply::Link { status, directory, sync })
+    Some(FsReply::Link {
+        status,
+        directory,
+        sync,
+    })
 }
 
 #[tactic(auto, unfolding(afs_model::specs::FsMaking::make_dir_reply))]
@@ -368,7 +429,13 @@ fn make_dir_reply(mut fields: Taking) -> Option<FsReply>
     let callback = fields.callback()?;
     let sync = fields.sync()?;
     fields.end()?;
-    Some(FsReply::MakeDir { fid, status, directory, callback, sync })
+    Some(FsReply::MakeDir {
+        fid,
+        status,
+        directory,
+        callback,
+        sync,
+    })
 }
 
 #[tactic(auto, unfolding(afs_model::specs::FsMaking::remove_dir_reply))]
@@ -399,7 +466,13 @@ fn get_volume_status_reply(mut fields: Taking) -> Option<FsReply>
     let blocks_used = fields.word()?;
     let name = fields.octets()?;
     fields.end()?;
-    Some(FsReply::GetVolumeStatus { volume, kind, quota, blocks_used, name })
+    Some(FsReply::GetVolumeStatus {
+        volume,
+        kind,
+        quota,
+        blocks_used,
+        name,
+    })
 }
 
 #[tactic(auto, unfolding(afs_model::specs::FsMaking::get_time_reply))]
@@ -409,7 +482,10 @@ fn get_time_reply(mut fields: Taking) -> Option<FsReply>
     let clock = fields.word()?;
     let microseconds = fields.word()?;
     fields.end()?;
-    Some(FsReply::GetTime { clock, microseconds })
+    Some(FsReply::GetTime {
+        clock,
+        microseconds,
+    })
 }
 
 #[tactic(auto, unfolding(afs_model::specs::FsMaking::bulk_status_reply))]
@@ -420,7 +496,11 @@ fn bulk_status_reply(mut fields: Taking) -> Option<FsReply>
     let callbacks = fields.callbacks()?;
     let sync = fields.sync()?;
     fields.end()?;
-    Some(FsReply::BulkStatus { statuses, callbacks, sync })
+    Some(FsReply::BulkStatus {
+        statuses,
+        callbacks,
+        sync,
+    })
 }
 
 #[tactic(auto, unfolding(afs_model::specs::FsMaking::call_back_reply))]

@@ -1,9 +1,5 @@
 //! The two tables: a row for each opcode, with the kinds of its fields in order.
 
-ghost use Rattle.std.specs.Prelude.{◌≡◌};
-ghost use Rattle.afs_shape.specs.Tables.{rows_of};
-ghost use Rattle.afs_model.specs.FsRows.{call_rows, reply_rows};
-
 use afs_shape::kinds::Kind;
 use afs_shape::tables::{Row, Shape, Table};
 
@@ -50,13 +46,33 @@ pub const CALLS: Table<20, 8> = Table {
         row!(130, Kind::Fid, Kind::Signed, Kind::Signed),
         row!(131, Kind::Fid),
         row!(132, Kind::Fid),
-        row!(133, Kind::Fid, Kind::StoreStatus, Kind::Signed, Kind::Signed, Kind::Signed, Kind::Opaque(CONTENTS_LIMIT)),
+        row!(
+            133,
+            Kind::Fid,
+            Kind::StoreStatus,
+            Kind::Signed,
+            Kind::Signed,
+            Kind::Signed,
+            Kind::Opaque(CONTENTS_LIMIT)
+        ),
         row!(134, Kind::Fid, Kind::Opaque(1024)),
         row!(135, Kind::Fid, Kind::StoreStatus),
         row!(136, Kind::Fid, Kind::Opaque(256)),
         row!(137, Kind::Fid, Kind::Opaque(256), Kind::StoreStatus),
-        row!(138, Kind::Fid, Kind::Opaque(256), Kind::Fid, Kind::Opaque(256)),
-        row!(139, Kind::Fid, Kind::Opaque(256), Kind::Opaque(1024), Kind::StoreStatus),
+        row!(
+            138,
+            Kind::Fid,
+            Kind::Opaque(256),
+            Kind::Fid,
+            Kind::Opaque(256)
+        ),
+        row!(
+            139,
+            Kind::Fid,
+            Kind::Opaque(256),
+            Kind::Opaque(1024),
+            Kind::StoreStatus
+        ),
         row!(140, Kind::Fid, Kind::Opaque(256), Kind::Fid),
         row!(141, Kind::Fid, Kind::Opaque(256), Kind::StoreStatus),
         row!(142, Kind::Fid, Kind::Opaque(256)),
@@ -73,21 +89,54 @@ pub const CALLS: Table<20, 8> = Table {
 /// What stands behind the code of a reply, where that is 0.
 pub const REPLIES: Table<20, 8> = Table {
     rows: [
-        row!(130, Kind::Opaque(CONTENTS_LIMIT), Kind::FetchStatus, Kind::CallBack, Kind::VolSync),
+        row!(
+            130,
+            Kind::Opaque(CONTENTS_LIMIT),
+            Kind::FetchStatus,
+            Kind::CallBack,
+            Kind::VolSync
+        ),
         row!(131, Kind::Opaque(1024), Kind::FetchStatus, Kind::VolSync),
         row!(132, Kind::FetchStatus, Kind::CallBack, Kind::VolSync),
         row!(133, Kind::FetchStatus, Kind::VolSync),
         row!(134, Kind::FetchStatus, Kind::VolSync),
         row!(135, Kind::FetchStatus, Kind::VolSync),
         row!(136, Kind::FetchStatus, Kind::VolSync),
-        row!(137, Kind::Fid, Kind::FetchStatus, Kind::FetchStatus, Kind::CallBack, Kind::VolSync),
+        row!(
+            137,
+            Kind::Fid,
+            Kind::FetchStatus,
+            Kind::FetchStatus,
+            Kind::CallBack,
+            Kind::VolSync
+        ),
         row!(138, Kind::FetchStatus, Kind::FetchStatus, Kind::VolSync),
-        row!(139, Kind::Fid, Kind::FetchStatus, Kind::FetchStatus, Kind::VolSync),
+        row!(
+            139,
+            Kind::Fid,
+            Kind::FetchStatus,
+            Kind::FetchStatus,
+            Kind::VolSync
+        ),
         row!(140, Kind::FetchStatus, Kind::FetchStatus, Kind::VolSync),
-        row!(141, Kind::Fid, Kind::FetchStatus, Kind::FetchStatus, Kind::CallBack, Kind::VolSync),
+        row!(
+            141,
+            Kind::Fid,
+            Kind::FetchStatus,
+            Kind::FetchStatus,
+            Kind::CallBack,
+            Kind::VolSync
+        ),
         row!(142, Kind::FetchStatus, Kind::VolSync),
         row!(147),
-        row!(149, Kind::Word, Kind::VolumeKind, Kind::Word, Kind::Word, Kind::Opaque(256)),
+        row!(
+            149,
+            Kind::Word,
+            Kind::VolumeKind,
+            Kind::Word,
+            Kind::Word,
+            Kind::Opaque(256)
+        ),
         row!(153, Kind::Word, Kind::Word),
         row!(155, Kind::Statuses(50), Kind::CallBacks(50), Kind::VolSync),
         row!(204),
@@ -95,11 +144,3 @@ pub const REPLIES: Table<20, 8> = Table {
         row!(206),
     ],
 };
-
-/// The tables are the rows of the File Server/Cache Manager Interface, each with its opcode and the kinds of its
-/// fields, in order.
-pub fn tables_are_the_rows()
-    ensures calls { rows_of CALLS.rows ≡ call_rows }
-    ensures replies { rows_of REPLIES.rows ≡ reply_rows }
-{
-}

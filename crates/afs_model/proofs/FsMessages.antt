@@ -5,6 +5,7 @@ use Rattle.std.specs.Int.{w32}
 use Rattle.afs_num.specs.declared.types.Half.{Half}
 use Rattle.afs_num.specs.declared.types.Half.TheVariants as halves
 use Rattle.afs_num.specs.declared.types.Head.{Head}
+use Rattle.afs_num.specs.declared.types.Code.{Code}
 use Rattle.afs_num.specs.declared.calls.FsCall.{FsCall}
 use Rattle.afs_num.specs.declared.calls.FsReply.{FsReply}
 use Rattle.afs_xdr.specs.declared.faults.XdrFault.{XdrFault}
@@ -13,13 +14,15 @@ use Rattle.afs_shape.specs.declared.faults.ShapeFault.{ShapeFault}
 use Rattle.afs_shape.specs.declared.faults.ShapeFault.TheVariants as faults
 use Rattle.afs_shape.specs.declared.kinds.Kind.{Kind}
 use Rattle.afs_shape.specs.declared.kinds.Field.{Field}
-use Rattle.afs_shape.specs.Spelling.{fields_spelled}
+use Rattle.std.specs.List.{AllByRecursion}
+use Rattle.afs_shape.specs.Spelling.{fields_spelled, IsSpellable}
+use Rattle.afs_shape.proofs.Spellable.{AreOf-each}
 use Rattle.afs_shape.specs.Reading.{signed_at, fields_at}
 use Rattle.afs_shape.specs.Tables.{kinds_in, AreOf, AreInRange}
 use Rattle.afs_shape.proofs.Laws.{IsBytes, opaque_codec, signed_codec}
 use Rattle.afs_shape.proofs.FieldLaws.{shape_ok_is, fields_again}
 use Rattle.afs_model.specs.Messages.{user_limit, head_words, signed, is_zero}
-use Rattle.afs_model.specs.FsRows.{call_rows, reply_rows, call_number, call_fields, reply_number, reply_fields, HasRow, IsHead, IsCall, IsAnswer, IsReply, spelled_call, spelled_reply, answer_fields, SpellsCall, SpellsReply, half_head_at, call_parts_at, kinds_behind, reply_parts_at, IsUnless, ReadsCall, IsReplied, ReadsReply}
+use Rattle.afs_model.specs.FsRows.{call_rows, reply_rows, call_number, call_fields, reply_number, reply_fields, HasRow, IsHead, IsCall, IsAnswer, IsReply, spelled_call, spelled_reply, answer_fields, SpellsCall, SpellsReply, half_head_at, call_parts_at, kinds_behind, reply_parts_at, IsUnless, ReadsCall, IsReplied, ReadsReply, CanAnswer}
 use Rattle.afs_model.specs.FsMaking.{call_of, reply_of}
 use Rattle.afs_model.proofs.FsLaws.{AreCallParts, AreReplyParts, HasKinds, half_head_again, found_row, call_parts_take, call_parts_again, reply_parts_take, reply_parts_again}
 use Rattle.afs_model.proofs.FsMade.{Made, call_again, reply_again, call_made, reply_made, some_is}
@@ -192,8 +195,8 @@ reply_is_spelled bytes h code fs reply fits e is =
     let a = answer_of h.opcode code fs reply p.row p.in_range is in
     (record { head = p.head; code_fits = p.code_fits; answer = a.0 }, p.spelled ∙ ap (λ (x : List Field). words (head_words h) ++ (word (signed code) ++ fields_spelled x)) a.1)
 
-pub read_reply_is_spelled : (bytes : List ℕ) (r : Result (Head × ℤ × Option FsReply) ShapeFault) → IsBytes bytes → ReadsReply bytes r → IfOk r (λ m. SpellsReply m.0 m.1 m.2 bytes)
-read_reply_is_spelled bytes (Ok m) fits h = reply_is_spelled bytes m.0 m.1 h.0 m.2 fits h.1 h.2
+pub read_reply_is_spelled : (bytes : List ℕ) (r : Result (Head × Code × Option FsReply) ShapeFault) → IsBytes bytes → ReadsReply bytes r → IfOk r (λ m. SpellsReply m.0 m.1.0 m.2 bytes)
+read_reply_is_spelled bytes (Ok m) fits h = reply_is_spelled bytes m.0 m.1.0 h.0 m.2 fits h.1 h.2
 read_reply_is_spelled bytes (Err e) fits h = tt
 
 replied : (opcode : ℕ) (code : ℤ) (reply : Option FsReply) → IsAnswer opcode code reply → IsReplied opcode code (answer_fields reply) reply
@@ -214,9 +217,12 @@ replies_are_one h g code other fs gs a b e p q =
     let same : a ≡ b = one_reply g.opcode other gs a b moved q in
     ap (λ (x : Head × ℤ × List Field). whole x.0 x.1 a) both ∙ ap (λ (x : Option FsReply). whole g other x) same
 
-pub spelled_reply_is_read : (bytes : List ℕ) (r : Result (Head × ℤ × Option FsReply) ShapeFault) (h : Head) (code : ℤ) (reply : Option FsReply) → ReadsReply bytes r → SpellsReply h code reply bytes → IsUnless (h, code, reply) r
+abbrev coded : Head → ℤ → Option FsReply → Head × Code × Option FsReply
+coded h code reply = (h, record { 0 = code }, reply)
+
+pub spelled_reply_is_read : (bytes : List ℕ) (r : Result (Head × Code × Option FsReply) ShapeFault) (h : Head) (code : ℤ) (reply : Option FsReply) → ReadsReply bytes r → SpellsReply h code reply bytes → IsUnless (h, record { 0 = code }, reply) r
 spelled_reply_is_read bytes (Ok m) h code reply reads s =
-    replies_are_one m.0 h m.1 code reads.0 (answer_fields reply) m.2 reply (sym reads.1 ∙ reply_is_read bytes h code reply s) reads.2 (replied h.opcode code reply s.0.answer)
+    ap (λ (x : Head × ℤ × Option FsReply). coded x.0 x.1 x.2) (replies_are_one m.0 h m.1.0 code reads.0 (answer_fields reply) m.2 reply (sym reads.1 ∙ reply_is_read bytes h code reply s) reads.2 (replied h.opcode code reply s.0.answer))
 spelled_reply_is_read bytes (Err faults.OutOfMemory) h code reply reads s = tt
 spelled_reply_is_read bytes (Err (faults.Head f)) h code reply reads s = ok_is_no_err (h, code, answer_fields reply) (faults.Head f) (sym (reply_is_read bytes h code reply s) ∙ reads)
 spelled_reply_is_read bytes (Err (faults.NoRow n)) h code reply reads s = ok_is_no_err (h, code, answer_fields reply) (faults.NoRow n) (sym (reply_is_read bytes h code reply s) ∙ reads)
@@ -228,14 +234,14 @@ reply_never_none bytes h code fs fits e z none =
     let m = reply_made h.opcode p.row.kinds fs p.row.row (subst (λ (b : Bool). AreOf (cond b p.row.kinds []) fs) z p.row.are_of) in
     none_is_some m.value (sym none ∙ m.is)
 
-pub reply_reads : (bytes : List ℕ) (h : Head) (code : ℤ) (fs : List Field) (reply : FsReply) → IsBytes bytes → reply_parts_at bytes ≡ Ok (h, code, fs) → is_zero code ≡ true → reply_of h.opcode fs ≡ Some reply → ReadsReply bytes (Ok (h, code, Some reply))
+pub reply_reads : (bytes : List ℕ) (h : Head) (code : ℤ) (fs : List Field) (reply : FsReply) → IsBytes bytes → reply_parts_at bytes ≡ Ok (h, code, fs) → is_zero code ≡ true → reply_of h.opcode fs ≡ Some reply → ReadsReply bytes (Ok (h, record { 0 = code }, Some reply))
 reply_reads bytes h code fs reply fits e z made =
     let p = reply_parts_take bytes h code fs fits e in
     let m = reply_made h.opcode p.row.kinds fs p.row.row (subst (λ (b : Bool). AreOf (cond b p.row.kinds []) fs) z p.row.are_of) in
     let same : m.value ≡ reply = some_is m.value reply (sym m.is ∙ made) in
     (fs, e, (z, sym (ap reply_fields (sym same) ∙ m.told_is), ap reply_number (sym same) ∙ m.number_is))
 
-pub refusal_reads : (bytes : List ℕ) (h : Head) (code : ℤ) (fs : List Field) → IsBytes bytes → reply_parts_at bytes ≡ Ok (h, code, fs) → is_zero code ≡ false → ReadsReply bytes (Ok (h, code, None))
+pub refusal_reads : (bytes : List ℕ) (h : Head) (code : ℤ) (fs : List Field) → IsBytes bytes → reply_parts_at bytes ≡ Ok (h, code, fs) → is_zero code ≡ false → ReadsReply bytes (Ok (h, record { 0 = code }, None))
 refusal_reads bytes h code fs fits e z =
     let p = reply_parts_take bytes h code fs fits e in
     let none : AreOf [] fs = subst (λ (b : Bool). AreOf (cond b p.row.kinds []) fs) z p.row.are_of in
@@ -254,3 +260,16 @@ no_reply_begins h g code other a b bytes more s t =
     let c = cut_fields (kinds_behind code j.0.kinds) (answer_fields a) (answer_fields b) more j.0.are_of j.1 are k.1 codes.1 in
     let all : parts h code (answer_fields a) ≡ parts g other (answer_fields b) = ap (λ (x : Head). parts x code (answer_fields a)) heads.0 ∙ (ap (λ (z : ℤ). parts g z (answer_fields a)) codes.0 ∙ ap (λ (x : List Field). parts g other x) c.1) in
     (c.0, replies_are_one h g code other (answer_fields a) (answer_fields b) a b (ap (λ (x : Head × ℤ × List Field). fine x) all) (replied h.opcode code a s.0.answer) (replied g.opcode other b t.0.answer))
+
+-- ---- what fits a row can be written
+
+pub call_spellable : (call : FsCall) → HasRow call_rows (call_number call) (call_fields call) → AllByRecursion IsSpellable (call_fields call)
+call_spellable call h =
+    let k = found_row call_rows (call_number call) (call_fields call) h in
+    AreOf-each k.0 (call_fields call) k.2
+
+pub answer_spellable : (code : ℤ) (reply : Option FsReply) → CanAnswer code reply → AllByRecursion IsSpellable (answer_fields reply)
+answer_spellable code None h = tt
+answer_spellable code (Some reply) h =
+    let k = found_row reply_rows (reply_number reply) (reply_fields reply) h.1 in
+    AreOf-each k.0 (reply_fields reply) k.2

@@ -5,6 +5,7 @@ use Rattle.std.specs.Int.{w32}
 use Rattle.afs_num.specs.declared.types.Half.{Half}
 use Rattle.afs_num.specs.declared.types.Half.TheVariants as halves
 use Rattle.afs_num.specs.declared.types.Head.{Head}
+use Rattle.afs_num.specs.declared.types.Code.{Code}
 use Rattle.afs_num.specs.declared.calls.FsCall.{FsCall}
 use Rattle.afs_num.specs.declared.calls.FsCall.TheVariants as calls
 use Rattle.afs_num.specs.declared.calls.FsReply.{FsReply}
@@ -298,9 +299,14 @@ abbrev pub IsReplied : ℕ → ℤ → List Field → Option FsReply → Type 0
 IsReplied opcode code fs None = (is_zero code ≡ false) × (fs ≡ [])
 IsReplied opcode code fs (Some reply) = (is_zero code ≡ true) × (fs ≡ reply_fields reply) × (reply_number reply ≡ opcode)
 
-abbrev pub ReadsReply : List ℕ → Result (Head × ℤ × Option FsReply) ShapeFault → Type 0
-ReadsReply bytes (Ok m) = (fs : List Field) × (reply_parts_at bytes ≡ Ok (m.0, m.1, fs)) × IsReplied m.0.opcode m.1 fs m.2
+abbrev pub ReadsReply : List ℕ → Result (Head × Code × Option FsReply) ShapeFault → Type 0
+ReadsReply bytes (Ok m) = (fs : List Field) × (reply_parts_at bytes ≡ Ok (m.0, m.1.0, fs)) × IsReplied m.0.opcode m.1.0 fs m.2
 ReadsReply bytes (Err faults.OutOfMemory) = Unit {0}
 ReadsReply bytes (Err (faults.Head f)) = reply_parts_at bytes ≡ Err (faults.Head f)
 ReadsReply bytes (Err (faults.NoRow n)) = reply_parts_at bytes ≡ Err (faults.NoRow n)
 ReadsReply bytes (Err (faults.Field i f)) = reply_parts_at bytes ≡ Err (faults.Field i f)
+
+-- what can be answered: a reply exactly where the code is 0, within the limits of its row
+abbrev pub CanAnswer : ℤ → Option FsReply → Type 0
+CanAnswer code None = is_zero code ≡ false
+CanAnswer code (Some reply) = (is_zero code ≡ true) × HasRow reply_rows (reply_number reply) (reply_fields reply)
