@@ -11,3 +11,5 @@ mod parts;
 mod reading;
 pub mod replies;
 pub mod tables;
+#[cfg(test)]
+mod tests;

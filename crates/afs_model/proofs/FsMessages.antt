@@ -273,3 +273,8 @@ answer_spellable code None h = tt
 answer_spellable code (Some reply) h =
     let k = found_row reply_rows (reply_number reply) (reply_fields reply) h.1 in
     AreOf-each k.0 (reply_fields reply) k.2
+
+-- what was read can be answered again
+pub reply_can_answer : (h : Head) (code : ℤ) (reply : Option FsReply) (bytes : List ℕ) → SpellsReply h code reply bytes → CanAnswer code reply
+reply_can_answer h code None bytes s = s.0.answer.0
+reply_can_answer h code (Some reply) bytes s = (s.0.answer.0, s.0.answer.2)
