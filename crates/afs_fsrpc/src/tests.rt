@@ -606,7 +606,7 @@ fn the_reply_to_an_open(rt: HostRuntime) -> Result<(), Fail> {
     let bytes = bytes_of(rt.alloc(), &words)?;
     let (_, code, reply) = decode_reply(rt.alloc(), &bytes)?;
     assert_eq!(rt; code, Code(0));
-    match reply {
+    match &reply {
         Some(
             FsReply::FetchData {
                 contents,
