@@ -25,7 +25,7 @@ use Rattle.afs_shape.specs.declared.kinds.Field.TheVariants as fields
 use Rattle.afs_shape.specs.Spelling.{fields_spelled}
 use Rattle.afs_shape.specs.Reading.{◌>>=◌, in_place, signed_at, fields_at, GivesShape}
 use Rattle.afs_shape.specs.Tables.{kinds_in, AreOf, AreInRange}
-use Rattle.afs_shape.proofs.Laws.{IsBytes, Takes, Takes-then, opaque_codec, signed_codec}
+use Rattle.afs_shape.proofs.Codecs.{IsBytes, Takes, Takes-then, opaque_codec, signed_codec}
 use Rattle.afs_shape.proofs.FieldLaws.{TakesFields, bind_ok, in_place_ok, shape_ok_is, fields_take, fields_again}
 use Rattle.afs_model.specs.Messages.{user_limit, contents_limit, head_words, head_at, signed, is_zero, FitsHead}
 use Rattle.afs_model.specs.FsRows.{call_rows, reply_rows, call_number, call_fields, reply_number, reply_fields, HasRow, IsHead, IsCall, IsAnswer, IsReply, spelled_call, spelled_reply, answer_fields, SpellsCall, SpellsReply, same_half, in_head, half_head_at, row_at, last_fields_at, asked_parts_at, call_parts_at, kinds_behind, replied_parts_at, reply_parts_at}

@@ -13,7 +13,7 @@ use Rattle.afs_num.specs.declared.types.Head.{Head}
 use Rattle.afs_xdr.specs.declared.faults.XdrFault.{XdrFault}
 use Rattle.afs_xdr.specs.Words.{◌>>=◌, word, words, word_at}
 use Rattle.afs_model.specs.Messages.{half_number, half_of, known, half_at, node_at, head_at, head_words, AreWords, FitsHead}
-use Rattle.afs_shape.proofs.Laws.{IsBytes, Takes, Takes-then, bind_ok, bind_assoc, ok_is, word_codec, items_takes}
+use Rattle.afs_shape.proofs.Codecs.{IsBytes, Takes, Takes-then, bind_ok, bind_assoc, ok_is, word_codec, items_takes}
 use Rattle.afs_shape.specs.Items.{items_at}
 
 -- which way a test went

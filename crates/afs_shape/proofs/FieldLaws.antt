@@ -12,7 +12,7 @@ use Rattle.afs_shape.specs.declared.kinds.Kind.{Kind}
 use Rattle.afs_shape.specs.declared.kinds.Kind.TheVariants as kinds
 use Rattle.afs_shape.specs.declared.kinds.Field.{Field}
 use Rattle.afs_shape.specs.declared.kinds.Field.TheVariants as fields
-use Rattle.afs_shape.proofs.Laws.{IsBytes, Takes, Takes-then, IsCodec, ok_is, length_words, word_codec, signed_codec, small_codec, opaque_codec, list_codec, fid_codec, store_status_codec, status_codec, callback_codec, sync_codec}
+use Rattle.afs_shape.proofs.Codecs.{IsBytes, Takes, Takes-then, IsCodec, ok_is, length_words, word_codec, signed_codec, small_codec, opaque_codec, list_codec, fid_codec, store_status_codec, status_codec, callback_codec, sync_codec}
 
 -- a field that was taken from the front, of this kind
 pub record TakesField (k : Kind) (bytes : List ℕ) (f : Field) (rest : List ℕ) : Type 0 where

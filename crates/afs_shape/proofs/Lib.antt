@@ -1,5 +1,5 @@
 pub mod Loops
 pub mod Spellable
-pub mod Laws
+pub mod Codecs
 pub mod FieldLaws
 pub mod RowLaws

@@ -6,6 +6,9 @@ pub mod faults;
 pub mod fields;
 pub mod items;
 pub mod kinds;
+pub mod laws;
 pub mod lists;
 pub mod tables;
 pub mod taking;
+#[cfg(test)]
+mod tests;
