@@ -25,3 +25,7 @@ pub mod Respelling
 pub mod Crash
 pub mod Journal
 pub mod Moments
+pub mod HeadLaws
+pub mod FsLaws
+pub mod FsMade
+pub mod FsMessages

@@ -22,3 +22,5 @@ pub mod ActsLaws
 pub mod SpellingLaws
 pub mod Disk
 pub mod Journal
+pub mod FsRows
+pub mod FsMaking

@@ -80,6 +80,23 @@ impl<'a> Reader<'a> {
         Ok(bytes)
     }
 
+    /// A second reader at the same byte, to try what may be refused.
+    pub fn fork(&self) -> Reader<'a>
+        ensures { result ≡ self.now }
+    {
+        Reader {
+            size: self.size,
+            left: self.left,
+        }
+    }
+
+    /// How many bytes are left.
+    pub fn left_len(&self) -> usize
+        ensures { result ≡ length self.now.left }
+    {
+        self.left.len()
+    }
+
     /// `Extra` where bytes are left.
     pub fn end(&self) -> Result<(), XdrFault>
         ensures { Gives (λ u. u) (end_at self.now.left) result }

@@ -1,5 +1,5 @@
-ghost use Rattle.std.specs.Prelude.{◌≡◌, ◌<◌, ◌^◌, [], ◌++◌, length, replicate, IfOk, OnOk, OnErr};
-ghost use Rattle.afs_xdr.specs.Words.{word, opaque};
+ghost use Rattle.std.specs.Prelude.{◌≡◌, ◌<◌, ◌≤◌, ◌*◌, ◌==◌, ◌^◌, [], ◌++◌, length, take, replicate, IfOk, OnOk, OnErr};
+ghost use Rattle.afs_xdr.specs.Words.{word, words, opaque};
 
 use crate::reading::pad_of;
 use bytes::{BufMut, BytesMut};
@@ -49,6 +49,43 @@ impl Writer {
         self.bytes.put_u32(n)
     }
 
+    /// Appends words.
+    pub fn words(&mut self, ns: &[u32]) -> Result<(), AllocError>
+        ensures ok { OnOk result (self.new ≡ self.old ++ words ns.now) }
+        ensures err { OnErr result (self.new ≡ self.old) }
+    {
+        self.bytes.reserve(4 * ns.len())?;
+        put_words(&mut self.bytes, ns)
+    }
+
+    /// Room for so many bytes more.
+    pub fn reserve(&mut self, additional: usize) -> Result<(), AllocError>
+        ensures { self.new ≡ self.old }
+    {
+        self.bytes.reserve(additional)
+    }
+
+    /// How many bytes there are.
+    pub fn len(&self) -> usize
+        ensures { result ≡ length self.now }
+    {
+        self.bytes.len()
+    }
+
+    /// Whether there are no bytes.
+    pub fn is_empty(&self) -> bool
+        ensures { result ≡ (length self.now == 0) }
+    {
+        self.bytes.is_empty()
+    }
+
+    /// Takes away all but the first bytes, so many.
+    pub fn truncate(&mut self, len: usize)
+        ensures { self.new ≡ take len self.old }
+    {
+        self.bytes.truncate(len);
+    }
+
     /// Appends an opaque.
     #[tactic(auto, unfolding(crate::specs::Words::opaque, crate::specs::Words::word, crate::specs::Words::pad))]
     pub fn opaque(&mut self, bytes: &[u8]) -> Result<(), AllocError>
@@ -74,6 +111,19 @@ impl Writer {
             Err(_) => Err(AllocError),
         }
     }
+}
+
+/// Appends words where there is room for them.
+#[tactic(auto, unfolding(crate::specs::Words::word))]
+fn put_words(out: &mut BytesMut, ns: &[u32]) -> Result<(), AllocError>
+    requires { 4 * length ns.now ≤ out.old.spare }
+    ensures ok { OnOk result (out.new.items ≡ out.old.items ++ words ns.now) }
+    ensures err { OnErr result (out.new.items ≡ out.old.items) }
+{
+    for n in ns {
+        out.put_u32(*n)?;
+    }
+    Ok(())
 }
 
 /// So many zero bytes, at most three.

@@ -1,0 +1,15 @@
+//! The calls of the file server and of the cache manager, as bytes and as values: each has one spelling, and bytes
+//! that are none are refused with the first fault. Numbers and fields are this project's profile of the AFS-3
+//! Programmer's Reference, File Server/Cache Manager Interface.
+#![tactic(auto)]
+
+pub mod calls;
+pub mod heads;
+pub mod laws;
+mod making;
+mod parts;
+mod reading;
+pub mod replies;
+pub mod tables;
+#[cfg(test)]
+mod tests;

@@ -1,0 +1,6 @@
+pub mod Spelling
+pub mod Items
+pub mod Reading
+pub mod Tables
+pub mod Parts
+pub mod Taking

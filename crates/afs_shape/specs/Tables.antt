@@ -1,0 +1,79 @@
+-- Tables of shapes, and what fields have a shape.
+use Rattle.std.specs.Prelude.{ℕ, ◌<◌, ◌≤◌, ◌^◌, ◌==◌, List, [], ◌∷◌, length, take, Bool, true, false, Option, find, map, option_map, FitsSigned}
+use Rattle.std.specs.Int.{w32}
+use Rattle.std.specs.List.{prefix_len, AllByRecursion}
+use Rattle.afs_shape.specs.Spelling.{fid_words, store_status_words, status_words, callback_words, sync_words}
+use Rattle.afs_shape.specs.declared.kinds.Kind.{Kind}
+use Rattle.afs_shape.specs.declared.kinds.Kind.TheVariants as kinds
+use Rattle.afs_shape.specs.declared.kinds.Field.{Field}
+use Rattle.afs_shape.specs.declared.kinds.Field.TheVariants as fields
+use Rattle.afs_shape.specs.declared.tables.Row.{Row}
+
+abbrev pub is_field : Kind → Bool
+is_field kinds.Nothing = false
+is_field _ = true
+
+-- the kinds before the first Nothing
+abbrev pub kinds_of : List Kind → List Kind
+kinds_of ks = take (prefix_len is_field ks) ks
+
+abbrev pub find_row : {N : ℕ} → ℕ → List (Row N) → Option (Row N)
+find_row n rows = find (λ r. r.opcode == n) rows
+
+-- a row, as its opcode and the kinds of its fields
+abbrev pub told_row : {N : ℕ} → Row N → ℕ × List Kind
+told_row r = (r.opcode, kinds_of r.shape.kinds)
+
+abbrev pub rows_of : {N : ℕ} → List (Row N) → List (ℕ × List Kind)
+rows_of rows = map told_row rows
+
+-- the kinds of the row of this opcode
+abbrev pub kinds_in : ℕ → List (ℕ × List Kind) → Option (List Kind)
+kinds_in opcode rows = option_map (λ r. r.1) (find (λ r. r.0 == opcode) rows)
+
+-- a count of at most so many, and a word
+abbrev pub IsCount : ℕ → ℕ → Type 0
+IsCount most n = (n ≤ most) × (n < 2 ^ 32)
+
+-- a value of this kind, within its limit
+abbrev pub IsOf : Kind → Field → Type 0
+IsOf kinds.Word (fields.Word n) = Unit {0}
+IsOf kinds.Signed (fields.Signed z) = Unit {0}
+IsOf kinds.VolumeKind (fields.VolumeKind n) = n ≤ 2
+IsOf kinds.Fid (fields.Fid f) = Unit {0}
+IsOf kinds.StoreStatus (fields.StoreStatus s) = Unit {0}
+IsOf kinds.FetchStatus (fields.FetchStatus s) = Unit {0}
+IsOf kinds.CallBack (fields.CallBack c) = Unit {0}
+IsOf kinds.VolSync (fields.VolSync v) = Unit {0}
+IsOf (kinds.Opaque most) (fields.Opaque bytes) = IsCount most (length bytes)
+IsOf (kinds.Fids most) (fields.Fids fs) = IsCount most (length fs)
+IsOf (kinds.CallBacks most) (fields.CallBacks cs) = IsCount most (length cs)
+IsOf (kinds.Statuses most) (fields.Statuses ss) = IsCount most (length ss)
+IsOf _ _ = ⊥
+
+-- values of these kinds, one of each
+abbrev pub AreOf : List Kind → List Field → Type 0
+AreOf [] [] = Unit {0}
+AreOf (k ∷ ks) (f ∷ fs) = IsOf k f × AreOf ks fs
+AreOf _ _ = ⊥
+
+abbrev pub AreWords : List ℕ → Type 0
+AreWords ns = AllByRecursion (λ n. n < 2 ^ 32) ns
+
+-- its numbers are words
+abbrev pub IsInRange : Field → Type 0
+IsInRange (fields.Word n) = n < 2 ^ 32
+IsInRange (fields.Signed z) = FitsSigned w32 z
+IsInRange (fields.VolumeKind n) = n < 2 ^ 32
+IsInRange (fields.Fid f) = AreWords (fid_words f)
+IsInRange (fields.StoreStatus s) = AreWords (store_status_words s)
+IsInRange (fields.FetchStatus s) = AreWords (status_words s)
+IsInRange (fields.CallBack c) = AreWords (callback_words c)
+IsInRange (fields.VolSync v) = AreWords (sync_words v)
+IsInRange (fields.Opaque bytes) = Unit {0}
+IsInRange (fields.Fids fs) = AllByRecursion (λ f. AreWords (fid_words f)) fs
+IsInRange (fields.CallBacks cs) = AllByRecursion (λ c. AreWords (callback_words c)) cs
+IsInRange (fields.Statuses ss) = AllByRecursion (λ s. AreWords (status_words s)) ss
+
+abbrev pub AreInRange : List Field → Type 0
+AreInRange fs = AllByRecursion IsInRange fs

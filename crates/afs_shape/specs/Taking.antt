@@ -1,0 +1,71 @@
+-- Taking fields from the front, each as what its kind says.
+use Rattle.std.specs.Prelude.{◌≡◌, ℕ, ℤ, List, [], ◌∷◌, Option, Some, None}
+use Rattle.afs_num.specs.declared.types.Fid.{Fid}
+use Rattle.afs_num.specs.declared.calls.AfsStoreStatus.{AfsStoreStatus}
+use Rattle.afs_num.specs.declared.calls.AfsFetchStatus.{AfsFetchStatus}
+use Rattle.afs_num.specs.declared.calls.AfsCallBack.{AfsCallBack}
+use Rattle.afs_num.specs.declared.calls.AfsVolSync.{AfsVolSync}
+use Rattle.afs_shape.specs.declared.kinds.Field.{Field}
+use Rattle.afs_shape.specs.declared.kinds.Field.TheVariants as fields
+
+infixl 10 ◌>>=◌
+abbrev pub ◌>>=◌ : {A B : Type 0} → Option A → (A → Option B) → Option B
+(Some x) >>= f = f x
+None >>= f = None
+
+abbrev pub word_first : List Field → Option (ℕ × List Field)
+word_first (fields.Word x ∷ fs) = Some (x, fs)
+word_first _ = None
+
+abbrev pub signed_first : List Field → Option (ℤ × List Field)
+signed_first (fields.Signed x ∷ fs) = Some (x, fs)
+signed_first _ = None
+
+abbrev pub volume_kind_first : List Field → Option (ℕ × List Field)
+volume_kind_first (fields.VolumeKind x ∷ fs) = Some (x, fs)
+volume_kind_first _ = None
+
+abbrev pub fid_first : List Field → Option (Fid × List Field)
+fid_first (fields.Fid x ∷ fs) = Some (x, fs)
+fid_first _ = None
+
+abbrev pub store_status_first : List Field → Option (AfsStoreStatus × List Field)
+store_status_first (fields.StoreStatus x ∷ fs) = Some (x, fs)
+store_status_first _ = None
+
+abbrev pub status_first : List Field → Option (AfsFetchStatus × List Field)
+status_first (fields.FetchStatus x ∷ fs) = Some (x, fs)
+status_first _ = None
+
+abbrev pub callback_first : List Field → Option (AfsCallBack × List Field)
+callback_first (fields.CallBack x ∷ fs) = Some (x, fs)
+callback_first _ = None
+
+abbrev pub sync_first : List Field → Option (AfsVolSync × List Field)
+sync_first (fields.VolSync x ∷ fs) = Some (x, fs)
+sync_first _ = None
+
+abbrev pub octets_first : List Field → Option (List ℕ × List Field)
+octets_first (fields.Opaque x ∷ fs) = Some (x, fs)
+octets_first _ = None
+
+abbrev pub fids_first : List Field → Option (List Fid × List Field)
+fids_first (fields.Fids x ∷ fs) = Some (x, fs)
+fids_first _ = None
+
+abbrev pub callbacks_first : List Field → Option (List AfsCallBack × List Field)
+callbacks_first (fields.CallBacks x ∷ fs) = Some (x, fs)
+callbacks_first _ = None
+
+abbrev pub statuses_first : List Field → Option (List AfsFetchStatus × List Field)
+statuses_first (fields.Statuses x ∷ fs) = Some (x, fs)
+statuses_first _ = None
+
+abbrev pub no_more : List Field → Option (Unit {0})
+no_more [] = Some tt
+no_more (f ∷ fs) = None
+
+-- what was taken from the old fields leaves the new; where nothing of that kind stood first, nothing is said
+abbrev pub TakesFirst : {X Y : Type 0} → (List Field → Option (Y × List Field)) → (X → Y) → List Field → List Field → Option X → Type 0
+TakesFirst first view old new (Some x) = first old ≡ Some (view x, new)
+TakesFirst first view old new None = first old ≡ None

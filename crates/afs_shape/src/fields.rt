@@ -1,0 +1,173 @@
+//! Fields by their kinds: one list of the kinds, from which both the reading and the writing of a field are made.
+
+ghost use Rattle.std.specs.Prelude.{◌≡◌, ◌++◌, ◌<◌, ◌^◌, length, OnOk, OnErr};
+ghost use Rattle.afs_xdr.specs.Reading.{Reads, KeepsEnd};
+ghost use Rattle.afs_xdr.specs.Words.{word, opaque, opaque_at};
+ghost use Rattle.afs_shape.specs.Spelling.{field_spelled, Extends, IsSpellable};
+ghost use Rattle.afs_shape.specs.Parts.{field_of, field_size};
+ghost use Rattle.afs_shape.specs.Reading.{ReadsField, small_at, signed_at, field_at};
+ghost use Rattle.std.specs.Int.{w32, cast_unsigned};
+
+use crate::faults::FieldFault;
+use crate::items::Item;
+use crate::kinds::{Field, Kind, Part};
+use crate::lists::{read_list, write_list};
+use afs_num::calls::{AfsCallBack, AfsFetchStatus, AfsStoreStatus, AfsVolSync};
+use afs_num::sequences::Octets;
+use afs_num::types::{Fid, Mem};
+use afs_xdr::faults::XdrFault;
+use afs_xdr::reading::Reader;
+use afs_xdr::writing::Writer;
+use std::alloc::Global;
+
+/// The kinds of fields, each with how it is read and how it is written: first those of a fixed size, then those with
+/// a limit.
+macro_rules! with_kinds {
+    ($arms:ident $value:tt) => {
+        $arms! {
+            $value
+            [
+                Word(Reader::word, write_word),
+                Signed(read_signed, write_signed),
+                VolumeKind(read_volume_kind, write_word),
+                Fid(Fid::read, Fid::write),
+                StoreStatus(AfsStoreStatus::read, AfsStoreStatus::write),
+                FetchStatus(AfsFetchStatus::read, AfsFetchStatus::write),
+                CallBack(AfsCallBack::read, AfsCallBack::write),
+                VolSync(AfsVolSync::read, AfsVolSync::write)
+            ]
+            [
+                Opaque(read_octets, write_octets),
+                Fids(read_list, write_list),
+                CallBacks(read_list, write_list),
+                Statuses(read_list, write_list)
+            ]
+        }
+    };
+}
+
+/// The arms of the reading.
+macro_rules! reading_arms {
+    (
+        ($kind:expr, $alloc:expr, $r:expr)
+        [$($fixed:ident($read:path, $write:path)),*]
+        [$($limited:ident($read_most:path, $write_all:path)),*]
+    ) => {
+        match $kind {
+            Kind::Nothing => Err(FieldFault::Xdr(XdrFault::BadType)),
+            $(Kind::$fixed => {
+                let value = $read($r)?;
+                Ok(Field::$fixed(value))
+            })*
+            $(Kind::$limited(most) => {
+                let value = $read_most($alloc, $r, most)?;
+                Ok(Field::$limited(value))
+            })*
+        }
+    };
+}
+
+/// The arms of the writing.
+macro_rules! writing_arms {
+    (
+        ($part:expr, $w:expr)
+        [$($fixed:ident($read:path, $write:path)),*]
+        [$($limited:ident($read_most:path, $write_all:path)),*]
+    ) => {
+        match $part {
+            $(Part::$fixed(value) => $write(value, $w),)*
+            $(Part::$limited(values) => $write_all(values, $w),)*
+        }
+    };
+}
+
+/// Reads a signed word.
+#[tactic(auto, unfolding(crate::specs::Reading::signed_at))]
+fn read_signed(r: &mut Reader) -> Result<i32, XdrFault>
+    ensures value { Reads signed_at (λ z. z) r.old r.new result }
+    ensures end { KeepsEnd r.old r.new }
+{
+    let n = r.word()?;
+    Ok(n.cast_signed())
+}
+
+/// Reads the kind of a volume.
+#[tactic(auto, unfolding(crate::specs::Reading::small_at))]
+fn read_volume_kind(r: &mut Reader) -> Result<u32, XdrFault>
+    ensures value { Reads (small_at 2) (λ n. n) r.old r.new result }
+    ensures end { KeepsEnd r.old r.new }
+{
+    let kind = r.word()?;
+    if 2 < kind {
+        return Err(XdrFault::BadType);
+    }
+    Ok(kind)
+}
+
+/// Reads an opaque, and copies it.
+fn read_octets(alloc: Global, r: &mut Reader, most: u32) -> Result<Octets, FieldFault>
+    ensures value { ReadsField (opaque_at most) (λ s. s) r.old r.new result }
+    ensures end { KeepsEnd r.old r.new }
+{
+    let bytes = r.opaque(most)?;
+    let octets = Octets::from_slice(alloc, bytes)?;
+    Ok(octets)
+}
+
+fn write_word(n: u32, w: &mut Writer) -> Mem<()>
+    ensures ok { OnOk result (w.new ≡ w.old ++ word n) }
+    ensures err { OnErr result (w.new ≡ w.old) }
+{
+    w.word(n)
+}
+
+fn write_signed(z: i32, w: &mut Writer) -> Mem<()>
+    ensures ok { OnOk result (w.new ≡ w.old ++ word (cast_unsigned w32 z)) }
+    ensures err { OnErr result (w.new ≡ w.old) }
+{
+    w.word(z.cast_unsigned())
+}
+
+fn write_octets(bytes: &[u8], w: &mut Writer) -> Mem<()>
+    requires { length bytes.now < 2 ^ 32 }
+    ensures ok { OnOk result (w.new ≡ w.old ++ opaque bytes.now) }
+    ensures err { OnErr result (w.new ≡ w.old) }
+{
+    w.opaque(bytes)
+}
+
+/// Reads a field of this kind.
+#[tactic(auto, unfolding(crate::specs::Reading::field_at))]
+pub fn read_field(alloc: Global, kind: Kind, r: &mut Reader) -> Result<Field, FieldFault>
+    ensures value { ReadsField (field_at kind) (λ f. f) r.old r.new result }
+    ensures end { KeepsEnd r.old r.new }
+{
+    with_kinds!(reading_arms(kind, alloc, r))
+}
+
+/// Appends a field. After want of memory bytes of it may stand behind those from before.
+pub fn write_part(part: Part, w: &mut Writer) -> Mem<()>
+    requires { IsSpellable (field_of part) }
+    ensures ok { OnOk result (w.new ≡ w.old ++ field_spelled (field_of part.entry)) }
+    ensures err { OnErr result (Extends w.old w.new) }
+{
+    with_kinds!(writing_arms(part, w))
+}
+
+/// How many bytes a field takes.
+pub fn size_of(part: Part) -> usize
+    requires { IsSpellable (field_of part) }
+    ensures value { result ≡ field_size (field_of part.entry) }
+    ensures small { result < 2 ^ 40 }
+{
+    match part {
+        Part::Word(_) | Part::Signed(_) | Part::VolumeKind(_) => 4,
+        Part::Fid(_) | Part::CallBack(_) => 12,
+        Part::StoreStatus(_) | Part::VolSync(_) => 24,
+        Part::FetchStatus(_) => 84,
+        Part::Opaque(bytes) => 4 + (bytes.len() + (4 - bytes.len() % 4) % 4),
+        Part::Fids(fids) => 4 + fids.len() * 12,
+        Part::CallBacks(callbacks) => 4 + callbacks.len() * 12,
+        Part::Statuses(statuses) => 4 + statuses.len() * 84,
+    }
+}

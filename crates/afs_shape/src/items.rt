@@ -1,0 +1,251 @@
+//! The parts of a message that are the same number of words in each message.
+
+ghost use Rattle.std.specs.Prelude.{◌≡◌, ◌++◌, OnOk, OnErr};
+ghost use Rattle.afs_xdr.specs.Reading.{Reads, KeepsEnd};
+ghost use Rattle.afs_shape.specs.Spelling.{fid, store_status, status, callback, sync};
+ghost use Rattle.afs_shape.specs.Items.{fid_at, store_status_at, status_at, callback_at, sync_at};
+
+use afs_num::calls::{AfsCallBack, AfsFetchStatus, AfsStoreStatus, AfsVolSync};
+use afs_num::types::{Fid, Mem};
+use afs_xdr::faults::XdrFault;
+use afs_xdr::reading::Reader;
+use afs_xdr::writing::Writer;
+
+/// A part of a message that is the same number of words in each message.
+pub trait Item: Drop {
+    ghost use Rattle.std.specs.Prelude.{List, ℕ, Result};
+    ghost use Rattle.afs_xdr.specs.declared.faults.XdrFault.{XdrFault};
+
+    ghost item: { Self → List ℕ };
+
+    ghost item_at: { List ℕ → Result (Self × List ℕ) XdrFault };
+
+    ghost SIZE: { ℕ };
+
+    /// How many bytes it takes.
+    const SIZE: u32;
+
+    /// Reads one.
+    fn read(r: &mut Reader) -> Result<Self, XdrFault>
+        ensures value { Reads item_at (λ x. x) r.old r.new result }
+        ensures end { KeepsEnd r.old r.new };
+
+    /// Appends it. Want of memory leaves the writer as it was.
+    fn write(&self, w: &mut Writer) -> Mem<()>
+        ensures ok { OnOk result (w.new ≡ w.old ++ item self.now) }
+        ensures err { OnErr result (w.new ≡ w.old) };
+}
+
+impl Item for Fid {
+    ghost item = { fid };
+
+    ghost item_at = { fid_at };
+
+    ghost SIZE = { 12 };
+
+    const SIZE: u32 = 12;
+
+    #[tactic(auto, unfolding(crate::specs::Items::fid_at))]
+    fn read(r: &mut Reader) -> Result<Fid, XdrFault> {
+        let volume = r.word()?;
+        let vnode = r.word()?;
+        let unique = r.word()?;
+        Ok(Fid {
+            volume,
+            vnode,
+            unique,
+        })
+    }
+
+    fn write(&self, w: &mut Writer) -> Mem<()> {
+        w.words(&[self.volume, self.vnode, self.unique])
+    }
+}
+
+impl Item for AfsFetchStatus {
+    ghost item = { status };
+
+    ghost item_at = { status_at };
+
+    ghost SIZE = { 84 };
+
+    const SIZE: u32 = 84;
+
+    #[tactic(auto, unfolding(crate::specs::Items::status_at))]
+    fn read(r: &mut Reader) -> Result<AfsFetchStatus, XdrFault> {
+        let interface_version = r.word()?;
+        let file_type = r.word()?;
+        let link_count = r.word()?;
+        let length = r.word()?;
+        let data_version = r.word()?;
+        let author = r.word()?;
+        let owner = r.word()?;
+        let caller_access = r.word()?;
+        let anonymous_access = r.word()?;
+        let unix_mode_bits = r.word()?;
+        let parent_vnode = r.word()?;
+        let parent_unique = r.word()?;
+        let seg_size = r.word()?;
+        let client_mod_time = r.word()?;
+        let server_mod_time = r.word()?;
+        let group = r.word()?;
+        let sync_counter = r.word()?;
+        let spare1 = r.word()?;
+        let spare2 = r.word()?;
+        let spare3 = r.word()?;
+        let spare4 = r.word()?;
+        Ok(AfsFetchStatus {
+            interface_version,
+            file_type,
+            link_count,
+            length,
+            data_version,
+            author,
+            owner,
+            caller_access,
+            anonymous_access,
+            unix_mode_bits,
+            parent_vnode,
+            parent_unique,
+            seg_size,
+            client_mod_time,
+            server_mod_time,
+            group,
+            sync_counter,
+            spare1,
+            spare2,
+            spare3,
+            spare4,
+        })
+    }
+
+    fn write(&self, w: &mut Writer) -> Mem<()> {
+        w.words(&[
+            self.interface_version,
+            self.file_type,
+            self.link_count,
+            self.length,
+            self.data_version,
+            self.author,
+            self.owner,
+            self.caller_access,
+            self.anonymous_access,
+            self.unix_mode_bits,
+            self.parent_vnode,
+            self.parent_unique,
+            self.seg_size,
+            self.client_mod_time,
+            self.server_mod_time,
+            self.group,
+            self.sync_counter,
+            self.spare1,
+            self.spare2,
+            self.spare3,
+            self.spare4,
+        ])
+    }
+}
+
+impl Item for AfsStoreStatus {
+    ghost item = { store_status };
+
+    ghost item_at = { store_status_at };
+
+    ghost SIZE = { 24 };
+
+    const SIZE: u32 = 24;
+
+    #[tactic(auto, unfolding(crate::specs::Items::store_status_at))]
+    fn read(r: &mut Reader) -> Result<AfsStoreStatus, XdrFault> {
+        let mask = r.word()?;
+        let client_mod_time = r.word()?;
+        let owner = r.word()?;
+        let group = r.word()?;
+        let unix_mode_bits = r.word()?;
+        let seg_size = r.word()?;
+        Ok(AfsStoreStatus {
+            mask,
+            client_mod_time,
+            owner,
+            group,
+            unix_mode_bits,
+            seg_size,
+        })
+    }
+
+    fn write(&self, w: &mut Writer) -> Mem<()> {
+        w.words(&[
+            self.mask,
+            self.client_mod_time,
+            self.owner,
+            self.group,
+            self.unix_mode_bits,
+            self.seg_size,
+        ])
+    }
+}
+
+impl Item for AfsCallBack {
+    ghost item = { callback };
+
+    ghost item_at = { callback_at };
+
+    ghost SIZE = { 12 };
+
+    const SIZE: u32 = 12;
+
+    #[tactic(auto, unfolding(crate::specs::Items::callback_at))]
+    fn read(r: &mut Reader) -> Result<AfsCallBack, XdrFault> {
+        let version = r.word()?;
+        let expiration_time = r.word()?;
+        let kind = r.word()?;
+        Ok(AfsCallBack {
+            version,
+            expiration_time,
+            kind,
+        })
+    }
+
+    fn write(&self, w: &mut Writer) -> Mem<()> {
+        w.words(&[self.version, self.expiration_time, self.kind])
+    }
+}
+
+impl Item for AfsVolSync {
+    ghost item = { sync };
+
+    ghost item_at = { sync_at };
+
+    ghost SIZE = { 24 };
+
+    const SIZE: u32 = 24;
+
+    #[tactic(auto, unfolding(crate::specs::Items::sync_at))]
+    fn read(r: &mut Reader) -> Result<AfsVolSync, XdrFault> {
+        let release = r.word()?;
+        let spare1 = r.word()?;
+        let spare2 = r.word()?;
+        let spare3 = r.word()?;
+        let spare4 = r.word()?;
+        let spare5 = r.word()?;
+        Ok(AfsVolSync {
+            release,
+            spare1,
+            spare2,
+            spare3,
+            spare4,
+            spare5,
+        })
+    }
+
+    fn write(&self, w: &mut Writer) -> Mem<()> {
+        w.words(&[
+            self.release,
+            self.spare1,
+            self.spare2,
+            self.spare3,
+            self.spare4,
+            self.spare5,
+        ])
+    }
+}
