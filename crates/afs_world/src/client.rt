@@ -86,11 +86,12 @@ fn refresh(
     ensures { IfOk result (λ e. e ≡ refreshed now fid.now index contents.now entry.now) }
 {
     if entry.fid == *fid && is_live(entry, now) {
+        let stored = contents.copy(alloc)?;
         Ok(CacheEntry {
             fid: entry.fid,
             index,
             expiry: entry.expiry,
-            contents: contents.copy(alloc)?,
+            contents: stored,
         })
     } else {
         Ok(CacheEntry {
