@@ -10,6 +10,7 @@ pub mod KeysOnce
 pub mod Worked
 pub mod ScriptLines
 pub mod ScriptNumbers
+pub mod ScriptTooLong
 pub mod ScriptContents
 pub mod ScriptPieces
 pub mod ScriptSpelled

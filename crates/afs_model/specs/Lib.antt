@@ -15,6 +15,7 @@ pub mod Laws
 pub mod ScriptWords
 pub mod Script
 pub mod ScriptText
+pub mod ScriptTooLong
 pub mod Text
 pub mod ScriptLaws
 pub mod Form
