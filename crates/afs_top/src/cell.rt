@@ -110,7 +110,10 @@ pub fn cell_main<S: Source, K: Sink>(
     let input = match read_all(alloc, source, 16_777_216) {
         Ok(input) => input,
         Err(ReadError::Failed) => return Status::ReadFault,
-        Err(ReadError::TooLong(front)) => return status_of(refusal_of_long(alloc, front.as_slice())),
+        Err(ReadError::TooLong(front)) => return status_of(refusal_of_long(
+            alloc,
+            front.as_slice(),
+        )),
         Err(ReadError::OutOfMemory) => return Status::OutOfMemory,
     };
     let text = match replay(alloc, input.as_slice()) {

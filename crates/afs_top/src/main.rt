@@ -9,9 +9,8 @@ pub mod statuses;
 use cell::cell_main;
 use outside::{HostSink, HostSource};
 use statuses::Status;
-use std::env;
-use std::io;
 use std::process::ExitCode;
+use std::{env, io};
 
 fn main(rt: HostRuntime) -> ExitCode {
     let status = run(&rt);
@@ -39,3 +38,6 @@ fn words(rt: &HostRuntime) -> io::Result<Vec<String>> {
     }
     Ok(words)
 }
+
+#[cfg(test)]
+mod tests;

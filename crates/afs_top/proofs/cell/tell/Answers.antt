@@ -14,6 +14,6 @@ returns c =
     let world = c.in_ok-world.world in
     let script = c.args.script.now in
     told c.args.input.now script world.history world.server.state.files c.in_ok-text.text c.requires c.in_ok-world.ensures.history c.in_ok-world.ensures.files
-      (c.in_ok-text.ensures
-       ∙ ap (λ (es : List wire.Entry). wire_text script es c.as_slice-2.result.now) c.as_slice.ensures
-       ∙ ap (λ (fs : List StoredFile). wire_text script world.history fs) c.as_slice-2.ensures)
+    (c.in_ok-text.ensures
+    ∙ ap (λ (es : List wire.Entry). wire_text script es c.as_slice-2.result.now) c.as_slice.ensures
+    ∙ ap (λ (fs : List StoredFile). wire_text script world.history fs) c.as_slice-2.ensures)

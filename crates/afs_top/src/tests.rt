@@ -1,0 +1,231 @@
+//! The rows of the program: each script beside what it prints.
+
+use crate::cell::cell_main;
+use crate::memory::{MemSink, MemSource};
+use crate::statuses::Status;
+use afs_num::calls::{AfsCallBack, AfsFetchStatus, AfsVolSync, FsReply};
+use afs_num::messages::{Carried, Message};
+use afs_num::scripts::Reason;
+use afs_num::sequences::Sequence;
+use afs_num::types::{Half, Head, Node};
+use afs_world::encoding::encode;
+use std::alloc::{AllocError, Global};
+use std::test::Fail;
+
+const OPEN_TWICE: &[u8] =
+    b"cell 1\nservers 1\nclients 1\nvolume proj s1 1000\nfile proj/a hex:616263\ndo c1 open @536870912.2.2\ndo c1 open @536870912.2.2\nschedule\nact c1\ndeliver 1\ndeliver 2\nact c1\nend\n";
+
+const OPEN_TWICE_TEXT: &[u8] =
+    b"entry 1 c1\nbegin c1 open @536870912.2.2\nsent 1 c1 s1 call 130 1.1\nentry 2 s1\ngiven 1\ngrant s1 c1 536870912.2.2 1 7200\nsent 2 s1 c1 reply 130 1.1 0\nentry 3 c1\ngiven 2\nread c1 536870912.2.2 1 fetched f:616263\nanswer c1 0\nentry 4 c1\nbegin c1 open @536870912.2.2\nread c1 536870912.2.2 1 cached f:616263\nanswer c1 0\nfinal\nvolume s1 536870912 proj 0 0\nvnode 536870912.1.1 2 1 1 d:a=2.2\nvnode 536870912.2.2 1 1 1 f:616263\nend\n";
+
+const OPEN_CLOSE: &[u8] =
+    b"cell 1\nservers 1\nclients 1\nvolume proj s1 1000\nfile proj/a hex:616263\ndo c1 open @536870912.2.2\ndo c1 close @536870912.2.2 hex:646566\nschedule\nact c1\ndeliver 1\ndeliver 2\nact c1\ndeliver 3\ndeliver 4\nend\n";
+
+const OPEN_CLOSE_TEXT: &[u8] =
+    b"entry 1 c1\nbegin c1 open @536870912.2.2\nsent 1 c1 s1 call 130 1.1\nentry 2 s1\ngiven 1\ngrant s1 c1 536870912.2.2 1 7200\nsent 2 s1 c1 reply 130 1.1 0\nentry 3 c1\ngiven 2\nread c1 536870912.2.2 1 fetched f:616263\nanswer c1 0\nentry 4 c1\nbegin c1 close @536870912.2.2 hex:646566\nsent 3 c1 s1 call 133 1.2\nentry 5 s1\ngiven 3\nchange s1 c1.1.2 1\nversion 536870912.2.2 2 2 f:646566\nsent 4 s1 c1 reply 133 1.2 0\nentry 6 c1\ngiven 4\nanswer c1 0\nfinal\nvolume s1 536870912 proj 0 0\nvnode 536870912.1.1 2 1 1 d:a=2.2\nvnode 536870912.2.2 1 2 2 f:646566\nend\n";
+
+const MISSING: &[u8] =
+    b"cell 1\nservers 1\nclients 1\nvolume proj s1 1000\nfile proj/a hex:616263\ndo c1 open @536870912.4.9\nschedule\nact c1\ndeliver 1\ndeliver 2\nend\n";
+
+const MISSING_TEXT: &[u8] =
+    b"entry 1 c1\nbegin c1 open @536870912.4.9\nsent 1 c1 s1 call 130 1.1\nentry 2 s1\ngiven 1\nsent 2 s1 c1 reply 130 1.1 102\nentry 3 c1\ngiven 2\nanswer c1 102\nfinal\nvolume s1 536870912 proj 0 0\nvnode 536870912.1.1 2 1 1 d:a=2.2\nvnode 536870912.2.2 1 1 1 f:616263\nend\n";
+
+const NOTHING: &[u8] =
+    b"# a cell without a file, and a message that was never sent\ncell 1\nservers 1\n\nclients 1\nvolume proj s1 1000\nschedule\ndeliver 7\nend\n";
+
+const NOTHING_TEXT: &[u8] =
+    b"entry 1 none\nvoid\nfinal\nvolume s1 536870912 proj 0 0\nvnode 536870912.1.1 2 1 1 d:\nend\n";
+
+/// The words of the command line that play a script.
+fn replay(alloc: Global) -> Result<Vec<String>, AllocError> {
+    let mut words = Vec::new(alloc);
+    words.push(String::from_str(alloc, "replay")?)?;
+    Ok(words)
+}
+
+#[test]
+fn rows(rt: HostRuntime) -> Result<(), Fail> {
+    let words = replay(rt.alloc())?;
+    let table = [
+        (OPEN_TWICE, OPEN_TWICE_TEXT),
+        (OPEN_CLOSE, OPEN_CLOSE_TEXT),
+        (MISSING, MISSING_TEXT),
+        (NOTHING, NOTHING_TEXT),
+    ];
+    for (script, text) in table {
+        let mut source = MemSource::new(script, &[]);
+        let mut sink = MemSink::new(rt.alloc(), &[]);
+        assert_eq!(rt;
+            cell_main(rt.alloc(), words.as_slice(), &mut source, &mut sink),
+            Status::Done
+        );
+        assert_eq!(rt; sink.as_slice(), text);
+    }
+    Ok(())
+}
+
+#[test]
+fn a_sink_that_is_full_holds_a_beginning(rt: HostRuntime) -> Result<(), Fail> {
+    let words = replay(rt.alloc())?;
+    let mut source = MemSource::new(OPEN_CLOSE, &[]);
+    let mut sink = MemSink::with_room(rt.alloc(), 10, &[]);
+    assert_eq!(rt;
+        cell_main(rt.alloc(), words.as_slice(), &mut source, &mut sink),
+        Status::WriteFault
+    );
+    assert_eq!(rt; sink.as_slice(), b"entry 1 c1".as_slice());
+    Ok(())
+}
+
+#[test]
+fn a_source_that_fails_gives_nothing(rt: HostRuntime) -> Result<(), Fail> {
+    let words = replay(rt.alloc())?;
+    let mut source = MemSource::new(OPEN_CLOSE, &[1]);
+    let mut sink = MemSink::new(rt.alloc(), &[]);
+    assert_eq!(rt;
+        cell_main(rt.alloc(), words.as_slice(), &mut source, &mut sink),
+        Status::ReadFault
+    );
+    assert_eq!(rt; sink.as_slice(), b"".as_slice());
+    Ok(())
+}
+
+#[test]
+fn no_input_is_no_script(rt: HostRuntime) -> Result<(), Fail> {
+    let words = replay(rt.alloc())?;
+    let mut source = MemSource::new(b"", &[]);
+    let mut sink = MemSink::new(rt.alloc(), &[]);
+    assert_eq!(rt;
+        cell_main(rt.alloc(), words.as_slice(), &mut source, &mut sink),
+        Status::Script(1, Reason::Missing)
+    );
+    assert_eq!(rt; sink.as_slice(), b"".as_slice());
+    Ok(())
+}
+
+#[test]
+fn words_that_are_no_form(rt: HostRuntime) -> Result<(), Fail> {
+    let alloc = rt.alloc();
+    let mut words = replay(alloc)?;
+    words.push(String::from_str(alloc, "--wire")?)?;
+    let mut source = MemSource::new(OPEN_CLOSE, &[]);
+    let mut sink = MemSink::new(alloc, &[]);
+    assert_eq!(rt;
+        cell_main(alloc, words.as_slice(), &mut source, &mut sink),
+        Status::Usage
+    );
+    assert_eq!(rt;
+        cell_main(alloc, &[], &mut source, &mut sink),
+        Status::Usage
+    );
+    assert_eq!(rt; sink.as_slice(), b"".as_slice());
+    Ok(())
+}
+
+/// The reply to the first open of a file of three bytes.
+#[test]
+fn the_reply_to_an_open(rt: HostRuntime) -> Result<(), Fail> {
+    let alloc = rt.alloc();
+    let reply = Message {
+        head: Head {
+            half: Half::Reply,
+            from: Node::Server(1),
+            to: Node::Client(1),
+            epoch: 1,
+            number: 1,
+            boot: 1,
+            stamp: 0,
+            opcode: 130,
+        },
+        carried: Carried::Reply {
+            reply: FsReply::FetchData {
+                contents: Sequence::from_slice(alloc, b"abc")?,
+                status: AfsFetchStatus {
+                    interface_version: 1,
+                    file_type: 1,
+                    link_count: 1,
+                    length: 3,
+                    data_version: 1,
+                    author: 0,
+                    owner: 0,
+                    caller_access: 127,
+                    anonymous_access: 127,
+                    unix_mode_bits: 420,
+                    parent_vnode: 1,
+                    parent_unique: 1,
+                    seg_size: 0,
+                    client_mod_time: 0,
+                    server_mod_time: 0,
+                    group: 0,
+                    sync_counter: 1,
+                    spare1: 0,
+                    spare2: 0,
+                    spare3: 0,
+                    spare4: 0,
+                },
+                callback: AfsCallBack {
+                    version: 1,
+                    expiration_time: 7200,
+                    kind: 2,
+                },
+                sync: AfsVolSync {
+                    release: 0,
+                    spare1: 0,
+                    spare2: 0,
+                    spare3: 0,
+                    spare4: 0,
+                    spare5: 0,
+                },
+            },
+        },
+    };
+    let words: [u32; 41] = [
+        2,
+        1,
+        0x65,
+        1,
+        1,
+        1,
+        0,
+        0x82,
+        0,
+        3,
+        0x6162_6300,
+        1,
+        1,
+        1,
+        3,
+        1,
+        0,
+        0,
+        0x7f,
+        0x7f,
+        0x1a4,
+        1,
+        1,
+        0,
+        0,
+        0,
+        0,
+        1,
+        0,
+        0,
+        0,
+        0,
+        1,
+        0x1c20,
+        2,
+        0,
+        0,
+        0,
+        0,
+        0,
+        0,
+    ];
+    let mut expected = Vec::new(alloc);
+    for word in words {
+        expected.extend_from_slice(&word.to_be_bytes())?;
+    }
+    assert_eq!(rt; encode(alloc, &reply)?.as_slice(), expected.as_slice());
+    Ok(())
+}
