@@ -1,5 +1,5 @@
 -- The clients' steps that answer an act.
-use Rattle.std.proofs.Common.{◌≡◌, ℕ, ◌<◌, ◌≤◌, inl, inr, Bool, true, false, cond, nat_lt, not, List, [], ◌∷◌, map, Option, Some, None, ℤ, refl, sym, ap, subst, ◌∙◌, eqb-true, ltb-true, lt-ltb, le_of_eq, append-nil}
+use Rattle.std.proofs.Common.{◌++◌, ◌≡◌, ℕ, ◌<◌, ◌≤◌, inl, inr, Bool, true, false, cond, nat_lt, not, List, [], ◌∷◌, map, Option, Some, None, ℤ, refl, sym, ap, subst, ◌∙◌, eqb-true, ltb-true, lt-ltb, le_of_eq, append-nil}
 use Rattle.std.specs.Prelude.{◌&&◌}
 use Rattle.std.specs.Option.{option_map}
 use Rattle.afs_num.specs.Fids.{same_fid}
@@ -149,15 +149,17 @@ record Due (c : Cell) (past : List Entry) (n p : ℕ) (act : Act) (m : Message) 
   at : message_at (sent_of past) p ≡ Some m
 
 -- its act is answered with its code
-good_code : (s : Script) (c : Cell) (past : List Entry) (n p : ℕ) (act : Act) (m : Message) (code : Code) (own : List Line) → Holds s c past → Due c past n p act m → code_told m.carried ≡ Some code.0 → given_message own (sent_of past) ≡ message_at (sent_of past) p
+good_code : (s : Script) (c : Cell) (past : List Entry) (n p : ℕ) (act : Act) (m : Message) (code : Code) (own : List Line) → Holds s c past → Due c past n p act m → code_told m.carried ≡ Some code.0 → given_message own (sent_of past) ≡ message_at (sent_of past) p → begun (Client n) (own ++ lines_of past) ≡ begun (Client n) (lines_of past)
     → GoodCode (Client n) code past own
-good_code s c past n p act m code own h d told by =
+good_code s c past n p act m code own h d told by still =
     let cause = d.answers.cause in
     inl (record {
       reply = m;
       by = by ∙ d.at;
       of_act = subst (λ (k : Key). is_of_act (Client n) k past ≡ true) (sym d.key) ((h.clients n).asked act d.running);
-      cause = subst (λ (z : ℤ). Cause m z past) (some_of _ _ (sym cause.told ∙ told)) cause;
+      act = act;
+      running = still ∙ (h.clients n).begun act d.running;
+      cause = subst (λ (z : ℤ). Cause m z act past) (some_of _ _ (sym cause.told ∙ told)) cause;
     })
 
 -- an act that ended leaves no call that may run
@@ -191,7 +193,7 @@ takes_refused s c past n p act head code h d =
     let m : Message = record { head = head; carried = carried.Refusal code } in
     let e : Entry = step_entry n (answered_lines n p code) [] in
     moves s c past n (answers_step (Client n) (c.clients n) p code) h
-    (tt, (good_code s c past n p act m code (lines.Given p ∷ []) h d refl refl, tt))
+    (tt, (good_code s c past n p act m code (lines.Given p ∷ []) h d refl refl refl, tt))
     (answered_passes s c past n p m code h d.heard)
     (ended_facts s c past n (c.clients n).cache e h
     (λ f u found lasts. current_over n f u (view c n) _ e past (answered_file n n p code past f)
@@ -234,7 +236,7 @@ takes_used s c past n p f head contents status callback sync h d lasts =
           kept = a.held.kept;
           newest = a.newest;
         },
-        (good_code s c past n p (Open f) m zero_code (lines.Read (Client n) f i Fetched (bodies.File contents) ∷ lines.Given p ∷ []) h d refl refl, tt),
+        (good_code s c past n p (Open f) m zero_code (lines.Read (Client n) f i Fetched (bodies.File contents) ∷ lines.Given p ∷ []) h d refl refl refl, tt),
       ),
     )
     (used_passes s c past n p i f contents m h d.heard)
@@ -330,7 +332,7 @@ takes_saved s c past n p f b head status sync h d =
     let cache : List CacheEntry = map (refreshed c.clock f i b) (c.clients n).cache in
     let e : Entry = step_entry n (answered_lines n p zero_code) [] in
     moves s c past n (takes_stored (Client n) (c.clients n) c.clock p f i b) h
-    (tt, (good_code s c past n p (Close f b) m zero_code (lines.Given p ∷ []) h d refl refl, tt))
+    (tt, (good_code s c past n p (Close f b) m zero_code (lines.Given p ∷ []) h d refl refl refl, tt))
     (answered_passes s c past n p m zero_code h d.heard)
     (ended_facts s c past n cache e h
     (λ g u found lasts. stored_of (find_cached g (c.clients n).cache) s c past n p f g b m i u e cache d refl d.answers.fits (answered_file n n p zero_code past) (answered_reach n n p zero_code past) (λ k. stays n k e past (answered_file n n p zero_code past k).grant refl)

@@ -131,7 +131,7 @@ Fits j act m c past = ⊥
 pub record Answers (j : ℕ) (act : Act) (m : Message) (past : List Entry) : Type 0 where
   pub fits : Fits j act m m.carried past
   pub code : ℤ
-  pub cause : Cause m code past
+  pub cause : Cause m code act past
 
 abbrev pub HasAnswer : ℕ → View → List Entry → Type 0
 HasAnswer j v past = (act : Act) (m : Message) → v.running ≡ Some act → (ran : LastRan v) → ran.seat.reply ≡ Some m → Answers j act m past

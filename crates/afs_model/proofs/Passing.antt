@@ -79,14 +79,16 @@ held_over j f i b x m e past p h = record {
   whole = p.version i (bodies.File b) (lines_of past) h.whole;
 }
 
-pub cause_over : (m : Message) (code : ℤ) (e : Entry) (past : List Entry) → Cause m code past → Cause m code (e ∷ past)
-cause_over m code e past h = record {
+pub cause_over : (m : Message) (code : ℤ) (act : Act) (e : Entry) (past : List Entry) → Cause m code act past → Cause m code act (e ∷ past)
+cause_over m code act e past h = record {
   told = h.told;
   ran = ran_over (answered_key m.head) m.head.boot e past h.ran;
   user = h.user;
   call = h.call;
   carries = h.carries;
+  asks = h.asks;
   gives = h.gives;
+  made = h.made;
 }
 
 -- what was the newest is so still, or has its grant withdrawn
@@ -149,7 +151,7 @@ fits_over j (Close f contents) m c e past p r n h = absurd h
 
 pub answers_over : (j : ℕ) (act : Act) (m : Message) (e : Entry) (past : List Entry) → ((f : Fid) → PassesGrant j f e past) → ((f : Fid) → PassesReach j f e past) → ((f : Fid) → StaysNewest j f e past)
     → Answers j act m past → Answers j act m (e ∷ past)
-answers_over j act m e past p r n h = record { fits = fits_over j act m m.carried e past p r n h.fits; code = h.code; cause = cause_over m h.code e past h.cause }
+answers_over j act m e past p r n h = record { fits = fits_over j act m m.carried e past p r n h.fits; code = h.code; cause = cause_over m h.code act e past h.cause }
 
 -- ---- a client that doesn't move
 

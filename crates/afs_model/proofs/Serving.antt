@@ -32,6 +32,7 @@ use Rattle.afs_model.specs.ServerRow.{seat_of, find_file, version_of}
 use Rattle.afs_model.specs.ClientRow.{the_server, find_cached}
 use Rattle.afs_model.specs.Past.{onto, lines_of, sent_of, given_message, called_key, is_of_act, IsCallUnder, Ran}
 use Rattle.afs_model.specs.Ideal.{last_version, HasVersion, Accepts, asked, op, reach}
+use Rattle.afs_model.specs.Legal.{IsMade}
 use Rattle.afs_model.specs.Grants.{IsWithdrawn}
 use Rattle.afs_model.proofs.Basics.{Below, UpTo, Above, Each, IfCall, IfReply, OfReply}
 use Rattle.afs_model.specs.Runs.{server_moves}
@@ -302,6 +303,10 @@ refusal_code : (user : List ℕ) (act : Act) (ls : List Line) → none_of ls act
 refusal_code user (Open f) ls e = rw e refl
 refusal_code user (Close f contents) ls e = rw (whole_file contents, e) refl
 
+refusal_makes : (k : Key) (user : List ℕ) (act : Act) (ls own : List Line) → none_of ls act → IsMade k (op user (asked act) ls).versions own
+refusal_makes k user (Open f) ls own e = rw e tt
+refusal_makes k user (Close f contents) ls own e = rw (whole_file contents, e) tt
+
 none_close : (act : Act) (ls : List Line) → none_of ls act → (f : Fid) (y : List ℕ) → act ≡ Close f y → last_version f ls ≡ None
 none_close act ls none f y e = subst (λ (a : Act). none_of ls a) e none
 
@@ -320,7 +325,7 @@ refuses_goes s c past p n h user act H w none =
             (λ q. subst (λ (m : ℕ). ClientFacts m (seated_view c m (Some (taken n h r))) (e ∷ past)) (client_number n j q)
             (caller_after s c past p n h user act r e H w (told_act n p (Some the_server) (r ∷ []) past)
             (record { to = refl; from = refl; epoch = refl; number = refl; is_reply = λ x. x })
-            (record { fits = refusal_fits n act r _ (e ∷ past); code = pos 102; cause = record { told = refl; ran = ran_now s c past p n h user act e H w refl; user = user; call = asked act; carries = refl; gives = refusal_code user act (lines_of past) none } })
+            (record { fits = refusal_fits n act r _ (e ∷ past); code = pos 102; cause = record { told = refl; ran = ran_now s c past p n h user act e H w refl; user = user; call = asked act; carries = refl; asks = refl; gives = refusal_code user act (lines_of past) none; made = refusal_makes (called_key (client_head n h)) user act (lines_of past) e.lines none } })
             (current_same s c past p n h user act r e H w (λ f. told_file n p f (Some the_server) (r ∷ []) past) (λ f. told_reach n p f (Some the_server) (r ∷ []) past) (λ f. refl) (none_close act (lines_of past) none))
             (reached_still s c past n e H (λ f. told_reach n p f (Some the_server) (r ∷ []) past) (λ f. refl))))
             (λ ne. client_still j (view c j) e past (λ f. told_file j p f (Some the_server) (r ∷ []) past) (λ f. told_reach j p f (Some the_server) (r ∷ []) past) (told_act j p (Some the_server) (r ∷ []) past) (λ f. refl) (H.clients j));
@@ -377,7 +382,7 @@ grants_goes s c past p n h user file H w found =
                 newest = inr (ap (option_map (λ (v : Version). v.index)) last);
               };
               code = pos 0;
-              cause = record { told = refl; ran = ran_now s c past p n h user act e H w refl; user = user; call = asked act; carries = refl; gives = rw last refl };
+              cause = record { told = refl; ran = ran_now s c past p n h user act e H w refl; user = user; call = asked act; carries = refl; asks = refl; gives = rw last refl; made = rw last tt };
             })
             (current_same s c past p n h user act r e H w (grants_file n p the_server (Client n) file.fid file.index x (Some the_server) (r ∷ []) past) (grants_reach n p the_server (Client n) file.fid file.index x (Some the_server) (r ∷ []) past) (λ f. refl) (λ f y is. absurd cc))
             (reached_still s c past n e H (grants_reach n p the_server (Client n) file.fid file.index x (Some the_server) (r ∷ []) past) (λ f. refl))))
@@ -518,6 +523,7 @@ saves_goes s c past p n h user b file H w found =
             code = rw (whole_file b, last) refl;
             versions = rw (whole_file b, last) refl;
             number = refl;
+            some = omega arith;
             home = (H.home file.fid file found, tt);
           },
           (tt, tt),
@@ -535,7 +541,7 @@ saves_goes s c past p n h user b file H w found =
             (record {
               fits = inl (refl, (refl, refl));
               code = pos 0;
-              cause = record { told = refl; ran = ran_now s c past p n h user act e H w refl; user = user; call = asked act; carries = refl; gives = rw (whole_file b, last) refl };
+              cause = record { told = refl; ran = ran_now s c past p n h user act e H w refl; user = user; call = asked act; carries = refl; asks = refl; gives = rw (whole_file b, last) refl; made = rw (whole_file b, last) (inl refl) };
             })
             (λ f u at lasts. current_over n f u (view c n) (seated_view c n (Some (taken n h r))) e past (saves_file n p k made r past f)
             (λ server newer q st. own_stands (same_fid file.fid f) c past p n h user file b r f u.index server newer w refl refl old (not_there _ u at) st) ((H.clients n).current f u at lasts))

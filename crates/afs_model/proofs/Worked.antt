@@ -267,9 +267,9 @@ at_split P past newer at older e h = split_in P newer at older (subst (AtEach P)
 GivesOnly : ℤ → Entry → List Entry → Type 0
 GivesOnly z at older = (m : Message) (user : List ℕ) (c : FsCall) → given_message at.lines (sent_of older) ≡ Some m → m.carried ≡ carried.Call user c → (op user c (lines_of older)).code ≡ z
 
-gives_only : (z n : ℤ) (r : Message) (past : List Entry) → AtEach (GivesOnly z) past → Cause r n past → n ≡ z
+gives_only : (z n : ℤ) (r : Message) (act : Act) (past : List Entry) → AtEach (GivesOnly z) past → Cause r n act past → n ≡ z
 unfolding GivesOnly
-gives_only z n r past h c = sym c.gives ∙ at_split (GivesOnly z) past c.ran.newer c.ran.at c.ran.older c.ran.split h c.ran.message c.user c.call c.ran.given c.carries
+gives_only z n r act past h c = sym c.gives ∙ at_split (GivesOnly z) past c.ran.newer c.ran.at c.ran.older c.ran.split h c.ran.message c.user c.call c.ran.given c.carries
 
 op_of : Carried → List Line → ℤ
 op_of (carried.Call user c) older = (op user c older).code
@@ -288,7 +288,7 @@ not_here z at older e k user c given carries = absurd cc
 there_refused : Legal (asks_open ∷ server_entry (lines.Given 1 ∷ []) (reply 1 130 no_such_file ∷ []) ∷ client_entry (lines.Given 2 ∷ code 102 ∷ []) [] ∷ []) script → ⊥
 unfolding op_of
 there_refused g = elim g.1.1.0.1.0 [
-  | inl x ↦ apart_codes 102 0 refl (gives_only (pos 0) (pos 102) x.reply (server_entry (lines.Given 1 ∷ []) (reply 1 130 no_such_file ∷ []) ∷ asks_open ∷ set_up script ∷ []) (only_here (pos 0) (call 1 130 (fetch file)) _ _ refl refl, (not_here (pos 0) _ _ refl, (not_here (pos 0) _ _ refl, tt))) x.cause)
+  | inl x ↦ apart_codes 102 0 refl (gives_only (pos 0) (pos 102) x.reply x.act (server_entry (lines.Given 1 ∷ []) (reply 1 130 no_such_file ∷ []) ∷ asks_open ∷ set_up script ∷ []) (only_here (pos 0) (call 1 130 (fetch file)) _ _ refl refl, (not_here (pos 0) _ _ refl, (not_here (pos 0) _ _ refl, tt))) x.cause)
   | inr x ↦ apart_codes 102 0 refl x.0
 ]
 
@@ -296,7 +296,7 @@ there_refused g = elim g.1.1.0.1.0 [
 missing_stored : Legal (client_entry (lines.Begin (Client 1) (Close missing (codes "def")) ∷ []) (call 1 133 (store missing (codes "def")) ∷ []) ∷ server_entry (lines.Given 1 ∷ []) (reply 1 133 stored ∷ []) ∷ client_entry (lines.Given 2 ∷ code 0 ∷ []) [] ∷ []) script → ⊥
 unfolding op_of
 missing_stored g = elim g.1.1.0.1.0 [
-  | inl x ↦ apart_codes 0 102 refl (gives_only (pos 102) (pos 0) x.reply (server_entry (lines.Given 1 ∷ []) (reply 1 133 stored ∷ []) ∷ client_entry (lines.Begin (Client 1) (Close missing (codes "def")) ∷ []) (call 1 133 (store missing (codes "def")) ∷ []) ∷ set_up script ∷ [])
+  | inl x ↦ apart_codes 0 102 refl (gives_only (pos 102) (pos 0) x.reply x.act (server_entry (lines.Given 1 ∷ []) (reply 1 133 stored ∷ []) ∷ client_entry (lines.Begin (Client 1) (Close missing (codes "def")) ∷ []) (call 1 133 (store missing (codes "def")) ∷ []) ∷ set_up script ∷ [])
       (only_here (pos 102) (call 1 133 (store missing (codes "def"))) _ _ refl refl, (not_here (pos 102) _ _ refl, (not_here (pos 102) _ _ refl, tt))) x.cause)
   | inr x ↦ x.1
 ]

@@ -70,6 +70,7 @@ pub record GoodChange (s : Script) (server : Node) (k : Key) (count : ℕ) (past
   pub code : (op user call (own ++ lines_of past)).code ≡ pos 0
   pub versions : versions_first next ≡ (op user call (own ++ lines_of past)).versions
   pub number : count ≡ length (versions_first next)
+  pub some : 0 < count
   pub home : AcceptsAll s server (own ++ lines_of past) (versions_first next)
 
 -- a version stands under its change; that these are not too many is said of the change
@@ -86,21 +87,37 @@ code_told (carried.Refusal code) = Some code.0
 code_told (carried.Reply reply) = Some (pos 0)
 code_told c = None
 
--- the reply has this code, and so has the ideal operation where the call ran
-pub record Cause (reply : Message) (code : ℤ) (past : List Entry) : Type 0 where
+-- a change under this key is among the lines
+abbrev pub HasChange : Key → List Line → Type 0
+HasChange k [] = ⊥
+HasChange k (lines.Change s l count ∷ ls) = (l ≡ k) ⊎ HasChange k ls
+HasChange k (l ∷ ls) = HasChange k ls
+
+-- where an operation makes versions, its change is told
+abbrev pub IsMade : Key → List Version → List Line → Type 0
+IsMade k [] ls = ⊤
+IsMade k (v ∷ vs) ls = HasChange k ls
+
+-- the reply has this code, and so has the ideal operation where the call ran; the call is the one that the act asks; and
+-- where the operation makes versions, the change stands where the call ran
+pub record Cause (reply : Message) (code : ℤ) (act : Act) (past : List Entry) : Type 0 where
   pub told : code_told reply.carried ≡ Some code
   pub ran : Ran (answered_key reply.head) reply.head.boot past
   pub user : List ℕ
   pub call : FsCall
   pub carries : ran.message.carried ≡ carried.Call user call
+  pub asks : call ≡ asked act
   pub gives : (op user call (lines_of ran.older)).code ≡ code
+  pub made : IsMade (answered_key reply.head) (op user call (lines_of ran.older)).versions ran.at.lines
 
--- the reply that the answer's entry was given is to a call of the act, and is the cause of the code
+-- an act runs, and the reply that the answer's entry was given is to a call of it, and is the cause of the code
 pub record IsCaused (c : Node) (code : ℤ) (past : List Entry) (own : List Line) : Type 0 where
   pub reply : Message
   pub by : given_message own (sent_of past) ≡ Some reply
   pub of_act : is_of_act c (answered_key reply.head) past ≡ true
-  pub cause : Cause reply code past
+  pub act : Act
+  pub running : begun c (own ++ lines_of past) ≡ Some act
+  pub cause : Cause reply code act past
 
 -- since the act began, the entry has cached reads alone
 abbrev pub AreAllCached : Node → List Line → Type 0
