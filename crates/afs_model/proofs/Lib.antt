@@ -30,3 +30,4 @@ pub mod HeadLaws
 pub mod FsLaws
 pub mod FsMade
 pub mod FsMessages
+pub mod Calls

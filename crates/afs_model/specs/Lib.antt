@@ -25,3 +25,5 @@ pub mod Disk
 pub mod Journal
 pub mod FsRows
 pub mod FsMaking
+pub mod Calls
+pub mod CallLaws

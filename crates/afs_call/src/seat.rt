@@ -1,0 +1,157 @@
+ghost use Rattle.std.specs.Prelude.{◌≡◌, ◌∷◌, [], ◌++◌, ◌≤◌, ◌<◌, Some, None, length, nat_eq, ◌&&◌, ◌-◌};
+ghost use Rattle.std.specs.Option.{option_copied};
+ghost use Rattle.std.specs.Vec.{vec_capacity};
+ghost use Rattle.afs_num.specs.Nodes.{same_node};
+ghost use Rattle.afs_model.specs.ServerRow.{pair_below};
+ghost use Rattle.afs_model.specs.Calls.{call_seat, other_seats, call_seated, compared, repeated, is_last_call, HasRoom, KeepsRoom, Frees};
+ghost use Rattle.afs_call.specs.Admitting.{means};
+
+use afs_num::sequences::Octets;
+use afs_num::types::{Key, Node};
+use std::marker::Model;
+
+/// What becomes of a call.
+#[derive(Clone, Copy, Debug)]
+pub enum Admit<'a> {
+    /// It runs.
+    Run,
+    /// It has ended, and this reply is sent again.
+    Kept(&'a [u8]),
+    /// It hasn't ended, and gets no answer.
+    InProgress,
+    /// Its caller has made a newer call, and it gets no answer.
+    Old,
+    /// It was made for another boot; the callee tells its boot number, which is this one.
+    WrongBoot(u32),
+}
+
+// The last call of a caller, and its reply: none while the call is in progress.
+#[derive(Drop)]
+pub struct Seat {
+    caller: Node,
+    epoch: u32,
+    number: u32,
+    reply: Option<Octets>,
+}
+
+impl Model for Seat {
+    ghost use Rattle.std.specs.Prelude.{ℕ, List};
+    ghost use Rattle.afs_model.specs.Calls.{CallSeat};
+
+    ghost Value = { CallSeat (List ℕ) };
+
+    ghost view = { λ s. record { caller = s.caller; epoch = s.epoch; number = s.number; reply = s.reply } };
+}
+
+fn is_below(epoch: u32, number: u32, other_epoch: u32, other_number: u32) -> bool
+    ensures { result ≡ pair_below epoch number other_epoch other_number }
+{
+    if epoch < other_epoch {
+        true
+    } else {
+        epoch == other_epoch && number < other_number
+    }
+}
+
+impl Seat {
+    pub fn begun(key: Key) -> Seat
+        ensures { result ≡ record { caller = key.node; epoch = key.epoch; number = key.number; reply = None } }
+    {
+        Seat {
+            caller: key.node,
+            epoch: key.epoch,
+            number: key.number,
+            reply: None,
+        }
+    }
+
+    pub fn ended(key: Key, reply: Octets) -> Seat
+        ensures { result ≡ record { caller = key.node; epoch = key.epoch; number = key.number; reply = Some reply } }
+    {
+        Seat {
+            caller: key.node,
+            epoch: key.epoch,
+            number: key.number,
+            reply: Some(reply),
+        }
+    }
+
+    pub fn caller(&self) -> Node
+        ensures { result ≡ self.now.caller }
+    {
+        self.caller
+    }
+
+    pub fn is_of(&self, caller: &Node) -> bool
+        ensures { result ≡ same_node self.now.caller caller.now }
+    {
+        self.caller.is(caller)
+    }
+
+    pub fn is_for(&self, key: &Key) -> bool
+        ensures { result ≡ (nat_eq self.now.epoch key.now.epoch && nat_eq self.now.number key.now.number) }
+    {
+        self.epoch == key.epoch && self.number == key.number
+    }
+
+    fn last(&self) -> Admit<'_>
+        ensures { means result ≡ repeated self.now.reply }
+    {
+        match &self.reply {
+            Some(reply) => Admit::Kept(reply.as_slice()),
+            None => Admit::InProgress,
+        }
+    }
+
+    /// What becomes of this caller's call of this epoch and number.
+    pub fn admit(&self, epoch: u32, number: u32) -> Admit<'_>
+        ensures { means result ≡ compared epoch number self.now }
+    {
+        if is_below(epoch, number, self.epoch, self.number) {
+            return Admit::Old;
+        }
+        if is_below(self.epoch, self.number, epoch, number) {
+            return Admit::Run;
+        }
+        self.last()
+    }
+}
+
+/// The seat of this caller.
+pub fn find_seat<'a>(seats: &'a [Seat], caller: &Node) -> Option<&'a Seat>
+    ensures { option_copied result ≡ call_seat caller.now seats.entry.now }
+{
+    seats.iter().find(|seat| seat.is_of(caller))
+}
+
+/// Whether this is the last call of its caller.
+pub fn is_last(seats: &[Seat], key: &Key) -> bool
+    ensures { result ≡ is_last_call key.now (call_seat key.now.node seats.now) }
+{
+    match find_seat(seats, &key.node) {
+        Some(seat) => seat.is_for(key),
+        None => false,
+    }
+}
+
+// Drops the seats of this caller.
+fn drop_seats(seats: &mut Vec<Seat>, caller: &Node)
+    ensures items { seats.new.items ≡ other_seats caller.now seats.old.items }
+    ensures fewer { Frees (call_seat caller.now seats.old.items) (length seats.new.items) (length seats.old.items) }
+    ensures room { vec_capacity seats.old ≤ vec_capacity seats.new }
+{
+    seats.retain(|seat| !seat.is_of(caller));
+}
+
+/// The seat takes the place of its caller's.
+pub fn put_seat(seats: &mut Vec<Seat>, seat: Seat)
+    requires { HasRoom (call_seat seat.caller seats.old.items) (vec_capacity seats.old - length seats.old.items) }
+    ensures items { seats.new.items ≡ call_seated seat seats.old.items }
+    ensures room { KeepsRoom (call_seat seat.caller seats.old.items) (vec_capacity seats.old - length seats.old.items) (vec_capacity seats.new - length seats.new.items) }
+{
+    drop_seats(seats, &seat.caller());
+    match seats.push(seat) {
+        Ok(()) => {}
+        Err(_) => unreachable!(),
+    }
+}

@@ -1,0 +1,87 @@
+ghost use Rattle.std.specs.Prelude.{◌≡◌, ◌+◌, ◌≤◌, [], length, OnOk, OnErr};
+ghost use Rattle.afs_model.specs.Calls.{Calls, runs, call_seat, paired, admitted, started, finished, HasRoom, KeepsRoom};
+ghost use Rattle.afs_call.specs.Admitting.{means};
+
+use crate::seat::{Admit, Seat, find_seat, is_last, put_seat};
+use afs_num::sequences::Octets;
+use afs_num::types::{Head, Key, Mem};
+use std::alloc::Global;
+use std::marker::Model;
+
+/// What a callee knows of its callers in one boot: of each one, its last call and the reply to it.
+#[derive(Drop)]
+pub struct CallTable {
+    boot: u32,
+    seats: Vec<Seat>,
+}
+
+impl Model for CallTable {
+    ghost use Rattle.std.specs.Prelude.{ℕ, List, ◌-◌, length};
+    ghost use Rattle.std.specs.Vec.{vec_capacity};
+    ghost use Rattle.afs_model.specs.Calls.{Calls};
+
+    ghost Value = { Calls (List ℕ) };
+
+    ghost view = { λ t. record { boot = t.boot; seats = t.seats.items; room = vec_capacity t.seats - length t.seats.items } };
+}
+
+impl CallTable {
+    /// A table without callers. It takes no memory.
+    pub fn new(alloc: Global, boot: u32) -> CallTable
+        ensures boot { result.boot ≡ boot }
+        ensures seats { result.seats ≡ [] }
+    {
+        CallTable {
+            boot,
+            seats: Vec::new(alloc),
+        }
+    }
+
+    /// Makes room for so many more callers.
+    pub fn reserve(&mut self, callers: u32) -> Mem<()>
+        ensures room { OnOk result (callers ≤ self.new.room) }
+        ensures boot { self.new.boot ≡ self.old.boot }
+        ensures seats { self.new.seats ≡ self.old.seats }
+        ensures kept { self.old.room ≤ self.new.room }
+        ensures err { OnErr result (self.new ≡ self.old) }
+    {
+        self.seats.reserve(callers as usize)?;
+        Ok(())
+    }
+
+    /// What becomes of a call. It takes no memory.
+    pub fn admit(&self, head: &Head) -> Admit<'_>
+        ensures { means result ≡ admitted self.now.boot self.now.seats head.now }
+    {
+        if head.boot != self.boot {
+            return Admit::WrongBoot(self.boot);
+        }
+        match find_seat(&self.seats, &head.from) {
+            Some(seat) => seat.admit(head.epoch, head.number),
+            None => Admit::Run,
+        }
+    }
+
+    /// A call that is to run begins. It takes no memory; a caller's first call needs room for one caller.
+    pub fn start(&mut self, key: Key)
+        requires runs { paired key.epoch key.number (call_seat key.node self.old.seats) ≡ runs }
+        requires room { HasRoom (call_seat key.node self.old.seats) self.old.room }
+        ensures boot { self.new.boot ≡ self.old.boot }
+        ensures seats { self.new.seats ≡ started key self.old.seats }
+        ensures room { KeepsRoom (call_seat key.node self.old.seats) self.old.room self.new.room }
+    {
+        put_seat(&mut self.seats, Seat::begun(key));
+    }
+
+    /// A call has ended with this reply, which is kept where the call is still its caller's last one. It takes no
+    /// memory.
+    pub fn finish(&mut self, key: Key, reply: Octets)
+        ensures boot { self.new.boot ≡ self.old.boot }
+        ensures seats { self.new.seats ≡ finished key reply self.old.seats }
+        ensures room { self.old.room ≤ self.new.room }
+    {
+        if is_last(&self.seats, &key) {
+            put_seat(&mut self.seats, Seat::ended(key, reply));
+        }
+    }
+}
