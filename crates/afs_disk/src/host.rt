@@ -128,7 +128,7 @@ fn opened<R: Files<File = File>>(
         Ok(folder) => folder,
         Err(_) => return Err(LendFault::Failed),
     };
-    let path = format!(in alloc; "{folder}/disk{node}")?;
+    let path = format!(in alloc; "{folder}/node-{node}")?;
     match File::options()
         .read(true)
         .write(true)
