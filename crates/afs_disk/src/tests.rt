@@ -122,7 +122,7 @@ fn a_file_keeps_what_was_written(rt: HostRuntime) -> Result<(), Fail> {
     assert_eq!(rt; again.read(1, &mut bytes), Ok(3));
     assert_eq!(rt; bytes, [98, 99, 100, 0, 0, 0]);
     assert_eq!(rt; again.read(4, &mut bytes), Ok(0));
-    fs::remove_file(&rt, "./disk77")?;
+    fs::remove_file(&rt, "./node-77")?;
     let nowhere = Place::Folder(Octets::from_slice(alloc, b"no/such/folder")?);
     assert_eq!(rt; bank.lend(&nowhere, 77, 100).err(), Some(LendFault::Failed));
     Ok(())
