@@ -27,10 +27,9 @@ use Rattle.afs_shape.specs.Reading.{◌>>=◌, in_place, signed_at, fields_at, G
 use Rattle.afs_shape.specs.Tables.{kinds_in, AreOf, AreInRange}
 use Rattle.afs_shape.proofs.Codecs.{IsBytes, Takes, Takes-then, opaque_codec, signed_codec}
 use Rattle.afs_shape.proofs.FieldLaws.{TakesFields, bind_ok, in_place_ok, shape_ok_is, fields_take, fields_again}
-use Rattle.afs_model.specs.Messages.{user_limit, contents_limit, head_words, head_at, signed, is_zero, FitsHead}
+use Rattle.afs_model.specs.Heads.{user_limit, contents_limit, head_words, head_at, signed, is_zero, FitsHead}
 use Rattle.afs_model.specs.FsRows.{call_rows, reply_rows, call_number, call_fields, reply_number, reply_fields, HasRow, IsHead, IsCall, IsAnswer, IsReply, spelled_call, spelled_reply, answer_fields, SpellsCall, SpellsReply, same_half, in_head, half_head_at, row_at, last_fields_at, asked_parts_at, call_parts_at, kinds_behind, replied_parts_at, reply_parts_at}
-use Rattle.afs_model.proofs.Rereading.{head_again}
-use Rattle.afs_model.proofs.HeadLaws.{TakesHead, head_takes}
+use Rattle.afs_model.proofs.HeadLaws.{TakesHead, head_takes, head_again}
 
 done : {A : Type 0} → A → Result A ShapeFault
 done x = Ok x
@@ -54,7 +53,7 @@ same_half-refl halves.Call = refl
 same_half-refl halves.Reply = refl
 same_half-refl halves.Boot = refl
 
-row_ok : (opcode : ℕ) (o : Option (List Kind)) (ks : List Kind) → row_at opcode o ≡ Ok ks → o ≡ Some ks
+pub row_ok : (opcode : ℕ) (o : Option (List Kind)) (ks : List Kind) → row_at opcode o ≡ Ok ks → o ≡ Some ks
 row_ok opcode (Some k) ks e = cc
 row_ok opcode None ks e = absurd cc
 
@@ -98,7 +97,7 @@ pub record AreAll (ks : List Kind) (bytes : List ℕ) (fs : List Field) : Type 0
   pub are_of : AreOf ks fs
   pub in_range : AreInRange fs
 
-last_fields_take : (ks : List Kind) (bytes : List ℕ) (fs : List Field) → IsBytes bytes → last_fields_at ks bytes ≡ Ok fs → AreAll ks bytes fs
+pub last_fields_take : (ks : List Kind) (bytes : List ℕ) (fs : List Field) → IsBytes bytes → last_fields_at ks bytes ≡ Ok fs → AreAll ks bytes fs
 unfolding last_fields_at
 last_fields_take ks bytes fs fits e =
     let a = bind_ok (fields_at 1 ks bytes) (λ f. in_place (length f.0 + 1) (end_at f.1) >>= λ nothing. Ok f.0) fs e in
@@ -108,7 +107,7 @@ last_fields_take ks bytes fs fits e =
     let whole : bytes ≡ fields_spelled a.0.0 = t.takes.parts ∙ (ap (λ (r : List ℕ). fields_spelled a.0.0 ++ r) none ∙ append-nil (fields_spelled a.0.0)) in
     subst (λ (x : List Field). AreAll ks bytes x) (shape_ok_is a.0.0 fs b.2) (record { whole = whole; are_of = t.are_of; in_range = t.in_range })
 
-last_fields_again : (ks : List Kind) (fs : List Field) → AreOf ks fs → AreInRange fs → last_fields_at ks (fields_spelled fs) ≡ Ok fs
+pub last_fields_again : (ks : List Kind) (fs : List Field) → AreOf ks fs → AreInRange fs → last_fields_at ks (fields_spelled fs) ≡ Ok fs
 unfolding last_fields_at
 last_fields_again ks fs h r =
     let read : fields_at 1 ks (fields_spelled fs) ≡ Ok (fs, []) = ap (fields_at 1 ks) (sym (append-nil (fields_spelled fs))) ∙ fields_again 1 ks fs [] h r in
@@ -132,7 +131,7 @@ pub record TakesAsked (ks : List Kind) (bytes user : List ℕ) (fs : List Field)
   pub are_of : AreOf ks fs
   pub in_range : AreInRange fs
 
-asked_parts_take : (ks : List Kind) (bytes user : List ℕ) (fs : List Field) → IsBytes bytes → asked_parts_at ks bytes ≡ Ok (user, fs) → TakesAsked ks bytes user fs
+pub asked_parts_take : (ks : List Kind) (bytes user : List ℕ) (fs : List Field) → IsBytes bytes → asked_parts_at ks bytes ≡ Ok (user, fs) → TakesAsked ks bytes user fs
 unfolding asked_parts_at
 asked_parts_take ks bytes user fs fits e =
     let c = bind_ok (in_place 0 (opaque_at user_limit bytes)) (λ u. last_fields_at ks u.1 >>= λ f. Ok (u.0, f)) (user, fs) e in
@@ -177,7 +176,7 @@ found None fs h = absurd h
 pub found_row : (rows : List (ℕ × List Kind)) (opcode : ℕ) (fs : List Field) → HasRow rows opcode fs → (ks : List Kind) × (kinds_in opcode rows ≡ Some ks) × AreOf ks fs
 found_row rows opcode fs h = found (kinds_in opcode rows) fs h
 
-asked_parts_again : (ks : List Kind) (user : List ℕ) (fs : List Field) → length user ≤ user_limit → AreOf ks fs → AreInRange fs → asked_parts_at ks (opaque user ++ fields_spelled fs) ≡ Ok (user, fs)
+pub asked_parts_again : (ks : List Kind) (user : List ℕ) (fs : List Field) → length user ≤ user_limit → AreOf ks fs → AreInRange fs → asked_parts_at ks (opaque user ++ fields_spelled fs) ≡ Ok (user, fs)
 unfolding asked_parts_at
 asked_parts_again ks user fs few are in_range =
     let small : length user < 2 ^ 32 = omega arith in

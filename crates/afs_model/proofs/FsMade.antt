@@ -12,7 +12,7 @@ use Rattle.afs_shape.specs.declared.kinds.Kind.TheVariants as kinds
 use Rattle.afs_shape.specs.declared.kinds.Field.{Field}
 use Rattle.afs_shape.specs.declared.kinds.Field.TheVariants as fields
 use Rattle.afs_shape.specs.Tables.{kinds_in, AreOf}
-use Rattle.afs_model.specs.Messages.{contents_limit}
+use Rattle.afs_model.specs.Heads.{contents_limit}
 use Rattle.afs_model.specs.FsRows.{call_rows, reply_rows, call_number, call_fields, reply_number, reply_fields}
 use Rattle.afs_model.specs.FsMaking.{made_in, call_makers, call_of, reply_makers, reply_of, fetch_data_call, fetch_acl_call, fetch_status_call, store_data_call, store_acl_call, store_status_call, remove_file_call, create_file_call, rename_call, symlink_call, link_call, make_dir_call, remove_dir_call, give_up_call_backs_call, get_volume_status_call, get_time_call, bulk_status_call, call_back_call, init_call_back_state_call, probe_call, fetch_data_reply, fetch_acl_reply, fetch_status_reply, store_data_reply, store_acl_reply, store_status_reply, remove_file_reply, create_file_reply, rename_reply, symlink_reply, link_reply, make_dir_reply, remove_dir_reply, give_up_call_backs_reply, get_volume_status_reply, get_time_reply, bulk_status_reply, call_back_reply, init_call_back_state_reply, probe_reply}
 

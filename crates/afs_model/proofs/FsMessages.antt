@@ -21,7 +21,7 @@ use Rattle.afs_shape.specs.Reading.{signed_at, fields_at}
 use Rattle.afs_shape.specs.Tables.{kinds_in, AreOf, AreInRange}
 use Rattle.afs_shape.proofs.Codecs.{IsBytes, opaque_codec, signed_codec}
 use Rattle.afs_shape.proofs.FieldLaws.{shape_ok_is, fields_again}
-use Rattle.afs_model.specs.Messages.{user_limit, head_words, signed, is_zero}
+use Rattle.afs_model.specs.Heads.{user_limit, head_words, signed, is_zero}
 use Rattle.afs_model.specs.FsRows.{call_rows, reply_rows, call_number, call_fields, reply_number, reply_fields, HasRow, IsHead, IsCall, IsAnswer, IsReply, spelled_call, spelled_reply, answer_fields, SpellsCall, SpellsReply, half_head_at, call_parts_at, kinds_behind, reply_parts_at, IsUnless, ReadsCall, IsReplied, ReadsReply, CanAnswer}
 use Rattle.afs_model.specs.FsMaking.{call_of, reply_of}
 use Rattle.afs_model.proofs.FsLaws.{AreCallParts, AreReplyParts, HasKinds, half_head_again, found_row, call_parts_take, call_parts_again, reply_parts_take, reply_parts_again}

@@ -1,7 +1,6 @@
--- A header that is read is spelled so.
-use Rattle.std.proofs.Common.{◌≡◌, ℕ, ◌+◌, ◌-◌, ◌^◌, ◌<◌, ◌≤◌, Bool, true, false, cond, eqb, leb, List, [], ◌∷◌, ◌++◌, length, get_or, Option, Some, None, Result, Ok, Err, refl, sym, ap, subst, ◌∙◌, arith, inl, inr, lit≤, ◌⊎◌}
+-- A header that is read is spelled so, and one that is spelled is read again.
+use Rattle.std.proofs.Common.{◌≡◌, ℕ, ◌+◌, ◌-◌, ◌^◌, ◌<◌, ◌≤◌, Bool, true, false, cond, eqb, leb, List, [], ◌∷◌, ◌++◌, length, get_or, Option, Some, None, Result, Ok, Err, refl, sym, ap, subst, ◌∙◌, append_assoc, arith, inl, inr, lit≤, ◌⊎◌}
 use Rattle.std.specs.Prelude.{◌&&◌, nat_eq}
-use Rattle.std.specs.List.{AllByRecursion}
 use Rattle.std.proofs.lemmas.List.Concat.{flat_map-cons}
 use Rattle.std.proofs.lemmas.Bool.{eqb-true, leb-true}
 use Rattle.afs_num.specs.Nodes.{node_number, node_of, is_between, IsNode}
@@ -12,7 +11,8 @@ use Rattle.afs_num.specs.declared.types.Half.TheVariants as halves
 use Rattle.afs_num.specs.declared.types.Head.{Head}
 use Rattle.afs_xdr.specs.declared.faults.XdrFault.{XdrFault}
 use Rattle.afs_xdr.specs.Words.{◌>>=◌, word, words, word_at}
-use Rattle.afs_model.specs.Messages.{half_number, half_of, known, half_at, node_at, head_at, head_words, AreWords, FitsHead}
+use Rattle.afs_xdr.specs.Words.{AreWords}
+use Rattle.afs_model.specs.Heads.{half_number, half_of, known, half_at, node_at, head_at, head_words, FitsHead}
 use Rattle.afs_shape.proofs.Codecs.{IsBytes, Takes, Takes-then, bind_ok, bind_assoc, ok_is, word_codec, items_takes}
 use Rattle.afs_shape.specs.Items.{items_at}
 
@@ -124,10 +124,6 @@ unfolding head_of
 head_told half from to (a ∷ b ∷ c ∷ d ∷ e ∷ []) h = refl
 head_told half from to _ h = absurd (omega arith)
 
-AreWords-from : (ns : List ℕ) → AllByRecursion (λ n. n < 2 ^ 32) ns → AreWords ns
-AreWords-from [] h = tt
-AreWords-from (n ∷ ns) h = (h.0, AreWords-from ns h.1)
-
 pub head_takes : (bytes : List ℕ) (h : Head) (rest : List ℕ) → IsBytes bytes → head_at bytes ≡ Ok (h, rest) → TakesHead bytes h rest
 unfolding head_of
 head_takes bytes h rest fits e =
@@ -145,6 +141,39 @@ head_takes bytes h rest fits e =
     let told = head_told s0.0.0 s1.0.0 s2.0.0 s3.0.0 t3.1 in
     let here : TakesHead bytes (head_of s0.0.0 s1.0.0 s2.0.0 s3.0.0) s3.0.1 = record {
       takes = subst (λ (ns : List ℕ). Takes bytes (words ns) s3.0.1) told w0;
-      fits = record { from = t1.is_node; to = t2.is_node; numbers = subst (λ (ns : List ℕ). AreWords ns) told (t0.small, (t1.word_taken.small, (t2.word_taken.small, AreWords-from s3.0.0 t3.2))) };
+      fits = record { from = t1.is_node; to = t2.is_node; numbers = subst (λ (ns : List ℕ). AreWords ns) told (t0.small, (t1.word_taken.small, (t2.word_taken.small, t3.2))) };
     } in
     subst (λ (p : Head × List ℕ). TakesHead bytes p.0 p.1) (ok_is (head_of s0.0.0 s1.0.0 s2.0.0 s3.0.0, s3.0.1) (h, rest) s3.2) here
+
+-- ---- a header that is spelled is read again
+
+words_again : (n : ℕ) (ns rest : List ℕ) → n < 2 ^ 32 → word_at (words (n ∷ ns) ++ rest) ≡ Ok (n, words ns ++ rest)
+words_again n ns rest lt = ap word_at (append_assoc (word n) (words ns) rest) ∙ word_codec.again n (words ns ++ rest) lt
+
+half_is : (h : Half) → half_of (half_number h) ≡ Some h
+half_is halves.Call = refl
+half_is halves.Reply = refl
+half_is halves.Boot = refl
+
+half_again : (h : Half) (ns rest : List ℕ) → half_number h < 2 ^ 32 → half_at (words (half_number h ∷ ns) ++ rest) ≡ Ok (h, words ns ++ rest)
+unfolding half_at
+half_again h ns rest lt = rw (words_again (half_number h) ns rest lt, half_is h) refl
+
+node_again : (n : Node) (ns rest : List ℕ) → IsNode n → node_number n < 2 ^ 32 → node_at (words (node_number n ∷ ns) ++ rest) ≡ Ok (n, words ns ++ rest)
+unfolding node_at
+node_again n ns rest is lt = rw (words_again (node_number n) ns rest lt, is) refl
+
+pub head_again : (h : Head) (rest : List ℕ) → FitsHead h → head_at (words (head_words h) ++ rest) ≡ Ok (h, rest)
+unfolding head_at
+head_again h rest fits =
+    let n = fits.numbers in
+    rw (
+      half_again h.half (node_number h.from ∷ node_number h.to ∷ h.epoch ∷ h.number ∷ h.boot ∷ h.stamp ∷ h.opcode ∷ []) rest n.0,
+      node_again h.from (node_number h.to ∷ h.epoch ∷ h.number ∷ h.boot ∷ h.stamp ∷ h.opcode ∷ []) rest fits.from n.1.0,
+      node_again h.to (h.epoch ∷ h.number ∷ h.boot ∷ h.stamp ∷ h.opcode ∷ []) rest fits.to n.1.1.0,
+      words_again h.epoch (h.number ∷ h.boot ∷ h.stamp ∷ h.opcode ∷ []) rest n.1.1.1.0,
+      words_again h.number (h.boot ∷ h.stamp ∷ h.opcode ∷ []) rest n.1.1.1.1.0,
+      words_again h.boot (h.stamp ∷ h.opcode ∷ []) rest n.1.1.1.1.1.0,
+      words_again h.stamp (h.opcode ∷ []) rest n.1.1.1.1.1.1.0,
+      words_again h.opcode [] rest n.1.1.1.1.1.1.1.0,
+    ) refl

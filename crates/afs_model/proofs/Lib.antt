@@ -1,4 +1,3 @@
-pub mod Rereading
 pub mod Basics
 pub mod Facts
 pub mod Passing
@@ -21,8 +20,7 @@ pub mod ScriptForm
 pub mod Firsts
 pub mod Sameness
 pub mod Schedules
-pub mod Prefixes
-pub mod Respelling
+pub mod Spellings
 pub mod Crash
 pub mod Journal
 pub mod Moments

@@ -21,7 +21,7 @@ use Rattle.afs_num.specs.declared.scripts.Script.{Script}
 use Rattle.afs_num.specs.declared.scripts.SetupLine.{SetupLine}
 use Rattle.afs_num.specs.declared.scripts.SetupLine.TheVariants as setups
 use Rattle.afs_num.specs.declared.scripts.VolumeLine.{VolumeLine}
-use Rattle.afs_model.specs.Messages.{contents_limit}
+use Rattle.afs_model.specs.Heads.{contents_limit}
 use Rattle.afs_model.specs.Runs.{first_files, files_of}
 use Rattle.afs_model.specs.Playing.{IsOwnTask, IsOwnEvent}
 use Rattle.afs_model.specs.Form.{IsShortAct, IsShortTask, IsFirst, HasForm}

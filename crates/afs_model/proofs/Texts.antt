@@ -22,7 +22,16 @@ use Rattle.afs_num.specs.declared.histories.Line.{Line}
 use Rattle.afs_num.specs.declared.scripts.Script.{Script}
 use Rattle.afs_num.specs.declared.states.StoredFile.{StoredFile}
 use Rattle.afs_xdr.specs.Words.{end_at}
-use Rattle.afs_model.specs.Messages.{head_at, half_at, node_at, known, half_of, signed_at, is_zero, has_row, asked_at, reply_at, answer_at, refusal_at, replied_at, notice_at, heard, behind, behind_head, received, found, meant}
+use Rattle.afs_shape.specs.declared.faults.ShapeFault.{ShapeFault}
+use Rattle.afs_shape.specs.declared.faults.ShapeFault.TheVariants as faults
+use Rattle.afs_shape.specs.Reading.{in_place, signed_at}
+use Rattle.afs_shape.specs.Tables.{kinds_in}
+use Rattle.afs_shape.proofs.FieldLaws.{bind_ok, in_place_ok, shape_ok_is}
+use Rattle.afs_model.specs.Heads.{head_at, half_at, node_at, known, half_of, is_zero}
+use Rattle.afs_model.specs.FsRows.{reply_rows, row_at, last_fields_at}
+use Rattle.afs_model.specs.FsMaking.{reply_of}
+use Rattle.afs_model.specs.Messages.{made, asked_at, answer_at, refusal_at, replied_at, notice_at, called, heard, behind, behind_head, received, found, meant}
+use Rattle.afs_model.proofs.Spellings.{IsOf, called_is, heard_is}
 use Rattle.afs_model.specs.Runs.{Entry, Cell}
 use Rattle.afs_model.specs.Text.{sent_text, route_text, half_text, code_of, code_read, code_at, message_text, messages_text, parcel_text, parcels_text, step_text, lines_text, entry_text, wire_entry_text, entries_text, wire_entries_text, history_text, wire_history_text, final_text, text, wire_text, Carries, CarryAll}
 
@@ -39,13 +48,6 @@ went (Err e) f x h = cc
 if_ok : {A : Type 0} (b : Bool) (x r : A) (e : XdrFault) → (let v : Result A XdrFault = (if b then Err e else Ok x) in v) ≡ Ok r → r ≡ x
 if_ok true x r e h = cc
 if_ok false x r e h = cc
-
--- what was read is that
-ok_is : {A : Type 0} {x y : A} → (let v : Result A XdrFault = Ok x in v) ≡ Ok y → x ≡ y
-ok_is h = cc
-
-whole_is : {x y : Message} → Whole x ≡ Whole y → x ≡ y
-whole_is h = cc
 
 word_rest : (k : ℕ) (whole bytes : List ℕ) (r : ℕ × List ℕ) → bytes ≡ drop k whole → word_at bytes ≡ Ok r → r.1 ≡ drop (k + 4) whole
 unfolding word_at
@@ -156,15 +158,16 @@ is_pos_zero (negsuc n) h = cc
 refusal_code : (code : ℤ) (bytes : List ℕ) (c : Carried) → refusal_at code bytes ≡ Ok c → code_of c ≡ code
 unfolding refusal_at
 refusal_code code bytes c h =
-    let w = went (end_at bytes) (λ u. Ok (carried.Refusal (record { 0 = code }))) c h in
-    let e : (let v : Carried = carried.Refusal (record { 0 = code }) in v) ≡ c = ok_is w.next in
-    sym (ap code_of e)
+    let a = bind_ok (last_fields_at [] bytes) (λ nothing. Ok (carried.Refusal (record { 0 = code }))) c h in
+    sym (ap code_of (shape_ok_is (carried.Refusal (record { 0 = code })) c a.2))
 
 answer_code : (opcode : ℕ) (bytes : List ℕ) (c : Carried) → answer_at opcode bytes ≡ Ok c → code_of c ≡ pos 0
 unfolding answer_at
 answer_code opcode bytes c h =
-    let w = went (reply_at opcode bytes) (λ r. Ok (carried.Reply r)) c h in
-    sym (ap code_of (ok_is w.next))
+    let a = bind_ok (row_at opcode (kinds_in opcode reply_rows)) _ c h in
+    let b = bind_ok (last_fields_at a.0 bytes) _ c a.2 in
+    let d = bind_ok (made (reply_of opcode b.0)) (λ reply. Ok (carried.Reply reply)) c b.2 in
+    sym (ap code_of (shape_ok_is (carried.Reply d.0) c d.2))
 
 code_by : (opcode : ℕ) (code : ℤ) (rest : List ℕ) (c : Carried) (b : Bool) → is_zero code ≡ b → (if b then answer_at opcode rest else refusal_at code rest) ≡ Ok c → code ≡ code_of c
 code_by opcode code rest c true z h = is_pos_zero code z ∙ sym (answer_code opcode rest c h)
@@ -173,30 +176,20 @@ code_by opcode code rest c false z h = sym (refusal_code code rest c h)
 replied_code : (opcode : ℕ) (bytes : List ℕ) (c : Carried) → replied_at opcode bytes ≡ Ok c → code_read (signed_at bytes) ≡ code_of c
 unfolding replied_at
 replied_code opcode bytes c h =
-    let w = went (signed_at bytes) (λ code. if is_zero code.0 then answer_at opcode code.1 else refusal_at code.0 code.1) c h in
-    ap code_read w.first ∙ code_by opcode w.mid.0 w.mid.1 c (is_zero w.mid.0) refl w.next
+    let a = bind_ok (in_place 0 (signed_at bytes)) (λ code. if is_zero code.0 then answer_at opcode code.1 else refusal_at code.0 code.1) c h in
+    ap code_read (in_place_ok 0 (signed_at bytes) a.0 a.1) ∙ code_by opcode a.0.0 a.0.1 c (is_zero a.0.0) refl a.2
 
-heard_code : (head : Head) (bytes : List ℕ) (m : Message) (o : Result Carried XdrFault) → replied_at head.opcode bytes ≡ o → heard Nothing head o ≡ Whole m → code_read (signed_at bytes) ≡ code_of m.carried
-heard_code head bytes m (Ok c) r h = replied_code head.opcode bytes c r ∙ ap code_of (ap (λ (n : Message). n.carried) (whole_is h))
-heard_code head bytes m (Err e) r h = cc
+heard_code : (head : Head) (bytes : List ℕ) (m : Message) → IsOf head (replied_at head.opcode bytes) m → code_read (signed_at bytes) ≡ code_of m.carried
+heard_code head bytes m of = replied_code head.opcode bytes of.carried of.read_is ∙ ap (λ (n : Message). code_of n.carried) of.is
 
 -- what isn't a reply is found as something else
-called_half : (head : Head) (m : Message) (b : Bool) (o : Result Carried XdrFault) → (if b then heard (Unreadable head) head o else Unknown head) ≡ Whole m → head ≡ m.head
-called_half head m true (Ok c) h = ap (λ (n : Message). n.head) (whole_is h)
-called_half head m true (Err e) h = cc
-called_half head m false o h = cc
-
-noticed_half : (head : Head) (m : Message) (o : Result Carried XdrFault) → heard Nothing head o ≡ Whole m → head ≡ m.head
-noticed_half head m (Ok c) h = ap (λ (n : Message). n.head) (whole_is h)
-noticed_half head m (Err e) h = cc
-
 behind_code : (head : Head) (half : Half) (rest : List ℕ) (m : Message) → head.half ≡ half → m.head.half ≡ halves.Reply → behind head half rest ≡ Whole m → code_read (signed_at rest) ≡ code_of m.carried
 behind_code head halves.Call rest m is reply h =
-    let e : halves.Call ≡ halves.Reply = sym is ∙ (ap (λ (x : Head). x.half) (called_half head m (has_row head.opcode) (asked_at head.opcode rest) h) ∙ reply) in
+    let e : halves.Call ≡ halves.Reply = sym is ∙ (ap (λ (n : Message). n.head.half) (called_is head (asked_at head.opcode rest) m h).is ∙ reply) in
     cc
-behind_code head halves.Reply rest m is reply h = heard_code head rest m (replied_at head.opcode rest) refl h
+behind_code head halves.Reply rest m is reply h = heard_code head rest m (heard_is head (replied_at head.opcode rest) m h)
 behind_code head halves.Boot rest m is reply h =
-    let e : halves.Boot ≡ halves.Reply = sym is ∙ (ap (λ (x : Head). x.half) (noticed_half head m (notice_at rest) h) ∙ reply) in
+    let e : halves.Boot ≡ halves.Reply = sym is ∙ (ap (λ (n : Message). n.head.half) (heard_is head (notice_at rest) m h).is ∙ reply) in
     cc
 
 found_code : (bytes : List ℕ) (m : Message) (o : Result (Head × List ℕ) XdrFault) → head_at bytes ≡ o → m.head.half ≡ halves.Reply → behind_head o ≡ Whole m → code_at bytes ≡ code_of m.carried

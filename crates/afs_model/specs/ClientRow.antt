@@ -27,7 +27,7 @@ use Rattle.afs_num.specs.declared.histories.Line.{Line}
 use Rattle.afs_num.specs.declared.histories.Line.TheVariants as lines
 use Rattle.afs_num.specs.declared.states.CacheEntry.{CacheEntry}
 use Rattle.afs_num.specs.declared.states.ClientState.{ClientState}
-use Rattle.afs_model.specs.Messages.{fetch_data, store_data}
+use Rattle.afs_model.specs.FsRows.{fetch_data, store_data}
 use Rattle.afs_model.specs.Steps.{Step}
 
 -- ---- the cache

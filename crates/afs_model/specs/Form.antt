@@ -6,7 +6,7 @@ use Rattle.afs_num.specs.declared.scripts.Act.TheVariants.{Open, Close}
 use Rattle.afs_num.specs.declared.scripts.Task.{Task}
 use Rattle.afs_num.specs.declared.scripts.Script.{Script}
 use Rattle.afs_num.specs.declared.states.StoredFile.{StoredFile}
-use Rattle.afs_model.specs.Messages.{contents_limit}
+use Rattle.afs_model.specs.Heads.{contents_limit}
 use Rattle.afs_model.specs.Acts.{events_of}
 use Rattle.afs_model.specs.Playing.{HasOneClient}
 use Rattle.afs_model.specs.Runs.{files_of}

@@ -22,7 +22,7 @@ use Rattle.afs_shape.specs.declared.kinds.Field.TheVariants as fields
 use Rattle.afs_shape.specs.Spelling.{fields_spelled}
 use Rattle.afs_shape.specs.Reading.{◌>>=◌, in_place, signed_at, fields_at}
 use Rattle.afs_shape.specs.Tables.{kinds_in, AreOf, AreInRange}
-use Rattle.afs_model.specs.Messages.{user_limit, contents_limit, head_words, head_at, signed, is_zero, FitsHead}
+use Rattle.afs_model.specs.Heads.{user_limit, contents_limit, head_words, head_at, signed, is_zero, FitsHead}
 
 -- ---- the rows
 
@@ -75,6 +75,13 @@ reply_rows =
     ∷ (205, [])
     ∷ (206, [])
     ∷ []
+
+-- FetchData and StoreData
+abbrev pub fetch_data : ℕ
+fetch_data = 130
+
+abbrev pub store_data : ℕ
+store_data = 133
 
 -- ---- calls and replies as their fields
 
@@ -195,15 +202,23 @@ pub record IsReply (h : Head) (code : ℤ) (reply : Option FsReply) : Type 0 whe
 
 -- ---- spelling
 
+-- behind the header: the user, and the fields
+abbrev pub call_bytes : List ℕ → FsCall → List ℕ
+call_bytes user call = opaque user ++ fields_spelled (call_fields call)
+
 abbrev pub spelled_call : Head → List ℕ → FsCall → List ℕ
-spelled_call h user call = words (head_words h) ++ (opaque user ++ fields_spelled (call_fields call))
+spelled_call h user call = words (head_words h) ++ call_bytes user call
 
 abbrev pub answer_fields : Option FsReply → List Field
 answer_fields None = []
 answer_fields (Some reply) = reply_fields reply
 
+-- behind the header: the code, and the fields
+abbrev pub reply_bytes : ℤ → Option FsReply → List ℕ
+reply_bytes code reply = word (signed code) ++ fields_spelled (answer_fields reply)
+
 abbrev pub spelled_reply : Head → ℤ → Option FsReply → List ℕ
-spelled_reply h code reply = words (head_words h) ++ (word (signed code) ++ fields_spelled (answer_fields reply))
+spelled_reply h code reply = words (head_words h) ++ reply_bytes code reply
 
 -- these bytes are this call, and nothing more
 abbrev pub SpellsCall : Head → List ℕ → FsCall → List ℕ → Type 0

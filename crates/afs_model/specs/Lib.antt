@@ -1,3 +1,6 @@
+pub mod Heads
+pub mod FsRows
+pub mod FsMaking
 pub mod Messages
 pub mod Steps
 pub mod ServerRow
@@ -23,7 +26,5 @@ pub mod ActsLaws
 pub mod SpellingLaws
 pub mod Disk
 pub mod Journal
-pub mod FsRows
-pub mod FsMaking
 pub mod Calls
 pub mod CallLaws

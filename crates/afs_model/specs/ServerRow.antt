@@ -1,5 +1,5 @@
 -- The row of a file server: what it decides on a message, and what it then does.
-use Rattle.std.specs.Prelude.{ℕ, ◌+◌, List, [], ◌∷◌, ◌++◌, Bool, true, false, not, ◌&&◌, Option, Some, None, ℤ, pos, negsuc, nat_eq, nat_lt, map, filter, find, length, if◌then◌else◌}
+use Rattle.std.specs.Prelude.{ℕ, ◌+◌, List, [], ◌∷◌, ◌++◌, Bool, true, false, not, ◌&&◌, ◌||◌, Option, Some, None, ℤ, pos, negsuc, nat_eq, nat_lt, map, filter, find, length, if◌then◌else◌}
 use Rattle.afs_num.specs.Fids.{same_fid}
 use Rattle.afs_num.specs.Nodes.{same_node}
 use Rattle.afs_num.specs.declared.types.Fid.{Fid}
@@ -26,6 +26,7 @@ use Rattle.afs_num.specs.declared.histories.Line.TheVariants as lines
 use Rattle.afs_num.specs.declared.states.StoredFile.{StoredFile}
 use Rattle.afs_num.specs.declared.states.Seat.{Seat}
 use Rattle.afs_num.specs.declared.states.ServerState.{ServerState}
+use Rattle.afs_model.specs.FsRows.{fetch_data, store_data}
 use Rattle.afs_model.specs.Steps.{Step}
 
 -- ---- the pair of a call, against the last one of its caller
@@ -127,6 +128,14 @@ no_call = negsuc 454
 abbrev pub bad_fields : ℤ
 bad_fields = negsuc 452
 
+-- the calls that a file server serves so far
+abbrev pub serves : ℕ → Bool
+serves opcode = nat_eq opcode fetch_data || nat_eq opcode store_data
+
+-- that a call isn't served here is told before its fields are looked at
+abbrev pub unread_code : ℕ → ℤ
+unread_code opcode = if serves opcode then bad_fields else no_call
+
 abbrev pub fetches : Head → Option StoredFile → Decision
 fetches head None = refuses head no_file
 fetches head (Some file) = grants head file
@@ -146,7 +155,7 @@ runs files head (asks (calls.FetchData fid position length)) = fetches head (fin
 runs files head (asks (calls.StoreData fid status position length file_length contents)) = stores head contents (find_file fid files)
 runs files head (asks call) = refuses head no_call
 runs files head asks_unknown = refuses head no_call
-runs files head asks_unreadable = refuses head bad_fields
+runs files head asks_unreadable = refuses head (unread_code head.opcode)
 
 abbrev pub answers_again : Option Message → Decision
 answers_again None = drops

@@ -33,7 +33,8 @@ use Rattle.afs_num.specs.declared.histories.ReadSource.TheVariants.{Cached, Fetc
 use Rattle.afs_num.specs.declared.histories.Version.{Version}
 use Rattle.afs_num.specs.declared.states.StoredFile.{StoredFile}
 use Rattle.afs_xdr.specs.declared.faults.XdrFault.{XdrFault}
-use Rattle.afs_model.specs.Messages.{signed_at, found, meant}
+use Rattle.afs_shape.specs.Reading.{signed_at}
+use Rattle.afs_model.specs.Messages.{found, meant}
 use Rattle.afs_model.specs.Runs.{Entry, Cell}
 
 -- ---- bytes

@@ -15,11 +15,11 @@ use Rattle.afs_num.specs.declared.calls.AfsCallBack.{AfsCallBack}
 use Rattle.afs_num.specs.declared.calls.AfsVolSync.{AfsVolSync}
 use Rattle.afs_xdr.specs.declared.faults.XdrFault.{XdrFault}
 use Rattle.afs_xdr.specs.declared.faults.XdrFault.TheVariants.{Short, TooLong, BadPad, BadType}
-use Rattle.afs_xdr.specs.Words.{◌>>=◌, word, words, opaque, pad, pad_length, are_zero, word_at, counted_at, opaque_at}
+use Rattle.afs_xdr.specs.Words.{AreWords, ◌>>=◌, word, words, opaque, pad, pad_length, are_zero, word_at, counted_at, opaque_at}
 use Rattle.afs_shape.specs.Items.{items_at, list_at, fid_at, store_status_at, status_at, callback_at, sync_at}
 use Rattle.afs_shape.specs.Spelling.{list, fid, store_status, status, callback, sync, fid_words, store_status_words, status_words, callback_words, sync_words}
 use Rattle.afs_shape.specs.Reading.{signed_at, small_at}
-use Rattle.afs_shape.specs.Tables.{IsCount, AreWords}
+use Rattle.afs_shape.specs.Tables.{IsCount}
 
 abbrev pub IsBytes : List ℕ → Type 0
 IsBytes bytes = (i : ℕ) → get_or bytes i 0 < 256

@@ -2,6 +2,7 @@
 use Rattle.std.specs.Prelude.{ℕ, ◌<◌, ◌≤◌, ◌^◌, ◌==◌, List, [], ◌∷◌, length, take, Bool, true, false, Option, find, map, option_map, FitsSigned}
 use Rattle.std.specs.Int.{w32}
 use Rattle.std.specs.List.{prefix_len, AllByRecursion}
+use Rattle.afs_xdr.specs.Words.{AreWords}
 use Rattle.afs_shape.specs.Spelling.{fid_words, store_status_words, status_words, callback_words, sync_words}
 use Rattle.afs_shape.specs.declared.kinds.Kind.{Kind}
 use Rattle.afs_shape.specs.declared.kinds.Kind.TheVariants as kinds
@@ -56,9 +57,6 @@ abbrev pub AreOf : List Kind → List Field → Type 0
 AreOf [] [] = Unit {0}
 AreOf (k ∷ ks) (f ∷ fs) = IsOf k f × AreOf ks fs
 AreOf _ _ = ⊥
-
-abbrev pub AreWords : List ℕ → Type 0
-AreWords ns = AllByRecursion (λ n. n < 2 ^ 32) ns
 
 -- its numbers are words
 abbrev pub IsInRange : Field → Type 0

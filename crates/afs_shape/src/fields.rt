@@ -1,10 +1,11 @@
 //! Fields by their kinds: one list of the kinds, from which both the reading and the writing of a field are made.
 
-ghost use Rattle.std.specs.Prelude.{◌≡◌, ◌++◌, ◌<◌, ◌^◌, length, OnOk, OnErr};
+ghost use Rattle.std.specs.Prelude.{◌≡◌, ◌++◌, ◌<◌, ◌^◌, length, OnOk, OnErr, FitsSigned};
 ghost use Rattle.afs_xdr.specs.Reading.{Reads, KeepsEnd};
 ghost use Rattle.afs_xdr.specs.Words.{word, opaque, opaque_at};
 ghost use Rattle.afs_shape.specs.Spelling.{field_spelled, Extends, IsSpellable};
 ghost use Rattle.afs_shape.specs.Parts.{field_of, field_size};
+ghost use Rattle.afs_shape.specs.Tables.{IsInRange};
 ghost use Rattle.afs_shape.specs.Reading.{ReadsField, small_at, signed_at, field_at};
 ghost use Rattle.std.specs.Int.{w32, cast_unsigned};
 
@@ -116,6 +117,7 @@ fn read_octets(alloc: Global, r: &mut Reader, most: u32) -> Result<Octets, Field
 
 fn write_word(n: u32, w: &mut Writer) -> Mem<()>
     ensures ok { OnOk result (w.new ≡ w.old ++ word n) }
+    ensures fits { n < 2 ^ 32 }
     ensures err { OnErr result (w.new ≡ w.old) }
 {
     w.word(n)
@@ -123,6 +125,7 @@ fn write_word(n: u32, w: &mut Writer) -> Mem<()>
 
 fn write_signed(z: i32, w: &mut Writer) -> Mem<()>
     ensures ok { OnOk result (w.new ≡ w.old ++ word (cast_unsigned w32 z)) }
+    ensures fits { FitsSigned w32 z }
     ensures err { OnErr result (w.new ≡ w.old) }
 {
     w.word(z.cast_unsigned())
@@ -149,6 +152,7 @@ pub fn read_field(alloc: Global, kind: Kind, r: &mut Reader) -> Result<Field, Fi
 pub fn write_part(part: Part, w: &mut Writer) -> Mem<()>
     requires { IsSpellable (field_of part) }
     ensures ok { OnOk result (w.new ≡ w.old ++ field_spelled (field_of part.entry)) }
+    ensures fits { OnOk result (IsInRange (field_of part.entry)) }
     ensures err { OnErr result (Extends w.old w.new) }
 {
     with_kinds!(writing_arms(part, w))

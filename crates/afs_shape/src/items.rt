@@ -2,7 +2,8 @@
 
 ghost use Rattle.std.specs.Prelude.{◌≡◌, ◌++◌, OnOk, OnErr};
 ghost use Rattle.afs_xdr.specs.Reading.{Reads, KeepsEnd};
-ghost use Rattle.afs_shape.specs.Spelling.{fid, store_status, status, callback, sync};
+ghost use Rattle.afs_xdr.specs.Words.{AreWords};
+ghost use Rattle.afs_shape.specs.Spelling.{fid, store_status, status, callback, sync, fid_words, store_status_words, status_words, callback_words, sync_words};
 ghost use Rattle.afs_shape.specs.Items.{fid_at, store_status_at, status_at, callback_at, sync_at};
 
 use afs_num::calls::{AfsCallBack, AfsFetchStatus, AfsStoreStatus, AfsVolSync};
@@ -22,6 +23,8 @@ pub trait Item: Drop {
 
     ghost SIZE: { ℕ };
 
+    ghost InRange: { Self → Type 0 };
+
     /// How many bytes it takes.
     const SIZE: u32;
 
@@ -33,6 +36,7 @@ pub trait Item: Drop {
     /// Appends it. Want of memory leaves the writer as it was.
     fn write(&self, w: &mut Writer) -> Mem<()>
         ensures ok { OnOk result (w.new ≡ w.old ++ item self.now) }
+        ensures fits { InRange self.now }
         ensures err { OnErr result (w.new ≡ w.old) };
 }
 
@@ -42,6 +46,8 @@ impl Item for Fid {
     ghost item_at = { fid_at };
 
     ghost SIZE = { 12 };
+
+    ghost InRange = { λ x. AreWords (fid_words x) };
 
     const SIZE: u32 = 12;
 
@@ -68,6 +74,8 @@ impl Item for AfsFetchStatus {
     ghost item_at = { status_at };
 
     ghost SIZE = { 84 };
+
+    ghost InRange = { λ x. AreWords (status_words x) };
 
     const SIZE: u32 = 84;
 
@@ -153,6 +161,8 @@ impl Item for AfsStoreStatus {
 
     ghost SIZE = { 24 };
 
+    ghost InRange = { λ x. AreWords (store_status_words x) };
+
     const SIZE: u32 = 24;
 
     #[tactic(auto, unfolding(crate::specs::Items::store_status_at))]
@@ -192,6 +202,8 @@ impl Item for AfsCallBack {
 
     ghost SIZE = { 12 };
 
+    ghost InRange = { λ x. AreWords (callback_words x) };
+
     const SIZE: u32 = 12;
 
     #[tactic(auto, unfolding(crate::specs::Items::callback_at))]
@@ -217,6 +229,8 @@ impl Item for AfsVolSync {
     ghost item_at = { sync_at };
 
     ghost SIZE = { 24 };
+
+    ghost InRange = { λ x. AreWords (sync_words x) };
 
     const SIZE: u32 = 24;
 

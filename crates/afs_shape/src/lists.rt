@@ -1,7 +1,7 @@
 //! Lists of items: a count, and the items.
 
 ghost use Rattle.std.specs.Prelude.{◌≡◌, ◌++◌, ◌≤◌, ◌<◌, ◌^◌, length, OnOk, OnErr};
-ghost use Rattle.std.specs.List.{flat_map};
+ghost use Rattle.std.specs.List.{flat_map, AllByRecursion};
 ghost use Rattle.afs_xdr.specs.Reading.{KeepsEnd};
 ghost use Rattle.afs_shape.specs.Spelling.{list, Extends};
 ghost use Rattle.afs_shape.specs.Items.{list_at, items_at};
@@ -55,6 +55,7 @@ pub fn read_list<T: Item>(
 /// Appends items, one after the other.
 fn write_items<T: Item>(items: &[T], w: &mut Writer) -> Mem<()>
     ensures ok { OnOk result (w.new ≡ w.old ++ flat_map T.item items.now) }
+    ensures fits { OnOk result (AllByRecursion T.InRange items.now) }
     ensures err { OnErr result (Extends w.old w.new) }
 {
     for item in items {
@@ -67,6 +68,7 @@ fn write_items<T: Item>(items: &[T], w: &mut Writer) -> Mem<()>
 pub fn write_list<T: Item>(items: &[T], w: &mut Writer) -> Mem<()>
     requires { length items.now < 2 ^ 32 }
     ensures ok { OnOk result (w.new ≡ w.old ++ list T.item items.now) }
+    ensures fits { OnOk result (AllByRecursion T.InRange items.now) }
     ensures err { OnErr result (Extends w.old w.new) }
 {
     w.word(items.len() as u32)?;

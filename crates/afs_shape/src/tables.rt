@@ -7,7 +7,7 @@ ghost use Rattle.afs_xdr.specs.Reading.{KeepsEnd};
 ghost use Rattle.afs_shape.specs.Spelling.{fields_spelled, Extends, IsSpellable};
 ghost use Rattle.afs_shape.specs.Parts.{field_of, fields_of, field_size};
 ghost use Rattle.afs_shape.specs.Reading.{ReadsShape, fields_at};
-ghost use Rattle.afs_shape.specs.Tables.{is_field, kinds_of, AreOf, find_row, rows_of, kinds_in};
+ghost use Rattle.afs_shape.specs.Tables.{is_field, kinds_of, AreOf, AreInRange, find_row, rows_of, kinds_in};
 ghost use Rattle.afs_shape.specs.declared.faults.ShapeFault.TheVariants.{NoRow};
 
 use crate::faults::ShapeFault;
@@ -94,6 +94,7 @@ fn write_all(fields: &[Field], w: &mut Writer) -> Mem<()>
 pub fn write_parts(parts: &[Part], w: &mut Writer) -> Mem<()>
     requires { All (λ p. IsSpellable (field_of p)) parts.now }
     ensures ok { OnOk result (w.new ≡ w.old ++ fields_spelled (fields_of parts.now)) }
+    ensures fits { OnOk result (AreInRange (fields_of parts.now)) }
     ensures err { OnErr result (Extends w.old w.new) }
 {
     for part in parts {

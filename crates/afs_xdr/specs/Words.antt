@@ -1,6 +1,6 @@
 -- XDR: the spelling of words and opaques (RFC 4506, sections 4.2 and 4.10), and its reading.
-use Rattle.std.specs.Prelude.{ℕ, ◌+◌, ◌-◌, ◌%◌, ◌==◌, List, ◌++◌, length, take, drop, Bool, Result, Ok, Err, nat_lt, replicate, if◌then◌else◌}
-use Rattle.std.specs.List.{flat_map, list_all}
+use Rattle.std.specs.Prelude.{ℕ, ◌+◌, ◌-◌, ◌%◌, ◌==◌, ◌<◌, ◌^◌, List, ◌++◌, length, take, drop, Bool, Result, Ok, Err, nat_lt, replicate, if◌then◌else◌}
+use Rattle.std.specs.List.{flat_map, list_all, AllByRecursion}
 use Rattle.std.specs.Int.{w32, to_be_bytes, from_be_bytes}
 use Rattle.afs_xdr.specs.declared.faults.XdrFault.{XdrFault}
 use Rattle.afs_xdr.specs.declared.faults.XdrFault.TheVariants.{Short, TooLong, BadPad, Extra}
@@ -17,6 +17,10 @@ word n = to_be_bytes w32 n
 
 abbrev pub words : List ℕ → List ℕ
 words ns = flat_map word ns
+
+-- numbers that fit in a word each
+abbrev pub AreWords : List ℕ → Type 0
+AreWords ns = AllByRecursion (λ n. n < 2 ^ 32) ns
 
 -- as many zero bytes as bring n bytes to a multiple of four
 abbrev pub pad_length : ℕ → ℕ

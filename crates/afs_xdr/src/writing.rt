@@ -1,5 +1,5 @@
 ghost use Rattle.std.specs.Prelude.{◌≡◌, ◌<◌, ◌≤◌, ◌*◌, ◌==◌, ◌^◌, [], ◌++◌, length, take, replicate, IfOk, OnOk, OnErr};
-ghost use Rattle.afs_xdr.specs.Words.{word, words, opaque};
+ghost use Rattle.afs_xdr.specs.Words.{word, words, opaque, AreWords};
 
 use crate::reading::pad_of;
 use bytes::{BufMut, BytesMut};
@@ -52,6 +52,7 @@ impl Writer {
     /// Appends words.
     pub fn words(&mut self, ns: &[u32]) -> Result<(), AllocError>
         ensures ok { OnOk result (self.new ≡ self.old ++ words ns.now) }
+        ensures fits { AreWords ns.now }
         ensures err { OnErr result (self.new ≡ self.old) }
     {
         self.bytes.reserve(4 * ns.len())?;

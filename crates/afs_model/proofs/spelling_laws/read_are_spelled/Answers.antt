@@ -1,4 +1,4 @@
-use Rattle.afs_model.proofs.Respelling.{read_spelled}
+use Rattle.afs_model.proofs.Spellings.{read_spelled}
 use Rattle.afs_model.proofs.spelling_laws.read_are_spelled.Goals as goal
 
 pub returns : goal.returns
