@@ -1,11 +1,12 @@
 //! Calls: a header, the user in place 0, the call's fields from place 1 on.
 
-ghost use Rattle.std.specs.Prelude.{◌≡◌, ◌≤◌, length, List, ℕ, IfOk};
+ghost use Rattle.std.specs.Prelude.{◌≡◌, ◌≤◌, length, List, ℕ, IfOk, OnOk};
 ghost use Rattle.afs_num.specs.declared.types.Head.{Head};
 ghost use Rattle.afs_num.specs.declared.calls.FsCall.{FsCall};
 ghost use Rattle.afs_shape.specs.Reading.{GivesShape};
-ghost use Rattle.afs_shape.specs.Tables.{kinds_of};
-ghost use Rattle.afs_model.specs.Messages.{user_limit};
+ghost use Rattle.afs_xdr.specs.Words.{AreWords};
+ghost use Rattle.afs_shape.specs.Tables.{kinds_of, AreInRange};
+ghost use Rattle.afs_model.specs.Heads.{user_limit, head_words};
 ghost use Rattle.afs_model.specs.FsRows.{call_rows, call_number, call_fields, HasRow, asked_parts_at, call_parts_at, spelled_call, SpellsCall, ReadsCall, IsUnless};
 
 use crate::heads::write_head;
@@ -27,7 +28,7 @@ use std::alloc::Global;
 
 /// The user and the fields of a call of this shape.
 #[tactic(auto, unfolding(afs_model::specs::FsRows::asked_parts_at))]
-fn read_asked(
+pub(crate) fn read_asked(
     alloc: Global,
     shape: &Shape<8>,
     r: &mut Reader,
@@ -84,7 +85,9 @@ pub fn decode_call(alloc: Global, bytes: &[u8]) -> Result<(Head, Octets, FsCall)
 pub fn encode_call(alloc: Global, head: &Head, user: &[u8], call: &FsCall) -> Mem<Octets>
     requires user { length user.now ≤ user_limit }
     requires row { HasRow call_rows (call_number call.now) (call_fields call.now) }
-    ensures { IfOk result (λ bytes. bytes ≡ spelled_call head.now user.now call.now) }
+    ensures spelled { IfOk result (λ bytes. bytes ≡ spelled_call head.now user.now call.now) }
+    // What the types of its numbers keep, for who reads it again.
+    ensures fits { OnOk result (AreWords (head_words head.now) × AreInRange (call_fields call.now)) }
 {
     let parts = call_parts(alloc, call)?;
     let size = 32 + size_of(Part::Opaque(user)) + size_of_all(&parts);

@@ -2,8 +2,8 @@
 
 ghost use Rattle.std.specs.Prelude.{◌≡◌, ◌++◌, Ok, Err, OnOk, OnErr};
 ghost use Rattle.afs_xdr.specs.Reading.{Reads, Gives, KeepsEnd};
-ghost use Rattle.afs_xdr.specs.Words.{words};
-ghost use Rattle.afs_model.specs.Messages.{half_number, half_of, half_at, node_at, head_at, head_words};
+ghost use Rattle.afs_xdr.specs.Words.{words, AreWords};
+ghost use Rattle.afs_model.specs.Heads.{half_number, half_of, half_at, node_at, head_at, head_words};
 ghost use Rattle.afs_model.specs.FsRows.{first_of};
 
 use afs_num::types::{Half, Head, Mem, Node};
@@ -32,7 +32,7 @@ fn word_of_half(half: Half) -> u32
     }
 }
 
-#[tactic(auto, unfolding(afs_model::specs::Messages::half_at))]
+#[tactic(auto, unfolding(afs_model::specs::Heads::half_at))]
 fn read_half(r: &mut Reader) -> Result<Half, XdrFault>
     ensures value { Reads half_at (λ x. x) r.old r.new result }
     ensures end { KeepsEnd r.old r.new }
@@ -44,7 +44,7 @@ fn read_half(r: &mut Reader) -> Result<Half, XdrFault>
     }
 }
 
-#[tactic(auto, unfolding(afs_model::specs::Messages::node_at))]
+#[tactic(auto, unfolding(afs_model::specs::Heads::node_at))]
 fn read_node(r: &mut Reader) -> Result<Node, XdrFault>
     ensures value { Reads node_at (λ x. x) r.old r.new result }
     ensures end { KeepsEnd r.old r.new }
@@ -57,7 +57,7 @@ fn read_node(r: &mut Reader) -> Result<Node, XdrFault>
 }
 
 /// Reads a header: `BadHead` at an unknown half or node, `Short` where the bytes end in it.
-#[tactic(auto, unfolding(afs_model::specs::Messages::head_at))]
+#[tactic(auto, unfolding(afs_model::specs::Heads::head_at))]
 pub(crate) fn head_of(r: &mut Reader) -> Result<Head, XdrFault>
     ensures value { Reads head_at (λ x. x) r.old r.new result }
     ensures end { KeepsEnd r.old r.new }
@@ -93,6 +93,7 @@ pub fn read_head(bytes: &[u8]) -> Result<Head, XdrFault>
 /// Appends a header. Want of memory leaves the writer as it was.
 pub(crate) fn write_head(head: &Head, w: &mut Writer) -> Mem<()>
     ensures ok { OnOk result (w.new ≡ w.old ++ words (head_words head.now)) }
+    ensures fits { AreWords (head_words head.now) }
     ensures err { OnErr result (w.new ≡ w.old) }
 {
     w.words(&[

@@ -7,6 +7,7 @@ pub mod calls;
 pub mod heads;
 pub mod laws;
 mod making;
+pub mod messages;
 mod parts;
 mod reading;
 pub mod replies;

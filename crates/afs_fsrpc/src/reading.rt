@@ -4,7 +4,7 @@ ghost use Rattle.std.specs.Prelude.{◌≡◌};
 ghost use Rattle.afs_xdr.specs.Words.{opaque_at};
 ghost use Rattle.afs_shape.specs.Tables.{kinds_of};
 ghost use Rattle.afs_shape.specs.Reading.{in_place, ReadsShape, GivesShape, signed_at};
-ghost use Rattle.afs_model.specs.Messages.{user_limit};
+ghost use Rattle.afs_model.specs.Heads.{user_limit};
 ghost use Rattle.afs_model.specs.FsRows.{same_half, half_head_at, last_fields_at};
 
 use crate::heads::head_of;

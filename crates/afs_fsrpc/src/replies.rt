@@ -1,12 +1,14 @@
 //! Replies: a header, the code in place 0 and, exactly where that is 0, the reply's fields from place 1 on.
 
-ghost use Rattle.std.specs.Prelude.{◌≡◌, ◌≤◌, length, List, [], ℕ, ℤ, Option, IfOk};
+ghost use Rattle.std.specs.Prelude.{◌≡◌, ◌≤◌, length, List, [], ℕ, ℤ, Option, IfOk, OnOk, FitsSigned};
+ghost use Rattle.std.specs.Int.{w32};
 ghost use Rattle.std.specs.Option.{option_copied};
 ghost use Rattle.afs_num.specs.declared.types.Head.{Head};
 ghost use Rattle.afs_num.specs.declared.calls.FsReply.{FsReply};
 ghost use Rattle.afs_shape.specs.Reading.{in_place, signed_at, ReadsShape, GivesShape};
-ghost use Rattle.afs_shape.specs.Tables.{kinds_of};
-ghost use Rattle.afs_model.specs.Messages.{is_zero};
+ghost use Rattle.afs_xdr.specs.Words.{AreWords};
+ghost use Rattle.afs_shape.specs.Tables.{kinds_of, AreInRange};
+ghost use Rattle.afs_model.specs.Heads.{is_zero, head_words};
 ghost use Rattle.afs_model.specs.FsRows.{last_fields_at, kinds_behind, replied_parts_at, reply_parts_at, spelled_reply, SpellsReply, ReadsReply, IsUnless, CanAnswer, answer_fields};
 ghost use Rattle.afs_shape.specs.Parts.{fields_of};
 
@@ -26,7 +28,7 @@ use afs_xdr::reading::Reader;
 use afs_xdr::writing::Writer;
 use std::alloc::Global;
 
-fn is_done(code: Code) -> bool
+pub(crate) fn is_done(code: Code) -> bool
     ensures { result ≡ is_zero code.0 }
 {
     code.0 == 0
@@ -34,7 +36,7 @@ fn is_done(code: Code) -> bool
 
 /// Reads the code of a reply, which stands in place 0.
 #[tactic(auto, unfolding(afs_shape::specs::Reading::signed_at))]
-fn read_code(r: &mut Reader) -> Result<Code, ShapeFault>
+pub(crate) fn read_code(r: &mut Reader) -> Result<Code, ShapeFault>
     ensures { ReadsShape (λ bytes. in_place 0 (signed_at bytes)) (λ z. z.0) r.old r.new result }
 {
     match r.word() {
@@ -45,7 +47,7 @@ fn read_code(r: &mut Reader) -> Result<Code, ShapeFault>
 
 /// No fields, up to the last byte.
 #[tactic(auto, unfolding(afs_model::specs::FsRows::last_fields_at, afs_shape::specs::Reading::fields_at))]
-fn no_fields(alloc: Global, r: &Reader) -> Result<Fields, ShapeFault>
+pub(crate) fn no_fields(alloc: Global, r: &Reader) -> Result<Fields, ShapeFault>
     ensures { GivesShape (λ fs. fs) (last_fields_at [] r.now.left) result }
 {
     match r.end() {
@@ -147,7 +149,9 @@ fn answer_parts<'a>(alloc: Global, reply: Option<&'a FsReply>) -> Mem<Vec<Part<'
 /// opcode has no row; it is then spelled, and `decode_reply` answers `NoRow`.
 pub fn encode_reply(alloc: Global, head: &Head, code: Code, reply: Option<&FsReply>) -> Mem<Octets>
     requires { CanAnswer code.0 (option_copied reply) }
-    ensures { IfOk result (λ bytes. bytes ≡ spelled_reply head.now code.0 (option_copied reply.entry)) }
+    ensures spelled { IfOk result (λ bytes. bytes ≡ spelled_reply head.now code.0 (option_copied reply.entry)) }
+    // What the types of its numbers keep, for who reads it again.
+    ensures fits { OnOk result (AreWords (head_words head.now) × FitsSigned w32 code.0 × AreInRange (answer_fields (option_copied reply.entry))) }
 {
     let parts = answer_parts(alloc, reply)?;
     let size = 36 + size_of_all(&parts);

@@ -21,14 +21,14 @@ use Rattle.afs_shape.specs.declared.faults.ShapeFault.TheVariants as faults
 use Rattle.afs_shape.specs.declared.kinds.Kind.{Kind}
 use Rattle.afs_shape.specs.declared.kinds.Field.{Field}
 use Rattle.afs_shape.specs.Spelling.{fields_spelled}
-use Rattle.afs_shape.specs.Reading.{◌>>=◌, in_place, signed_at, fields_at}
+use Rattle.afs_shape.specs.Reading.{◌>>=◌, in_place, signed_at, fields_at, GivesShape}
 use Rattle.afs_shape.specs.Tables.{kinds_in, AreOf, AreInRange}
 use Rattle.afs_shape.proofs.Codecs.{IsBytes, opaque_codec, signed_codec}
 use Rattle.afs_shape.proofs.FieldLaws.{bind_ok, in_place_ok, shape_ok_is, fields_again}
-use Rattle.afs_model.specs.Heads.{user_limit, head_words, head_at, signed, is_zero, FitsHead}
+use Rattle.afs_model.specs.Heads.{user_limit, head_words, head_at, signed, is_zero, IsSoundHead, FitsHead}
 use Rattle.afs_model.specs.FsRows.{call_rows, reply_rows, call_number, call_fields, reply_number, reply_fields, HasRow, call_bytes, reply_bytes, row_at, asked_parts_at, last_fields_at}
 use Rattle.afs_model.specs.FsMaking.{call_of, reply_of}
-use Rattle.afs_model.specs.Messages.{carried_bytes, spelled, made, asked_at, answer_at, refusal_at, replied_at, notice_at, called, heard, behind, behind_head, received, IsSoundCarried, IsInRange, Fits}
+use Rattle.afs_model.specs.Messages.{carried_bytes, spelled, as_call, as_reply, asked_at, answer_at, refusal_at, replied_at, notice_at, called, heard, behind, behind_head, received, IsSound, IsSoundMessage, IsSoundCarried, IsInRange, Fits}
 use Rattle.afs_model.proofs.HeadLaws.{head_again, head_takes}
 use Rattle.afs_model.proofs.FsLaws.{found_row, row_ok, asked_parts_take, asked_parts_again, last_fields_take, last_fields_again}
 use Rattle.afs_model.proofs.FsMade.{call_again, reply_again, call_made, reply_made, some_is}
@@ -81,20 +81,25 @@ record Takes (half : Half) (opcode : ℕ) (bytes : List ℕ) (c : Carried) : Typ
   sound : IsSoundCarried half opcode c
   in_range : IsInRange c
 
-made_ok : {A : Type 0} (o : Option A) (x : A) → made o ≡ Ok x → o ≡ Some x
-made_ok (Some y) x e = cc
-made_ok None x e = absurd cc
+-- the call, or the reply, that was made
+call_is : (user : List ℕ) (o : Option FsCall) (c : Carried) → as_call user o ≡ Ok c → (call : FsCall) × (o ≡ Some call) × (carried.Call user call ≡ c)
+call_is user (Some call) c e = (call, refl, shape_ok_is (carried.Call user call) c e)
+call_is user None c e = absurd cc
+
+pub reply_is : (o : Option FsReply) (c : Carried) → as_reply o ≡ Ok c → (reply : FsReply) × (o ≡ Some reply) × (carried.Reply reply ≡ c)
+reply_is (Some reply) c e = (reply, refl, shape_ok_is (carried.Reply reply) c e)
+reply_is None c e = absurd cc
 
 asked_takes : (opcode : ℕ) (bytes : List ℕ) (c : Carried) → IsBytes bytes → asked_at opcode bytes ≡ Ok c → Takes halves.Call opcode bytes c
 unfolding asked_at
 asked_takes opcode bytes c fits e =
-    let a = bind_ok (row_at opcode (kinds_in opcode call_rows)) (λ ks. asked_parts_at ks bytes >>= λ parts. made (call_of opcode parts.1) >>= λ call. Ok (carried.Call parts.0 call)) c e in
-    let b = bind_ok (asked_parts_at a.0 bytes) (λ parts. made (call_of opcode parts.1) >>= λ call. Ok (carried.Call parts.0 call)) c a.2 in
-    let d = bind_ok (made (call_of opcode b.0.1)) (λ call. Ok (carried.Call b.0.0 call)) c b.2 in
+    let a = bind_ok (row_at opcode (kinds_in opcode call_rows)) (λ ks. asked_parts_at ks bytes >>= λ parts. as_call parts.0 (call_of opcode parts.1)) c e in
+    let b = bind_ok (asked_parts_at a.0 bytes) (λ parts. as_call parts.0 (call_of opcode parts.1)) c a.2 in
+    let d = call_is b.0.0 (call_of opcode b.0.1) c b.2 in
     let row = row_ok opcode (kinds_in opcode call_rows) a.0 a.1 in
     let t = asked_parts_take a.0 bytes b.0.0 b.0.1 fits b.1 in
     let m = call_made opcode a.0 b.0.1 row t.are_of in
-    let same : m.value ≡ d.0 = some_is m.value d.0 (sym m.is ∙ made_ok (call_of opcode b.0.1) d.0 d.1) in
+    let same : m.value ≡ d.0 = some_is m.value d.0 (sym m.is ∙ d.1) in
     let told : b.0.1 ≡ call_fields d.0 = sym m.told_is ∙ ap call_fields same in
     let number : opcode ≡ call_number d.0 = sym m.number_is ∙ ap call_number same in
     let kinds : kinds_in (call_number d.0) call_rows ≡ Some a.0 = ap (λ (n : ℕ). kinds_in n call_rows) (sym number) ∙ row in
@@ -103,19 +108,19 @@ asked_takes opcode bytes c fits e =
       sound = (refl, number, t.user_fits, rw kinds (subst (λ (fs : List Field). AreOf a.0 fs) told t.are_of));
       in_range = subst AreInRange told t.in_range;
     } in
-    subst (λ (x : Carried). Takes halves.Call opcode bytes x) (shape_ok_is (carried.Call b.0.0 d.0) c d.2) here
+    subst (λ (x : Carried). Takes halves.Call opcode bytes x) d.2 here
 
 -- what is read behind a code of 0
 answer_takes : (opcode : ℕ) (bytes : List ℕ) (c : Carried) → IsBytes bytes → answer_at opcode bytes ≡ Ok c → Takes halves.Reply opcode (word 0 ++ bytes) c
 unfolding answer_at
 answer_takes opcode bytes c fits e =
-    let a = bind_ok (row_at opcode (kinds_in opcode reply_rows)) (λ ks. last_fields_at ks bytes >>= λ fs. made (reply_of opcode fs) >>= λ reply. Ok (carried.Reply reply)) c e in
-    let b = bind_ok (last_fields_at a.0 bytes) (λ fs. made (reply_of opcode fs) >>= λ reply. Ok (carried.Reply reply)) c a.2 in
-    let d = bind_ok (made (reply_of opcode b.0)) (λ reply. Ok (carried.Reply reply)) c b.2 in
+    let a = bind_ok (row_at opcode (kinds_in opcode reply_rows)) (λ ks. last_fields_at ks bytes >>= λ fs. as_reply (reply_of opcode fs)) c e in
+    let b = bind_ok (last_fields_at a.0 bytes) (λ fs. as_reply (reply_of opcode fs)) c a.2 in
+    let d = reply_is (reply_of opcode b.0) c b.2 in
     let row = row_ok opcode (kinds_in opcode reply_rows) a.0 a.1 in
     let t = last_fields_take a.0 bytes b.0 fits b.1 in
     let m = reply_made opcode a.0 b.0 row t.are_of in
-    let same : m.value ≡ d.0 = some_is m.value d.0 (sym m.is ∙ made_ok (reply_of opcode b.0) d.0 d.1) in
+    let same : m.value ≡ d.0 = some_is m.value d.0 (sym m.is ∙ d.1) in
     let told : b.0 ≡ reply_fields d.0 = sym m.told_is ∙ ap reply_fields same in
     let number : opcode ≡ reply_number d.0 = sym m.number_is ∙ ap reply_number same in
     let kinds : kinds_in (reply_number d.0) reply_rows ≡ Some a.0 = ap (λ (n : ℕ). kinds_in n reply_rows) (sym number) ∙ row in
@@ -124,7 +129,7 @@ answer_takes opcode bytes c fits e =
       sound = (refl, number, rw kinds (subst (λ (fs : List Field). AreOf a.0 fs) told t.are_of));
       in_range = subst AreInRange told t.in_range;
     } in
-    subst (λ (x : Carried). Takes halves.Reply opcode (word 0 ++ bytes) x) (shape_ok_is (carried.Reply d.0) c d.2) here
+    subst (λ (x : Carried). Takes halves.Reply opcode (word 0 ++ bytes) x) d.2 here
 
 -- nothing is left where no field was to come
 none_left : (bytes : List ℕ) (fs : List Field) → IsBytes bytes → last_fields_at [] bytes ≡ Ok fs → bytes ≡ []
@@ -214,6 +219,66 @@ head_spelled bytes m (Err f) fits at e = absurd cc
 pub read_spelled : (bytes : List ℕ) (m : Message) → IsBytes bytes → received bytes ≡ Whole m → (spelled m ≡ bytes) × Fits m
 unfolding received
 read_spelled bytes m fits e = head_spelled bytes m (head_at bytes) fits refl e
+
+-- ---- what is found in bytes is sound
+
+called_sound : (head : Head) (read : Result Carried ShapeFault) → IsSoundHead head → ((m : Message) → called head read ≡ Whole m → IsSoundMessage m) → IsSound (called head read)
+called_sound head (Ok c) nodes whole = whole (record { head = head; carried = c }) refl
+called_sound head (Err (faults.NoRow n)) nodes whole = nodes
+called_sound head (Err faults.OutOfMemory) nodes whole = nodes
+called_sound head (Err (faults.Head f)) nodes whole = nodes
+called_sound head (Err (faults.Field i f)) nodes whole = nodes
+
+heard_sound : (head : Head) (read : Result Carried ShapeFault) → ((m : Message) → heard head read ≡ Whole m → IsSoundMessage m) → IsSound (heard head read)
+heard_sound head (Ok c) whole = whole (record { head = head; carried = c }) refl
+heard_sound head (Err f) whole = tt
+
+behind_sound : (head : Head) (half : Half) (rest : List ℕ) → IsSoundHead head → ((m : Message) → behind head half rest ≡ Whole m → IsSoundMessage m) → IsSound (behind head half rest)
+behind_sound head halves.Call rest nodes whole = called_sound head (asked_at head.opcode rest) nodes whole
+behind_sound head halves.Reply rest nodes whole = heard_sound head (replied_at head.opcode rest) whole
+behind_sound head halves.Boot rest nodes whole = heard_sound head (notice_at rest) whole
+
+head_sound : (bytes : List ℕ) (o : Result (Head × List ℕ) XdrFault) → IsBytes bytes → head_at bytes ≡ o → ((m : Message) → behind_head o ≡ Whole m → IsSoundMessage m) → IsSound (behind_head o)
+head_sound bytes (Ok h) fits at whole = let t = head_takes bytes h.0 h.1 fits at in behind_sound h.0 h.0.half h.1 (t.fits.from, t.fits.to) whole
+head_sound bytes (Err f) fits at whole = tt
+
+pub read_sound : (bytes : List ℕ) → IsBytes bytes → IsSound (received bytes)
+unfolding received
+read_sound bytes fits = head_sound bytes (head_at bytes) fits refl (λ m e. (read_spelled bytes m fits e).1.sound)
+
+-- ---- reading, step by step
+
+abbrev pub Gives : Result Carried ShapeFault → Result Carried ShapeFault → Type 0
+Gives read result = GivesShape {X = Carried} (λ c. c) read result
+
+pub gives_same : (read result : Result Carried ShapeFault) → read ≡ result → Gives read result
+gives_same read (Ok c) e = e
+gives_same read (Err faults.OutOfMemory) e = tt
+gives_same read (Err (faults.Head f)) e = e
+gives_same read (Err (faults.NoRow n)) e = e
+gives_same read (Err (faults.Field i f)) e = e
+
+pub asked_read : (opcode : ℕ) (bytes : List ℕ) (ks : List Kind) (user : List ℕ) (fs : List Field) → kinds_in opcode call_rows ≡ Some ks → asked_parts_at ks bytes ≡ Ok (user, fs) → asked_at opcode bytes ≡ as_call user (call_of opcode fs)
+unfolding asked_at
+asked_read opcode bytes ks user fs p q = rw (p, q) refl
+
+pub asked_fail : (e : ShapeFault) (opcode : ℕ) (bytes : List ℕ) (ks : List Kind) → kinds_in opcode call_rows ≡ Some ks → GivesShape {X = List ℕ × List Field} (λ p. p) (asked_parts_at ks bytes) (Err e) → Gives (asked_at opcode bytes) (Err e)
+unfolding asked_at
+asked_fail faults.OutOfMemory opcode bytes ks p q = tt
+asked_fail (faults.Head f) opcode bytes ks p q = rw (p, q) refl
+asked_fail (faults.NoRow n) opcode bytes ks p q = rw (p, q) refl
+asked_fail (faults.Field i f) opcode bytes ks p q = rw (p, q) refl
+
+pub answer_read : (opcode : ℕ) (bytes : List ℕ) (ks : List Kind) (fs : List Field) → kinds_in opcode reply_rows ≡ Some ks → last_fields_at ks bytes ≡ Ok fs → answer_at opcode bytes ≡ as_reply (reply_of opcode fs)
+unfolding answer_at
+answer_read opcode bytes ks fs p q = rw (p, q) refl
+
+pub answer_fail : (e : ShapeFault) (opcode : ℕ) (bytes : List ℕ) (ks : List Kind) → kinds_in opcode reply_rows ≡ Some ks → GivesShape {X = List Field} (λ fs. fs) (last_fields_at ks bytes) (Err e) → Gives (answer_at opcode bytes) (Err e)
+unfolding answer_at
+answer_fail faults.OutOfMemory opcode bytes ks p q = tt
+answer_fail (faults.Head f) opcode bytes ks p q = rw (p, q) refl
+answer_fail (faults.NoRow n) opcode bytes ks p q = rw (p, q) refl
+answer_fail (faults.Field i f) opcode bytes ks p q = rw (p, q) refl
 
 -- ---- what is spelled, with more behind it, is refused: reading ends at the last byte
 

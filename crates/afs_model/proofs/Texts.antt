@@ -30,8 +30,8 @@ use Rattle.afs_shape.proofs.FieldLaws.{bind_ok, in_place_ok, shape_ok_is}
 use Rattle.afs_model.specs.Heads.{head_at, half_at, node_at, known, half_of, is_zero}
 use Rattle.afs_model.specs.FsRows.{reply_rows, row_at, last_fields_at}
 use Rattle.afs_model.specs.FsMaking.{reply_of}
-use Rattle.afs_model.specs.Messages.{made, asked_at, answer_at, refusal_at, replied_at, notice_at, called, heard, behind, behind_head, received, found, meant}
-use Rattle.afs_model.proofs.Spellings.{IsOf, called_is, heard_is}
+use Rattle.afs_model.specs.Messages.{as_reply, asked_at, answer_at, refusal_at, replied_at, notice_at, called, heard, behind, behind_head, received, found, meant}
+use Rattle.afs_model.proofs.Spellings.{IsOf, called_is, heard_is, reply_is}
 use Rattle.afs_model.specs.Runs.{Entry, Cell}
 use Rattle.afs_model.specs.Text.{sent_text, route_text, half_text, code_of, code_read, code_at, message_text, messages_text, parcel_text, parcels_text, step_text, lines_text, entry_text, wire_entry_text, entries_text, wire_entries_text, history_text, wire_history_text, final_text, text, wire_text, Carries, CarryAll}
 
@@ -166,8 +166,7 @@ unfolding answer_at
 answer_code opcode bytes c h =
     let a = bind_ok (row_at opcode (kinds_in opcode reply_rows)) _ c h in
     let b = bind_ok (last_fields_at a.0 bytes) _ c a.2 in
-    let d = bind_ok (made (reply_of opcode b.0)) (λ reply. Ok (carried.Reply reply)) c b.2 in
-    sym (ap code_of (shape_ok_is (carried.Reply d.0) c d.2))
+    sym (ap code_of (reply_is (reply_of opcode b.0) c b.2).2)
 
 code_by : (opcode : ℕ) (code : ℤ) (rest : List ℕ) (c : Carried) (b : Bool) → is_zero code ≡ b → (if b then answer_at opcode rest else refusal_at code rest) ≡ Ok c → code ≡ code_of c
 code_by opcode code rest c true z h = is_pos_zero code z ∙ sym (answer_code opcode rest c h)

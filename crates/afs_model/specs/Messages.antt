@@ -7,6 +7,8 @@ use Rattle.afs_num.specs.declared.types.Half.{Half}
 use Rattle.afs_num.specs.declared.types.Half.TheVariants as halves
 use Rattle.afs_num.specs.declared.types.Head.{Head}
 use Rattle.afs_num.specs.declared.types.Parcel.{Parcel}
+use Rattle.afs_num.specs.declared.calls.FsCall.{FsCall}
+use Rattle.afs_num.specs.declared.calls.FsReply.{FsReply}
 use Rattle.afs_num.specs.declared.messages.Carried.{Carried}
 use Rattle.afs_num.specs.declared.messages.Carried.TheVariants as carried
 use Rattle.afs_num.specs.declared.messages.Message.{Message}
@@ -37,26 +39,28 @@ spelled m = words (head_words m.head) ++ carried_bytes m.carried
 
 -- ---- reading, from behind the header to the last byte
 
--- what fields make: those of a row's kinds always make its call or reply
-abbrev pub made : {A : Type 0} → Option A → Result A ShapeFault
-made (Some x) = Ok x
-made None = Err (faults.Head BadHead)
+-- what the fields of a row's kinds make; they always make its call, or its reply
+abbrev pub as_call : List ℕ → Option FsCall → Result Carried ShapeFault
+as_call user (Some call) = Ok (carried.Call user call)
+as_call user None = Err (faults.Head BadHead)
+
+abbrev pub as_reply : Option FsReply → Result Carried ShapeFault
+as_reply (Some reply) = Ok (carried.Reply reply)
+as_reply None = Err (faults.Head BadHead)
 
 -- a call of this opcode: its user, and the fields of its row
 unfoldable pub asked_at : ℕ → List ℕ → Result Carried ShapeFault
 asked_at opcode bytes = do
   ks ← row_at opcode (kinds_in opcode call_rows)
   parts ← asked_parts_at ks bytes
-  call ← made (call_of opcode parts.1)
-  Ok (carried.Call parts.0 call)
+  as_call parts.0 (call_of opcode parts.1)
 
 -- behind a code of 0 stand the fields of the row
 unfoldable pub answer_at : ℕ → List ℕ → Result Carried ShapeFault
 answer_at opcode bytes = do
   ks ← row_at opcode (kinds_in opcode reply_rows)
   fs ← last_fields_at ks bytes
-  reply ← made (reply_of opcode fs)
-  Ok (carried.Reply reply)
+  as_reply (reply_of opcode fs)
 
 -- behind any other code stands nothing, whatever was called: so a call that has no row can be refused too
 unfoldable pub refusal_at : ℤ → List ℕ → Result Carried ShapeFault

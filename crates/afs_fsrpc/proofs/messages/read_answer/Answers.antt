@@ -1,0 +1,10 @@
+use Rattle.std.proofs.Common.{◌∙◌, sym}
+use Rattle.afs_shape.specs.Tables.{kinds_of}
+use Rattle.afs_model.proofs.Spellings.{answer_read, answer_fail, gives_same}
+use Rattle.afs_fsrpc.proofs.messages.read_answer.Goals as goal
+
+pub returns-in-Ok : goal.returns-in-Ok
+returns-in-Ok c = gives_same _ _ (answer_read c.args.opcode c.args.r.now.left (kinds_of c.in_ok-shape.shape.now.kinds) c.in-Ok.fields c.in_ok-shape.ensures.kinds c.in-Ok.ensures ∙ sym c.reply_with.ensures)
+
+pub returns-in-Err : goal.returns-in-Err
+returns-in-Err c = answer_fail c.in-Err.fault c.args.opcode c.args.r.now.left (kinds_of c.in_ok-shape.shape.now.kinds) c.in_ok-shape.ensures.kinds c.in-Err.ensures
