@@ -1,5 +1,5 @@
 -- A step of the server raises no count by more than one, and keeps contents within their limit and replies sound.
-use Rattle.std.proofs.Common.{◌≡◌, ℕ, ◌+◌, ◌≤◌, Bool, true, false, cond, List, [], ◌∷◌, ◌++◌, Option, Some, None, length, refl, sym, ap, arith}
+use Rattle.std.proofs.Common.{◌≡◌, ℕ, ◌+◌, ◌≤◌, ◌<◌, ◌^◌, Bool, true, false, cond, List, [], ◌∷◌, ◌++◌, Option, Some, None, length, refl, sym, ap, arith}
 use Rattle.std.specs.Prelude.{ℤ, filter, find, not, nat_eq, IfSome}
 use Rattle.std.specs.List.{All}
 use Rattle.std.proofs.lemmas.List.Elements.{All-filter, All-push}
@@ -18,9 +18,11 @@ use Rattle.afs_num.specs.declared.messages.Received.TheVariants.{Nothing, Unknow
 use Rattle.afs_num.specs.declared.states.StoredFile.{StoredFile}
 use Rattle.afs_num.specs.declared.states.Seat.{Seat}
 use Rattle.afs_num.specs.declared.states.ServerState.{ServerState}
-use Rattle.afs_model.specs.Messages.{contents_limit, fetch_data, store_data, is_zero, IsSound, IsSoundHead, IsSoundCall, IsSoundCarried, IsSoundMessage}
-use Rattle.afs_model.specs.ServerRow.{Standing, is_older, is_last, is_newer, standing, seat_of, find_file, stored, with_file, Decision, drops, tells_boot, repeats, refuses, grants, saves, fetches, stores, Request, asks, asks_unknown, asks_unreadable, runs, answers_again, admits, called, hears, decides, keeps, saved, does, server_row, refusal}
-use Rattle.afs_world.specs.Serving.{KeepsSound, IsKept, IsWithin}
+use Rattle.afs_model.specs.Heads.{contents_limit, is_zero, IsSoundHead}
+use Rattle.afs_model.specs.FsRows.{fetch_data, store_data, call_rows, call_number, call_fields, HasRow}
+use Rattle.afs_model.specs.Messages.{IsSound, IsSoundCarried, IsSoundMessage}
+use Rattle.afs_model.specs.ServerRow.{serves, no_call, bad_fields, Standing, is_older, is_last, is_newer, standing, seat_of, find_file, stored, with_file, Decision, drops, tells_boot, repeats, refuses, grants, saves, fetches, stores, Request, asks, asks_unknown, asks_unreadable, runs, answers_again, admits, called, hears, decides, keeps, saved, does, server_row, refusal}
+use Rattle.afs_world.specs.Serving.{KeepsSound, IsKept, IsWithin, IsSoundCall}
 use Rattle.afs_world.proofs.Limits.{All-find}
 
 pub All-weaken : {X : Type 0} (P Q : X → Type 0) (xs : List X) → ((x : X) → P x → Q x) → All P xs → All Q xs
@@ -59,6 +61,10 @@ IsFine n (saves head contents file) = IsSoundHead head × ((head.opcode ≡ stor
 abbrev turned : (h : Head) → IsSoundHead h → IsNode h.to × IsNode h.from
 turned h s = (s.1, s.0)
 
+-- contents within their limit fit the row of a reply to a fetch
+abbrev contents_row : (contents : List ℕ) → length contents ≤ contents_limit → ((length contents ≤ contents_limit) × (length contents < 2 ^ 32)) × (Unit {0} × (Unit {0} × (Unit {0} × Unit {0})))
+contents_row contents short = ((short, omega arith), (tt, (tt, (tt, tt))))
+
 stored_kept : (n clock : ℕ) (contents : List ℕ) (file : StoredFile) → length contents ≤ contents_limit → IsKept n file → IsKept (n + 1) (stored contents clock file)
 stored_kept n clock contents file short h =
     let index = h.index in
@@ -72,9 +78,9 @@ does_within me n s clock place (repeats reply) f h = within_more n (n + 1) s (om
 does_within me n s clock place (refuses head code) f h =
     keeps_within (n + 1) s head (refusal s.boot head code) (turned head f.0, (refl, f.1)) (within_more n (n + 1) s (omega arith) h)
 does_within me n s clock place (grants head file) f h =
-    keeps_within (n + 1) s head _ (turned head f.0, (refl, (f.1.0, f.1.1.short))) (within_more n (n + 1) s (omega arith) h)
+    keeps_within (n + 1) s head _ (turned head f.0, (refl, f.1.0, contents_row file.contents f.1.1.short)) (within_more n (n + 1) s (omega arith) h)
 does_within me n s clock place (saves head contents file) f h =
-    keeps_within (n + 1) (saved (stored contents clock file) s) head _ (turned head f.0, (refl, f.1.0))
+    keeps_within (n + 1) (saved (stored contents clock file) s) head _ (turned head f.0, (refl, f.1.0, (tt, (tt, tt))))
     (saved_within (n + 1) s (stored contents clock file) (stored_kept n clock contents file f.1.1.0 f.1.1.1) (within_more n (n + 1) s (omega arith) h))
 
 -- ---- each decision is so
@@ -92,12 +98,16 @@ stores_fine : (n : ℕ) (files : List StoredFile) (head : Head) (fid : Fid) (con
 stores_fine n files head fid contents None e h sound is short = (sound, refl)
 stores_fine n files head fid contents (Some file) e h sound is short = (sound, (is, (short, All-find (IsKept n) (λ v. same_fid v.fid fid) files file h e)))
 
+unread_refused : (served : Bool) → is_zero (cond served bad_fields no_call) ≡ false
+unread_refused true = refl
+unread_refused false = refl
+
 runs_fine : (n : ℕ) (files : List StoredFile) (head : Head) (r : Request) → All (IsKept n) files → IsSoundHead head → IsFineRequest head.opcode r → IsFine n (runs files head r)
 runs_fine n files head (asks (calls.FetchData fid position count)) h sound fine = fetches_fine n files head fid (find_file fid files) refl h sound fine
 runs_fine n files head (asks (calls.StoreData fid status position count file_length contents)) h sound fine = stores_fine n files head fid contents (find_file fid files) refl h sound fine.0 fine.1
 runs_fine n files head (asks call) h sound fine = (sound, refl)
 runs_fine n files head asks_unknown h sound fine = (sound, refl)
-runs_fine n files head asks_unreadable h sound fine = (sound, refl)
+runs_fine n files head asks_unreadable h sound fine = (sound, unread_refused (serves head.opcode))
 
 again_fine : (n : ℕ) (o : Option Message) → IsFine n (answers_again o)
 again_fine n None = tt
@@ -117,8 +127,14 @@ called_fine me n s head r h sound fine =
     either_fine n (same_node head.to me) _ drops
     (either_fine n (nat_eq head.boot s.boot) _ (tells_boot head) (admits_fine n s.files head r (standing head (seat_of head.from s.seats)) h.files sound fine) tt) tt
 
+-- what is read is sound, by its row
+pub call_sound : (opcode : ℕ) (call : FsCall) → opcode ≡ call_number call → HasRow call_rows (call_number call) (call_fields call) → IsSoundCall opcode call
+call_sound opcode (calls.FetchData fid position count) is row = is
+call_sound opcode (calls.StoreData fid status position count file_length contents) is row = (is, row.1.1.1.1.1.0.0)
+call_sound opcode call is row = tt
+
 hears_fine : (me : Node) (n : ℕ) (s : ServerState) (head : Head) (c : Carried) → IsWithin n s → IsSoundHead head → IsSoundCarried head.half head.opcode c → IsFine n (hears me s head c)
-hears_fine me n s head (carried.Call user call) h sound c = called_fine me n s head (asks call) h sound c.1.1
+hears_fine me n s head (carried.Call user call) h sound c = called_fine me n s head (asks call) h sound (call_sound head.opcode call c.1 c.3)
 hears_fine me n s head (carried.Refusal code) h sound c = tt
 hears_fine me n s head (carried.Reply reply) h sound c = tt
 hears_fine me n s head carried.Notice h sound c = tt

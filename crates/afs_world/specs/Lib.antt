@@ -1,4 +1,3 @@
-pub mod Decoding
 pub mod Serving
 pub mod Asking
 pub mod Worlds

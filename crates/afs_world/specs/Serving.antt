@@ -1,5 +1,5 @@
 -- What the server's functions speak of besides the row.
-use Rattle.std.specs.Prelude.{◌≤◌, ℕ, List, [], ◌∷◌, length, IfSome, Option, Some, None}
+use Rattle.std.specs.Prelude.{◌≡◌, ◌≤◌, ℕ, List, [], ◌∷◌, length, IfSome, Option, Some, None}
 use Rattle.std.specs.List.{All}
 use Rattle.afs_num.specs.declared.types.Node.{Node}
 use Rattle.afs_num.specs.declared.types.Head.{Head}
@@ -9,7 +9,11 @@ use Rattle.afs_world.specs.declared.server.Request.{Request}
 use Rattle.afs_world.specs.declared.server.Request.TheVariants.{Call, Unknown, Unreadable}
 use Rattle.afs_num.specs.declared.states.Seat.{Seat}
 use Rattle.afs_num.specs.declared.histories.Line.TheVariants as lines
-use Rattle.afs_model.specs.Messages.{contents_limit, IsSoundCall, IsSoundMessage}
+use Rattle.afs_num.specs.declared.calls.FsCall.{FsCall}
+use Rattle.afs_num.specs.declared.calls.FsCall.TheVariants as calls
+use Rattle.afs_model.specs.Heads.{contents_limit}
+use Rattle.afs_model.specs.FsRows.{fetch_data, store_data}
+use Rattle.afs_model.specs.Messages.{IsSoundMessage}
 use Rattle.afs_model.specs.Steps.{Step}
 use Rattle.afs_model.specs.ServerRow.{no_file, refuses_step, grants_step, saves_step, keeps, saved, stored_reply, key_of, version_of}
 use Rattle.afs_model.specs.ServerRow as row
@@ -36,6 +40,12 @@ saved_step me s place head file = record {
   lines = lines.Given place ∷ lines.Change me (key_of head) 1 ∷ lines.Version (version_of file) ∷ [];
   sent = stored_reply s.boot head file ∷ [];
 }
+
+-- a call that is served stands under its opcode, and contents are within their limit
+abbrev pub IsSoundCall : ℕ → FsCall → Type 0
+IsSoundCall opcode (calls.FetchData fid position count) = opcode ≡ fetch_data
+IsSoundCall opcode (calls.StoreData fid status position count file_length contents) = (opcode ≡ store_data) × (length contents ≤ contents_limit)
+IsSoundCall opcode call = Unit {0}
 
 abbrev pub IsSoundRequest : ℕ → Request → Type 0
 IsSoundRequest opcode (Call call) = IsSoundCall opcode call

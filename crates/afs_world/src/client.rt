@@ -4,14 +4,15 @@ ghost use Rattle.std.specs.Prelude.{◌≡◌, ◌≤◌, ◌<◌, ◌+◌, ◌^
 ghost use Rattle.std.specs.Option.{option_copied};
 ghost use Rattle.afs_num.specs.Nodes.{IsNode, same_node};
 ghost use Rattle.afs_num.specs.Fids.{same_fid};
+ghost use Rattle.afs_model.specs.FsRows.{call_rows, call_number, call_fields, HasRow};
 ghost use Rattle.afs_model.specs.Messages.{found, meant, received, IsSoundMessage};
 ghost use Rattle.afs_model.specs.Steps.{Step, Makes};
 ghost use Rattle.afs_model.specs.ClientRow.{find_cached, used_first, is_trusted, refreshed, guest, opcode_of, nothing_set, call_of, call_head, call_message, asking, calls_step, zero_code, shows_step, opens, begin_row, ignores, ended, answers_step, uses_step, takes_fetched, takes_stored, takes, counts, resends_step, is_awaited, awaits, client_row};
 ghost use Rattle.afs_world.specs.Asking.{IsShortRunning};
 ghost use Rattle.afs_model.specs.Form.{IsShortAct};
 
-use crate::decoding::read_message;
 use crate::giving::{given, outs_with};
+use afs_fsrpc::messages::read_message;
 use afs_num::calls::{AfsStoreStatus, FsCall, FsReply};
 use afs_num::histories::{Body, Line, Lines, Outs, ReadSource};
 use afs_num::messages::{Carried, Message, Received};
@@ -152,7 +153,9 @@ fn no_status() -> AfsStoreStatus
 
 fn call(alloc: Global, act: &Act) -> Result<FsCall, AllocError>
     requires { IsShortAct act.now }
-    ensures { IfOk result (λ c. c ≡ call_of act.now) }
+    ensures value { IfOk result (λ c. c ≡ call_of act.now) }
+    ensures number { IfOk result (λ c. opcode_of act.now ≡ call_number c) }
+    ensures row { IfOk result (λ c. HasRow call_rows (call_number c) (call_fields c)) }
 {
     match act {
         Act::Open { fid } => Ok(FsCall::FetchData {

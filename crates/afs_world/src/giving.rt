@@ -3,7 +3,7 @@
 ghost use Rattle.std.specs.Prelude.{◌≡◌, [], ◌∷◌, IfOk};
 ghost use Rattle.afs_model.specs.Messages.{found, meant, IsSoundMessage};
 
-use crate::encoding::encode;
+use afs_fsrpc::messages::encode_message;
 use afs_num::histories::{Line, Lines, Outs};
 use afs_num::messages::Message;
 use afs_num::sequences::Sequence;
@@ -16,7 +16,7 @@ pub(crate) fn outs_with(alloc: Global, lines: Lines, message: &Message) -> Resul
     ensures lines { IfOk result (λ o. o.lines ≡ lines) }
     ensures sent { IfOk result (λ o. found o.parcels ≡ meant (message.now ∷ [])) }
 {
-    let bytes = encode(alloc, message)?;
+    let bytes = encode_message(alloc, message)?;
     let mut parcels = Sequence::new(alloc);
     parcels.push(Parcel {
         head: message.head,

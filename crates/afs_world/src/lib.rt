@@ -2,8 +2,6 @@
 #![tactic(auto)]
 
 pub mod client;
-pub mod decoding;
-pub mod encoding;
 mod giving;
 pub mod server;
 pub mod world;

@@ -5,14 +5,16 @@ ghost use Rattle.std.specs.Option.{option_copied};
 ghost use Rattle.std.specs.List.{All};
 ghost use Rattle.afs_num.specs.Nodes.{IsNode, same_node};
 ghost use Rattle.afs_num.specs.Fids.{same_fid};
-ghost use Rattle.afs_model.specs.Messages.{found, meant, received, contents_limit, fetch_data, store_data, is_zero, IsSound, IsSoundHead, IsSoundCall, IsSoundMessage};
+ghost use Rattle.afs_model.specs.Heads.{contents_limit, is_zero, IsSoundHead};
+ghost use Rattle.afs_model.specs.FsRows.{fetch_data, store_data};
+ghost use Rattle.afs_model.specs.Messages.{found, meant, received, IsSound, IsSoundMessage};
 ghost use Rattle.afs_model.specs.Steps.{Step, Makes};
-ghost use Rattle.afs_model.specs.ServerRow.{seat_of, seated, find_file, with_file, stored, status_of, no_release, promise_until, promise_ticks, version_of, key_of, reply_head, keeps, saved, pair_below, runs, called, admits, standing, decides, does, server_row, refuses_step, grants_step, saves_step, refusal, told, boot_told};
+ghost use Rattle.afs_model.specs.ServerRow.{seat_of, seated, find_file, with_file, stored, status_of, no_release, promise_until, promise_ticks, version_of, key_of, reply_head, keeps, saved, pair_below, runs, serves, unread_code, called, admits, standing, decides, does, server_row, refuses_step, grants_step, saves_step, refusal, told, boot_told};
 ghost use Rattle.afs_num.specs.declared.states.ServerState.{ServerState};
 ghost use Rattle.afs_world.specs.Serving.{asked_by, fetches_step, stores_step, saved_step, IsSoundRequest, KeepsSound, IsKept, IsWithin, count_limit};
 
-use crate::decoding::read_message;
 use crate::giving::{given, outs_with};
+use afs_fsrpc::messages::read_message;
 use afs_num::calls::{AfsCallBack, AfsFetchStatus, AfsVolSync, FsCall, FsReply};
 use afs_num::histories::{Body, Line, Lines, Outs, Version};
 use afs_num::messages::{Carried, Message, Received};
@@ -261,6 +263,21 @@ fn key(head: &Head) -> Key
     }
 }
 
+/// Whether a file server serves calls of this opcode.
+fn serves(opcode: u32) -> bool
+    ensures { result ≡ serves opcode }
+{
+    opcode == 130 || opcode == 133
+}
+
+/// The answer to a call whose fields can't be read: that it isn't served here comes first.
+fn unread_code(opcode: u32) -> i32
+    ensures code { result ≡ unread_code opcode }
+    ensures some { is_zero result ≡ false }
+{
+    if serves(opcode) { -453 } else { -455 }
+}
+
 /// A file server of the cell.
 #[derive(Drop)]
 pub struct FileServer {
@@ -483,7 +500,7 @@ impl FileServer {
             ),
             Request::Call(_) => self.refuse(alloc, place, head, -455),
             Request::Unknown => self.refuse(alloc, place, head, -455),
-            Request::Unreadable => self.refuse(alloc, place, head, -453),
+            Request::Unreadable => self.refuse(alloc, place, head, unread_code(head.opcode)),
         }
     }
 
