@@ -8,6 +8,7 @@ pub mod Answering
 pub mod Law
 pub mod KeysOnce
 pub mod Worked
+pub mod Wrong
 pub mod ScriptLines
 pub mod ScriptNumbers
 pub mod ScriptTooLong
