@@ -33,14 +33,14 @@ use Rattle.afs_num.specs.declared.states.Seat.{Seat}
 use Rattle.afs_model.specs.Runs.{Entry, Cell, message_at}
 use Rattle.afs_model.specs.ServerRow.{seat_of}
 use Rattle.afs_model.specs.ClientRow.{the_server, find_cached}
-use Rattle.afs_model.specs.Past.{onto, lines_of, sent_of, given_message, answered_key, running, has_begun, is_of_act, IsCall}
-use Rattle.afs_model.specs.Ideal.{last_version, HasVersion}
+use Rattle.afs_model.specs.Past.{onto, lines_of, sent_of, given_message, answered_key, running, has_begun, CalledSince, IsCall}
+use Rattle.afs_model.specs.Ideal.{last_version, HasVersion, asked}
 use Rattle.afs_model.specs.Grants.{has_fetched, fetch_reply, since}
 use Rattle.afs_model.specs.Legal.{Cause}
 use Rattle.afs_model.proofs.Basics.{UpTo, IfCall, IfReply, OfReply}
 use Rattle.afs_model.specs.Steps.{Step}
 use Rattle.afs_model.specs.Runs.{client_moves, begun_by, voided}
-use Rattle.afs_model.specs.ClientRow.{used_first, refreshed, call_message, calls_step, zero_code, shows_step, opens, begin_row, ignores, ended, answers_step, uses_step, takes_stored, takes, resends_step, counts, is_awaited, awaits, client_row}
+use Rattle.afs_model.specs.ClientRow.{guest, used_first, refreshed, call_message, calls_step, zero_code, shows_step, opens, begin_row, ignores, ended, answers_step, uses_step, takes_stored, takes, resends_step, counts, is_awaited, awaits, client_row}
 use Rattle.afs_model.specs.Legal.{code_told, GoodCode}
 use Rattle.afs_model.proofs.Basics.{both, same_fid-true, same_fid-refl, same_node-refl, client_number, up_to_both, found-cached-fid, found-first, none-first, found-refreshed, OfCall, each_at, some_of}
 use Rattle.afs_model.proofs.Facts.{View, view, last_key, LastRan, Reached, index_of, IsNewest, Overtaken, Stands, IsCurrent, HasCurrent, Answers, stored_index, ClientFacts, CallFact, CallIn, ReplyFact, ReplyIn, Holds, Goes}
@@ -152,15 +152,18 @@ record Due (c : Cell) (past : List Entry) (n p : ℕ) (act : Act) (m : Message) 
 good_code : (s : Script) (c : Cell) (past : List Entry) (n p : ℕ) (act : Act) (m : Message) (code : Code) (own : List Line) → Holds s c past → Due c past n p act m → code_told m.carried ≡ Some code.0 → given_message own (sent_of past) ≡ message_at (sent_of past) p
     → has_begun (Client n) own ≡ false → running (Client n) (own ++ lines_of past) ≡ running (Client n) (lines_of past) → GoodCode (Client n) code past own
 good_code s c past n p act m code own h d told by none still =
-    let cause = d.answers.cause in
+    let cause : Cause m code.0 act past [] = subst (λ (z : ℤ). Cause m z act past []) (some_of _ _ (sym d.answers.cause.told ∙ told)) d.answers.cause in
+    let asked_now : CalledSince (answered_key m.head) guest (asked act) past = subst (λ (k : Key). CalledSince k guest (asked act) past) (sym d.key) ((h.clients n).asked act d.running) in
     record {
       act = act;
       runs = still ∙ (h.clients n).runs act d.running;
       cause = inl (record {
         reply = m;
         by = by ∙ d.at;
-        of_act = subst (λ (k : Key). is_of_act (Client n) k past own ≡ true) (sym d.key) (rw (same_node-refl (Client n), none, (h.clients n).asked act d.running) refl);
-        cause = cause_behind m code.0 act past own (subst (λ (z : ℤ). Cause m z act past []) (some_of _ _ (sym cause.told ∙ told)) cause);
+        to = ap (λ (k : Key). k.node) d.key;
+        cause = cause_behind m code.0 act past own cause;
+        before = none;
+        called = subst (λ (u : List ℕ). CalledSince (answered_key m.head) u cause.call past) (sym cause.own_user) (subst (λ (x : FsCall). CalledSince (answered_key m.head) guest x past) (sym cause.asks) asked_now);
       });
     }
 
@@ -434,7 +437,7 @@ client_goes s c past n p m h at to =
 -- ---- no node moves
 
 void_act : (j : ℕ) (past : List Entry) → PassesAct j (record { node = None; lines = lines.Void ∷ []; sent = [] }) past
-void_act j past = record { runs = λ l. refl; asked = λ k x. x }
+void_act j past = record { runs = λ l. refl; begins = refl }
 
 pub voids : (s : Script) (c : Cell) (past : List Entry) → Holds s c past → Goes s past (voided c)
 voids s c past h =

@@ -21,13 +21,13 @@ use Rattle.afs_num.specs.declared.histories.Version.{Version}
 use Rattle.afs_num.specs.declared.states.CacheEntry.{CacheEntry}
 use Rattle.afs_model.specs.Runs.{Entry}
 use Rattle.afs_model.specs.ClientRow.{the_server}
-use Rattle.afs_model.specs.Past.{onto, lines_of, sent_of, given_message, running, has_begun, has_sent, is_sent_since, Ran}
+use Rattle.afs_model.specs.Past.{onto, lines_of, sent_of, given_message, running, has_begun, Ran}
 use Rattle.afs_model.specs.Ideal.{last_version, HasVersion, reach}
 use Rattle.afs_model.specs.Grants.{has_fetched, fetch_reply, GrantOf, since, IsWithdrawn, IsDropped}
 use Rattle.afs_model.specs.Legal.{HasChange, IsMade, Cause}
 use Rattle.afs_model.proofs.Basics.{Each, IfCall, IfReply}
 use Rattle.afs_model.proofs.Basics.{each_more, each_map, if_call}
-use Rattle.afs_model.proofs.Facts.{View, last_key, Reached, index_of, Held, IsNewest, Stands, IsCurrent, IsFetched, Fits, Answers, ClientFacts, CallIn, ReplyIn, Origin, SentFacts}
+use Rattle.afs_model.proofs.Facts.{View, Reached, index_of, Held, IsNewest, Stands, IsCurrent, IsFetched, Fits, Answers, ClientFacts, CallIn, ReplyIn, Origin, SentFacts}
 
 -- ---- what an entry leaves as it was, for client j and file f
 
@@ -42,7 +42,7 @@ pub record PassesFile (j : ℕ) (f : Fid) (e : Entry) (past : List Entry) : Type
 
 pub record PassesAct (j : ℕ) (e : Entry) (past : List Entry) : Type 0 where
   pub runs : (o : List Line) → running (Client j) (onto o e.lines) ≡ running (Client j) o
-  pub asked : (k : Key) → is_sent_since (Client j) k past ≡ true → is_sent_since (Client j) k (e ∷ past) ≡ true
+  pub begins : has_begun (Client j) e.lines ≡ false
 
 abbrev pub PassesReach : ℕ → Fid → Entry → List Entry → Type 0
 PassesReach j f e past = (i : ℕ) → Reached (Client j) f i past → Reached (Client j) f i (e ∷ past)
@@ -109,7 +109,7 @@ made_onto : (k : Key) (vs : List Version) (ls o : List Line) → IsMade k vs o �
 made_onto k [] ls o h = tt
 made_onto k (v ∷ vs) ls o h = change_onto k ls o h
 
-made_behind : (k : Key) (vs : List Version) (ls o : List Line) → IsMade k vs o → IsMade k vs (ls ++ o)
+pub made_behind : (k : Key) (vs : List Version) (ls o : List Line) → IsMade k vs o → IsMade k vs (ls ++ o)
 made_behind k [] ls o h = tt
 made_behind k (v ∷ vs) ls o h = change_behind k ls o h
 
@@ -121,14 +121,14 @@ cause_over m code act e past h = record {
   user = h.user;
   call = h.call;
   carries = h.carries;
-  called = inr h.called;
+  own_user = h.own_user;
   asks = h.asks;
   gives = h.gives;
   made = made_onto _ _ e.lines (lines_of past) h.made;
 }
 
 -- and behind an entry's own lines
-pub cause_behind : (m : Message) (code : ℤ) (act : Act) (past : List Entry) (own : List Line) → Cause m code act past [] → Cause m code act past own
+abbrev pub cause_behind : (m : Message) (code : ℤ) (act : Act) (past : List Entry) (own : List Line) → Cause m code act past [] → Cause m code act past own
 cause_behind m code act past own h = record {
   is_reply = h.is_reply;
   told = h.told;
@@ -136,7 +136,7 @@ cause_behind m code act past own h = record {
   user = h.user;
   call = h.call;
   carries = h.carries;
-  called = h.called;
+  own_user = h.own_user;
   asks = h.asks;
   gives = h.gives;
   made = made_behind _ _ own (lines_of past) h.made;
@@ -217,7 +217,7 @@ client_over j v e past p r n q l h = record {
   answer = λ act m x ran y. answers_over j act m e past (λ f. (p f).grant) r n (h.answer act m x ran y);
   current = λ f u found lasts. current_over j f u v v e past (p f) (stands_over j f u.index v e past (r f) (n f)) (h.current f u found lasts);
   runs = λ act x. q.runs (lines_of past) ∙ h.runs act x;
-  asked = λ act x. q.asked (last_key j v) (h.asked act x);
+  asked = λ act x. inr (q.begins, h.asked act x);
   reached = λ f. reached_more (Client j) f (index_of (last_version f (lines_of past))) (index_of (last_version f (lines_of (e ∷ past)))) (e ∷ past) (l f) (r f (index_of (last_version f (lines_of past))) (h.reached f));
 }
 
@@ -247,12 +247,3 @@ more_sent sent v w e past h c r n = record {
   origins = each_more (IfCall (Origin (e ∷ past))) sent e.sent (older_origins sent e past h.origins) n.origins;
   told = ap (λ (ms : List Message). ms ++ e.sent) h.told;
 }
-
-kept_true : (a b x : Bool) → b ≡ false → x ≡ true → cond a true (cond b false x) ≡ true
-kept_true true b x e f = refl
-kept_true false true x e f = absurd cc
-kept_true false false x e f = f
-
--- a key of the act is one still where none began
-pub asked_over : (j : ℕ) (k : Key) (e : Entry) (past : List Entry) → has_begun (Client j) e.lines ≡ false → is_sent_since (Client j) k past ≡ true → is_sent_since (Client j) k (e ∷ past) ≡ true
-asked_over j k e past b x = kept_true (has_sent k e.sent) (has_begun (Client j) e.lines) (is_sent_since (Client j) k past) b x

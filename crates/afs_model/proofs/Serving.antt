@@ -30,7 +30,7 @@ use Rattle.afs_num.specs.declared.states.StoredFile.{StoredFile}
 use Rattle.afs_model.specs.Runs.{Entry, Cell, message_at}
 use Rattle.afs_model.specs.ServerRow.{seat_of, find_file, version_of}
 use Rattle.afs_model.specs.ClientRow.{the_server, find_cached}
-use Rattle.afs_model.specs.Past.{onto, lines_of, sent_of, given_message, called_key, HasCode, is_of_act, Called, IsCallUnder, Ran}
+use Rattle.afs_model.specs.Past.{onto, lines_of, sent_of, given_message, called_key, HasCode, is_of_act, IsCallUnder, Ran}
 use Rattle.afs_model.specs.Ideal.{last_version, HasVersion, Accepts, asked, op, reach}
 use Rattle.afs_model.specs.Legal.{code_told, IsMade, Cause}
 use Rattle.afs_model.specs.Grants.{IsWithdrawn}
@@ -40,7 +40,7 @@ use Rattle.afs_model.specs.ServerRow.{Standing, is_older, is_last, is_newer, sta
 use Rattle.afs_model.specs.Ideal.{is_number}
 use Rattle.afs_model.proofs.Basics.{both, same_fid-true, same_fid-refl, apart, same_node-true, client_number, up_to_below, below_up_to, below_not, up_to_same, newer_above, not_newer, LastSeat, last_seat, own_seat, at_seat, found-fid, found-with_file, OfCall, each_map, each_at, if_call, if_reply, raised_up_to, some_of}
 use Rattle.afs_model.proofs.Facts.{View, view_of, view, LastRan, Reached, index_of, Stands, IsCurrent, HasCurrent, Fits, Answers, IsReply, KeptReply, ClientFacts, CallFact, CallIn, ReplyFact, ReplyIn, Origin, HasLast, AreHome, AreNew, AreUnheard, HasTop, stored_index, Holds, Goes}
-use Rattle.afs_model.proofs.Passing.{PassesFile, PassesAct, PassesReach, StaysNewest, stays, current_over, reached_more, client_over, client_still, News, more_sent, asked_over}
+use Rattle.afs_model.proofs.Passing.{PassesFile, PassesAct, PassesReach, StaysNewest, stays, current_over, reached_more, client_over, client_still, News, more_sent}
 
 -- ---- a message that runs nothing
 
@@ -62,7 +62,7 @@ pub told_reach : (j p : ℕ) (f : Fid) (o : Option Node) (ms : List Message) (pa
 told_reach j p f o ms past i h = record { made = h.made; seen = h.seen }
 
 pub told_act : (j p : ℕ) (o : Option Node) (ms : List Message) (past : List Entry) → PassesAct j (record { node = o; lines = lines.Given p ∷ []; sent = ms }) past
-told_act j p o ms past = record { runs = λ l. refl; asked = λ k x. asked_over j k (record { node = o; lines = lines.Given p ∷ []; sent = ms }) past refl x }
+told_act j p o ms past = record { runs = λ l. refl; begins = refl }
 
 quiet : (s : Script) (c : Cell) (past : List Entry) (p : ℕ) (m : Message) (ms : List Message) → Holds s c past → message_at c.sent p ≡ Some m → Dull c.server.seats c.server.boot m
     → ((past' : List Entry) → News ms (view c) past') → Goes s past (server_moves c (told c.server p ms))
@@ -200,10 +200,6 @@ act_again (Close f contents) = refl
 pub same_act : (a b : Act) → asked a ≡ asked b → a ≡ b
 same_act a b e = sym (act_again a) ∙ (ap act_of e ∙ act_again b)
 
--- the call was sent while its act ran
-own_called : (c : Cell) (past : List Entry) (p n : ℕ) (h : Head) (user : List ℕ) (act : Act) → Now c past p n h user act → Called (called_key (client_head n h)) user (asked act) act past
-own_called c past p n h user act w = subst (λ (a : Act). Called (called_key (client_head n h)) user (asked act) a past) (sym (same_act act w.origin.act w.origin.own_call)) w.origin.called
-
 -- the reply has the code of the ideal operation
 cause_now : (s : Script) (c : Cell) (past : List Entry) (p n : ℕ) (h : Head) (user : List ℕ) (act : Act) (x : Carried) (code : ℤ) (e : Entry) → Holds s c past → Now c past p n h user act → given_message e.lines (sent_of past) ≡ message_at (sent_of past) p → e.node ≡ Some the_server
     → HasCode x → code_told x ≡ Some code → (op user (asked act) (lines_of past)).code ≡ code → IsMade (called_key (client_head n h)) (op user (asked act) (lines_of past)).versions (lines_of (e ∷ past))
@@ -215,7 +211,7 @@ cause_now s c past p n h user act x code e H w is at has told gives made = recor
   user = user;
   call = asked act;
   carries = refl;
-  called = inr (own_called c past p n h user act w);
+  own_user = w.origin.own_user;
   asks = refl;
   gives = gives;
   made = made;
@@ -240,7 +236,7 @@ caller_after s c past p n h user act r e H w q k a cur reached =
           subst (λ (z : Act). Answers n z m (e ∷ past)) (same_act act b own) (subst (λ (z : Message). Answers n act z (e ∷ past)) (some_of _ _ reply) a);
       current = cur;
       runs = λ b x. q.runs (lines_of past) ∙ d.runs b x;
-      asked = λ b x. q.asked _ (d.asked b x);
+      asked = λ b x. inr (q.begins, d.asked b x);
       reached = reached;
     }
 
@@ -369,7 +365,7 @@ grants_reach : (j p : ℕ) (server c' : Node) (g : Fid) (i x : ℕ) (o : Option 
 grants_reach j p server c' g i x o ms past f k h = record { made = h.made; seen = h.seen }
 
 grants_act : (j p : ℕ) (server c' : Node) (g : Fid) (i x : ℕ) (o : Option Node) (ms : List Message) (past : List Entry) → PassesAct j (record { node = o; lines = lines.Given p ∷ lines.Grant server c' g i x ∷ []; sent = ms }) past
-grants_act j p server c' g i x o ms past = record { runs = λ l. refl; asked = λ k y. asked_over j k (record { node = o; lines = lines.Given p ∷ lines.Grant server c' g i x ∷ []; sent = ms }) past refl y }
+grants_act j p server c' g i x o ms past = record { runs = λ l. refl; begins = refl }
 
 reached_at : (s : Script) (c : Cell) (past : List Entry) (j : ℕ) (f : Fid) (v : Version) → Holds s c past → last_version f (lines_of past) ≡ Some v → Reached (Client j) f v.index past
 reached_at s c past j f v H e = subst (λ (o : Option Version). Reached (Client j) f (index_of o) past) e ((H.clients j).reached f)
@@ -442,13 +438,13 @@ saves_file : (j p : ℕ) (k : Key) (w : Version) (r : Message) (past : List Entr
 saves_file j p k w r past f = record { grant = record { version = λ i b l s. inr s; dropped = λ s l d. d; withdrawn = λ s l x. inr x }; fetched = refl }
 
 saves_act : (j p : ℕ) (k : Key) (w : Version) (r : Message) (past : List Entry) → PassesAct j (saved_entry p k w r) past
-saves_act j p k w r past = record { runs = λ l. refl; asked = λ l y. asked_over j l (saved_entry p k w r) past refl y }
+saves_act j p k w r past = record { runs = λ l. refl; begins = refl }
 
 -- the version is no higher than this index wherever it counts
-saves_reach : (j p : ℕ) (k : Key) (w : Version) (r : Message) (past : List Entry) (f : Fid) (i : ℕ) → (is_of_act (Client j) k past [] ≡ true → same_fid w.fid f ≡ true → w.index ≤ i) → Reached (Client j) f i past → Reached (Client j) f i (saved_entry p k w r ∷ past)
+saves_reach : (j p : ℕ) (k : Key) (w : Version) (r : Message) (past : List Entry) (f : Fid) (i : ℕ) → (is_of_act (Client j) k past ≡ true → same_fid w.fid f ≡ true → w.index ≤ i) → Reached (Client j) f i past → Reached (Client j) f i (saved_entry p k w r ∷ past)
 saves_reach j p k w r past f i le h = record {
-  made = raised_up_to (is_of_act (Client j) k past [] && same_fid w.fid f) w.index (reach (Client j) f past).made i
-      (λ t. let q = both (is_of_act (Client j) k past []) (same_fid w.fid f) t in le q.0 q.1) h.made;
+  made = raised_up_to (is_of_act (Client j) k past && same_fid w.fid f) w.index (reach (Client j) f past).made i
+      (λ t. let q = both (is_of_act (Client j) k past) (same_fid w.fid f) t in le q.0 q.1) h.made;
   seen = h.seen;
 }
 

@@ -239,7 +239,7 @@ changed_later = (
                 cause = inl (record {
                   reply = reply 1 1 133 (stored 2 (codes "def"));
                   by = refl;
-                  of_act = refl;
+                  to = refl;
                   cause = record {
                     is_reply = (refl, tt);
                     told = refl;
@@ -260,11 +260,13 @@ changed_later = (
                     user = codes "guest";
                     call = store file (codes "def");
                     carries = refl;
-                    called = inr (inr (inl (refl, (inl (refl, refl), refl))));
+                    own_user = refl;
                     asks = refl;
                     gives = refl;
                     made = inl refl;
                   };
+                  before = refl;
+                  called = inr (refl, inr (refl, inl (refl, inl (refl, refl))));
                 });
               },
             ),

@@ -22,7 +22,7 @@ use Rattle.afs_num.specs.declared.histories.Line.TheVariants as lines
 use Rattle.afs_num.specs.declared.histories.ReadSource.TheVariants.{Cached, Fetched}
 use Rattle.afs_num.specs.declared.histories.Version.{Version}
 use Rattle.afs_model.specs.Runs.{Entry}
-use Rattle.afs_model.specs.Past.{onto, lines_on, lines_of, sent_of, given_message, called_key, answered_key, IsCall, IsReply, is_of_act, Called, Ran}
+use Rattle.afs_model.specs.Past.{onto, lines_on, lines_of, sent_of, given_message, called_key, answered_key, IsCall, IsReply, CalledSince, Ran}
 use Rattle.afs_model.specs.Ideal.{last_version, set_up, asked, Outcome, fetched_from, stored_on, op}
 use Rattle.afs_model.specs.Grants.{GrantOf, since, change_below, IsByOther, IsWithdrawn}
 use Rattle.afs_model.specs.Legal.{IsMade, Cause, IsCaused, IsDone, AreAllCached, Legal}
@@ -402,11 +402,10 @@ by_reply c act code past own none (inl x) = x
 by_reply c (Open f) code past own none (inr x) = absurd (none x.1.0)
 by_reply c (Close f contents) code past own none (inr x) = absurd x
 
--- the reply is this message, whose key is not that of a call of the act
-not_of_act : (c : Node) (act : Act) (code : ℤ) (past : List Entry) (own : List Line) (m : Message) → given_message own (sent_of past) ≡ Some m → is_of_act c (answered_key m.head) past own ≡ false → IsCaused c act code past own → ⊥
-not_of_act c act code past own m given other x =
-    let one : m ≡ x.reply = some_of m x.reply (sym given ∙ x.by) in
-    yes_no (is_of_act c (answered_key x.reply.head) past own) x.of_act (subst (λ (r : Message). is_of_act c (answered_key r.head) past own ≡ false) one other)
+-- the reply is this message, and no call of its key was sent since the act began
+not_since : (c : Node) (act : Act) (code : ℤ) (past : List Entry) (own : List Line) (m : Message) → given_message own (sent_of past) ≡ Some m → ((user : List ℕ) (x : FsCall) → CalledSince (answered_key m.head) user x past → ⊥) → IsCaused c act code past own → ⊥
+not_since c act code past own m given none x =
+    none x.cause.user x.cause.call (subst (λ (r : Message). CalledSince (answered_key r.head) x.cause.user x.cause.call past) (sym (some_of m x.reply (sym given ∙ x.by))) x.called)
 
 -- an act that was answered is answered again, by the same reply
 answered_twice : Legal (asks_close 1 1 (codes "def") ∷ changes 1 1 1 2 (codes "def") ∷ answers 1 2 0 ∷ answers 1 2 0 ∷ []) script → ⊥
@@ -416,22 +415,27 @@ answered_twice g = let none = g.1.1.1.0.1.0.1.runs in absurd cc
 abbrev open_again : List Entry
 open_again = asks_open 1 2 ∷ shows 1 2 1 (codes "abc") ∷ grants 1 1 1 1 (codes "abc") ∷ asks_open 1 1 ∷ set_up script ∷ []
 
+not_again : (user : List ℕ) (x : FsCall) → CalledSince (key 1 1) user x open_again → ⊥
+not_again user x (inl y) = elim y.1 [ inl z ↦ apart_keys (key 1 2) (key 1 1) refl z.0 | inr z ↦ z ]
+not_again user x (inr y) = let begun = y.0 in absurd cc
+
 earlier_reply : Legal (asks_open 1 1 ∷ grants 1 1 1 1 (codes "abc") ∷ shows 1 2 1 (codes "abc") ∷ asks_open 1 2 ∷ answers 1 2 0 ∷ []) script → ⊥
 earlier_reply g = let a = g.1.1.1.1.0.1.0.1 in
-    not_of_act (Client 1) a.act (pos 0) open_again (lines.Given 2 ∷ []) (reply 1 1 130 (fetched 1 (codes "abc"))) refl refl (by_reply (Client 1) a.act (pos 0) open_again (lines.Given 2 ∷ []) (λ x. x) a.cause)
+    not_since (Client 1) a.act (pos 0) open_again (lines.Given 2 ∷ []) (reply 1 1 130 (fetched 1 (codes "abc"))) refl not_again (by_reply (Client 1) a.act (pos 0) open_again (lines.Given 2 ∷ []) (λ x. x) a.cause)
 
 -- the same, where the next act begins in that very entry
 reply_before : Legal (asks_open 1 1 ∷ grants 1 1 1 1 (codes "abc") ∷ shows 1 2 1 (codes "abc") ∷ client_entry 1 (lines.Begin (Client 1) (Open file) ∷ lines.Given 2 ∷ answer 1 0 ∷ []) [] ∷ []) script → ⊥
 reply_before g = let a = g.1.1.1.0.1.1.0.1 in
     let past : List Entry = shows 1 2 1 (codes "abc") ∷ grants 1 1 1 1 (codes "abc") ∷ asks_open 1 1 ∷ set_up script ∷ [] in
-    let own : List Line = lines.Given 2 ∷ lines.Begin (Client 1) (Open file) ∷ [] in
-    not_of_act (Client 1) a.act (pos 0) past own (reply 1 1 130 (fetched 1 (codes "abc"))) refl refl (by_reply (Client 1) a.act (pos 0) past own (λ x. x) a.cause)
+    let begun = (by_reply (Client 1) a.act (pos 0) past (lines.Given 2 ∷ lines.Begin (Client 1) (Open file) ∷ []) (λ x. x) a.cause).before in
+    absurd cc
 
 -- the reply to a call of client 2 is the answer to an act of client 1, which asks the same
 others_reply : Legal (asks_open 1 1 ∷ asks_open 2 1 ∷ grants 2 1 2 1 (codes "abc") ∷ answers 1 3 0 ∷ []) script → ⊥
 others_reply g = let a = g.1.1.1.0.1.0.1 in
     let past : List Entry = grants 2 1 2 1 (codes "abc") ∷ asks_open 2 1 ∷ asks_open 1 1 ∷ set_up script ∷ [] in
-    not_of_act (Client 1) a.act (pos 0) past (lines.Given 3 ∷ []) (reply 2 1 130 (fetched 1 (codes "abc"))) refl refl (by_reply (Client 1) a.act (pos 0) past (lines.Given 3 ∷ []) (λ x. x) a.cause)
+    let x = by_reply (Client 1) a.act (pos 0) past (lines.Given 3 ∷ []) (λ y. y) a.cause in
+    apart_nodes (Client 2) (Client 1) refl (ap (λ (m : Message). m.head.to) (some_of (reply 2 1 130 (fetched 1 (codes "abc"))) x.reply x.by) ∙ x.to)
 
 -- the reply to a call that another node sent in the client's name
 abbrev begins_alone : Entry
@@ -443,19 +447,15 @@ sends_in_name = server_entry [] (call 1 1 130 (fetch file) ∷ [])
 abbrev in_name : List Entry
 in_name = grants 1 1 1 1 (codes "abc") ∷ sends_in_name ∷ begins_alone ∷ set_up script ∷ []
 
-not_called : (m : Message) (user : List ℕ) (c : FsCall) (act : Act) → m ≡ reply 1 1 130 (fetched 1 (codes "abc")) → Called (answered_key m.head) user c act in_name → ⊥
-not_called m user c act e x = elim (subst (λ (r : Message). Called (answered_key r.head) user c act in_name) e x) [
-  | inl y ↦ apart_places (Server 1) (Client 1) refl y.0
-  | inr y ↦ elim y [
-    | inl z ↦ apart_places (Server 1) (Client 1) refl z.0
-    | inr z ↦ elim z [ inl u ↦ u.1.0 | inr u ↦ elim u [ inl v ↦ v.1.0 | inr v ↦ v ] ]
-  ]
-]
+not_itself : (user : List ℕ) (x : FsCall) → CalledSince (key 1 1) user x in_name → ⊥
+not_itself user x (inl y) = apart_places (Server 1) (Client 1) refl y.0
+not_itself user x (inr (n, inl y)) = apart_places (Server 1) (Client 1) refl y.0
+not_itself user x (inr (n, inr (m, inl y))) = y.1
+not_itself user x (inr (n, inr (m, inr y))) = let begun = y.0 in absurd cc
 
 sent_by_other : Legal (begins_alone ∷ sends_in_name ∷ grants 1 1 1 1 (codes "abc") ∷ answers 1 2 0 ∷ []) script → ⊥
 sent_by_other g = let a = g.1.1.1.0.1.0.1 in
-    let x = by_reply (Client 1) a.act (pos 0) in_name (lines.Given 2 ∷ []) (λ x. x) a.cause in
-    not_called x.reply x.cause.user x.cause.call a.act (sym (some_of (reply 1 1 130 (fetched 1 (codes "abc"))) x.reply x.by)) x.cause.called
+    not_since (Client 1) a.act (pos 0) in_name (lines.Given 2 ∷ []) (reply 1 1 130 (fetched 1 (codes "abc"))) refl not_itself (by_reply (Client 1) a.act (pos 0) in_name (lines.Given 2 ∷ []) (λ x. x) a.cause)
 
 -- an answer in the entry of another client
 answered_elsewhere : Legal (asks_close 1 1 (codes "def") ∷ changes 1 1 1 2 (codes "def") ∷ client_entry 2 (lines.Given 2 ∷ answer 1 0 ∷ []) [] ∷ []) script → ⊥

@@ -1,7 +1,7 @@
 -- Which histories are legal: those of which each line is good after all that stands before it.
 -- `who` is the entry's node, `past` are the entries before, the newest first, `own` the entry's own lines before, the
 -- newest first, and `next` its lines after.
-use Rattle.std.specs.Prelude.{◌≡◌, ℕ, ◌≤◌, ◌<◌, List, [], ◌∷◌, ◌++◌, true, Option, Some, None, ℤ, pos, length, ⊤, ◌⊎◌}
+use Rattle.std.specs.Prelude.{◌≡◌, ℕ, ◌≤◌, ◌<◌, List, [], ◌∷◌, ◌++◌, false, Option, Some, None, ℤ, pos, length, ⊤, ◌⊎◌}
 use Rattle.afs_num.specs.declared.types.Code.{Code}
 use Rattle.afs_num.specs.declared.types.Fid.{Fid}
 use Rattle.afs_num.specs.declared.types.Key.{Key}
@@ -20,7 +20,7 @@ use Rattle.afs_num.specs.declared.histories.ReadSource.{ReadSource}
 use Rattle.afs_num.specs.declared.histories.ReadSource.TheVariants.{Cached}
 use Rattle.afs_num.specs.declared.histories.Version.{Version}
 use Rattle.afs_model.specs.Runs.{Entry}
-use Rattle.afs_model.specs.Past.{lines_of, sent_of, given_message, answered_key, IsReply, running, is_of_act, Called, Ran}
+use Rattle.afs_model.specs.Past.{lines_of, sent_of, given_message, answered_key, IsReply, running, has_begun, Called, CalledSince, Ran}
 use Rattle.afs_model.specs.Ideal.{set_up, IsLast, HasVersion, Accepts, clock_of, user_of, asked, op, seen}
 use Rattle.afs_model.specs.Grants.{read_reply, GrantOf, since, IsWithdrawn, IsDropped}
 
@@ -98,8 +98,8 @@ abbrev pub IsMade : Key → List Version → List Line → Type 0
 IsMade k [] ls = ⊤
 IsMade k (v ∷ vs) ls = HasChange k ls
 
--- the reply has this code, and so has the ideal operation where the call ran. The call was sent by its node while the act
--- ran there, and is the one that the act asks; and where the operation makes versions, their change stands before
+-- the reply has this code, and so has the ideal operation where the call ran; the call is the one that the act asks, for
+-- its user; and where the operation makes versions, their change stands before
 pub record Cause (reply : Message) (code : ℤ) (act : Act) (past : List Entry) (own : List Line) : Type 0 where
   pub is_reply : IsReply reply
   pub told : code_told reply.carried ≡ Some code
@@ -107,17 +107,20 @@ pub record Cause (reply : Message) (code : ℤ) (act : Act) (past : List Entry) 
   pub user : List ℕ
   pub call : FsCall
   pub carries : ran.message.carried ≡ carried.Call user call
-  pub called : Called (answered_key reply.head) user call act past
+  pub own_user : user ≡ user_of reply.head.to
   pub asks : call ≡ asked act
   pub gives : (op user call (lines_of ran.older)).code ≡ code
   pub made : IsMade (answered_key reply.head) (op user call (lines_of ran.older)).versions (own ++ lines_of past)
 
--- the reply that the answer's entry was given is to a call of this very act, and is the cause of the code
+-- the reply that the answer's entry was given is the cause of the code, and its call is one of this very act: the client
+-- sent it since the act began, which was in an entry before
 pub record IsCaused (c : Node) (act : Act) (code : ℤ) (past : List Entry) (own : List Line) : Type 0 where
   pub reply : Message
   pub by : given_message own (sent_of past) ≡ Some reply
-  pub of_act : is_of_act c (answered_key reply.head) past own ≡ true
+  pub to : reply.head.to ≡ c
   pub cause : Cause reply code act past own
+  pub before : has_begun c own ≡ false
+  pub called : CalledSince (answered_key reply.head) cause.user cause.call past
 
 -- since the act began, the entry has cached reads alone
 abbrev pub AreAllCached : Node → List Line → Type 0

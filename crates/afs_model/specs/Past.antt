@@ -1,5 +1,5 @@
 -- The past of a moment: the entries before it, the newest first, and what can be looked up in them.
-use Rattle.std.specs.Prelude.{◌≡◌, ℕ, List, [], ◌∷◌, ◌++◌, Bool, true, false, not, ◌&&◌, Option, Some, None, nat_eq, if◌then◌else◌, ⊤, ◌⊎◌}
+use Rattle.std.specs.Prelude.{◌≡◌, ℕ, List, [], ◌∷◌, ◌++◌, Bool, true, false, ◌&&◌, Option, Some, None, nat_eq, if◌then◌else◌, ⊤, ◌⊎◌}
 use Rattle.afs_num.specs.Nodes.{same_node}
 use Rattle.afs_num.specs.declared.types.Half.TheVariants as halves
 use Rattle.afs_num.specs.declared.types.Head.{Head}
@@ -97,10 +97,9 @@ abbrev pub is_sent_since : Node → Key → List Entry → Bool
 is_sent_since n k [] = false
 is_sent_since n k (e ∷ past) = if has_sent k e.sent then true else (if has_begun n e.lines then false else is_sent_since n k past)
 
--- whether the key is that of a call of the act that the node began last. The lines stand behind the past; an act that
--- begins among them has sent nothing before
-abbrev pub is_of_act : Node → Key → List Entry → List Line → Bool
-is_of_act n k past ls = same_node k.node n && (not (has_begun n ls) && is_sent_since n k past)
+-- whether the key is that of a call of the act that the node began last
+abbrev pub is_of_act : Node → Key → List Entry → Bool
+is_of_act n k past = same_node k.node n && is_sent_since n k past
 
 -- this call was sent under this key, for this user
 abbrev pub Sends : Key → List ℕ → FsCall → List Message → Type 0
@@ -112,6 +111,12 @@ abbrev pub Called : Key → List ℕ → FsCall → Act → List Entry → Type 
 Called k user call act [] = ⊥
 Called k user call act (e ∷ past) =
     ((e.node ≡ Some k.node) × (Sends k user call e.sent × (running k.node (lines_of (e ∷ past)) ≡ Some act))) ⊎ Called k user call act past
+
+-- the same, by the key's node since it last began an act
+abbrev pub CalledSince : Key → List ℕ → FsCall → List Entry → Type 0
+CalledSince k user call [] = ⊥
+CalledSince k user call (e ∷ past) =
+    ((e.node ≡ Some k.node) × Sends k user call e.sent) ⊎ ((has_begun k.node e.lines ≡ false) × CalledSince k user call past)
 
 -- ---- the entry that ran a call
 
