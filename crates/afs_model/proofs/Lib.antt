@@ -9,6 +9,7 @@ pub mod Law
 pub mod KeysOnce
 pub mod Worked
 pub mod Wrong
+pub mod Alone
 pub mod ScriptLines
 pub mod ScriptNumbers
 pub mod ScriptTooLong

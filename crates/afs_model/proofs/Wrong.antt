@@ -1,4 +1,5 @@
--- The definition of a legal history, on wrong histories. Each breaks one condition, which its proof names.
+-- The definition of a legal history, on wrong histories. Each breaks one condition, which its proof names; `Alone` has
+-- that it breaks no other.
 use Rattle.std.proofs.Common.{◌≡◌, ℕ, ◌≤◌, ◌⊎◌, inl, inr, Bool, true, false, cond, nat_eq, length, List, [], ◌∷◌, ◌++◌, Option, Some, None, ℤ, pos, refl, sym, ap, subst, ◌∙◌, arith, eq-eqb, append-nil, append_assoc}
 use Rattle.std.specs.Prelude.{codes, ⊤}
 use Rattle.afs_num.specs.Nodes.{same_node}
@@ -144,7 +145,7 @@ unfolding HasNoGrant
 read_ungranted g = none_granted (Client 1) file _ g.1.1.0.1.0.1.reply (server_entry (lines.Given 1 ∷ []) (reply 1 1 130 (fetched 1 (codes "abc")) ∷ []) ∷ asks_open 1 1 ∷ set_up script ∷ []) (refl, (refl, (refl, tt))) g.1.1.0.1.0.1.grant
 
 -- a read whose call was run with a grant of another server
-abbrev grants_for_other : Entry
+abbrev pub grants_for_other : Entry
 grants_for_other = server_entry (lines.Given 1 ∷ lines.Grant (Server 2) (Client 1) file 1 7200 ∷ []) (reply 1 1 130 (fetched 1 (codes "abc")) ∷ [])
 
 granted_by_other : Legal (asks_open 1 1 ∷ grants_for_other ∷ shows 1 2 1 (codes "abc") ∷ []) script → ⊥
@@ -272,7 +273,7 @@ ran_by : (m r : Message) (past : List Entry) → Some m ≡ Some r → Ran r.hea
 ran_by m r past e h = subst (λ (x : Message). Ran x.head past) (sym (some_of m r e)) h
 
 -- a boot notice as reply
-abbrev notice : Message
+abbrev pub notice : Message
 notice = record { head = head halves.Boot (Server 1) (Client 1) 1 130; carried = carried.Notice }
 
 noticed : Legal (asks_open 1 1 ∷ server_entry (lines.Given 1 ∷ lines.Grant (Server 1) (Client 1) file 1 7200 ∷ []) (notice ∷ []) ∷ reads 1 2 1 (codes "abc") ∷ []) script → ⊥
@@ -284,7 +285,7 @@ others_reply_shown g = let r = g.1.1.1.0.1.0.1 in
     apart_nodes (Client 2) (Client 1) refl (ap (λ (m : Message). m.head.to) (some_of (reply 2 1 130 (fetched 1 (codes "abc"))) r.reply r.by) ∙ r.grant.to)
 
 -- the message that was run is no call: it has the call's header, and carries a refusal
-abbrev no_call : Message
+abbrev pub no_call : Message
 no_call = record { head = head halves.Call (Client 1) (Server 1) 1 130; carried = no_such_file }
 
 no_call_run : Legal (client_entry 1 (lines.Begin (Client 1) (Open file) ∷ []) (no_call ∷ []) ∷ grants 1 1 1 1 (codes "abc") ∷ reads 1 2 1 (codes "abc") ∷ []) script → ⊥
@@ -294,7 +295,7 @@ no_call_run g = let r = g.1.1.0.1.0.1 in
     never_ran m.head (grants 1 1 1 1 (codes "abc") ∷ client_entry 1 (lines.Begin (Client 1) (Open file) ∷ []) (no_call ∷ []) ∷ set_up script ∷ []) (λ x. x.0, (λ x. x, (λ x. x, tt))) (ran_by m r.reply _ r.by r.grant.ran)
 
 -- the call was given to another server than its receiver, and that one granted
-abbrev other_grants : Entry
+abbrev pub other_grants : Entry
 other_grants = record { node = Some (Server 2); lines = lines.Given 1 ∷ lines.Grant (Server 2) (Client 1) file 1 7200 ∷ []; sent = reply 1 1 130 (fetched 1 (codes "abc")) ∷ [] }
 
 run_elsewhere : Legal (asks_open 1 1 ∷ other_grants ∷ reads 1 2 1 (codes "abc") ∷ []) script → ⊥
@@ -304,7 +305,7 @@ run_elsewhere g = let r = g.1.1.0.1.0.1 in
     never_ran m.head (other_grants ∷ asks_open 1 1 ∷ set_up script ∷ []) (λ x. apart_places (Server 2) (Server 1) refl x.1.1.1.1, (λ x. x, (λ x. x, tt))) (ran_by m r.reply _ r.by r.grant.ran)
 
 -- the reply comes from another server than the call's receiver
-abbrev other_reply : Message
+abbrev pub other_reply : Message
 other_reply = record { head = head halves.Reply (Server 2) (Client 1) 1 130; carried = fetched 1 (codes "abc") }
 
 replied_by_other : Legal (asks_open 1 1 ∷ server_entry (lines.Given 1 ∷ lines.Grant (Server 1) (Client 1) file 1 7200 ∷ []) (other_reply ∷ []) ∷ reads 1 2 1 (codes "abc") ∷ []) script → ⊥
@@ -373,7 +374,7 @@ changed_elsewhere : Legal (asks_close 1 1 (codes "def") ∷ client_entry 1 (line
 changed_elsewhere g = apart_places (Client 1) (Server 1) refl g.1.0.1.0.0
 
 -- a store that the client sent once more when its act was answered, under a new key
-abbrev asks_again : Entry
+abbrev pub asks_again : Entry
 asks_again = client_entry 1 (lines.Given 2 ∷ []) (call 1 2 133 (store file (codes "def")) ∷ [])
 
 apart_keys : (k l : Key) → nat_eq k.number l.number ≡ false → k ≡ l → ⊥
@@ -438,10 +439,10 @@ others_reply g = let a = g.1.1.1.0.1.0.1 in
     apart_nodes (Client 2) (Client 1) refl (ap (λ (m : Message). m.head.to) (some_of (reply 2 1 130 (fetched 1 (codes "abc"))) x.reply x.by) ∙ x.to)
 
 -- the reply to a call that another node sent in the client's name
-abbrev begins_alone : Entry
+abbrev pub begins_alone : Entry
 begins_alone = client_entry 1 (lines.Begin (Client 1) (Open file) ∷ []) []
 
-abbrev sends_in_name : Entry
+abbrev pub sends_in_name : Entry
 sends_in_name = server_entry [] (call 1 1 130 (fetch file) ∷ [])
 
 abbrev in_name : List Entry
@@ -496,7 +497,7 @@ other_code : (o : Outcome) (r : Message) (n : ℤ) (act : Act) (past : List Entr
 other_code o r n act past own h x = sym x.gives ∙ ap (λ (y : Outcome). y.code) (caused_by o r n act past own h x)
 
 -- 102 for a file that is there
-abbrev refuses : Entry
+abbrev pub refuses : Entry
 refuses = server_entry (lines.Given 1 ∷ []) (reply 1 1 130 no_such_file ∷ [])
 
 there_refused : Legal (asks_open 1 1 ∷ refuses ∷ answers 1 2 102 ∷ []) script → ⊥
@@ -508,10 +509,10 @@ there_refused g = let a = g.1.1.0.1.0.1 in
     apart_codes 102 0 refl (other_code o x.reply (pos 102) a.act past (lines.Given 2 ∷ []) (outcome_here o (call 1 1 130 (fetch file)) _ _ refl refl, (none_here o _ _ refl, (none_here o _ _ refl, tt))) x.cause)
 
 -- 0 for one that is not
-abbrev asks_missing_close : Entry
+abbrev pub asks_missing_close : Entry
 asks_missing_close = client_entry 1 (lines.Begin (Client 1) (Close missing (codes "def")) ∷ []) (call 1 1 133 (store missing (codes "def")) ∷ [])
 
-abbrev acknowledges : Entry
+abbrev pub acknowledges : Entry
 acknowledges = server_entry (lines.Given 1 ∷ []) (reply 1 1 133 (stored 2 (codes "def")) ∷ [])
 
 missing_stored : Legal (asks_missing_close ∷ acknowledges ∷ answers 1 2 0 ∷ []) script → ⊥
