@@ -48,7 +48,7 @@ pub record GrantOf (c : Node) (f : Fid) (expiry : ℕ) (reply : Message) (past :
 abbrev pub since : (c : Node) (f : Fid) (expiry : ℕ) (reply : Message) (past : List Entry) → GrantOf c f expiry reply past → List Line
 since c f expiry reply past grant = lines_on (onto [] grant.after) grant.ran.newer
 
--- ---- what became of it, by the lines since then
+-- ---- what became of it, by the lines since then: `newer` are these, the newest first
 
 -- the change under which the line above these lines stands
 abbrev pub change_below : List Line → Option (Node × Key)

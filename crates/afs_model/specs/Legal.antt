@@ -133,7 +133,7 @@ HasRead c f [] = ⊥
 HasRead c f (lines.Read m g index source body ∷ own) = ((m ≡ c) × (g ≡ f)) ⊎ HasRead c f own
 HasRead c f (l ∷ own) = HasRead c f own
 
--- the act was done from the cache
+-- the act was done from the cache, by this entry's lines; its messages aren't looked at
 abbrev pub IsDone : Node → Act → ℤ → List Line → Type 0
 IsDone c (Open fid) code own = (code ≡ pos 0) × (AreAllCached c own × HasRead c fid own)
 IsDone c (Close fid contents) code own = ⊥
@@ -146,7 +146,8 @@ pub record GoodCode (c : Node) (code : Code) (past : List Entry) (own : List Lin
 
 -- ---- histories
 
--- a read or an answer stands in an entry of its client, a change in one of its server
+-- a read or an answer stands in an entry of its client, a change in one of its server; lines that begin an act, give a
+-- message, grant, or tell of nothing are always good
 abbrev pub IsGood : Script → Option Node → Line → List Entry → List Line → List Line → Type 0
 IsGood s who (lines.Read c f index source body) past own next = (who ≡ Some c) × GoodRead c f index source body past own
 IsGood s who (lines.Change server k count) past own next = (who ≡ Some server) × GoodChange s server k count past own next
