@@ -26,25 +26,25 @@ use Rattle.afs_num.specs.declared.scripts.Script.{Script}
 use Rattle.afs_num.specs.declared.histories.Body.TheVariants as bodies
 use Rattle.afs_num.specs.declared.histories.Line.{Line}
 use Rattle.afs_num.specs.declared.histories.Line.TheVariants as lines
-use Rattle.afs_num.specs.declared.histories.ReadSource.TheVariants.{Cached, Fetched}
+use Rattle.afs_num.specs.declared.histories.ReadSource.TheVariants.{Fetched}
 use Rattle.afs_num.specs.declared.states.CacheEntry.{CacheEntry}
 use Rattle.afs_num.specs.declared.states.ClientState.{ClientState}
 use Rattle.afs_num.specs.declared.states.Seat.{Seat}
 use Rattle.afs_model.specs.Runs.{Entry, Cell, message_at}
 use Rattle.afs_model.specs.ServerRow.{seat_of}
 use Rattle.afs_model.specs.ClientRow.{the_server, find_cached}
-use Rattle.afs_model.specs.Past.{onto, lines_of, sent_of, given_message, answered_key, begun, is_of_act, IsCall}
-use Rattle.afs_model.specs.Ideal.{last_version, HasVersion}
+use Rattle.afs_model.specs.Past.{onto, lines_of, sent_of, given_message, answered_key, running, has_begun, CalledSince, IsCall}
+use Rattle.afs_model.specs.Ideal.{last_version, HasVersion, asked}
 use Rattle.afs_model.specs.Grants.{has_fetched, fetch_reply, since}
 use Rattle.afs_model.specs.Legal.{Cause}
 use Rattle.afs_model.proofs.Basics.{UpTo, IfCall, IfReply, OfReply}
 use Rattle.afs_model.specs.Steps.{Step}
 use Rattle.afs_model.specs.Runs.{client_moves, begun_by, voided}
-use Rattle.afs_model.specs.ClientRow.{used_first, refreshed, call_message, calls_step, zero_code, shows_step, opens, begin_row, ignores, ended, answers_step, uses_step, takes_stored, takes, resends_step, counts, is_awaited, awaits, client_row}
-use Rattle.afs_model.specs.Legal.{code_told, GoodCode, IsDone}
+use Rattle.afs_model.specs.ClientRow.{guest, used_first, refreshed, call_message, calls_step, zero_code, shows_step, opens, begin_row, ignores, ended, answers_step, uses_step, takes_stored, takes, resends_step, counts, is_awaited, awaits, client_row}
+use Rattle.afs_model.specs.Legal.{code_told, GoodCode}
 use Rattle.afs_model.proofs.Basics.{both, same_fid-true, same_fid-refl, same_node-refl, client_number, up_to_both, found-cached-fid, found-first, none-first, found-refreshed, OfCall, each_at, some_of}
 use Rattle.afs_model.proofs.Facts.{View, view, last_key, LastRan, Reached, index_of, IsNewest, Overtaken, Stands, IsCurrent, HasCurrent, Answers, stored_index, ClientFacts, CallFact, CallIn, ReplyFact, ReplyIn, Holds, Goes}
-use Rattle.afs_model.proofs.Passing.{PassesFile, PassesAct, PassesReach, StaysNewest, stays, held_over, fetch_reply_by, current_over, client_still, older_origins}
+use Rattle.afs_model.proofs.Passing.{PassesFile, PassesAct, PassesReach, StaysNewest, stays, held_over, fetch_reply_by, current_over, client_still, older_origins, cause_behind}
 use Rattle.afs_model.proofs.Serving.{told_file, told_reach, told_act, not_ran, reached_still, same_target}
 use Rattle.afs_model.proofs.Asking.{step_entry, view_after, moves, nothing_new, Heard, told_passes, shown_lines, shown_file, shown_reach, shown_passes, answered_lines, answered_file, answered_reach, answered_passes, used_lines, used_grant, used_file, used_reach, used_passes, quiet, safe_cache, own_call, asks, own_begun, idle_asks}
 
@@ -71,9 +71,6 @@ idle_newest : (j : ℕ) (f : Fid) (i : ℕ) (server : Node) (newer : List Line) 
 idle_newest j f i server newer v past none (inl a) = a.newest
 idle_newest j f i server newer v past none (inr o) = absurd (not_waiting j f server newer v past none o)
 
-done_open : (n : ℕ) (f : Fid) (i : ℕ) (b : List ℕ) (o : Option Act) → o ≡ Some (Open f) → IsDone (Client n) o (lines.Read (Client n) f i Cached (bodies.File b) ∷ lines.Begin (Client n) (Open f) ∷ [])
-done_open n f i b o e = subst (λ (x : Option Act). IsDone (Client n) x (lines.Read (Client n) f i Cached (bodies.File b) ∷ lines.Begin (Client n) (Open f) ∷ [])) (sym e) (refl, inl (refl, refl))
-
 shown_now : (s : Script) (c : Cell) (past : List Entry) (n : ℕ) (f : Fid) (u : CacheEntry) → Holds s c past → (c.clients n).running ≡ None → find_cached f (c.clients n).cache ≡ Some u → nat_lt c.clock u.expiry ≡ true
     → Goes s past (client_moves c n (shows_step (Client n) (c.clients n) f u))
 shown_now s c past n f u h none found lasts =
@@ -89,18 +86,21 @@ shown_now s c past n f u h none found lasts =
     moves s c past n st h (
       tt,
       (
-        record {
-          whole = cur.held.whole;
-          not_older = old.seen;
-          reply = cur.reply;
-          by = cur.by;
-          expiry = u.expiry;
-          grant = cur.held.grant;
-          lasts = subst (λ (t : ℕ). t < u.expiry) (sym h.clock) lt;
-          kept = cur.held.kept;
-          newest = idle_newest n f u.index _ _ (view c n) past none cur.state;
-        },
-        (inr (refl, done_open n f u.index u.contents _ (own_begun n a (begun (Client n) (lines_of past)))), tt),
+        (
+          refl,
+          record {
+            whole = cur.held.whole;
+            not_older = old.seen;
+            reply = cur.reply;
+            by = cur.by;
+            expiry = u.expiry;
+            grant = cur.held.grant;
+            lasts = subst (λ (t : ℕ). t < u.expiry) (sym h.clock) lt;
+            kept = cur.held.kept;
+            newest = idle_newest n f u.index _ _ (view c n) past none cur.state;
+          },
+        ),
+        ((refl, record { act = a; runs = own_begun n a (running (Client n) (lines_of past)); cause = inr (refl, (refl, inl (refl, refl))) }), tt),
       ),
     )
     (shown_passes s n u.index a f u.contents past)
@@ -116,7 +116,7 @@ shown_now s c past n f u h none found lasts =
             newest = idle_newest n g w.index server newer (view c n) past none stands;
             before = λ y is ran. absurd cc;
           })) (d.current g w before lasts');
-      begun = λ b y. absurd cc;
+      runs = λ b y. absurd cc;
       asked = λ b y. absurd cc;
       reached = λ g. shown_reach n n u.index a f g u.contents past (index_of (last_version g (lines_of past))) (λ t y. subst (λ (x : Fid). u.index ≤ index_of (last_version x (lines_of past))) (same_fid-true f g y) (h.top f u.index (bodies.File u.contents) cur.held.whole)) (d.reached g);
     })
@@ -149,18 +149,23 @@ record Due (c : Cell) (past : List Entry) (n p : ℕ) (act : Act) (m : Message) 
   at : message_at (sent_of past) p ≡ Some m
 
 -- its act is answered with its code
-good_code : (s : Script) (c : Cell) (past : List Entry) (n p : ℕ) (act : Act) (m : Message) (code : Code) (own : List Line) → Holds s c past → Due c past n p act m → code_told m.carried ≡ Some code.0 → given_message own (sent_of past) ≡ message_at (sent_of past) p → begun (Client n) (own ++ lines_of past) ≡ begun (Client n) (lines_of past)
-    → GoodCode (Client n) code past own
-good_code s c past n p act m code own h d told by still =
-    let cause = d.answers.cause in
-    inl (record {
-      reply = m;
-      by = by ∙ d.at;
-      of_act = subst (λ (k : Key). is_of_act (Client n) k past ≡ true) (sym d.key) ((h.clients n).asked act d.running);
+good_code : (s : Script) (c : Cell) (past : List Entry) (n p : ℕ) (act : Act) (m : Message) (code : Code) (own : List Line) → Holds s c past → Due c past n p act m → code_told m.carried ≡ Some code.0 → given_message own (sent_of past) ≡ message_at (sent_of past) p
+    → has_begun (Client n) own ≡ false → running (Client n) (own ++ lines_of past) ≡ running (Client n) (lines_of past) → GoodCode (Client n) code past own
+good_code s c past n p act m code own h d told by none still =
+    let cause : Cause m code.0 act past [] = subst (λ (z : ℤ). Cause m z act past []) (some_of _ _ (sym d.answers.cause.told ∙ told)) d.answers.cause in
+    let asked_now : CalledSince (answered_key m.head) guest (asked act) past = subst (λ (k : Key). CalledSince k guest (asked act) past) (sym d.key) ((h.clients n).asked act d.running) in
+    record {
       act = act;
-      running = still ∙ (h.clients n).begun act d.running;
-      cause = subst (λ (z : ℤ). Cause m z act past) (some_of _ _ (sym cause.told ∙ told)) cause;
-    })
+      runs = still ∙ (h.clients n).runs act d.running;
+      cause = inl (record {
+        reply = m;
+        by = by ∙ d.at;
+        to = ap (λ (k : Key). k.node) d.key;
+        cause = cause_behind m code.0 act past own cause;
+        before = none;
+        called = subst (λ (u : List ℕ). CalledSince (answered_key m.head) u cause.call past) (sym cause.own_user) (subst (λ (x : FsCall). CalledSince (answered_key m.head) guest x past) (sym cause.asks) asked_now);
+      });
+    }
 
 -- an act that ended leaves no call that may run
 ended_calls : (s : Script) (c : Cell) (past : List Entry) (n p : ℕ) (act : Act) (m : Message) (cache : List CacheEntry) → Due c past n p act m → (head : Head) (call : FsCall) → CallFact (view c n) head call → CallFact (view_after c n (ended (c.clients n) cache)) head call
@@ -174,7 +179,7 @@ ended_facts : (s : Script) (c : Cell) (past : List Entry) (n : ℕ) (cache : Lis
     → ClientFacts n (view_after c n (ended (c.clients n) cache)) (e ∷ past)
 ended_facts s c past n cache e h cur r =
     let d = h.clients n in
-    record { behind = d.behind; kept = d.kept; answer = λ b m y ran z. absurd cc; current = cur; begun = λ b y. absurd cc; asked = λ b y. absurd cc; reached = r }
+    record { behind = d.behind; kept = d.kept; answer = λ b m y ran z. absurd cc; current = cur; runs = λ b y. absurd cc; asked = λ b y. absurd cc; reached = r }
 
 -- an entry of another file, or over an act that changed nothing
 ended_stands : (c : Cell) (past : List Entry) (n : ℕ) (cache : List CacheEntry) (e : Entry) (f : Fid) (i : ℕ) → PassesReach n f e past → StaysNewest n f e past → ((contents : List ℕ) (index : ℕ) (ran : LastRan (view c n)) (m : Message) → (c.clients n).running ≡ Some (Close f contents) → ran.seat.reply ≡ Some m → stored_index m.carried ≡ Some index → ⊥)
@@ -193,7 +198,7 @@ takes_refused s c past n p act head code h d =
     let m : Message = record { head = head; carried = carried.Refusal code } in
     let e : Entry = step_entry n (answered_lines n p code) [] in
     moves s c past n (answers_step (Client n) (c.clients n) p code) h
-    (tt, (good_code s c past n p act m code (lines.Given p ∷ []) h d refl refl refl, tt))
+    (tt, ((refl, good_code s c past n p act m code (lines.Given p ∷ []) h d refl refl refl refl), tt))
     (answered_passes s c past n p m code h d.heard)
     (ended_facts s c past n (c.clients n).cache e h
     (λ f u found lasts. current_over n f u (view c n) _ e past (answered_file n n p code past f)
@@ -225,18 +230,21 @@ takes_used s c past n p f head contents status callback sync h d lasts =
     moves s c past n (uses_step (Client n) (c.clients n) p new) h (
       tt,
       (
-        record {
-          whole = a.held.whole;
-          not_older = a.reached.seen;
-          reply = m;
-          by = d.at;
-          expiry = x;
-          grant = a.held.grant;
-          lasts = subst (λ (t : ℕ). t < x) (sym h.clock) lt;
-          kept = a.held.kept;
-          newest = a.newest;
-        },
-        (good_code s c past n p (Open f) m zero_code (lines.Read (Client n) f i Fetched (bodies.File contents) ∷ lines.Given p ∷ []) h d refl refl refl, tt),
+        (
+          refl,
+          record {
+            whole = a.held.whole;
+            not_older = a.reached.seen;
+            reply = m;
+            by = d.at;
+            expiry = x;
+            grant = a.held.grant;
+            lasts = subst (λ (t : ℕ). t < x) (sym h.clock) lt;
+            kept = a.held.kept;
+            newest = a.newest;
+          },
+        ),
+        ((refl, good_code s c past n p (Open f) m zero_code (lines.Read (Client n) f i Fetched (bodies.File contents) ∷ lines.Given p ∷ []) h d refl refl refl refl), tt),
       ),
     )
     (used_passes s c past n p i f contents m h d.heard)
@@ -264,7 +272,7 @@ fetched_goes : (s : Script) (c : Cell) (past : List Entry) (n p : ℕ) (f : Fid)
     → Goes s past (client_moves c n (cond t (uses_step (Client n) (c.clients n) p (record { fid = f; index = status.sync_counter; expiry = callback.expiration_time; contents = contents })) (calls_step (Client n) (c.clients n) (Open f) (lines.Given p))))
 fetched_goes s c past n p f head contents status callback sync true h d lasts = takes_used s c past n p f head contents status callback sync h d lasts
 fetched_goes s c past n p f head contents status callback sync false h d lasts =
-    asks s c past n (Open f) (lines.Given p) h (tt, tt) (told_passes s c past n p _ _ h d.heard) (λ g. told_file n p g (Some (Client n)) _ past) (λ g. told_reach n p g (Some (Client n)) _ past) (λ g y. not_close c past n p f g y _ d) ((h.clients n).begun (Open f) d.running)
+    asks s c past n (Open f) (lines.Given p) h (tt, tt) (told_passes s c past n p _ _ h d.heard) (λ g. told_file n p g (Some (Client n)) _ past) (λ g. told_reach n p g (Some (Client n)) _ past) (λ g y. not_close c past n p f g y _ d) ((h.clients n).runs (Open f) d.running)
 
 -- ---- an answered store
 
@@ -332,7 +340,7 @@ takes_saved s c past n p f b head status sync h d =
     let cache : List CacheEntry = map (refreshed c.clock f i b) (c.clients n).cache in
     let e : Entry = step_entry n (answered_lines n p zero_code) [] in
     moves s c past n (takes_stored (Client n) (c.clients n) c.clock p f i b) h
-    (tt, (good_code s c past n p (Close f b) m zero_code (lines.Given p ∷ []) h d refl refl refl, tt))
+    (tt, ((refl, good_code s c past n p (Close f b) m zero_code (lines.Given p ∷ []) h d refl refl refl refl), tt))
     (answered_passes s c past n p m zero_code h d.heard)
     (ended_facts s c past n cache e h
     (λ g u found lasts. stored_of (find_cached g (c.clients n).cache) s c past n p f g b m i u e cache d refl d.answers.fits (answered_file n n p zero_code past) (answered_reach n n p zero_code past) (λ k. stays n k e past (answered_file n n p zero_code past k).grant refl)
@@ -349,7 +357,7 @@ resends_goes s c past n p act m boot h d runs =
     moves s c past n (resends_step (Client n) (c.clients n) p act boot) h (tt, tt) (told_passes s c past n p m ms h d)
     (client_still n (view c n) (step_entry n (lines.Given p ∷ []) ms) past (λ f. told_file n p f (Some (Client n)) ms past) (λ f. told_reach n p f (Some (Client n)) ms past) (told_act n p (Some (Client n)) ms past) (λ f. refl) (h.clients n))
     (λ head call f. f)
-    (own_call c past n x act (lines.Given p ∷ []) runs ((h.clients n).begun act runs))
+    (own_call c past n x act (lines.Given p ∷ []) runs ((h.clients n).runs act runs))
 
 -- ---- the row, by its cases
 
@@ -429,7 +437,7 @@ client_goes s c past n p m h at to =
 -- ---- no node moves
 
 void_act : (j : ℕ) (past : List Entry) → PassesAct j (record { node = None; lines = lines.Void ∷ []; sent = [] }) past
-void_act j past = record { begun = λ l. refl; asked = λ k x. x }
+void_act j past = record { runs = λ l. refl; begins = refl }
 
 pub voids : (s : Script) (c : Cell) (past : List Entry) → Holds s c past → Goes s past (voided c)
 voids s c past h =

@@ -10,6 +10,7 @@ use Rattle.afs_num.specs.declared.types.Key.{Key}
 use Rattle.afs_num.specs.declared.types.Node.TheVariants.{Client}
 use Rattle.afs_num.specs.declared.calls.FsCall.{FsCall}
 use Rattle.afs_num.specs.declared.calls.FsCall.TheVariants as calls
+use Rattle.afs_num.specs.declared.messages.Carried.TheVariants as carried
 use Rattle.afs_num.specs.declared.messages.Message.{Message}
 use Rattle.afs_num.specs.declared.scripts.Act.{Act}
 use Rattle.afs_num.specs.declared.scripts.Act.TheVariants.{Open, Close}
@@ -25,16 +26,16 @@ use Rattle.afs_num.specs.declared.states.ClientState.{ClientState}
 use Rattle.afs_model.specs.Runs.{Entry, Cell, message_at}
 use Rattle.afs_model.specs.ServerRow.{seat_of}
 use Rattle.afs_model.specs.ClientRow.{the_server, find_cached}
-use Rattle.afs_model.specs.Past.{onto, lines_of, sent_of, given_message, begun, IsCall, IsCallUnder}
+use Rattle.afs_model.specs.Past.{onto, lines_of, sent_of, given_message, running, CalledSince, IsCall, IsCallUnder}
 use Rattle.afs_model.specs.Ideal.{last_version, HasVersion, Accepts, clock_of, asked, reach, raised}
 use Rattle.afs_model.specs.Legal.{IsNew, AreGood}
 use Rattle.afs_model.proofs.Basics.{Each, IfCall, IfReply}
 use Rattle.afs_model.specs.Steps.{Step}
 use Rattle.afs_model.specs.Runs.{put, client_moves}
-use Rattle.afs_model.specs.ClientRow.{call_of, call_head, call_message, asking, calls_step, zero_code, ignores}
-use Rattle.afs_model.proofs.Basics.{both, same_fid-true, same_node-true, same_node-refl, node_apart, client_number, same_key-refl, up_to_same, up_to_next, next_not, at_put, each_map, if_call, if_reply, raised_up_to, some_of}
+use Rattle.afs_model.specs.ClientRow.{guest, call_of, call_head, call_message, asking, calls_step, zero_code, ignores}
+use Rattle.afs_model.proofs.Basics.{both, same_fid-true, same_node-true, same_node-refl, node_apart, client_number, up_to_same, up_to_next, next_not, at_put, each_map, if_call, if_reply, raised_up_to, some_of}
 use Rattle.afs_model.proofs.Facts.{View, view_of, view, last_key, LastRan, Reached, index_of, ClientFacts, IsSafe, CallFact, CallIn, ReplyIn, Holds, Goes}
-use Rattle.afs_model.proofs.Passing.{PassesGrant, PassesFile, PassesAct, PassesReach, stays, current_over, client_still, News, more_sent, asked_over}
+use Rattle.afs_model.proofs.Passing.{PassesGrant, PassesFile, PassesAct, PassesReach, stays, current_over, client_still, News, more_sent}
 use Rattle.afs_model.proofs.Serving.{told_file, told_reach, told_act, reached_still}
 
 -- ---- what any step of client n needs
@@ -73,7 +74,7 @@ calls_moved c n x sent w h = each_map (IfCall (CallIn (view c))) (IfCall (CallIn
 replies_moved : (c : Cell) (n : ℕ) (x : ClientState) (sent : List Message) → Each (IfReply (ReplyIn (view c))) sent → Each (IfReply (ReplyIn (views_after c n x))) sent
 replies_moved c n x sent h = each_map (IfReply (ReplyIn (view c))) (IfReply (ReplyIn (views_after c n x))) (if_reply (ReplyIn (view c)) (ReplyIn (views_after c n x)) (λ m f. record { client = f.client; to = f.to; fact = f.fact })) sent h
 
-pub moves : (s : Script) (c : Cell) (past : List Entry) (n : ℕ) (st : Step ClientState) → Holds s c past → AreGood s past [] st.lines → Passes s n st.lines st.sent past
+pub moves : (s : Script) (c : Cell) (past : List Entry) (n : ℕ) (st : Step ClientState) → Holds s c past → AreGood s (Some (Client n)) past [] st.lines → Passes s n st.lines st.sent past
     → ClientFacts n (view_after c n st.state) ((client_moves c n st).entry ∷ past)
     → ((head : Head) (call : FsCall) → CallFact (view c n) head call → CallFact (view_after c n st.state) head call)
     → News st.sent (views_after c n st.state) ((client_moves c n st).entry ∷ past) → Goes s past (client_moves c n st)
@@ -125,8 +126,9 @@ told_passes s c past n p m ms h d = record {
 other_client : (n j : ℕ) → (n ≡ j → ⊥) → same_node (Client n) (Client j) ≡ false
 other_client n j ne = node_apart (Client n) (Client j) (λ q. ne (client_number n j q))
 
-begun_by_other : (n j : ℕ) (a : Act) (o : Option Act) → (n ≡ j → ⊥) → cond (same_node (Client n) (Client j)) (Some a) o ≡ o
-begun_by_other n j a o ne = rw (other_client n j ne) refl
+-- what another began, or was answered, or both
+runs_by_other : (n j : ℕ) (a o : Option Act) → (n ≡ j → ⊥) → cond (same_node (Client n) (Client j)) a o ≡ o
+runs_by_other n j a o ne = rw (other_client n j ne) refl
 
 has_not_begun : (n j : ℕ) → (n ≡ j → ⊥) → cond (same_node (Client n) (Client j)) true false ≡ false
 has_not_begun n j ne = rw (other_client n j ne) refl
@@ -145,7 +147,7 @@ begin_passes : (s : Script) (n : ℕ) (a : Act) (ms : List Message) (past : List
 begin_passes s n a ms past = record {
   file = λ j ne f. begin_file n j a ms past f;
   reach = λ j ne f. begin_reach n j a ms past f;
-  act = λ j ne. record { begun = λ l. begun_by_other n j a (begun (Client j) l) ne; asked = λ k x. asked_over j k (step_entry n (lines.Begin (Client n) a ∷ []) ms) past (has_not_begun n j ne) x };
+  act = λ j ne. record { runs = λ l. runs_by_other n j (Some a) (running (Client j) l) ne; begins = has_not_begun n j ne };
   last = λ f o. refl;
   back = λ f i b o x. x;
   new = λ k o x. x;
@@ -178,7 +180,7 @@ pub shown_passes : (s : Script) (n i : ℕ) (a : Act) (f : Fid) (b : List ℕ) (
 shown_passes s n i a f b past = record {
   file = λ j ne g. shown_file n j i a f g b past;
   reach = λ j ne g k h. shown_reach n j i a f g b past k (λ t u. absurd (not_client n j ne t)) h;
-  act = λ j ne. record { begun = λ l. begun_by_other n j a (begun (Client j) l) ne; asked = λ k x. asked_over j k (step_entry n (shown_lines n a f i b) []) past (has_not_begun n j ne) x };
+  act = λ j ne. record { runs = λ l. runs_by_other n j None _ ne ∙ runs_by_other n j (Some a) (running (Client j) l) ne; begins = has_not_begun n j ne };
   last = λ g o. refl;
   back = λ g k x o y. y;
   new = λ k o x. x;
@@ -200,7 +202,7 @@ pub answered_passes : (s : Script) (c : Cell) (past : List Entry) (n p : ℕ) (m
 answered_passes s c past n p m code h d = record {
   file = λ j ne f. answered_file n j p code past f;
   reach = λ j ne f. answered_reach n j p code past f;
-  act = λ j ne. record { begun = λ l. refl; asked = λ k x. asked_over j k (step_entry n (answered_lines n p code) []) past refl x };
+  act = λ j ne. record { runs = λ l. runs_by_other n j None (running (Client j) l) ne; begins = refl };
   last = λ f o. refl;
   back = λ f i b o x. x;
   new = λ k o x. x;
@@ -236,7 +238,7 @@ pub used_passes : (s : Script) (c : Cell) (past : List Entry) (n p i : ℕ) (f :
 used_passes s c past n p i f b m h d = record {
   file = λ j ne g. used_file n j p i f g b past (λ q x. ne q);
   reach = λ j ne g k x. used_reach n j p i f g b past k (λ t u. absurd (not_client n j ne t)) x;
-  act = λ j ne. record { begun = λ l. refl; asked = λ k x. asked_over j k (step_entry n (used_lines n p f i b) []) past refl x };
+  act = λ j ne. record { runs = λ l. runs_by_other n j None (running (Client j) l) ne; begins = refl };
   last = λ g o. refl;
   back = λ g k x o y. y;
   new = λ k o x. x;
@@ -274,7 +276,7 @@ safe_own (Open f) e l running cache head r x y = tt
 safe_own (Close f contents) e l running cache head r x y = inl (r, (x, y))
 
 -- the message of a call that the client sends now
-pub own_call : (c : Cell) (past : List Entry) (n : ℕ) (x : ClientState) (act : Act) (ls : List Line) → x.running ≡ Some act → begun (Client n) (onto (lines_of past) ls) ≡ Some act
+pub own_call : (c : Cell) (past : List Entry) (n : ℕ) (x : ClientState) (act : Act) (ls : List Line) → x.running ≡ Some act → running (Client n) (onto (lines_of past) ls) ≡ Some act
     → News (call_message (Client n) x act ∷ []) (views_after c n x) (step_entry n ls (call_message (Client n) x act ∷ []) ∷ past)
 own_call c past n x act ls runs at = record {
   calls = (
@@ -296,13 +298,9 @@ own_call c past n x act ls runs at = record {
   origins = (record { act = act; called = inl (refl, (inl (refl, refl), at)); own_user = refl; own_call = call_is act }, tt);
 }
 
-sent_by : (t x : Bool) → t ≡ true → cond (cond t true false) true x ≡ true
-sent_by true x e = refl
-sent_by false x e = absurd cc
-
-pub asks : (s : Script) (c : Cell) (past : List Entry) (n : ℕ) (act : Act) (l : Line) → Holds s c past → AreGood s past [] (l ∷ []) → Passes s n (l ∷ []) (call_message (Client n) (asking (c.clients n) act) act ∷ []) past
+pub asks : (s : Script) (c : Cell) (past : List Entry) (n : ℕ) (act : Act) (l : Line) → Holds s c past → AreGood s (Some (Client n)) past [] (l ∷ []) → Passes s n (l ∷ []) (call_message (Client n) (asking (c.clients n) act) act ∷ []) past
     → ((f : Fid) → PassesFile n f (step_entry n (l ∷ []) (call_message (Client n) (asking (c.clients n) act) act ∷ [])) past) → ((f : Fid) → PassesReach n f (step_entry n (l ∷ []) (call_message (Client n) (asking (c.clients n) act) act ∷ [])) past)
-    → ((f : Fid) (y : List ℕ) → (c.clients n).running ≡ Some (Close f y) → ⊥) → begun (Client n) (l ∷ lines_of past) ≡ Some act → Goes s past (client_moves c n (calls_step (Client n) (c.clients n) act l))
+    → ((f : Fid) (y : List ℕ) → (c.clients n).running ≡ Some (Close f y) → ⊥) → running (Client n) (l ∷ lines_of past) ≡ Some act → Goes s past (client_moves c n (calls_step (Client n) (c.clients n) act l))
 asks s c past n act l h good p q r shut at =
     let d = h.clients n in
     let x : ClientState = asking (c.clients n) act in
@@ -319,8 +317,8 @@ asks s c past n act l h good p q r shut at =
         | inl a ↦ inl (record { reached = r f u.index a.reached; newest = stays n f e past (q f).grant (last f) server u.index newer z a.newest; before = λ y is ran. not ran })
         | inr o ↦ absurd (shut f o.contents o.runs)
       ]) (d.current f u found lasts);
-      begun = λ b y. at ∙ y;
-      asked = λ b y. sent_by _ _ (same_key-refl (last_key n v));
+      runs = λ b y. at ∙ y;
+      asked = λ b y. subst (λ (a : Act). CalledSince (last_key n v) guest (asked a) (e ∷ past)) (some_of act b y) (inl (refl, inl (refl, ap (λ (z : FsCall). carried.Call guest z) (call_is act))));
       reached = reached_still s c past n e h r last;
     })
     (λ head call f. record {
@@ -334,4 +332,4 @@ pub own_begun : (n : ℕ) (act : Act) (o : Option Act) → cond (same_node (Clie
 own_begun n act o = rw (same_node-refl (Client n)) refl
 
 pub idle_asks : (s : Script) (c : Cell) (past : List Entry) (n : ℕ) (act : Act) → Holds s c past → (c.clients n).running ≡ None → Goes s past (client_moves c n (calls_step (Client n) (c.clients n) act (lines.Begin (Client n) act)))
-idle_asks s c past n act h none = asks s c past n act (lines.Begin (Client n) act) h (tt, tt) (begin_passes s n act _ past) (begin_file n n act _ past) (begin_reach n n act _ past) (λ f y e. absurd cc) (own_begun n act (begun (Client n) (lines_of past)))
+idle_asks s c past n act h none = asks s c past n act (lines.Begin (Client n) act) h (tt, tt) (begin_passes s n act _ past) (begin_file n n act _ past) (begin_reach n n act _ past) (λ f y e. absurd cc) (own_begun n act (running (Client n) (lines_of past)))

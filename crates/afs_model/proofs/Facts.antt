@@ -1,5 +1,5 @@
 -- What holds of the cell and of all that was told before, after every entry.
-use Rattle.std.proofs.Common.{◌≡◌, ℕ, ◌<◌, ◌≤◌, ◌⊎◌, true, List, [], ◌∷◌, Option, Some, None, ℤ}
+use Rattle.std.proofs.Common.{◌≡◌, ℕ, ◌<◌, ◌≤◌, ◌⊎◌, List, [], ◌∷◌, Option, Some, None, ℤ}
 use Rattle.std.specs.Prelude.{⊤}
 use Rattle.std.specs.Option.{option_map}
 use Rattle.afs_num.specs.declared.types.Fid.{Fid}
@@ -27,7 +27,7 @@ use Rattle.afs_num.specs.declared.states.StoredFile.{StoredFile}
 use Rattle.afs_model.specs.Runs.{Entry, Cell, Moved}
 use Rattle.afs_model.specs.ServerRow.{seat_of, find_file, version_of}
 use Rattle.afs_model.specs.ClientRow.{the_server, find_cached}
-use Rattle.afs_model.specs.Past.{lines_of, sent_of, called_key, begun, is_of_act, Called, IsUnheard}
+use Rattle.afs_model.specs.Past.{lines_of, sent_of, called_key, running, Called, CalledSince, IsUnheard}
 use Rattle.afs_model.specs.Ideal.{last_version, IsLast, HasVersion, Accepts, clock_of, user_of, asked, reach}
 use Rattle.afs_model.specs.Grants.{fetch_reply, GrantOf, since, IsWithdrawn, IsDropped}
 use Rattle.afs_model.specs.Legal.{IsNew, Cause, AreGood}
@@ -131,7 +131,7 @@ Fits j act m c past = ⊥
 pub record Answers (j : ℕ) (act : Act) (m : Message) (past : List Entry) : Type 0 where
   pub fits : Fits j act m m.carried past
   pub code : ℤ
-  pub cause : Cause m code act past
+  pub cause : Cause m code act past []
 
 abbrev pub HasAnswer : ℕ → View → List Entry → Type 0
 HasAnswer j v past = (act : Act) (m : Message) → v.running ≡ Some act → (ran : LastRan v) → ran.seat.reply ≡ Some m → Answers j act m past
@@ -152,8 +152,8 @@ pub record ClientFacts (j : ℕ) (v : View) (past : List Entry) : Type 0 where
   pub kept : (seat : Seat) (m : Message) → v.seat ≡ Some seat → seat.reply ≡ Some m → KeptReply j seat m
   pub answer : HasAnswer j v past
   pub current : HasCurrent j v past
-  pub begun : (act : Act) → v.running ≡ Some act → begun (Client j) (lines_of past) ≡ Some act
-  pub asked : (act : Act) → v.running ≡ Some act → is_of_act (Client j) (last_key j v) past ≡ true
+  pub runs : (act : Act) → v.running ≡ Some act → running (Client j) (lines_of past) ≡ Some act
+  pub asked : (act : Act) → v.running ≡ Some act → CalledSince (last_key j v) (user_of (Client j)) (asked act) past
   pub reached : (f : Fid) → Reached (Client j) f (index_of (last_version f (lines_of past))) past
 
 -- ---- messages in flight
@@ -228,5 +228,5 @@ pub record Holds (s : Script) (c : Cell) (past : List Entry) : Type 0 where
   pub top : HasTop (lines_of past)
 
 pub record Goes (s : Script) (past : List Entry) (m : Moved) : Type 0 where
-  pub good : AreGood s past [] m.entry.lines
+  pub good : AreGood s m.entry.node past [] m.entry.lines
   pub holds : Holds s m.cell (m.entry ∷ past)

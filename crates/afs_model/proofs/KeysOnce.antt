@@ -1,6 +1,7 @@
 -- A key changes something at most once in a run.
-use Rattle.std.proofs.Common.{◌≡◌, List, [], ◌∷◌, ◌++◌, map, refl, sym, ap, subst, ◌∙◌}
+use Rattle.std.proofs.Common.{◌≡◌, Option, List, [], ◌∷◌, ◌++◌, map, refl, sym, ap, subst, ◌∙◌}
 use Rattle.afs_num.specs.declared.types.Key.{Key}
+use Rattle.afs_num.specs.declared.types.Node.{Node}
 use Rattle.afs_num.specs.declared.scripts.Script.{Script}
 use Rattle.afs_num.specs.declared.histories.Line.{Line}
 use Rattle.afs_num.specs.declared.histories.Line.TheVariants as lines
@@ -20,20 +21,20 @@ use Rattle.afs_model.proofs.Law.{onto_last, legal}
 
 -- ---- a legal history changes under each key once
 
-entry_once : (s : Script) (past : List Entry) (own ls : List Line) → AreGood s past own ls → AreOnce (own ++ lines_of past) → AreOnce (onto (own ++ lines_of past) ls)
-entry_once s past own [] g h = h
-entry_once s past own (lines.Begin n a ∷ ls) g h = entry_once s past (lines.Begin n a ∷ own) ls g.1 h
-entry_once s past own (lines.Given p ∷ ls) g h = entry_once s past (lines.Given p ∷ own) ls g.1 h
-entry_once s past own (lines.Grant q c f i x ∷ ls) g h = entry_once s past (lines.Grant q c f i x ∷ own) ls g.1 h
-entry_once s past own (lines.Change q k n ∷ ls) g h = entry_once s past (lines.Change q k n ∷ own) ls g.1 (g.0.fresh, h)
-entry_once s past own (lines.Version v ∷ ls) g h = entry_once s past (lines.Version v ∷ own) ls g.1 h
-entry_once s past own (lines.Read c f i r b ∷ ls) g h = entry_once s past (lines.Read c f i r b ∷ own) ls g.1 h
-entry_once s past own (lines.Answer n m ∷ ls) g h = entry_once s past (lines.Answer n m ∷ own) ls g.1 h
-entry_once s past own (lines.Void ∷ ls) g h = entry_once s past (lines.Void ∷ own) ls g.1 h
+entry_once : (s : Script) (who : Option Node) (past : List Entry) (own ls : List Line) → AreGood s who past own ls → AreOnce (own ++ lines_of past) → AreOnce (onto (own ++ lines_of past) ls)
+entry_once s who past own [] g h = h
+entry_once s who past own (lines.Begin n a ∷ ls) g h = entry_once s who past (lines.Begin n a ∷ own) ls g.1 h
+entry_once s who past own (lines.Given p ∷ ls) g h = entry_once s who past (lines.Given p ∷ own) ls g.1 h
+entry_once s who past own (lines.Grant q c f i x ∷ ls) g h = entry_once s who past (lines.Grant q c f i x ∷ own) ls g.1 h
+entry_once s who past own (lines.Change q k n ∷ ls) g h = entry_once s who past (lines.Change q k n ∷ own) ls g.1 (g.0.1.fresh, h)
+entry_once s who past own (lines.Version v ∷ ls) g h = entry_once s who past (lines.Version v ∷ own) ls g.1 h
+entry_once s who past own (lines.Read c f i r b ∷ ls) g h = entry_once s who past (lines.Read c f i r b ∷ own) ls g.1 h
+entry_once s who past own (lines.Answer n m ∷ ls) g h = entry_once s who past (lines.Answer n m ∷ own) ls g.1 h
+entry_once s who past own (lines.Void ∷ ls) g h = entry_once s who past (lines.Void ∷ own) ls g.1 h
 
 after_once : (s : Script) (past es : List Entry) → LegalAfter s past es → AreOnce (lines_of past) → AreOnce (lines_of (past_of past es))
 after_once s past [] g h = h
-after_once s past (e ∷ es) g h = after_once s (e ∷ past) es g.1 (entry_once s past [] e.lines g.0 h)
+after_once s past (e ∷ es) g h = after_once s (e ∷ past) es g.1 (entry_once s e.node past [] e.lines g.0 h)
 
 first_once : (files : List StoredFile) → AreOnce (onto [] (first_lines files))
 first_once [] = tt

@@ -197,7 +197,7 @@ starts s one =
         kept = λ seat m x y. absurd cc;
         answer = λ act m x ran y. absurd cc;
         current = λ f e x lasts. absurd cc;
-        begun = λ act x. absurd cc;
+        runs = λ act x. absurd cc;
         asked = λ act x. absurd cc;
         reached = λ f. reached_first (Client j) f _ files;
       };

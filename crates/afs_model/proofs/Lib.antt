@@ -7,6 +7,8 @@ pub mod Answering
 pub mod Law
 pub mod KeysOnce
 pub mod Worked
+pub mod Wrong
+pub mod Alone
 pub mod ScriptLines
 pub mod ScriptNumbers
 pub mod ScriptTooLong

@@ -1,5 +1,5 @@
 -- How the facts pass over an entry.
-use Rattle.std.proofs.Common.{◌≡◌, ℕ, ◌≤◌, inl, inr, Bool, true, false, cond, List, ◌∷◌, ◌++◌, Option, ℤ, refl, sym, ap, ◌∙◌, arith, le_of_eq}
+use Rattle.std.proofs.Common.{◌≡◌, ℕ, ◌≤◌, inl, inr, Bool, true, false, cond, List, [], ◌∷◌, ◌++◌, Option, ℤ, refl, sym, ap, ◌∙◌, arith, le_of_eq}
 use Rattle.std.specs.Option.{option_map}
 use Rattle.afs_num.specs.declared.types.Fid.{Fid}
 use Rattle.afs_num.specs.declared.types.Head.{Head}
@@ -16,17 +16,18 @@ use Rattle.afs_num.specs.declared.scripts.Act.TheVariants.{Open, Close}
 use Rattle.afs_num.specs.declared.histories.Body.{Body}
 use Rattle.afs_num.specs.declared.histories.Body.TheVariants as bodies
 use Rattle.afs_num.specs.declared.histories.Line.{Line}
+use Rattle.afs_num.specs.declared.histories.Line.TheVariants as lines
 use Rattle.afs_num.specs.declared.histories.Version.{Version}
 use Rattle.afs_num.specs.declared.states.CacheEntry.{CacheEntry}
 use Rattle.afs_model.specs.Runs.{Entry}
 use Rattle.afs_model.specs.ClientRow.{the_server}
-use Rattle.afs_model.specs.Past.{onto, lines_of, sent_of, given_message, answered_key, begun, has_begun, has_sent, is_of_act, Ran}
+use Rattle.afs_model.specs.Past.{onto, lines_of, sent_of, given_message, running, has_begun, Ran}
 use Rattle.afs_model.specs.Ideal.{last_version, HasVersion, reach}
 use Rattle.afs_model.specs.Grants.{has_fetched, fetch_reply, GrantOf, since, IsWithdrawn, IsDropped}
-use Rattle.afs_model.specs.Legal.{Cause}
+use Rattle.afs_model.specs.Legal.{HasChange, IsMade, Cause}
 use Rattle.afs_model.proofs.Basics.{Each, IfCall, IfReply}
 use Rattle.afs_model.proofs.Basics.{each_more, each_map, if_call}
-use Rattle.afs_model.proofs.Facts.{View, last_key, Reached, index_of, Held, IsNewest, Stands, IsCurrent, IsFetched, Fits, Answers, ClientFacts, CallIn, ReplyIn, Origin, SentFacts}
+use Rattle.afs_model.proofs.Facts.{View, Reached, index_of, Held, IsNewest, Stands, IsCurrent, IsFetched, Fits, Answers, ClientFacts, CallIn, ReplyIn, Origin, SentFacts}
 
 -- ---- what an entry leaves as it was, for client j and file f
 
@@ -40,31 +41,37 @@ pub record PassesFile (j : ℕ) (f : Fid) (e : Entry) (past : List Entry) : Type
   pub fetched : has_fetched (Client j) f e.lines ≡ false
 
 pub record PassesAct (j : ℕ) (e : Entry) (past : List Entry) : Type 0 where
-  pub begun : (o : List Line) → begun (Client j) (onto o e.lines) ≡ begun (Client j) o
-  pub asked : (k : Key) → is_of_act (Client j) k past ≡ true → is_of_act (Client j) k (e ∷ past) ≡ true
+  pub runs : (o : List Line) → running (Client j) (onto o e.lines) ≡ running (Client j) o
+  pub begins : has_begun (Client j) e.lines ≡ false
 
 abbrev pub PassesReach : ℕ → Fid → Entry → List Entry → Type 0
 PassesReach j f e past = (i : ℕ) → Reached (Client j) f i past → Reached (Client j) f i (e ∷ past)
 
 -- ---- an entry that ran a call, and its grant
 
-abbrev pub ran_over : (k : Key) (boot : ℕ) (e : Entry) (past : List Entry) → Ran k boot past → Ran k boot (e ∷ past)
-ran_over k boot e past h = record {
+abbrev pub ran_over : (reply : Head) (e : Entry) (past : List Entry) → Ran reply past → Ran reply (e ∷ past)
+ran_over reply e past h = record {
   newer = e ∷ h.newer;
   at = h.at;
   older = h.older;
   split = ap (λ (es : List Entry). e ∷ es) h.split;
   message = h.message;
   given = h.given;
+  is_call = h.is_call;
   key = h.key;
-  boot_called = h.boot_called;
+  boot = h.boot;
+  callee = h.callee;
+  node = h.node;
   first = h.first;
 }
 
 abbrev pub grant_over : (c : Node) (f : Fid) (x : ℕ) (m : Message) (e : Entry) (past : List Entry) → GrantOf c f x m past → GrantOf c f x m (e ∷ past)
 grant_over c f x m e past h = record {
-  ran = ran_over (answered_key m.head) m.head.boot e past h.ran;
+  is_reply = h.is_reply;
+  to = h.to;
+  ran = ran_over m.head e past h.ran;
   server = h.server;
+  node = h.node;
   index = h.index;
   before = h.before;
   after = h.after;
@@ -79,16 +86,60 @@ held_over j f i b x m e past p h = record {
   whole = p.version i (bodies.File b) (lines_of past) h.whole;
 }
 
-pub cause_over : (m : Message) (code : ℤ) (act : Act) (e : Entry) (past : List Entry) → Cause m code act past → Cause m code act (e ∷ past)
+-- a change stays told
+change_more : (k : Key) (l : Line) (ls : List Line) → HasChange k ls → HasChange k (l ∷ ls)
+change_more k (lines.Change s q n) ls h = inr h
+change_more k (lines.Begin n a) ls h = h
+change_more k (lines.Given p) ls h = h
+change_more k (lines.Grant s n f i x) ls h = h
+change_more k (lines.Version v) ls h = h
+change_more k (lines.Read n f i c b) ls h = h
+change_more k (lines.Answer n m) ls h = h
+change_more k lines.Void ls h = h
+
+change_onto : (k : Key) (ls o : List Line) → HasChange k o → HasChange k (onto o ls)
+change_onto k [] o h = h
+change_onto k (l ∷ ls) o h = change_onto k ls (l ∷ o) (change_more k l o h)
+
+change_behind : (k : Key) (ls o : List Line) → HasChange k o → HasChange k (ls ++ o)
+change_behind k [] o h = h
+change_behind k (l ∷ ls) o h = change_more k l (ls ++ o) (change_behind k ls o h)
+
+made_onto : (k : Key) (vs : List Version) (ls o : List Line) → IsMade k vs o → IsMade k vs (onto o ls)
+made_onto k [] ls o h = tt
+made_onto k (v ∷ vs) ls o h = change_onto k ls o h
+
+pub made_behind : (k : Key) (vs : List Version) (ls o : List Line) → IsMade k vs o → IsMade k vs (ls ++ o)
+made_behind k [] ls o h = tt
+made_behind k (v ∷ vs) ls o h = change_behind k ls o h
+
+pub cause_over : (m : Message) (code : ℤ) (act : Act) (e : Entry) (past : List Entry) → Cause m code act past [] → Cause m code act (e ∷ past) []
 cause_over m code act e past h = record {
+  is_reply = h.is_reply;
   told = h.told;
-  ran = ran_over (answered_key m.head) m.head.boot e past h.ran;
+  ran = ran_over m.head e past h.ran;
   user = h.user;
   call = h.call;
   carries = h.carries;
+  own_user = h.own_user;
   asks = h.asks;
   gives = h.gives;
-  made = h.made;
+  made = made_onto _ _ e.lines (lines_of past) h.made;
+}
+
+-- and behind an entry's own lines
+abbrev pub cause_behind : (m : Message) (code : ℤ) (act : Act) (past : List Entry) (own : List Line) → Cause m code act past [] → Cause m code act past own
+cause_behind m code act past own h = record {
+  is_reply = h.is_reply;
+  told = h.told;
+  ran = h.ran;
+  user = h.user;
+  call = h.call;
+  carries = h.carries;
+  own_user = h.own_user;
+  asks = h.asks;
+  gives = h.gives;
+  made = made_behind _ _ own (lines_of past) h.made;
 }
 
 -- what was the newest is so still, or has its grant withdrawn
@@ -165,8 +216,8 @@ client_over j v e past p r n q l h = record {
   kept = h.kept;
   answer = λ act m x ran y. answers_over j act m e past (λ f. (p f).grant) r n (h.answer act m x ran y);
   current = λ f u found lasts. current_over j f u v v e past (p f) (stands_over j f u.index v e past (r f) (n f)) (h.current f u found lasts);
-  begun = λ act x. q.begun (lines_of past) ∙ h.begun act x;
-  asked = λ act x. q.asked (last_key j v) (h.asked act x);
+  runs = λ act x. q.runs (lines_of past) ∙ h.runs act x;
+  asked = λ act x. inr (q.begins, h.asked act x);
   reached = λ f. reached_more (Client j) f (index_of (last_version f (lines_of past))) (index_of (last_version f (lines_of (e ∷ past)))) (e ∷ past) (l f) (r f (index_of (last_version f (lines_of past))) (h.reached f));
 }
 
@@ -196,12 +247,3 @@ more_sent sent v w e past h c r n = record {
   origins = each_more (IfCall (Origin (e ∷ past))) sent e.sent (older_origins sent e past h.origins) n.origins;
   told = ap (λ (ms : List Message). ms ++ e.sent) h.told;
 }
-
-kept_true : (a b x : Bool) → b ≡ false → x ≡ true → cond a true (cond b false x) ≡ true
-kept_true true b x e f = refl
-kept_true false true x e f = absurd cc
-kept_true false false x e f = f
-
--- a key of the act is one still where none began
-pub asked_over : (j : ℕ) (k : Key) (e : Entry) (past : List Entry) → has_begun (Client j) e.lines ≡ false → is_of_act (Client j) k past ≡ true → is_of_act (Client j) k (e ∷ past) ≡ true
-asked_over j k e past b x = kept_true (has_sent k e.sent) (has_begun (Client j) e.lines) (is_of_act (Client j) k past) b x

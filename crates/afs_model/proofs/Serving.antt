@@ -30,17 +30,17 @@ use Rattle.afs_num.specs.declared.states.StoredFile.{StoredFile}
 use Rattle.afs_model.specs.Runs.{Entry, Cell, message_at}
 use Rattle.afs_model.specs.ServerRow.{seat_of, find_file, version_of}
 use Rattle.afs_model.specs.ClientRow.{the_server, find_cached}
-use Rattle.afs_model.specs.Past.{onto, lines_of, sent_of, given_message, called_key, is_of_act, IsCallUnder, Ran}
+use Rattle.afs_model.specs.Past.{onto, lines_of, sent_of, given_message, called_key, HasCode, is_of_act, IsCallUnder, Ran}
 use Rattle.afs_model.specs.Ideal.{last_version, HasVersion, Accepts, asked, op, reach}
-use Rattle.afs_model.specs.Legal.{IsMade}
+use Rattle.afs_model.specs.Legal.{code_told, IsMade, Cause}
 use Rattle.afs_model.specs.Grants.{IsWithdrawn}
 use Rattle.afs_model.proofs.Basics.{Below, UpTo, Above, Each, IfCall, IfReply, OfReply}
 use Rattle.afs_model.specs.Runs.{server_moves}
-use Rattle.afs_model.specs.ServerRow.{Standing, is_older, is_last, is_newer, standing, seated, stored, with_file, promise_ticks, Decision, drops, tells_boot, repeats, refuses, grants, saves, no_file, fetches, stores, asks, runs, answers_again, admits, called, hears, boot_told, refusal, fetched_reply, stored_reply, told, does, server_row}
+use Rattle.afs_model.specs.ServerRow.{Standing, is_older, is_last, is_newer, standing, seated, stored, with_file, promise_ticks, Decision, drops, tells_boot, repeats, refuses, grants, saves, no_file, fetches, stores, asks, runs, answers_again, admits, called, hears, reply_head, replied, boot_told, refusal, fetched_reply, stored_reply, told, does, server_row}
 use Rattle.afs_model.specs.Ideal.{is_number}
 use Rattle.afs_model.proofs.Basics.{both, same_fid-true, same_fid-refl, apart, same_node-true, client_number, up_to_below, below_up_to, below_not, up_to_same, newer_above, not_newer, LastSeat, last_seat, own_seat, at_seat, found-fid, found-with_file, OfCall, each_map, each_at, if_call, if_reply, raised_up_to, some_of}
 use Rattle.afs_model.proofs.Facts.{View, view_of, view, LastRan, Reached, index_of, Stands, IsCurrent, HasCurrent, Fits, Answers, IsReply, KeptReply, ClientFacts, CallFact, CallIn, ReplyFact, ReplyIn, Origin, HasLast, AreHome, AreNew, AreUnheard, HasTop, stored_index, Holds, Goes}
-use Rattle.afs_model.proofs.Passing.{PassesFile, PassesAct, PassesReach, StaysNewest, stays, current_over, reached_more, client_over, client_still, News, more_sent, asked_over}
+use Rattle.afs_model.proofs.Passing.{PassesFile, PassesAct, PassesReach, StaysNewest, stays, current_over, reached_more, client_over, client_still, News, more_sent}
 
 -- ---- a message that runs nothing
 
@@ -62,7 +62,7 @@ pub told_reach : (j p : ℕ) (f : Fid) (o : Option Node) (ms : List Message) (pa
 told_reach j p f o ms past i h = record { made = h.made; seen = h.seen }
 
 pub told_act : (j p : ℕ) (o : Option Node) (ms : List Message) (past : List Entry) → PassesAct j (record { node = o; lines = lines.Given p ∷ []; sent = ms }) past
-told_act j p o ms past = record { begun = λ l. refl; asked = λ k x. asked_over j k (record { node = o; lines = lines.Given p ∷ []; sent = ms }) past refl x }
+told_act j p o ms past = record { runs = λ l. refl; begins = refl }
 
 quiet : (s : Script) (c : Cell) (past : List Entry) (p : ℕ) (m : Message) (ms : List Message) → Holds s c past → message_at c.sent p ≡ Some m → Dull c.server.seats c.server.boot m
     → ((past' : List Entry) → News ms (view c) past') → Goes s past (server_moves c (told c.server p ms))
@@ -168,17 +168,20 @@ reply_now c n h r to e k = record {
 }
 
 -- the entry ran the call
-abbrev ran_now : (s : Script) (c : Cell) (past : List Entry) (p n : ℕ) (h : Head) (user : List ℕ) (act : Act) (e : Entry) → Holds s c past → Now c past p n h user act → given_message e.lines (sent_of past) ≡ message_at (sent_of past) p
-    → Ran (record { node = Client n; epoch = h.epoch; number = h.number }) c.server.boot (e ∷ past)
-ran_now s c past p n h user act e H w is = record {
+abbrev ran_now : (s : Script) (c : Cell) (past : List Entry) (p n : ℕ) (h : Head) (user : List ℕ) (act : Act) (e : Entry) → Holds s c past → Now c past p n h user act → given_message e.lines (sent_of past) ≡ message_at (sent_of past) p → e.node ≡ Some the_server
+    → Ran (reply_head c.server.boot (client_head n h)) (e ∷ past)
+ran_now s c past p n h user act e H w is at = record {
   newer = [];
   at = e;
   older = past;
   split = refl;
   message = call_at n h user act;
   given = is ∙ at_told s c past p _ H w.at;
+  is_call = tt;
   key = refl;
-  boot_called = w.boot;
+  boot = w.boot;
+  callee = refl;
+  node = at;
   first = H.unheard (record { node = Client n; epoch = h.epoch; number = h.number }) w.above;
 }
 
@@ -196,6 +199,23 @@ act_again (Close f contents) = refl
 
 pub same_act : (a b : Act) → asked a ≡ asked b → a ≡ b
 same_act a b e = sym (act_again a) ∙ (ap act_of e ∙ act_again b)
+
+-- the reply has the code of the ideal operation
+cause_now : (s : Script) (c : Cell) (past : List Entry) (p n : ℕ) (h : Head) (user : List ℕ) (act : Act) (x : Carried) (code : ℤ) (e : Entry) → Holds s c past → Now c past p n h user act → given_message e.lines (sent_of past) ≡ message_at (sent_of past) p → e.node ≡ Some the_server
+    → HasCode x → code_told x ≡ Some code → (op user (asked act) (lines_of past)).code ≡ code → IsMade (called_key (client_head n h)) (op user (asked act) (lines_of past)).versions (lines_of (e ∷ past))
+    → Cause (replied c.server.boot (client_head n h) x) code act (e ∷ past) []
+cause_now s c past p n h user act x code e H w is at has told gives made = record {
+  is_reply = (refl, has);
+  told = told;
+  ran = ran_now s c past p n h user act e H w is at;
+  user = user;
+  call = asked act;
+  carries = refl;
+  own_user = w.origin.own_user;
+  asks = refl;
+  gives = gives;
+  made = made;
+}
 
 -- the caller, after its call ran; what its entries and its reply are is given
 caller_after : (s : Script) (c : Cell) (past : List Entry) (p n : ℕ) (h : Head) (user : List ℕ) (act : Act) (r : Message) (e : Entry) → Holds s c past → Now c past p n h user act
@@ -215,8 +235,8 @@ caller_after s c past p n h user act r e H w q k a cur reached =
           let own : asked act ≡ asked b = w.fact.own b x (ap (λ (z : Seat). z.epoch) one ∙ ran.epoch) (ap (λ (z : Seat). z.number) one ∙ ran.number) in
           subst (λ (z : Act). Answers n z m (e ∷ past)) (same_act act b own) (subst (λ (z : Message). Answers n act z (e ∷ past)) (some_of _ _ reply) a);
       current = cur;
-      begun = λ b x. q.begun (lines_of past) ∙ d.begun b x;
-      asked = λ b x. q.asked _ (d.asked b x);
+      runs = λ b x. q.runs (lines_of past) ∙ d.runs b x;
+      asked = λ b x. inr (q.begins, d.asked b x);
       reached = reached;
     }
 
@@ -325,7 +345,7 @@ refuses_goes s c past p n h user act H w none =
             (λ q. subst (λ (m : ℕ). ClientFacts m (seated_view c m (Some (taken n h r))) (e ∷ past)) (client_number n j q)
             (caller_after s c past p n h user act r e H w (told_act n p (Some the_server) (r ∷ []) past)
             (record { to = refl; from = refl; epoch = refl; number = refl; is_reply = λ x. x })
-            (record { fits = refusal_fits n act r _ (e ∷ past); code = pos 102; cause = record { told = refl; ran = ran_now s c past p n h user act e H w refl; user = user; call = asked act; carries = refl; asks = refl; gives = refusal_code user act (lines_of past) none; made = refusal_makes (called_key (client_head n h)) user act (lines_of past) e.lines none } })
+            (record { fits = refusal_fits n act r _ (e ∷ past); code = pos 102; cause = cause_now s c past p n h user act r.carried (pos 102) e H w refl refl tt refl (refusal_code user act (lines_of past) none) (refusal_makes (called_key (client_head n h)) user act (lines_of past) (lines_of (e ∷ past)) none) })
             (current_same s c past p n h user act r e H w (λ f. told_file n p f (Some the_server) (r ∷ []) past) (λ f. told_reach n p f (Some the_server) (r ∷ []) past) (λ f. refl) (none_close act (lines_of past) none))
             (reached_still s c past n e H (λ f. told_reach n p f (Some the_server) (r ∷ []) past) (λ f. refl))))
             (λ ne. client_still j (view c j) e past (λ f. told_file j p f (Some the_server) (r ∷ []) past) (λ f. told_reach j p f (Some the_server) (r ∷ []) past) (told_act j p (Some the_server) (r ∷ []) past) (λ f. refl) (H.clients j));
@@ -345,7 +365,7 @@ grants_reach : (j p : ℕ) (server c' : Node) (g : Fid) (i x : ℕ) (o : Option 
 grants_reach j p server c' g i x o ms past f k h = record { made = h.made; seen = h.seen }
 
 grants_act : (j p : ℕ) (server c' : Node) (g : Fid) (i x : ℕ) (o : Option Node) (ms : List Message) (past : List Entry) → PassesAct j (record { node = o; lines = lines.Given p ∷ lines.Grant server c' g i x ∷ []; sent = ms }) past
-grants_act j p server c' g i x o ms past = record { begun = λ l. refl; asked = λ k y. asked_over j k (record { node = o; lines = lines.Given p ∷ lines.Grant server c' g i x ∷ []; sent = ms }) past refl y }
+grants_act j p server c' g i x o ms past = record { runs = λ l. refl; begins = refl }
 
 reached_at : (s : Script) (c : Cell) (past : List Entry) (j : ℕ) (f : Fid) (v : Version) → Holds s c past → last_version f (lines_of past) ≡ Some v → Reached (Client j) f v.index past
 reached_at s c past j f v H e = subst (λ (o : Option Version). Reached (Client j) f (index_of o) past) e ((H.clients j).reached f)
@@ -373,7 +393,7 @@ grants_goes s c past p n h user file H w found =
             (record {
               fits = record {
                 held = record {
-                  grant = record { ran = ran_now s c past p n h user act e H w refl; server = the_server; index = file.index; before = lines.Given p ∷ []; after = []; line = refl };
+                  grant = record { is_reply = (refl, tt); to = refl; ran = ran_now s c past p n h user act e H w refl refl; server = the_server; node = refl; index = file.index; before = lines.Given p ∷ []; after = []; line = refl };
                   server = refl;
                   kept = λ d. d;
                   whole = last_has file.fid (lines_of past) (version_of file) last;
@@ -382,7 +402,7 @@ grants_goes s c past p n h user file H w found =
                 newest = inr (ap (option_map (λ (v : Version). v.index)) last);
               };
               code = pos 0;
-              cause = record { told = refl; ran = ran_now s c past p n h user act e H w refl; user = user; call = asked act; carries = refl; asks = refl; gives = rw last refl; made = rw last tt };
+              cause = cause_now s c past p n h user act r.carried (pos 0) e H w refl refl tt refl (rw last refl) (rw last tt);
             })
             (current_same s c past p n h user act r e H w (grants_file n p the_server (Client n) file.fid file.index x (Some the_server) (r ∷ []) past) (grants_reach n p the_server (Client n) file.fid file.index x (Some the_server) (r ∷ []) past) (λ f. refl) (λ f y is. absurd cc))
             (reached_still s c past n e H (grants_reach n p the_server (Client n) file.fid file.index x (Some the_server) (r ∷ []) past) (λ f. refl))))
@@ -418,19 +438,19 @@ saves_file : (j p : ℕ) (k : Key) (w : Version) (r : Message) (past : List Entr
 saves_file j p k w r past f = record { grant = record { version = λ i b l s. inr s; dropped = λ s l d. d; withdrawn = λ s l x. inr x }; fetched = refl }
 
 saves_act : (j p : ℕ) (k : Key) (w : Version) (r : Message) (past : List Entry) → PassesAct j (saved_entry p k w r) past
-saves_act j p k w r past = record { begun = λ l. refl; asked = λ l y. asked_over j l (saved_entry p k w r) past refl y }
+saves_act j p k w r past = record { runs = λ l. refl; begins = refl }
 
 -- the version is no higher than this index wherever it counts
-saves_reach : (j p : ℕ) (k : Key) (w : Version) (r : Message) (past : List Entry) (f : Fid) (i : ℕ) → ((same_node k.node (Client j) && is_of_act (Client j) k past) ≡ true → same_fid w.fid f ≡ true → w.index ≤ i) → Reached (Client j) f i past → Reached (Client j) f i (saved_entry p k w r ∷ past)
+saves_reach : (j p : ℕ) (k : Key) (w : Version) (r : Message) (past : List Entry) (f : Fid) (i : ℕ) → (is_of_act (Client j) k past ≡ true → same_fid w.fid f ≡ true → w.index ≤ i) → Reached (Client j) f i past → Reached (Client j) f i (saved_entry p k w r ∷ past)
 saves_reach j p k w r past f i le h = record {
-  made = raised_up_to ((same_node k.node (Client j) && is_of_act (Client j) k past) && same_fid w.fid f) w.index (reach (Client j) f past).made i
-      (λ t. let q = both (same_node k.node (Client j) && is_of_act (Client j) k past) (same_fid w.fid f) t in le q.0 q.1) h.made;
+  made = raised_up_to (is_of_act (Client j) k past && same_fid w.fid f) w.index (reach (Client j) f past).made i
+      (λ t. let q = both (is_of_act (Client j) k past) (same_fid w.fid f) t in le q.0 q.1) h.made;
   seen = h.seen;
 }
 
 -- over a store of another client's
 other_reach : (j n p : ℕ) (k : Key) (w : Version) (r : Message) (past : List Entry) (f : Fid) → k.node ≡ Client n → (Client n ≡ Client j → ⊥) → PassesReach j f (saved_entry p k w r) past
-other_reach j n p k w r past f own ne i h = saves_reach j p k w r past f i (λ a b. absurd (ne (sym own ∙ same_node-true k.node (Client j) ((both (same_node k.node (Client j)) (is_of_act (Client j) k past) a).0)))) h
+other_reach j n p k w r past f own ne i h = saves_reach j p k w r past f i (λ a b. absurd (ne (sym own ∙ same_node-true k.node (Client j) ((both (same_node k.node (Client j)) _ a).0)))) h
 
 newest_by : (t : Bool) (j n : ℕ) (k : Key) (w : Version) (f : Fid) (server : Node) (i : ℕ) (newer : List Line) (o : Option Version) → same_fid w.fid f ≡ t → k.node ≡ Client n → (Client n ≡ Client j → ⊥) → server ≡ the_server → option_map (λ (v : Version). v.index) o ≡ Some i
     → (((w.fid ≡ f) × ((the_server ≡ server) × (k.node ≡ Client j → ⊥))) ⊎ IsWithdrawn server (Client j) f newer) ⊎ (option_map (λ (v : Version). v.index) (cond t (Some w) o) ≡ Some i)
@@ -512,20 +532,23 @@ saves_goes s c past p n h user b file H w found =
       good = (
         tt,
         (
-          record {
-            fresh = H.new k w.above;
-            user = user;
-            call = asked act;
-            act = w.origin.act;
-            called = w.origin.called;
-            own_user = w.origin.own_user;
-            own_call = w.origin.own_call;
-            code = rw (whole_file b, last) refl;
-            versions = rw (whole_file b, last) refl;
-            number = refl;
-            some = omega arith;
-            home = (H.home file.fid file found, tt);
-          },
+          (
+            refl,
+            record {
+              fresh = H.new k w.above;
+              user = user;
+              call = asked act;
+              act = w.origin.act;
+              called = w.origin.called;
+              own_user = w.origin.own_user;
+              own_call = w.origin.own_call;
+              code = rw (whole_file b, last) refl;
+              versions = rw (whole_file b, last) refl;
+              number = refl;
+              some = omega arith;
+              home = (H.home file.fid file found, tt);
+            },
+          ),
           (tt, tt),
         ),
       );
@@ -541,7 +564,7 @@ saves_goes s c past p n h user b file H w found =
             (record {
               fits = inl (refl, (refl, refl));
               code = pos 0;
-              cause = record { told = refl; ran = ran_now s c past p n h user act e H w refl; user = user; call = asked act; carries = refl; asks = refl; gives = rw (whole_file b, last) refl; made = rw (whole_file b, last) (inl refl) };
+              cause = cause_now s c past p n h user act r.carried (pos 0) e H w refl refl tt refl (rw (whole_file b, last) refl) (rw (whole_file b, last) (inl refl));
             })
             (λ f u at lasts. current_over n f u (view c n) (seated_view c n (Some (taken n h r))) e past (saves_file n p k made r past f)
             (λ server newer q st. own_stands (same_fid file.fid f) c past p n h user file b r f u.index server newer w refl refl old (not_there _ u at) st) ((H.clients n).current f u at lasts))

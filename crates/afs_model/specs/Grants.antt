@@ -11,7 +11,7 @@ use Rattle.afs_num.specs.declared.histories.Line.TheVariants as lines
 use Rattle.afs_num.specs.declared.histories.ReadSource.{ReadSource}
 use Rattle.afs_num.specs.declared.histories.ReadSource.TheVariants.{Cached, Fetched}
 use Rattle.afs_model.specs.Runs.{Entry}
-use Rattle.afs_model.specs.Past.{onto, lines_on, sent_of, given_message, answered_key, Ran}
+use Rattle.afs_model.specs.Past.{onto, lines_on, sent_of, given_message, IsReply, Ran}
 
 -- ---- the reply on which a read rests
 
@@ -30,11 +30,15 @@ abbrev pub read_reply : Node → Fid → ReadSource → List Entry → List Line
 read_reply c f Fetched past own = given_message own (sent_of past)
 read_reply c f Cached past own = if has_fetched c f own then given_message own (sent_of past) else fetch_reply c f past
 
--- ---- the grant: the line on f, to the client, in the entry that ran the call of that reply in the boot that it carries
+-- ---- the grant: its server's line on f, to the client, in the entry that ran the call of that reply in the boot that
+-- it carries
 
 pub record GrantOf (c : Node) (f : Fid) (expiry : ℕ) (reply : Message) (past : List Entry) : Type 0 where
-  pub ran : Ran (answered_key reply.head) reply.head.boot past
+  pub is_reply : IsReply reply
+  pub to : reply.head.to ≡ c
+  pub ran : Ran reply.head past
   pub server : Node
+  pub node : ran.at.node ≡ Some server
   pub index : ℕ
   pub before : List Line
   pub after : List Line
@@ -44,7 +48,7 @@ pub record GrantOf (c : Node) (f : Fid) (expiry : ℕ) (reply : Message) (past :
 abbrev pub since : (c : Node) (f : Fid) (expiry : ℕ) (reply : Message) (past : List Entry) → GrantOf c f expiry reply past → List Line
 since c f expiry reply past grant = lines_on (onto [] grant.after) grant.ran.newer
 
--- ---- what became of it, by the lines since then
+-- ---- what became of it, by the lines since then: `newer` are these, the newest first
 
 -- the change under which the line above these lines stands
 abbrev pub change_below : List Line → Option (Node × Key)

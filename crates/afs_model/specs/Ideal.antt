@@ -139,7 +139,7 @@ is_zero_code code = is_number code.0 0
 abbrev pub reach_over : Node → Fid → List Entry → Bool → Reach → List Line → Reach
 reach_over c f past own r [] = r
 reach_over c f past own r (lines.Begin m act ∷ ls) = reach_over c f past own (record r { made = if same_node m c then 0 else r.made }) ls
-reach_over c f past own r (lines.Change s k count ∷ ls) = reach_over c f past (same_node k.node c && is_of_act c k past) r ls
+reach_over c f past own r (lines.Change s k count ∷ ls) = reach_over c f past (is_of_act c k past) r ls
 reach_over c f past own r (lines.Version v ∷ ls) = reach_over c f past own (record r { made = raised (own && same_fid v.fid f) v.index r.made }) ls
 reach_over c f past own r (lines.Read m g index source body ∷ ls) = reach_over c f past own (record r { seen = raised (same_node m c && same_fid g f) index r.seen }) ls
 reach_over c f past own r (lines.Answer m code ∷ ls) = reach_over c f past own (record r { seen = raised (same_node m c && is_zero_code code) r.made r.seen }) ls

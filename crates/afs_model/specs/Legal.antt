@@ -1,7 +1,7 @@
 -- Which histories are legal: those of which each line is good after all that stands before it.
--- `past` are the entries before, the newest first, `own` the entry's own lines before, the newest first, and `next` its
--- lines after.
-use Rattle.std.specs.Prelude.{◌≡◌, ℕ, ◌≤◌, ◌<◌, List, [], ◌∷◌, ◌++◌, true, Option, Some, None, ℤ, pos, length, ⊤, ◌⊎◌}
+-- `who` is the entry's node, `past` are the entries before, the newest first, `own` the entry's own lines before, the
+-- newest first, and `next` its lines after.
+use Rattle.std.specs.Prelude.{◌≡◌, ℕ, ◌≤◌, ◌<◌, List, [], ◌∷◌, ◌++◌, false, Option, Some, None, ℤ, pos, length, ⊤, ◌⊎◌}
 use Rattle.afs_num.specs.declared.types.Code.{Code}
 use Rattle.afs_num.specs.declared.types.Fid.{Fid}
 use Rattle.afs_num.specs.declared.types.Key.{Key}
@@ -20,7 +20,7 @@ use Rattle.afs_num.specs.declared.histories.ReadSource.{ReadSource}
 use Rattle.afs_num.specs.declared.histories.ReadSource.TheVariants.{Cached}
 use Rattle.afs_num.specs.declared.histories.Version.{Version}
 use Rattle.afs_model.specs.Runs.{Entry}
-use Rattle.afs_model.specs.Past.{lines_of, sent_of, given_message, answered_key, is_of_act, begun, Called, Ran}
+use Rattle.afs_model.specs.Past.{lines_of, sent_of, given_message, answered_key, IsReply, running, has_begun, Called, CalledSince, Ran}
 use Rattle.afs_model.specs.Ideal.{set_up, IsLast, HasVersion, Accepts, clock_of, user_of, asked, op, seen}
 use Rattle.afs_model.specs.Grants.{read_reply, GrantOf, since, IsWithdrawn, IsDropped}
 
@@ -98,26 +98,29 @@ abbrev pub IsMade : Key → List Version → List Line → Type 0
 IsMade k [] ls = ⊤
 IsMade k (v ∷ vs) ls = HasChange k ls
 
--- the reply has this code, and so has the ideal operation where the call ran; the call is the one that the act asks; and
--- where the operation makes versions, the change stands where the call ran
-pub record Cause (reply : Message) (code : ℤ) (act : Act) (past : List Entry) : Type 0 where
+-- the reply has this code, and so has the ideal operation where the call ran; the call is the one that the act asks, for
+-- its user; and where the operation makes versions, their change stands before
+pub record Cause (reply : Message) (code : ℤ) (act : Act) (past : List Entry) (own : List Line) : Type 0 where
+  pub is_reply : IsReply reply
   pub told : code_told reply.carried ≡ Some code
-  pub ran : Ran (answered_key reply.head) reply.head.boot past
+  pub ran : Ran reply.head past
   pub user : List ℕ
   pub call : FsCall
   pub carries : ran.message.carried ≡ carried.Call user call
+  pub own_user : user ≡ user_of reply.head.to
   pub asks : call ≡ asked act
   pub gives : (op user call (lines_of ran.older)).code ≡ code
-  pub made : IsMade (answered_key reply.head) (op user call (lines_of ran.older)).versions ran.at.lines
+  pub made : IsMade (answered_key reply.head) (op user call (lines_of ran.older)).versions (own ++ lines_of past)
 
--- an act runs, and the reply that the answer's entry was given is to a call of it, and is the cause of the code
-pub record IsCaused (c : Node) (code : ℤ) (past : List Entry) (own : List Line) : Type 0 where
+-- the reply that the answer's entry was given is the cause of the code, and its call is one of this very act: the client
+-- sent it since the act began, which was in an entry before
+pub record IsCaused (c : Node) (act : Act) (code : ℤ) (past : List Entry) (own : List Line) : Type 0 where
   pub reply : Message
   pub by : given_message own (sent_of past) ≡ Some reply
-  pub of_act : is_of_act c (answered_key reply.head) past ≡ true
-  pub act : Act
-  pub running : begun c (own ++ lines_of past) ≡ Some act
-  pub cause : Cause reply code act past
+  pub to : reply.head.to ≡ c
+  pub cause : Cause reply code act past own
+  pub before : has_begun c own ≡ false
+  pub called : CalledSince (answered_key reply.head) cause.user cause.call past
 
 -- since the act began, the entry has cached reads alone
 abbrev pub AreAllCached : Node → List Line → Type 0
@@ -130,33 +133,35 @@ HasRead c f [] = ⊥
 HasRead c f (lines.Read m g index source body ∷ own) = ((m ≡ c) × (g ≡ f)) ⊎ HasRead c f own
 HasRead c f (l ∷ own) = HasRead c f own
 
--- the act was done without a call
-abbrev pub IsDone : Node → Option Act → List Line → Type 0
-IsDone c None own = ⊥
-IsDone c (Some (Open fid)) own = AreAllCached c own × HasRead c fid own
-IsDone c (Some (Close fid contents)) own = ⊥
+-- the act was done from the cache, by this entry's lines; its messages aren't looked at
+abbrev pub IsDone : Node → Act → ℤ → List Line → Type 0
+IsDone c (Open fid) code own = (code ≡ pos 0) × (AreAllCached c own × HasRead c fid own)
+IsDone c (Close fid contents) code own = ⊥
 
--- an act ran, and its answer has its cause: the reply to its call, or for 0 that it had no call to make
-abbrev pub GoodCode : Node → Code → List Entry → List Line → Type 0
-GoodCode c code past own =
-    IsCaused c code.0 past own ⊎ ((code.0 ≡ pos 0) × IsDone c (begun c (own ++ lines_of past)) own)
+-- an act runs, and its answer has its cause: the reply to its call, or for 0 that it was done from the cache
+pub record GoodCode (c : Node) (code : Code) (past : List Entry) (own : List Line) : Type 0 where
+  pub act : Act
+  pub runs : running c (own ++ lines_of past) ≡ Some act
+  pub cause : IsCaused c act code.0 past own ⊎ IsDone c act code.0 own
 
 -- ---- histories
 
-abbrev pub IsGood : Script → Line → List Entry → List Line → List Line → Type 0
-IsGood s (lines.Read c f index source body) past own next = GoodRead c f index source body past own
-IsGood s (lines.Change server k count) past own next = GoodChange s server k count past own next
-IsGood s (lines.Version v) past own next = IsUnderChange own
-IsGood s (lines.Answer c code) past own next = GoodCode c code past own
-IsGood s l past own next = ⊤
+-- a read or an answer stands in an entry of its client, a change in one of its server; lines that begin an act, give a
+-- message, grant, or tell of nothing are always good
+abbrev pub IsGood : Script → Option Node → Line → List Entry → List Line → List Line → Type 0
+IsGood s who (lines.Read c f index source body) past own next = (who ≡ Some c) × GoodRead c f index source body past own
+IsGood s who (lines.Change server k count) past own next = (who ≡ Some server) × GoodChange s server k count past own next
+IsGood s who (lines.Version v) past own next = IsUnderChange own
+IsGood s who (lines.Answer c code) past own next = (who ≡ Some c) × GoodCode c code past own
+IsGood s who l past own next = ⊤
 
-abbrev pub AreGood : Script → List Entry → List Line → List Line → Type 0
-AreGood s past own [] = ⊤
-AreGood s past own (l ∷ next) = IsGood s l past own next × AreGood s past (l ∷ own) next
+abbrev pub AreGood : Script → Option Node → List Entry → List Line → List Line → Type 0
+AreGood s who past own [] = ⊤
+AreGood s who past own (l ∷ next) = IsGood s who l past own next × AreGood s who past (l ∷ own) next
 
 abbrev pub LegalAfter : Script → List Entry → List Entry → Type 0
 LegalAfter s past [] = ⊤
-LegalAfter s past (e ∷ es) = AreGood s past [] e.lines × LegalAfter s (e ∷ past) es
+LegalAfter s past (e ∷ es) = AreGood s e.node past [] e.lines × LegalAfter s (e ∷ past) es
 
 abbrev pub Legal : List Entry → Script → Type 0
 Legal history s = LegalAfter s (set_up s ∷ []) history

@@ -1,6 +1,7 @@
 -- The past of a moment: the entries before it, the newest first, and what can be looked up in them.
 use Rattle.std.specs.Prelude.{◌≡◌, ℕ, List, [], ◌∷◌, ◌++◌, Bool, true, false, ◌&&◌, Option, Some, None, nat_eq, if◌then◌else◌, ⊤, ◌⊎◌}
 use Rattle.afs_num.specs.Nodes.{same_node}
+use Rattle.afs_num.specs.declared.types.Half.TheVariants as halves
 use Rattle.afs_num.specs.declared.types.Head.{Head}
 use Rattle.afs_num.specs.declared.types.Key.{Key}
 use Rattle.afs_num.specs.declared.types.Node.{Node}
@@ -52,13 +53,30 @@ answered_key head = record { node = head.to; epoch = head.epoch; number = head.n
 abbrev pub same_key : Key → Key → Bool
 same_key k l = same_node k.node l.node && (nat_eq k.epoch l.epoch && nat_eq k.number l.number)
 
+-- ---- calls and replies
+
+abbrev pub IsCall : Carried → Type 0
+IsCall (carried.Call user call) = ⊤
+IsCall c = ⊥
+
+-- what a reply carries: a refusal, or what was asked for
+abbrev pub HasCode : Carried → Type 0
+HasCode (carried.Refusal code) = ⊤
+HasCode (carried.Reply reply) = ⊤
+HasCode c = ⊥
+
+-- a reply, by its header and by what it carries
+abbrev pub IsReply : Message → Type 0
+IsReply m = (m.head.half ≡ halves.Reply) × HasCode m.carried
+
 -- ---- acts and their calls
 
--- the act that the node began last
-abbrev pub begun : Node → List Line → Option Act
-begun n [] = None
-begun n (lines.Begin m act ∷ older) = if same_node m n then Some act else begun n older
-begun n (l ∷ older) = begun n older
+-- the act that runs at the node: the one that it began last, until that is answered
+abbrev pub running : Node → List Line → Option Act
+running n [] = None
+running n (lines.Begin m act ∷ older) = if same_node m n then Some act else running n older
+running n (lines.Answer m code ∷ older) = if same_node m n then None else running n older
+running n (l ∷ older) = running n older
 
 abbrev pub has_begun : Node → List Line → Bool
 has_begun n [] = false
@@ -74,10 +92,14 @@ abbrev pub has_sent : Key → List Message → Bool
 has_sent k [] = false
 has_sent k (m ∷ ms) = if is_called k m.head m.carried then true else has_sent k ms
 
--- whether the call of this key is one of the act that the node began last
+-- whether a call of this key was sent since the node last began an act
+abbrev pub is_sent_since : Node → Key → List Entry → Bool
+is_sent_since n k [] = false
+is_sent_since n k (e ∷ past) = if has_sent k e.sent then true else (if has_begun n e.lines then false else is_sent_since n k past)
+
+-- whether the key is that of a call of the act that the node began last
 abbrev pub is_of_act : Node → Key → List Entry → Bool
-is_of_act n k [] = false
-is_of_act n k (e ∷ past) = if has_sent k e.sent then true else (if has_begun n e.lines then false else is_of_act n k past)
+is_of_act n k past = same_node k.node n && is_sent_since n k past
 
 -- this call was sent under this key, for this user
 abbrev pub Sends : Key → List ℕ → FsCall → List Message → Type 0
@@ -88,13 +110,15 @@ Sends k user call (m ∷ ms) = ((called_key m.head ≡ k) × (m.carried ≡ carr
 abbrev pub Called : Key → List ℕ → FsCall → Act → List Entry → Type 0
 Called k user call act [] = ⊥
 Called k user call act (e ∷ past) =
-    ((e.node ≡ Some k.node) × (Sends k user call e.sent × (begun k.node (lines_of (e ∷ past)) ≡ Some act))) ⊎ Called k user call act past
+    ((e.node ≡ Some k.node) × (Sends k user call e.sent × (running k.node (lines_of (e ∷ past)) ≡ Some act))) ⊎ Called k user call act past
+
+-- the same, by the key's node since it last began an act
+abbrev pub CalledSince : Key → List ℕ → FsCall → List Entry → Type 0
+CalledSince k user call [] = ⊥
+CalledSince k user call (e ∷ past) =
+    ((e.node ≡ Some k.node) × Sends k user call e.sent) ⊎ ((has_begun k.node e.lines ≡ false) × CalledSince k user call past)
 
 -- ---- the entry that ran a call
-
-abbrev pub IsCall : Carried → Type 0
-IsCall (carried.Call user call) = ⊤
-IsCall c = ⊥
 
 -- a call under this key, to this boot of its callee
 abbrev pub IsCallUnder : Key → ℕ → Option Message → Type 0
@@ -105,15 +129,18 @@ abbrev pub IsUnheard : Key → ℕ → List Entry → Type 0
 IsUnheard k boot [] = ⊤
 IsUnheard k boot (e ∷ past) = (IsCallUnder k boot (given_message e.lines (sent_of past)) → ⊥) × IsUnheard k boot past
 
--- The past, split at the entry that ran the call of this key in this boot of its callee: the first that was given it
--- there. A later one finds the kept reply, and a callee runs no call to another boot.
-pub record Ran (k : Key) (boot : ℕ) (past : List Entry) : Type 0 where
+-- The past, split at the entry that ran the call which this is the reply to: the callee's first that was given it, in
+-- the boot that the reply tells. A later one finds the kept reply, and a callee runs no call to another boot.
+pub record Ran (reply : Head) (past : List Entry) : Type 0 where
   pub newer : List Entry
   pub at : Entry
   pub older : List Entry
   pub split : past ≡ newer ++ (at ∷ older)
   pub message : Message
   pub given : given_message at.lines (sent_of older) ≡ Some message
-  pub key : called_key message.head ≡ k
-  pub boot_called : message.head.boot ≡ boot
-  pub first : IsUnheard k boot older
+  pub is_call : IsCall message.carried
+  pub key : called_key message.head ≡ answered_key reply
+  pub boot : message.head.boot ≡ reply.boot
+  pub callee : message.head.to ≡ reply.from
+  pub node : at.node ≡ Some message.head.to
+  pub first : IsUnheard (answered_key reply) reply.boot older
