@@ -3,7 +3,7 @@
 ghost use Rattle.std.specs.Prelude.{◌≡◌, IfOk, OnOk};
 ghost use Rattle.afs_num.specs.declared.messages.Received.TheVariants.{Whole};
 ghost use Rattle.afs_shape.specs.Reading.{GivesShape};
-ghost use Rattle.afs_model.specs.Messages.{as_call, as_reply, asked_at, answer_at, refusal_at, replied_at, notice_at, called, heard, behind, received, spelled, IsSound, IsSoundMessage, Fits};
+ghost use Rattle.afs_model.specs.Messages.{as_call, as_reply, asked_at, answer_at, refusal_at, replied_at, notice_at, found_call, found_answer, behind, received, spelled, IsSound, IsSoundMessage, Fits};
 ghost use Rattle.afs_model.specs.FsMaking.{call_of, reply_of};
 ghost use Rattle.afs_model.specs.Heads.{head_words};
 ghost use Rattle.afs_xdr.specs.Words.{AreWords};
@@ -104,7 +104,7 @@ fn read_notice(alloc: Global, r: &Reader) -> Result<Carried, ShapeFault>
 
 /// A call, or why there is none.
 fn found_call(alloc: Global, r: &mut Reader, head: Head) -> Mem<Received>
-    ensures { IfOk result (λ x. x ≡ called head (asked_at head.opcode r.old.left)) }
+    ensures { IfOk result (λ x. x ≡ found_call head (asked_at head.opcode r.old.left)) }
 {
     match read_call(alloc, r, head.opcode) {
         Ok(carried) => Ok(Received::Whole {
@@ -118,7 +118,7 @@ fn found_call(alloc: Global, r: &mut Reader, head: Head) -> Mem<Received>
 
 /// A reply, where there is one.
 fn found_reply(alloc: Global, r: &mut Reader, head: Head) -> Mem<Received>
-    ensures { IfOk result (λ x. x ≡ heard head (replied_at head.opcode r.old.left)) }
+    ensures { IfOk result (λ x. x ≡ found_answer head (replied_at head.opcode r.old.left)) }
 {
     match read_replied(alloc, r, head.opcode) {
         Ok(carried) => Ok(Received::Whole {
@@ -131,7 +131,7 @@ fn found_reply(alloc: Global, r: &mut Reader, head: Head) -> Mem<Received>
 
 /// A boot notice, where there is one.
 fn found_notice(alloc: Global, r: &Reader, head: Head) -> Mem<Received>
-    ensures { IfOk result (λ x. x ≡ heard head (notice_at r.now.left)) }
+    ensures { IfOk result (λ x. x ≡ found_answer head (notice_at r.now.left)) }
 {
     match read_notice(alloc, r) {
         Ok(carried) => Ok(Received::Whole {

@@ -23,6 +23,7 @@ pub mod Firsts
 pub mod Sameness
 pub mod Schedules
 pub mod Spellings
+pub mod Served
 pub mod Crash
 pub mod Journal
 pub mod Moments

@@ -1,6 +1,6 @@
 -- A message that is spelled is read again, one that is read is spelled so, and no spelling begins another.
 use Rattle.std.proofs.Common.{◌≡◌, ℕ, suc, ◌≤◌, Bool, true, false, eqb, List, [], ◌∷◌, ◌++◌, length, Option, Some, None, Result, Ok, Err, refl, sym, ap, subst, ◌∙◌, append_assoc, append-nil, arith, eqb-true}
-use Rattle.std.specs.Prelude.{ℤ, pos, negsuc, ◌+◌, FitsSigned, if◌then◌else◌}
+use Rattle.std.specs.Prelude.{ℤ, pos, negsuc, ◌+◌, FitsSigned, IsSome, if◌then◌else◌}
 use Rattle.std.specs.Int.{w32}
 use Rattle.afs_num.specs.declared.types.Half.{Half}
 use Rattle.afs_num.specs.declared.types.Half.TheVariants as halves
@@ -26,9 +26,10 @@ use Rattle.afs_shape.specs.Tables.{kinds_in, AreOf, AreInRange}
 use Rattle.afs_shape.proofs.Codecs.{IsBytes, opaque_codec, signed_codec}
 use Rattle.afs_shape.proofs.FieldLaws.{bind_ok, in_place_ok, shape_ok_is, fields_again}
 use Rattle.afs_model.specs.Heads.{user_limit, head_words, head_at, signed, is_zero, IsSoundHead, FitsHead}
-use Rattle.afs_model.specs.FsRows.{call_rows, reply_rows, call_number, call_fields, reply_number, reply_fields, HasRow, call_bytes, reply_bytes, row_at, asked_parts_at, last_fields_at}
+use Rattle.afs_model.specs.FsRows.{call_rows, reply_rows, call_number, call_fields, reply_number, reply_fields, HasRow, IsCall, IsReply, call_bytes, reply_bytes, row_at, asked_parts_at, last_fields_at}
+use Rattle.afs_model.specs.SpellingLaws.{CallsAreFound, RepliesAreFound, RefusalsAreFound, RowsMakeCalls, RowsMakeReplies}
 use Rattle.afs_model.specs.FsMaking.{call_of, reply_of}
-use Rattle.afs_model.specs.Messages.{carried_bytes, spelled, as_call, as_reply, asked_at, answer_at, refusal_at, replied_at, notice_at, called, heard, behind, behind_head, received, IsSound, IsSoundMessage, IsSoundCarried, IsInRange, Fits}
+use Rattle.afs_model.specs.Messages.{carried_bytes, spelled, as_call, as_reply, asked_at, answer_at, refusal_at, replied_at, notice_at, found_call, found_answer, behind, behind_head, received, IsSound, IsSoundMessage, IsSoundCarried, IsInRange, Fits}
 use Rattle.afs_model.proofs.HeadLaws.{head_again, head_takes}
 use Rattle.afs_model.proofs.FsLaws.{found_row, row_ok, asked_parts_take, asked_parts_again, last_fields_take, last_fields_again}
 use Rattle.afs_model.proofs.FsMade.{call_again, reply_again, call_made, reply_made, some_is}
@@ -179,16 +180,16 @@ pub record IsOf (head : Head) (read : Result Carried ShapeFault) (m : Message) :
 pub whole_of : (m n : Message) → ◌≡◌ {A = Received} (Whole m) (Whole n) → m ≡ n
 whole_of m n e = cc
 
-pub called_is : (head : Head) (read : Result Carried ShapeFault) (m : Message) → called head read ≡ Whole m → IsOf head read m
-called_is head (Ok c) m e = record { carried = c; read_is = refl; is = whole_of _ m e }
-called_is head (Err (faults.NoRow n)) m e = absurd cc
-called_is head (Err faults.OutOfMemory) m e = absurd cc
-called_is head (Err (faults.Head f)) m e = absurd cc
-called_is head (Err (faults.Field i f)) m e = absurd cc
+pub found_call_is : (head : Head) (read : Result Carried ShapeFault) (m : Message) → found_call head read ≡ Whole m → IsOf head read m
+found_call_is head (Ok c) m e = record { carried = c; read_is = refl; is = whole_of _ m e }
+found_call_is head (Err (faults.NoRow n)) m e = absurd cc
+found_call_is head (Err faults.OutOfMemory) m e = absurd cc
+found_call_is head (Err (faults.Head f)) m e = absurd cc
+found_call_is head (Err (faults.Field i f)) m e = absurd cc
 
-pub heard_is : (head : Head) (read : Result Carried ShapeFault) (m : Message) → heard head read ≡ Whole m → IsOf head read m
-heard_is head (Ok c) m e = record { carried = c; read_is = refl; is = whole_of _ m e }
-heard_is head (Err f) m e = absurd cc
+pub found_answer_is : (head : Head) (read : Result Carried ShapeFault) (m : Message) → found_answer head read ≡ Whole m → IsOf head read m
+found_answer_is head (Ok c) m e = record { carried = c; read_is = refl; is = whole_of _ m e }
+found_answer_is head (Err f) m e = absurd cc
 
 abbrev IsSpelled : List ℕ → Message → Type 0
 IsSpelled bytes m = (spelled m ≡ bytes) × Fits m
@@ -204,11 +205,11 @@ spelled_by bytes head rest half read m parts fits is found takes =
 
 behind_spelled : (bytes : List ℕ) (head : Head) (rest : List ℕ) (half : Half) (m : Message) → bytes ≡ words (head_words head) ++ rest → IsBytes rest → FitsHead head → head.half ≡ half → behind head half rest ≡ Whole m → IsSpelled bytes m
 behind_spelled bytes head rest halves.Call m parts left fits is e =
-    spelled_by bytes head rest halves.Call (asked_at head.opcode rest) m parts fits is (called_is head (asked_at head.opcode rest) m e) (λ c read. asked_takes head.opcode rest c left read)
+    spelled_by bytes head rest halves.Call (asked_at head.opcode rest) m parts fits is (found_call_is head (asked_at head.opcode rest) m e) (λ c read. asked_takes head.opcode rest c left read)
 behind_spelled bytes head rest halves.Reply m parts left fits is e =
-    spelled_by bytes head rest halves.Reply (replied_at head.opcode rest) m parts fits is (heard_is head (replied_at head.opcode rest) m e) (λ c read. replied_takes head.opcode rest c left read)
+    spelled_by bytes head rest halves.Reply (replied_at head.opcode rest) m parts fits is (found_answer_is head (replied_at head.opcode rest) m e) (λ c read. replied_takes head.opcode rest c left read)
 behind_spelled bytes head rest halves.Boot m parts left fits is e =
-    spelled_by bytes head rest halves.Boot (notice_at rest) m parts fits is (heard_is head (notice_at rest) m e) (λ c read. notice_takes head.opcode rest c left read)
+    spelled_by bytes head rest halves.Boot (notice_at rest) m parts fits is (found_answer_is head (notice_at rest) m e) (λ c read. notice_takes head.opcode rest c left read)
 
 head_spelled : (bytes : List ℕ) (m : Message) (o : Result (Head × List ℕ) XdrFault) → IsBytes bytes → head_at bytes ≡ o → behind_head o ≡ Whole m → IsSpelled bytes m
 head_spelled bytes m (Ok h) fits at e =
@@ -222,21 +223,21 @@ read_spelled bytes m fits e = head_spelled bytes m (head_at bytes) fits refl e
 
 -- ---- what is found in bytes is sound
 
-called_sound : (head : Head) (read : Result Carried ShapeFault) → IsSoundHead head → ((m : Message) → called head read ≡ Whole m → IsSoundMessage m) → IsSound (called head read)
-called_sound head (Ok c) nodes whole = whole (record { head = head; carried = c }) refl
-called_sound head (Err (faults.NoRow n)) nodes whole = nodes
-called_sound head (Err faults.OutOfMemory) nodes whole = nodes
-called_sound head (Err (faults.Head f)) nodes whole = nodes
-called_sound head (Err (faults.Field i f)) nodes whole = nodes
+found_call_sound : (head : Head) (read : Result Carried ShapeFault) → IsSoundHead head → ((m : Message) → found_call head read ≡ Whole m → IsSoundMessage m) → IsSound (found_call head read)
+found_call_sound head (Ok c) nodes whole = whole (record { head = head; carried = c }) refl
+found_call_sound head (Err (faults.NoRow n)) nodes whole = nodes
+found_call_sound head (Err faults.OutOfMemory) nodes whole = nodes
+found_call_sound head (Err (faults.Head f)) nodes whole = nodes
+found_call_sound head (Err (faults.Field i f)) nodes whole = nodes
 
-heard_sound : (head : Head) (read : Result Carried ShapeFault) → ((m : Message) → heard head read ≡ Whole m → IsSoundMessage m) → IsSound (heard head read)
-heard_sound head (Ok c) whole = whole (record { head = head; carried = c }) refl
-heard_sound head (Err f) whole = tt
+found_answer_sound : (head : Head) (read : Result Carried ShapeFault) → ((m : Message) → found_answer head read ≡ Whole m → IsSoundMessage m) → IsSound (found_answer head read)
+found_answer_sound head (Ok c) whole = whole (record { head = head; carried = c }) refl
+found_answer_sound head (Err f) whole = tt
 
 behind_sound : (head : Head) (half : Half) (rest : List ℕ) → IsSoundHead head → ((m : Message) → behind head half rest ≡ Whole m → IsSoundMessage m) → IsSound (behind head half rest)
-behind_sound head halves.Call rest nodes whole = called_sound head (asked_at head.opcode rest) nodes whole
-behind_sound head halves.Reply rest nodes whole = heard_sound head (replied_at head.opcode rest) whole
-behind_sound head halves.Boot rest nodes whole = heard_sound head (notice_at rest) whole
+behind_sound head halves.Call rest nodes whole = found_call_sound head (asked_at head.opcode rest) nodes whole
+behind_sound head halves.Reply rest nodes whole = found_answer_sound head (replied_at head.opcode rest) whole
+behind_sound head halves.Boot rest nodes whole = found_answer_sound head (notice_at rest) whole
 
 head_sound : (bytes : List ℕ) (o : Result (Head × List ℕ) XdrFault) → IsBytes bytes → head_at bytes ≡ o → ((m : Message) → behind_head o ≡ Whole m → IsSoundMessage m) → IsSound (behind_head o)
 head_sound bytes (Ok h) fits at whole = let t = head_takes bytes h.0 h.1 fits at in behind_sound h.0 h.0.half h.1 (t.fits.from, t.fits.to) whole
@@ -245,6 +246,56 @@ head_sound bytes (Err f) fits at whole = tt
 pub read_sound : (bytes : List ℕ) → IsBytes bytes → IsSound (received bytes)
 unfolding received
 read_sound bytes fits = head_sound bytes (head_at bytes) fits refl (λ m e. (read_spelled bytes m fits e).1.sound)
+
+-- ---- what is found is what the tables spell
+
+call_fits : (h : Head) (user : List ℕ) (call : FsCall) → IsCall h user call → Fits (record { head = h; carried = carried.Call user call })
+call_fits h user call is = record { sound = ((is.head.1.from, is.head.1.to), (is.head.0, is.opcode, is.user_fits, is.row)); numbers = is.head.1.numbers; in_range = is.in_range }
+
+fits_call : (h : Head) (user : List ℕ) (call : FsCall) → Fits (record { head = h; carried = carried.Call user call }) → IsCall h user call
+fits_call h user call f = let s = f.sound.1 in
+    record { head = (s.0, record { from = f.sound.0.0; to = f.sound.0.1; numbers = f.numbers }); opcode = s.1; user_fits = s.2; row = s.3; in_range = f.in_range }
+
+pub calls_are_found : CallsAreFound
+unfolding spelled
+calls_are_found bytes h user call fits =
+    let m : Message = record { head = h; carried = carried.Call user call } in
+    (λ s. ap received s.1 ∙ message_again m (call_fits h user call s.0), λ e. let r = read_spelled bytes m fits e in (fits_call h user call r.1, sym r.0))
+
+reply_fits : (h : Head) (reply : FsReply) → IsReply h (pos 0) (Some reply) → Fits (record { head = h; carried = carried.Reply reply })
+reply_fits h reply is = record { sound = ((is.head.1.from, is.head.1.to), (is.head.0, is.answer.1, is.answer.2)); numbers = is.head.1.numbers; in_range = is.answer.3 }
+
+fits_reply : (h : Head) (reply : FsReply) → Fits (record { head = h; carried = carried.Reply reply }) → IsReply h (pos 0) (Some reply)
+fits_reply h reply f = let s = f.sound.1 in
+    record { head = (s.0, record { from = f.sound.0.0; to = f.sound.0.1; numbers = f.numbers }); code_fits = zero_fits; answer = (refl, s.1, s.2, f.in_range) }
+
+pub replies_are_found : RepliesAreFound
+unfolding spelled
+replies_are_found bytes h reply fits =
+    let m : Message = record { head = h; carried = carried.Reply reply } in
+    (λ s. ap received s.1 ∙ message_again m (reply_fits h reply s.0), λ e. let r = read_spelled bytes m fits e in (fits_reply h reply r.1, sym r.0))
+
+refusal_fits : (h : Head) (code : Code) → IsReply h code.0 None → Fits (record { head = h; carried = carried.Refusal code })
+refusal_fits h code is = record { sound = ((is.head.1.from, is.head.1.to), (is.head.0, is.answer.0)); numbers = is.head.1.numbers; in_range = is.code_fits }
+
+fits_refusal : (h : Head) (code : Code) → IsSome (kinds_in h.opcode reply_rows) → Fits (record { head = h; carried = carried.Refusal code }) → IsReply h code.0 None
+fits_refusal h code row f = let s = f.sound.1 in
+    record { head = (s.0, record { from = f.sound.0.0; to = f.sound.0.1; numbers = f.numbers }); code_fits = f.in_range; answer = (s.1, row) }
+
+pub refusals_are_found : RefusalsAreFound
+unfolding spelled
+refusals_are_found bytes h code fits row =
+    let m : Message = record { head = h; carried = carried.Refusal code } in
+    (λ s. ap received s.1 ∙ message_again m (refusal_fits h code s.0), λ e. let r = read_spelled bytes m fits e in (fits_refusal h code row r.1, sym r.0))
+
+is_some : {A : Type 0} (o : Option A) (x : A) → o ≡ Some x → IsSome o
+is_some o x e = rw e refl
+
+pub rows_make_calls : RowsMakeCalls
+rows_make_calls opcode ks fs row are = let m = call_made opcode ks fs row are in is_some (call_of opcode fs) m.value m.is
+
+pub rows_make_replies : RowsMakeReplies
+rows_make_replies opcode ks fs row are = let m = reply_made opcode ks fs row are in is_some (reply_of opcode fs) m.value m.is
 
 -- ---- reading, step by step
 

@@ -30,8 +30,8 @@ use Rattle.afs_shape.proofs.FieldLaws.{bind_ok, in_place_ok, shape_ok_is}
 use Rattle.afs_model.specs.Heads.{head_at, half_at, node_at, known, half_of, is_zero}
 use Rattle.afs_model.specs.FsRows.{reply_rows, row_at, last_fields_at}
 use Rattle.afs_model.specs.FsMaking.{reply_of}
-use Rattle.afs_model.specs.Messages.{as_reply, asked_at, answer_at, refusal_at, replied_at, notice_at, called, heard, behind, behind_head, received, found, meant}
-use Rattle.afs_model.proofs.Spellings.{IsOf, called_is, heard_is, reply_is}
+use Rattle.afs_model.specs.Messages.{as_reply, asked_at, answer_at, refusal_at, replied_at, notice_at, found_call, found_answer, behind, behind_head, received, found, meant}
+use Rattle.afs_model.proofs.Spellings.{IsOf, found_call_is, found_answer_is, reply_is}
 use Rattle.afs_model.specs.Runs.{Entry, Cell}
 use Rattle.afs_model.specs.Text.{sent_text, route_text, half_text, code_of, code_read, code_at, message_text, messages_text, parcel_text, parcels_text, step_text, lines_text, entry_text, wire_entry_text, entries_text, wire_entries_text, history_text, wire_history_text, final_text, text, wire_text, Carries, CarryAll}
 
@@ -184,11 +184,11 @@ heard_code head bytes m of = replied_code head.opcode bytes of.carried of.read_i
 -- what isn't a reply is found as something else
 behind_code : (head : Head) (half : Half) (rest : List ℕ) (m : Message) → head.half ≡ half → m.head.half ≡ halves.Reply → behind head half rest ≡ Whole m → code_read (signed_at rest) ≡ code_of m.carried
 behind_code head halves.Call rest m is reply h =
-    let e : halves.Call ≡ halves.Reply = sym is ∙ (ap (λ (n : Message). n.head.half) (called_is head (asked_at head.opcode rest) m h).is ∙ reply) in
+    let e : halves.Call ≡ halves.Reply = sym is ∙ (ap (λ (n : Message). n.head.half) (found_call_is head (asked_at head.opcode rest) m h).is ∙ reply) in
     cc
-behind_code head halves.Reply rest m is reply h = heard_code head rest m (heard_is head (replied_at head.opcode rest) m h)
+behind_code head halves.Reply rest m is reply h = heard_code head rest m (found_answer_is head (replied_at head.opcode rest) m h)
 behind_code head halves.Boot rest m is reply h =
-    let e : halves.Boot ≡ halves.Reply = sym is ∙ (ap (λ (n : Message). n.head.half) (heard_is head (notice_at rest) m h).is ∙ reply) in
+    let e : halves.Boot ≡ halves.Reply = sym is ∙ (ap (λ (n : Message). n.head.half) (found_answer_is head (notice_at rest) m h).is ∙ reply) in
     cc
 
 found_code : (bytes : List ℕ) (m : Message) (o : Result (Head × List ℕ) XdrFault) → head_at bytes ≡ o → m.head.half ≡ halves.Reply → behind_head o ≡ Whole m → code_at bytes ≡ code_of m.carried

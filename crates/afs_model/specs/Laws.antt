@@ -1,11 +1,16 @@
 -- Laws about the runs of a script.
-use Rattle.std.specs.Prelude.{ℕ, List, ◌++◌}
+use Rattle.std.specs.Prelude.{◌≡◌, ◌↔◌, ℕ, List, ◌++◌, false}
 use Rattle.afs_num.specs.declared.types.Fid.{Fid}
 use Rattle.afs_num.specs.declared.types.Node.{Node}
 use Rattle.afs_num.specs.declared.scripts.Script.{Script}
 use Rattle.afs_num.specs.declared.histories.Body.{Body}
 use Rattle.afs_num.specs.declared.histories.Line.{Line}
 use Rattle.afs_num.specs.declared.histories.ReadSource.{ReadSource}
+use Rattle.afs_num.specs.declared.types.Head.{Head}
+use Rattle.afs_num.specs.declared.calls.FsCall.{FsCall}
+use Rattle.afs_num.specs.declared.states.StoredFile.{StoredFile}
+use Rattle.afs_model.specs.FsRows.{call_number}
+use Rattle.afs_model.specs.ServerRow.{serves, runs, asks, refuses, not_served}
 use Rattle.afs_model.specs.Runs.{Entry, Cell, RunsTo}
 use Rattle.afs_model.specs.Past.{lines_of}
 use Rattle.afs_model.specs.Ideal.{IsLast}
@@ -27,3 +32,7 @@ abbrev pub ReadsAreNewest : Type 0
 ReadsAreNewest =
     (c : Node) (f : Fid) (index : ℕ) (source : ReadSource) (body : Body) (past : List Entry) (own : List Line) (read : GoodRead c f index source body past own)
     → (IsOutstanding read.grant.server c f (own ++ since c f read.expiry read.reply past read.grant) → ⊥) → IsLast f index (own ++ lines_of past)
+
+-- a server tells that a call isn't served exactly where its opcode is none of those that it serves
+abbrev pub UnservedAreRefused : Type 0
+UnservedAreRefused = (files : List StoredFile) (head : Head) (call : FsCall) → (runs files head (asks call) ≡ refuses head not_served) ↔ (serves (call_number call) ≡ false)

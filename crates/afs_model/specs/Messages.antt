@@ -81,20 +81,20 @@ notice_at bytes = do
 -- ---- what a node finds in bytes
 
 -- a call is told from one whose opcode has no row, and from one whose user or fields can't be read
-abbrev pub called : Head → Result Carried ShapeFault → Received
-called head (Ok c) = Whole (record { head = head; carried = c })
-called head (Err (faults.NoRow n)) = Unknown head
-called head (Err e) = Unreadable head
+abbrev pub found_call : Head → Result Carried ShapeFault → Received
+found_call head (Ok c) = Whole (record { head = head; carried = c })
+found_call head (Err (faults.NoRow n)) = Unknown head
+found_call head (Err e) = Unreadable head
 
 -- a reply or a notice that can't be read is no message
-abbrev pub heard : Head → Result Carried ShapeFault → Received
-heard head (Ok c) = Whole (record { head = head; carried = c })
-heard head (Err e) = Nothing
+abbrev pub found_answer : Head → Result Carried ShapeFault → Received
+found_answer head (Ok c) = Whole (record { head = head; carried = c })
+found_answer head (Err e) = Nothing
 
 abbrev pub behind : Head → Half → List ℕ → Received
-behind head halves.Call bytes = called head (asked_at head.opcode bytes)
-behind head halves.Reply bytes = heard head (replied_at head.opcode bytes)
-behind head halves.Boot bytes = heard head (notice_at bytes)
+behind head halves.Call bytes = found_call head (asked_at head.opcode bytes)
+behind head halves.Reply bytes = found_answer head (replied_at head.opcode bytes)
+behind head halves.Boot bytes = found_answer head (notice_at bytes)
 
 abbrev pub behind_head : Result (Head × List ℕ) XdrFault → Received
 behind_head (Ok h) = behind h.0 h.0.half h.1

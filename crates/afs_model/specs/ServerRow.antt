@@ -121,10 +121,11 @@ pub data Decision : Type 0 where
 abbrev pub no_file : ℤ
 no_file = pos 102
 
--- no such call here, and fields that can't be read
-abbrev pub no_call : ℤ
-no_call = negsuc 454
+-- -455: the call isn't served here
+abbrev pub not_served : ℤ
+not_served = negsuc 454
 
+-- -453: the user or the fields can't be read
 abbrev pub bad_fields : ℤ
 bad_fields = negsuc 452
 
@@ -132,9 +133,9 @@ bad_fields = negsuc 452
 abbrev pub serves : ℕ → Bool
 serves opcode = nat_eq opcode fetch_data || nat_eq opcode store_data
 
--- that a call isn't served here is told before its fields are looked at
-abbrev pub unread_code : ℕ → ℤ
-unread_code opcode = if serves opcode then bad_fields else no_call
+-- where a call isn't served here, that is the answer, whatever stands behind its header
+abbrev pub code_of_unreadable : ℕ → ℤ
+code_of_unreadable opcode = if serves opcode then bad_fields else not_served
 
 abbrev pub fetches : Head → Option StoredFile → Decision
 fetches head None = refuses head no_file
@@ -153,9 +154,9 @@ pub data Request : Type 0 where
 abbrev pub runs : List StoredFile → Head → Request → Decision
 runs files head (asks (calls.FetchData fid position length)) = fetches head (find_file fid files)
 runs files head (asks (calls.StoreData fid status position length file_length contents)) = stores head contents (find_file fid files)
-runs files head (asks call) = refuses head no_call
-runs files head asks_unknown = refuses head no_call
-runs files head asks_unreadable = refuses head (unread_code head.opcode)
+runs files head (asks call) = refuses head not_served
+runs files head asks_unknown = refuses head not_served
+runs files head asks_unreadable = refuses head (code_of_unreadable head.opcode)
 
 abbrev pub answers_again : Option Message → Decision
 answers_again None = drops

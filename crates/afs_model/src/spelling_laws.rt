@@ -1,6 +1,6 @@
 //! Laws about the spelling of messages. Each is the contract of a function that does nothing.
 
-ghost use Rattle.afs_model.specs.SpellingLaws.{ReadAreSpelled, SpelledAreRead, SpellingsDontBegin};
+ghost use Rattle.afs_model.specs.SpellingLaws.{CallsAreFound, ReadAreSpelled, RefusalsAreFound, RepliesAreFound, RowsMakeCalls, RowsMakeReplies, SpelledAreRead, SpellingsDontBegin};
 
 /// What is spelled is read again.
 pub fn spelled_are_read()
@@ -15,4 +15,29 @@ pub fn spellings_dont_begin()
 /// A message that is read in bytes is one with a spelling, and the bytes are its spelling.
 pub fn read_are_spelled()
     ensures { ReadAreSpelled }
+{}
+
+/// A node finds a call in bytes exactly where they spell it.
+pub fn calls_are_found()
+    ensures { CallsAreFound }
+{}
+
+/// A node finds a reply with code 0 in bytes exactly where they spell it.
+pub fn replies_are_found()
+    ensures { RepliesAreFound }
+{}
+
+/// A node finds a refusal of a call that has a row in bytes exactly where they spell it.
+pub fn refusals_are_found()
+    ensures { RefusalsAreFound }
+{}
+
+/// What is read by the row of a call makes a call.
+pub fn rows_make_calls()
+    ensures { RowsMakeCalls }
+{}
+
+/// What is read by the row of a reply makes a reply.
+pub fn rows_make_replies()
+    ensures { RowsMakeReplies }
 {}

@@ -21,7 +21,7 @@ use Rattle.afs_num.specs.declared.states.ServerState.{ServerState}
 use Rattle.afs_model.specs.Heads.{contents_limit, is_zero, IsSoundHead}
 use Rattle.afs_model.specs.FsRows.{fetch_data, store_data, call_rows, call_number, call_fields, HasRow}
 use Rattle.afs_model.specs.Messages.{IsSound, IsSoundCarried, IsSoundMessage}
-use Rattle.afs_model.specs.ServerRow.{serves, no_call, bad_fields, Standing, is_older, is_last, is_newer, standing, seat_of, find_file, stored, with_file, Decision, drops, tells_boot, repeats, refuses, grants, saves, fetches, stores, Request, asks, asks_unknown, asks_unreadable, runs, answers_again, admits, called, hears, decides, keeps, saved, does, server_row, refusal}
+use Rattle.afs_model.specs.ServerRow.{serves, not_served, bad_fields, Standing, is_older, is_last, is_newer, standing, seat_of, find_file, stored, with_file, Decision, drops, tells_boot, repeats, refuses, grants, saves, fetches, stores, Request, asks, asks_unknown, asks_unreadable, runs, answers_again, admits, called, hears, decides, keeps, saved, does, server_row, refusal}
 use Rattle.afs_world.specs.Serving.{KeepsSound, IsKept, IsWithin, IsSoundCall}
 use Rattle.afs_world.proofs.Limits.{All-find}
 
@@ -98,7 +98,7 @@ stores_fine : (n : ℕ) (files : List StoredFile) (head : Head) (fid : Fid) (con
 stores_fine n files head fid contents None e h sound is short = (sound, refl)
 stores_fine n files head fid contents (Some file) e h sound is short = (sound, (is, (short, All-find (IsKept n) (λ v. same_fid v.fid fid) files file h e)))
 
-unread_refused : (served : Bool) → is_zero (cond served bad_fields no_call) ≡ false
+unread_refused : (served : Bool) → is_zero (cond served bad_fields not_served) ≡ false
 unread_refused true = refl
 unread_refused false = refl
 

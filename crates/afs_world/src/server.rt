@@ -9,7 +9,7 @@ ghost use Rattle.afs_model.specs.Heads.{contents_limit, is_zero, IsSoundHead};
 ghost use Rattle.afs_model.specs.FsRows.{fetch_data, store_data};
 ghost use Rattle.afs_model.specs.Messages.{found, meant, received, IsSound, IsSoundMessage};
 ghost use Rattle.afs_model.specs.Steps.{Step, Makes};
-ghost use Rattle.afs_model.specs.ServerRow.{seat_of, seated, find_file, with_file, stored, status_of, no_release, promise_until, promise_ticks, version_of, key_of, reply_head, keeps, saved, pair_below, runs, serves, unread_code, called, admits, standing, decides, does, server_row, refuses_step, grants_step, saves_step, refusal, told, boot_told};
+ghost use Rattle.afs_model.specs.ServerRow.{seat_of, seated, find_file, with_file, stored, status_of, no_release, promise_until, promise_ticks, version_of, key_of, reply_head, keeps, saved, pair_below, runs, serves, code_of_unreadable, called, admits, standing, decides, does, server_row, refuses_step, grants_step, saves_step, refusal, told, boot_told};
 ghost use Rattle.afs_num.specs.declared.states.ServerState.{ServerState};
 ghost use Rattle.afs_world.specs.Serving.{asked_by, fetches_step, stores_step, saved_step, IsSoundRequest, KeepsSound, IsKept, IsWithin, count_limit};
 
@@ -270,9 +270,9 @@ fn serves(opcode: u32) -> bool
     opcode == 130 || opcode == 133
 }
 
-/// The answer to a call whose fields can't be read: that it isn't served here comes first.
-fn unread_code(opcode: u32) -> i32
-    ensures code { result ≡ unread_code opcode }
+/// The answer to a call that can't be read: where it isn't served here, that is the answer.
+fn code_of_unreadable(opcode: u32) -> i32
+    ensures code { result ≡ code_of_unreadable opcode }
     ensures some { is_zero result ≡ false }
 {
     if serves(opcode) { -453 } else { -455 }
@@ -500,7 +500,7 @@ impl FileServer {
             ),
             Request::Call(_) => self.refuse(alloc, place, head, -455),
             Request::Unknown => self.refuse(alloc, place, head, -455),
-            Request::Unreadable => self.refuse(alloc, place, head, unread_code(head.opcode)),
+            Request::Unreadable => self.refuse(alloc, place, head, code_of_unreadable(head.opcode)),
         }
     }
 
