@@ -1,13 +1,14 @@
 //! Calls: a header, the user in place 0, the call's fields from place 1 on.
 
 ghost use Rattle.std.specs.Prelude.{◌≡◌, ◌≤◌, length, List, ℕ, IfOk, OnOk};
+ghost use Rattle.afs_num.specs.declared.types.Half.TheVariants as halves;
 ghost use Rattle.afs_num.specs.declared.types.Head.{Head};
 ghost use Rattle.afs_num.specs.declared.calls.FsCall.{FsCall};
 ghost use Rattle.afs_shape.specs.Reading.{GivesShape};
 ghost use Rattle.afs_xdr.specs.Words.{AreWords};
 ghost use Rattle.afs_shape.specs.Tables.{kinds_of, AreInRange};
 ghost use Rattle.afs_model.specs.Heads.{user_limit, head_words};
-ghost use Rattle.afs_model.specs.FsRows.{call_rows, call_number, call_fields, HasRow, asked_parts_at, call_parts_at, spelled_call, SpellsCall, ReadsCall, IsUnless};
+ghost use Rattle.afs_model.specs.FsRows.{call_rows, call_number, call_fields, HasRow, asked_parts_at, call_parts_at, spelled_call, SpellsCall, ReadsCall, IsUnless, IsHeadFor};
 
 use crate::heads::write_head;
 use crate::making::call_from;
@@ -81,12 +82,12 @@ pub fn decode_call(alloc: Global, bytes: &[u8]) -> Result<(Head, Octets, FsCall)
     read_call(alloc, bytes)
 }
 
-/// The one spelling of a call. The room for the whole message is taken once.
-pub fn encode_call(alloc: Global, head: &Head, user: &[u8], call: &FsCall) -> Mem<Octets>
+/// The bytes of a call. The room for the whole message is taken once.
+pub(crate) fn spell_call(alloc: Global, head: &Head, user: &[u8], call: &FsCall) -> Mem<Octets>
     requires user { length user.now ≤ user_limit }
     requires row { HasRow call_rows (call_number call.now) (call_fields call.now) }
     ensures spelled { IfOk result (λ bytes. bytes ≡ spelled_call head.now user.now call.now) }
-    // What the types of its numbers keep, for who reads it again.
+    // What the types of its numbers keep, for who says that it is read again.
     ensures fits { OnOk result (AreWords (head_words head.now) × AreInRange (call_fields call.now)) }
 {
     let parts = call_parts(alloc, call)?;
@@ -97,4 +98,16 @@ pub fn encode_call(alloc: Global, head: &Head, user: &[u8], call: &FsCall) -> Me
     write_parts(&parts, &mut w)?;
     let bytes = w.into_vec()?;
     Ok(Octets::from_vec(bytes))
+}
+
+/// The one spelling of a call.
+pub fn encode_call(alloc: Global, head: &Head, user: &[u8], call: &FsCall) -> Mem<Octets>
+    requires user { length user.now ≤ user_limit }
+    requires row { HasRow call_rows (call_number call.now) (call_fields call.now) }
+    ensures spelled { IfOk result (λ bytes. bytes ≡ spelled_call head.now user.now call.now) }
+    // Under a header of its own it is the call, and `decode_call` gives it back.
+    ensures spells { IsHeadFor halves.Call (call_number call.now) head.now → IfOk result (SpellsCall head.now user.now call.now) }
+{
+    let bytes = spell_call(alloc, head, user, call)?;
+    Ok(bytes)
 }

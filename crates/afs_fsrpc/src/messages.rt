@@ -8,11 +8,11 @@ ghost use Rattle.afs_model.specs.FsMaking.{call_of, reply_of};
 ghost use Rattle.afs_model.specs.Heads.{head_words};
 ghost use Rattle.afs_xdr.specs.Words.{AreWords};
 
-use crate::calls::{encode_call, read_asked};
+use crate::calls::{read_asked, spell_call};
 use crate::heads::{head_of, write_head};
 use crate::making::{call_from, reply_from};
 use crate::reading::last_fields;
-use crate::replies::{encode_reply, is_done, no_fields, read_code};
+use crate::replies::{is_done, no_fields, read_code, spell_reply};
 use crate::tables::{CALLS, REPLIES};
 use afs_num::messages::{Carried, Message, Received};
 use afs_num::sequences::Octets;
@@ -193,9 +193,9 @@ fn encode(alloc: Global, message: &Message) -> Mem<Octets>
     ensures fits { OnOk result (Fits message.now) }
 {
     match &message.carried {
-        Carried::Call { user, call } => encode_call(alloc, &message.head, user.as_slice(), call),
-        Carried::Refusal { code } => encode_reply(alloc, &message.head, *code, None),
-        Carried::Reply { reply } => encode_reply(alloc, &message.head, Code(0), Some(reply)),
+        Carried::Call { user, call } => spell_call(alloc, &message.head, user.as_slice(), call),
+        Carried::Refusal { code } => spell_reply(alloc, &message.head, *code, None),
+        Carried::Reply { reply } => spell_reply(alloc, &message.head, Code(0), Some(reply)),
         Carried::Notice => encode_notice(alloc, &message.head),
     }
 }

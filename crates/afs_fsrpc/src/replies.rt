@@ -3,13 +3,14 @@
 ghost use Rattle.std.specs.Prelude.{◌≡◌, ◌≤◌, length, List, [], ℕ, ℤ, Option, IfOk, OnOk, FitsSigned};
 ghost use Rattle.std.specs.Int.{w32};
 ghost use Rattle.std.specs.Option.{option_copied};
+ghost use Rattle.afs_num.specs.declared.types.Half.TheVariants as halves;
 ghost use Rattle.afs_num.specs.declared.types.Head.{Head};
 ghost use Rattle.afs_num.specs.declared.calls.FsReply.{FsReply};
 ghost use Rattle.afs_shape.specs.Reading.{in_place, signed_at, ReadsShape, GivesShape};
 ghost use Rattle.afs_xdr.specs.Words.{AreWords};
 ghost use Rattle.afs_shape.specs.Tables.{kinds_of, AreInRange};
 ghost use Rattle.afs_model.specs.Heads.{is_zero, head_words};
-ghost use Rattle.afs_model.specs.FsRows.{last_fields_at, kinds_behind, replied_parts_at, reply_parts_at, spelled_reply, SpellsReply, ReadsReply, IsUnless, CanAnswer, answer_fields};
+ghost use Rattle.afs_model.specs.FsRows.{last_fields_at, kinds_behind, replied_parts_at, reply_parts_at, spelled_reply, SpellsReply, ReadsReply, IsUnless, CanAnswer, IsHeadFor, IsOpcodeOf, answer_fields};
 ghost use Rattle.afs_shape.specs.Parts.{fields_of};
 
 use crate::heads::write_head;
@@ -145,12 +146,16 @@ fn answer_parts<'a>(alloc: Global, reply: Option<&'a FsReply>) -> Mem<Vec<Part<'
     }
 }
 
-/// The one spelling of a reply. The room for the whole message is taken once. A refusal may answer a call whose
-/// opcode has no row; it is then spelled, and `decode_reply` answers `NoRow`.
-pub fn encode_reply(alloc: Global, head: &Head, code: Code, reply: Option<&FsReply>) -> Mem<Octets>
+/// The bytes of a reply. The room for the whole message is taken once.
+pub(crate) fn spell_reply(
+    alloc: Global,
+    head: &Head,
+    code: Code,
+    reply: Option<&FsReply>,
+) -> Mem<Octets>
     requires { CanAnswer code.0 (option_copied reply) }
     ensures spelled { IfOk result (λ bytes. bytes ≡ spelled_reply head.now code.0 (option_copied reply.entry)) }
-    // What the types of its numbers keep, for who reads it again.
+    // What the types of its numbers keep, for who says that it is read again.
     ensures fits { OnOk result (AreWords (head_words head.now) × FitsSigned w32 code.0 × AreInRange (answer_fields (option_copied reply.entry))) }
 {
     let parts = answer_parts(alloc, reply)?;
@@ -161,4 +166,16 @@ pub fn encode_reply(alloc: Global, head: &Head, code: Code, reply: Option<&FsRep
     write_parts(&parts, &mut w)?;
     let bytes = w.into_vec()?;
     Ok(Octets::from_vec(bytes))
+}
+
+/// The one spelling of a reply. A refusal may answer a call whose opcode has no row; it is then spelled, and
+/// `decode_reply` answers `NoRow`.
+pub fn encode_reply(alloc: Global, head: &Head, code: Code, reply: Option<&FsReply>) -> Mem<Octets>
+    requires { CanAnswer code.0 (option_copied reply) }
+    ensures spelled { IfOk result (λ bytes. bytes ≡ spelled_reply head.now code.0 (option_copied reply.entry)) }
+    // Under a header of its own it is the reply, and `decode_reply` gives it back.
+    ensures spells { IsHeadFor halves.Reply head.now.opcode head.now → IsOpcodeOf head.now.opcode (option_copied reply.entry) → IfOk result (SpellsReply head.now code.0 (option_copied reply.entry)) }
+{
+    let bytes = spell_reply(alloc, head, code, reply)?;
+    Ok(bytes)
 }

@@ -9,7 +9,7 @@ use Rattle.afs_num.specs.declared.types.Code.{Code}
 use Rattle.afs_num.specs.declared.calls.FsCall.{FsCall}
 use Rattle.afs_num.specs.declared.calls.FsReply.{FsReply}
 use Rattle.afs_xdr.specs.declared.faults.XdrFault.{XdrFault}
-use Rattle.afs_xdr.specs.Words.{word, words, opaque, opaque_at}
+use Rattle.afs_xdr.specs.Words.{AreWords, word, words, opaque, opaque_at}
 use Rattle.afs_shape.specs.declared.faults.ShapeFault.{ShapeFault}
 use Rattle.afs_shape.specs.declared.faults.ShapeFault.TheVariants as faults
 use Rattle.afs_shape.specs.declared.kinds.Kind.{Kind}
@@ -22,7 +22,7 @@ use Rattle.afs_shape.specs.Tables.{kinds_in, AreOf, AreInRange}
 use Rattle.afs_shape.proofs.Codecs.{IsBytes, opaque_codec, signed_codec}
 use Rattle.afs_shape.proofs.FieldLaws.{shape_ok_is, fields_again}
 use Rattle.afs_model.specs.Heads.{user_limit, head_words, signed, is_zero}
-use Rattle.afs_model.specs.FsRows.{call_rows, reply_rows, call_number, call_fields, reply_number, reply_fields, HasRow, IsHead, IsCall, IsAnswer, IsReply, spelled_call, spelled_reply, answer_fields, SpellsCall, SpellsReply, half_head_at, call_parts_at, kinds_behind, reply_parts_at, IsUnless, ReadsCall, IsReplied, ReadsReply, CanAnswer}
+use Rattle.afs_model.specs.FsRows.{call_rows, reply_rows, call_number, call_fields, reply_number, reply_fields, HasRow, IsHead, IsCall, IsAnswer, IsReply, spelled_call, spelled_reply, answer_fields, SpellsCall, SpellsReply, half_head_at, call_parts_at, kinds_behind, reply_parts_at, IsUnless, ReadsCall, IsReplied, ReadsReply, CanAnswer, IsHeadFor, IsOpcodeOf}
 use Rattle.afs_model.specs.FsMaking.{call_of, reply_of}
 use Rattle.afs_model.proofs.FsLaws.{AreCallParts, AreReplyParts, HasKinds, half_head_again, found_row, call_parts_take, call_parts_again, reply_parts_take, reply_parts_again}
 use Rattle.afs_model.proofs.FsMade.{Made, call_again, reply_again, call_made, reply_made, some_is}
@@ -273,6 +273,22 @@ answer_spellable code None h = tt
 answer_spellable code (Some reply) h =
     let k = found_row reply_rows (reply_number reply) (reply_fields reply) h.1 in
     AreOf-each k.0 (reply_fields reply) k.2
+
+-- what was written under a header of its own is spelled so
+
+pub call_spells : (h : Head) (user : List ℕ) (call : FsCall) (bytes : List ℕ) → length user ≤ user_limit → HasRow call_rows (call_number call) (call_fields call) → AreWords (head_words h) → AreInRange (call_fields call)
+    → bytes ≡ spelled_call h user call → IsHeadFor halves.Call (call_number call) h → SpellsCall h user call bytes
+call_spells h user call bytes few row numbers in_range e head =
+    (record { head = (head.1, record { from = head.0.0; to = head.0.1; numbers = numbers }); opcode = head.2; user_fits = few; row = row; in_range = in_range }, e)
+
+answered : (opcode : ℕ) (code : ℤ) (reply : Option FsReply) → CanAnswer code reply → AreInRange (answer_fields reply) → IsOpcodeOf opcode reply → IsAnswer opcode code reply
+answered opcode code None can in_range is = (can, is)
+answered opcode code (Some reply) can in_range is = (can.0, is, can.1, in_range)
+
+pub reply_spells : (h : Head) (code : ℤ) (reply : Option FsReply) (bytes : List ℕ) → CanAnswer code reply → AreWords (head_words h) → FitsSigned w32 code → AreInRange (answer_fields reply)
+    → bytes ≡ spelled_reply h code reply → IsHeadFor halves.Reply h.opcode h → IsOpcodeOf h.opcode reply → SpellsReply h code reply bytes
+reply_spells h code reply bytes can numbers small in_range e head is =
+    (record { head = (head.1, record { from = head.0.0; to = head.0.1; numbers = numbers }); code_fits = small; answer = answered h.opcode code reply can in_range is }, e)
 
 -- what was read can be answered again
 pub reply_can_answer : (h : Head) (code : ℤ) (reply : Option FsReply) (bytes : List ℕ) → SpellsReply h code reply bytes → CanAnswer code reply

@@ -22,7 +22,7 @@ use Rattle.afs_shape.specs.declared.kinds.Field.TheVariants as fields
 use Rattle.afs_shape.specs.Spelling.{fields_spelled}
 use Rattle.afs_shape.specs.Reading.{◌>>=◌, in_place, signed_at, fields_at}
 use Rattle.afs_shape.specs.Tables.{kinds_in, AreOf, AreInRange}
-use Rattle.afs_model.specs.Heads.{user_limit, contents_limit, head_words, head_at, signed, is_zero, FitsHead}
+use Rattle.afs_model.specs.Heads.{user_limit, contents_limit, head_words, head_at, signed, is_zero, IsSoundHead, FitsHead}
 
 -- ---- the rows
 
@@ -190,7 +190,7 @@ pub record IsCall (h : Head) (user : List ℕ) (call : FsCall) : Type 0 where
   pub row : HasRow call_rows (call_number call) (call_fields call)
   pub in_range : AreInRange (call_fields call)
 
--- a reply has fields exactly where its code is 0
+-- a reply has fields exactly where its code is 0, and here also a row; a node takes a refusal without one as well
 abbrev pub IsAnswer : ℕ → ℤ → Option FsReply → Type 0
 IsAnswer opcode code None = (is_zero code ≡ false) × IsSome (kinds_in opcode reply_rows)
 IsAnswer opcode code (Some reply) = (is_zero code ≡ true) × (opcode ≡ reply_number reply) × HasRow reply_rows (reply_number reply) (reply_fields reply) × AreInRange (reply_fields reply)
@@ -320,6 +320,15 @@ ReadsReply bytes (Err faults.OutOfMemory) = Unit {0}
 ReadsReply bytes (Err (faults.Head f)) = reply_parts_at bytes ≡ Err (faults.Head f)
 ReadsReply bytes (Err (faults.NoRow n)) = reply_parts_at bytes ≡ Err (faults.NoRow n)
 ReadsReply bytes (Err (faults.Field i f)) = reply_parts_at bytes ≡ Err (faults.Field i f)
+
+-- a header of this half and opcode, from a node to a node
+abbrev pub IsHeadFor : Half → ℕ → Head → Type 0
+IsHeadFor half opcode h = IsSoundHead h × (h.half ≡ half) × (h.opcode ≡ opcode)
+
+-- the opcode of a reply: that of its row, or for a refusal that of any row
+abbrev pub IsOpcodeOf : ℕ → Option FsReply → Type 0
+IsOpcodeOf opcode None = IsSome (kinds_in opcode reply_rows)
+IsOpcodeOf opcode (Some reply) = opcode ≡ reply_number reply
 
 -- what can be answered: a reply exactly where the code is 0, within the limits of its row
 abbrev pub CanAnswer : ℤ → Option FsReply → Type 0

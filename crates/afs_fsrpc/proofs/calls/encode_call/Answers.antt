@@ -1,10 +1,5 @@
-use Rattle.afs_shape.proofs.Spellable.{parts_spellable}
-use Rattle.afs_model.specs.FsRows.{call_fields}
-use Rattle.afs_model.proofs.FsMessages.{call_spellable}
+use Rattle.afs_model.proofs.FsMessages.{call_spells}
 use Rattle.afs_fsrpc.proofs.calls.encode_call.Goals as goal
 
-pub size_of_all-requires-clause-spellable : goal.size_of_all-requires-clause-spellable
-size_of_all-requires-clause-spellable c = rw c.deref.ensures.value (parts_spellable c.in_ok-parts.parts.items (call_fields c.args.call.now) c.in_ok-parts.ensures.parts (call_spellable c.args.call.now c.requires.row))
-
-pub write_parts-requires : goal.write_parts-requires
-write_parts-requires c = rw c.deref-2.ensures.value (parts_spellable c.in_ok-parts.parts.items (call_fields c.args.call.now) c.in_ok-parts.ensures.parts (call_spellable c.args.call.now c.requires.row))
+pub returns-clause-spells : goal.returns-clause-spells
+returns-clause-spells c = λ head. call_spells c.args.head.now c.args.user.now c.args.call.now c.in_ok-bytes.bytes c.requires.user c.requires.row c.in_ok-bytes.ensures.fits.0 c.in_ok-bytes.ensures.fits.1 c.in_ok-bytes.ensures.spelled head

@@ -1,11 +1,6 @@
 use Rattle.std.specs.Option.{option_copied}
-use Rattle.afs_shape.proofs.Spellable.{parts_spellable}
-use Rattle.afs_model.specs.FsRows.{answer_fields}
-use Rattle.afs_model.proofs.FsMessages.{answer_spellable}
+use Rattle.afs_model.proofs.FsMessages.{reply_spells}
 use Rattle.afs_fsrpc.proofs.replies.encode_reply.Goals as goal
 
-pub size_of_all-size-requires-clause-spellable : goal.size_of_all-size-requires-clause-spellable
-size_of_all-size-requires-clause-spellable c = rw c.deref.ensures.value (parts_spellable c.in_ok-parts.parts.items (answer_fields (option_copied c.args.reply)) c.in_ok-parts.ensures.parts (answer_spellable c.args.code.0 (option_copied c.args.reply) c.requires))
-
-pub write_parts-requires : goal.write_parts-requires
-write_parts-requires c = rw c.deref-2.ensures.value (parts_spellable c.in_ok-parts.parts.items (answer_fields (option_copied c.args.reply)) c.in_ok-parts.ensures.parts (answer_spellable c.args.code.0 (option_copied c.args.reply) c.requires))
+pub returns-clause-spells : goal.returns-clause-spells
+returns-clause-spells c = λ head is. reply_spells c.args.head.now c.args.code.0 (option_copied c.args.reply) c.in_ok-bytes.bytes c.requires c.in_ok-bytes.ensures.fits.0 c.in_ok-bytes.ensures.fits.1 c.in_ok-bytes.ensures.fits.2 c.in_ok-bytes.ensures.spelled head is
