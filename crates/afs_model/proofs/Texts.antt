@@ -229,9 +229,6 @@ parcel_same place p m head bytes =
     ap (λ (h : Head). sent_text place h (code_at p.bytes)) head
     ∙ sent_same place m.head (code_at p.bytes) (code_of m.carried) (λ reply. reply_code p.bytes m reply bytes)
 
-Found : Type 0
-Found = Head × Received
-
 first_is : {A : Type 0} {x y : A} {xs ys : List A} → x ∷ xs ≡ y ∷ ys → x ≡ y
 first_is h = cc
 
@@ -244,7 +241,7 @@ parcels_same place [] (m ∷ ms) h = cc
 parcels_same place (p ∷ ps) [] h = cc
 parcels_same place (p ∷ ps) (m ∷ ms) h =
     let e = first_is h in
-    let one = parcel_same place p m (ap (λ (x : Head × Received). x.0) e) (ap (λ (x : Head × Received). x.1) e) in
+    let one = parcel_same place p m (ap (λ (x : Head × List ℕ × Received). x.0) e) (ap (λ (x : Head × List ℕ × Received). x.2) e) in
     let more = parcels_same (place + 1) ps ms (others_are h) in
     ap (λ (t : List ℕ). t ++ parcels_text (place + 1) ps) one ∙ ap (λ (t : List ℕ). message_text place m ++ t) more
 
