@@ -1,4 +1,4 @@
-use Rattle.std.proofs.Common.{List, ap, subst, sym, ◌∙◌}
+use Rattle.std.proofs.Common.{List, ap, ◌∙◌}
 use Rattle.afs_num.specs.declared.histories.Entry as parcelled
 use Rattle.afs_num.specs.declared.states.StoredFile.{StoredFile}
 use Rattle.afs_model.specs.Text.{parcelled_text}
