@@ -1,16 +1,17 @@
 #!/bin/sh
-# Runs the rows through the built program. Each tests/rows/NAME.afs is a script; NAME.text is what has to be printed,
+# Runs the rows through the built program, each without and with --wire. Each tests/rows/NAME.afs is a script; NAME.text
+# is what has to be printed, NAME.wire the same with --wire (NAME.text where there is none: no message is sent),
 # NAME.status the exit status (0 where there is none) and NAME.err the line on standard error (nothing where there is
 # none). Then come words that are no form of the program, and a source and a sink that fail. Where the reference program
-# is beside the repository, fifty made scripts are compared with it.
+# is beside the repository, fifty made scripts are compared with it, both ways.
 # AFSCELL names another program to test; AFSCELL_REFERENCE is the folder of the reference program.
 set -eu
 
 cd "$(dirname "$0")/.."
 program=${AFSCELL:-./afscell}
 reference=${AFSCELL_REFERENCE:-../shared/oracle}/afscell.py
-# the reference program's name for scripts of this form
-form=1
+# the reference program's name for what this program has
+form=2
 
 work=$(mktemp -d)
 trap 'rm -rf "$work"' EXIT
@@ -48,6 +49,16 @@ wanted() {
     if [ -n "$3" ]; then printf '%s\n' "$3" > "$work/want.err"; else : > "$work/want.err"; fi
 }
 
+# Runs the program with these words over a source, and judges it under this name: play NAME SOURCE WORDS..
+play() {
+    name=$1
+    source=$2
+    shift 2
+    status=0
+    "$program" "$@" < "$source" > "$work/out" 2> "$work/err" || status=$?
+    judge "$name"
+}
+
 # The program is built before the first row, so that nothing else is told on standard error in a row.
 "$program" replay < tests/rows/nothing_to_do.afs > /dev/null || {
     echo 'the program was not built, or fails on the smallest script'
@@ -62,34 +73,42 @@ for script in tests/rows/*.afs; do
     if [ -f "$row.status" ]; then want=$(cat "$row.status"); fi
     if [ -f "$row.err" ]; then line=$(cat "$row.err"); fi
     wanted "$want" "$row.text" "$line"
-    status=0
-    "$program" replay < "$script" > "$work/out" 2> "$work/err" || status=$?
-    judge "${row##*/}"
+    play "${row##*/}" "$script" replay
+    if [ -f "$row.wire" ]; then wanted "$want" "$row.wire" "$line"; fi
+    play "${row##*/} with --wire" "$script" replay --wire
 done
 
 usage() {
     name=$1
     shift
-    wanted 2 /dev/null 'usage: afscell replay'
-    status=0
-    "$program" "$@" < tests/rows/open_close.afs > "$work/out" 2> "$work/err" || status=$?
-    judge "words: $name"
+    wanted 2 /dev/null 'usage: afscell replay [--wire]'
+    play "words: $name" tests/rows/open_close.afs "$@"
 }
 
 usage 'none'
-usage 'replay --wire' replay --wire
 usage 'replay twice' replay replay
 usage 'an empty word' ''
 usage 'Replay' Replay
 usage 'help' help
+usage '--help' --help
 usage 'run' run
+usage 'run --wire' run --wire
 usage 'gen 1' gen 1
+usage '--wire alone' --wire
+usage '--wire before replay' --wire replay
+usage '--wire twice' replay --wire --wire
+usage '--Wire' replay --Wire
+usage '-wire' replay -wire
+usage '--wire=1' replay --wire=1
+usage '--' replay --
+usage 'an empty word behind replay' replay ''
+usage '--disks' replay --disks disks
+usage '--wire --disks' replay --wire --disks disks
 
 # A folder can't be read.
 wanted 4 /dev/null 'read fault'
-status=0
-"$program" replay < tests > "$work/out" 2> "$work/err" || status=$?
-judge 'a source that fails'
+play 'a source that fails' tests replay
+play 'a source that fails, with --wire' tests replay --wire
 
 # A full device takes nothing.
 if [ -c /dev/full ]; then
@@ -111,25 +130,28 @@ at_limit() {
 at_limit 199994 > "$work/long.afs"
 printf 'final\nvolume s1 536870912 v 0 0\nvnode 536870912.1.1 2 1 1 d:\nend\n' > "$work/long.text"
 wanted 0 "$work/long.text" ''
-status=0
-"$program" replay < "$work/long.afs" > "$work/out" 2> "$work/err" || status=$?
-judge 'as many lines as a script may have'
+play 'as many lines as a script may have' "$work/long.afs" replay
 at_limit 199995 > "$work/long.afs"
 wanted 3 /dev/null 'script: line 200001: Limit'
-status=0
-"$program" replay < "$work/long.afs" > "$work/out" 2> "$work/err" || status=$?
-judge 'one line more than a script may have'
+play 'one line more than a script may have' "$work/long.afs" replay
+
+# What is wanted is what the reference program prints and tells: compare NAME SOURCE WORDS..
+compare() {
+    name=$1
+    source=$2
+    shift 2
+    want=0
+    python3 "$reference" "$@" --stage "R$form" < "$source" > "$work/want.out" 2> "$work/want.err" || want=$?
+    play "$name" "$source" "$@"
+}
 
 # Made scripts, beside the reference program.
 if [ -f "$reference" ] && command -v python3 > /dev/null 2>&1; then
     seed=1
     while [ "$seed" -le 50 ]; do
         python3 tests/generate.py "$seed" > "$work/made.afs"
-        want=0
-        python3 "$reference" replay --stage "R$form" < "$work/made.afs" > "$work/want.out" 2> "$work/want.err" || want=$?
-        status=0
-        "$program" replay < "$work/made.afs" > "$work/out" 2> "$work/err" || status=$?
-        judge "made script $seed"
+        compare "made script $seed" "$work/made.afs" replay
+        compare "made script $seed with --wire" "$work/made.afs" replay --wire
         seed=$((seed + 1))
     done
 else

@@ -1,6 +1,6 @@
--- An entry with bytes and the entry with the values that they are read as have one text.
+-- An entry with bytes and the entry with the values that they carry have one text, with the bytes of messages or without.
 use Rattle.std.proofs.Common.{◌≡◌, ℕ, suc, ◌+◌, List, [], ◌∷◌, ◌++◌, length, drop, refl, ap, sym, ◌∙◌, Result, Ok, Err, Option, Some, None, ℤ, pos, negsuc, Bool, true, false}
-use Rattle.std.specs.Prelude.{nat_lt, if◌then◌else◌}
+use Rattle.std.specs.Prelude.{nat_lt, codes, if◌then◌else◌}
 use Rattle.afs_xdr.specs.declared.faults.XdrFault.TheVariants.{Short}
 use Rattle.std.proofs.lemmas.Bool.{eqb-true}
 use Rattle.std.proofs.lemmas.List.{drop-drop}
@@ -17,7 +17,7 @@ use Rattle.afs_num.specs.declared.messages.Received.TheVariants.{Nothing, Unknow
 use Rattle.afs_xdr.specs.declared.faults.XdrFault.{XdrFault}
 use Rattle.afs_xdr.specs.Words.{◌>>=◌, word_at}
 use Rattle.afs_num.specs.declared.messages.Received.{Received}
-use Rattle.afs_num.specs.declared.histories.Entry.{Entry as WireEntry}
+use Rattle.afs_num.specs.declared.histories.Entry.{Entry as ParcelledEntry}
 use Rattle.afs_num.specs.declared.histories.Line.{Line}
 use Rattle.afs_num.specs.declared.scripts.Script.{Script}
 use Rattle.afs_num.specs.declared.states.StoredFile.{StoredFile}
@@ -30,10 +30,10 @@ use Rattle.afs_shape.proofs.FieldLaws.{bind_ok, in_place_ok, shape_ok_is}
 use Rattle.afs_model.specs.Heads.{head_at, half_at, node_at, known, half_of, is_zero}
 use Rattle.afs_model.specs.FsRows.{reply_rows, row_at, last_fields_at}
 use Rattle.afs_model.specs.FsMaking.{reply_of}
-use Rattle.afs_model.specs.Messages.{as_reply, asked_at, answer_at, refusal_at, replied_at, notice_at, found_call, found_answer, behind, behind_head, received, found, meant}
+use Rattle.afs_model.specs.Messages.{as_reply, asked_at, answer_at, refusal_at, replied_at, notice_at, found_call, found_answer, behind, behind_head, received, spelled, found, meant}
 use Rattle.afs_model.proofs.Spellings.{IsOf, found_call_is, found_answer_is, reply_is}
 use Rattle.afs_model.specs.Runs.{Entry, Cell}
-use Rattle.afs_model.specs.Text.{sent_text, route_text, half_text, code_of, code_read, code_at, message_text, messages_text, parcel_text, parcels_text, step_text, lines_text, entry_text, wire_entry_text, entries_text, wire_entries_text, history_text, wire_history_text, final_text, text, wire_text, Carries, CarryAll}
+use Rattle.afs_model.specs.Text.{sent_text, route_text, half_text, code_text, tail_text, code_of, code_read, code_at, message_text, messages_text, parcel_text, parcels_text, step_text, lines_text, entry_text, parcelled_entry_text, entries_text, parcelled_entries_text, history_text, parcelled_history_text, final_text, text, parcelled_text, Carries, CarryAll}
 
 -- what is read next was read, where the whole is
 pub record Went {A B : Type 0} (r : Result A XdrFault) (f : A → Result B XdrFault) (x : B) : Type 0 where
@@ -204,25 +204,31 @@ reply_code bytes m reply w = found_code bytes m (head_at bytes) refl reply w
 
 -- ---- messages
 
-half_same : (half : Half) (h : Head) (a b : ℤ) → (half ≡ halves.Reply → a ≡ b) → half_text half h a ≡ half_text half h b
-unfolding half_text
-half_same halves.Call h a b same = refl
-half_same halves.Reply h a b same = ap (λ (z : ℤ). half_text halves.Reply h z) (same refl)
-half_same halves.Boot h a b same = refl
+code_same : (half : Half) (a b : ℤ) → (half ≡ halves.Reply → a ≡ b) → code_text half a ≡ code_text half b
+unfolding code_text
+code_same halves.Call a b same = refl
+code_same halves.Reply a b same = ap (λ (z : ℤ). code_text halves.Reply z) (same refl)
+code_same halves.Boot a b same = refl
 
 sent_same : (place : ℕ) (h : Head) (a b : ℤ) → (h.half ≡ halves.Reply → a ≡ b) → sent_text place h a ≡ sent_text place h b
 unfolding sent_text
-sent_same place h a b same = ap (λ (t : List ℕ). route_text place h ++ t) (half_same h.half h a b same)
+sent_same place h a b same = ap (λ (t : List ℕ). route_text place h ++ (half_text h.half h ++ t)) (code_same h.half a b same)
 
--- the bytes of a message are read as it
-pub parcel_same : (place : ℕ) (p : Parcel) (m : Message) → p.head ≡ m.head → received p.bytes ≡ Whole m → parcel_text place p ≡ message_text place m
+-- what a message's line is made of
+abbrev line_of : Bool → ℕ → Head → ℤ → List ℕ → List ℕ
+line_of wire place h code bytes = sent_text place h code ++ (tail_text wire bytes ++ codes "\n")
+
+-- the bytes of a message are its spelling, and are read as it
+pub parcel_same : (wire : Bool) (place : ℕ) (p : Parcel) (m : Message) → p.head ≡ m.head → p.bytes ≡ spelled m → received p.bytes ≡ Whole m → parcel_text wire place p ≡ message_text wire place m
 unfolding parcel_text message_text
-parcel_same place p m head bytes =
-    ap (λ (h : Head). sent_text place h (code_at p.bytes)) head
-    ∙ sent_same place m.head (code_at p.bytes) (code_of m.carried) (λ reply. reply_code p.bytes m reply bytes)
+parcel_same wire place p m head bytes read =
+    ap (λ (h : Head). line_of wire place h (code_at p.bytes) p.bytes) head
+    ∙ (ap (λ (t : List ℕ). t ++ (tail_text wire p.bytes ++ codes "\n")) (sent_same place m.head (code_at p.bytes) (code_of m.carried) (λ reply. reply_code p.bytes m reply read))
+    ∙ ap (λ (b : List ℕ). line_of wire place m.head (code_of m.carried) b) bytes)
 
-Found : Type 0
-Found = Head × Received
+-- a parcel's header, its bytes, and what is read in them
+abbrev Seen : Type 0
+Seen = Head × List ℕ × Received
 
 first_is : {A : Type 0} {x y : A} {xs ys : List A} → x ∷ xs ≡ y ∷ ys → x ≡ y
 first_is h = cc
@@ -230,15 +236,15 @@ first_is h = cc
 others_are : {A : Type 0} {x y : A} {xs ys : List A} → x ∷ xs ≡ y ∷ ys → xs ≡ ys
 others_are h = cc
 
-pub parcels_same : (place : ℕ) (ps : List Parcel) (ms : List Message) → found ps ≡ meant ms → parcels_text place ps ≡ messages_text place ms
-parcels_same place [] [] h = refl
-parcels_same place [] (m ∷ ms) h = cc
-parcels_same place (p ∷ ps) [] h = cc
-parcels_same place (p ∷ ps) (m ∷ ms) h =
+pub parcels_same : (wire : Bool) (place : ℕ) (ps : List Parcel) (ms : List Message) → found ps ≡ meant ms → parcels_text wire place ps ≡ messages_text wire place ms
+parcels_same wire place [] [] h = refl
+parcels_same wire place [] (m ∷ ms) h = cc
+parcels_same wire place (p ∷ ps) [] h = cc
+parcels_same wire place (p ∷ ps) (m ∷ ms) h =
     let e = first_is h in
-    let one = parcel_same place p m (ap (λ (x : Head × Received). x.0) e) (ap (λ (x : Head × Received). x.1) e) in
-    let more = parcels_same (place + 1) ps ms (others_are h) in
-    ap (λ (t : List ℕ). t ++ parcels_text (place + 1) ps) one ∙ ap (λ (t : List ℕ). message_text place m ++ t) more
+    let one = parcel_same wire place p m (ap (λ (x : Seen). x.0) e) (ap (λ (x : Seen). x.1) e) (ap (λ (x : Seen). x.2) e) in
+    let more = parcels_same wire (place + 1) ps ms (others_are h) in
+    ap (λ (t : List ℕ). t ++ parcels_text wire (place + 1) ps) one ∙ ap (λ (t : List ℕ). message_text wire place m ++ t) more
 
 pub parcels_length : (ps : List Parcel) (ms : List Message) → found ps ≡ meant ms → length ps ≡ length ms
 parcels_length [] [] h = refl
@@ -248,29 +254,29 @@ parcels_length (p ∷ ps) (m ∷ ms) h = ap (λ (n : ℕ). suc n) (parcels_lengt
 
 -- ---- entries
 
-pub entry_same : (number place : ℕ) (w : WireEntry) (e : Entry) → Carries w e → wire_entry_text number place w ≡ entry_text number place e
-unfolding wire_entry_text entry_text
-entry_same number place w e c =
-    ap (λ (n : Option Node). step_text number n ++ (lines_text w.lines ++ parcels_text place w.parcels)) c.node
-    ∙ (ap (λ (ls : List Line). step_text number e.node ++ (lines_text ls ++ parcels_text place w.parcels)) c.lines
-    ∙ ap (λ (t : List ℕ). step_text number e.node ++ (lines_text e.lines ++ t)) (parcels_same place w.parcels e.sent c.sent))
+pub entry_same : (wire : Bool) (number place : ℕ) (p : ParcelledEntry) (e : Entry) → Carries p e → parcelled_entry_text wire number place p ≡ entry_text wire number place e
+unfolding parcelled_entry_text entry_text
+entry_same wire number place p e c =
+    ap (λ (n : Option Node). step_text number n ++ (lines_text p.lines ++ parcels_text wire place p.parcels)) c.node
+    ∙ (ap (λ (ls : List Line). step_text number e.node ++ (lines_text ls ++ parcels_text wire place p.parcels)) c.lines
+    ∙ ap (λ (t : List ℕ). step_text number e.node ++ (lines_text e.lines ++ t)) (parcels_same wire place p.parcels e.sent c.sent))
 
-pub entries_same : (number place : ℕ) (ws : List WireEntry) (es : List Entry) → CarryAll ws es → wire_entries_text number place ws ≡ entries_text number place es
-entries_same number place [] [] c = refl
-entries_same number place [] (e ∷ es) c = absurd c
-entries_same number place (w ∷ ws) [] c = absurd c
-entries_same number place (w ∷ ws) (e ∷ es) c =
-    let one = entry_same number place w e c.0 in
-    let at = ap (λ (n : ℕ). wire_entry_text number place w ++ wire_entries_text (number + 1) (place + n) ws) (parcels_length w.parcels e.sent c.0.sent) in
-    let more = entries_same (number + 1) (place + length e.sent) ws es c.1 in
-    at ∙ (ap (λ (t : List ℕ). t ++ wire_entries_text (number + 1) (place + length e.sent) ws) one ∙ ap (λ (t : List ℕ). entry_text number place e ++ t) more)
+pub entries_same : (wire : Bool) (number place : ℕ) (ps : List ParcelledEntry) (es : List Entry) → CarryAll ps es → parcelled_entries_text wire number place ps ≡ entries_text wire number place es
+entries_same wire number place [] [] c = refl
+entries_same wire number place [] (e ∷ es) c = absurd c
+entries_same wire number place (p ∷ ps) [] c = absurd c
+entries_same wire number place (p ∷ ps) (e ∷ es) c =
+    let one = entry_same wire number place p e c.0 in
+    let at = ap (λ (n : ℕ). parcelled_entry_text wire number place p ++ parcelled_entries_text wire (number + 1) (place + n) ps) (parcels_length p.parcels e.sent c.0.sent) in
+    let more = entries_same wire (number + 1) (place + length e.sent) ps es c.1 in
+    at ∙ (ap (λ (t : List ℕ). t ++ parcelled_entries_text wire (number + 1) (place + length e.sent) ps) one ∙ ap (λ (t : List ℕ). entry_text wire number place e ++ t) more)
 
-pub history_same : (ws : List WireEntry) (es : List Entry) → CarryAll ws es → wire_history_text ws ≡ history_text es
-unfolding wire_history_text history_text
-history_same ws es c = entries_same 1 1 ws es c
+pub history_same : (wire : Bool) (ps : List ParcelledEntry) (es : List Entry) → CarryAll ps es → parcelled_history_text wire ps ≡ history_text wire es
+unfolding parcelled_history_text history_text
+history_same wire ps es c = entries_same wire 1 1 ps es c
 
 -- the whole text: the entries carry those of the history, and the files are the server's at the end
-pub text_same : (s : Script) (ws : List WireEntry) (files : List StoredFile) (es : List Entry) (end : Cell) → CarryAll ws es → files ≡ end.server.files → wire_text s ws files ≡ text s es end
-unfolding wire_text text
-text_same s ws files es end c f =
-    ap (λ (t : List ℕ). t ++ final_text s files) (history_same ws es c) ∙ ap (λ (fs : List StoredFile). history_text es ++ final_text s fs) f
+pub text_same : (wire : Bool) (s : Script) (ps : List ParcelledEntry) (files : List StoredFile) (es : List Entry) (end : Cell) → CarryAll ps es → files ≡ end.server.files → parcelled_text wire s ps files ≡ text wire s es end
+unfolding parcelled_text text
+text_same wire s ps files es end c f =
+    ap (λ (t : List ℕ). t ++ final_text s files) (history_same wire ps es c) ∙ ap (λ (fs : List StoredFile). history_text wire es ++ final_text s fs) f

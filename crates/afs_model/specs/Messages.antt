@@ -139,11 +139,12 @@ IsSound (Whole m) = IsSoundMessage m
 
 -- ---- messages under way, as bytes and as values
 
--- these parcels carry these messages: the bytes of each are read as its message, whose header stands beside them
-abbrev pub found : List Parcel → List (Head × Received)
+-- these parcels carry these messages: the bytes of each are its message's spelling and are read as that message, whose
+-- header stands beside them
+abbrev pub found : List Parcel → List (Head × List ℕ × Received)
 found [] = []
-found (p ∷ ps) = (p.head, received p.bytes) ∷ found ps
+found (p ∷ ps) = (p.head, p.bytes, received p.bytes) ∷ found ps
 
-abbrev pub meant : List Message → List (Head × Received)
+abbrev pub meant : List Message → List (Head × List ℕ × Received)
 meant [] = []
-meant (m ∷ ms) = (m.head, Whole m) ∷ meant ms
+meant (m ∷ ms) = (m.head, spelled m, Whole m) ∷ meant ms

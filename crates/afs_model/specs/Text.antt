@@ -1,6 +1,7 @@
 -- The text of a run: what is told of each step, and then what stands at the end.
 -- Every line has one definition below both forms of an entry, that of the rows, whose messages are values, and that of
--- the nodes, whose messages are bytes.
+-- the nodes, whose messages are parcels of bytes. Each definition about messages takes `wire`, which says whether the
+-- bytes of each message are told too.
 use Rattle.std.specs.Prelude.{◌≡◌, ℕ, ◌+◌, ◌*◌, ◌/◌, ◌%◌, ◌||◌, List, [], ◌∷◌, ◌++◌, Bool, true, false, nat_eq, Option, Some, None, Result, Ok, Err, ℤ, pos, codes, drop, length, if◌then◌else◌}
 use Rattle.std.specs.List.{flat_map}
 use Rattle.std.specs.Fmt.{decimal, signed_decimal, digit_glyph}
@@ -25,7 +26,7 @@ use Rattle.afs_num.specs.declared.scripts.SetupLine.TheVariants.{File}
 use Rattle.afs_num.specs.declared.scripts.VolumeLine.{VolumeLine}
 use Rattle.afs_num.specs.declared.histories.Body.{Body}
 use Rattle.afs_num.specs.declared.histories.Body.TheVariants as bodies
-use Rattle.afs_num.specs.declared.histories.Entry.{Entry as WireEntry}
+use Rattle.afs_num.specs.declared.histories.Entry.{Entry as ParcelledEntry}
 use Rattle.afs_num.specs.declared.histories.Line.{Line}
 use Rattle.afs_num.specs.declared.histories.Line.TheVariants as lines
 use Rattle.afs_num.specs.declared.histories.ReadSource.{ReadSource}
@@ -34,7 +35,7 @@ use Rattle.afs_num.specs.declared.histories.Version.{Version}
 use Rattle.afs_num.specs.declared.states.StoredFile.{StoredFile}
 use Rattle.afs_xdr.specs.declared.faults.XdrFault.{XdrFault}
 use Rattle.afs_shape.specs.Reading.{signed_at}
-use Rattle.afs_model.specs.Messages.{found, meant}
+use Rattle.afs_model.specs.Messages.{spelled, found, meant}
 use Rattle.afs_model.specs.Runs.{Entry, Cell}
 
 -- ---- bytes
@@ -109,33 +110,43 @@ lines_text ls = flat_map line_text ls
 -- ---- messages
 
 -- the opcode, and epoch and number of the call
-abbrev pub call_text : Head → List ℕ → List ℕ
-call_text h rest = decimal h.opcode ++ (codes " " ++ (decimal h.epoch ++ (codes "." ++ (decimal h.number ++ rest))))
+abbrev pub call_text : Head → List ℕ
+call_text h = decimal h.opcode ++ (codes " " ++ (decimal h.epoch ++ (codes "." ++ decimal h.number)))
+
+unfoldable pub half_text : Half → Head → List ℕ
+half_text halves.Call h = codes "call " ++ call_text h
+half_text halves.Reply h = codes "reply " ++ call_text h
+half_text halves.Boot h = codes "boot " ++ call_text h
 
 -- a reply alone has its code
-unfoldable pub half_text : Half → Head → ℤ → List ℕ
-half_text halves.Call h code = codes "call " ++ call_text h (codes "\n")
-half_text halves.Reply h code = codes "reply " ++ call_text h (codes " " ++ (signed_decimal code ++ codes "\n"))
-half_text halves.Boot h code = codes "boot " ++ call_text h (codes "\n")
+unfoldable pub code_text : Half → ℤ → List ℕ
+code_text halves.Reply code = codes " " ++ signed_decimal code
+code_text half code = []
 
 abbrev pub route_text : ℕ → Head → List ℕ
 route_text place h = codes "sent " ++ (decimal place ++ (codes " " ++ (node_text h.from ++ (codes " " ++ (node_text h.to ++ codes " ")))))
 
 -- the message of this place is sent
 unfoldable pub sent_text : ℕ → Head → ℤ → List ℕ
-sent_text place h code = route_text place h ++ half_text h.half h code
+sent_text place h code = route_text place h ++ (half_text h.half h ++ code_text h.half code)
+
+-- the bytes of a message stand behind it where they are asked for
+unfoldable pub tail_text : Bool → List ℕ → List ℕ
+tail_text true bytes = codes " " ++ hex_text bytes
+tail_text false bytes = []
 
 -- the code of a reply
 abbrev pub code_of : Carried → ℤ
 code_of (carried.Refusal code) = code.0
 code_of c = pos 0
 
-unfoldable pub message_text : ℕ → Message → List ℕ
-message_text place m = sent_text place m.head (code_of m.carried)
+-- the bytes of a message are its spelling
+unfoldable pub message_text : Bool → ℕ → Message → List ℕ
+message_text wire place m = sent_text place m.head (code_of m.carried) ++ (tail_text wire (spelled m) ++ codes "\n")
 
-abbrev pub messages_text : ℕ → List Message → List ℕ
-messages_text place [] = []
-messages_text place (m ∷ ms) = message_text place m ++ messages_text (place + 1) ms
+abbrev pub messages_text : Bool → ℕ → List Message → List ℕ
+messages_text wire place [] = []
+messages_text wire place (m ∷ ms) = message_text wire place m ++ messages_text wire (place + 1) ms
 
 -- the code of a reply is its first word behind the header, which has 32 bytes
 abbrev pub code_read : Result (ℤ × List ℕ) XdrFault → ℤ
@@ -145,12 +156,12 @@ code_read (Err e) = pos 0
 unfoldable pub code_at : List ℕ → ℤ
 code_at bytes = code_read (signed_at (drop 32 bytes))
 
-unfoldable pub parcel_text : ℕ → Parcel → List ℕ
-parcel_text place p = sent_text place p.head (code_at p.bytes)
+unfoldable pub parcel_text : Bool → ℕ → Parcel → List ℕ
+parcel_text wire place p = sent_text place p.head (code_at p.bytes) ++ (tail_text wire p.bytes ++ codes "\n")
 
-abbrev pub parcels_text : ℕ → List Parcel → List ℕ
-parcels_text place [] = []
-parcels_text place (p ∷ ps) = parcel_text place p ++ parcels_text (place + 1) ps
+abbrev pub parcels_text : Bool → ℕ → List Parcel → List ℕ
+parcels_text wire place [] = []
+parcels_text wire place (p ∷ ps) = parcel_text wire place p ++ parcels_text wire (place + 1) ps
 
 -- ---- entries
 
@@ -160,32 +171,33 @@ step_text number (Some node) = codes "entry " ++ (decimal number ++ (codes " " +
 step_text number None = codes "entry " ++ (decimal number ++ codes " none\n")
 
 -- an entry of this number, whose first message has this place; its messages come last
-unfoldable pub entry_text : ℕ → ℕ → Entry → List ℕ
-entry_text number place e = step_text number e.node ++ (lines_text e.lines ++ messages_text place e.sent)
+unfoldable pub entry_text : Bool → ℕ → ℕ → Entry → List ℕ
+entry_text wire number place e = step_text number e.node ++ (lines_text e.lines ++ messages_text wire place e.sent)
 
-unfoldable pub wire_entry_text : ℕ → ℕ → WireEntry → List ℕ
-wire_entry_text number place e = step_text number e.node ++ (lines_text e.lines ++ parcels_text place e.parcels)
+unfoldable pub parcelled_entry_text : Bool → ℕ → ℕ → ParcelledEntry → List ℕ
+parcelled_entry_text wire number place e = step_text number e.node ++ (lines_text e.lines ++ parcels_text wire place e.parcels)
 
 -- entries are numbered one after another, and so are the places of all messages
-abbrev pub entries_text : ℕ → ℕ → List Entry → List ℕ
-entries_text number place [] = []
-entries_text number place (e ∷ es) = entry_text number place e ++ entries_text (number + 1) (place + length e.sent) es
+abbrev pub entries_text : Bool → ℕ → ℕ → List Entry → List ℕ
+entries_text wire number place [] = []
+entries_text wire number place (e ∷ es) = entry_text wire number place e ++ entries_text wire (number + 1) (place + length e.sent) es
 
-abbrev pub wire_entries_text : ℕ → ℕ → List WireEntry → List ℕ
-wire_entries_text number place [] = []
-wire_entries_text number place (e ∷ es) = wire_entry_text number place e ++ wire_entries_text (number + 1) (place + length e.parcels) es
+abbrev pub parcelled_entries_text : Bool → ℕ → ℕ → List ParcelledEntry → List ℕ
+parcelled_entries_text wire number place [] = []
+parcelled_entries_text wire number place (e ∷ es) =
+    parcelled_entry_text wire number place e ++ parcelled_entries_text wire (number + 1) (place + length e.parcels) es
 
 -- how many messages were sent
-abbrev pub parcels_sent : List WireEntry → ℕ
+abbrev pub parcels_sent : List ParcelledEntry → ℕ
 parcels_sent [] = 0
 parcels_sent (e ∷ es) = length e.parcels + parcels_sent es
 
 -- the first entry and the first message have number 1
-unfoldable pub history_text : List Entry → List ℕ
-history_text h = entries_text 1 1 h
+unfoldable pub history_text : Bool → List Entry → List ℕ
+history_text wire h = entries_text wire 1 1 h
 
-unfoldable pub wire_history_text : List WireEntry → List ℕ
-wire_history_text h = wire_entries_text 1 1 h
+unfoldable pub parcelled_history_text : Bool → List ParcelledEntry → List ℕ
+parcelled_history_text wire h = parcelled_entries_text wire 1 1 h
 
 -- ---- the final part
 
@@ -235,24 +247,25 @@ final_text s files = codes "final\n" ++ (flat_map (volume_text files) s.volumes 
 
 -- ---- the whole text
 
--- the text of a history of this script that ends in this cell
-unfoldable pub text : Script → List Entry → Cell → List ℕ
-text s history end = history_text history ++ final_text s end.server.files
+-- the text of a history of this script that ends in this cell, with the bytes of each message or without
+unfoldable pub text : Bool → Script → List Entry → Cell → List ℕ
+text wire s history end = history_text wire history ++ final_text s end.server.files
 
-unfoldable pub wire_text : Script → List WireEntry → List StoredFile → List ℕ
-wire_text s history files = wire_history_text history ++ final_text s files
+unfoldable pub parcelled_text : Bool → Script → List ParcelledEntry → List StoredFile → List ℕ
+parcelled_text wire s history files = parcelled_history_text wire history ++ final_text s files
 
 -- ---- entries with bytes, and those with values
 
--- the entry with bytes tells of the same step: the bytes of each of its messages are read as that message
-pub record Carries (w : WireEntry) (e : Entry) : Type 0 where
-  pub node : w.node ≡ e.node
-  pub lines : w.lines ≡ e.lines
-  pub sent : found w.parcels ≡ meant e.sent
+-- the entry with bytes tells of the same step: the bytes of each of its messages are that message's spelling and are
+-- read as it
+pub record Carries (p : ParcelledEntry) (e : Entry) : Type 0 where
+  pub node : p.node ≡ e.node
+  pub lines : p.lines ≡ e.lines
+  pub sent : found p.parcels ≡ meant e.sent
 
 -- so do these entries, one for one
-abbrev pub CarryAll : List WireEntry → List Entry → Type 0
+abbrev pub CarryAll : List ParcelledEntry → List Entry → Type 0
 CarryAll [] [] = Unit {0}
-CarryAll (w ∷ ws) (e ∷ es) = Carries w e × CarryAll ws es
+CarryAll (p ∷ ps) (e ∷ es) = Carries p e × CarryAll ps es
 CarryAll [] (e ∷ es) = ⊥
-CarryAll (w ∷ ws) [] = ⊥
+CarryAll (p ∷ ps) [] = ⊥

@@ -3,7 +3,7 @@
 ghost use Rattle.std.specs.Prelude.{◌≡◌, ◌+◌, ◌<◌, ◌≤◌, ◌^◌, ◌++◌, true, false, length, IfOk, OnOk, string_bytes};
 ghost use Rattle.std.specs.List.{flat_map};
 ghost use Rattle.std.specs.Fmt.{digit_glyph};
-ghost use Rattle.afs_model.specs.Text.{hex_byte, hex_text, is_plain, name_byte, name_text, act_text, body_text, begin_text, grant_text, change_text, version_text, source_text, read_text, answer_text, line_text, lines_text, half_text, route_text, sent_text, code_at, parcel_text, parcels_text, step_text, wire_entry_text, wire_entries_text, wire_history_text, parcels_sent, first_name, root_name, comma_before, named_text, names_text, volume_line_text, root_text, file_text, file_text_in, volume_text, final_text, wire_text};
+ghost use Rattle.afs_model.specs.Text.{hex_byte, hex_text, is_plain, name_byte, name_text, act_text, body_text, begin_text, grant_text, change_text, version_text, source_text, read_text, answer_text, line_text, lines_text, half_text, code_text, route_text, sent_text, tail_text, code_at, parcel_text, parcels_text, step_text, parcelled_entry_text, parcelled_entries_text, parcelled_history_text, parcels_sent, first_name, root_name, comma_before, named_text, names_text, volume_line_text, root_text, file_text, file_text_in, volume_text, final_text, parcelled_text};
 
 use afs_num::histories::{Body, Entry, Line, ReadSource, Version};
 use afs_num::scripts::{Act, Script, SetupLine, VolumeLine};
@@ -246,35 +246,66 @@ fn code_of(bytes: &[u8]) -> Code
 }
 
 #[tactic(auto, unfolding(afs_model::specs::Text::half_text))]
-fn put_half(out: &mut String, head: &Head, code: Code) -> Mem<()>
-    ensures { OnOk result (string_bytes out.new ≡ string_bytes out.old ++ half_text head.now.half head.now code.0) }
+fn put_half(out: &mut String, head: &Head) -> Mem<()>
+    ensures { OnOk result (string_bytes out.new ≡ string_bytes out.old ++ half_text head.now.half head.now) }
 {
     match head.half {
-        Half::Call => writeln!(out, "call {} {}.{}", head.opcode, head.epoch, head.number),
-        Half::Reply => writeln!(
-            out,
-            "reply {} {}.{} {code}",
-            head.opcode, head.epoch, head.number
-        ),
-        Half::Boot => writeln!(out, "boot {} {}.{}", head.opcode, head.epoch, head.number),
+        Half::Call => write!(out, "call {} {}.{}", head.opcode, head.epoch, head.number),
+        Half::Reply => write!(out, "reply {} {}.{}", head.opcode, head.epoch, head.number),
+        Half::Boot => write!(out, "boot {} {}.{}", head.opcode, head.epoch, head.number),
     }
 }
 
-#[tactic(auto, unfolding(afs_model::specs::Text::parcel_text, afs_model::specs::Text::sent_text))]
-fn put_parcel(out: &mut String, place: u64, parcel: &Parcel) -> Mem<()>
-    ensures { OnOk result (string_bytes out.new ≡ string_bytes out.old ++ parcel_text place parcel.now) }
+/// A reply alone has its code.
+#[tactic(auto, unfolding(afs_model::specs::Text::code_text))]
+fn put_code(out: &mut String, half: Half, code: Code) -> Mem<()>
+    ensures { OnOk result (string_bytes out.new ≡ string_bytes out.old ++ code_text half code.0) }
 {
-    write!(out, "sent {place} {} {} ", parcel.head.from, parcel.head.to)?;
-    put_half(out, &parcel.head, code_of(parcel.bytes.as_slice()))?;
+    match half {
+        Half::Reply => write!(out, " {code}"),
+        Half::Call | Half::Boot => Ok(()),
+    }
+}
+
+#[tactic(auto, unfolding(afs_model::specs::Text::sent_text))]
+fn put_sent(out: &mut String, place: u64, head: &Head, code: Code) -> Mem<()>
+    ensures { OnOk result (string_bytes out.new ≡ string_bytes out.old ++ sent_text place head.now code.0) }
+{
+    write!(out, "sent {place} {} {} ", head.from, head.to)?;
+    put_half(out, head)?;
+    put_code(out, head.half, code)?;
     Ok(())
 }
 
-fn put_parcels(out: &mut String, first_place: u64, parcels: &[Parcel]) -> Mem<()>
+/// The bytes of a message, where they are asked for.
+#[tactic(auto, unfolding(afs_model::specs::Text::tail_text))]
+fn put_tail(out: &mut String, bytes: &[u8], wire: bool) -> Mem<()>
+    ensures { OnOk result (string_bytes out.new ≡ string_bytes out.old ++ tail_text wire bytes.now) }
+{
+    if wire {
+        out.push_str(" ")?;
+        put_hex(out, bytes)?;
+    }
+    Ok(())
+}
+
+#[tactic(auto, unfolding(afs_model::specs::Text::parcel_text))]
+fn put_parcel(out: &mut String, place: u64, parcel: &Parcel, wire: bool) -> Mem<()>
+    ensures { OnOk result (string_bytes out.new ≡ string_bytes out.old ++ parcel_text wire place parcel.now) }
+{
+    let bytes = parcel.bytes.as_slice();
+    put_sent(out, place, &parcel.head, code_of(bytes))?;
+    put_tail(out, bytes, wire)?;
+    out.push_str("\n")?;
+    Ok(())
+}
+
+fn put_parcels(out: &mut String, first_place: u64, parcels: &[Parcel], wire: bool) -> Mem<()>
     requires { first_place + length parcels.now ≤ 2 ^ 64 }
-    ensures { OnOk result (string_bytes out.new ≡ string_bytes out.old ++ parcels_text first_place parcels.now) }
+    ensures { OnOk result (string_bytes out.new ≡ string_bytes out.old ++ parcels_text wire first_place parcels.now) }
 {
     for (i, parcel) in parcels.iter().enumerate() {
-        put_parcel(out, first_place + i as u64, parcel)?;
+        put_parcel(out, first_place + i as u64, parcel, wire)?;
     }
     Ok(())
 }
@@ -291,25 +322,25 @@ fn put_step(out: &mut String, number: u64, node: Option<Node>) -> Mem<()>
     }
 }
 
-#[tactic(auto, unfolding(afs_model::specs::Text::wire_entry_text))]
-fn put_entry(out: &mut String, entry: &Entry, number: u64, first_place: u64) -> Mem<()>
+#[tactic(auto, unfolding(afs_model::specs::Text::parcelled_entry_text))]
+fn put_entry(out: &mut String, entry: &Entry, number: u64, first_place: u64, wire: bool) -> Mem<()>
     requires { first_place + length entry.now.parcels ≤ 2 ^ 64 }
-    ensures { OnOk result (string_bytes out.new ≡ string_bytes out.old ++ wire_entry_text number first_place entry.now) }
+    ensures { OnOk result (string_bytes out.new ≡ string_bytes out.old ++ parcelled_entry_text wire number first_place entry.now) }
 {
     put_step(out, number, entry.node)?;
     put_lines(out, entry.lines.as_slice())?;
-    put_parcels(out, first_place, entry.parcels.as_slice())?;
+    put_parcels(out, first_place, entry.parcels.as_slice(), wire)?;
     Ok(())
 }
 
-#[tactic(auto, unfolding(afs_model::specs::Text::wire_history_text))]
-fn put_history(out: &mut String, history: &[Entry]) -> Mem<()>
+#[tactic(auto, unfolding(afs_model::specs::Text::parcelled_history_text))]
+fn put_history(out: &mut String, history: &[Entry], wire: bool) -> Mem<()>
     requires { 1 + parcels_sent history.now < 2 ^ 64 }
-    ensures { OnOk result (string_bytes out.new ≡ string_bytes out.old ++ wire_history_text history.now) }
+    ensures { OnOk result (string_bytes out.new ≡ string_bytes out.old ++ parcelled_history_text wire history.now) }
 {
     let mut place = 1u64;
     for (i, entry) in history.iter().enumerate() {
-        put_entry(out, entry, i as u64 + 1, place)?;
+        put_entry(out, entry, i as u64 + 1, place, wire)?;
         place += entry.parcels.len() as u64;
     }
     Ok(())
@@ -438,13 +469,20 @@ fn put_final(out: &mut String, script: &Script, files: &[StoredFile]) -> Mem<()>
 
 // ---- the whole text
 
-/// The text of an entry of this number, whose first message has this place.
-pub fn print_entry(alloc: Global, entry: &Entry, number: u64, first_place: u64) -> Mem<Octets>
+/// The text of an entry of this number, whose first message has this place; with the bytes of each message where `wire`
+/// asks for them.
+pub fn print_entry(
+    alloc: Global,
+    entry: &Entry,
+    number: u64,
+    first_place: u64,
+    wire: bool,
+) -> Mem<Octets>
     requires { first_place + length entry.now.parcels ≤ 2 ^ 64 }
-    ensures { IfOk result (λ text. text ≡ wire_entry_text number first_place entry.now) }
+    ensures { IfOk result (λ text. text ≡ parcelled_entry_text wire number first_place entry.now) }
 {
     let mut out = String::new(alloc);
-    put_entry(&mut out, entry, number, first_place)?;
+    put_entry(&mut out, entry, number, first_place, wire)?;
     Ok(Octets::from_vec(out.into_bytes()))
 }
 
@@ -457,19 +495,21 @@ pub fn print_final(alloc: Global, script: &Script, files: &[StoredFile]) -> Mem<
     Ok(Octets::from_vec(out.into_bytes()))
 }
 
-/// The whole text of a run of the script, whose server holds these files at the end.
-#[tactic(auto, unfolding(afs_model::specs::Text::wire_text))]
+/// The whole text of a run of the script, whose server holds these files at the end; with the bytes of each message where
+/// `wire` asks for them.
+#[tactic(auto, unfolding(afs_model::specs::Text::parcelled_text))]
 pub fn print_run(
     alloc: Global,
     script: &Script,
     history: &[Entry],
     files: &[StoredFile],
+    wire: bool,
 ) -> Mem<Octets>
     requires { 1 + parcels_sent history.now < 2 ^ 64 }
-    ensures { IfOk result (λ text. text ≡ wire_text script.now history.now files.now) }
+    ensures { IfOk result (λ text. text ≡ parcelled_text wire script.now history.now files.now) }
 {
     let mut out = String::new(alloc);
-    put_history(&mut out, history)?;
+    put_history(&mut out, history, wire)?;
     put_final(&mut out, script, files)?;
     Ok(Octets::from_vec(out.into_bytes()))
 }
@@ -563,7 +603,7 @@ mod tests {
         })?;
         parcels.push(Parcel {
             head: head(Half::Call, Node::Client(1), Node::Server(1)),
-            bytes: octets(alloc, b"")?,
+            bytes: octets(alloc, b"\x0f\xa0")?,
         })?;
         Ok(entry(Some(Node::Server(1)), lines, parcels))
     }
@@ -608,17 +648,30 @@ mod tests {
     #[test]
     fn an_entry_is_told_line_by_line(rt: HostRuntime) -> Result<(), Fail> {
         let alloc = rt.alloc();
-        let read = print_entry(alloc, &fetched_entry(alloc)?, 3, 1)?;
+        let entry = fetched_entry(alloc)?;
         let told =
             b"entry 3 c1\ngiven 2\nread c1 536870912.2.2 1 fetched f:616263ff\nanswer c1 -453\n";
-        assert_eq!(rt; read.as_slice(), told.as_slice());
+        for wire in [false, true] {
+            let read = print_entry(alloc, &entry, 3, 1, wire)?;
+            assert_eq!(rt; read.as_slice(), told.as_slice());
+        }
+        Ok(())
+    }
 
+    /// The bytes stand behind the code of a reply, and in a call, that has none, behind its number.
+    #[test]
+    fn messages_come_last_and_with_their_bytes_where_asked(rt: HostRuntime) -> Result<(), Fail> {
+        let alloc = rt.alloc();
         let entry = stored_entry(alloc)?;
         assert_eq!(rt; entry.parcels.len(), 2);
-        let stored = print_entry(alloc, &entry, 5, 18446744073709551614)?;
         let told =
             b"entry 5 s1\nchange s1 c1.1.2 1\nversion 536870912.2.2 2 3 f:\nsent 18446744073709551614 s1 c1 reply 133 1.2 -453\nsent 18446744073709551615 c1 s1 call 133 1.2\n";
-        assert_eq!(rt; stored.as_slice(), told.as_slice());
+        let told_with_bytes =
+            b"entry 5 s1\nchange s1 c1.1.2 1\nversion 536870912.2.2 2 3 f:\nsent 18446744073709551614 s1 c1 reply 133 1.2 -453 0000000000000000000000000000000000000000000000000000000000000000fffffe3b\nsent 18446744073709551615 c1 s1 call 133 1.2 0fa0\n";
+        for (wire, told) in [(false, told.as_slice()), (true, told_with_bytes.as_slice())] {
+            let stored = print_entry(alloc, &entry, 5, 18446744073709551614, wire)?;
+            assert_eq!(rt; stored.as_slice(), told);
+        }
         Ok(())
     }
 
@@ -635,7 +688,7 @@ mod tests {
         let mut lines = Lines::new(alloc);
         lines.push(Line::Void)?;
         let history = [entry(None, lines, Parcels::new(alloc))];
-        let run = print_run(alloc, &script, &history, files.as_slice())?;
+        let run = print_run(alloc, &script, &history, files.as_slice(), false)?;
         assert!(rt; run.as_slice().starts_with(b"entry 1 none\nvoid\nfinal\n"));
         Ok(())
     }

@@ -1,3 +1,4 @@
+pub mod Forms
 pub mod Memory
 pub mod Outside
 pub mod Statuses

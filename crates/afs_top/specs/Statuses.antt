@@ -29,7 +29,7 @@ reason_word reasons.Missing = codes "Missing"
 -- the line on standard error; there is none where all is done
 abbrev pub status_text : Status → List ℕ
 status_text statuses.Done = []
-status_text statuses.Usage = codes "usage: afscell replay"
+status_text statuses.Usage = codes "usage: afscell replay [--wire]"
 status_text (statuses.Script line reason) = codes "script: line " ++ (decimal line ++ (codes ": " ++ reason_word reason))
 status_text statuses.ReadFault = codes "read fault"
 status_text statuses.WriteFault = codes "write fault"

@@ -1,5 +1,5 @@
 -- What the program promises: what it writes is the text of a legal history of the script that it read.
-use Rattle.std.specs.Prelude.{◌≡◌, ℕ, List, ◌++◌, Result, Ok, Err}
+use Rattle.std.specs.Prelude.{◌≡◌, ℕ, List, ◌++◌, Bool, Result, Ok, Err}
 use Rattle.afs_num.specs.declared.scripts.Reason.{Reason}
 use Rattle.afs_num.specs.declared.scripts.Script.{Script}
 use Rattle.afs_model.specs.Runs.{Entry, Cell, RunsTo}
@@ -9,24 +9,32 @@ use Rattle.afs_model.specs.Script.{script_of}
 use Rattle.afs_model.specs.Text as texts
 use Rattle.afs_top.specs.declared.cell.Refusal.{Refusal}
 use Rattle.afs_top.specs.declared.cell.Refusal.TheVariants as refusals
+use Rattle.afs_top.specs.Forms.{Asks}
+use Rattle.afs_top.specs.declared.statuses.Form.TheVariants.{Replay}
 use Rattle.afs_top.specs.declared.statuses.Status.{Status}
 use Rattle.afs_top.specs.declared.statuses.Status.TheVariants as statuses
 
 -- a history of this script: a run of the cell, whose entries are the script's events and whose acts are the script's,
--- and which is legal; and the text that tells of it
-pub record IsTextOf (script : Script) (text : List ℕ) : Type 0 where
+-- and which is legal; and the text that tells of it, with the bytes of each message or without
+pub record IsTextOf (script : Script) (wire : Bool) (text : List ℕ) : Type 0 where
   pub history : List Entry
   pub end : Cell
   pub run : RunsTo history script end
   pub acts : Acts history script
   pub legal : Legal history script
-  pub told : text ≡ texts.text script history end
+  pub told : text ≡ texts.text wire script history end
 
 -- the input is a script, and the text is that of a history of it
-pub record IsReplay (input text : List ℕ) : Type 0 where
+pub record IsReplay (wire : Bool) (input text : List ℕ) : Type 0 where
   pub script : Script
   pub read : script_of input ≡ Ok script
-  pub text_of : IsTextOf script text
+  pub text_of : IsTextOf script wire text
+
+-- the words ask for a replay, and the text is that of the input, with the bytes of messages exactly where they ask for them
+pub record IsAnswer (words : List (List ℕ)) (input text : List ℕ) : Type 0 where
+  pub wire : Bool
+  pub asked : Asks (Replay wire) words
+  pub replay : IsReplay wire input text
 
 -- the input is a script
 abbrev pub IsScript : List ℕ → Type 0

@@ -1,14 +1,15 @@
 //! The call that does all that the program does.
 
-ghost use Rattle.std.specs.Prelude.{◌≡◌, ◌≢◌, ◌⊎◌, ◌+◌, ◌<◌, ◌↔◌, ◌∷◌, [], length, codes, map, string_bytes, IfOk};
+ghost use Rattle.std.specs.Prelude.{◌≡◌, ◌⊎◌, ◌+◌, ◌<◌, ◌↔◌, length, map, string_bytes, IfOk};
 ghost use Rattle.std.specs.Io.KnownBytes.{IsAtEnd};
+ghost use Rattle.afs_top.specs.Forms.{HaveForm};
 ghost use Rattle.afs_top.specs.Outside.{Rose, TakesAtMost, Gives, Prints, PrintsFront};
 ghost use Rattle.afs_top.specs.Statuses.{Refuses};
-ghost use Rattle.afs_top.specs.Top.{IsTextOf, IsReplay, IsScript, IsBad, IsScriptStatus, IsLongRefusal, RefusedBy, refusal_status};
+ghost use Rattle.afs_top.specs.Top.{IsTextOf, IsReplay, IsAnswer, IsScript, IsBad, IsScriptStatus, IsLongRefusal, RefusedBy, refusal_status};
 ghost use Rattle.afs_model.specs.Script.{script_of};
 
 use crate::outside::{ReadError, Sink, Source, read_all, write_all};
-use crate::statuses::{Status, form_of};
+use crate::statuses::{Form, Status, form_of};
 use afs_num::scripts::{Reason, Script};
 use afs_num::sequences::Octets;
 use afs_script::printing::print_run;
@@ -35,10 +36,10 @@ fn script(alloc: Global, input: &[u8]) -> Result<Script, Refusal>
     }
 }
 
-/// The text of a history of this script.
-fn tell(alloc: Global, input: &[u8], script: &Script) -> Result<Octets, AllocError>
+/// The text of a history of this script, with the bytes of each message where `wire` asks for them.
+fn tell(alloc: Global, input: &[u8], script: &Script, wire: bool) -> Result<Octets, AllocError>
     requires { script_of input.now ≡ Ok script.now }
-    ensures { IfOk result (IsTextOf script.now) }
+    ensures { IfOk result (IsTextOf script.now wire) }
 {
     let world = play(alloc, script)?;
     let text = print_run(
@@ -46,17 +47,18 @@ fn tell(alloc: Global, input: &[u8], script: &Script) -> Result<Octets, AllocErr
         script,
         world.history.as_slice(),
         world.server.state.files.as_slice(),
+        wire,
     )?;
     Ok(text)
 }
 
-/// The text of a history of the input's script.
-fn replay(alloc: Global, input: &[u8]) -> Result<Octets, Refusal>
-    ensures text { IfOk result (IsReplay input.now) }
+/// The text of a history of the input's script, with the bytes of each message where `wire` asks for them.
+fn replay(alloc: Global, input: &[u8], wire: bool) -> Result<Octets, Refusal>
+    ensures text { IfOk result (IsReplay wire input.now) }
     ensures bad { RefusedBy input.now result }
 {
     let script = script(alloc, input)?;
-    match tell(alloc, input, &script) {
+    match tell(alloc, input, &script, wire) {
         Ok(text) => Ok(text),
         Err(_) => Err(Refusal::OutOfMemory),
     }
@@ -75,18 +77,19 @@ fn refusal_of_long(alloc: Global, input: &[u8]) -> Refusal
 }
 
 /// Plays the script that the source holds and writes its text to the sink. The words are those behind the program's
-/// name; the one form is `replay`. The whole text is made before its first byte is written.
+/// name: `replay`, with `--wire` behind it where the bytes of each message are asked for. The whole text is made before
+/// its first byte is written.
 pub fn cell_main<S: Source, K: Sink>(
     alloc: Global,
     words: &[String],
     source: &mut S,
     sink: &mut K,
 ) -> Status
-    ensures usage { (result ≡ Status.Usage) ↔ (map string_bytes words.now ≢ codes "replay" ∷ []) }
+    ensures usage { (result ≡ Status.Usage) ↔ ¬ HaveForm (map string_bytes words.now) }
     ensures usage_quiet { result ≡ Status.Usage → (source.new ≡ source.old) × (sink.new ≡ sink.old) }
 
-    // What was written is the text of a legal history of the script that was read to its end.
-    ensures done { result ≡ Status.Done → Prints IsReplay (S.left source.old) (K.held sink.old) (K.held sink.new) }
+    // What was written is the text of a legal history of the script that was read to its end, as the words ask for it.
+    ensures done { result ≡ Status.Done → Prints (IsAnswer (map string_bytes words.now)) (S.left source.old) (K.held sink.old) (K.held sink.new) }
     ensures done_read { result ≡ Status.Done → IsAtEnd (S.left source.new) }
 
     // No script: the first bad line of the input, and its reason.
@@ -97,16 +100,16 @@ pub fn cell_main<S: Source, K: Sink>(
     ensures read_fault { result ≡ Status.ReadFault → Rose (S.faults source.old) (S.faults source.new) }
     ensures read_quiet { result ≡ Status.ReadFault → sink.new ≡ sink.old }
     ensures write_fault { result ≡ Status.WriteFault → Rose (K.faults sink.old) (K.faults sink.new) }
-    ensures write_front { result ≡ Status.WriteFault → PrintsFront IsReplay (S.left source.old) (K.held sink.old) (K.held sink.new) }
+    ensures write_front { result ≡ Status.WriteFault → PrintsFront (IsAnswer (map string_bytes words.now)) (S.left source.old) (K.held sink.old) (K.held sink.new) }
     ensures memory_quiet { result ≡ Status.OutOfMemory → sink.new ≡ sink.old }
 
     // A script that meets no fault is played to its end, or memory ran out.
-    ensures complete { (map string_bytes words.now ≡ codes "replay" ∷ []) → Gives IsScript (S.left source.old) → ¬ Rose (S.faults source.old) (S.faults source.new) → ¬ Rose (K.faults sink.old) (K.faults sink.new) → (result ≡ Status.Done) ⊎ (result ≡ Status.OutOfMemory) }
+    ensures complete { HaveForm (map string_bytes words.now) → Gives IsScript (S.left source.old) → ¬ Rose (S.faults source.old) (S.faults source.new) → ¬ Rose (K.faults sink.old) (K.faults sink.new) → (result ≡ Status.Done) ⊎ (result ≡ Status.OutOfMemory) }
     ensures stops { TakesAtMost (16777216 + 1) (S.left source.old) (S.left source.new) }
 {
-    if form_of(words).is_none() {
+    let Some(Form::Replay { wire }) = form_of(words) else {
         return Status::Usage;
-    }
+    };
     let input = match read_all(alloc, source, 16_777_216) {
         Ok(input) => input,
         Err(ReadError::Failed) => return Status::ReadFault,
@@ -116,7 +119,7 @@ pub fn cell_main<S: Source, K: Sink>(
         )),
         Err(ReadError::OutOfMemory) => return Status::OutOfMemory,
     };
-    let text = match replay(alloc, input.as_slice()) {
+    let text = match replay(alloc, input.as_slice(), wire) {
         Ok(text) => text,
         Err(refusal) => return status_of(refusal),
     };

@@ -1,6 +1,7 @@
 //! What the program answers to its caller, and what its words ask.
 
-ghost use Rattle.std.specs.Prelude.{◌≡◌, ◌↔◌, ◌∷◌, [], codes, map, string_bytes, IsSome, IsTrue};
+ghost use Rattle.std.specs.Prelude.{◌≡◌, ◌↔◌, codes, map, string_bytes, IfSome, IsSome, IsTrue};
+ghost use Rattle.afs_top.specs.Forms.{Asks, HaveForm};
 ghost use Rattle.afs_top.specs.Statuses.{reason_word};
 
 use afs_num::scripts::Reason;
@@ -61,7 +62,7 @@ impl fmt::Display for Status {
     fn fmt<W: fmt::Write>(&self, f: &mut fmt::Formatter<W>) -> fmt::Result {
         match *self {
             Status::Done => Ok(()),
-            Status::Usage => write!(f, "usage: afscell replay"),
+            Status::Usage => write!(f, "usage: afscell replay [--wire]"),
             Status::Script(line, reason) => {
                 write!(f, "script: line {line}: {}", reason_word(reason))
             }
@@ -75,8 +76,8 @@ impl fmt::Display for Status {
 /// What the words of the command line ask.
 #[derive(Clone, Copy, Debug, PartialEq, Eq)]
 pub enum Form {
-    /// A script is played by its schedule.
-    Replay,
+    /// A script is played by its schedule; with `wire` its messages are told with their bytes.
+    Replay { wire: bool },
 }
 
 fn is_replay(word: &str) -> bool
@@ -85,12 +86,22 @@ fn is_replay(word: &str) -> bool
     word == "replay"
 }
 
+fn is_wire(word: &str) -> bool
+    ensures { IsTrue result ↔ (word.now ≡ codes "--wire") }
+{
+    word == "--wire"
+}
+
 /// The form of the words behind the program's name, where they have one.
 pub fn form_of(words: &[String]) -> Option<Form>
-    ensures { IsSome result ↔ (map string_bytes words.now ≡ codes "replay" ∷ []) }
+    ensures asked { IfSome result (λ form. Asks form (map string_bytes words.now)) }
+    ensures found { HaveForm (map string_bytes words.now) → IsSome result }
 {
     match words {
-        [word] if is_replay(word.as_str()) => Some(Form::Replay),
+        [word] if is_replay(word.as_str()) => Some(Form::Replay { wire: false }),
+        [word, option] if is_replay(word.as_str()) && is_wire(option.as_str()) => {
+            Some(Form::Replay { wire: true })
+        }
         _ => None,
     }
 }
@@ -98,13 +109,14 @@ pub fn form_of(words: &[String]) -> Option<Form>
 #[cfg(test)]
 mod tests {
     use super::*;
+    use crate::tests::words_of;
     use std::test::Fail;
 
     #[test]
     fn each_status_has_a_number_and_a_line(rt: HostRuntime) -> Result<(), Fail> {
         let table = [
             (Status::Done, 0, ""),
-            (Status::Usage, 2, "usage: afscell replay"),
+            (Status::Usage, 2, "usage: afscell replay [--wire]"),
             (Status::Script(7, Reason::Node), 3, "script: line 7: Node"),
             (Status::ReadFault, 4, "read fault"),
             (Status::WriteFault, 5, "write fault"),
@@ -118,18 +130,24 @@ mod tests {
     }
 
     #[test]
-    fn replay_is_the_one_form(rt: HostRuntime) -> Result<(), Fail> {
-        let alloc = rt.alloc();
-        let replay = [String::from_str(alloc, "replay")?];
-        assert_eq!(rt; form_of(&replay), Some(Form::Replay));
-        let twice = [
-            String::from_str(alloc, "replay")?,
-            String::from_str(alloc, "replay")?,
+    fn replay_is_a_form_alone_and_with_wire(rt: HostRuntime) -> Result<(), Fail> {
+        let bare = Some(Form::Replay { wire: false });
+        let wire = Some(Form::Replay { wire: true });
+        let table: [(&[&str], Option<Form>); 10] = [
+            (&["replay"], bare),
+            (&["replay", "--wire"], wire),
+            (&[], None),
+            (&["Replay"], None),
+            (&["--wire"], None),
+            (&["--wire", "replay"], None),
+            (&["replay", "replay"], None),
+            (&["replay", "--Wire"], None),
+            (&["replay", "--wire", "--wire"], None),
+            (&["replay", "--disks", "x"], None),
         ];
-        assert_eq!(rt; form_of(&twice), None);
-        assert_eq!(rt; form_of(&[]), None);
-        let other = [String::from_str(alloc, "Replay")?];
-        assert_eq!(rt; form_of(&other), None);
+        for (words, form) in table {
+            assert_eq!(rt; form_of(words_of(rt.alloc(), words)?.as_slice()), form);
+        }
         Ok(())
     }
 }

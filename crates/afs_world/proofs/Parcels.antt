@@ -7,9 +7,13 @@ use Rattle.afs_num.specs.declared.types.Parcel.{Parcel}
 use Rattle.afs_num.specs.declared.messages.Message.{Message}
 use Rattle.afs_num.specs.declared.messages.Received.{Received}
 use Rattle.afs_num.specs.declared.messages.Received.TheVariants.{Nothing, Unknown, Unreadable, Whole}
-use Rattle.afs_model.specs.Messages.{received, found, meant}
+use Rattle.afs_model.specs.Messages.{received, spelled, found, meant}
 use Rattle.afs_model.specs.Runs.{message_at}
 use Rattle.afs_world.specs.Worlds.{with_received, messages_of, AreRead, parcel_of_place}
+
+-- a parcel's header, its bytes, and what is read in them
+abbrev Seen : Type 0
+Seen = Head × List ℕ × Received
 
 head_is : {X : Type 0} (x y : X) (xs ys : List X) → x ∷ xs ≡ y ∷ ys → x ≡ y
 head_is x y xs ys e = cc
@@ -22,7 +26,7 @@ messages_of-found [] [] e = refl
 messages_of-found [] (m ∷ ms) e = absurd cc
 messages_of-found (p ∷ ps) [] e = absurd cc
 messages_of-found (p ∷ ps) (m ∷ ms) e =
-    let first : received p.bytes ≡ Whole m = ap (λ (x : Head × Received). x.1) (head_is _ _ _ _ e) in
+    let first : received p.bytes ≡ Whole m = ap (λ (x : Seen). x.2) (head_is _ _ _ _ e) in
     ap (λ (r : Received). with_received r (messages_of ps)) first ∙ ap (λ (t : List Message). m ∷ t) (messages_of-found ps ms (tail_is _ _ _ _ e))
 
 pub are_read : (ps : List Parcel) (ms : List Message) → found ps ≡ meant ms → AreRead ps
@@ -41,15 +45,15 @@ messages_of-append (p ∷ ps) qs =
 
 found-append : (ps qs : List Parcel) → found (ps ++ qs) ≡ found ps ++ found qs
 found-append [] qs = refl
-found-append (p ∷ ps) qs = ap (λ (t : List (Head × Received)). (p.head, received p.bytes) ∷ t) (found-append ps qs)
+found-append (p ∷ ps) qs = ap (λ (t : List Seen). (p.head, p.bytes, received p.bytes) ∷ t) (found-append ps qs)
 
 meant-append : (ms ns : List Message) → meant (ms ++ ns) ≡ meant ms ++ meant ns
 meant-append [] ns = refl
-meant-append (m ∷ ms) ns = ap (λ (t : List (Head × Received)). (m.head, Whole m) ∷ t) (meant-append ms ns)
+meant-append (m ∷ ms) ns = ap (λ (t : List Seen). (m.head, spelled m, Whole m) ∷ t) (meant-append ms ns)
 
 pub AreRead-append : (ps qs : List Parcel) → AreRead ps → AreRead qs → AreRead (ps ++ qs)
 AreRead-append ps qs p q =
-    found-append ps qs ∙ ap (λ (t : List (Head × Received)). t ++ found qs) p ∙ ap (λ (t : List (Head × Received)). meant (messages_of ps) ++ t) q
+    found-append ps qs ∙ ap (λ (t : List Seen). t ++ found qs) p ∙ ap (λ (t : List Seen). meant (messages_of ps) ++ t) q
     ∙ sym (meant-append (messages_of ps) (messages_of qs)) ∙ ap meant (sym (messages_of-append ps qs))
 
 -- ---- places
@@ -70,7 +74,7 @@ at_index [] [] e k = tt
 at_index [] (m ∷ ms) e k = absurd cc
 at_index (p ∷ ps) [] e k = absurd cc
 at_index (p ∷ ps) (m ∷ ms) e zero =
-    let both = head_is _ _ _ _ e in record { head = ap (λ (x : Head × Received). x.0) both; bytes = ap (λ (x : Head × Received). x.1) both }
+    let both = head_is _ _ _ _ e in record { head = ap (λ (x : Seen). x.0) both; bytes = ap (λ (x : Seen). x.2) both }
 at_index (p ∷ ps) (m ∷ ms) e (suc k) = at_index ps ms (tail_is _ _ _ _ e) k
 
 none_at_zero : (ms : List Message) → message_at ms zero ≡ None

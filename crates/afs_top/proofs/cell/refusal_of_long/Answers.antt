@@ -1,5 +1,4 @@
 use Rattle.std.proofs.Common.{◌∙◌}
-use Rattle.afs_script.specs.Reads.{GivesAtLine}
 use Rattle.afs_model.proofs.ScriptTooLong.{longer_as_front, too_long_is_none}
 use Rattle.afs_top.proofs.cell.refusal_of_long.Goals as goal
 
