@@ -231,7 +231,7 @@ fn put_lines(out: &mut String, lines: &[Line]) -> Mem<()>
 const HEADER: usize = 32;
 
 /// The code of a reply: its first word behind the header, 0 where there is none.
-#[tactic(auto, unfolding(afs_model::specs::Text::code_at, afs_model::specs::Messages::signed_at, afs_xdr::specs::Words::word_at))]
+#[tactic(auto, unfolding(afs_model::specs::Text::code_at, afs_shape::specs::Reading::signed_at, afs_xdr::specs::Words::word_at))]
 fn code_of(bytes: &[u8]) -> Code
     ensures { result.0 ≡ code_at bytes.now }
 {

@@ -3,12 +3,7 @@
 use crate::cell::cell_main;
 use crate::memory::{MemSink, MemSource};
 use crate::statuses::Status;
-use afs_num::calls::{AfsCallBack, AfsFetchStatus, AfsVolSync, FsReply};
-use afs_num::messages::{Carried, Message};
 use afs_num::scripts::Reason;
-use afs_num::sequences::Sequence;
-use afs_num::types::{Half, Head, Node};
-use afs_world::encoding::encode;
 use std::alloc::{AllocError, Global};
 use std::test::Fail;
 
@@ -153,113 +148,5 @@ fn words_that_are_no_form(rt: HostRuntime) -> Result<(), Fail> {
         );
         assert_eq!(rt; sink.as_slice(), b"".as_slice());
     }
-    Ok(())
-}
-
-/// The reply to the first open of a file of three bytes.
-#[test]
-fn the_reply_to_an_open(rt: HostRuntime) -> Result<(), Fail> {
-    let alloc = rt.alloc();
-    let reply = Message {
-        head: Head {
-            half: Half::Reply,
-            from: Node::Server(1),
-            to: Node::Client(1),
-            epoch: 1,
-            number: 1,
-            boot: 1,
-            stamp: 0,
-            opcode: 130,
-        },
-        carried: Carried::Reply {
-            reply: FsReply::FetchData {
-                contents: Sequence::from_slice(alloc, b"abc")?,
-                status: AfsFetchStatus {
-                    interface_version: 1,
-                    file_type: 1,
-                    link_count: 1,
-                    length: 3,
-                    data_version: 1,
-                    author: 0,
-                    owner: 0,
-                    caller_access: 127,
-                    anonymous_access: 127,
-                    unix_mode_bits: 420,
-                    parent_vnode: 1,
-                    parent_unique: 1,
-                    seg_size: 0,
-                    client_mod_time: 0,
-                    server_mod_time: 0,
-                    group: 0,
-                    sync_counter: 1,
-                    spare1: 0,
-                    spare2: 0,
-                    spare3: 0,
-                    spare4: 0,
-                },
-                callback: AfsCallBack {
-                    version: 1,
-                    expiration_time: 7200,
-                    kind: 2,
-                },
-                sync: AfsVolSync {
-                    release: 0,
-                    spare1: 0,
-                    spare2: 0,
-                    spare3: 0,
-                    spare4: 0,
-                    spare5: 0,
-                },
-            },
-        },
-    };
-    let words: [u32; 41] = [
-        2,
-        1,
-        0x65,
-        1,
-        1,
-        1,
-        0,
-        0x82,
-        0,
-        3,
-        0x6162_6300,
-        1,
-        1,
-        1,
-        3,
-        1,
-        0,
-        0,
-        0x7f,
-        0x7f,
-        0x1a4,
-        1,
-        1,
-        0,
-        0,
-        0,
-        0,
-        1,
-        0,
-        0,
-        0,
-        0,
-        1,
-        0x1c20,
-        2,
-        0,
-        0,
-        0,
-        0,
-        0,
-        0,
-    ];
-    let mut expected = Vec::new(alloc);
-    for word in words {
-        expected.extend_from_slice(&word.to_be_bytes())?;
-    }
-    assert_eq!(rt; encode(alloc, &reply)?.as_slice(), expected.as_slice());
     Ok(())
 }

@@ -12,7 +12,7 @@ use Rattle.afs_num.specs.declared.types.Node.TheVariants.{Loc, Server, Client, A
 use Rattle.afs_num.specs.declared.types.Parcel.{Parcel}
 use Rattle.afs_num.specs.declared.messages.Message.{Message}
 use Rattle.afs_num.specs.declared.messages.Received.TheVariants.{Whole}
-use Rattle.afs_num.specs.declared.histories.Entry as wire
+use Rattle.afs_num.specs.declared.histories.Entry as parcelled
 use Rattle.afs_num.specs.declared.histories.Line.{Line}
 use Rattle.afs_num.specs.declared.histories.Line.TheVariants as lines
 use Rattle.afs_num.specs.declared.histories.Outs.{Outs}
@@ -68,16 +68,16 @@ other_is_first n c ne = rw (ne_eqb 1 n ne) refl
 
 -- ---- what is told
 
-told_more : (es : List wire.Entry) (e : wire.Entry) → told_all (es ++ e ∷ []) ≡ told_all es ++ told e ∷ []
+told_more : (es : List parcelled.Entry) (e : parcelled.Entry) → told_all (es ++ e ∷ []) ≡ told_all es ++ told e ∷ []
 told_more es e = map-append told es (e ∷ [])
 
-parcels_more : (es : List wire.Entry) (e : wire.Entry) → parcels_sent (es ++ e ∷ []) ≡ parcels_sent es + length e.parcels
+parcels_more : (es : List parcelled.Entry) (e : parcelled.Entry) → parcels_sent (es ++ e ∷ []) ≡ parcels_sent es + length e.parcels
 parcels_more [] e = omega arith
 parcels_more (x ∷ es) e =
     let more = parcels_more es e in
     omega (arith, more)
 
-counted : (es : List wire.Entry) (e : wire.Entry) → length (es ++ e ∷ []) ≡ length es + 1
+counted : (es : List parcelled.Entry) (e : parcelled.Entry) → length (es ++ e ∷ []) ≡ length es + 1
 counted es e = length-append es (e ∷ [])
 
 abbrev cell_made : ServerState → ClientState → List Message → Cell
@@ -96,7 +96,7 @@ entry_is : (n : Option Node) (ls ks : List Line) (ms ns : List Message) → ls �
 entry_is n ls ks ms ns p q = λ i. entry_made n (p i) (q i)
 
 -- what a step leaves
-record Leaves (old new : World) (entry : wire.Entry) : Type 0 where
+record Leaves (old new : World) (entry : parcelled.Entry) : Type 0 where
   history : new.history ≡ old.history ++ entry ∷ []
   server : new.server.node ≡ old.server.node
   client : new.client.node ≡ old.client.node
@@ -106,9 +106,9 @@ record Leaves (old new : World) (entry : wire.Entry) : Type 0 where
   places : length new.sent ≡ length old.sent + length entry.parcels
   read : AreRead entry.parcels
 
-leaves_tell : (old new : World) (entry : wire.Entry) (e : Entry) (c : Cell) → Holds old → Leaves old new entry → told entry ≡ e → cell_of new ≡ c → Tells old e c new
+leaves_tell : (old new : World) (entry : parcelled.Entry) (e : Entry) (c : Cell) → Holds old → Leaves old new entry → told entry ≡ e → cell_of new ≡ c → Tells old e c new
 leaves_tell old new entry e c h l same reached =
-    let count : length new.history ≡ length old.history + 1 = ap (λ (es : List wire.Entry). length es) l.history ∙ counted old.history entry in
+    let count : length new.history ≡ length old.history + 1 = ap (λ (es : List parcelled.Entry). length es) l.history ∙ counted old.history entry in
     let before = h.last in
     let after = l.next.last in
     record {
@@ -122,7 +122,7 @@ leaves_tell old new entry e c h l same reached =
         last = omega (arith, count, before, after);
         running = l.next.running;
         sent = l.sent;
-        history = subst (λ (es : List wire.Entry). All (λ x. AreRead x.parcels) es) (sym l.history) (All-push (λ x. AreRead x.parcels) old.history entry h.history l.read);
+        history = subst (λ (es : List parcelled.Entry). All (λ x. AreRead x.parcels) es) (sym l.history) (All-push (λ x. AreRead x.parcels) old.history entry h.history l.read);
         places = ap parcels_sent l.history ∙ parcels_more old.history entry ∙ ap (λ (n : ℕ). n + length entry.parcels) h.places ∙ sym l.places;
       };
     }
@@ -135,7 +135,7 @@ same_within old s h e = subst (IsWithin (length old.history + 2)) (sym e) (withi
 
 -- ---- nothing happens, or a client that isn't there is given a message
 
-abbrev quiet_entry : Option Node → List Line → wire.Entry
+abbrev quiet_entry : Option Node → List Line → parcelled.Entry
 quiet_entry n ls = record { node = n; lines = ls; parcels = [] }
 
 quiet_leaves : (old new : World) (n : Option Node) (ls : List Line) → Holds old → new.history ≡ old.history ++ quiet_entry n ls ∷ [] → new.server ≡ old.server → new.client ≡ old.client → new.sent ≡ old.sent → Leaves old new (quiet_entry n ls)
@@ -324,7 +324,7 @@ begun_tells old new act outs h short idle made node s sent history =
 
 -- ---- a schedule is played
 
-pub carry_all : (es : List wire.Entry) → All (λ e. AreRead e.parcels) es → CarryAll es (told_all es)
+pub carry_all : (es : List parcelled.Entry) → All (λ e. AreRead e.parcels) es → CarryAll es (told_all es)
 carry_all [] h = tt
 carry_all (e ∷ es) h =
     (record { node = refl; lines = refl; sent = h 0 e (omega arith) }, carry_all es (λ k d lt. h (suc k) d (omega (arith, lt))))

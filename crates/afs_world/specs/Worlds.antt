@@ -6,7 +6,7 @@ use Rattle.afs_num.specs.declared.types.Parcel.{Parcel}
 use Rattle.afs_num.specs.declared.messages.Message.{Message}
 use Rattle.afs_num.specs.declared.messages.Received.{Received}
 use Rattle.afs_num.specs.declared.messages.Received.TheVariants.{Whole}
-use Rattle.afs_num.specs.declared.histories.Entry as wire
+use Rattle.afs_num.specs.declared.histories.Entry as parcelled
 use Rattle.afs_num.specs.declared.scripts.Act.{Act}
 use Rattle.afs_num.specs.declared.scripts.Task.{Task}
 use Rattle.afs_model.specs.Messages.{received, found, meant}
@@ -26,13 +26,13 @@ abbrev pub messages_of : List Parcel → List Message
 messages_of [] = []
 messages_of (p ∷ ps) = with_received (received p.bytes) (messages_of ps)
 
-abbrev pub told : wire.Entry → Entry
+abbrev pub told : parcelled.Entry → Entry
 told e = record { node = e.node; lines = e.lines; sent = messages_of e.parcels }
 
-abbrev pub told_all : List wire.Entry → List Entry
+abbrev pub told_all : List parcelled.Entry → List Entry
 told_all es = map told es
 
--- all parcels are read as messages, by their headers
+-- all parcels are the spellings of messages, and are read as these
 abbrev pub AreRead : List Parcel → Type 0
 AreRead ps = found ps ≡ meant (messages_of ps)
 

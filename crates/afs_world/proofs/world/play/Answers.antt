@@ -1,5 +1,5 @@
 use Rattle.std.proofs.Common.{List, ◌++◌, ap, subst, ◌∙◌}
-use Rattle.afs_num.specs.declared.histories.Entry as wire
+use Rattle.afs_num.specs.declared.histories.Entry as parcelled
 use Rattle.afs_num.specs.declared.scripts.Event.{Event}
 use Rattle.afs_num.specs.declared.scripts.Task.{Task}
 use Rattle.afs_model.specs.Runs.{Cell, Entry, start}
@@ -17,7 +17,7 @@ returns-clause-history c =
     let script = c.args.script.now in
     subst (λ (es : List Entry). CarryAll c.play.new.self.history es)
     (c.in_ok-play.ensures.told
-    ∙ ap (λ (es : List wire.Entry). told_all es ++ entries_of (cell_of world) (acts_left tasks) c.events.result.now) c.in_ok-world.ensures.history
+    ∙ ap (λ (es : List parcelled.Entry). told_all es ++ entries_of (cell_of world) (acts_left tasks) c.events.result.now) c.in_ok-world.ensures.history
     ∙ ap (λ (x : Cell). entries_of x (acts_left tasks) c.events.result.now) c.in_ok-world.ensures.cell
     ∙ ap (λ (ts : List Task). entries_of (start script) (acts_left ts) c.events.result.now) c.as_slice.ensures
     ∙ ap (λ (xs : List Event). entries_of (start script) (acts_left script.tasks) xs) c.events.ensures)
