@@ -170,7 +170,9 @@ fn counted(fault: LendFault, faults: &mut u64)
 
 impl<'a, R: Files<File = File>> HostBank<'a, R> {
     /// The bank of a program that may reach files.
-    pub fn new(files: &'a R, alloc: Global) -> HostBank<'a, R> {
+    pub fn new(files: &'a R, alloc: Global) -> HostBank<'a, R>
+        ensures { result.faults ≡ 0 }
+    {
         HostBank {
             files,
             alloc,

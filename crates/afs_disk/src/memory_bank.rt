@@ -1,5 +1,5 @@
 // A bank in memory.
-ghost use Rattle.std.specs.Prelude.{◌≡◌, ◌<◌, ◌≤◌, ◌+◌, ◌++◌, ◌∷◌, [], Some, map, slice_get, IsErr, OnOk, OnErr, ◌↔◌};
+ghost use Rattle.std.specs.Prelude.{◌≡◌, ◌≤◌, ◌+◌, ◌++◌, ◌∷◌, [], Some, length, map, min, slice_get, get_or, IsErr, IsErrOf, IfOk, OnOk, OnErr, ◌↔◌};
 ghost use Rattle.afs_disk.specs.Fuses.{last_count};
 ghost use Rattle.afs_model.specs.Disk.{Rose};
 
@@ -43,6 +43,7 @@ impl Model for MemBank {
       lends = b.lends.items;
       given = map (λ g. (g.node, g.disk.held.now)) b.given.items;
       failing = b.failing;
+      disks = b.disks;
       calls = b.calls;
       faults = b.faults;
     } };
@@ -50,6 +51,8 @@ impl Model for MemBank {
 
 // Counts a call, and says whether it may be made.
 fn admits(calls: &mut u64, failing: &[u8], faults: &mut u64) -> Result<(), Failed>
+    ensures counted { calls.new ≡ min (calls.old + 1) last_count }
+    ensures fails { IsErr result ↔ (slice_get failing.now calls.old ≡ Some 1) }
     ensures err { OnErr result (Rose faults.old faults.new) }
     ensures ok { OnOk result (faults.new ≡ faults.old) }
     ensures never_falls { faults.old ≤ faults.new }
@@ -64,7 +67,9 @@ fn admits(calls: &mut u64, failing: &[u8], faults: &mut u64) -> Result<(), Faile
 }
 
 // The list of failing calls of the nth disk: none, where no list is left.
-fn failing_of(alloc: Global, disks: &[Octets], n: usize) -> Mem<Octets> {
+fn failing_of(alloc: Global, disks: &[Octets], n: usize) -> Mem<Octets>
+    ensures { IfOk result (λ failing. failing ≡ get_or disks.now n []) }
+{
     match disks.get(n) {
         Some(failing) => failing.copy(alloc),
         None => Ok(Octets::new(alloc)),
@@ -77,7 +82,8 @@ impl MemBank {
     pub fn new(alloc: Global, failing: Octets, disks: Records) -> MemBank
         ensures lends { result.lends ≡ [] }
         ensures given { result.given ≡ [] }
-        ensures faults { result.faults ≡ 0 }
+        ensures set { (result.failing ≡ failing) × (result.disks ≡ disks) }
+        ensures counts { (result.calls ≡ 0) × (result.faults ≡ 0) }
     {
         MemBank {
             alloc,
@@ -114,7 +120,20 @@ impl Bank for MemBank {
 
     ghost faults = { λ b. b.faults };
 
-    fn lend(&mut self, place: &Place, node: u32, capacity: u64) -> Result<MemDisk, LendFault> {
+    fn lend(&mut self, place: &Place, node: u32, capacity: u64) -> Result<MemDisk, LendFault>
+        ensures limit { IfOk result (λ disk. disk.limit ≡ capacity) }
+        ensures empty { IfOk result (λ disk. (disk.held.now ≡ []) × (disk.held.kept ≡ []) × (disk.held.unsynced ≡ [])) }
+        ensures unused { IfOk result (λ disk. (disk.calls ≡ 0) × (disk.faults ≡ 0)) }
+        ensures failing { IfOk result (λ disk. disk.failing ≡ get_or self.old.disks (length self.old.lends) []) }
+        ensures lends { OnOk result (self.new.lends ≡ self.old.lends ++ record { place = place.now; node = node; capacity = capacity } ∷ []) }
+        ensures none { OnErr result (self.new.lends ≡ self.old.lends) }
+        ensures given { self.new.given ≡ self.old.given }
+        ensures counted { self.new.calls ≡ min (self.old.calls + 1) last_count }
+        ensures fails { IsErrOf result LendFault.Failed ↔ (slice_get self.old.failing self.old.calls ≡ Some 1) }
+        ensures never_falls { self.old.faults ≤ self.new.faults }
+        ensures cause { IsErrOf result LendFault.Failed → Rose self.old.faults self.new.faults }
+        ensures set { (self.new.failing ≡ self.old.failing) × (self.new.disks ≡ self.old.disks) }
+    {
         admits(&mut self.calls, self.failing.as_slice(), &mut self.faults)?;
         let failing = failing_of(self.alloc, self.disks.as_slice(), self.lends.len())?;
         let place = place.copy(self.alloc)?;
@@ -133,7 +152,16 @@ impl Bank for MemBank {
         Ok(MemDisk::new(self.alloc, capacity, failing))
     }
 
-    fn give_back(&mut self, node: u32, disk: MemDisk) -> Result<(), Failed> {
+    fn give_back(&mut self, node: u32, disk: MemDisk) -> Result<(), Failed>
+        ensures given { OnOk result (self.new.given ≡ self.old.given ++ (node, disk.held.now) ∷ []) }
+        ensures kept { OnErr result (self.new.given ≡ self.old.given) }
+        ensures lends { self.new.lends ≡ self.old.lends }
+        ensures counted { self.new.calls ≡ min (self.old.calls + 1) last_count }
+        ensures fails { slice_get self.old.failing self.old.calls ≡ Some 1 → IsErr result }
+        ensures never_falls { self.old.faults ≤ self.new.faults }
+        ensures cause { OnErr result (Rose self.old.faults self.new.faults) }
+        ensures set { (self.new.failing ≡ self.old.failing) × (self.new.disks ≡ self.old.disks) }
+    {
         admits(&mut self.calls, self.failing.as_slice(), &mut self.faults)?;
         match self.given.push(Given { node, disk }) {
             Ok(()) => Ok(()),

@@ -30,7 +30,7 @@ impl Writer {
         }
     }
 
-    /// No bytes yet, and room for so many.
+    /// No bytes yet. Memory for so many is asked for at once, which changes no value.
     pub fn with_capacity(alloc: Global, capacity: usize) -> Result<Writer, AllocError>
         ensures { IfOk result (λ w. w ≡ []) }
     {
@@ -57,13 +57,6 @@ impl Writer {
     {
         self.bytes.reserve(4 * ns.len())?;
         put_words(&mut self.bytes, ns)
-    }
-
-    /// Room for so many bytes more.
-    pub fn reserve(&mut self, additional: usize) -> Result<(), AllocError>
-        ensures { self.new ≡ self.old }
-    {
-        self.bytes.reserve(additional)
     }
 
     /// How many bytes there are.
