@@ -1,5 +1,5 @@
 // What `attach` does to a disk whose bytes are no journal at rest.
-ghost use Rattle.std.specs.Prelude.{◌≡◌, ◌≤◌, ◌<◌, ◌+◌, ◌*◌, ◌^◌, List, ℕ, [], length, max, Some, IsSome, IfOk, OnOk, IsTrue, slice_index_or};
+ghost use Rattle.std.specs.Prelude.{◌≡◌, ◌≤◌, ◌<◌, ◌+◌, ◌*◌, ◌^◌, List, ℕ, [], length, max, Some, IsSome, IfOk, OnOk, IsTrue, slice_index_or, ◌↔◌};
 ghost use Rattle.afs_model.specs.Disk.{Ran, Holds, LeavesJust, LeavesOnly};
 ghost use Rattle.afs_model.specs.Journal.{whole_records, EndsAt};
 ghost use Rattle.afs_journal.specs.Log.{IsJournal, Served};
@@ -64,7 +64,7 @@ pub(crate) fn repair<D: Disk>(disk: &mut D, gate: u64) -> Result<(), Failed>
 // Whether the bytes end with this gate, and it is closed.
 fn is_at_rest(bytes: &[u8], gate: usize) -> bool
     requires { gate < length bytes.now }
-    ensures { IsTrue result → (length bytes.now ≡ gate + 1) × (slice_index_or bytes.now gate 0 ≡ 0) }
+    ensures { IsTrue result ↔ (length bytes.now ≡ gate + 1) × (slice_index_or bytes.now gate 0 ≡ 0) }
 {
     bytes.len() == gate + 1 && bytes[gate] == CLOSED
 }
