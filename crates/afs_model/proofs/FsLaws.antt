@@ -1,35 +1,27 @@
 -- A call or reply that is read is spelled so, and what is spelled is read: the laws of the two tables.
-use Rattle.std.proofs.Common.{◌≡◌, ℕ, ◌+◌, ◌^◌, ◌<◌, ◌≤◌, Bool, true, false, cond, eqb, ltb, List, [], ◌∷◌, ◌++◌, length, Option, Some, None, Result, Ok, Err, ℤ, refl, sym, ap, subst, ◌∙◌, append_assoc, append-nil, arith, inl, inr, ◌⊎◌}
-use Rattle.std.specs.Prelude.{nat_eq, ◌==◌, IsSome, IsSomeAnd, find, FitsSigned}
-use Rattle.std.specs.Option.{option_map}
+use Rattle.std.proofs.Common.{◌≡◌, ℕ, ◌+◌, ◌^◌, ◌<◌, ◌≤◌, Bool, true, false, cond, eqb, List, [], ◌++◌, length, Option, Some, None, Result, Ok, Err, ℤ, refl, sym, ap, subst, ◌∙◌, append-nil, arith}
+use Rattle.std.specs.Prelude.{IsSomeAnd, FitsSigned}
 use Rattle.std.specs.Int.{w32}
-use Rattle.std.specs.List.{AllByRecursion}
 use Rattle.std.proofs.lemmas.Bool.{eqb-true}
 use Rattle.std.proofs.lemmas.List.{nil_from_length}
 use Rattle.afs_num.specs.declared.types.Half.{Half}
 use Rattle.afs_num.specs.declared.types.Half.TheVariants as halves
 use Rattle.afs_num.specs.declared.types.Head.{Head}
-use Rattle.afs_num.specs.declared.calls.FsCall.{FsCall}
-use Rattle.afs_num.specs.declared.calls.FsCall.TheVariants as calls
-use Rattle.afs_num.specs.declared.calls.FsReply.{FsReply}
-use Rattle.afs_num.specs.declared.calls.FsReply.TheVariants as replies
 use Rattle.afs_xdr.specs.declared.faults.XdrFault.{XdrFault}
 use Rattle.afs_xdr.specs.declared.faults.XdrFault.TheVariants.{Extra}
 use Rattle.afs_xdr.specs.Words.{word, words, opaque, opaque_at, end_at}
 use Rattle.afs_shape.specs.declared.faults.ShapeFault.{ShapeFault}
 use Rattle.afs_shape.specs.declared.faults.ShapeFault.TheVariants as faults
 use Rattle.afs_shape.specs.declared.kinds.Kind.{Kind}
-use Rattle.afs_shape.specs.declared.kinds.Kind.TheVariants as kinds
 use Rattle.afs_shape.specs.declared.kinds.Field.{Field}
-use Rattle.afs_shape.specs.declared.kinds.Field.TheVariants as fields
 use Rattle.afs_shape.specs.Spelling.{fields_spelled}
 use Rattle.afs_shape.specs.Reading.{◌>>=◌, in_place, signed_at, fields_at, GivesShape}
 use Rattle.afs_shape.specs.Tables.{kinds_in, AreOf, AreInRange}
-use Rattle.afs_shape.proofs.Codecs.{IsBytes, Takes, Takes-then, opaque_codec, signed_codec}
-use Rattle.afs_shape.proofs.FieldLaws.{TakesFields, bind_ok, in_place_ok, shape_ok_is, fields_take, fields_again}
-use Rattle.afs_model.specs.Heads.{user_limit, contents_limit, head_words, head_at, signed, is_zero, FitsHead}
-use Rattle.afs_model.specs.FsRows.{call_rows, reply_rows, call_number, call_fields, reply_number, reply_fields, HasRow, IsHead, IsCall, IsAnswer, IsReply, spelled_call, spelled_reply, answer_fields, SpellsCall, SpellsReply, same_half, in_head, half_head_at, row_at, last_fields_at, asked_parts_at, call_parts_at, kinds_behind, replied_parts_at, reply_parts_at}
-use Rattle.afs_model.proofs.HeadLaws.{TakesHead, head_takes, head_again}
+use Rattle.afs_shape.proofs.Codecs.{IsBytes, Takes, opaque_codec, signed_codec}
+use Rattle.afs_shape.proofs.FieldLaws.{bind_ok, in_place_ok, shape_ok_is, fields_take, fields_again}
+use Rattle.afs_model.specs.Heads.{user_limit, head_words, head_at, signed}
+use Rattle.afs_model.specs.FsRows.{call_rows, reply_rows, HasRow, IsHead, same_half, in_head, half_head_at, row_at, last_fields_at, asked_parts_at, call_parts_at, kinds_behind, replied_parts_at, reply_parts_at}
+use Rattle.afs_model.proofs.HeadLaws.{head_takes, head_again}
 
 done : {A : Type 0} → A → Result A ShapeFault
 done x = Ok x

@@ -1,5 +1,5 @@
 -- Whole calls and replies: what is read is spelled so, what is spelled is read, and no spelling begins another.
-use Rattle.std.proofs.Common.{◌≡◌, ℕ, ◌+◌, ◌^◌, ◌<◌, ◌≤◌, Bool, true, false, cond, List, [], ◌∷◌, ◌++◌, length, Option, Some, None, Result, Ok, Err, ℤ, refl, sym, ap, subst, ◌∙◌, append_assoc, append-nil, arith}
+use Rattle.std.proofs.Common.{◌≡◌, ℕ, ◌≤◌, Bool, true, false, cond, List, [], ◌∷◌, ◌++◌, length, Option, Some, None, Result, Ok, Err, ℤ, refl, sym, ap, subst, ◌∙◌, append_assoc, append-nil, arith}
 use Rattle.std.specs.Prelude.{IsSome, IsSomeAnd, IfOk, FitsSigned}
 use Rattle.std.specs.Int.{w32}
 use Rattle.afs_num.specs.declared.types.Half.{Half}
@@ -22,10 +22,10 @@ use Rattle.afs_shape.specs.Tables.{kinds_in, AreOf, AreInRange}
 use Rattle.afs_shape.proofs.Codecs.{IsBytes, opaque_codec, signed_codec}
 use Rattle.afs_shape.proofs.FieldLaws.{shape_ok_is, fields_again}
 use Rattle.afs_model.specs.Heads.{user_limit, head_words, signed, is_zero}
-use Rattle.afs_model.specs.FsRows.{call_rows, reply_rows, call_number, call_fields, reply_number, reply_fields, HasRow, IsHead, IsCall, IsAnswer, IsReply, spelled_call, spelled_reply, answer_fields, SpellsCall, SpellsReply, half_head_at, call_parts_at, kinds_behind, reply_parts_at, IsUnless, ReadsCall, IsReplied, ReadsReply, CanAnswer, IsHeadFor, IsOpcodeOf}
+use Rattle.afs_model.specs.FsRows.{call_rows, reply_rows, call_number, call_fields, reply_number, reply_fields, HasRow, IsHead, IsAnswer, spelled_call, spelled_reply, answer_fields, SpellsCall, SpellsReply, half_head_at, call_parts_at, kinds_behind, reply_parts_at, IsUnless, ReadsCall, IsReplied, ReadsReply, CanAnswer, IsHeadFor, IsOpcodeOf}
 use Rattle.afs_model.specs.FsMaking.{call_of, reply_of}
-use Rattle.afs_model.proofs.FsLaws.{AreCallParts, AreReplyParts, HasKinds, half_head_again, found_row, call_parts_take, call_parts_again, reply_parts_take, reply_parts_again}
-use Rattle.afs_model.proofs.FsMade.{Made, call_again, reply_again, call_made, reply_made, some_is}
+use Rattle.afs_model.proofs.FsLaws.{HasKinds, half_head_again, found_row, call_parts_take, call_parts_again, reply_parts_take, reply_parts_again}
+use Rattle.afs_model.proofs.FsMade.{call_again, reply_again, call_made, reply_made, some_is}
 
 abbrev fine : {A : Type 0} → A → Result A ShapeFault
 fine x = Ok x

@@ -1,12 +1,12 @@
 -- What the bytes of a journal stand for, whole or with a torn end.
-use Rattle.std.proofs.Common.{◌≡◌, ◌≢◌, ◌<◌, ◌≤◌, ◌⊎◌, inl, inr, ⊎_elim, ℕ, zero, suc, ◌+◌, ◌*◌, ◌-◌, ◌^◌, Bool, true, false, ◌==◌, ◌&&◌, if◌then◌else◌, List, [], ◌∷◌, ◌++◌, length, get_or, take, drop, Option, Some, None, refl, sym, ◌∙◌, ap, subst, arith, append_assoc, length-append, take-append-drop, length-drop, add-zero}
-use Rattle.std.specs.Int.{w32, to_be_bytes, from_be_bytes}
+use Rattle.std.proofs.Common.{◌≡◌, ◌≢◌, ◌<◌, ◌≤◌, inl, inr, ℕ, zero, suc, ◌+◌, ◌*◌, ◌-◌, ◌^◌, true, if◌then◌else◌, List, [], ◌∷◌, ◌++◌, length, get_or, take, drop, Option, Some, None, refl, sym, ◌∙◌, ap, subst, arith, append_assoc, length-append, take-append-drop, length-drop, add-zero}
+use Rattle.std.specs.Int.{w32, from_be_bytes}
 use Rattle.std.proofs.lemmas.Nat.{from_be_bytes-to_be_bytes_4, be_bytes_4}
-use Rattle.std.proofs.lemmas.List.{append-nil, take_at, drop_at, take_all, drop_all, drop-drop, take-take, length-take-le, drop-take, length-take, get_or-take, get_or-drop, get_or_past, drop_more}
-use Rattle.std.proofs.lemmas.Bool.{cases_eq, cases_lt}
+use Rattle.std.proofs.lemmas.List.{append-nil, take_at, drop_at, drop-drop, take-take, length-take-le, drop-take, length-take, get_or-take, get_or-drop, get_or_past, drop_more}
+use Rattle.std.proofs.lemmas.Bool.{cases_lt}
 use Rattle.std.proofs.lemmas.Bool.Decides.{nat_tests}
 use Rattle.afs_xdr.specs.Words.{word}
-use Rattle.afs_model.specs.Journal.{number_at, place_of, blocks, journal_bytes, is_whole, record_at, and_then, whole_from, whole_records, IsBeforeOrAfter, Fit, EndsAt, StartsWith}
+use Rattle.afs_model.specs.Journal.{number_at, place_of, blocks, is_whole, record_at, and_then, whole_from, whole_records, Fit, EndsAt, StartsWith}
 
 pub length-word : (n : ℕ) → length (word n) ≡ 4
 unfolding word

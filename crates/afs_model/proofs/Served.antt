@@ -1,10 +1,9 @@
 -- Which calls a server refuses as not served.
-use Rattle.std.proofs.Common.{◌≡◌, ℕ, Bool, true, false, List, Option, Some, None, refl}
+use Rattle.std.proofs.Common.{◌≡◌, ℕ, true, false, List, Option, Some, None, refl}
 use Rattle.afs_num.specs.declared.types.Head.{Head}
-use Rattle.afs_num.specs.declared.calls.FsCall.{FsCall}
 use Rattle.afs_num.specs.declared.calls.FsCall.TheVariants as calls
 use Rattle.afs_num.specs.declared.states.StoredFile.{StoredFile}
-use Rattle.afs_model.specs.ServerRow.{Decision, refuses, grants, saves, fetches, stores, find_file, not_served, no_file}
+use Rattle.afs_model.specs.ServerRow.{refuses, fetches, stores, find_file, not_served}
 use Rattle.afs_model.specs.Laws.{UnservedAreRefused}
 
 fetch_served : (head : Head) (o : Option StoredFile) → fetches head o ≡ refuses head not_served → true ≡ false

@@ -15,13 +15,13 @@ use Rattle.afs_num.specs.declared.messages.Received.{Received}
 use Rattle.afs_num.specs.declared.messages.Received.TheVariants.{Nothing, Unknown, Unreadable, Whole}
 use Rattle.afs_xdr.specs.declared.faults.XdrFault.{XdrFault}
 use Rattle.afs_xdr.specs.declared.faults.XdrFault.TheVariants.{Extra}
-use Rattle.afs_xdr.specs.Words.{word, words, opaque, opaque_at, end_at}
+use Rattle.afs_xdr.specs.Words.{word, words, opaque, end_at}
 use Rattle.afs_shape.specs.declared.faults.ShapeFault.{ShapeFault}
 use Rattle.afs_shape.specs.declared.faults.ShapeFault.TheVariants as faults
 use Rattle.afs_shape.specs.declared.kinds.Kind.{Kind}
 use Rattle.afs_shape.specs.declared.kinds.Field.{Field}
 use Rattle.afs_shape.specs.Spelling.{fields_spelled}
-use Rattle.afs_shape.specs.Reading.{◌>>=◌, in_place, signed_at, fields_at, GivesShape}
+use Rattle.afs_shape.specs.Reading.{◌>>=◌, in_place, signed_at, GivesShape}
 use Rattle.afs_shape.specs.Tables.{kinds_in, AreOf, AreInRange}
 use Rattle.afs_shape.proofs.Codecs.{IsBytes, opaque_codec, signed_codec}
 use Rattle.afs_shape.proofs.FieldLaws.{bind_ok, in_place_ok, shape_ok_is, fields_again}

@@ -13,7 +13,7 @@ use Rattle.afs_num.specs.declared.types.Parcel.{Parcel}
 use Rattle.afs_num.specs.declared.messages.Carried.{Carried}
 use Rattle.afs_num.specs.declared.messages.Carried.TheVariants as carried
 use Rattle.afs_num.specs.declared.messages.Message.{Message}
-use Rattle.afs_num.specs.declared.messages.Received.TheVariants.{Nothing, Unknown, Unreadable, Whole}
+use Rattle.afs_num.specs.declared.messages.Received.TheVariants.{Whole}
 use Rattle.afs_xdr.specs.declared.faults.XdrFault.{XdrFault}
 use Rattle.afs_xdr.specs.Words.{◌>>=◌, word_at}
 use Rattle.afs_num.specs.declared.messages.Received.{Received}
@@ -21,16 +21,13 @@ use Rattle.afs_num.specs.declared.histories.Entry.{Entry as ParcelledEntry}
 use Rattle.afs_num.specs.declared.histories.Line.{Line}
 use Rattle.afs_num.specs.declared.scripts.Script.{Script}
 use Rattle.afs_num.specs.declared.states.StoredFile.{StoredFile}
-use Rattle.afs_xdr.specs.Words.{end_at}
-use Rattle.afs_shape.specs.declared.faults.ShapeFault.{ShapeFault}
-use Rattle.afs_shape.specs.declared.faults.ShapeFault.TheVariants as faults
 use Rattle.afs_shape.specs.Reading.{in_place, signed_at}
 use Rattle.afs_shape.specs.Tables.{kinds_in}
 use Rattle.afs_shape.proofs.FieldLaws.{bind_ok, in_place_ok, shape_ok_is}
 use Rattle.afs_model.specs.Heads.{head_at, half_at, node_at, known, half_of, is_zero}
 use Rattle.afs_model.specs.FsRows.{reply_rows, row_at, last_fields_at}
 use Rattle.afs_model.specs.FsMaking.{reply_of}
-use Rattle.afs_model.specs.Messages.{as_reply, asked_at, answer_at, refusal_at, replied_at, notice_at, found_call, found_answer, behind, behind_head, received, spelled, found, meant}
+use Rattle.afs_model.specs.Messages.{asked_at, answer_at, refusal_at, replied_at, notice_at, behind, behind_head, received, spelled, found, meant}
 use Rattle.afs_model.proofs.Spellings.{IsOf, found_call_is, found_answer_is, reply_is}
 use Rattle.afs_model.specs.Runs.{Entry, Cell}
 use Rattle.afs_model.specs.Text.{sent_text, route_text, half_text, code_text, tail_text, code_of, code_read, code_at, message_text, messages_text, parcel_text, parcels_text, step_text, lines_text, entry_text, parcelled_entry_text, entries_text, parcelled_entries_text, history_text, parcelled_history_text, final_text, text, parcelled_text, Carries, CarryAll}

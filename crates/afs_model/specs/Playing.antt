@@ -1,6 +1,6 @@
 -- How a schedule is played, for a script whose one client is client 1: which input an event is, given the acts that the
 -- client has not begun.
-use Rattle.std.specs.Prelude.{◌≡◌, ℕ, List, [], ◌∷◌, ◌++◌, map, Option, Some, None}
+use Rattle.std.specs.Prelude.{◌≡◌, List, [], ◌∷◌, map, Option, Some, None}
 use Rattle.std.specs.List.{All}
 use Rattle.afs_num.specs.declared.types.Node.TheVariants.{Client}
 use Rattle.afs_num.specs.declared.scripts.Act.{Act}
@@ -8,7 +8,7 @@ use Rattle.afs_num.specs.declared.scripts.Event.{Event}
 use Rattle.afs_num.specs.declared.scripts.Event.TheVariants as events
 use Rattle.afs_num.specs.declared.scripts.Task.{Task}
 use Rattle.afs_num.specs.declared.scripts.Script.{Script}
-use Rattle.afs_model.specs.Runs.{Entry, Cell, Moved, moved, gives, begins, nothing, voided, start}
+use Rattle.afs_model.specs.Runs.{Entry, Cell, Moved, moved, gives, begins, voided}
 use Rattle.afs_model.specs.Acts.{events_of}
 
 pub record Played : Type 0 where

@@ -1,4 +1,4 @@
-use Rattle.std.proofs.Common.{◌≡◌, sym, refl}
+use Rattle.std.proofs.Common.{sym, refl}
 use Rattle.afs_shape.proofs.RowLaws.{row_kinds, no_row_kinds}
 use Rattle.afs_shape.proofs.tables.Table.shape.Goals as goal
 
