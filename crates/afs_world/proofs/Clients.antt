@@ -1,6 +1,5 @@
 -- A step of a client draws at most one number, and runs no act whose contents are above their limit.
-use Rattle.std.proofs.Common.{◌≡◌, ℕ, ◌+◌, ◌≤◌, Bool, true, false, cond, List, [], ◌∷◌, Option, Some, None, refl, arith}
-use Rattle.std.specs.Prelude.{ℤ}
+use Rattle.std.proofs.Common.{ℕ, ◌+◌, ◌≤◌, Bool, true, false, cond, Option, Some, None, arith}
 use Rattle.afs_num.specs.declared.types.Fid.{Fid}
 use Rattle.afs_num.specs.declared.types.Node.{Node}
 use Rattle.afs_num.specs.declared.types.Head.{Head}
@@ -17,7 +16,7 @@ use Rattle.afs_num.specs.declared.states.CacheEntry.{CacheEntry}
 use Rattle.afs_num.specs.declared.states.ClientState.{ClientState}
 use Rattle.afs_num.specs.declared.histories.Line.TheVariants as lines
 use Rattle.afs_model.specs.Steps.{Step}
-use Rattle.afs_model.specs.ClientRow.{find_cached, is_trusted, opens, begin_row, takes, takes_fetched, counts, is_awaited, awaits, takes_in, client_row, asking, shows_step, calls_step, uses_step, ignores}
+use Rattle.afs_model.specs.ClientRow.{find_cached, is_trusted, opens, begin_row, takes, counts, is_awaited, awaits, takes_in, client_row, asking, shows_step, calls_step, uses_step, ignores}
 use Rattle.afs_world.specs.Asking.{IsShortRunning}
 use Rattle.afs_model.specs.Form.{IsShortAct}
 

@@ -1,5 +1,5 @@
 -- Each way in which the program's cell goes on is a step of the cell that it stands for.
-use Rattle.std.proofs.Common.{◌≡◌, ℕ, suc, ◌+◌, ◌≤◌, Bool, true, false, cond, List, [], ◌∷◌, ◌++◌, Option, Some, None, length, map, refl, sym, ap, subst, ◌∙◌, append-nil, append_assoc, arith}
+use Rattle.std.proofs.Common.{◌≡◌, ℕ, suc, ◌+◌, Bool, true, false, cond, List, [], ◌∷◌, ◌++◌, Option, Some, None, length, refl, sym, ap, subst, ◌∙◌, append-nil, append_assoc, arith}
 use Rattle.std.specs.Prelude.{nat_eq, is_some}
 use Rattle.std.specs.List.{All}
 use Rattle.std.proofs.lemmas.Bool.{ne_eqb}
@@ -23,14 +23,13 @@ use Rattle.afs_model.specs.Messages.{received, IsSound}
 use Rattle.afs_model.specs.Steps.{Step, Makes}
 use Rattle.afs_model.specs.ServerRow.{server_row}
 use Rattle.afs_model.specs.ClientRow.{the_server, begin_row, client_row, takes_in, ignores}
-use Rattle.afs_model.specs.Runs.{Entry, Cell, Moved, put, voided, server_moves, client_moves, message_at, given_to, given_at, begun_by, moved, gives, begins, first_client}
+use Rattle.afs_model.specs.Runs.{Entry, Cell, put, voided, server_moves, client_moves, message_at, given_to, given_at, begun_by, moved, gives, begins, first_client}
 use Rattle.afs_num.specs.declared.scripts.Event.{Event}
 use Rattle.afs_num.specs.declared.scripts.Task.{Task}
 use Rattle.afs_model.specs.Playing.{begun, played, entries_of, cell_after}
 use Rattle.afs_model.specs.Text.{CarryAll, parcels_sent}
 use Rattle.afs_world.specs.declared.world.World.{World}
 use Rattle.afs_world.specs.Serving.{IsWithin}
-use Rattle.afs_world.specs.Asking.{IsShortRunning}
 use Rattle.afs_model.specs.Form.{IsShortAct, IsShortTask}
 use Rattle.afs_world.specs.Worlds.{messages_of, told, told_all, AreRead, cell_of, parcel_of_place, Holds, Tells, TellsPlayed, acts_left}
 use Rattle.afs_world.proofs.Parcels.{messages_of-found, are_read, messages_of-append, AreRead-append, AtPlace, Carries, at_place}

@@ -1,6 +1,6 @@
 -- A step of the server raises no count by more than one, and keeps contents within their limit and replies sound.
-use Rattle.std.proofs.Common.{◌≡◌, ℕ, ◌+◌, ◌≤◌, ◌<◌, ◌^◌, Bool, true, false, cond, List, [], ◌∷◌, ◌++◌, Option, Some, None, length, refl, sym, ap, arith}
-use Rattle.std.specs.Prelude.{ℤ, filter, find, not, nat_eq, IfSome}
+use Rattle.std.proofs.Common.{◌≡◌, ℕ, ◌+◌, ◌≤◌, ◌<◌, ◌^◌, Bool, true, false, cond, List, Option, Some, None, length, refl, arith}
+use Rattle.std.specs.Prelude.{not, nat_eq}
 use Rattle.std.specs.List.{All}
 use Rattle.std.proofs.lemmas.List.Elements.{All-filter, All-push}
 use Rattle.afs_num.specs.Fids.{same_fid}
@@ -16,12 +16,11 @@ use Rattle.afs_num.specs.declared.messages.Message.{Message}
 use Rattle.afs_num.specs.declared.messages.Received.{Received}
 use Rattle.afs_num.specs.declared.messages.Received.TheVariants.{Nothing, Unknown, Unreadable, Whole}
 use Rattle.afs_num.specs.declared.states.StoredFile.{StoredFile}
-use Rattle.afs_num.specs.declared.states.Seat.{Seat}
 use Rattle.afs_num.specs.declared.states.ServerState.{ServerState}
 use Rattle.afs_model.specs.Heads.{contents_limit, is_zero, IsSoundHead}
 use Rattle.afs_model.specs.FsRows.{fetch_data, store_data, call_rows, call_number, call_fields, HasRow}
 use Rattle.afs_model.specs.Messages.{IsSound, IsSoundCarried, IsSoundMessage}
-use Rattle.afs_model.specs.ServerRow.{serves, not_served, bad_fields, Standing, is_older, is_last, is_newer, standing, seat_of, find_file, stored, with_file, Decision, drops, tells_boot, repeats, refuses, grants, saves, fetches, stores, Request, asks, asks_unknown, asks_unreadable, runs, answers_again, admits, called, hears, decides, keeps, saved, does, server_row, refusal}
+use Rattle.afs_model.specs.ServerRow.{serves, not_served, bad_fields, Standing, is_older, is_last, is_newer, standing, seat_of, find_file, stored, Decision, drops, tells_boot, repeats, refuses, grants, saves, fetches, stores, Request, asks, asks_unknown, asks_unreadable, runs, answers_again, admits, called, hears, decides, keeps, saved, does, server_row, refusal}
 use Rattle.afs_world.specs.Serving.{KeepsSound, IsKept, IsWithin, IsSoundCall}
 use Rattle.afs_world.proofs.Limits.{All-find}
 

@@ -1,6 +1,5 @@
-use Rattle.afs_num.specs.Fids.{same_fid}
 use Rattle.afs_num.specs.Nodes.{same_node}
-use Rattle.afs_world.specs.Serving.{IsKept, KeepsSound, count_limit}
+use Rattle.afs_world.specs.Serving.{KeepsSound}
 use Rattle.afs_world.proofs.Limits.{holds_of_found}
 use Rattle.afs_world.proofs.server.find_seat.Goals as goal
 

@@ -3,7 +3,6 @@ use Rattle.afs_num.specs.declared.histories.Entry as parcelled
 use Rattle.afs_num.specs.declared.scripts.Event.{Event}
 use Rattle.afs_num.specs.declared.scripts.Task.{Task}
 use Rattle.afs_model.specs.Runs.{Cell, Entry, start}
-use Rattle.afs_model.specs.Acts.{events_of}
 use Rattle.afs_model.specs.Playing.{entries_of}
 use Rattle.afs_model.specs.Text.{CarryAll}
 use Rattle.afs_world.specs.Worlds.{told_all, cell_of, acts_left}
