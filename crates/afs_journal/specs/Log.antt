@@ -23,6 +23,10 @@ pub record IsSettled (count gate : ℕ) (may_leave : List ℕ → Type 0) (bytes
   pub fit : Fit 1 (whole_records bytes)
   pub durable : LeavesJust bytes may_leave
 
+-- the bytes are a journal at rest: whole records, the closed gate behind the last of them, and nothing more
+abbrev pub Rests : List ℕ → Type 0
+Rests bytes = bytes ≡ journal_bytes (whole_records bytes)
+
 -- what holds of a disk with a journal at rest, as far as the disk tells
 pub record AtRest {D : Type 0} (seen : D → Option (List ℕ)) (size : D → ℕ) (may_leave : D → List ℕ → Type 0) (count gate : ℕ) (disk : D) : Type 0 where
   pub ends : size disk ≡ gate + 1

@@ -1,7 +1,7 @@
 ghost use Rattle.std.specs.Prelude.{◌≡◌, ◌≤◌, ◌<◌, ◌+◌, ◌++◌, ◌∷◌, [], ◌↔◌, ◌*◌, ◌^◌, List, ℕ, Some, true, false, length, MatchResult, IfOk, IfErr, OnOk, IsOk, IsErrOf, IsTrue, IsSome};
 ghost use Rattle.afs_model.specs.Disk.{LeavesOnly, PassesAll};
 ghost use Rattle.afs_model.specs.Journal.{whole_records, IsBeforeOrAfter};
-ghost use Rattle.afs_journal.specs.Log.{Appended, HasRoom, IsCaused, IsJournal, LeavesUnchanged, SameCounts, Served, StandsAsBefore, Taken, Unchanged};
+ghost use Rattle.afs_journal.specs.Log.{Appended, HasRoom, IsCaused, IsJournal, LeavesUnchanged, Rests, SameCounts, Served, StandsAsBefore, Taken, Unchanged};
 
 use crate::mend::settle;
 use crate::opening::open;
@@ -52,6 +52,7 @@ fn take_up<D: Disk>(alloc: Global, disk: &mut D) -> Result<(Records, u64), Journ
     ensures told { OnOk result (IsSome (D.seen disk.new) → IsSome (D.seen disk.old)) }
     ensures done { OnOk result ((bytes : List ℕ) → D.seen disk.old ≡ Some bytes → IsJournal (whole_records bytes) (D.seen disk.new) (D.may_leave disk.new)) }
     ensures any_moment { (bytes : List ℕ) → D.seen disk.old ≡ Some bytes → LeavesOnly D.moment D.left_since disk.old disk.new (StandsAsBefore (D.may_leave disk.old)) }
+    ensures rests { OnOk result ((bytes : List ℕ) → D.seen disk.old ≡ Some bytes → Rests bytes → D.calls disk.new ≡ D.calls disk.old + 2) }
     ensures calls { (D.calls disk.old ≤ D.calls disk.new) × (D.calls disk.new ≤ D.calls disk.old + 6) }
     ensures setting { D.setting disk.new ≡ D.setting disk.old }
     ensures cause { Served (D.setting disk.old) (D.calls disk.old) (D.calls disk.new) (D.faults disk.old) (D.faults disk.new) (D.own_faults disk.old) (D.own_faults disk.new) result }
@@ -77,6 +78,10 @@ impl<D: Disk> Journal<D> {
             (λ e. LeavesOnly D.moment D.left_since disk e.1 (StandsAsBefore (D.may_leave disk))) }
         ensures ok { IfOk result (λ j. Taken D.faults D.own_faults D.calls D.setting disk j.disk × PassesAll (D.setting disk) (D.calls disk) (D.calls j.disk)) }
         ensures err { IfErr result (λ e. Taken D.faults D.own_faults D.calls D.setting disk e.1 × IsCaused (D.setting disk) (D.calls e.1) (D.faults disk) (D.faults e.1) (D.own_faults disk) (D.own_faults e.1) e.0) }
+
+        // A journal at rest is synced and read, and nothing more.
+        ensures rests { IfOk result (λ j. (bytes : List ℕ) → D.seen disk ≡ Some bytes → Rests bytes → D.calls j.disk ≡ D.calls disk + 2) }
+
         ensures limit { MatchResult result (λ j. D.limit j.disk ≡ D.limit disk) (λ e. D.limit e.1 ≡ D.limit disk) }
     {
         let mut disk = disk;

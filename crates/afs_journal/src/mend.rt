@@ -2,7 +2,7 @@
 ghost use Rattle.std.specs.Prelude.{◌≡◌, ◌≤◌, ◌<◌, ◌+◌, ◌*◌, ◌^◌, List, ℕ, [], length, max, Some, IsSome, IfOk, OnOk, IsTrue, slice_index_or, ◌↔◌};
 ghost use Rattle.afs_model.specs.Disk.{Ran, Holds, LeavesJust, LeavesOnly};
 ghost use Rattle.afs_model.specs.Journal.{whole_records, EndsAt};
-ghost use Rattle.afs_journal.specs.Log.{IsJournal, Served};
+ghost use Rattle.afs_journal.specs.Log.{IsJournal, Rests, Served};
 
 use crate::scan::scan;
 use afs_disk::Disk;
@@ -87,6 +87,7 @@ pub(crate) fn settle<D: Disk>(
         → IsJournal (whole_records bytes.now) (D.seen disk.new) (D.may_leave disk.new)) }
     ensures any_moment { D.seen disk.old ≡ Some bytes.now → LeavesJust bytes.now (D.may_leave disk.old)
         → LeavesOnly D.moment D.left_since disk.old disk.new (λ c. whole_records c ≡ whole_records bytes.now) }
+    ensures rests { OnOk result (Rests bytes.now → D.calls disk.new ≡ D.calls disk.old) }
     ensures calls { (D.calls disk.old ≤ D.calls disk.new) × (D.calls disk.new ≤ D.calls disk.old + 4) }
     ensures setting { D.setting disk.new ≡ D.setting disk.old }
     ensures cause { Served (D.setting disk.old) (D.calls disk.old) (D.calls disk.new) (D.faults disk.old) (D.faults disk.new) (D.own_faults disk.old) (D.own_faults disk.new) result }

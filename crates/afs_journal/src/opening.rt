@@ -1,5 +1,5 @@
 // What `attach` does first: it makes the disk's content durable, and reads it.
-ghost use Rattle.std.specs.Prelude.{◌≡◌, ◌≤◌, ◌+◌, List, ℕ, Some, length, max, IfOk, OnOk};
+ghost use Rattle.std.specs.Prelude.{◌≡◌, ◌<◌, ◌≤◌, ◌+◌, List, ℕ, Some, length, max, IfOk, OnOk};
 ghost use Rattle.afs_model.specs.Disk.{Ran, Holds, LeavesJust, LeavesOnly, Takes};
 ghost use Rattle.afs_journal.specs.Log.{Served};
 
@@ -20,6 +20,7 @@ fn read_all<D: Disk>(disk: &mut D, bytes: &mut [u8]) -> Result<(), Failed>
     ensures size { D.size disk.new ≡ D.size disk.old }
     ensures crash { (c : List ℕ) → D.may_leave disk.new c → D.may_leave disk.old c }
     ensures steady { LeavesOnly D.moment D.left_since disk.old disk.new (D.may_leave disk.old) }
+    ensures made { OnOk result (0 < length bytes.old → D.calls disk.new ≡ D.calls disk.old + 1) }
     ensures calls { (D.calls disk.old ≤ D.calls disk.new) × (D.calls disk.new ≤ D.calls disk.old + 1) }
     ensures setting { D.setting disk.new ≡ D.setting disk.old }
     ensures cause { Ran (D.setting disk.old) (D.calls disk.old) (D.calls disk.new) (D.faults disk.old) (D.faults disk.new) (D.own_faults disk.old) (D.own_faults disk.new) result }
@@ -42,6 +43,7 @@ pub(crate) fn open<D: Disk>(alloc: Global, disk: &mut D) -> Result<Vec<u8>, Jour
     ensures durable { OnOk result ((content : List ℕ) → D.seen disk.old ≡ Some content → LeavesJust content (D.may_leave disk.new)) }
     ensures steady { LeavesOnly D.moment D.left_since disk.old disk.new (D.may_leave disk.old) }
     ensures room { OnOk result (Holds 6 1 (max (D.size disk.old) 1) (D.space disk.new)) }
+    ensures made { OnOk result (0 < D.size disk.old → D.calls disk.new ≡ D.calls disk.old + 2) }
     ensures calls { (D.calls disk.old ≤ D.calls disk.new) × (D.calls disk.new ≤ D.calls disk.old + 2) }
     ensures setting { D.setting disk.new ≡ D.setting disk.old }
     ensures cause { Served (D.setting disk.old) (D.calls disk.old) (D.calls disk.new) (D.faults disk.old) (D.faults disk.new) (D.own_faults disk.old) (D.own_faults disk.new) result }
