@@ -8,7 +8,7 @@ ghost use Rattle.afs_shape.specs.Reading.{GivesShape};
 ghost use Rattle.afs_xdr.specs.Words.{AreWords};
 ghost use Rattle.afs_shape.specs.Tables.{kinds_of, AreInRange};
 ghost use Rattle.afs_model.specs.Heads.{user_limit, head_words};
-ghost use Rattle.afs_model.specs.FsRows.{call_rows, call_number, call_fields, HasRow, asked_parts_at, call_parts_at, spelled_call, SpellsCall, ReadsCall, IsUnless, IsHeadFor};
+ghost use Rattle.afs_model.specs.FsRows.{call_rows, call_number, call_fields, HasRow, asked_parts_at, call_parts_at, spelled_call, SpellsCall, ReadsCall, IsValueOrNoMemory, IsHeadFor};
 
 use crate::heads::write_head;
 use crate::making::call_from;
@@ -75,7 +75,7 @@ pub fn decode_call(alloc: Global, bytes: &[u8]) -> Result<(Head, Octets, FsCall)
     ensures spelled { IfOk result (λ m. SpellsCall m.0 m.1 m.2 bytes.now) }
     // What is spelled so is decoded, unless memory runs out.
     ensures only { (head : Head) (user : List ℕ) (call : FsCall) → SpellsCall head user call bytes.now →
-        IsUnless (head, user, call) result }
+        IsValueOrNoMemory (head, user, call) result }
     // Which fault it is.
     ensures exact { ReadsCall bytes.now result }
 {

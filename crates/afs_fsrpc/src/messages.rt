@@ -3,7 +3,7 @@
 ghost use Rattle.std.specs.Prelude.{◌≡◌, IfOk, OnOk};
 ghost use Rattle.afs_num.specs.declared.messages.Received.TheVariants.{Whole};
 ghost use Rattle.afs_shape.specs.Reading.{GivesShape};
-ghost use Rattle.afs_model.specs.Messages.{as_call, as_reply, asked_at, answer_at, refusal_at, replied_at, notice_at, found_call, found_answer, behind, received, spelled, IsSound, IsSoundMessage, Fits};
+ghost use Rattle.afs_model.specs.Messages.{as_call, as_reply, asked_at, answer_at, refusal_at, replied_at, notice_at, found_call, found_answer, read_body, received, spelled, IsSoundReceived, HasSpelling, FitsMessage};
 ghost use Rattle.afs_model.specs.FsMaking.{call_of, reply_of};
 ghost use Rattle.afs_model.specs.Heads.{head_words};
 ghost use Rattle.afs_xdr.specs.Words.{AreWords};
@@ -142,8 +142,8 @@ fn found_notice(alloc: Global, r: &Reader, head: Head) -> Mem<Received>
     }
 }
 
-fn found_behind(alloc: Global, r: &mut Reader, head: Head) -> Mem<Received>
-    ensures { IfOk result (λ x. x ≡ behind head head.half r.old.left) }
+fn read_behind(alloc: Global, r: &mut Reader, head: Head) -> Mem<Received>
+    ensures { IfOk result (λ x. x ≡ read_body head head.half r.old.left) }
 {
     match head.half {
         Half::Call => found_call(alloc, r, head),
@@ -159,7 +159,7 @@ fn found(alloc: Global, bytes: &[u8]) -> Mem<Received>
 {
     let mut r = Reader::new(bytes);
     match head_of(&mut r) {
-        Ok(head) => found_behind(alloc, &mut r, head),
+        Ok(head) => read_behind(alloc, &mut r, head),
         Err(_) => Ok(Received::Nothing),
     }
 }
@@ -168,7 +168,7 @@ fn found(alloc: Global, bytes: &[u8]) -> Mem<Received>
 /// read, or nothing.
 pub fn read_message(alloc: Global, bytes: &[u8]) -> Mem<Received>
     ensures value { IfOk result (λ x. x ≡ received bytes.now) }
-    ensures sound { IfOk result IsSound }
+    ensures sound { IfOk result IsSoundReceived }
 {
     let found = found(alloc, bytes)?;
     Ok(found)
@@ -188,9 +188,9 @@ fn encode_notice(alloc: Global, head: &Head) -> Mem<Octets>
 
 #[tactic(auto, unfolding(afs_model::specs::Messages::spelled))]
 fn encode(alloc: Global, message: &Message) -> Mem<Octets>
-    requires { IsSoundMessage message.now }
+    requires { HasSpelling message.now }
     ensures spelled { IfOk result (λ bytes. bytes ≡ spelled message.now) }
-    ensures fits { OnOk result (Fits message.now) }
+    ensures fits { OnOk result (FitsMessage message.now) }
 {
     match &message.carried {
         Carried::Call { user, call } => spell_call(alloc, &message.head, user.as_slice(), call),
@@ -202,7 +202,7 @@ fn encode(alloc: Global, message: &Message) -> Mem<Octets>
 
 /// The one spelling of a message, which is read as that message.
 pub fn encode_message(alloc: Global, message: &Message) -> Mem<Octets>
-    requires { IsSoundMessage message.now }
+    requires { HasSpelling message.now }
     ensures spelled { IfOk result (λ bytes. bytes ≡ spelled message.now) }
     ensures read { IfOk result (λ bytes. received bytes ≡ Whole message.now) }
 {

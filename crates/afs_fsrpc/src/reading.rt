@@ -5,7 +5,7 @@ ghost use Rattle.afs_xdr.specs.Words.{opaque_at};
 ghost use Rattle.afs_shape.specs.Tables.{kinds_of};
 ghost use Rattle.afs_shape.specs.Reading.{in_place, ReadsShape, GivesShape, signed_at};
 ghost use Rattle.afs_model.specs.Heads.{user_limit};
-ghost use Rattle.afs_model.specs.FsRows.{same_half, half_head_at, last_fields_at};
+ghost use Rattle.afs_model.specs.FsRows.{same_half, half_head_at, fields_to_end_at};
 
 use crate::heads::head_of;
 use crate::tables::USER_LIMIT;
@@ -58,13 +58,13 @@ pub(crate) fn read_user(alloc: Global, r: &mut Reader) -> Result<Octets, ShapeFa
 }
 
 /// Reads the fields of a shape up to the last byte.
-#[tactic(auto, unfolding(afs_model::specs::FsRows::last_fields_at))]
+#[tactic(auto, unfolding(afs_model::specs::FsRows::fields_to_end_at))]
 pub(crate) fn last_fields(
     alloc: Global,
     shape: &Shape<8>,
     r: &mut Reader,
 ) -> Result<Fields, ShapeFault>
-    ensures { GivesShape (λ fs. fs) (last_fields_at (kinds_of shape.now.kinds) r.old.left) result }
+    ensures { GivesShape (λ fs. fs) (fields_to_end_at (kinds_of shape.now.kinds) r.old.left) result }
 {
     let fields = shape.read_fields(alloc, r)?;
     match r.end() {

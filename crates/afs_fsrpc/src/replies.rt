@@ -10,7 +10,7 @@ ghost use Rattle.afs_shape.specs.Reading.{in_place, signed_at, ReadsShape, Gives
 ghost use Rattle.afs_xdr.specs.Words.{AreWords};
 ghost use Rattle.afs_shape.specs.Tables.{kinds_of, AreInRange};
 ghost use Rattle.afs_model.specs.Heads.{is_zero, head_words};
-ghost use Rattle.afs_model.specs.FsRows.{last_fields_at, kinds_behind, replied_parts_at, reply_parts_at, spelled_reply, SpellsReply, ReadsReply, IsUnless, CanAnswer, IsHeadFor, IsOpcodeOf, answer_fields};
+ghost use Rattle.afs_model.specs.FsRows.{fields_to_end_at, kinds_behind, replied_parts_at, reply_parts_at, spelled_reply, SpellsReply, ReadsReply, IsValueOrNoMemory, CanAnswer, IsHeadFor, IsOpcodeOf, answer_fields};
 ghost use Rattle.afs_shape.specs.Parts.{fields_of};
 
 use crate::heads::write_head;
@@ -47,9 +47,9 @@ pub(crate) fn read_code(r: &mut Reader) -> Result<Code, ShapeFault>
 }
 
 /// No fields, up to the last byte.
-#[tactic(auto, unfolding(afs_model::specs::FsRows::last_fields_at, afs_shape::specs::Reading::fields_at))]
+#[tactic(auto, unfolding(afs_model::specs::FsRows::fields_to_end_at, afs_shape::specs::Reading::fields_at))]
 pub(crate) fn no_fields(alloc: Global, r: &Reader) -> Result<Fields, ShapeFault>
-    ensures { GivesShape (λ fs. fs) (last_fields_at [] r.now.left) result }
+    ensures { GivesShape (λ fs. fs) (fields_to_end_at [] r.now.left) result }
 {
     match r.end() {
         Ok(()) => Ok(Fields::new(alloc)),
@@ -64,7 +64,7 @@ fn fields_behind(
     shape: &Shape<8>,
     r: &mut Reader,
 ) -> Result<Fields, ShapeFault>
-    ensures { GivesShape (λ fs. fs) (last_fields_at (kinds_behind code.0 (kinds_of shape.now.kinds)) r.old.left) result }
+    ensures { GivesShape (λ fs. fs) (fields_to_end_at (kinds_behind code.0 (kinds_of shape.now.kinds)) r.old.left) result }
 {
     if is_done(code) {
         last_fields(alloc, shape, r)
@@ -128,7 +128,7 @@ pub fn decode_reply(
     ensures spelled { IfOk result (λ m. SpellsReply m.0 m.1.0 m.2 bytes.now) }
     // What is spelled so is decoded, unless memory runs out.
     ensures only { (head : Head) (code : ℤ) (reply : Option FsReply) → SpellsReply head code reply bytes.now →
-        IsUnless (head, record { 0 = code }, reply) result }
+        IsValueOrNoMemory (head, record { 0 = code }, reply) result }
     // Which fault it is.
     ensures exact { ReadsReply bytes.now result }
 {

@@ -40,10 +40,10 @@ use Rattle.afs_model.specs.Legal.{Cause}
 use Rattle.afs_model.proofs.Basics.{UpTo, IfCall, IfReply, OfReply}
 use Rattle.afs_model.specs.Steps.{Step}
 use Rattle.afs_model.specs.Runs.{client_moves, begun_by, voided}
-use Rattle.afs_model.specs.ClientRow.{guest, used_first, refreshed, call_message, calls_step, zero_code, shows_step, opens, begin_row, ignores, ended, answers_step, uses_step, takes_stored, takes, resends_step, counts, is_awaited, awaits, client_row}
+use Rattle.afs_model.specs.ClientRow.{guest, used_first, refreshed, call_message, calls_step, zero_code, shows_step, opens, begin_row, ignores, ended, answers_step, shows_fetched_step, takes_stored, takes, resends_step, counts, is_awaited, awaits, client_row}
 use Rattle.afs_model.specs.Legal.{code_told, GoodCode}
 use Rattle.afs_model.proofs.Basics.{both, same_fid-true, same_fid-refl, same_node-refl, client_number, up_to_both, found-cached-fid, found-first, none-first, found-refreshed, OfCall, each_at, some_of}
-use Rattle.afs_model.proofs.Facts.{View, view, last_key, LastRan, Reached, index_of, IsNewest, Overtaken, Stands, IsCurrent, HasCurrent, Answers, stored_index, ClientFacts, CallFact, CallIn, ReplyFact, ReplyIn, Holds, Goes}
+use Rattle.afs_model.proofs.Facts.{View, view, last_key, LastRan, Reached, index_of, IsNewest, Overtaken, Stands, IsCurrent, HasCurrent, Answers, stored_index, ClientFacts, CallFact, CallIn, ReplyFact, ReplyIn, HoldsAt, Goes}
 use Rattle.afs_model.proofs.Passing.{PassesFile, PassesAct, PassesReach, StaysNewest, stays, held_over, fetch_reply_by, current_over, client_still, older_origins, cause_behind}
 use Rattle.afs_model.proofs.Serving.{told_file, told_reach, told_act, not_ran, reached_still, same_target}
 use Rattle.afs_model.proofs.Asking.{step_entry, view_after, moves, nothing_new, Heard, told_passes, shown_lines, shown_file, shown_reach, shown_passes, answered_lines, answered_file, answered_reach, answered_passes, used_lines, used_grant, used_file, used_reach, used_passes, quiet, safe_cache, own_call, asks, own_begun, idle_asks}
@@ -71,7 +71,7 @@ idle_newest : (j : ℕ) (f : Fid) (i : ℕ) (server : Node) (newer : List Line) 
 idle_newest j f i server newer v past none (inl a) = a.newest
 idle_newest j f i server newer v past none (inr o) = absurd (not_waiting j f server newer v past none o)
 
-shown_now : (s : Script) (c : Cell) (past : List Entry) (n : ℕ) (f : Fid) (u : CacheEntry) → Holds s c past → (c.clients n).running ≡ None → find_cached f (c.clients n).cache ≡ Some u → nat_lt c.clock u.expiry ≡ true
+shown_now : (s : Script) (c : Cell) (past : List Entry) (n : ℕ) (f : Fid) (u : CacheEntry) → HoldsAt s c past → (c.clients n).running ≡ None → find_cached f (c.clients n).cache ≡ Some u → nat_lt c.clock u.expiry ≡ true
     → Goes s past (client_moves c n (shows_step (Client n) (c.clients n) f u))
 shown_now s c past n f u h none found lasts =
     let d = h.clients n in
@@ -123,16 +123,16 @@ shown_now s c past n f u h none found lasts =
     (λ head call w. record { behind = w.behind; own = w.own; safe = λ above. safe_cache call (c.clients n).epoch (c.clients n).last (c.clients n).running (c.clients n).cache (used_first u (c.clients n).cache) head (λ g y. none-first g u (c.clients n).cache first y) (w.safe above) })
     (nothing_new _ _)
 
-trusted_goes : (s : Script) (c : Cell) (past : List Entry) (n : ℕ) (f : Fid) (u : CacheEntry) (t : Bool) → Holds s c past → (c.clients n).running ≡ None → find_cached f (c.clients n).cache ≡ Some u → nat_lt c.clock u.expiry ≡ t
+trusted_goes : (s : Script) (c : Cell) (past : List Entry) (n : ℕ) (f : Fid) (u : CacheEntry) (t : Bool) → HoldsAt s c past → (c.clients n).running ≡ None → find_cached f (c.clients n).cache ≡ Some u → nat_lt c.clock u.expiry ≡ t
     → Goes s past (client_moves c n (cond t (shows_step (Client n) (c.clients n) f u) (calls_step (Client n) (c.clients n) (Open f) (lines.Begin (Client n) (Open f)))))
 trusted_goes s c past n f u true h none found lasts = shown_now s c past n f u h none found lasts
 trusted_goes s c past n f u false h none found lasts = idle_asks s c past n (Open f) h none
 
-opens_goes : (s : Script) (c : Cell) (past : List Entry) (n : ℕ) (f : Fid) (o : Option CacheEntry) → Holds s c past → (c.clients n).running ≡ None → find_cached f (c.clients n).cache ≡ o → Goes s past (client_moves c n (opens (Client n) (c.clients n) c.clock f o))
+opens_goes : (s : Script) (c : Cell) (past : List Entry) (n : ℕ) (f : Fid) (o : Option CacheEntry) → HoldsAt s c past → (c.clients n).running ≡ None → find_cached f (c.clients n).cache ≡ o → Goes s past (client_moves c n (opens (Client n) (c.clients n) c.clock f o))
 opens_goes s c past n f None h none e = idle_asks s c past n (Open f) h none
 opens_goes s c past n f (Some u) h none e = trusted_goes s c past n f u (nat_lt c.clock u.expiry) h none e refl
 
-begins_goes : (s : Script) (c : Cell) (past : List Entry) (n : ℕ) (act : Act) → Holds s c past → (c.clients n).running ≡ None → Goes s past (client_moves c n (begin_row (Client n) (c.clients n) c.clock act))
+begins_goes : (s : Script) (c : Cell) (past : List Entry) (n : ℕ) (act : Act) → HoldsAt s c past → (c.clients n).running ≡ None → Goes s past (client_moves c n (begin_row (Client n) (c.clients n) c.clock act))
 unfolding begin_row
 begins_goes s c past n (Open f) h none = opens_goes s c past n f (find_cached f (c.clients n).cache) h none refl
 begins_goes s c past n (Close f contents) h none = idle_asks s c past n (Close f contents) h none
@@ -149,7 +149,7 @@ record Due (c : Cell) (past : List Entry) (n p : ℕ) (act : Act) (m : Message) 
   at : message_at (sent_of past) p ≡ Some m
 
 -- its act is answered with its code
-good_code : (s : Script) (c : Cell) (past : List Entry) (n p : ℕ) (act : Act) (m : Message) (code : Code) (own : List Line) → Holds s c past → Due c past n p act m → code_told m.carried ≡ Some code.0 → given_message own (sent_of past) ≡ message_at (sent_of past) p
+good_code : (s : Script) (c : Cell) (past : List Entry) (n p : ℕ) (act : Act) (m : Message) (code : Code) (own : List Line) → HoldsAt s c past → Due c past n p act m → code_told m.carried ≡ Some code.0 → given_message own (sent_of past) ≡ message_at (sent_of past) p
     → has_begun (Client n) own ≡ false → running (Client n) (own ++ lines_of past) ≡ running (Client n) (lines_of past) → GoodCode (Client n) code past own
 good_code s c past n p act m code own h d told by none still =
     let cause : Cause m code.0 act past [] = subst (λ (z : ℤ). Cause m z act past []) (some_of _ _ (sym d.answers.cause.told ∙ told)) d.answers.cause in
@@ -175,7 +175,7 @@ ended_calls s c past n p act m cache d head call f = record {
   safe = λ above. absurd (not_ran (view c n) head.epoch head.number above f.behind d.ran);
 }
 
-ended_facts : (s : Script) (c : Cell) (past : List Entry) (n : ℕ) (cache : List CacheEntry) (e : Entry) → Holds s c past → HasCurrent n (view_after c n (ended (c.clients n) cache)) (e ∷ past) → ((f : Fid) → Reached (Client n) f (index_of (last_version f (lines_of (e ∷ past)))) (e ∷ past))
+ended_facts : (s : Script) (c : Cell) (past : List Entry) (n : ℕ) (cache : List CacheEntry) (e : Entry) → HoldsAt s c past → HasCurrent n (view_after c n (ended (c.clients n) cache)) (e ∷ past) → ((f : Fid) → Reached (Client n) f (index_of (last_version f (lines_of (e ∷ past)))) (e ∷ past))
     → ClientFacts n (view_after c n (ended (c.clients n) cache)) (e ∷ past)
 ended_facts s c past n cache e h cur r =
     let d = h.clients n in
@@ -193,7 +193,7 @@ one_reply v a b m k x y = let same : a.seat ≡ b.seat = some_of _ _ (sym a.at �
 
 -- ---- a refusal
 
-takes_refused : (s : Script) (c : Cell) (past : List Entry) (n p : ℕ) (act : Act) (head : Head) (code : Code) → Holds s c past → Due c past n p act (record { head = head; carried = carried.Refusal code }) → Goes s past (client_moves c n (answers_step (Client n) (c.clients n) p code))
+takes_refused : (s : Script) (c : Cell) (past : List Entry) (n p : ℕ) (act : Act) (head : Head) (code : Code) → HoldsAt s c past → Due c past n p act (record { head = head; carried = carried.Refusal code }) → Goes s past (client_moves c n (answers_step (Client n) (c.clients n) p code))
 takes_refused s c past n p act head code h d =
     let m : Message = record { head = head; carried = carried.Refusal code } in
     let e : Entry = step_entry n (answered_lines n p code) [] in
@@ -215,9 +215,9 @@ not_close c past n p f g contents m d e = let is = d.running in absurd cc
 used_reply : (n : ℕ) (f : Fid) (o u : Option Message) → cond (cond (same_node (Client n) (Client n) && same_fid f f) true false) o u ≡ o
 used_reply n f o u = rw (same_node-refl (Client n), same_fid-refl f) refl
 
-takes_used : (s : Script) (c : Cell) (past : List Entry) (n p : ℕ) (f : Fid) (head : Head) (contents : List ℕ) (status : AfsFetchStatus) (callback : AfsCallBack) (sync : AfsVolSync) → Holds s c past
+takes_used : (s : Script) (c : Cell) (past : List Entry) (n p : ℕ) (f : Fid) (head : Head) (contents : List ℕ) (status : AfsFetchStatus) (callback : AfsCallBack) (sync : AfsVolSync) → HoldsAt s c past
     → Due c past n p (Open f) (record { head = head; carried = carried.Reply (replies.FetchData contents status callback sync) }) → nat_lt c.clock callback.expiration_time ≡ true
-    → Goes s past (client_moves c n (uses_step (Client n) (c.clients n) p (record { fid = f; index = status.sync_counter; expiry = callback.expiration_time; contents = contents })))
+    → Goes s past (client_moves c n (shows_fetched_step (Client n) (c.clients n) p (record { fid = f; index = status.sync_counter; expiry = callback.expiration_time; contents = contents })))
 takes_used s c past n p f head contents status callback sync h d lasts =
     let m : Message = record { head = head; carried = carried.Reply (replies.FetchData contents status callback sync) } in
     let i : ℕ = status.sync_counter in
@@ -227,7 +227,7 @@ takes_used s c past n p f head contents status callback sync h d lasts =
     let e : Entry = step_entry n (used_lines n p f i contents) [] in
     let a = d.answers.fits in
     let lt : c.clock < x = ltb-true _ _ lasts in
-    moves s c past n (uses_step (Client n) (c.clients n) p new) h (
+    moves s c past n (shows_fetched_step (Client n) (c.clients n) p new) h (
       tt,
       (
         (
@@ -267,9 +267,9 @@ takes_used s c past n p f head contents status callback sync h d lasts =
     (λ g. used_reach n n p i f g contents past (index_of (last_version g (lines_of past))) (λ t y. subst (λ (z : Fid). i ≤ index_of (last_version z (lines_of past))) (same_fid-true f g y) (h.top f i (bodies.File contents) a.held.whole)) ((h.clients n).reached g)))
     (ended_calls s c past n p (Open f) m cache d) (nothing_new _ _)
 
-fetched_goes : (s : Script) (c : Cell) (past : List Entry) (n p : ℕ) (f : Fid) (head : Head) (contents : List ℕ) (status : AfsFetchStatus) (callback : AfsCallBack) (sync : AfsVolSync) (t : Bool) → Holds s c past
+fetched_goes : (s : Script) (c : Cell) (past : List Entry) (n p : ℕ) (f : Fid) (head : Head) (contents : List ℕ) (status : AfsFetchStatus) (callback : AfsCallBack) (sync : AfsVolSync) (t : Bool) → HoldsAt s c past
     → Due c past n p (Open f) (record { head = head; carried = carried.Reply (replies.FetchData contents status callback sync) }) → nat_lt c.clock callback.expiration_time ≡ t
-    → Goes s past (client_moves c n (cond t (uses_step (Client n) (c.clients n) p (record { fid = f; index = status.sync_counter; expiry = callback.expiration_time; contents = contents })) (calls_step (Client n) (c.clients n) (Open f) (lines.Given p))))
+    → Goes s past (client_moves c n (cond t (shows_fetched_step (Client n) (c.clients n) p (record { fid = f; index = status.sync_counter; expiry = callback.expiration_time; contents = contents })) (calls_step (Client n) (c.clients n) (Open f) (lines.Given p))))
 fetched_goes s c past n p f head contents status callback sync true h d lasts = takes_used s c past n p f head contents status callback sync h d lasts
 fetched_goes s c past n p f head contents status callback sync false h d lasts =
     asks s c past n (Open f) (lines.Given p) h (tt, tt) (told_passes s c past n p _ _ h d.heard) (λ g. told_file n p g (Some (Client n)) _ past) (λ g. told_reach n p g (Some (Client n)) _ past) (λ g y. not_close c past n p f g y _ d) ((h.clients n).runs (Open f) d.running)
@@ -306,7 +306,7 @@ stored_own s c past n p f b m index x e cache d told whole pass r stay h = recor
 
 stored_by : (t live : Bool) (s : Script) (c : Cell) (past : List Entry) (n p : ℕ) (f g : Fid) (b : List ℕ) (m : Message) (index : ℕ) (x u : CacheEntry) (e : Entry) (cache : List CacheEntry) → Due c past n p (Close f b) m → stored_index m.carried ≡ Some index
     → HasVersion f index (bodies.File b) (lines_of past) → ((h : Fid) → PassesFile n h e past) → ((h : Fid) → PassesReach n h e past) → ((h : Fid) → StaysNewest n h e past)
-    → same_fid x.fid f ≡ t → nat_lt c.clock x.expiry ≡ live → same_fid x.fid g ≡ true → find_cached g (c.clients n).cache ≡ Some x → cond (t && live) (record x { index = index; contents = b }) x ≡ u → c.clock < u.expiry → Holds s c past
+    → same_fid x.fid f ≡ t → nat_lt c.clock x.expiry ≡ live → same_fid x.fid g ≡ true → find_cached g (c.clients n).cache ≡ Some x → cond (t && live) (record x { index = index; contents = b }) x ≡ u → c.clock < u.expiry → HoldsAt s c past
     → IsCurrent n g u (view_after c n (ended (c.clients n) cache)) (e ∷ past)
 stored_by true true s c past n p f g b m index x u e cache d told whole pass r stay t live own found is lasts h =
     let fg : f ≡ g = sym (same_fid-true x.fid f t) ∙ same_fid-true x.fid g own in
@@ -326,13 +326,13 @@ stored_by false live s c past n p f g b m index x u e cache d told whole pass r 
 
 stored_of : (o : Option CacheEntry) (s : Script) (c : Cell) (past : List Entry) (n p : ℕ) (f g : Fid) (b : List ℕ) (m : Message) (index : ℕ) (u : CacheEntry) (e : Entry) (cache : List CacheEntry) → Due c past n p (Close f b) m → stored_index m.carried ≡ Some index
     → HasVersion f index (bodies.File b) (lines_of past) → ((h : Fid) → PassesFile n h e past) → ((h : Fid) → PassesReach n h e past) → ((h : Fid) → StaysNewest n h e past)
-    → find_cached g (c.clients n).cache ≡ o → option_map (refreshed c.clock f index b) o ≡ Some u → c.clock < u.expiry → Holds s c past
+    → find_cached g (c.clients n).cache ≡ o → option_map (refreshed c.clock f index b) o ≡ Some u → c.clock < u.expiry → HoldsAt s c past
     → IsCurrent n g u (view_after c n (ended (c.clients n) cache)) (e ∷ past)
 stored_of None s c past n p f g b m index u e cache d told whole pass r stay found is lasts h = absurd cc
 stored_of (Some x) s c past n p f g b m index u e cache d told whole pass r stay found is lasts h =
     stored_by (same_fid x.fid f) (nat_lt c.clock x.expiry) s c past n p f g b m index x u e cache d told whole pass r stay refl refl (found-cached-fid g (c.clients n).cache x found) found (some_of _ _ is) lasts h
 
-takes_saved : (s : Script) (c : Cell) (past : List Entry) (n p : ℕ) (f : Fid) (b : List ℕ) (head : Head) (status : AfsFetchStatus) (sync : AfsVolSync) → Holds s c past → Due c past n p (Close f b) (record { head = head; carried = carried.Reply (replies.StoreData status sync) })
+takes_saved : (s : Script) (c : Cell) (past : List Entry) (n p : ℕ) (f : Fid) (b : List ℕ) (head : Head) (status : AfsFetchStatus) (sync : AfsVolSync) → HoldsAt s c past → Due c past n p (Close f b) (record { head = head; carried = carried.Reply (replies.StoreData status sync) })
     → Goes s past (client_moves c n (takes_stored (Client n) (c.clients n) c.clock p f status.sync_counter b))
 takes_saved s c past n p f b head status sync h d =
     let m : Message = record { head = head; carried = carried.Reply (replies.StoreData status sync) } in
@@ -350,7 +350,7 @@ takes_saved s c past n p f b head status sync h d =
 
 -- ---- a boot notice
 
-resends_goes : (s : Script) (c : Cell) (past : List Entry) (n p : ℕ) (act : Act) (m : Message) (boot : ℕ) → Holds s c past → Heard c p m → (c.clients n).running ≡ Some act → Goes s past (client_moves c n (resends_step (Client n) (c.clients n) p act boot))
+resends_goes : (s : Script) (c : Cell) (past : List Entry) (n p : ℕ) (act : Act) (m : Message) (boot : ℕ) → HoldsAt s c past → Heard c p m → (c.clients n).running ≡ Some act → Goes s past (client_moves c n (resends_step (Client n) (c.clients n) p act boot))
 resends_goes s c past n p act m boot h d runs =
     let x : ClientState = record (c.clients n) { boot = boot } in
     let ms : List Message = call_message (Client n) x act ∷ [] in
@@ -361,7 +361,7 @@ resends_goes s c past n p act m boot h d runs =
 
 -- ---- the row, by its cases
 
-takes_goes : (s : Script) (c : Cell) (past : List Entry) (n p : ℕ) (act : Act) (head : Head) (reply : FsReply) → Holds s c past → Due c past n p act (record { head = head; carried = carried.Reply reply }) → Goes s past (client_moves c n (takes (Client n) (c.clients n) c.clock p act reply))
+takes_goes : (s : Script) (c : Cell) (past : List Entry) (n p : ℕ) (act : Act) (head : Head) (reply : FsReply) → HoldsAt s c past → Due c past n p act (record { head = head; carried = carried.Reply reply }) → Goes s past (client_moves c n (takes (Client n) (c.clients n) c.clock p act reply))
 takes_goes s c past n p (Open f) head (replies.FetchData contents status callback sync) h d = fetched_goes s c past n p f head contents status callback sync (nat_lt c.clock callback.expiration_time) h d refl
 takes_goes s c past n p (Close f b) head (replies.StoreData status sync) h d = takes_saved s c past n p f b head status sync h d
 takes_goes s c past n p (Open f) head reply h d = absurd d.answers.fits
@@ -386,7 +386,7 @@ key_by node epoch number = record { node = node; epoch = epoch; number = number 
 same_parts : (a b : Node) (e d n m : ℕ) → a ≡ b → e ≡ d → n ≡ m → key_by a e n ≡ key_by b d m
 same_parts a b e d n m x y z = ap (λ (q : Node). key_by q e n) x ∙ (ap (λ (q : ℕ). key_by b q n) y ∙ ap (λ (q : ℕ). key_by b d q) z)
 
-is_due : (s : Script) (c : Cell) (past : List Entry) (n p : ℕ) (act : Act) (m : Message) → Holds s c past → Heard c p m → m.head.to ≡ Client n → ReplyIn (view c) m → Awaited c n act m → (c.clients n).running ≡ Some act → Due c past n p act m
+is_due : (s : Script) (c : Cell) (past : List Entry) (n p : ℕ) (act : Act) (m : Message) → HoldsAt s c past → Heard c p m → m.head.to ≡ Client n → ReplyIn (view c) m → Awaited c n act m → (c.clients n).running ≡ Some act → Due c past n p act m
 is_due s c past n p act m h heard to f w runs =
     let one : f.client ≡ n = client_number f.client n (sym f.to ∙ to) in
     let fact : ReplyFact (seat_of (Client n) c.server.seats) m = subst (λ (j : ℕ). ReplyFact (seat_of (Client j) c.server.seats) m) one f.fact in
@@ -406,19 +406,19 @@ is_due s c past n p act m h heard to f w runs =
       at = ap (λ (ms : List Message). message_at ms p) h.sent.told ∙ heard.at;
     }
 
-counts_goes : (s : Script) (c : Cell) (past : List Entry) (n p : ℕ) (act : Act) (head : Head) (x : Carried) → Holds s c past → Heard c p (record { head = head; carried = x }) → head.to ≡ Client n → OfReply (ReplyIn (view c) (record { head = head; carried = x })) x
+counts_goes : (s : Script) (c : Cell) (past : List Entry) (n p : ℕ) (act : Act) (head : Head) (x : Carried) → HoldsAt s c past → Heard c p (record { head = head; carried = x }) → head.to ≡ Client n → OfReply (ReplyIn (view c) (record { head = head; carried = x })) x
     → Awaited c n act (record { head = head; carried = x }) → (c.clients n).running ≡ Some act → Goes s past (client_moves c n (counts (Client n) (c.clients n) c.clock p act head x))
 counts_goes s c past n p act head (carried.Call user call) h heard to f w runs = absurd (heard.not_call tt)
 counts_goes s c past n p act head (carried.Refusal code) h heard to f w runs = takes_refused s c past n p act head code h (is_due s c past n p act (record { head = head; carried = carried.Refusal code }) h heard to f w runs)
 counts_goes s c past n p act head (carried.Reply reply) h heard to f w runs = takes_goes s c past n p act head reply h (is_due s c past n p act (record { head = head; carried = carried.Reply reply }) h heard to f w runs)
 counts_goes s c past n p act head carried.Notice h heard to f w runs = resends_goes s c past n p act (record { head = head; carried = carried.Notice }) head.boot h heard runs
 
-test_goes : (s : Script) (c : Cell) (past : List Entry) (n p : ℕ) (act : Act) (m : Message) (t : Bool) → Holds s c past → Heard c p m → m.head.to ≡ Client n → IfReply (ReplyIn (view c)) m → is_awaited (Client n) (c.clients n) act m.head ≡ t → (c.clients n).running ≡ Some act
+test_goes : (s : Script) (c : Cell) (past : List Entry) (n p : ℕ) (act : Act) (m : Message) (t : Bool) → HoldsAt s c past → Heard c p m → m.head.to ≡ Client n → IfReply (ReplyIn (view c)) m → is_awaited (Client n) (c.clients n) act m.head ≡ t → (c.clients n).running ≡ Some act
     → Goes s past (client_moves c n (cond t (counts (Client n) (c.clients n) c.clock p act m.head m.carried) (ignores (c.clients n) p)))
 test_goes s c past n p act m true h heard to f t runs = counts_goes s c past n p act m.head m.carried h heard to f (awaited c n act m t) runs
 test_goes s c past n p act m false h heard to f t runs = quiet s c past n p m h heard
 
-awaits_goes : (s : Script) (c : Cell) (past : List Entry) (n p : ℕ) (m : Message) (o : Option Act) → Holds s c past → Heard c p m → m.head.to ≡ Client n → IfReply (ReplyIn (view c)) m → (c.clients n).running ≡ o → Goes s past (client_moves c n (awaits (Client n) (c.clients n) c.clock p m o))
+awaits_goes : (s : Script) (c : Cell) (past : List Entry) (n p : ℕ) (m : Message) (o : Option Act) → HoldsAt s c past → Heard c p m → m.head.to ≡ Client n → IfReply (ReplyIn (view c)) m → (c.clients n).running ≡ o → Goes s past (client_moves c n (awaits (Client n) (c.clients n) c.clock p m o))
 awaits_goes s c past n p m None h heard to f runs = quiet s c past n p m h heard
 awaits_goes s c past n p m (Some act) h heard to f runs = test_goes s c past n p act m (is_awaited (Client n) (c.clients n) act m.head) h heard to f refl runs
 
@@ -429,7 +429,7 @@ not_to views n head (carried.Refusal code) to f y = y
 not_to views n head (carried.Reply reply) to f y = y
 not_to views n head carried.Notice to f y = y
 
-pub client_goes : (s : Script) (c : Cell) (past : List Entry) (n p : ℕ) (m : Message) → Holds s c past → message_at c.sent p ≡ Some m → m.head.to ≡ Client n → Goes s past (client_moves c n (client_row (Client n) (c.clients n) c.clock p (Whole m)))
+pub client_goes : (s : Script) (c : Cell) (past : List Entry) (n p : ℕ) (m : Message) → HoldsAt s c past → message_at c.sent p ≡ Some m → m.head.to ≡ Client n → Goes s past (client_moves c n (client_row (Client n) (c.clients n) c.clock p (Whole m)))
 unfolding client_row
 client_goes s c past n p m h at to =
     awaits_goes s c past n p m (c.clients n).running h (record { at = at; not_call = not_to (view c) n m.head m.carried to (each_at (IfCall (CallIn (view c))) c.sent p m at h.sent.calls) }) to (each_at (IfReply (ReplyIn (view c))) c.sent p m at h.sent.replies) refl
@@ -439,7 +439,7 @@ client_goes s c past n p m h at to =
 void_act : (j : ℕ) (past : List Entry) → PassesAct j (record { node = None; lines = lines.Void ∷ []; sent = [] }) past
 void_act j past = record { runs = λ l. refl; begins = refl }
 
-pub voids : (s : Script) (c : Cell) (past : List Entry) → Holds s c past → Goes s past (voided c)
+pub voids : (s : Script) (c : Cell) (past : List Entry) → HoldsAt s c past → Goes s past (voided c)
 voids s c past h =
     let e : Entry = record { node = None; lines = lines.Void ∷ []; sent = [] } in
     record {
@@ -456,6 +456,6 @@ voids s c past h =
       };
     }
 
-pub begun_goes : (s : Script) (c : Cell) (past : List Entry) (n : ℕ) (act : Act) (o : Option Act) → Holds s c past → (c.clients n).running ≡ o → Goes s past (begun_by c n act o)
+pub begun_goes : (s : Script) (c : Cell) (past : List Entry) (n : ℕ) (act : Act) (o : Option Act) → HoldsAt s c past → (c.clients n).running ≡ o → Goes s past (begun_by c n act o)
 begun_goes s c past n act None h e = begins_goes s c past n act h e
 begun_goes s c past n act (Some other) h e = voids s c past h

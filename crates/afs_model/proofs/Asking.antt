@@ -34,7 +34,7 @@ use Rattle.afs_model.specs.Steps.{Step}
 use Rattle.afs_model.specs.Runs.{put, client_moves}
 use Rattle.afs_model.specs.ClientRow.{guest, call_of, call_head, call_message, asking, calls_step, zero_code, ignores}
 use Rattle.afs_model.proofs.Basics.{both, same_fid-true, same_node-true, same_node-refl, node_apart, client_number, up_to_same, up_to_next, next_not, at_put, each_map, if_call, if_reply, raised_up_to, some_of}
-use Rattle.afs_model.proofs.Facts.{View, view_of, view, last_key, LastRan, Reached, index_of, ClientFacts, IsSafe, CallFact, CallIn, ReplyIn, Holds, Goes}
+use Rattle.afs_model.proofs.Facts.{View, view_of, view, last_key, LastRan, Reached, index_of, ClientFacts, IsSafe, CallFact, CallIn, ReplyIn, HoldsAt, Goes}
 use Rattle.afs_model.proofs.Passing.{PassesGrant, PassesFile, PassesAct, PassesReach, stays, current_over, client_still, News, more_sent}
 use Rattle.afs_model.proofs.Serving.{told_file, told_reach, told_act, reached_still}
 
@@ -74,7 +74,7 @@ calls_moved c n x sent w h = each_map (IfCall (CallIn (view c))) (IfCall (CallIn
 replies_moved : (c : Cell) (n : ℕ) (x : ClientState) (sent : List Message) → Each (IfReply (ReplyIn (view c))) sent → Each (IfReply (ReplyIn (views_after c n x))) sent
 replies_moved c n x sent h = each_map (IfReply (ReplyIn (view c))) (IfReply (ReplyIn (views_after c n x))) (if_reply (ReplyIn (view c)) (ReplyIn (views_after c n x)) (λ m f. record { client = f.client; to = f.to; fact = f.fact })) sent h
 
-pub moves : (s : Script) (c : Cell) (past : List Entry) (n : ℕ) (st : Step ClientState) → Holds s c past → AreGood s (Some (Client n)) past [] st.lines → Passes s n st.lines st.sent past
+pub moves : (s : Script) (c : Cell) (past : List Entry) (n : ℕ) (st : Step ClientState) → HoldsAt s c past → AreGood s (Some (Client n)) past [] st.lines → Passes s n st.lines st.sent past
     → ClientFacts n (view_after c n st.state) ((client_moves c n st).entry ∷ past)
     → ((head : Head) (call : FsCall) → CallFact (view c n) head call → CallFact (view_after c n st.state) head call)
     → News st.sent (views_after c n st.state) ((client_moves c n st).entry ∷ past) → Goes s past (client_moves c n st)
@@ -105,12 +105,12 @@ pub record Heard (c : Cell) (p : ℕ) (m : Message) : Type 0 where
   pub at : message_at c.sent p ≡ Some m
   pub not_call : IsCall m.carried → ⊥
 
-heard_dull : (s : Script) (c : Cell) (past : List Entry) (p : ℕ) (m : Message) → Holds s c past → Heard c p m → (k : Key) (boot : ℕ) → IsCallUnder k boot (message_at (sent_of past) p) → ⊥
+heard_dull : (s : Script) (c : Cell) (past : List Entry) (p : ℕ) (m : Message) → HoldsAt s c past → Heard c p m → (k : Key) (boot : ℕ) → IsCallUnder k boot (message_at (sent_of past) p) → ⊥
 heard_dull s c past p m h d k boot x = d.not_call (subst (λ (o : Option Message). IsCallUnder k boot o) (ap (λ (ms : List Message). message_at ms p) h.sent.told ∙ d.at) x).0
 
 -- ---- the lines of a client
 
-pub told_passes : (s : Script) (c : Cell) (past : List Entry) (n p : ℕ) (m : Message) (ms : List Message) → Holds s c past → Heard c p m → Passes s n (lines.Given p ∷ []) ms past
+pub told_passes : (s : Script) (c : Cell) (past : List Entry) (n p : ℕ) (m : Message) (ms : List Message) → HoldsAt s c past → Heard c p m → Passes s n (lines.Given p ∷ []) ms past
 told_passes s c past n p m ms h d = record {
   file = λ j ne f. told_file j p f (Some (Client n)) ms past;
   reach = λ j ne f. told_reach j p f (Some (Client n)) ms past;
@@ -198,7 +198,7 @@ answered_file n j p code past f = record { grant = record { version = λ k x l y
 pub answered_reach : (n j p : ℕ) (code : Code) (past : List Entry) (f : Fid) → PassesReach j f (step_entry n (answered_lines n p code) []) past
 answered_reach n j p code past f i h = let r = reach (Client j) f past in record { made = h.made; seen = raised_up_to _ r.made r.seen i (λ t. h.made) h.seen }
 
-pub answered_passes : (s : Script) (c : Cell) (past : List Entry) (n p : ℕ) (m : Message) (code : Code) → Holds s c past → Heard c p m → Passes s n (answered_lines n p code) [] past
+pub answered_passes : (s : Script) (c : Cell) (past : List Entry) (n p : ℕ) (m : Message) (code : Code) → HoldsAt s c past → Heard c p m → Passes s n (answered_lines n p code) [] past
 answered_passes s c past n p m code h d = record {
   file = λ j ne f. answered_file n j p code past f;
   reach = λ j ne f. answered_reach n j p code past f;
@@ -234,7 +234,7 @@ used_reach n j p i f g b past k le h =
           (raised_up_to (same_node (Client n) (Client j) && same_fid f g) i r.seen k (λ t. let q = both (same_node (Client n) (Client j)) (same_fid f g) t in le q.0 q.1) h.seen);
     }
 
-pub used_passes : (s : Script) (c : Cell) (past : List Entry) (n p i : ℕ) (f : Fid) (b : List ℕ) (m : Message) → Holds s c past → Heard c p m → Passes s n (used_lines n p f i b) [] past
+pub used_passes : (s : Script) (c : Cell) (past : List Entry) (n p i : ℕ) (f : Fid) (b : List ℕ) (m : Message) → HoldsAt s c past → Heard c p m → Passes s n (used_lines n p f i b) [] past
 used_passes s c past n p i f b m h d = record {
   file = λ j ne g. used_file n j p i f g b past (λ q x. ne q);
   reach = λ j ne g k x. used_reach n j p i f g b past k (λ t u. absurd (not_client n j ne t)) x;
@@ -249,7 +249,7 @@ used_passes s c past n p i f b m h d = record {
 
 -- ---- a message that changes nothing
 
-pub quiet : (s : Script) (c : Cell) (past : List Entry) (n p : ℕ) (m : Message) → Holds s c past → Heard c p m → Goes s past (client_moves c n (ignores (c.clients n) p))
+pub quiet : (s : Script) (c : Cell) (past : List Entry) (n p : ℕ) (m : Message) → HoldsAt s c past → Heard c p m → Goes s past (client_moves c n (ignores (c.clients n) p))
 quiet s c past n p m h d = moves s c past n (ignores (c.clients n) p) h (tt, tt) (told_passes s c past n p m [] h d)
     (client_still n (view c n) (step_entry n (lines.Given p ∷ []) []) past (λ f. told_file n p f (Some (Client n)) [] past) (λ f. told_reach n p f (Some (Client n)) [] past) (told_act n p (Some (Client n)) [] past) (λ f. refl) (h.clients n))
     (λ head call f. f) (nothing_new _ _)
@@ -298,7 +298,7 @@ own_call c past n x act ls runs at = record {
   origins = (record { act = act; called = inl (refl, (inl (refl, refl), at)); own_user = refl; own_call = call_is act }, tt);
 }
 
-pub asks : (s : Script) (c : Cell) (past : List Entry) (n : ℕ) (act : Act) (l : Line) → Holds s c past → AreGood s (Some (Client n)) past [] (l ∷ []) → Passes s n (l ∷ []) (call_message (Client n) (asking (c.clients n) act) act ∷ []) past
+pub asks : (s : Script) (c : Cell) (past : List Entry) (n : ℕ) (act : Act) (l : Line) → HoldsAt s c past → AreGood s (Some (Client n)) past [] (l ∷ []) → Passes s n (l ∷ []) (call_message (Client n) (asking (c.clients n) act) act ∷ []) past
     → ((f : Fid) → PassesFile n f (step_entry n (l ∷ []) (call_message (Client n) (asking (c.clients n) act) act ∷ [])) past) → ((f : Fid) → PassesReach n f (step_entry n (l ∷ []) (call_message (Client n) (asking (c.clients n) act) act ∷ [])) past)
     → ((f : Fid) (y : List ℕ) → (c.clients n).running ≡ Some (Close f y) → ⊥) → running (Client n) (l ∷ lines_of past) ≡ Some act → Goes s past (client_moves c n (calls_step (Client n) (c.clients n) act l))
 asks s c past n act l h good p q r shut at =
@@ -331,5 +331,5 @@ asks s c past n act l h good p q r shut at =
 pub own_begun : (n : ℕ) (act : Act) (o : Option Act) → cond (same_node (Client n) (Client n)) (Some act) o ≡ Some act
 own_begun n act o = rw (same_node-refl (Client n)) refl
 
-pub idle_asks : (s : Script) (c : Cell) (past : List Entry) (n : ℕ) (act : Act) → Holds s c past → (c.clients n).running ≡ None → Goes s past (client_moves c n (calls_step (Client n) (c.clients n) act (lines.Begin (Client n) act)))
+pub idle_asks : (s : Script) (c : Cell) (past : List Entry) (n : ℕ) (act : Act) → HoldsAt s c past → (c.clients n).running ≡ None → Goes s past (client_moves c n (calls_step (Client n) (c.clients n) act (lines.Begin (Client n) act)))
 idle_asks s c past n act h none = asks s c past n act (lines.Begin (Client n) act) h (tt, tt) (begin_passes s n act _ past) (begin_file n n act _ past) (begin_reach n n act _ past) (λ f y e. absurd cc) (own_begun n act (running (Client n) (lines_of past)))

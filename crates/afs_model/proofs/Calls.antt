@@ -126,40 +126,40 @@ answers_by false boot v x e = absurd cc
 -- ---- a call that was started
 
 -- this call or a newer one is the seat's
-abbrev Holds : Key → Option Seat → Type 0
-Holds key None = ⊥
-Holds key (Some s) = UpTo key.epoch key.number s.epoch s.number
+abbrev IsSeated : Key → Option Seat → Type 0
+IsSeated key None = ⊥
+IsSeated key (Some s) = UpTo key.epoch key.number s.epoch s.number
 
-over : (key : Key) (e n : ℕ) (o : Option Seat) → Holds key o → paired e n o ≡ runs → Below key.epoch key.number e n
+over : (key : Key) (e n : ℕ) (o : Option Seat) → IsSeated key o → paired e n o ≡ runs → Below key.epoch key.number e n
 over key e n None h r = absurd h
 over key e n (Some s) h r =
     up_to_below _ _ _ _ _ _ h (below-true _ _ _ _ (newer_by s.reply (pair_below e n s.epoch s.number) (pair_below s.epoch s.number e n) r))
 
-at_last : (key other : Key) (o : Option Seat) → Holds key o → is_last_call other o ≡ true → UpTo key.epoch key.number other.epoch other.number
+at_last : (key other : Key) (o : Option Seat) → IsSeated key o → is_last_call other o ≡ true → UpTo key.epoch key.number other.epoch other.number
 at_last key other None h t = absurd h
 at_last key other (Some s) h t =
     let p = both (eqb s.epoch other.epoch) (eqb s.number other.number) t in
     subst (λ (d : ℕ). UpTo key.epoch key.number d other.number) (eqb-true _ _ p.0) (subst (λ (m : ℕ). UpTo key.epoch key.number s.epoch m) (eqb-true _ _ p.1) h)
 
-finish_holds : (t : Bool) (key other : Key) (r : List ℕ) (seats : List Seat) → is_last_call other (call_seat other.node seats) ≡ t → Holds key (call_seat key.node seats)
-    → Holds key (call_seat key.node (cond t (call_seated (done other r) seats) seats))
+finish_holds : (t : Bool) (key other : Key) (r : List ℕ) (seats : List Seat) → is_last_call other (call_seat other.node seats) ≡ t → IsSeated key (call_seat key.node seats)
+    → IsSeated key (call_seat key.node (cond t (call_seated (done other r) seats) seats))
 finish_holds true key other r seats t h =
-    at_seat (done other r) key.node seats (Holds key)
+    at_seat (done other r) key.node seats (IsSeated key)
     (λ q. at_last key other (call_seat key.node seats) h (ap (λ (m : Node). is_last_call other (call_seat m seats)) (sym q) ∙ t)) (λ ne. h)
 finish_holds false key other r seats t h = h
 
-started_holds : (key other : Key) (seats : List Seat) → other ≡ key → Holds key (call_seat key.node (call_seated (begun other) seats))
+started_holds : (key other : Key) (seats : List Seat) → other ≡ key → IsSeated key (call_seat key.node (call_seated (begun other) seats))
 started_holds key other seats e =
-    at_seat (begun other) key.node seats (Holds key) (λ q. up_to_same _ _ _ _ (ap (λ (k : Key). k.epoch) (sym e)) (ap (λ (k : Key). k.number) (sym e)))
+    at_seat (begun other) key.node seats (IsSeated key) (λ q. up_to_same _ _ _ _ (ap (λ (k : Key). k.epoch) (sym e)) (ap (λ (k : Key). k.number) (sym e)))
     (λ ne. absurd (ne (ap (λ (k : Key). k.node) e)))
 
-passes_holds : (key other : Key) (seats : List Seat) → paired other.epoch other.number (call_seat other.node seats) ≡ runs → Holds key (call_seat key.node seats)
-    → Holds key (call_seat key.node (call_seated (begun other) seats))
+passes_holds : (key other : Key) (seats : List Seat) → paired other.epoch other.number (call_seat other.node seats) ≡ runs → IsSeated key (call_seat key.node seats)
+    → IsSeated key (call_seat key.node (call_seated (begun other) seats))
 passes_holds key other seats a h =
-    at_seat (begun other) key.node seats (Holds key)
+    at_seat (begun other) key.node seats (IsSeated key)
     (λ q. below_up_to _ _ _ _ (over key other.epoch other.number (call_seat key.node seats) h (ap (λ (m : Node). paired other.epoch other.number (call_seat m seats)) (sym q) ∙ a))) (λ ne. h)
 
-holds : (past : List CallEvent) (key : Key) → StartsWhatRuns past → WasStarted key past → Holds key (call_seat key.node (seats_after past))
+holds : (past : List CallEvent) (key : Key) → StartsWhatRuns past → WasStarted key past → IsSeated key (call_seat key.node (seats_after past))
 holds [] key a w = absurd w
 holds (starts other ∷ past) key a (inl e) = started_holds key other (seats_after past) e
 holds (starts other ∷ past) key a (inr w) = passes_holds key other (seats_after past) a.0 (holds past key a.1 w)
@@ -170,7 +170,7 @@ pub calls_once : (boot : ℕ) (past : List CallEvent) (key : Key) (head : Head) 
     → pair_below key.epoch key.number head.epoch head.number ≡ false → admitted boot (seats_after past) head ≡ runs → ⊥
 calls_once boot past key head a w f p e =
     let r : paired head.epoch head.number (call_seat head.from (seats_after past)) ≡ runs = runs_by (eqb head.boot boot) boot _ e in
-    let h : Holds key (call_seat head.from (seats_after past)) = subst (λ (m : Node). Holds key (call_seat m (seats_after past))) (sym f) (holds past key a w) in
+    let h : IsSeated key (call_seat head.from (seats_after past)) = subst (λ (m : Node). IsSeated key (call_seat m (seats_after past))) (sym f) (holds past key a w) in
     below_not _ _ _ _ (over key head.epoch head.number _ h r) (below-false _ _ _ _ p)
 
 -- ---- a reply that is kept

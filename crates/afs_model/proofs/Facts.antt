@@ -217,7 +217,7 @@ AreUnheard seats boot past = (k : Key) → Above (seat_of k.node seats) k.epoch 
 abbrev pub HasTop : List Line → Type 0
 HasTop ls = (f : Fid) (i : ℕ) (b : Body) → HasVersion f i b ls → i ≤ index_of (last_version f ls)
 
-pub record Holds (s : Script) (c : Cell) (past : List Entry) : Type 0 where
+pub record HoldsAt (s : Script) (c : Cell) (past : List Entry) : Type 0 where
   pub files : HasLast c.server.files (lines_of past)
   pub home : AreHome s c.server.files (lines_of past)
   pub new : AreNew c.server.seats (lines_of past)
@@ -229,4 +229,4 @@ pub record Holds (s : Script) (c : Cell) (past : List Entry) : Type 0 where
 
 pub record Goes (s : Script) (past : List Entry) (m : Moved) : Type 0 where
   pub good : AreGood s m.entry.node past [] m.entry.lines
-  pub holds : Holds s m.cell (m.entry ∷ past)
+  pub holds : HoldsAt s m.cell (m.entry ∷ past)

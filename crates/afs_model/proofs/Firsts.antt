@@ -17,7 +17,7 @@ use Rattle.afs_num.specs.declared.states.CacheEntry.{CacheEntry}
 use Rattle.afs_num.specs.declared.states.ClientState.{ClientState}
 use Rattle.afs_num.specs.declared.states.ServerState.{ServerState}
 use Rattle.afs_model.specs.ServerRow.{Decision, drops, tells_boot, repeats, refuses, grants, saves, decides, does, server_row}
-use Rattle.afs_model.specs.ClientRow.{is_trusted, find_cached, calls_step, shows_step, opens, begin_row, uses_step, takes, counts, is_awaited, awaits, takes_in, client_row, ignores}
+use Rattle.afs_model.specs.ClientRow.{is_trusted, find_cached, calls_step, shows_step, opens, begin_row, shows_fetched_step, takes, counts, is_awaited, awaits, client_hears, client_row, ignores}
 use Rattle.afs_model.specs.Acts.{BeginsWith}
 
 -- ---- a message is given
@@ -34,7 +34,7 @@ pub server_first : (me : Node) (s : ServerState) (clock place : ℕ) (m : Receiv
 unfolding server_row
 server_first me s clock place m = does_first me s clock place (decides me s m)
 
-fetched_first : (me : Node) (c : ClientState) (place : ℕ) (entry : CacheEntry) (t : Bool) → BeginsWith (lines.Given place) (cond t (uses_step me c place entry) (calls_step me c (Open entry.fid) (lines.Given place))).lines
+fetched_first : (me : Node) (c : ClientState) (place : ℕ) (entry : CacheEntry) (t : Bool) → BeginsWith (lines.Given place) (cond t (shows_fetched_step me c place entry) (calls_step me c (Open entry.fid) (lines.Given place))).lines
 fetched_first me c place entry true = refl
 fetched_first me c place entry false = refl
 
@@ -59,7 +59,7 @@ awaits_first : (me : Node) (c : ClientState) (clock place : ℕ) (m : Message) (
 awaits_first me c clock place m None = refl
 awaits_first me c clock place m (Some act) = awaited_first me c clock place act m (is_awaited me c act m.head)
 
-takes_in_first : (me : Node) (c : ClientState) (clock place : ℕ) (m : Received) → BeginsWith (lines.Given place) (takes_in me c clock place m).lines
+takes_in_first : (me : Node) (c : ClientState) (clock place : ℕ) (m : Received) → BeginsWith (lines.Given place) (client_hears me c clock place m).lines
 takes_in_first me c clock place Nothing = refl
 takes_in_first me c clock place (Unknown head) = refl
 takes_in_first me c clock place (Unreadable head) = refl

@@ -20,7 +20,7 @@ use Rattle.afs_shape.specs.Tables.{kinds_in, AreOf, AreInRange}
 use Rattle.afs_shape.proofs.Codecs.{IsBytes, Takes, opaque_codec, signed_codec}
 use Rattle.afs_shape.proofs.FieldLaws.{bind_ok, in_place_ok, shape_ok_is, fields_take, fields_again}
 use Rattle.afs_model.specs.Heads.{user_limit, head_words, head_at, signed}
-use Rattle.afs_model.specs.FsRows.{call_rows, reply_rows, HasRow, IsHead, same_half, in_head, half_head_at, row_at, last_fields_at, asked_parts_at, call_parts_at, kinds_behind, replied_parts_at, reply_parts_at}
+use Rattle.afs_model.specs.FsRows.{call_rows, reply_rows, HasRow, IsHead, same_half, in_head, half_head_at, row_at, fields_to_end_at, asked_parts_at, call_parts_at, kinds_behind, replied_parts_at, reply_parts_at}
 use Rattle.afs_model.proofs.HeadLaws.{head_takes, head_again}
 
 done : {A : Type 0} → A → Result A ShapeFault
@@ -89,8 +89,8 @@ pub record AreAll (ks : List Kind) (bytes : List ℕ) (fs : List Field) : Type 0
   pub are_of : AreOf ks fs
   pub in_range : AreInRange fs
 
-pub last_fields_take : (ks : List Kind) (bytes : List ℕ) (fs : List Field) → IsBytes bytes → last_fields_at ks bytes ≡ Ok fs → AreAll ks bytes fs
-unfolding last_fields_at
+pub last_fields_take : (ks : List Kind) (bytes : List ℕ) (fs : List Field) → IsBytes bytes → fields_to_end_at ks bytes ≡ Ok fs → AreAll ks bytes fs
+unfolding fields_to_end_at
 last_fields_take ks bytes fs fits e =
     let a = bind_ok (fields_at 1 ks bytes) (λ f. in_place (length f.0 + 1) (end_at f.1) >>= λ nothing. Ok f.0) fs e in
     let b = bind_ok (in_place (length a.0.0 + 1) (end_at a.0.1)) (λ nothing. Ok a.0.0) fs a.2 in
@@ -99,8 +99,8 @@ last_fields_take ks bytes fs fits e =
     let whole : bytes ≡ fields_spelled a.0.0 = t.takes.parts ∙ (ap (λ (r : List ℕ). fields_spelled a.0.0 ++ r) none ∙ append-nil (fields_spelled a.0.0)) in
     subst (λ (x : List Field). AreAll ks bytes x) (shape_ok_is a.0.0 fs b.2) (record { whole = whole; are_of = t.are_of; in_range = t.in_range })
 
-pub last_fields_again : (ks : List Kind) (fs : List Field) → AreOf ks fs → AreInRange fs → last_fields_at ks (fields_spelled fs) ≡ Ok fs
-unfolding last_fields_at
+pub last_fields_again : (ks : List Kind) (fs : List Field) → AreOf ks fs → AreInRange fs → fields_to_end_at ks (fields_spelled fs) ≡ Ok fs
+unfolding fields_to_end_at
 last_fields_again ks fs h r =
     let read : fields_at 1 ks (fields_spelled fs) ≡ Ok (fs, []) = ap (fields_at 1 ks) (sym (append-nil (fields_spelled fs))) ∙ fields_again 1 ks fs [] h r in
     rw read refl
@@ -126,8 +126,8 @@ pub record TakesAsked (ks : List Kind) (bytes user : List ℕ) (fs : List Field)
 pub asked_parts_take : (ks : List Kind) (bytes user : List ℕ) (fs : List Field) → IsBytes bytes → asked_parts_at ks bytes ≡ Ok (user, fs) → TakesAsked ks bytes user fs
 unfolding asked_parts_at
 asked_parts_take ks bytes user fs fits e =
-    let c = bind_ok (in_place 0 (opaque_at user_limit bytes)) (λ u. last_fields_at ks u.1 >>= λ f. Ok (u.0, f)) (user, fs) e in
-    let d = bind_ok (last_fields_at ks c.0.1) (λ f. Ok (c.0.0, f)) (user, fs) c.2 in
+    let c = bind_ok (in_place 0 (opaque_at user_limit bytes)) (λ u. fields_to_end_at ks u.1 >>= λ f. Ok (u.0, f)) (user, fs) e in
+    let d = bind_ok (fields_to_end_at ks c.0.1) (λ f. Ok (c.0.0, f)) (user, fs) c.2 in
     let t1 = (opaque_codec user_limit).takes bytes c.0.0 c.0.1 fits (in_place_ok 0 (opaque_at user_limit bytes) c.0 c.1) in
     let t2 = last_fields_take ks c.0.1 d.0 t1.0.rest_fits d.1 in
     let whole : bytes ≡ opaque c.0.0 ++ fields_spelled d.0 = t1.0.parts ∙ ap (λ (r : List ℕ). opaque c.0.0 ++ r) t2.whole in
@@ -204,8 +204,8 @@ pub record TakesReplied (ks : List Kind) (bytes : List ℕ) (code : ℤ) (fs : L
 replied_parts_take : (ks : List Kind) (bytes : List ℕ) (code : ℤ) (fs : List Field) → IsBytes bytes → replied_parts_at ks bytes ≡ Ok (code, fs) → TakesReplied ks bytes code fs
 unfolding replied_parts_at
 replied_parts_take ks bytes code fs fits e =
-    let c = bind_ok (in_place 0 (signed_at bytes)) (λ z. last_fields_at (kinds_behind z.0 ks) z.1 >>= λ f. Ok (z.0, f)) (code, fs) e in
-    let d = bind_ok (last_fields_at (kinds_behind c.0.0 ks) c.0.1) (λ f. Ok (c.0.0, f)) (code, fs) c.2 in
+    let c = bind_ok (in_place 0 (signed_at bytes)) (λ z. fields_to_end_at (kinds_behind z.0 ks) z.1 >>= λ f. Ok (z.0, f)) (code, fs) e in
+    let d = bind_ok (fields_to_end_at (kinds_behind c.0.0 ks) c.0.1) (λ f. Ok (c.0.0, f)) (code, fs) c.2 in
     let t1 = signed_codec.takes bytes c.0.0 c.0.1 fits (in_place_ok 0 (signed_at bytes) c.0 c.1) in
     let t2 = last_fields_take (kinds_behind c.0.0 ks) c.0.1 d.0 t1.0.rest_fits d.1 in
     let whole : bytes ≡ word (signed c.0.0) ++ fields_spelled d.0 = t1.0.parts ∙ ap (λ (r : List ℕ). word (signed c.0.0) ++ r) t2.whole in

@@ -22,7 +22,7 @@ use Rattle.afs_shape.specs.Tables.{kinds_in, AreOf, AreInRange}
 use Rattle.afs_shape.proofs.Codecs.{IsBytes, opaque_codec, signed_codec}
 use Rattle.afs_shape.proofs.FieldLaws.{shape_ok_is, fields_again}
 use Rattle.afs_model.specs.Heads.{user_limit, head_words, signed, is_zero}
-use Rattle.afs_model.specs.FsRows.{call_rows, reply_rows, call_number, call_fields, reply_number, reply_fields, HasRow, IsHead, IsAnswer, spelled_call, spelled_reply, answer_fields, SpellsCall, SpellsReply, half_head_at, call_parts_at, kinds_behind, reply_parts_at, IsUnless, ReadsCall, IsReplied, ReadsReply, CanAnswer, IsHeadFor, IsOpcodeOf}
+use Rattle.afs_model.specs.FsRows.{call_rows, reply_rows, call_number, call_fields, reply_number, reply_fields, HasRow, IsHead, IsAnswer, spelled_call, spelled_reply, answer_fields, SpellsCall, SpellsReply, half_head_at, call_parts_at, kinds_behind, reply_parts_at, IsValueOrNoMemory, ReadsCall, IsReplied, ReadsReply, CanAnswer, IsHeadFor, IsOpcodeOf}
 use Rattle.afs_model.specs.FsMaking.{call_of, reply_of}
 use Rattle.afs_model.proofs.FsLaws.{HasKinds, half_head_again, found_row, call_parts_take, call_parts_again, reply_parts_take, reply_parts_again}
 use Rattle.afs_model.proofs.FsMade.{call_again, reply_again, call_made, reply_made, some_is}
@@ -88,7 +88,7 @@ calls_are_one h g user name call other e n m =
     let same : call ≡ other = call_is_one call other (n ∙ (ap (λ (x : Head). x.opcode) head ∙ sym m)) told in
     ap (λ (x : Head). whole x user call) head ∙ (ap (λ (x : List ℕ). whole g x call) second ∙ ap (λ (x : FsCall). whole g name x) same)
 
-pub spelled_call_is_read : (bytes : List ℕ) (r : Result (Head × List ℕ × FsCall) ShapeFault) (h : Head) (user : List ℕ) (call : FsCall) → ReadsCall bytes r → SpellsCall h user call bytes → IsUnless (h, user, call) r
+pub spelled_call_is_read : (bytes : List ℕ) (r : Result (Head × List ℕ × FsCall) ShapeFault) (h : Head) (user : List ℕ) (call : FsCall) → ReadsCall bytes r → SpellsCall h user call bytes → IsValueOrNoMemory (h, user, call) r
 spelled_call_is_read bytes (Ok m) h user call reads s =
     let e = call_is_read bytes h user call s in
     calls_are_one m.0 h m.1 user m.2 call (sym reads.0 ∙ e) reads.1 (sym s.0.opcode)
@@ -220,7 +220,7 @@ replies_are_one h g code other fs gs a b e p q =
 abbrev coded : Head → ℤ → Option FsReply → Head × Code × Option FsReply
 coded h code reply = (h, record { 0 = code }, reply)
 
-pub spelled_reply_is_read : (bytes : List ℕ) (r : Result (Head × Code × Option FsReply) ShapeFault) (h : Head) (code : ℤ) (reply : Option FsReply) → ReadsReply bytes r → SpellsReply h code reply bytes → IsUnless (h, record { 0 = code }, reply) r
+pub spelled_reply_is_read : (bytes : List ℕ) (r : Result (Head × Code × Option FsReply) ShapeFault) (h : Head) (code : ℤ) (reply : Option FsReply) → ReadsReply bytes r → SpellsReply h code reply bytes → IsValueOrNoMemory (h, record { 0 = code }, reply) r
 spelled_reply_is_read bytes (Ok m) h code reply reads s =
     ap (λ (x : Head × ℤ × Option FsReply). coded x.0 x.1 x.2) (replies_are_one m.0 h m.1.0 code reads.0 (answer_fields reply) m.2 reply (sym reads.1 ∙ reply_is_read bytes h code reply s) reads.2 (replied h.opcode code reply s.0.answer))
 spelled_reply_is_read bytes (Err faults.OutOfMemory) h code reply reads s = tt

@@ -32,7 +32,7 @@ use Rattle.afs_model.specs.Ideal.{first_version, first_lines, set_up, is_at}
 use Rattle.afs_model.specs.Legal.{LegalAfter, Legal}
 use Rattle.afs_model.specs.OneServer.{AreAtServer, IsOneServer}
 use Rattle.afs_model.proofs.Basics.{apart, some_of}
-use Rattle.afs_model.proofs.Facts.{Reached, index_of, HasLast, HasTop, Holds, Goes}
+use Rattle.afs_model.proofs.Facts.{Reached, index_of, HasLast, HasTop, HoldsAt, Goes}
 use Rattle.afs_model.proofs.Serving.{server_goes}
 use Rattle.afs_model.proofs.Answering.{client_goes, begun_goes, voids}
 
@@ -41,27 +41,27 @@ use Rattle.afs_model.proofs.Answering.{client_goes, begun_goes, voids}
 is_server : (n : ℕ) (m : Message) → m.head.to ≡ Server n → nat_eq n 1 ≡ true → m.head.to ≡ the_server
 is_server n m to e = to ∙ ap Server (eqb-true n 1 e)
 
-server_by : (s : Script) (c : Cell) (past : List Entry) (p n : ℕ) (m : Message) (t : Bool) → Holds s c past → message_at c.sent p ≡ Some m → Goes s past (cond t (server_moves c (server_row the_server c.server c.clock p (Whole m))) (voided c))
+server_by : (s : Script) (c : Cell) (past : List Entry) (p n : ℕ) (m : Message) (t : Bool) → HoldsAt s c past → message_at c.sent p ≡ Some m → Goes s past (cond t (server_moves c (server_row the_server c.server c.clock p (Whole m))) (voided c))
 server_by s c past p n m true h at = server_goes s c past p m h at
 server_by s c past p n m false h at = voids s c past h
 
-to_goes : (s : Script) (c : Cell) (past : List Entry) (p : ℕ) (m : Message) (to : Node) → Holds s c past → message_at c.sent p ≡ Some m → m.head.to ≡ to → Goes s past (given_to c p m to)
+to_goes : (s : Script) (c : Cell) (past : List Entry) (p : ℕ) (m : Message) (to : Node) → HoldsAt s c past → message_at c.sent p ≡ Some m → m.head.to ≡ to → Goes s past (given_to c p m to)
 to_goes s c past p m (Server n) h at to = server_by s c past p n m (nat_eq n 1) h at
 to_goes s c past p m (Client n) h at to = client_goes s c past n p m h at to
 to_goes s c past p m Loc h at to = voids s c past h
 to_goes s c past p m (Admin n) h at to = voids s c past h
 
-at_goes : (s : Script) (c : Cell) (past : List Entry) (p : ℕ) (o : Option Message) → Holds s c past → message_at c.sent p ≡ o → Goes s past (given_at c p o)
+at_goes : (s : Script) (c : Cell) (past : List Entry) (p : ℕ) (o : Option Message) → HoldsAt s c past → message_at c.sent p ≡ o → Goes s past (given_at c p o)
 at_goes s c past p None h at = voids s c past h
 at_goes s c past p (Some m) h at = to_goes s c past p m m.head.to h at refl
 
-pub goes : (s : Script) (c : Cell) (past : List Entry) (x : Input) → Holds s c past → Goes s past (moved c x)
+pub goes : (s : Script) (c : Cell) (past : List Entry) (x : Input) → HoldsAt s c past → Goes s past (moved c x)
 unfolding moved
 goes s c past (begins n act) h = begun_goes s c past n act (c.clients n).running h refl
 goes s c past (gives p) h = at_goes s c past p (message_at c.sent p) h refl
 goes s c past nothing h = voids s c past h
 
-pub legal_after : (s : Script) (xs : List Input) (c : Cell) (past es : List Entry) (end : Cell) → Holds s c past → Leads c xs es end → LegalAfter s past es
+pub legal_after : (s : Script) (xs : List Input) (c : Cell) (past es : List Entry) (end : Cell) → HoldsAt s c past → Leads c xs es end → LegalAfter s past es
 legal_after s [] c past [] end h r = tt
 legal_after s [] c past (e ∷ es) end h r = absurd r
 legal_after s (x ∷ xs) c past [] end h r = absurd r
@@ -184,7 +184,7 @@ none_given (file ∷ files) ls sent = ap (λ (x : List Line). given_message x se
 not_given : (k : Key) (boot : ℕ) (files : List StoredFile) → IsCallUnder k boot (given_message (first_lines files) []) → ⊥
 not_given k boot files x = subst (λ (o : Option Message). IsCallUnder k boot o) (ap (λ (ls : List Line). given_message ls []) (sym (append-nil (first_lines files))) ∙ none_given files [] []) x
 
-pub starts : (s : Script) → IsOneServer s → Holds s (start s) (set_up s ∷ [])
+pub starts : (s : Script) → IsOneServer s → HoldsAt s (start s) (set_up s ∷ [])
 starts s one =
     let files : List StoredFile = flat_map files_of s.volumes in
     record {

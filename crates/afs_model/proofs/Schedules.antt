@@ -31,7 +31,7 @@ use Rattle.afs_num.specs.declared.states.ServerState.{ServerState}
 use Rattle.afs_num.specs.declared.states.StoredFile.{StoredFile}
 use Rattle.afs_model.specs.Steps.{Step}
 use Rattle.afs_model.specs.ServerRow.{pair_below, Standing, is_older, is_last, is_newer, standing, seat_of, seated, find_file, Decision, drops, tells_boot, repeats, refuses, grants, saves, fetches, stores, Request, asks, asks_unknown, asks_unreadable, runs, answers_again, admits, called, hears, decides, does, server_row}
-use Rattle.afs_model.specs.ClientRow.{the_server, is_trusted, find_cached, calls_step, shows_step, opens, begin_row, uses_step, takes, counts, is_awaited, awaits, client_row, ignores}
+use Rattle.afs_model.specs.ClientRow.{the_server, is_trusted, find_cached, calls_step, shows_step, opens, begin_row, shows_fetched_step, takes, counts, is_awaited, awaits, client_row, ignores}
 use Rattle.afs_model.specs.Runs.{Entry, Cell, Input, begins, gives, nothing, Moved, voided, client_moves, server_moves, message_at, given_to, given_at, begun_by, moved, Leads, start, RunsTo}
 use Rattle.afs_model.specs.Acts.{lines_before, sent_before, begun_count, is_busy, acts_of, IsVoid, IsAct, IsDelivery, IsEvent, AreEvents, events_of, Acts}
 use Rattle.afs_model.specs.Playing.{Played, as_played, begun, played, entries_of, cell_after, all_acts, IsOwnTask, IsOwnEvent, HasOneClient}
@@ -243,7 +243,7 @@ calls_turns n c place act other r = record {
   ours = ((tt, refl), tt);
 }
 
-fetched_turns : (n : ℕ) (c : ClientState) (place : ℕ) (entry : CacheEntry) (other : Act) (t : Bool) → c.running ≡ Some other → Turns n c (cond t (uses_step (Client n) c place entry) (calls_step (Client n) c (Open entry.fid) (lines.Given place)))
+fetched_turns : (n : ℕ) (c : ClientState) (place : ℕ) (entry : CacheEntry) (other : Act) (t : Bool) → c.running ≡ Some other → Turns n c (cond t (shows_fetched_step (Client n) c place entry) (calls_step (Client n) c (Open entry.fid) (lines.Given place)))
 fetched_turns n c place entry other true r = record { begun = refl; busy = λ b e. refl; ours = tt }
 fetched_turns n c place entry other false r = calls_turns n c place (Open entry.fid) other r
 

@@ -26,7 +26,7 @@ use Rattle.afs_model.specs.Runs.{first_files, files_of}
 use Rattle.afs_model.specs.Playing.{IsOwnTask, IsOwnEvent}
 use Rattle.afs_model.specs.Form.{IsShortAct, IsShortTask, IsFirst, HasForm}
 use Rattle.afs_model.specs.ScriptWords.{must, parts, word_at, ended, first_word, number_at, path_of, fid_at, contents_at, is_unbuilt, node_at}
-use Rattle.afs_model.specs.Script.{has_name, name_in_root, lays, delivers, is_file_here, open_at, close_at, act_of, is_due, has_ended, Reading, nothing_read, next_turn, cell_line, servers_line, clients_line, volume_line, laid, file_line, do_line, act_line, deliver_line, bare_line, told, line_of, line_at, is_silent, last_at, at_line, lines_at, script_of}
+use Rattle.afs_model.specs.Script.{has_name, name_in_root, lays, delivers, is_file_here, open_at, close_at, act_of, is_due, has_ended, LinesRead, nothing_read, next_turn, cell_line, servers_line, clients_line, volume_line, laid, file_line, do_line, act_line, deliver_line, bare_line, line_by_word, line_of, line_at, is_silent, last_at, at_line, lines_at, script_of}
 use Rattle.afs_model.proofs.ScriptServer.{bound, ok_of, must_true, le_of_test, node_at_range, only_server, at_line_ok}
 
 -- ---- acts and files within their limit
@@ -83,7 +83,7 @@ HasFirst None = ⊤
 HasFirst (Some v) = All IsFirst (files_of v)
 
 -- the facts on what `lines` lines told
-record Formed (lines : ℕ) (r : Reading) : Type 0 where
+record Formed (lines : ℕ) (r : LinesRead) : Type 0 where
   clients : r.clients ≤ 1
   volume : HasFirst r.volume
   tasks : All IsOwnTask r.tasks
@@ -94,20 +94,20 @@ record Formed (lines : ℕ) (r : Reading) : Type 0 where
 after : (n m : ℕ) → n ≤ m → n ≤ m + 1
 after n m h = omega arith
 
-later : (n : ℕ) (r : Reading) → Formed n r → Formed (n + 1) r
+later : (n : ℕ) (r : LinesRead) → Formed n r → Formed (n + 1) r
 later n r h = record { clients = h.clients; volume = h.volume; tasks = h.tasks; acts = h.acts; events = h.events; count = after _ _ h.count }
 
 pushed : (n : ℕ) (xs : List Event) (x : Event) → length xs ≤ n → length (xs ++ x ∷ []) ≤ n + 1
 pushed n xs x h = let e = length_push xs x in omega arith
 
-cell_formed : (n : ℕ) (r x : Reading) (more : List (List ℕ)) → Formed n r → cell_line r more ≡ Ok x → Formed (n + 1) x
+cell_formed : (n : ℕ) (r x : LinesRead) (more : List (List ℕ)) → Formed n r → cell_line r more ≡ Ok x → Formed (n + 1) x
 unfolding cell_line
 cell_formed n r x more h e =
     let version = bound (ℕ × List (List ℕ)) _ Reason (number_at 1 1 more) _ _ e in
     let done = bound (Unit {0}) _ Reason (ended version.value.1) _ _ version.rest in
     subst (Formed (n + 1)) (ok_of _ _ _ _ done.rest) (later n r h)
 
-servers_formed : (n : ℕ) (r x : Reading) (more : List (List ℕ)) → Formed n r → servers_line r more ≡ Ok x → Formed (n + 1) x
+servers_formed : (n : ℕ) (r x : LinesRead) (more : List (List ℕ)) → Formed n r → servers_line r more ≡ Ok x → Formed (n + 1) x
 unfolding servers_line
 servers_formed n r x more h e =
     let count = bound (ℕ × List (List ℕ)) _ Reason (number_at 1 8 more) _ _ e in
@@ -115,7 +115,7 @@ servers_formed n r x more h e =
     let one = bound (Unit {0}) _ Reason (must (nat_eq count.value.0 1) reasons.Limit) _ _ done.rest in
     subst (Formed (n + 1)) (ok_of _ _ _ _ one.rest) (record { clients = h.clients; volume = h.volume; tasks = h.tasks; acts = h.acts; events = h.events; count = after _ _ h.count })
 
-clients_formed : (n : ℕ) (r x : Reading) (more : List (List ℕ)) → Formed n r → clients_line r more ≡ Ok x → Formed (n + 1) x
+clients_formed : (n : ℕ) (r x : LinesRead) (more : List (List ℕ)) → Formed n r → clients_line r more ≡ Ok x → Formed (n + 1) x
 unfolding clients_line
 clients_formed n r x more h e =
     let count = bound (ℕ × List (List ℕ)) _ Reason (number_at 0 16 more) _ _ e in
@@ -124,7 +124,7 @@ clients_formed n r x more h e =
     let single : count.value.0 ≡ 1 = eqb-true _ _ (must_true _ _ _ one.first) in
     subst (Formed (n + 1)) (ok_of _ _ _ _ one.rest) (record { clients = le_of_eq single; volume = h.volume; tasks = h.tasks; acts = h.acts; events = h.events; count = after _ _ h.count })
 
-volume_formed : (n : ℕ) (r x : Reading) (more : List (List ℕ)) → Formed n r → volume_line r more ≡ Ok x → Formed (n + 1) x
+volume_formed : (n : ℕ) (r x : LinesRead) (more : List (List ℕ)) → Formed n r → volume_line r more ≡ Ok x → Formed (n + 1) x
 unfolding volume_line
 volume_formed n r x more h e =
     let name = bound (List ℕ × List (List ℕ)) _ Reason (word_at more) _ _ e in
@@ -137,7 +137,7 @@ volume_formed n r x more h e =
     let enough = bound (Unit {0}) _ Reason (must (nat_le 1000 quota.value.0) reasons.Number) _ _ only.rest in
     subst (Formed (n + 1)) (ok_of _ _ _ _ enough.rest) (record { clients = h.clients; volume = All-nil IsFirst; tasks = h.tasks; acts = h.acts; events = h.events; count = after _ _ h.count })
 
-file_formed : (n : ℕ) (r x : Reading) (more : List (List ℕ)) → Formed n r → file_line r more ≡ Ok x → Formed (n + 1) x
+file_formed : (n : ℕ) (r x : LinesRead) (more : List (List ℕ)) → Formed n r → file_line r more ≡ Ok x → Formed (n + 1) x
 unfolding file_line
 file_formed n r x more h e =
     let word = bound (List ℕ × List (List ℕ)) _ Reason (word_at more) _ _ e in
@@ -152,7 +152,7 @@ file_formed n r x more h e =
 only_client : (clients : ℕ) (more : List (List ℕ)) (x : ℕ × List (List ℕ)) → clients ≤ 1 → node_at 99 clients more ≡ Ok x → Client x.0 ≡ Client 1
 only_client clients more x h e = let k = node_at_range 99 clients more x e in ap Client (only_server x.0 clients k.0 k.1 h)
 
-do_formed : (n : ℕ) (r x : Reading) (more : List (List ℕ)) → Formed n r → do_line r more ≡ Ok x → Formed (n + 1) x
+do_formed : (n : ℕ) (r x : LinesRead) (more : List (List ℕ)) → Formed n r → do_line r more ≡ Ok x → Formed (n + 1) x
 unfolding do_line
 do_formed n r x more h e =
     let client = bound (ℕ × List (List ℕ)) _ Reason (node_at 99 r.clients more) _ _ e in
@@ -162,7 +162,7 @@ do_formed n r x more h e =
     let short = act_short word.value.0 word.value.1 act.value act.first in
     subst (Formed (n + 1)) (ok_of _ _ _ _ act.rest) (record { clients = h.clients; volume = h.volume; tasks = All-push IsOwnTask r.tasks _ h.tasks own; acts = All-push IsShortTask r.tasks _ h.acts short; events = h.events; count = after _ _ h.count })
 
-act_formed : (n : ℕ) (r x : Reading) (more : List (List ℕ)) → Formed n r → act_line r more ≡ Ok x → Formed (n + 1) x
+act_formed : (n : ℕ) (r x : LinesRead) (more : List (List ℕ)) → Formed n r → act_line r more ≡ Ok x → Formed (n + 1) x
 unfolding act_line
 act_formed n r x more h e =
     let client = bound (ℕ × List (List ℕ)) _ Reason (node_at 99 r.clients more) _ _ e in
@@ -170,7 +170,7 @@ act_formed n r x more h e =
     let own = only_client r.clients more client.value h.clients client.first in
     subst (Formed (n + 1)) (ok_of _ _ _ _ done.rest) (record { clients = h.clients; volume = h.volume; tasks = h.tasks; acts = h.acts; events = All-push IsOwnEvent r.events (events.Act (Client client.value.0)) h.events own; count = pushed n r.events _ h.count })
 
-deliver_formed : (n : ℕ) (r x : Reading) (more : List (List ℕ)) → Formed n r → deliver_line r more ≡ Ok x → Formed (n + 1) x
+deliver_formed : (n : ℕ) (r x : LinesRead) (more : List (List ℕ)) → Formed n r → deliver_line r more ≡ Ok x → Formed (n + 1) x
 unfolding deliver_line
 deliver_formed n r x more h e =
     let place = bound (ℕ × List (List ℕ)) _ Reason (number_at 1 18446744073709551615 more) _ _ e in
@@ -178,11 +178,11 @@ deliver_formed n r x more h e =
     let fresh = bound (Unit {0}) _ Reason (must (not (list_any (delivers place.value.0) r.events)) reasons.Order) _ _ done.rest in
     subst (Formed (n + 1)) (ok_of _ _ _ _ fresh.rest) (record { clients = h.clients; volume = h.volume; tasks = h.tasks; acts = h.acts; events = All-push IsOwnEvent r.events (events.Deliver place.value.0) h.events tt; count = pushed n r.events _ h.count })
 
-bare_formed : (n : ℕ) (r x : Reading) (more : List (List ℕ)) → Formed n r → bare_line r more ≡ Ok x → Formed (n + 1) x
+bare_formed : (n : ℕ) (r x : LinesRead) (more : List (List ℕ)) → Formed n r → bare_line r more ≡ Ok x → Formed (n + 1) x
 unfolding bare_line
 bare_formed n r x more h e = let done = bound (Unit {0}) _ Reason (ended more) _ _ e in subst (Formed (n + 1)) (ok_of _ _ _ _ done.rest) (later n r h)
 
-told_formed : (first : FirstWord) (n : ℕ) (r x : Reading) (more : List (List ℕ)) → Formed n r → told first r more ≡ Ok x → Formed (n + 1) x
+told_formed : (first : FirstWord) (n : ℕ) (r x : LinesRead) (more : List (List ℕ)) → Formed n r → line_by_word first r more ≡ Ok x → Formed (n + 1) x
 told_formed words.Cell n r x more h e = cell_formed n r x more h e
 told_formed words.Servers n r x more h e = servers_formed n r x more h e
 told_formed words.Clients n r x more h e = clients_formed n r x more h e
@@ -194,7 +194,7 @@ told_formed words.Act n r x more h e = act_formed n r x more h e
 told_formed words.Deliver n r x more h e = deliver_formed n r x more h e
 told_formed words.End n r x more h e = bare_formed n r x more h e
 
-line_formed : (n : ℕ) (r x : Reading) (line : List (List ℕ)) → Formed n r → line_of r line ≡ Ok x → Formed (n + 1) x
+line_formed : (n : ℕ) (r x : LinesRead) (line : List (List ℕ)) → Formed n r → line_of r line ≡ Ok x → Formed (n + 1) x
 unfolding line_of
 line_formed n r x line h e =
     let word = bound (List ℕ × List (List ℕ)) _ Reason (word_at line) _ _ e in
@@ -203,12 +203,12 @@ line_formed n r x line h e =
     let built = bound (Unit {0}) _ Reason (must (not (is_unbuilt first.value word.value.1)) reasons.Word) _ _ due.rest in
     told_formed first.value n (record r { turn = next_turn first.value }) x word.value.1 (record { clients = h.clients; volume = h.volume; tasks = h.tasks; acts = h.acts; events = h.events; count = h.count }) built.rest
 
-silent_formed : (t : Bool) (n : ℕ) (r x : Reading) (line : List (List ℕ)) → Formed n r → cond t (Ok r) (line_of r line) ≡ Ok x → Formed (n + 1) x
+silent_formed : (t : Bool) (n : ℕ) (r x : LinesRead) (line : List (List ℕ)) → Formed n r → cond t (Ok r) (line_of r line) ≡ Ok x → Formed (n + 1) x
 silent_formed true n r x line h e = subst (Formed (n + 1)) (ok_of _ _ _ _ e) (later n r h)
 silent_formed false n r x line h e = line_formed n r x line h e
 
 -- a line that was read has a number of at most 200,000
-line_at_formed : (n : ℕ) (r x : Reading) (room : ℕ) (line : List ℕ) → Formed n r → line_at r (n + 1) room line ≡ Ok x → (n + 1 ≤ 200000) × Formed (n + 1) x
+line_at_formed : (n : ℕ) (r x : LinesRead) (room : ℕ) (line : List ℕ) → Formed n r → line_at r (n + 1) room line ≡ Ok x → (n + 1 ≤ 200000) × Formed (n + 1) x
 unfolding line_at
 line_at_formed n r x room line h e =
     let within = bound (Unit {0}) _ Reason (must (nat_lt (length line) room) reasons.Limit) _ _ e in
@@ -221,7 +221,7 @@ first_volumes : (o : Option VolumeLine) → HasFirst o → All IsFirst (flat_map
 first_volumes None h = All-nil IsFirst
 first_volumes (Some v) h = All-append IsFirst (files_of v) [] h (All-nil IsFirst)
 
-last_formed : (n : ℕ) (r : Reading) (s : Script) (number room : ℕ) (last : List ℕ) → n ≤ 200000 → Formed n r → last_at r number room last ≡ Ok s → HasForm s
+last_formed : (n : ℕ) (r : LinesRead) (s : Script) (number room : ℕ) (last : List ℕ) → n ≤ 200000 → Formed n r → last_at r number room last ≡ Ok s → HasForm s
 unfolding last_at
 last_formed n r s number room last le h e =
     let within = bound (Unit {0}) _ Reason (must (nat_le (length last) room) reasons.Limit) _ _ e in
@@ -231,11 +231,11 @@ last_formed n r s number room last le h e =
     let none = bound (Unit {0}) _ Reason (must (nat_eq (length last) 0) reasons.Order) _ _ short.rest in
     subst HasForm (ok_of _ _ _ _ none.rest) (record { client = record { tasks = h.tasks; events = h.events }; acts = h.acts; files = first_volumes r.volume h.volume; events = le_trans h.count le })
 
-lines_formed : (n : ℕ) (r : Reading) (s : Script) (room : ℕ) (ls : List (List ℕ)) → n ≤ 200000 → Formed n r → lines_at r n room ls ≡ Ok s → HasForm s
+lines_formed : (n : ℕ) (r : LinesRead) (s : Script) (room : ℕ) (ls : List (List ℕ)) → n ≤ 200000 → Formed n r → lines_at r n room ls ≡ Ok s → HasForm s
 lines_formed n r s room [] le h e = absurd cc
 lines_formed n r s room (last ∷ []) le h e = last_formed n r s (n + 1) room last le h (at_line_ok _ _ _ _ e)
 lines_formed n r s room (line ∷ next ∷ more) le h e =
-    let read = bound Reading Script (ℕ × Reason) (at_line (n + 1) (line_at r (n + 1) room line)) _ s e in
+    let read = bound LinesRead Script (ℕ × Reason) (at_line (n + 1) (line_at r (n + 1) room line)) _ s e in
     let formed = line_at_formed n r read.value room line h (at_line_ok _ _ _ _ read.first) in
     lines_formed (n + 1) read.value s (room - (length line + 1)) (next ∷ more) formed.0 formed.1 read.rest
 

@@ -21,7 +21,7 @@ use Rattle.afs_num.specs.Names.{name_ok, volume_name_ok}
 use Rattle.afs_num.specs.declared.scripts.Act.{Act}
 use Rattle.afs_num.specs.declared.scripts.Reason.TheVariants as reasons
 use Rattle.afs_model.specs.ScriptWords.{◌>>=◌, must, parts, word_at, ended, first_word, number_at, path_of, contents_at, is_unbuilt, number_from, numeral, at_least, ranged, node_number, node_at}
-use Rattle.afs_model.specs.Script.{has_name, name_in_root, lays, delivers, act_of, is_due, has_ended, Reading, nothing_read, next_turn, cell_line, servers_line, clients_line, volume_line, laid, file_line, do_line, act_line, deliver_line, bare_line, told, line_of, line_at, is_silent, last_at, at_line, lines_at, script_of}
+use Rattle.afs_model.specs.Script.{has_name, name_in_root, lays, delivers, act_of, is_due, has_ended, LinesRead, nothing_read, next_turn, cell_line, servers_line, clients_line, volume_line, laid, file_line, do_line, act_line, deliver_line, bare_line, line_by_word, line_of, line_at, is_silent, last_at, at_line, lines_at, script_of}
 
 -- ---- a reader that succeeded
 
@@ -107,26 +107,26 @@ abbrev IsAt : Option VolumeLine → Type 0
 IsAt None = ⊤
 IsAt (Some v) = v.server ≡ the_server
 
-record Fits (r : Reading) : Type 0 where
+record IsOfOneServer (r : LinesRead) : Type 0 where
   servers : r.servers ≤ 1
   volume : IsAt r.volume
 
-fits_by : (r x : Reading) → r.servers ≡ x.servers → r.volume ≡ x.volume → Fits r → Fits x
+fits_by : (r x : LinesRead) → r.servers ≡ x.servers → r.volume ≡ x.volume → IsOfOneServer r → IsOfOneServer x
 fits_by r x a b h = record { servers = subst (λ (n : ℕ). n ≤ 1) a h.servers; volume = subst IsAt b h.volume }
 
-servers_fit : (r x : Reading) (more : List (List ℕ)) → Fits r → servers_line r more ≡ Ok x → Fits x
+servers_fit : (r x : LinesRead) (more : List (List ℕ)) → IsOfOneServer r → servers_line r more ≡ Ok x → IsOfOneServer x
 unfolding servers_line
 servers_fit r x more h e =
     let a = bound (ℕ × List (List ℕ)) _ Reason (number_at 1 8 more) _ _ e in
     let b = bound (Unit {0}) _ Reason (ended a.value.1) _ _ a.rest in
     let c = bound (Unit {0}) _ Reason (must (nat_eq a.value.0 1) reasons.Limit) _ _ b.rest in
     let one : a.value.0 ≡ 1 = eqb-true _ _ (must_true _ _ _ c.first) in
-    subst Fits (ok_of _ _ _ _ c.rest) (record { servers = le_of_eq one; volume = h.volume })
+    subst IsOfOneServer (ok_of _ _ _ _ c.rest) (record { servers = le_of_eq one; volume = h.volume })
 
 pub only_server : (n servers : ℕ) → 1 ≤ n → n ≤ servers → servers ≤ 1 → n ≡ 1
 only_server n servers a b c = omega arith
 
-volume_fits : (r x : Reading) (more : List (List ℕ)) → Fits r → volume_line r more ≡ Ok x → Fits x
+volume_fits : (r x : LinesRead) (more : List (List ℕ)) → IsOfOneServer r → volume_line r more ≡ Ok x → IsOfOneServer x
 unfolding volume_line
 volume_fits r x more h e =
     let name = bound (List ℕ × List (List ℕ)) _ Reason (word_at more) _ _ e in
@@ -138,7 +138,7 @@ volume_fits r x more h e =
     let only = bound (Unit {0}) _ Reason (must (is_none r.volume) reasons.Limit) _ _ done.rest in
     let enough = bound (Unit {0}) _ Reason (must (nat_le 1000 quota.value.0) reasons.Number) _ _ only.rest in
     let n = node_at_range 115 r.servers name.value.1 server.value server.first in
-    subst Fits (ok_of _ _ _ _ enough.rest) (record { servers = h.servers; volume = ap Server (only_server server.value.0 r.servers n.0 n.1 h.servers) })
+    subst IsOfOneServer (ok_of _ _ _ _ enough.rest) (record { servers = h.servers; volume = ap Server (only_server server.value.0 r.servers n.0 n.1 h.servers) })
 
 laid_server : (volume : List ℕ) (names : List (List ℕ)) (contents : List ℕ) (v w : VolumeLine) → laid volume names contents v ≡ Ok w → v.server ≡ w.server
 unfolding laid
@@ -154,7 +154,7 @@ laid_server volume names contents v w e =
 at_some : (o : Option VolumeLine) (v : VolumeLine) → o ≡ Some v → IsAt o → v.server ≡ the_server
 at_some o v e h = subst IsAt e h
 
-file_fits : (r x : Reading) (more : List (List ℕ)) → Fits r → file_line r more ≡ Ok x → Fits x
+file_fits : (r x : LinesRead) (more : List (List ℕ)) → IsOfOneServer r → file_line r more ≡ Ok x → IsOfOneServer x
 unfolding file_line
 file_fits r x more h e =
     let word = bound (List ℕ × List (List ℕ)) _ Reason (word_at more) _ _ e in
@@ -164,76 +164,76 @@ file_fits r x more h e =
     let old = bound VolumeLine _ Reason (ok_or r.volume reasons.Path) _ _ done.rest in
     let new = bound VolumeLine _ Reason (laid path.value.0 path.value.1 contents.value.0 old.value) _ _ old.rest in
     let at : old.value.server ≡ the_server = at_some r.volume old.value (some_in _ _ _ _ _ old.first) h.volume in
-    subst Fits (ok_of _ _ _ _ new.rest) (record { servers = h.servers; volume = sym (laid_server _ _ _ _ _ new.first) ∙ at })
+    subst IsOfOneServer (ok_of _ _ _ _ new.rest) (record { servers = h.servers; volume = sym (laid_server _ _ _ _ _ new.first) ∙ at })
 
-cell_fits : (r x : Reading) (more : List (List ℕ)) → Fits r → cell_line r more ≡ Ok x → Fits x
+cell_fits : (r x : LinesRead) (more : List (List ℕ)) → IsOfOneServer r → cell_line r more ≡ Ok x → IsOfOneServer x
 unfolding cell_line
 cell_fits r x more h e =
     let version = bound (ℕ × List (List ℕ)) _ Reason (number_at 1 1 more) _ _ e in
     let done = bound (Unit {0}) _ Reason (ended version.value.1) _ _ version.rest in
-    subst Fits (ok_of _ _ _ _ done.rest) h
+    subst IsOfOneServer (ok_of _ _ _ _ done.rest) h
 
-clients_fit : (r x : Reading) (more : List (List ℕ)) → Fits r → clients_line r more ≡ Ok x → Fits x
+clients_fit : (r x : LinesRead) (more : List (List ℕ)) → IsOfOneServer r → clients_line r more ≡ Ok x → IsOfOneServer x
 unfolding clients_line
 clients_fit r x more h e =
     let count = bound (ℕ × List (List ℕ)) _ Reason (number_at 0 16 more) _ _ e in
     let done = bound (Unit {0}) _ Reason (ended count.value.1) _ _ count.rest in
     let one = bound (Unit {0}) _ Reason (must (nat_eq count.value.0 1) reasons.Limit) _ _ done.rest in
-    subst Fits (ok_of _ _ _ _ one.rest) (record { servers = h.servers; volume = h.volume })
+    subst IsOfOneServer (ok_of _ _ _ _ one.rest) (record { servers = h.servers; volume = h.volume })
 
-do_fits : (r x : Reading) (more : List (List ℕ)) → Fits r → do_line r more ≡ Ok x → Fits x
+do_fits : (r x : LinesRead) (more : List (List ℕ)) → IsOfOneServer r → do_line r more ≡ Ok x → IsOfOneServer x
 unfolding do_line
 do_fits r x more h e =
     let client = bound (ℕ × List (List ℕ)) _ Reason (node_at 99 r.clients more) _ _ e in
     let word = bound (List ℕ × List (List ℕ)) _ Reason (word_at client.value.1) _ _ client.rest in
     let act = bound Act _ Reason (act_of word.value.0 word.value.1) _ _ word.rest in
-    subst Fits (ok_of _ _ _ _ act.rest) (record { servers = h.servers; volume = h.volume })
+    subst IsOfOneServer (ok_of _ _ _ _ act.rest) (record { servers = h.servers; volume = h.volume })
 
-act_fits : (r x : Reading) (more : List (List ℕ)) → Fits r → act_line r more ≡ Ok x → Fits x
+act_fits : (r x : LinesRead) (more : List (List ℕ)) → IsOfOneServer r → act_line r more ≡ Ok x → IsOfOneServer x
 unfolding act_line
 act_fits r x more h e =
     let client = bound (ℕ × List (List ℕ)) _ Reason (node_at 99 r.clients more) _ _ e in
     let done = bound (Unit {0}) _ Reason (ended client.value.1) _ _ client.rest in
-    subst Fits (ok_of _ _ _ _ done.rest) (record { servers = h.servers; volume = h.volume })
+    subst IsOfOneServer (ok_of _ _ _ _ done.rest) (record { servers = h.servers; volume = h.volume })
 
-deliver_fits : (r x : Reading) (more : List (List ℕ)) → Fits r → deliver_line r more ≡ Ok x → Fits x
+deliver_fits : (r x : LinesRead) (more : List (List ℕ)) → IsOfOneServer r → deliver_line r more ≡ Ok x → IsOfOneServer x
 unfolding deliver_line
 deliver_fits r x more h e =
     let place = bound (ℕ × List (List ℕ)) _ Reason (number_at 1 18446744073709551615 more) _ _ e in
     let done = bound (Unit {0}) _ Reason (ended place.value.1) _ _ place.rest in
     let fresh = bound (Unit {0}) _ Reason (must (not (list_any (delivers place.value.0) r.events)) reasons.Order) _ _ done.rest in
-    subst Fits (ok_of _ _ _ _ fresh.rest) (record { servers = h.servers; volume = h.volume })
+    subst IsOfOneServer (ok_of _ _ _ _ fresh.rest) (record { servers = h.servers; volume = h.volume })
 
-bare_fits : (r x : Reading) (more : List (List ℕ)) → Fits r → bare_line r more ≡ Ok x → Fits x
+bare_fits : (r x : LinesRead) (more : List (List ℕ)) → IsOfOneServer r → bare_line r more ≡ Ok x → IsOfOneServer x
 unfolding bare_line
-bare_fits r x more h e = let done = bound (Unit {0}) _ Reason (ended more) _ _ e in subst Fits (ok_of _ _ _ _ done.rest) h
+bare_fits r x more h e = let done = bound (Unit {0}) _ Reason (ended more) _ _ e in subst IsOfOneServer (ok_of _ _ _ _ done.rest) h
 
-told_fits : (first : FirstWord) (r x : Reading) (more : List (List ℕ)) → Fits r → told first r more ≡ Ok x → Fits x
-told_fits words.Cell r x more h e = cell_fits r x more h e
-told_fits words.Servers r x more h e = servers_fit r x more h e
-told_fits words.Clients r x more h e = clients_fit r x more h e
-told_fits words.Volume r x more h e = volume_fits r x more h e
-told_fits words.File r x more h e = file_fits r x more h e
-told_fits words.Do r x more h e = do_fits r x more h e
-told_fits words.Schedule r x more h e = bare_fits r x more h e
-told_fits words.Act r x more h e = act_fits r x more h e
-told_fits words.Deliver r x more h e = deliver_fits r x more h e
-told_fits words.End r x more h e = bare_fits r x more h e
+by_word_fits : (first : FirstWord) (r x : LinesRead) (more : List (List ℕ)) → IsOfOneServer r → line_by_word first r more ≡ Ok x → IsOfOneServer x
+by_word_fits words.Cell r x more h e = cell_fits r x more h e
+by_word_fits words.Servers r x more h e = servers_fit r x more h e
+by_word_fits words.Clients r x more h e = clients_fit r x more h e
+by_word_fits words.Volume r x more h e = volume_fits r x more h e
+by_word_fits words.File r x more h e = file_fits r x more h e
+by_word_fits words.Do r x more h e = do_fits r x more h e
+by_word_fits words.Schedule r x more h e = bare_fits r x more h e
+by_word_fits words.Act r x more h e = act_fits r x more h e
+by_word_fits words.Deliver r x more h e = deliver_fits r x more h e
+by_word_fits words.End r x more h e = bare_fits r x more h e
 
-line_fits : (r x : Reading) (line : List (List ℕ)) → Fits r → line_of r line ≡ Ok x → Fits x
+line_fits : (r x : LinesRead) (line : List (List ℕ)) → IsOfOneServer r → line_of r line ≡ Ok x → IsOfOneServer x
 unfolding line_of
 line_fits r x line h e =
     let word = bound (List ℕ × List (List ℕ)) _ Reason (word_at line) _ _ e in
     let first = bound FirstWord _ Reason (ok_or (first_word word.value.0) reasons.Word) _ _ word.rest in
     let due = bound (Unit {0}) _ Reason (must (is_due r.turn first.value) reasons.Order) _ _ first.rest in
     let built = bound (Unit {0}) _ Reason (must (not (is_unbuilt first.value word.value.1)) reasons.Word) _ _ due.rest in
-    told_fits first.value (record r { turn = next_turn first.value }) x word.value.1 (record { servers = h.servers; volume = h.volume }) built.rest
+    by_word_fits first.value (record r { turn = next_turn first.value }) x word.value.1 (record { servers = h.servers; volume = h.volume }) built.rest
 
-silent_fits : (t : Bool) (r x : Reading) (line : List (List ℕ)) → Fits r → cond t (Ok r) (line_of r line) ≡ Ok x → Fits x
-silent_fits true r x line h e = subst Fits (ok_of _ _ _ _ e) h
+silent_fits : (t : Bool) (r x : LinesRead) (line : List (List ℕ)) → IsOfOneServer r → cond t (Ok r) (line_of r line) ≡ Ok x → IsOfOneServer x
+silent_fits true r x line h e = subst IsOfOneServer (ok_of _ _ _ _ e) h
 silent_fits false r x line h e = line_fits r x line h e
 
-line_at_fits : (r x : Reading) (number room : ℕ) (line : List ℕ) → Fits r → line_at r number room line ≡ Ok x → Fits x
+line_at_fits : (r x : LinesRead) (number room : ℕ) (line : List ℕ) → IsOfOneServer r → line_at r number room line ≡ Ok x → IsOfOneServer x
 unfolding line_at
 line_at_fits r x number room line h e =
     let within = bound (Unit {0}) _ Reason (must (nat_lt (length line) room) reasons.Limit) _ _ e in
@@ -250,7 +250,7 @@ at_volumes : (o : Option VolumeLine) → IsAt o → AreAtServer (option_to_list 
 at_volumes None h = tt
 at_volumes (Some v) h = (h, tt)
 
-last_fits : (r : Reading) (s : Script) (number room : ℕ) (last : List ℕ) → Fits r → last_at r number room last ≡ Ok s → IsOneServer s
+last_fits : (r : LinesRead) (s : Script) (number room : ℕ) (last : List ℕ) → IsOfOneServer r → last_at r number room last ≡ Ok s → IsOneServer s
 unfolding last_at
 last_fits r s number room last h e =
     let within = bound (Unit {0}) _ Reason (must (nat_le (length last) room) reasons.Limit) _ _ e in
@@ -260,11 +260,11 @@ last_fits r s number room last h e =
     let none = bound (Unit {0}) _ Reason (must (nat_eq (length last) 0) reasons.Order) _ _ short.rest in
     subst IsOneServer (ok_of _ _ _ _ none.rest) (at_volumes r.volume h.volume)
 
-lines_fit : (r : Reading) (s : Script) (number room : ℕ) (ls : List (List ℕ)) → Fits r → lines_at r number room ls ≡ Ok s → IsOneServer s
+lines_fit : (r : LinesRead) (s : Script) (number room : ℕ) (ls : List (List ℕ)) → IsOfOneServer r → lines_at r number room ls ≡ Ok s → IsOneServer s
 lines_fit r s number room [] h e = absurd cc
 lines_fit r s number room (last ∷ []) h e = last_fits r s (number + 1) room last h (at_line_ok _ _ _ _ e)
 lines_fit r s number room (line ∷ next ∷ more) h e =
-    let read = bound Reading Script (ℕ × Reason) (at_line (number + 1) (line_at r (number + 1) room line)) _ s e in
+    let read = bound LinesRead Script (ℕ × Reason) (at_line (number + 1) (line_at r (number + 1) room line)) _ s e in
     lines_fit read.value s (number + 1) (room - (length line + 1)) (next ∷ more) (line_at_fits r read.value (number + 1) room line h (at_line_ok _ _ _ _ read.first)) read.rest
 
 -- each script is for one server

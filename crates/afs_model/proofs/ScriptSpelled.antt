@@ -7,7 +7,7 @@ use Rattle.afs_num.specs.declared.scripts.Reason.{Reason}
 use Rattle.afs_num.specs.declared.scripts.Reason.TheVariants as reasons
 use Rattle.afs_num.specs.declared.types.Fid.{Fid}
 use Rattle.afs_model.specs.ScriptWords.{must, parts, word_at, first_word, ranged, number_at, node_number, node_at, contents_at, path_of, field_at, fid_of, operand_of, fid_at, is_unbuilt}
-use Rattle.afs_model.specs.Script.{Reading, next_turn, is_due, has_ended, told, line_of, is_silent, line_at}
+use Rattle.afs_model.specs.Script.{LinesRead, next_turn, is_due, has_ended, line_by_word, line_of, is_silent, line_at}
 use Rattle.afs_model.specs.ScriptText.{is_part, fid_word, contents_word, AreBytes}
 use Rattle.afs_model.proofs.ScriptLines.{cut_off, uncut}
 use Rattle.afs_model.proofs.ScriptNumbers.{both_true, if_false, all_then, digits_only, ranged_again}
@@ -81,27 +81,27 @@ path_again size volume name le p q =
     rw (must_true (is_name_of 32 volume) reasons.Name p, must_true (list_all (λ n. is_name_of 256 n) (name ∷ [])) reasons.Path (both_true (is_name_of 256 name) true q refl), must_true (nat_le size 1024) reasons.Limit (le-leb size 1024 le)) refl
 
 -- Any line whose words are written.
-pub line_of_again : (r s : Reading) (first : List ℕ) (kind : FirstWord) (ws : List (List ℕ)) → 0 < length first → first_word first ≡ Some kind → is_due r.turn kind ≡ true → is_unbuilt kind ws ≡ false → told kind (record r { turn = next_turn kind }) ws ≡ Ok s → line_of r (first ∷ ws) ≡ Ok s
+pub line_of_again : (r s : LinesRead) (first : List ℕ) (kind : FirstWord) (ws : List (List ℕ)) → 0 < length first → first_word first ≡ Some kind → is_due r.turn kind ≡ true → is_unbuilt kind ws ≡ false → line_by_word kind (record r { turn = next_turn kind }) ws ≡ Ok s → line_of r (first ∷ ws) ≡ Ok s
 unfolding line_of
 line_of_again r s first kind ws lt known due built e =
     rw (word_again first ws lt, known, must_true (is_due r.turn kind) reasons.Order due, must_true (not (is_unbuilt kind ws)) reasons.Word (ap not built)) e
 
-pub record Step (r : Reading) (line : List ℕ) (s : Reading) : Type 0 where
+pub record Step (r : LinesRead) (line : List ℕ) (s : LinesRead) : Type 0 where
   pub one : is_part 10 line ≡ true
   pub speaks : is_silent line ≡ false
   pub going : has_ended r.turn ≡ false
   pub read : line_of r (parts 32 line) ≡ Ok s
 
-pub good_line : (r s : Reading) (number room : ℕ) (line : List ℕ) → Step r line s → length line < room → number ≤ 200000 → length line ≤ 4200000 → line_at r number room line ≡ Ok s
+pub good_line : (r s : LinesRead) (number room : ℕ) (line : List ℕ) → Step r line s → length line < room → number ≤ 200000 → length line ≤ 4200000 → line_at r number room line ≡ Ok s
 unfolding line_at
 good_line r s number room line h p q t =
     rw (must_true (nat_lt (length line) room) reasons.Limit (lt-ltb (length line) room p), must_true (nat_le number 200000) reasons.Limit (le-leb number 200000 q), must_true (nat_le (length line) 4200000) reasons.Limit (le-leb (length line) 4200000 t), must_true (not (has_ended r.turn)) reasons.Order (ap not h.going))
     (if_false (is_silent line) (Ok r) (line_of r (parts 32 line)) h.speaks ∙ h.read)
 
-abbrev pub Leads : Reading → List (List ℕ) → Reading → Type 0
+abbrev pub Leads : LinesRead → List (List ℕ) → LinesRead → Type 0
 Leads r [] t = r ≡ t
-Leads r (line ∷ lines) t = (s : Reading) × Step r line s × Leads s lines t
+Leads r (line ∷ lines) t = (s : LinesRead) × Step r line s × Leads s lines t
 
-pub leads_append : (xs ys : List (List ℕ)) (r s t : Reading) → Leads r xs s → Leads s ys t → Leads r (xs ++ ys) t
-leads_append [] ys r s t e h = subst (λ (q : Reading). Leads q ys t) (sym e) h
+pub leads_append : (xs ys : List (List ℕ)) (r s t : LinesRead) → Leads r xs s → Leads s ys t → Leads r (xs ++ ys) t
+leads_append [] ys r s t e h = subst (λ (q : LinesRead). Leads q ys t) (sym e) h
 leads_append (x ∷ xs) ys r s t g h = (g.0, g.1, leads_append xs ys g.0 s t g.2 h)

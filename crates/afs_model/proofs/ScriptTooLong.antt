@@ -5,7 +5,7 @@ use Rattle.afs_num.specs.declared.scripts.Reason.{Reason}
 use Rattle.afs_num.specs.declared.scripts.Reason.TheVariants as reasons
 use Rattle.afs_num.specs.declared.scripts.Script.{Script}
 use Rattle.afs_model.specs.ScriptWords.{◌>>=◌, must, parts}
-use Rattle.afs_model.specs.Script.{Reading, nothing_read, at_line, line_at, last_at, lines_at, script_of}
+use Rattle.afs_model.specs.Script.{LinesRead, nothing_read, at_line, line_at, last_at, lines_at, script_of}
 use Rattle.afs_model.specs.ScriptText.{is_part}
 use Rattle.afs_model.proofs.ScriptLines.{uncut, line_then}
 use Rattle.afs_model.proofs.ScriptNumbers.{all_append}
@@ -30,25 +30,25 @@ not_less n m le = grind (arith, nat_tests)
 not_most : (n m : ℕ) → m < n → nat_le n m ≡ false
 not_most n m lt = grind (arith, nat_tests)
 
-line_too_long : (r : Reading) (number room : ℕ) (line : List ℕ) → room ≤ length line → line_at r number room line ≡ Err reasons.Limit
+line_too_long : (r : LinesRead) (number room : ℕ) (line : List ℕ) → room ≤ length line → line_at r number room line ≡ Err reasons.Limit
 unfolding line_at
 line_too_long r number room line le = rw (must_false (nat_lt (length line) room) reasons.Limit (not_less (length line) room le)) refl
 
-last_too_long : (r : Reading) (number room : ℕ) (last : List ℕ) → room < length last → last_at r number room last ≡ Err reasons.Limit
+last_too_long : (r : LinesRead) (number room : ℕ) (last : List ℕ) → room < length last → last_at r number room last ≡ Err reasons.Limit
 unfolding last_at
 last_too_long r number room last lt = rw (must_false (nat_le (length last) room) reasons.Limit (not_most (length last) room lt)) refl
 
 -- a good line is within the room
-line_within : (r s : Reading) (number room : ℕ) (line : List ℕ) → line_at r number room line ≡ Ok s → length line < room
+line_within : (r s : LinesRead) (number room : ℕ) (line : List ℕ) → line_at r number room line ≡ Ok s → length line < room
 unfolding line_at
 line_within r s number room line e = ltb-true (length line) room (passed (nat_lt (length line) room) reasons.Limit _ s e)
 
 -- what is behind a good line is the same
-same_behind : (o : Result Reading Reason) (n : ℕ) (f g : Reading → Result Script (ℕ × Reason)) → ((s : Reading) → o ≡ Ok s → f s ≡ g s) → (at_line n o >>= f) ≡ (at_line n o >>= g)
+same_behind : (o : Result LinesRead Reason) (n : ℕ) (f g : LinesRead → Result Script (ℕ × Reason)) → ((s : LinesRead) → o ≡ Ok s → f s ≡ g s) → (at_line n o >>= f) ≡ (at_line n o >>= g)
 same_behind (Ok s) n f g h = h s refl
 same_behind (Err reason) n f g h = refl
 
-none_behind : (o : Result Reading Reason) (n : ℕ) (f : Reading → Result Script (ℕ × Reason)) (x : Script) → ((s : Reading) → o ≡ Ok s → f s ≡ Ok x → ⊥) → (at_line n o >>= f) ≡ Ok x → ⊥
+none_behind : (o : Result LinesRead Reason) (n : ℕ) (f : LinesRead → Result Script (ℕ × Reason)) (x : Script) → ((s : LinesRead) → o ≡ Ok s → f s ≡ Ok x → ⊥) → (at_line n o >>= f) ≡ Ok x → ⊥
 none_behind (Ok s) n f x h e = h s refl e
 none_behind (Err reason) n f x h e = absurd cc
 
@@ -57,7 +57,7 @@ still_long : (line bytes : List ℕ) (b room : ℕ) → room < length (line ++ b
 still_long line bytes b room lt within = omega (arith, length-append line (b ∷ bytes), lt, within)
 
 -- a line that begins with too long a front is too long
-over_long : (rest line : List ℕ) (r : Reading) (number room : ℕ) → is_part 10 line ≡ true → room < length line → lines_at r number room (parts 10 (line ++ rest)) ≡ Err (number + 1, reasons.Limit)
+over_long : (rest line : List ℕ) (r : LinesRead) (number room : ℕ) → is_part 10 line ≡ true → room < length line → lines_at r number room (parts 10 (line ++ rest)) ≡ Err (number + 1, reasons.Limit)
 over_long [] line r number room h lt =
     ap (λ (bs : List ℕ). lines_at r number room (parts 10 bs)) (append-nil line)
     ∙ (ap (lines_at r number room) (uncut 10 line h)
@@ -65,12 +65,12 @@ over_long [] line r number room h lt =
 over_long (b ∷ rest) line r number room h lt = elim (is_or (nat_eq b 10)) [
   | inl e ↦ ap (λ (x : ℕ). lines_at r number room (parts 10 (line ++ x ∷ rest))) (eqb-true b 10 e)
       ∙ (line_then r number room line rest h
-      ∙ ap (λ (o : Result Reading Reason). at_line (number + 1) o >>= (λ (s : Reading). lines_at s (number + 1) (room - (length line + 1)) (parts 10 rest))) (line_too_long r (number + 1) room line (let z : room ≤ length line = omega (arith, lt) in z)))
+      ∙ ap (λ (o : Result LinesRead Reason). at_line (number + 1) o >>= (λ (s : LinesRead). lines_at s (number + 1) (room - (length line + 1)) (parts 10 rest))) (line_too_long r (number + 1) room line (let z : room ≤ length line = omega (arith, lt) in z)))
   | inr e ↦ ap (λ (bs : List ℕ). lines_at r number room (parts 10 bs)) (sym (append_assoc line (b ∷ []) rest))
       ∙ over_long rest (line ++ b ∷ []) r number room (with_byte line b h e) (let z : room < length (line ++ b ∷ []) = omega (arith, length-append line (b ∷ []), lt) in z)
 ]
 
-front_decides : (bytes line rest : List ℕ) (r : Reading) (number room : ℕ) → is_part 10 line ≡ true → room < length (line ++ bytes) → lines_at r number room (parts 10 (line ++ (bytes ++ rest))) ≡ lines_at r number room (parts 10 (line ++ bytes))
+front_decides : (bytes line rest : List ℕ) (r : LinesRead) (number room : ℕ) → is_part 10 line ≡ true → room < length (line ++ bytes) → lines_at r number room (parts 10 (line ++ (bytes ++ rest))) ≡ lines_at r number room (parts 10 (line ++ bytes))
 front_decides [] line rest r number room h lt =
     let long : room < length line = omega (arith, length-append line [], lt) in
     over_long rest line r number room h long ∙ sym (over_long [] line r number room h long)
@@ -85,7 +85,7 @@ front_decides (b ∷ bytes) line rest r number room h lt = elim (is_or (nat_eq b
       ∙ ap (λ (bs : List ℕ). lines_at r number room (parts 10 bs)) (append_assoc line (b ∷ []) bytes))
 ]
 
-not_whole : (bytes line : List ℕ) (r : Reading) (number room : ℕ) (s : Script) → is_part 10 line ≡ true → room < length (line ++ bytes) → lines_at r number room (parts 10 (line ++ bytes)) ≡ Ok s → ⊥
+not_whole : (bytes line : List ℕ) (r : LinesRead) (number room : ℕ) (s : Script) → is_part 10 line ≡ true → room < length (line ++ bytes) → lines_at r number room (parts 10 (line ++ bytes)) ≡ Ok s → ⊥
 not_whole [] line r number room s h lt e =
     let limit = over_long [] line r number room h (let z : room < length line = omega (arith, length-append line [], lt) in z) in
     absurd cc

@@ -19,7 +19,7 @@ use Rattle.afs_num.specs.declared.scripts.SetupLine.TheVariants as setups
 use Rattle.afs_num.specs.declared.scripts.VolumeLine.{VolumeLine}
 use Rattle.afs_num.specs.declared.scripts.Script.{Script}
 use Rattle.afs_model.specs.ScriptWords.{◌>>=◌, ended, first_word, is_unbuilt_word, has_names, is_unbuilt_operand, is_unbuilt_act, is_unbuilt_do, is_unbuilt}
-use Rattle.afs_model.specs.Script.{Reading, nothing_read, next_turn, is_due, has_ended, cell_line, servers_line, clients_line, volume_line, name_in_root, laid, file_line, is_file_here, open_at, close_at, act_of, do_line, act_line, delivers, deliver_line, bare_line, told, line_of, is_silent, script_in, last_at, at_line, script_of}
+use Rattle.afs_model.specs.Script.{LinesRead, nothing_read, next_turn, is_due, has_ended, cell_line, servers_line, clients_line, volume_line, name_in_root, laid, file_line, is_file_here, open_at, close_at, act_of, do_line, act_line, delivers, deliver_line, bare_line, line_by_word, line_of, is_silent, script_in, last_at, at_line, script_of}
 use Rattle.afs_model.specs.ScriptText.{is_part, closed, lines_read, room_behind, spaced, node_word, fid_word, contents_word, setup_line, volume_lines, act_words, task_line, event_line, schedule_lines, script_lines, script_text, IsContents, IsFile, IsAct, AreTasks, AreSetup, AreVolumes, AreEvents, IsSchedule, IsOfForm, AreShort, IsWithinLimits}
 use Rattle.afs_model.proofs.ScriptLines.{both, last_line}
 use Rattle.afs_model.proofs.ScriptNumbers.{both_true, all_append, all_then}
@@ -30,7 +30,7 @@ use Rattle.std.proofs.lemmas.Bool.Decides.{nat_tests}
 use Rattle.afs_model.proofs.ScriptSpelled.{must_true, word_again, number_again, server_again, client_again, fid_again, contents_at_again, name_parts, path_again, line_of_again, Step, good_line, Leads, leads_append}
 
 -- the words of a line after its first, and its reading
-line_step : (r s : Reading) (first : List ℕ) (kind : FirstWord) (ws : List (List ℕ)) → list_all (is_in 43 122) first ≡ true → 0 < length first → first_word first ≡ Some kind → is_silent (spaced first ws) ≡ false → AreWords ws → has_ended r.turn ≡ false → is_due r.turn kind ≡ true → is_unbuilt_do kind ws ≡ false → told kind (record r { turn = next_turn kind }) ws ≡ Ok s → Step r (spaced first ws) s
+line_step : (r s : LinesRead) (first : List ℕ) (kind : FirstWord) (ws : List (List ℕ)) → list_all (is_in 43 122) first ≡ true → 0 < length first → first_word first ≡ Some kind → is_silent (spaced first ws) ≡ false → AreWords ws → has_ended r.turn ≡ false → is_due r.turn kind ≡ true → is_unbuilt_do kind ws ≡ false → line_by_word kind (record r { turn = next_turn kind }) ws ≡ Ok s → Step r (spaced first ws) s
 unfolding is_unbuilt
 line_step r s first kind ws chars lt known speaks hs going due built e = record {
   one = one_line first ws chars hs;
@@ -41,33 +41,33 @@ line_step r s first kind ws chars lt known speaks hs going due built e = record 
 }
 
 -- a reading in which one server and one client stand
-abbrev reading : ℕ → Option VolumeLine → List Task → List Event → Reading
+abbrev reading : ℕ → Option VolumeLine → List Task → List Event → LinesRead
 reading turn volume tasks events = record { turn = turn; servers = 1; clients = 1; volume = volume; tasks = tasks; events = events }
 
 one_word : AreWords (decimal 1 ∷ [])
 one_word = (number_word 1 (lit< tt), tt)
 
-cell_told : (r : Reading) → cell_line r (decimal 1 ∷ []) ≡ Ok r
+cell_told : (r : LinesRead) → cell_line r (decimal 1 ∷ []) ≡ Ok r
 unfolding cell_line ended
 cell_told r = rw (number_again 1 1 1 [] (lit< tt) (lit≤ tt) (lit≤ tt)) refl
 
-cell_step : (r : Reading) → r.turn ≡ 0 → Step r (spaced (codes "cell") (decimal 1 ∷ [])) (record r { turn = 1 })
+cell_step : (r : LinesRead) → r.turn ≡ 0 → Step r (spaced (codes "cell") (decimal 1 ∷ [])) (record r { turn = 1 })
 unfolding first_word
 cell_step r e = line_step r (record r { turn = 1 }) (codes "cell") words.Cell (decimal 1 ∷ []) refl (omega arith) refl refl one_word (ap has_ended e) (ap (λ (t : ℕ). is_due t words.Cell) e) refl (cell_told (record r { turn = 1 }))
 
-servers_told : (r : Reading) → servers_line r (decimal 1 ∷ []) ≡ Ok (record r { servers = 1 })
+servers_told : (r : LinesRead) → servers_line r (decimal 1 ∷ []) ≡ Ok (record r { servers = 1 })
 unfolding servers_line ended
 servers_told r = rw (number_again 1 8 1 [] (lit< tt) (lit≤ tt) (lit≤ tt)) refl
 
-servers_step : (r : Reading) → r.turn ≡ 1 → Step r (spaced (codes "servers") (decimal 1 ∷ [])) (record r { turn = 2; servers = 1 })
+servers_step : (r : LinesRead) → r.turn ≡ 1 → Step r (spaced (codes "servers") (decimal 1 ∷ [])) (record r { turn = 2; servers = 1 })
 unfolding first_word
 servers_step r e = line_step r (record r { turn = 2; servers = 1 }) (codes "servers") words.Servers (decimal 1 ∷ []) refl (omega arith) refl refl one_word (ap has_ended e) (ap (λ (t : ℕ). is_due t words.Servers) e) refl (servers_told (record r { turn = 2 }))
 
-clients_told : (r : Reading) → clients_line r (decimal 1 ∷ []) ≡ Ok (record r { clients = 1 })
+clients_told : (r : LinesRead) → clients_line r (decimal 1 ∷ []) ≡ Ok (record r { clients = 1 })
 unfolding clients_line ended
 clients_told r = rw (number_again 0 16 1 [] (lit< tt) (lit≤ tt) (lit≤ tt)) refl
 
-clients_step : (r : Reading) → r.turn ≡ 2 → Step r (spaced (codes "clients") (decimal 1 ∷ [])) (record r { turn = 3; clients = 1 })
+clients_step : (r : LinesRead) → r.turn ≡ 2 → Step r (spaced (codes "clients") (decimal 1 ∷ [])) (record r { turn = 3; clients = 1 })
 unfolding first_word
 clients_step r e = line_step r (record r { turn = 3; clients = 1 }) (codes "clients") words.Clients (decimal 1 ∷ []) refl (omega arith) refl refl one_word (ap has_ended e) (ap (λ (t : ℕ). is_due t words.Clients) e) refl (clients_told (record r { turn = 3 }))
 
@@ -216,8 +216,8 @@ six_after : (tasks : List Task) → turn_after 6 tasks ≡ 6
 six_after [] = refl
 six_after (task ∷ tasks) = refl
 
-leads_to : (lines : List (List ℕ)) (r s t : Reading) → Leads r lines s → s ≡ t → Leads r lines t
-leads_to lines r s t h e = let P : Reading → Type 0 = λ q. Leads r lines q in subst P e h
+leads_to : (lines : List (List ℕ)) (r s t : LinesRead) → Leads r lines s → s ≡ t → Leads r lines t
+leads_to lines r s t h e = let P : LinesRead → Type 0 = λ q. Leads r lines q in subst P e h
 
 nil_right : {A : Type 0} (xs : List A) → xs ++ [] ≡ xs
 nil_right [] = refl
@@ -237,7 +237,7 @@ filling_after : (tasks : List Task) (turn : ℕ) → Filling turn → Filling (t
 filling_after [] turn h = h
 filling_after (task ∷ tasks) turn h = record { due = refl; going = refl }
 
-bare_told : (r : Reading) → bare_line r [] ≡ Ok r
+bare_told : (r : LinesRead) → bare_line r [] ≡ Ok r
 unfolding bare_line ended
 bare_told r = refl
 
@@ -299,17 +299,17 @@ filling_of : (lines : List SetupLine) → Filling (turn_of lines)
 filling_of [] = record { due = refl; going = refl }
 filling_of (line ∷ lines) = record { due = refl; going = refl }
 
-abbrev okay : Reading → Result Reading (ℕ × Reason)
+abbrev okay : LinesRead → Result LinesRead (ℕ × Reason)
 okay r = Ok r
 
-leads_read : (lines : List (List ℕ)) (r t : Reading) (number room : ℕ) → Leads r lines t → number + length lines ≤ 200000 → AreShort lines → length (closed lines) ≤ room → (list_all (is_part 10) lines ≡ true) × (lines_read r number room lines ≡ Ok t)
-leads_read [] r t number room h few short size = (refl, ap (λ (q : Reading). okay q) h)
+leads_read : (lines : List (List ℕ)) (r t : LinesRead) (number room : ℕ) → Leads r lines t → number + length lines ≤ 200000 → AreShort lines → length (closed lines) ≤ room → (list_all (is_part 10) lines ≡ true) × (lines_read r number room lines ≡ Ok t)
+leads_read [] r t number room h few short size = (refl, ap (λ (q : LinesRead). okay q) h)
 leads_read (line ∷ lines) r t number room h few short size =
     let long = length-append line (10 ∷ closed lines) in
     let good = good_line r h.0 (number + 1) room line h.1 (let z : length line < room = omega (arith, long, size) in z) (let z : number + 1 ≤ 200000 = omega (arith, few) in z) short.0 in
     let others = leads_read lines h.0 t (number + 1) (room - (length line + 1)) h.2 (let z : number + 1 + length lines ≤ 200000 = omega (arith, few) in z) short.1 (let z : length (closed lines) ≤ room - (length line + 1) = omega (arith, long, size) in z) in (
       both_true (is_part 10 line) (list_all (is_part 10) lines) h.1.one others.0,
-      ap (λ (o : Result Reading Reason). at_line (number + 1) o >>= (λ (q : Reading). lines_read q (number + 1) (room - (length line + 1)) lines)) good ∙ others.1,
+      ap (λ (o : Result LinesRead Reason). at_line (number + 1) o >>= (λ (q : LinesRead). lines_read q (number + 1) (room - (length line + 1)) lines)) good ∙ others.1,
     )
 
 last_told : (volume : Option VolumeLine) (tasks : List Task) (es : List Event) (number room : ℕ) → last_at (reading 8 volume tasks es) number room [] ≡ Ok (script_in (reading 8 volume tasks es))
@@ -324,10 +324,10 @@ unfolding laid_volume
 made_leads name quota lines tasks es good least most setup chores schedule =
     let v = laid_volume name quota lines in
     let start = nothing_read in
-    let first : Reading = record nothing_read { turn = 1 } in
-    let second : Reading = record nothing_read { turn = 2; servers = 1 } in
-    let third : Reading = reading 3 None [] [] in
-    let fourth : Reading = reading (turn_of lines) (Some (laid_volume name quota lines)) [] [] in
+    let first : LinesRead = record nothing_read { turn = 1 } in
+    let second : LinesRead = record nothing_read { turn = 2; servers = 1 } in
+    let third : LinesRead = reading 3 None [] [] in
+    let fourth : LinesRead = reading (turn_of lines) (Some (laid_volume name quota lines)) [] [] in
     let turn : ℕ = turn_after (turn_of lines) tasks in (
       first,
       cell_step nothing_read refl,
@@ -355,9 +355,9 @@ made_read : (name : List ℕ) (quota : ℕ) (lines : List SetupLine) (tasks : Li
 unfolding script_text
 made_read name quota lines tasks es good least most setup chores schedule limits =
     let text = script_lines (made name quota lines tasks es) in
-    let told = leads_read (script_lines (made name quota lines tasks es)) nothing_read (reading 8 (Some (laid_volume name quota lines)) tasks es) 0 16777216 (made_leads name quota lines tasks es good least most setup chores schedule) (omega (arith, limits.few)) limits.short limits.size in
+    let line_by_word = leads_read (script_lines (made name quota lines tasks es)) nothing_read (reading 8 (Some (laid_volume name quota lines)) tasks es) 0 16777216 (made_leads name quota lines tasks es good least most setup chores schedule) (omega (arith, limits.few)) limits.short limits.size in
     ap script_of (sym (nil_right (closed (script_lines (made name quota lines tasks es)))))
-    ∙ (last_line (script_lines (made name quota lines tasks es)) [] (reading 8 (Some (laid_volume name quota lines)) tasks es) told.0 refl told.1
+    ∙ (last_line (script_lines (made name quota lines tasks es)) [] (reading 8 (Some (laid_volume name quota lines)) tasks es) line_by_word.0 refl line_by_word.1
     ∙ ap (at_line (length (script_lines (made name quota lines tasks es)) + 1)) (last_told (Some (laid_volume name quota lines)) tasks es (length (script_lines (made name quota lines tasks es)) + 1) (room_behind 16777216 (script_lines (made name quota lines tasks es)))))
 
 abbrev parts_of : ℕ → ℕ → List VolumeLine → List Task → Option (List Event) → Script

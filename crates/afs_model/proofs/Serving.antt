@@ -36,10 +36,10 @@ use Rattle.afs_model.specs.Legal.{code_told, IsMade, Cause}
 use Rattle.afs_model.specs.Grants.{IsWithdrawn}
 use Rattle.afs_model.proofs.Basics.{Below, UpTo, Above, Each, IfCall, IfReply, OfReply}
 use Rattle.afs_model.specs.Runs.{server_moves}
-use Rattle.afs_model.specs.ServerRow.{Standing, is_older, is_last, is_newer, standing, seated, stored, with_file, promise_ticks, Decision, drops, tells_boot, repeats, refuses, grants, saves, no_file, fetches, stores, asks, runs, answers_again, admits, called, hears, reply_head, replied, boot_told, refusal, fetched_reply, stored_reply, told, does, server_row}
+use Rattle.afs_model.specs.ServerRow.{Standing, is_older, is_last, is_newer, standing, seated, stored, with_file, promise_ticks, Decision, drops, tells_boot, repeats, refuses, grants, saves, no_file, fetches, stores, asks, runs, answers_again, admits, called, hears, reply_head, replied, boot_told, refusal, fetched_reply, stored_reply, sends_step, does, server_row}
 use Rattle.afs_model.specs.Ideal.{is_number}
 use Rattle.afs_model.proofs.Basics.{both, same_fid-true, same_fid-refl, apart, same_node-true, client_number, up_to_below, below_up_to, below_not, up_to_same, newer_above, not_newer, LastSeat, last_seat, own_seat, at_seat, found-fid, found-with_file, OfCall, each_map, each_at, if_call, if_reply, raised_up_to, some_of}
-use Rattle.afs_model.proofs.Facts.{View, view_of, view, LastRan, Reached, index_of, Stands, IsCurrent, HasCurrent, Fits, Answers, IsReply, KeptReply, ClientFacts, CallFact, CallIn, ReplyFact, ReplyIn, Origin, HasLast, AreHome, AreNew, AreUnheard, HasTop, stored_index, Holds, Goes}
+use Rattle.afs_model.proofs.Facts.{View, view_of, view, LastRan, Reached, index_of, Stands, IsCurrent, HasCurrent, Fits, Answers, IsReply, KeptReply, ClientFacts, CallFact, CallIn, ReplyFact, ReplyIn, Origin, HasLast, AreHome, AreNew, AreUnheard, HasTop, stored_index, HoldsAt, Goes}
 use Rattle.afs_model.proofs.Passing.{PassesFile, PassesAct, PassesReach, StaysNewest, stays, current_over, reached_more, client_over, client_still, News, more_sent}
 
 -- ---- a message that runs nothing
@@ -51,7 +51,7 @@ Dull seats boot m = (k : Key) → IsCallUnder k boot (Some m) → Above (seat_of
 unheard_over : (seats : List Seat) (boot : ℕ) (e : Entry) (past : List Entry) (m : Message) → given_message e.lines (sent_of past) ≡ Some m → Dull seats boot m → AreUnheard seats boot past → AreUnheard seats boot (e ∷ past)
 unheard_over seats boot e past m at d h k above = (λ x. d k (subst (λ (o : Option Message). IsCallUnder k boot o) at x) above, h k above)
 
-at_told : (s : Script) (c : Cell) (past : List Entry) (p : ℕ) (m : Message) → Holds s c past → message_at c.sent p ≡ Some m → message_at (sent_of past) p ≡ Some m
+at_told : (s : Script) (c : Cell) (past : List Entry) (p : ℕ) (m : Message) → HoldsAt s c past → message_at c.sent p ≡ Some m → message_at (sent_of past) p ≡ Some m
 at_told s c past p m h at = ap (λ (ms : List Message). message_at ms p) h.sent.told ∙ at
 
 -- what no line of a version, a read or an answer touches
@@ -64,10 +64,10 @@ told_reach j p f o ms past i h = record { made = h.made; seen = h.seen }
 pub told_act : (j p : ℕ) (o : Option Node) (ms : List Message) (past : List Entry) → PassesAct j (record { node = o; lines = lines.Given p ∷ []; sent = ms }) past
 told_act j p o ms past = record { runs = λ l. refl; begins = refl }
 
-quiet : (s : Script) (c : Cell) (past : List Entry) (p : ℕ) (m : Message) (ms : List Message) → Holds s c past → message_at c.sent p ≡ Some m → Dull c.server.seats c.server.boot m
-    → ((past' : List Entry) → News ms (view c) past') → Goes s past (server_moves c (told c.server p ms))
+quiet : (s : Script) (c : Cell) (past : List Entry) (p : ℕ) (m : Message) (ms : List Message) → HoldsAt s c past → message_at c.sent p ≡ Some m → Dull c.server.seats c.server.boot m
+    → ((past' : List Entry) → News ms (view c) past') → Goes s past (server_moves c (sends_step c.server p ms))
 quiet s c past p m ms h at d n =
-    let e : Entry = (server_moves c (told c.server p ms)).entry in
+    let e : Entry = (server_moves c (sends_step c.server p ms)).entry in
     record {
       good = (tt, tt);
       holds = record {
@@ -140,11 +140,11 @@ reply_after c n h r m j a f = at_seat (taken n h r) (Client j) c.server.seats (�
     record { seat = taken n h r; at = refl; behind = below_up_to _ _ _ _ b; kept = λ x y. absurd (below_not _ _ _ _ b (up_to_same _ _ _ _ (sym x) (sym y))) })
     (λ ne. f)
 
-replies_after : (s : Script) (c : Cell) (past : List Entry) (n : ℕ) (h : Head) (r : Message) → Holds s c past → Above (seat_of (Client n) c.server.seats) h.epoch h.number → Each (IfReply (ReplyIn (views_after c n h r))) c.sent
+replies_after : (s : Script) (c : Cell) (past : List Entry) (n : ℕ) (h : Head) (r : Message) → HoldsAt s c past → Above (seat_of (Client n) c.server.seats) h.epoch h.number → Each (IfReply (ReplyIn (views_after c n h r))) c.sent
 replies_after s c past n h r H a = each_map (IfReply (ReplyIn (view c))) (IfReply (ReplyIn (views_after c n h r)))
     (if_reply (ReplyIn (view c)) (ReplyIn (views_after c n h r)) (λ m f. record { client = f.client; to = f.to; fact = reply_after c n h r m f.client a f.fact })) c.sent H.sent.replies
 
-calls_after : (s : Script) (c : Cell) (past : List Entry) (n : ℕ) (h : Head) (r : Message) → Holds s c past → Above (seat_of (Client n) c.server.seats) h.epoch h.number → Each (IfCall (CallIn (views_after c n h r))) c.sent
+calls_after : (s : Script) (c : Cell) (past : List Entry) (n : ℕ) (h : Head) (r : Message) → HoldsAt s c past → Above (seat_of (Client n) c.server.seats) h.epoch h.number → Each (IfCall (CallIn (views_after c n h r))) c.sent
 calls_after s c past n h r H a = each_map (IfCall (CallIn (view c))) (IfCall (CallIn (views_after c n h r)))
     (if_call (CallIn (view c)) (CallIn (views_after c n h r)) (λ head user call f. record {
       client = f.client;
@@ -153,10 +153,10 @@ calls_after s c past n h r H a = each_map (IfCall (CallIn (view c))) (IfCall (Ca
       fact = record { behind = f.fact.behind; own = f.fact.own; safe = λ b. f.fact.safe (above_before c n h r (Client f.client) head.epoch head.number a b) };
     })) c.sent H.sent.calls
 
-new_after : (s : Script) (c : Cell) (past : List Entry) (n : ℕ) (h : Head) (r : Message) → Holds s c past → Above (seat_of (Client n) c.server.seats) h.epoch h.number → AreNew (seats_after c n h r) (lines_of past)
+new_after : (s : Script) (c : Cell) (past : List Entry) (n : ℕ) (h : Head) (r : Message) → HoldsAt s c past → Above (seat_of (Client n) c.server.seats) h.epoch h.number → AreNew (seats_after c n h r) (lines_of past)
 new_after s c past n h r H a k b = H.new k (above_before c n h r k.node k.epoch k.number a b)
 
-unheard_after : (s : Script) (c : Cell) (past : List Entry) (p n : ℕ) (h : Head) (user : List ℕ) (act : Act) (r : Message) (e : Entry) → Holds s c past → Now c past p n h user act → given_message e.lines (sent_of past) ≡ message_at (sent_of past) p → AreUnheard (seats_after c n h r) c.server.boot (e ∷ past)
+unheard_after : (s : Script) (c : Cell) (past : List Entry) (p n : ℕ) (h : Head) (user : List ℕ) (act : Act) (r : Message) (e : Entry) → HoldsAt s c past → Now c past p n h user act → given_message e.lines (sent_of past) ≡ message_at (sent_of past) p → AreUnheard (seats_after c n h r) c.server.boot (e ∷ past)
 unheard_after s c past p n h user act r e H w is = unheard_over (seats_after c n h r) c.server.boot e past (call_at n h user act) (is ∙ at_told s c past p _ H w.at) (dull_after c n h r user act)
     (λ k b. H.unheard k (above_before c n h r k.node k.epoch k.number w.above b))
 
@@ -168,7 +168,7 @@ reply_now c n h r to e k = record {
 }
 
 -- the entry ran the call
-abbrev ran_now : (s : Script) (c : Cell) (past : List Entry) (p n : ℕ) (h : Head) (user : List ℕ) (act : Act) (e : Entry) → Holds s c past → Now c past p n h user act → given_message e.lines (sent_of past) ≡ message_at (sent_of past) p → e.node ≡ Some the_server
+abbrev ran_now : (s : Script) (c : Cell) (past : List Entry) (p n : ℕ) (h : Head) (user : List ℕ) (act : Act) (e : Entry) → HoldsAt s c past → Now c past p n h user act → given_message e.lines (sent_of past) ≡ message_at (sent_of past) p → e.node ≡ Some the_server
     → Ran (reply_head c.server.boot (client_head n h)) (e ∷ past)
 ran_now s c past p n h user act e H w is at = record {
   newer = [];
@@ -201,7 +201,7 @@ pub same_act : (a b : Act) → asked a ≡ asked b → a ≡ b
 same_act a b e = sym (act_again a) ∙ (ap act_of e ∙ act_again b)
 
 -- the reply has the code of the ideal operation
-cause_now : (s : Script) (c : Cell) (past : List Entry) (p n : ℕ) (h : Head) (user : List ℕ) (act : Act) (x : Carried) (code : ℤ) (e : Entry) → Holds s c past → Now c past p n h user act → given_message e.lines (sent_of past) ≡ message_at (sent_of past) p → e.node ≡ Some the_server
+cause_now : (s : Script) (c : Cell) (past : List Entry) (p n : ℕ) (h : Head) (user : List ℕ) (act : Act) (x : Carried) (code : ℤ) (e : Entry) → HoldsAt s c past → Now c past p n h user act → given_message e.lines (sent_of past) ≡ message_at (sent_of past) p → e.node ≡ Some the_server
     → HasCode x → code_told x ≡ Some code → (op user (asked act) (lines_of past)).code ≡ code → IsMade (called_key (client_head n h)) (op user (asked act) (lines_of past)).versions (lines_of (e ∷ past))
     → Cause (replied c.server.boot (client_head n h) x) code act (e ∷ past) []
 cause_now s c past p n h user act x code e H w is at has told gives made = record {
@@ -218,7 +218,7 @@ cause_now s c past p n h user act x code e H w is at has told gives made = recor
 }
 
 -- the caller, after its call ran; what its entries and its reply are is given
-caller_after : (s : Script) (c : Cell) (past : List Entry) (p n : ℕ) (h : Head) (user : List ℕ) (act : Act) (r : Message) (e : Entry) → Holds s c past → Now c past p n h user act
+caller_after : (s : Script) (c : Cell) (past : List Entry) (p n : ℕ) (h : Head) (user : List ℕ) (act : Act) (r : Message) (e : Entry) → HoldsAt s c past → Now c past p n h user act
     → PassesAct n e past → KeptReply n (taken n h r) r → Answers n act r (e ∷ past)
     → HasCurrent n (seated_view c n (Some (taken n h r))) (e ∷ past)
     → ((f : Fid) → Reached (Client n) f (index_of (last_version f (lines_of (e ∷ past)))) (e ∷ past))
@@ -287,7 +287,7 @@ none_has f i b (lines.Void ∷ ls) e s = none_has f i b ls e s
 
 -- ---- the caller's entries where its call changed nothing: none is overtaken by a store of its own
 
-current_same : (s : Script) (c : Cell) (past : List Entry) (p n : ℕ) (h : Head) (user : List ℕ) (act : Act) (r : Message) (e : Entry) → Holds s c past → Now c past p n h user act
+current_same : (s : Script) (c : Cell) (past : List Entry) (p n : ℕ) (h : Head) (user : List ℕ) (act : Act) (r : Message) (e : Entry) → HoldsAt s c past → Now c past p n h user act
     → ((f : Fid) → PassesFile n f e past) → ((f : Fid) → PassesReach n f e past) → ((f : Fid) → last_version f (lines_of (e ∷ past)) ≡ last_version f (lines_of past))
     → ((f : Fid) (y : List ℕ) → act ≡ Close f y → last_version f (lines_of past) ≡ None)
     → HasCurrent n (seated_view c n (Some (taken n h r))) (e ∷ past)
@@ -302,7 +302,7 @@ current_same s c past p n h user act r e H w pass reach_pass l none f u found la
       | inr o ↦ absurd (not_ran (view c n) h.epoch h.number w.above w.fact.behind o.ran)
     ]) cur
 
-pub reached_still : (s : Script) (c : Cell) (past : List Entry) (j : ℕ) (e : Entry) → Holds s c past → ((f : Fid) → PassesReach j f e past) → ((f : Fid) → last_version f (lines_of (e ∷ past)) ≡ last_version f (lines_of past))
+pub reached_still : (s : Script) (c : Cell) (past : List Entry) (j : ℕ) (e : Entry) → HoldsAt s c past → ((f : Fid) → PassesReach j f e past) → ((f : Fid) → last_version f (lines_of (e ∷ past)) ≡ last_version f (lines_of past))
     → (f : Fid) → Reached (Client j) f (index_of (last_version f (lines_of (e ∷ past)))) (e ∷ past)
 reached_still s c past j e H r l f = subst (λ (o : Option Version). Reached (Client j) f (index_of o) (e ∷ past)) (sym (l f)) (r f (index_of (last_version f (lines_of past))) ((H.clients j).reached f))
 
@@ -330,7 +330,7 @@ refusal_makes k user (Close f contents) ls own e = rw (whole_file contents, e) t
 none_close : (act : Act) (ls : List Line) → none_of ls act → (f : Fid) (y : List ℕ) → act ≡ Close f y → last_version f ls ≡ None
 none_close act ls none f y e = subst (λ (a : Act). none_of ls a) e none
 
-refuses_goes : (s : Script) (c : Cell) (past : List Entry) (p n : ℕ) (h : Head) (user : List ℕ) (act : Act) → Holds s c past → Now c past p n h user act → none_of (lines_of past) act → Goes s past (server_moves c (does the_server c.server c.clock p (refuses (client_head n h) no_file)))
+refuses_goes : (s : Script) (c : Cell) (past : List Entry) (p n : ℕ) (h : Head) (user : List ℕ) (act : Act) → HoldsAt s c past → Now c past p n h user act → none_of (lines_of past) act → Goes s past (server_moves c (does the_server c.server c.clock p (refuses (client_head n h) no_file)))
 refuses_goes s c past p n h user act H w none =
     let r : Message = refusal c.server.boot (client_head n h) no_file in
     let e : Entry = record { node = Some the_server; lines = lines.Given p ∷ []; sent = r ∷ [] } in
@@ -367,10 +367,10 @@ grants_reach j p server c' g i x o ms past f k h = record { made = h.made; seen 
 grants_act : (j p : ℕ) (server c' : Node) (g : Fid) (i x : ℕ) (o : Option Node) (ms : List Message) (past : List Entry) → PassesAct j (record { node = o; lines = lines.Given p ∷ lines.Grant server c' g i x ∷ []; sent = ms }) past
 grants_act j p server c' g i x o ms past = record { runs = λ l. refl; begins = refl }
 
-reached_at : (s : Script) (c : Cell) (past : List Entry) (j : ℕ) (f : Fid) (v : Version) → Holds s c past → last_version f (lines_of past) ≡ Some v → Reached (Client j) f v.index past
+reached_at : (s : Script) (c : Cell) (past : List Entry) (j : ℕ) (f : Fid) (v : Version) → HoldsAt s c past → last_version f (lines_of past) ≡ Some v → Reached (Client j) f v.index past
 reached_at s c past j f v H e = subst (λ (o : Option Version). Reached (Client j) f (index_of o) past) e ((H.clients j).reached f)
 
-grants_goes : (s : Script) (c : Cell) (past : List Entry) (p n : ℕ) (h : Head) (user : List ℕ) (file : StoredFile) → Holds s c past → Now c past p n h user (Open file.fid) → find_file file.fid c.server.files ≡ Some file
+grants_goes : (s : Script) (c : Cell) (past : List Entry) (p n : ℕ) (h : Head) (user : List ℕ) (file : StoredFile) → HoldsAt s c past → Now c past p n h user (Open file.fid) → find_file file.fid c.server.files ≡ Some file
     → Goes s past (server_moves c (does the_server c.server c.clock p (grants (client_head n h) file)))
 grants_goes s c past p n h user file H w found =
     let x : ℕ = c.clock + promise_ticks in
@@ -518,7 +518,7 @@ top_by false w v g i b ls t at le top (inr x) = top g i b x
 not_there : (o : Option CacheEntry) (u : CacheEntry) → o ≡ Some u → o ≡ None → ⊥
 not_there o u a b = absurd cc
 
-saves_goes : (s : Script) (c : Cell) (past : List Entry) (p n : ℕ) (h : Head) (user : List ℕ) (b : List ℕ) (file : StoredFile) → Holds s c past → Now c past p n h user (Close file.fid b) → find_file file.fid c.server.files ≡ Some file
+saves_goes : (s : Script) (c : Cell) (past : List Entry) (p n : ℕ) (h : Head) (user : List ℕ) (b : List ℕ) (file : StoredFile) → HoldsAt s c past → Now c past p n h user (Close file.fid b) → find_file file.fid c.server.files ≡ Some file
     → Goes s past (server_moves c (does the_server c.server c.clock p (saves (client_head n h) b file)))
 saves_goes s c past p n h user b file H w found =
     let act : Act = Close file.fid b in
@@ -633,15 +633,15 @@ at_fid c past p n h user act f file found w = subst (λ (x : Fid). Now c past p 
 own_found : (c : Cell) (f : Fid) (file : StoredFile) → find_file f c.server.files ≡ Some file → find_file file.fid c.server.files ≡ Some file
 own_found c f file found = ap (λ (x : Fid). find_file x c.server.files) (same_fid-true file.fid f (found-fid f c.server.files file found)) ∙ found
 
-fetches_just : (s : Script) (c : Cell) (past : List Entry) (p n : ℕ) (h : Head) (user : List ℕ) (f : Fid) (o : Option StoredFile) → Holds s c past → Now c past p n h user (Open f) → find_file f c.server.files ≡ o → IsJust c past p (fetches (client_head n h) o)
+fetches_just : (s : Script) (c : Cell) (past : List Entry) (p n : ℕ) (h : Head) (user : List ℕ) (f : Fid) (o : Option StoredFile) → HoldsAt s c past → Now c past p n h user (Open f) → find_file f c.server.files ≡ o → IsJust c past p (fetches (client_head n h) o)
 fetches_just s c past p n h user f None H w found = record { act = Open f; due = due c past p n h user (Open f) w; none = last_none f c.server.files (lines_of past) found H.files; is = refl }
 fetches_just s c past p n h user f (Some file) H w found = record { due = due c past p n h user (Open file.fid) (at_fid c past p n h user Open f file found w); found = own_found c f file found }
 
-stores_just : (s : Script) (c : Cell) (past : List Entry) (p n : ℕ) (h : Head) (user : List ℕ) (f : Fid) (b : List ℕ) (o : Option StoredFile) → Holds s c past → Now c past p n h user (Close f b) → find_file f c.server.files ≡ o → IsJust c past p (stores (client_head n h) b o)
+stores_just : (s : Script) (c : Cell) (past : List Entry) (p n : ℕ) (h : Head) (user : List ℕ) (f : Fid) (b : List ℕ) (o : Option StoredFile) → HoldsAt s c past → Now c past p n h user (Close f b) → find_file f c.server.files ≡ o → IsJust c past p (stores (client_head n h) b o)
 stores_just s c past p n h user f b None H w found = record { act = Close f b; due = due c past p n h user (Close f b) w; none = last_none f c.server.files (lines_of past) found H.files; is = refl }
 stores_just s c past p n h user f b (Some file) H w found = record { due = due c past p n h user (Close file.fid b) (at_fid c past p n h user (λ x. Close x b) f file found w); found = own_found c f file found }
 
-runs_just : (s : Script) (c : Cell) (past : List Entry) (p n : ℕ) (h : Head) (user : List ℕ) (act : Act) → Holds s c past → Now c past p n h user act → IsJust c past p (runs c.server.files (client_head n h) (asks (asked act)))
+runs_just : (s : Script) (c : Cell) (past : List Entry) (p n : ℕ) (h : Head) (user : List ℕ) (act : Act) → HoldsAt s c past → Now c past p n h user act → IsJust c past p (runs c.server.files (client_head n h) (asks (asked act)))
 runs_just s c past p n h user (Open f) H w = fetches_just s c past p n h user f (find_file f c.server.files) H w refl
 runs_just s c past p n h user (Close f b) H w = stores_just s c past p n h user f b (find_file f c.server.files) H w refl
 
@@ -659,14 +659,14 @@ again_just : (c : Cell) (past : List Entry) (p n : ℕ) (h : Head) (r : Option M
 again_just c past p n h None i l = i
 again_just c past p n h (Some reply) i l = (i, record { client = n; seat = l.seat; at = l.at; kept = sym l.reply })
 
-admits_just : (s : Script) (c : Cell) (past : List Entry) (p n : ℕ) (h : Head) (user : List ℕ) (act : Act) (o : Standing) → Holds s c past → message_at c.sent p ≡ Some (call_at n h user act) → h.boot ≡ c.server.boot
+admits_just : (s : Script) (c : Cell) (past : List Entry) (p n : ℕ) (h : Head) (user : List ℕ) (act : Act) (o : Standing) → HoldsAt s c past → message_at c.sent p ≡ Some (call_at n h user act) → h.boot ≡ c.server.boot
     → CallFact (view c n) (client_head n h) (asked act) → Origin past (client_head n h) user (asked act) → standing (client_head n h) (seat_of (Client n) c.server.seats) ≡ o → IsJust c past p (admits c.server.files (client_head n h) (asks (asked act)) o)
 admits_just s c past p n h user act is_older H at boot f from e = record { message = call_at n h user act; at = at; dull = dull_old c n h user act (λ x. older_not (sym e ∙ x)) }
 admits_just s c past p n h user act (is_last r) H at boot f from e =
     again_just c past p n h r (record { message = call_at n h user act; at = at; dull = dull_old c n h user act (λ x. last_not r (sym e ∙ x)) }) (last_seat (client_head n h) (seat_of (Client n) c.server.seats) r e)
 admits_just s c past p n h user act is_newer H at boot f from e = runs_just s c past p n h user act H (record { at = at; boot = boot; above = newer_above (client_head n h) (seat_of (Client n) c.server.seats) e; fact = f; origin = from })
 
-booted_just : (s : Script) (c : Cell) (past : List Entry) (p n : ℕ) (h : Head) (user : List ℕ) (act : Act) (b : Bool) → Holds s c past → message_at c.sent p ≡ Some (call_at n h user act) → nat_eq h.boot c.server.boot ≡ b
+booted_just : (s : Script) (c : Cell) (past : List Entry) (p n : ℕ) (h : Head) (user : List ℕ) (act : Act) (b : Bool) → HoldsAt s c past → message_at c.sent p ≡ Some (call_at n h user act) → nat_eq h.boot c.server.boot ≡ b
     → CallFact (view c n) (client_head n h) (asked act) → Origin past (client_head n h) user (asked act)
     → IsJust c past p (cond b (admits c.server.files (client_head n h) (asks (asked act)) (standing (client_head n h) (seat_of (Client n) c.server.seats))) (tells_boot (client_head n h)))
 booted_just s c past p n h user act true H at boot f from = admits_just s c past p n h user act (standing (client_head n h) (seat_of (Client n) c.server.seats)) H at (eqb-true h.boot c.server.boot boot) f from refl
@@ -676,7 +676,7 @@ booted_just s c past p n h user act false H at boot f from = record { message = 
 is_client_head : (n : ℕ) (h : Head) → h.from ≡ Client n → h.to ≡ the_server → h ≡ client_head n h
 is_client_head n h from to = ap (λ (x : Node). record h { from = x }) from ∙ ap (λ (x : Node). record h { from = Client n; to = x }) to
 
-called_just : (s : Script) (c : Cell) (past : List Entry) (p : ℕ) (head : Head) (user : List ℕ) (call : FsCall) → Holds s c past → message_at c.sent p ≡ Some (record { head = head; carried = carried.Call user call }) → CallIn (view c) head user call → Origin past head user call
+called_just : (s : Script) (c : Cell) (past : List Entry) (p : ℕ) (head : Head) (user : List ℕ) (call : FsCall) → HoldsAt s c past → message_at c.sent p ≡ Some (record { head = head; carried = carried.Call user call }) → CallIn (view c) head user call → Origin past head user call
     → IsJust c past p (called the_server c.server head (asks call))
 called_just s c past p head user call H at f from =
     let n : ℕ = f.client in
@@ -690,7 +690,7 @@ called_just s c past p head user call H at f from =
     (subst (λ (x : FsCall). CallFact (view c n) (client_head n head) x) own (subst (λ (x : Head). CallFact (view c n) x call) is f.fact))
     (subst (λ (x : FsCall). Origin past (client_head n head) user x) own (subst (λ (x : Head). Origin past x user call) is from))))
 
-hears_just : (s : Script) (c : Cell) (past : List Entry) (p : ℕ) (head : Head) (x : Carried) → Holds s c past → message_at c.sent p ≡ Some (record { head = head; carried = x }) → OfCall (CallIn (view c)) head x → OfCall (Origin past) head x → IsJust c past p (hears the_server c.server head x)
+hears_just : (s : Script) (c : Cell) (past : List Entry) (p : ℕ) (head : Head) (x : Carried) → HoldsAt s c past → message_at c.sent p ≡ Some (record { head = head; carried = x }) → OfCall (CallIn (view c)) head x → OfCall (Origin past) head x → IsJust c past p (hears the_server c.server head x)
 hears_just s c past p head (carried.Call user call) H at f from = called_just s c past p head user call H at f from
 hears_just s c past p head (carried.Refusal code) H at f from = record { message = _; at = at; dull = λ k y above. y.0 }
 hears_just s c past p head (carried.Reply reply) H at f from = record { message = _; at = at; dull = λ k y above. y.0 }
@@ -710,7 +710,7 @@ no_call P head (carried.Refusal code) r = tt
 no_call P head (carried.Reply reply) r = tt
 no_call P head carried.Notice r = tt
 
-repeated : (s : Script) (c : Cell) (past : List Entry) (reply : Message) (past' : List Entry) → Holds s c past → IsKept c reply → News (reply ∷ []) (view c) past'
+repeated : (s : Script) (c : Cell) (past : List Entry) (reply : Message) (past' : List Entry) → HoldsAt s c past → IsKept c reply → News (reply ∷ []) (view c) past'
 repeated s c past reply past' H k =
     let d : KeptReply k.client k.seat reply = (H.clients k.client).kept k.seat reply k.at k.kept in
     record {
@@ -726,7 +726,7 @@ repeated s c past reply past' H k =
       origins = (no_call (Origin past') reply.head reply.carried d.is_reply, tt);
     }
 
-does_goes : (s : Script) (c : Cell) (past : List Entry) (p : ℕ) (d : Decision) → Holds s c past → IsJust c past p d → Goes s past (server_moves c (does the_server c.server c.clock p d))
+does_goes : (s : Script) (c : Cell) (past : List Entry) (p : ℕ) (d : Decision) → HoldsAt s c past → IsJust c past p d → Goes s past (server_moves c (does the_server c.server c.clock p d))
 does_goes s c past p drops H j = quiet s c past p j.message [] H j.at j.dull (λ x. record { calls = tt; replies = tt; origins = tt })
 does_goes s c past p (tells_boot head) H j = quiet s c past p j.message (boot_told c.server.boot head ∷ []) H j.at j.dull (λ x. record { calls = (tt, tt); replies = (tt, tt); origins = (tt, tt) })
 does_goes s c past p (repeats reply) H j = quiet s c past p j.0.message (reply ∷ []) H j.0.at j.0.dull (λ x. repeated s c past reply x H j.1)
@@ -741,7 +741,7 @@ does_goes s c past p (saves head contents file) H j =
     subst (λ (x : Head). Goes s past (server_moves c (does the_server c.server c.clock p (saves x contents file)))) (sym j.due.from)
     (saves_goes s c past p j.due.client head j.due.user contents file H j.due.now j.found)
 
-pub server_goes : (s : Script) (c : Cell) (past : List Entry) (p : ℕ) (m : Message) → Holds s c past → message_at c.sent p ≡ Some m → Goes s past (server_moves c (server_row the_server c.server c.clock p (Whole m)))
+pub server_goes : (s : Script) (c : Cell) (past : List Entry) (p : ℕ) (m : Message) → HoldsAt s c past → message_at c.sent p ≡ Some m → Goes s past (server_moves c (server_row the_server c.server c.clock p (Whole m)))
 unfolding server_row
 server_goes s c past p m H at = does_goes s c past p (hears the_server c.server m.head m.carried) H
     (hears_just s c past p m.head m.carried H at (each_at (IfCall (CallIn (view c))) c.sent p m at H.sent.calls) (each_at (IfCall (Origin past)) c.sent p m at H.sent.origins))

@@ -26,15 +26,15 @@ use Rattle.afs_shape.specs.Tables.{kinds_in, AreOf, AreInRange}
 use Rattle.afs_shape.proofs.Codecs.{IsBytes, opaque_codec, signed_codec}
 use Rattle.afs_shape.proofs.FieldLaws.{bind_ok, in_place_ok, shape_ok_is, fields_again}
 use Rattle.afs_model.specs.Heads.{user_limit, head_words, head_at, signed, is_zero, IsSoundHead, FitsHead}
-use Rattle.afs_model.specs.FsRows.{call_rows, reply_rows, call_number, call_fields, reply_number, reply_fields, HasRow, IsCall, IsReply, call_bytes, reply_bytes, row_at, asked_parts_at, last_fields_at}
+use Rattle.afs_model.specs.FsRows.{call_rows, reply_rows, call_number, call_fields, reply_number, reply_fields, HasRow, IsCall, IsReply, call_bytes, reply_bytes, row_at, asked_parts_at, fields_to_end_at}
 use Rattle.afs_model.specs.SpellingLaws.{CallsAreFound, RepliesAreFound, RefusalsAreFound, RowsMakeCalls, RowsMakeReplies}
 use Rattle.afs_model.specs.FsMaking.{call_of, reply_of}
-use Rattle.afs_model.specs.Messages.{carried_bytes, spelled, as_call, as_reply, asked_at, answer_at, refusal_at, replied_at, notice_at, found_call, found_answer, behind, behind_head, received, IsSound, IsSoundMessage, IsSoundCarried, IsInRange, Fits}
+use Rattle.afs_model.specs.Messages.{carried_bytes, spelled, as_call, as_reply, asked_at, answer_at, refusal_at, replied_at, notice_at, found_call, found_answer, read_body, read_behind_head, received, IsSoundReceived, HasSpelling, IsSoundCarried, IsInRange, FitsMessage}
 use Rattle.afs_model.proofs.HeadLaws.{head_again, head_takes}
 use Rattle.afs_model.proofs.FsLaws.{found_row, row_ok, asked_parts_take, asked_parts_again, last_fields_take, last_fields_again}
 use Rattle.afs_model.proofs.FsMade.{call_again, reply_again, call_made, reply_made, some_is}
 
-fits_head : (m : Message) → Fits m → FitsHead m.head
+fits_head : (m : Message) → FitsMessage m → FitsHead m.head
 fits_head m fits = record { from = fits.sound.0.0; to = fits.sound.0.1; numbers = fits.numbers }
 
 -- ---- what is spelled is read again
@@ -64,13 +64,13 @@ notice_again : notice_at [] ≡ Ok carried.Notice
 unfolding notice_at
 notice_again = rw (last_fields_again [] [] tt tt) refl
 
-behind_again : (head : Head) (half : Half) (c : Carried) → IsSoundCarried half head.opcode c → IsInRange c → behind head half (carried_bytes c) ≡ Whole (record { head = head; carried = c })
+behind_again : (head : Head) (half : Half) (c : Carried) → IsSoundCarried half head.opcode c → IsInRange c → read_body head half (carried_bytes c) ≡ Whole (record { head = head; carried = c })
 behind_again head half (carried.Call user call) s r = rw (s.0, asked_again head.opcode user call s.1 s.2 s.3 r) refl
 behind_again head half (carried.Refusal code) s r = rw (s.0, refusal_again head.opcode code r s.1) refl
 behind_again head half (carried.Reply reply) s r = rw (s.0, answer_again head.opcode reply s.1 s.2 r) refl
 behind_again head half carried.Notice s r = rw (s, notice_again) refl
 
-pub message_again : (m : Message) → Fits m → received (spelled m) ≡ Whole m
+pub message_again : (m : Message) → FitsMessage m → received (spelled m) ≡ Whole m
 unfolding received spelled
 message_again m fits = rw (head_again m.head (carried_bytes m.carried) (fits_head m fits)) (behind_again m.head m.head.half m.carried fits.sound.1 fits.in_range)
 
@@ -115,8 +115,8 @@ asked_takes opcode bytes c fits e =
 answer_takes : (opcode : ℕ) (bytes : List ℕ) (c : Carried) → IsBytes bytes → answer_at opcode bytes ≡ Ok c → Takes halves.Reply opcode (word 0 ++ bytes) c
 unfolding answer_at
 answer_takes opcode bytes c fits e =
-    let a = bind_ok (row_at opcode (kinds_in opcode reply_rows)) (λ ks. last_fields_at ks bytes >>= λ fs. as_reply (reply_of opcode fs)) c e in
-    let b = bind_ok (last_fields_at a.0 bytes) (λ fs. as_reply (reply_of opcode fs)) c a.2 in
+    let a = bind_ok (row_at opcode (kinds_in opcode reply_rows)) (λ ks. fields_to_end_at ks bytes >>= λ fs. as_reply (reply_of opcode fs)) c e in
+    let b = bind_ok (fields_to_end_at a.0 bytes) (λ fs. as_reply (reply_of opcode fs)) c a.2 in
     let d = reply_is (reply_of opcode b.0) c b.2 in
     let row = row_ok opcode (kinds_in opcode reply_rows) a.0 a.1 in
     let t = last_fields_take a.0 bytes b.0 fits b.1 in
@@ -133,14 +133,14 @@ answer_takes opcode bytes c fits e =
     subst (λ (x : Carried). Takes halves.Reply opcode (word 0 ++ bytes) x) d.2 here
 
 -- nothing is left where no field was to come
-none_left : (bytes : List ℕ) (fs : List Field) → IsBytes bytes → last_fields_at [] bytes ≡ Ok fs → bytes ≡ []
+none_left : (bytes : List ℕ) (fs : List Field) → IsBytes bytes → fields_to_end_at [] bytes ≡ Ok fs → bytes ≡ []
 none_left bytes [] fits e = (last_fields_take [] bytes [] fits e).whole
 none_left bytes (f ∷ fs) fits e = absurd (last_fields_take [] bytes (f ∷ fs) fits e).are_of
 
 refusal_takes : (opcode : ℕ) (code : ℤ) (bytes : List ℕ) (c : Carried) → IsBytes bytes → FitsSigned w32 code → is_zero code ≡ false → refusal_at code bytes ≡ Ok c → Takes halves.Reply opcode (word (signed code) ++ bytes) c
 unfolding refusal_at
 refusal_takes opcode code bytes c fits small some e =
-    let a = bind_ok (last_fields_at [] bytes) (λ nothing. Ok (carried.Refusal (record { 0 = code }))) c e in
+    let a = bind_ok (fields_to_end_at [] bytes) (λ nothing. Ok (carried.Refusal (record { 0 = code }))) c e in
     let here : Takes halves.Reply opcode (word (signed code) ++ bytes) (carried.Refusal (record { 0 = code })) = record {
       whole = ap (λ (t : List ℕ). word (signed code) ++ t) (none_left bytes a.0 fits a.1);
       sound = (refl, some);
@@ -167,7 +167,7 @@ replied_takes opcode bytes c fits e =
 notice_takes : (opcode : ℕ) (bytes : List ℕ) (c : Carried) → IsBytes bytes → notice_at bytes ≡ Ok c → Takes halves.Boot opcode bytes c
 unfolding notice_at
 notice_takes opcode bytes c fits e =
-    let a = bind_ok (last_fields_at [] bytes) (λ nothing. Ok carried.Notice) c e in
+    let a = bind_ok (fields_to_end_at [] bytes) (λ nothing. Ok carried.Notice) c e in
     let here : Takes halves.Boot opcode bytes carried.Notice = record { whole = none_left bytes a.0 fits a.1; sound = refl; in_range = tt } in
     subst (λ (x : Carried). Takes halves.Boot opcode bytes x) (shape_ok_is carried.Notice c a.2) here
 
@@ -192,7 +192,7 @@ found_answer_is head (Ok c) m e = record { carried = c; read_is = refl; is = who
 found_answer_is head (Err f) m e = absurd cc
 
 abbrev IsSpelled : List ℕ → Message → Type 0
-IsSpelled bytes m = (spelled m ≡ bytes) × Fits m
+IsSpelled bytes m = (spelled m ≡ bytes) × FitsMessage m
 
 spelled_by : (bytes : List ℕ) (head : Head) (rest : List ℕ) (half : Half) (read : Result Carried ShapeFault) (m : Message) → bytes ≡ words (head_words head) ++ rest → FitsHead head → head.half ≡ half
     → IsOf head read m → ((c : Carried) → read ≡ Ok c → Takes half head.opcode rest c) → IsSpelled bytes m
@@ -203,7 +203,7 @@ spelled_by bytes head rest half read m parts fits is found takes =
     subst (IsSpelled bytes) found.is
     (ap (λ (b : List ℕ). words (head_words head) ++ b) (sym t.whole) ∙ sym parts, record { sound = ((fits.from, fits.to), sound); numbers = fits.numbers; in_range = t.in_range })
 
-behind_spelled : (bytes : List ℕ) (head : Head) (rest : List ℕ) (half : Half) (m : Message) → bytes ≡ words (head_words head) ++ rest → IsBytes rest → FitsHead head → head.half ≡ half → behind head half rest ≡ Whole m → IsSpelled bytes m
+behind_spelled : (bytes : List ℕ) (head : Head) (rest : List ℕ) (half : Half) (m : Message) → bytes ≡ words (head_words head) ++ rest → IsBytes rest → FitsHead head → head.half ≡ half → read_body head half rest ≡ Whole m → IsSpelled bytes m
 behind_spelled bytes head rest halves.Call m parts left fits is e =
     spelled_by bytes head rest halves.Call (asked_at head.opcode rest) m parts fits is (found_call_is head (asked_at head.opcode rest) m e) (λ c read. asked_takes head.opcode rest c left read)
 behind_spelled bytes head rest halves.Reply m parts left fits is e =
@@ -211,48 +211,48 @@ behind_spelled bytes head rest halves.Reply m parts left fits is e =
 behind_spelled bytes head rest halves.Boot m parts left fits is e =
     spelled_by bytes head rest halves.Boot (notice_at rest) m parts fits is (found_answer_is head (notice_at rest) m e) (λ c read. notice_takes head.opcode rest c left read)
 
-head_spelled : (bytes : List ℕ) (m : Message) (o : Result (Head × List ℕ) XdrFault) → IsBytes bytes → head_at bytes ≡ o → behind_head o ≡ Whole m → IsSpelled bytes m
+head_spelled : (bytes : List ℕ) (m : Message) (o : Result (Head × List ℕ) XdrFault) → IsBytes bytes → head_at bytes ≡ o → read_behind_head o ≡ Whole m → IsSpelled bytes m
 head_spelled bytes m (Ok h) fits at e =
     let t = head_takes bytes h.0 h.1 fits at in
     behind_spelled bytes h.0 h.1 h.0.half m t.takes.parts t.takes.rest_fits t.fits refl e
 head_spelled bytes m (Err f) fits at e = absurd cc
 
-pub read_spelled : (bytes : List ℕ) (m : Message) → IsBytes bytes → received bytes ≡ Whole m → (spelled m ≡ bytes) × Fits m
+pub read_spelled : (bytes : List ℕ) (m : Message) → IsBytes bytes → received bytes ≡ Whole m → (spelled m ≡ bytes) × FitsMessage m
 unfolding received
 read_spelled bytes m fits e = head_spelled bytes m (head_at bytes) fits refl e
 
 -- ---- what is found in bytes is sound
 
-found_call_sound : (head : Head) (read : Result Carried ShapeFault) → IsSoundHead head → ((m : Message) → found_call head read ≡ Whole m → IsSoundMessage m) → IsSound (found_call head read)
+found_call_sound : (head : Head) (read : Result Carried ShapeFault) → IsSoundHead head → ((m : Message) → found_call head read ≡ Whole m → HasSpelling m) → IsSoundReceived (found_call head read)
 found_call_sound head (Ok c) nodes whole = whole (record { head = head; carried = c }) refl
 found_call_sound head (Err (faults.NoRow n)) nodes whole = nodes
 found_call_sound head (Err faults.OutOfMemory) nodes whole = nodes
 found_call_sound head (Err (faults.Head f)) nodes whole = nodes
 found_call_sound head (Err (faults.Field i f)) nodes whole = nodes
 
-found_answer_sound : (head : Head) (read : Result Carried ShapeFault) → ((m : Message) → found_answer head read ≡ Whole m → IsSoundMessage m) → IsSound (found_answer head read)
+found_answer_sound : (head : Head) (read : Result Carried ShapeFault) → ((m : Message) → found_answer head read ≡ Whole m → HasSpelling m) → IsSoundReceived (found_answer head read)
 found_answer_sound head (Ok c) whole = whole (record { head = head; carried = c }) refl
 found_answer_sound head (Err f) whole = tt
 
-behind_sound : (head : Head) (half : Half) (rest : List ℕ) → IsSoundHead head → ((m : Message) → behind head half rest ≡ Whole m → IsSoundMessage m) → IsSound (behind head half rest)
+behind_sound : (head : Head) (half : Half) (rest : List ℕ) → IsSoundHead head → ((m : Message) → read_body head half rest ≡ Whole m → HasSpelling m) → IsSoundReceived (read_body head half rest)
 behind_sound head halves.Call rest nodes whole = found_call_sound head (asked_at head.opcode rest) nodes whole
 behind_sound head halves.Reply rest nodes whole = found_answer_sound head (replied_at head.opcode rest) whole
 behind_sound head halves.Boot rest nodes whole = found_answer_sound head (notice_at rest) whole
 
-head_sound : (bytes : List ℕ) (o : Result (Head × List ℕ) XdrFault) → IsBytes bytes → head_at bytes ≡ o → ((m : Message) → behind_head o ≡ Whole m → IsSoundMessage m) → IsSound (behind_head o)
+head_sound : (bytes : List ℕ) (o : Result (Head × List ℕ) XdrFault) → IsBytes bytes → head_at bytes ≡ o → ((m : Message) → read_behind_head o ≡ Whole m → HasSpelling m) → IsSoundReceived (read_behind_head o)
 head_sound bytes (Ok h) fits at whole = let t = head_takes bytes h.0 h.1 fits at in behind_sound h.0 h.0.half h.1 (t.fits.from, t.fits.to) whole
 head_sound bytes (Err f) fits at whole = tt
 
-pub read_sound : (bytes : List ℕ) → IsBytes bytes → IsSound (received bytes)
+pub read_sound : (bytes : List ℕ) → IsBytes bytes → IsSoundReceived (received bytes)
 unfolding received
 read_sound bytes fits = head_sound bytes (head_at bytes) fits refl (λ m e. (read_spelled bytes m fits e).1.sound)
 
 -- ---- what is found is what the tables spell
 
-call_fits : (h : Head) (user : List ℕ) (call : FsCall) → IsCall h user call → Fits (record { head = h; carried = carried.Call user call })
+call_fits : (h : Head) (user : List ℕ) (call : FsCall) → IsCall h user call → FitsMessage (record { head = h; carried = carried.Call user call })
 call_fits h user call is = record { sound = ((is.head.1.from, is.head.1.to), (is.head.0, is.opcode, is.user_fits, is.row)); numbers = is.head.1.numbers; in_range = is.in_range }
 
-fits_call : (h : Head) (user : List ℕ) (call : FsCall) → Fits (record { head = h; carried = carried.Call user call }) → IsCall h user call
+fits_call : (h : Head) (user : List ℕ) (call : FsCall) → FitsMessage (record { head = h; carried = carried.Call user call }) → IsCall h user call
 fits_call h user call f = let s = f.sound.1 in
     record { head = (s.0, record { from = f.sound.0.0; to = f.sound.0.1; numbers = f.numbers }); opcode = s.1; user_fits = s.2; row = s.3; in_range = f.in_range }
 
@@ -262,10 +262,10 @@ calls_are_found bytes h user call fits =
     let m : Message = record { head = h; carried = carried.Call user call } in
     (λ s. ap received s.1 ∙ message_again m (call_fits h user call s.0), λ e. let r = read_spelled bytes m fits e in (fits_call h user call r.1, sym r.0))
 
-reply_fits : (h : Head) (reply : FsReply) → IsReply h (pos 0) (Some reply) → Fits (record { head = h; carried = carried.Reply reply })
+reply_fits : (h : Head) (reply : FsReply) → IsReply h (pos 0) (Some reply) → FitsMessage (record { head = h; carried = carried.Reply reply })
 reply_fits h reply is = record { sound = ((is.head.1.from, is.head.1.to), (is.head.0, is.answer.1, is.answer.2)); numbers = is.head.1.numbers; in_range = is.answer.3 }
 
-fits_reply : (h : Head) (reply : FsReply) → Fits (record { head = h; carried = carried.Reply reply }) → IsReply h (pos 0) (Some reply)
+fits_reply : (h : Head) (reply : FsReply) → FitsMessage (record { head = h; carried = carried.Reply reply }) → IsReply h (pos 0) (Some reply)
 fits_reply h reply f = let s = f.sound.1 in
     record { head = (s.0, record { from = f.sound.0.0; to = f.sound.0.1; numbers = f.numbers }); code_fits = zero_fits; answer = (refl, s.1, s.2, f.in_range) }
 
@@ -275,10 +275,10 @@ replies_are_found bytes h reply fits =
     let m : Message = record { head = h; carried = carried.Reply reply } in
     (λ s. ap received s.1 ∙ message_again m (reply_fits h reply s.0), λ e. let r = read_spelled bytes m fits e in (fits_reply h reply r.1, sym r.0))
 
-refusal_fits : (h : Head) (code : Code) → IsReply h code.0 None → Fits (record { head = h; carried = carried.Refusal code })
+refusal_fits : (h : Head) (code : Code) → IsReply h code.0 None → FitsMessage (record { head = h; carried = carried.Refusal code })
 refusal_fits h code is = record { sound = ((is.head.1.from, is.head.1.to), (is.head.0, is.answer.0)); numbers = is.head.1.numbers; in_range = is.code_fits }
 
-fits_refusal : (h : Head) (code : Code) → IsSome (kinds_in h.opcode reply_rows) → Fits (record { head = h; carried = carried.Refusal code }) → IsReply h code.0 None
+fits_refusal : (h : Head) (code : Code) → IsSome (kinds_in h.opcode reply_rows) → FitsMessage (record { head = h; carried = carried.Refusal code }) → IsReply h code.0 None
 fits_refusal h code row f = let s = f.sound.1 in
     record { head = (s.0, record { from = f.sound.0.0; to = f.sound.0.1; numbers = f.numbers }); code_fits = f.in_range; answer = (s.1, row) }
 
@@ -320,11 +320,11 @@ asked_fail (faults.Head f) opcode bytes ks p q = rw (p, q) refl
 asked_fail (faults.NoRow n) opcode bytes ks p q = rw (p, q) refl
 asked_fail (faults.Field i f) opcode bytes ks p q = rw (p, q) refl
 
-pub answer_read : (opcode : ℕ) (bytes : List ℕ) (ks : List Kind) (fs : List Field) → kinds_in opcode reply_rows ≡ Some ks → last_fields_at ks bytes ≡ Ok fs → answer_at opcode bytes ≡ as_reply (reply_of opcode fs)
+pub answer_read : (opcode : ℕ) (bytes : List ℕ) (ks : List Kind) (fs : List Field) → kinds_in opcode reply_rows ≡ Some ks → fields_to_end_at ks bytes ≡ Ok fs → answer_at opcode bytes ≡ as_reply (reply_of opcode fs)
 unfolding answer_at
 answer_read opcode bytes ks fs p q = rw (p, q) refl
 
-pub answer_fail : (e : ShapeFault) (opcode : ℕ) (bytes : List ℕ) (ks : List Kind) → kinds_in opcode reply_rows ≡ Some ks → GivesShape {X = List Field} (λ fs. fs) (last_fields_at ks bytes) (Err e) → Gives (answer_at opcode bytes) (Err e)
+pub answer_fail : (e : ShapeFault) (opcode : ℕ) (bytes : List ℕ) (ks : List Kind) → kinds_in opcode reply_rows ≡ Some ks → GivesShape {X = List Field} (λ fs. fs) (fields_to_end_at ks bytes) (Err e) → Gives (answer_at opcode bytes) (Err e)
 unfolding answer_at
 answer_fail faults.OutOfMemory opcode bytes ks p q = tt
 answer_fail (faults.Head f) opcode bytes ks p q = rw (p, q) refl
@@ -344,8 +344,8 @@ no_end x more = rw (no_zero (length more) (eqb (suc (length more)) 0) refl) refl
 abbrev extra : ℕ → ShapeFault
 extra n = faults.Field (n + 1) Extra
 
-last_fields_more : (ks : List Kind) (fs : List Field) (x : ℕ) (more : List ℕ) → AreOf ks fs → AreInRange fs → last_fields_at ks (fields_spelled fs ++ x ∷ more) ≡ Err (extra (length fs))
-unfolding last_fields_at
+last_fields_more : (ks : List Kind) (fs : List Field) (x : ℕ) (more : List ℕ) → AreOf ks fs → AreInRange fs → fields_to_end_at ks (fields_spelled fs ++ x ∷ more) ≡ Err (extra (length fs))
+unfolding fields_to_end_at
 last_fields_more ks fs x more are in_range = rw (fields_again 1 ks fs (x ∷ more) are in_range, no_end x more) refl
 
 asked_parts_more : (ks : List Kind) (user : List ℕ) (fs : List Field) (x : ℕ) (more : List ℕ) → length user ≤ user_limit → AreOf ks fs → AreInRange fs → asked_parts_at ks ((opaque user ++ fields_spelled fs) ++ x ∷ more) ≡ Err (extra (length fs))
@@ -382,22 +382,22 @@ notice_more : (x : ℕ) (more : List ℕ) → notice_at (x ∷ more) ≡ Err (ex
 unfolding notice_at
 notice_more x more = rw (last_fields_more [] [] x more tt tt) refl
 
-behind_more : (head : Head) (half : Half) (c : Carried) (x : ℕ) (more : List ℕ) → IsSoundCarried half head.opcode c → IsInRange c → IsNotWhole (behind head half (carried_bytes c ++ x ∷ more))
+behind_more : (head : Head) (half : Half) (c : Carried) (x : ℕ) (more : List ℕ) → IsSoundCarried half head.opcode c → IsInRange c → IsNotWhole (read_body head half (carried_bytes c ++ x ∷ more))
 behind_more head half (carried.Call user call) x more s r = rw (s.0, asked_more head.opcode user call x more s.1 s.2 s.3 r) tt
 behind_more head half (carried.Refusal code) x more s r = rw (s.0, refusal_more head.opcode code x more r s.1) tt
 behind_more head half (carried.Reply reply) x more s r = rw (s.0, answer_more head.opcode reply x more s.1 s.2 r) tt
 behind_more head half carried.Notice x more s r = rw (s, notice_more x more) tt
 
-message_more : (m : Message) (x : ℕ) (more : List ℕ) → Fits m → IsNotWhole (received (spelled m ++ x ∷ more))
+message_more : (m : Message) (x : ℕ) (more : List ℕ) → FitsMessage m → IsNotWhole (received (spelled m ++ x ∷ more))
 unfolding received spelled
 message_more m x more fits =
     rw (append_assoc (words (head_words m.head)) (carried_bytes m.carried) (x ∷ more), head_again m.head (carried_bytes m.carried ++ x ∷ more) (fits_head m fits))
     (behind_more m.head m.head.half m.carried x more fits.sound.1 fits.in_range)
 
-same_spelling : (m n : Message) → Fits m → Fits n → spelled m ≡ spelled n → m ≡ n
+same_spelling : (m n : Message) → FitsMessage m → FitsMessage n → spelled m ≡ spelled n → m ≡ n
 same_spelling m n f g e = whole_of m n (sym (message_again m f) ∙ (ap received e ∙ message_again n g))
 
 -- no message's spelling begins another's
-pub no_beginning : (m n : Message) (rest : List ℕ) → Fits m → Fits n → spelled m ++ rest ≡ spelled n → (m ≡ n) × (rest ≡ [])
+pub no_beginning : (m n : Message) (rest : List ℕ) → FitsMessage m → FitsMessage n → spelled m ++ rest ≡ spelled n → (m ≡ n) × (rest ≡ [])
 no_beginning m n [] f g e = (same_spelling m n f g (sym (append-nil (spelled m)) ∙ e), refl)
 no_beginning m n (x ∷ more) f g e = absurd (subst IsNotWhole (ap received e ∙ message_again n g) (message_more m x more f))

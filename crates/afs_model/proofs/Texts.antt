@@ -25,9 +25,9 @@ use Rattle.afs_shape.specs.Reading.{in_place, signed_at}
 use Rattle.afs_shape.specs.Tables.{kinds_in}
 use Rattle.afs_shape.proofs.FieldLaws.{bind_ok, in_place_ok, shape_ok_is}
 use Rattle.afs_model.specs.Heads.{head_at, half_at, node_at, known, half_of, is_zero}
-use Rattle.afs_model.specs.FsRows.{reply_rows, row_at, last_fields_at}
+use Rattle.afs_model.specs.FsRows.{reply_rows, row_at, fields_to_end_at}
 use Rattle.afs_model.specs.FsMaking.{reply_of}
-use Rattle.afs_model.specs.Messages.{asked_at, answer_at, refusal_at, replied_at, notice_at, behind, behind_head, received, spelled, found, meant}
+use Rattle.afs_model.specs.Messages.{asked_at, answer_at, refusal_at, replied_at, notice_at, read_body, read_behind_head, received, spelled, found, meant}
 use Rattle.afs_model.proofs.Spellings.{IsOf, found_call_is, found_answer_is, reply_is}
 use Rattle.afs_model.specs.Runs.{Entry, Cell}
 use Rattle.afs_model.specs.Text.{sent_text, route_text, half_text, code_text, tail_text, code_of, code_read, code_at, message_text, messages_text, parcel_text, parcels_text, step_text, lines_text, entry_text, parcelled_entry_text, entries_text, parcelled_entries_text, history_text, parcelled_history_text, final_text, text, parcelled_text, Carries, CarryAll}
@@ -155,14 +155,14 @@ is_pos_zero (negsuc n) h = cc
 refusal_code : (code : ℤ) (bytes : List ℕ) (c : Carried) → refusal_at code bytes ≡ Ok c → code_of c ≡ code
 unfolding refusal_at
 refusal_code code bytes c h =
-    let a = bind_ok (last_fields_at [] bytes) (λ nothing. Ok (carried.Refusal (record { 0 = code }))) c h in
+    let a = bind_ok (fields_to_end_at [] bytes) (λ nothing. Ok (carried.Refusal (record { 0 = code }))) c h in
     sym (ap code_of (shape_ok_is (carried.Refusal (record { 0 = code })) c a.2))
 
 answer_code : (opcode : ℕ) (bytes : List ℕ) (c : Carried) → answer_at opcode bytes ≡ Ok c → code_of c ≡ pos 0
 unfolding answer_at
 answer_code opcode bytes c h =
     let a = bind_ok (row_at opcode (kinds_in opcode reply_rows)) _ c h in
-    let b = bind_ok (last_fields_at a.0 bytes) _ c a.2 in
+    let b = bind_ok (fields_to_end_at a.0 bytes) _ c a.2 in
     sym (ap code_of (reply_is (reply_of opcode b.0) c b.2).2)
 
 code_by : (opcode : ℕ) (code : ℤ) (rest : List ℕ) (c : Carried) (b : Bool) → is_zero code ≡ b → (if b then answer_at opcode rest else refusal_at code rest) ≡ Ok c → code ≡ code_of c
@@ -179,7 +179,7 @@ heard_code : (head : Head) (bytes : List ℕ) (m : Message) → IsOf head (repli
 heard_code head bytes m of = replied_code head.opcode bytes of.carried of.read_is ∙ ap (λ (n : Message). code_of n.carried) of.is
 
 -- what isn't a reply is found as something else
-behind_code : (head : Head) (half : Half) (rest : List ℕ) (m : Message) → head.half ≡ half → m.head.half ≡ halves.Reply → behind head half rest ≡ Whole m → code_read (signed_at rest) ≡ code_of m.carried
+behind_code : (head : Head) (half : Half) (rest : List ℕ) (m : Message) → head.half ≡ half → m.head.half ≡ halves.Reply → read_body head half rest ≡ Whole m → code_read (signed_at rest) ≡ code_of m.carried
 behind_code head halves.Call rest m is reply h =
     let e : halves.Call ≡ halves.Reply = sym is ∙ (ap (λ (n : Message). n.head.half) (found_call_is head (asked_at head.opcode rest) m h).is ∙ reply) in
     cc
@@ -188,7 +188,7 @@ behind_code head halves.Boot rest m is reply h =
     let e : halves.Boot ≡ halves.Reply = sym is ∙ (ap (λ (n : Message). n.head.half) (found_answer_is head (notice_at rest) m h).is ∙ reply) in
     cc
 
-found_code : (bytes : List ℕ) (m : Message) (o : Result (Head × List ℕ) XdrFault) → head_at bytes ≡ o → m.head.half ≡ halves.Reply → behind_head o ≡ Whole m → code_at bytes ≡ code_of m.carried
+found_code : (bytes : List ℕ) (m : Message) (o : Result (Head × List ℕ) XdrFault) → head_at bytes ≡ o → m.head.half ≡ halves.Reply → read_behind_head o ≡ Whole m → code_at bytes ≡ code_of m.carried
 unfolding code_at
 found_code bytes m (Ok h) at reply w =
     ap (λ (rest : List ℕ). code_read (signed_at rest)) (sym (head_rest bytes h at)) ∙ behind_code h.0 h.0.half h.1 m refl reply w

@@ -130,8 +130,8 @@ ended c cache = record c { running = None; cache = cache }
 abbrev pub answers_step : Node → ClientState → ℕ → Code → Step ClientState
 answers_step me c place code = record { state = ended c c.cache; lines = lines.Given place ∷ lines.Answer me code ∷ []; sent = [] }
 
-abbrev pub uses_step : Node → ClientState → ℕ → CacheEntry → Step ClientState
-uses_step me c place entry = record {
+abbrev pub shows_fetched_step : Node → ClientState → ℕ → CacheEntry → Step ClientState
+shows_fetched_step me c place entry = record {
   state = ended c (used_first entry c.cache);
   lines = lines.Given place ∷ lines.Read me entry.fid entry.index Fetched (bodies.File entry.contents) ∷ lines.Answer me zero_code ∷ [];
   sent = [];
@@ -140,7 +140,7 @@ uses_step me c place entry = record {
 -- a promise that has ended by now can't be used: the client calls again
 abbrev pub takes_fetched : Node → ClientState → ℕ → ℕ → CacheEntry → Step ClientState
 takes_fetched me c clock place entry =
-    if is_trusted clock entry then uses_step me c place entry else calls_step me c (Open entry.fid) (lines.Given place)
+    if is_trusted clock entry then shows_fetched_step me c place entry else calls_step me c (Open entry.fid) (lines.Given place)
 
 abbrev pub takes_stored : Node → ClientState → ℕ → ℕ → Fid → ℕ → List ℕ → Step ClientState
 takes_stored me c clock place fid index contents = record {
@@ -180,12 +180,12 @@ awaits me c clock place m None = ignores c place
 awaits me c clock place m (Some act) =
     if is_awaited me c act m.head then counts me c clock place act m.head m.carried else ignores c place
 
-abbrev pub takes_in : Node → ClientState → ℕ → ℕ → Received → Step ClientState
-takes_in me c clock place Nothing = ignores c place
-takes_in me c clock place (Unknown head) = ignores c place
-takes_in me c clock place (Unreadable head) = ignores c place
-takes_in me c clock place (Whole m) = awaits me c clock place m c.running
+abbrev pub client_hears : Node → ClientState → ℕ → ℕ → Received → Step ClientState
+client_hears me c clock place Nothing = ignores c place
+client_hears me c clock place (Unknown head) = ignores c place
+client_hears me c clock place (Unreadable head) = ignores c place
+client_hears me c clock place (Whole m) = awaits me c clock place m c.running
 
 -- the client `me`, given the message of this place
 unfoldable pub client_row : Node → ClientState → ℕ → ℕ → Received → Step ClientState
-client_row me c clock place m = takes_in me c clock place m
+client_row me c clock place m = client_hears me c clock place m

@@ -22,7 +22,7 @@ use Rattle.afs_num.specs.declared.grammar.FirstWord.TheVariants as words
 use Rattle.afs_model.specs.ScriptWords.{◌>>=◌, must, parts, word_at, ended, first_word, number_at, node_at, contents_at, path_of, fid_at, is_unbuilt}
 
 -- What the lines so far told. The turn says how far the script has come.
-pub record Reading : Type 0 where
+pub record LinesRead : Type 0 where
   pub turn : ℕ
   pub servers : ℕ
   pub clients : ℕ
@@ -30,7 +30,7 @@ pub record Reading : Type 0 where
   pub tasks : List Task
   pub events : List Event
 
-abbrev pub nothing_read : Reading
+abbrev pub nothing_read : LinesRead
 nothing_read = record { turn = 0; servers = 0; clients = 0; volume = None; tasks = []; events = [] }
 
 -- The order of the lines: each first word has the turns from which to which it may come, and the turn that it leads to.
@@ -80,20 +80,20 @@ has_ended turn = nat_eq turn 8
 
 -- One definition for each kind of line. Where a line is good by the general grammar, the bounds of this form come last.
 
-unfoldable pub cell_line : Reading → List (List ℕ) → Result Reading Reason
+unfoldable pub cell_line : LinesRead → List (List ℕ) → Result LinesRead Reason
 cell_line r more = do
   version ← number_at 1 1 more
   done ← ended version.1
   Ok r
 
-unfoldable pub servers_line : Reading → List (List ℕ) → Result Reading Reason
+unfoldable pub servers_line : LinesRead → List (List ℕ) → Result LinesRead Reason
 servers_line r more = do
   count ← number_at 1 8 more
   done ← ended count.1
   one ← must (nat_eq count.0 1) reasons.Limit
   Ok (record r { servers = count.0 })
 
-unfoldable pub clients_line : Reading → List (List ℕ) → Result Reading Reason
+unfoldable pub clients_line : LinesRead → List (List ℕ) → Result LinesRead Reason
 clients_line r more = do
   count ← number_at 0 16 more
   done ← ended count.1
@@ -104,7 +104,7 @@ abbrev pub has_name : Option VolumeLine → List ℕ → Bool
 has_name None name = false
 has_name (Some v) name = bytes_eq v.name name
 
-unfoldable pub volume_line : Reading → List (List ℕ) → Result Reading Reason
+unfoldable pub volume_line : LinesRead → List (List ℕ) → Result LinesRead Reason
 volume_line r more = do
   name ← word_at more
   good ← must (volume_name_ok name.0) reasons.Name
@@ -142,7 +142,7 @@ laid volume names contents v = do
   small ← must (nat_le (length contents) 1024) reasons.Limit
   Ok (record v { lines = v.lines ++ setups.File (name ∷ []) contents ∷ [] })
 
-unfoldable pub file_line : Reading → List (List ℕ) → Result Reading Reason
+unfoldable pub file_line : LinesRead → List (List ℕ) → Result LinesRead Reason
 file_line r more = do
   word ← word_at more
   path ← path_of (length word.0) (parts 47 word.0)
@@ -178,14 +178,14 @@ act_of word more =
     else (if bytes_eq word (codes "close") then close_at more
     else Err reasons.Word)
 
-unfoldable pub do_line : Reading → List (List ℕ) → Result Reading Reason
+unfoldable pub do_line : LinesRead → List (List ℕ) → Result LinesRead Reason
 do_line r more = do
   client ← node_at 99 r.clients more
   word ← word_at client.1
   act ← act_of word.0 word.1
   Ok (record r { tasks = r.tasks ++ (record { node = nodes.Client client.0; act = act }) ∷ [] })
 
-unfoldable pub act_line : Reading → List (List ℕ) → Result Reading Reason
+unfoldable pub act_line : LinesRead → List (List ℕ) → Result LinesRead Reason
 act_line r more = do
   client ← node_at 99 r.clients more
   done ← ended client.1
@@ -195,7 +195,7 @@ abbrev pub delivers : ℕ → Event → Bool
 delivers place (events.Act node) = false
 delivers place (events.Deliver p) = nat_eq place p
 
-unfoldable pub deliver_line : Reading → List (List ℕ) → Result Reading Reason
+unfoldable pub deliver_line : LinesRead → List (List ℕ) → Result LinesRead Reason
 deliver_line r more = do
   place ← number_at 1 18446744073709551615 more
   done ← ended place.1
@@ -203,30 +203,30 @@ deliver_line r more = do
   Ok (record r { events = r.events ++ events.Deliver place.0 ∷ [] })
 
 -- `schedule` and `end` stand alone
-unfoldable pub bare_line : Reading → List (List ℕ) → Result Reading Reason
+unfoldable pub bare_line : LinesRead → List (List ℕ) → Result LinesRead Reason
 bare_line r more = do
   done ← ended more
   Ok r
 
-abbrev pub told : FirstWord → Reading → List (List ℕ) → Result Reading Reason
-told words.Cell = cell_line
-told words.Servers = servers_line
-told words.Clients = clients_line
-told words.Volume = volume_line
-told words.File = file_line
-told words.Do = do_line
-told words.Schedule = bare_line
-told words.Act = act_line
-told words.Deliver = deliver_line
-told words.End = bare_line
+abbrev pub line_by_word : FirstWord → LinesRead → List (List ℕ) → Result LinesRead Reason
+line_by_word words.Cell = cell_line
+line_by_word words.Servers = servers_line
+line_by_word words.Clients = clients_line
+line_by_word words.Volume = volume_line
+line_by_word words.File = file_line
+line_by_word words.Do = do_line
+line_by_word words.Schedule = bare_line
+line_by_word words.Act = act_line
+line_by_word words.Deliver = deliver_line
+line_by_word words.End = bare_line
 
-unfoldable pub line_of : Reading → List (List ℕ) → Result Reading Reason
+unfoldable pub line_of : LinesRead → List (List ℕ) → Result LinesRead Reason
 line_of r line = do
   word ← word_at line
   first ← ok_or (first_word word.0) reasons.Word
   due ← must (is_due r.turn first) reasons.Order
   built ← must (not (is_unbuilt first word.1)) reasons.Word
-  told first (record r { turn = next_turn first }) word.1
+  line_by_word first (record r { turn = next_turn first }) word.1
 
 -- empty lines and comments say nothing
 abbrev pub is_silent : List ℕ → Bool
@@ -234,7 +234,7 @@ is_silent [] = true
 is_silent (b ∷ bs) = nat_eq b 35
 
 -- A line's number, and the bytes that the script may still have when it begins. No line may follow `end`.
-unfoldable pub line_at : Reading → ℕ → ℕ → List ℕ → Result Reading Reason
+unfoldable pub line_at : LinesRead → ℕ → ℕ → List ℕ → Result LinesRead Reason
 line_at r number room line = do
   within ← must (nat_lt (length line) room) reasons.Limit
   few ← must (nat_le number 200000) reasons.Limit
@@ -242,7 +242,7 @@ line_at r number room line = do
   more ← must (not (has_ended r.turn)) reasons.Order
   if is_silent line then Ok r else line_of r (parts 32 line)
 
-abbrev pub script_in : Reading → Script
+abbrev pub script_in : LinesRead → Script
 script_in r = record {
   servers = r.servers;
   clients = r.clients;
@@ -252,7 +252,7 @@ script_in r = record {
 }
 
 -- what stands behind the last newline: nothing, where the script is whole
-unfoldable pub last_at : Reading → ℕ → ℕ → List ℕ → Result Script Reason
+unfoldable pub last_at : LinesRead → ℕ → ℕ → List ℕ → Result Script Reason
 last_at r number room last = do
   within ← must (nat_le (length last) room) reasons.Limit
   whole ← must (has_ended r.turn) reasons.Missing
@@ -267,7 +267,7 @@ at_line number (Ok x) = Ok x
 at_line number (Err reason) = Err (number, reason)
 
 -- the lines from here on, of which `number` were read
-abbrev pub lines_at : Reading → ℕ → ℕ → List (List ℕ) → Result Script (ℕ × Reason)
+abbrev pub lines_at : LinesRead → ℕ → ℕ → List (List ℕ) → Result Script (ℕ × Reason)
 lines_at r number room [] = Err (number + 1, reasons.Missing)
 lines_at r number room (last ∷ []) = at_line (number + 1) (last_at r (number + 1) room last)
 lines_at r number room (line ∷ next ∷ more) = do

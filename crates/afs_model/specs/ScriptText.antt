@@ -17,7 +17,7 @@ use Rattle.afs_num.specs.declared.scripts.VolumeLine.{VolumeLine}
 use Rattle.afs_num.specs.declared.scripts.Script.{Script}
 use Rattle.afs_num.specs.declared.scripts.Reason.{Reason}
 use Rattle.afs_model.specs.ScriptWords.{◌>>=◌}
-use Rattle.afs_model.specs.Script.{Reading, nothing_read, at_line, line_at, last_at, script_of, is_file_here, delivers}
+use Rattle.afs_model.specs.Script.{LinesRead, nothing_read, at_line, line_at, last_at, script_of, is_file_here, delivers}
 
 -- no byte of the part is the cut
 abbrev pub is_part : ℕ → List ℕ → Bool
@@ -29,7 +29,7 @@ closed [] = []
 closed (line ∷ lines) = line ++ 10 ∷ closed lines
 
 -- what lines tell behind others, if all of them are good
-abbrev pub lines_read : Reading → ℕ → ℕ → List (List ℕ) → Result Reading (ℕ × Reason)
+abbrev pub lines_read : LinesRead → ℕ → ℕ → List (List ℕ) → Result LinesRead (ℕ × Reason)
 lines_read r number room [] = Ok r
 lines_read r number room (line ∷ lines) = do
   read ← at_line (number + 1) (line_at r (number + 1) room line)
@@ -43,7 +43,7 @@ room_behind room (line ∷ lines) = room_behind (room - (length line + 1)) lines
 -- Where lines are good and the line behind them is bad, that line decides, whatever follows.
 abbrev pub FirstBadLineDecides : Type 0
 FirstBadLineDecides =
-    (lines : List (List ℕ)) (line rest : List ℕ) (r : Reading) (reason : Reason) →
+    (lines : List (List ℕ)) (line rest : List ℕ) (r : LinesRead) (reason : Reason) →
     list_all (is_part 10) lines ≡ true → is_part 10 line ≡ true →
     lines_read nothing_read 0 16777216 lines ≡ Ok r →
     line_at r (length lines + 1) (room_behind 16777216 lines) line ≡ Err reason →
@@ -52,7 +52,7 @@ FirstBadLineDecides =
 -- Where lines are good and no newline is behind them, the line after the last decides.
 abbrev pub LastLineDecides : Type 0
 LastLineDecides =
-    (lines : List (List ℕ)) (last : List ℕ) (r : Reading) →
+    (lines : List (List ℕ)) (last : List ℕ) (r : LinesRead) →
     list_all (is_part 10) lines ≡ true → is_part 10 last ≡ true →
     lines_read nothing_read 0 16777216 lines ≡ Ok r →
     script_of (closed lines ++ last) ≡ at_line (length lines + 1) (last_at r (length lines + 1) (room_behind 16777216 lines) last)

@@ -225,11 +225,11 @@ keeps head reply s = record s { seats = seated (record { caller = head.from; epo
 abbrev pub saved : StoredFile → ServerState → ServerState
 saved file s = record s { files = with_file file s.files }
 
-abbrev pub told : ServerState → ℕ → List Message → Step ServerState
-told s place sent = record { state = s; lines = lines.Given place ∷ []; sent = sent }
+abbrev pub sends_step : ServerState → ℕ → List Message → Step ServerState
+sends_step s place sent = record { state = s; lines = lines.Given place ∷ []; sent = sent }
 
 abbrev pub refuses_step : ServerState → ℕ → Head → ℤ → Step ServerState
-refuses_step s place head code = told (keeps head (refusal s.boot head code) s) place (refusal s.boot head code ∷ [])
+refuses_step s place head code = sends_step (keeps head (refusal s.boot head code) s) place (refusal s.boot head code ∷ [])
 
 abbrev pub grants_step : Node → ServerState → ℕ → Head → StoredFile → ℕ → Step ServerState
 grants_step me s place head file expiry = record {
@@ -246,9 +246,9 @@ saves_step me s clock place head contents file = record {
 }
 
 abbrev pub does : Node → ServerState → ℕ → ℕ → Decision → Step ServerState
-does me s clock place drops = told s place []
-does me s clock place (tells_boot head) = told s place (boot_told s.boot head ∷ [])
-does me s clock place (repeats reply) = told s place (reply ∷ [])
+does me s clock place drops = sends_step s place []
+does me s clock place (tells_boot head) = sends_step s place (boot_told s.boot head ∷ [])
+does me s clock place (repeats reply) = sends_step s place (reply ∷ [])
 does me s clock place (refuses head code) = refuses_step s place head code
 does me s clock place (grants head file) = grants_step me s place head file (clock + promise_ticks)
 does me s clock place (saves head contents file) = saves_step me s clock place head contents file

@@ -12,15 +12,15 @@ use Rattle.afs_shape.specs.declared.kinds.Field.{Field}
 use Rattle.afs_shape.specs.Tables.{kinds_in, AreOf}
 use Rattle.afs_model.specs.FsRows.{call_rows, reply_rows, SpellsCall, SpellsReply}
 use Rattle.afs_model.specs.FsMaking.{call_of, reply_of}
-use Rattle.afs_model.specs.Messages.{Fits, spelled, received}
+use Rattle.afs_model.specs.Messages.{FitsMessage, spelled, received}
 
 -- what is spelled is read again
 abbrev pub SpelledAreRead : Type 0
-SpelledAreRead = (m : Message) → Fits m → received (spelled m) ≡ Whole m
+SpelledAreRead = (m : Message) → FitsMessage m → received (spelled m) ≡ Whole m
 
 -- no message's spelling begins another's
 abbrev pub SpellingsDontBegin : Type 0
-SpellingsDontBegin = (m n : Message) (rest : List ℕ) → Fits m → Fits n → spelled m ++ rest ≡ spelled n → (m ≡ n) × (rest ≡ [])
+SpellingsDontBegin = (m n : Message) (rest : List ℕ) → FitsMessage m → FitsMessage n → spelled m ++ rest ≡ spelled n → (m ≡ n) × (rest ≡ [])
 
 -- numbers that are bytes
 abbrev pub IsBytes : List ℕ → Type 0
@@ -28,7 +28,7 @@ IsBytes bytes = (i : ℕ) → slice_index bytes i < 256
 
 -- a message that is read in bytes is one with a spelling, and they are its spelling
 abbrev pub ReadAreSpelled : Type 0
-ReadAreSpelled = (bytes : List ℕ) (m : Message) → IsBytes bytes → received bytes ≡ Whole m → (spelled m ≡ bytes) × Fits m
+ReadAreSpelled = (bytes : List ℕ) (m : Message) → IsBytes bytes → received bytes ≡ Whole m → (spelled m ≡ bytes) × FitsMessage m
 
 -- a call is found in bytes exactly where they spell it
 abbrev pub CallsAreFound : Type 0

@@ -2,12 +2,12 @@
 use Rattle.std.proofs.Common.{◌≡◌, ℕ, ◌+◌, ◌-◌, ◌<◌, List, [], ◌∷◌, length, Ok, Result, ap, ◌∙◌, arith}
 use Rattle.afs_num.specs.declared.scripts.Reason.{Reason}
 use Rattle.afs_model.specs.ScriptWords.{◌>>=◌}
-use Rattle.afs_model.specs.Script.{Reading, at_line, line_at, lines_at}
+use Rattle.afs_model.specs.Script.{LinesRead, at_line, line_at, lines_at}
 
-step_on : (r read : Reading) (number room : ℕ) (line : List ℕ) (new : List (List ℕ)) → 0 < length new → at_line (number + 1) (line_at r (number + 1) room line) ≡ Ok read → lines_at r number room (line ∷ new) ≡ lines_at read (number + 1) (room - (length line + 1)) new
+step_on : (r read : LinesRead) (number room : ℕ) (line : List ℕ) (new : List (List ℕ)) → 0 < length new → at_line (number + 1) (line_at r (number + 1) room line) ≡ Ok read → lines_at r number room (line ∷ new) ≡ lines_at read (number + 1) (room - (length line + 1)) new
 step_on r read number room line [] lt e = absurd (omega arith)
 step_on r read number room line (next ∷ more) lt e =
-    ap (λ (o : Result Reading (ℕ × Reason)). o >>= (λ (s : Reading). lines_at s (number + 1) (room - (length line + 1)) (next ∷ more))) e
+    ap (λ (o : Result LinesRead (ℕ × Reason)). o >>= (λ (s : LinesRead). lines_at s (number + 1) (room - (length line + 1)) (next ∷ more))) e
 
-pub line_by_line : (r read : Reading) (number room : ℕ) (line : List ℕ) (old new : List (List ℕ)) → old ≡ line ∷ new → 0 < length new → at_line (number + 1) (line_at r (number + 1) room line) ≡ Ok read → lines_at r number room old ≡ lines_at read (number + 1) (room - (length line + 1)) new
+pub line_by_line : (r read : LinesRead) (number room : ℕ) (line : List ℕ) (old new : List (List ℕ)) → old ≡ line ∷ new → 0 < length new → at_line (number + 1) (line_at r (number + 1) room line) ≡ Ok read → lines_at r number room old ≡ lines_at read (number + 1) (room - (length line + 1)) new
 line_by_line r read number room line old new p lt e = ap (lines_at r number room) p ∙ step_on r read number room line new lt e

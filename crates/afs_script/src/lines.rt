@@ -4,7 +4,7 @@ ghost use Rattle.std.specs.Prelude.{◌≡◌, ◌&&◌, ℕ, Bool, Some, None, 
 ghost use Rattle.std.specs.List.{list_any};
 ghost use Rattle.std.specs.Option.{option_copied};
 ghost use Rattle.afs_model.specs.ScriptWords.{parts};
-ghost use Rattle.afs_model.specs.Script.{Reading as Told, nothing_read, from_turn, to_turn, next_turn, is_due, has_ended, cell_line, servers_line, clients_line, volume_line, has_name, name_in_root, is_root_name, lays, laid, file_line, is_file_here, open_at, close_at, act_of, do_line, act_line, delivers, deliver_line, bare_line, told, line_of, is_silent, line_at, script_in, last_at};
+ghost use Rattle.afs_model.specs.Script.{LinesRead as Told, nothing_read, from_turn, to_turn, next_turn, is_due, has_ended, cell_line, servers_line, clients_line, volume_line, has_name, name_in_root, is_root_name, lays, laid, file_line, is_file_here, open_at, close_at, act_of, do_line, act_line, delivers, deliver_line, bare_line, line_by_word, line_of, is_silent, line_at, script_in, last_at};
 ghost use Rattle.afs_script.specs.Reads.{Reads, ReadsInMemory, Gives};
 
 use crate::faults::LineFault;
@@ -38,7 +38,7 @@ const ENDED: u8 = 8;
 
 /// What the lines so far told.
 #[derive(Drop)]
-pub struct Reading {
+pub struct LinesRead {
     turn: u8,
     servers: u8,
     clients: u8,
@@ -49,12 +49,12 @@ pub struct Reading {
     delivered: BTreeSet<u64>,
 }
 
-impl Model for Reading {
+impl Model for LinesRead {
     ghost use Rattle.std.specs.Prelude.{◌≡◌, ℕ};
     ghost use Rattle.std.specs.List.{list_any};
     ghost use Rattle.std.specs.Ordering.{nat_cmp};
     ghost use Rattle.std.specs.BTreeSet.{contains};
-    ghost use Rattle.afs_model.specs.Script.{Reading as Told, delivers};
+    ghost use Rattle.afs_model.specs.Script.{LinesRead as Told, delivers};
 
     ghost Value = { Told };
 
@@ -219,14 +219,14 @@ fn lay(
     Ok(volume)
 }
 
-impl Reading {
+impl LinesRead {
     ghost use Rattle.afs_model.specs.Script.{nothing_read};
 
     /// Nothing is read yet.
     pub fn new(alloc: Global) -> Self
         ensures { result ≡ nothing_read }
     {
-        Reading {
+        LinesRead {
             turn: 0,
             servers: 0,
             clients: 0,
@@ -238,7 +238,7 @@ impl Reading {
     }
 
     #[tactic(auto, unfolding(afs_model::specs::Script::cell_line))]
-    fn cell(self, words: &mut Parts<'_>) -> Result<Reading, LineFault>
+    fn cell(self, words: &mut Parts<'_>) -> Result<LinesRead, LineFault>
         ensures { Gives (cell_line self words.old) result }
     {
         number(words, 1, 1)?;
@@ -247,7 +247,7 @@ impl Reading {
     }
 
     #[tactic(auto, unfolding(afs_model::specs::Script::servers_line))]
-    fn servers(mut self, words: &mut Parts<'_>) -> Result<Reading, LineFault>
+    fn servers(mut self, words: &mut Parts<'_>) -> Result<LinesRead, LineFault>
         ensures { Gives (servers_line self words.old) result }
     {
         let count = number(words, 1, 8)?;
@@ -258,7 +258,7 @@ impl Reading {
     }
 
     #[tactic(auto, unfolding(afs_model::specs::Script::clients_line))]
-    fn clients(mut self, words: &mut Parts<'_>) -> Result<Reading, LineFault>
+    fn clients(mut self, words: &mut Parts<'_>) -> Result<LinesRead, LineFault>
         ensures { Gives (clients_line self words.old) result }
     {
         let count = number(words, 0, 16)?;
@@ -269,7 +269,7 @@ impl Reading {
     }
 
     #[tactic(auto, unfolding(afs_model::specs::Script::volume_line))]
-    fn volume(mut self, alloc: Global, words: &mut Parts<'_>) -> Result<Reading, LineFault>
+    fn volume(mut self, alloc: Global, words: &mut Parts<'_>) -> Result<LinesRead, LineFault>
         ensures { Gives (volume_line self words.old) result }
     {
         let name = word(words)?;
@@ -291,7 +291,7 @@ impl Reading {
     }
 
     #[tactic(auto, unfolding(afs_model::specs::Script::file_line))]
-    fn file(mut self, alloc: Global, words: &mut Parts<'_>) -> Result<Reading, LineFault>
+    fn file(mut self, alloc: Global, words: &mut Parts<'_>) -> Result<LinesRead, LineFault>
         ensures { Gives (file_line self words.old) result }
     {
         let word = word(words)?;
@@ -305,7 +305,7 @@ impl Reading {
     }
 
     #[tactic(auto, unfolding(afs_model::specs::Script::do_line))]
-    fn task(mut self, alloc: Global, words: &mut Parts<'_>) -> Result<Reading, LineFault>
+    fn task(mut self, alloc: Global, words: &mut Parts<'_>) -> Result<LinesRead, LineFault>
         ensures { Gives (do_line self words.old) result }
     {
         let client = node(words, b'c', self.clients)?;
@@ -319,7 +319,7 @@ impl Reading {
     }
 
     #[tactic(auto, unfolding(afs_model::specs::Script::act_line))]
-    fn begin(mut self, words: &mut Parts<'_>) -> Result<Reading, LineFault>
+    fn begin(mut self, words: &mut Parts<'_>) -> Result<LinesRead, LineFault>
         ensures { Gives (act_line self words.old) result }
     {
         let client = node(words, b'c', self.clients)?;
@@ -331,7 +331,7 @@ impl Reading {
     }
 
     #[tactic(auto, unfolding(afs_model::specs::Script::deliver_line))]
-    fn deliver(mut self, words: &mut Parts<'_>) -> Result<Reading, LineFault>
+    fn deliver(mut self, words: &mut Parts<'_>) -> Result<LinesRead, LineFault>
         ensures { Gives (deliver_line self words.old) result }
     {
         let place = number(words, 1, u64::MAX)?;
@@ -345,20 +345,20 @@ impl Reading {
     }
 
     #[tactic(auto, unfolding(afs_model::specs::Script::bare_line))]
-    fn bare(self, words: &mut Parts<'_>) -> Result<Reading, LineFault>
+    fn bare(self, words: &mut Parts<'_>) -> Result<LinesRead, LineFault>
         ensures { Gives (bare_line self words.old) result }
     {
         end(words)?;
         Ok(self)
     }
 
-    fn told(
+    fn line_by_word(
         self,
         alloc: Global,
         first: FirstWord,
         words: &mut Parts<'_>,
-    ) -> Result<Reading, LineFault>
-        ensures { Gives (told first self words.old) result }
+    ) -> Result<LinesRead, LineFault>
+        ensures { Gives (line_by_word first self words.old) result }
     {
         match first {
             FirstWord::Cell => self.cell(words),
@@ -374,7 +374,7 @@ impl Reading {
     }
 
     #[tactic(auto, unfolding(afs_model::specs::Script::line_of))]
-    fn line_of(mut self, alloc: Global, words: &mut Parts<'_>) -> Result<Reading, LineFault>
+    fn line_of(mut self, alloc: Global, words: &mut Parts<'_>) -> Result<LinesRead, LineFault>
         ensures { Gives (line_of self words.old) result }
     {
         let word = word(words)?;
@@ -382,7 +382,7 @@ impl Reading {
         must(is_due(self.turn, first), Reason::Order)?;
         must(!is_unbuilt(first, words), Reason::Word)?;
         self.turn = next_turn(first);
-        self.told(alloc, first, words)
+        self.line_by_word(alloc, first, words)
     }
 }
 
@@ -396,7 +396,7 @@ fn is_silent(line: &[u8]) -> bool
     }
 }
 
-impl Reading {
+impl LinesRead {
     #[tactic(auto, unfolding(afs_model::specs::Script::line_at))]
     pub fn line(
         self,
@@ -404,7 +404,7 @@ impl Reading {
         number: u32,
         room: usize,
         line: &[u8],
-    ) -> Result<Reading, LineFault>
+    ) -> Result<LinesRead, LineFault>
         ensures value { Gives (line_at self number room line.now) result }
         ensures within { OnOk result (length line.now < room) }
         ensures few { OnOk result (number ≤ 200000) }
@@ -422,7 +422,7 @@ impl Reading {
     fn script(self, alloc: Global) -> Result<Script, AllocError>
         ensures { IfOk result (λ script. script ≡ script_in self) }
     {
-        let Reading {
+        let LinesRead {
             turn: _,
             servers,
             clients,

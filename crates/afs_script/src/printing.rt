@@ -649,11 +649,11 @@ mod tests {
     fn an_entry_is_told_line_by_line(rt: HostRuntime) -> Result<(), Fail> {
         let alloc = rt.alloc();
         let entry = fetched_entry(alloc)?;
-        let told =
+        let line_by_word =
             b"entry 3 c1\ngiven 2\nread c1 536870912.2.2 1 fetched f:616263ff\nanswer c1 -453\n";
         for wire in [false, true] {
             let read = print_entry(alloc, &entry, 3, 1, wire)?;
-            assert_eq!(rt; read.as_slice(), told.as_slice());
+            assert_eq!(rt; read.as_slice(), line_by_word.as_slice());
         }
         Ok(())
     }
@@ -664,13 +664,16 @@ mod tests {
         let alloc = rt.alloc();
         let entry = stored_entry(alloc)?;
         assert_eq!(rt; entry.parcels.len(), 2);
-        let told =
+        let line_by_word =
             b"entry 5 s1\nchange s1 c1.1.2 1\nversion 536870912.2.2 2 3 f:\nsent 18446744073709551614 s1 c1 reply 133 1.2 -453\nsent 18446744073709551615 c1 s1 call 133 1.2\n";
         let told_with_bytes =
             b"entry 5 s1\nchange s1 c1.1.2 1\nversion 536870912.2.2 2 3 f:\nsent 18446744073709551614 s1 c1 reply 133 1.2 -453 0000000000000000000000000000000000000000000000000000000000000000fffffe3b\nsent 18446744073709551615 c1 s1 call 133 1.2 0fa0\n";
-        for (wire, told) in [(false, told.as_slice()), (true, told_with_bytes.as_slice())] {
+        for (wire, line_by_word) in [
+            (false, line_by_word.as_slice()),
+            (true, told_with_bytes.as_slice()),
+        ] {
             let stored = print_entry(alloc, &entry, 5, 18446744073709551614, wire)?;
-            assert_eq!(rt; stored.as_slice(), told);
+            assert_eq!(rt; stored.as_slice(), line_by_word);
         }
         Ok(())
     }
@@ -681,9 +684,9 @@ mod tests {
         let script = script(alloc)?;
         let files = files(alloc)?;
         let end = print_final(alloc, &script, files.as_slice())?;
-        let told =
+        let line_by_word =
             b"final\nvolume s1 536870912 proj 0 0\nvnode 536870912.1.1 2 1 1 d:a%20b=2.2\nvnode 536870912.2.2 1 2 2 f:646566\nend\n";
-        assert_eq!(rt; end.as_slice(), told.as_slice());
+        assert_eq!(rt; end.as_slice(), line_by_word.as_slice());
 
         let mut lines = Lines::new(alloc);
         lines.push(Line::Void)?;

@@ -27,12 +27,12 @@ fn at_line<T>(number: u32, outcome: Result<T, LineFault>) -> Result<T, ScriptFau
 
 /// The reading with one more line.
 fn read_line(
-    reading: Reading,
+    reading: LinesRead,
     alloc: Global,
     number: u32,
     room: usize,
     line: &[u8],
-) -> Result<Reading, ScriptFault>
+) -> Result<LinesRead, ScriptFault>
     ensures value { GivesAtLine (at_line number (line_at reading number room line.now)) result }
     ensures within { OnOk result (length line.now < room) }
     ensures few { OnOk result (number ≤ 200000) }

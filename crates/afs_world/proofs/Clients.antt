@@ -16,7 +16,7 @@ use Rattle.afs_num.specs.declared.states.CacheEntry.{CacheEntry}
 use Rattle.afs_num.specs.declared.states.ClientState.{ClientState}
 use Rattle.afs_num.specs.declared.histories.Line.TheVariants as lines
 use Rattle.afs_model.specs.Steps.{Step}
-use Rattle.afs_model.specs.ClientRow.{find_cached, is_trusted, opens, begin_row, takes, counts, is_awaited, awaits, takes_in, client_row, asking, shows_step, calls_step, uses_step, ignores}
+use Rattle.afs_model.specs.ClientRow.{find_cached, is_trusted, opens, begin_row, takes, counts, is_awaited, awaits, client_hears, client_row, asking, shows_step, calls_step, shows_fetched_step, ignores}
 use Rattle.afs_world.specs.Asking.{IsShortRunning}
 use Rattle.afs_model.specs.Form.{IsShortAct}
 
@@ -48,7 +48,7 @@ stays c h = record { last = omega arith; running = h }
 takes_next : (me : Node) (c : ClientState) (clock place : ℕ) (act : Act) (r : FsReply) → IsShortRunning c.running → IsNext c (takes me c clock place act r).state
 takes_next me c clock place (Open fid) (replies.FetchData contents status callback sync) h =
     let entry : CacheEntry = record { fid = fid; index = status.sync_counter; expiry = callback.expiration_time; contents = contents } in
-    either_next c (is_trusted clock entry) (uses_step me c place entry) (calls_step me c (Open fid) (lines.Given place)) (record { last = omega arith; running = tt }) (asks_next c (Open fid) tt)
+    either_next c (is_trusted clock entry) (shows_fetched_step me c place entry) (calls_step me c (Open fid) (lines.Given place)) (record { last = omega arith; running = tt }) (asks_next c (Open fid) tt)
 takes_next me c clock place (Close fid contents) (replies.StoreData status sync) h = record { last = omega arith; running = tt }
 takes_next me c clock place act r h = stays c h
 
@@ -63,7 +63,7 @@ awaits_next me c clock place m None h = stays c h
 awaits_next me c clock place m (Some act) h =
     either_next c (is_awaited me c act m.head) (counts me c clock place act m.head m.carried) (ignores c place) (counts_next me c clock place act m.head m.carried h) (stays c h)
 
-takes_in_next : (me : Node) (c : ClientState) (clock place : ℕ) (r : Received) → IsShortRunning c.running → IsNext c (takes_in me c clock place r).state
+takes_in_next : (me : Node) (c : ClientState) (clock place : ℕ) (r : Received) → IsShortRunning c.running → IsNext c (client_hears me c clock place r).state
 takes_in_next me c clock place Nothing h = stays c h
 takes_in_next me c clock place (Unknown head) h = stays c h
 takes_in_next me c clock place (Unreadable head) h = stays c h

@@ -19,10 +19,10 @@ use Rattle.afs_num.specs.declared.histories.Outs.{Outs}
 use Rattle.afs_num.specs.declared.scripts.Act.{Act}
 use Rattle.afs_num.specs.declared.states.ClientState.{ClientState}
 use Rattle.afs_num.specs.declared.states.ServerState.{ServerState}
-use Rattle.afs_model.specs.Messages.{received, IsSound}
+use Rattle.afs_model.specs.Messages.{received, IsSoundReceived}
 use Rattle.afs_model.specs.Steps.{Step, Makes}
 use Rattle.afs_model.specs.ServerRow.{server_row}
-use Rattle.afs_model.specs.ClientRow.{the_server, begin_row, client_row, takes_in, ignores}
+use Rattle.afs_model.specs.ClientRow.{the_server, begin_row, client_row, client_hears, ignores}
 use Rattle.afs_model.specs.Runs.{Entry, Cell, put, voided, server_moves, client_moves, message_at, given_to, given_at, begun_by, moved, gives, begins, first_client}
 use Rattle.afs_num.specs.declared.scripts.Event.{Event}
 use Rattle.afs_num.specs.declared.scripts.Task.{Task}
@@ -31,7 +31,7 @@ use Rattle.afs_model.specs.Text.{CarryAll, parcels_sent}
 use Rattle.afs_world.specs.declared.world.World.{World}
 use Rattle.afs_world.specs.Serving.{IsWithin}
 use Rattle.afs_model.specs.Form.{IsShortAct, IsShortTask}
-use Rattle.afs_world.specs.Worlds.{messages_of, told, told_all, AreRead, cell_of, parcel_of_place, Holds, Tells, TellsPlayed, acts_left}
+use Rattle.afs_world.specs.Worlds.{messages_of, told, told_all, AreRead, cell_of, parcel_of_place, IsPlayable, Tells, TellsPlayed, acts_left}
 use Rattle.afs_world.proofs.Parcels.{messages_of-found, are_read, messages_of-append, AreRead-append, AtPlace, Carries, at_place}
 use Rattle.afs_world.proofs.Within.{within_more, row_within}
 use Rattle.afs_world.proofs.Clients.{IsNext, begins_next, row_next}
@@ -105,7 +105,7 @@ record Leaves (old new : World) (entry : parcelled.Entry) : Type 0 where
   places : length new.sent ≡ length old.sent + length entry.parcels
   read : AreRead entry.parcels
 
-leaves_tell : (old new : World) (entry : parcelled.Entry) (e : Entry) (c : Cell) → Holds old → Leaves old new entry → told entry ≡ e → cell_of new ≡ c → Tells old e c new
+leaves_tell : (old new : World) (entry : parcelled.Entry) (e : Entry) (c : Cell) → IsPlayable old → Leaves old new entry → told entry ≡ e → cell_of new ≡ c → Tells old e c new
 leaves_tell old new entry e c h l same reached =
     let count : length new.history ≡ length old.history + 1 = ap (λ (es : List parcelled.Entry). length es) l.history ∙ counted old.history entry in
     let before = h.last in
@@ -126,10 +126,10 @@ leaves_tell old new entry e c h l same reached =
       };
     }
 
-stays_next : (old : World) (c : ClientState) → Holds old → c ≡ old.client.state → IsNext old.client.state c
+stays_next : (old : World) (c : ClientState) → IsPlayable old → c ≡ old.client.state → IsNext old.client.state c
 stays_next old c h e = subst (λ (d : ClientState). IsNext old.client.state d) (sym e) (record { last = omega arith; running = h.running })
 
-same_within : (old : World) (s : ServerState) → Holds old → s ≡ old.server.state → IsWithin (length old.history + 2) s
+same_within : (old : World) (s : ServerState) → IsPlayable old → s ≡ old.server.state → IsWithin (length old.history + 2) s
 same_within old s h e = subst (IsWithin (length old.history + 2)) (sym e) (within_more (length old.history + 1) (length old.history + 2) old.server.state (omega arith) h.within)
 
 -- ---- nothing happens, or a client that isn't there is given a message
@@ -137,7 +137,7 @@ same_within old s h e = subst (IsWithin (length old.history + 2)) (sym e) (withi
 abbrev quiet_entry : Option Node → List Line → parcelled.Entry
 quiet_entry n ls = record { node = n; lines = ls; parcels = [] }
 
-quiet_leaves : (old new : World) (n : Option Node) (ls : List Line) → Holds old → new.history ≡ old.history ++ quiet_entry n ls ∷ [] → new.server ≡ old.server → new.client ≡ old.client → new.sent ≡ old.sent → Leaves old new (quiet_entry n ls)
+quiet_leaves : (old new : World) (n : Option Node) (ls : List Line) → IsPlayable old → new.history ≡ old.history ++ quiet_entry n ls ∷ [] → new.server ≡ old.server → new.client ≡ old.client → new.sent ≡ old.sent → Leaves old new (quiet_entry n ls)
 quiet_leaves old new n ls h told s c sent = record {
   history = told;
   server = ap (λ x. x.node) s;
@@ -152,12 +152,12 @@ quiet_leaves old new n ls h told s c sent = record {
 quiet_cell : (old new : World) → new.server ≡ old.server → new.client ≡ old.client → new.sent ≡ old.sent → cell_of new ≡ cell_of old
 quiet_cell old new s c sent = cell_is _ _ _ _ _ _ (ap (λ x. x.state) s) (ap (λ x. x.state) c) (ap messages_of sent)
 
-pub skip_tells : (old new : World) → Holds old → new.history ≡ old.history ++ quiet_entry None (lines.Void ∷ []) ∷ [] → new.server ≡ old.server → new.client ≡ old.client → new.sent ≡ old.sent → Tells old (voided (cell_of old)).entry (cell_of old) new
+pub skip_tells : (old new : World) → IsPlayable old → new.history ≡ old.history ++ quiet_entry None (lines.Void ∷ []) ∷ [] → new.server ≡ old.server → new.client ≡ old.client → new.sent ≡ old.sent → Tells old (voided (cell_of old)).entry (cell_of old) new
 skip_tells old new h told s c sent = leaves_tell old new _ _ _ h (quiet_leaves old new None (lines.Void ∷ []) h told s c sent) refl (quiet_cell old new s c sent)
 
 -- ---- a node moves
 
-pub server_tells : (old new : World) (st : Step ServerState) (outs : Outs) → Holds old → IsWithin (length old.history + 2) st.state → Makes st new.server.state outs → new.server.node ≡ old.server.node → new.client ≡ old.client → new.sent ≡ old.sent ++ outs.parcels
+pub server_tells : (old new : World) (st : Step ServerState) (outs : Outs) → IsPlayable old → IsWithin (length old.history + 2) st.state → Makes st new.server.state outs → new.server.node ≡ old.server.node → new.client ≡ old.client → new.sent ≡ old.sent ++ outs.parcels
     → new.history ≡ old.history ++ record { node = Some (Server 1); lines = outs.lines; parcels = outs.parcels } ∷ []
     → Tells old (server_moves (cell_of old) st).entry (server_moves (cell_of old) st).cell new
 server_tells old new st outs h within made node c sent history =
@@ -177,7 +177,7 @@ server_tells old new st outs h within made node c sent history =
     (entry_is _ _ _ _ _ made.lines ms)
     (cell_is _ _ _ _ _ _ made.state (ap (λ x. x.state) c) (ap messages_of sent ∙ messages_of-append old.sent outs.parcels ∙ ap (λ (t : List Message). messages_of old.sent ++ t) ms))
 
-pub client_tells : (old new : World) (st : Step ClientState) (outs : Outs) → Holds old → IsNext old.client.state st.state → Makes st new.client.state outs → new.client.node ≡ old.client.node → new.server ≡ old.server → new.sent ≡ old.sent ++ outs.parcels
+pub client_tells : (old new : World) (st : Step ClientState) (outs : Outs) → IsPlayable old → IsNext old.client.state st.state → Makes st new.client.state outs → new.client.node ≡ old.client.node → new.server ≡ old.server → new.sent ≡ old.sent ++ outs.parcels
     → new.history ≡ old.history ++ record { node = Some (Client 1); lines = outs.lines; parcels = outs.parcels } ∷ []
     → Tells old (client_moves (cell_of old) 1 st).entry (client_moves (cell_of old) 1 st).cell new
 client_tells old new st outs h next made node s sent history =
@@ -205,7 +205,7 @@ both_is s ms ns j k p q = λ i. with_clients s (p i) (q i)
 other_cell : (old : World) (n : ℕ) → (1 ≡ n → ⊥) → cell_of old ≡ with_clients old.server.state (messages_of old.sent ++ []) (put n first_client (others old.client.state))
 other_cell old n ne = sym (both_is old.server.state _ _ _ _ (append-nil (messages_of old.sent)) (other_stays n old.client.state ne))
 
-pub note_tells : (old new : World) (n place : ℕ) → (1 ≡ n → ⊥) → Holds old → new.history ≡ old.history ++ quiet_entry (Some (Client n)) (lines.Given place ∷ []) ∷ [] → new.server ≡ old.server → new.client ≡ old.client → new.sent ≡ old.sent
+pub note_tells : (old new : World) (n place : ℕ) → (1 ≡ n → ⊥) → IsPlayable old → new.history ≡ old.history ++ quiet_entry (Some (Client n)) (lines.Given place ∷ []) ∷ [] → new.server ≡ old.server → new.client ≡ old.client → new.sent ≡ old.sent
     → Tells old (client_moves (cell_of old) n (ignores first_client place)).entry (client_moves (cell_of old) n (ignores first_client place)).cell new
 note_tells old new n place ne h told s c sent =
     leaves_tell old new _ _ _ h (quiet_leaves old new (Some (Client n)) (lines.Given place ∷ []) h told s c sent) refl
@@ -232,13 +232,13 @@ at_none old new place None t a = t
 at_none old new place (Some m) t a = absurd a
 
 -- what was given where this parcel stands at the place
-at_parcel : (old new : World) (place : ℕ) (p : Parcel) → Holds old → parcel_of_place old.sent place ≡ Some p → ((m : Message) → Carries p m → GivenTells old place (Some m) new) → MovedTells old place new
+at_parcel : (old new : World) (place : ℕ) (p : Parcel) → IsPlayable old → parcel_of_place old.sent place ≡ Some p → ((m : Message) → Carries p m → GivenTells old place (Some m) new) → MovedTells old place new
 at_parcel old new place p h e f =
     given_moves old new place
     (at_message old new place p (message_at (messages_of old.sent) place) f
     (subst (λ (o : Option Parcel). AtPlace o (message_at (messages_of old.sent) place)) e (at_place old.sent (messages_of old.sent) h.sent place)))
 
-pub lost_tells : (old new : World) (place : ℕ) → Holds old → parcel_of_place old.sent place ≡ None → Tells old (voided (cell_of old)).entry (cell_of old) new → MovedTells old place new
+pub lost_tells : (old new : World) (place : ℕ) → IsPlayable old → parcel_of_place old.sent place ≡ None → Tells old (voided (cell_of old)).entry (cell_of old) new → MovedTells old place new
 lost_tells old new place h e t =
     given_moves old new place
     (at_none old new place (message_at (messages_of old.sent) place) t
@@ -267,10 +267,10 @@ stray_tells old new place m (Admin n) x t = t
 note_row : (old new : World) (n place : ℕ) (m : Message) → (1 ≡ n → ⊥) → Tells old (client_moves (cell_of old) n (ignores first_client place)).entry (client_moves (cell_of old) n (ignores first_client place)).cell new → ToTells old place m new (Client n)
 unfolding client_row
 note_row old new n place m ne t =
-    subst (λ (c : ClientState). Tells old (client_moves (cell_of old) n (takes_in (Client n) c 0 place (Whole m))).entry (client_moves (cell_of old) n (takes_in (Client n) c 0 place (Whole m))).cell new) (sym (other_is_first n old.client.state ne)) t
+    subst (λ (c : ClientState). Tells old (client_moves (cell_of old) n (client_hears (Client n) c 0 place (Whole m))).entry (client_moves (cell_of old) n (client_hears (Client n) c 0 place (Whole m))).cell new) (sym (other_is_first n old.client.state ne)) t
 
-pub served_tells : (old new : World) (place : ℕ) (p : Parcel) (outs : Outs) → Holds old → parcel_of_place old.sent place ≡ Some p → p.head.to ≡ Server 1
-    → IsSound (received p.bytes) → Makes (server_row old.server.node old.server.state 0 place (received p.bytes)) new.server.state outs → new.server.node ≡ old.server.node → new.client ≡ old.client → new.sent ≡ old.sent ++ outs.parcels
+pub served_tells : (old new : World) (place : ℕ) (p : Parcel) (outs : Outs) → IsPlayable old → parcel_of_place old.sent place ≡ Some p → p.head.to ≡ Server 1
+    → IsSoundReceived (received p.bytes) → Makes (server_row old.server.node old.server.state 0 place (received p.bytes)) new.server.state outs → new.server.node ≡ old.server.node → new.client ≡ old.client → new.sent ≡ old.sent ++ outs.parcels
     → new.history ≡ old.history ++ record { node = Some (Server 1); lines = outs.lines; parcels = outs.parcels } ∷ []
     → MovedTells old place new
 served_tells old new place p outs h e to sound made node c sent history =
@@ -278,12 +278,12 @@ served_tells old new place p outs h e to sound made node c sent history =
     subst (ToTells old place m new) (sym (to_is p m (Server 1) k to))
     (server_tells old new (server_row the_server old.server.state 0 place (Whole m)) outs h
     (within_more (length old.history + 1 + 1) (length old.history + 2) _ (omega arith)
-    (row_within the_server (length old.history + 1) old.server.state 0 place (Whole m) h.within (subst IsSound k.bytes sound)))
+    (row_within the_server (length old.history + 1) old.server.state 0 place (Whole m) h.within (subst IsSoundReceived k.bytes sound)))
     (subst (λ n. Makes (server_row n old.server.state 0 place (Whole m)) new.server.state outs) h.server
     (subst (λ r. Makes (server_row old.server.node old.server.state 0 place r) new.server.state outs) k.bytes made))
     node c sent history))
 
-pub received_tells : (old new : World) (place : ℕ) (p : Parcel) (outs : Outs) → Holds old → parcel_of_place old.sent place ≡ Some p → p.head.to ≡ Client 1
+pub received_tells : (old new : World) (place : ℕ) (p : Parcel) (outs : Outs) → IsPlayable old → parcel_of_place old.sent place ≡ Some p → p.head.to ≡ Client 1
     → Makes (client_row old.client.node old.client.state 0 place (received p.bytes)) new.client.state outs → new.client.node ≡ old.client.node → new.server ≡ old.server → new.sent ≡ old.sent ++ outs.parcels
     → new.history ≡ old.history ++ record { node = Some (Client 1); lines = outs.lines; parcels = outs.parcels } ∷ []
     → MovedTells old place new
@@ -296,11 +296,11 @@ received_tells old new place p outs h e to made node s sent history =
     (subst (λ r. Makes (client_row old.client.node old.client.state 0 place r) new.client.state outs) k.bytes made))
     node s sent history))
 
-pub strays_tell : (old new : World) (place : ℕ) (p : Parcel) → Holds old → parcel_of_place old.sent place ≡ Some p → IsStray p.head.to → Tells old (voided (cell_of old)).entry (cell_of old) new → MovedTells old place new
+pub strays_tell : (old new : World) (place : ℕ) (p : Parcel) → IsPlayable old → parcel_of_place old.sent place ≡ Some p → IsStray p.head.to → Tells old (voided (cell_of old)).entry (cell_of old) new → MovedTells old place new
 strays_tell old new place p h e stray t =
     at_parcel old new place p h e (λ m k. stray_tells old new place m m.head.to (subst IsStray (ap (λ x. x.to) k.head) stray) t)
 
-pub noted_tells : (old new : World) (place n : ℕ) (p : Parcel) → Holds old → parcel_of_place old.sent place ≡ Some p → p.head.to ≡ Client n → (1 ≡ n → ⊥)
+pub noted_tells : (old new : World) (place n : ℕ) (p : Parcel) → IsPlayable old → parcel_of_place old.sent place ≡ Some p → p.head.to ≡ Client n → (1 ≡ n → ⊥)
     → new.history ≡ old.history ++ quiet_entry (Some (Client n)) (lines.Given place ∷ []) ∷ [] → new.server ≡ old.server → new.client ≡ old.client → new.sent ≡ old.sent → MovedTells old place new
 noted_tells old new place n p h e to ne history s c sent =
     at_parcel old new place p h e (λ m k.
@@ -309,7 +309,7 @@ noted_tells old new place n p h e to ne history s c sent =
 
 -- ---- an act begins
 
-pub begun_tells : (old new : World) (act : Act) (outs : Outs) → Holds old → IsShortAct act → old.client.state.running ≡ None
+pub begun_tells : (old new : World) (act : Act) (outs : Outs) → IsPlayable old → IsShortAct act → old.client.state.running ≡ None
     → Makes (begin_row old.client.node old.client.state 0 act) new.client.state outs → new.client.node ≡ old.client.node → new.server ≡ old.server → new.sent ≡ old.sent ++ outs.parcels
     → new.history ≡ old.history ++ record { node = Some (Client 1); lines = outs.lines; parcels = outs.parcels } ∷ []
     → Tells old (moved (cell_of old) (begins 1 act)).entry (moved (cell_of old) (begins 1 act)).cell new

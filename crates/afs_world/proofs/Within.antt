@@ -19,7 +19,7 @@ use Rattle.afs_num.specs.declared.states.StoredFile.{StoredFile}
 use Rattle.afs_num.specs.declared.states.ServerState.{ServerState}
 use Rattle.afs_model.specs.Heads.{contents_limit, is_zero, IsSoundHead}
 use Rattle.afs_model.specs.FsRows.{fetch_data, store_data, call_rows, call_number, call_fields, HasRow}
-use Rattle.afs_model.specs.Messages.{IsSound, IsSoundCarried, IsSoundMessage}
+use Rattle.afs_model.specs.Messages.{IsSoundReceived, IsSoundCarried, HasSpelling}
 use Rattle.afs_model.specs.ServerRow.{serves, not_served, bad_fields, Standing, is_older, is_last, is_newer, standing, seat_of, find_file, stored, Decision, drops, tells_boot, repeats, refuses, grants, saves, fetches, stores, Request, asks, asks_unknown, asks_unreadable, runs, answers_again, admits, called, hears, decides, keeps, saved, does, server_row, refusal}
 use Rattle.afs_world.specs.Serving.{KeepsSound, IsKept, IsWithin, IsSoundCall}
 use Rattle.afs_world.proofs.Limits.{All-find}
@@ -36,7 +36,7 @@ kept_more n m v le h =
 pub within_more : (n m : ℕ) (s : ServerState) → n ≤ m → IsWithin n s → IsWithin m s
 within_more n m s le h = record { files = All-weaken (IsKept n) (IsKept m) s.files (λ v. kept_more n m v le) h.files; kept = h.kept }
 
-keeps_within : (n : ℕ) (s : ServerState) (head : Head) (reply : Message) → IsSoundMessage reply → IsWithin n s → IsWithin n (keeps head reply s)
+keeps_within : (n : ℕ) (s : ServerState) (head : Head) (reply : Message) → HasSpelling reply → IsWithin n s → IsWithin n (keeps head reply s)
 keeps_within n s head reply sound h = record {
   files = h.files;
   kept = All-push KeepsSound _ _ (All-filter (λ t. not (same_node t.caller head.from)) KeepsSound s.seats h.kept) sound;
@@ -138,12 +138,12 @@ hears_fine me n s head (carried.Refusal code) h sound c = tt
 hears_fine me n s head (carried.Reply reply) h sound c = tt
 hears_fine me n s head carried.Notice h sound c = tt
 
-decides_fine : (me : Node) (n : ℕ) (s : ServerState) (r : Received) → IsWithin n s → IsSound r → IsFine n (decides me s r)
+decides_fine : (me : Node) (n : ℕ) (s : ServerState) (r : Received) → IsWithin n s → IsSoundReceived r → IsFine n (decides me s r)
 decides_fine me n s Nothing h sound = tt
 decides_fine me n s (Unknown head) h sound = called_fine me n s head asks_unknown h sound tt
 decides_fine me n s (Unreadable head) h sound = called_fine me n s head asks_unreadable h sound tt
 decides_fine me n s (Whole m) h sound = hears_fine me n s m.head m.carried h sound.0 sound.1
 
-pub row_within : (me : Node) (n : ℕ) (s : ServerState) (clock place : ℕ) (r : Received) → IsWithin n s → IsSound r → IsWithin (n + 1) (server_row me s clock place r).state
+pub row_within : (me : Node) (n : ℕ) (s : ServerState) (clock place : ℕ) (r : Received) → IsWithin n s → IsSoundReceived r → IsWithin (n + 1) (server_row me s clock place r).state
 unfolding server_row
 row_within me n s clock place r h sound = does_within me n s clock place (decides me s r) (decides_fine me n s r h sound) h

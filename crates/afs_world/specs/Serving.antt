@@ -13,7 +13,7 @@ use Rattle.afs_num.specs.declared.calls.FsCall.{FsCall}
 use Rattle.afs_num.specs.declared.calls.FsCall.TheVariants as calls
 use Rattle.afs_model.specs.Heads.{contents_limit}
 use Rattle.afs_model.specs.FsRows.{fetch_data, store_data}
-use Rattle.afs_model.specs.Messages.{IsSoundMessage}
+use Rattle.afs_model.specs.Messages.{HasSpelling}
 use Rattle.afs_model.specs.Steps.{Step}
 use Rattle.afs_model.specs.ServerRow.{no_file, refuses_step, grants_step, saves_step, keeps, saved, stored_reply, key_of, version_of}
 use Rattle.afs_model.specs.ServerRow as row
@@ -52,7 +52,7 @@ IsSoundRequest opcode (Call call) = IsSoundCall opcode call
 IsSoundRequest opcode request = Unit {0}
 
 abbrev pub KeepsSound : Seat → Type 0
-KeepsSound seat = IfSome seat.reply IsSoundMessage
+KeepsSound seat = IfSome seat.reply HasSpelling
 
 -- the counts of a file are at most n, and its contents are within their limit
 pub record IsKept (n : ℕ) (file : StoredFile) : Type 0 where

@@ -49,7 +49,7 @@ abbrev pub acts_left : List Task → List Act
 acts_left ts = map (λ t. t.act) ts
 
 -- what is kept from event to event
-pub record Holds (w : World) : Type 0 where
+pub record IsPlayable (w : World) : Type 0 where
   pub server : w.server.node ≡ Server 1
   pub client : w.client.node ≡ Client 1
   pub within : IsWithin (length w.history + 1) w.server.state
@@ -64,7 +64,7 @@ pub record Tells (old : World) (entry : Entry) (reached : Cell) (new : World) : 
   pub history : told_all new.history ≡ told_all old.history ++ entry ∷ []
   pub count : length new.history ≡ length old.history + 1
   pub cell : cell_of new ≡ reached
-  pub holds : Holds new
+  pub holds : IsPlayable new
 
 -- the world told one more step
 abbrev pub TellsMoved : World → Moved → World → Type 0

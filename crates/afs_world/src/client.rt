@@ -5,9 +5,9 @@ ghost use Rattle.std.specs.Option.{option_copied};
 ghost use Rattle.afs_num.specs.Nodes.{IsNode, same_node};
 ghost use Rattle.afs_num.specs.Fids.{same_fid};
 ghost use Rattle.afs_model.specs.FsRows.{call_rows, call_number, call_fields, HasRow};
-ghost use Rattle.afs_model.specs.Messages.{found, meant, received, IsSoundMessage};
+ghost use Rattle.afs_model.specs.Messages.{found, meant, received, HasSpelling};
 ghost use Rattle.afs_model.specs.Steps.{Step, Makes};
-ghost use Rattle.afs_model.specs.ClientRow.{find_cached, used_first, is_trusted, refreshed, guest, opcode_of, nothing_set, call_of, call_head, call_message, asking, calls_step, zero_code, shows_step, opens, begin_row, ignores, ended, answers_step, uses_step, takes_fetched, takes_stored, takes, counts, resends_step, is_awaited, awaits, client_row};
+ghost use Rattle.afs_model.specs.ClientRow.{find_cached, used_first, is_trusted, refreshed, guest, opcode_of, nothing_set, call_of, call_head, call_message, asking, calls_step, zero_code, shows_step, opens, begin_row, ignores, ended, answers_step, shows_fetched_step, takes_fetched, takes_stored, takes, counts, resends_step, is_awaited, awaits, client_row};
 ghost use Rattle.afs_world.specs.Asking.{IsShortRunning};
 ghost use Rattle.afs_model.specs.Form.{IsShortAct};
 
@@ -349,7 +349,7 @@ impl CacheManager {
         place: u64,
         entry: CacheEntry,
     ) -> Result<Outs, AllocError>
-        ensures ok { IfOk result (Makes (uses_step self.old.node self.old.state place entry) self.new.state) }
+        ensures ok { IfOk result (Makes (shows_fetched_step self.old.node self.old.state place entry) self.new.state) }
         ensures err { OnErr result (self.new ≡ self.old) }
         ensures node { self.new.node ≡ self.old.node }
     {

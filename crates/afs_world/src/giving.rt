@@ -1,7 +1,7 @@
 //! What a step gives out.
 
 ghost use Rattle.std.specs.Prelude.{◌≡◌, [], ◌∷◌, IfOk};
-ghost use Rattle.afs_model.specs.Messages.{found, meant, IsSoundMessage};
+ghost use Rattle.afs_model.specs.Messages.{found, meant, HasSpelling};
 
 use afs_fsrpc::messages::encode_message;
 use afs_num::histories::{Line, Lines, Outs};
@@ -12,7 +12,7 @@ use std::alloc::{AllocError, Global};
 
 /// What a step gives out that sends this one message.
 pub(crate) fn outs_with(alloc: Global, lines: Lines, message: &Message) -> Result<Outs, AllocError>
-    requires { IsSoundMessage message.now }
+    requires { HasSpelling message.now }
     ensures lines { IfOk result (λ o. o.lines ≡ lines) }
     ensures sent { IfOk result (λ o. found o.parcels ≡ meant (message.now ∷ [])) }
 {

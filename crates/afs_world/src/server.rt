@@ -7,9 +7,9 @@ ghost use Rattle.afs_num.specs.Nodes.{IsNode, same_node};
 ghost use Rattle.afs_num.specs.Fids.{same_fid};
 ghost use Rattle.afs_model.specs.Heads.{contents_limit, is_zero, IsSoundHead};
 ghost use Rattle.afs_model.specs.FsRows.{fetch_data, store_data};
-ghost use Rattle.afs_model.specs.Messages.{found, meant, received, IsSound, IsSoundMessage};
+ghost use Rattle.afs_model.specs.Messages.{found, meant, received, IsSoundReceived, HasSpelling};
 ghost use Rattle.afs_model.specs.Steps.{Step, Makes};
-ghost use Rattle.afs_model.specs.ServerRow.{seat_of, seated, find_file, with_file, stored, status_of, no_release, promise_until, promise_ticks, version_of, key_of, reply_head, keeps, saved, pair_below, runs, serves, code_of_unreadable, called, admits, standing, decides, does, server_row, refuses_step, grants_step, saves_step, refusal, told, boot_told};
+ghost use Rattle.afs_model.specs.ServerRow.{seat_of, seated, find_file, with_file, stored, status_of, no_release, promise_until, promise_ticks, version_of, key_of, reply_head, keeps, saved, pair_below, runs, serves, code_of_unreadable, called, admits, standing, decides, does, server_row, refuses_step, grants_step, saves_step, refusal, sends_step, boot_told};
 ghost use Rattle.afs_num.specs.declared.states.ServerState.{ServerState};
 ghost use Rattle.afs_world.specs.Serving.{asked_by, fetches_step, stores_step, saved_step, IsSoundRequest, KeepsSound, IsKept, IsWithin, count_limit};
 
@@ -294,7 +294,7 @@ impl FileServer {
         reply: Message,
         lines: Lines,
     ) -> Result<Outs, AllocError>
-        requires { IsSoundMessage reply }
+        requires { HasSpelling reply }
         ensures ok { IfOk result (λ o. Makes (record { state = keeps head.now reply self.old.state; lines = lines; sent = reply ∷ [] }) self.new.state o) }
         ensures err { OnErr result (self.new ≡ self.old) }
         ensures node { self.new.node ≡ self.old.node }
@@ -454,7 +454,7 @@ impl FileServer {
         lines: Lines,
         file: StoredFile,
     ) -> Result<Outs, AllocError>
-        requires { IsSoundMessage reply }
+        requires { HasSpelling reply }
         ensures ok { IfOk result (λ o. Makes (record { state = keeps head.now reply (saved file self.old.state); lines = lines; sent = reply ∷ [] }) self.new.state o) }
         ensures err { OnErr result (self.new ≡ self.old) }
         ensures node { self.new.node ≡ self.old.node }
@@ -506,7 +506,7 @@ impl FileServer {
 
     /// A step without a message.
     fn quiet(&self, alloc: Global, place: u64) -> Result<Outs, AllocError>
-        ensures { IfOk result (Makes (told self.now.state place []) self.now.state) }
+        ensures { IfOk result (Makes (sends_step self.now.state place []) self.now.state) }
     {
         let lines = given(alloc, place)?;
         Ok(Outs {
@@ -517,8 +517,8 @@ impl FileServer {
 
     /// The kept reply, once more.
     fn repeat(&self, alloc: Global, place: u64, reply: &Message) -> Result<Outs, AllocError>
-        requires { IsSoundMessage reply.now }
-        ensures { IfOk result (Makes (told self.now.state place (reply.now ∷ [])) self.now.state) }
+        requires { HasSpelling reply.now }
+        ensures { IfOk result (Makes (sends_step self.now.state place (reply.now ∷ [])) self.now.state) }
     {
         let lines = given(alloc, place)?;
         outs_with(alloc, lines, reply)
@@ -527,7 +527,7 @@ impl FileServer {
     /// Tells the caller this server's boot number.
     fn tell_boot(&self, alloc: Global, place: u64, head: &Head) -> Result<Outs, AllocError>
         requires { IsSoundHead head.now }
-        ensures { IfOk result (Makes (told self.now.state place (boot_told self.now.state.boot head.now ∷ [])) self.now.state) }
+        ensures { IfOk result (Makes (sends_step self.now.state place (boot_told self.now.state.boot head.now ∷ [])) self.now.state) }
     {
         let mut head = head_of_reply(self.state.boot, head);
         head.half = Half::Boot;
@@ -614,7 +614,7 @@ impl FileServer {
         requires limits { IsWithin count_limit self.old.state }
         requires now { now ≤ 1000000000 }
         ensures ok { IfOk result (Makes (server_row self.old.node self.old.state now place (received bytes.now)) self.new.state) }
-        ensures sound { OnOk result (IsSound (received bytes.now)) }
+        ensures sound { OnOk result (IsSoundReceived (received bytes.now)) }
         ensures err { OnErr result (self.new ≡ self.old) }
         ensures node { self.new.node ≡ self.old.node }
     {

@@ -8,7 +8,7 @@ ghost use Rattle.afs_model.specs.Runs.{start, moved, gives, begins, files_of};
 ghost use Rattle.afs_model.specs.Acts.{events_of};
 ghost use Rattle.afs_model.specs.Playing.{Played, as_played, begun, played, entries_of, cell_after, all_acts};
 ghost use Rattle.afs_model.specs.Form.{IsShortAct, IsShortTask, HasForm};
-ghost use Rattle.afs_world.specs.Worlds.{messages_of, told, told_all, AreRead, cell_of, acts_left, parcel_of_place, Holds, Tells, TellsMoved, TellsPlayed};
+ghost use Rattle.afs_world.specs.Worlds.{messages_of, told, told_all, AreRead, cell_of, acts_left, parcel_of_place, IsPlayable, Tells, TellsMoved, TellsPlayed};
 
 use crate::client::CacheManager;
 use crate::server::FileServer;
@@ -112,7 +112,7 @@ impl World {
 
     /// The message of this place is given to its receiver.
     fn deliver(&mut self, alloc: Global, place: u64) -> Result<(), AllocError>
-        requires holds { Holds self.old }
+        requires holds { IsPlayable self.old }
         requires length { length self.old.history < 1000000 }
         ensures { OnOk result (TellsMoved self.old (moved (cell_of self.old) (gives place)) self.new) }
     {
@@ -156,7 +156,7 @@ impl World {
 
     /// The client, which is idle, begins this act.
     fn begin(&mut self, alloc: Global, act: &Act) -> Result<(), AllocError>
-        requires holds { Holds self.old }
+        requires holds { IsPlayable self.old }
         requires length { length self.old.history < 1000000 }
         requires idle { self.old.client.state.running ≡ None }
         requires short { IsShortAct act.now }
@@ -169,7 +169,7 @@ impl World {
 
     /// The client begins the first of these tasks, where it is idle; the tasks that are left.
     fn act<'a>(&mut self, alloc: Global, tasks: &'a [Task]) -> Result<&'a [Task], AllocError>
-        requires holds { Holds self.old }
+        requires holds { IsPlayable self.old }
         requires length { length self.old.history < 1000000 }
         requires short { All IsShortTask tasks.now }
         ensures told { OnOk result (TellsPlayed self.old (begun (cell_of self.old) (acts_left tasks.entry.now) self.old.client.state.running) self.new) }
@@ -195,7 +195,7 @@ impl World {
         event: &Event,
         tasks: &'a [Task],
     ) -> Result<&'a [Task], AllocError>
-        requires holds { Holds self.old }
+        requires holds { IsPlayable self.old }
         requires length { length self.old.history < 1000000 }
         requires short { All IsShortTask tasks.now }
         ensures told { OnOk result (TellsPlayed self.old (played (cell_of self.old) (acts_left tasks.entry.now) event.now) self.new) }
@@ -218,7 +218,7 @@ impl World {
     fn new(alloc: Global, script: &Script) -> Result<World, AllocError>
         requires { HasForm script.now }
         ensures cell { IfOk result (λ w. cell_of w ≡ start script.now) }
-        ensures holds { IfOk result Holds }
+        ensures holds { IfOk result IsPlayable }
         ensures history { IfOk result (λ w. w.history ≡ []) }
     {
         let files = first_files(alloc, &script.volumes)?;
@@ -249,12 +249,12 @@ impl World {
     /// Plays these events.
     #[tactic(auto, unfolding(afs_model::specs::Playing::entries_of, afs_model::specs::Playing::cell_after))]
     fn play(&mut self, alloc: Global, events: &[Event], tasks: &[Task]) -> Result<(), AllocError>
-        requires holds { Holds self.old }
+        requires holds { IsPlayable self.old }
         requires length { length self.old.history + length events.now ≤ 1000000 }
         requires short { All IsShortTask tasks.now }
         ensures told { OnOk result (told_all self.new.history ≡ told_all self.old.history ++ entries_of (cell_of self.old) (acts_left tasks.now) events.now) }
         ensures cell { OnOk result (cell_of self.new ≡ cell_after (cell_of self.old) (acts_left tasks.now) events.now) }
-        ensures holds { OnOk result (Holds self.new) }
+        ensures holds { OnOk result (IsPlayable self.new) }
     {
         let mut left = tasks;
         for event in events {

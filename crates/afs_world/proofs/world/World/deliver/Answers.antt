@@ -3,7 +3,7 @@ use Rattle.afs_num.specs.declared.types.Node.TheVariants.{Server, Client}
 use Rattle.afs_model.specs.Steps.{Makes}
 use Rattle.afs_model.specs.ServerRow.{server_row}
 use Rattle.afs_model.specs.ClientRow.{client_row}
-use Rattle.afs_model.specs.Messages.{received, IsSound}
+use Rattle.afs_model.specs.Messages.{received, IsSoundReceived}
 use Rattle.afs_world.proofs.Telling.{served_tells, received_tells, noted_tells, lost_tells, IsStray, strays_tell, skip_tells}
 use Rattle.afs_world.proofs.world.World.deliver.Goals as goal
 
@@ -20,7 +20,7 @@ returns-in_ok-tell-in-Server-eq1 c =
     let gave = c.in_ok-outs-in-Server-eq1.ensures in
     let p = c.in-Some.parcel.now in
     served_tells old c.tell.new.self c.args.place p outs c.requires.holds (sym c.in-Some.ensures) (c.in-Server-eq1.is ∙ ap Server (sym c.in-Server-eq1.field-0-is ∙ c.in-Server-eq1.field-0-test))
-    (subst (λ b. IsSound (received b)) c.as_slice.ensures gave.sound)
+    (subst (λ b. IsSoundReceived (received b)) c.as_slice.ensures gave.sound)
     (subst (λ x. Makes (server_row old.server.node old.server.state 0 c.args.place (received p.bytes)) x.state outs) (sym told.server) (subst (λ b. Makes (server_row old.server.node old.server.state 0 c.args.place (received b)) c.handle.new.self.state outs) c.as_slice.ensures gave.ok))
     (ap (λ x. x.node) told.server ∙ gave.node) told.client told.sent told.history
 
