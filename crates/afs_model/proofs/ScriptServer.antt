@@ -76,11 +76,11 @@ least_by : (t : Bool) (low k n : ℕ) → nat_le low k ≡ t → cond t (Some k)
 least_by true low k n t e = let q = some_number k n e in (subst (λ (m : ℕ). low ≤ m) q (le_of_test low k t), q)
 least_by false low k n t e = absurd cc
 
-least : (low n : ℕ) (o : Option ℕ) → at_least low o ≡ Some n → (low ≤ n) × (o ≡ Some n)
+pub least : (low n : ℕ) (o : Option ℕ) → at_least low o ≡ Some n → (low ≤ n) × (o ≡ Some n)
 least low n None e = absurd cc
 least low n (Some k) e = let q = least_by (nat_le low k) low k n refl e in (q.0, ap (λ (m : ℕ). Some m) q.1)
 
-range : (low high n : ℕ) (word : List ℕ) → ranged low high word ≡ Some n → (low ≤ n) × (n ≤ high)
+pub range : (low high n : ℕ) (word : List ℕ) → ranged low high word ≡ Some n → (low ≤ n) × (n ≤ high)
 unfolding ranged
 range low high n word e = let q = least low n (numeral high word) e in (q.0, numeral_range high n word q.1)
 

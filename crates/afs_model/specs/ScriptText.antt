@@ -1,5 +1,5 @@
 -- Scripts as they are written, and what holds of their reading.
-use Rattle.std.specs.Prelude.{ℕ, Bool, true, false, List, [], ◌∷◌, ◌++◌, ◌+◌, ◌-◌, ◌/◌, ◌%◌, ◌^◌, ◌<◌, ◌≤◌, ◌≡◌, not, nat_eq, nat_le, length, map, Option, Some, None, Result, Ok, Err, if◌then◌else◌, codes}
+use Rattle.std.specs.Prelude.{ℕ, Bool, true, false, List, [], ◌∷◌, ◌++◌, ◌+◌, ◌-◌, ◌/◌, ◌%◌, ◌^◌, ◌<◌, ◌≤◌, ◌≡◌, not, nat_eq, nat_le, length, map, filter, Option, Some, None, Result, Ok, Err, if◌then◌else◌, codes}
 use Rattle.std.specs.List.{list_all, list_any, flat_map}
 use Rattle.std.specs.Fmt.{decimal}
 use Rattle.afs_num.specs.Names.{is_name_of, name_ok, volume_name_ok}
@@ -17,7 +17,7 @@ use Rattle.afs_num.specs.declared.scripts.VolumeLine.{VolumeLine}
 use Rattle.afs_num.specs.declared.scripts.Script.{Script}
 use Rattle.afs_num.specs.declared.scripts.Reason.{Reason}
 use Rattle.afs_model.specs.ScriptWords.{◌>>=◌}
-use Rattle.afs_model.specs.Script.{LinesRead, nothing_read, at_line, line_at, last_at, script_of, is_file_here, delivers}
+use Rattle.afs_model.specs.Script.{LinesRead, nothing_read, at_line, line_at, last_at, script_of, is_silent, is_file_here, delivers}
 
 -- no byte of the part is the cut
 abbrev pub is_part : ℕ → List ℕ → Bool
@@ -197,3 +197,17 @@ pub record IsWithinLimits (lines : List (List ℕ)) : Type 0 where
 -- What is written by the grammar of a script is read as that script.
 abbrev pub SpelledIsRead : Type 0
 SpelledIsRead = (s : Script) → IsOfForm s → IsWithinLimits (script_lines s) → script_of (script_text s) ≡ Ok s
+
+-- The lines that say something: all but empty ones and comments.
+abbrev pub spoken : List (List ℕ) → List (List ℕ)
+spoken lines = filter (λ line. not (is_silent line)) lines
+
+-- The bytes are lines, each with its newline, and those that say something are the lines of the script.
+pub record IsWritten (s : Script) (bytes : List ℕ) : Type 0 where
+  pub lines : List (List ℕ)
+  pub are : closed lines ≡ bytes
+  pub speak : spoken lines ≡ script_lines s
+
+-- What is read as a script is written by its grammar, but for comments and empty lines.
+abbrev pub ReadIsSpelled : Type 0
+ReadIsSpelled = (bytes : List ℕ) (s : Script) → script_of bytes ≡ Ok s → IsWritten s bytes
