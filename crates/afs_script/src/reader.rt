@@ -6,7 +6,7 @@ ghost use Rattle.afs_model.specs.Script.{nothing_read, at_line, line_at, lines_a
 ghost use Rattle.afs_script.specs.Reads.{GivesAtLine, IsAtLine};
 
 use crate::faults::{LineFault, ScriptFault};
-use crate::lines::Reading;
+use crate::lines::LinesRead;
 use crate::parts::Parts;
 use afs_num::scripts::{Reason, Script};
 use std::alloc::Global;
