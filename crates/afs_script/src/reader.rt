@@ -43,7 +43,7 @@ fn read_line(
 fn read_lines(alloc: Global, mut lines: Parts<'_>) -> Result<Script, ScriptFault>
     ensures { GivesAtLine (lines_at nothing_read 0 16777216 lines.entry) result }
 {
-    let mut reading = Reading::new(alloc);
+    let mut reading = LinesRead::new(alloc);
     let mut number = 0u32;
     let mut room = BYTES;
     while let Some(line) = lines.closed_part() {
