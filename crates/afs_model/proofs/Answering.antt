@@ -29,14 +29,14 @@ use Rattle.afs_num.specs.declared.histories.Line.TheVariants as lines
 use Rattle.afs_num.specs.declared.histories.ReadSource.TheVariants.{Fetched}
 use Rattle.afs_num.specs.declared.states.CacheEntry.{CacheEntry}
 use Rattle.afs_num.specs.declared.states.ClientState.{ClientState}
-use Rattle.afs_num.specs.declared.states.Seat.{Seat}
+use Rattle.afs_model.specs.Calls.{call_seat}
 use Rattle.afs_model.specs.Runs.{Entry, Cell, message_at}
-use Rattle.afs_model.specs.ServerRow.{seat_of}
 use Rattle.afs_model.specs.ClientRow.{the_server, find_cached}
 use Rattle.afs_model.specs.Past.{onto, lines_of, sent_of, given_message, answered_key, running, has_begun, CalledSince, IsCall}
 use Rattle.afs_model.specs.Ideal.{last_version, HasVersion, asked}
 use Rattle.afs_model.specs.Grants.{has_fetched, fetch_reply, since}
 use Rattle.afs_model.specs.Legal.{Cause}
+use Rattle.afs_model.proofs.Basics.{Seat}
 use Rattle.afs_model.proofs.Basics.{UpTo, IfCall, IfReply, OfReply}
 use Rattle.afs_model.specs.Steps.{Step}
 use Rattle.afs_model.specs.Runs.{client_moves, begun_by, voided}
@@ -389,7 +389,7 @@ same_parts a b e d n m x y z = ap (λ (q : Node). key_by q e n) x ∙ (ap (λ (q
 is_due : (s : Script) (c : Cell) (past : List Entry) (n p : ℕ) (act : Act) (m : Message) → HoldsAt s c past → Heard c p m → m.head.to ≡ Client n → ReplyIn (view c) m → Awaited c n act m → (c.clients n).running ≡ Some act → Due c past n p act m
 is_due s c past n p act m h heard to f w runs =
     let one : f.client ≡ n = client_number f.client n (sym f.to ∙ to) in
-    let fact : ReplyFact (seat_of (Client n) c.server.seats) m = subst (λ (j : ℕ). ReplyFact (seat_of (Client j) c.server.seats) m) one f.fact in
+    let fact : ReplyFact (call_seat (Client n) c.server.seats) m = subst (λ (j : ℕ). ReplyFact (call_seat (Client j) c.server.seats) m) one f.fact in
     let d = h.clients n in
     let up : UpTo fact.seat.epoch fact.seat.number m.head.epoch m.head.number =
     subst (λ (x : ℕ). UpTo fact.seat.epoch fact.seat.number x m.head.number) (sym w.epoch) (subst (λ (x : ℕ). UpTo fact.seat.epoch fact.seat.number (c.clients n).epoch x) (sym w.number) (d.behind fact.seat fact.at)) in

@@ -1,3 +1,5 @@
+pub mod Keyed
+pub mod Ordered
 pub mod Basics
 pub mod Facts
 pub mod Passing

@@ -6,6 +6,7 @@ pub mod devices;
 pub mod faults;
 pub mod grammar;
 pub mod histories;
+pub mod keyed;
 pub mod messages;
 pub mod names;
 pub mod scripts;

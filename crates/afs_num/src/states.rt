@@ -1,9 +1,8 @@
 //! The states of the nodes, as the rows of the definitions and the nodes themselves know them.
 
-use crate::messages::Message;
 use crate::scripts::Act;
 use crate::sequences::{Octets, Sequence};
-use crate::types::{Fid, Node};
+use crate::types::Fid;
 
 /// A file that a server holds. The server's time is the clock at its last change, in ticks.
 #[derive(Drop)]
@@ -16,26 +15,6 @@ pub struct StoredFile {
 }
 
 pub type StoredFiles = Sequence<StoredFile>;
-
-/// What a callee knows of a caller: the epoch and number of its last call, and the reply to that call; none while
-/// the call is in progress.
-#[derive(Drop)]
-pub struct Seat {
-    pub caller: Node,
-    pub epoch: u32,
-    pub number: u32,
-    pub reply: Option<Message>,
-}
-
-pub type Seats = Sequence<Seat>;
-
-/// A file server: its boot number, the files of its volumes, and its callers.
-#[derive(Drop)]
-pub struct ServerState {
-    pub boot: u32,
-    pub files: StoredFiles,
-    pub seats: Seats,
-}
 
 /// A file that a client has cached. It is trusted until the clock reaches the expiry.
 #[derive(Drop)]
