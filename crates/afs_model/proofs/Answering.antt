@@ -40,7 +40,7 @@ use Rattle.afs_model.proofs.Basics.{Seat}
 use Rattle.afs_model.proofs.Basics.{UpTo, IfCall, IfReply, OfReply}
 use Rattle.afs_model.specs.Steps.{Step}
 use Rattle.afs_model.specs.Runs.{client_moves, begun_by, voided}
-use Rattle.afs_model.specs.ClientRow.{guest, used_first, refreshed, call_message, calls_step, zero_code, shows_step, opens, begin_row, ignores, ended, answers_step, shows_fetched_step, takes_stored, takes, resends_step, counts, is_awaited, awaits, client_row}
+use Rattle.afs_model.specs.ClientRow.{guest, used_first, refreshed, refreshed_cache, call_message, calls_step, zero_code, shows_step, opens, begin_row, ignores, ended, answers_step, shows_fetched_step, takes_stored, takes, resends_step, counts, is_awaited, awaits, client_row}
 use Rattle.afs_model.specs.Legal.{code_told, GoodCode}
 use Rattle.afs_model.proofs.Basics.{both, same_fid-true, same_fid-refl, same_node-refl, client_number, up_to_both, found-cached-fid, found-first, none-first, found-refreshed, OfCall, each_at, some_of}
 use Rattle.afs_model.proofs.Facts.{View, view, last_key, LastRan, Reached, index_of, IsNewest, Overtaken, Stands, IsCurrent, HasCurrent, Answers, stored_index, ClientFacts, CallFact, CallIn, ReplyFact, ReplyIn, HoldsAt, Goes}
@@ -337,7 +337,7 @@ takes_saved : (s : Script) (c : Cell) (past : List Entry) (n p : ℕ) (f : Fid) 
 takes_saved s c past n p f b head status sync h d =
     let m : Message = record { head = head; carried = carried.Reply (replies.StoreData status sync) } in
     let i : ℕ = status.sync_counter in
-    let cache : List CacheEntry = map (refreshed c.clock f i b) (c.clients n).cache in
+    let cache : List CacheEntry = refreshed_cache c.clock f i b (c.clients n).cache in
     let e : Entry = step_entry n (answered_lines n p zero_code) [] in
     moves s c past n (takes_stored (Client n) (c.clients n) c.clock p f i b) h
     (tt, ((refl, good_code s c past n p (Close f b) m zero_code (lines.Given p ∷ []) h d refl refl refl refl), tt))

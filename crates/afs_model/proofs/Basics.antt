@@ -27,7 +27,7 @@ use Rattle.afs_model.specs.Ideal.{raised}
 use Rattle.afs_model.specs.Runs.{put, message_at}
 use Rattle.afs_model.specs.Calls.{CallSeat, Admitted, runs, kept, older, pair_below, caller_of, call_seat, call_seated, repeated, paired}
 use Rattle.afs_model.specs.ServerRow.{find_file, with_file}
-use Rattle.afs_model.specs.ClientRow.{cached_fid, find_cached, used_first, is_trusted, refreshed}
+use Rattle.afs_model.specs.ClientRow.{cached_fid, find_cached, used_first, is_trusted, refreshed, refreshed_cache}
 use Rattle.afs_model.proofs.Keyed.{IsExact, found_key, found_left, found_own, at_last}
 
 -- ---- fids, nodes, keys
@@ -315,6 +315,10 @@ none_by false g n es t at e = found-left n.fid g es (apart n.fid g t) ∙ e
 pub none-first : (g : Fid) (n : CacheEntry) (es : List CacheEntry) → find_cached n.fid es ≡ Some n → find_cached g es ≡ None → find_cached g (used_first n es) ≡ None
 none-first g n es at e = none_by (same_fid n.fid g) g n es refl at e
 
+not_refreshed : (clock : ℕ) (f g : Fid) (i : ℕ) (b : List ℕ) (o : Option CacheEntry) → ((v : CacheEntry) → o ≡ Some v → same_fid v.fid f ≡ false) → o ≡ option_map (refreshed clock f i b) o
+not_refreshed clock f g i b None h = refl
+not_refreshed clock f g i b (Some v) h = rw (h v refl) refl
+
 refreshed_fid_by : (c : Bool) (i : ℕ) (b : List ℕ) (v : CacheEntry) → (cond c (record v { index = i; contents = b }) v).fid ≡ v.fid
 refreshed_fid_by true i b v = refl
 refreshed_fid_by false i b v = refl
@@ -323,9 +327,28 @@ cached_by : (c : Bool) (h : CacheEntry → CacheEntry) (v : CacheEntry) (o : Opt
 cached_by true h v o = refl
 cached_by false h v o = refl
 
-pub found-refreshed : (clock : ℕ) (f g : Fid) (i : ℕ) (b : List ℕ) (vs : List CacheEntry) → find_cached g (map (refreshed clock f i b) vs) ≡ option_map (refreshed clock f i b) (find_cached g vs)
+-- the entries of another fid than the one that was refreshed
+others_stay : (clock : ℕ) (f g : Fid) (i : ℕ) (b : List ℕ) (t : Bool) (v : CacheEntry) (vs : List CacheEntry) → same_fid v.fid g ≡ t → same_fid v.fid f ≡ true
+    → cond t (Some (refreshed clock f i b v)) (find_cached g vs) ≡ cond t (Some (refreshed clock f i b v)) (option_map (refreshed clock f i b) (find_cached g vs))
+others_stay clock f g i b true v vs e at = refl
+others_stay clock f g i b false v vs e at = not_refreshed clock f g i b (find_cached g vs) (λ w found.
+    let gw : same_fid w.fid g ≡ true = found-cached-fid g vs w found in
+    apart_by f w.fid (same_fid w.fid f) refl (let ne : same_fid f g ≡ false = ap (λ (x : Fid). same_fid x g) (sym (same_fid-true v.fid f at)) ∙ e in ap (same_fid f) (same_fid-true w.fid g gw) ∙ ne))
+
+refreshed_by : (clock : ℕ) (f g : Fid) (i : ℕ) (b : List ℕ) (t : Bool) (v : CacheEntry) (vs rest : List CacheEntry) → same_fid v.fid f ≡ t → find_cached g rest ≡ option_map (refreshed clock f i b) (find_cached g vs)
+    → find_cached g (cond t (refreshed clock f i b v ∷ vs) (v ∷ rest)) ≡ option_map (refreshed clock f i b) (find_cached g (v ∷ vs))
+refreshed_by clock f g i b true v vs rest e ih =
+    let fid : (refreshed clock f i b v).fid ≡ v.fid = refreshed_fid_by (same_fid v.fid f && is_trusted clock v) i b v in
+    ap (λ (x : Fid). cond (same_fid x g) (Some (refreshed clock f i b v)) (find_cached g vs)) fid
+    ∙ (others_stay clock f g i b (same_fid v.fid g) v vs refl e ∙ cached_by (same_fid v.fid g) (refreshed clock f i b) v (find_cached g vs))
+refreshed_by clock f g i b false v vs rest e ih =
+    let own : refreshed clock f i b v ≡ v = rw e refl in
+    ap (λ (o : Option CacheEntry). cond (same_fid v.fid g) (Some v) o) ih
+    ∙ (ap (λ (x : CacheEntry). cond (same_fid v.fid g) (Some x) (option_map (refreshed clock f i b) (find_cached g vs))) (sym own) ∙ cached_by (same_fid v.fid g) (refreshed clock f i b) v (find_cached g vs))
+
+pub found-refreshed : (clock : ℕ) (f g : Fid) (i : ℕ) (b : List ℕ) (vs : List CacheEntry) → find_cached g (refreshed_cache clock f i b vs) ≡ option_map (refreshed clock f i b) (find_cached g vs)
 found-refreshed clock f g i b [] = refl
-found-refreshed clock f g i b (v ∷ vs) = rw (refreshed_fid_by (same_fid v.fid f && is_trusted clock v) i b v, found-refreshed clock f g i b vs) (cached_by (same_fid v.fid g) (refreshed clock f i b) v (find_cached g vs))
+found-refreshed clock f g i b (v ∷ vs) = refreshed_by clock f g i b (same_fid v.fid f) v vs (refreshed_cache clock f i b vs) refl (found-refreshed clock f g i b vs)
 
 -- ---- every call, every reply in a list of messages
 

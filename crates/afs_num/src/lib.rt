@@ -2,6 +2,7 @@
 #![tactic(auto)]
 
 pub mod calls;
+pub mod codes;
 pub mod devices;
 pub mod faults;
 pub mod grammar;

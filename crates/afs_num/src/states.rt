@@ -1,6 +1,9 @@
 //! The states of the nodes, as the rows of the definitions and the nodes themselves know them.
 
 use crate::scripts::Act;
+ghost use Rattle.afs_num.specs.Fids.{same_fid};
+
+use crate::keyed::Keyed;
 use crate::sequences::{Octets, Sequence};
 use crate::types::Fid;
 
@@ -23,6 +26,22 @@ pub struct CacheEntry {
     pub index: u32,
     pub expiry: u32,
     pub contents: Octets,
+}
+
+impl Keyed for CacheEntry {
+    type Key = Fid;
+
+    ghost key = { λ e. e.fid };
+
+    ghost same = { same_fid };
+
+    fn key(&self) -> Fid {
+        self.fid
+    }
+
+    fn is_under(&self, other: &Fid) -> bool {
+        self.fid == *other
+    }
 }
 
 pub type CacheEntries = Sequence<CacheEntry>;
