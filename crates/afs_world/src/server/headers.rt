@@ -48,7 +48,11 @@ pub fn code_of_unreadable(opcode: u32) -> i32
     ensures code { result ≡ code_of_unreadable opcode }
     ensures some { is_zero result ≡ false }
 {
-    if serves(opcode) { RXGEN_SS_UNMARSHAL } else { RXGEN_OPCODE }
+    if serves(opcode) {
+        RXGEN_SS_UNMARSHAL
+    } else {
+        RXGEN_OPCODE
+    }
 }
 
 pub fn refusal(boot: u32, head: &Head, code: i32) -> Message

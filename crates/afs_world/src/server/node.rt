@@ -13,7 +13,9 @@ ghost use Rattle.afs_world.specs.Serving.{AsksSound, CarriesSound, IsKept, IsSou
 
 use super::callers::Callers;
 use super::files::{Files, find_stored};
-use super::headers::{code_of_unreadable, head_of_reply, key, notice, promise, refusal, status, stored_reply, sync};
+use super::headers::{
+    code_of_unreadable, head_of_reply, key, notice, promise, refusal, status, stored_reply, sync,
+};
 use crate::giving::{Moment, given, outs_of, outs_with, quiet};
 use afs_call::Admit;
 use afs_fsrpc::heads::read_head;
@@ -125,7 +127,13 @@ impl FileServer {
     }
 
     /// The lines of a fetch of this file, with a promise until this time.
-    fn grant_lines(&self, alloc: Global, call: &Incoming, file: &StoredFile, expiry: u32) -> Mem<Lines>
+    fn grant_lines(
+        &self,
+        alloc: Global,
+        call: &Incoming,
+        file: &StoredFile,
+        expiry: u32,
+    ) -> Mem<Lines>
         ensures { IfOk result (λ ls. ls ≡ Line.Given call.now.moment.place ∷ Line.Grant self.now.node call.now.head.from file.now.fid file.now.index expiry ∷ []) }
     {
         let mut lines = arrival(alloc, call)?;
@@ -246,7 +254,12 @@ impl FileServer {
         ensures few { IfOk result (λ o. length o.parcels ≤ 1) }
     {
         match asked {
-            FsCall::FetchData { fid, .. } => self.grant(alloc, call, &fid, call.moment.now + PROMISE_TICKS),
+            FsCall::FetchData { fid, .. } => self.grant(
+                alloc,
+                call,
+                &fid,
+                call.moment.now + PROMISE_TICKS,
+            ),
             FsCall::StoreData { fid, contents, .. } => self.store(alloc, call, &fid, contents),
             _ => self.refuse(alloc, call, RXGEN_OPCODE),
         }
@@ -273,7 +286,11 @@ impl FileServer {
         match found {
             Received::Nothing => self.drop_call(alloc, call),
             Received::Unknown { .. } => self.refuse(alloc, call, RXGEN_OPCODE),
-            Received::Unreadable { .. } => self.refuse(alloc, call, code_of_unreadable(call.head.opcode)),
+            Received::Unreadable { .. } => self.refuse(
+                alloc,
+                call,
+                code_of_unreadable(call.head.opcode),
+            ),
             Received::Whole { message } => match message.carried {
                 Carried::Call { call: asked, .. } => self.run_call(alloc, call, asked),
                 _ => self.drop_call(alloc, call),
@@ -353,8 +370,16 @@ impl FileServer {
     {
         match read_message(alloc, bytes)? {
             Received::Nothing => Ok(quiet(alloc, given(alloc, moment.place)?)),
-            Received::Unknown { head } => self.serve(alloc, &Incoming { moment, head }, Received::Unknown { head }),
-            Received::Unreadable { head } => self.serve(alloc, &Incoming { moment, head }, Received::Unreadable { head }),
+            Received::Unknown { head } => self.serve(
+                alloc,
+                &Incoming { moment, head },
+                Received::Unknown { head },
+            ),
+            Received::Unreadable { head } => self.serve(
+                alloc,
+                &Incoming { moment, head },
+                Received::Unreadable { head },
+            ),
             Received::Whole { message } => self.hear(alloc, moment, message),
         }
     }
