@@ -2,6 +2,8 @@ pub mod Limits
 pub mod Searching
 pub mod Keeping
 pub mod Heard
+pub mod Renewing
+pub mod Awaiting
 pub mod Parcels
 pub mod Within
 pub mod Clients
