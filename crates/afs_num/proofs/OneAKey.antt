@@ -1,5 +1,5 @@
 -- How many items a key leaves, and what is found under keys.
-use Rattle.std.proofs.Common.{◌≡◌, ℕ, ◌≤◌, Bool, true, false, cond, not, List, [], ◌∷◌, Option, Some, None, length, arith}
+use Rattle.std.proofs.Common.{◌≤◌, Bool, true, false, cond, not, List, [], ◌∷◌, Option, Some, None, length, arith}
 use Rattle.afs_num.specs.Keyed.{keyed, other_keyed, Frees}
 
 fewer_by : {T : Type 0} (b : Bool) (y : T) (rest items : List T) → length rest ≤ length items → length (cond b (y ∷ rest) rest) ≤ length (y ∷ items)
