@@ -1,4 +1,5 @@
 pub mod Nodes
 pub mod Fids
+pub mod Keyed
 pub mod Names
 pub mod Texts

@@ -1,4 +1,9 @@
 pub mod Limits
+pub mod Searching
+pub mod Keeping
+pub mod Heard
+pub mod Renewing
+pub mod Awaiting
 pub mod Parcels
 pub mod Within
 pub mod Clients
