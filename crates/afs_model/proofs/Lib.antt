@@ -28,7 +28,6 @@ pub mod Crash
 pub mod Journal
 pub mod Moments
 pub mod HeadLaws
-pub mod FsLaws
+pub mod RpcLaws
 pub mod FsMade
-pub mod FsMessages
 pub mod Calls
