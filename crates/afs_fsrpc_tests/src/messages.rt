@@ -1,9 +1,9 @@
 //! Messages as words, with where their fields end, their pads and their counts stand; the samples and vectors were
 //! made by another program.
 
-use crate::calls::{decode_call, encode_call};
-use crate::heads::read_head;
-use crate::replies::{decode_reply, encode_reply};
+use afs_fsrpc::calls::{decode_call, encode_call};
+use afs_fsrpc::heads::read_head;
+use afs_fsrpc::replies::{decode_reply, encode_reply};
 use afs_num::calls::{FsCall, FsReply};
 use afs_num::sequences::Octets;
 use afs_num::types::{Code, Fid, Half, Head, Node};

@@ -12,5 +12,3 @@ pub mod macros;
 pub mod messages;
 pub mod tables;
 pub mod taking;
-#[cfg(test)]
-mod tests;
