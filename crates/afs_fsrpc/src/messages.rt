@@ -119,7 +119,12 @@ fn encode(alloc: Global, message: &Message) -> Mem<Octets>
             spell_call::<FsCalls>(alloc, &message.head, user.as_slice(), call)
         },
         Carried::Refusal { code } => spell_reply::<FsReplies>(alloc, &message.head, *code, None),
-        Carried::Reply { reply } => spell_reply::<FsReplies>(alloc, &message.head, Code(0), Some(reply)),
+        Carried::Reply { reply } => spell_reply::<FsReplies>(
+            alloc,
+            &message.head,
+            Code(0),
+            Some(reply),
+        ),
         Carried::Notice => encode_notice(alloc, &message.head),
     }
 }

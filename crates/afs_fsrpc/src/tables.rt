@@ -90,9 +90,9 @@ macro_rules! with_replies {
     };
 }
 
-pub const CALLS: Table<20, 8> = with_calls!(table_of ());
+pub const CALLS: Table<20, 8> = with_calls!(table_of());
 
-pub const REPLIES: Table<20, 8> = with_replies!(table_of ());
+pub const REPLIES: Table<20, 8> = with_replies!(table_of());
 
 /// The calls of the interface.
 pub struct FsCalls;
@@ -112,11 +112,11 @@ impl Messages for FsCalls {
 
     #[tactic(auto, unfolding(afs_shape::specs::Rows::made_behind, afs_shape::specs::Rows::made_at_end))]
     fn from_fields(opcode: u32, mut fields: Taking) -> Option<FsCall> {
-        with_calls!(message_from (opcode, fields, FsCall))
+        with_calls!(message_from(opcode, fields, FsCall))
     }
 
     fn parts<'a>(alloc: Global, call: &'a FsCall) -> Mem<Vec<Part<'a>>> {
-        with_calls!(parts_of (call, alloc, FsCall))
+        with_calls!(parts_of(call, alloc, FsCall))
     }
 }
 
@@ -138,10 +138,10 @@ impl Messages for FsReplies {
 
     #[tactic(auto, unfolding(afs_shape::specs::Rows::made_behind, afs_shape::specs::Rows::made_at_end))]
     fn from_fields(opcode: u32, mut fields: Taking) -> Option<FsReply> {
-        with_replies!(message_from (opcode, fields, FsReply))
+        with_replies!(message_from(opcode, fields, FsReply))
     }
 
     fn parts<'a>(alloc: Global, reply: &'a FsReply) -> Mem<Vec<Part<'a>>> {
-        with_replies!(parts_of (reply, alloc, FsReply))
+        with_replies!(parts_of(reply, alloc, FsReply))
     }
 }

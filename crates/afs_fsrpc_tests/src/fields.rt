@@ -1,9 +1,9 @@
 //! Fields of a shape, read and written.
 
+use afs_num::types::Fid;
 use afs_shape::faults::ShapeFault;
 use afs_shape::kinds::{Field, Fields, Kind};
 use afs_shape::tables::{Row, Shape, Table};
-use afs_num::types::Fid;
 use afs_xdr::faults::XdrFault;
 use afs_xdr::reading::Reader;
 use afs_xdr::writing::Writer;

@@ -316,13 +316,12 @@ answered table opcode code (Some reply) can in_range is = (can.0, is, can.1, in_
 
 pub reply_spells : {X : Type 0} (table : MessageTable X) (h : Head) (code : ℤ) (reply : Option X) (bytes : List ℕ) → CanAnswer table code reply → AreWords (head_words h) → FitsSigned w32 code → AreInRange (answer_fields table reply)
     → bytes ≡ spelled_reply table h code reply → IsHeadFor halves.Reply h.opcode h → IsOpcodeOf table h.opcode reply → SpellsReply table h code reply bytes
-reply_spells table h code reply bytes can numbers small in_range e head is =
-    (
-      record {
-        head = (head.1, record { from = head.0.0; to = head.0.1; numbers = numbers });
-        code_fits = small;
-        has_row = own_row table h.opcode code reply can is;
-        answer = answered table h.opcode code reply can in_range is;
-      },
-      e,
-    )
+reply_spells table h code reply bytes can numbers small in_range e head is = (
+  record {
+    head = (head.1, record { from = head.0.0; to = head.0.1; numbers = numbers });
+    code_fits = small;
+    has_row = own_row table h.opcode code reply can is;
+    answer = answered table h.opcode code reply can in_range is;
+  },
+  e,
+)

@@ -56,7 +56,10 @@ pub fn read_asked<M: Messages>(
 
 /// The call of these bytes, as it is read.
 #[tactic(auto, unfolding(afs_model::specs::Rpc::call_at))]
-fn read_call<M: Messages>(alloc: Global, bytes: &[u8]) -> Result<(Head, Octets, M::Message), ShapeFault>
+fn read_call<M: Messages>(
+    alloc: Global,
+    bytes: &[u8],
+) -> Result<(Head, Octets, M::Message), ShapeFault>
     ensures { ReadsCall M.table bytes.now result }
 {
     let mut r = Reader::new(bytes);
@@ -83,7 +86,12 @@ pub fn decode_call<M: Messages>(
 }
 
 /// The bytes of a call. The room for the whole message is taken once.
-pub fn spell_call<M: Messages>(alloc: Global, head: &Head, user: &[u8], call: &M::Message) -> Mem<Octets>
+pub fn spell_call<M: Messages>(
+    alloc: Global,
+    head: &Head,
+    user: &[u8],
+    call: &M::Message,
+) -> Mem<Octets>
     requires user { length user.now ≤ user_limit }
     requires row { IsWithin M.table call.now }
     ensures spelled { IfOk result (λ bytes. bytes ≡ spelled_call M.table head.now user.now call.now) }
@@ -101,7 +109,12 @@ pub fn spell_call<M: Messages>(alloc: Global, head: &Head, user: &[u8], call: &M
 }
 
 /// The one spelling of a call.
-pub fn encode_call<M: Messages>(alloc: Global, head: &Head, user: &[u8], call: &M::Message) -> Mem<Octets>
+pub fn encode_call<M: Messages>(
+    alloc: Global,
+    head: &Head,
+    user: &[u8],
+    call: &M::Message,
+) -> Mem<Octets>
     requires user { length user.now ≤ user_limit }
     requires row { IsWithin M.table call.now }
     ensures spelled { IfOk result (λ bytes. bytes ≡ spelled_call M.table head.now user.now call.now) }

@@ -90,8 +90,8 @@ pub record MessageRow (X : Type 0) : Type 0 where
   pub fields : List Field
   pub make : List Field → Option X
 
-abbrev pub row : {F X : Type 0} → ℕ → F → Slots F X → MessageRow X
-row opcode maker slots = record { opcode = opcode; kinds = slots.kinds; fields = slots.fields; make = slots.make maker }
+abbrev pub numbered : {F X : Type 0} → ℕ → F → Slots F X → MessageRow X
+numbered opcode maker slots = record { opcode = opcode; kinds = slots.kinds; fields = slots.fields; make = slots.make maker }
 
 -- the row of each message, and one message of each row, whatever its fields hold
 pub record MessageTable (X : Type 0) : Type 0 where
@@ -141,9 +141,27 @@ no_store_status = record { mask = 0; client_mod_time = 0; owner = 0; group = 0; 
 
 abbrev pub no_status : AfsFetchStatus
 no_status = record {
-  interface_version = 0; file_type = 0; link_count = 0; length = 0; data_version = 0; author = 0; owner = 0;
-  caller_access = 0; anonymous_access = 0; unix_mode_bits = 0; parent_vnode = 0; parent_unique = 0; seg_size = 0;
-  client_mod_time = 0; server_mod_time = 0; group = 0; sync_counter = 0; spare1 = 0; spare2 = 0; spare3 = 0; spare4 = 0;
+  interface_version = 0;
+  file_type = 0;
+  link_count = 0;
+  length = 0;
+  data_version = 0;
+  author = 0;
+  owner = 0;
+  caller_access = 0;
+  anonymous_access = 0;
+  unix_mode_bits = 0;
+  parent_vnode = 0;
+  parent_unique = 0;
+  seg_size = 0;
+  client_mod_time = 0;
+  server_mod_time = 0;
+  group = 0;
+  sync_counter = 0;
+  spare1 = 0;
+  spare2 = 0;
+  spare3 = 0;
+  spare4 = 0;
 }
 
 abbrev pub no_callback : AfsCallBack
