@@ -1,109 +1,15 @@
 //! Headers: eight words before each message.
 
-ghost use Rattle.std.specs.Prelude.{◌≡◌, ◌++◌, Ok, Err, OnOk, OnErr};
-ghost use Rattle.afs_xdr.specs.Reading.{Reads, Gives, KeepsEnd};
-ghost use Rattle.afs_xdr.specs.Words.{words, AreWords};
-ghost use Rattle.afs_model.specs.Heads.{half_number, half_of, half_at, node_at, head_at, head_words};
-ghost use Rattle.afs_model.specs.FsRows.{first_of};
+ghost use Rattle.afs_xdr.specs.Reading.{Gives};
+ghost use Rattle.afs_model.specs.Heads.{head_at};
+ghost use Rattle.afs_model.specs.Rpc.{first_of};
 
-use afs_num::types::{Half, Head, Mem, Node};
+use afs_num::types::Head;
 use afs_xdr::faults::XdrFault;
-use afs_xdr::reading::Reader;
-use afs_xdr::writing::Writer;
-
-fn half_of_word(n: u32) -> Option<Half>
-    ensures { result ≡ half_of n }
-{
-    match n {
-        1 => Some(Half::Call),
-        2 => Some(Half::Reply),
-        3 => Some(Half::Boot),
-        _ => None,
-    }
-}
-
-fn word_of_half(half: Half) -> u32
-    ensures { result ≡ half_number half }
-{
-    match half {
-        Half::Call => 1,
-        Half::Reply => 2,
-        Half::Boot => 3,
-    }
-}
-
-#[tactic(auto, unfolding(afs_model::specs::Heads::half_at))]
-fn read_half(r: &mut Reader) -> Result<Half, XdrFault>
-    ensures value { Reads half_at (λ x. x) r.old r.new result }
-    ensures end { KeepsEnd r.old r.new }
-{
-    let n = r.word()?;
-    match half_of_word(n) {
-        Some(half) => Ok(half),
-        None => Err(XdrFault::BadHead),
-    }
-}
-
-#[tactic(auto, unfolding(afs_model::specs::Heads::node_at))]
-fn read_node(r: &mut Reader) -> Result<Node, XdrFault>
-    ensures value { Reads node_at (λ x. x) r.old r.new result }
-    ensures end { KeepsEnd r.old r.new }
-{
-    let n = r.word()?;
-    match Node::from_number(n) {
-        Some(node) => Ok(node),
-        None => Err(XdrFault::BadHead),
-    }
-}
-
-/// Reads a header: `BadHead` at an unknown half or node, `Short` where the bytes end in it.
-#[tactic(auto, unfolding(afs_model::specs::Heads::head_at))]
-pub(crate) fn head_of(r: &mut Reader) -> Result<Head, XdrFault>
-    ensures value { Reads head_at (λ x. x) r.old r.new result }
-    ensures end { KeepsEnd r.old r.new }
-{
-    let half = read_half(r)?;
-    let from = read_node(r)?;
-    let to = read_node(r)?;
-    let epoch = r.word()?;
-    let number = r.word()?;
-    let boot = r.word()?;
-    let stamp = r.word()?;
-    let opcode = r.word()?;
-    Ok(Head {
-        half,
-        from,
-        to,
-        epoch,
-        number,
-        boot,
-        stamp,
-        opcode,
-    })
-}
 
 /// The header of a message. It takes no memory.
 pub fn read_head(bytes: &[u8]) -> Result<Head, XdrFault>
     ensures { Gives (λ h. h) (first_of (head_at bytes.now)) result }
 {
-    let mut r = Reader::new(bytes);
-    head_of(&mut r)
-}
-
-/// Appends a header. Want of memory leaves the writer as it was.
-pub(crate) fn write_head(head: &Head, w: &mut Writer) -> Mem<()>
-    ensures ok { OnOk result (w.new ≡ w.old ++ words (head_words head.now)) }
-    ensures fits { AreWords (head_words head.now) }
-    ensures err { OnErr result (w.new ≡ w.old) }
-{
-    w.words(&[
-        word_of_half(head.half),
-        head.from.number(),
-        head.to.number(),
-        head.epoch,
-        head.number,
-        head.boot,
-        head.stamp,
-        head.opcode,
-    ])
+    afs_rpc::heads::read_head(bytes)
 }

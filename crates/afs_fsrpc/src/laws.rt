@@ -5,7 +5,8 @@ ghost use Rattle.afs_num.specs.declared.types.Head.{Head};
 ghost use Rattle.afs_num.specs.declared.calls.FsCall.{FsCall};
 ghost use Rattle.afs_num.specs.declared.calls.FsReply.{FsReply};
 ghost use Rattle.afs_shape.specs.Tables.{rows_of};
-ghost use Rattle.afs_model.specs.FsRows.{call_rows, reply_rows, SpellsCall, SpellsReply};
+ghost use Rattle.afs_model.specs.Rpc.{SpellsCall, SpellsReply};
+ghost use Rattle.afs_model.specs.FsRows.{call_rows, reply_rows, fs_calls, fs_replies};
 
 use crate::tables::{CALLS, REPLIES};
 
@@ -19,13 +20,13 @@ pub fn tables_are_the_rows()
 /// No spelling of a call begins another, and none spells two calls.
 pub fn no_call_begins_another()
     ensures { (head other_head : Head) (user other_user : List ℕ) (call other_call : FsCall) (bytes more : List ℕ) →
-        SpellsCall head user call bytes → SpellsCall other_head other_user other_call (bytes ++ more) →
+        SpellsCall fs_calls head user call bytes → SpellsCall fs_calls other_head other_user other_call (bytes ++ more) →
         (more ≡ []) × (head ≡ other_head) × (user ≡ other_user) × (call ≡ other_call) }
 {}
 
 /// No spelling of a reply begins another, and none spells two replies.
 pub fn no_reply_begins_another()
     ensures { (head other_head : Head) (code other_code : ℤ) (reply other_reply : Option FsReply) (bytes more : List ℕ) →
-        SpellsReply head code reply bytes → SpellsReply other_head other_code other_reply (bytes ++ more) →
+        SpellsReply fs_replies head code reply bytes → SpellsReply fs_replies other_head other_code other_reply (bytes ++ more) →
         (more ≡ []) × (head ≡ other_head) × (code ≡ other_code) × (reply ≡ other_reply) }
 {}

@@ -6,11 +6,6 @@
 pub mod calls;
 pub mod heads;
 pub mod laws;
-mod making;
 pub mod messages;
-mod parts;
-mod reading;
 pub mod replies;
 pub mod tables;
-#[cfg(test)]
-mod tests;

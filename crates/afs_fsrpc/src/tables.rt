@@ -1,146 +1,147 @@
-//! The two tables: a row for each opcode, with the kinds of its fields in order.
+//! The two tables: a row for each opcode, with the message's name and its fields in order, each of its kind.
 
-use afs_shape::kinds::Kind;
-use afs_shape::tables::{Row, Shape, Table};
+ghost use Rattle.afs_model.specs.FsRows.{fs_calls, fs_replies};
+ghost use Rattle.afs_model.proofs.FsMade.{calls_sound, replies_sound};
 
-/// A user's name, in bytes.
-pub const USER_LIMIT: u32 = 64;
+use afs_num::calls::{FsCall, FsReply};
+use afs_num::types::Mem;
+use afs_shape::faults::ShapeFault;
+use afs_shape::kinds::Part;
+use afs_shape::messages::Messages;
+use afs_shape::tables::{Shape, Table};
+use afs_shape::taking::Taking;
+use afs_shape::{message_from, parts_of, table_of};
+use std::alloc::Global;
 
 /// A file's contents on the wire, in bytes.
 pub const CONTENTS_LIMIT: u32 = 2_097_152;
 
-/// The first eight kinds.
-macro_rules! shape {
-    (
-        $a:expr, $b:expr, $c:expr, $d:expr, $e:expr, $f:expr, $g:expr, $h:expr $(, $more:expr)*
-    ) => {
-        Shape {
-            kinds: [$a, $b, $c, $d, $e, $f, $g, $h],
+/// A name in a directory, or of a volume, in bytes.
+pub const NAME_LIMIT: u32 = 256;
+
+/// An access list, in bytes.
+pub const ACL_LIMIT: u32 = 1024;
+
+/// What a symbolic link holds, in bytes.
+pub const TARGET_LIMIT: u32 = 1024;
+
+/// The fids, statuses or callbacks in a list.
+pub const LIST_LIMIT: u32 = 50;
+
+/// The calls, with the fields behind the user.
+macro_rules! with_calls {
+    ($arms:ident $value:tt) => {
+        $arms! {
+            $value
+            [
+                130 FetchData { fid: Fid, position: Signed, length: Signed },
+                131 FetchAcl { fid: Fid },
+                132 FetchStatus { fid: Fid },
+                133 StoreData { fid: Fid, status: StoreStatus, position: Signed, length: Signed, file_length: Signed, contents: Opaque[CONTENTS_LIMIT] },
+                134 StoreAcl { fid: Fid, acl: Opaque[ACL_LIMIT] },
+                135 StoreStatus { fid: Fid, status: StoreStatus },
+                136 RemoveFile { directory: Fid, name: Opaque[NAME_LIMIT] },
+                137 CreateFile { directory: Fid, name: Opaque[NAME_LIMIT], status: StoreStatus },
+                138 Rename { old_directory: Fid, old_name: Opaque[NAME_LIMIT], new_directory: Fid, new_name: Opaque[NAME_LIMIT] },
+                139 Symlink { directory: Fid, name: Opaque[NAME_LIMIT], target: Opaque[TARGET_LIMIT], status: StoreStatus },
+                140 Link { directory: Fid, name: Opaque[NAME_LIMIT], existing: Fid },
+                141 MakeDir { directory: Fid, name: Opaque[NAME_LIMIT], status: StoreStatus },
+                142 RemoveDir { directory: Fid, name: Opaque[NAME_LIMIT] },
+                147 GiveUpCallBacks { fids: Fids[LIST_LIMIT], callbacks: CallBacks[LIST_LIMIT] },
+                149 GetVolumeStatus { volume: Word },
+                153 GetTime {},
+                155 BulkStatus { fids: Fids[LIST_LIMIT] },
+                204 CallBack { fids: Fids[LIST_LIMIT], callbacks: CallBacks[LIST_LIMIT] },
+                205 InitCallBackState {},
+                206 Probe {}
+            ]
         }
     };
 }
 
-/// An opcode and its kinds, with `Nothing` in the places behind the last.
-macro_rules! row {
-    ($opcode:expr $(, $kind:expr)*) => {
-        Row {
-            opcode: $opcode,
-            shape: shape!(
-                $($kind,)*
-                Kind::Nothing,
-                Kind::Nothing,
-                Kind::Nothing,
-                Kind::Nothing,
-                Kind::Nothing,
-                Kind::Nothing,
-                Kind::Nothing,
-                Kind::Nothing
-            ),
+/// The replies, with the fields behind a code of 0.
+macro_rules! with_replies {
+    ($arms:ident $value:tt) => {
+        $arms! {
+            $value
+            [
+                130 FetchData { contents: Opaque[CONTENTS_LIMIT], status: FetchStatus, callback: CallBack, sync: VolSync },
+                131 FetchAcl { acl: Opaque[ACL_LIMIT], status: FetchStatus, sync: VolSync },
+                132 FetchStatus { status: FetchStatus, callback: CallBack, sync: VolSync },
+                133 StoreData { status: FetchStatus, sync: VolSync },
+                134 StoreAcl { status: FetchStatus, sync: VolSync },
+                135 StoreStatus { status: FetchStatus, sync: VolSync },
+                136 RemoveFile { directory: FetchStatus, sync: VolSync },
+                137 CreateFile { fid: Fid, status: FetchStatus, directory: FetchStatus, callback: CallBack, sync: VolSync },
+                138 Rename { old_directory: FetchStatus, new_directory: FetchStatus, sync: VolSync },
+                139 Symlink { fid: Fid, status: FetchStatus, directory: FetchStatus, sync: VolSync },
+                140 Link { status: FetchStatus, directory: FetchStatus, sync: VolSync },
+                141 MakeDir { fid: Fid, status: FetchStatus, directory: FetchStatus, callback: CallBack, sync: VolSync },
+                142 RemoveDir { directory: FetchStatus, sync: VolSync },
+                147 GiveUpCallBacks {},
+                149 GetVolumeStatus { volume: Word, kind: VolumeKind, quota: Word, blocks_used: Word, name: Opaque[NAME_LIMIT] },
+                153 GetTime { clock: Word, microseconds: Word },
+                155 BulkStatus { statuses: Statuses[LIST_LIMIT], callbacks: CallBacks[LIST_LIMIT], sync: VolSync },
+                204 CallBack {},
+                205 InitCallBackState {},
+                206 Probe {}
+            ]
         }
     };
 }
 
-/// What stands behind the user of a call.
-pub const CALLS: Table<20, 8> = Table {
-    rows: [
-        row!(130, Kind::Fid, Kind::Signed, Kind::Signed),
-        row!(131, Kind::Fid),
-        row!(132, Kind::Fid),
-        row!(
-            133,
-            Kind::Fid,
-            Kind::StoreStatus,
-            Kind::Signed,
-            Kind::Signed,
-            Kind::Signed,
-            Kind::Opaque(CONTENTS_LIMIT)
-        ),
-        row!(134, Kind::Fid, Kind::Opaque(1024)),
-        row!(135, Kind::Fid, Kind::StoreStatus),
-        row!(136, Kind::Fid, Kind::Opaque(256)),
-        row!(137, Kind::Fid, Kind::Opaque(256), Kind::StoreStatus),
-        row!(
-            138,
-            Kind::Fid,
-            Kind::Opaque(256),
-            Kind::Fid,
-            Kind::Opaque(256)
-        ),
-        row!(
-            139,
-            Kind::Fid,
-            Kind::Opaque(256),
-            Kind::Opaque(1024),
-            Kind::StoreStatus
-        ),
-        row!(140, Kind::Fid, Kind::Opaque(256), Kind::Fid),
-        row!(141, Kind::Fid, Kind::Opaque(256), Kind::StoreStatus),
-        row!(142, Kind::Fid, Kind::Opaque(256)),
-        row!(147, Kind::Fids(50), Kind::CallBacks(50)),
-        row!(149, Kind::Word),
-        row!(153),
-        row!(155, Kind::Fids(50)),
-        row!(204, Kind::Fids(50), Kind::CallBacks(50)),
-        row!(205),
-        row!(206),
-    ],
-};
+pub const CALLS: Table<20, 8> = with_calls!(table_of());
 
-/// What stands behind the code of a reply, where that is 0.
-pub const REPLIES: Table<20, 8> = Table {
-    rows: [
-        row!(
-            130,
-            Kind::Opaque(CONTENTS_LIMIT),
-            Kind::FetchStatus,
-            Kind::CallBack,
-            Kind::VolSync
-        ),
-        row!(131, Kind::Opaque(1024), Kind::FetchStatus, Kind::VolSync),
-        row!(132, Kind::FetchStatus, Kind::CallBack, Kind::VolSync),
-        row!(133, Kind::FetchStatus, Kind::VolSync),
-        row!(134, Kind::FetchStatus, Kind::VolSync),
-        row!(135, Kind::FetchStatus, Kind::VolSync),
-        row!(136, Kind::FetchStatus, Kind::VolSync),
-        row!(
-            137,
-            Kind::Fid,
-            Kind::FetchStatus,
-            Kind::FetchStatus,
-            Kind::CallBack,
-            Kind::VolSync
-        ),
-        row!(138, Kind::FetchStatus, Kind::FetchStatus, Kind::VolSync),
-        row!(
-            139,
-            Kind::Fid,
-            Kind::FetchStatus,
-            Kind::FetchStatus,
-            Kind::VolSync
-        ),
-        row!(140, Kind::FetchStatus, Kind::FetchStatus, Kind::VolSync),
-        row!(
-            141,
-            Kind::Fid,
-            Kind::FetchStatus,
-            Kind::FetchStatus,
-            Kind::CallBack,
-            Kind::VolSync
-        ),
-        row!(142, Kind::FetchStatus, Kind::VolSync),
-        row!(147),
-        row!(
-            149,
-            Kind::Word,
-            Kind::VolumeKind,
-            Kind::Word,
-            Kind::Word,
-            Kind::Opaque(256)
-        ),
-        row!(153, Kind::Word, Kind::Word),
-        row!(155, Kind::Statuses(50), Kind::CallBacks(50), Kind::VolSync),
-        row!(204),
-        row!(205),
-        row!(206),
-    ],
-};
+pub const REPLIES: Table<20, 8> = with_replies!(table_of());
+
+/// The calls of the interface.
+pub struct FsCalls;
+
+impl Messages for FsCalls {
+    type Message = FsCall;
+
+    ghost table = { fs_calls };
+
+    ghost is_sound = { calls_sound };
+
+    fn shape(opcode: u32) -> Result<Shape<8>, ShapeFault> {
+        let table = CALLS;
+        let shape = table.shape(opcode)?;
+        Ok(Shape { kinds: shape.kinds })
+    }
+
+    #[tactic(auto, unfolding(afs_shape::specs::Rows::made_behind, afs_shape::specs::Rows::made_at_end))]
+    fn from_fields(opcode: u32, mut fields: Taking) -> Option<FsCall> {
+        with_calls!(message_from(opcode, fields, FsCall))
+    }
+
+    fn parts<'a>(alloc: Global, call: &'a FsCall) -> Mem<Vec<Part<'a>>> {
+        with_calls!(parts_of(call, alloc, FsCall))
+    }
+}
+
+/// Its replies.
+pub struct FsReplies;
+
+impl Messages for FsReplies {
+    type Message = FsReply;
+
+    ghost table = { fs_replies };
+
+    ghost is_sound = { replies_sound };
+
+    fn shape(opcode: u32) -> Result<Shape<8>, ShapeFault> {
+        let table = REPLIES;
+        let shape = table.shape(opcode)?;
+        Ok(Shape { kinds: shape.kinds })
+    }
+
+    #[tactic(auto, unfolding(afs_shape::specs::Rows::made_behind, afs_shape::specs::Rows::made_at_end))]
+    fn from_fields(opcode: u32, mut fields: Taking) -> Option<FsReply> {
+        with_replies!(message_from(opcode, fields, FsReply))
+    }
+
+    fn parts<'a>(alloc: Global, reply: &'a FsReply) -> Mem<Vec<Part<'a>>> {
+        with_replies!(parts_of(reply, alloc, FsReply))
+    }
+}

@@ -31,9 +31,8 @@ pub mod Crash
 pub mod Journal
 pub mod Moments
 pub mod HeadLaws
-pub mod FsLaws
+pub mod RpcLaws
 pub mod FsMade
-pub mod FsMessages
 pub mod Calls
 pub mod ScriptWritten
 pub mod ScriptSaid

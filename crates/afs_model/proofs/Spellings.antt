@@ -1,6 +1,6 @@
 -- A message that is spelled is read again, one that is read is spelled so, and no spelling begins another.
-use Rattle.std.proofs.Common.{◌≡◌, ℕ, suc, ◌≤◌, Bool, true, false, eqb, List, [], ◌∷◌, ◌++◌, length, Option, Some, None, Result, Ok, Err, refl, sym, ap, subst, ◌∙◌, append_assoc, append-nil, arith, eqb-true}
-use Rattle.std.specs.Prelude.{ℤ, pos, negsuc, ◌+◌, FitsSigned, IsSome, if◌then◌else◌}
+use Rattle.std.proofs.Common.{◌≡◌, ℕ, Bool, true, false, List, [], ◌∷◌, ◌++◌, length, Option, Some, None, Result, Ok, Err, refl, sym, ap, subst, ◌∙◌, append_assoc, append-nil, arith, eqb-true}
+use Rattle.std.specs.Prelude.{ℤ, pos, negsuc, FitsSigned, IsSome}
 use Rattle.std.specs.Int.{w32}
 use Rattle.afs_num.specs.declared.types.Half.{Half}
 use Rattle.afs_num.specs.declared.types.Half.TheVariants as halves
@@ -14,233 +14,141 @@ use Rattle.afs_num.specs.declared.messages.Message.{Message}
 use Rattle.afs_num.specs.declared.messages.Received.{Received}
 use Rattle.afs_num.specs.declared.messages.Received.TheVariants.{Nothing, Unknown, Unreadable, Whole}
 use Rattle.afs_xdr.specs.declared.faults.XdrFault.{XdrFault}
-use Rattle.afs_xdr.specs.declared.faults.XdrFault.TheVariants.{Extra}
-use Rattle.afs_xdr.specs.Words.{word, words, opaque, end_at}
+use Rattle.afs_xdr.specs.Words.{words}
 use Rattle.afs_shape.specs.declared.faults.ShapeFault.{ShapeFault}
 use Rattle.afs_shape.specs.declared.faults.ShapeFault.TheVariants as faults
-use Rattle.afs_shape.specs.declared.kinds.Kind.{Kind}
 use Rattle.afs_shape.specs.declared.kinds.Field.{Field}
-use Rattle.afs_shape.specs.Spelling.{fields_spelled}
-use Rattle.afs_shape.specs.Reading.{◌>>=◌, in_place, signed_at, GivesShape}
-use Rattle.afs_shape.specs.Tables.{kinds_in, AreOf, AreInRange}
-use Rattle.afs_shape.proofs.Codecs.{IsBytes, opaque_codec, signed_codec}
-use Rattle.afs_shape.proofs.FieldLaws.{bind_ok, in_place_ok, shape_ok_is, fields_again}
-use Rattle.afs_model.specs.Heads.{user_limit, head_words, head_at, signed, is_zero, IsSoundHead, FitsHead}
-use Rattle.afs_model.specs.FsRows.{call_rows, reply_rows, call_number, call_fields, reply_number, reply_fields, HasRow, IsCall, IsReply, call_bytes, reply_bytes, row_at, asked_parts_at, fields_to_end_at}
+use Rattle.afs_shape.specs.Reading.{fields_to_end_at}
+use Rattle.afs_shape.specs.Tables.{kinds_in}
+use Rattle.afs_shape.specs.Rows.{message_of, Made}
+use Rattle.afs_shape.proofs.Codecs.{IsBytes}
+use Rattle.afs_shape.proofs.BodyLaws.{last_fields_again, last_fields_more}
+use Rattle.afs_model.specs.Heads.{head_words, head_at, is_zero, IsSoundHead, FitsHead}
+use Rattle.afs_model.specs.Rpc.{IsCall, IsAnswer, IsReply, asked_at, replied_at}
+use Rattle.afs_model.specs.FsRows.{fs_calls, fs_replies, reply_rows}
 use Rattle.afs_model.specs.SpellingLaws.{CallsAreFound, RepliesAreFound, RefusalsAreFound, RowsMakeCalls, RowsMakeReplies}
-use Rattle.afs_model.specs.FsMaking.{call_of, reply_of}
-use Rattle.afs_model.specs.Messages.{carried_bytes, spelled, as_call, as_reply, asked_at, answer_at, refusal_at, replied_at, notice_at, found_call, found_answer, read_body, read_behind_head, received, IsSoundReceived, HasSpelling, IsSoundCarried, IsInRange, FitsMessage}
+use Rattle.afs_model.specs.Messages.{carried_bytes, spelled, received_call, carried_reply, received_reply, received_notice, read_body, read_behind_head, received, IsSoundReceived, HasSpelling, IsSoundCarried, IsInRange, FitsMessage}
 use Rattle.afs_model.proofs.HeadLaws.{head_again, head_takes}
-use Rattle.afs_model.proofs.FsLaws.{found_row, row_ok, asked_parts_take, asked_parts_again, last_fields_take, last_fields_again}
-use Rattle.afs_model.proofs.FsMade.{call_again, reply_again, call_made, reply_made, some_is}
+use Rattle.afs_model.proofs.RpcLaws.{TakesAsked, asked_takes, asked_again, asked_more, TakesReplied, replied_takes, replied_again, replied_more, none_left, own_row}
+use Rattle.afs_model.proofs.FsMade.{calls_sound, replies_sound}
 
 fits_head : (m : Message) → FitsMessage m → FitsHead m.head
 fits_head m fits = record { from = fits.sound.0.0; to = fits.sound.0.1; numbers = fits.numbers }
 
--- ---- what is spelled is read again
-
-asked_again : (opcode : ℕ) (user : List ℕ) (call : FsCall) → opcode ≡ call_number call → length user ≤ user_limit → HasRow call_rows (call_number call) (call_fields call) → AreInRange (call_fields call)
-    → asked_at opcode (call_bytes user call) ≡ Ok (carried.Call user call)
-unfolding asked_at
-asked_again opcode user call is few row in_range =
-    let k = found_row call_rows (call_number call) (call_fields call) row in
-    rw (is, k.1, asked_parts_again k.0 user (call_fields call) few k.2 in_range, call_again call) refl
-
 zero_fits : FitsSigned w32 (pos 0)
 zero_fits = omega arith
 
-answer_again : (opcode : ℕ) (reply : FsReply) → opcode ≡ reply_number reply → HasRow reply_rows (reply_number reply) (reply_fields reply) → AreInRange (reply_fields reply)
-    → replied_at opcode (reply_bytes (pos 0) (Some reply)) ≡ Ok (carried.Reply reply)
-unfolding replied_at answer_at
-answer_again opcode reply is row in_range =
-    let k = found_row reply_rows (reply_number reply) (reply_fields reply) row in
-    rw (signed_codec.again (pos 0) (fields_spelled (reply_fields reply)) zero_fits, is, k.1, last_fields_again k.0 (reply_fields reply) k.2 in_range, reply_again reply) refl
+-- ---- what is spelled is read again
 
-refusal_again : (opcode : ℕ) (code : Code) → FitsSigned w32 code.0 → is_zero code.0 ≡ false → replied_at opcode (reply_bytes code.0 None) ≡ Ok (carried.Refusal code)
-unfolding replied_at refusal_at
-refusal_again opcode code fits some = rw (signed_codec.again code.0 [] fits, some, last_fields_again [] [] tt tt) refl
-
-notice_again : notice_at [] ≡ Ok carried.Notice
-unfolding notice_at
-notice_again = rw (last_fields_again [] [] tt tt) refl
-
-behind_again : (head : Head) (half : Half) (c : Carried) → IsSoundCarried half head.opcode c → IsInRange c → read_body head half (carried_bytes c) ≡ Whole (record { head = head; carried = c })
-behind_again head half (carried.Call user call) s r = rw (s.0, asked_again head.opcode user call s.1 s.2 s.3 r) refl
-behind_again head half (carried.Refusal code) s r = rw (s.0, refusal_again head.opcode code r s.1) refl
-behind_again head half (carried.Reply reply) s r = rw (s.0, answer_again head.opcode reply s.1 s.2 r) refl
-behind_again head half carried.Notice s r = rw (s, notice_again) refl
+body_again : (head : Head) (half : Half) (c : Carried) → IsSoundCarried half head.opcode c → IsInRange c → read_body head half (carried_bytes c) ≡ Whole (record { head = head; carried = c })
+body_again head half (carried.Call user call) s r = rw (s.0, s.1, asked_again fs_calls calls_sound user call s.2 s.3 r) refl
+body_again head half (carried.Refusal code) s r = rw (s.0, replied_again fs_replies replies_sound head.opcode code.0 None r s.1) refl
+body_again head half (carried.Reply reply) s r = rw (s.0, replied_again fs_replies replies_sound head.opcode (pos 0) (Some reply) zero_fits (refl, s.1, s.2, r)) refl
+body_again head half carried.Notice s r = rw (s, last_fields_again [] [] tt tt) refl
 
 pub message_again : (m : Message) → FitsMessage m → received (spelled m) ≡ Whole m
 unfolding received spelled
-message_again m fits = rw (head_again m.head (carried_bytes m.carried) (fits_head m fits)) (behind_again m.head m.head.half m.carried fits.sound.1 fits.in_range)
+message_again m fits = rw (head_again m.head (carried_bytes m.carried) (fits_head m fits)) (body_again m.head m.head.half m.carried fits.sound.1 fits.in_range)
 
 -- ---- what is read is spelled so
 
--- what was read behind a header, and all the bytes there
-record Takes (half : Half) (opcode : ℕ) (bytes : List ℕ) (c : Carried) : Type 0 where
+-- all the bytes behind a header, and what they carry
+record TakesBody (half : Half) (opcode : ℕ) (bytes : List ℕ) (c : Carried) : Type 0 where
   whole : bytes ≡ carried_bytes c
   sound : IsSoundCarried half opcode c
   in_range : IsInRange c
 
--- the call, or the reply, that was made
-call_is : (user : List ℕ) (o : Option FsCall) (c : Carried) → as_call user o ≡ Ok c → (call : FsCall) × (o ≡ Some call) × (carried.Call user call ≡ c)
-call_is user (Some call) c e = (call, refl, shape_ok_is (carried.Call user call) c e)
-call_is user None c e = absurd cc
-
-pub reply_is : (o : Option FsReply) (c : Carried) → as_reply o ≡ Ok c → (reply : FsReply) × (o ≡ Some reply) × (carried.Reply reply ≡ c)
-reply_is (Some reply) c e = (reply, refl, shape_ok_is (carried.Reply reply) c e)
-reply_is None c e = absurd cc
-
-asked_takes : (opcode : ℕ) (bytes : List ℕ) (c : Carried) → IsBytes bytes → asked_at opcode bytes ≡ Ok c → Takes halves.Call opcode bytes c
-unfolding asked_at
-asked_takes opcode bytes c fits e =
-    let a = bind_ok (row_at opcode (kinds_in opcode call_rows)) (λ ks. asked_parts_at ks bytes >>= λ parts. as_call parts.0 (call_of opcode parts.1)) c e in
-    let b = bind_ok (asked_parts_at a.0 bytes) (λ parts. as_call parts.0 (call_of opcode parts.1)) c a.2 in
-    let d = call_is b.0.0 (call_of opcode b.0.1) c b.2 in
-    let row = row_ok opcode (kinds_in opcode call_rows) a.0 a.1 in
-    let t = asked_parts_take a.0 bytes b.0.0 b.0.1 fits b.1 in
-    let m = call_made opcode a.0 b.0.1 row t.are_of in
-    let same : m.value ≡ d.0 = some_is m.value d.0 (sym m.is ∙ d.1) in
-    let told : b.0.1 ≡ call_fields d.0 = sym m.told_is ∙ ap call_fields same in
-    let number : opcode ≡ call_number d.0 = sym m.number_is ∙ ap call_number same in
-    let kinds : kinds_in (call_number d.0) call_rows ≡ Some a.0 = ap (λ (n : ℕ). kinds_in n call_rows) (sym number) ∙ row in
-    let here : Takes halves.Call opcode bytes (carried.Call b.0.0 d.0) = record {
-      whole = t.whole ∙ ap (λ (fs : List Field). opaque b.0.0 ++ fields_spelled fs) told;
-      sound = (refl, number, t.user_fits, rw kinds (subst (λ (fs : List Field). AreOf a.0 fs) told t.are_of));
-      in_range = subst AreInRange told t.in_range;
-    } in
-    subst (λ (x : Carried). Takes halves.Call opcode bytes x) d.2 here
-
--- what is read behind a code of 0
-answer_takes : (opcode : ℕ) (bytes : List ℕ) (c : Carried) → IsBytes bytes → answer_at opcode bytes ≡ Ok c → Takes halves.Reply opcode (word 0 ++ bytes) c
-unfolding answer_at
-answer_takes opcode bytes c fits e =
-    let a = bind_ok (row_at opcode (kinds_in opcode reply_rows)) (λ ks. fields_to_end_at ks bytes >>= λ fs. as_reply (reply_of opcode fs)) c e in
-    let b = bind_ok (fields_to_end_at a.0 bytes) (λ fs. as_reply (reply_of opcode fs)) c a.2 in
-    let d = reply_is (reply_of opcode b.0) c b.2 in
-    let row = row_ok opcode (kinds_in opcode reply_rows) a.0 a.1 in
-    let t = last_fields_take a.0 bytes b.0 fits b.1 in
-    let m = reply_made opcode a.0 b.0 row t.are_of in
-    let same : m.value ≡ d.0 = some_is m.value d.0 (sym m.is ∙ d.1) in
-    let told : b.0 ≡ reply_fields d.0 = sym m.told_is ∙ ap reply_fields same in
-    let number : opcode ≡ reply_number d.0 = sym m.number_is ∙ ap reply_number same in
-    let kinds : kinds_in (reply_number d.0) reply_rows ≡ Some a.0 = ap (λ (n : ℕ). kinds_in n reply_rows) (sym number) ∙ row in
-    let here : Takes halves.Reply opcode (word 0 ++ bytes) (carried.Reply d.0) = record {
-      whole = ap (λ (t : List ℕ). word 0 ++ t) (t.whole ∙ ap fields_spelled told);
-      sound = (refl, number, rw kinds (subst (λ (fs : List Field). AreOf a.0 fs) told t.are_of));
-      in_range = subst AreInRange told t.in_range;
-    } in
-    subst (λ (x : Carried). Takes halves.Reply opcode (word 0 ++ bytes) x) d.2 here
-
--- nothing is left where no field was to come
-none_left : (bytes : List ℕ) (fs : List Field) → IsBytes bytes → fields_to_end_at [] bytes ≡ Ok fs → bytes ≡ []
-none_left bytes [] fits e = (last_fields_take [] bytes [] fits e).whole
-none_left bytes (f ∷ fs) fits e = absurd (last_fields_take [] bytes (f ∷ fs) fits e).are_of
-
-refusal_takes : (opcode : ℕ) (code : ℤ) (bytes : List ℕ) (c : Carried) → IsBytes bytes → FitsSigned w32 code → is_zero code ≡ false → refusal_at code bytes ≡ Ok c → Takes halves.Reply opcode (word (signed code) ++ bytes) c
-unfolding refusal_at
-refusal_takes opcode code bytes c fits small some e =
-    let a = bind_ok (fields_to_end_at [] bytes) (λ nothing. Ok (carried.Refusal (record { 0 = code }))) c e in
-    let here : Takes halves.Reply opcode (word (signed code) ++ bytes) (carried.Refusal (record { 0 = code })) = record {
-      whole = ap (λ (t : List ℕ). word (signed code) ++ t) (none_left bytes a.0 fits a.1);
-      sound = (refl, some);
-      in_range = small;
-    } in
-    subst (λ (x : Carried). Takes halves.Reply opcode (word (signed code) ++ bytes) x) (shape_ok_is (carried.Refusal (record { 0 = code })) c a.2) here
-
-zero_is : (code : ℤ) → is_zero code ≡ true → pos 0 ≡ code
-zero_is (pos n) e = ap pos (sym (eqb-true n 0 e))
+zero_is : (code : ℤ) → is_zero code ≡ true → code ≡ pos 0
+zero_is (pos n) e = ap pos (eqb-true n 0 e)
 zero_is (negsuc n) e = absurd cc
 
-coded_takes : (opcode : ℕ) (code : ℤ) (bytes : List ℕ) (c : Carried) (zero : Bool) → IsBytes bytes → FitsSigned w32 code → is_zero code ≡ zero → (if zero then answer_at opcode bytes else refusal_at code bytes) ≡ Ok c
-    → Takes halves.Reply opcode (word (signed code) ++ bytes) c
-coded_takes opcode code bytes c true fits small z e = subst (λ (k : ℤ). Takes halves.Reply opcode (word (signed k) ++ bytes) c) (zero_is code z) (answer_takes opcode bytes c fits e)
-coded_takes opcode code bytes c false fits small z e = refusal_takes opcode code bytes c fits small z e
+call_taken : (opcode : ℕ) (bytes user : List ℕ) (call : FsCall) → TakesAsked fs_calls opcode bytes user call → TakesBody halves.Call opcode bytes (carried.Call user call)
+call_taken opcode bytes user call t = record { whole = t.whole; sound = (refl, t.opcode_is, t.user_fits, t.within); in_range = t.in_range }
 
-replied_takes : (opcode : ℕ) (bytes : List ℕ) (c : Carried) → IsBytes bytes → replied_at opcode bytes ≡ Ok c → Takes halves.Reply opcode bytes c
-unfolding replied_at
-replied_takes opcode bytes c fits e =
-    let a = bind_ok (in_place 0 (signed_at bytes)) (λ code. if is_zero code.0 then answer_at opcode code.1 else refusal_at code.0 code.1) c e in
-    let t = signed_codec.takes bytes a.0.0 a.0.1 fits (in_place_ok 0 (signed_at bytes) a.0 a.1) in
-    subst (λ (b : List ℕ). Takes halves.Reply opcode b c) (sym t.0.parts) (coded_takes opcode a.0.0 a.0.1 c (is_zero a.0.0) t.0.rest_fits t.1 refl a.2)
-
-notice_takes : (opcode : ℕ) (bytes : List ℕ) (c : Carried) → IsBytes bytes → notice_at bytes ≡ Ok c → Takes halves.Boot opcode bytes c
-unfolding notice_at
-notice_takes opcode bytes c fits e =
-    let a = bind_ok (fields_to_end_at [] bytes) (λ nothing. Ok carried.Notice) c e in
-    let here : Takes halves.Boot opcode bytes carried.Notice = record { whole = none_left bytes a.0 fits a.1; sound = refl; in_range = tt } in
-    subst (λ (x : Carried). Takes halves.Boot opcode bytes x) (shape_ok_is carried.Notice c a.2) here
-
--- the message that was found behind a header
-pub record IsOf (head : Head) (read : Result Carried ShapeFault) (m : Message) : Type 0 where
-  pub carried : Carried
-  pub read_is : read ≡ Ok carried
-  pub is : ◌≡◌ {A = Message} (record { head = head; carried = carried }) m
+reply_taken : (opcode : ℕ) (bytes : List ℕ) (code : ℤ) (reply : Option FsReply) → TakesReplied fs_replies opcode bytes code reply → TakesBody halves.Reply opcode bytes (carried_reply code reply)
+reply_taken opcode bytes code None t = record { whole = t.whole; sound = (refl, t.answer); in_range = t.code_fits }
+reply_taken opcode bytes code (Some reply) t =
+    let zero = subst (λ (z : ℤ). TakesReplied fs_replies opcode bytes z (Some reply)) (zero_is code t.answer.0) t in
+    record { whole = zero.whole; sound = (refl, zero.answer.1, zero.answer.2); in_range = zero.answer.3 }
 
 pub whole_of : (m n : Message) → ◌≡◌ {A = Received} (Whole m) (Whole n) → m ≡ n
 whole_of m n e = cc
 
-pub found_call_is : (head : Head) (read : Result Carried ShapeFault) (m : Message) → found_call head read ≡ Whole m → IsOf head read m
-found_call_is head (Ok c) m e = record { carried = c; read_is = refl; is = whole_of _ m e }
-found_call_is head (Err (faults.NoRow n)) m e = absurd cc
-found_call_is head (Err faults.OutOfMemory) m e = absurd cc
-found_call_is head (Err (faults.Head f)) m e = absurd cc
-found_call_is head (Err (faults.Field i f)) m e = absurd cc
-
-pub found_answer_is : (head : Head) (read : Result Carried ShapeFault) (m : Message) → found_answer head read ≡ Whole m → IsOf head read m
-found_answer_is head (Ok c) m e = record { carried = c; read_is = refl; is = whole_of _ m e }
-found_answer_is head (Err f) m e = absurd cc
-
 abbrev IsSpelled : List ℕ → Message → Type 0
 IsSpelled bytes m = (spelled m ≡ bytes) × FitsMessage m
 
-spelled_by : (bytes : List ℕ) (head : Head) (rest : List ℕ) (half : Half) (read : Result Carried ShapeFault) (m : Message) → bytes ≡ words (head_words head) ++ rest → FitsHead head → head.half ≡ half
-    → IsOf head read m → ((c : Carried) → read ≡ Ok c → Takes half head.opcode rest c) → IsSpelled bytes m
+spelled_by : (bytes : List ℕ) (head : Head) (rest : List ℕ) (c : Carried) (m : Message) → bytes ≡ words (head_words head) ++ rest → FitsHead head → ◌≡◌ {A = Received} (Whole (record { head = head; carried = c })) (Whole m) → TakesBody head.half head.opcode rest c → IsSpelled bytes m
 unfolding spelled
-spelled_by bytes head rest half read m parts fits is found takes =
-    let t = takes found.carried found.read_is in
-    let sound : IsSoundCarried head.half head.opcode found.carried = subst (λ (h : Half). IsSoundCarried h head.opcode found.carried) (sym is) t.sound in
-    subst (IsSpelled bytes) found.is
-    (ap (λ (b : List ℕ). words (head_words head) ++ b) (sym t.whole) ∙ sym parts, record { sound = ((fits.from, fits.to), sound); numbers = fits.numbers; in_range = t.in_range })
+spelled_by bytes head rest c m parts fits is t =
+    subst (IsSpelled bytes) (whole_of _ m is)
+    (ap (λ (b : List ℕ). words (head_words head) ++ b) (sym t.whole) ∙ sym parts, record { sound = ((fits.from, fits.to), t.sound); numbers = fits.numbers; in_range = t.in_range })
 
-behind_spelled : (bytes : List ℕ) (head : Head) (rest : List ℕ) (half : Half) (m : Message) → bytes ≡ words (head_words head) ++ rest → IsBytes rest → FitsHead head → head.half ≡ half → read_body head half rest ≡ Whole m → IsSpelled bytes m
-behind_spelled bytes head rest halves.Call m parts left fits is e =
-    spelled_by bytes head rest halves.Call (asked_at head.opcode rest) m parts fits is (found_call_is head (asked_at head.opcode rest) m e) (λ c read. asked_takes head.opcode rest c left read)
-behind_spelled bytes head rest halves.Reply m parts left fits is e =
-    spelled_by bytes head rest halves.Reply (replied_at head.opcode rest) m parts fits is (found_answer_is head (replied_at head.opcode rest) m e) (λ c read. replied_takes head.opcode rest c left read)
-behind_spelled bytes head rest halves.Boot m parts left fits is e =
-    spelled_by bytes head rest halves.Boot (notice_at rest) m parts fits is (found_answer_is head (notice_at rest) m e) (λ c read. notice_takes head.opcode rest c left read)
+call_spelled : (bytes : List ℕ) (head : Head) (rest : List ℕ) (read : Result (List ℕ × FsCall) ShapeFault) (m : Message) → bytes ≡ words (head_words head) ++ rest → IsBytes rest → FitsHead head → halves.Call ≡ head.half
+    → asked_at fs_calls head.opcode rest ≡ read → received_call head read ≡ Whole m → IsSpelled bytes m
+call_spelled bytes head rest (Ok c) m parts left fits is at e =
+    let t = call_taken head.opcode rest c.0 c.1 (asked_takes fs_calls calls_sound head.opcode rest c.0 c.1 left at) in
+    spelled_by bytes head rest (carried.Call c.0 c.1) m parts fits e (subst (λ (h : Half). TakesBody h head.opcode rest (carried.Call c.0 c.1)) is t)
+call_spelled bytes head rest (Err (faults.NoRow n)) m parts left fits is at e = absurd cc
+call_spelled bytes head rest (Err faults.OutOfMemory) m parts left fits is at e = absurd cc
+call_spelled bytes head rest (Err (faults.Head f)) m parts left fits is at e = absurd cc
+call_spelled bytes head rest (Err (faults.Field i f)) m parts left fits is at e = absurd cc
+
+reply_spelled : (bytes : List ℕ) (head : Head) (rest : List ℕ) (read : Result (ℤ × Option FsReply) ShapeFault) (m : Message) → bytes ≡ words (head_words head) ++ rest → IsBytes rest → FitsHead head → halves.Reply ≡ head.half
+    → replied_at fs_replies head.opcode rest ≡ read → received_reply head read ≡ Whole m → IsSpelled bytes m
+reply_spelled bytes head rest (Ok r) m parts left fits is at e =
+    let t = reply_taken head.opcode rest r.0 r.1 (replied_takes fs_replies replies_sound head.opcode rest r.0 r.1 left at) in
+    spelled_by bytes head rest (carried_reply r.0 r.1) m parts fits e (subst (λ (h : Half). TakesBody h head.opcode rest (carried_reply r.0 r.1)) is t)
+reply_spelled bytes head rest (Err f) m parts left fits is at e = absurd cc
+
+notice_spelled : (bytes : List ℕ) (head : Head) (rest : List ℕ) (read : Result (List Field) ShapeFault) (m : Message) → bytes ≡ words (head_words head) ++ rest → IsBytes rest → FitsHead head → halves.Boot ≡ head.half
+    → fields_to_end_at [] rest ≡ read → received_notice head read ≡ Whole m → IsSpelled bytes m
+notice_spelled bytes head rest (Ok fs) m parts left fits is at e =
+    spelled_by bytes head rest carried.Notice m parts fits e (record { whole = none_left rest fs left at; sound = sym is; in_range = tt })
+notice_spelled bytes head rest (Err f) m parts left fits is at e = absurd cc
+
+body_spelled : (bytes : List ℕ) (head : Head) (rest : List ℕ) (half : Half) (m : Message) → bytes ≡ words (head_words head) ++ rest → IsBytes rest → FitsHead head → half ≡ head.half → read_body head half rest ≡ Whole m → IsSpelled bytes m
+body_spelled bytes head rest halves.Call m parts left fits is e = call_spelled bytes head rest (asked_at fs_calls head.opcode rest) m parts left fits is refl e
+body_spelled bytes head rest halves.Reply m parts left fits is e = reply_spelled bytes head rest (replied_at fs_replies head.opcode rest) m parts left fits is refl e
+body_spelled bytes head rest halves.Boot m parts left fits is e = notice_spelled bytes head rest (fields_to_end_at [] rest) m parts left fits is refl e
 
 head_spelled : (bytes : List ℕ) (m : Message) (o : Result (Head × List ℕ) XdrFault) → IsBytes bytes → head_at bytes ≡ o → read_behind_head o ≡ Whole m → IsSpelled bytes m
 head_spelled bytes m (Ok h) fits at e =
     let t = head_takes bytes h.0 h.1 fits at in
-    behind_spelled bytes h.0 h.1 h.0.half m t.takes.parts t.takes.rest_fits t.fits refl e
+    body_spelled bytes h.0 h.1 h.0.half m t.takes.parts t.takes.rest_fits t.fits refl e
 head_spelled bytes m (Err f) fits at e = absurd cc
 
 pub read_spelled : (bytes : List ℕ) (m : Message) → IsBytes bytes → received bytes ≡ Whole m → (spelled m ≡ bytes) × FitsMessage m
 unfolding received
 read_spelled bytes m fits e = head_spelled bytes m (head_at bytes) fits refl e
 
--- ---- what is found in bytes is sound
+-- ---- what a node receives is sound
 
-found_call_sound : (head : Head) (read : Result Carried ShapeFault) → IsSoundHead head → ((m : Message) → found_call head read ≡ Whole m → HasSpelling m) → IsSoundReceived (found_call head read)
-found_call_sound head (Ok c) nodes whole = whole (record { head = head; carried = c }) refl
-found_call_sound head (Err (faults.NoRow n)) nodes whole = nodes
-found_call_sound head (Err faults.OutOfMemory) nodes whole = nodes
-found_call_sound head (Err (faults.Head f)) nodes whole = nodes
-found_call_sound head (Err (faults.Field i f)) nodes whole = nodes
+-- where a message is received, it has a spelling
+abbrev WholeHasSpelling : Received → Type 0
+WholeHasSpelling r = (m : Message) → r ≡ Whole m → HasSpelling m
 
-found_answer_sound : (head : Head) (read : Result Carried ShapeFault) → ((m : Message) → found_answer head read ≡ Whole m → HasSpelling m) → IsSoundReceived (found_answer head read)
-found_answer_sound head (Ok c) whole = whole (record { head = head; carried = c }) refl
-found_answer_sound head (Err f) whole = tt
+call_sound : (head : Head) (read : Result (List ℕ × FsCall) ShapeFault) → IsSoundHead head → WholeHasSpelling (received_call head read) → IsSoundReceived (received_call head read)
+call_sound head (Ok c) nodes whole = whole _ refl
+call_sound head (Err (faults.NoRow n)) nodes whole = nodes
+call_sound head (Err faults.OutOfMemory) nodes whole = nodes
+call_sound head (Err (faults.Head f)) nodes whole = nodes
+call_sound head (Err (faults.Field i f)) nodes whole = nodes
 
-behind_sound : (head : Head) (half : Half) (rest : List ℕ) → IsSoundHead head → ((m : Message) → read_body head half rest ≡ Whole m → HasSpelling m) → IsSoundReceived (read_body head half rest)
-behind_sound head halves.Call rest nodes whole = found_call_sound head (asked_at head.opcode rest) nodes whole
-behind_sound head halves.Reply rest nodes whole = found_answer_sound head (replied_at head.opcode rest) whole
-behind_sound head halves.Boot rest nodes whole = found_answer_sound head (notice_at rest) whole
+reply_sound : (head : Head) (read : Result (ℤ × Option FsReply) ShapeFault) → WholeHasSpelling (received_reply head read) → IsSoundReceived (received_reply head read)
+reply_sound head (Ok r) whole = whole _ refl
+reply_sound head (Err f) whole = tt
 
-head_sound : (bytes : List ℕ) (o : Result (Head × List ℕ) XdrFault) → IsBytes bytes → head_at bytes ≡ o → ((m : Message) → read_behind_head o ≡ Whole m → HasSpelling m) → IsSoundReceived (read_behind_head o)
-head_sound bytes (Ok h) fits at whole = let t = head_takes bytes h.0 h.1 fits at in behind_sound h.0 h.0.half h.1 (t.fits.from, t.fits.to) whole
+notice_sound : (head : Head) (read : Result (List Field) ShapeFault) → WholeHasSpelling (received_notice head read) → IsSoundReceived (received_notice head read)
+notice_sound head (Ok fs) whole = whole _ refl
+notice_sound head (Err f) whole = tt
+
+body_sound : (head : Head) (half : Half) (rest : List ℕ) → IsSoundHead head → WholeHasSpelling (read_body head half rest) → IsSoundReceived (read_body head half rest)
+body_sound head halves.Call rest nodes whole = call_sound head (asked_at fs_calls head.opcode rest) nodes whole
+body_sound head halves.Reply rest nodes whole = reply_sound head (replied_at fs_replies head.opcode rest) whole
+body_sound head halves.Boot rest nodes whole = notice_sound head (fields_to_end_at [] rest) whole
+
+head_sound : (bytes : List ℕ) (o : Result (Head × List ℕ) XdrFault) → IsBytes bytes → head_at bytes ≡ o → WholeHasSpelling (read_behind_head o) → IsSoundReceived (read_behind_head o)
+head_sound bytes (Ok h) fits at whole = let t = head_takes bytes h.0 h.1 fits at in body_sound h.0 h.0.half h.1 (t.fits.from, t.fits.to) whole
 head_sound bytes (Err f) fits at whole = tt
 
 pub read_sound : (bytes : List ℕ) → IsBytes bytes → IsSoundReceived (received bytes)
@@ -249,12 +157,12 @@ read_sound bytes fits = head_sound bytes (head_at bytes) fits refl (λ m e. (rea
 
 -- ---- what is found is what the tables spell
 
-call_fits : (h : Head) (user : List ℕ) (call : FsCall) → IsCall h user call → FitsMessage (record { head = h; carried = carried.Call user call })
-call_fits h user call is = record { sound = ((is.head.1.from, is.head.1.to), (is.head.0, is.opcode, is.user_fits, is.row)); numbers = is.head.1.numbers; in_range = is.in_range }
+call_fits : (h : Head) (user : List ℕ) (call : FsCall) → IsCall fs_calls h user call → FitsMessage (record { head = h; carried = carried.Call user call })
+call_fits h user call is = record { sound = ((is.head.1.from, is.head.1.to), (is.head.0, is.opcode, is.user_fits, is.within)); numbers = is.head.1.numbers; in_range = is.in_range }
 
-fits_call : (h : Head) (user : List ℕ) (call : FsCall) → FitsMessage (record { head = h; carried = carried.Call user call }) → IsCall h user call
+fits_call : (h : Head) (user : List ℕ) (call : FsCall) → FitsMessage (record { head = h; carried = carried.Call user call }) → IsCall fs_calls h user call
 fits_call h user call f = let s = f.sound.1 in
-    record { head = (s.0, record { from = f.sound.0.0; to = f.sound.0.1; numbers = f.numbers }); opcode = s.1; user_fits = s.2; row = s.3; in_range = f.in_range }
+    record { head = (s.0, record { from = f.sound.0.0; to = f.sound.0.1; numbers = f.numbers }); opcode = s.1; user_fits = s.2; within = s.3; in_range = f.in_range }
 
 pub calls_are_found : CallsAreFound
 unfolding spelled
@@ -262,12 +170,17 @@ calls_are_found bytes h user call fits =
     let m : Message = record { head = h; carried = carried.Call user call } in
     (λ s. ap received s.1 ∙ message_again m (call_fits h user call s.0), λ e. let r = read_spelled bytes m fits e in (fits_call h user call r.1, sym r.0))
 
-reply_fits : (h : Head) (reply : FsReply) → IsReply h (pos 0) (Some reply) → FitsMessage (record { head = h; carried = carried.Reply reply })
+reply_fits : (h : Head) (reply : FsReply) → IsReply fs_replies h (pos 0) (Some reply) → FitsMessage (record { head = h; carried = carried.Reply reply })
 reply_fits h reply is = record { sound = ((is.head.1.from, is.head.1.to), (is.head.0, is.answer.1, is.answer.2)); numbers = is.head.1.numbers; in_range = is.answer.3 }
 
-fits_reply : (h : Head) (reply : FsReply) → FitsMessage (record { head = h; carried = carried.Reply reply }) → IsReply h (pos 0) (Some reply)
+fits_reply : (h : Head) (reply : FsReply) → FitsMessage (record { head = h; carried = carried.Reply reply }) → IsReply fs_replies h (pos 0) (Some reply)
 fits_reply h reply f = let s = f.sound.1 in
-    record { head = (s.0, record { from = f.sound.0.0; to = f.sound.0.1; numbers = f.numbers }); code_fits = zero_fits; answer = (refl, s.1, s.2, f.in_range) }
+    record {
+      head = (s.0, record { from = f.sound.0.0; to = f.sound.0.1; numbers = f.numbers });
+      code_fits = zero_fits;
+      has_row = own_row fs_replies h.opcode (pos 0) (Some reply) (refl, s.2) s.1;
+      answer = (refl, s.1, s.2, f.in_range);
+    }
 
 pub replies_are_found : RepliesAreFound
 unfolding spelled
@@ -275,12 +188,12 @@ replies_are_found bytes h reply fits =
     let m : Message = record { head = h; carried = carried.Reply reply } in
     (λ s. ap received s.1 ∙ message_again m (reply_fits h reply s.0), λ e. let r = read_spelled bytes m fits e in (fits_reply h reply r.1, sym r.0))
 
-refusal_fits : (h : Head) (code : Code) → IsReply h code.0 None → FitsMessage (record { head = h; carried = carried.Refusal code })
-refusal_fits h code is = record { sound = ((is.head.1.from, is.head.1.to), (is.head.0, is.answer.0)); numbers = is.head.1.numbers; in_range = is.code_fits }
+refusal_fits : (h : Head) (code : Code) → IsReply fs_replies h code.0 None → FitsMessage (record { head = h; carried = carried.Refusal code })
+refusal_fits h code is = record { sound = ((is.head.1.from, is.head.1.to), (is.head.0, is.answer)); numbers = is.head.1.numbers; in_range = is.code_fits }
 
-fits_refusal : (h : Head) (code : Code) → IsSome (kinds_in h.opcode reply_rows) → FitsMessage (record { head = h; carried = carried.Refusal code }) → IsReply h code.0 None
+fits_refusal : (h : Head) (code : Code) → IsSome (kinds_in h.opcode reply_rows) → FitsMessage (record { head = h; carried = carried.Refusal code }) → IsReply fs_replies h code.0 None
 fits_refusal h code row f = let s = f.sound.1 in
-    record { head = (s.0, record { from = f.sound.0.0; to = f.sound.0.1; numbers = f.numbers }); code_fits = f.in_range; answer = (s.1, row) }
+    record { head = (s.0, record { from = f.sound.0.0; to = f.sound.0.1; numbers = f.numbers }); code_fits = f.in_range; has_row = row; answer = s.1 }
 
 pub refusals_are_found : RefusalsAreFound
 unfolding spelled
@@ -292,66 +205,12 @@ is_some : {A : Type 0} (o : Option A) (x : A) → o ≡ Some x → IsSome o
 is_some o x e = rw e refl
 
 pub rows_make_calls : RowsMakeCalls
-rows_make_calls opcode ks fs row are = let m = call_made opcode ks fs row are in is_some (call_of opcode fs) m.value m.is
+rows_make_calls opcode ks fs row are = let m = calls_sound.makes opcode ks fs row are in is_some (message_of fs_calls opcode fs) m.message m.is
 
 pub rows_make_replies : RowsMakeReplies
-rows_make_replies opcode ks fs row are = let m = reply_made opcode ks fs row are in is_some (reply_of opcode fs) m.value m.is
-
--- ---- reading, step by step
-
-abbrev pub Gives : Result Carried ShapeFault → Result Carried ShapeFault → Type 0
-Gives read result = GivesShape {X = Carried} (λ c. c) read result
-
-pub gives_same : (read result : Result Carried ShapeFault) → read ≡ result → Gives read result
-gives_same read (Ok c) e = e
-gives_same read (Err faults.OutOfMemory) e = tt
-gives_same read (Err (faults.Head f)) e = e
-gives_same read (Err (faults.NoRow n)) e = e
-gives_same read (Err (faults.Field i f)) e = e
-
-pub asked_read : (opcode : ℕ) (bytes : List ℕ) (ks : List Kind) (user : List ℕ) (fs : List Field) → kinds_in opcode call_rows ≡ Some ks → asked_parts_at ks bytes ≡ Ok (user, fs) → asked_at opcode bytes ≡ as_call user (call_of opcode fs)
-unfolding asked_at
-asked_read opcode bytes ks user fs p q = rw (p, q) refl
-
-pub asked_fail : (e : ShapeFault) (opcode : ℕ) (bytes : List ℕ) (ks : List Kind) → kinds_in opcode call_rows ≡ Some ks → GivesShape {X = List ℕ × List Field} (λ p. p) (asked_parts_at ks bytes) (Err e) → Gives (asked_at opcode bytes) (Err e)
-unfolding asked_at
-asked_fail faults.OutOfMemory opcode bytes ks p q = tt
-asked_fail (faults.Head f) opcode bytes ks p q = rw (p, q) refl
-asked_fail (faults.NoRow n) opcode bytes ks p q = rw (p, q) refl
-asked_fail (faults.Field i f) opcode bytes ks p q = rw (p, q) refl
-
-pub answer_read : (opcode : ℕ) (bytes : List ℕ) (ks : List Kind) (fs : List Field) → kinds_in opcode reply_rows ≡ Some ks → fields_to_end_at ks bytes ≡ Ok fs → answer_at opcode bytes ≡ as_reply (reply_of opcode fs)
-unfolding answer_at
-answer_read opcode bytes ks fs p q = rw (p, q) refl
-
-pub answer_fail : (e : ShapeFault) (opcode : ℕ) (bytes : List ℕ) (ks : List Kind) → kinds_in opcode reply_rows ≡ Some ks → GivesShape {X = List Field} (λ fs. fs) (fields_to_end_at ks bytes) (Err e) → Gives (answer_at opcode bytes) (Err e)
-unfolding answer_at
-answer_fail faults.OutOfMemory opcode bytes ks p q = tt
-answer_fail (faults.Head f) opcode bytes ks p q = rw (p, q) refl
-answer_fail (faults.NoRow n) opcode bytes ks p q = rw (p, q) refl
-answer_fail (faults.Field i f) opcode bytes ks p q = rw (p, q) refl
+rows_make_replies opcode ks fs row are = let m = replies_sound.makes opcode ks fs row are in is_some (message_of fs_replies opcode fs) m.message m.is
 
 -- ---- what is spelled, with more behind it, is refused: reading ends at the last byte
-
-no_zero : (n : ℕ) (t : Bool) → eqb (suc n) 0 ≡ t → t ≡ false
-no_zero n false e = refl
-no_zero n true e = let z : suc n ≡ 0 = eqb-true (suc n) 0 e in absurd (omega arith)
-
-no_end : (x : ℕ) (more : List ℕ) → end_at (x ∷ more) ≡ Err Extra
-no_end x more = rw (no_zero (length more) (eqb (suc (length more)) 0) refl) refl
-
--- the fault of bytes behind so many fields
-abbrev extra : ℕ → ShapeFault
-extra n = faults.Field (n + 1) Extra
-
-last_fields_more : (ks : List Kind) (fs : List Field) (x : ℕ) (more : List ℕ) → AreOf ks fs → AreInRange fs → fields_to_end_at ks (fields_spelled fs ++ x ∷ more) ≡ Err (extra (length fs))
-unfolding fields_to_end_at
-last_fields_more ks fs x more are in_range = rw (fields_again 1 ks fs (x ∷ more) are in_range, no_end x more) refl
-
-asked_parts_more : (ks : List Kind) (user : List ℕ) (fs : List Field) (x : ℕ) (more : List ℕ) → length user ≤ user_limit → AreOf ks fs → AreInRange fs → asked_parts_at ks ((opaque user ++ fields_spelled fs) ++ x ∷ more) ≡ Err (extra (length fs))
-unfolding asked_parts_at
-asked_parts_more ks user fs x more few are in_range =
-    rw (append_assoc (opaque user) (fields_spelled fs) (x ∷ more), (opaque_codec user_limit).again user (fields_spelled fs ++ x ∷ more) (few, omega arith), last_fields_more ks fs x more are in_range) refl
 
 -- there is no message in it
 abbrev IsNotWhole : Received → Type 0
@@ -360,39 +219,17 @@ IsNotWhole (Unknown head) = Unit {0}
 IsNotWhole (Unreadable head) = Unit {0}
 IsNotWhole (Whole m) = ⊥
 
-asked_more : (opcode : ℕ) (user : List ℕ) (call : FsCall) (x : ℕ) (more : List ℕ) → opcode ≡ call_number call → length user ≤ user_limit → HasRow call_rows (call_number call) (call_fields call) → AreInRange (call_fields call)
-    → asked_at opcode (call_bytes user call ++ x ∷ more) ≡ Err (extra (length (call_fields call)))
-unfolding asked_at
-asked_more opcode user call x more is few row in_range =
-    let k = found_row call_rows (call_number call) (call_fields call) row in
-    rw (is, k.1, asked_parts_more k.0 user (call_fields call) x more few k.2 in_range) refl
+body_more : (head : Head) (half : Half) (c : Carried) (byte : ℕ) (more : List ℕ) → IsSoundCarried half head.opcode c → IsInRange c → IsNotWhole (read_body head half (carried_bytes c ++ byte ∷ more))
+body_more head half (carried.Call user call) byte more s r = rw (s.0, s.1, asked_more fs_calls user call byte more s.2 s.3 r) tt
+body_more head half (carried.Refusal code) byte more s r = rw (s.0, replied_more fs_replies head.opcode code.0 None byte more r s.1) tt
+body_more head half (carried.Reply reply) byte more s r = rw (s.0, replied_more fs_replies head.opcode (pos 0) (Some reply) byte more zero_fits (refl, s.1, s.2, r)) tt
+body_more head half carried.Notice byte more s r = rw (s, last_fields_more [] [] byte more tt tt) tt
 
-answer_more : (opcode : ℕ) (reply : FsReply) (x : ℕ) (more : List ℕ) → opcode ≡ reply_number reply → HasRow reply_rows (reply_number reply) (reply_fields reply) → AreInRange (reply_fields reply)
-    → replied_at opcode (reply_bytes (pos 0) (Some reply) ++ x ∷ more) ≡ Err (extra (length (reply_fields reply)))
-unfolding replied_at answer_at
-answer_more opcode reply x more is row in_range =
-    let k = found_row reply_rows (reply_number reply) (reply_fields reply) row in
-    rw (append_assoc (word 0) (fields_spelled (reply_fields reply)) (x ∷ more), signed_codec.again (pos 0) (fields_spelled (reply_fields reply) ++ x ∷ more) zero_fits, is, k.1, last_fields_more k.0 (reply_fields reply) x more k.2 in_range) refl
-
-refusal_more : (opcode : ℕ) (code : Code) (x : ℕ) (more : List ℕ) → FitsSigned w32 code.0 → is_zero code.0 ≡ false → replied_at opcode (reply_bytes code.0 None ++ x ∷ more) ≡ Err (extra 0)
-unfolding replied_at refusal_at
-refusal_more opcode code x more fits some = rw (append_assoc (word (signed code.0)) [] (x ∷ more), signed_codec.again code.0 (x ∷ more) fits, some, last_fields_more [] [] x more tt tt) refl
-
-notice_more : (x : ℕ) (more : List ℕ) → notice_at (x ∷ more) ≡ Err (extra 0)
-unfolding notice_at
-notice_more x more = rw (last_fields_more [] [] x more tt tt) refl
-
-behind_more : (head : Head) (half : Half) (c : Carried) (x : ℕ) (more : List ℕ) → IsSoundCarried half head.opcode c → IsInRange c → IsNotWhole (read_body head half (carried_bytes c ++ x ∷ more))
-behind_more head half (carried.Call user call) x more s r = rw (s.0, asked_more head.opcode user call x more s.1 s.2 s.3 r) tt
-behind_more head half (carried.Refusal code) x more s r = rw (s.0, refusal_more head.opcode code x more r s.1) tt
-behind_more head half (carried.Reply reply) x more s r = rw (s.0, answer_more head.opcode reply x more s.1 s.2 r) tt
-behind_more head half carried.Notice x more s r = rw (s, notice_more x more) tt
-
-message_more : (m : Message) (x : ℕ) (more : List ℕ) → FitsMessage m → IsNotWhole (received (spelled m ++ x ∷ more))
+message_more : (m : Message) (byte : ℕ) (more : List ℕ) → FitsMessage m → IsNotWhole (received (spelled m ++ byte ∷ more))
 unfolding received spelled
-message_more m x more fits =
-    rw (append_assoc (words (head_words m.head)) (carried_bytes m.carried) (x ∷ more), head_again m.head (carried_bytes m.carried ++ x ∷ more) (fits_head m fits))
-    (behind_more m.head m.head.half m.carried x more fits.sound.1 fits.in_range)
+message_more m byte more fits =
+    rw (append_assoc (words (head_words m.head)) (carried_bytes m.carried) (byte ∷ more), head_again m.head (carried_bytes m.carried ++ byte ∷ more) (fits_head m fits))
+    (body_more m.head m.head.half m.carried byte more fits.sound.1 fits.in_range)
 
 same_spelling : (m n : Message) → FitsMessage m → FitsMessage n → spelled m ≡ spelled n → m ≡ n
 same_spelling m n f g e = whole_of m n (sym (message_again m f) ∙ (ap received e ∙ message_again n g))
@@ -400,4 +237,4 @@ same_spelling m n f g e = whole_of m n (sym (message_again m f) ∙ (ap received
 -- no message's spelling begins another's
 pub no_beginning : (m n : Message) (rest : List ℕ) → FitsMessage m → FitsMessage n → spelled m ++ rest ≡ spelled n → (m ≡ n) × (rest ≡ [])
 no_beginning m n [] f g e = (same_spelling m n f g (sym (append-nil (spelled m)) ∙ e), refl)
-no_beginning m n (x ∷ more) f g e = absurd (subst IsNotWhole (ap received e ∙ message_again n g) (message_more m x more f))
+no_beginning m n (byte ∷ more) f g e = absurd (subst IsNotWhole (ap received e ∙ message_again n g) (message_more m byte more f))

@@ -21,14 +21,18 @@ use Rattle.afs_num.specs.declared.histories.Entry.{Entry as ParcelledEntry}
 use Rattle.afs_num.specs.declared.histories.Line.{Line}
 use Rattle.afs_num.specs.declared.scripts.Script.{Script}
 use Rattle.afs_num.specs.declared.states.StoredFile.{StoredFile}
-use Rattle.afs_shape.specs.Reading.{in_place, signed_at}
-use Rattle.afs_shape.specs.Tables.{kinds_in}
+use Rattle.afs_num.specs.declared.calls.FsCall.{FsCall}
+use Rattle.afs_num.specs.declared.calls.FsReply.{FsReply}
+use Rattle.afs_shape.specs.declared.faults.ShapeFault.{ShapeFault}
+use Rattle.afs_shape.specs.declared.faults.ShapeFault.TheVariants as faults
+use Rattle.afs_shape.specs.declared.kinds.Field.{Field}
+use Rattle.afs_shape.specs.Reading.{in_place, signed_at, fields_to_end_at}
 use Rattle.afs_shape.proofs.FieldLaws.{bind_ok, in_place_ok, shape_ok_is}
 use Rattle.afs_model.specs.Heads.{head_at, half_at, node_at, known, half_of, is_zero}
-use Rattle.afs_model.specs.FsRows.{reply_rows, row_at, fields_to_end_at}
-use Rattle.afs_model.specs.FsMaking.{reply_of}
-use Rattle.afs_model.specs.Messages.{asked_at, answer_at, refusal_at, replied_at, notice_at, read_body, read_behind_head, received, spelled, found, meant}
-use Rattle.afs_model.proofs.Spellings.{IsOf, found_call_is, found_answer_is, reply_is}
+use Rattle.afs_model.specs.Rpc.{asked_at, answer_at, replied_at}
+use Rattle.afs_model.specs.FsRows.{fs_calls, fs_replies}
+use Rattle.afs_model.specs.Messages.{received_call, carried_reply, received_reply, received_notice, read_body, read_behind_head, received, spelled, found, meant}
+use Rattle.afs_model.proofs.Spellings.{whole_of}
 use Rattle.afs_model.specs.Runs.{Entry, Cell}
 use Rattle.afs_model.specs.Text.{sent_text, route_text, half_text, code_text, tail_text, code_of, code_read, code_at, message_text, messages_text, parcel_text, parcels_text, step_text, lines_text, entry_text, parcelled_entry_text, entries_text, parcelled_entries_text, history_text, parcelled_history_text, final_text, text, parcelled_text, Carries, CarryAll}
 
@@ -152,40 +156,49 @@ is_pos_zero : (z : ℤ) → is_zero z ≡ true → z ≡ pos 0
 is_pos_zero (pos n) h = ap pos (eqb-true n 0 h)
 is_pos_zero (negsuc n) h = cc
 
-refusal_code : (code : ℤ) (bytes : List ℕ) (c : Carried) → refusal_at code bytes ≡ Ok c → code_of c ≡ code
-unfolding refusal_at
-refusal_code code bytes c h =
-    let a = bind_ok (fields_to_end_at [] bytes) (λ nothing. Ok (carried.Refusal (record { 0 = code }))) c h in
-    sym (ap code_of (shape_ok_is (carried.Refusal (record { 0 = code })) c a.2))
-
-answer_code : (opcode : ℕ) (bytes : List ℕ) (c : Carried) → answer_at opcode bytes ≡ Ok c → code_of c ≡ pos 0
+-- behind a code that isn't 0 there is no reply
+replied_zero : (opcode : ℕ) (zero : Bool) (bytes : List ℕ) (reply : FsReply) → answer_at fs_replies opcode zero bytes ≡ Ok (Some reply) → zero ≡ true
 unfolding answer_at
-answer_code opcode bytes c h =
-    let a = bind_ok (row_at opcode (kinds_in opcode reply_rows)) _ c h in
-    let b = bind_ok (fields_to_end_at a.0 bytes) _ c a.2 in
-    sym (ap code_of (reply_is (reply_of opcode b.0) c b.2).2)
+replied_zero opcode true bytes reply h = refl
+replied_zero opcode false bytes reply h =
+    let a = bind_ok (fields_to_end_at [] bytes) (λ nothing. Ok None) (Some reply) h in
+    cc
 
-code_by : (opcode : ℕ) (code : ℤ) (rest : List ℕ) (c : Carried) (b : Bool) → is_zero code ≡ b → (if b then answer_at opcode rest else refusal_at code rest) ≡ Ok c → code ≡ code_of c
-code_by opcode code rest c true z h = is_pos_zero code z ∙ sym (answer_code opcode rest c h)
-code_by opcode code rest c false z h = sym (refusal_code code rest c h)
+carried_code : (opcode : ℕ) (code : ℤ) (bytes : List ℕ) (reply : Option FsReply) → answer_at fs_replies opcode (is_zero code) bytes ≡ Ok reply → code ≡ code_of (carried_reply code reply)
+carried_code opcode code bytes (Some reply) h = is_pos_zero code (replied_zero opcode (is_zero code) bytes reply h)
+carried_code opcode code bytes None h = refl
 
-replied_code : (opcode : ℕ) (bytes : List ℕ) (c : Carried) → replied_at opcode bytes ≡ Ok c → code_read (signed_at bytes) ≡ code_of c
+replied_code : (opcode : ℕ) (bytes : List ℕ) (r : ℤ × Option FsReply) → replied_at fs_replies opcode bytes ≡ Ok r → code_read (signed_at bytes) ≡ code_of (carried_reply r.0 r.1)
 unfolding replied_at
-replied_code opcode bytes c h =
-    let a = bind_ok (in_place 0 (signed_at bytes)) (λ code. if is_zero code.0 then answer_at opcode code.1 else refusal_at code.0 code.1) c h in
-    ap code_read (in_place_ok 0 (signed_at bytes) a.0 a.1) ∙ code_by opcode a.0.0 a.0.1 c (is_zero a.0.0) refl a.2
+replied_code opcode bytes r h =
+    let a = bind_ok (in_place 0 (signed_at bytes)) _ r h in
+    let b = bind_ok (answer_at fs_replies opcode (is_zero a.0.0) a.0.1) _ r a.2 in
+    let same : a.0.0 ≡ code_of (carried_reply a.0.0 b.0) = carried_code opcode a.0.0 a.0.1 b.0 b.1 in
+    ap code_read (in_place_ok 0 (signed_at bytes) a.0 a.1) ∙ (same ∙ ap (λ (x : ℤ × Option FsReply). code_of (carried_reply x.0 x.1)) (shape_ok_is (a.0.0, b.0) r b.2))
 
-heard_code : (head : Head) (bytes : List ℕ) (m : Message) → IsOf head (replied_at head.opcode bytes) m → code_read (signed_at bytes) ≡ code_of m.carried
-heard_code head bytes m of = replied_code head.opcode bytes of.carried of.read_is ∙ ap (λ (n : Message). code_of n.carried) of.is
+heard_code : (head : Head) (bytes : List ℕ) (read : Result (ℤ × Option FsReply) ShapeFault) (m : Message) → replied_at fs_replies head.opcode bytes ≡ read → received_reply head read ≡ Whole m → code_read (signed_at bytes) ≡ code_of m.carried
+heard_code head bytes (Ok r) m at h = replied_code head.opcode bytes r at ∙ ap (λ (n : Message). code_of n.carried) (whole_of _ m h)
+heard_code head bytes (Err f) m at h = cc
 
--- what isn't a reply is found as something else
+-- what isn't a reply is received under its own half
+call_half : (head : Head) (read : Result (List ℕ × FsCall) ShapeFault) (m : Message) → received_call head read ≡ Whole m → head.half ≡ m.head.half
+call_half head (Ok c) m h = ap (λ (n : Message). n.head.half) (whole_of _ m h)
+call_half head (Err (faults.NoRow n)) m h = cc
+call_half head (Err faults.OutOfMemory) m h = cc
+call_half head (Err (faults.Head f)) m h = cc
+call_half head (Err (faults.Field i f)) m h = cc
+
+notice_half : (head : Head) (read : Result (List Field) ShapeFault) (m : Message) → received_notice head read ≡ Whole m → head.half ≡ m.head.half
+notice_half head (Ok fs) m h = ap (λ (n : Message). n.head.half) (whole_of _ m h)
+notice_half head (Err f) m h = cc
+
 behind_code : (head : Head) (half : Half) (rest : List ℕ) (m : Message) → head.half ≡ half → m.head.half ≡ halves.Reply → read_body head half rest ≡ Whole m → code_read (signed_at rest) ≡ code_of m.carried
 behind_code head halves.Call rest m is reply h =
-    let e : halves.Call ≡ halves.Reply = sym is ∙ (ap (λ (n : Message). n.head.half) (found_call_is head (asked_at head.opcode rest) m h).is ∙ reply) in
+    let e : halves.Call ≡ halves.Reply = sym is ∙ (call_half head (asked_at fs_calls head.opcode rest) m h ∙ reply) in
     cc
-behind_code head halves.Reply rest m is reply h = heard_code head rest m (found_answer_is head (replied_at head.opcode rest) m h)
+behind_code head halves.Reply rest m is reply h = heard_code head rest (replied_at fs_replies head.opcode rest) m refl h
 behind_code head halves.Boot rest m is reply h =
-    let e : halves.Boot ≡ halves.Reply = sym is ∙ (ap (λ (n : Message). n.head.half) (found_answer_is head (notice_at rest) m h).is ∙ reply) in
+    let e : halves.Boot ≡ halves.Reply = sym is ∙ (notice_half head (fields_to_end_at [] rest) m h ∙ reply) in
     cc
 
 found_code : (bytes : List ℕ) (m : Message) (o : Result (Head × List ℕ) XdrFault) → head_at bytes ≡ o → m.head.half ≡ halves.Reply → read_behind_head o ≡ Whole m → code_at bytes ≡ code_of m.carried

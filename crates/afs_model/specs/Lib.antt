@@ -1,6 +1,6 @@
 pub mod Heads
+pub mod Rpc
 pub mod FsRows
-pub mod FsMaking
 pub mod Messages
 pub mod Steps
 pub mod ServerRow

@@ -10,8 +10,9 @@ use Rattle.afs_num.specs.declared.messages.Received.TheVariants.{Whole}
 use Rattle.afs_shape.specs.declared.kinds.Kind.{Kind}
 use Rattle.afs_shape.specs.declared.kinds.Field.{Field}
 use Rattle.afs_shape.specs.Tables.{kinds_in, AreOf}
-use Rattle.afs_model.specs.FsRows.{call_rows, reply_rows, SpellsCall, SpellsReply}
-use Rattle.afs_model.specs.FsMaking.{call_of, reply_of}
+use Rattle.afs_shape.specs.Rows.{message_of}
+use Rattle.afs_model.specs.Rpc.{SpellsCall, SpellsReply}
+use Rattle.afs_model.specs.FsRows.{call_rows, reply_rows, fs_calls, fs_replies}
 use Rattle.afs_model.specs.Messages.{FitsMessage, spelled, received}
 
 -- what is spelled is read again
@@ -33,21 +34,21 @@ ReadAreSpelled = (bytes : List ℕ) (m : Message) → IsBytes bytes → received
 -- a call is found in bytes exactly where they spell it
 abbrev pub CallsAreFound : Type 0
 CallsAreFound = (bytes : List ℕ) (h : Head) (user : List ℕ) (call : FsCall) → IsBytes bytes →
-    SpellsCall h user call bytes ↔ (received bytes ≡ Whole (record { head = h; carried = carried.Call user call }))
+    SpellsCall fs_calls h user call bytes ↔ (received bytes ≡ Whole (record { head = h; carried = carried.Call user call }))
 
 -- and so is a reply with code 0
 abbrev pub RepliesAreFound : Type 0
 RepliesAreFound = (bytes : List ℕ) (h : Head) (reply : FsReply) → IsBytes bytes →
-    SpellsReply h (pos 0) (Some reply) bytes ↔ (received bytes ≡ Whole (record { head = h; carried = carried.Reply reply }))
+    SpellsReply fs_replies h (pos 0) (Some reply) bytes ↔ (received bytes ≡ Whole (record { head = h; carried = carried.Reply reply }))
 
 -- and a refusal of a call that has a row
 abbrev pub RefusalsAreFound : Type 0
 RefusalsAreFound = (bytes : List ℕ) (h : Head) (code : Code) → IsBytes bytes → IsSome (kinds_in h.opcode reply_rows) →
-    SpellsReply h code.0 None bytes ↔ (received bytes ≡ Whole (record { head = h; carried = carried.Refusal code }))
+    SpellsReply fs_replies h code.0 None bytes ↔ (received bytes ≡ Whole (record { head = h; carried = carried.Refusal code }))
 
 -- fields of a row's kinds always make its call, and its reply
 abbrev pub RowsMakeCalls : Type 0
-RowsMakeCalls = (opcode : ℕ) (ks : List Kind) (fs : List Field) → kinds_in opcode call_rows ≡ Some ks → AreOf ks fs → IsSome (call_of opcode fs)
+RowsMakeCalls = (opcode : ℕ) (ks : List Kind) (fs : List Field) → kinds_in opcode call_rows ≡ Some ks → AreOf ks fs → IsSome (message_of fs_calls opcode fs)
 
 abbrev pub RowsMakeReplies : Type 0
-RowsMakeReplies = (opcode : ℕ) (ks : List Kind) (fs : List Field) → kinds_in opcode reply_rows ≡ Some ks → AreOf ks fs → IsSome (reply_of opcode fs)
+RowsMakeReplies = (opcode : ℕ) (ks : List Kind) (fs : List Field) → kinds_in opcode reply_rows ≡ Some ks → AreOf ks fs → IsSome (message_of fs_replies opcode fs)

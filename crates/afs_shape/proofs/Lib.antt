@@ -3,3 +3,5 @@ pub mod Spellable
 pub mod Codecs
 pub mod FieldLaws
 pub mod RowLaws
+pub mod BodyLaws
+pub mod MadeLaws

@@ -1,10 +1,10 @@
 -- Reading the fields of a message from left to right, with the first that is bad.
-use Rattle.std.specs.Prelude.{◌≡◌, ℕ, ℤ, ◌+◌, List, [], ◌∷◌, Result, Ok, Err, nat_lt, if◌then◌else◌}
+use Rattle.std.specs.Prelude.{◌≡◌, ℕ, ℤ, ◌+◌, List, [], ◌∷◌, length, Result, Ok, Err, nat_lt, if◌then◌else◌}
 use Rattle.std.specs.Int.{w32, cast_signed}
 use Rattle.afs_xdr.specs.declared.faults.XdrFault.{XdrFault}
 use Rattle.afs_xdr.specs.declared.faults.XdrFault.TheVariants.{BadType}
 use Rattle.afs_xdr.specs.Reading.{Reading}
-use Rattle.afs_xdr.specs.Words.{word_at, opaque_at}
+use Rattle.afs_xdr.specs.Words.{word_at, opaque_at, end_at}
 use Rattle.afs_shape.specs.Items.{fid_at, store_status_at, status_at, callback_at, sync_at, list_at}
 use Rattle.afs_shape.specs.declared.faults.FieldFault.{FieldFault}
 use Rattle.afs_shape.specs.declared.faults.FieldFault.TheVariants as causes
@@ -68,6 +68,13 @@ fields_at place (k ∷ ks) bytes = do
   first ← in_place place (field_at k bytes)
   others ← fields_at (place + 1) ks first.1
   Ok (first.0 ∷ others.0, others.1)
+
+-- the fields of these kinds behind what stands in place 0, and nothing behind the last
+unfoldable pub fields_to_end_at : List Kind → List ℕ → Result (List Field) ShapeFault
+fields_to_end_at ks bytes = do
+  fs ← fields_at 1 ks bytes
+  nothing ← in_place (length fs.0 + 1) (end_at fs.1)
+  Ok fs.0
 
 -- What a call returned, seen by view, is what this reading of the bytes left gives, unless memory ran out.
 abbrev pub ReadsField : {X Y : Type 0} → (List ℕ → Result (Y × List ℕ) XdrFault) → (X → Y) → Reading → Reading → Result X FieldFault → Type 0

@@ -8,7 +8,7 @@ pub mod items;
 pub mod kinds;
 pub mod laws;
 pub mod lists;
+pub mod macros;
+pub mod messages;
 pub mod tables;
 pub mod taking;
-#[cfg(test)]
-mod tests;

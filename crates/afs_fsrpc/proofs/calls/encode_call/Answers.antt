@@ -1,5 +1,0 @@
-use Rattle.afs_model.proofs.FsMessages.{call_spells}
-use Rattle.afs_fsrpc.proofs.calls.encode_call.Goals as goal
-
-pub returns-clause-spells : goal.returns-clause-spells
-returns-clause-spells c = λ head. call_spells c.args.head.now c.args.user.now c.args.call.now c.in_ok-bytes.bytes c.requires.user c.requires.row c.in_ok-bytes.ensures.fits.0 c.in_ok-bytes.ensures.fits.1 c.in_ok-bytes.ensures.spelled head

@@ -1,0 +1,101 @@
+//! What an interface's list of messages is made into: the table of their shapes, the parts that one is written from,
+//! and the message that fields make. A list has a line a row: `136 RemoveFile { directory: Fid, name: Opaque[256] }`.
+
+/// The first eight kinds.
+#[macro_export]
+macro_rules! first_kinds {
+    (
+        $a:expr, $b:expr, $c:expr, $d:expr, $e:expr, $f:expr, $g:expr, $h:expr $(, $more:expr)*
+    ) => {
+        $crate::tables::Shape {
+            kinds: [$a, $b, $c, $d, $e, $f, $g, $h],
+        }
+    };
+}
+
+/// The table of the shapes, with `Nothing` in the places behind the last kind.
+#[macro_export]
+macro_rules! table_of {
+    (
+        ()
+        [$($opcode:literal $name:ident { $($field:ident: $kind:ident $([$most:expr])?),* }),*]
+    ) => {
+        $crate::tables::Table {
+            rows: [$($crate::tables::Row {
+                opcode: $opcode,
+                shape: $crate::first_kinds!(
+                    $($crate::kinds::Kind::$kind $(($most))?,)*
+                    $crate::kinds::Kind::Nothing,
+                    $crate::kinds::Kind::Nothing,
+                    $crate::kinds::Kind::Nothing,
+                    $crate::kinds::Kind::Nothing,
+                    $crate::kinds::Kind::Nothing,
+                    $crate::kinds::Kind::Nothing,
+                    $crate::kinds::Kind::Nothing,
+                    $crate::kinds::Kind::Nothing
+                ),
+            }),*],
+        }
+    };
+}
+
+/// A part, by a reference to its value.
+#[macro_export]
+macro_rules! part_of {
+    (Word $value:ident) => { $crate::kinds::Part::Word(*$value) };
+    (Signed $value:ident) => { $crate::kinds::Part::Signed(*$value) };
+    (VolumeKind $value:ident) => { $crate::kinds::Part::VolumeKind(*$value) };
+    (Opaque $value:ident) => { $crate::kinds::Part::Opaque($value.as_slice()) };
+    (Fids $value:ident) => { $crate::kinds::Part::Fids($value.as_slice()) };
+    (CallBacks $value:ident) => { $crate::kinds::Part::CallBacks($value.as_slice()) };
+    (Statuses $value:ident) => { $crate::kinds::Part::Statuses($value.as_slice()) };
+    ($kind:ident $value:ident) => { $crate::kinds::Part::$kind($value) };
+}
+
+/// The parts of a message of this enum, where they lie.
+#[macro_export]
+macro_rules! parts_of {
+    (
+        ($message:ident, $alloc:ident, $enum:ident)
+        [$($opcode:literal $name:ident { $($field:ident: $kind:ident $([$most:expr])?),* }),*]
+    ) => {
+        match $message {
+            $($enum::$name { $($field),* } => Vec::from_slice($alloc, &[$($crate::part_of!($kind $field)),*]),)*
+        }
+    };
+}
+
+/// The value of the field in front.
+#[macro_export]
+macro_rules! taken_from {
+    (Word $fields:ident) => { $fields.word()? };
+    (Signed $fields:ident) => { $fields.signed()? };
+    (VolumeKind $fields:ident) => { $fields.volume_kind()? };
+    (Fid $fields:ident) => { $fields.fid()? };
+    (StoreStatus $fields:ident) => { $fields.store_status()? };
+    (FetchStatus $fields:ident) => { $fields.status()? };
+    (CallBack $fields:ident) => { $fields.callback()? };
+    (VolSync $fields:ident) => { $fields.sync()? };
+    (Opaque $fields:ident) => { $fields.octets()? };
+    (Fids $fields:ident) => { $fields.fids()? };
+    (CallBacks $fields:ident) => { $fields.callbacks()? };
+    (Statuses $fields:ident) => { $fields.statuses()? };
+}
+
+/// The message of this enum and opcode with these fields.
+#[macro_export]
+macro_rules! message_from {
+    (
+        ($opcode:ident, $fields:ident, $enum:ident)
+        [$($number:literal $name:ident { $($field:ident: $kind:ident $([$most:expr])?),* }),*]
+    ) => {
+        match $opcode {
+            $($number => {
+                $(let $field = $crate::taken_from!($kind $fields);)*
+                $fields.end()?;
+                Some($enum::$name { $($field),* })
+            })*
+            _ => None,
+        }
+    };
+}
