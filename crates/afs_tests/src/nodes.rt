@@ -3,10 +3,10 @@
 ghost use Rattle.std.specs.Prelude.{IfOk};
 ghost use Rattle.afs_world.specs.Serving.{IsWithin, count_limit};
 
-use crate::server::FileServer;
 use afs_num::sequences::{Octets, Sequence};
 use afs_num::states::{ServerState, StoredFile};
 use afs_num::types::{Fid, Mem, Node};
+use afs_world::server::FileServer;
 use std::alloc::Global;
 use std::test::Fail;
 

@@ -1,4 +1,6 @@
-use crate::{Admit, CallTable, Caller, Timeout};
+//! Tables of calls, and numbers of callers.
+
+use afs_call::{Admit, CallTable, Caller, Timeout};
 use afs_num::sequences::Octets;
 use afs_num::types::{Half, Head, Key, Node};
 use std::test::Fail;

@@ -1,6 +1,8 @@
-use crate::{ScriptFault, read_script};
+//! Scripts, and first lines that are none. Numbers and reasons were written from the grammar.
+
 use afs_num::scripts::{Act, Event, Reason, SetupLine};
 use afs_num::types::{Fid, Node};
+use afs_script::{ScriptFault, read_script};
 use std::alloc::{AllocError, Global};
 use std::process::Abort;
 use std::test::Fail;

@@ -1,6 +1,8 @@
-use crate::Wire;
+//! The places of messages.
+
 use afs_num::sequences::Octets;
 use afs_num::types::{Half, Head, Node, Parcel};
+use afs_wire::Wire;
 use std::alloc::{AllocError, Global};
 use std::test::Fail;
 
