@@ -1,10 +1,15 @@
 #!/bin/sh
-# Runs the rows through the built program, each without and with --wire. Each tests/rows/NAME.afs is a script; NAME.text
-# is what has to be printed, NAME.wire the same with --wire (NAME.text where there is none: no message is sent),
-# NAME.status the exit status (0 where there is none) and NAME.err the line on standard error (nothing where there is
-# none). Then come words that are no form of the program, and a source and a sink that fail. Where the reference program
-# is beside the repository, fifty made scripts are compared with it, both ways.
-# AFSCELL names another program to test; AFSCELL_REFERENCE is the folder of the reference program.
+# Runs the rows through the built program, each without and with --wire. A row is a file tests/rows/NAME.row:
+#   a script, whose comments tell its story, or a line 'script FILE' for one that stands elsewhere;
+#   ----
+#   status 3, where the exit status isn't 0
+#   error TEXT, where a line is told on standard error
+#   what is printed
+#   ---- wire, where messages are sent, and what is printed with --wire
+# tests/refusals.table has the inputs that are no script. Then come words that are no form of the program, a source and a
+# sink that fail, and a script at the limit of its lines. Where the reference program is beside the repository, fifty made
+# scripts are compared with it, both ways. Nothing here writes what is wanted of a row.
+# AFSCELL names another program to test, as the one that the gate built; AFSCELL_REFERENCE is the folder of the reference.
 set -eu
 
 cd "$(dirname "$0")/.."
@@ -59,32 +64,119 @@ play() {
     judge "$name"
 }
 
+# Takes the row apart into files of the folder $work/row; fails where it has no line '----'.
+take_apart() {
+    rm -rf "$work/row"
+    mkdir "$work/row"
+    : > "$work/row/script"
+    : > "$work/row/text"
+    LC_ALL=C awk -v row="$work/row" '
+        part == "" && $0 == "----" { part = "head"; next }
+        part == "" { print > (row "/script"); next }
+        part == "head" && sub(/^status /, "") { print > (row "/status"); next }
+        part == "head" && sub(/^error /, "") { print > (row "/error"); next }
+        part != "wire" && $0 == "---- wire" { part = "wire"; printf "" > (row "/wire"); next }
+        part == "wire" { print > (row "/wire"); next }
+        { part = "text"; print > (row "/text") }
+        END { exit part == "" }
+    ' "$1"
+}
+
+# Plays the row of this file, both ways.
+row() {
+    name=${1##*/}
+    name=${name%.row}
+    if ! take_apart "$1"; then
+        fail "$name: the row doesn't say what is wanted"
+        return
+    fi
+    script=$(sed -n '1s/^script //p' "$work/row/script")
+    script=${script:-$work/row/script}
+    if [ ! -f "$script" ]; then
+        fail "$name: there is no $script"
+        return
+    fi
+    want=0
+    error=
+    if [ -f "$work/row/status" ]; then want=$(cat "$work/row/status"); fi
+    if [ -f "$work/row/error" ]; then error=$(cat "$work/row/error"); fi
+    wanted "$want" "$work/row/text" "$error"
+    play "$name" "$script" replay
+    if [ -f "$work/row/wire" ]; then wanted "$want" "$work/row/wire" "$error"; fi
+    play "$name with --wire" "$script" replay --wire
+}
+
+# Writes each input of the table to a file of $work/refusals, and a line with its number, what is told and its name to
+# standard output.
+refusals() {
+    LC_ALL=C awk -v folder="$work/refusals" '
+        !is_table && $0 == "----" { is_table = 1; next }
+        !is_table && /^#/ { next }
+        !is_table { good[++lines] = $0; next }
+        !/^\|/ { next }
+        {
+            sub(/^\| /, "")
+            sub(/ \|$/, "")
+            cells = split($0, cell, / \| /)
+            split("", front)
+            split("", line)
+            split("", newline)
+            for (i = 1; i <= lines; i++) { line[i] = good[i]; newline[i] = "\n" }
+            for (i = 3; i <= cells; i++) {
+                at = cell[i] + 0
+                match(cell[i], /^[0-9]+ /)
+                mark = substr(cell[i], RLENGTH + 1, 1)
+                text = substr(cell[i], RLENGTH + 3)
+                if (mark == "=") line[at] = text
+                else if (mark == "<") front[at] = front[at] text "\n"
+                else if (mark == "-") line[at] = newline[at] = ""
+                else if (mark == "~") newline[at] = ""
+                else exit 1
+            }
+            whole = ""
+            for (i = 1; i <= lines; i++) whole = whole front[i] line[i] newline[i]
+            file = folder "/" ++rows
+            printf "%s%s", whole, front[lines + 1] > file
+            close(file)
+            sub(/ +$/, "", cell[1])
+            sub(/ +$/, "", cell[2])
+            print rows "|" cell[2] "|" cell[1]
+        }
+        END { exit rows == 0 }
+    ' "$1"
+}
+
 # The program is built before the first row, so that nothing else is told on standard error in a row.
-"$program" replay < tests/rows/nothing_to_do.afs > /dev/null || {
+take_apart tests/rows/nothing_to_do.row
+"$program" replay < "$work/row/script" > /dev/null || {
     echo 'the program was not built, or fails on the smallest script'
     echo '0 passed, 1 failed'
     exit 1
 }
 
-for script in tests/rows/*.afs; do
-    row=${script%.afs}
-    want=0
-    line=
-    if [ -f "$row.status" ]; then want=$(cat "$row.status"); fi
-    if [ -f "$row.err" ]; then line=$(cat "$row.err"); fi
-    wanted "$want" "$row.text" "$line"
-    play "${row##*/}" "$script" replay
-    if [ -f "$row.wire" ]; then wanted "$want" "$row.wire" "$line"; fi
-    play "${row##*/} with --wire" "$script" replay --wire
+for file in tests/rows/*.row; do row "$file"; done
+
+for example in examples/*.afs; do
+    grep -qx "script $example" tests/rows/*.row || fail "$example has no row"
 done
+
+mkdir "$work/refusals"
+if refusals tests/refusals.table > "$work/told"; then
+    while IFS='|' read -r number told name; do
+        wanted 3 /dev/null "script: $told"
+        play "refused: $name" "$work/refusals/$number" replay
+        play "refused: $name, with --wire" "$work/refusals/$number" replay --wire
+    done < "$work/told"
+else
+    fail 'the table of refusals'
+fi
 
 usage() {
     name=$1
     shift
     wanted 2 /dev/null 'usage: afscell replay [--wire]'
-    play "words: $name" tests/rows/open_close.afs "$@"
+    play "words: $name" examples/open_close.afs "$@"
 }
-
 usage 'none'
 usage 'replay twice' replay replay
 usage 'an empty word' ''
@@ -115,7 +207,7 @@ if [ -c /dev/full ]; then
     wanted 5 /dev/null 'write fault'
     status=0
     : > "$work/out"
-    "$program" replay < tests/rows/open_close.afs > /dev/full 2> "$work/err" || status=$?
+    "$program" replay < examples/open_close.afs > /dev/full 2> "$work/err" || status=$?
     judge 'a sink that fails'
 else
     echo 'skipped: a sink that fails (there is no /dev/full)'

@@ -8,6 +8,3 @@ mod table;
 pub use caller::{Caller, Timeout};
 pub use seat::Admit;
 pub use table::CallTable;
-
-#[cfg(test)]
-mod tests;

@@ -11,6 +11,3 @@ mod words;
 
 pub use faults::ScriptFault;
 pub use reader::read_script;
-
-#[cfg(test)]
-mod tests;

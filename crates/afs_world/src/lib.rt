@@ -4,6 +4,4 @@
 pub mod client;
 pub mod giving;
 pub mod server;
-#[cfg(test)]
-mod tests;
 pub mod world;

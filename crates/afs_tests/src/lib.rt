@@ -1,0 +1,13 @@
+//! Tests of the public calls of the crates below. A crate with tests is proved twice; this one has nothing else.
+#![tactic(auto)]
+
+#[cfg(test)]
+mod calls;
+#[cfg(test)]
+mod nodes;
+#[cfg(test)]
+mod printing;
+#[cfg(test)]
+mod scripts;
+#[cfg(test)]
+mod wire;
