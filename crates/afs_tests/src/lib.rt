@@ -8,6 +8,8 @@ mod nodes;
 #[cfg(test)]
 mod printing;
 #[cfg(test)]
+mod repeats;
+#[cfg(test)]
 mod scripts;
 #[cfg(test)]
 mod wire;

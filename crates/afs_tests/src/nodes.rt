@@ -1,14 +1,22 @@
 //! A file server given messages that it can't serve. The messages were written from the rules.
 
-ghost use Rattle.std.specs.Prelude.{IfOk};
+ghost use Rattle.std.specs.Prelude.{◌≡◌, IfOk};
+ghost use Rattle.afs_num.specs.declared.types.Node.TheVariants as nodes;
 ghost use Rattle.afs_world.specs.Serving.{IsWithin, count_limit};
 
 use afs_num::sequences::{Octets, Sequence};
-use afs_num::states::{ServerState, StoredFile};
+use afs_num::states::StoredFile;
 use afs_num::types::{Fid, Mem, Node};
+use afs_world::giving::Moment;
 use afs_world::server::FileServer;
 use std::alloc::Global;
 use std::test::Fail;
+
+pub const FILE: Fid = Fid {
+    volume: 536870912,
+    vnode: 2,
+    unique: 2,
+};
 
 /// Client 1 opens the first file of the first volume: its first call, 130, to the server's first boot.
 const OPEN: [u32; 16] = [
@@ -20,7 +28,7 @@ fn refusal(opcode: u32, code: i32) -> [u32; 9] {
     [2, 1, 101, 1, 1, 1, 0, opcode, code.cast_unsigned()]
 }
 
-fn bytes_of(alloc: Global, words: &[u32]) -> Mem<Vec<u8>> {
+pub fn bytes_of(alloc: Global, words: &[u32]) -> Mem<Vec<u8>> {
     let mut bytes = Vec::new(alloc);
     for word in words {
         bytes.extend_from_slice(&word.to_be_bytes())?;
@@ -28,36 +36,26 @@ fn bytes_of(alloc: Global, words: &[u32]) -> Mem<Vec<u8>> {
     Ok(bytes)
 }
 
-/// A server whose one file holds `abc`.
-fn server(alloc: Global) -> Mem<FileServer>
-    ensures { IfOk result (λ s. IsWithin count_limit s.state) }
+/// A server in this boot whose one file holds `abc`.
+pub fn server(alloc: Global, boot: u32) -> Mem<FileServer>
+    ensures node { IfOk result (λ s. s.node ≡ nodes.Server 1) }
+    ensures within { IfOk result (λ s. IsWithin count_limit s.state) }
 {
     let mut files = Sequence::new(alloc);
     files.push(StoredFile {
-        fid: Fid {
-            volume: 536870912,
-            vnode: 2,
-            unique: 2,
-        },
+        fid: FILE,
         index: 1,
         data_version: 1,
         server_time: 0,
         contents: Octets::from_slice(alloc, b"abc")?,
     })?;
-    Ok(FileServer {
-        node: Node::Server(1),
-        state: ServerState {
-            boot: 1,
-            files,
-            seats: Sequence::new(alloc),
-        },
-    })
+    Ok(FileServer::new(alloc, Node::Server(1), boot, files))
 }
 
 /// What a fresh server sends where it is given these bytes, one message after another.
 fn answer(alloc: Global, bytes: &[u8]) -> Mem<Vec<u8>> {
-    let mut server = server(alloc)?;
-    let outs = server.handle(alloc, 1, 0, bytes)?;
+    let mut server = server(alloc, 1)?;
+    let outs = server.handle(alloc, Moment { place: 1, now: 0 }, bytes)?;
     let mut sent = Vec::new(alloc);
     for parcel in outs.parcels.as_slice() {
         sent.extend_from_slice(parcel.bytes.as_slice())?;

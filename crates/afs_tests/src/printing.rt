@@ -1,11 +1,17 @@
 //! The text of a run. What is printed was written from the rules.
 
+ghost use Rattle.std.specs.Prelude.{◌≡◌, ◌∷◌, [], IfOk, IsTrue};
+ghost use Rattle.afs_model.specs.Telling.{AreRead};
+
+use afs_fsrpc::messages::read_message;
 use afs_num::histories::{Body, Entry, Line, Lines, ReadSource, Version};
+use afs_num::messages::Received;
 use afs_num::scripts::{Script, SetupLine, SetupLines, Tasks, VolumeLine, VolumeLines};
 use afs_num::sequences::{Names, Octets, Sequence};
 use afs_num::states::StoredFile;
-use afs_num::types::{Code, Fid, Half, Head, Key, Mem, Node, Parcel, Parcels};
-use afs_script::printing::{print_entry, print_final, print_run};
+use afs_num::types::{Code, Fid, Half, Head, Key, Mem, Node, Parcel};
+use afs_outside::memory::MemSink;
+use afs_script::printing::{print_entry, print_run};
 use std::alloc::Global;
 use std::test::Fail;
 
@@ -19,24 +25,11 @@ fn octets(alloc: Global, bytes: &[u8]) -> Mem<Octets> {
     Octets::from_slice(alloc, bytes)
 }
 
-fn head(half: Half, from: Node, to: Node) -> Head {
-    Head {
-        half,
-        from,
-        to,
-        epoch: 1,
-        number: 2,
-        boot: 1,
-        stamp: 0,
-        opcode: 133,
-    }
-}
-
-fn entry(node: Option<Node>, lines: Lines, parcels: Parcels) -> Entry {
+fn entry(node: Option<Node>, lines: Lines) -> Entry {
     Entry {
         node,
         lines,
-        parcels,
+        sent: 0,
     }
 }
 
@@ -54,7 +47,7 @@ fn fetched_entry(alloc: Global) -> Mem<Entry> {
         node: Node::Client(1),
         code: Code(-453),
     })?;
-    Ok(entry(Some(Node::Client(1)), lines, Parcels::new(alloc)))
+    Ok(entry(Some(Node::Client(1)), lines))
 }
 
 fn stored_entry(alloc: Global) -> Mem<Entry> {
@@ -77,21 +70,44 @@ fn stored_entry(alloc: Global) -> Mem<Entry> {
             body: Body::File(octets(alloc, b"")?),
         },
     })?;
-    let mut bytes = [0u8; 36];
-    bytes[32] = 0xff;
-    bytes[33] = 0xff;
-    bytes[34] = 0xfe;
-    bytes[35] = 0x3b;
-    let mut parcels = Parcels::new(alloc);
-    parcels.push(Parcel {
-        head: head(Half::Reply, Node::Server(1), Node::Client(1)),
+    Ok(entry(Some(Node::Server(1)), lines))
+}
+
+/// A message of these words, under this header.
+fn parcel(alloc: Global, half: Half, from: Node, to: Node, words: &[u32]) -> Mem<Parcel> {
+    let mut bytes = Vec::new(alloc);
+    for word in words {
+        bytes.extend_from_slice(&word.to_be_bytes())?;
+    }
+    Ok(Parcel {
+        head: Head {
+            half,
+            from,
+            to,
+            epoch: 1,
+            number: 2,
+            boot: 1,
+            stamp: 0,
+            opcode: 133,
+        },
         bytes: octets(alloc, &bytes)?,
-    })?;
-    parcels.push(Parcel {
-        head: head(Half::Call, Node::Client(1), Node::Server(1)),
-        bytes: octets(alloc, b"\x0f\xa0")?,
-    })?;
-    Ok(entry(Some(Node::Server(1)), lines, parcels))
+    })
+}
+
+/// The refusal of client 1's second call, a store, with -453.
+fn refusal(alloc: Global) -> Mem<Parcel> {
+    let words = [2, 1, 101, 1, 2, 1, 0, 133, 0xfffffe3b];
+    parcel(alloc, Half::Reply, Node::Server(1), Node::Client(1), &words)
+}
+
+/// Whether the bytes of a message are read as one.
+fn is_read(alloc: Global, parcel: &Parcel) -> Mem<bool>
+    ensures { IfOk result (λ b. IsTrue b → AreRead (parcel.now ∷ [])) }
+{
+    match read_message(alloc, parcel.bytes.as_slice())? {
+        Received::Whole { .. } => Ok(true),
+        _ => Ok(false),
+    }
 }
 
 fn script(alloc: Global) -> Mem<Script> {
@@ -132,34 +148,37 @@ fn files(alloc: Global) -> Mem<Sequence<StoredFile>> {
 }
 
 #[test]
-fn an_entry_is_told_line_by_line(rt: HostRuntime) -> Result<(), Fail> {
+fn an_entry_is_printed_line_by_line(rt: HostRuntime) -> Result<(), Fail> {
     let alloc = rt.alloc();
     let entry = fetched_entry(alloc)?;
-    let line_by_word =
-        b"entry 3 c1\ngiven 2\nread c1 536870912.2.2 1 fetched f:616263ff\nanswer c1 -453\n";
+    let text = b"entry 3 c1\ngiven 2\nread c1 536870912.2.2 1 fetched f:616263ff\nanswer c1 -453\n";
     for wire in [false, true] {
-        let read = print_entry(alloc, &entry, 3, 1, wire)?;
-        assert_eq!(rt; read.as_slice(), line_by_word.as_slice());
+        let mut sink = MemSink::new(alloc, &[]);
+        assert_eq!(rt; print_entry(&mut sink, &entry, &[], 3, 1, wire), Ok(()));
+        assert_eq!(rt; sink.as_slice(), text.as_slice());
     }
     Ok(())
 }
 
-/// The bytes stand behind the code of a reply, and in a call, that has none, behind its number.
+/// The bytes stand behind the code of a reply.
 #[test]
 fn messages_come_last_and_with_their_bytes_where_asked(rt: HostRuntime) -> Result<(), Fail> {
     let alloc = rt.alloc();
     let entry = stored_entry(alloc)?;
-    assert_eq!(rt; entry.parcels.len(), 2);
-    let line_by_word =
-        b"entry 5 s1\nchange s1 c1.1.2 1\nversion 536870912.2.2 2 3 f:\nsent 18446744073709551614 s1 c1 reply 133 1.2 -453\nsent 18446744073709551615 c1 s1 call 133 1.2\n";
-    let told_with_bytes =
-        b"entry 5 s1\nchange s1 c1.1.2 1\nversion 536870912.2.2 2 3 f:\nsent 18446744073709551614 s1 c1 reply 133 1.2 -453 0000000000000000000000000000000000000000000000000000000000000000fffffe3b\nsent 18446744073709551615 c1 s1 call 133 1.2 0fa0\n";
-    for (wire, line_by_word) in [
-        (false, line_by_word.as_slice()),
-        (true, told_with_bytes.as_slice()),
-    ] {
-        let stored = print_entry(alloc, &entry, 5, 18446744073709551614, wire)?;
-        assert_eq!(rt; stored.as_slice(), line_by_word);
+    let refusal = refusal(alloc)?;
+    assert!(rt; is_read(alloc, &refusal)?);
+    let bare =
+        b"entry 5 s1\nchange s1 c1.1.2 1\nversion 536870912.2.2 2 3 f:\nsent 18446744073709551615 s1 c1 reply 133 1.2 -453\n";
+    let with_bytes =
+        b"entry 5 s1\nchange s1 c1.1.2 1\nversion 536870912.2.2 2 3 f:\nsent 18446744073709551615 s1 c1 reply 133 1.2 -453 0000000200000001000000650000000100000002000000010000000000000085fffffe3b\n";
+    let sent = [refusal];
+    for (wire, text) in [(false, bare.as_slice()), (true, with_bytes.as_slice())] {
+        let mut sink = MemSink::new(alloc, &[]);
+        assert_eq!(rt;
+            print_entry(&mut sink, &entry, &sent, 5, 18446744073709551615, wire),
+            Ok(())
+        );
+        assert_eq!(rt; sink.as_slice(), text);
     }
     Ok(())
 }
@@ -169,15 +188,16 @@ fn what_stands_at_the_end_comes_last(rt: HostRuntime) -> Result<(), Fail> {
     let alloc = rt.alloc();
     let script = script(alloc)?;
     let files = files(alloc)?;
-    let end = print_final(alloc, &script, files.as_slice())?;
-    let line_by_word =
-        b"final\nvolume s1 536870912 proj 0 0\nvnode 536870912.1.1 2 1 1 d:a%20b=2.2\nvnode 536870912.2.2 1 2 2 f:646566\nend\n";
-    assert_eq!(rt; end.as_slice(), line_by_word.as_slice());
-
     let mut lines = Lines::new(alloc);
     lines.push(Line::Void)?;
-    let history = [entry(None, lines, Parcels::new(alloc))];
-    let run = print_run(alloc, &script, &history, files.as_slice(), false)?;
-    assert!(rt; run.as_slice().starts_with(b"entry 1 none\nvoid\nfinal\n"));
+    let history = [entry(None, lines)];
+    let mut sink = MemSink::new(alloc, &[]);
+    assert_eq!(rt;
+        print_run(&mut sink, &script, &[], &history, files.as_slice(), false),
+        Ok(())
+    );
+    let text =
+        b"entry 1 none\nvoid\nfinal\nvolume s1 536870912 proj 0 0\nvnode 536870912.1.1 2 1 1 d:a%20b=2.2\nvnode 536870912.2.2 1 2 2 f:646566\nend\n";
+    assert_eq!(rt; sink.as_slice(), text.as_slice());
     Ok(())
 }
