@@ -31,4 +31,5 @@ pub mod HeadLaws
 pub mod FsLaws
 pub mod FsMade
 pub mod FsMessages
+pub mod Directories
 pub mod Calls

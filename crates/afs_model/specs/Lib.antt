@@ -28,3 +28,4 @@ pub mod Disk
 pub mod Journal
 pub mod Calls
 pub mod CallLaws
+pub mod Directories

@@ -3,6 +3,7 @@
 
 pub mod calls;
 pub mod devices;
+pub mod directories;
 pub mod faults;
 pub mod grammar;
 pub mod histories;

@@ -519,7 +519,7 @@ mod tests {
     use super::*;
     use afs_num::histories::Lines;
     use afs_num::scripts::{SetupLines, Tasks, VolumeLines};
-    use afs_num::sequences::{Names, Sequence};
+    use afs_num::sequences::{Path, Sequence};
     use afs_num::types::Parcels;
     use std::test::Fail;
 
@@ -609,7 +609,7 @@ mod tests {
     }
 
     fn script(alloc: Global) -> Mem<Script> {
-        let mut path = Names::new(alloc);
+        let mut path = Path::new(alloc);
         path.push(octets(alloc, b"a b")?)?;
         let mut lines = SetupLines::new(alloc);
         lines.push(SetupLine::File {
