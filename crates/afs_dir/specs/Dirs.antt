@@ -20,3 +20,10 @@ Answers refused (Err faults.OutOfMemory) = refused ≡ None
 abbrev pub removal : Option Name → Result (ℕ × ℕ) DirFault
 removal None = Err (faults.Code (record { 0 = pos 2 }))
 removal (Some n) = Ok (vnode_named n)
+
+-- the directory that is read, or the offset of the first bad field
+abbrev pub Reads : Result (List Name) ℕ → Result (List Name) DirFault → Type 0
+Reads read (Ok names) = read ≡ Ok names
+Reads read (Err (faults.Code code)) = ⊥
+Reads read (Err (faults.BadDir offset)) = read ≡ Err offset
+Reads read (Err faults.OutOfMemory) = Unit {0}

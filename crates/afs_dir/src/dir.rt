@@ -1,7 +1,7 @@
 ghost use Rattle.std.specs.Prelude.{◌≡◌, [], IfOk, OnOk, OnErr};
 ghost use Rattle.std.specs.Option.{option_map};
-ghost use Rattle.afs_model.specs.Directories.{named, with_name, without_name, add_refused, directory_bytes};
-ghost use Rattle.afs_dir.specs.Dirs.{Answers, removal, vnode_named};
+ghost use Rattle.afs_model.specs.Directories.{named, with_name, without_name, add_refused, directory_bytes, directory_of};
+ghost use Rattle.afs_dir.specs.Dirs.{Answers, Reads, removal, vnode_named};
 
 use crate::faults::DirFault;
 use crate::places::search;
@@ -112,7 +112,10 @@ impl Dir {
     }
 
     /// The directory that the bytes spell, each of which has one spelling.
-    pub fn from_bytes(alloc: Global, bytes: &[u8]) -> Result<Dir, DirFault> {
+    #[tactic(auto, unfolding(afs_model::specs::Directories::directory_of))]
+    pub fn from_bytes(alloc: Global, bytes: &[u8]) -> Result<Dir, DirFault>
+        ensures { Reads (directory_of bytes.now) result }
+    {
         let mut reader = Reader::new(bytes);
         match read_whole(alloc, &mut reader) {
             Ok(names) => Ok(Dir { alloc, names }),

@@ -1,5 +1,12 @@
 //! Reading a directory. Where a field is refused the reader stands before it.
 
+ghost use Rattle.std.specs.Prelude.{◌≡◌, ◌≤◌, ◌+◌, ◌*◌, [], true, length, IfOk};
+ghost use Rattle.afs_xdr.specs.Reading.{KeepsEnd};
+ghost use Rattle.afs_model.specs.Directories.{IsDirectory, may_follow, follow, count_at, spelled_at, name_at, names_at, whole_at};
+ghost use Rattle.afs_dir.specs.Reads.{ReadsGood, ReadsWhole, last_name};
+ghost use Rattle.afs_dir.specs.declared.reading.Stop.TheVariants.{BadField, OutOfMemory};
+
+use crate::places::is_below;
 use afs_num::directories::Name;
 use afs_num::names::name_ok;
 use afs_num::sequences::Octets;
@@ -15,18 +22,24 @@ pub enum Stop {
 }
 
 impl From<XdrFault> for Stop {
+    ghost from_gives = { λ f e. e ≡ BadField };
+
     fn from(_: XdrFault) -> Self {
         Stop::BadField
     }
 }
 
 impl From<AllocError> for Stop {
+    ghost from_gives = { λ f e. e ≡ OutOfMemory };
+
     fn from(_: AllocError) -> Self {
         Stop::OutOfMemory
     }
 }
 
 impl<T: Drop> From<AllocFailed<T>> for Stop {
+    ghost from_gives = { λ f e. e ≡ OutOfMemory };
+
     fn from(_: AllocFailed<T>) -> Self {
         Stop::OutOfMemory
     }
@@ -35,18 +48,28 @@ impl<T: Drop> From<AllocFailed<T>> for Stop {
 /// How many names a directory has at most.
 pub const MOST_NAMES: u32 = 1024;
 
-fn may_follow(last: &[u8], name: &[u8]) -> bool {
-    name_ok(name) && last < name
+fn may_follow(last: &[u8], name: &[u8]) -> bool
+    ensures { result ≡ may_follow last.now name.now }
+{
+    name_ok(name) && is_below(last, name)
 }
 
-fn last_name(names: &[Name]) -> &[u8] {
+fn last_name(names: &[Name]) -> &[u8]
+    ensures { result.now ≡ last_name [] names.entry.now }
+{
     match names.last() {
         Some(n) => n.name.as_slice(),
         None => &[],
     }
 }
 
-fn read_count(reader: &mut Reader) -> Result<u32, Stop> {
+#[tactic(auto, using(crate::proofs::Reach::word_far), unfolding(afs_model::specs::Directories::count_at))]
+fn read_count(reader: &mut Reader) -> Result<u32, Stop>
+    ensures value { ReadsGood count_at (λ n. n) reader.old reader.new result }
+    ensures few { IfOk result (λ n. n ≤ 1024) }
+    ensures end { KeepsEnd reader.old reader.new }
+    ensures far { reader.new.at ≤ reader.old.at + 4 }
+{
     let mut ahead = reader.fork();
     let count = ahead.word()?;
     if count > MOST_NAMES {
@@ -56,7 +79,13 @@ fn read_count(reader: &mut Reader) -> Result<u32, Stop> {
     Ok(count)
 }
 
-fn read_name_bytes<'a>(reader: &mut Reader<'a>, last: &[u8]) -> Result<&'a [u8], Stop> {
+#[tactic(auto, using(crate::proofs::Reach::name_far), unfolding(afs_model::specs::Directories::spelled_at))]
+fn read_spelled<'a>(reader: &mut Reader<'a>, last: &[u8]) -> Result<&'a [u8], Stop>
+    ensures value { ReadsGood (spelled_at last.now) (λ b. b.now) reader.old reader.new result }
+    ensures follows { IfOk result (λ b. may_follow last.now b.now ≡ true) }
+    ensures end { KeepsEnd reader.old reader.new }
+    ensures far { reader.new.at ≤ reader.old.at + 262 }
+{
     let mut ahead = reader.fork();
     let name = ahead.opaque(255)?;
     if !may_follow(last, name) {
@@ -66,8 +95,14 @@ fn read_name_bytes<'a>(reader: &mut Reader<'a>, last: &[u8]) -> Result<&'a [u8],
     Ok(name)
 }
 
-fn read_name(alloc: Global, reader: &mut Reader, last: &[u8]) -> Result<Name, Stop> {
-    let name = read_name_bytes(reader, last)?;
+#[tactic(auto, using(crate::proofs::Reach::word_far), unfolding(afs_model::specs::Directories::name_at))]
+fn read_name(alloc: Global, reader: &mut Reader, last: &[u8]) -> Result<Name, Stop>
+    ensures value { ReadsGood (name_at last.now) (λ n. n) reader.old reader.new result }
+    ensures follows { IfOk result (λ n. may_follow last.now n.name ≡ true) }
+    ensures end { KeepsEnd reader.old reader.new }
+    ensures far { reader.new.at ≤ reader.old.at + 270 }
+{
+    let name = read_spelled(reader, last)?;
     let vnode = reader.word()?;
     let unique = reader.word()?;
     Ok(Name {
@@ -77,7 +112,13 @@ fn read_name(alloc: Global, reader: &mut Reader, last: &[u8]) -> Result<Name, St
     })
 }
 
-fn read_names(alloc: Global, reader: &mut Reader, count: u32) -> Result<Vec<Name>, Stop> {
+fn read_names(alloc: Global, reader: &mut Reader, count: u32) -> Result<Vec<Name>, Stop>
+    ensures value { ReadsGood (names_at count []) (λ v. v.items) reader.old reader.new result }
+    ensures ordered { IfOk result (λ v. follow [] v.items ≡ true) }
+    ensures many { IfOk result (λ v. length v.items ≡ count) }
+    ensures end { KeepsEnd reader.old reader.new }
+    ensures far { reader.new.at ≤ reader.old.at + 270 * count }
+{
     let mut names = Vec::with_capacity(alloc, count as usize)?;
     for _ in 0..count {
         let name = read_name(alloc, reader, last_name(&names))?;
@@ -86,8 +127,14 @@ fn read_names(alloc: Global, reader: &mut Reader, count: u32) -> Result<Vec<Name
     Ok(names)
 }
 
-/// The names of the directory that the reader's bytes spell.
-pub fn read_whole(alloc: Global, reader: &mut Reader) -> Result<Vec<Name>, Stop> {
+/// The names of the directory that the bytes left spell. At a bad field the reader stands before it.
+#[tactic(auto, unfolding(afs_model::specs::Directories::whole_at))]
+pub fn read_whole(alloc: Global, reader: &mut Reader) -> Result<Vec<Name>, Stop>
+    ensures value { ReadsWhole whole_at (λ v. v.items) reader.old reader.new result }
+    ensures directory { IfOk result (λ v. IsDirectory v.items) }
+    ensures end { KeepsEnd reader.old reader.new }
+    ensures far { reader.new.at ≤ reader.old.at + 276484 }
+{
     let count = read_count(reader)?;
     let names = read_names(alloc, reader, count)?;
     reader.end()?;

@@ -90,11 +90,16 @@ count_at bytes = do
   count ← field bytes (word_at bytes)
   good (not (nat_lt most_names count.0)) bytes count
 
--- a name that may stand behind `last`, and the vnode that it names
+-- a name that may stand behind `last`
+unfoldable pub spelled_at : List ℕ → List ℕ → Result (List ℕ × List ℕ) (List ℕ)
+spelled_at last bytes = do
+  name ← field bytes (opaque_at 255 bytes)
+  good (may_follow last name.0) bytes name
+
+-- such a name, and the vnode that it names
 unfoldable pub name_at : List ℕ → List ℕ → Result (Name × List ℕ) (List ℕ)
 name_at last bytes = do
-  read ← field bytes (opaque_at 255 bytes)
-  name ← good (may_follow last read.0) bytes read
+  name ← spelled_at last bytes
   vnode ← field name.1 (word_at name.1)
   unique ← field vnode.1 (word_at vnode.1)
   Ok (record { name = name.0; vnode = vnode.0; unique = unique.0 }, unique.1)
