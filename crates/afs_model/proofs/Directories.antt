@@ -53,6 +53,15 @@ below_differs a b p = texts_ties a b ∙ less_differs (slice_cmp nat_cmp a b) p
 pub same_is : (a b : List ℕ) → bytes_eq a b ≡ true → a ≡ b
 same_is a b e = (bytes_decides a b).0 e
 
+-- one is below the other, or they are the same
+one_of : (a b : List ℕ) (below same : Bool) → bytes_below a b ≡ below → bytes_eq a b ≡ same → (bytes_below a b ≡ true) ⊎ (a ≡ b) ⊎ (bytes_below b a ≡ true)
+one_of a b true same p q = inl p
+one_of a b false true p q = inr (inl (same_is a b q))
+one_of a b false false p q = inr (inr (below_total a b p q))
+
+pub below_or_same : (a b : List ℕ) → (bytes_below a b ≡ true) ⊎ (a ≡ b) ⊎ (bytes_below b a ≡ true)
+below_or_same a b = one_of a b (bytes_below a b) (bytes_eq a b) refl refl
+
 -- ---- names that stand behind a name
 
 -- what stands above a name that isn't below this one differs from this one, and isn't below it either
@@ -94,7 +103,7 @@ follow_below a b (n ∷ ns) p h =
 
 -- ---- one more name
 
-both_so : (s t : Bool) → s ≡ true → t ≡ true → (s && t) ≡ true
+pub both_so : (s t : Bool) → s ≡ true → t ≡ true → (s && t) ≡ true
 both_so s t p q = rw p q
 
 absent_first : (b : Bool) (n : Name) (o : Option Name) → cond b (Some n) o ≡ None → (b ≡ false) × (o ≡ None)
@@ -206,7 +215,7 @@ named-without_name gone name (n ∷ ns) =
 
 -- ---- each name by itself
 
-good_is_short : (name : List ℕ) → name_ok name ≡ true → length name ≤ 255
+pub good_is_short : (name : List ℕ) → name_ok name ≡ true → length name ≤ 255
 unfolding name_ok
 good_is_short name h =
     let sized = first_so (has_size 255 name) (list_all is_name_byte name) (first_so (has_size 255 name && list_all is_name_byte name) (not (is_dots name)) h) in

@@ -32,4 +32,5 @@ pub mod FsLaws
 pub mod FsMade
 pub mod FsMessages
 pub mod Directories
+pub mod DirectoryBytes
 pub mod Calls

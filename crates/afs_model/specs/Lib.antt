@@ -29,3 +29,4 @@ pub mod Journal
 pub mod Calls
 pub mod CallLaws
 pub mod Directories
+pub mod DirectoryLaws
