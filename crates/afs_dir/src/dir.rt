@@ -3,9 +3,10 @@ ghost use Rattle.std.specs.Option.{option_map};
 ghost use Rattle.afs_model.specs.Directories.{named, with_name, without_name, add_refused, directory_bytes, directory_of};
 ghost use Rattle.afs_dir.specs.Dirs.{Answers, Reads, removal, vnode_named};
 
+use crate::MOST_NAMES;
 use crate::faults::DirFault;
 use crate::places::search;
-use crate::reading::{MOST_NAMES, Stop, read_whole};
+use crate::reading::{Stop, read_whole};
 use crate::spelling::write_names;
 use afs_num::directories::{Name, Names};
 use afs_num::names::name_ok;
@@ -75,7 +76,14 @@ impl Dir {
             return Err(DirFault::Code(Code(27)));
         }
         let name = Octets::from_slice(self.alloc, name)?;
-        self.names.insert(place, Name { name, vnode, unique })?;
+        self.names.insert(
+            place,
+            Name {
+                name,
+                vnode,
+                unique,
+            },
+        )?;
         Ok(())
     }
 
@@ -111,7 +119,7 @@ impl Dir {
         Ok(Octets::from_vec(bytes.into_vec()?))
     }
 
-    /// The directory that the bytes spell, each of which has one spelling.
+    /// The directory that the bytes spell. Memory is taken once the count is known to be within its limit.
     #[tactic(auto, unfolding(afs_model::specs::Directories::directory_of))]
     pub fn from_bytes(alloc: Global, bytes: &[u8]) -> Result<Dir, DirFault>
         ensures { Reads (directory_of bytes.now) result }

@@ -9,3 +9,6 @@ mod spelling;
 
 pub use dir::Dir;
 pub use faults::DirFault;
+
+/// How many names a directory has at most.
+pub const MOST_NAMES: u32 = 1024;

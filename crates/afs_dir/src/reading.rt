@@ -1,11 +1,14 @@
-//! Reading a directory. Where a field is refused the reader stands before it.
+//! Reading a directory. Where a field is refused the reader stands before it, so its offset is the reader's. A name
+//! takes at most 4, 255 and 3 bytes, and 270 with its two numbers; 1,024 of them behind their count 276,484. So the
+//! offset fits in a word, however long the bytes are.
 
 ghost use Rattle.std.specs.Prelude.{◌≡◌, ◌≤◌, ◌+◌, ◌*◌, [], true, length, IfOk};
 ghost use Rattle.afs_xdr.specs.Reading.{KeepsEnd};
-ghost use Rattle.afs_model.specs.Directories.{IsDirectory, may_follow, follow, count_at, spelled_at, name_at, names_at, whole_at};
+ghost use Rattle.afs_model.specs.Directories.{IsDirectory, may_follow, follow, most_names, count_at, spelled_at, name_at, names_at, whole_at};
 ghost use Rattle.afs_dir.specs.Reads.{ReadsGood, ReadsWhole, last_name};
 ghost use Rattle.afs_dir.specs.declared.reading.Stop.TheVariants.{BadField, OutOfMemory};
 
+use crate::MOST_NAMES;
 use crate::places::is_below;
 use afs_num::directories::Name;
 use afs_num::names::name_ok;
@@ -15,7 +18,7 @@ use afs_xdr::reading::Reader;
 use std::alloc::{AllocError, AllocFailed, Global};
 
 /// Why reading stopped.
-#[derive(Debug, Drop)]
+#[derive(Drop)]
 pub enum Stop {
     BadField,
     OutOfMemory,
@@ -45,9 +48,6 @@ impl<T: Drop> From<AllocFailed<T>> for Stop {
     }
 }
 
-/// How many names a directory has at most.
-pub const MOST_NAMES: u32 = 1024;
-
 fn may_follow(last: &[u8], name: &[u8]) -> bool
     ensures { result ≡ may_follow last.now name.now }
 {
@@ -66,7 +66,7 @@ fn last_name(names: &[Name]) -> &[u8]
 #[tactic(auto, using(crate::proofs::Reach::word_far), unfolding(afs_model::specs::Directories::count_at))]
 fn read_count(reader: &mut Reader) -> Result<u32, Stop>
     ensures value { ReadsGood count_at (λ n. n) reader.old reader.new result }
-    ensures few { IfOk result (λ n. n ≤ 1024) }
+    ensures few { IfOk result (λ n. n ≤ most_names) }
     ensures end { KeepsEnd reader.old reader.new }
     ensures far { reader.new.at ≤ reader.old.at + 4 }
 {
