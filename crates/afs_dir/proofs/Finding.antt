@@ -1,13 +1,11 @@
 -- What stands where a name stands or would stand among a directory's.
-use Rattle.std.proofs.Common.{◌≡◌, ◌≤◌, ◌<◌, ℕ, zero, suc, Bool, true, false, not, cond, List, [], ◌∷◌, length, get_or, Option, Some, None, refl, sym, ap, subst, ◌∙◌, arith, slice_get}
+use Rattle.std.proofs.Common.{◌≡◌, ◌≤◌, ◌<◌, ℕ, zero, suc, Bool, true, false, cond, List, [], ◌∷◌, length, get_or, Some, None, refl, sym, ap, subst, ◌∙◌, arith, slice_get}
 use Rattle.std.specs.List.{insert, remove}
 use Rattle.std.specs.List.Sorted.{IsPartitionedBy, IsPartitionPoint}
-use Rattle.std.specs.Str.{bytes_eq}
-use mathlib.Core.Bool.{true≢false}
 use Rattle.afs_num.specs.declared.directories.Name.{Name}
 use Rattle.afs_num.specs.Names.{name_ok}
 use Rattle.std.proofs.lemmas.Bool.{lt-ltb}
-use Rattle.afs_model.specs.Directories.{most_names, bytes_below, follow, IsDirectory, is_named, named, with_name, without_name, add_refused}
+use Rattle.afs_model.specs.Directories.{most_names, bytes_below, follow, IsDirectory, named, with_name, without_name, add_refused}
 use Rattle.afs_model.proofs.Directories.{added_is_directory, removed_is_directory, below_trans, below_differs, first_above, rest_follow, named_above, without_above}
 use Rattle.afs_dir.specs.Places.{place_of, is_at, IsFound, IsGap}
 

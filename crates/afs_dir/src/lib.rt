@@ -11,4 +11,4 @@ pub use dir::Dir;
 pub use faults::DirFault;
 
 /// How many names a directory has at most.
-pub const MOST_NAMES: u32 = 1024;
+pub(crate) const MOST_NAMES: u32 = 1024;

@@ -1,8 +1,8 @@
 -- Byte order is a strict total order; the names of a directory, found, added and removed.
-use Rattle.std.proofs.Common.{◌≡◌, ◌≤◌, ◌<◌, ℕ, zero, suc, ◌+◌, Bool, true, false, not, cond, List, [], ◌∷◌, length, get_or, Option, Some, None, refl, sym, ap, subst, ◌∙◌, arith, inl, inr, ◌⊎◌}
-use Rattle.std.specs.Prelude.{◌&&◌, nat_lt, nat_le, find, filter, is_some}
+use Rattle.std.proofs.Common.{◌≡◌, ◌≤◌, ◌<◌, ℕ, zero, suc, Bool, true, false, not, cond, List, [], ◌∷◌, length, get_or, Option, Some, None, refl, sym, ap, subst, ◌∙◌, arith, inl, inr, ◌⊎◌}
+use Rattle.std.specs.Prelude.{◌&&◌, nat_lt, nat_le, find, is_some}
 use Rattle.std.specs.Str.{bytes_eq}
-use Rattle.std.specs.Ordering.{nat_cmp, is_lt, is_eq, eq_by_cmp, ordering_reverse}
+use Rattle.std.specs.Ordering.{nat_cmp, is_lt, is_eq, ordering_reverse}
 use Rattle.std.specs.declared.cmp.Ordering.{Ordering}
 use Rattle.std.specs.declared.cmp.Ordering.TheVariants.{Less, Equal, Greater}
 use Rattle.std.specs.Cmp.{first_so, second_so}
@@ -152,7 +152,7 @@ named-with_name n name [] = refl
 named-with_name n name (m ∷ ms) =
     find_cond (is_named name) (bytes_below m.name n.name) (m ∷ with_name n ms) (n ∷ m ∷ ms)
     ∙ found_by n m name (bytes_below m.name n.name) (bytes_eq m.name name) (bytes_eq n.name name) (named name ms) (named name (with_name n ms)) (named-with_name n name ms)
-        (λ below first this. true≢false (sym (subst (λ (t : List ℕ). bytes_below m.name t ≡ true) (same_is n.name name this ∙ sym (same_is m.name name first)) below) ∙ below_itself m.name))
+    (λ below first this. true≢false (sym (subst (λ (t : List ℕ). bytes_below m.name t ≡ true) (same_is n.name name this ∙ sym (same_is m.name name first)) below) ∙ below_itself m.name))
 
 -- the empty text is below every name
 good_is_above : (name : List ℕ) → name_ok name ≡ true → bytes_below [] name ≡ true
@@ -210,8 +210,8 @@ named-without_name gone name [] = none_either name (bytes_eq gone name)
 named-without_name gone name (n ∷ ns) =
     find_cond (is_named name) (not (bytes_eq n.name gone)) (n ∷ without_name gone ns) (without_name gone ns)
     ∙ gone_by n (bytes_eq n.name gone) (bytes_eq n.name name) (bytes_eq gone name) (named name ns) (named name (without_name gone ns)) (named-without_name gone name ns)
-        (λ here. ap (λ (t : List ℕ). bytes_eq t name) (same_is n.name gone here))
-        (λ other first this. true≢false (sym ((bytes_decides n.name gone).1 (same_is n.name name first ∙ sym (same_is gone name this))) ∙ other))
+    (λ here. ap (λ (t : List ℕ). bytes_eq t name) (same_is n.name gone here))
+    (λ other first this. true≢false (sym ((bytes_decides n.name gone).1 (same_is n.name name first ∙ sym (same_is gone name this))) ∙ other))
 
 -- ---- each name by itself
 

@@ -1,7 +1,7 @@
 -- What is read of a directory is spelled so, and what is spelled is read.
-use Rattle.std.proofs.Common.{◌≡◌, ℕ, zero, suc, ◌+◌, ◌-◌, ◌*◌, ◌^◌, ◌<◌, ◌≤◌, Bool, true, false, not, cond, ltb, eqb, List, [], ◌∷◌, ◌++◌, length, Result, Ok, Err, refl, sym, ap, subst, ◌∙◌, append_assoc, arith, lit<}
-use Rattle.std.specs.Prelude.{◌&&◌, nat_lt}
-use Rattle.std.specs.List.{flat_map, AllByRecursion}
+use Rattle.std.proofs.Common.{◌≡◌, ℕ, zero, suc, ◌^◌, ◌<◌, ◌≤◌, Bool, true, false, not, eqb, List, [], ◌∷◌, ◌++◌, length, Result, Ok, Err, refl, sym, ap, subst, ◌∙◌, append_assoc, arith}
+use Rattle.std.specs.Prelude.{nat_lt}
+use Rattle.std.specs.List.{flat_map}
 use Rattle.std.specs.Cmp.{first_so, second_so}
 use Rattle.std.proofs.lemmas.Bool.{ltb-false, le-ltb, eqb-true}
 use Rattle.std.proofs.lemmas.List.{append-nil}
@@ -12,7 +12,7 @@ use Rattle.afs_xdr.specs.declared.faults.XdrFault.{XdrFault}
 use Rattle.afs_xdr.specs.Words.{word, words, opaque, word_at, opaque_at}
 use Rattle.afs_shape.specs.Reading.{◌>>=◌}
 use Rattle.afs_shape.proofs.Codecs.{IsBytes, Takes, Takes-then, word_codec, opaque_codec}
-use Rattle.afs_model.specs.Directories.{bytes_below, may_follow, follow, most_names, IsDirectory, name_bytes, directory_bytes, FitsName, FitNames, field, good, count_at, spelled_at, name_at, names_at, whole_at, at_offset, directory_of}
+use Rattle.afs_model.specs.Directories.{bytes_below, may_follow, follow, most_names, IsDirectory, name_bytes, directory_bytes, FitsName, FitNames, field, if_good, count_at, spelled_at, name_at, names_at, whole_at, at_offset, directory_of}
 use Rattle.afs_model.proofs.Directories.{both_so, good_is_short}
 
 -- ---- one step after the other
@@ -32,7 +32,7 @@ field_ok : {A : Type 0} (left : List ℕ) (r : Result A XdrFault) (x : A) → fi
 field_ok left (Ok y) x e = ap (λ z. Ok z) (fine_is y x e)
 field_ok left (Err fault) x e = absurd cc
 
-good_ok : {A : Type 0} (b : Bool) (left : List ℕ) (x y : A) → good b left x ≡ Ok y → (b ≡ true) × (x ≡ y)
+good_ok : {A : Type 0} (b : Bool) (left : List ℕ) (x y : A) → if_good b left x ≡ Ok y → (b ≡ true) × (x ≡ y)
 good_ok true left x y e = (refl, fine_is x y e)
 good_ok false left x y e = absurd cc
 
@@ -65,7 +65,7 @@ word_takes bytes n rest fits e = word_codec.takes bytes n rest fits (field_ok by
 spelled_takes : (last bytes name rest : List ℕ) → IsBytes bytes → spelled_at last bytes ≡ Ok (name, rest) → Takes bytes (opaque name) rest × (may_follow last name ≡ true)
 unfolding spelled_at
 spelled_takes last bytes name rest fits e =
-    let a = then_ok (field bytes (opaque_at 255 bytes)) (λ n. good (may_follow last n.0) bytes n) (name, rest) e in
+    let a = then_ok (field bytes (opaque_at 255 bytes)) (λ n. if_good (may_follow last n.0) bytes n) (name, rest) e in
     let g = good_ok (may_follow last a.0.0) bytes a.0 (name, rest) a.2 in
     let t = (opaque_codec 255).takes bytes a.0.0 a.0.1 fits (field_ok bytes (opaque_at 255 bytes) a.0 a.1) in
     subst (λ (y : List ℕ × List ℕ). Takes bytes (opaque y.0) y.1 × (may_follow last y.0 ≡ true)) {x = a.0} g.1 (t.0, g.0)
@@ -112,7 +112,7 @@ names_takes (suc count) last bytes names rest fits e =
 count_takes : (bytes : List ℕ) (n : ℕ) (rest : List ℕ) → IsBytes bytes → count_at bytes ≡ Ok (n, rest) → Takes bytes (word n) rest × (n ≤ most_names)
 unfolding count_at
 count_takes bytes n rest fits e =
-    let a = then_ok (field bytes (word_at bytes)) (λ count. good (not (nat_lt most_names count.0)) bytes count) (n, rest) e in
+    let a = then_ok (field bytes (word_at bytes)) (λ count. if_good (not (nat_lt most_names count.0)) bytes count) (n, rest) e in
     let g = good_ok (not (nat_lt most_names a.0.0)) bytes a.0 (n, rest) a.2 in
     let t = word_takes bytes a.0.0 a.0.1 fits a.1 in
     subst (λ (y : ℕ × List ℕ). Takes bytes (word y.0) y.1 × (y.0 ≤ most_names)) {x = a.0} g.1 (t.0, ltb-false _ _ (not_so (nat_lt most_names a.0.0) g.0))
@@ -121,8 +121,8 @@ pub read_is_spelled : (bytes : List ℕ) (names : List Name) → IsBytes bytes �
 unfolding directory_of whole_at directory_bytes
 read_is_spelled bytes names fits e =
     let whole = offset_ok (length bytes) (whole_at bytes) names e in
-    let a = then_ok (count_at bytes) (λ count. names_at count.0 [] count.1 >>= λ all. good (eqb (length all.1) 0) all.1 all.0) names whole in
-    let b = then_ok (names_at a.0.0 [] a.0.1) (λ all. good (eqb (length all.1) 0) all.1 all.0) names a.2 in
+    let a = then_ok (count_at bytes) (λ count. names_at count.0 [] count.1 >>= λ all. if_good (eqb (length all.1) 0) all.1 all.0) names whole in
+    let b = then_ok (names_at a.0.0 [] a.0.1) (λ all. if_good (eqb (length all.1) 0) all.1 all.0) names a.2 in
     let g = good_ok (eqb (length b.0.1) 0) b.0.1 b.0.0 names b.2 in
     let count = count_takes bytes a.0.0 a.0.1 fits a.1 in
     let all = names_takes a.0.0 [] a.0.1 b.0.0 b.0.1 count.0.rest_fits b.1 in

@@ -1,7 +1,7 @@
 -- Directories: names, each with the vnode that it names, in byte order; how a directory is spelled, and read.
 -- Where something is read from bytes, `.0` is what was read, and `.1` are the bytes behind it; a refusal has the bytes
 -- from the first bad field on.
-use Rattle.std.specs.Prelude.{◌≡◌, ◌≤◌, ◌<◌, ◌^◌, ℕ, zero, suc, ◌-◌, Bool, true, false, not, ◌&&◌, ◌==◌, if◌then◌else◌, List, [], ◌∷◌, ◌++◌, length, find, filter, Option, Some, None, is_some, Result, Ok, Err, nat_lt}
+use Rattle.std.specs.Prelude.{◌≡◌, ◌≤◌, ◌<◌, ◌^◌, ℕ, zero, suc, ◌-◌, Bool, true, not, ◌&&◌, ◌==◌, if◌then◌else◌, List, [], ◌∷◌, ◌++◌, length, find, filter, Option, Some, None, is_some, Result, Ok, Err, nat_lt}
 use Rattle.std.specs.List.{flat_map, AllByRecursion}
 use Rattle.std.specs.Str.{bytes_eq}
 use Rattle.std.specs.Ordering.{nat_cmp, is_lt}
@@ -82,19 +82,19 @@ field left (Ok x) = Ok x
 field left (Err e) = Err left
 
 -- what was read is good, or its field is a bad one
-abbrev pub good : {A : Type 0} → Bool → List ℕ → A → Result A (List ℕ)
-good b left x = if b then Ok x else Err left
+abbrev pub if_good : {A : Type 0} → Bool → List ℕ → A → Result A (List ℕ)
+if_good b left x = if b then Ok x else Err left
 
 unfoldable pub count_at : List ℕ → Result (ℕ × List ℕ) (List ℕ)
 count_at bytes = do
   count ← field bytes (word_at bytes)
-  good (not (nat_lt most_names count.0)) bytes count
+  if_good (not (nat_lt most_names count.0)) bytes count
 
 -- a name that may stand behind `last`
 unfoldable pub spelled_at : List ℕ → List ℕ → Result (List ℕ × List ℕ) (List ℕ)
 spelled_at last bytes = do
   name ← field bytes (opaque_at 255 bytes)
-  good (may_follow last name.0) bytes name
+  if_good (may_follow last name.0) bytes name
 
 -- such a name, and the vnode that it names
 unfoldable pub name_at : List ℕ → List ℕ → Result (Name × List ℕ) (List ℕ)
@@ -117,7 +117,7 @@ unfoldable pub whole_at : List ℕ → Result (List Name) (List ℕ)
 whole_at bytes = do
   count ← count_at bytes
   names ← names_at count.0 [] count.1
-  good (length names.1 == 0) names.1 names.0
+  if_good (length names.1 == 0) names.1 names.0
 
 -- the offset of the first bad field
 abbrev pub at_offset : {A : Type 0} → ℕ → Result A (List ℕ) → Result A ℕ

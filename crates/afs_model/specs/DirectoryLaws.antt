@@ -1,5 +1,5 @@
 -- Laws about directories.
-use Rattle.std.specs.Prelude.{◌≡◌, ◌<◌, ◌⊎◌, ℕ, true, false, List, Option, Some, None, Result, Ok, if◌then◌else◌}
+use Rattle.std.specs.Prelude.{◌≡◌, ◌⊎◌, ℕ, true, false, List, Some, None, Ok, if◌then◌else◌}
 use Rattle.std.specs.Str.{bytes_eq}
 use Rattle.afs_num.specs.declared.directories.Name.{Name}
 use Rattle.afs_model.specs.SpellingLaws.{IsBytes}

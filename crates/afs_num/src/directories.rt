@@ -5,7 +5,7 @@ use crate::types::Mem;
 use std::alloc::Global;
 
 /// A name in a directory, and what it names there: a vnode's number and its unique number.
-#[derive(Debug, Drop)]
+#[derive(Drop)]
 pub struct Name {
     pub name: Octets,
     pub vnode: u32,

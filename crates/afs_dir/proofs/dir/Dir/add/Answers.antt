@@ -1,6 +1,5 @@
-use Rattle.std.proofs.Common.{◌≡◌, ◌<◌, true, length, rules, sym, subst, arith}
+use Rattle.std.proofs.Common.{◌≡◌, ◌<◌, true, length, rules, arith}
 use Rattle.afs_num.specs.Names.{name_ok}
-use Rattle.afs_model.specs.Directories.{IsDirectory}
 use Rattle.afs_dir.proofs.Finding.{gap_fills}
 use Rattle.afs_dir.proofs.dir.Dir.add.Goals as goal
 
