@@ -33,6 +33,8 @@ pub mod Moments
 pub mod HeadLaws
 pub mod RpcLaws
 pub mod FsMade
+pub mod Directories
+pub mod DirectoryBytes
 pub mod Calls
 pub mod ScriptWritten
 pub mod ScriptSaid

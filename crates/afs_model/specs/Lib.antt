@@ -28,3 +28,5 @@ pub mod Disk
 pub mod Journal
 pub mod Calls
 pub mod CallLaws
+pub mod Directories
+pub mod DirectoryLaws

@@ -4,6 +4,7 @@
 pub mod calls;
 pub mod codes;
 pub mod devices;
+pub mod directories;
 pub mod faults;
 pub mod grammar;
 pub mod histories;

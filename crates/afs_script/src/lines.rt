@@ -15,7 +15,7 @@ use afs_num::names::{name_ok, volume_name_ok};
 use afs_num::scripts::{
     Act, Event, Events, Reason, Script, SetupLine, SetupLines, Task, Tasks, VolumeLine, VolumeLines,
 };
-use afs_num::sequences::{Names, Octets};
+use afs_num::sequences::{Octets, Path};
 use afs_num::types::{Fid, Node};
 use std::alloc::{AllocError, Global};
 use std::collections::BTreeSet;
@@ -212,7 +212,7 @@ fn lay(
     must(!is_laid(name, volume.lines.as_slice()), Reason::Path)?;
     must(volume.lines.is_empty(), Reason::Limit)?;
     must(contents.len() <= CONTENTS_HERE, Reason::Limit)?;
-    let mut path = Names::new(alloc);
+    let mut path = Path::new(alloc);
     path.push(Octets::from_slice(alloc, name)?)?;
     let mut volume = volume;
     volume.lines.push(SetupLine::File { path, contents })?;

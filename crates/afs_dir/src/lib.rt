@@ -1,0 +1,14 @@
+//! Directories: names in byte order, each with the vnode that it names.
+#![tactic(auto)]
+
+mod dir;
+mod faults;
+mod places;
+mod reading;
+mod spelling;
+
+pub use dir::Dir;
+pub use faults::DirFault;
+
+/// How many names a directory has at most.
+pub(crate) const MOST_NAMES: u32 = 1024;

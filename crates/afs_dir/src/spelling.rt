@@ -1,0 +1,29 @@
+//! Spelling a directory.
+
+ghost use Rattle.std.specs.Prelude.{◌≡◌, ◌++◌, ◌≤◌, length, OnOk};
+ghost use Rattle.std.specs.List.{flat_map};
+ghost use Rattle.afs_model.specs.Directories.{IsDirectory, name_bytes};
+
+use afs_num::directories::Name;
+use afs_num::types::Mem;
+use afs_xdr::writing::Writer;
+
+#[tactic(auto, unfolding(afs_model::specs::Directories::name_bytes))]
+fn write_name(name: &Name, bytes: &mut Writer) -> Mem<()>
+    requires { length name.now.name ≤ 255 }
+    ensures { OnOk result (bytes.new ≡ bytes.old ++ name_bytes name.now) }
+{
+    bytes.opaque(name.name.as_slice())?;
+    bytes.words(&[name.vnode, name.unique])
+}
+
+/// Appends the names of a directory, one behind the other.
+pub fn write_names(names: &[Name], bytes: &mut Writer) -> Mem<()>
+    requires { IsDirectory names.now }
+    ensures { OnOk result (bytes.new ≡ bytes.old ++ flat_map name_bytes names.now) }
+{
+    for name in names {
+        write_name(name, bytes)?;
+    }
+    Ok(())
+}
