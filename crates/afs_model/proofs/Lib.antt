@@ -32,3 +32,4 @@ pub mod FsLaws
 pub mod FsMade
 pub mod FsMessages
 pub mod Calls
+pub mod AccessLists

@@ -28,3 +28,6 @@ pub mod Disk
 pub mod Journal
 pub mod Calls
 pub mod CallLaws
+pub mod AccessLists
+pub mod Tables
+pub mod VnodeImage

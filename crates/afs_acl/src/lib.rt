@@ -1,0 +1,6 @@
+//! Access lists: who has which rights in a directory.
+#![tactic(auto)]
+
+pub mod acl;
+pub mod faults;
+pub mod reading;
