@@ -33,3 +33,4 @@ pub mod FsMade
 pub mod FsMessages
 pub mod Calls
 pub mod AccessLists
+pub mod Tables

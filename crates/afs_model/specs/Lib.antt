@@ -31,3 +31,4 @@ pub mod CallLaws
 pub mod AccessLists
 pub mod Tables
 pub mod VnodeImage
+pub mod VnodeMaps

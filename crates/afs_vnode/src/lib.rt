@@ -1,0 +1,7 @@
+//! Vnodes: their images on a disk, and the vnodes of a volume by their numbers.
+#![tactic(auto)]
+
+pub mod faults;
+pub mod images;
+mod sorted;
+pub mod store;
