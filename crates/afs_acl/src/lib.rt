@@ -3,4 +3,5 @@
 
 pub mod acl;
 pub mod faults;
+pub mod laws;
 pub mod reading;

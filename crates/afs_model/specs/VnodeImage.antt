@@ -45,7 +45,7 @@ pub record FitsImage (v : Vnode) : Type 0 where
   pub acl : length v.acl ≤ most_acl
   pub contents : length v.contents ≤ most_contents
 
--- the reading: a refusal has the place of the first field that is bad, from 0
+-- the reading: a refusal has the place of the first field that is bad, from 1
 
 pub record BadField : Type 0 where
   pub place : ℕ
@@ -70,23 +70,23 @@ kind_field place vnode bytes = do
 
 unfoldable pub image_at : List ℕ → Result (Vnode × List ℕ) BadField
 image_at bytes = do
-  vnode ← word_field 0 bytes
-  unique ← word_field 1 vnode.1
-  kind ← kind_field 2 vnode.0 unique.1
-  index ← word_field 3 kind.1
-  data_version ← word_field 4 index.1
-  link_count ← word_field 5 data_version.1
-  owner ← word_field 6 link_count.1
-  group ← word_field 7 owner.1
-  mode ← word_field 8 group.1
-  segment_size ← word_field 9 mode.1
-  client_time ← word_field 10 segment_size.1
-  server_time ← word_field 11 client_time.1
-  parent_vnode ← word_field 12 server_time.1
-  parent_unique ← word_field 13 parent_vnode.1
-  change_counter ← word_field 14 parent_unique.1
-  acl ← opaque_field 15 most_acl change_counter.1
-  contents ← opaque_field 16 most_contents acl.1
+  vnode ← word_field 1 bytes
+  unique ← word_field 2 vnode.1
+  kind ← kind_field 3 vnode.0 unique.1
+  index ← word_field 4 kind.1
+  data_version ← word_field 5 index.1
+  link_count ← word_field 6 data_version.1
+  owner ← word_field 7 link_count.1
+  group ← word_field 8 owner.1
+  mode ← word_field 9 group.1
+  segment_size ← word_field 10 mode.1
+  client_time ← word_field 11 segment_size.1
+  server_time ← word_field 12 client_time.1
+  parent_vnode ← word_field 13 server_time.1
+  parent_unique ← word_field 14 parent_vnode.1
+  change_counter ← word_field 15 parent_unique.1
+  acl ← opaque_field 16 most_acl change_counter.1
+  contents ← opaque_field 17 most_contents acl.1
   Ok (
     record {
       vnode = vnode.0;

@@ -4,7 +4,7 @@ ghost use Rattle.afs_vnode.specs.declared.faults.ImageFault.TheVariants.{OutOfMe
 use afs_xdr::faults::XdrFault;
 use std::alloc::AllocError;
 
-/// Why bytes are no image of a vnode: the place of the first bad field, from 0, and its cause; or memory was wanting.
+/// Why bytes are no image of a vnode: the place of the first bad field, from 1, and its cause; or memory was wanting.
 #[derive(Clone, Copy, Debug, PartialEq, Eq)]
 pub enum ImageFault {
     Field(u32, XdrFault),

@@ -63,6 +63,7 @@ fn kind(r: &mut Reader, place: u32, vnode: u32) -> Result<u32, ImageFault>
 #[tactic(auto, unfolding(afs_model::specs::VnodeImage::opaque_field))]
 fn opaque(alloc: Global, r: &mut Reader, place: u32, most: u32) -> Result<Octets, ImageFault>
     ensures value { ReadsImage (opaque_field place most) (λ b. b) r.old r.new result }
+    ensures limit { IfOk result (λ b. length b ≤ most) }
     ensures end { KeepsEnd r.old r.new }
 {
     match r.opaque(most) {
@@ -75,25 +76,26 @@ fn opaque(alloc: Global, r: &mut Reader, place: u32, most: u32) -> Result<Octets
 #[tactic(auto, unfolding(afs_model::specs::VnodeImage::image_at))]
 fn fields(alloc: Global, r: &mut Reader) -> Result<Vnode, ImageFault>
     ensures value { ReadsImage image_at (λ v. v) r.old r.new result }
+    ensures fits { IfOk result (λ v. FitsImage v) }
     ensures end { KeepsEnd r.old r.new }
 {
-    let vnode = word(r, 0)?;
-    let unique = word(r, 1)?;
-    let kind = kind(r, 2, vnode)?;
-    let index = word(r, 3)?;
-    let data_version = word(r, 4)?;
-    let link_count = word(r, 5)?;
-    let owner = word(r, 6)?;
-    let group = word(r, 7)?;
-    let mode = word(r, 8)?;
-    let segment_size = word(r, 9)?;
-    let client_time = word(r, 10)?;
-    let server_time = word(r, 11)?;
-    let parent_vnode = word(r, 12)?;
-    let parent_unique = word(r, 13)?;
-    let change_counter = word(r, 14)?;
-    let acl = opaque(alloc, r, 15, MOST_ACL)?;
-    let contents = opaque(alloc, r, 16, MOST_CONTENTS)?;
+    let vnode = word(r, 1)?;
+    let unique = word(r, 2)?;
+    let kind = kind(r, 3, vnode)?;
+    let index = word(r, 4)?;
+    let data_version = word(r, 5)?;
+    let link_count = word(r, 6)?;
+    let owner = word(r, 7)?;
+    let group = word(r, 8)?;
+    let mode = word(r, 9)?;
+    let segment_size = word(r, 10)?;
+    let client_time = word(r, 11)?;
+    let server_time = word(r, 12)?;
+    let parent_vnode = word(r, 13)?;
+    let parent_unique = word(r, 14)?;
+    let change_counter = word(r, 15)?;
+    let acl = opaque(alloc, r, 16, MOST_ACL)?;
+    let contents = opaque(alloc, r, 17, MOST_CONTENTS)?;
     Ok(Vnode {
         vnode,
         unique,
@@ -116,9 +118,10 @@ fn fields(alloc: Global, r: &mut Reader) -> Result<Vnode, ImageFault>
 }
 
 /// Reads the image of a vnode. The fields are those of the vnode, in order; a kind that is none, or doesn't fit the
-/// vnode's number, is `BadType` in its place, 2. A refusal leaves the reader as it was.
+/// vnode's number, is `BadType` in its place, 3. A refusal leaves the reader as it was.
 pub fn read_image(alloc: Global, r: &mut Reader) -> Result<Vnode, ImageFault>
     ensures value { ReadsImage image_at (λ v. v) r.old r.new result }
+    ensures fits { IfOk result (λ v. FitsImage v) }
     ensures end { KeepsEnd r.old r.new }
     ensures err { OnErr result (r.new ≡ r.old) }
 {
