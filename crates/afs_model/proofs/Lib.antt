@@ -34,3 +34,4 @@ pub mod FsMessages
 pub mod Calls
 pub mod AccessLists
 pub mod Tables
+pub mod VnodeImage

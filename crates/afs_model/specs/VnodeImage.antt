@@ -4,7 +4,7 @@ use Rattle.afs_xdr.specs.declared.faults.XdrFault.{XdrFault}
 use Rattle.afs_xdr.specs.declared.faults.XdrFault.TheVariants.{BadType}
 use Rattle.afs_xdr.specs.Words.{words, opaque, word_at, opaque_at}
 use Rattle.afs_num.specs.declared.vnodes.Vnode.{Vnode}
-use Rattle.afs_model.specs.ScriptWords.{◌>>=◌}
+use Rattle.afs_shape.specs.Reading.{◌>>=◌}
 
 -- the kinds of vnodes
 

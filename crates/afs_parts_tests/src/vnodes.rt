@@ -45,94 +45,110 @@ fn vnode(alloc: Global, number: u32, change_counter: u32) -> Vnode
     }
 }
 
+// An image that was read, as it is written.
+fn again(alloc: Global, bytes: &[u8]) -> Result<Vec<u8>, ImageFault> {
+    let root = read_image(alloc, &mut Reader::new(bytes))?;
+    let mut writer = Writer::new(alloc);
+    write_image(&root, &mut writer)?;
+    Ok(writer.into_vec()?)
+}
+
+// Why bytes are no image, and how many are left.
+fn fault(alloc: Global, bytes: &[u8]) -> (Option<ImageFault>, usize) {
+    let mut reader = Reader::new(bytes);
+    let fault = read_image(alloc, &mut reader).err();
+    (fault, reader.left_len())
+}
+
+// The vnodes of these numbers.
+fn filled(alloc: Global, numbers: &[u32]) -> Result<VnodeStore, VnodeFault> {
+    let mut store = VnodeStore::new(alloc);
+    for number in numbers {
+        store.put(vnode(alloc, *number, 1))?;
+    }
+    Ok(store)
+}
+
+// The numbers that a new file and a new directory get.
+fn next(store: &VnodeStore) -> (Option<u32>, Option<u32>) {
+    (store.allocate(false), store.allocate(true))
+}
+
 #[test]
 fn an_image_is_read_and_written(rt: HostRuntime) -> Result<(), Fail> {
-    let mut reader = Reader::new(ROOT.as_slice());
-    let root = read_image(rt.alloc(), &mut reader)?;
-    assert_eq!(rt; reader.left_len(), 0);
+    assert_eq!(rt;
+        again(rt.alloc(), ROOT.as_slice())?.as_slice(),
+        ROOT.as_slice()
+    );
+    let root = read_image(rt.alloc(), &mut Reader::new(ROOT.as_slice()))?;
     assert_eq!(rt; (root.index, root.data_version, root.mode), (3, 4, 493));
-    assert_eq!(rt; (root.acl.len(), root.contents.len()), (23, 4));
-    let mut writer = Writer::new(rt.alloc());
-    if root.acl.len() <= 1_024 && root.contents.len() <= 2_097_152 {
-        write_image(&root, &mut writer)?;
-    }
-    assert_eq!(rt; writer.into_vec()?.as_slice(), ROOT.as_slice());
     Ok(())
 }
 
 #[test]
-fn an_image_that_is_cut_is_bad_where_it_ends(rt: HostRuntime) -> Result<(), Fail> {
+fn an_image_that_is_cut_is_bad_where_it_ends(rt: HostRuntime) {
     for length in 0..96_usize {
-        let place = if length < 64 {
-            length / 4
-        } else if length < 88 {
-            15
-        } else {
-            16
+        let place = match length {
+            0..64 => length / 4 + 1,
+            64..88 => 16,
+            _ => 17,
         };
-        let mut reader = Reader::new(&ROOT[..length]);
-        let fault = read_image(rt.alloc(), &mut reader).err();
-        assert_eq!(rt;
-            fault,
-            Some(ImageFault::Field(place as u32, XdrFault::Short))
-        );
-        assert_eq!(rt; reader.left_len(), length);
+        let want = ImageFault::Field(place as u32, XdrFault::Short);
+        assert_eq!(rt; fault(rt.alloc(), &ROOT[..length]), (Some(want), length));
     }
-    Ok(())
 }
 
 #[test]
-fn the_first_bad_field_is_told(rt: HostRuntime) -> Result<(), Fail> {
-    for (at, byte, place, fault) in [
-        (3, 2, 2, XdrFault::BadType),
-        (11, 1, 2, XdrFault::BadType),
-        (11, 7, 2, XdrFault::BadType),
-        (62, 5, 15, XdrFault::TooLong),
-        (63, 33, 15, XdrFault::Short),
-        (87, 1, 15, XdrFault::BadPad),
-        (88, 1, 16, XdrFault::TooLong),
-        (91, 5, 16, XdrFault::Short),
+fn the_first_bad_field_is_told(rt: HostRuntime) {
+    for (at, byte, place, cause) in [
+        (3_usize, 2, 3, XdrFault::BadType),
+        (11, 1, 3, XdrFault::BadType),
+        (11, 7, 3, XdrFault::BadType),
+        (62, 5, 16, XdrFault::TooLong),
+        (63, 33, 16, XdrFault::Short),
+        (87, 1, 16, XdrFault::BadPad),
+        (89, 33, 17, XdrFault::TooLong),
+        (91, 5, 17, XdrFault::Short),
     ] {
         let mut bytes = ROOT;
         bytes[at] = byte;
-        let mut reader = Reader::new(bytes.as_slice());
-        let bad = read_image(rt.alloc(), &mut reader).err();
-        assert_eq!(rt; bad, Some(ImageFault::Field(place, fault)));
+        let want = ImageFault::Field(place, cause);
+        assert_eq!(rt; fault(rt.alloc(), bytes.as_slice()), (Some(want), 96));
     }
-    Ok(())
 }
 
 #[test]
 fn those_changed_later_are_listed(rt: HostRuntime) -> Result<(), Fail> {
     let mut store = VnodeStore::new(rt.alloc());
     store.put(vnode(rt.alloc(), 2, 3))?;
-    let since_two = store.changed_since(rt.alloc(), 2)?;
-    assert_eq!(rt; since_two.as_slice(), [2].as_slice());
+    assert_eq!(rt;
+        store.changed_since(rt.alloc(), 2)?.as_slice(),
+        [2].as_slice()
+    );
     assert!(rt; store.changed_since(rt.alloc(), 3)?.is_empty());
     Ok(())
 }
 
 #[test]
 fn the_lowest_free_number_is_given(rt: HostRuntime) -> Result<(), Fail> {
-    let mut store = VnodeStore::new(rt.alloc());
-    for number in [8, 1, 2, 6, 4, 3] {
-        store.put(vnode(rt.alloc(), number, 1))?;
-    }
+    let mut store = filled(rt.alloc(), &[8, 1, 2, 6, 4, 3])?;
+    assert_eq!(rt; next(&store), (Some(10), Some(5)));
+    assert_eq!(rt; (store.remove(4), store.remove(4)), (true, false));
+    assert_eq!(rt; next(&store), (Some(4), Some(5)));
+    Ok(())
+}
+
+#[test]
+fn vnodes_are_found_by_number_and_by_place(rt: HostRuntime) -> Result<(), Fail> {
+    let store = filled(rt.alloc(), &[8, 1, 6])?;
     assert_eq!(rt;
-        (store.allocate(false), store.allocate(true)),
-        (Some(10), Some(5))
+        (store.get(6).map(|v| v.vnode), store.get(7).map(|v| v.vnode)),
+        (Some(6), None)
     );
-    assert!(rt; store.remove(4));
-    assert!(rt; !store.remove(4));
     assert_eq!(rt;
-        (store.allocate(false), store.allocate(true)),
-        (Some(4), Some(5))
+        (store.at(2).map(|v| v.vnode), store.at(3).map(|v| v.vnode)),
+        (Some(8), None)
     );
-    assert_eq!(rt; store.get(6).map(|v| v.vnode), Some(6));
-    assert!(rt; store.get(4).is_none());
-    assert_eq!(rt; store.at(1).map(|v| v.vnode), Some(2));
-    assert_eq!(rt; store.at(4).map(|v| v.vnode), Some(8));
-    assert!(rt; store.at(5).is_none());
     Ok(())
 }
 
@@ -147,11 +163,6 @@ fn there_is_room_for_4096(rt: HostRuntime) -> Result<(), Fail> {
         Err(VnodeFault::TooMany)
     );
     assert_eq!(rt; store.put(vnode(rt.alloc(), 7, 2)), Ok(()));
-    assert_eq!(rt; (store.allocate(false), store.allocate(true)), (None, None));
-    assert!(rt; store.remove(4_096));
-    assert_eq!(rt;
-        (store.allocate(false), store.allocate(true)),
-        (Some(4_096), Some(4_097))
-    );
+    assert_eq!(rt; next(&store), (None, None));
     Ok(())
 }
