@@ -1,12 +1,10 @@
 -- The image of a vnode is read again, and what is read is an image.
-use Rattle.std.proofs.Common.{◌≡◌, ℕ, ◌<◌, ◌≤◌, ◌^◌, Bool, true, false, List, [], ◌∷◌, ◌++◌, length, Result, Ok, Err, if◌then◌else◌, ap, sym, subst, ◌∙◌, arith, refl, append_assoc, lit<}
-use Rattle.afs_xdr.specs.declared.faults.XdrFault.{XdrFault}
+use Rattle.std.proofs.Common.{◌≡◌, ℕ, ◌<◌, ◌≤◌, ◌^◌, Bool, true, List, [], ◌∷◌, ◌++◌, length, Result, Ok, Err, if◌then◌else◌, ap, ◌∙◌, arith, refl, append_assoc, lit<}
 use Rattle.afs_xdr.specs.declared.faults.XdrFault.TheVariants.{BadType}
-use Rattle.afs_xdr.specs.Words.{word, words, opaque, word_at, opaque_at, AreWords}
+use Rattle.afs_xdr.specs.Words.{word, words, opaque, word_at, AreWords}
 use Rattle.afs_num.specs.declared.vnodes.Vnode.{Vnode}
 use Rattle.afs_shape.specs.Reading.{◌>>=◌}
-use Rattle.afs_shape.proofs.Codecs.{IsBytes, Takes, Takes-then, word_codec, opaque_codec}
-use Rattle.afs_shape.proofs.FieldLaws.{bind_ok}
+use Rattle.afs_shape.proofs.Codecs.{word_codec, opaque_codec}
 use Rattle.afs_model.specs.VnodeImage.{kind_fits, most_acl, most_contents, image_words, image, FitsImage, BadField, as_field, word_field, opaque_field, kind_field, image_at}
 
 -- ---- fields

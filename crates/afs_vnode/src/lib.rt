@@ -3,5 +3,6 @@
 
 pub mod faults;
 pub mod images;
+pub mod laws;
 mod sorted;
 pub mod store;
