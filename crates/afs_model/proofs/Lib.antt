@@ -38,3 +38,6 @@ pub mod DirectoryBytes
 pub mod Calls
 pub mod ScriptWritten
 pub mod ScriptSaid
+pub mod AccessLists
+pub mod Tables
+pub mod VnodeImage

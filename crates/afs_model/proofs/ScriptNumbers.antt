@@ -26,7 +26,7 @@ if_some false o m e = absurd cc
 pub some_same : (a b : ℕ) → Some a ≡ Some b → a ≡ b
 some_same a b e = cc
 
-is_digit : (d : ℕ) → d < 10 → is_in 48 57 (48 + d) ≡ true
+pub is_digit : (d : ℕ) → d < 10 → is_in 48 57 (48 + d) ≡ true
 is_digit d lt = both_true (nat_le 48 (48 + d)) (nat_le (48 + d) 57) (le-leb 48 (48 + d) (omega arith)) (le-leb (48 + d) 57 (omega arith))
 
 digit_fits : (high a d : ℕ) → d < 10 → a * 10 + d ≤ high → (is_in 48 57 (48 + d) && nat_le (a * 10 + (48 + d - 48)) high) ≡ true

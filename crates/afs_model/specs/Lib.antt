@@ -30,3 +30,7 @@ pub mod Calls
 pub mod CallLaws
 pub mod Directories
 pub mod DirectoryLaws
+pub mod AccessLists
+pub mod Tables
+pub mod VnodeImage
+pub mod VnodeMaps

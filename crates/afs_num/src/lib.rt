@@ -1,6 +1,7 @@
 //! The base types of the cell: what its nodes, calls, histories and scripts are made of.
 #![tactic(auto)]
 
+pub mod acls;
 pub mod calls;
 pub mod codes;
 pub mod devices;
@@ -16,3 +17,4 @@ pub mod sequences;
 pub mod states;
 pub mod texts;
 pub mod types;
+pub mod vnodes;

@@ -1,0 +1,7 @@
+//! Access lists: who has which rights in a directory.
+#![tactic(auto)]
+
+pub mod acl;
+pub mod faults;
+pub mod laws;
+pub mod reading;

@@ -1,0 +1,5 @@
+use Rattle.afs_model.proofs.VnodeImage.{image_again}
+use Rattle.afs_vnode.proofs.laws.images_are_read_again.Goals as goal
+
+pub returns : goal.returns
+returns c = image_again

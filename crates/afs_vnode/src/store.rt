@@ -1,0 +1,138 @@
+//! The vnodes of a volume by their numbers.
+
+ghost use Rattle.std.specs.Prelude.{◌≡◌, ◌≤◌, ◌<◌, ◌%◌, ◌↔◌, ℕ, true, [], Err, None, is_some, length, slice_get, IfOk, IfSome, OnOk, OnErr};
+ghost use Rattle.std.specs.Option.{option_copied, option_map};
+ghost use Rattle.afs_model.specs.Tables.{get, set, unset, AscendsFrom, lowest_free};
+ghost use Rattle.afs_model.specs.VnodeImage.{FitsImage};
+ghost use Rattle.afs_model.specs.VnodeMaps.{most_vnodes, is_full_for, first_number, allocated, changed_since};
+ghost use Rattle.afs_vnode.specs.Stores.{raised, lowered};
+ghost use Rattle.afs_vnode.specs.declared.faults.VnodeFault.TheVariants.{TooMany};
+
+use crate::faults::VnodeFault;
+use crate::sorted;
+use afs_num::types::Mem;
+use afs_num::vnodes::{Vnode, VnodeNumbers};
+use std::alloc::Global;
+use std::marker::Model;
+
+/// The vnodes of a volume, at most 4,096, by ascending numbers. Finding, putting and removing one takes as many
+/// comparisons as the logarithm of their number; a free number is looked for from one below which none is free.
+#[derive(Drop)]
+pub struct VnodeStore {
+    vnodes: Vec<Vnode>,
+    even: u32,
+    odd: u32,
+}
+
+impl Model for VnodeStore {
+    ghost use Rattle.afs_num.specs.declared.vnodes.Vnode.{Vnode};
+    ghost use Rattle.afs_model.specs.Tables.{Table};
+    ghost use Rattle.afs_vnode.specs.Stores.{table_of, IsStore};
+
+    ghost Value = { Table Vnode };
+
+    ghost view = { λ s. table_of s.vnodes.items };
+
+    ghost invariant = { λ s. IsStore s.vnodes.items s.even s.odd };
+}
+
+/// The hint after a vnode of this number was put.
+fn raised(hint: u32, number: u32) -> u32
+    requires { hint ≤ 10000 }
+    ensures { result ≡ raised hint number }
+{
+    if hint == number { hint + 2 } else { hint }
+}
+
+/// The hint after a vnode of this number was removed.
+fn lowered(first: u32, hint: u32, number: u32) -> u32
+    ensures { result ≡ lowered first hint number }
+{
+    if first <= number && number < hint && number % 2 == hint % 2 {
+        number
+    } else {
+        hint
+    }
+}
+
+impl VnodeStore {
+    /// No vnodes. It takes no memory.
+    pub fn new(alloc: Global) -> VnodeStore
+        ensures { result ≡ [] }
+    {
+        VnodeStore {
+            vnodes: Vec::new(alloc),
+            even: 2,
+            odd: 3,
+        }
+    }
+
+    /// How many vnodes there are.
+    pub fn len(&self) -> usize
+        ensures value { result ≡ length self.now }
+        ensures few { length self.now ≤ most_vnodes }
+        ensures ascends { AscendsFrom 0 self.now }
+    {
+        self.vnodes.len()
+    }
+
+    /// The vnode of a number. It takes no memory.
+    pub fn get(&self, vnode: u32) -> Option<&Vnode>
+        ensures value { option_copied result ≡ get vnode self.now }
+        ensures number { IfSome result (λ v. v.now.vnode ≡ vnode) }
+        ensures fits { IfSome result (λ v. FitsImage v.now) }
+    {
+        sorted::find(&self.vnodes, vnode)
+    }
+
+    /// The vnode at a place in ascending order, from 0. It takes no memory.
+    pub fn at(&self, place: u32) -> Option<&Vnode>
+        ensures value { option_copied result ≡ option_map (λ p. p.1) (slice_get self.now place) }
+        ensures fits { IfSome result (λ v. FitsImage v.now) }
+    {
+        sorted::nth(&self.vnodes, place as usize)
+    }
+
+    /// Puts a vnode in the place of the one with its number, if there is one. `TooMany` where there are 4,096 others.
+    pub fn put(&mut self, v: Vnode) -> Result<(), VnodeFault>
+        requires { FitsImage v }
+        ensures ok { OnOk result (self.new ≡ set v.vnode v self.old) }
+        ensures err { OnErr result (self.new ≡ self.old) }
+        ensures many { (result ≡ Err TooMany) ↔ (is_full_for v.vnode self.old ≡ true) }
+    {
+        let number = v.vnode;
+        sorted::put(&mut self.vnodes, v)?;
+        self.even = raised(self.even, number);
+        self.odd = raised(self.odd, number);
+        Ok(())
+    }
+
+    /// Removes the vnode of a number, and tells whether there was one. It takes no memory.
+    pub fn remove(&mut self, vnode: u32) -> bool
+        ensures was { result ≡ is_some (get vnode self.old) }
+        ensures removed { self.new ≡ unset vnode self.old }
+    {
+        let was = sorted::remove(&mut self.vnodes, vnode);
+        self.even = lowered(2, self.even, vnode);
+        self.odd = lowered(3, self.odd, vnode);
+        was
+    }
+
+    /// The lowest number that a new directory, or a new file or link, may have; none where there are 4,096 vnodes.
+    /// It takes no memory.
+    pub fn allocate(&self, dir: bool) -> Option<u32>
+        ensures value { result ≡ allocated dir self.now }
+        ensures free { IfSome result (λ n. get n self.now ≡ None) }
+        ensures lowest { IfSome result (λ n. (k : ℕ) → first_number dir ≤ k → k < n → k % 2 ≡ first_number dir % 2 → is_some (get k self.now) ≡ true) }
+    {
+        let hint = if dir { self.odd } else { self.even };
+        sorted::allocate(&self.vnodes, dir, hint)
+    }
+
+    /// The numbers of the vnodes that were changed after the volume's counter stood so, in ascending order.
+    pub fn changed_since(&self, alloc: Global, counter: u32) -> Mem<VnodeNumbers>
+        ensures { IfOk result (λ ns. ns ≡ changed_since counter self.now) }
+    {
+        sorted::changed_since(alloc, &self.vnodes, counter)
+    }
+}
