@@ -114,6 +114,8 @@ impl<D: Disk> Disk for Fuse<D> {
 
     ghost size = { λ f. D.size f.disk };
 
+    ghost left_by = { λ f pick. D.left_by f.disk pick };
+
     ghost may_leave = { λ f c. D.may_leave f.disk c };
 
     ghost moment = { λ f. D.moment f.disk };
@@ -126,6 +128,8 @@ impl<D: Disk> Disk for Fuse<D> {
 
     ghost calls = { λ f. f.calls };
 
+    ghost made = { λ f. D.calls f.disk };
+
     ghost setting = { λ f. record { stop = f.stop; fail = f.fail } };
 
     ghost limit = { λ f. D.limit f.disk };
@@ -136,7 +140,9 @@ impl<D: Disk> Disk for Fuse<D> {
 
     ghost just_now = { λ f c left. D.just_now f.disk c left };
 
-    ghost shows = { λ f bytes told. D.shows f.disk bytes told };
+    ghost leaves = { λ f pick bytes told. D.leaves f.disk pick bytes told };
+
+    ghost shows = { λ f. D.shows f.disk };
 
     ghost measures = { λ f bytes told. D.measures f.disk bytes told };
 

@@ -1,5 +1,5 @@
-use crate::Journal;
 use afs_disk::{Disk, Fuse, MemDisk};
+use afs_journal::Journal;
 use afs_num::faults::JournalFault;
 use afs_num::sequences::Octets;
 use std::alloc::Global;
@@ -21,7 +21,7 @@ fn disk_of(alloc: Global, bytes: &[u8]) -> Result<MemDisk, Fail> {
 }
 
 // Attaches a disk whose capacity is allowed. A refusal hands it back.
-fn attach<D: Disk>(alloc: Global, disk: D) -> Result<Journal<D>, (JournalFault, D)> {
+pub(crate) fn attach<D: Disk>(alloc: Global, disk: D) -> Result<Journal<D>, (JournalFault, D)> {
     if disk.capacity() > 268_435_456 {
         return Err((JournalFault::Closed, disk));
     }
@@ -37,6 +37,7 @@ fn a_full_journal_tells_the_two_lengths(rt: HostRuntime) -> Result<(), Fail> {
     let mut journal = attach(alloc, empty(alloc, 100)).map_err(|e| e.0)?;
     assert_eq!(rt; journal.append(&[7; 90]), Ok(1));
     assert_eq!(rt; journal.append(&[8]), Err(JournalFault::Full(100, 100)));
+    assert_eq!(rt; (journal.len(), journal.capacity(), journal.count()), (100, 100, 1));
     Ok(())
 }
 

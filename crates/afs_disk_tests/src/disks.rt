@@ -1,8 +1,7 @@
-use crate::{Bank, Disk, HostBank, LendFault, MemBank, MemDisk, Place};
+use afs_disk::{Bank, Disk, LendFault, MemBank, MemDisk, Place};
 use afs_num::devices::Failed;
 use afs_num::sequences::{Octets, Records};
 use std::alloc::Global;
-use std::fs;
 use std::test::Fail;
 
 // A disk in memory that holds `abc`, and over it two writes that aren't synced.
@@ -18,7 +17,7 @@ fn unsynced(alloc: Global) -> Result<MemDisk, Fail> {
 }
 
 // Writes at a place that the disk reaches, with room made first.
-fn write_after<D: Disk>(disk: &mut D, at: u64, bytes: &[u8]) -> Result<(), Fail> {
+pub(crate) fn write_after<D: Disk>(disk: &mut D, at: u64, bytes: &[u8]) -> Result<(), Fail> {
     if disk.len() < at || 1000 < at || 1000 < bytes.len() {
         return Err("a place that isn't there".into());
     }
@@ -97,33 +96,5 @@ fn a_bank_in_memory_tells_what_it_lent(rt: HostRuntime) -> Result<(), Fail> {
         assert_eq!(rt; given.disk.bytes(), b"abc".as_slice());
     }
     assert_eq!(rt; bank.given().len(), 1);
-    Ok(())
-}
-
-#[test]
-fn a_file_keeps_what_was_written(rt: HostRuntime) -> Result<(), Fail> {
-    let alloc = rt.alloc();
-    let here = Place::Folder(Octets::from_slice(alloc, b".")?);
-    let mut bank = HostBank::new(&rt, alloc);
-    let mut disk = bank.lend(&here, 77, 100).map_err(|_| "not lent")?;
-    disk.room(0, 0)?;
-    disk.cut(0)?;
-    write_after(&mut disk, 0, b"abcdef")?;
-    if disk.len() < 4 {
-        return Err("it is shorter than what was written".into());
-    }
-    disk.room(0, 0)?;
-    disk.cut(4)?;
-    disk.sync()?;
-    bank.give_back(77, disk)?;
-    let mut again = bank.lend(&here, 77, 100).map_err(|_| "not lent")?;
-    let mut bytes = [0u8; 6];
-    again.room(0, 0)?;
-    assert_eq!(rt; again.read(1, &mut bytes), Ok(3));
-    assert_eq!(rt; bytes, [98, 99, 100, 0, 0, 0]);
-    assert_eq!(rt; again.read(4, &mut bytes), Ok(0));
-    fs::remove_file(&rt, "./node-77")?;
-    let nowhere = Place::Folder(Octets::from_slice(alloc, b"no/such/folder")?);
-    assert_eq!(rt; bank.lend(&nowhere, 77, 100).err(), Some(LendFault::Failed));
     Ok(())
 }
