@@ -4,7 +4,7 @@ ghost use Rattle.afs_disk.specs.Fuses.{last_count};
 ghost use Rattle.afs_disk.specs.Images.{MayLeave, image};
 ghost use Rattle.afs_disk.specs.Past.{Planned, Since, measured, memory_room, only_now, picked_leaves};
 ghost use Rattle.std.proofs.Common.{inl, refl};
-ghost use Rattle.afs_model.specs.Disk.{overwritten, written_by, cut_by, ComesBy, CutShort, Holds, LeavesJust, Passes, Ran, Rose, Takes, Torn};
+ghost use Rattle.afs_model.specs.Disk.{overwritten, written_by, cut_by, ComesBy, CutShort, Holds, LeavesJust, NoSmaller, Passes, Ran, Rose, Takes, Torn};
 
 use crate::disk::Disk;
 use crate::medium::Medium;
@@ -222,7 +222,12 @@ impl Disk for MemDisk {
         Ok(())
     }
 
-    fn room(&mut self, end: u64, bytes: u64) -> Mem<()> {
+    fn room(&mut self, end: u64, bytes: u64) -> Mem<()>
+        ensures ok { OnOk result (Holds 8 bytes end (memory_room self.new)) }
+        ensures succeeds { Holds 8 bytes end (memory_room self.old) → IsOk result }
+        ensures grows { NoSmaller (memory_room self.old) (memory_room self.new) }
+        ensures same { self.new ≡ record self.old { held = record self.old.held { room = self.new.held.room } } }
+    {
         if u64::MAX - self.calls < ROOM {
             return Err(AllocError);
         }

@@ -57,7 +57,7 @@ fn a_file_keeps_what_was_written(rt: HostRuntime) -> Result<(), Fail> {
     disk.sync()?;
     bank.give_back(77, disk)?;
     // Node n is the file `node-n`, and a disk over it anew has its length and its bytes.
-    assert_eq!(rt; fs::read(&rt, "./node-77")?.as_slice(), b"abCD");
+    assert_eq!(rt; fs::read(&rt, "./node-77")?.as_slice(), b"abCD".as_slice());
     let mut again = lent(&mut bank, alloc, 77)?;
     assert_eq!(rt; again.len(), 4);
     assert_eq!(rt; read_from(&mut again, 1)?, (3, *b"bCD\0\0\0"));
@@ -103,8 +103,8 @@ fn what_cannot_be_opened_is_not_lent(rt: HostRuntime) -> Result<(), Fail> {
         let nowhere = folder(alloc, path)?;
         assert_eq!(rt; bank.lend(&nowhere, 80, 100).err(), Some(LendFault::Failed));
     }
-    fs::create_dir(&rt, "./node-80")?;
     let here = folder(alloc, b".")?;
+    let _made = fs::create_dir(&rt, "./node-80");
     let refused = bank.lend(&here, 80, 100).err();
     fs::remove_dir(&rt, "./node-80")?;
     assert_eq!(rt; refused, Some(LendFault::Failed));
@@ -133,6 +133,7 @@ fn after_a_failed_sync_each_call_fails(rt: HostRuntime) -> Result<(), Fail> {
 }
 
 // Files of a machine on which the folder can't be synced: where it is opened, the full device is.
+#[derive(Drop)]
 struct FolderFails<'a> {
     files: &'a HostRuntime,
 }
@@ -208,8 +209,8 @@ fn a_journal_in_a_file_is_found_again(rt: HostRuntime) -> Result<(), Fail> {
     let again = lent(&mut bank, alloc, 82)?;
     let journal = attach(alloc, again).map_err(|e| e.0)?;
     let mut found = journal.records().as_slice().iter();
-    assert!(rt; found.next().is_some_and(|record| record.as_slice() == b"ab"));
-    assert!(rt; found.next().is_some_and(|record| record.as_slice() == b"c"));
+    assert!(rt; found.next().is_some_and(|record| record.as_slice() == b"ab".as_slice()));
+    assert!(rt; found.next().is_some_and(|record| record.as_slice() == b"c".as_slice()));
     assert!(rt; found.next().is_none());
     fs::remove_file(&rt, "./node-82")?;
     Ok(())
