@@ -107,9 +107,18 @@ run_tests() {
     (cd "$work/crates/afs_disk_tests" && rt try --test) > "$work/log" 2>&1 || true
 }
 
-# Where the log tells that the edit is no program, or that a proof by hand names what is no longer there, it says nothing.
+# Where the edit is no program the log says nothing. Nor does it where a proof by hand names what is no longer there, unless
+# a clause is left open beside those that are proved by hand.
 says_nothing() {
-    grep -q 'error\[' "$work/log" || grep -qE '(Answers|Invariants)\.antt:.*(has no|cannot be named|unknown)' "$work/log"
+    if grep -q 'error\[' "$work/log"; then return 0; fi
+    grep -qE '(Answers|Invariants)\.antt:.*(has no|that can be named)' "$work/log" || return 1
+    : > "$work/answered"
+    for function in $2; do
+        answers=$work/crates/$1/proofs/$(echo "$function" | sed 's/::/\//g')/Answers.antt
+        if [ -f "$answers" ]; then sed -n 's/^pub \([^ ]*\) :.*/\1/p' "$answers" | sed 's/.*clause-//' >> "$work/answered"; fi
+    done
+    grep -o 'it is not proved that .*(`[^`]*`)' "$work/log" | sed 's/.*(`\([^`]*\)`)/\1/; s/.*clause-//' | sort -u > "$work/open"
+    ! grep -qvxFf "$work/answered" "$work/open"
 }
 
 judge() {
@@ -119,7 +128,7 @@ judge() {
     crate=${crate%%/*}
     if [ -s "$work/refused" ]; then
         check "$crate" "$(cat "$work/refused")"
-        if says_nothing; then
+        if says_nothing "$crate" "$(cat "$work/refused")"; then
             fail "$name: refused for another reason than its contract" "$work/log"
             return
         fi

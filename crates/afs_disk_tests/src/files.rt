@@ -73,7 +73,10 @@ fn fewer_bytes_than_the_length_are_a_fault(rt: HostRuntime) -> Result<(), Fail> 
     let mut disk = lent(&mut bank, alloc, 78)?;
     cut_to(&mut disk, 0)?;
     write_after(&mut disk, 0, b"abcdef")?;
-    File::options().write(true).open(&rt, "./node-78")?.set_len(2)?;
+    File::options()
+        .write(true)
+        .open(&rt, "./node-78")?
+        .set_len(2)?;
     let mut bytes = [0u8; 6];
     disk.room(0, 0)?;
     assert_eq!(rt; disk.read(0, &mut bytes), Err(Failed));
@@ -209,8 +212,16 @@ fn a_journal_in_a_file_is_found_again(rt: HostRuntime) -> Result<(), Fail> {
     let again = lent(&mut bank, alloc, 82)?;
     let journal = attach(alloc, again).map_err(|e| e.0)?;
     let mut found = journal.records().as_slice().iter();
-    assert!(rt; found.next().is_some_and(|record| record.as_slice() == b"ab".as_slice()));
-    assert!(rt; found.next().is_some_and(|record| record.as_slice() == b"c".as_slice()));
+    assert!(rt;
+        found
+            .next()
+            .is_some_and(|record| record.as_slice() == b"ab".as_slice())
+    );
+    assert!(rt;
+        found
+            .next()
+            .is_some_and(|record| record.as_slice() == b"c".as_slice())
+    );
     assert!(rt; found.next().is_none());
     fs::remove_file(&rt, "./node-82")?;
     Ok(())

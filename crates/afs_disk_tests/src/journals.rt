@@ -37,7 +37,10 @@ fn a_full_journal_tells_the_two_lengths(rt: HostRuntime) -> Result<(), Fail> {
     let mut journal = attach(alloc, empty(alloc, 100)).map_err(|e| e.0)?;
     assert_eq!(rt; journal.append(&[7; 90]), Ok(1));
     assert_eq!(rt; journal.append(&[8]), Err(JournalFault::Full(100, 100)));
-    assert_eq!(rt; (journal.len(), journal.capacity(), journal.count()), (100, 100, 1));
+    assert_eq!(rt;
+        (journal.len(), journal.capacity(), journal.count()),
+        (100, 100, 1)
+    );
     Ok(())
 }
 

@@ -18,8 +18,8 @@ pub returns-clause-picks : goal.returns-clause-picks
 returns-clause-picks c =
     let inside : c.args.at ≤ length c.self.inside.medium.now = omega (arith, c.requires.inside, ap (λ (m : Memory). length m.held.now) c.self.view_is) in
     λ pick.
-        image_written c.self.inside.medium c.write.new.self c.args.at c.args.bytes.now inside c.write.ensures.kept c.write.ensures.now c.write.ensures.unsynced pick
-        ∙ ap (λ (m : Memory). written_by pick c.args.at c.args.bytes.now (image pick m.held)) c.self.view_is
+    image_written c.self.inside.medium c.write.new.self c.args.at c.args.bytes.now inside c.write.ensures.kept c.write.ensures.now c.write.ensures.unsynced pick
+    ∙ ap (λ (m : Memory). written_by pick c.args.at c.args.bytes.now (image pick m.held)) c.self.view_is
 
 pub returns-clause-time : goal.returns-clause-time
 returns-clause-time c = passes c.args.self.now.past _ c.args.self.now.held c.write.new.self (c.remember.ensures ∙ ap (λ (m : Memory). m.past ++ m.held ∷ []) c.self.view_is)
