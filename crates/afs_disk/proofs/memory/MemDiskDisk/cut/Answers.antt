@@ -1,4 +1,4 @@
-use Rattle.std.proofs.Common.{◌++◌, ◌∷◌, [], List, ℕ, ◌∙◌, ap, subst}
+use Rattle.std.proofs.Common.{◌++◌, ◌∷◌, [], ◌∙◌, ap, subst}
 use Rattle.afs_model.specs.Disk.{ComesBy, CutShort, cut_by}
 use Rattle.afs_disk.specs.Images.{Held, MayLeave, image}
 use Rattle.afs_disk.specs.Past.{Memory}

@@ -1,4 +1,4 @@
-use Rattle.std.proofs.Common.{◌≤◌, ◌++◌, ◌∷◌, [], List, ℕ, length, arith, ◌∙◌, ap, subst}
+use Rattle.std.proofs.Common.{◌≤◌, ◌++◌, ◌∷◌, [], length, arith, ◌∙◌, ap, subst}
 use Rattle.afs_model.specs.Disk.{ComesBy, Torn, written_by}
 use Rattle.afs_disk.specs.Images.{Held, MayLeave, image}
 use Rattle.afs_disk.specs.Past.{Memory}
