@@ -1,5 +1,5 @@
 // A disk over a file: the edge of what is proved.
-ghost use Rattle.std.specs.Prelude.{◌≡◌, ◌<◌, ◌≤◌, ◌+◌, ◌-◌, ◌↔◌, List, ℕ, None, length, min, drop, IsTrue, IfOk, IsErr, OnOk, OnErr};
+ghost use Rattle.std.specs.Prelude.{◌≡◌, ◌<◌, ◌≤◌, ◌+◌, ◌-◌, ◌↔◌, None, length, min, drop, IsTrue, IfOk, IsErr, OnOk, OnErr};
 ghost use Rattle.std.proofs.Common.{refl};
 ghost use Rattle.afs_disk.specs.Files.{filed_room, untold};
 ghost use Rattle.afs_disk.specs.Fuses.{last_count};

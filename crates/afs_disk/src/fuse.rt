@@ -1,5 +1,5 @@
 // A disk that can be set to stop or to fail at a device call.
-ghost use Rattle.std.specs.Prelude.{◌≡◌, ◌<◌, ◌≤◌, ◌+◌, ◌-◌, ◌↔◌, ℕ, None, min, IsTrue, IsOk, OnOk, OnErr};
+ghost use Rattle.std.specs.Prelude.{◌≡◌, ◌<◌, ◌+◌, ◌-◌, ◌↔◌, None, min, IsTrue, OnOk, OnErr};
 ghost use Rattle.afs_disk.specs.Fuses.{armed, failing, fused_room, last_count};
 ghost use Rattle.afs_model.specs.Disk.{IsBeyond, Trips};
 
