@@ -1,6 +1,6 @@
 -- Bytes that are painted over, and what a crash in a write or a cut makes of each image.
 use Rattle.std.proofs.Common.{◌≡◌, ◌≤◌, ◌⊎◌, inl, inr, ⊎_elim, ℕ, zero, suc, ◌+◌, ◌-◌, max, List, [], ◌∷◌, ◌++◌, length, take, drop, replicate, refl, sym, ◌∙◌, ap, arith, length-append, length-drop}
-use Rattle.std.proofs.lemmas.List.{length-take, take_all, take_at, drop_at, drop-drop, length-take-le, take_min}
+use Rattle.std.proofs.lemmas.List.{length-take, take_all, take_at, drop_at, drop-drop, length-take-le, take_min, length-replicate}
 use Rattle.afs_model.specs.Disk.{overwritten, Torn, CutShort}
 use Rattle.afs_disk.specs.Images.{paint, painted}
 
@@ -103,3 +103,16 @@ cut_same n x = record { no_shorter = omega arith; front = take_all (length x) x 
 
 pub cut_front : (n : ℕ) (x : List ℕ) → CutShort n x (take n x)
 cut_front n x = record { no_shorter = omega (arith, length-take n x); front = ap (λ (k : ℕ). take k x) (length-take n x) ∙ take_min n x }
+
+-- bytes that are painted over, and the range of a write painted too, are those with as many of that value written over
+pub painted-overwritten : (v at : ℕ) (bytes : List ℕ) (rs : List (ℕ × ℕ)) (old : List ℕ) → at ≤ length old → paint v at (length bytes) (painted v rs (overwritten at bytes old)) ≡ overwritten at (replicate (length bytes) v) (painted v rs old)
+painted-overwritten v at bytes rs old inside =
+    let n = length bytes in
+    let x = painted v rs old in
+    let y = painted v rs (overwritten at bytes old) in
+    let torn = torn_painted at n v rs old (overwritten at bytes old) (torn_written at bytes old inside) in
+    let few : at + n ≤ length y = omega (arith, length-painted v rs (overwritten at bytes old), length-overwritten at bytes old inside) in
+    paint_mid v at n n y few (omega arith) (inl refl)
+    ∙ ap (λ (l : List ℕ). l ++ (replicate n v ++ drop n (drop at y))) torn.before
+    ∙ ap (λ (l : List ℕ). take at x ++ (replicate n v ++ l)) (drop-drop n at y ∙ torn.after)
+    ∙ ap (λ (k : ℕ). take at x ++ (replicate n v ++ drop (at + k) x)) (sym (length-replicate n v))

@@ -1,9 +1,9 @@
 -- How what a crash may leave of a disk in memory goes on.
-use Rattle.std.proofs.Common.{◌≡◌, ◌≤◌, ◌⊎◌, inl, inr, ⊎_elim, ℕ, zero, suc, ◌==◌, Bool, true, false, if◌then◌else◌, List, [], ◌∷◌, ◌++◌, length, take, drop, refl, sym, ◌∙◌, ap, subst, arith, length-append}
-use Rattle.afs_model.specs.Disk.{overwritten, Torn, CutShort, ComesBy, LeavesJust, Passes}
+use Rattle.std.proofs.Common.{◌≡◌, ◌≤◌, ◌⊎◌, inl, inr, ⊎_elim, ℕ, zero, suc, ◌==◌, Bool, true, false, if◌then◌else◌, List, [], ◌∷◌, ◌++◌, length, take, drop, replicate, refl, sym, ◌∙◌, ap, subst, arith, length-append}
+use Rattle.afs_model.specs.Disk.{overwritten, written_by, cut_by, Torn, CutShort, ComesBy, LeavesJust, Passes}
 use Rattle.afs_disk.specs.Images.{Held, MayLeave, image, paint, painted}
 use Rattle.afs_disk.specs.Past.{HadLeft, Since}
-use Rattle.afs_disk.proofs.Painting.{torn_painted, torn_here, torn_same, torn_written, painted-push, painted-take, cut_same, cut_front}
+use Rattle.afs_disk.proofs.Painting.{torn_painted, torn_here, torn_same, torn_written, painted-push, painted-take, painted-overwritten, cut_same, cut_front}
 
 keeps : (past : List Held) (held : Held) (c : List ℕ) → HadLeft past c → HadLeft (past ++ held ∷ []) c
 keeps [] held c had = absurd had
@@ -94,3 +94,32 @@ just_kept held bytes kept now none c left = left.1 ∙ all (left.0 == 0) (left.0
     all false true d = now
     all false false true = ap (λ (l : List (ℕ × ℕ)). painted 0 l held.now) none ∙ now
     all false false false = ap (λ (l : List (ℕ × ℕ)). painted 255 l held.now) none ∙ now
+
+-- what a pick leaves after a write, a cut and a sync
+module _ (old new : Held) (at : ℕ) (bytes : List ℕ) (inside : at ≤ length old.now) (kept : new.kept ≡ old.kept) (now : new.now ≡ overwritten at bytes old.now) (unsynced : new.unsynced ≡ old.unsynced ++ (at, length bytes) ∷ []) where
+  painted_written : (v : ℕ) → painted v new.unsynced new.now ≡ overwritten at (replicate (length bytes) v) (painted v old.unsynced old.now)
+  painted_written v =
+      ap (λ (l : List (ℕ × ℕ)). painted v l new.now) unsynced ∙ ap (painted v (old.unsynced ++ (at, length bytes) ∷ [])) now
+      ∙ painted-push v old.unsynced (at, length bytes) (overwritten at bytes old.now) ∙ painted-overwritten v at bytes old.unsynced old.now inside
+
+  by_test : (a b d : Bool) → chosen a b d new ≡ (if a then chosen a b d old else overwritten at (if b then bytes else (if d then replicate (length bytes) 0 else replicate (length bytes) 255)) (chosen a b d old))
+  by_test true b d = kept
+  by_test false true d = now
+  by_test false false true = painted_written 0
+  by_test false false false = painted_written 255
+
+  pub image_written : (pick : ℕ) → image pick new ≡ written_by pick at bytes (image pick old)
+  image_written pick = by_test (pick == 0) (pick == 1) (pick == 2)
+
+module _ (old new : Held) (len : ℕ) (kept : new.kept ≡ old.kept) (now : new.now ≡ take len old.now) (unsynced : new.unsynced ≡ old.unsynced) where
+  painted_cut : (v : ℕ) → painted v new.unsynced new.now ≡ take len (painted v old.unsynced old.now)
+  painted_cut v = ap (λ (l : List (ℕ × ℕ)). painted v l new.now) unsynced ∙ ap (painted v old.unsynced) now ∙ painted-take len v old.unsynced old.now
+
+  cut_by_test : (a b d : Bool) → chosen a b d new ≡ (if a then chosen a b d old else take len (chosen a b d old))
+  cut_by_test true b d = kept
+  cut_by_test false true d = now
+  cut_by_test false false true = painted_cut 0
+  cut_by_test false false false = painted_cut 255
+
+  pub image_cut : (pick : ℕ) → image pick new ≡ cut_by pick len (image pick old)
+  image_cut pick = cut_by_test (pick == 0) (pick == 1) (pick == 2)

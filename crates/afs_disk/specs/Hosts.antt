@@ -1,12 +1,12 @@
 -- A disk in memory or in a file.
 use Rattle.std.specs.Prelude.{◌≡◌, ◌≤◌, ℕ, List, length, Option, Some, None}
-use Rattle.std.proofs.Common.{inl}
+use Rattle.std.proofs.Common.{inl, refl}
 use Rattle.afs_model.specs.Disk.{Room, Setting}
 use Rattle.afs_disk.specs.declared.host.HostDisk.{HostDisk}
 use Rattle.afs_disk.specs.declared.host.HostDisk.TheVariants.{Memory, File}
 use Rattle.afs_disk.specs.Files.{filed_room, untold}
-use Rattle.afs_disk.specs.Images.{MayLeave}
-use Rattle.afs_disk.specs.Past.{Since, measured, memory_room, only_now, shown}
+use Rattle.afs_disk.specs.Images.{MayLeave, image}
+use Rattle.afs_disk.specs.Past.{Since, measured, memory_room, only_now, picked_leaves}
 
 abbrev pub host_seen : HostDisk → Option (List ℕ)
 host_seen (Memory m) = Some m.held.now
@@ -15,6 +15,10 @@ host_seen (File f) = None
 abbrev pub host_size : HostDisk → ℕ
 host_size (Memory m) = length m.held.now
 host_size (File f) = f.size
+
+abbrev pub host_left_by : HostDisk → ℕ → Option (List ℕ)
+host_left_by (Memory m) pick = Some (image pick m.held)
+host_left_by (File f) pick = None
 
 abbrev pub host_leaves : HostDisk → List ℕ → Type 0
 host_leaves (Memory m) c = MayLeave m.held c
@@ -55,9 +59,13 @@ pub host_just : (disk : HostDisk) (c : List ℕ) → host_since disk (host_momen
 host_just (Memory m) c left = only_now m.past m.held c left
 host_just (File f) c left = tt
 
-pub host_shows : (disk : HostDisk) (bytes : List ℕ) → host_seen disk ≡ Some bytes → host_leaves disk bytes
-host_shows (Memory m) bytes told = (1, shown m.held.now bytes told)
-host_shows (File f) bytes told = tt
+pub host_picked : (disk : HostDisk) (pick : ℕ) (bytes : List ℕ) → host_left_by disk pick ≡ Some bytes → host_leaves disk bytes
+host_picked (Memory m) pick bytes told = picked_leaves m.held pick bytes told
+host_picked (File f) pick bytes told = tt
+
+pub host_shows : (disk : HostDisk) → host_left_by disk 1 ≡ host_seen disk
+host_shows (Memory m) = refl
+host_shows (File f) = refl
 
 pub host_measures : (disk : HostDisk) (bytes : List ℕ) → host_seen disk ≡ Some bytes → length bytes ≡ host_size disk
 host_measures (Memory m) bytes told = measured m.held.now bytes told

@@ -4,5 +4,6 @@ pub mod Fuses
 pub mod Hosts
 pub mod Images
 pub mod Lending
+pub mod Moments
 pub mod Past
 pub mod Spans

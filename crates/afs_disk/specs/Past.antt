@@ -1,12 +1,12 @@
 -- A disk in memory, with all that a crash might have left of it since it was made.
-use Rattle.std.specs.Prelude.{◌≡◌, ◌⊎◌, ℕ, ◌-◌, min, Some, List, [], ◌∷◌, length, drop}
+use Rattle.std.specs.Prelude.{◌≡◌, ◌≤◌, ◌⊎◌, ◌↔◌, ℕ, ◌+◌, ◌-◌, min, Some, List, [], ◌∷◌, length, drop, slice_get, Result, IsErr, OnOk, OnErr}
 use Rattle.std.proofs.Common.{inl, inr, ap}
 use Rattle.afs_model.specs.Disk.{Room}
 use Rattle.afs_disk.specs.Fuses.{last_count}
-use Rattle.afs_disk.specs.Images.{Held, MayLeave}
+use Rattle.afs_disk.specs.Images.{Held, MayLeave, image}
 
--- What is held now and what was held before each device call that changed something, the capacity, which device calls are
--- to fail (call n where byte n - 1 is 1), how many came and how many failed, and for how many more the past has room.
+-- What is held now and what was held before each device call and crash that changed something, the capacity, which device
+-- calls are to fail (call n where byte n - 1 is 1), how many came and how many failed.
 pub record Memory : Type 0 where
   pub held : Held
   pub past : List Held
@@ -14,7 +14,6 @@ pub record Memory : Type 0 where
   pub failing : List ℕ
   pub calls : ℕ
   pub faults : ℕ
-  pub spare : ℕ
 
 -- a crash in one of these states might have left this
 abbrev pub HadLeft : List Held → List ℕ → Type 0
@@ -24,8 +23,17 @@ HadLeft (held ∷ past) c = MayLeave held c ⊎ HadLeft past c
 abbrev pub Since : List Held → Held → ℕ → List ℕ → Type 0
 Since past held t c = MayLeave held c ⊎ HadLeft (drop t past) c
 
+-- The device call fails exactly where the plan says so, and then changes nothing but the counts. The plan stays.
+pub record Planned {T E : Type 0} (old new : Memory) (result : Result T E) : Type 0 where
+  pub fails : IsErr result ↔ (slice_get old.failing old.calls ≡ Some 1)
+  pub stays : (new.failing ≡ old.failing) × (new.limit ≡ old.limit)
+  pub counted : new.calls ≡ old.calls + 1
+  pub quiet : OnOk result (new.faults ≡ old.faults)
+  pub never_falls : old.faults ≤ new.faults
+  pub untouched : OnErr result ((new.held ≡ old.held) × (new.past ≡ old.past))
+
 abbrev pub memory_room : Memory → Room
-memory_room m = record { calls = min m.held.room.calls (min m.spare (last_count - m.calls)); bytes = m.held.room.bytes; end = m.held.room.end }
+memory_room m = record { calls = min m.held.room.calls (last_count - m.calls); bytes = m.held.room.bytes; end = m.held.room.end }
 
 none_left : (past : List Held) (c : List ℕ) → HadLeft (drop (length past) past) c → ⊥
 none_left [] c had = had
@@ -36,8 +44,12 @@ pub only_now : (past : List Held) (held : Held) (c : List ℕ) → Since past he
 only_now past held c (inl now) = now
 only_now past held c (inr had) = absurd (none_left past c had)
 
-pub shown : (now bytes : List ℕ) → Some now ≡ Some bytes → bytes ≡ now
+shown : (now bytes : List ℕ) → Some now ≡ Some bytes → bytes ≡ now
 shown now bytes told = cc
+
+-- what a pick leaves is one of the images
+pub picked_leaves : (held : Held) (pick : ℕ) (bytes : List ℕ) → Some (image pick held) ≡ Some bytes → MayLeave held bytes
+picked_leaves held pick bytes told = (pick, shown (image pick held) bytes told)
 
 pub measured : (now bytes : List ℕ) → Some now ≡ Some bytes → length bytes ≡ length now
 measured now bytes told = ap length (shown now bytes told)

@@ -1,5 +1,6 @@
 // A disk over a file: the edge of what is proved.
-ghost use Rattle.std.specs.Prelude.{◌≡◌, ◌<◌, ◌≤◌, ◌+◌, ◌-◌, List, ℕ, None, length, min, take, drop, IfOk, IsOk, IsErr, OnErr};
+ghost use Rattle.std.specs.Prelude.{◌≡◌, ◌<◌, ◌≤◌, ◌+◌, ◌-◌, ◌↔◌, None, length, min, drop, IsTrue, IfOk, IsErr, OnOk, OnErr};
+ghost use Rattle.std.proofs.Common.{refl};
 ghost use Rattle.afs_disk.specs.Files.{filed_room, untold};
 ghost use Rattle.afs_disk.specs.Fuses.{last_count};
 ghost use Rattle.afs_model.specs.Disk.{Rose};
@@ -17,6 +18,9 @@ const ROOM: u64 = 8;
 
 /// A disk over one file. What a file holds no contract can say, so this disk tells nothing but its length and its counts.
 /// It has no crash of its own: a crash leaves what a read gives.
+///
+/// After a sync that failed it fails at each call, until the file is opened anew: a system may forget both the error and
+/// what it couldn't write, and a later sync would then succeed over bytes that are lost.
 #[derive(Drop)]
 pub struct FileDisk {
     file: File,
@@ -24,6 +28,7 @@ pub struct FileDisk {
     capacity: u64,
     calls: u64,
     faults: u64,
+    is_lost: bool,
 }
 
 impl Model for FileDisk {
@@ -39,6 +44,23 @@ fn count(faults: &mut u64)
     ensures { Rose faults.old faults.new × (faults.old ≤ faults.new) }
 {
     *faults = faults.saturating_add(1);
+}
+
+// Counts a device call, and says whether it may be made.
+fn admits(calls: &mut u64, is_lost: bool, faults: &mut u64) -> Result<(), Failed>
+    requires { calls.old < last_count }
+    ensures counted { calls.new ≡ calls.old + 1 }
+    ensures fails { IsErr result ↔ IsTrue is_lost }
+    ensures ok { OnOk result (faults.new ≡ faults.old) }
+    ensures err { OnErr result (Rose faults.old faults.new) }
+    ensures never_falls { faults.old ≤ faults.new }
+{
+    *calls += 1;
+    if is_lost {
+        count(faults);
+        return Err(Failed);
+    }
+    Ok(())
 }
 
 // How many bytes a read of so many gives at this place.
@@ -85,6 +107,7 @@ impl FileDisk {
                 capacity,
                 calls: 0,
                 faults: 0,
+                is_lost: false,
             }),
             Err(_) => Err(Failed),
         }
@@ -95,6 +118,8 @@ impl Disk for FileDisk {
     ghost seen = { λ f. None };
 
     ghost size = { λ f. f.size };
+
+    ghost left_by = { λ f pick. None };
 
     ghost may_leave = { λ f c. Unit {0} };
 
@@ -108,6 +133,8 @@ impl Disk for FileDisk {
 
     ghost calls = { λ f. f.calls };
 
+    ghost made = { λ f. f.calls };
+
     ghost setting = { λ f. record { stop = None; fail = None } };
 
     ghost limit = { λ f. f.limit };
@@ -118,7 +145,9 @@ impl Disk for FileDisk {
 
     ghost just_now = { λ f c left. tt };
 
-    ghost shows = { λ f bytes told. tt };
+    ghost leaves = { λ f pick bytes told. tt };
+
+    ghost shows = { λ f. refl };
 
     ghost measures = { λ f bytes told. untold bytes (length bytes ≡ f.size) told };
 
@@ -131,7 +160,7 @@ impl Disk for FileDisk {
     }
 
     fn read(&mut self, at: u64, buf: &mut [u8]) -> Result<usize, Failed> {
-        self.calls += 1;
+        admits(&mut self.calls, self.is_lost, &mut self.faults)?;
         let front = reach(self.len, at, buf.len());
         match read_front(&self.file, at, buf, front) {
             Ok(()) => Ok(front),
@@ -143,7 +172,7 @@ impl Disk for FileDisk {
     }
 
     fn write_at(&mut self, at: u64, bytes: &[u8]) -> Result<(), Failed> {
-        self.calls += 1;
+        admits(&mut self.calls, self.is_lost, &mut self.faults)?;
         match self.file.write_all_at(bytes, at) {
             Ok(()) => {
                 self.len = self.len.max(at + bytes.len() as u64);
@@ -158,7 +187,7 @@ impl Disk for FileDisk {
     }
 
     fn cut(&mut self, len: u64) -> Result<(), Failed> {
-        self.calls += 1;
+        admits(&mut self.calls, self.is_lost, &mut self.faults)?;
         match self.file.set_len(len) {
             Ok(()) => {
                 self.len = len;
@@ -180,10 +209,11 @@ impl Disk for FileDisk {
     }
 
     fn sync(&mut self) -> Result<(), Failed> {
-        self.calls += 1;
+        admits(&mut self.calls, self.is_lost, &mut self.faults)?;
         match self.file.sync_all() {
             Ok(()) => Ok(()),
             Err(_) => {
+                self.is_lost = true;
                 count(&mut self.faults);
                 Err(Failed)
             }

@@ -1,5 +1,5 @@
 // A disk that can be set to stop or to fail at a device call.
-ghost use Rattle.std.specs.Prelude.{◌≡◌, ◌<◌, ◌≤◌, ◌+◌, ◌-◌, ◌↔◌, ℕ, None, min, IsTrue, IsOk, OnOk, OnErr};
+ghost use Rattle.std.specs.Prelude.{◌≡◌, ◌<◌, ◌+◌, ◌-◌, ◌↔◌, None, min, IsTrue, OnOk, OnErr};
 ghost use Rattle.afs_disk.specs.Fuses.{armed, failing, fused_room, last_count};
 ghost use Rattle.afs_model.specs.Disk.{IsBeyond, Trips};
 
@@ -114,6 +114,8 @@ impl<D: Disk> Disk for Fuse<D> {
 
     ghost size = { λ f. D.size f.disk };
 
+    ghost left_by = { λ f pick. D.left_by f.disk pick };
+
     ghost may_leave = { λ f c. D.may_leave f.disk c };
 
     ghost moment = { λ f. D.moment f.disk };
@@ -126,6 +128,8 @@ impl<D: Disk> Disk for Fuse<D> {
 
     ghost calls = { λ f. f.calls };
 
+    ghost made = { λ f. D.calls f.disk };
+
     ghost setting = { λ f. record { stop = f.stop; fail = f.fail } };
 
     ghost limit = { λ f. D.limit f.disk };
@@ -136,7 +140,9 @@ impl<D: Disk> Disk for Fuse<D> {
 
     ghost just_now = { λ f c left. D.just_now f.disk c left };
 
-    ghost shows = { λ f bytes told. D.shows f.disk bytes told };
+    ghost leaves = { λ f pick bytes told. D.leaves f.disk pick bytes told };
+
+    ghost shows = { λ f. D.shows f.disk };
 
     ghost measures = { λ f bytes told. D.measures f.disk bytes told };
 

@@ -1,7 +1,7 @@
 // The program's disks: in memory, or files of a folder.
 ghost use Rattle.std.specs.Prelude.{◌≡◌, ◌≤◌, None, IfOk};
 ghost use Rattle.afs_model.specs.Disk.{Rose};
-ghost use Rattle.afs_disk.specs.Hosts.{host_calls, host_counts, host_faults, host_just, host_leaves, host_limit, host_measures, host_moment, host_seen, host_setting, host_shows, host_since, host_size, host_space};
+ghost use Rattle.afs_disk.specs.Hosts.{host_calls, host_counts, host_faults, host_just, host_leaves, host_left_by, host_limit, host_measures, host_moment, host_picked, host_seen, host_setting, host_shows, host_since, host_size, host_space};
 
 use crate::bank::{Bank, LendFault, Place};
 use crate::disk::Disk;
@@ -26,6 +26,8 @@ impl Disk for HostDisk {
 
     ghost size = { host_size };
 
+    ghost left_by = { host_left_by };
+
     ghost may_leave = { host_leaves };
 
     ghost moment = { host_moment };
@@ -38,6 +40,8 @@ impl Disk for HostDisk {
 
     ghost calls = { host_calls };
 
+    ghost made = { host_calls };
+
     ghost setting = { host_setting };
 
     ghost limit = { host_limit };
@@ -47,6 +51,8 @@ impl Disk for HostDisk {
     ghost counts_now = { host_counts };
 
     ghost just_now = { host_just };
+
+    ghost leaves = { host_picked };
 
     ghost shows = { host_shows };
 
@@ -109,7 +115,8 @@ impl Disk for HostDisk {
     }
 }
 
-/// Lends the program's disks. It tells neither its lends nor what it was given back.
+/// Lends the program's disks: node n in a folder is the file `node-n` there. It lends none that is in use, here or in
+/// another process. It tells neither its lends nor what it was given back.
 #[derive(Drop)]
 pub struct HostBank<'a, R: Files<File = File>> {
     files: &'a R,
@@ -121,13 +128,9 @@ pub struct HostBank<'a, R: Files<File = File>> {
 fn opened<R: Files<File = File>>(
     files: &R,
     alloc: Global,
-    folder: &[u8],
+    folder: &str,
     node: u32,
 ) -> Result<File, LendFault> {
-    let folder = match str::from_utf8(folder) {
-        Ok(folder) => folder,
-        Err(_) => return Err(LendFault::Failed),
-    };
     let path = format!(in alloc; "{folder}/node-{node}")?;
     match File::options()
         .read(true)
@@ -137,6 +140,26 @@ fn opened<R: Files<File = File>>(
     {
         Ok(file) => Ok(file),
         Err(_) => Err(LendFault::Failed),
+    }
+}
+
+// No other open of the file has it, here or in another process, until it is closed.
+fn claimed(file: File) -> Result<File, Failed> {
+    match file.try_lock() {
+        Ok(()) => Ok(file),
+        Err(_) => Err(Failed),
+    }
+}
+
+// The names in the folder are on its disk: a file that was just made would else be lost with its bytes.
+fn sync_names<R: Files<File = File>>(files: &R, folder: &str) -> Result<(), Failed> {
+    let names = match File::open(files, folder) {
+        Ok(names) => names,
+        Err(_) => return Err(Failed),
+    };
+    match names.sync_all() {
+        Ok(()) => Ok(()),
+        Err(_) => Err(Failed),
     }
 }
 
@@ -150,11 +173,13 @@ fn disk_in<R: Files<File = File>>(
 ) -> Result<FileDisk, LendFault>
     ensures { IfOk result (λ disk. disk.limit ≡ capacity) }
 {
-    let file = opened(files, alloc, folder, node)?;
-    match FileDisk::over(file, capacity) {
-        Ok(disk) => Ok(disk),
-        Err(_) => Err(LendFault::Failed),
-    }
+    let folder = match str::from_utf8(folder) {
+        Ok(folder) => folder,
+        Err(_) => return Err(LendFault::Failed),
+    };
+    let file = claimed(opened(files, alloc, folder, node)?)?;
+    sync_names(files, folder)?;
+    Ok(FileDisk::over(file, capacity)?)
 }
 
 // Counts a fault.

@@ -10,6 +10,7 @@ pub mod host;
 mod medium;
 pub mod memory;
 pub mod memory_bank;
+mod past;
 
 pub use bank::{Bank, Lend, LendFault, Place};
 pub use disk::Disk;
@@ -18,6 +19,3 @@ pub use fuse::Fuse;
 pub use host::{HostBank, HostDisk};
 pub use memory::MemDisk;
 pub use memory_bank::{Given, MemBank};
-
-#[cfg(test)]
-mod tests;

@@ -1,7 +1,7 @@
 // Bytes in memory, which keep what they wrote over until the next sync.
-ghost use Rattle.std.specs.Prelude.{◌≡◌, ◌≤◌, ◌<◌, ◌+◌, ◌-◌, ◌++◌, [], ◌∷◌, length, take, drop, min, max, OnOk, IsOk};
+ghost use Rattle.std.specs.Prelude.{◌≡◌, ◌≤◌, ◌<◌, ◌+◌, ◌-◌, ◌++◌, [], ◌∷◌, length, take, OnOk, IsOk};
 ghost use Rattle.std.specs.Vec.{vec_capacity};
-ghost use Rattle.afs_model.specs.Disk.{overwritten, Room, Holds, Takes};
+ghost use Rattle.afs_model.specs.Disk.{overwritten, Holds, NoSmaller, Takes};
 ghost use Rattle.afs_disk.specs.Images.{image, paint, painted};
 ghost use Rattle.afs_disk.specs.Spans.{Fit, ranges, unwound};
 
@@ -146,6 +146,7 @@ impl Medium {
     pub(crate) fn reserve(&mut self, end: usize, bytes: usize) -> Mem<()>
         ensures ok { OnOk result (Holds 8 bytes end self.new.room) }
         ensures succeeds { Holds 8 bytes end self.old.room → IsOk result }
+        ensures grows { NoSmaller self.old.room self.new.room }
         ensures same { (self.new.kept ≡ self.old.kept) × (self.new.now ≡ self.old.now) × (self.new.unsynced ≡ self.old.unsynced) }
     {
         let size = self.bytes.len();

@@ -1,33 +1,32 @@
 // A disk in memory.
-ghost use Rattle.std.specs.Prelude.{◌≡◌, ◌<◌, ◌≤◌, ◌+◌, ◌-◌, ◌++◌, ◌∷◌, [], ◌↔◌, List, ℕ, Some, None, length, map, min, take, drop, slice_get, IsOk, IsErr, IfSome, IsSome, OnOk, OnErr};
-ghost use Rattle.std.specs.Vec.{vec_capacity};
+ghost use Rattle.std.specs.Prelude.{◌≡◌, ◌<◌, ◌≤◌, ◌+◌, ◌-◌, [], ◌↔◌, List, ℕ, Some, None, length, min, max, take, drop, slice_get, IsOk, IsErr, IfOk, OnOk, OnErr};
 ghost use Rattle.afs_disk.specs.Fuses.{last_count};
 ghost use Rattle.afs_disk.specs.Images.{MayLeave, image};
-ghost use Rattle.afs_disk.specs.Past.{Since, measured, memory_room, only_now, shown};
-ghost use Rattle.std.proofs.Common.{inl};
-ghost use Rattle.afs_model.specs.Disk.{LeavesJust, Rose};
+ghost use Rattle.afs_disk.specs.Past.{Planned, Since, measured, memory_room, only_now, picked_leaves};
+ghost use Rattle.std.proofs.Common.{inl, refl};
+ghost use Rattle.afs_model.specs.Disk.{overwritten, written_by, cut_by, ComesBy, CutShort, Holds, NoSmaller, Passes, Ran, Rose, Takes, Torn};
 
 use crate::disk::Disk;
 use crate::medium::Medium;
+use crate::past::Past;
 use afs_num::devices::Failed;
 use afs_num::sequences::Octets;
 use afs_num::types::Mem;
 use std::alloc::{AllocError, Global};
 use std::marker::Model;
-use std::snapshot::Snapshot;
 
 // For how many device calls `room` makes room.
-const ROOM: usize = 8;
+const ROOM: u64 = 8;
 
 // What marks a device call that is to fail.
 const FAILS: u8 = 1;
 
-/// A disk in memory. It begins empty, and grows by `room`. It knows what a crash might have left at each moment since it
-/// was made; the past takes no memory.
+/// A disk in memory. It begins empty, and grows by `room`. Proofs know what a crash might have left of it at each moment
+/// since it was made; that takes no memory.
 #[derive(Drop)]
 pub struct MemDisk {
     medium: Medium,
-    past: Vec<Snapshot<Medium>>,
+    past: Past,
     capacity: u64,
     failing: Octets,
     calls: u64,
@@ -35,20 +34,18 @@ pub struct MemDisk {
 }
 
 impl Model for MemDisk {
-    ghost use Rattle.std.specs.Prelude.{◌-◌, length, map};
-    ghost use Rattle.std.specs.Vec.{vec_capacity};
+    ghost use Rattle.afs_disk.specs.Moments.{moments};
     ghost use Rattle.afs_disk.specs.Past.{Memory};
 
     ghost Value = { Memory };
 
     ghost view = { λ m. record {
       held = m.medium;
-      past = map (λ s. s.value) m.past.items;
+      past = moments m.past;
       limit = m.capacity;
       failing = m.failing;
       calls = m.calls;
       faults = m.faults;
-      spare = vec_capacity m.past - length m.past.items;
     } };
 }
 
@@ -81,20 +78,6 @@ fn made(outcome: Mem<()>) -> Result<(), Failed>
     }
 }
 
-// What is held joins the past. The room is there.
-fn remember(past: &mut Vec<Snapshot<Medium>>, medium: &Medium) -> Result<(), Failed>
-    requires { length past.old.items < vec_capacity past.old }
-    ensures past { OnOk result (map (λ s. s.value) past.new.items ≡ map (λ s. s.value) past.old.items ++ medium.now ∷ []) }
-    ensures done { IsOk result }
-    ensures len { OnOk result (length past.new.items ≡ length past.old.items + 1) }
-    ensures capacity { vec_capacity past.old ≤ vec_capacity past.new }
-{
-    match past.push(Snapshot::of(medium)) {
-        Ok(()) => Ok(()),
-        Err(_) => Err(Failed),
-    }
-}
-
 // Copies from this place on as far as the content and the buffer reach.
 fn copy_from(content: &[u8], at: u64, buf: &mut [u8]) -> usize
     ensures count { result ≡ min (length buf.old) (length content.now - at) }
@@ -122,7 +105,7 @@ impl MemDisk {
     {
         MemDisk {
             medium: Medium::new(alloc),
-            past: Vec::new(alloc),
+            past: Past::new(),
             capacity,
             failing,
             calls: 0,
@@ -150,6 +133,8 @@ impl Disk for MemDisk {
 
     ghost size = { λ m. length m.held.now };
 
+    ghost left_by = { λ m pick. Some (image pick m.held) };
+
     ghost may_leave = { λ m c. MayLeave m.held c };
 
     ghost moment = { λ m. length m.past };
@@ -162,6 +147,8 @@ impl Disk for MemDisk {
 
     ghost calls = { λ m. m.calls };
 
+    ghost made = { λ m. m.calls };
+
     ghost setting = { λ m. record { stop = None; fail = None } };
 
     ghost limit = { λ m. m.limit };
@@ -172,7 +159,9 @@ impl Disk for MemDisk {
 
     ghost just_now = { λ m c left. only_now m.past m.held c left };
 
-    ghost shows = { λ m bytes told. (1, shown m.held.now bytes told) };
+    ghost leaves = { λ m pick bytes told. picked_leaves m.held pick bytes told };
+
+    ghost shows = { λ m. refl };
 
     ghost measures = { λ m bytes told. measured m.held.now bytes told };
 
@@ -184,48 +173,90 @@ impl Disk for MemDisk {
         self.capacity
     }
 
-    fn read(&mut self, at: u64, buf: &mut [u8]) -> Result<usize, Failed> {
+    fn read(&mut self, at: u64, buf: &mut [u8]) -> Result<usize, Failed>
+        requires { Holds 1 0 0 (memory_room self.old) }
+        ensures planned { Planned self.old self.new result }
+        ensures cause { Ran (record { stop = None; fail = None }) self.old.calls self.new.calls self.old.faults self.new.faults self.old.faults self.new.faults result }
+        ensures same { (self.new.held ≡ self.old.held) × (self.new.past ≡ self.old.past) }
+        ensures count { IfOk result (λ n. n ≡ min (length buf.old) (length self.old.held.now - at)) }
+        ensures bytes { IfOk result (λ n. take n buf.new ≡ take n (drop at self.old.held.now)) }
+        ensures rest { IfOk result (λ n. drop n buf.new ≡ drop n buf.old) }
+        ensures room { Takes 0 (memory_room self.old) (memory_room self.new) }
+    {
         admits(&mut self.calls, self.failing.as_slice(), &mut self.faults)?;
         Ok(copy_from(self.medium.now(), at, buf))
     }
 
-    fn write_at(&mut self, at: u64, bytes: &[u8]) -> Result<(), Failed> {
+    fn write_at(&mut self, at: u64, bytes: &[u8]) -> Result<(), Failed>
+        requires inside { at ≤ length self.old.held.now }
+        requires room { Holds 1 (length bytes.now) (at + length bytes.now) (memory_room self.old) }
+        ensures planned { Planned self.old self.new result }
+        ensures cause { Ran (record { stop = None; fail = None }) self.old.calls self.new.calls self.old.faults self.new.faults self.old.faults self.new.faults result }
+        ensures written { OnOk result (self.new.held.now ≡ overwritten at bytes.now self.old.held.now) }
+        ensures grown { OnOk result (length self.new.held.now ≡ max (length self.old.held.now) (at + length bytes.now)) }
+        ensures picks { OnOk result ((pick : ℕ) → image pick self.new.held ≡ written_by pick at bytes.now (image pick self.old.held)) }
+        ensures crash { ComesBy (Torn at (length bytes.now)) (MayLeave self.old.held) (MayLeave self.new.held) }
+        ensures time { Passes (length self.old.past) (length self.new.past) (Since self.old.past self.old.held) (Since self.new.past self.new.held) (MayLeave self.new.held) }
+        ensures room { Takes (length bytes.now) (memory_room self.old) (memory_room self.new) }
+    {
         admits(&mut self.calls, self.failing.as_slice(), &mut self.faults)?;
-        remember(&mut self.past, &self.medium)?;
+        self.past.remember(&self.medium);
         made(self.medium.write(at as usize, bytes))?;
         Ok(())
     }
 
-    fn cut(&mut self, len: u64) -> Result<(), Failed> {
+    fn cut(&mut self, len: u64) -> Result<(), Failed>
+        requires inside { len ≤ length self.old.held.now }
+        requires room { Holds 1 0 0 (memory_room self.old) }
+        ensures planned { Planned self.old self.new result }
+        ensures cause { Ran (record { stop = None; fail = None }) self.old.calls self.new.calls self.old.faults self.new.faults self.old.faults self.new.faults result }
+        ensures cut { OnOk result (self.new.held.now ≡ take len self.old.held.now) }
+        ensures picks { OnOk result ((pick : ℕ) → image pick self.new.held ≡ cut_by pick len (image pick self.old.held)) }
+        ensures crash { ComesBy (CutShort len) (MayLeave self.old.held) (MayLeave self.new.held) }
+        ensures time { Passes (length self.old.past) (length self.new.past) (Since self.old.past self.old.held) (Since self.new.past self.new.held) (MayLeave self.new.held) }
+        ensures room { Takes 0 (memory_room self.old) (memory_room self.new) }
+    {
         admits(&mut self.calls, self.failing.as_slice(), &mut self.faults)?;
-        remember(&mut self.past, &self.medium)?;
+        self.past.remember(&self.medium);
         self.medium.cut(len as usize);
         Ok(())
     }
 
-    fn room(&mut self, end: u64, bytes: u64) -> Mem<()> {
-        if usize::MAX as u64 - self.calls < ROOM as u64 {
+    fn room(&mut self, end: u64, bytes: u64) -> Mem<()>
+        ensures ok { OnOk result (Holds 8 bytes end (memory_room self.new)) }
+        ensures succeeds { Holds 8 bytes end (memory_room self.old) → IsOk result }
+        ensures grows { NoSmaller (memory_room self.old) (memory_room self.new) }
+        ensures same { self.new ≡ record self.old { held = record self.old.held { room = self.new.held.room } } }
+    {
+        if u64::MAX - self.calls < ROOM {
             return Err(AllocError);
         }
-        self.past.reserve(ROOM)?;
         self.medium.reserve(end as usize, bytes as usize)
     }
 
-    fn sync(&mut self) -> Result<(), Failed> {
+    fn sync(&mut self) -> Result<(), Failed>
+        requires { Holds 1 0 0 (memory_room self.old) }
+        ensures planned { Planned self.old self.new result }
+        ensures cause { Ran (record { stop = None; fail = None }) self.old.calls self.new.calls self.old.faults self.new.faults self.old.faults self.new.faults result }
+        ensures same { self.new.held.now ≡ self.old.held.now }
+        ensures picks { OnOk result ((pick : ℕ) → image pick self.new.held ≡ self.new.held.now) }
+        ensures crash { (c : List ℕ) → MayLeave self.new.held c → MayLeave self.old.held c }
+        ensures time { Passes (length self.old.past) (length self.new.past) (Since self.old.past self.old.held) (Since self.new.past self.new.held) (MayLeave self.new.held) }
+        ensures room { Takes 0 (memory_room self.old) (memory_room self.new) }
+    {
         admits(&mut self.calls, self.failing.as_slice(), &mut self.faults)?;
-        remember(&mut self.past, &self.medium)?;
+        self.past.remember(&self.medium);
         self.medium.sync();
         Ok(())
     }
 
     fn crash(&mut self, pick: u8)
         ensures picked { self.new.held.now ≡ image pick self.old.held }
-        ensures image { MayLeave self.old.held self.new.held.now }
-        ensures durable { LeavesJust self.new.held.now (MayLeave self.new.held) }
-        ensures faults { self.new.faults ≡ self.old.faults }
-        ensures calls { self.new.calls ≡ self.old.calls }
-        ensures limit { self.new.limit ≡ self.old.limit }
+        ensures picks { (next : ℕ) → image next self.new.held ≡ self.new.held.now }
+        ensures time { Passes (length self.old.past) (length self.new.past) (Since self.old.past self.old.held) (Since self.new.past self.new.held) (MayLeave self.new.held) }
+        ensures same { (self.new.failing ≡ self.old.failing) × (self.new.limit ≡ self.old.limit) × (self.new.calls ≡ self.old.calls) × (self.new.faults ≡ self.old.faults) }
     {
+        self.past.remember(&self.medium);
         self.medium.settle(pick);
     }
 }

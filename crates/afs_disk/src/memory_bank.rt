@@ -1,5 +1,5 @@
 // A bank in memory.
-ghost use Rattle.std.specs.Prelude.{◌≡◌, ◌≤◌, ◌+◌, ◌++◌, ◌∷◌, [], Some, length, map, min, slice_get, get_or, IsErr, IsErrOf, IfOk, OnOk, OnErr, ◌↔◌};
+ghost use Rattle.std.specs.Prelude.{◌≡◌, ◌<◌, ◌≤◌, ◌+◌, ◌++◌, ◌∷◌, [], Some, length, map, min, slice_get, get_or, IsErr, IsErrOf, IfOk, OnOk, OnErr, ◌↔◌};
 ghost use Rattle.afs_disk.specs.Fuses.{last_count};
 ghost use Rattle.afs_model.specs.Disk.{Rose};
 
@@ -21,7 +21,8 @@ pub struct Given {
     pub disk: MemDisk,
 }
 
-/// A bank that lends disks in memory, whatever the place, and tells what it lent and was given back.
+/// A bank that lends disks in memory, whatever the place, and tells what it lent and was given back. It has the room to
+/// take as many disks back as it lent.
 #[derive(Drop)]
 pub struct MemBank {
     alloc: Global,
@@ -34,7 +35,8 @@ pub struct MemBank {
 }
 
 impl Model for MemBank {
-    ghost use Rattle.std.specs.Prelude.{map};
+    ghost use Rattle.std.specs.Prelude.{◌≤◌, length, map};
+    ghost use Rattle.std.specs.Vec.{vec_capacity};
     ghost use Rattle.afs_disk.specs.Lending.{Lending};
 
     ghost Value = { Lending };
@@ -47,6 +49,8 @@ impl Model for MemBank {
       calls = b.calls;
       faults = b.faults;
     } };
+
+    ghost invariant = { λ b. length b.lends.items ≤ vec_capacity b.given };
 }
 
 // Counts a call, and says whether it may be made.
@@ -158,6 +162,10 @@ impl Bank for MemBank {
         ensures lends { self.new.lends ≡ self.old.lends }
         ensures counted { self.new.calls ≡ min (self.old.calls + 1) last_count }
         ensures fails { slice_get self.old.failing self.old.calls ≡ Some 1 → IsErr result }
+
+        // `lend` made the room for it.
+        ensures succeeds { length self.old.given < length self.old.lends → IsErr result → slice_get self.old.failing self.old.calls ≡ Some 1 }
+
         ensures never_falls { self.old.faults ≤ self.new.faults }
         ensures cause { OnErr result (Rose self.old.faults self.new.faults) }
         ensures set { (self.new.failing ≡ self.old.failing) × (self.new.disks ≡ self.old.disks) }

@@ -1,11 +1,11 @@
 -- When a journal over a disk is sound, and what an append makes of that.
-use Rattle.std.proofs.Common.{◌≡◌, ◌<◌, ℕ, ◌+◌, ◌^◌, inl, List, [], ◌∷◌, ◌++◌, length, Option, Some, None, refl, sym, ◌∙◌, ap, subst, arith, length-append}
+use Rattle.std.proofs.Common.{◌≡◌, ◌<◌, ◌≤◌, ℕ, ◌+◌, ◌^◌, inl, List, [], ◌∷◌, ◌++◌, length, Option, Some, None, refl, sym, ◌∙◌, ap, subst, arith, length-append}
 use Rattle.std.specs.Prelude.{IsSome}
 use Rattle.afs_model.specs.Disk.{SameDisk, LeavesOnly}
 use Rattle.afs_model.specs.Journal.{place_of, journal_bytes, whole_records, IsBeforeOrAfter, Fit}
 use Rattle.afs_model.proofs.Journal.{length-place_of}
-use Rattle.afs_model.proofs.Moments.{and_on, unmoved}
-use Rattle.afs_journal.specs.Log.{IsSettled, IsJournal, Spells}
+use Rattle.afs_model.proofs.Moments.{and_on, unmoved, weaker}
+use Rattle.afs_journal.specs.Log.{IsSettled, IsJournal, Spells, StandsAsBefore}
 
 some_is : (a b : List ℕ) → Some a ≡ Some b → a ≡ b
 some_is a b e = cc
@@ -43,9 +43,9 @@ spells_next place count body is small counted = record {
 }
 
 -- what is settled stays so where nothing but the room changes
-pub still_settled : {D : Type 0} (seen : D → Option (List ℕ)) (size : D → ℕ) (may_leave : D → List ℕ → Type 0) (moment : D → ℕ) (left_since : D → ℕ → List ℕ → Type 0) (old new : D) (count gate : ℕ) (bytes : List ℕ)
-    → SameDisk seen size may_leave moment left_since old new → IsSettled count gate (may_leave old) bytes → IsSettled count gate (may_leave new) bytes
-still_settled seen size may_leave moment left_since old new count gate bytes same settled = record {
+pub still_settled : {D : Type 0} (seen : D → Option (List ℕ)) (left_by : D → ℕ → Option (List ℕ)) (size : D → ℕ) (may_leave : D → List ℕ → Type 0) (moment : D → ℕ) (left_since : D → ℕ → List ℕ → Type 0) (old new : D) (count gate : ℕ) (bytes : List ℕ)
+    → SameDisk seen left_by size may_leave moment left_since old new → IsSettled count gate (may_leave old) bytes → IsSettled count gate (may_leave new) bytes
+still_settled seen left_by size may_leave moment left_since old new count gate bytes same settled = record {
   are = settled.are;
   counted = settled.counted;
   long = settled.long;
@@ -54,10 +54,22 @@ still_settled seen size may_leave moment left_since old new count gate bytes sam
 }
 
 -- a run that begins after more room was made
-pub with_room : {D : Type 0} (seen : D → Option (List ℕ)) (size : D → ℕ) (may_leave : D → List ℕ → Type 0) (moment : D → ℕ) (left_since : D → ℕ → List ℕ → Type 0) (just_now : (d : D) (c : List ℕ) → left_since d (moment d) c → may_leave d c)
-    (old mid new : D) (count gate : ℕ) (body bytes : List ℕ) → SameDisk seen size may_leave moment left_since old mid → IsSettled count gate (may_leave old) bytes
+pub with_room : {D : Type 0} (seen : D → Option (List ℕ)) (left_by : D → ℕ → Option (List ℕ)) (size : D → ℕ) (may_leave : D → List ℕ → Type 0) (moment : D → ℕ) (left_since : D → ℕ → List ℕ → Type 0) (just_now : (d : D) (c : List ℕ) → left_since d (moment d) c → may_leave d c)
+    (old mid new : D) (count gate : ℕ) (body bytes : List ℕ) → SameDisk seen left_by size may_leave moment left_since old mid → IsSettled count gate (may_leave old) bytes
     → LeavesOnly moment left_since mid new (IsBeforeOrAfter (whole_records bytes) body) → LeavesOnly moment left_since old new (IsBeforeOrAfter (whole_records bytes) body)
-with_room seen size may_leave moment left_since just_now old mid new count gate body bytes same settled run =
+with_room seen left_by size may_leave moment left_since just_now old mid new count gate body bytes same settled run =
     let P : List ℕ → Type 0 = IsBeforeOrAfter (whole_records bytes) body in
-    let first = unmoved moment left_since seen size may_leave just_now old mid P same (λ c left. inl (ap whole_records (settled.durable c left))) in
+    let first = unmoved moment left_since seen left_by size may_leave just_now old mid P same (λ c left. inl (ap whole_records (settled.durable c left))) in
     and_on moment left_since old mid new P P first run (λ c held. held)
+
+-- what opening a disk and then settling it leave
+pub taken_up : {D : Type 0} (may_leave : D → List ℕ → Type 0) (moment : D → ℕ) (left_since : D → ℕ → List ℕ → Type 0) (old mid new : D) (bytes read : List ℕ) → read ≡ bytes → may_leave old bytes
+    → LeavesOnly moment left_since old mid (may_leave old) → LeavesOnly moment left_since mid new (λ c. whole_records c ≡ whole_records read) → LeavesOnly moment left_since old new (StandsAsBefore (may_leave old))
+taken_up may_leave moment left_since old mid new bytes read is shown first second =
+    let P : List ℕ → Type 0 = StandsAsBefore (may_leave old) in
+    and_on moment left_since old mid new P (λ (c : List ℕ). whole_records c ≡ whole_records read) (weaker moment left_since old mid P (may_leave old) first (λ b left. (b, left, refl))) second (λ b are. (bytes, shown, are ∙ ap whole_records is))
+
+-- what a run leaves at any moment a crash leaves now
+pub stands_now : {D : Type 0} (may_leave : D → List ℕ → Type 0) (moment : D → ℕ) (left_since : D → ℕ → List ℕ → Type 0) (counts_now : (d : D) (t : ℕ) (c : List ℕ) → t ≤ moment d → may_leave d c → left_since d t c)
+    (old new : D) (P : List ℕ → Type 0) → LeavesOnly moment left_since old new P → (c : List ℕ) → may_leave new c → P c
+stands_now may_leave moment left_since counts_now old new P run c left = run.each c (counts_now new (moment old) c run.later left)

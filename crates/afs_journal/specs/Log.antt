@@ -70,9 +70,13 @@ pub record Served {T : Type 0} (setting : Setting) (first last before now own_be
 abbrev pub StandsAsBefore : (List ℕ → Type 0) → List ℕ → Type 0
 StandsAsBefore may_leave c = (d : List ℕ) × may_leave d × (whole_records c ≡ whole_records d)
 
+-- every crash leaves bytes that stand for these records
+abbrev pub AlwaysStandsFor : List (List ℕ) → (List ℕ → Type 0) → Type 0
+AlwaysStandsFor bodies may_leave = (c : List ℕ) → may_leave c → whole_records c ≡ bodies
+
 -- nothing changed but the room
-pub record Unchanged {D : Type 0} (seen : D → Option (List ℕ)) (size : D → ℕ) (may_leave : D → List ℕ → Type 0) (moment : D → ℕ) (left_since : D → ℕ → List ℕ → Type 0) (old new : Log D) : Type 0 where
-  pub disk : SameDisk seen size may_leave moment left_since old.disk new.disk
+pub record Unchanged {D : Type 0} (seen : D → Option (List ℕ)) (left_by : D → ℕ → Option (List ℕ)) (size : D → ℕ) (may_leave : D → List ℕ → Type 0) (moment : D → ℕ) (left_since : D → ℕ → List ℕ → Type 0) (old new : Log D) : Type 0 where
+  pub disk : SameDisk seen left_by size may_leave moment left_since old.disk new.disk
   pub found : new.found ≡ old.found
   pub count : new.count ≡ old.count
   pub gate : new.gate ≡ old.gate
@@ -92,6 +96,10 @@ longest len gate capacity = min len (capacity - (gate + 10))
 pub record HasRoom {D : Type 0} (limit : D → ℕ) (space : D → Room) (len : ℕ) (log : Log D) : Type 0 where
   pub place : longest len log.gate (limit log.disk) + 9 ≤ log.spelled
   pub disk : Holds 8 (longest len log.gate (limit log.disk) + 10) (log.gate + longest len log.gate (limit log.disk) + 10) (space log.disk)
+
+-- a record that wanted no memory before wants none now
+abbrev pub KeepsRoom : {D : Type 0} → (D → ℕ) → (D → Room) → Log D → Log D → Type 0
+KeepsRoom limit space old new = (len : ℕ) → HasRoom limit space len old → HasRoom limit space len new
 
 -- no count moved, and the disk is set as it was
 pub record SameCounts {D : Type 0} (faults own_faults calls : D → ℕ) (setting : D → Setting) (limit : D → ℕ) (old new : D) : Type 0 where

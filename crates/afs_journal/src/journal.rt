@@ -1,7 +1,7 @@
 ghost use Rattle.std.specs.Prelude.{◌≡◌, ◌≤◌, ◌<◌, ◌+◌, ◌++◌, ◌∷◌, [], ◌↔◌, ◌*◌, ◌^◌, List, ℕ, Some, true, false, length, MatchResult, IfOk, IfErr, OnOk, IsOk, IsErrOf, IsTrue, IsSome};
 ghost use Rattle.afs_model.specs.Disk.{LeavesOnly, PassesAll};
 ghost use Rattle.afs_model.specs.Journal.{whole_records, IsBeforeOrAfter};
-ghost use Rattle.afs_journal.specs.Log.{Appended, HasRoom, IsCaused, IsJournal, LeavesUnchanged, Rests, SameCounts, Served, StandsAsBefore, Taken, Unchanged};
+ghost use Rattle.afs_journal.specs.Log.{AlwaysStandsFor, Appended, HasRoom, IsCaused, IsJournal, KeepsRoom, LeavesUnchanged, Rests, SameCounts, Served, StandsAsBefore, Taken, Unchanged};
 
 use crate::mend::settle;
 use crate::opening::open;
@@ -52,6 +52,7 @@ fn take_up<D: Disk>(alloc: Global, disk: &mut D) -> Result<(Records, u64), Journ
     ensures told { OnOk result (IsSome (D.seen disk.new) → IsSome (D.seen disk.old)) }
     ensures done { OnOk result ((bytes : List ℕ) → D.seen disk.old ≡ Some bytes → IsJournal (whole_records bytes) (D.seen disk.new) (D.may_leave disk.new)) }
     ensures any_moment { (bytes : List ℕ) → D.seen disk.old ≡ Some bytes → LeavesOnly D.moment D.left_since disk.old disk.new (StandsAsBefore (D.may_leave disk.old)) }
+    ensures begins { D.calls disk.old + 2 ≤ D.calls disk.new → (bytes : List ℕ) → D.seen disk.old ≡ Some bytes → AlwaysStandsFor (whole_records bytes) (D.may_leave disk.new) }
     ensures rests { OnOk result ((bytes : List ℕ) → D.seen disk.old ≡ Some bytes → Rests bytes → D.calls disk.new ≡ D.calls disk.old + 2) }
     ensures calls { (D.calls disk.old ≤ D.calls disk.new) × (D.calls disk.new ≤ D.calls disk.old + 6) }
     ensures setting { D.setting disk.new ≡ D.setting disk.old }
@@ -64,9 +65,11 @@ fn take_up<D: Disk>(alloc: Global, disk: &mut D) -> Result<(Records, u64), Journ
 }
 
 impl<D: Disk> Journal<D> {
-    /// Finds the whole records of a disk that a crash may have left, and makes a journal at rest of it. It begins with a
-    /// sync. Each refusal hands the disk back; a crash at any moment leaves records that one before the call might have
-    /// left, so none is lost.
+    /// Finds the whole records of a disk that a crash may have left, and makes a journal at rest of it. Each refusal hands
+    /// the disk back; a crash at any moment leaves records that one before the call might have left, so none is lost.
+    ///
+    /// At want of memory it may have made some of its device calls: memory for the records is asked for once they were
+    /// read. The disk can be attached again.
     pub fn attach(alloc: Global, disk: D) -> Result<Journal<D>, (JournalFault, D)>
         requires { D.limit disk ≤ 268435456 }
 
@@ -78,6 +81,9 @@ impl<D: Disk> Journal<D> {
             (λ e. LeavesOnly D.moment D.left_since disk e.1 (StandsAsBefore (D.may_leave disk))) }
         ensures ok { IfOk result (λ j. Taken D.faults D.own_faults D.calls D.setting disk j.disk × PassesAll (D.setting disk) (D.calls disk) (D.calls j.disk)) }
         ensures err { IfErr result (λ e. Taken D.faults D.own_faults D.calls D.setting disk e.1 × IsCaused (D.setting disk) (D.calls e.1) (D.faults disk) (D.faults e.1) (D.own_faults disk) (D.own_faults e.1) e.0) }
+
+        // It begins with a sync: once it made another call, every crash leaves the records that a read gave.
+        ensures begins { IfErr result (λ e. D.calls disk + 2 ≤ D.calls e.1 → (bytes : List ℕ) → D.seen disk ≡ Some bytes → AlwaysStandsFor (whole_records bytes) (D.may_leave e.1)) }
 
         // A journal at rest is synced and read, and nothing more.
         ensures rests { IfOk result (λ j. (bytes : List ℕ) → D.seen disk ≡ Some bytes → Rests bytes → D.calls j.disk ≡ D.calls disk + 2) }
@@ -105,11 +111,34 @@ impl<D: Disk> Journal<D> {
         &self.found
     }
 
-    /// Makes room, so that the next `append` of at most so many bytes wants no memory. Nothing else changes.
+    /// How many bytes the journal has, the closed gate at its end among them. It takes no memory.
+    pub fn len(&self) -> u64
+        ensures { result ≡ self.now.gate + 1 }
+    {
+        self.gate + 1
+    }
+
+    /// How many bytes its disk is for. It takes no memory.
+    pub fn capacity(&self) -> u64
+        ensures { result ≡ D.limit self.now.disk }
+    {
+        self.disk.capacity()
+    }
+
+    /// How many records it has: those that `attach` found, and those that were appended since. It takes no memory.
+    pub fn count(&self) -> u64
+        ensures { result ≡ self.now.count }
+    {
+        self.count
+    }
+
+    /// Makes room, so that the next `append` of at most so many bytes wants no memory. It takes no room away that was
+    /// there, and nothing else changes.
     pub fn reserve(&mut self, len: u64) -> Mem<()>
         ensures ok { OnOk result (HasRoom D.limit D.space len self.new) }
         ensures succeeds { HasRoom D.limit D.space len self.old → IsOk result }
-        ensures same { Unchanged D.seen D.size D.may_leave D.moment D.left_since self.old self.new }
+        ensures keeps { KeepsRoom D.limit D.space self.old self.new }
+        ensures same { Unchanged D.seen D.left_by D.size D.may_leave D.moment D.left_since self.old self.new }
         ensures disk { SameCounts D.faults D.own_faults D.calls D.setting D.limit self.old.disk self.new.disk }
     {
         let most = len.min(self.disk.capacity().saturating_sub(self.gate + TAKEN));
@@ -123,6 +152,8 @@ impl<D: Disk> Journal<D> {
     pub fn append(&mut self, rec: &[u8]) -> Result<u64, JournalFault>
         ensures closed { IsErrOf result JournalFault.Closed ↔ (self.old.closed ≡ true) }
         ensures full { (used capacity : ℕ) → IsErrOf result (JournalFault.Full used capacity) ↔ ((self.old.closed ≡ false) × (used ≡ self.old.gate + 1) × (capacity ≡ D.limit self.old.disk) × (capacity < used + length rec.now + 9)) }
+        ensures full_same { (used capacity : ℕ) → IsErrOf result (JournalFault.Full used capacity) → self.new ≡ self.old }
+        ensures closed_same { IsErrOf result JournalFault.Closed → self.new ≡ self.old }
         ensures failed { IsErrOf result JournalFault.Failed → self.new.closed ≡ true }
         ensures memory { HasRoom D.limit D.space (length rec.now) self.old → IsErrOf result JournalFault.OutOfMemory → ⊥ }
         ensures number { IfOk result (λ n. (n ≡ self.old.count + 1) × (self.new.count ≡ n) × (self.new.gate ≡ self.old.gate + length rec.now + 9) × (self.new.closed ≡ false)) }
@@ -134,7 +165,8 @@ impl<D: Disk> Journal<D> {
         ensures any_moment { self.old.closed ≡ false → (bytes : List ℕ) → D.seen self.old.disk ≡ Some bytes
             → LeavesOnly D.moment D.left_since self.old.disk self.new.disk (IsBeforeOrAfter (whole_records bytes) rec.now) }
 
-        ensures unchanged { LeavesUnchanged result (Unchanged D.seen D.size D.may_leave D.moment D.left_since self.old self.new) }
+        ensures unchanged { LeavesUnchanged result (Unchanged D.seen D.left_by D.size D.may_leave D.moment D.left_since self.old self.new) }
+        ensures keeps { LeavesUnchanged result (KeepsRoom D.limit D.space self.old self.new) }
         ensures uncounted { LeavesUnchanged result (SameCounts D.faults D.own_faults D.calls D.setting D.limit self.old.disk self.new.disk) }
         ensures calls { OnOk result (D.calls self.new.disk ≡ D.calls self.old.disk + 4) }
         ensures most { (D.calls self.old.disk ≤ D.calls self.new.disk) × (D.calls self.new.disk ≤ D.calls self.old.disk + 4) }

@@ -10,6 +10,3 @@ mod scan;
 mod spelling;
 
 pub use journal::Journal;
-
-#[cfg(test)]
-mod tests;

@@ -41,6 +41,7 @@ pub(crate) fn open<D: Disk>(alloc: Global, disk: &mut D) -> Result<Vec<u8>, Jour
     ensures seen { D.seen disk.new ≡ D.seen disk.old }
     ensures size { D.size disk.new ≡ D.size disk.old }
     ensures durable { OnOk result ((content : List ℕ) → D.seen disk.old ≡ Some content → LeavesJust content (D.may_leave disk.new)) }
+    ensures begins { D.calls disk.old + 2 ≤ D.calls disk.new → (content : List ℕ) → D.seen disk.old ≡ Some content → LeavesJust content (D.may_leave disk.new) }
     ensures steady { LeavesOnly D.moment D.left_since disk.old disk.new (D.may_leave disk.old) }
     ensures room { OnOk result (Holds 6 1 (max (D.size disk.old) 1) (D.space disk.new)) }
     ensures made { OnOk result (0 < D.size disk.old → D.calls disk.new ≡ D.calls disk.old + 2) }

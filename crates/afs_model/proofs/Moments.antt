@@ -32,9 +32,9 @@ module _ {D : Type 0} (moment : D → ℕ) (left_since : D → ℕ → List ℕ 
   }
 
   -- nothing but the room changed
-  pub unmoved : (seen : D → Option (List ℕ)) (size : D → ℕ) (may_leave : D → List ℕ → Type 0) (just_now : (d : D) (c : List ℕ) → left_since d (moment d) c → may_leave d c) (old new : D) (P : List ℕ → Type 0)
-      → SameDisk seen size may_leave moment left_since old new → ((c : List ℕ) → may_leave old c → P c) → LeavesOnly moment left_since old new P
-  unmoved seen size may_leave just_now old new P same here = record {
+  pub unmoved : (seen : D → Option (List ℕ)) (left_by : D → ℕ → Option (List ℕ)) (size : D → ℕ) (may_leave : D → List ℕ → Type 0) (just_now : (d : D) (c : List ℕ) → left_since d (moment d) c → may_leave d c) (old new : D) (P : List ℕ → Type 0)
+      → SameDisk seen left_by size may_leave moment left_since old new → ((c : List ℕ) → may_leave old c → P c) → LeavesOnly moment left_since old new P
+  unmoved seen left_by size may_leave just_now old new P same here = record {
     later = omega (arith, same.same_moment);
     each = λ c left. here c (just_now old c (same.since (moment old) c left));
     before = λ t c le left. inl (same.since t c left);

@@ -1,15 +1,32 @@
-use Rattle.std.proofs.Common.{◌≡◌, List, ℕ, Some, refl, sym, ◌∙◌, ap}
+use Rattle.std.proofs.Common.{◌≡◌, List, ℕ, Some, sym, ◌∙◌, ap}
 use Rattle.afs_model.specs.Journal.{whole_records}
-use Rattle.afs_model.proofs.Moments.{and_on, weaker}
-use Rattle.afs_journal.specs.Log.{StandsAsBefore}
+use Rattle.afs_journal.proofs.Sound.{taken_up, stands_now}
 use Rattle.afs_journal.proofs.journal.take_up.Goals as goal
 
 -- first the opening, which leaves what might have been left, and then the mending of what was read
 pub returns-clause-any_moment : goal.returns-clause-any_moment
 returns-clause-any_moment g c = λ bytes told.
     let read : c.deref.result.now ≡ bytes = c.deref.ensures.value ∙ c.in_ok-bytes.ensures.bytes bytes told in
-    let P : List ℕ → Type 0 = StandsAsBefore (g.D.Disk.may_leave c.args.disk.now) in
-    let first = weaker g.D.Disk.moment g.D.Disk.left_since c.args.disk.now c.open.new.disk P (g.D.Disk.may_leave c.args.disk.now) c.open.ensures.steady (λ b left. (b, left, refl)) in
     let second = c.settle.ensures.any_moment (c.open.ensures.seen ∙ told ∙ ap (λ (l : List ℕ). Some l) (sym read)) (λ b left. c.in_ok-bytes.ensures.durable bytes told b left ∙ sym read) in
-    and_on g.D.Disk.moment g.D.Disk.left_since c.args.disk.now c.open.new.disk c.settle.new.disk P (λ (b : List ℕ). whole_records b ≡ whole_records c.deref.result.now) first second
-    (λ b are. (bytes, g.met.D.Disk.shows c.args.disk.now bytes told, are ∙ ap whole_records read))
+    taken_up g.D.Disk.may_leave g.D.Disk.moment g.D.Disk.left_since c.args.disk.now c.open.new.disk c.settle.new.disk bytes c.deref.result.now read (g.met.D.Disk.leaves c.args.disk.now 1 bytes (g.met.D.Disk.shows c.args.disk.now ∙ told)) c.open.ensures.steady second
+
+pub returns-in_err-found-clause-any_moment : goal.returns-in_err-found-clause-any_moment
+returns-in_err-found-clause-any_moment g c = λ bytes told.
+    let read : c.deref.result.now ≡ bytes = c.deref.ensures.value ∙ c.in_ok-bytes.ensures.bytes bytes told in
+    let second = c.settle.ensures.any_moment (c.open.ensures.seen ∙ told ∙ ap (λ (l : List ℕ). Some l) (sym read)) (λ b left. c.in_ok-bytes.ensures.durable bytes told b left ∙ sym read) in
+    taken_up g.D.Disk.may_leave g.D.Disk.moment g.D.Disk.left_since c.args.disk.now c.open.new.disk c.settle.new.disk bytes c.deref.result.now read (g.met.D.Disk.leaves c.args.disk.now 1 bytes (g.met.D.Disk.shows c.args.disk.now ∙ told)) c.open.ensures.steady second
+
+pub returns-in_err-found-clause-begins : goal.returns-in_err-found-clause-begins
+returns-in_err-found-clause-begins g c = λ made bytes told b left.
+    let read : c.deref.result.now ≡ bytes = c.deref.ensures.value ∙ c.in_ok-bytes.ensures.bytes bytes told in
+    let run = c.settle.ensures.any_moment (c.open.ensures.seen ∙ told ∙ ap (λ (l : List ℕ). Some l) (sym read)) (λ b left. c.in_ok-bytes.ensures.durable bytes told b left ∙ sym read) in
+    stands_now g.D.Disk.may_leave g.D.Disk.moment g.D.Disk.left_since g.met.D.Disk.counts_now c.open.new.disk c.settle.new.disk (λ (l : List ℕ). whole_records l ≡ whole_records c.deref.result.now) run b left ∙ ap whole_records read
+
+pub returns-clause-begins : goal.returns-clause-begins
+returns-clause-begins g c = λ made bytes told b left.
+    let read : c.deref.result.now ≡ bytes = c.deref.ensures.value ∙ c.in_ok-bytes.ensures.bytes bytes told in
+    let run = c.settle.ensures.any_moment (c.open.ensures.seen ∙ told ∙ ap (λ (l : List ℕ). Some l) (sym read)) (λ b left. c.in_ok-bytes.ensures.durable bytes told b left ∙ sym read) in
+    stands_now g.D.Disk.may_leave g.D.Disk.moment g.D.Disk.left_since g.met.D.Disk.counts_now c.open.new.disk c.settle.new.disk (λ (l : List ℕ). whole_records l ≡ whole_records c.deref.result.now) run b left ∙ ap whole_records read
+
+pub returns-in_err-bytes-clause-begins : goal.returns-in_err-bytes-clause-begins
+returns-in_err-bytes-clause-begins g c = λ made bytes told b left. ap whole_records (c.open.ensures.begins made bytes told b left)

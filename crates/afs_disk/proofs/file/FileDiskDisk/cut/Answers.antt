@@ -6,3 +6,6 @@ returns-in-Ok-clause-crash c = λ x left. (x, tt, cut_same c.args.len x)
 
 pub returns-in-Err-clause-crash : goal.returns-in-Err-clause-crash
 returns-in-Err-clause-crash c = λ x left. (x, tt, cut_same c.args.len x)
+
+pub returns-in_err-admits-clause-crash : goal.returns-in_err-admits-clause-crash
+returns-in_err-admits-clause-crash c = λ x left. (x, tt, cut_same c.args.len x)

@@ -7,3 +7,6 @@ returns-in-Ok-clause-crash c = λ x left. (x, tt, torn_same c.args.at (length c.
 
 pub returns-in-Err-clause-crash : goal.returns-in-Err-clause-crash
 returns-in-Err-clause-crash c = λ x left. (x, tt, torn_same c.args.at (length c.args.bytes.now) x)
+
+pub returns-in_err-admits-clause-crash : goal.returns-in_err-admits-clause-crash
+returns-in_err-admits-clause-crash c = λ x left. (x, tt, torn_same c.args.at (length c.args.bytes.now) x)

@@ -1,7 +1,7 @@
-use Rattle.std.proofs.Common.{◌∙◌, ap}
-use Rattle.afs_disk.specs.Images.{image}
+use Rattle.std.proofs.Common.{◌++◌, ◌∷◌, [], ◌∙◌, ap}
 use Rattle.afs_disk.specs.Past.{Memory}
+use Rattle.afs_disk.proofs.Remembered.{passes}
 use Rattle.afs_disk.proofs.memory.MemDiskDisk.crash.Goals as goal
 
-pub returns-clause-image : goal.returns-clause-image
-returns-clause-image c = (c.args.pick, c.settle.ensures.now ∙ ap (image c.args.pick) (ap (λ (m : Memory). m.held) c.self.view_is))
+pub returns-clause-time : goal.returns-clause-time
+returns-clause-time c = passes c.args.self.now.past _ c.args.self.now.held c.settle.new.self (c.remember.ensures ∙ ap (λ (m : Memory). m.past ++ m.held ∷ []) c.self.view_is)
