@@ -1,11 +1,9 @@
-ghost use Rattle.std.specs.Prelude.{◌≡◌, ◌∷◌, [], ◌++◌, ◌≤◌, ◌<◌, Some, None, length, nat_eq, ◌&&◌, ◌-◌};
-ghost use Rattle.std.specs.Option.{option_copied};
-ghost use Rattle.std.specs.Vec.{vec_capacity};
+ghost use Rattle.std.specs.Prelude.{◌≡◌, Some, None, nat_eq, ◌&&◌};
 ghost use Rattle.afs_num.specs.Nodes.{same_node};
-ghost use Rattle.afs_model.specs.ServerRow.{pair_below};
-ghost use Rattle.afs_model.specs.Calls.{call_seat, other_seats, call_seated, compared, repeated, is_last_call, HasRoom, KeepsRoom, Frees};
+ghost use Rattle.afs_model.specs.Calls.{call_seat, compared, is_last_call, pair_below, repeated};
 ghost use Rattle.afs_call.specs.Admitting.{means};
 
+use afs_num::keyed::{Keyed, find_keyed};
 use afs_num::sequences::Octets;
 use afs_num::types::{Key, Node};
 use std::marker::Model;
@@ -43,6 +41,22 @@ impl Model for Seat {
     ghost view = { λ s. record { caller = s.caller; epoch = s.epoch; number = s.number; reply = s.reply } };
 }
 
+impl Keyed for Seat {
+    type Key = Node;
+
+    ghost key = { λ s. s.caller };
+
+    ghost same = { same_node };
+
+    fn key(&self) -> Node {
+        self.caller
+    }
+
+    fn is_under(&self, other: &Node) -> bool {
+        self.caller.is(other)
+    }
+}
+
 fn is_below(epoch: u32, number: u32, other_epoch: u32, other_number: u32) -> bool
     ensures { result ≡ pair_below epoch number other_epoch other_number }
 {
@@ -76,18 +90,6 @@ impl Seat {
         }
     }
 
-    pub fn caller(&self) -> Node
-        ensures { result ≡ self.now.caller }
-    {
-        self.caller
-    }
-
-    pub fn is_of(&self, caller: &Node) -> bool
-        ensures { result ≡ same_node self.now.caller caller.now }
-    {
-        self.caller.is(caller)
-    }
-
     pub fn is_for(&self, key: &Key) -> bool
         ensures { result ≡ (nat_eq self.now.epoch key.now.epoch && nat_eq self.now.number key.now.number) }
     {
@@ -117,41 +119,12 @@ impl Seat {
     }
 }
 
-/// The seat of this caller.
-pub fn find_seat<'a>(seats: &'a [Seat], caller: &Node) -> Option<&'a Seat>
-    ensures { option_copied result ≡ call_seat caller.now seats.entry.now }
-{
-    seats.iter().find(|seat| seat.is_of(caller))
-}
-
 /// Whether this is the last call of its caller.
 pub fn is_last(seats: &[Seat], key: &Key) -> bool
     ensures { result ≡ is_last_call key.now (call_seat key.now.node seats.now) }
 {
-    match find_seat(seats, &key.node) {
+    match find_keyed(seats, &key.node) {
         Some(seat) => seat.is_for(key),
         None => false,
-    }
-}
-
-// Drops the seats of this caller.
-fn drop_seats(seats: &mut Vec<Seat>, caller: &Node)
-    ensures items { seats.new.items ≡ other_seats caller.now seats.old.items }
-    ensures fewer { Frees (call_seat caller.now seats.old.items) (length seats.new.items) (length seats.old.items) }
-    ensures room { vec_capacity seats.old ≤ vec_capacity seats.new }
-{
-    seats.retain(|seat| !seat.is_of(caller));
-}
-
-/// The seat takes the place of its caller's.
-pub fn put_seat(seats: &mut Vec<Seat>, seat: Seat)
-    requires { HasRoom (call_seat seat.caller seats.old.items) (vec_capacity seats.old - length seats.old.items) }
-    ensures items { seats.new.items ≡ call_seated seat seats.old.items }
-    ensures room { KeepsRoom (call_seat seat.caller seats.old.items) (vec_capacity seats.old - length seats.old.items) (vec_capacity seats.new - length seats.new.items) }
-{
-    drop_seats(seats, &seat.caller());
-    match seats.push(seat) {
-        Ok(()) => {}
-        Err(_) => unreachable!(),
     }
 }

@@ -1,8 +1,10 @@
 ghost use Rattle.std.specs.Prelude.{◌≡◌, ◌+◌, ◌≤◌, [], length, OnOk, OnErr};
-ghost use Rattle.afs_model.specs.Calls.{Calls, runs, call_seat, paired, admitted, started, finished, HasRoom, KeepsRoom};
+ghost use Rattle.afs_num.specs.Keyed.{HasRoom, KeepsRoom};
+ghost use Rattle.afs_model.specs.Calls.{Calls, runs, call_seat, paired, admitted, started, finished};
 ghost use Rattle.afs_call.specs.Admitting.{means};
 
-use crate::seat::{Admit, Seat, find_seat, is_last, put_seat};
+use crate::seat::{Admit, Seat, is_last};
+use afs_num::keyed::{find_keyed, put_last};
 use afs_num::sequences::Octets;
 use afs_num::types::{Head, Key, Mem};
 use std::alloc::Global;
@@ -37,6 +39,13 @@ impl CallTable {
         }
     }
 
+    /// The callee's boot number.
+    pub fn boot(&self) -> u32
+        ensures { result ≡ self.now.boot }
+    {
+        self.boot
+    }
+
     /// Makes room for so many more callers.
     pub fn reserve(&mut self, callers: u32) -> Mem<()>
         ensures room { OnOk result (callers ≤ self.new.room) }
@@ -56,7 +65,7 @@ impl CallTable {
         if head.boot != self.boot {
             return Admit::WrongBoot(self.boot);
         }
-        match find_seat(&self.seats, &head.from) {
+        match find_keyed(&self.seats, &head.from) {
             Some(seat) => seat.admit(head.epoch, head.number),
             None => Admit::Run,
         }
@@ -70,7 +79,7 @@ impl CallTable {
         ensures seats { self.new.seats ≡ started key self.old.seats }
         ensures room { KeepsRoom (call_seat key.node self.old.seats) self.old.room self.new.room }
     {
-        put_seat(&mut self.seats, Seat::begun(key));
+        put_last(&mut self.seats, Seat::begun(key));
     }
 
     /// A call has ended with this reply, which is kept where the call is still its caller's last one. It takes no
@@ -81,7 +90,7 @@ impl CallTable {
         ensures room { self.old.room ≤ self.new.room }
     {
         if is_last(&self.seats, &key) {
-            put_seat(&mut self.seats, Seat::ended(key, reply));
+            put_last(&mut self.seats, Seat::ended(key, reply));
         }
     }
 }

@@ -29,18 +29,18 @@ use Rattle.afs_num.specs.declared.histories.Line.TheVariants as lines
 use Rattle.afs_num.specs.declared.histories.ReadSource.TheVariants.{Fetched}
 use Rattle.afs_num.specs.declared.states.CacheEntry.{CacheEntry}
 use Rattle.afs_num.specs.declared.states.ClientState.{ClientState}
-use Rattle.afs_num.specs.declared.states.Seat.{Seat}
+use Rattle.afs_model.specs.Calls.{call_seat}
 use Rattle.afs_model.specs.Runs.{Entry, Cell, message_at}
-use Rattle.afs_model.specs.ServerRow.{seat_of}
 use Rattle.afs_model.specs.ClientRow.{the_server, find_cached}
 use Rattle.afs_model.specs.Past.{onto, lines_of, sent_of, given_message, answered_key, running, has_begun, CalledSince, IsCall}
 use Rattle.afs_model.specs.Ideal.{last_version, HasVersion, asked}
 use Rattle.afs_model.specs.Grants.{has_fetched, fetch_reply, since}
 use Rattle.afs_model.specs.Legal.{Cause}
+use Rattle.afs_model.proofs.Basics.{Seat}
 use Rattle.afs_model.proofs.Basics.{UpTo, IfCall, IfReply, OfReply}
 use Rattle.afs_model.specs.Steps.{Step}
 use Rattle.afs_model.specs.Runs.{client_moves, begun_by, voided}
-use Rattle.afs_model.specs.ClientRow.{guest, used_first, refreshed, call_message, calls_step, zero_code, shows_step, opens, begin_row, ignores, ended, answers_step, shows_fetched_step, takes_stored, takes, resends_step, counts, is_awaited, awaits, client_row}
+use Rattle.afs_model.specs.ClientRow.{guest, used_first, refreshed, refreshed_cache, call_message, calls_step, zero_code, shows_step, opens, begin_row, ignores, ended, answers_step, shows_fetched_step, takes_stored, takes, resends_step, counts, is_awaited, awaits, client_row}
 use Rattle.afs_model.specs.Legal.{code_told, GoodCode}
 use Rattle.afs_model.proofs.Basics.{both, same_fid-true, same_fid-refl, same_node-refl, client_number, up_to_both, found-cached-fid, found-first, none-first, found-refreshed, OfCall, each_at, some_of}
 use Rattle.afs_model.proofs.Facts.{View, view, last_key, LastRan, Reached, index_of, IsNewest, Overtaken, Stands, IsCurrent, HasCurrent, Answers, stored_index, ClientFacts, CallFact, CallIn, ReplyFact, ReplyIn, HoldsAt, Goes}
@@ -337,7 +337,7 @@ takes_saved : (s : Script) (c : Cell) (past : List Entry) (n p : ℕ) (f : Fid) 
 takes_saved s c past n p f b head status sync h d =
     let m : Message = record { head = head; carried = carried.Reply (replies.StoreData status sync) } in
     let i : ℕ = status.sync_counter in
-    let cache : List CacheEntry = map (refreshed c.clock f i b) (c.clients n).cache in
+    let cache : List CacheEntry = refreshed_cache c.clock f i b (c.clients n).cache in
     let e : Entry = step_entry n (answered_lines n p zero_code) [] in
     moves s c past n (takes_stored (Client n) (c.clients n) c.clock p f i b) h
     (tt, ((refl, good_code s c past n p (Close f b) m zero_code (lines.Given p ∷ []) h d refl refl refl refl), tt))
@@ -389,7 +389,7 @@ same_parts a b e d n m x y z = ap (λ (q : Node). key_by q e n) x ∙ (ap (λ (q
 is_due : (s : Script) (c : Cell) (past : List Entry) (n p : ℕ) (act : Act) (m : Message) → HoldsAt s c past → Heard c p m → m.head.to ≡ Client n → ReplyIn (view c) m → Awaited c n act m → (c.clients n).running ≡ Some act → Due c past n p act m
 is_due s c past n p act m h heard to f w runs =
     let one : f.client ≡ n = client_number f.client n (sym f.to ∙ to) in
-    let fact : ReplyFact (seat_of (Client n) c.server.seats) m = subst (λ (j : ℕ). ReplyFact (seat_of (Client j) c.server.seats) m) one f.fact in
+    let fact : ReplyFact (call_seat (Client n) c.server.seats) m = subst (λ (j : ℕ). ReplyFact (call_seat (Client j) c.server.seats) m) one f.fact in
     let d = h.clients n in
     let up : UpTo fact.seat.epoch fact.seat.number m.head.epoch m.head.number =
     subst (λ (x : ℕ). UpTo fact.seat.epoch fact.seat.number x m.head.number) (sym w.epoch) (subst (λ (x : ℕ). UpTo fact.seat.epoch fact.seat.number (c.clients n).epoch x) (sym w.number) (d.behind fact.seat fact.at)) in

@@ -23,8 +23,8 @@ use Rattle.afs_num.specs.declared.histories.ReadSource.TheVariants.{Cached, Fetc
 use Rattle.afs_num.specs.declared.histories.Version.{Version}
 use Rattle.afs_num.specs.declared.states.CacheEntry.{CacheEntry}
 use Rattle.afs_num.specs.declared.states.ClientState.{ClientState}
+use Rattle.afs_model.specs.Calls.{call_seat}
 use Rattle.afs_model.specs.Runs.{Entry, Cell, message_at}
-use Rattle.afs_model.specs.ServerRow.{seat_of}
 use Rattle.afs_model.specs.ClientRow.{the_server, find_cached}
 use Rattle.afs_model.specs.Past.{onto, lines_of, sent_of, given_message, running, CalledSince, IsCall, IsCallUnder}
 use Rattle.afs_model.specs.Ideal.{last_version, HasVersion, Accepts, clock_of, asked, reach, raised}
@@ -56,18 +56,18 @@ pub record Passes (s : Script) (n : ℕ) (ls : List Line) (ms : List Message) (p
   pub dull : (k : Key) (boot : ℕ) → IsCallUnder k boot (given_message ls (sent_of past)) → ⊥
 
 abbrev pub view_after : Cell → ℕ → ClientState → View
-view_after c n x = view_of c.clock x (seat_of (Client n) c.server.seats)
+view_after c n x = view_of c.clock x (call_seat (Client n) c.server.seats)
 
 abbrev pub views_after : Cell → ℕ → ClientState → ℕ → View
-views_after c n x j = view_of c.clock (put n x c.clients j) (seat_of (Client j) c.server.seats)
+views_after c n x j = view_of c.clock (put n x c.clients j) (call_seat (Client j) c.server.seats)
 
 calls_moved : (c : Cell) (n : ℕ) (x : ClientState) (sent : List Message) → ((head : Head) (call : FsCall) → CallFact (view c n) head call → CallFact (view_after c n x) head call) → Each (IfCall (CallIn (view c))) sent → Each (IfCall (CallIn (views_after c n x))) sent
 calls_moved c n x sent w h = each_map (IfCall (CallIn (view c))) (IfCall (CallIn (views_after c n x))) (if_call (CallIn (view c)) (CallIn (views_after c n x)) (λ head user call f. record {
   client = f.client;
   from = f.from;
   to = f.to;
-  fact = at_put n f.client (λ u. CallFact (view_of c.clock u (seat_of (Client f.client) c.server.seats)) head call) x c.clients
-      (λ e. subst (λ (m : ℕ). CallFact (view_of c.clock x (seat_of (Client m) c.server.seats)) head call) e (w head call (subst (λ (m : ℕ). CallFact (view c m) head call) (sym e) f.fact)))
+  fact = at_put n f.client (λ u. CallFact (view_of c.clock u (call_seat (Client f.client) c.server.seats)) head call) x c.clients
+      (λ e. subst (λ (m : ℕ). CallFact (view_of c.clock x (call_seat (Client m) c.server.seats)) head call) e (w head call (subst (λ (m : ℕ). CallFact (view c m) head call) (sym e) f.fact)))
       (λ ne. f.fact);
 })) sent h
 
@@ -87,8 +87,8 @@ moves s c past n st h good p own w news =
         home = λ f file found. p.home file.fid.volume (lines_of past) (h.home f file found);
         new = λ k above. p.new k (lines_of past) (h.new k above);
         unheard = λ k above. (λ x. p.dull k c.server.boot x, h.unheard k above);
-        clients = λ j. at_put n j (λ u. ClientFacts j (view_of c.clock u (seat_of (Client j) c.server.seats)) (e ∷ past)) st.state c.clients
-            (λ q. subst (λ (m : ℕ). ClientFacts m (view_of c.clock st.state (seat_of (Client m) c.server.seats)) (e ∷ past)) q own)
+        clients = λ j. at_put n j (λ u. ClientFacts j (view_of c.clock u (call_seat (Client j) c.server.seats)) (e ∷ past)) st.state c.clients
+            (λ q. subst (λ (m : ℕ). ClientFacts m (view_of c.clock st.state (call_seat (Client m) c.server.seats)) (e ∷ past)) q own)
             (λ ne. client_still j (view c j) e past (p.file j ne) (p.reach j ne) (p.act j ne) (λ f. p.last f (lines_of past)) (h.clients j));
         sent = more_sent c.sent (view c) (views_after c n st.state) e past h.sent (calls_moved c n st.state c.sent w h.sent.calls) (replies_moved c n st.state c.sent h.sent.replies) news;
         clock = p.clock (lines_of past) ∙ h.clock;
@@ -284,7 +284,7 @@ own_call c past n x act ls runs at = record {
       client = n;
       from = refl;
       to = refl;
-      fact = at_put n n (λ u. CallFact (view_of c.clock u (seat_of (Client n) c.server.seats)) (call_head (Client n) x act) (call_of act)) x c.clients
+      fact = at_put n n (λ u. CallFact (view_of c.clock u (call_seat (Client n) c.server.seats)) (call_head (Client n) x act) (call_of act)) x c.clients
           (λ q. record {
             behind = up_to_same _ _ _ _ refl refl;
             own = λ b y e k. call_is act ∙ ap asked (some_of act b (sym runs ∙ y));

@@ -1,9 +1,15 @@
 -- Small laws: fids, nodes and keys; pairs of epoch and number; seats; what is found; lists of messages.
 use Rattle.std.proofs.Common.{◌≡◌, ℕ, zero, suc, ◌+◌, ◌<◌, ◌≤◌, ◌⊎◌, inl, inr, Bool, true, false, cond, eqb, ltb, not, List, [], ◌∷◌, ◌++◌, map, Option, Some, None, refl, sym, ap, subst, ◌∙◌, arith, eq-eqb, eqb-true, ltb-true, ltb-false}
-use Rattle.std.specs.Prelude.{filter, ◌&&◌, ⊤}
+use Rattle.std.specs.Prelude.{◌&&◌, ⊤}
+use Rattle.std.specs.declared.cmp.Ordering.{Ordering}
+use Rattle.std.specs.declared.cmp.Ordering.TheVariants.{Less, Equal, Greater}
+use Rattle.std.specs.Ordering.{nat_cmp, ordering_then, match_ordering}
+use Rattle.std.proofs.lemmas.Cmp.{tied_itself, nat_cmp_total}
+use Rattle.std.proofs.lemmas.Map.Lookups.{exact_unsigned}
 use Rattle.std.specs.Option.{option_map}
 use Rattle.std.proofs.Math.Nat.{max-le, eq-or-lt_of_le}
-use Rattle.afs_num.specs.Fids.{same_fid}
+use Rattle.afs_num.specs.Fids.{same_fid, fid_order}
+use Rattle.afs_num.specs.Keyed.{other_keyed}
 use Rattle.afs_num.specs.Nodes.{same_node}
 use Rattle.afs_num.specs.declared.types.Fid.{Fid}
 use Rattle.afs_num.specs.declared.types.Head.{Head}
@@ -15,13 +21,14 @@ use Rattle.afs_num.specs.declared.messages.Carried.{Carried}
 use Rattle.afs_num.specs.declared.messages.Carried.TheVariants as carried
 use Rattle.afs_num.specs.declared.messages.Message.{Message}
 use Rattle.afs_num.specs.declared.states.StoredFile.{StoredFile}
-use Rattle.afs_num.specs.declared.states.Seat.{Seat}
 use Rattle.afs_num.specs.declared.states.CacheEntry.{CacheEntry}
 use Rattle.afs_model.specs.Past.{same_key}
 use Rattle.afs_model.specs.Ideal.{raised}
 use Rattle.afs_model.specs.Runs.{put, message_at}
-use Rattle.afs_model.specs.ServerRow.{pair_below, Standing, is_older, is_last, is_newer, standing, seat_of, seated, find_file, with_file}
-use Rattle.afs_model.specs.ClientRow.{find_cached, used_first, is_trusted, refreshed}
+use Rattle.afs_model.specs.Calls.{CallSeat, Admitted, runs, kept, older, pair_below, caller_of, call_seat, call_seated, repeated, paired}
+use Rattle.afs_model.specs.ServerRow.{find_file, with_file}
+use Rattle.afs_model.specs.ClientRow.{cached_fid, find_cached, used_first, is_trusted, refreshed, refreshed_cache}
+use Rattle.afs_model.proofs.Keyed.{IsExact, found_key, found_left, found_own, at_last}
 
 -- ---- fids, nodes, keys
 
@@ -153,100 +160,70 @@ next_not e n d m (inr x) p q = let y : n ≤ m = x.1 in absurd (omega arith)
 
 -- ---- a seat, and a call above it
 
-abbrev pub Above : Option Seat → ℕ → ℕ → Type 0
-Above None e n = ⊤
-Above (Some seat) e n = Below seat.epoch seat.number e n
+-- a caller's seat at a server
+abbrev pub Seat : Type 0
+Seat = CallSeat Message
 
-abbrev stands : Head → Seat → Bool → Bool → Standing
-stands head seat a b = cond a is_older (cond b is_newer (is_last seat.reply))
+abbrev pub Above : {R : Type 0} → Option (CallSeat R) → ℕ → ℕ → Type 0
+Above {R} None e n = ⊤
+Above {R} (Some seat) e n = Below seat.epoch seat.number e n
 
-newer_by : (head : Head) (seat : Seat) (a b : Bool) → stands head seat a b ≡ is_newer → b ≡ true
-newer_by head seat true b e = absurd cc
-newer_by head seat false true e = refl
-newer_by head seat false false e = absurd cc
+abbrev stands : {R : Type 0} → Option R → Bool → Bool → Admitted R
+stands {R} reply a b = cond a older (cond b runs (repeated reply))
 
-pub newer_above : (head : Head) (o : Option Seat) → standing head o ≡ is_newer → Above o head.epoch head.number
-newer_above head None e = tt
-newer_above head (Some seat) e = below-true _ _ _ _ (newer_by head seat (pair_below head.epoch head.number seat.epoch seat.number) (pair_below seat.epoch seat.number head.epoch head.number) e)
+newer_by : {R : Type 0} (reply : Option R) (a b : Bool) → stands reply a b ≡ runs → b ≡ true
+newer_by reply true b e = absurd cc
+newer_by reply false true e = refl
+newer_by None false false e = absurd cc
+newer_by (Some x) false false e = absurd cc
 
--- what is not newer is not above
-not_by : (head : Head) (seat : Seat) (a b : Bool) → (stands head seat a b ≡ is_newer → ⊥) → pair_below head.epoch head.number seat.epoch seat.number ≡ a → pair_below seat.epoch seat.number head.epoch head.number ≡ b
-    → Below seat.epoch seat.number head.epoch head.number → ⊥
-not_by head seat true b ne x y l = below_not _ _ _ _ l (below_up_to _ _ _ _ (below-true _ _ _ _ x))
-not_by head seat false true ne x y l = ne refl
-not_by head seat false false ne x y l = below_not _ _ _ _ l (below-false _ _ _ _ y)
+-- a call that is to run is above its caller's seat
+pub runs_above : {R : Type 0} (e n : ℕ) (o : Option (CallSeat R)) → paired e n o ≡ runs → Above o e n
+runs_above e n None r = tt
+runs_above e n (Some seat) r = below-true _ _ _ _ (newer_by seat.reply (pair_below e n seat.epoch seat.number) (pair_below seat.epoch seat.number e n) r)
 
-pub not_newer : (head : Head) (o : Option Seat) → (standing head o ≡ is_newer → ⊥) → Above o head.epoch head.number → ⊥
-not_newer head None ne a = ne refl
-not_newer head (Some seat) ne a = not_by head seat (pair_below head.epoch head.number seat.epoch seat.number) (pair_below seat.epoch seat.number head.epoch head.number) ne refl refl a
+not_by : {R : Type 0} (e n : ℕ) (seat : CallSeat R) (a b : Bool) → (stands seat.reply a b ≡ runs → ⊥) → pair_below e n seat.epoch seat.number ≡ a → pair_below seat.epoch seat.number e n ≡ b → Below seat.epoch seat.number e n → ⊥
+not_by e n seat true b ne x y l = below_not _ _ _ _ l (below_up_to _ _ _ _ (below-true _ _ _ _ x))
+not_by e n seat false true ne x y l = ne refl
+not_by e n seat false false ne x y l = below_not _ _ _ _ l (below-false _ _ _ _ y)
 
-reply_of : (a b : Option Message) → ◌≡◌ {A = Standing} (is_last a) (is_last b) → a ≡ b
-reply_of a b e = cc
+-- and any other is not
+pub not_above : {R : Type 0} (e n : ℕ) (o : Option (CallSeat R)) → (paired e n o ≡ runs → ⊥) → Above o e n → ⊥
+not_above e n None ne a = ne refl
+not_above e n (Some seat) ne a = not_by e n seat (pair_below e n seat.epoch seat.number) (pair_below seat.epoch seat.number e n) ne refl refl a
 
-last_by : (head : Head) (seat : Seat) (r : Option Message) (a b : Bool) → stands head seat a b ≡ is_last r → pair_below head.epoch head.number seat.epoch seat.number ≡ a → pair_below seat.epoch seat.number head.epoch head.number ≡ b
-    → (r ≡ seat.reply) × (UpTo head.epoch head.number seat.epoch seat.number)
-last_by head seat r true b e x y = absurd cc
-last_by head seat r false true e x y = absurd cc
-last_by head seat r false false e x y = (sym (reply_of seat.reply r e), below-false _ _ _ _ y)
-
--- the kept reply of the seat
-pub record LastSeat (o : Option Seat) (r : Option Message) : Type 0 where
-  pub seat : Seat
+-- the reply of the seat's own call
+pub record LastSeat {R : Type 0} (e n : ℕ) (o : Option (CallSeat R)) (r : R) : Type 0 where
+  pub seat : CallSeat R
   pub at : o ≡ Some seat
-  pub reply : r ≡ seat.reply
+  pub reply : seat.reply ≡ Some r
+  pub epoch : seat.epoch ≡ e
+  pub number : seat.number ≡ n
 
-pub last_seat : (head : Head) (o : Option Seat) (r : Option Message) → standing head o ≡ is_last r → LastSeat o r
-last_seat head None r e = absurd cc
-last_seat head (Some seat) r e = record { seat = seat; at = refl; reply = (last_by head seat r (pair_below head.epoch head.number seat.epoch seat.number) (pair_below seat.epoch seat.number head.epoch head.number) e refl refl).0 }
+last_by : {R : Type 0} (e n : ℕ) (seat : CallSeat R) (r : Option R) (reply : R) (a b : Bool) → seat.reply ≡ r → stands r a b ≡ kept reply → pair_below e n seat.epoch seat.number ≡ a → pair_below seat.epoch seat.number e n ≡ b
+    → LastSeat e n (Some seat) reply
+last_by e n seat r reply true b is k x y = absurd cc
+last_by e n seat r reply false true is k x y = absurd cc
+last_by e n seat None reply false false is k x y = absurd cc
+last_by e n seat (Some z) reply false false is k x y =
+    let p : z ≡ reply = cc in
+    let q = up_to_both seat.epoch seat.number e n (below-false _ _ _ _ x) (below-false _ _ _ _ y) in
+    record { seat = seat; at = refl; reply = is ∙ ap Some p; epoch = q.0; number = q.1 }
+
+pub kept_last : {R : Type 0} (e n : ℕ) (o : Option (CallSeat R)) (reply : R) → paired e n o ≡ kept reply → LastSeat e n o reply
+kept_last e n None reply k = absurd cc
+kept_last e n (Some seat) reply k = last_by e n seat seat.reply reply (pair_below e n seat.epoch seat.number) (pair_below seat.epoch seat.number e n) refl k refl refl
 
 -- ---- the seats, after one was taken
 
-seat_last : (x : Seat) (m : Node) (seats : List Seat) → same_node x.caller m ≡ false → seat_of m (seats ++ x ∷ []) ≡ seat_of m seats
-seat_last x m [] e = rw e refl
-seat_last x m (y ∷ seats) e = ap (λ (o : Option Seat). cond (same_node y.caller m) (Some y) o) (seat_last x m seats e)
+pub exact_node : IsExact same_node
+exact_node = record { exact = same_node-true; itself = same_node-refl }
 
-kept_by : (b t : Bool) (x y : Seat) (m : Node) (rest old : List Seat) → same_node y.caller x.caller ≡ b → same_node y.caller m ≡ t → (x.caller ≡ m → ⊥) → seat_of m rest ≡ seat_of m old
-    → seat_of m (cond (not b) (y ∷ rest) rest) ≡ cond t (Some y) (seat_of m old)
-kept_by true true x y m rest old a t ne ih = absurd (ne (sym (same_node-true _ _ a) ∙ same_node-true _ _ t))
-kept_by true false x y m rest old a t ne ih = ih
-kept_by false t x y m rest old a e ne ih = rw (e, ih) refl
+pub own_seat : {R : Type 0} (x : CallSeat R) (seats : List (CallSeat R)) → call_seat x.caller (call_seated x seats) ≡ Some x
+own_seat {R} x seats = found_own (caller_of {R = R}) same_node exact_node x seats
 
-seat_kept : (x : Seat) (m : Node) (seats : List Seat) → (x.caller ≡ m → ⊥) → seat_of m (filter (λ s. not (same_node s.caller x.caller)) seats) ≡ seat_of m seats
-seat_kept x m [] ne = refl
-seat_kept x m (y ∷ seats) ne = kept_by (same_node y.caller x.caller) (same_node y.caller m) x y m (filter (λ s. not (same_node s.caller x.caller)) seats) seats refl refl ne (seat_kept x m seats ne)
-
-gone_by : (b : Bool) (x y : Seat) (rest : List Seat) → same_node y.caller x.caller ≡ b → seat_of x.caller rest ≡ None → seat_of x.caller (cond (not b) (y ∷ rest) rest) ≡ None
-gone_by true x y rest a ih = ih
-gone_by false x y rest a ih = rw (a, ih) refl
-
-seat_gone : (x : Seat) (seats : List Seat) → seat_of x.caller (filter (λ s. not (same_node s.caller x.caller)) seats) ≡ None
-seat_gone x [] = refl
-seat_gone x (y ∷ seats) = gone_by (same_node y.caller x.caller) x y _ refl (seat_gone x seats)
-
-end_by : (b : Bool) (x y : Seat) (seats : List Seat) → cond b (Some y) (seat_of x.caller seats) ≡ None → (seat_of x.caller seats ≡ None → seat_of x.caller (seats ++ x ∷ []) ≡ Some x) → cond b (Some y) (seat_of x.caller (seats ++ x ∷ [])) ≡ Some x
-end_by true x y seats e ih = absurd cc
-end_by false x y seats e ih = ih e
-
-seat_end : (x : Seat) (seats : List Seat) → seat_of x.caller seats ≡ None → seat_of x.caller (seats ++ x ∷ []) ≡ Some x
-seat_end x [] e = rw (same_node-refl x.caller) refl
-seat_end x (y ∷ seats) e = end_by (same_node y.caller x.caller) x y seats e (seat_end x seats)
-
-pub own_seat : (x : Seat) (seats : List Seat) → seat_of x.caller (seated x seats) ≡ Some x
-own_seat x seats = seat_end x _ (seat_gone x seats)
-
-pub other_seat : (x : Seat) (m : Node) (seats : List Seat) → (x.caller ≡ m → ⊥) → seat_of m (seated x seats) ≡ seat_of m seats
-other_seat x m seats ne = seat_last x m _ (node_apart x.caller m ne) ∙ seat_kept x m seats ne
-
-seat_test : (x : Seat) (m : Node) (seats : List Seat) (P : Option Seat → Type 0) (t : Bool) → same_node x.caller m ≡ t → (x.caller ≡ m → P (Some x)) → ((x.caller ≡ m → ⊥) → P (seat_of m seats)) → P (seat_of m (seated x seats))
-seat_test x m seats P true t a b =
-    let q : x.caller ≡ m = same_node-true _ _ t in
-    subst P (sym (own_seat x seats) ∙ ap (λ (n : Node). seat_of n (seated x seats)) q) (a q)
-seat_test x m seats P false t a b =
-    let ne : x.caller ≡ m → ⊥ = λ q. let y : same_node x.caller m ≡ true = ap (same_node x.caller) (sym q) ∙ same_node-refl x.caller in absurd cc in
-    subst P (sym (other_seat x m seats ne)) (b ne)
-
-pub at_seat : (x : Seat) (m : Node) (seats : List Seat) (P : Option Seat → Type 0) → (x.caller ≡ m → P (Some x)) → ((x.caller ≡ m → ⊥) → P (seat_of m seats)) → P (seat_of m (seated x seats))
-at_seat x m seats P a b = seat_test x m seats P (same_node x.caller m) refl a b
+pub at_seat : {R : Type 0} (x : CallSeat R) (m : Node) (seats : List (CallSeat R)) (P : Option (CallSeat R) → Type 0) → (x.caller ≡ m → P (Some x)) → ((x.caller ≡ m → ⊥) → P (call_seat m seats)) → P (call_seat m (call_seated x seats))
+at_seat {R} x m seats P a b = at_last (caller_of {R = R}) same_node exact_node x m seats P a b
 
 -- ---- a map changed at one place
 
@@ -259,74 +236,68 @@ at_put c j P x h a b = put_by (eqb c j) P x (h j) (λ t. a (eqb-true c j t)) (λ
 
 -- ---- files
 
-found_by : (b : Bool) (f : Fid) (u : StoredFile) (us : List StoredFile) (v : StoredFile) → (find_file f us ≡ Some v → same_fid v.fid f ≡ true) → same_fid u.fid f ≡ b → cond b (Some u) (find_file f us) ≡ Some v → same_fid v.fid f ≡ true
-found_by true f u us v ih h e = let p : u ≡ v = cc in subst (λ (w : StoredFile). same_fid w.fid f ≡ true) p h
-found_by false f u us v ih h e = ih e
+pub exact_fid : IsExact same_fid
+exact_fid = record { exact = same_fid-true; itself = same_fid-refl }
+
+abbrev file_fid : StoredFile → Fid
+file_fid v = v.fid
 
 pub found-fid : (f : Fid) (vs : List StoredFile) (v : StoredFile) → find_file f vs ≡ Some v → same_fid v.fid f ≡ true
-found-fid f [] v e = absurd cc
-found-fid f (u ∷ us) v e = found_by (same_fid u.fid f) f u us v (λ h. found-fid f us v h) refl e
+found-fid f vs v e = found_key file_fid same_fid exact_fid f vs v e
 
-file_last : (x : StoredFile) (f : Fid) (files : List StoredFile) → same_fid x.fid f ≡ false → find_file f (files ++ x ∷ []) ≡ find_file f files
-file_last x f [] e = rw e refl
-file_last x f (y ∷ files) e = ap (λ (o : Option StoredFile). cond (same_fid y.fid f) (Some y) o) (file_last x f files e)
+-- ---- the order of files
 
-file_kept_by : (b t : Bool) (x y : StoredFile) (f : Fid) (rest old : List StoredFile) → same_fid y.fid x.fid ≡ b → same_fid y.fid f ≡ t → (x.fid ≡ f → ⊥) → find_file f rest ≡ find_file f old → find_file f (cond (not b) (y ∷ rest) rest) ≡ cond t (Some y) (find_file f old)
-file_kept_by true true x y f rest old a t ne ih = absurd (ne (sym (same_fid-true _ _ a) ∙ same_fid-true _ _ t))
-file_kept_by true false x y f rest old a t ne ih = ih
-file_kept_by false t x y f rest old a e ne ih = rw (e, ih) refl
+then_equal : (o p : Ordering) → ordering_then o p ≡ Equal → (o ≡ Equal) × (p ≡ Equal)
+then_equal Less p e = absurd cc
+then_equal Equal p e = (refl, e)
+then_equal Greater p e = absurd cc
 
-file_kept : (x : StoredFile) (f : Fid) (files : List StoredFile) → (x.fid ≡ f → ⊥) → find_file f (filter (λ v. not (same_fid v.fid x.fid)) files) ≡ find_file f files
-file_kept x f [] ne = refl
-file_kept x f (y ∷ files) ne = file_kept_by (same_fid y.fid x.fid) (same_fid y.fid f) x y f (filter (λ v. not (same_fid v.fid x.fid)) files) files refl refl ne (file_kept x f files ne)
+pub order_equal : (a b : Fid) → fid_order a b ≡ Equal → a ≡ b
+order_equal a b e =
+    let p = then_equal (nat_cmp a.volume b.volume) (ordering_then (nat_cmp a.vnode b.vnode) (nat_cmp a.unique b.unique)) e in
+    let q = then_equal (nat_cmp a.vnode b.vnode) (nat_cmp a.unique b.unique) p.1 in
+    ap (λ (v : ℕ). fid_of v a.vnode a.unique) (exact_unsigned _ _ p.0) ∙ (ap (λ (n : ℕ). fid_of b.volume n a.unique) (exact_unsigned _ _ q.0) ∙ ap (fid_of b.volume b.vnode) (exact_unsigned _ _ q.1))
 
-file_gone_by : (b : Bool) (x y : StoredFile) (rest : List StoredFile) → same_fid y.fid x.fid ≡ b → find_file x.fid rest ≡ None → find_file x.fid (cond (not b) (y ∷ rest) rest) ≡ None
-file_gone_by true x y rest a ih = ih
-file_gone_by false x y rest a ih = rw (a, ih) refl
+pub order_itself : (a : Fid) → fid_order a a ≡ Equal
+order_itself a = rw (tied_itself nat_cmp_total a.volume, tied_itself nat_cmp_total a.vnode, tied_itself nat_cmp_total a.unique) refl
 
-file_gone : (x : StoredFile) (files : List StoredFile) → find_file x.fid (filter (λ v. not (same_fid v.fid x.fid)) files) ≡ None
-file_gone x [] = refl
-file_gone x (y ∷ files) = file_gone_by (same_fid y.fid x.fid) x y _ refl (file_gone x files)
+absorbed : (a b : Bool) (x v : StoredFile) (o : Option StoredFile) → a ≡ b → cond a (Some x) o ≡ cond a (Some x) (cond b (Some v) o)
+absorbed true b x v o e = refl
+absorbed false true x v o e = absurd cc
+absorbed false false x v o e = refl
 
-file_end_by : (b : Bool) (x y : StoredFile) (files : List StoredFile) → cond b (Some y) (find_file x.fid files) ≡ None → (find_file x.fid files ≡ None → find_file x.fid (files ++ x ∷ []) ≡ Some x) → cond b (Some y) (find_file x.fid (files ++ x ∷ [])) ≡ Some x
-file_end_by true x y files e ih = absurd cc
-file_end_by false x y files e ih = ih e
+swapped : (a b : Bool) (x v : StoredFile) (o : Option StoredFile) → (a ≡ true → b ≡ true → ⊥) → cond b (Some v) (cond a (Some x) o) ≡ cond a (Some x) (cond b (Some v) o)
+swapped true true x v o ne = absurd (ne refl refl)
+swapped true false x v o ne = refl
+swapped false b x v o ne = refl
 
-file_end : (x : StoredFile) (files : List StoredFile) → find_file x.fid files ≡ None → find_file x.fid (files ++ x ∷ []) ≡ Some x
-file_end x [] e = rw (same_fid-refl x.fid) refl
-file_end x (y ∷ files) e = file_end_by (same_fid y.fid x.fid) x y files e (file_end x files)
-
-found_with_by : (t : Bool) (x : StoredFile) (f : Fid) (files : List StoredFile) → same_fid x.fid f ≡ t → find_file f (with_file x files) ≡ cond t (Some x) (find_file f files)
-found_with_by true x f files t = ap (λ (g : Fid). find_file g (with_file x files)) (sym (same_fid-true x.fid f t)) ∙ file_end x _ (file_gone x files)
-found_with_by false x f files t = file_last x f _ t ∙ file_kept x f files (apart x.fid f t)
+placed_by : (o : Ordering) (x v : StoredFile) (f : Fid) (files rest : List StoredFile) → fid_order x.fid v.fid ≡ o → find_file f rest ≡ cond (same_fid x.fid f) (Some x) (find_file f files)
+    → find_file f (match_ordering o (x ∷ v ∷ files) (x ∷ files) (v ∷ rest)) ≡ cond (same_fid x.fid f) (Some x) (cond (same_fid v.fid f) (Some v) (find_file f files))
+placed_by Less x v f files rest e ih = refl
+placed_by Equal x v f files rest e ih = absorbed (same_fid x.fid f) (same_fid v.fid f) x v (find_file f files) (ap (λ (g : Fid). same_fid g f) (order_equal x.fid v.fid e))
+placed_by Greater x v f files rest e ih =
+    ap (λ (o : Option StoredFile). cond (same_fid v.fid f) (Some v) o) ih
+    ∙ swapped (same_fid x.fid f) (same_fid v.fid f) x v (find_file f files) (λ a b.
+        let one : x.fid ≡ v.fid = same_fid-true x.fid f a ∙ sym (same_fid-true v.fid f b) in
+        let equal : fid_order x.fid v.fid ≡ Equal = ap (fid_order x.fid) (sym one) ∙ order_itself x.fid in
+        absurd cc)
 
 -- a file that took a place is found under its fid, and another as before
 pub found-with_file : (x : StoredFile) (f : Fid) (files : List StoredFile) → find_file f (with_file x files) ≡ cond (same_fid x.fid f) (Some x) (find_file f files)
-found-with_file x f files = found_with_by (same_fid x.fid f) x f files refl
+found-with_file x f [] = refl
+found-with_file x f (v ∷ files) = placed_by (fid_order x.fid v.fid) x v f files (with_file x files) refl (found-with_file x f files)
 
 -- ---- caches
 
-found_cached_by : (b : Bool) (f : Fid) (u : CacheEntry) (us : List CacheEntry) (v : CacheEntry) → (find_cached f us ≡ Some v → same_fid v.fid f ≡ true) → same_fid u.fid f ≡ b → cond b (Some u) (find_cached f us) ≡ Some v → same_fid v.fid f ≡ true
-found_cached_by true f u us v ih h e = let p : u ≡ v = cc in subst (λ (w : CacheEntry). same_fid w.fid f ≡ true) p h
-found_cached_by false f u us v ih h e = ih e
-
 pub found-cached-fid : (f : Fid) (vs : List CacheEntry) (v : CacheEntry) → find_cached f vs ≡ Some v → same_fid v.fid f ≡ true
-found-cached-fid f [] v e = absurd cc
-found-cached-fid f (u ∷ us) v e = found_cached_by (same_fid u.fid f) f u us v (λ h. found-cached-fid f us v h) refl e
+found-cached-fid f vs v e = found_key cached_fid same_fid exact_fid f vs v e
 
 abbrev without : Fid → List CacheEntry → List CacheEntry
-without f cache = filter (λ e. not (same_fid e.fid f)) cache
+without f cache = other_keyed cached_fid same_fid f cache
 
 -- a file other than the one that was taken out is found as before
-left_by : (b t : Bool) (f g : Fid) (u : CacheEntry) (rest old : List CacheEntry) → same_fid u.fid f ≡ b → same_fid u.fid g ≡ t → (f ≡ g → ⊥) → find_cached g rest ≡ find_cached g old
-    → find_cached g (cond (not b) (u ∷ rest) rest) ≡ cond t (Some u) (find_cached g old)
-left_by true true f g u rest old a t ne ih = absurd (ne (sym (same_fid-true u.fid f a) ∙ same_fid-true u.fid g t))
-left_by true false f g u rest old a t ne ih = ih
-left_by false t f g u rest old a e ne ih = rw (e, ih) refl
-
 found-left : (f g : Fid) (es : List CacheEntry) → (f ≡ g → ⊥) → find_cached g (without f es) ≡ find_cached g es
-found-left f g [] ne = refl
-found-left f g (u ∷ us) ne = left_by (same_fid u.fid f) (same_fid u.fid g) f g u (without f us) us refl refl ne (found-left f g us ne)
+found-left f g es ne = found_left cached_fid same_fid exact_fid f g es ne
 
 first_by : (t : Bool) (g : Fid) (n : CacheEntry) (es : List CacheEntry) (v : CacheEntry) → same_fid n.fid g ≡ t → cond t (Some n) (find_cached g (without n.fid es)) ≡ Some v → ((n.fid ≡ g) × (n ≡ v)) ⊎ ((n.fid ≡ g → ⊥) × (find_cached g es ≡ Some v))
 first_by true g n es v t e = inl (same_fid-true n.fid g t, cc)
@@ -344,6 +315,10 @@ none_by false g n es t at e = found-left n.fid g es (apart n.fid g t) ∙ e
 pub none-first : (g : Fid) (n : CacheEntry) (es : List CacheEntry) → find_cached n.fid es ≡ Some n → find_cached g es ≡ None → find_cached g (used_first n es) ≡ None
 none-first g n es at e = none_by (same_fid n.fid g) g n es refl at e
 
+not_refreshed : (clock : ℕ) (f g : Fid) (i : ℕ) (b : List ℕ) (o : Option CacheEntry) → ((v : CacheEntry) → o ≡ Some v → same_fid v.fid f ≡ false) → o ≡ option_map (refreshed clock f i b) o
+not_refreshed clock f g i b None h = refl
+not_refreshed clock f g i b (Some v) h = rw (h v refl) refl
+
 refreshed_fid_by : (c : Bool) (i : ℕ) (b : List ℕ) (v : CacheEntry) → (cond c (record v { index = i; contents = b }) v).fid ≡ v.fid
 refreshed_fid_by true i b v = refl
 refreshed_fid_by false i b v = refl
@@ -352,9 +327,28 @@ cached_by : (c : Bool) (h : CacheEntry → CacheEntry) (v : CacheEntry) (o : Opt
 cached_by true h v o = refl
 cached_by false h v o = refl
 
-pub found-refreshed : (clock : ℕ) (f g : Fid) (i : ℕ) (b : List ℕ) (vs : List CacheEntry) → find_cached g (map (refreshed clock f i b) vs) ≡ option_map (refreshed clock f i b) (find_cached g vs)
+-- the entries of another fid than the one that was refreshed
+others_stay : (clock : ℕ) (f g : Fid) (i : ℕ) (b : List ℕ) (t : Bool) (v : CacheEntry) (vs : List CacheEntry) → same_fid v.fid g ≡ t → same_fid v.fid f ≡ true
+    → cond t (Some (refreshed clock f i b v)) (find_cached g vs) ≡ cond t (Some (refreshed clock f i b v)) (option_map (refreshed clock f i b) (find_cached g vs))
+others_stay clock f g i b true v vs e at = refl
+others_stay clock f g i b false v vs e at = not_refreshed clock f g i b (find_cached g vs) (λ w found.
+    let gw : same_fid w.fid g ≡ true = found-cached-fid g vs w found in
+    apart_by f w.fid (same_fid w.fid f) refl (let ne : same_fid f g ≡ false = ap (λ (x : Fid). same_fid x g) (sym (same_fid-true v.fid f at)) ∙ e in ap (same_fid f) (same_fid-true w.fid g gw) ∙ ne))
+
+refreshed_by : (clock : ℕ) (f g : Fid) (i : ℕ) (b : List ℕ) (t : Bool) (v : CacheEntry) (vs rest : List CacheEntry) → same_fid v.fid f ≡ t → find_cached g rest ≡ option_map (refreshed clock f i b) (find_cached g vs)
+    → find_cached g (cond t (refreshed clock f i b v ∷ vs) (v ∷ rest)) ≡ option_map (refreshed clock f i b) (find_cached g (v ∷ vs))
+refreshed_by clock f g i b true v vs rest e ih =
+    let fid : (refreshed clock f i b v).fid ≡ v.fid = refreshed_fid_by (same_fid v.fid f && is_trusted clock v) i b v in
+    ap (λ (x : Fid). cond (same_fid x g) (Some (refreshed clock f i b v)) (find_cached g vs)) fid
+    ∙ (others_stay clock f g i b (same_fid v.fid g) v vs refl e ∙ cached_by (same_fid v.fid g) (refreshed clock f i b) v (find_cached g vs))
+refreshed_by clock f g i b false v vs rest e ih =
+    let own : refreshed clock f i b v ≡ v = rw e refl in
+    ap (λ (o : Option CacheEntry). cond (same_fid v.fid g) (Some v) o) ih
+    ∙ (ap (λ (x : CacheEntry). cond (same_fid v.fid g) (Some x) (option_map (refreshed clock f i b) (find_cached g vs))) (sym own) ∙ cached_by (same_fid v.fid g) (refreshed clock f i b) v (find_cached g vs))
+
+pub found-refreshed : (clock : ℕ) (f g : Fid) (i : ℕ) (b : List ℕ) (vs : List CacheEntry) → find_cached g (refreshed_cache clock f i b vs) ≡ option_map (refreshed clock f i b) (find_cached g vs)
 found-refreshed clock f g i b [] = refl
-found-refreshed clock f g i b (v ∷ vs) = rw (refreshed_fid_by (same_fid v.fid f && is_trusted clock v) i b v, found-refreshed clock f g i b vs) (cached_by (same_fid v.fid g) (refreshed clock f i b) v (find_cached g vs))
+found-refreshed clock f g i b (v ∷ vs) = refreshed_by clock f g i b (same_fid v.fid f) v vs (refreshed_cache clock f i b vs) refl (found-refreshed clock f g i b vs)
 
 -- ---- every call, every reply in a list of messages
 

@@ -6,10 +6,10 @@ use Rattle.afs_num.specs.declared.types.Head.{Head}
 use Rattle.afs_num.specs.declared.types.Key.{Key}
 use Rattle.afs_num.specs.declared.types.Node.{Node}
 use Rattle.afs_model.specs.Past.{same_key}
-use Rattle.afs_model.specs.ServerRow.{pair_below, key_of}
-use Rattle.afs_model.specs.Calls.{CallSeat, Admitted, runs, kept, older, wrong_boot, call_seat, other_seats, call_seated, repeated, paired, admitted, is_last_call, Frees}
+use Rattle.afs_model.specs.ServerRow.{key_of}
+use Rattle.afs_model.specs.Calls.{CallSeat, Admitted, pair_below, runs, kept, wrong_boot, call_seat, call_seated, paired, admitted, is_last_call}
 use Rattle.afs_model.specs.CallLaws.{CallEvent, starts, finishes, seats_after, StartsWhatRuns, WasStarted, last_reply}
-use Rattle.afs_model.proofs.Basics.{both, yes_no, same_node-true, same_node-refl, node_apart, same_key-refl, Below, UpTo, below-true, below-false, up_to_below, below_up_to, below_not, up_to_both, up_to_same}
+use Rattle.afs_model.proofs.Basics.{both, yes_no, same_node-true, node_apart, same_key-refl, Below, UpTo, below-false, up_to_below, below_up_to, below_not, up_to_same, runs_above, LastSeat, kept_last, at_seat}
 
 abbrev Seat : Type 0
 Seat = CallSeat (List ℕ)
@@ -20,100 +20,7 @@ begun key = record { caller = key.node; epoch = key.epoch; number = key.number; 
 abbrev done : Key → List ℕ → Seat
 done key reply = record { caller = key.node; epoch = key.epoch; number = key.number; reply = Some reply }
 
--- ---- the seats, after one was taken
-
-seat_last : (x : Seat) (m : Node) (seats : List Seat) → same_node x.caller m ≡ false → call_seat m (seats ++ x ∷ []) ≡ call_seat m seats
-seat_last x m [] e = rw e refl
-seat_last x m (y ∷ seats) e = ap (λ (o : Option Seat). cond (same_node y.caller m) (Some y) o) (seat_last x m seats e)
-
-kept_by : (b t : Bool) (x y : Seat) (m : Node) (rest old : List Seat) → same_node y.caller x.caller ≡ b → same_node y.caller m ≡ t → (x.caller ≡ m → ⊥) → call_seat m rest ≡ call_seat m old
-    → call_seat m (cond (not b) (y ∷ rest) rest) ≡ cond t (Some y) (call_seat m old)
-kept_by true true x y m rest old a t ne ih = absurd (ne (sym (same_node-true _ _ a) ∙ same_node-true _ _ t))
-kept_by true false x y m rest old a t ne ih = ih
-kept_by false t x y m rest old a e ne ih = rw (e, ih) refl
-
-seat_kept : (x : Seat) (m : Node) (seats : List Seat) → (x.caller ≡ m → ⊥) → call_seat m (other_seats x.caller seats) ≡ call_seat m seats
-seat_kept x m [] ne = refl
-seat_kept x m (y ∷ seats) ne = kept_by (same_node y.caller x.caller) (same_node y.caller m) x y m (other_seats x.caller seats) seats refl refl ne (seat_kept x m seats ne)
-
-gone_by : (b : Bool) (x y : Seat) (rest : List Seat) → same_node y.caller x.caller ≡ b → call_seat x.caller rest ≡ None → call_seat x.caller (cond (not b) (y ∷ rest) rest) ≡ None
-gone_by true x y rest a ih = ih
-gone_by false x y rest a ih = rw (a, ih) refl
-
-seat_gone : (x : Seat) (seats : List Seat) → call_seat x.caller (other_seats x.caller seats) ≡ None
-seat_gone x [] = refl
-seat_gone x (y ∷ seats) = gone_by (same_node y.caller x.caller) x y _ refl (seat_gone x seats)
-
-end_by : (b : Bool) (x y : Seat) (seats : List Seat) → cond b (Some y) (call_seat x.caller seats) ≡ None → (call_seat x.caller seats ≡ None → call_seat x.caller (seats ++ x ∷ []) ≡ Some x)
-    → cond b (Some y) (call_seat x.caller (seats ++ x ∷ [])) ≡ Some x
-end_by true x y seats e ih = absurd cc
-end_by false x y seats e ih = ih e
-
-seat_end : (x : Seat) (seats : List Seat) → call_seat x.caller seats ≡ None → call_seat x.caller (seats ++ x ∷ []) ≡ Some x
-seat_end x [] e = rw (same_node-refl x.caller) refl
-seat_end x (y ∷ seats) e = end_by (same_node y.caller x.caller) x y seats e (seat_end x seats)
-
-own_seat : (x : Seat) (seats : List Seat) → call_seat x.caller (call_seated x seats) ≡ Some x
-own_seat x seats = seat_end x _ (seat_gone x seats)
-
-other_seat : (x : Seat) (m : Node) (seats : List Seat) → (x.caller ≡ m → ⊥) → call_seat m (call_seated x seats) ≡ call_seat m seats
-other_seat x m seats ne = seat_last x m _ (node_apart x.caller m ne) ∙ seat_kept x m seats ne
-
-seat_test : (x : Seat) (m : Node) (seats : List Seat) (P : Option Seat → Type 0) (t : Bool) → same_node x.caller m ≡ t → (x.caller ≡ m → P (Some x)) → ((x.caller ≡ m → ⊥) → P (call_seat m seats)) → P (call_seat m (call_seated x seats))
-seat_test x m seats P true t a b =
-    let q : x.caller ≡ m = same_node-true _ _ t in
-    subst P (sym (own_seat x seats) ∙ ap (λ (n : Node). call_seat n (call_seated x seats)) q) (a q)
-seat_test x m seats P false t a b =
-    let ne : x.caller ≡ m → ⊥ = λ q. let y : same_node x.caller m ≡ true = ap (same_node x.caller) (sym q) ∙ same_node-refl x.caller in absurd cc in
-    subst P (sym (other_seat x m seats ne)) (b ne)
-
-at_seat : (x : Seat) (m : Node) (seats : List Seat) (P : Option Seat → Type 0) → (x.caller ≡ m → P (Some x)) → ((x.caller ≡ m → ⊥) → P (call_seat m seats)) → P (call_seat m (call_seated x seats))
-at_seat x m seats P a b = seat_test x m seats P (same_node x.caller m) refl a b
-
--- ---- how many seats are left
-
-fewer_by : (b : Bool) (y : Seat) (rest seats : List Seat) → length rest ≤ length seats → length (cond b (y ∷ rest) rest) ≤ length (y ∷ seats)
-fewer_by true y rest seats h = omega arith
-fewer_by false y rest seats h = omega arith
-
-fewer : (m : Node) (seats : List Seat) → length (other_seats m seats) ≤ length seats
-fewer m [] = omega arith
-fewer m (y ∷ seats) = fewer_by (not (same_node y.caller m)) y (other_seats m seats) seats (fewer m seats)
-
-frees_more : (o : Option Seat) (y : Seat) (rest seats : List Seat) → Frees o (length rest) (length seats) → Frees o (length (y ∷ rest)) (length (y ∷ seats))
-frees_more None y rest seats h = omega arith
-frees_more (Some s) y rest seats h = omega arith
-
-frees_by : (b : Bool) (y : Seat) (o : Option Seat) (rest seats : List Seat) → length rest ≤ length seats → Frees o (length rest) (length seats)
-    → Frees (cond b (Some y) o) (length (cond (not b) (y ∷ rest) rest)) (length (y ∷ seats))
-frees_by true y o rest seats le h = omega arith
-frees_by false y o rest seats le h = frees_more o y rest seats h
-
-pub frees : (m : Node) (seats : List Seat) → Frees (call_seat m seats) (length (other_seats m seats)) (length seats)
-frees m [] = omega arith
-frees m (y ∷ seats) = frees_by (same_node y.caller m) y (call_seat m seats) (other_seats m seats) seats (fewer m seats) (frees m seats)
-
 -- ---- the pair of a call against that of a seat
-
-abbrev stands : Option (List ℕ) → Bool → Bool → Admitted (List ℕ)
-stands r a b = cond a older (cond b runs (repeated r))
-
-newer_by : (r : Option (List ℕ)) (a b : Bool) → stands r a b ≡ runs → b ≡ true
-newer_by r true b e = absurd cc
-newer_by r false true e = refl
-newer_by None false false e = absurd cc
-newer_by (Some x) false false e = absurd cc
-
-record IsThat (r : Option (List ℕ)) (x : List ℕ) (a b : Bool) : Type 0 where
-  from : a ≡ false
-  to : b ≡ false
-  reply : r ≡ Some x
-
-that_by : (r : Option (List ℕ)) (x : List ℕ) (a b : Bool) → stands r a b ≡ kept x → IsThat r x a b
-that_by r x true b e = absurd cc
-that_by r x false true e = absurd cc
-that_by None x false false e = absurd cc
-that_by (Some y) x false false e = let p : y ≡ x = cc in record { from = refl; to = refl; reply = ap Some p }
 
 runs_by : (t : Bool) (boot : ℕ) (v : Admitted (List ℕ)) → cond t v (wrong_boot boot) ≡ runs → v ≡ runs
 runs_by true boot v e = e
@@ -132,8 +39,7 @@ IsSeated key (Some s) = UpTo key.epoch key.number s.epoch s.number
 
 over : (key : Key) (e n : ℕ) (o : Option Seat) → IsSeated key o → paired e n o ≡ runs → Below key.epoch key.number e n
 over key e n None h r = absurd h
-over key e n (Some s) h r =
-    up_to_below _ _ _ _ _ _ h (below-true _ _ _ _ (newer_by s.reply (pair_below e n s.epoch s.number) (pair_below s.epoch s.number e n) r))
+over key e n (Some s) h r = up_to_below _ _ _ _ _ _ h (runs_above e n (Some s) r)
 
 at_last : (key other : Key) (o : Option Seat) → IsSeated key o → is_last_call other o ≡ true → UpTo key.epoch key.number other.epoch other.number
 at_last key other None h t = absurd h
@@ -231,13 +137,12 @@ owns (starts other ∷ past) m =
 owns (finishes other x ∷ past) m =
     finish_owns (is_last_call other (call_seat other.node (seats_after past))) m other x past (seats_after past) refl (owns past m)
 
-own_reply : (head : Head) (past : List CallEvent) (o : Option Seat) (x : List ℕ) → paired head.epoch head.number o ≡ kept x → Owns head.from past o → last_reply (key_of head) past ≡ Some x
-own_reply head past None x e h = absurd cc
-own_reply head past (Some s) x e h =
-    let p = that_by s.reply x (pair_below head.epoch head.number s.epoch s.number) (pair_below s.epoch s.number head.epoch head.number) e in
-    let q = up_to_both s.epoch s.number head.epoch head.number (below-false _ _ _ _ p.from) (below-false _ _ _ _ p.to) in
-    subst (λ (d : ℕ). last_reply (key_at head.from d head.number) past ≡ Some x) q.0 (subst (λ (n : ℕ). last_reply (key_at head.from s.epoch n) past ≡ Some x) q.1 (h x p.reply))
+own_reply : (head : Head) (past : List CallEvent) (o : Option Seat) (x : List ℕ) → LastSeat head.epoch head.number o x → Owns head.from past o → last_reply (key_of head) past ≡ Some x
+own_reply head past o x l h =
+    let own : Owns head.from past (Some l.seat) = subst (Owns head.from past) l.at h in
+    subst (λ (d : ℕ). last_reply (key_at head.from d head.number) past ≡ Some x) l.epoch (subst (λ (n : ℕ). last_reply (key_at head.from l.seat.epoch n) past ≡ Some x) l.number (own x l.reply))
 
 pub kept_of_call : (boot : ℕ) (past : List CallEvent) (head : Head) (reply : List ℕ) → admitted boot (seats_after past) head ≡ kept reply → last_reply (key_of head) past ≡ Some reply
 kept_of_call boot past head reply e =
-    own_reply head past (call_seat head.from (seats_after past)) reply (answers_by (eqb head.boot boot) boot _ reply e) (owns past head.from)
+    let k : paired head.epoch head.number (call_seat head.from (seats_after past)) ≡ kept reply = answers_by (eqb head.boot boot) boot _ reply e in
+    own_reply head past (call_seat head.from (seats_after past)) reply (kept_last head.epoch head.number _ reply k) (owns past head.from)

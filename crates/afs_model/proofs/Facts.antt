@@ -22,16 +22,16 @@ use Rattle.afs_num.specs.declared.histories.Line.{Line}
 use Rattle.afs_num.specs.declared.histories.Version.{Version}
 use Rattle.afs_num.specs.declared.states.CacheEntry.{CacheEntry}
 use Rattle.afs_num.specs.declared.states.ClientState.{ClientState}
-use Rattle.afs_num.specs.declared.states.Seat.{Seat}
 use Rattle.afs_num.specs.declared.states.StoredFile.{StoredFile}
+use Rattle.afs_model.specs.Calls.{call_seat}
 use Rattle.afs_model.specs.Runs.{Entry, Cell, Moved}
-use Rattle.afs_model.specs.ServerRow.{seat_of, find_file, version_of}
+use Rattle.afs_model.specs.ServerRow.{find_file, version_of}
 use Rattle.afs_model.specs.ClientRow.{the_server, find_cached}
 use Rattle.afs_model.specs.Past.{lines_of, sent_of, called_key, running, Called, CalledSince, IsUnheard}
 use Rattle.afs_model.specs.Ideal.{last_version, IsLast, HasVersion, Accepts, clock_of, user_of, asked, reach}
 use Rattle.afs_model.specs.Grants.{fetch_reply, GrantOf, since, IsWithdrawn, IsDropped}
 use Rattle.afs_model.specs.Legal.{IsNew, Cause, AreGood}
-use Rattle.afs_model.proofs.Basics.{UpTo, Above, Each, IfCall, IfReply, OfReply}
+use Rattle.afs_model.proofs.Basics.{Seat, UpTo, Above, Each, IfCall, IfReply, OfReply}
 
 -- ---- what the facts on a client read
 
@@ -47,7 +47,7 @@ abbrev pub view_of : ℕ → ClientState → Option Seat → View
 view_of clock c o = record { clock = clock; epoch = c.epoch; last = c.last; running = c.running; cache = c.cache; seat = o }
 
 abbrev pub view : Cell → ℕ → View
-view c j = view_of c.clock (c.clients j) (seat_of (Client j) c.server.seats)
+view c j = view_of c.clock (c.clients j) (call_seat (Client j) c.server.seats)
 
 -- the key of the client's last call
 abbrev pub last_key : ℕ → View → Key
@@ -208,10 +208,10 @@ AreHome s files ls = (f : Fid) (file : StoredFile) → find_file f files ≡ Som
 
 -- keys above their caller's seat never changed anything, and were never heard in this boot
 abbrev pub AreNew : List Seat → List Line → Type 0
-AreNew seats ls = (k : Key) → Above (seat_of k.node seats) k.epoch k.number → IsNew k ls
+AreNew seats ls = (k : Key) → Above (call_seat k.node seats) k.epoch k.number → IsNew k ls
 
 abbrev pub AreUnheard : List Seat → ℕ → List Entry → Type 0
-AreUnheard seats boot past = (k : Key) → Above (seat_of k.node seats) k.epoch k.number → IsUnheard k boot past
+AreUnheard seats boot past = (k : Key) → Above (call_seat k.node seats) k.epoch k.number → IsUnheard k boot past
 
 -- the last version of a fid has its highest index
 abbrev pub HasTop : List Line → Type 0

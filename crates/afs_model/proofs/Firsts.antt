@@ -15,8 +15,7 @@ use Rattle.afs_num.specs.declared.scripts.Act.TheVariants.{Open, Close}
 use Rattle.afs_num.specs.declared.histories.Line.TheVariants as lines
 use Rattle.afs_num.specs.declared.states.CacheEntry.{CacheEntry}
 use Rattle.afs_num.specs.declared.states.ClientState.{ClientState}
-use Rattle.afs_num.specs.declared.states.ServerState.{ServerState}
-use Rattle.afs_model.specs.ServerRow.{Decision, drops, tells_boot, repeats, refuses, grants, saves, decides, does, server_row}
+use Rattle.afs_model.specs.ServerRow.{ServerState, Decision, drops, tells_boot, repeats, refuses, grants, saves, decides, does, server_row}
 use Rattle.afs_model.specs.ClientRow.{is_trusted, find_cached, calls_step, shows_step, opens, begin_row, shows_fetched_step, takes, counts, is_awaited, awaits, client_hears, client_row, ignores}
 use Rattle.afs_model.specs.Acts.{BeginsWith}
 

@@ -1,3 +1,6 @@
+pub mod Keyed
+pub mod Ordered
+pub mod Headers
 pub mod Basics
 pub mod Facts
 pub mod Passing

@@ -9,13 +9,15 @@ use Rattle.afs_num.specs.declared.types.Fid.{Fid}
 use Rattle.afs_num.specs.declared.types.Head.{Head}
 use Rattle.afs_num.specs.declared.types.Node.{Node}
 use Rattle.afs_num.specs.declared.types.Node.TheVariants.{Loc, Server, Client, Admin}
+use Rattle.afs_num.specs.declared.calls.FsCall.{FsCall}
 use Rattle.afs_num.specs.declared.calls.FsCall.TheVariants as calls
 use Rattle.afs_num.specs.declared.calls.FsReply.{FsReply}
 use Rattle.afs_num.specs.declared.calls.FsReply.TheVariants as replies
 use Rattle.afs_num.specs.declared.messages.Carried.{Carried}
 use Rattle.afs_num.specs.declared.messages.Carried.TheVariants as carried
 use Rattle.afs_num.specs.declared.messages.Message.{Message}
-use Rattle.afs_num.specs.declared.messages.Received.TheVariants.{Whole}
+use Rattle.afs_num.specs.declared.messages.Received.{Received}
+use Rattle.afs_num.specs.declared.messages.Received.TheVariants.{Nothing, Unknown, Unreadable, Whole}
 use Rattle.afs_num.specs.declared.scripts.Act.{Act}
 use Rattle.afs_num.specs.declared.scripts.Act.TheVariants.{Open, Close}
 use Rattle.afs_num.specs.declared.scripts.Event.{Event}
@@ -26,16 +28,16 @@ use Rattle.afs_num.specs.declared.histories.Line.{Line}
 use Rattle.afs_num.specs.declared.histories.Line.TheVariants as lines
 use Rattle.afs_num.specs.declared.states.CacheEntry.{CacheEntry}
 use Rattle.afs_num.specs.declared.states.ClientState.{ClientState}
-use Rattle.afs_num.specs.declared.states.Seat.{Seat}
-use Rattle.afs_num.specs.declared.states.ServerState.{ServerState}
 use Rattle.afs_num.specs.declared.states.StoredFile.{StoredFile}
+use Rattle.afs_model.specs.Calls.{Admitted, pair_below, admitted, paired, repeated, call_seat, call_seated}
+use Rattle.afs_model.specs.Calls as pairs
 use Rattle.afs_model.specs.Steps.{Step}
-use Rattle.afs_model.specs.ServerRow.{pair_below, Standing, is_older, is_last, is_newer, standing, seat_of, seated, find_file, Decision, drops, tells_boot, repeats, refuses, grants, saves, fetches, stores, Request, asks, asks_unknown, asks_unreadable, runs, answers_again, admits, called, hears, decides, does, server_row}
+use Rattle.afs_model.specs.ServerRow.{ServerState, find_file, Decision, drops, tells_boot, repeats, refuses, grants, saves, fetches, stores, serves_call, runs_carried, runs, whole, admits, called, hears, decides, does, server_row}
 use Rattle.afs_model.specs.ClientRow.{the_server, is_trusted, find_cached, calls_step, shows_step, opens, begin_row, shows_fetched_step, takes, counts, is_awaited, awaits, client_row, ignores}
 use Rattle.afs_model.specs.Runs.{Entry, Cell, Input, begins, gives, nothing, Moved, voided, client_moves, server_moves, message_at, given_to, given_at, begun_by, moved, Leads, start, RunsTo}
 use Rattle.afs_model.specs.Acts.{lines_before, sent_before, begun_count, is_busy, acts_of, IsVoid, IsAct, IsDelivery, IsEvent, AreEvents, events_of, Acts}
 use Rattle.afs_model.specs.Playing.{Played, as_played, begun, played, entries_of, cell_after, all_acts, IsOwnTask, IsOwnEvent, HasOneClient}
-use Rattle.afs_model.proofs.Basics.{some_of}
+use Rattle.afs_model.proofs.Basics.{Seat, some_of}
 use Rattle.afs_model.proofs.Firsts.{server_first, client_first, begin_first}
 
 -- ---- what stood before, and one entry more
@@ -105,9 +107,9 @@ found_by : (t : Bool) (s : Seat) (o : Option Seat) → IsOurs s.reply → IsKept
 found_by true s o a b = a
 found_by false s o a b = b
 
-found_kept : (caller : Node) (ss : List Seat) → AreKept ss → IsKept (seat_of caller ss)
+found_kept : (caller : Node) (ss : List Seat) → AreKept ss → IsKept (call_seat caller ss)
 found_kept caller [] a = tt
-found_kept caller (s ∷ ss) a = found_by (same_node s.caller caller) s (seat_of caller ss) a.0 (found_kept caller ss a.1)
+found_kept caller (s ∷ ss) a = found_by (same_node s.caller caller) s (call_seat caller ss) a.0 (found_kept caller ss a.1)
 
 kept_by : (t : Bool) (s : Seat) (ss : List Seat) → IsOurs s.reply → AreKept ss → AreKept (cond t (s ∷ ss) ss)
 kept_by true s ss a b = (a, b)
@@ -121,7 +123,7 @@ last_kept : (seat : Seat) (ss : List Seat) → IsOurs seat.reply → AreKept ss 
 last_kept seat [] a b = (a, tt)
 last_kept seat (s ∷ ss) a b = (b.0, last_kept seat ss a b.1)
 
-seated_kept : (seat : Seat) (ss : List Seat) → IsOurs seat.reply → AreKept ss → AreKept (seated seat ss)
+seated_kept : (seat : Seat) (ss : List Seat) → IsOurs seat.reply → AreKept ss → AreKept (call_seated seat ss)
 seated_kept seat ss a b = last_kept seat (filter (λ s. not (same_node s.caller seat.caller)) ss) a (filter_kept (λ s. not (same_node s.caller seat.caller)) ss b)
 
 -- ---- what a step does to the facts
@@ -146,19 +148,26 @@ IsOurDecision (refuses head code) = IsOurHead head
 IsOurDecision (grants head file) = IsOurHead head
 IsOurDecision (saves head contents file) = IsOurHead head
 
-abbrev IsOurStanding : Standing → Type 0
-IsOurStanding is_older = Unit {0}
-IsOurStanding (is_last reply) = IsOurs reply
-IsOurStanding is_newer = Unit {0}
+abbrev IsOurAdmitted : Admitted Message → Type 0
+IsOurAdmitted (pairs.kept reply) = IsOurHead reply.head
+IsOurAdmitted a = Unit {0}
 
-stands_by : (a b : Bool) (reply : Option Message) → IsOurs reply → IsOurStanding (cond a is_older (cond b is_newer (is_last reply)))
+repeated_ours : (reply : Option Message) → IsOurs reply → IsOurAdmitted (repeated reply)
+repeated_ours None k = tt
+repeated_ours (Some m) k = k
+
+stands_by : (a b : Bool) (reply : Option Message) → IsOurs reply → IsOurAdmitted (cond a pairs.older (cond b pairs.runs (repeated reply)))
 stands_by true b reply k = tt
 stands_by false true reply k = tt
-stands_by false false reply k = k
+stands_by false false reply k = repeated_ours reply k
 
-standing_ours : (head : Head) (o : Option Seat) → IsKept o → IsOurStanding (standing head o)
-standing_ours head None k = tt
-standing_ours head (Some seat) k = stands_by (pair_below head.epoch head.number seat.epoch seat.number) (pair_below seat.epoch seat.number head.epoch head.number) seat.reply k
+paired_ours : (epoch number : ℕ) (o : Option Seat) → IsKept o → IsOurAdmitted (paired epoch number o)
+paired_ours epoch number None k = tt
+paired_ours epoch number (Some seat) k = stands_by (pair_below epoch number seat.epoch seat.number) (pair_below seat.epoch seat.number epoch number) seat.reply k
+
+booted_ours : (t : Bool) (boot : ℕ) (a : Admitted Message) → IsOurAdmitted a → IsOurAdmitted (cond t a (pairs.wrong_boot boot))
+booted_ours true boot a k = k
+booted_ours false boot a k = tt
 
 fetches_ours : (head : Head) (o : Option StoredFile) → IsOurHead head → IsOurDecision (fetches head o)
 fetches_ours head None h = h
@@ -168,34 +177,42 @@ stores_ours : (head : Head) (contents : List ℕ) (o : Option StoredFile) → Is
 stores_ours head contents None h = h
 stores_ours head contents (Some file) h = h
 
-runs_ours : (files : List StoredFile) (head : Head) (r : Request) → IsOurHead head → IsOurDecision (runs files head r)
-runs_ours files head (asks (calls.FetchData fid position length)) h = fetches_ours head (find_file fid files) h
-runs_ours files head (asks (calls.StoreData fid status position length file_length contents)) h = stores_ours head contents (find_file fid files) h
-runs_ours files head (asks call) h = h
-runs_ours files head asks_unknown h = h
-runs_ours files head asks_unreadable h = h
+serves_ours : (files : List StoredFile) (head : Head) (call : FsCall) → IsOurHead head → IsOurDecision (serves_call files head call)
+serves_ours files head (calls.FetchData fid position length) h = fetches_ours head (find_file fid files) h
+serves_ours files head (calls.StoreData fid status position length file_length contents) h = stores_ours head contents (find_file fid files) h
+serves_ours files head call h = h
 
-again_ours : (reply : Option Message) → IsOurs reply → IsOurDecision (answers_again reply)
-again_ours None k = tt
-again_ours (Some m) k = k
+carried_ours : (files : List StoredFile) (head : Head) (c : Carried) → IsOurHead head → IsOurDecision (runs_carried files head c)
+carried_ours files head (carried.Call user call) h = serves_ours files head call h
+carried_ours files head (carried.Refusal code) h = tt
+carried_ours files head (carried.Reply reply) h = tt
+carried_ours files head carried.Notice h = tt
 
-admits_ours : (files : List StoredFile) (head : Head) (r : Request) (s : Standing) → IsOurHead head → IsOurStanding s → IsOurDecision (admits files head r s)
-admits_ours files head r is_older h k = tt
-admits_ours files head r (is_last reply) h k = again_ours reply k
-admits_ours files head r is_newer h k = runs_ours files head r h
+runs_ours : (files : List StoredFile) (head : Head) (r : Received) → IsOurHead head → IsOurDecision (runs files head r)
+runs_ours files head Nothing h = tt
+runs_ours files head (Unknown other) h = h
+runs_ours files head (Unreadable other) h = h
+runs_ours files head (Whole m) h = carried_ours files head m.carried h
 
-tests_ours : (a b : Bool) (head : Head) (d : Decision) → IsOurHead head → IsOurDecision d → IsOurDecision (cond a (cond b d (tells_boot head)) drops)
-tests_ours true true head d h k = k
-tests_ours true false head d h k = h
-tests_ours false b head d h k = tt
+admits_ours : (files : List StoredFile) (head : Head) (r : Received) (a : Admitted Message) → IsOurHead head → IsOurAdmitted a → IsOurDecision (admits files head r a)
+admits_ours files head r pairs.runs h k = runs_ours files head r h
+admits_ours files head r (pairs.kept reply) h k = k
+admits_ours files head r pairs.in_progress h k = tt
+admits_ours files head r pairs.older h k = tt
+admits_ours files head r (pairs.wrong_boot boot) h k = h
 
-called_ours : (me : Node) (s : ServerState) (head : Head) (r : Request) → IsOurHead head → AreKept s.seats → IsOurDecision (called me s head r)
+test_ours : (t : Bool) (d : Decision) → IsOurDecision d → IsOurDecision (cond t d drops)
+test_ours true d k = k
+test_ours false d k = tt
+
+called_ours : (me : Node) (s : ServerState) (head : Head) (r : Received) → IsOurHead head → AreKept s.seats → IsOurDecision (called me s head r)
 called_ours me s head r h k =
-    tests_ours (same_node head.to me) (nat_eq head.boot s.boot) head (admits s.files head r (standing head (seat_of head.from s.seats))) h
-    (admits_ours s.files head r (standing head (seat_of head.from s.seats)) h (standing_ours head (seat_of head.from s.seats) (found_kept head.from s.seats k)))
+    test_ours (same_node head.to me) (admits s.files head r (admitted s.boot s.seats head))
+    (admits_ours s.files head r (admitted s.boot s.seats head) h
+    (booted_ours (nat_eq head.boot s.boot) s.boot (paired head.epoch head.number (call_seat head.from s.seats)) (paired_ours head.epoch head.number (call_seat head.from s.seats) (found_kept head.from s.seats k))))
 
 hears_ours : (me : Node) (s : ServerState) (head : Head) (c : Carried) → IsOurHead head → AreKept s.seats → IsOurDecision (hears me s head c)
-hears_ours me s head (carried.Call user call) h k = called_ours me s head (asks call) h k
+hears_ours me s head (carried.Call user call) h k = called_ours me s head (whole head (carried.Call user call)) h k
 hears_ours me s head (carried.Refusal code) h k = tt
 hears_ours me s head (carried.Reply reply) h k = tt
 hears_ours me s head carried.Notice h k = tt

@@ -18,6 +18,6 @@ true_is_false : {P : Type 0} → true ≡ false → P
 true_is_false {P} e = absurd cc
 
 pub unserved_are_refused : UnservedAreRefused
-unserved_are_refused files head (calls.FetchData fid position length) = (λ e. fetch_served head (find_file fid files) e, λ e. true_is_false e)
-unserved_are_refused files head (calls.StoreData fid status position length file_length contents) = (λ e. store_served head contents (find_file fid files) e, λ e. true_is_false e)
-unserved_are_refused files head call = (λ e. refl, λ e. refl)
+unserved_are_refused files head user (calls.FetchData fid position length) = (λ e. fetch_served head (find_file fid files) e, λ e. true_is_false e)
+unserved_are_refused files head user (calls.StoreData fid status position length file_length contents) = (λ e. store_served head contents (find_file fid files) e, λ e. true_is_false e)
+unserved_are_refused files head user call = (λ e. refl, λ e. refl)

@@ -25,20 +25,21 @@ use Rattle.afs_num.specs.declared.histories.Line.{Line}
 use Rattle.afs_num.specs.declared.histories.Line.TheVariants as lines
 use Rattle.afs_num.specs.declared.histories.Version.{Version}
 use Rattle.afs_num.specs.declared.states.CacheEntry.{CacheEntry}
-use Rattle.afs_num.specs.declared.states.Seat.{Seat}
 use Rattle.afs_num.specs.declared.states.StoredFile.{StoredFile}
+use Rattle.afs_model.specs.Calls.{Admitted, paired, call_seat, call_seated}
+use Rattle.afs_model.specs.Calls as pairs
 use Rattle.afs_model.specs.Runs.{Entry, Cell, message_at}
-use Rattle.afs_model.specs.ServerRow.{seat_of, find_file, version_of}
+use Rattle.afs_model.specs.ServerRow.{find_file, version_of}
 use Rattle.afs_model.specs.ClientRow.{the_server, find_cached}
 use Rattle.afs_model.specs.Past.{onto, lines_of, sent_of, given_message, called_key, HasCode, is_of_act, IsCallUnder, Ran}
 use Rattle.afs_model.specs.Ideal.{last_version, HasVersion, Accepts, asked, op, reach}
 use Rattle.afs_model.specs.Legal.{code_told, IsMade, Cause}
 use Rattle.afs_model.specs.Grants.{IsWithdrawn}
-use Rattle.afs_model.proofs.Basics.{Below, UpTo, Above, Each, IfCall, IfReply, OfReply}
+use Rattle.afs_model.proofs.Basics.{Seat, Below, UpTo, Above, Each, IfCall, IfReply, OfReply}
 use Rattle.afs_model.specs.Runs.{server_moves}
-use Rattle.afs_model.specs.ServerRow.{Standing, is_older, is_last, is_newer, standing, seated, stored, with_file, promise_ticks, Decision, drops, tells_boot, repeats, refuses, grants, saves, no_file, fetches, stores, asks, runs, answers_again, admits, called, hears, reply_head, replied, boot_told, refusal, fetched_reply, stored_reply, sends_step, does, server_row}
+use Rattle.afs_model.specs.ServerRow.{stored, with_file, promise_ticks, Decision, drops, tells_boot, repeats, refuses, grants, saves, no_file, fetches, stores, runs, whole, admits, called, hears, reply_head, replied, boot_told, refusal, fetched_reply, stored_reply, sends_step, does, server_row}
 use Rattle.afs_model.specs.Ideal.{is_number}
-use Rattle.afs_model.proofs.Basics.{both, same_fid-true, same_fid-refl, apart, same_node-true, client_number, up_to_below, below_up_to, below_not, up_to_same, newer_above, not_newer, LastSeat, last_seat, own_seat, at_seat, found-fid, found-with_file, OfCall, each_map, each_at, if_call, if_reply, raised_up_to, some_of}
+use Rattle.afs_model.proofs.Basics.{both, same_fid-true, same_fid-refl, apart, same_node-true, client_number, up_to_below, below_up_to, below_not, up_to_same, runs_above, not_above, LastSeat, kept_last, own_seat, at_seat, found-fid, found-with_file, OfCall, each_map, each_at, if_call, if_reply, raised_up_to, some_of}
 use Rattle.afs_model.proofs.Facts.{View, view_of, view, LastRan, Reached, index_of, Stands, IsCurrent, HasCurrent, Fits, Answers, IsReply, KeptReply, ClientFacts, CallFact, CallIn, ReplyFact, ReplyIn, Origin, HasLast, AreHome, AreNew, AreUnheard, HasTop, stored_index, HoldsAt, Goes}
 use Rattle.afs_model.proofs.Passing.{PassesFile, PassesAct, PassesReach, StaysNewest, stays, current_over, reached_more, client_over, client_still, News, more_sent}
 
@@ -46,7 +47,7 @@ use Rattle.afs_model.proofs.Passing.{PassesFile, PassesAct, PassesReach, StaysNe
 
 -- no key above its seat is heard by it
 abbrev Dull : List Seat → ℕ → Message → Type 0
-Dull seats boot m = (k : Key) → IsCallUnder k boot (Some m) → Above (seat_of k.node seats) k.epoch k.number → ⊥
+Dull seats boot m = (k : Key) → IsCallUnder k boot (Some m) → Above (call_seat k.node seats) k.epoch k.number → ⊥
 
 unheard_over : (seats : List Seat) (boot : ℕ) (e : Entry) (past : List Entry) (m : Message) → given_message e.lines (sent_of past) ≡ Some m → Dull seats boot m → AreUnheard seats boot past → AreUnheard seats boot (e ∷ past)
 unheard_over seats boot e past m at d h k above = (λ x. d k (subst (λ (o : Option Message). IsCallUnder k boot o) at x) above, h k above)
@@ -91,7 +92,7 @@ client_head n h = record h { from = Client n; to = the_server }
 record Now (c : Cell) (past : List Entry) (p n : ℕ) (h : Head) (user : List ℕ) (act : Act) : Type 0 where
   at : message_at c.sent p ≡ Some (record { head = client_head n h; carried = carried.Call user (asked act) })
   boot : h.boot ≡ c.server.boot
-  above : Above (seat_of (Client n) c.server.seats) h.epoch h.number
+  above : Above (call_seat (Client n) c.server.seats) h.epoch h.number
   fact : CallFact (view c n) (client_head n h) (asked act)
   origin : Origin past (client_head n h) user (asked act)
 
@@ -102,27 +103,27 @@ abbrev taken : ℕ → Head → Message → Seat
 taken n h r = record { caller = Client n; epoch = h.epoch; number = h.number; reply = Some r }
 
 abbrev seats_after : Cell → ℕ → Head → Message → List Seat
-seats_after c n h r = seated (taken n h r) c.server.seats
+seats_after c n h r = call_seated (taken n h r) c.server.seats
 
 abbrev seated_view : Cell → ℕ → Option Seat → View
 seated_view c j o = view_of c.clock (c.clients j) o
 
 abbrev views_after : Cell → ℕ → Head → Message → ℕ → View
-views_after c n h r j = seated_view c j (seat_of (Client j) (seats_after c n h r))
+views_after c n h r j = seated_view c j (call_seat (Client j) (seats_after c n h r))
 
 above_more : (o : Option Seat) (e n d m : ℕ) → Above o e n → Below e n d m → Above o d m
 above_more None e n d m a b = tt
 above_more (Some seat) e n d m a b = up_to_below _ _ _ _ _ _ (below_up_to _ _ _ _ a) b
 
 -- what is above the new seats was above the old ones
-above_before : (c : Cell) (n : ℕ) (h : Head) (r : Message) (m : Node) (e k : ℕ) → Above (seat_of (Client n) c.server.seats) h.epoch h.number → Above (seat_of m (seats_after c n h r)) e k → Above (seat_of m c.server.seats) e k
-above_before c n h r m e k a = at_seat (taken n h r) m c.server.seats (λ o. Above o e k → Above (seat_of m c.server.seats) e k)
-    (λ q b. subst (λ (x : Node). Above (seat_of x c.server.seats) e k) q (above_more (seat_of (Client n) c.server.seats) h.epoch h.number e k a b))
+above_before : (c : Cell) (n : ℕ) (h : Head) (r : Message) (m : Node) (e k : ℕ) → Above (call_seat (Client n) c.server.seats) h.epoch h.number → Above (call_seat m (seats_after c n h r)) e k → Above (call_seat m c.server.seats) e k
+above_before c n h r m e k a = at_seat (taken n h r) m c.server.seats (λ o. Above o e k → Above (call_seat m c.server.seats) e k)
+    (λ q b. subst (λ (x : Node). Above (call_seat x c.server.seats) e k) q (above_more (call_seat (Client n) c.server.seats) h.epoch h.number e k a b))
     (λ ne b. b)
 
 dull_after : (c : Cell) (n : ℕ) (h : Head) (r : Message) (user : List ℕ) (act : Act) → Dull (seats_after c n h r) c.server.boot (call_at n h user act)
 dull_after c n h r user act k x above =
-    let own : Above (seat_of (Client n) (seats_after c n h r)) h.epoch h.number = subst (λ (l : Key). Above (seat_of l.node (seats_after c n h r)) l.epoch l.number) (sym x.1.0) above in
+    let own : Above (call_seat (Client n) (seats_after c n h r)) h.epoch h.number = subst (λ (l : Key). Above (call_seat l.node (seats_after c n h r)) l.epoch l.number) (sym x.1.0) above in
     let yes : Below h.epoch h.number h.epoch h.number = subst (λ (o : Option Seat). Above o h.epoch h.number) (own_seat (taken n h r) c.server.seats) own in
     below_not h.epoch h.number h.epoch h.number yes (up_to_same h.epoch h.number h.epoch h.number refl refl)
 
@@ -131,20 +132,20 @@ not_ran v e k a b ran =
     let l : Below ran.seat.epoch ran.seat.number e k = subst (λ (o : Option Seat). Above o e k) ran.at a in
     below_not _ _ _ _ l (subst (λ (n : ℕ). UpTo e k ran.seat.epoch n) (sym ran.number) (subst (λ (n : ℕ). UpTo e k n v.last) (sym ran.epoch) b))
 
-reply_after : (c : Cell) (n : ℕ) (h : Head) (r m : Message) (j : ℕ) → Above (seat_of (Client n) c.server.seats) h.epoch h.number → ReplyFact (seat_of (Client j) c.server.seats) m → ReplyFact (seat_of (Client j) (seats_after c n h r)) m
+reply_after : (c : Cell) (n : ℕ) (h : Head) (r m : Message) (j : ℕ) → Above (call_seat (Client n) c.server.seats) h.epoch h.number → ReplyFact (call_seat (Client j) c.server.seats) m → ReplyFact (call_seat (Client j) (seats_after c n h r)) m
 reply_after c n h r m j a f = at_seat (taken n h r) (Client j) c.server.seats (λ o. ReplyFact o m)
     (λ q.
-    let at : seat_of (Client n) c.server.seats ≡ Some f.seat = ap (λ (x : Node). seat_of x c.server.seats) q ∙ f.at in
+    let at : call_seat (Client n) c.server.seats ≡ Some f.seat = ap (λ (x : Node). call_seat x c.server.seats) q ∙ f.at in
     let l : Below f.seat.epoch f.seat.number h.epoch h.number = subst (λ (o : Option Seat). Above o h.epoch h.number) at a in
     let b : Below m.head.epoch m.head.number h.epoch h.number = up_to_below _ _ _ _ _ _ f.behind l in
     record { seat = taken n h r; at = refl; behind = below_up_to _ _ _ _ b; kept = λ x y. absurd (below_not _ _ _ _ b (up_to_same _ _ _ _ (sym x) (sym y))) })
     (λ ne. f)
 
-replies_after : (s : Script) (c : Cell) (past : List Entry) (n : ℕ) (h : Head) (r : Message) → HoldsAt s c past → Above (seat_of (Client n) c.server.seats) h.epoch h.number → Each (IfReply (ReplyIn (views_after c n h r))) c.sent
+replies_after : (s : Script) (c : Cell) (past : List Entry) (n : ℕ) (h : Head) (r : Message) → HoldsAt s c past → Above (call_seat (Client n) c.server.seats) h.epoch h.number → Each (IfReply (ReplyIn (views_after c n h r))) c.sent
 replies_after s c past n h r H a = each_map (IfReply (ReplyIn (view c))) (IfReply (ReplyIn (views_after c n h r)))
     (if_reply (ReplyIn (view c)) (ReplyIn (views_after c n h r)) (λ m f. record { client = f.client; to = f.to; fact = reply_after c n h r m f.client a f.fact })) c.sent H.sent.replies
 
-calls_after : (s : Script) (c : Cell) (past : List Entry) (n : ℕ) (h : Head) (r : Message) → HoldsAt s c past → Above (seat_of (Client n) c.server.seats) h.epoch h.number → Each (IfCall (CallIn (views_after c n h r))) c.sent
+calls_after : (s : Script) (c : Cell) (past : List Entry) (n : ℕ) (h : Head) (r : Message) → HoldsAt s c past → Above (call_seat (Client n) c.server.seats) h.epoch h.number → Each (IfCall (CallIn (views_after c n h r))) c.sent
 calls_after s c past n h r H a = each_map (IfCall (CallIn (view c))) (IfCall (CallIn (views_after c n h r)))
     (if_call (CallIn (view c)) (CallIn (views_after c n h r)) (λ head user call f. record {
       client = f.client;
@@ -153,7 +154,7 @@ calls_after s c past n h r H a = each_map (IfCall (CallIn (view c))) (IfCall (Ca
       fact = record { behind = f.fact.behind; own = f.fact.own; safe = λ b. f.fact.safe (above_before c n h r (Client f.client) head.epoch head.number a b) };
     })) c.sent H.sent.calls
 
-new_after : (s : Script) (c : Cell) (past : List Entry) (n : ℕ) (h : Head) (r : Message) → HoldsAt s c past → Above (seat_of (Client n) c.server.seats) h.epoch h.number → AreNew (seats_after c n h r) (lines_of past)
+new_after : (s : Script) (c : Cell) (past : List Entry) (n : ℕ) (h : Head) (r : Message) → HoldsAt s c past → Above (call_seat (Client n) c.server.seats) h.epoch h.number → AreNew (seats_after c n h r) (lines_of past)
 new_after s c past n h r H a k b = H.new k (above_before c n h r k.node k.epoch k.number a b)
 
 unheard_after : (s : Script) (c : Cell) (past : List Entry) (p n : ℕ) (h : Head) (user : List ℕ) (act : Act) (r : Message) (e : Entry) → HoldsAt s c past → Now c past p n h user act → given_message e.lines (sent_of past) ≡ message_at (sent_of past) p → AreUnheard (seats_after c n h r) c.server.boot (e ∷ past)
@@ -597,7 +598,7 @@ record Idle (c : Cell) (p : ℕ) : Type 0 where
 record IsKept (c : Cell) (reply : Message) : Type 0 where
   client : ℕ
   seat : Seat
-  at : seat_of (Client client) c.server.seats ≡ Some seat
+  at : call_seat (Client client) c.server.seats ≡ Some seat
   kept : seat.reply ≡ Some reply
 
 record JustRefusal (c : Cell) (past : List Entry) (p : ℕ) (head : Head) (code : ℤ) : Type 0 where
@@ -641,35 +642,30 @@ stores_just : (s : Script) (c : Cell) (past : List Entry) (p n : ℕ) (h : Head)
 stores_just s c past p n h user f b None H w found = record { act = Close f b; due = due c past p n h user (Close f b) w; none = last_none f c.server.files (lines_of past) found H.files; is = refl }
 stores_just s c past p n h user f b (Some file) H w found = record { due = due c past p n h user (Close file.fid b) (at_fid c past p n h user (λ x. Close x b) f file found w); found = own_found c f file found }
 
-runs_just : (s : Script) (c : Cell) (past : List Entry) (p n : ℕ) (h : Head) (user : List ℕ) (act : Act) → HoldsAt s c past → Now c past p n h user act → IsJust c past p (runs c.server.files (client_head n h) (asks (asked act)))
+runs_just : (s : Script) (c : Cell) (past : List Entry) (p n : ℕ) (h : Head) (user : List ℕ) (act : Act) → HoldsAt s c past → Now c past p n h user act → IsJust c past p (runs c.server.files (client_head n h) (whole (client_head n h) (carried.Call user (asked act))))
 runs_just s c past p n h user (Open f) H w = fetches_just s c past p n h user f (find_file f c.server.files) H w refl
 runs_just s c past p n h user (Close f b) H w = stores_just s c past p n h user f b (find_file f c.server.files) H w refl
 
--- a call to this boot that is not new
-dull_old : (c : Cell) (n : ℕ) (h : Head) (user : List ℕ) (act : Act) → (standing (client_head n h) (seat_of (Client n) c.server.seats) ≡ is_newer → ⊥) → Dull c.server.seats c.server.boot (call_at n h user act)
-dull_old c n h user act ne k x above = not_newer (client_head n h) (seat_of (Client n) c.server.seats) ne (subst (λ (l : Key). Above (seat_of l.node c.server.seats) l.epoch l.number) (sym x.1.0) above)
+-- a call that isn't to run
+dull_old : (c : Cell) (n : ℕ) (h : Head) (user : List ℕ) (act : Act) → (paired h.epoch h.number (call_seat (Client n) c.server.seats) ≡ pairs.runs → ⊥) → Dull c.server.seats c.server.boot (call_at n h user act)
+dull_old c n h user act ne k x above = not_above h.epoch h.number (call_seat (Client n) c.server.seats) ne (subst (λ (l : Key). Above (call_seat l.node c.server.seats) l.epoch l.number) (sym x.1.0) above)
 
-older_not : is_older ≡ is_newer → ⊥
-older_not e = absurd cc
-
-last_not : (r : Option Message) → is_last r ≡ is_newer → ⊥
-last_not r e = absurd cc
-
-again_just : (c : Cell) (past : List Entry) (p n : ℕ) (h : Head) (r : Option Message) → Idle c p → LastSeat (seat_of (Client n) c.server.seats) r → IsJust c past p (answers_again r)
-again_just c past p n h None i l = i
-again_just c past p n h (Some reply) i l = (i, record { client = n; seat = l.seat; at = l.at; kept = sym l.reply })
-
-admits_just : (s : Script) (c : Cell) (past : List Entry) (p n : ℕ) (h : Head) (user : List ℕ) (act : Act) (o : Standing) → HoldsAt s c past → message_at c.sent p ≡ Some (call_at n h user act) → h.boot ≡ c.server.boot
-    → CallFact (view c n) (client_head n h) (asked act) → Origin past (client_head n h) user (asked act) → standing (client_head n h) (seat_of (Client n) c.server.seats) ≡ o → IsJust c past p (admits c.server.files (client_head n h) (asks (asked act)) o)
-admits_just s c past p n h user act is_older H at boot f from e = record { message = call_at n h user act; at = at; dull = dull_old c n h user act (λ x. older_not (sym e ∙ x)) }
-admits_just s c past p n h user act (is_last r) H at boot f from e =
-    again_just c past p n h r (record { message = call_at n h user act; at = at; dull = dull_old c n h user act (λ x. last_not r (sym e ∙ x)) }) (last_seat (client_head n h) (seat_of (Client n) c.server.seats) r e)
-admits_just s c past p n h user act is_newer H at boot f from e = runs_just s c past p n h user act H (record { at = at; boot = boot; above = newer_above (client_head n h) (seat_of (Client n) c.server.seats) e; fact = f; origin = from })
+admits_just : (s : Script) (c : Cell) (past : List Entry) (p n : ℕ) (h : Head) (user : List ℕ) (act : Act) (o : Admitted Message) → HoldsAt s c past → message_at c.sent p ≡ Some (call_at n h user act) → h.boot ≡ c.server.boot
+    → CallFact (view c n) (client_head n h) (asked act) → Origin past (client_head n h) user (asked act) → paired h.epoch h.number (call_seat (Client n) c.server.seats) ≡ o
+    → IsJust c past p (admits c.server.files (client_head n h) (whole (client_head n h) (carried.Call user (asked act))) o)
+admits_just s c past p n h user act pairs.older H at boot f from e = record { message = call_at n h user act; at = at; dull = dull_old c n h user act (λ x. let y = sym e ∙ x in absurd cc) }
+admits_just s c past p n h user act pairs.in_progress H at boot f from e = record { message = call_at n h user act; at = at; dull = dull_old c n h user act (λ x. let y = sym e ∙ x in absurd cc) }
+admits_just s c past p n h user act (pairs.wrong_boot b) H at boot f from e = record { message = call_at n h user act; at = at; dull = dull_old c n h user act (λ x. let y = sym e ∙ x in absurd cc) }
+admits_just s c past p n h user act (pairs.kept reply) H at boot f from e =
+    let l : LastSeat h.epoch h.number (call_seat (Client n) c.server.seats) reply = kept_last h.epoch h.number _ reply e in
+    (record { message = call_at n h user act; at = at; dull = dull_old c n h user act (λ x. let y = sym e ∙ x in absurd cc) }, record { client = n; seat = l.seat; at = l.at; kept = l.reply })
+admits_just s c past p n h user act pairs.runs H at boot f from e =
+    runs_just s c past p n h user act H (record { at = at; boot = boot; above = runs_above h.epoch h.number (call_seat (Client n) c.server.seats) e; fact = f; origin = from })
 
 booted_just : (s : Script) (c : Cell) (past : List Entry) (p n : ℕ) (h : Head) (user : List ℕ) (act : Act) (b : Bool) → HoldsAt s c past → message_at c.sent p ≡ Some (call_at n h user act) → nat_eq h.boot c.server.boot ≡ b
     → CallFact (view c n) (client_head n h) (asked act) → Origin past (client_head n h) user (asked act)
-    → IsJust c past p (cond b (admits c.server.files (client_head n h) (asks (asked act)) (standing (client_head n h) (seat_of (Client n) c.server.seats))) (tells_boot (client_head n h)))
-booted_just s c past p n h user act true H at boot f from = admits_just s c past p n h user act (standing (client_head n h) (seat_of (Client n) c.server.seats)) H at (eqb-true h.boot c.server.boot boot) f from refl
+    → IsJust c past p (admits c.server.files (client_head n h) (whole (client_head n h) (carried.Call user (asked act))) (cond b (paired h.epoch h.number (call_seat (Client n) c.server.seats)) (pairs.wrong_boot c.server.boot)))
+booted_just s c past p n h user act true H at boot f from = admits_just s c past p n h user act (paired h.epoch h.number (call_seat (Client n) c.server.seats)) H at (eqb-true h.boot c.server.boot boot) f from refl
 booted_just s c past p n h user act false H at boot f from = record { message = call_at n h user act; at = at; dull = λ k x above. let yes : nat_eq h.boot c.server.boot ≡ true = eq-eqb h.boot c.server.boot x.1.1 in absurd cc }
 
 -- the call of a client, by its header
@@ -677,14 +673,14 @@ is_client_head : (n : ℕ) (h : Head) → h.from ≡ Client n → h.to ≡ the_s
 is_client_head n h from to = ap (λ (x : Node). record h { from = x }) from ∙ ap (λ (x : Node). record h { from = Client n; to = x }) to
 
 called_just : (s : Script) (c : Cell) (past : List Entry) (p : ℕ) (head : Head) (user : List ℕ) (call : FsCall) → HoldsAt s c past → message_at c.sent p ≡ Some (record { head = head; carried = carried.Call user call }) → CallIn (view c) head user call → Origin past head user call
-    → IsJust c past p (called the_server c.server head (asks call))
+    → IsJust c past p (called the_server c.server head (whole head (carried.Call user call)))
 called_just s c past p head user call H at f from =
     let n : ℕ = f.client in
     let is : head ≡ client_head n head = is_client_head n head f.from f.to in
     let act : Act = from.act in
     let own : call ≡ asked act = from.own_call in
-    subst (λ (x : Head). IsJust c past p (called the_server c.server x (asks call))) (sym is)
-    (subst (λ (x : FsCall). IsJust c past p (called the_server c.server (client_head n head) (asks x))) (sym own)
+    subst (λ (x : Head). IsJust c past p (called the_server c.server x (whole x (carried.Call user call)))) (sym is)
+    (subst (λ (x : FsCall). IsJust c past p (called the_server c.server (client_head n head) (whole (client_head n head) (carried.Call user x)))) (sym own)
     (booted_just s c past p n head user act (nat_eq head.boot c.server.boot) H
     (subst (λ (x : FsCall). message_at c.sent p ≡ Some (record { head = client_head n head; carried = carried.Call user x })) own (subst (λ (x : Head). message_at c.sent p ≡ Some (record { head = x; carried = carried.Call user call })) is at)) refl
     (subst (λ (x : FsCall). CallFact (view c n) (client_head n head) x) own (subst (λ (x : Head). CallFact (view c n) x call) is f.fact))

@@ -1,6 +1,7 @@
 -- The row of a client, a cache manager: how an act begins, and what it does with a message.
-use Rattle.std.specs.Prelude.{ℕ, ◌+◌, List, [], ◌∷◌, Bool, not, ◌&&◌, Option, Some, None, pos, nat_eq, nat_lt, map, filter, find, codes, length, if◌then◌else◌}
+use Rattle.std.specs.Prelude.{ℕ, ◌+◌, List, [], ◌∷◌, Bool, ◌&&◌, Option, Some, None, pos, nat_eq, nat_lt, codes, length, if◌then◌else◌}
 use Rattle.afs_num.specs.Fids.{same_fid}
+use Rattle.afs_num.specs.Keyed.{keyed, put_first, changed}
 use Rattle.afs_num.specs.Nodes.{same_node}
 use Rattle.afs_num.specs.declared.types.Code.{Code}
 use Rattle.afs_num.specs.declared.types.Fid.{Fid}
@@ -31,12 +32,16 @@ use Rattle.afs_model.specs.Steps.{Step}
 
 -- ---- the cache
 
+-- a fid has one entry
+abbrev pub cached_fid : CacheEntry → Fid
+cached_fid entry = entry.fid
+
 abbrev pub find_cached : Fid → List CacheEntry → Option CacheEntry
-find_cached fid cache = find (λ e. same_fid e.fid fid) cache
+find_cached fid cache = keyed cached_fid same_fid fid cache
 
 -- an entry that is used stands first
 abbrev pub used_first : CacheEntry → List CacheEntry → List CacheEntry
-used_first entry cache = entry ∷ filter (λ e. not (same_fid e.fid entry.fid)) cache
+used_first entry cache = put_first cached_fid same_fid entry cache
 
 abbrev pub is_trusted : ℕ → CacheEntry → Bool
 is_trusted clock entry = nat_lt clock entry.expiry
@@ -46,6 +51,9 @@ is_trusted clock entry = nat_lt clock entry.expiry
 abbrev pub refreshed : ℕ → Fid → ℕ → List ℕ → CacheEntry → CacheEntry
 refreshed clock fid index contents entry =
     if (same_fid entry.fid fid && is_trusted clock entry) then record entry { index = index; contents = contents } else entry
+
+abbrev pub refreshed_cache : ℕ → Fid → ℕ → List ℕ → List CacheEntry → List CacheEntry
+refreshed_cache clock fid index contents cache = changed cached_fid same_fid fid (refreshed clock fid index contents) cache
 
 -- ---- calls
 
@@ -144,7 +152,7 @@ takes_fetched me c clock place entry =
 
 abbrev pub takes_stored : Node → ClientState → ℕ → ℕ → Fid → ℕ → List ℕ → Step ClientState
 takes_stored me c clock place fid index contents = record {
-  state = ended c (map (refreshed clock fid index contents) c.cache);
+  state = ended c (refreshed_cache clock fid index contents c.cache);
   lines = lines.Given place ∷ lines.Answer me zero_code ∷ [];
   sent = [];
 }

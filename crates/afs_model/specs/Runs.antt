@@ -14,10 +14,9 @@ use Rattle.afs_num.specs.declared.scripts.VolumeLine.{VolumeLine}
 use Rattle.afs_num.specs.declared.histories.Line.{Line}
 use Rattle.afs_num.specs.declared.histories.Line.TheVariants as lines
 use Rattle.afs_num.specs.declared.states.StoredFile.{StoredFile}
-use Rattle.afs_num.specs.declared.states.ServerState.{ServerState}
 use Rattle.afs_num.specs.declared.states.ClientState.{ClientState}
 use Rattle.afs_model.specs.Steps.{Step}
-use Rattle.afs_model.specs.ServerRow.{server_row}
+use Rattle.afs_model.specs.ServerRow.{ServerState, server_row}
 use Rattle.afs_model.specs.ClientRow.{the_server, begin_row, client_row}
 
 -- one step of a run: its node (none where nothing happened), its lines and the messages that it sent

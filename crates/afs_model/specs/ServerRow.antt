@@ -1,6 +1,9 @@
 -- The row of a file server: what it decides on a message, and what it then does.
-use Rattle.std.specs.Prelude.{ℕ, ◌+◌, List, [], ◌∷◌, ◌++◌, Bool, true, not, ◌&&◌, ◌||◌, Option, Some, None, ℤ, pos, negsuc, nat_eq, nat_lt, filter, find, length, if◌then◌else◌}
-use Rattle.afs_num.specs.Fids.{same_fid}
+use Rattle.std.specs.Prelude.{◌≡◌, ℕ, ◌+◌, List, [], ◌∷◌, Bool, ◌||◌, Option, Some, None, ℤ, pos, negsuc, nat_eq, find, length, if◌then◌else◌}
+use Rattle.std.specs.List.{All}
+use Rattle.std.specs.declared.cmp.Ordering.TheVariants.{Less}
+use Rattle.std.specs.Ordering.{match_ordering}
+use Rattle.afs_num.specs.Fids.{same_fid, fid_order}
 use Rattle.afs_num.specs.Nodes.{same_node}
 use Rattle.afs_num.specs.declared.types.Fid.{Fid}
 use Rattle.afs_num.specs.declared.types.Node.{Node}
@@ -22,34 +25,16 @@ use Rattle.afs_num.specs.declared.histories.Body.TheVariants as bodies
 use Rattle.afs_num.specs.declared.histories.Version.{Version}
 use Rattle.afs_num.specs.declared.histories.Line.TheVariants as lines
 use Rattle.afs_num.specs.declared.states.StoredFile.{StoredFile}
-use Rattle.afs_num.specs.declared.states.Seat.{Seat}
-use Rattle.afs_num.specs.declared.states.ServerState.{ServerState}
+use Rattle.afs_model.specs.Calls.{CallSeat, Admitted, admitted, call_seated}
+use Rattle.afs_model.specs.Calls as pairs
 use Rattle.afs_model.specs.FsRows.{fetch_data, store_data}
 use Rattle.afs_model.specs.Steps.{Step}
 
--- ---- the pair of a call, against the last one of its caller
-
--- a call is older than the caller's last one, is that very call, or is a newer one
-pub data Standing : Type 0 where
-  is_older : Standing
-  is_last : Option Message → Standing
-  is_newer : Standing
-
-abbrev pub pair_below : ℕ → ℕ → ℕ → ℕ → Bool
-pair_below epoch number other_epoch other_number =
-    if nat_lt epoch other_epoch then true else (nat_eq epoch other_epoch && nat_lt number other_number)
-
-abbrev pub standing : Head → Option Seat → Standing
-standing head None = is_newer
-standing head (Some seat) =
-    if pair_below head.epoch head.number seat.epoch seat.number then is_older
-    else (if pair_below seat.epoch seat.number head.epoch head.number then is_newer else is_last seat.reply)
-
-abbrev pub seat_of : Node → List Seat → Option Seat
-seat_of caller seats = find (λ s. same_node s.caller caller) seats
-
-abbrev pub seated : Seat → List Seat → List Seat
-seated seat seats = filter (λ s. not (same_node s.caller seat.caller)) seats ++ seat ∷ []
+-- its boot number, its files in the order of their fids, and its callers
+pub record ServerState : Type 0 where
+  pub boot : ℕ
+  pub files : List StoredFile
+  pub seats : List (CallSeat Message)
 
 -- ---- files
 
@@ -60,9 +45,15 @@ find_file fid files = find (λ v. same_fid v.fid fid) files
 abbrev pub stored : List ℕ → ℕ → StoredFile → StoredFile
 stored contents clock file = record file { index = file.index + 1; data_version = file.data_version + 1; server_time = clock; contents = contents }
 
--- a file takes the place of the one with its fid
+-- a file takes the place of the one with its fid, or goes to its place in the order of fids
 abbrev pub with_file : StoredFile → List StoredFile → List StoredFile
-with_file file files = filter (λ v. not (same_fid v.fid file.fid)) files ++ file ∷ []
+with_file file [] = file ∷ []
+with_file file (v ∷ files) = match_ordering (fid_order file.fid v.fid) (file ∷ v ∷ files) (file ∷ files) (v ∷ with_file file files)
+
+-- each file's fid is below those of the files after it
+abbrev pub AreOrdered : List StoredFile → Type 0
+AreOrdered [] = Unit {0}
+AreOrdered (v ∷ files) = All (λ (w : StoredFile). fid_order v.fid w.fid ≡ Less) files × AreOrdered files
 
 -- the status of a file; all have all rights, and the volume's root is its parent
 abbrev pub status_of : StoredFile → AfsFetchStatus
@@ -143,37 +134,40 @@ abbrev pub stores : Head → List ℕ → Option StoredFile → Decision
 stores head contents None = refuses head no_file
 stores head contents (Some file) = saves head contents file
 
--- what a call asks, once it is to run
-pub data Request : Type 0 where
-  asks : FsCall → Request
-  asks_unknown : Request
-  asks_unreadable : Request
+-- a call that can be read
+abbrev pub serves_call : List StoredFile → Head → FsCall → Decision
+serves_call files head (calls.FetchData fid position length) = fetches head (find_file fid files)
+serves_call files head (calls.StoreData fid status position length file_length contents) = stores head contents (find_file fid files)
+serves_call files head call = refuses head not_served
 
-abbrev pub runs : List StoredFile → Head → Request → Decision
-runs files head (asks (calls.FetchData fid position length)) = fetches head (find_file fid files)
-runs files head (asks (calls.StoreData fid status position length file_length contents)) = stores head contents (find_file fid files)
-runs files head (asks call) = refuses head not_served
-runs files head asks_unknown = refuses head not_served
-runs files head asks_unreadable = refuses head (code_of_unreadable head.opcode)
+abbrev pub runs_carried : List StoredFile → Head → Carried → Decision
+runs_carried files head (carried.Call user call) = serves_call files head call
+runs_carried files head c = drops
 
-abbrev pub answers_again : Option Message → Decision
-answers_again None = drops
-answers_again (Some reply) = repeats reply
+-- a call that is to run, by what was found in its bytes
+abbrev pub runs : List StoredFile → Head → Received → Decision
+runs files head Nothing = drops
+runs files head (Unknown other) = refuses head not_served
+runs files head (Unreadable other) = refuses head (code_of_unreadable head.opcode)
+runs files head (Whole m) = runs_carried files head m.carried
 
-abbrev pub admits : List StoredFile → Head → Request → Standing → Decision
-admits files head request is_older = drops
-admits files head request (is_last reply) = answers_again reply
-admits files head request is_newer = runs files head request
+-- a call in progress or older than its caller's last one gets no answer
+abbrev pub admits : List StoredFile → Head → Received → Admitted Message → Decision
+admits files head r pairs.runs = runs files head r
+admits files head r (pairs.kept reply) = repeats reply
+admits files head r pairs.in_progress = drops
+admits files head r pairs.older = drops
+admits files head r (pairs.wrong_boot boot) = tells_boot head
 
--- first the boot number is compared, then the pair
-abbrev pub called : Node → ServerState → Head → Request → Decision
-called me s head request =
-    if same_node head.to me then
-    (if nat_eq head.boot s.boot then admits s.files head request (standing head (seat_of head.from s.seats)) else tells_boot head)
-    else drops
+abbrev pub called : Node → ServerState → Head → Received → Decision
+called me s head r = if same_node head.to me then admits s.files head r (admitted s.boot s.seats head) else drops
+
+-- a message that can be read
+abbrev pub whole : Head → Carried → Received
+whole head c = Whole (record { head = head; carried = c })
 
 abbrev pub hears : Node → ServerState → Head → Carried → Decision
-hears me s head (carried.Call user call) = called me s head (asks call)
+hears me s head (carried.Call user call) = called me s head (whole head (carried.Call user call))
 hears me s head (carried.Refusal code) = drops
 hears me s head (carried.Reply reply) = drops
 hears me s head carried.Notice = drops
@@ -181,8 +175,8 @@ hears me s head carried.Notice = drops
 -- a message without a readable header, one to another node, a reply and a notice are dropped
 abbrev pub decides : Node → ServerState → Received → Decision
 decides me s Nothing = drops
-decides me s (Unknown head) = called me s head asks_unknown
-decides me s (Unreadable head) = called me s head asks_unreadable
+decides me s (Unknown head) = called me s head (Unknown head)
+decides me s (Unreadable head) = called me s head (Unreadable head)
 decides me s (Whole m) = hears me s m.head m.carried
 
 -- ---- effects
@@ -220,7 +214,7 @@ stored_reply boot head file = replied boot head (carried.Reply (replies.StoreDat
 
 -- the reply is kept beside the pair of its call
 abbrev pub keeps : Head → Message → ServerState → ServerState
-keeps head reply s = record s { seats = seated (record { caller = head.from; epoch = head.epoch; number = head.number; reply = Some reply }) s.seats }
+keeps head reply s = record s { seats = call_seated (record { caller = head.from; epoch = head.epoch; number = head.number; reply = Some reply }) s.seats }
 
 abbrev pub saved : StoredFile → ServerState → ServerState
 saved file s = record s { files = with_file file s.files }

@@ -1,5 +1,6 @@
 pub mod Nodes
 pub mod Fids
+pub mod Keyed
 pub mod Names
 pub mod Texts
 pub mod Places

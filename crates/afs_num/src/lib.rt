@@ -2,10 +2,12 @@
 #![tactic(auto)]
 
 pub mod calls;
+pub mod codes;
 pub mod devices;
 pub mod faults;
 pub mod grammar;
 pub mod histories;
+pub mod keyed;
 pub mod messages;
 pub mod names;
 pub mod scripts;

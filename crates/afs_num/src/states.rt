@@ -1,9 +1,11 @@
 //! The states of the nodes, as the rows of the definitions and the nodes themselves know them.
 
-use crate::messages::Message;
 use crate::scripts::Act;
+ghost use Rattle.afs_num.specs.Fids.{same_fid};
+
+use crate::keyed::Keyed;
 use crate::sequences::{Octets, Sequence};
-use crate::types::{Fid, Node};
+use crate::types::Fid;
 
 /// A file that a server holds. The server's time is the clock at its last change, in ticks.
 #[derive(Drop)]
@@ -17,26 +19,6 @@ pub struct StoredFile {
 
 pub type StoredFiles = Sequence<StoredFile>;
 
-/// What a callee knows of a caller: the epoch and number of its last call, and the reply to that call; none while
-/// the call is in progress.
-#[derive(Drop)]
-pub struct Seat {
-    pub caller: Node,
-    pub epoch: u32,
-    pub number: u32,
-    pub reply: Option<Message>,
-}
-
-pub type Seats = Sequence<Seat>;
-
-/// A file server: its boot number, the files of its volumes, and its callers.
-#[derive(Drop)]
-pub struct ServerState {
-    pub boot: u32,
-    pub files: StoredFiles,
-    pub seats: Seats,
-}
-
 /// A file that a client has cached. It is trusted until the clock reaches the expiry.
 #[derive(Drop)]
 pub struct CacheEntry {
@@ -44,6 +26,22 @@ pub struct CacheEntry {
     pub index: u32,
     pub expiry: u32,
     pub contents: Octets,
+}
+
+impl Keyed for CacheEntry {
+    type Key = Fid;
+
+    ghost key = { λ e. e.fid };
+
+    ghost same = { same_fid };
+
+    fn key(&self) -> Fid {
+        self.fid
+    }
+
+    fn is_under(&self, other: &Fid) -> bool {
+        self.fid == *other
+    }
 }
 
 pub type CacheEntries = Sequence<CacheEntry>;

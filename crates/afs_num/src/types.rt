@@ -11,7 +11,7 @@ pub type Mem<T> = Result<T, OutOfMemory>;
 
 /// A file's name in the cell: volume, vnode and unique (AFSFid of the AFS-3 Programmer's Reference,
 /// File Server/Cache Manager Interface).
-#[derive(Clone, Copy, Debug, PartialEq, Eq)]
+#[derive(Clone, Copy, Debug, PartialEq, Eq, PartialOrd, Ord)]
 pub struct Fid {
     pub volume: u32,
     pub vnode: u32,

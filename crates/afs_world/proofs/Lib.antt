@@ -1,5 +1,8 @@
 pub mod Limits
 pub mod Firsts
+pub mod Searching
+pub mod Keeping
+pub mod Heard
 pub mod Parcels
 pub mod Within
 pub mod Clients

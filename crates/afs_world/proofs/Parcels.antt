@@ -102,4 +102,4 @@ told-push ps qs (x ∷ es) e all own =
     let rest : sent_by es ≡ length (drop x.sent ps) = omega (arith, all, length-drop x.sent ps) in
     ap (λ (ts : List Parcel). with_messages x (messages_of ts) ∷ told (drop x.sent (ps ++ qs)) (es ++ e ∷ [])) (take-append-le x.sent ps qs fits)
     ∙ ap (λ (ts : List Entry). with_messages x (messages_of (take x.sent ps)) ∷ ts)
-      (ap (λ (ts : List Parcel). told ts (es ++ e ∷ [])) (drop-append-le x.sent ps qs fits) ∙ told-push (drop x.sent ps) qs es e rest own)
+    (ap (λ (ts : List Parcel). told ts (es ++ e ∷ [])) (drop-append-le x.sent ps qs fits) ∙ told-push (drop x.sent ps) qs es e rest own)

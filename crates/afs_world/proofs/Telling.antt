@@ -1,6 +1,6 @@
 -- Each way in which the program's cell goes on is a step of the cell that it stands for.
 use Rattle.std.proofs.Common.{◌≡◌, ℕ, suc, ◌+◌, Bool, true, false, cond, List, [], ◌∷◌, ◌++◌, Option, Some, None, length, drop, refl, sym, ap, subst, ◌∙◌, append-nil, append_assoc, arith, inl, inr}
-use Rattle.std.specs.Prelude.{nat_eq, is_some, slice_get}
+use Rattle.std.specs.Prelude.{nat_eq, slice_get}
 use Rattle.std.specs.List.{All}
 use Rattle.std.specs.Option.{option_map}
 use Rattle.std.proofs.lemmas.Bool.{ne_eqb}
@@ -20,11 +20,10 @@ use Rattle.afs_num.specs.declared.histories.Outs.{Outs}
 use Rattle.afs_num.specs.declared.scripts.Act.{Act}
 use Rattle.afs_num.specs.declared.scripts.Event.{Event}
 use Rattle.afs_num.specs.declared.states.ClientState.{ClientState}
-use Rattle.afs_num.specs.declared.states.ServerState.{ServerState}
 use Rattle.afs_model.specs.Form.{IsShortAct}
 use Rattle.afs_model.specs.Messages.{received, IsSoundReceived}
-use Rattle.afs_model.specs.Steps.{Step, Makes}
-use Rattle.afs_model.specs.ServerRow.{server_row}
+use Rattle.afs_model.specs.Steps.{NodeState, Step, Makes}
+use Rattle.afs_model.specs.ServerRow.{ServerState, server_row}
 use Rattle.afs_model.specs.ClientRow.{the_server, begin_row, client_row, client_hears, ignores}
 use Rattle.afs_model.specs.Runs.{Entry, Cell, Moved, put, voided, server_moves, client_moves, message_at, given_to, given_at, begun_by, moved, gives, begins, first_client}
 use Rattle.afs_model.specs.Playing.{Played, as_played, begun, played, entries_of, cell_after}
@@ -177,7 +176,7 @@ server_follows old new st outs h within made node client acts t =
       server = node;
       client = ap (λ x. x.node) client;
       within = subst (IsWithin (length old.history + 2)) (sym made.state) within;
-      next = subst (λ x. IsNext old.client.state x.state) (sym client) (stays_next old h);
+      next = subst (λ (x : NodeState ClientState). IsNext old.client.state x.state) (sym client) (stays_next old h);
       acts = subst (λ (left : List Act). All IsShortAct left) (sym acts) h.acts;
       wire = t.wire;
       history = t.history;
@@ -198,7 +197,7 @@ client_follows old new st outs left h next made node server acts short t =
     (record {
       server = ap (λ x. x.node) server;
       client = node;
-      within = subst (λ x. IsWithin (length old.history + 2) x.state) (sym server) (same_within old h);
+      within = subst (λ (x : NodeState ServerState). IsWithin (length old.history + 2) x.state) (sym server) (same_within old h);
       next = subst (IsNext old.client.state) (sym made.state) next;
       acts = subst (λ (left : List Act). All IsShortAct left) (sym acts) short;
       wire = t.wire;
@@ -290,6 +289,18 @@ strays_at w place (Some p) r h e is stray =
     let to : r ≡ Some p.head.to = sym is ∙ ap (option_map (λ q. q.head.to)) e in
     gives_to w place p p.head.to g refl ∙ stray_to (cell_of w) place g.message p.head.to (subst IsStray to stray)
 
+ignores_at : (w : WorldState) (place n : ℕ) (o : Option Parcel) → IsPlayable w → at_place w.wire place ≡ o → receiver_at w.wire place ≡ Some (Client n) → (1 ≡ n → ⊥) → moved (cell_of w) (gives place) ≡ notes (cell_of w) (Some (Client n)) (lines.Given place)
+ignores_at w place n None h e is ne =
+    let none : receiver_at w.wire place ≡ None = ap (option_map (λ q. q.head.to)) e in
+    let never : (let o : Option Node = None in o) ≡ Some (Client n) = sym none ∙ is in
+    absurd cc
+ignores_at w place n (Some p) h e is ne =
+    let g = gives_parcel w place p h e in
+    gives_to w place p (Client n) g (sent_to w.wire place p (Client n) e is) ∙ absent_hears w n place g.message ne
+
+pub absent_ignores : (w : WorldState) (place n : ℕ) → IsPlayable w → receiver_at w.wire place ≡ Some (Client n) → (1 ≡ n → ⊥) → moved (cell_of w) (gives place) ≡ notes (cell_of w) (Some (Client n)) (lines.Given place)
+absent_ignores w place n h is ne = ignores_at w place n (at_place w.wire place) h refl is ne
+
 pub strays : (w : WorldState) (place : ℕ) (r : Option Node) → IsPlayable w → receiver_at w.wire place ≡ r → IsStray r → moved (cell_of w) (gives place) ≡ voided (cell_of w)
 strays w place r h is stray = strays_at w place (at_place w.wire place) r h refl is stray
 
@@ -345,10 +356,10 @@ begin_follows old new act outs h idle next made node server acts t =
     node server acts (short_rest old.acts h.acts) t)
 
 -- nothing is begun where an act runs, or no act is left
-pub busy_begun : (c : Cell) (left : List Act) (o : Option Act) → is_some o ≡ true → begun c left o ≡ as_played left (voided c)
-busy_begun c [] o e = refl
-busy_begun c (act ∷ left) None e = absurd cc
-busy_begun c (act ∷ left) (Some other) e = refl
+pub busy_begun : (c : Cell) (left : List Act) (o : Option Act) → (o ≡ None → ⊥) → begun c left o ≡ as_played left (voided c)
+busy_begun c [] o busy = refl
+busy_begun c (act ∷ left) None busy = absurd (busy refl)
+busy_begun c (act ∷ left) (Some other) busy = refl
 
 pub none_begun : (c : Cell) (left : List Act) (o : Option Act) → slice_get left 0 ≡ None → begun c left o ≡ as_played left (voided c)
 none_begun c [] o e = refl

@@ -9,19 +9,20 @@ use Rattle.afs_num.specs.declared.types.Parcel.{Parcel}
 use Rattle.afs_num.specs.declared.histories.Entry as kept
 use Rattle.afs_num.specs.declared.histories.Line.{Line}
 use Rattle.afs_num.specs.declared.scripts.Act.{Act}
+use Rattle.afs_num.specs.declared.states.ClientState.{ClientState}
+use Rattle.afs_model.specs.Steps.{NodeState}
+use Rattle.afs_model.specs.ServerRow.{ServerState}
 use Rattle.afs_model.specs.Runs.{Cell, Moved, put, first_client}
 use Rattle.afs_model.specs.Playing.{Played}
 use Rattle.afs_model.specs.Form.{IsShortAct}
 use Rattle.afs_model.specs.Telling.{messages_of, AreRead, told, sent_by}
-use Rattle.afs_world.specs.declared.server.FileServer.{FileServer}
-use Rattle.afs_world.specs.declared.client.CacheManager.{CacheManager}
 use Rattle.afs_world.specs.Serving.{IsWithin}
 use Rattle.afs_world.specs.Asking.{IsShortRunning}
 
 -- the nodes, the acts that the client has not begun, the messages that were sent, and the entries of the history
 pub record WorldState : Type 0 where
-  pub server : FileServer
-  pub client : CacheManager
+  pub server : NodeState ServerState
+  pub client : NodeState ClientState
   pub acts : List Act
   pub wire : List Parcel
   pub history : List kept.Entry

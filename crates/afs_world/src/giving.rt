@@ -1,32 +1,56 @@
-//! What a step gives out.
+//! What a step is given, and what it gives out.
 
-ghost use Rattle.std.specs.Prelude.{◌≡◌, [], ◌∷◌, IfOk};
+ghost use Rattle.std.specs.Prelude.{◌≡◌, ◌≤◌, [], ◌∷◌, length, IfOk};
 ghost use Rattle.afs_model.specs.Messages.{found, meant, HasSpelling};
 
 use afs_fsrpc::messages::encode_message;
 use afs_num::histories::{Line, Lines, Outs};
 use afs_num::messages::Message;
-use afs_num::sequences::Sequence;
-use afs_num::types::Parcel;
-use std::alloc::{AllocError, Global};
+use afs_num::sequences::{Octets, Sequence};
+use afs_num::types::{Head, Mem, Parcel};
+use std::alloc::Global;
 
-/// What a step gives out that sends this one message.
-pub(crate) fn outs_with(alloc: Global, lines: Lines, message: &Message) -> Result<Outs, AllocError>
-    requires { HasSpelling message.now }
+/// When a node is given a message: the message's place in the run, from 1, and the time in ticks.
+#[derive(Clone, Copy)]
+pub struct Moment {
+    pub place: u64,
+    pub now: u32,
+}
+
+/// What a step gives out that sends these bytes.
+pub(crate) fn outs_of(alloc: Global, lines: Lines, head: Head, bytes: Octets) -> Mem<Outs>
     ensures lines { IfOk result (λ o. o.lines ≡ lines) }
-    ensures sent { IfOk result (λ o. found o.parcels ≡ meant (message.now ∷ [])) }
+    ensures sent { IfOk result (λ o. o.parcels ≡ record { head = head; bytes = bytes } ∷ []) }
 {
-    let bytes = encode_message(alloc, message)?;
     let mut parcels = Sequence::new(alloc);
-    parcels.push(Parcel {
-        head: message.head,
-        bytes,
-    })?;
+    parcels.push(Parcel { head, bytes })?;
     Ok(Outs { parcels, lines })
 }
 
+/// What a step gives out that sends this one message.
+pub(crate) fn outs_with(alloc: Global, lines: Lines, message: &Message) -> Mem<Outs>
+    requires { HasSpelling message.now }
+    ensures lines { IfOk result (λ o. o.lines ≡ lines) }
+    ensures sent { IfOk result (λ o. found o.parcels ≡ meant (message.now ∷ [])) }
+    ensures few { IfOk result (λ o. length o.parcels ≤ 1) }
+{
+    let bytes = encode_message(alloc, message)?;
+    outs_of(alloc, lines, message.head, bytes)
+}
+
+/// What a step gives out that sends nothing.
+pub(crate) fn quiet(alloc: Global, lines: Lines) -> Outs
+    ensures lines { result.lines ≡ lines }
+    ensures sent { result.parcels ≡ [] }
+{
+    Outs {
+        parcels: Sequence::new(alloc),
+        lines,
+    }
+}
+
 /// The line of a message that is given.
-pub(crate) fn given(alloc: Global, place: u64) -> Result<Lines, AllocError>
+pub(crate) fn given(alloc: Global, place: u64) -> Mem<Lines>
     ensures { IfOk result (λ ls. ls ≡ Line.Given place ∷ []) }
 {
     let mut lines = Sequence::new(alloc);

@@ -2,7 +2,7 @@
 #![tactic(auto)]
 
 pub mod client;
-mod giving;
+pub mod giving;
 mod plans;
 pub mod server;
 #[cfg(test)]

@@ -10,12 +10,13 @@ ghost use Rattle.afs_model.specs.Telling.{AreRead, told, sent_by};
 ghost use Rattle.afs_world.specs.Worlds.{cell_of, receiver_at, notes, IsPlayable, Plays};
 
 use crate::client::CacheManager;
+use crate::giving::Moment;
 use crate::plans::Plan;
 use crate::server::FileServer;
 use afs_num::histories::{Entry, Line, Outs};
 use afs_num::scripts::{Act, Event, Script, SetupLine, VolumeLine, VolumeLines};
 use afs_num::sequences::Sequence;
-use afs_num::states::{ClientState, ServerState, StoredFile, StoredFiles};
+use afs_num::states::{StoredFile, StoredFiles};
 use afs_num::types::{Fid, Mem, Node, Parcel};
 use afs_wire::Wire;
 use std::alloc::{AllocError, Global};
@@ -129,7 +130,7 @@ impl<'a> World<'a> {
         };
         let outs = self
             .server
-            .handle(alloc, place, 0, parcel.bytes.as_slice())?;
+            .handle(alloc, Moment { place, now: 0 }, parcel.bytes.as_slice())?;
         tell(&mut self.wire, &mut self.history, Node::Server(1), outs);
         Ok(())
     }
@@ -147,7 +148,7 @@ impl<'a> World<'a> {
         };
         let outs = self
             .client
-            .receive(alloc, place, 0, parcel.bytes.as_slice())?;
+            .receive(alloc, Moment { place, now: 0 }, parcel.bytes.as_slice())?;
         tell(&mut self.wire, &mut self.history, Node::Client(1), outs);
         Ok(())
     }
@@ -191,7 +192,7 @@ impl<'a> World<'a> {
         requires length { length self.old.history < 1000000 }
         ensures { Plays self.old (begun (cell_of self.old) self.old.acts self.old.client.state.running) result self.new }
     {
-        if self.client.state.running.is_some() {
+        if !self.client.is_idle() {
             return self.skip(alloc);
         }
         match self.plan.next() {
@@ -223,24 +224,8 @@ impl<'a> World<'a> {
         let files = first_files(alloc, &script.volumes)?;
         let plan = Plan::of(alloc, Node::Client(1), script.tasks.as_slice())?;
         Ok(World {
-            server: FileServer {
-                node: Node::Server(1),
-                state: ServerState {
-                    boot: 1,
-                    files,
-                    seats: Sequence::new(alloc),
-                },
-            },
-            client: CacheManager {
-                node: Node::Client(1),
-                state: ClientState {
-                    epoch: 1,
-                    last: 0,
-                    boot: 1,
-                    running: None,
-                    cache: Sequence::new(alloc),
-                },
-            },
+            server: FileServer::new(alloc, Node::Server(1), 1, files),
+            client: CacheManager::new(alloc, Node::Client(1), 1),
             plan,
             wire: Wire::new(alloc),
             history: Vec::new(alloc),
@@ -266,7 +251,7 @@ impl<'a> World<'a> {
     pub fn files(&self) -> &[StoredFile]
         ensures { result.now ≡ self.now.server.state.files }
     {
-        self.server.state.files.as_slice()
+        self.server.files()
     }
 
     /// The messages that were sent, each with its bytes.

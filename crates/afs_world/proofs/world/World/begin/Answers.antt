@@ -8,9 +8,6 @@ use Rattle.afs_world.specs.Worlds.{WorldState, cell_of, IsPlayable, Follows}
 use Rattle.afs_world.proofs.Telling.{begin_follows, moves_entry}
 use Rattle.afs_world.proofs.world.World.begin.Goals as goal
 
-pub tell-requires-clause-few : goal.tell-requires-clause-few
-tell-requires-clause-few c = ?
-
 pub returns : goal.returns
 returns c =
     let inside = c.self.inside in
@@ -23,7 +20,7 @@ returns c =
     (begin_follows old new c.args.act.now outs (subst IsPlayable (sym was) c.requires.holds)
     (subst (λ (w : WorldState). w.client.state.running ≡ None) (sym was) c.requires.idle)
     (subst (λ (w : WorldState). slice_get w.acts 0 ≡ Some c.args.act.now) (sym was) c.requires.next)
-    gave.ok gave.node refl c.advance.ensures
+    gave.step.1 gave.step.0 refl c.advance.ensures
     (record {
       wire = c.tell.ensures.sent ∙ ap (λ (ps : List Parcel). ps ++ outs.parcels) c.make_room.ensures.wire;
       history = c.tell.ensures.history ∙ ap (λ (es : List kept.Entry). es ++ moves_entry (Client 1) outs ∷ []) c.make_room.ensures.history;

@@ -12,9 +12,6 @@ use Rattle.afs_world.specs.Worlds.{WorldState, cell_of, receiver_at, IsPlayable,
 use Rattle.afs_world.proofs.Telling.{hear_follows, sent_to, moves_entry}
 use Rattle.afs_world.proofs.world.World.hear.Goals as goal
 
-pub tell-requires-clause-few : goal.tell-requires-clause-few
-tell-requires-clause-few c = ?
-
 pub returns : goal.returns
 returns c =
     let inside = c.self.inside in
@@ -29,8 +26,8 @@ returns c =
     subst (λ (w : WorldState). Follows w (as_played w.acts (moved (cell_of w) (gives place))) new) was
     (hear_follows old new place p outs (subst IsPlayable (sym was) c.requires.holds) at
     (sent_to old.wire place p (Client 1) at (subst (λ (w : WorldState). receiver_at w.wire place ≡ Some (Client 1)) (sym was) c.requires.to))
-    (subst (λ b. Makes (client_row inside.client.node inside.client.state 0 place (received b)) c.receive.new.self.state outs) c.as_slice.ensures gave.ok)
-    gave.node refl refl
+    (subst (λ b. Makes (client_row inside.client.node inside.client.state 0 place (received b)) c.receive.new.self.state outs) c.as_slice.ensures gave.step.1)
+    gave.step.0 refl refl
     (record {
       wire = c.tell.ensures.sent ∙ ap (λ (ps : List Parcel). ps ++ outs.parcels) c.make_room.ensures.wire;
       history = c.tell.ensures.history ∙ ap (λ (es : List kept.Entry). es ++ moves_entry (Client 1) outs ∷ []) c.make_room.ensures.history;

@@ -12,9 +12,6 @@ use Rattle.afs_world.specs.Worlds.{WorldState, cell_of, receiver_at, IsPlayable,
 use Rattle.afs_world.proofs.Telling.{serve_follows, sent_to, moves_entry}
 use Rattle.afs_world.proofs.world.World.serve.Goals as goal
 
-pub tell-requires-clause-few : goal.tell-requires-clause-few
-tell-requires-clause-few c = ?
-
 pub returns : goal.returns
 returns c =
     let inside = c.self.inside in
@@ -30,8 +27,8 @@ returns c =
     (serve_follows old new place p outs (subst IsPlayable (sym was) c.requires.holds) at
     (sent_to old.wire place p (Server 1) at (subst (λ (w : WorldState). receiver_at w.wire place ≡ Some (Server 1)) (sym was) c.requires.to))
     (subst (λ b. IsSoundReceived (received b)) c.as_slice.ensures gave.sound)
-    (subst (λ b. Makes (server_row inside.server.node inside.server.state 0 place (received b)) c.handle.new.self.state outs) c.as_slice.ensures gave.ok)
-    gave.node refl refl
+    (subst (λ b. Makes (server_row inside.server.node inside.server.state 0 place (received b)) c.handle.new.self.state outs) c.as_slice.ensures gave.step.1)
+    gave.step.0 refl refl
     (record {
       wire = c.tell.ensures.sent ∙ ap (λ (ps : List Parcel). ps ++ outs.parcels) c.make_room.ensures.wire;
       history = c.tell.ensures.history ∙ ap (λ (es : List kept.Entry). es ++ moves_entry (Server 1) outs ∷ []) c.make_room.ensures.history;

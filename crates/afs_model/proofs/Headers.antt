@@ -1,0 +1,38 @@
+-- The header of what is read in bytes.
+use Rattle.std.proofs.Common.{◌≡◌, ℕ, List, Result, Ok, Err, refl, sym, ap, ◌∙◌}
+use Rattle.afs_num.specs.declared.types.Half.{Half}
+use Rattle.afs_num.specs.declared.types.Half.TheVariants as halves
+use Rattle.afs_num.specs.declared.types.Head.{Head}
+use Rattle.afs_num.specs.declared.messages.Message.{Message}
+use Rattle.afs_num.specs.declared.messages.Received.TheVariants.{Nothing, Whole}
+use Rattle.afs_xdr.specs.declared.faults.XdrFault.{XdrFault}
+use Rattle.afs_model.specs.FsRows.{first_of}
+use Rattle.afs_model.specs.Heads.{head_at}
+use Rattle.afs_model.specs.Messages.{received, read_body, read_behind_head, asked_at, replied_at, notice_at}
+use Rattle.afs_model.proofs.Spellings.{found_call_is, found_answer_is}
+
+body_head : (head : Head) (half : Half) (bytes : List ℕ) (m : Message) → read_body head half bytes ≡ Whole m → head ≡ m.head
+body_head head halves.Call bytes m e = ap (λ (x : Message). x.head) (found_call_is head (asked_at head.opcode bytes) m e).is
+body_head head halves.Reply bytes m e = ap (λ (x : Message). x.head) (found_answer_is head (replied_at head.opcode bytes) m e).is
+body_head head halves.Boot bytes m e = ap (λ (x : Message). x.head) (found_answer_is head (notice_at bytes) m e).is
+
+first_is : (h : Head × List ℕ) (head : Head) → ◌≡◌ {A = Result Head XdrFault} (first_of {A = Head} {E = XdrFault} (Ok h)) (Ok head) → h.0 ≡ head
+first_is h head e = cc
+
+head_by : (o : Result (Head × List ℕ) XdrFault) (head : Head) (m : Message) → first_of o ≡ Ok head → read_behind_head o ≡ Whole m → head ≡ m.head
+head_by (Ok h) head m f e = sym (first_is h head f) ∙ body_head h.0 h.0.half h.1 m e
+head_by (Err x) head m f e = absurd cc
+
+-- the header that is read is that of the message that is read
+pub read_head_is : (bytes : List ℕ) (head : Head) (m : Message) → first_of (head_at bytes) ≡ Ok head → received bytes ≡ Whole m → head ≡ m.head
+unfolding received
+read_head_is bytes head m f e = head_by (head_at bytes) head m f e
+
+nothing_by : (o : Result (Head × List ℕ) XdrFault) (x : XdrFault) → first_of o ≡ Err x → read_behind_head o ≡ Nothing
+nothing_by (Ok h) x f = absurd cc
+nothing_by (Err y) x f = refl
+
+-- without a header there is nothing
+pub no_header : (bytes : List ℕ) (x : XdrFault) → first_of (head_at bytes) ≡ Err x → received bytes ≡ Nothing
+unfolding received
+no_header bytes x f = nothing_by (head_at bytes) x f

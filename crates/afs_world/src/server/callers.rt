@@ -1,0 +1,66 @@
+//! The callers of a server, with the replies that it keeps for them.
+
+ghost use Rattle.std.specs.Prelude.{◌≡◌, [], Some, OnOk, OnErr};
+ghost use Rattle.afs_model.specs.Calls.{admitted, call_seat, call_seated, paired, runs};
+ghost use Rattle.afs_world.specs.Serving.{IsSpelling, Says, reply_in};
+
+use afs_call::{Admit, CallTable};
+use afs_num::sequences::Octets;
+use afs_num::types::{Head, Key, Mem};
+use std::alloc::Global;
+use std::marker::Model;
+
+/// A table of calls whose kept replies are messages, in their spellings.
+#[derive(Drop)]
+pub struct Callers {
+    table: CallTable,
+}
+
+impl Model for Callers {
+    ghost use Rattle.std.specs.List.{All};
+    ghost use Rattle.afs_world.specs.Serving.{Served, read_seats, KeepsSpelling};
+
+    ghost Value = { Served };
+
+    ghost view = { λ c. record { boot = c.table.boot; seats = read_seats c.table.seats } };
+
+    ghost invariant = { λ c. All KeepsSpelling c.table.seats };
+}
+
+impl Callers {
+    /// No callers, in this boot.
+    pub fn new(alloc: Global, boot: u32) -> Callers
+        ensures boot { result.boot ≡ boot }
+        ensures seats { result.seats ≡ [] }
+    {
+        Callers {
+            table: CallTable::new(alloc, boot),
+        }
+    }
+
+    pub fn boot(&self) -> u32
+        ensures { result ≡ self.now.boot }
+    {
+        self.table.boot()
+    }
+
+    /// What becomes of a call.
+    pub fn admit(&self, head: &Head) -> Admit<'_>
+        ensures { Says result (admitted self.now.boot self.now.seats head.now) }
+    {
+        self.table.admit(head)
+    }
+
+    /// Keeps the reply to a call that ran.
+    pub fn keep(&mut self, key: Key, reply: Octets) -> Mem<()>
+        requires runs { paired key.epoch key.number (call_seat key.node self.old.seats) ≡ runs }
+        requires spelling { IsSpelling reply }
+        ensures ok { OnOk result (self.new ≡ record self.old { seats = call_seated (record { caller = key.node; epoch = key.epoch; number = key.number; reply = reply_in (Some reply) }) self.old.seats }) }
+        ensures err { OnErr result (self.new ≡ self.old) }
+    {
+        self.table.reserve(1)?;
+        self.table.start(key);
+        self.table.finish(key, reply);
+        Ok(())
+    }
+}
