@@ -278,9 +278,9 @@ placed_by Equal x v f files rest e ih = absorbed (same_fid x.fid f) (same_fid v.
 placed_by Greater x v f files rest e ih =
     ap (λ (o : Option StoredFile). cond (same_fid v.fid f) (Some v) o) ih
     ∙ swapped (same_fid x.fid f) (same_fid v.fid f) x v (find_file f files) (λ a b.
-        let one : x.fid ≡ v.fid = same_fid-true x.fid f a ∙ sym (same_fid-true v.fid f b) in
-        let equal : fid_order x.fid v.fid ≡ Equal = ap (fid_order x.fid) (sym one) ∙ order_itself x.fid in
-        absurd cc)
+    let one : x.fid ≡ v.fid = same_fid-true x.fid f a ∙ sym (same_fid-true v.fid f b) in
+    let equal : fid_order x.fid v.fid ≡ Equal = ap (fid_order x.fid) (sym one) ∙ order_itself x.fid in
+    absurd cc)
 
 -- a file that took a place is found under its fid, and another as before
 pub found-with_file : (x : StoredFile) (f : Fid) (files : List StoredFile) → find_file f (with_file x files) ≡ cond (same_fid x.fid f) (Some x) (find_file f files)

@@ -1,9 +1,9 @@
 //! The states of the nodes, as the rows of the definitions and the nodes themselves know them.
 
-use crate::scripts::Act;
 ghost use Rattle.afs_num.specs.Fids.{same_fid};
 
 use crate::keyed::Keyed;
+use crate::scripts::Act;
 use crate::sequences::{Octets, Sequence};
 use crate::types::Fid;
 

@@ -3,6 +3,8 @@ pub mod Firsts
 pub mod Searching
 pub mod Keeping
 pub mod Heard
+pub mod Renewing
+pub mod Awaiting
 pub mod Parcels
 pub mod Within
 pub mod Clients

@@ -49,12 +49,12 @@ fn renew(items: &mut Vec<CacheEntry>, now: u32, fid: &Fid, index: u32, contents:
     let Some(place) = place_keyed(items, fid) else {
         return;
     };
-    if is_live(&items[place], now) {
-        let expiry = items[place].expiry;
+    let entry = &items[place];
+    if is_live(entry, now) {
         items[place] = CacheEntry {
             fid: *fid,
             index,
-            expiry,
+            expiry: entry.expiry,
             contents,
         };
     }

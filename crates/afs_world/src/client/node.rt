@@ -439,12 +439,10 @@ impl CacheManager {
             return self.ignore(alloc, moment.place);
         }
         match read_message(alloc, bytes)? {
-            Received::Whole { message } => self.count(
-                alloc,
-                moment,
-                &message.head,
-                message.carried,
-            ),
+            Received::Whole { message } => {
+                let Message { head, carried } = message;
+                self.count(alloc, moment, &head, carried)
+            }
             _ => self.ignore(alloc, moment.place),
         }
     }
