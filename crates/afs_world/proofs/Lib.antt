@@ -9,3 +9,4 @@ pub mod Parcels
 pub mod Within
 pub mod Clients
 pub mod Telling
+pub mod Starting
