@@ -1,5 +1,5 @@
 -- Every script has the form that the cell which plays it relies on.
-use Rattle.std.proofs.Common.{◌≡◌, ℕ, ◌+◌, ◌-◌, ◌≤◌, Bool, true, false, cond, nat_eq, nat_le, nat_lt, not, length, List, [], ◌∷◌, ◌++◌, Option, Some, None, Ok, Err, refl, ap, subst, arith, eqb-true, leb-true, le_of_eq}
+use Rattle.std.proofs.Common.{◌≡◌, ℕ, ◌+◌, ◌-◌, ◌≤◌, Bool, true, false, cond, nat_eq, nat_le, nat_lt, not, length, List, [], ◌∷◌, ◌++◌, Option, Some, None, Ok, Err, refl, ap, subst, arith, eqb-true, leb-true, le_of_eq, sym, append-nil}
 use Rattle.std.specs.Prelude.{⊤, ◌||◌, is_none, if◌then◌else◌, codes}
 use Rattle.std.specs.List.{All, flat_map, list_any}
 use Rattle.std.specs.Option.{ok_or, option_to_list}
@@ -24,6 +24,8 @@ use Rattle.afs_num.specs.declared.scripts.VolumeLine.{VolumeLine}
 use Rattle.afs_model.specs.Heads.{contents_limit}
 use Rattle.afs_model.specs.Runs.{first_files, files_of}
 use Rattle.afs_model.specs.Playing.{IsOwnTask, IsOwnEvent}
+use Rattle.afs_model.specs.ServerRow.{AreOrdered}
+use Rattle.afs_model.proofs.Ordered.{first_ordered}
 use Rattle.afs_model.specs.Form.{IsShortAct, IsShortTask, IsFirst, HasForm}
 use Rattle.afs_model.specs.ScriptWords.{must, parts, word_at, ended, first_word, number_at, path_of, fid_at, contents_at, is_unbuilt, node_at}
 use Rattle.afs_model.specs.Script.{has_name, name_in_root, lays, delivers, is_file_here, open_at, close_at, act_of, is_due, has_ended, LinesRead, nothing_read, next_turn, cell_line, servers_line, clients_line, volume_line, laid, file_line, do_line, act_line, deliver_line, bare_line, line_by_word, line_of, line_at, is_silent, last_at, at_line, lines_at, script_of}
@@ -221,6 +223,10 @@ first_volumes : (o : Option VolumeLine) → HasFirst o → All IsFirst (flat_map
 first_volumes None h = All-nil IsFirst
 first_volumes (Some v) h = All-append IsFirst (files_of v) [] h (All-nil IsFirst)
 
+volumes_ordered : (o : Option VolumeLine) → AreOrdered (flat_map files_of (option_to_list o))
+volumes_ordered None = tt
+volumes_ordered (Some v) = subst AreOrdered (sym (append-nil (files_of v))) (first_ordered v.id 1 v.lines)
+
 last_formed : (n : ℕ) (r : LinesRead) (s : Script) (number room : ℕ) (last : List ℕ) → n ≤ 200000 → Formed n r → last_at r number room last ≡ Ok s → HasForm s
 unfolding last_at
 last_formed n r s number room last le h e =
@@ -229,7 +235,7 @@ last_formed n r s number room last le h e =
     let few = bound (Unit {0}) _ Reason (must (nat_eq (length last) 0 || nat_le number 200000) reasons.Limit) _ _ whole.rest in
     let short = bound (Unit {0}) _ Reason (must (nat_le (length last) 4200000) reasons.Limit) _ _ few.rest in
     let none = bound (Unit {0}) _ Reason (must (nat_eq (length last) 0) reasons.Order) _ _ short.rest in
-    subst HasForm (ok_of _ _ _ _ none.rest) (record { client = record { tasks = h.tasks; events = h.events }; acts = h.acts; files = first_volumes r.volume h.volume; events = le_trans h.count le })
+    subst HasForm (ok_of _ _ _ _ none.rest) (record { client = record { tasks = h.tasks; events = h.events }; acts = h.acts; files = first_volumes r.volume h.volume; ordered = volumes_ordered r.volume; events = le_trans h.count le })
 
 lines_formed : (n : ℕ) (r : LinesRead) (s : Script) (room : ℕ) (ls : List (List ℕ)) → n ≤ 200000 → Formed n r → lines_at r n room ls ≡ Ok s → HasForm s
 lines_formed n r s room [] le h e = absurd cc

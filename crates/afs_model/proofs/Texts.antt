@@ -1,4 +1,4 @@
--- An entry with bytes and the entry with the values that they carry have one text, with the bytes of messages or without.
+-- A parcel and the message whose spelling it has have one line, with the bytes or without.
 use Rattle.std.proofs.Common.{◌≡◌, ℕ, suc, ◌+◌, List, [], ◌∷◌, ◌++◌, length, drop, refl, ap, sym, ◌∙◌, Result, Ok, Err, Option, Some, None, ℤ, pos, negsuc, Bool, true, false}
 use Rattle.std.specs.Prelude.{nat_lt, codes, if◌then◌else◌}
 use Rattle.afs_xdr.specs.declared.faults.XdrFault.TheVariants.{Short}
@@ -17,10 +17,6 @@ use Rattle.afs_num.specs.declared.messages.Received.TheVariants.{Whole}
 use Rattle.afs_xdr.specs.declared.faults.XdrFault.{XdrFault}
 use Rattle.afs_xdr.specs.Words.{◌>>=◌, word_at}
 use Rattle.afs_num.specs.declared.messages.Received.{Received}
-use Rattle.afs_num.specs.declared.histories.Entry.{Entry as ParcelledEntry}
-use Rattle.afs_num.specs.declared.histories.Line.{Line}
-use Rattle.afs_num.specs.declared.scripts.Script.{Script}
-use Rattle.afs_num.specs.declared.states.StoredFile.{StoredFile}
 use Rattle.afs_num.specs.declared.calls.FsCall.{FsCall}
 use Rattle.afs_num.specs.declared.calls.FsReply.{FsReply}
 use Rattle.afs_shape.specs.declared.faults.ShapeFault.{ShapeFault}
@@ -33,8 +29,8 @@ use Rattle.afs_model.specs.Rpc.{asked_at, answer_at, replied_at}
 use Rattle.afs_model.specs.FsRows.{fs_calls, fs_replies}
 use Rattle.afs_model.specs.Messages.{received_call, carried_reply, received_reply, received_notice, read_body, read_behind_head, received, spelled, found, meant}
 use Rattle.afs_model.proofs.Spellings.{whole_of}
-use Rattle.afs_model.specs.Runs.{Entry, Cell}
-use Rattle.afs_model.specs.Text.{sent_text, route_text, half_text, code_text, tail_text, code_of, code_read, code_at, message_text, messages_text, parcel_text, parcels_text, step_text, lines_text, entry_text, parcelled_entry_text, entries_text, parcelled_entries_text, history_text, parcelled_history_text, final_text, text, parcelled_text, Carries, CarryAll}
+use Rattle.afs_model.specs.Telling.{code_read, code_at}
+use Rattle.afs_model.specs.Text.{sent_text, route_text, half_text, code_text, tail_text, code_of, message_text}
 
 -- what is read next was read, where the whole is
 pub record Went {A B : Type 0} (r : Result A XdrFault) (f : A → Result B XdrFault) (x : B) : Type 0 where
@@ -225,12 +221,12 @@ unfolding sent_text
 sent_same place h a b same = ap (λ (t : List ℕ). route_text place h ++ (half_text h.half h ++ t)) (code_same h.half a b same)
 
 -- what a message's line is made of
-abbrev line_of : Bool → ℕ → Head → ℤ → List ℕ → List ℕ
+abbrev pub line_of : Bool → ℕ → Head → ℤ → List ℕ → List ℕ
 line_of wire place h code bytes = sent_text place h code ++ (tail_text wire bytes ++ codes "\n")
 
 -- the bytes of a message are its spelling, and are read as it
-pub parcel_same : (wire : Bool) (place : ℕ) (p : Parcel) (m : Message) → p.head ≡ m.head → p.bytes ≡ spelled m → received p.bytes ≡ Whole m → parcel_text wire place p ≡ message_text wire place m
-unfolding parcel_text message_text
+pub parcel_same : (wire : Bool) (place : ℕ) (p : Parcel) (m : Message) → p.head ≡ m.head → p.bytes ≡ spelled m → received p.bytes ≡ Whole m → line_of wire place p.head (code_at p.bytes) p.bytes ≡ message_text wire place m
+unfolding message_text
 parcel_same wire place p m head bytes read =
     ap (λ (h : Head). line_of wire place h (code_at p.bytes) p.bytes) head
     ∙ (ap (λ (t : List ℕ). t ++ (tail_text wire p.bytes ++ codes "\n")) (sent_same place m.head (code_at p.bytes) (code_of m.carried) (λ reply. reply_code p.bytes m reply read))
@@ -246,47 +242,8 @@ first_is h = cc
 others_are : {A : Type 0} {x y : A} {xs ys : List A} → x ∷ xs ≡ y ∷ ys → xs ≡ ys
 others_are h = cc
 
-pub parcels_same : (wire : Bool) (place : ℕ) (ps : List Parcel) (ms : List Message) → found ps ≡ meant ms → parcels_text wire place ps ≡ messages_text wire place ms
-parcels_same wire place [] [] h = refl
-parcels_same wire place [] (m ∷ ms) h = cc
-parcels_same wire place (p ∷ ps) [] h = cc
-parcels_same wire place (p ∷ ps) (m ∷ ms) h =
-    let e = first_is h in
-    let one = parcel_same wire place p m (ap (λ (x : Seen). x.0) e) (ap (λ (x : Seen). x.1) e) (ap (λ (x : Seen). x.2) e) in
-    let more = parcels_same wire (place + 1) ps ms (others_are h) in
-    ap (λ (t : List ℕ). t ++ parcels_text wire (place + 1) ps) one ∙ ap (λ (t : List ℕ). message_text wire place m ++ t) more
-
 pub parcels_length : (ps : List Parcel) (ms : List Message) → found ps ≡ meant ms → length ps ≡ length ms
 parcels_length [] [] h = refl
 parcels_length [] (m ∷ ms) h = cc
 parcels_length (p ∷ ps) [] h = cc
 parcels_length (p ∷ ps) (m ∷ ms) h = ap (λ (n : ℕ). suc n) (parcels_length ps ms (others_are h))
-
--- ---- entries
-
-pub entry_same : (wire : Bool) (number place : ℕ) (p : ParcelledEntry) (e : Entry) → Carries p e → parcelled_entry_text wire number place p ≡ entry_text wire number place e
-unfolding parcelled_entry_text entry_text
-entry_same wire number place p e c =
-    ap (λ (n : Option Node). step_text number n ++ (lines_text p.lines ++ parcels_text wire place p.parcels)) c.node
-    ∙ (ap (λ (ls : List Line). step_text number e.node ++ (lines_text ls ++ parcels_text wire place p.parcels)) c.lines
-    ∙ ap (λ (t : List ℕ). step_text number e.node ++ (lines_text e.lines ++ t)) (parcels_same wire place p.parcels e.sent c.sent))
-
-pub entries_same : (wire : Bool) (number place : ℕ) (ps : List ParcelledEntry) (es : List Entry) → CarryAll ps es → parcelled_entries_text wire number place ps ≡ entries_text wire number place es
-entries_same wire number place [] [] c = refl
-entries_same wire number place [] (e ∷ es) c = absurd c
-entries_same wire number place (p ∷ ps) [] c = absurd c
-entries_same wire number place (p ∷ ps) (e ∷ es) c =
-    let one = entry_same wire number place p e c.0 in
-    let at = ap (λ (n : ℕ). parcelled_entry_text wire number place p ++ parcelled_entries_text wire (number + 1) (place + n) ps) (parcels_length p.parcels e.sent c.0.sent) in
-    let more = entries_same wire (number + 1) (place + length e.sent) ps es c.1 in
-    at ∙ (ap (λ (t : List ℕ). t ++ parcelled_entries_text wire (number + 1) (place + length e.sent) ps) one ∙ ap (λ (t : List ℕ). entry_text wire number place e ++ t) more)
-
-pub history_same : (wire : Bool) (ps : List ParcelledEntry) (es : List Entry) → CarryAll ps es → parcelled_history_text wire ps ≡ history_text wire es
-unfolding parcelled_history_text history_text
-history_same wire ps es c = entries_same wire 1 1 ps es c
-
--- the whole text: the entries carry those of the history, and the files are the server's at the end
-pub text_same : (wire : Bool) (s : Script) (ps : List ParcelledEntry) (files : List StoredFile) (es : List Entry) (end : Cell) → CarryAll ps es → files ≡ end.server.files → parcelled_text wire s ps files ≡ text wire s es end
-unfolding parcelled_text text
-text_same wire s ps files es end c f =
-    ap (λ (t : List ℕ). t ++ final_text s files) (history_same wire ps es c) ∙ ap (λ (fs : List StoredFile). history_text wire es ++ final_text s fs) f

@@ -9,6 +9,7 @@ use Rattle.afs_num.specs.declared.states.StoredFile.{StoredFile}
 use Rattle.afs_model.specs.Heads.{contents_limit}
 use Rattle.afs_model.specs.Acts.{events_of}
 use Rattle.afs_model.specs.Playing.{HasOneClient}
+use Rattle.afs_model.specs.ServerRow.{AreOrdered}
 use Rattle.afs_model.specs.Runs.{files_of}
 
 -- the contents that an act stores are within their limit
@@ -25,9 +26,11 @@ pub record IsFirst (file : StoredFile) : Type 0 where
   pub data_version : file.data_version ≤ 1
   pub short : length file.contents ≤ contents_limit
 
--- its tasks and act events are client 1's, its contents are within their limits, and it has no more events than lines
+-- its tasks and act events are client 1's, its contents are within their limits, its files stand in the order of their
+-- fids, and it has no more events than lines
 pub record HasForm (s : Script) : Type 0 where
   pub client : HasOneClient s
   pub acts : All IsShortTask s.tasks
   pub files : All IsFirst (flat_map files_of s.volumes)
+  pub ordered : AreOrdered (flat_map files_of s.volumes)
   pub events : length (events_of s.schedule) ≤ 200000

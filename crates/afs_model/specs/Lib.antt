@@ -19,6 +19,7 @@ pub mod ScriptWords
 pub mod Script
 pub mod ScriptText
 pub mod ScriptTooLong
+pub mod Telling
 pub mod Text
 pub mod ScriptLaws
 pub mod Form

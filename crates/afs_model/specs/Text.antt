@@ -1,8 +1,7 @@
 -- The text of a run: what is told of each step, and then what stands at the end.
--- Every line has one definition below both forms of an entry, that of the rows, whose messages are values, and that of
--- the nodes, whose messages are parcels of bytes. Each definition about messages takes `wire`, which says whether the
--- bytes of each message are told too.
-use Rattle.std.specs.Prelude.{◌≡◌, ℕ, ◌+◌, ◌*◌, ◌/◌, ◌%◌, ◌||◌, List, [], ◌∷◌, ◌++◌, Bool, true, false, nat_eq, Option, Some, None, Result, Ok, Err, ℤ, pos, codes, drop, length, if◌then◌else◌}
+-- The bytes of a message are its spelling. Each definition about messages takes `wire`, which says whether they are told
+-- too.
+use Rattle.std.specs.Prelude.{ℕ, ◌+◌, ◌*◌, ◌/◌, ◌%◌, ◌||◌, List, [], ◌∷◌, ◌++◌, Bool, true, false, nat_eq, Option, Some, None, ℤ, pos, codes, length, if◌then◌else◌}
 use Rattle.std.specs.List.{flat_map}
 use Rattle.std.specs.Fmt.{decimal, signed_decimal, digit_glyph}
 use Rattle.afs_num.specs.Nodes.{is_between}
@@ -14,7 +13,6 @@ use Rattle.afs_num.specs.declared.types.Half.TheVariants as halves
 use Rattle.afs_num.specs.declared.types.Head.{Head}
 use Rattle.afs_num.specs.declared.types.Key.{Key}
 use Rattle.afs_num.specs.declared.types.Node.{Node}
-use Rattle.afs_num.specs.declared.types.Parcel.{Parcel}
 use Rattle.afs_num.specs.declared.messages.Carried.{Carried}
 use Rattle.afs_num.specs.declared.messages.Carried.TheVariants as carried
 use Rattle.afs_num.specs.declared.messages.Message.{Message}
@@ -26,16 +24,13 @@ use Rattle.afs_num.specs.declared.scripts.SetupLine.TheVariants.{File}
 use Rattle.afs_num.specs.declared.scripts.VolumeLine.{VolumeLine}
 use Rattle.afs_num.specs.declared.histories.Body.{Body}
 use Rattle.afs_num.specs.declared.histories.Body.TheVariants as bodies
-use Rattle.afs_num.specs.declared.histories.Entry.{Entry as ParcelledEntry}
 use Rattle.afs_num.specs.declared.histories.Line.{Line}
 use Rattle.afs_num.specs.declared.histories.Line.TheVariants as lines
 use Rattle.afs_num.specs.declared.histories.ReadSource.{ReadSource}
 use Rattle.afs_num.specs.declared.histories.ReadSource.TheVariants.{Cached, Fetched}
 use Rattle.afs_num.specs.declared.histories.Version.{Version}
 use Rattle.afs_num.specs.declared.states.StoredFile.{StoredFile}
-use Rattle.afs_xdr.specs.declared.faults.XdrFault.{XdrFault}
-use Rattle.afs_shape.specs.Reading.{signed_at}
-use Rattle.afs_model.specs.Messages.{spelled, found, meant}
+use Rattle.afs_model.specs.Messages.{spelled}
 use Rattle.afs_model.specs.Runs.{Entry, Cell}
 
 -- ---- bytes
@@ -148,21 +143,6 @@ abbrev pub messages_text : Bool → ℕ → List Message → List ℕ
 messages_text wire place [] = []
 messages_text wire place (m ∷ ms) = message_text wire place m ++ messages_text wire (place + 1) ms
 
--- the code of a reply is its first word behind the header, which has 32 bytes
-abbrev pub code_read : Result (ℤ × List ℕ) XdrFault → ℤ
-code_read (Ok r) = r.0
-code_read (Err e) = pos 0
-
-unfoldable pub code_at : List ℕ → ℤ
-code_at bytes = code_read (signed_at (drop 32 bytes))
-
-unfoldable pub parcel_text : Bool → ℕ → Parcel → List ℕ
-parcel_text wire place p = sent_text place p.head (code_at p.bytes) ++ (tail_text wire p.bytes ++ codes "\n")
-
-abbrev pub parcels_text : Bool → ℕ → List Parcel → List ℕ
-parcels_text wire place [] = []
-parcels_text wire place (p ∷ ps) = parcel_text wire place p ++ parcels_text wire (place + 1) ps
-
 -- ---- entries
 
 -- the number of an entry and its node; none where nothing happened
@@ -174,30 +154,14 @@ step_text number None = codes "entry " ++ (decimal number ++ codes " none\n")
 unfoldable pub entry_text : Bool → ℕ → ℕ → Entry → List ℕ
 entry_text wire number place e = step_text number e.node ++ (lines_text e.lines ++ messages_text wire place e.sent)
 
-unfoldable pub parcelled_entry_text : Bool → ℕ → ℕ → ParcelledEntry → List ℕ
-parcelled_entry_text wire number place e = step_text number e.node ++ (lines_text e.lines ++ parcels_text wire place e.parcels)
-
 -- entries are numbered one after another, and so are the places of all messages
 abbrev pub entries_text : Bool → ℕ → ℕ → List Entry → List ℕ
 entries_text wire number place [] = []
 entries_text wire number place (e ∷ es) = entry_text wire number place e ++ entries_text wire (number + 1) (place + length e.sent) es
 
-abbrev pub parcelled_entries_text : Bool → ℕ → ℕ → List ParcelledEntry → List ℕ
-parcelled_entries_text wire number place [] = []
-parcelled_entries_text wire number place (e ∷ es) =
-    parcelled_entry_text wire number place e ++ parcelled_entries_text wire (number + 1) (place + length e.parcels) es
-
--- how many messages were sent
-abbrev pub parcels_sent : List ParcelledEntry → ℕ
-parcels_sent [] = 0
-parcels_sent (e ∷ es) = length e.parcels + parcels_sent es
-
 -- the first entry and the first message have number 1
 unfoldable pub history_text : Bool → List Entry → List ℕ
 history_text wire h = entries_text wire 1 1 h
-
-unfoldable pub parcelled_history_text : Bool → List ParcelledEntry → List ℕ
-parcelled_history_text wire h = parcelled_entries_text wire 1 1 h
 
 -- ---- the final part
 
@@ -250,22 +214,3 @@ final_text s files = codes "final\n" ++ (flat_map (volume_text files) s.volumes 
 -- the text of a history of this script that ends in this cell, with the bytes of each message or without
 unfoldable pub text : Bool → Script → List Entry → Cell → List ℕ
 text wire s history end = history_text wire history ++ final_text s end.server.files
-
-unfoldable pub parcelled_text : Bool → Script → List ParcelledEntry → List StoredFile → List ℕ
-parcelled_text wire s history files = parcelled_history_text wire history ++ final_text s files
-
--- ---- entries with bytes, and those with values
-
--- the entry with bytes tells of the same step: the bytes of each of its messages are that message's spelling and are
--- read as it
-pub record Carries (p : ParcelledEntry) (e : Entry) : Type 0 where
-  pub node : p.node ≡ e.node
-  pub lines : p.lines ≡ e.lines
-  pub sent : found p.parcels ≡ meant e.sent
-
--- so do these entries, one for one
-abbrev pub CarryAll : List ParcelledEntry → List Entry → Type 0
-CarryAll [] [] = Unit {0}
-CarryAll (p ∷ ps) (e ∷ es) = Carries p e × CarryAll ps es
-CarryAll [] (e ∷ es) = ⊥
-CarryAll (p ∷ ps) [] = ⊥

@@ -3,3 +3,4 @@ pub mod Fids
 pub mod Keyed
 pub mod Names
 pub mod Texts
+pub mod Places

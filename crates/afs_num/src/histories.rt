@@ -81,12 +81,13 @@ pub struct Outs {
     pub lines: Lines,
 }
 
-/// One step of a run: its node (none for a void event), its lines and the messages that it sent.
+/// One step of a run: its node (none for a void event), its lines, and how many messages it sent. These have the next
+/// places behind those of the entries before, and their bytes are the wire's.
 #[derive(Drop)]
 pub struct Entry {
     pub node: Option<Node>,
     pub lines: Lines,
-    pub parcels: Parcels,
+    pub sent: usize,
 }
 
 pub type History = Sequence<Entry>;

@@ -1,4 +1,5 @@
 pub mod Limits
+pub mod Firsts
 pub mod Searching
 pub mod Keeping
 pub mod Heard
@@ -8,3 +9,4 @@ pub mod Parcels
 pub mod Within
 pub mod Clients
 pub mod Telling
+pub mod Starting

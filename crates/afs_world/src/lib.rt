@@ -3,5 +3,6 @@
 
 pub mod client;
 pub mod giving;
+mod plans;
 pub mod server;
 pub mod world;
