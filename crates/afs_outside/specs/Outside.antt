@@ -1,10 +1,10 @@
 -- What passes between the program and the outside. What a source has left and what a sink holds are known only where
 -- these tell them; of the others nothing is said.
-use Rattle.std.specs.Prelude.{◌≡◌, ℕ, ◌+◌, ◌-◌, ◌^◌, ◌<◌, ◌≤◌, min, List, ◌++◌, length, take, Option, Some, None, Result, Ok, Err, IfSome, OnErr}
+use Rattle.std.specs.Prelude.{◌≡◌, ℕ, ◌+◌, ◌-◌, ◌^◌, ◌<◌, ◌≤◌, min, List, ◌++◌, length, take, Option, Some, None, Result, Ok, Err, IfSome, OnOk, OnErr}
 use Rattle.std.specs.Io.KnownBytes.{Appends, Consumes, IsAtEnd}
-use Rattle.afs_top.specs.declared.outside.Failed.{Failed}
-use Rattle.afs_top.specs.declared.outside.ReadError.{ReadError}
-use Rattle.afs_top.specs.declared.outside.ReadError.TheVariants.{TooLong, OutOfMemory, Failed as ReadFailed}
+use Rattle.afs_outside.specs.declared.outside.Failed.{Failed}
+use Rattle.afs_outside.specs.declared.outside.ReadError.{ReadError}
+use Rattle.afs_outside.specs.declared.outside.ReadError.TheVariants.{TooLong, OutOfMemory, Failed as ReadFailed}
 
 -- the count of faults rose; one that stands at the end of its type counts as risen
 abbrev pub Rose : ℕ → ℕ → Type 0
@@ -60,6 +60,12 @@ Gives P (Some left) = P left
 -- a beginning of these bytes was appended
 abbrev pub AppendsFront : Option (List ℕ) → Option (List ℕ) → List ℕ → Type 0
 AppendsFront old new bytes = (n : ℕ) × Appends old new (take n bytes)
+
+-- the bytes were appended, or where a call failed, a beginning of them; and a failure has a cause
+pub record Puts {T : Type 0} (bytes : List ℕ) (old new : Option (List ℕ)) (before after : ℕ) (result : Result T Failed) : Type 0 where
+  pub whole : OnOk result (Appends old new bytes)
+  pub front : OnErr result (AppendsFront old new bytes)
+  pub cause : HasCause before after result
 
 -- ---- from a source to a sink
 

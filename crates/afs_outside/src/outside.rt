@@ -4,7 +4,7 @@
 ghost use Rattle.std.specs.Prelude.{◌≡◌, ◌≢◌, ◌+◌, ◌<◌, ◌≤◌, Err, length, IfOk, OnOk, OnErr, Option, List, ℕ};
 ghost use Rattle.std.specs.Io.{ReadsAtMost, WritesAtMost};
 ghost use Rattle.std.specs.Io.KnownBytes.{Appends, IsAtEnd, Keeps, ReadConsumes, WriteAppends};
-ghost use Rattle.afs_top.specs.Outside.{Rose, HasCause, HadAll, IfTooLong, TakesTooMuch, TakesAtMost, TakesPiece, AppendsFront};
+ghost use Rattle.afs_outside.specs.Outside.{Rose, HasCause, HadAll, IfTooLong, TakesTooMuch, TakesAtMost, TakesPiece, AppendsFront, Puts};
 
 use afs_num::sequences::Octets;
 use std::alloc::Global;
@@ -109,16 +109,24 @@ pub fn read_all<S: Source>(alloc: Global, source: &mut S, limit: u32) -> Result<
     Err(ReadError::TooLong(Octets::from_vec(bytes)))
 }
 
+/// Writes all of these bytes.
+pub fn put_bytes<K: Sink>(sink: &mut K, bytes: &[u8]) -> Result<(), Failed>
+    ensures { Puts bytes.now (K.held sink.old) (K.held sink.new) (K.faults sink.old) (K.faults sink.new) result }
+{
+    let mut at = 0;
+    while at < bytes.len() {
+        at += sink.write(bytes.split_at(at).1)?;
+    }
+    Ok(())
+}
+
 /// Writes all of these bytes and passes them on.
 pub fn write_all<K: Sink>(sink: &mut K, bytes: &[u8]) -> Result<(), Failed>
     ensures ok { OnOk result (Appends (K.held sink.old) (K.held sink.new) bytes.now) }
     ensures err { OnErr result (AppendsFront (K.held sink.old) (K.held sink.new) bytes.now) }
     ensures cause { HasCause (K.faults sink.old) (K.faults sink.new) result }
 {
-    let mut at = 0;
-    while at < bytes.len() {
-        at += sink.write(bytes.split_at(at).1)?;
-    }
+    put_bytes(sink, bytes)?;
     sink.flush()?;
     Ok(())
 }

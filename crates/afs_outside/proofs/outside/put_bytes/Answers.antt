@@ -1,7 +1,7 @@
 -- A piece that was written goes on behind those before it.
 use Rattle.std.proofs.Common.{rules}
-use Rattle.afs_top.proofs.Pieces.{appends_more}
-use Rattle.afs_top.proofs.outside.write_all.Goals as goal
+use Rattle.afs_outside.proofs.Pieces.{appends_more}
+use Rattle.afs_outside.proofs.outside.put_bytes.Goals as goal
 
 pub loop-at-preserved : goal.loop-at-preserved
 loop-at-preserved g c = record {

@@ -1,13 +1,13 @@
 //! Sources and sinks in memory, which fail where they are told to.
 
-ghost use Rattle.std.specs.Prelude.{◌≡◌, ◌+◌, ◌<◌, [], drop, length, min, is_err, false, IfOk, OnOk, Some};
+ghost use Rattle.std.specs.Prelude.{◌≡◌, ◌+◌, ◌<◌, ◌≤◌, [], drop, length, min, is_err, false, IfOk, OnOk, OnErr, Some};
 ghost use Rattle.std.specs.Io.{ReadsAtMost, WritesAtMost};
 ghost use Rattle.std.specs.Io.KnownBytes.{Keeps, ReadConsumes, WriteAppends};
-ghost use Rattle.afs_top.specs.Memory.{is_due};
-ghost use Rattle.afs_top.specs.Outside.{HasCause};
+ghost use Rattle.afs_outside.specs.Memory.{is_due, Refuses, SameRoom};
+ghost use Rattle.afs_outside.specs.Outside.{HasCause};
 
 use crate::outside::{Failed, Sink, Source};
-use afs_num::sequences::Octets;
+use afs_num::types::Mem;
 use std::alloc::Global;
 use std::marker::Model;
 
@@ -34,7 +34,7 @@ pub struct MemSource<'a> {
 }
 
 impl<'a> Model for MemSource<'a> {
-    ghost use Rattle.afs_top.specs.Memory.{Supply};
+    ghost use Rattle.afs_outside.specs.Memory.{Supply};
 
     ghost Value = { Supply };
 
@@ -89,37 +89,44 @@ pub struct MemSink<'a> {
 }
 
 impl<'a> Model for MemSink<'a> {
-    ghost use Rattle.afs_top.specs.Memory.{Store};
+    ghost use Rattle.std.specs.Prelude.{◌-◌, vec_len, vec_capacity};
+    ghost use Rattle.afs_outside.specs.Memory.{Store};
 
     ghost Value = { Store };
 
-    ghost view = { λ s. record { bytes = s.bytes.items; room = s.room; failing = s.failing.now; faults = s.faults } };
+    ghost view = { λ s. record { bytes = s.bytes.items; room = s.room; spare = vec_capacity s.bytes - vec_len s.bytes; failing = s.failing.now; faults = s.faults } };
 }
 
 impl<'a> MemSink<'a> {
-    /// It takes as many bytes as memory holds.
+    /// It takes as many bytes as memory holds, and asks for that as it needs it.
     pub fn new(alloc: Global, failing: &'a [u8]) -> MemSink<'a>
         ensures bytes { result.bytes ≡ [] }
         ensures room { result.room ≡ usize.MAX }
         ensures failing { result.failing ≡ failing.entry.now }
         ensures faults { result.faults ≡ 0 }
     {
-        MemSink::with_room(alloc, usize::MAX, failing)
-    }
-
-    /// It takes so many bytes.
-    pub fn with_room(alloc: Global, room: usize, failing: &'a [u8]) -> MemSink<'a>
-        ensures bytes { result.bytes ≡ [] }
-        ensures room { result.room ≡ room }
-        ensures failing { result.failing ≡ failing.entry.now }
-        ensures faults { result.faults ≡ 0 }
-    {
         MemSink {
             bytes: Vec::new(alloc),
-            room,
+            room: usize::MAX,
             failing,
             faults: 0,
         }
+    }
+
+    /// It takes so many bytes, and has the memory for them from the beginning.
+    pub fn with_room(alloc: Global, room: usize, failing: &'a [u8]) -> Mem<MemSink<'a>>
+        ensures bytes { IfOk result (λ s. s.bytes ≡ []) }
+        ensures room { IfOk result (λ s. s.room ≡ room) }
+        ensures spare { IfOk result (λ s. s.spare ≡ room) }
+        ensures failing { IfOk result (λ s. s.failing ≡ failing.entry.now) }
+        ensures faults { IfOk result (λ s. s.faults ≡ 0) }
+    {
+        Ok(MemSink {
+            bytes: Vec::with_capacity(alloc, room)?,
+            room,
+            failing,
+            faults: 0,
+        })
     }
 
     /// What was written.
@@ -143,8 +150,11 @@ impl<'a> Sink for MemSink<'a> {
         ensures cause { HasCause self.old.faults self.new.faults result }
         ensures plan { self.new.failing ≡ drop 1 self.old.failing }
         ensures not_due { OnOk result (is_due self.old.failing ≡ false) }
+        ensures refused { OnErr result (Refuses self.old (length bytes.now)) }
+        ensures room_kept { OnErr result (SameRoom self.old self.new) }
         ensures count { IfOk result (λ n. n ≡ min (length bytes.now) self.old.room) }
         ensures room { IfOk result (λ n. self.new.room + n ≡ self.old.room) }
+        ensures spare { IfOk result (λ n. self.old.spare ≤ self.new.spare + n) }
     {
         let room = bytes.len().min(self.room);
         if is_due(&mut self.failing) || room == 0 {
@@ -168,6 +178,7 @@ impl<'a> Sink for MemSink<'a> {
         ensures cause { HasCause self.old.faults self.new.faults result }
         ensures plan { self.new.failing ≡ drop 1 self.old.failing }
         ensures due { is_err result ≡ is_due self.old.failing }
+        ensures room_kept { SameRoom self.old self.new }
     {
         if is_due(&mut self.failing) {
             self.faults = self.faults.saturating_add(1);
@@ -224,7 +235,7 @@ mod tests {
     #[test]
     fn a_full_sink_holds_a_beginning(rt: HostRuntime) -> Result<(), Fail> {
         let alloc = rt.alloc();
-        let mut full = MemSink::with_room(alloc, 10, &[]);
+        let mut full = MemSink::with_room(alloc, 10, &[])?;
         assert_eq!(rt; write_all(&mut full, b"entry 1 c1\nbegin"), Err(Failed));
         assert_eq!(rt; full.as_slice(), b"entry 1 c1".as_slice());
 

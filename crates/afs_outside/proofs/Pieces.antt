@@ -3,7 +3,7 @@ use Rattle.std.proofs.Common.{ℕ, ◌+◌, ◌≤◌, List, ◌++◌, length, t
 use Rattle.std.specs.Prelude.{Option}
 use Rattle.std.specs.Io.KnownBytes.{Appends, Consumes}
 use Rattle.std.proofs.KnownBytes.{Appends-trans, Consumes-trans}
-use Rattle.afs_top.specs.Outside.{TakesAtMost}
+use Rattle.afs_outside.specs.Outside.{TakesAtMost}
 
 pub appends_more : (a b c : Option (List ℕ)) (i n : ℕ) (bytes : List ℕ) → Appends a b (take i bytes) → Appends b c (take n (drop i bytes)) → Appends a c (take (i + n) bytes)
 appends_more a b c i n bytes p q = let P : List ℕ → Type 0 = λ t. Appends a c t in subst P (sym (take-add i n bytes)) (Appends-trans a b c (take i bytes) (take n (drop i bytes)) p q)
