@@ -67,14 +67,26 @@ pub record Puts {T : Type 0} (bytes : List ℕ) (old new : Option (List ℕ)) (b
   pub front : OnErr result (AppendsFront old new bytes)
   pub cause : HasCause before after result
 
+-- such bytes were appended, or where a call failed, a beginning of them; and a failure has a cause
+abbrev pub PutsSome : {T : Type 0} → (List ℕ → Type 0) → Option (List ℕ) → Option (List ℕ) → ℕ → ℕ → Result T Failed → Type 0
+PutsSome IsText old new before after result = (text : List ℕ) × IsText text × Puts text old new before after result
+
+-- such bytes were appended
+abbrev pub PrintsSome : (List ℕ → Type 0) → Option (List ℕ) → Option (List ℕ) → Type 0
+PrintsSome IsText old new = (text : List ℕ) × IsText text × Appends old new text
+
+-- of such bytes a beginning was appended
+abbrev pub PrintsSomeFront : (List ℕ → Type 0) → Option (List ℕ) → Option (List ℕ) → Type 0
+PrintsSomeFront IsText old new = (text : List ℕ) × IsText text × AppendsFront old new text
+
 -- ---- from a source to a sink
 
 -- where the source told what it had, a text that belongs to it was appended to the sink
 abbrev pub Prints : (List ℕ → List ℕ → Type 0) → Option (List ℕ) → Option (List ℕ) → Option (List ℕ) → Type 0
 Prints IsTextOf None old new = Unit {0}
-Prints IsTextOf (Some input) old new = (text : List ℕ) × IsTextOf input text × Appends old new text
+Prints IsTextOf (Some input) old new = PrintsSome (IsTextOf input) old new
 
 -- of such a text a beginning was appended
 abbrev pub PrintsFront : (List ℕ → List ℕ → Type 0) → Option (List ℕ) → Option (List ℕ) → Option (List ℕ) → Type 0
 PrintsFront IsTextOf None old new = Unit {0}
-PrintsFront IsTextOf (Some input) old new = (text : List ℕ) × IsTextOf input text × AppendsFront old new text
+PrintsFront IsTextOf (Some input) old new = PrintsSomeFront (IsTextOf input) old new

@@ -1,7 +1,7 @@
 //! What the program reads from and writes to. Each source and sink counts its faults, and a call fails only where that
 //! count rose: so no caller can make up a fault.
 
-ghost use Rattle.std.specs.Prelude.{◌≡◌, ◌≢◌, ◌+◌, ◌<◌, ◌≤◌, Err, length, IfOk, OnOk, OnErr, Option, List, ℕ};
+ghost use Rattle.std.specs.Prelude.{◌≡◌, ◌≢◌, ◌+◌, ◌<◌, ◌≤◌, [], Err, length, IfOk, OnOk, OnErr, Option, List, ℕ};
 ghost use Rattle.std.specs.Io.{ReadsAtMost, WritesAtMost};
 ghost use Rattle.std.specs.Io.KnownBytes.{Appends, IsAtEnd, Keeps, ReadConsumes, WriteAppends};
 ghost use Rattle.afs_outside.specs.Outside.{Rose, HasCause, HadAll, IfTooLong, TakesTooMuch, TakesAtMost, TakesPiece, AppendsFront, Puts};
@@ -118,6 +118,13 @@ pub fn put_bytes<K: Sink>(sink: &mut K, bytes: &[u8]) -> Result<(), Failed>
         at += sink.write(bytes.split_at(at).1)?;
     }
     Ok(())
+}
+
+/// Passes on what was written so far, and writes no more.
+pub fn pass_on<K: Sink>(sink: &mut K) -> Result<(), Failed>
+    ensures { Puts [] (K.held sink.old) (K.held sink.new) (K.faults sink.old) (K.faults sink.new) result }
+{
+    sink.flush()
 }
 
 /// Writes all of these bytes and passes them on.

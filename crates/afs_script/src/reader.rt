@@ -6,7 +6,7 @@ ghost use Rattle.afs_model.specs.Script.{nothing_read, at_line, line_at, lines_a
 ghost use Rattle.afs_script.specs.Reads.{GivesAtLine, IsAtLine};
 
 use crate::faults::{LineFault, ScriptFault};
-use crate::lines::Reading;
+use crate::lines::LinesRead;
 use crate::parts::Parts;
 use afs_num::scripts::{Reason, Script};
 use std::alloc::Global;
@@ -43,7 +43,7 @@ fn read_line(
 fn read_lines(alloc: Global, mut lines: Parts<'_>) -> Result<Script, ScriptFault>
     ensures { GivesAtLine (lines_at nothing_read 0 16777216 lines.entry) result }
 {
-    let mut reading = Reading::new(alloc);
+    let mut reading = LinesRead::new(alloc);
     let mut number = 0u32;
     let mut room = BYTES;
     while let Some(line) = lines.closed_part() {

@@ -1,9 +1,9 @@
 //! The rows of the program: each script beside what it prints.
 
 use crate::cell::cell_main;
-use crate::memory::{MemSink, MemSource};
 use crate::statuses::Status;
 use afs_num::scripts::Reason;
+use afs_outside::memory::{MemSink, MemSource};
 use std::alloc::{AllocError, Global};
 use std::test::Fail;
 
@@ -90,7 +90,7 @@ fn rows(rt: HostRuntime) -> Result<(), Fail> {
 fn a_sink_that_is_full_holds_a_beginning(rt: HostRuntime) -> Result<(), Fail> {
     let words = replay(rt.alloc())?;
     let mut source = MemSource::new(OPEN_CLOSE, &[]);
-    let mut sink = MemSink::with_room(rt.alloc(), 10, &[]);
+    let mut sink = MemSink::with_room(rt.alloc(), 10, &[])?;
     assert_eq!(rt;
         cell_main(rt.alloc(), words.as_slice(), &mut source, &mut sink),
         Status::WriteFault
