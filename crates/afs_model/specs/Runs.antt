@@ -1,6 +1,7 @@
 -- The cell, what it is given, and the runs of a script. A run knows no schedule.
 use Rattle.std.specs.Prelude.{◌≡◌, ℕ, zero, suc, ◌+◌, ◌*◌, List, [], ◌∷◌, ◌++◌, cond, nat_eq, Option, Some, None}
 use Rattle.std.specs.List.{flat_map}
+use Rattle.afs_num.specs.Places.{at_place}
 use Rattle.afs_num.specs.declared.types.Node.{Node}
 use Rattle.afs_num.specs.declared.types.Node.TheVariants.{Loc, Server, Client, Admin}
 use Rattle.afs_num.specs.declared.messages.Message.{Message}
@@ -63,10 +64,7 @@ server_moves c s = record {
 
 -- the message of a place; the first message sent has place 1
 abbrev pub message_at : List Message → ℕ → Option Message
-message_at [] place = None
-message_at (m ∷ ms) zero = None
-message_at (m ∷ ms) (suc zero) = Some m
-message_at (m ∷ ms) (suc (suc place)) = message_at ms (suc place)
+message_at ms place = at_place ms place
 
 -- a message is given to the node that its header names
 abbrev pub given_to : Cell → ℕ → Message → Node → Moved

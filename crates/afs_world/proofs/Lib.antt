@@ -1,4 +1,5 @@
 pub mod Limits
+pub mod Firsts
 pub mod Parcels
 pub mod Within
 pub mod Clients

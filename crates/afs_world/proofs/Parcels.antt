@@ -1,15 +1,16 @@
 -- Parcels and the messages that they carry.
-use Rattle.std.proofs.Common.{◌≡◌, ℕ, zero, suc, ◌-◌, List, [], ◌∷◌, ◌++◌, Option, Some, None, refl, sym, ap, subst, ◌∙◌, arith}
-use Rattle.std.specs.Prelude.{slice_get}
-use Rattle.std.proofs.Math.Dec.{eqb-suc-zero}
+use Rattle.std.proofs.Common.{◌≡◌, ℕ, zero, suc, ◌+◌, ◌≤◌, List, [], ◌∷◌, ◌++◌, Option, Some, None, length, take, drop, refl, sym, ap, subst, ◌∙◌, arith}
+use Rattle.std.proofs.lemmas.List.{take-append-le, drop-append-le, length-drop, take_all}
+use Rattle.afs_num.specs.Places.{at_place}
+use Rattle.afs_num.specs.declared.histories.Entry as kept
 use Rattle.afs_num.specs.declared.types.Head.{Head}
 use Rattle.afs_num.specs.declared.types.Parcel.{Parcel}
 use Rattle.afs_num.specs.declared.messages.Message.{Message}
 use Rattle.afs_num.specs.declared.messages.Received.{Received}
 use Rattle.afs_num.specs.declared.messages.Received.TheVariants.{Nothing, Unknown, Unreadable, Whole}
 use Rattle.afs_model.specs.Messages.{received, spelled, found, meant}
-use Rattle.afs_model.specs.Runs.{message_at}
-use Rattle.afs_world.specs.Worlds.{with_received, messages_of, AreRead, parcel_of_place}
+use Rattle.afs_model.specs.Runs.{Entry}
+use Rattle.afs_model.specs.Telling.{with_received, messages_of, AreRead, told, sent_by}
 
 -- a parcel's header, its bytes, and what is read in them
 abbrev Seen : Type 0
@@ -69,20 +70,36 @@ AtPlace None (Some m) = ⊥
 AtPlace (Some p) None = ⊥
 AtPlace (Some p) (Some m) = Carries p m
 
-at_index : (ps : List Parcel) (ms : List Message) → found ps ≡ meant ms → (k : ℕ) → AtPlace (slice_get ps k) (message_at ms (suc k))
-at_index [] [] e k = tt
-at_index [] (m ∷ ms) e k = absurd cc
-at_index (p ∷ ps) [] e k = absurd cc
-at_index (p ∷ ps) (m ∷ ms) e zero =
+pub places_agree : (ps : List Parcel) (ms : List Message) → found ps ≡ meant ms → (place : ℕ) → AtPlace (at_place ps place) (at_place ms place)
+places_agree [] [] e place = tt
+places_agree [] (m ∷ ms) e place = absurd cc
+places_agree (p ∷ ps) [] e place = absurd cc
+places_agree (p ∷ ps) (m ∷ ms) e zero = tt
+places_agree (p ∷ ps) (m ∷ ms) e (suc zero) =
     let both = head_is _ _ _ _ e in record { head = ap (λ (x : Seen). x.0) both; bytes = ap (λ (x : Seen). x.2) both }
-at_index (p ∷ ps) (m ∷ ms) e (suc k) = at_index ps ms (tail_is _ _ _ _ e) k
+places_agree (p ∷ ps) (m ∷ ms) e (suc (suc place)) = places_agree ps ms (tail_is _ _ _ _ e) (suc place)
 
-none_at_zero : (ms : List Message) → message_at ms zero ≡ None
-none_at_zero [] = refl
-none_at_zero (m ∷ ms) = refl
+-- ---- entries
 
-pub at_place : (ps : List Parcel) (ms : List Message) → found ps ≡ meant ms → (place : ℕ) → AtPlace (parcel_of_place ps place) (message_at ms place)
-at_place ps ms e zero = subst (λ (o : Option Message). AtPlace None o) (sym (none_at_zero ms)) tt
-at_place ps ms e (suc k) =
-    let same : suc k - 1 ≡ k = omega arith in
-    rw (eqb-suc-zero k, same) (at_index ps ms e k)
+pub sent_by-push : (es : List kept.Entry) (e : kept.Entry) → sent_by (es ++ e ∷ []) ≡ sent_by es + e.sent
+sent_by-push [] e = omega arith
+sent_by-push (x ∷ es) e =
+    let more = sent_by-push es e in
+    omega (arith, more)
+
+-- an entry with these messages
+abbrev pub with_messages : kept.Entry → List Message → Entry
+with_messages e ms = record { node = e.node; lines = e.lines; sent = ms }
+
+-- an entry more tells its own messages, and changes nothing of what was told before
+pub told-push : (ps qs : List Parcel) (es : List kept.Entry) (e : kept.Entry) → sent_by es ≡ length ps → e.sent ≡ length qs → told (ps ++ qs) (es ++ e ∷ []) ≡ told ps es ++ with_messages e (messages_of qs) ∷ []
+told-push [] qs [] e all own =
+    let whole : take e.sent qs ≡ qs = take_all e.sent qs (omega (arith, own)) in
+    ap (λ (ts : List Parcel). with_messages e (messages_of ts) ∷ []) whole
+told-push (p ∷ ps) qs [] e all own = absurd (omega (arith, all))
+told-push ps qs (x ∷ es) e all own =
+    let fits : x.sent ≤ length ps = omega (arith, all) in
+    let rest : sent_by es ≡ length (drop x.sent ps) = omega (arith, all, length-drop x.sent ps) in
+    ap (λ (ts : List Parcel). with_messages x (messages_of ts) ∷ told (drop x.sent (ps ++ qs)) (es ++ e ∷ [])) (take-append-le x.sent ps qs fits)
+    ∙ ap (λ (ts : List Entry). with_messages x (messages_of (take x.sent ps)) ∷ ts)
+      (ap (λ (ts : List Parcel). told ts (es ++ e ∷ [])) (drop-append-le x.sent ps qs fits) ∙ told-push (drop x.sent ps) qs es e rest own)

@@ -1,38 +1,37 @@
 -- Each way in which the program's cell goes on is a step of the cell that it stands for.
-use Rattle.std.proofs.Common.{◌≡◌, ℕ, suc, ◌+◌, Bool, true, false, cond, List, [], ◌∷◌, ◌++◌, Option, Some, None, length, refl, sym, ap, subst, ◌∙◌, append-nil, append_assoc, arith}
-use Rattle.std.specs.Prelude.{nat_eq, is_some}
+use Rattle.std.proofs.Common.{◌≡◌, ℕ, suc, ◌+◌, Bool, true, false, cond, List, [], ◌∷◌, ◌++◌, Option, Some, None, length, drop, refl, sym, ap, subst, ◌∙◌, append-nil, append_assoc, arith, inl, inr}
+use Rattle.std.specs.Prelude.{nat_eq, is_some, slice_get}
 use Rattle.std.specs.List.{All}
+use Rattle.std.specs.Option.{option_map}
 use Rattle.std.proofs.lemmas.Bool.{ne_eqb}
 use Rattle.std.proofs.lemmas.Bool.Decides.{eqb_tells}
-use Rattle.std.proofs.lemmas.List.{map-append, length-append}
-use Rattle.std.proofs.lemmas.List.Elements.{All-push}
-use Rattle.std.proofs.Common.{inl, inr}
+use Rattle.std.proofs.lemmas.List.{length-append}
+use Rattle.afs_num.specs.Places.{at_place}
 use Rattle.afs_num.specs.declared.types.Node.{Node}
 use Rattle.afs_num.specs.declared.types.Node.TheVariants.{Loc, Server, Client, Admin}
 use Rattle.afs_num.specs.declared.types.Parcel.{Parcel}
 use Rattle.afs_num.specs.declared.messages.Message.{Message}
+use Rattle.afs_num.specs.declared.messages.Received.{Received}
 use Rattle.afs_num.specs.declared.messages.Received.TheVariants.{Whole}
-use Rattle.afs_num.specs.declared.histories.Entry as parcelled
+use Rattle.afs_num.specs.declared.histories.Entry as kept
 use Rattle.afs_num.specs.declared.histories.Line.{Line}
 use Rattle.afs_num.specs.declared.histories.Line.TheVariants as lines
 use Rattle.afs_num.specs.declared.histories.Outs.{Outs}
 use Rattle.afs_num.specs.declared.scripts.Act.{Act}
+use Rattle.afs_num.specs.declared.scripts.Event.{Event}
 use Rattle.afs_num.specs.declared.states.ClientState.{ClientState}
 use Rattle.afs_num.specs.declared.states.ServerState.{ServerState}
+use Rattle.afs_model.specs.Form.{IsShortAct}
 use Rattle.afs_model.specs.Messages.{received, IsSoundReceived}
 use Rattle.afs_model.specs.Steps.{Step, Makes}
 use Rattle.afs_model.specs.ServerRow.{server_row}
 use Rattle.afs_model.specs.ClientRow.{the_server, begin_row, client_row, client_hears, ignores}
-use Rattle.afs_model.specs.Runs.{Entry, Cell, put, voided, server_moves, client_moves, message_at, given_to, given_at, begun_by, moved, gives, begins, first_client}
-use Rattle.afs_num.specs.declared.scripts.Event.{Event}
-use Rattle.afs_num.specs.declared.scripts.Task.{Task}
-use Rattle.afs_model.specs.Playing.{begun, played, entries_of, cell_after}
-use Rattle.afs_model.specs.Text.{CarryAll, parcels_sent}
-use Rattle.afs_world.specs.declared.world.World.{World}
+use Rattle.afs_model.specs.Runs.{Entry, Cell, Moved, put, voided, server_moves, client_moves, message_at, given_to, given_at, begun_by, moved, gives, begins, first_client}
+use Rattle.afs_model.specs.Playing.{Played, as_played, begun, played, entries_of, cell_after}
+use Rattle.afs_model.specs.Telling.{messages_of, AreRead, told, sent_by}
 use Rattle.afs_world.specs.Serving.{IsWithin}
-use Rattle.afs_model.specs.Form.{IsShortAct, IsShortTask}
-use Rattle.afs_world.specs.Worlds.{messages_of, told, told_all, AreRead, cell_of, parcel_of_place, IsPlayable, Tells, TellsPlayed, acts_left}
-use Rattle.afs_world.proofs.Parcels.{messages_of-found, are_read, messages_of-append, AreRead-append, AtPlace, Carries, at_place}
+use Rattle.afs_world.specs.Worlds.{WorldState, cell_of, receiver_at, notes, IsPlayable, Follows}
+use Rattle.afs_world.proofs.Parcels.{messages_of-found, are_read, messages_of-append, AreRead-append, AtPlace, Carries, places_agree, sent_by-push, told-push, with_messages}
 use Rattle.afs_world.proofs.Within.{within_more, row_within}
 use Rattle.afs_world.proofs.Clients.{IsNext, begins_next, row_next}
 
@@ -65,19 +64,7 @@ other_stays n c ne = fun_ext _ _ (λ j. other_at n j c ne)
 other_is_first : (n : ℕ) (c : ClientState) → (1 ≡ n → ⊥) → others c n ≡ first_client
 other_is_first n c ne = rw (ne_eqb 1 n ne) refl
 
--- ---- what is told
-
-told_more : (es : List parcelled.Entry) (e : parcelled.Entry) → told_all (es ++ e ∷ []) ≡ told_all es ++ told e ∷ []
-told_more es e = map-append told es (e ∷ [])
-
-parcels_more : (es : List parcelled.Entry) (e : parcelled.Entry) → parcels_sent (es ++ e ∷ []) ≡ parcels_sent es + length e.parcels
-parcels_more [] e = omega arith
-parcels_more (x ∷ es) e =
-    let more = parcels_more es e in
-    omega (arith, more)
-
-counted : (es : List parcelled.Entry) (e : parcelled.Entry) → length (es ++ e ∷ []) ≡ length es + 1
-counted es e = length-append es (e ∷ [])
+-- ---- what a step leaves
 
 abbrev cell_made : ServerState → ClientState → List Message → Cell
 cell_made s c ms = record { server = s; clients = others c; sent = ms; clock = 0 }
@@ -88,278 +75,304 @@ with_clients s ms k = record { server = s; clients = k; sent = ms; clock = 0 }
 cell_is : (s t : ServerState) (c d : ClientState) (ms ns : List Message) → s ≡ t → c ≡ d → ms ≡ ns → cell_made s c ms ≡ cell_made t d ns
 cell_is s t c d ms ns p q r = λ i. cell_made (p i) (q i) (r i)
 
-abbrev entry_made : Option Node → List Line → List Message → Entry
-entry_made n ls ms = record { node = n; lines = ls; sent = ms }
+entry_is : (n : Option Node) (ls ks : List Line) (ms ns : List Message) → ls ≡ ks → ms ≡ ns → (let e : Entry = record { node = n; lines = ls; sent = ms } in e) ≡ record { node = n; lines = ks; sent = ns }
+entry_is n ls ks ms ns p q = λ i. record { node = n; lines = p i; sent = q i }
 
-entry_is : (n : Option Node) (ls ks : List Line) (ms ns : List Message) → ls ≡ ks → ms ≡ ns → entry_made n ls ms ≡ entry_made n ks ns
-entry_is n ls ks ms ns p q = λ i. entry_made n (p i) (q i)
-
--- what a step leaves
-record Leaves (old new : World) (entry : parcelled.Entry) : Type 0 where
-  history : new.history ≡ old.history ++ entry ∷ []
+-- the nodes go on by a step, these messages are sent, and an entry counts them
+record Leaves (old new : WorldState) (entry : kept.Entry) (parcels : List Parcel) : Type 0 where
   server : new.server.node ≡ old.server.node
   client : new.client.node ≡ old.client.node
   within : IsWithin (length old.history + 2) new.server.state
   next : IsNext old.client.state new.client.state
-  sent : AreRead new.sent
-  places : length new.sent ≡ length old.sent + length entry.parcels
-  read : AreRead entry.parcels
+  acts : All IsShortAct new.acts
+  wire : new.wire ≡ old.wire ++ parcels
+  history : new.history ≡ old.history ++ entry ∷ []
+  read : AreRead parcels
+  own : entry.sent ≡ length parcels
 
-leaves_tell : (old new : World) (entry : parcelled.Entry) (e : Entry) (c : Cell) → IsPlayable old → Leaves old new entry → told entry ≡ e → cell_of new ≡ c → Tells old e c new
-leaves_tell old new entry e c h l same reached =
-    let count : length new.history ≡ length old.history + 1 = ap (λ (es : List parcelled.Entry). length es) l.history ∙ counted old.history entry in
+leaves_told : (old new : WorldState) (entry : kept.Entry) (parcels : List Parcel) → IsPlayable old → Leaves old new entry parcels → told new.wire new.history ≡ told old.wire old.history ++ with_messages entry (messages_of parcels) ∷ []
+leaves_told old new entry parcels h l =
+    ap (λ (ps : List Parcel). told ps new.history) l.wire
+    ∙ ap (λ (es : List kept.Entry). told (old.wire ++ parcels) es) l.history
+    ∙ told-push old.wire parcels old.history entry h.places l.own
+
+leaves_places : (old new : WorldState) (entry : kept.Entry) (parcels : List Parcel) → IsPlayable old → Leaves old new entry parcels → sent_by new.history ≡ length new.wire
+leaves_places old new entry parcels h l =
+    let es : sent_by new.history ≡ sent_by old.history + entry.sent = ap sent_by l.history ∙ sent_by-push old.history entry in
+    let ps : length new.wire ≡ length old.wire + length parcels = ap (λ (ts : List Parcel). length ts) l.wire ∙ length-append old.wire parcels in
+    let before = h.places in
+    let own = l.own in
+    omega (arith, es, ps, before, own)
+
+leaves_follow : (old new : WorldState) (entry : kept.Entry) (parcels : List Parcel) (p : Played) → IsPlayable old → Leaves old new entry parcels → with_messages entry (messages_of parcels) ≡ p.entry → cell_of new ≡ p.cell → new.acts ≡ p.left → Follows old p new
+leaves_follow old new entry parcels p h l same reached left =
+    let count : length new.history ≡ length old.history + 1 = ap (λ (es : List kept.Entry). length es) l.history ∙ length-append old.history (entry ∷ []) in
     let before = h.last in
     let after = l.next.last in
     record {
-      history = ap told_all l.history ∙ told_more old.history entry ∙ ap (λ (x : Entry). told_all old.history ++ x ∷ []) same;
+      history = leaves_told old new entry parcels h l ∙ ap (λ (x : Entry). told old.wire old.history ++ x ∷ []) same;
       count = count;
       cell = reached;
+      acts = left;
       holds = record {
         server = l.server ∙ h.server;
         client = l.client ∙ h.client;
         within = within_more (length old.history + 2) (length new.history + 1) new.server.state (omega (arith, count)) l.within;
         last = omega (arith, count, before, after);
         running = l.next.running;
-        sent = l.sent;
-        history = subst (λ (es : List parcelled.Entry). All (λ x. AreRead x.parcels) es) (sym l.history) (All-push (λ x. AreRead x.parcels) old.history entry h.history l.read);
-        places = ap parcels_sent l.history ∙ parcels_more old.history entry ∙ ap (λ (n : ℕ). n + length entry.parcels) h.places ∙ sym l.places;
+        acts = l.acts;
+        sent = subst AreRead (sym l.wire) (AreRead-append old.wire parcels h.sent l.read);
+        places = leaves_places old new entry parcels h l;
       };
     }
 
-stays_next : (old : World) (c : ClientState) → IsPlayable old → c ≡ old.client.state → IsNext old.client.state c
-stays_next old c h e = subst (λ (d : ClientState). IsNext old.client.state d) (sym e) (record { last = omega arith; running = h.running })
+stays_next : (old : WorldState) → IsPlayable old → IsNext old.client.state old.client.state
+stays_next old h = record { last = omega arith; running = h.running }
 
-same_within : (old : World) (s : ServerState) → IsPlayable old → s ≡ old.server.state → IsWithin (length old.history + 2) s
-same_within old s h e = subst (IsWithin (length old.history + 2)) (sym e) (within_more (length old.history + 1) (length old.history + 2) old.server.state (omega arith) h.within)
+same_within : (old : WorldState) → IsPlayable old → IsWithin (length old.history + 2) old.server.state
+same_within old h = within_more (length old.history + 1) (length old.history + 2) old.server.state (omega arith) h.within
 
--- ---- nothing happens, or a client that isn't there is given a message
+-- ---- a step of one line, in which no node moves
 
-abbrev quiet_entry : Option Node → List Line → parcelled.Entry
-quiet_entry n ls = record { node = n; lines = ls; parcels = [] }
+abbrev pub noted : WorldState → Option Node → Line → WorldState
+noted w n l = record w { history = w.history ++ record { node = n; lines = l ∷ []; sent = 0 } ∷ [] }
 
-quiet_leaves : (old new : World) (n : Option Node) (ls : List Line) → IsPlayable old → new.history ≡ old.history ++ quiet_entry n ls ∷ [] → new.server ≡ old.server → new.client ≡ old.client → new.sent ≡ old.sent → Leaves old new (quiet_entry n ls)
-quiet_leaves old new n ls h told s c sent = record {
-  history = told;
-  server = ap (λ x. x.node) s;
-  client = ap (λ x. x.node) c;
-  within = same_within old new.server.state h (ap (λ x. x.state) s);
-  next = stays_next old new.client.state h (ap (λ x. x.state) c);
-  sent = subst AreRead (sym sent) h.sent;
-  places = ap (λ (ps : List Parcel). length ps) sent ∙ omega arith;
-  read = refl;
-}
-
-quiet_cell : (old new : World) → new.server ≡ old.server → new.client ≡ old.client → new.sent ≡ old.sent → cell_of new ≡ cell_of old
-quiet_cell old new s c sent = cell_is _ _ _ _ _ _ (ap (λ x. x.state) s) (ap (λ x. x.state) c) (ap messages_of sent)
-
-pub skip_tells : (old new : World) → IsPlayable old → new.history ≡ old.history ++ quiet_entry None (lines.Void ∷ []) ∷ [] → new.server ≡ old.server → new.client ≡ old.client → new.sent ≡ old.sent → Tells old (voided (cell_of old)).entry (cell_of old) new
-skip_tells old new h told s c sent = leaves_tell old new _ _ _ h (quiet_leaves old new None (lines.Void ∷ []) h told s c sent) refl (quiet_cell old new s c sent)
+pub noted_follows : (w : WorldState) (n : Option Node) (l : Line) → IsPlayable w → Follows w (as_played w.acts (notes (cell_of w) n l)) (noted w n l)
+noted_follows w n l h =
+    leaves_follow w (noted w n l) (record { node = n; lines = l ∷ []; sent = 0 }) [] _ h
+    (record {
+      server = refl;
+      client = refl;
+      within = same_within w h;
+      next = stays_next w h;
+      acts = h.acts;
+      wire = sym (append-nil w.wire);
+      history = refl;
+      read = refl;
+      own = refl;
+    })
+    refl refl refl
 
 -- ---- a node moves
 
-pub server_tells : (old new : World) (st : Step ServerState) (outs : Outs) → IsPlayable old → IsWithin (length old.history + 2) st.state → Makes st new.server.state outs → new.server.node ≡ old.server.node → new.client ≡ old.client → new.sent ≡ old.sent ++ outs.parcels
-    → new.history ≡ old.history ++ record { node = Some (Server 1); lines = outs.lines; parcels = outs.parcels } ∷ []
-    → Tells old (server_moves (cell_of old) st).entry (server_moves (cell_of old) st).cell new
-server_tells old new st outs h within made node c sent history =
+abbrev pub moves_entry : Node → Outs → kept.Entry
+moves_entry n outs = record { node = Some n; lines = outs.lines; sent = length outs.parcels }
+
+-- what a step of a node leaves of the world besides that node
+pub record Tells (old new : WorldState) (n : Node) (outs : Outs) : Type 0 where
+  pub wire : new.wire ≡ old.wire ++ outs.parcels
+  pub history : new.history ≡ old.history ++ moves_entry n outs ∷ []
+
+sent_cell : (old new : WorldState) (outs : Outs) (ms : List Message) → new.wire ≡ old.wire ++ outs.parcels → messages_of outs.parcels ≡ ms → messages_of new.wire ≡ messages_of old.wire ++ ms
+sent_cell old new outs ms wire e =
+    ap messages_of wire ∙ messages_of-append old.wire outs.parcels ∙ ap (λ (t : List Message). messages_of old.wire ++ t) e
+
+pub server_follows : (old new : WorldState) (st : Step ServerState) (outs : Outs) → IsPlayable old → IsWithin (length old.history + 2) st.state
+    → Makes st new.server.state outs → new.server.node ≡ old.server.node → new.client ≡ old.client → new.acts ≡ old.acts → Tells old new (Server 1) outs
+    → Follows old (as_played old.acts (server_moves (cell_of old) st)) new
+server_follows old new st outs h within made node client acts t =
     let ms : messages_of outs.parcels ≡ st.sent = messages_of-found outs.parcels st.sent made.sent in
-    let read : AreRead outs.parcels = are_read outs.parcels st.sent made.sent in
-    leaves_tell old new _ _ _ h
+    leaves_follow old new (moves_entry (Server 1) outs) outs.parcels _ h
     (record {
-      history = history;
       server = node;
-      client = ap (λ x. x.node) c;
+      client = ap (λ x. x.node) client;
       within = subst (IsWithin (length old.history + 2)) (sym made.state) within;
-      next = stays_next old new.client.state h (ap (λ x. x.state) c);
-      sent = subst AreRead (sym sent) (AreRead-append old.sent outs.parcels h.sent read);
-      places = ap (λ (ps : List Parcel). length ps) sent ∙ length-append old.sent outs.parcels;
-      read = read;
+      next = subst (λ x. IsNext old.client.state x.state) (sym client) (stays_next old h);
+      acts = subst (λ (left : List Act). All IsShortAct left) (sym acts) h.acts;
+      wire = t.wire;
+      history = t.history;
+      read = are_read outs.parcels st.sent made.sent;
+      own = refl;
     })
     (entry_is _ _ _ _ _ made.lines ms)
-    (cell_is _ _ _ _ _ _ made.state (ap (λ x. x.state) c) (ap messages_of sent ∙ messages_of-append old.sent outs.parcels ∙ ap (λ (t : List Message). messages_of old.sent ++ t) ms))
+    (cell_is _ _ _ _ _ _ made.state (ap (λ x. x.state) client) (sent_cell old new outs st.sent t.wire ms))
+    acts
 
-pub client_tells : (old new : World) (st : Step ClientState) (outs : Outs) → IsPlayable old → IsNext old.client.state st.state → Makes st new.client.state outs → new.client.node ≡ old.client.node → new.server ≡ old.server → new.sent ≡ old.sent ++ outs.parcels
-    → new.history ≡ old.history ++ record { node = Some (Client 1); lines = outs.lines; parcels = outs.parcels } ∷ []
-    → Tells old (client_moves (cell_of old) 1 st).entry (client_moves (cell_of old) 1 st).cell new
-client_tells old new st outs h next made node s sent history =
+pub client_follows : (old new : WorldState) (st : Step ClientState) (outs : Outs) (left : List Act) → IsPlayable old → IsNext old.client.state st.state
+    → Makes st new.client.state outs → new.client.node ≡ old.client.node → new.server ≡ old.server → new.acts ≡ left → All IsShortAct left → Tells old new (Client 1) outs
+    → Follows old (as_played left (client_moves (cell_of old) 1 st)) new
+client_follows old new st outs left h next made node server acts short t =
     let ms : messages_of outs.parcels ≡ st.sent = messages_of-found outs.parcels st.sent made.sent in
-    let read : AreRead outs.parcels = are_read outs.parcels st.sent made.sent in
     let clients : put 1 st.state (others old.client.state) ≡ others st.state = put_twice 1 st.state old.client.state (λ n. first_client) in
-    leaves_tell old new _ _ _ h
+    leaves_follow old new (moves_entry (Client 1) outs) outs.parcels _ h
     (record {
-      history = history;
-      server = ap (λ x. x.node) s;
+      server = ap (λ x. x.node) server;
       client = node;
-      within = same_within old new.server.state h (ap (λ x. x.state) s);
+      within = subst (λ x. IsWithin (length old.history + 2) x.state) (sym server) (same_within old h);
       next = subst (IsNext old.client.state) (sym made.state) next;
-      sent = subst AreRead (sym sent) (AreRead-append old.sent outs.parcels h.sent read);
-      places = ap (λ (ps : List Parcel). length ps) sent ∙ length-append old.sent outs.parcels;
-      read = read;
+      acts = subst (λ (left : List Act). All IsShortAct left) (sym acts) short;
+      wire = t.wire;
+      history = t.history;
+      read = are_read outs.parcels st.sent made.sent;
+      own = refl;
     })
     (entry_is _ _ _ _ _ made.lines ms)
-    (cell_is _ _ _ _ _ _ (ap (λ x. x.state) s) made.state (ap messages_of sent ∙ messages_of-append old.sent outs.parcels ∙ ap (λ (t : List Message). messages_of old.sent ++ t) ms)
-    ∙ ap (with_clients old.server.state (messages_of old.sent ++ st.sent)) (sym clients))
-
-both_is : (s : ServerState) (ms ns : List Message) (j k : ℕ → ClientState) → ms ≡ ns → j ≡ k → with_clients s ms j ≡ with_clients s ns k
-both_is s ms ns j k p q = λ i. with_clients s (p i) (q i)
-
-other_cell : (old : World) (n : ℕ) → (1 ≡ n → ⊥) → cell_of old ≡ with_clients old.server.state (messages_of old.sent ++ []) (put n first_client (others old.client.state))
-other_cell old n ne = sym (both_is old.server.state _ _ _ _ (append-nil (messages_of old.sent)) (other_stays n old.client.state ne))
-
-pub note_tells : (old new : World) (n place : ℕ) → (1 ≡ n → ⊥) → IsPlayable old → new.history ≡ old.history ++ quiet_entry (Some (Client n)) (lines.Given place ∷ []) ∷ [] → new.server ≡ old.server → new.client ≡ old.client → new.sent ≡ old.sent
-    → Tells old (client_moves (cell_of old) n (ignores first_client place)).entry (client_moves (cell_of old) n (ignores first_client place)).cell new
-note_tells old new n place ne h told s c sent =
-    leaves_tell old new _ _ _ h (quiet_leaves old new (Some (Client n)) (lines.Given place ∷ []) h told s c sent) refl
-    (quiet_cell old new s c sent ∙ other_cell old n ne)
+    (cell_is _ _ _ _ _ _ (ap (λ x. x.state) server) made.state (sent_cell old new outs st.sent t.wire ms)
+    ∙ ap (with_clients old.server.state (messages_of old.wire ++ st.sent)) (sym clients))
+    acts
 
 -- ---- a message is given
 
-abbrev GivenTells : World → ℕ → Option Message → World → Type 0
-GivenTells old place o new = Tells old (given_at (cell_of old) place o).entry (given_at (cell_of old) place o).cell new
+-- the message that stands where this parcel does, and what comes of it
+record Gives (w : WorldState) (place : ℕ) (p : Parcel) : Type 0 where
+  message : Message
+  carries : Carries p message
+  is : moved (cell_of w) (gives place) ≡ given_to (cell_of w) place message message.head.to
 
-abbrev MovedTells : World → ℕ → World → Type 0
-MovedTells old place new = Tells old (moved (cell_of old) (gives place)).entry (moved (cell_of old) (gives place)).cell new
+abbrev sent_at : WorldState → ℕ → Option Message
+sent_at w place = message_at (messages_of w.wire) place
 
-pub given_moves : (old new : World) (place : ℕ) → GivenTells old place (message_at (messages_of old.sent) place) new → MovedTells old place new
+gives_sent : (w : WorldState) (place : ℕ) → moved (cell_of w) (gives place) ≡ given_at (cell_of w) place (sent_at w place)
 unfolding moved
-given_moves old new place t = t
+gives_sent w place = refl
 
-at_message : (old new : World) (place : ℕ) (p : Parcel) (o : Option Message) → ((m : Message) → Carries p m → GivenTells old place (Some m) new) → AtPlace (Some p) o → GivenTells old place o new
-at_message old new place p None f a = absurd a
-at_message old new place p (Some m) f a = f m a
+agrees : (w : WorldState) (place : ℕ) (o : Option Parcel) → IsPlayable w → at_place w.wire place ≡ o → AtPlace o (sent_at w place)
+agrees w place o h e = subst (λ (p : Option Parcel). AtPlace p (sent_at w place)) e (places_agree w.wire (messages_of w.wire) h.sent place)
 
-at_none : (old new : World) (place : ℕ) (o : Option Message) → Tells old (voided (cell_of old)).entry (cell_of old) new → AtPlace None o → GivenTells old place o new
-at_none old new place None t a = t
-at_none old new place (Some m) t a = absurd a
+gives_by : (w : WorldState) (place : ℕ) (p : Parcel) (q : Option Message) → AtPlace (Some p) q → moved (cell_of w) (gives place) ≡ given_at (cell_of w) place q → Gives w place p
+gives_by w place p None a e = absurd a
+gives_by w place p (Some m) a e = record { message = m; carries = a; is = e }
 
--- what was given where this parcel stands at the place
-at_parcel : (old new : World) (place : ℕ) (p : Parcel) → IsPlayable old → parcel_of_place old.sent place ≡ Some p → ((m : Message) → Carries p m → GivenTells old place (Some m) new) → MovedTells old place new
-at_parcel old new place p h e f =
-    given_moves old new place
-    (at_message old new place p (message_at (messages_of old.sent) place) f
-    (subst (λ (o : Option Parcel). AtPlace o (message_at (messages_of old.sent) place)) e (at_place old.sent (messages_of old.sent) h.sent place)))
+gives_parcel : (w : WorldState) (place : ℕ) (p : Parcel) → IsPlayable w → at_place w.wire place ≡ Some p → Gives w place p
+gives_parcel w place p h e = gives_by w place p (sent_at w place) (agrees w place (Some p) h e) (gives_sent w place)
 
-pub lost_tells : (old new : World) (place : ℕ) → IsPlayable old → parcel_of_place old.sent place ≡ None → Tells old (voided (cell_of old)).entry (cell_of old) new → MovedTells old place new
-lost_tells old new place h e t =
-    given_moves old new place
-    (at_none old new place (message_at (messages_of old.sent) place) t
-    (subst (λ (o : Option Parcel). AtPlace o (message_at (messages_of old.sent) place)) e (at_place old.sent (messages_of old.sent) h.sent place)))
+gives_to : (w : WorldState) (place : ℕ) (p : Parcel) (n : Node) (g : Gives w place p) → p.head.to ≡ n → moved (cell_of w) (gives place) ≡ given_to (cell_of w) place g.message n
+gives_to w place p n g to = g.is ∙ ap (given_to (cell_of w) place g.message) (ap (λ h. h.to) (sym g.carries.head) ∙ to)
 
-to_is : (p : Parcel) (m : Message) (n : Node) → Carries p m → p.head.to ≡ n → m.head.to ≡ n
-to_is p m n c e = ap (λ h. h.to) (sym c.head) ∙ e
+pub serves : (w : WorldState) (place : ℕ) (p : Parcel) → IsPlayable w → at_place w.wire place ≡ Some p → p.head.to ≡ Server 1 → moved (cell_of w) (gives place) ≡ server_moves (cell_of w) (server_row the_server w.server.state 0 place (received p.bytes))
+serves w place p h e to =
+    let g = gives_parcel w place p h e in
+    gives_to w place p (Server 1) g to ∙ ap (λ (r : Received). server_moves (cell_of w) (server_row the_server w.server.state 0 place r)) (sym g.carries.bytes)
 
-abbrev ToTells : World → ℕ → Message → World → Node → Type 0
-ToTells old place m new n = Tells old (given_to (cell_of old) place m n).entry (given_to (cell_of old) place m n).cell new
+pub hears : (w : WorldState) (place : ℕ) (p : Parcel) → IsPlayable w → at_place w.wire place ≡ Some p → p.head.to ≡ Client 1 → moved (cell_of w) (gives place) ≡ client_moves (cell_of w) 1 (client_row (Client 1) w.client.state 0 place (received p.bytes))
+hears w place p h e to =
+    let g = gives_parcel w place p h e in
+    gives_to w place p (Client 1) g to ∙ ap (λ (r : Received). client_moves (cell_of w) 1 (client_row (Client 1) w.client.state 0 place r)) (sym g.carries.bytes)
+
+-- a client that isn't there ignores what it is given, and stays as it was
+absent_clients : (w : WorldState) (n : ℕ) → (1 ≡ n → ⊥) → with_clients w.server.state (messages_of w.wire ++ []) (put n first_client (others w.client.state)) ≡ cell_of w
+absent_clients w n ne = λ i. with_clients w.server.state (append-nil (messages_of w.wire) i) (other_stays n w.client.state ne i)
+
+absent_hears : (w : WorldState) (n place : ℕ) (m : Message) → (1 ≡ n → ⊥) → given_to (cell_of w) place m (Client n) ≡ notes (cell_of w) (Some (Client n)) (lines.Given place)
+unfolding client_row
+absent_hears w n place m ne =
+    ap (λ (c : ClientState). client_moves (cell_of w) n (client_hears (Client n) c 0 place (Whole m))) (other_is_first n w.client.state ne)
+    ∙ ap (λ (c : Cell). notes c (Some (Client n)) (lines.Given place)) (absent_clients w n ne)
 
 -- no server but the first, no database and no administrator is there
-abbrev pub IsStray : Node → Type 0
-IsStray Loc = Unit {0}
-IsStray (Server n) = 1 ≡ n → ⊥
-IsStray (Client n) = ⊥
-IsStray (Admin n) = Unit {0}
+abbrev pub IsStray : Option Node → Type 0
+IsStray None = Unit {0}
+IsStray (Some Loc) = Unit {0}
+IsStray (Some (Server n)) = 1 ≡ n → ⊥
+IsStray (Some (Client n)) = ⊥
+IsStray (Some (Admin n)) = Unit {0}
 
-stray_tells : (old new : World) (place : ℕ) (m : Message) (n : Node) → IsStray n → Tells old (voided (cell_of old)).entry (cell_of old) new → ToTells old place m new n
-stray_tells old new place m Loc x t = t
-stray_tells old new place m (Server n) x t =
-    rw (ne_eqb n 1 (λ e. x (sym e))) t
-stray_tells old new place m (Client n) x t = absurd x
-stray_tells old new place m (Admin n) x t = t
+stray_to : (c : Cell) (place : ℕ) (m : Message) (n : Node) → IsStray (Some n) → given_to c place m n ≡ voided c
+stray_to c place m Loc x = refl
+stray_to c place m (Server n) x = rw (ne_eqb n 1 (λ e. x (sym e))) refl
+stray_to c place m (Client n) x = absurd x
+stray_to c place m (Admin n) x = refl
 
-note_row : (old new : World) (n place : ℕ) (m : Message) → (1 ≡ n → ⊥) → Tells old (client_moves (cell_of old) n (ignores first_client place)).entry (client_moves (cell_of old) n (ignores first_client place)).cell new → ToTells old place m new (Client n)
-unfolding client_row
-note_row old new n place m ne t =
-    subst (λ (c : ClientState). Tells old (client_moves (cell_of old) n (client_hears (Client n) c 0 place (Whole m))).entry (client_moves (cell_of old) n (client_hears (Client n) c 0 place (Whole m))).cell new) (sym (other_is_first n old.client.state ne)) t
+some_is : {X : Type 0} (x y : X) → (let o : Option X = Some x in o) ≡ Some y → x ≡ y
+some_is x y e = cc
 
-pub served_tells : (old new : World) (place : ℕ) (p : Parcel) (outs : Outs) → IsPlayable old → parcel_of_place old.sent place ≡ Some p → p.head.to ≡ Server 1
-    → IsSoundReceived (received p.bytes) → Makes (server_row old.server.node old.server.state 0 place (received p.bytes)) new.server.state outs → new.server.node ≡ old.server.node → new.client ≡ old.client → new.sent ≡ old.sent ++ outs.parcels
-    → new.history ≡ old.history ++ record { node = Some (Server 1); lines = outs.lines; parcels = outs.parcels } ∷ []
-    → MovedTells old place new
-served_tells old new place p outs h e to sound made node c sent history =
-    at_parcel old new place p h e (λ m k.
-    subst (ToTells old place m new) (sym (to_is p m (Server 1) k to))
-    (server_tells old new (server_row the_server old.server.state 0 place (Whole m)) outs h
+pub sent_to : (ps : List Parcel) (place : ℕ) (p : Parcel) (n : Node) → at_place ps place ≡ Some p → receiver_at ps place ≡ Some n → p.head.to ≡ n
+sent_to ps place p n at to = some_is p.head.to n (sym (ap (option_map (λ q. q.head.to)) at) ∙ to)
+
+strays_by : (w : WorldState) (place : ℕ) (q : Option Message) → AtPlace None q → given_at (cell_of w) place q ≡ voided (cell_of w)
+strays_by w place None a = refl
+strays_by w place (Some m) a = absurd a
+
+strays_at : (w : WorldState) (place : ℕ) (o : Option Parcel) (r : Option Node) → IsPlayable w → at_place w.wire place ≡ o → receiver_at w.wire place ≡ r → IsStray r → moved (cell_of w) (gives place) ≡ voided (cell_of w)
+strays_at w place None r h e is stray = gives_sent w place ∙ strays_by w place (sent_at w place) (agrees w place None h e)
+strays_at w place (Some p) r h e is stray =
+    let g = gives_parcel w place p h e in
+    let to : r ≡ Some p.head.to = sym is ∙ ap (option_map (λ q. q.head.to)) e in
+    gives_to w place p p.head.to g refl ∙ stray_to (cell_of w) place g.message p.head.to (subst IsStray to stray)
+
+pub strays : (w : WorldState) (place : ℕ) (r : Option Node) → IsPlayable w → receiver_at w.wire place ≡ r → IsStray r → moved (cell_of w) (gives place) ≡ voided (cell_of w)
+strays w place r h is stray = strays_at w place (at_place w.wire place) r h refl is stray
+
+-- ---- what the nodes do
+
+pub serve_follows : (old new : WorldState) (place : ℕ) (p : Parcel) (outs : Outs) → IsPlayable old → at_place old.wire place ≡ Some p → p.head.to ≡ Server 1 → IsSoundReceived (received p.bytes)
+    → Makes (server_row old.server.node old.server.state 0 place (received p.bytes)) new.server.state outs → new.server.node ≡ old.server.node → new.client ≡ old.client → new.acts ≡ old.acts → Tells old new (Server 1) outs
+    → Follows old (as_played old.acts (moved (cell_of old) (gives place))) new
+serve_follows old new place p outs h at to sound made node client acts t =
+    subst (λ m. Follows old (as_played old.acts m) new) (sym (serves old place p h at to))
+    (server_follows old new (server_row the_server old.server.state 0 place (received p.bytes)) outs h
     (within_more (length old.history + 1 + 1) (length old.history + 2) _ (omega arith)
-    (row_within the_server (length old.history + 1) old.server.state 0 place (Whole m) h.within (subst IsSoundReceived k.bytes sound)))
-    (subst (λ n. Makes (server_row n old.server.state 0 place (Whole m)) new.server.state outs) h.server
-    (subst (λ r. Makes (server_row old.server.node old.server.state 0 place r) new.server.state outs) k.bytes made))
-    node c sent history))
+    (row_within the_server (length old.history + 1) old.server.state 0 place (received p.bytes) h.within sound))
+    (subst (λ n. Makes (server_row n old.server.state 0 place (received p.bytes)) new.server.state outs) h.server made)
+    node client acts t)
 
-pub received_tells : (old new : World) (place : ℕ) (p : Parcel) (outs : Outs) → IsPlayable old → parcel_of_place old.sent place ≡ Some p → p.head.to ≡ Client 1
-    → Makes (client_row old.client.node old.client.state 0 place (received p.bytes)) new.client.state outs → new.client.node ≡ old.client.node → new.server ≡ old.server → new.sent ≡ old.sent ++ outs.parcels
-    → new.history ≡ old.history ++ record { node = Some (Client 1); lines = outs.lines; parcels = outs.parcels } ∷ []
-    → MovedTells old place new
-received_tells old new place p outs h e to made node s sent history =
-    at_parcel old new place p h e (λ m k.
-    subst (ToTells old place m new) (sym (to_is p m (Client 1) k to))
-    (client_tells old new (client_row (Client 1) old.client.state 0 place (Whole m)) outs h
-    (row_next (Client 1) old.client.state 0 place (Whole m) h.running)
-    (subst (λ n. Makes (client_row n old.client.state 0 place (Whole m)) new.client.state outs) h.client
-    (subst (λ r. Makes (client_row old.client.node old.client.state 0 place r) new.client.state outs) k.bytes made))
-    node s sent history))
-
-pub strays_tell : (old new : World) (place : ℕ) (p : Parcel) → IsPlayable old → parcel_of_place old.sent place ≡ Some p → IsStray p.head.to → Tells old (voided (cell_of old)).entry (cell_of old) new → MovedTells old place new
-strays_tell old new place p h e stray t =
-    at_parcel old new place p h e (λ m k. stray_tells old new place m m.head.to (subst IsStray (ap (λ x. x.to) k.head) stray) t)
-
-pub noted_tells : (old new : World) (place n : ℕ) (p : Parcel) → IsPlayable old → parcel_of_place old.sent place ≡ Some p → p.head.to ≡ Client n → (1 ≡ n → ⊥)
-    → new.history ≡ old.history ++ quiet_entry (Some (Client n)) (lines.Given place ∷ []) ∷ [] → new.server ≡ old.server → new.client ≡ old.client → new.sent ≡ old.sent → MovedTells old place new
-noted_tells old new place n p h e to ne history s c sent =
-    at_parcel old new place p h e (λ m k.
-    subst (ToTells old place m new) (sym (to_is p m (Client n) k to))
-    (note_row old new n place m ne (note_tells old new n place ne h history s c sent)))
+pub hear_follows : (old new : WorldState) (place : ℕ) (p : Parcel) (outs : Outs) → IsPlayable old → at_place old.wire place ≡ Some p → p.head.to ≡ Client 1
+    → Makes (client_row old.client.node old.client.state 0 place (received p.bytes)) new.client.state outs → new.client.node ≡ old.client.node → new.server ≡ old.server → new.acts ≡ old.acts → Tells old new (Client 1) outs
+    → Follows old (as_played old.acts (moved (cell_of old) (gives place))) new
+hear_follows old new place p outs h at to made node server acts t =
+    subst (λ m. Follows old (as_played old.acts m) new) (sym (hears old place p h at to))
+    (client_follows old new (client_row (Client 1) old.client.state 0 place (received p.bytes)) outs old.acts h
+    (row_next (Client 1) old.client.state 0 place (received p.bytes) h.running)
+    (subst (λ n. Makes (client_row n old.client.state 0 place (received p.bytes)) new.client.state outs) h.client made)
+    node server acts h.acts t)
 
 -- ---- an act begins
 
-pub begun_tells : (old new : World) (act : Act) (outs : Outs) → IsPlayable old → IsShortAct act → old.client.state.running ≡ None
-    → Makes (begin_row old.client.node old.client.state 0 act) new.client.state outs → new.client.node ≡ old.client.node → new.server ≡ old.server → new.sent ≡ old.sent ++ outs.parcels
-    → new.history ≡ old.history ++ record { node = Some (Client 1); lines = outs.lines; parcels = outs.parcels } ∷ []
-    → Tells old (moved (cell_of old) (begins 1 act)).entry (moved (cell_of old) (begins 1 act)).cell new
+begun_moves : (w : WorldState) (act : Act) → w.client.state.running ≡ None → moved (cell_of w) (begins 1 act) ≡ client_moves (cell_of w) 1 (begin_row (Client 1) w.client.state 0 act)
 unfolding moved
-begun_tells old new act outs h short idle made node s sent history =
-    subst (λ (o : Option Act). Tells old (begun_by (cell_of old) 1 act o).entry (begun_by (cell_of old) 1 act o).cell new) (sym idle)
-    (client_tells old new (begin_row (Client 1) old.client.state 0 act) outs h
-    (begins_next (Client 1) old.client.state 0 act h.running short)
+begun_moves w act idle = ap (begun_by (cell_of w) 1 act) idle
+
+first_begun : (c : Cell) (left : List Act) (act : Act) → slice_get left 0 ≡ Some act → begun c left None ≡ as_played (drop 1 left) (moved c (begins 1 act))
+first_begun c [] act e = absurd cc
+first_begun c (x ∷ left) act e = ap (λ (a : Act). as_played left (moved c (begins 1 a))) (some_is x act e)
+
+short_first : (left : List Act) (act : Act) → slice_get left 0 ≡ Some act → All IsShortAct left → IsShortAct act
+short_first [] act e h = absurd cc
+short_first (x ∷ left) act e h = subst IsShortAct (some_is x act e) (h 0 x (omega arith))
+
+short_rest : (left : List Act) → All IsShortAct left → All IsShortAct (drop 1 left)
+short_rest [] h = h
+short_rest (x ∷ left) h = λ k d lt. h (suc k) d (omega (arith, lt))
+
+pub begin_follows : (old new : WorldState) (act : Act) (outs : Outs) → IsPlayable old → old.client.state.running ≡ None → slice_get old.acts 0 ≡ Some act
+    → Makes (begin_row old.client.node old.client.state 0 act) new.client.state outs → new.client.node ≡ old.client.node → new.server ≡ old.server → new.acts ≡ drop 1 old.acts → Tells old new (Client 1) outs
+    → Follows old (begun (cell_of old) old.acts None) new
+begin_follows old new act outs h idle next made node server acts t =
+    subst (λ p. Follows old p new) (sym (first_begun (cell_of old) old.acts act next ∙ ap (as_played (drop 1 old.acts)) (begun_moves old act idle)))
+    (client_follows old new (begin_row (Client 1) old.client.state 0 act) outs (drop 1 old.acts) h
+    (begins_next (Client 1) old.client.state 0 act h.running (short_first old.acts act next h.acts))
     (subst (λ n. Makes (begin_row n old.client.state 0 act) new.client.state outs) h.client made)
-    node s sent history)
+    node server acts (short_rest old.acts h.acts) t)
+
+-- nothing is begun where an act runs, or no act is left
+pub busy_begun : (c : Cell) (left : List Act) (o : Option Act) → is_some o ≡ true → begun c left o ≡ as_played left (voided c)
+busy_begun c [] o e = refl
+busy_begun c (act ∷ left) None e = absurd cc
+busy_begun c (act ∷ left) (Some other) e = refl
+
+pub none_begun : (c : Cell) (left : List Act) (o : Option Act) → slice_get left 0 ≡ None → begun c left o ≡ as_played left (voided c)
+none_begun c [] o e = refl
+none_begun c (act ∷ left) o e = absurd cc
 
 -- ---- a schedule is played
 
-pub carry_all : (es : List parcelled.Entry) → All (λ e. AreRead e.parcels) es → CarryAll es (told_all es)
-carry_all [] h = tt
-carry_all (e ∷ es) h =
-    (record { node = refl; lines = refl; sent = h 0 e (omega arith) }, carry_all es (λ k d lt. h (suc k) d (omega (arith, lt))))
-
--- nothing is begun where no task is left, or an act runs
-pub none_begun : (old new : World) (ts : List Task) (o : Option Act) → length ts ≡ 0 → Tells old (voided (cell_of old)).entry (cell_of old) new → TellsPlayed old (begun (cell_of old) (acts_left ts) o) new
-none_begun old new [] o e t = t
-none_begun old new (x ∷ ts) o e t = absurd (omega (arith, e))
-
-pub short_rest : (ts : List Task) (t : Task) (rest : List Task) → ts ≡ t ∷ rest → All IsShortTask ts → All IsShortTask rest
-short_rest ts t rest e h =
-    let all : All IsShortTask (t ∷ rest) = subst (λ (l : List Task). All IsShortTask l) e h in
-    λ k d lt. all (suc k) d (omega (arith, lt))
-
-pub busy_begun : (old new : World) (left : List Act) (o : Option Act) → is_some o ≡ true → Tells old (voided (cell_of old)).entry (cell_of old) new → TellsPlayed old (begun (cell_of old) left o) new
-busy_begun old new [] o e t = t
-busy_begun old new (act ∷ left) None e t = absurd cc
-busy_begun old new (act ∷ left) (Some other) e t = t
-
 -- one event more
-pub one_more : (w v : World) (left rest : List Act) (x : Event) (xs : List Event) (all : List Entry)
-    → told_all w.history ++ entries_of (cell_of w) left (x ∷ xs) ≡ all → TellsPlayed w (played (cell_of w) left x) v → rest ≡ (played (cell_of w) left x).left
-    → told_all v.history ++ entries_of (cell_of v) rest xs ≡ all
+pub one_more : (w v : WorldState) (x : Event) (xs : List Event) (all : List Entry)
+    → told w.wire w.history ++ entries_of (cell_of w) w.acts (x ∷ xs) ≡ all → Follows w (played (cell_of w) w.acts x) v
+    → told v.wire v.history ++ entries_of (cell_of v) v.acts xs ≡ all
 unfolding entries_of
-one_more w v left rest x xs all e t r =
-    let p = played (cell_of w) left x in
-    ap (λ (h : List Entry). h ++ entries_of (cell_of v) rest xs) t.history
-    ∙ append_assoc (told_all w.history) (p.entry ∷ []) (entries_of (cell_of v) rest xs)
-    ∙ ap (λ (c : Cell). told_all w.history ++ p.entry ∷ entries_of c rest xs) t.cell
-    ∙ ap (λ (l : List Act). told_all w.history ++ p.entry ∷ entries_of p.cell l xs) r
+one_more w v x xs all e t =
+    let p = played (cell_of w) w.acts x in
+    ap (λ (h : List Entry). h ++ entries_of (cell_of v) v.acts xs) t.history
+    ∙ append_assoc (told w.wire w.history) (p.entry ∷ []) (entries_of (cell_of v) v.acts xs)
+    ∙ ap (λ (c : Cell). told w.wire w.history ++ p.entry ∷ entries_of c v.acts xs) t.cell
+    ∙ ap (λ (l : List Act). told w.wire w.history ++ p.entry ∷ entries_of p.cell l xs) t.acts
     ∙ e
 
-pub one_on : (w v : World) (left rest : List Act) (x : Event) (xs : List Event) (end : Cell)
-    → cell_after (cell_of w) left (x ∷ xs) ≡ end → TellsPlayed w (played (cell_of w) left x) v → rest ≡ (played (cell_of w) left x).left
-    → cell_after (cell_of v) rest xs ≡ end
+pub one_on : (w v : WorldState) (x : Event) (xs : List Event) (end : Cell)
+    → cell_after (cell_of w) w.acts (x ∷ xs) ≡ end → Follows w (played (cell_of w) w.acts x) v
+    → cell_after (cell_of v) v.acts xs ≡ end
 unfolding cell_after
-one_on w v left rest x xs end e t r =
-    let p = played (cell_of w) left x in
-    ap (λ (c : Cell). cell_after c rest xs) t.cell ∙ ap (λ (l : List Act). cell_after p.cell l xs) r ∙ e
+one_on w v x xs end e t =
+    let p = played (cell_of w) w.acts x in
+    ap (λ (c : Cell). cell_after c v.acts xs) t.cell ∙ ap (λ (l : List Act). cell_after p.cell l xs) t.acts ∙ e

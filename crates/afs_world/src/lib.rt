@@ -3,6 +3,7 @@
 
 pub mod client;
 mod giving;
+mod plans;
 pub mod server;
 #[cfg(test)]
 mod tests;

@@ -1,227 +1,227 @@
 //! The cell: its nodes, the messages under way, and what is told of its run.
 
-ghost use Rattle.std.specs.Prelude.{◌≡◌, ◌≤◌, ◌<◌, ◌+◌, ◌^◌, [], ◌∷◌, ◌++◌, length, Some, None, IfOk, OnOk, OnErr};
-ghost use Rattle.std.specs.Option.{option_copied};
+ghost use Rattle.std.specs.Prelude.{◌≡◌, ◌≤◌, ◌<◌, ◌+◌, ◌^◌, [], ◌∷◌, ◌++◌, length, slice_get, vec_len, vec_capacity, Some, None, IfOk, OnOk, OnErr};
 ghost use Rattle.std.specs.List.{All, flat_map};
-ghost use Rattle.afs_model.specs.Text.{CarryAll, parcels_sent};
-ghost use Rattle.afs_model.specs.Runs.{start, moved, gives, begins, files_of};
-ghost use Rattle.afs_model.specs.Acts.{events_of};
-ghost use Rattle.afs_model.specs.Playing.{Played, as_played, begun, played, entries_of, cell_after, all_acts};
-ghost use Rattle.afs_model.specs.Form.{IsShortAct, IsShortTask, HasForm};
-ghost use Rattle.afs_world.specs.Worlds.{messages_of, told, told_all, AreRead, cell_of, acts_left, parcel_of_place, IsPlayable, Tells, TellsMoved, TellsPlayed};
+ghost use Rattle.afs_model.specs.Runs.{start, moved, gives, begins, voided, files_of};
+ghost use Rattle.afs_model.specs.Acts.{acts_of, events_of};
+ghost use Rattle.afs_model.specs.Playing.{as_played, begun, played, entries_of, cell_after, all_acts};
+ghost use Rattle.afs_model.specs.Form.{IsShortAct, HasForm};
+ghost use Rattle.afs_model.specs.Telling.{AreRead, told, sent_by};
+ghost use Rattle.afs_world.specs.Worlds.{cell_of, receiver_at, notes, IsPlayable, Plays};
 
 use crate::client::CacheManager;
+use crate::plans::Plan;
 use crate::server::FileServer;
-use afs_num::histories::{Entry, History, Line, Outs};
-use afs_num::scripts::{Act, Event, Script, SetupLine, Task, VolumeLine, VolumeLines};
+use afs_num::histories::{Entry, Line, Outs};
+use afs_num::scripts::{Act, Event, Script, SetupLine, VolumeLine, VolumeLines};
 use afs_num::sequences::Sequence;
 use afs_num::states::{ClientState, ServerState, StoredFile, StoredFiles};
-use afs_num::types::{Fid, Node, Parcel, Parcels};
+use afs_num::types::{Fid, Mem, Node, Parcel};
+use afs_wire::Wire;
 use std::alloc::{AllocError, Global};
+use std::marker::Model;
 
-/// One server, one client, all messages that were sent, and the history so far.
+/// One server, one client and the acts that it has not begun, all messages that were sent, and the history so far.
 #[derive(Drop)]
-pub struct World {
-    pub server: FileServer,
-    pub client: CacheManager,
-    pub sent: Parcels,
-    pub history: History,
+pub struct World<'a> {
+    server: FileServer,
+    client: CacheManager,
+    plan: Plan<'a>,
+    wire: Wire,
+    history: Vec<Entry>,
 }
 
-/// The parcel of a place; the first one sent has place 1.
-fn parcel_at(sent: &Parcels, place: u64) -> Option<&Parcel>
-    ensures { option_copied result ≡ parcel_of_place sent.now place }
-{
-    if place == 0 {
-        return None;
-    }
-    let index = usize::try_from(place - 1).ok()?;
-    sent.as_slice().get(index)
+impl<'a> Model for World<'a> {
+    ghost use Rattle.afs_world.specs.Worlds.{WorldState};
+
+    ghost Value = { WorldState };
+
+    ghost view = { λ w. record { server = w.server; client = w.client; acts = w.plan; wire = w.wire.messages; history = w.history.items } };
 }
 
-fn copy_parcel(alloc: Global, parcel: &Parcel) -> Result<Parcel, AllocError>
-    ensures { IfOk result (λ p. p ≡ parcel.now) }
+/// Makes room for the entry of a step, and for the message that it may send.
+fn make_room(wire: &mut Wire, history: &mut Vec<Entry>) -> Mem<()>
+    ensures room { OnOk result (1 ≤ wire.new.room) }
+    ensures entry { OnOk result (vec_len history.new < vec_capacity history.new) }
+    ensures wire { wire.new.messages ≡ wire.old.messages }
+    ensures history { history.new.items ≡ history.old.items }
 {
-    Ok(Parcel {
-        head: parcel.head,
-        bytes: parcel.bytes.copy(alloc)?,
-    })
-}
-
-/// Appends copies of these parcels.
-fn send_all(alloc: Global, sent: &mut Parcels, parcels: &Parcels) -> Result<(), AllocError>
-    ensures { OnOk result (sent.new ≡ sent.old ++ parcels.now) }
-{
-    for parcel in parcels.as_slice() {
-        sent.push(copy_parcel(alloc, parcel)?)?;
-    }
+    wire.reserve(1)?;
+    history.reserve(1)?;
     Ok(())
 }
 
-impl World {
-    /// Tells one step.
-    fn tell(&mut self, alloc: Global, node: Option<Node>, outs: Outs) -> Result<(), AllocError>
-        ensures sent { OnOk result (self.new.sent ≡ self.old.sent ++ outs.parcels) }
-        ensures history { OnOk result (self.new.history ≡ self.old.history ++ record { node = node; lines = outs.lines; parcels = outs.parcels } ∷ []) }
-        ensures server { self.new.server ≡ self.old.server }
-        ensures client { self.new.client ≡ self.old.client }
+/// Tells a step, for which there is room: its messages are sent, and its entry says how many they are.
+fn tell(wire: &mut Wire, history: &mut Vec<Entry>, node: Node, outs: Outs)
+    requires few { length outs.parcels ≤ 1 }
+    requires room { 1 ≤ wire.old.room }
+    requires entry { vec_len history.old < vec_capacity history.old }
+    ensures sent { wire.new.messages ≡ wire.old.messages ++ outs.parcels }
+    ensures history { history.new.items ≡ history.old.items ++ record { node = Some node; lines = outs.lines; sent = length outs.parcels } ∷ [] }
+{
+    let Outs { parcels, lines } = outs;
+    let entry = Entry {
+        node: Some(node),
+        lines,
+        sent: parcels.len(),
+    };
+    wire.send_all(parcels);
+    match history.push(entry) {
+        Ok(()) => {}
+        Err(_) => unreachable!(),
+    }
+}
+
+impl<'a> World<'a> {
+    /// A step of one line, in which nothing is sent.
+    fn note(&mut self, alloc: Global, node: Option<Node>, line: Line) -> Mem<()>
+        ensures ok { OnOk result (self.new ≡ record self.old { history = self.old.history ++ record { node = node; lines = line ∷ []; sent = 0 } ∷ [] }) }
+        ensures err { OnErr result (self.new ≡ self.old) }
     {
-        send_all(alloc, &mut self.sent, &outs.parcels)?;
-        let Outs { parcels, lines } = outs;
+        let mut lines = Sequence::new(alloc);
+        lines.push(line)?;
         self.history.push(Entry {
             node,
             lines,
-            parcels,
+            sent: 0,
         })?;
         Ok(())
     }
 
     /// Nothing happens.
-    fn skip(&mut self, alloc: Global) -> Result<(), AllocError>
-        ensures sent { OnOk result (self.new.sent ≡ self.old.sent) }
-        ensures history { OnOk result (self.new.history ≡ self.old.history ++ record { node = None; lines = Line.Void ∷ []; parcels = [] } ∷ []) }
-        ensures server { self.new.server ≡ self.old.server }
-        ensures client { self.new.client ≡ self.old.client }
+    fn skip(&mut self, alloc: Global) -> Mem<()>
+        requires holds { IsPlayable self.old }
+        ensures { Plays self.old (as_played self.old.acts (voided (cell_of self.old))) result self.new }
     {
-        let mut lines = Sequence::new(alloc);
-        lines.push(Line::Void)?;
-        self.history.push(Entry {
-            node: None,
-            lines,
-            parcels: Sequence::new(alloc),
-        })?;
+        self.note(alloc, None, Line::Void)?;
         Ok(())
     }
 
-    /// The message of this place is given to a client that isn't there: it notes it, and no more.
-    fn note(&mut self, alloc: Global, client: u8, place: u64) -> Result<(), AllocError>
-        ensures sent { OnOk result (self.new.sent ≡ self.old.sent) }
-        ensures history { OnOk result (self.new.history ≡ self.old.history ++ record { node = Some (Node.Client client); lines = Line.Given place ∷ []; parcels = [] } ∷ []) }
-        ensures server { self.new.server ≡ self.old.server }
-        ensures client { self.new.client ≡ self.old.client }
+    /// A client that isn't there is given the message of this place, and ignores it.
+    fn ignore(&mut self, alloc: Global, client: u8, place: u64) -> Mem<()>
+        requires holds { IsPlayable self.old }
+        ensures { Plays self.old (as_played self.old.acts (notes (cell_of self.old) (Some (Node.Client client)) (Line.Given place))) result self.new }
     {
-        let mut lines = Sequence::new(alloc);
-        lines.push(Line::Given { place })?;
-        self.history.push(Entry {
-            node: Some(Node::Client(client)),
-            lines,
-            parcels: Sequence::new(alloc),
-        })?;
+        self.note(alloc, Some(Node::Client(client)), Line::Given { place })?;
+        Ok(())
+    }
+
+    /// The node to which the message of this place was sent.
+    fn receiver(&self, place: u64) -> Option<Node>
+        ensures { result ≡ receiver_at self.now.wire place }
+    {
+        match self.wire.get(place) {
+            Some(parcel) => Some(parcel.head.to),
+            None => None,
+        }
+    }
+
+    /// The message of this place is given to the server, to which it was sent.
+    fn serve(&mut self, alloc: Global, place: u64) -> Mem<()>
+        requires holds { IsPlayable self.old }
+        requires length { length self.old.history < 1000000 }
+        requires to { receiver_at self.old.wire place ≡ Some (Node.Server 1) }
+        ensures { Plays self.old (as_played self.old.acts (moved (cell_of self.old) (gives place))) result self.new }
+    {
+        make_room(&mut self.wire, &mut self.history)?;
+        let Some(parcel) = self.wire.get(place) else {
+            unreachable!()
+        };
+        let outs = self
+            .server
+            .handle(alloc, place, 0, parcel.bytes.as_slice())?;
+        tell(&mut self.wire, &mut self.history, Node::Server(1), outs);
+        Ok(())
+    }
+
+    /// The message of this place is given to the client, to which it was sent.
+    fn hear(&mut self, alloc: Global, place: u64) -> Mem<()>
+        requires holds { IsPlayable self.old }
+        requires length { length self.old.history < 1000000 }
+        requires to { receiver_at self.old.wire place ≡ Some (Node.Client 1) }
+        ensures { Plays self.old (as_played self.old.acts (moved (cell_of self.old) (gives place))) result self.new }
+    {
+        make_room(&mut self.wire, &mut self.history)?;
+        let Some(parcel) = self.wire.get(place) else {
+            unreachable!()
+        };
+        let outs = self
+            .client
+            .receive(alloc, place, 0, parcel.bytes.as_slice())?;
+        tell(&mut self.wire, &mut self.history, Node::Client(1), outs);
         Ok(())
     }
 
     /// The message of this place is given to its receiver.
-    fn deliver(&mut self, alloc: Global, place: u64) -> Result<(), AllocError>
+    fn deliver(&mut self, alloc: Global, place: u64) -> Mem<()>
         requires holds { IsPlayable self.old }
         requires length { length self.old.history < 1000000 }
-        ensures { OnOk result (TellsMoved self.old (moved (cell_of self.old) (gives place)) self.new) }
+        ensures { Plays self.old (as_played self.old.acts (moved (cell_of self.old) (gives place))) result self.new }
     {
-        let Some(parcel) = parcel_at(&self.sent, place) else {
-            self.skip(alloc)?;
-            return Ok(());
-        };
-        match parcel.head.to {
-            Node::Server(1) => {
-                let outs = self
-                    .server
-                    .handle(alloc, place, 0, parcel.bytes.as_slice())?;
-                self.tell(alloc, Some(Node::Server(1)), outs)?;
-                Ok(())
-            }
-            Node::Client(1) => {
-                let outs = self
-                    .client
-                    .receive(alloc, place, 0, parcel.bytes.as_slice())?;
-                self.tell(alloc, Some(Node::Client(1)), outs)?;
-                Ok(())
-            }
-            Node::Client(n) => {
-                self.note(alloc, n, place)?;
-                Ok(())
-            }
-            Node::Server(_) => {
-                self.skip(alloc)?;
-                Ok(())
-            }
-            Node::Loc => {
-                self.skip(alloc)?;
-                Ok(())
-            }
-            Node::Admin(_) => {
-                self.skip(alloc)?;
-                Ok(())
-            }
+        match self.receiver(place) {
+            Some(Node::Server(1)) => self.serve(alloc, place),
+            Some(Node::Client(1)) => self.hear(alloc, place),
+            Some(Node::Client(n)) => self.ignore(alloc, n, place),
+            Some(Node::Server(_)) => self.skip(alloc),
+            Some(Node::Loc) => self.skip(alloc),
+            Some(Node::Admin(_)) => self.skip(alloc),
+            None => self.skip(alloc),
         }
     }
 
-    /// The client, which is idle, begins this act.
-    fn begin(&mut self, alloc: Global, act: &Act) -> Result<(), AllocError>
+    /// The client, which is idle, begins its next act, which is this one.
+    fn begin(&mut self, alloc: Global, act: &Act) -> Mem<()>
         requires holds { IsPlayable self.old }
         requires length { length self.old.history < 1000000 }
         requires idle { self.old.client.state.running ≡ None }
+        requires next { slice_get self.old.acts 0 ≡ Some act.now }
         requires short { IsShortAct act.now }
-        ensures { OnOk result (TellsMoved self.old (moved (cell_of self.old) (begins 1 act.now)) self.new) }
+        ensures { Plays self.old (begun (cell_of self.old) self.old.acts None) result self.new }
     {
+        make_room(&mut self.wire, &mut self.history)?;
         let outs = self.client.begin(alloc, 0, act)?;
-        self.tell(alloc, Some(Node::Client(1)), outs)?;
+        tell(&mut self.wire, &mut self.history, Node::Client(1), outs);
+        self.plan.advance();
         Ok(())
     }
 
-    /// The client begins the first of these tasks, where it is idle; the tasks that are left.
-    fn act<'a>(&mut self, alloc: Global, tasks: &'a [Task]) -> Result<&'a [Task], AllocError>
+    /// The client begins its next act, where it is idle and there is one.
+    fn act(&mut self, alloc: Global) -> Mem<()>
         requires holds { IsPlayable self.old }
         requires length { length self.old.history < 1000000 }
-        requires short { All IsShortTask tasks.now }
-        ensures told { OnOk result (TellsPlayed self.old (begun (cell_of self.old) (acts_left tasks.entry.now) self.old.client.state.running) self.new) }
-        ensures left { IfOk result (λ rest. acts_left rest.now ≡ (begun (cell_of self.old) (acts_left tasks.entry.now) self.old.client.state.running).left) }
-        ensures short { IfOk result (λ rest. All IsShortTask rest.now) }
+        ensures { Plays self.old (begun (cell_of self.old) self.old.acts self.old.client.state.running) result self.new }
     {
-        let Some((task, rest)) = tasks.split_first() else {
-            self.skip(alloc)?;
-            return Ok(tasks);
-        };
         if self.client.state.running.is_some() {
-            self.skip(alloc)?;
-            return Ok(tasks);
+            return self.skip(alloc);
         }
-        self.begin(alloc, &task.act)?;
-        Ok(rest)
+        match self.plan.next() {
+            Some(act) => self.begin(alloc, act),
+            None => self.skip(alloc),
+        }
     }
 
-    /// Plays one event; the tasks that are left.
-    fn step<'a>(
-        &mut self,
-        alloc: Global,
-        event: &Event,
-        tasks: &'a [Task],
-    ) -> Result<&'a [Task], AllocError>
+    /// Plays one event.
+    pub fn step(&mut self, alloc: Global, event: &Event) -> Mem<()>
         requires holds { IsPlayable self.old }
         requires length { length self.old.history < 1000000 }
-        requires short { All IsShortTask tasks.now }
-        ensures told { OnOk result (TellsPlayed self.old (played (cell_of self.old) (acts_left tasks.entry.now) event.now) self.new) }
-        ensures left { IfOk result (λ rest. acts_left rest.now ≡ (played (cell_of self.old) (acts_left tasks.entry.now) event.now).left) }
-        ensures short { IfOk result (λ rest. All IsShortTask rest.now) }
+        ensures { Plays self.old (played (cell_of self.old) self.old.acts event.now) result self.new }
     {
         match event {
-            Event::Act { .. } => {
-                let rest = self.act(alloc, tasks)?;
-                Ok(rest)
-            }
-            Event::Deliver { place } => {
-                self.deliver(alloc, *place)?;
-                Ok(tasks)
-            }
+            Event::Act { .. } => self.act(alloc),
+            Event::Deliver { place } => self.deliver(alloc, *place),
         }
     }
 
     /// The cell at set-up.
-    fn new(alloc: Global, script: &Script) -> Result<World, AllocError>
+    fn new(alloc: Global, script: &'a Script) -> Mem<World<'a>>
         requires { HasForm script.now }
         ensures cell { IfOk result (λ w. cell_of w ≡ start script.now) }
-        ensures holds { IfOk result IsPlayable }
+        ensures acts { IfOk result (λ w. w.acts ≡ all_acts script.now) }
         ensures history { IfOk result (λ w. w.history ≡ []) }
+        ensures holds { IfOk result IsPlayable }
     {
         let files = first_files(alloc, &script.volumes)?;
+        let plan = Plan::of(alloc, Node::Client(1), script.tasks.as_slice())?;
         Ok(World {
             server: FileServer {
                 node: Node::Server(1),
@@ -241,39 +241,61 @@ impl World {
                     cache: Sequence::new(alloc),
                 },
             },
-            sent: Sequence::new(alloc),
-            history: Sequence::new(alloc),
+            plan,
+            wire: Wire::new(alloc),
+            history: Vec::new(alloc),
         })
     }
 
     /// Plays these events.
     #[tactic(auto, unfolding(afs_model::specs::Playing::entries_of, afs_model::specs::Playing::cell_after))]
-    fn play(&mut self, alloc: Global, events: &[Event], tasks: &[Task]) -> Result<(), AllocError>
+    fn play_all(&mut self, alloc: Global, events: &[Event]) -> Mem<()>
         requires holds { IsPlayable self.old }
         requires length { length self.old.history + length events.now ≤ 1000000 }
-        requires short { All IsShortTask tasks.now }
-        ensures told { OnOk result (told_all self.new.history ≡ told_all self.old.history ++ entries_of (cell_of self.old) (acts_left tasks.now) events.now) }
-        ensures cell { OnOk result (cell_of self.new ≡ cell_after (cell_of self.old) (acts_left tasks.now) events.now) }
+        ensures told { OnOk result (told self.new.wire self.new.history ≡ told self.old.wire self.old.history ++ entries_of (cell_of self.old) self.old.acts events.now) }
+        ensures cell { OnOk result (cell_of self.new ≡ cell_after (cell_of self.old) self.old.acts events.now) }
         ensures holds { OnOk result (IsPlayable self.new) }
     {
-        let mut left = tasks;
         for event in events {
-            left = self.step(alloc, event, left)?;
+            self.step(alloc, event)?;
         }
         Ok(())
+    }
+
+    /// The files that the server holds.
+    pub fn files(&self) -> &[StoredFile]
+        ensures { result.now ≡ self.now.server.state.files }
+    {
+        self.server.state.files.as_slice()
+    }
+
+    /// The messages that were sent, each with its bytes.
+    pub fn parcels(&self) -> &[Parcel]
+        ensures { result.now ≡ self.now.wire }
+    {
+        self.wire.as_slice()
+    }
+
+    /// The entries of the history, one for each event; the messages of an entry are the next of the parcels.
+    pub fn history(&self) -> &[Entry]
+        ensures { result.now ≡ self.now.history }
+    {
+        self.history.as_slice()
     }
 }
 
 /// Plays a script: the history of its run, and the cell at its end.
-pub fn play(alloc: Global, script: &Script) -> Result<World, AllocError>
+pub fn play(alloc: Global, script: &Script) -> Mem<World<'_>>
     requires { HasForm script.now }
-    ensures history { IfOk result (λ w. CarryAll w.history (entries_of (start script.now) (all_acts script.now) (events_of script.now.schedule))) }
+    ensures history { IfOk result (λ w. told w.wire w.history ≡ entries_of (start script.now) (all_acts script.now) (events_of script.now.schedule)) }
     ensures files { IfOk result (λ w. w.server.state.files ≡ (cell_after (start script.now) (all_acts script.now) (events_of script.now.schedule)).server.files) }
-    ensures places { IfOk result (λ w. parcels_sent w.history < 2 ^ 63) }
+    ensures read { IfOk result (λ w. AreRead w.wire) }
+    ensures sent { IfOk result (λ w. sent_by w.history ≡ length w.wire) }
+    ensures places { IfOk result (λ w. length w.wire < 2 ^ 63) }
 {
     let mut world = World::new(alloc, script)?;
-    world.play(alloc, events(script), script.tasks.as_slice())?;
-    let _places = world.sent.len();
+    world.play_all(alloc, events(script))?;
+    let _places = world.wire.as_slice();
     Ok(world)
 }
 
@@ -288,7 +310,7 @@ fn events(script: &Script) -> &[Event]
 }
 
 /// Appends the files that a volume's set-up lines make.
-fn lay(alloc: Global, files: &mut StoredFiles, volume: &VolumeLine) -> Result<(), AllocError>
+fn lay(alloc: Global, files: &mut StoredFiles, volume: &VolumeLine) -> Mem<()>
     ensures { OnOk result (files.new ≡ files.old ++ files_of volume.now) }
 {
     let mut k = 1u32;
@@ -313,7 +335,7 @@ fn lay(alloc: Global, files: &mut StoredFiles, volume: &VolumeLine) -> Result<()
 }
 
 /// The files that the set-up lines of all volumes make.
-fn first_files(alloc: Global, volumes: &VolumeLines) -> Result<StoredFiles, AllocError>
+fn first_files(alloc: Global, volumes: &VolumeLines) -> Mem<StoredFiles>
     ensures { IfOk result (λ files. files ≡ flat_map files_of volumes.now) }
 {
     let mut files = Sequence::new(alloc);
