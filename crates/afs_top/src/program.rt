@@ -14,6 +14,7 @@ use afs_script::pieces::Print;
 use std::alloc::Global;
 
 /// How the program ended: its status, and the number with which the process ends.
+#[derive(Drop)]
 pub struct Ended {
     pub status: Status,
     pub number: u8,
