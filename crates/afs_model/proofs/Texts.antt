@@ -30,7 +30,8 @@ use Rattle.afs_model.specs.FsRows.{fs_calls, fs_replies}
 use Rattle.afs_model.specs.Messages.{received_call, carried_reply, received_reply, received_notice, read_body, read_behind_head, received, spelled, found, meant}
 use Rattle.afs_model.proofs.Spellings.{whole_of}
 use Rattle.afs_model.specs.Telling.{code_read, code_at}
-use Rattle.afs_model.specs.Text.{sent_text, route_text, half_text, code_text, tail_text, code_of, message_text}
+use Rattle.std.specs.Fmt.{decimal}
+use Rattle.afs_model.specs.Text.{sent_text, head_text, code_text, tail_text, code_of, message_text}
 
 -- what is read next was read, where the whole is
 pub record Went {A B : Type 0} (r : Result A XdrFault) (f : A → Result B XdrFault) (x : B) : Type 0 where
@@ -216,21 +217,18 @@ code_same halves.Call a b same = refl
 code_same halves.Reply a b same = ap (λ (z : ℤ). code_text halves.Reply z) (same refl)
 code_same halves.Boot a b same = refl
 
-sent_same : (place : ℕ) (h : Head) (a b : ℤ) → (h.half ≡ halves.Reply → a ≡ b) → sent_text place h a ≡ sent_text place h b
+sent_same : (wire : Bool) (place : ℕ) (h : Head) (a b : ℤ) (bytes : List ℕ) → (h.half ≡ halves.Reply → a ≡ b) → sent_text wire place h a bytes ≡ sent_text wire place h b bytes
 unfolding sent_text
-sent_same place h a b same = ap (λ (t : List ℕ). route_text place h ++ (half_text h.half h ++ t)) (code_same h.half a b same)
-
--- what a message's line is made of
-abbrev pub line_of : Bool → ℕ → Head → ℤ → List ℕ → List ℕ
-line_of wire place h code bytes = sent_text place h code ++ (tail_text wire bytes ++ codes "\n")
+sent_same wire place h a b bytes same =
+    ap (λ (t : List ℕ). codes "sent " ++ (decimal place ++ (codes " " ++ (head_text h ++ (t ++ (tail_text wire bytes ++ codes "\n")))))) (code_same h.half a b same)
 
 -- the bytes of a message are its spelling, and are read as it
-pub parcel_same : (wire : Bool) (place : ℕ) (p : Parcel) (m : Message) → p.head ≡ m.head → p.bytes ≡ spelled m → received p.bytes ≡ Whole m → line_of wire place p.head (code_at p.bytes) p.bytes ≡ message_text wire place m
+pub parcel_same : (wire : Bool) (place : ℕ) (p : Parcel) (m : Message) → p.head ≡ m.head → p.bytes ≡ spelled m → received p.bytes ≡ Whole m → sent_text wire place p.head (code_at p.bytes) p.bytes ≡ message_text wire place m
 unfolding message_text
 parcel_same wire place p m head bytes read =
-    ap (λ (h : Head). line_of wire place h (code_at p.bytes) p.bytes) head
-    ∙ (ap (λ (t : List ℕ). t ++ (tail_text wire p.bytes ++ codes "\n")) (sent_same place m.head (code_at p.bytes) (code_of m.carried) (λ reply. reply_code p.bytes m reply read))
-    ∙ ap (λ (b : List ℕ). line_of wire place m.head (code_of m.carried) b) bytes)
+    ap (λ (h : Head). sent_text wire place h (code_at p.bytes) p.bytes) head
+    ∙ (sent_same wire place m.head (code_at p.bytes) (code_of m.carried) p.bytes (λ reply. reply_code p.bytes m reply read)
+    ∙ ap (λ (b : List ℕ). sent_text wire place m.head (code_of m.carried) b) bytes)
 
 -- a parcel's header, its bytes, and what is read in them
 abbrev Seen : Type 0

@@ -57,13 +57,13 @@ name_text name = flat_map name_byte name
 
 unfoldable pub act_text : Act → List ℕ
 act_text (Open fid) = codes "open @" ++ fid_text fid
-act_text (Close fid contents) = (codes "close @" ++ (fid_text fid ++ codes " hex:")) ++ hex_text contents
+act_text (Close fid contents) = codes "close @" ++ (fid_text fid ++ (codes " hex:" ++ hex_text contents))
 
 unfoldable pub body_text : Body → List ℕ
 body_text (bodies.File contents) = codes "f:" ++ hex_text contents
 
 unfoldable pub begin_text : Node → Act → List ℕ
-begin_text node act = (codes "begin " ++ (node_text node ++ codes " ")) ++ (act_text act ++ codes "\n")
+begin_text node act = codes "begin " ++ (node_text node ++ (codes " " ++ (act_text act ++ codes "\n")))
 
 unfoldable pub grant_text : Node → Node → Fid → ℕ → ℕ → List ℕ
 grant_text server client fid index expiry =
@@ -74,8 +74,7 @@ change_text server key count = codes "change " ++ (node_text server ++ (codes " 
 
 unfoldable pub version_text : Version → List ℕ
 version_text v =
-    (codes "version " ++ (fid_text v.fid ++ (codes " " ++ (decimal v.index ++ (codes " " ++ (decimal v.data_version ++ codes " "))))))
-    ++ (body_text v.body ++ codes "\n")
+    codes "version " ++ (fid_text v.fid ++ (codes " " ++ (decimal v.index ++ (codes " " ++ (decimal v.data_version ++ (codes " " ++ (body_text v.body ++ codes "\n")))))))
 
 abbrev pub source_text : ReadSource → List ℕ
 source_text Cached = codes "cached"
@@ -83,8 +82,7 @@ source_text Fetched = codes "fetched"
 
 unfoldable pub read_text : Node → Fid → ℕ → ReadSource → Body → List ℕ
 read_text client fid index source body =
-    (codes "read " ++ (node_text client ++ (codes " " ++ (fid_text fid ++ (codes " " ++ (decimal index ++ (codes " " ++ (source_text source ++ codes " "))))))))
-    ++ (body_text body ++ codes "\n")
+    codes "read " ++ (node_text client ++ (codes " " ++ (fid_text fid ++ (codes " " ++ (decimal index ++ (codes " " ++ (source_text source ++ (codes " " ++ (body_text body ++ codes "\n")))))))))
 
 unfoldable pub answer_text : Node → Code → List ℕ
 answer_text node code = codes "answer " ++ (node_text node ++ (codes " " ++ (signed_decimal code.0 ++ codes "\n")))
@@ -104,31 +102,29 @@ lines_text ls = flat_map line_text ls
 
 -- ---- messages
 
--- the opcode, and epoch and number of the call
-abbrev pub call_text : Head → List ℕ
-call_text h = decimal h.opcode ++ (codes " " ++ (decimal h.epoch ++ (codes "." ++ decimal h.number)))
+abbrev pub half_word : Half → List ℕ
+half_word halves.Call = codes "call "
+half_word halves.Reply = codes "reply "
+half_word halves.Boot = codes "boot "
 
-unfoldable pub half_text : Half → Head → List ℕ
-half_text halves.Call h = codes "call " ++ call_text h
-half_text halves.Reply h = codes "reply " ++ call_text h
-half_text halves.Boot h = codes "boot " ++ call_text h
+-- from where to where, which half of a call, its opcode, and the call's epoch and number
+unfoldable pub head_text : Head → List ℕ
+head_text h =
+    node_text h.from ++ (codes " " ++ (node_text h.to ++ (codes " " ++ (half_word h.half ++ (decimal h.opcode ++ (codes " " ++ (decimal h.epoch ++ (codes "." ++ decimal h.number))))))))
 
 -- a reply alone has its code
 unfoldable pub code_text : Half → ℤ → List ℕ
 code_text halves.Reply code = codes " " ++ signed_decimal code
 code_text half code = []
 
-abbrev pub route_text : ℕ → Head → List ℕ
-route_text place h = codes "sent " ++ (decimal place ++ (codes " " ++ (node_text h.from ++ (codes " " ++ (node_text h.to ++ codes " ")))))
-
--- the message of this place is sent
-unfoldable pub sent_text : ℕ → Head → ℤ → List ℕ
-sent_text place h code = route_text place h ++ (half_text h.half h ++ code_text h.half code)
-
 -- the bytes of a message stand behind it where they are asked for
 unfoldable pub tail_text : Bool → List ℕ → List ℕ
 tail_text true bytes = codes " " ++ hex_text bytes
 tail_text false bytes = []
+
+-- the message of this place, with this header, code and bytes, is sent
+unfoldable pub sent_text : Bool → ℕ → Head → ℤ → List ℕ → List ℕ
+sent_text wire place h code bytes = codes "sent " ++ (decimal place ++ (codes " " ++ (head_text h ++ (code_text h.half code ++ (tail_text wire bytes ++ codes "\n")))))
 
 -- the code of a reply
 abbrev pub code_of : Carried → ℤ
@@ -137,7 +133,7 @@ code_of c = pos 0
 
 -- the bytes of a message are its spelling
 unfoldable pub message_text : Bool → ℕ → Message → List ℕ
-message_text wire place m = sent_text place m.head (code_of m.carried) ++ (tail_text wire (spelled m) ++ codes "\n")
+message_text wire place m = sent_text wire place m.head (code_of m.carried) (spelled m)
 
 abbrev pub messages_text : Bool → ℕ → List Message → List ℕ
 messages_text wire place [] = []
@@ -152,7 +148,7 @@ step_text number None = codes "entry " ++ (decimal number ++ codes " none\n")
 
 -- an entry of this number, whose first message has this place; its messages come last
 unfoldable pub entry_text : Bool → ℕ → ℕ → Entry → List ℕ
-entry_text wire number place e = step_text number e.node ++ (lines_text e.lines ++ messages_text wire place e.sent)
+entry_text wire number place e = (step_text number e.node ++ lines_text e.lines) ++ messages_text wire place e.sent
 
 -- entries are numbered one after another, and so are the places of all messages
 abbrev pub entries_text : Bool → ℕ → ℕ → List Entry → List ℕ
@@ -187,16 +183,15 @@ names_text k (l ∷ ls) = named_text k l ++ names_text (k + 1) ls
 
 -- a read-write volume that accepts stores: kind and flags are 0
 unfoldable pub volume_line_text : VolumeLine → List ℕ
-volume_line_text v = (codes "volume " ++ (node_text v.server ++ (codes " " ++ (decimal v.id ++ codes " ")))) ++ (name_text v.name ++ codes " 0 0\n")
+volume_line_text v = codes "volume " ++ (node_text v.server ++ (codes " " ++ (decimal v.id ++ (codes " " ++ (name_text v.name ++ codes " 0 0\n")))))
 
 -- the volume's root, which no call has changed so far
 unfoldable pub root_text : VolumeLine → List ℕ
-root_text v = (codes "vnode " ++ (decimal v.id ++ codes ".1.1 2 1 1 d:")) ++ (names_text 1 v.lines ++ codes "\n")
+root_text v = codes "vnode " ++ (decimal v.id ++ (codes ".1.1 2 1 1 d:" ++ (names_text 1 v.lines ++ codes "\n")))
 
 unfoldable pub file_text : StoredFile → List ℕ
 file_text f =
-    (codes "vnode " ++ (fid_text f.fid ++ (codes " 1 " ++ (decimal f.index ++ (codes " " ++ (decimal f.data_version ++ codes " f:"))))))
-    ++ (hex_text f.contents ++ codes "\n")
+    codes "vnode " ++ (fid_text f.fid ++ (codes " 1 " ++ (decimal f.index ++ (codes " " ++ (decimal f.data_version ++ (codes " f:" ++ (hex_text f.contents ++ codes "\n")))))))
 
 abbrev pub file_text_in : ℕ → StoredFile → List ℕ
 file_text_in id f = if nat_eq f.fid.volume id then file_text f else []

@@ -1,228 +1,159 @@
-//! The text of a run: its entries, and what stands at the end.
+//! The text of a run: its entries, each with its lines and the messages that it sent, and what stands at the end.
 
-ghost use Rattle.std.specs.Prelude.{◌≡◌, ◌+◌, ◌<◌, ◌≤◌, ◌^◌, ◌++◌, true, false, length, IfOk, OnOk, string_bytes};
+ghost use Rattle.std.specs.Prelude.{◌≡◌, ◌+◌, ◌<◌, ◌≤◌, ◌^◌, ◌++◌, length};
 ghost use Rattle.std.specs.List.{flat_map};
-ghost use Rattle.std.specs.Fmt.{digit_glyph};
-ghost use Rattle.afs_model.specs.Text.{hex_byte, hex_text, is_plain, name_byte, name_text, act_text, body_text, begin_text, grant_text, change_text, version_text, source_text, read_text, answer_text, line_text, lines_text, half_text, code_text, route_text, sent_text, tail_text, code_at, parcel_text, parcels_text, step_text, parcelled_entry_text, parcelled_entries_text, parcelled_history_text, parcels_sent, first_name, root_name, comma_before, named_text, names_text, volume_line_text, root_text, file_text, file_text_in, volume_text, final_text, parcelled_text};
+ghost use Rattle.afs_outside.specs.Outside.{Puts};
+ghost use Rattle.afs_model.specs.Text.{act_text, body_text, begin_text, grant_text, change_text, version_text, source_text, read_text, answer_text, line_text, lines_text, half_word, head_text, code_text, tail_text, sent_text, messages_text, step_text, entry_text, history_text, final_text};
+ghost use Rattle.afs_model.specs.Telling.{code_at, messages_of, AreRead, told, sent_by};
 
+use crate::bytes::Hex;
+use crate::final_part::put_final;
+use crate::pieces::{Each, Print};
 use afs_num::histories::{Body, Entry, Line, ReadSource, Version};
-use afs_num::scripts::{Act, Script, SetupLine, VolumeLine};
-use afs_num::sequences::Octets;
+use afs_num::scripts::{Act, Script};
 use afs_num::states::StoredFile;
-use afs_num::types::{Code, Fid, Half, Head, Key, Mem, Node, Parcel};
-use std::alloc::Global;
-use std::fmt::Write;
-
-// ---- bytes
-
-/// The hexadecimal digit of a number below 16.
-fn hex_digit(n: u8) -> char
-    requires { n < 16 }
-    ensures digit { result ≡ digit_glyph false n }
-    ensures ascii { result < 128 }
-{
-    match n {
-        0..=9 => (b'0' + n) as char,
-        _ => (b'a' + (n - 10)) as char,
-    }
-}
-
-/// The upper-case hexadecimal digit of a number below 16.
-fn upper_hex_digit(n: u8) -> char
-    requires { n < 16 }
-    ensures digit { result ≡ digit_glyph true n }
-    ensures ascii { result < 128 }
-{
-    match n {
-        0..=9 => (b'0' + n) as char,
-        _ => (b'A' + (n - 10)) as char,
-    }
-}
-
-#[tactic(auto, unfolding(afs_model::specs::Text::hex_text))]
-fn put_hex(out: &mut String, bytes: &[u8]) -> Mem<()>
-    ensures { OnOk result (string_bytes out.new ≡ string_bytes out.old ++ hex_text bytes.now) }
-{
-    for b in bytes {
-        out.push(hex_digit(*b / 16))?;
-        out.push(hex_digit(*b % 16))?;
-    }
-    Ok(())
-}
-
-/// Whether a byte stands in a name as itself.
-fn is_plain(b: u8) -> bool
-    ensures { result ≡ is_plain b }
-{
-    matches!(b, b'a'..=b'z' | b'A'..=b'Z' | b'0'..=b'9' | b'.' | b'_' | b'-')
-}
-
-fn put_name_byte(out: &mut String, b: u8) -> Mem<()>
-    ensures { OnOk result (string_bytes out.new ≡ string_bytes out.old ++ name_byte b) }
-{
-    if is_plain(b) {
-        out.push(b as char)?;
-    } else {
-        out.push('%')?;
-        out.push(upper_hex_digit(b / 16))?;
-        out.push(upper_hex_digit(b % 16))?;
-    }
-    Ok(())
-}
-
-#[tactic(auto, unfolding(afs_model::specs::Text::name_text))]
-fn put_name(out: &mut String, name: &[u8]) -> Mem<()>
-    ensures { OnOk result (string_bytes out.new ≡ string_bytes out.old ++ name_text name.now) }
-{
-    for b in name {
-        put_name_byte(out, *b)?;
-    }
-    Ok(())
-}
+use afs_num::types::{Code, Fid, Half, Head, Key, Node, Parcel};
+use afs_outside::outside::{Failed, Sink};
 
 // ---- lines
 
-#[tactic(auto, unfolding(afs_model::specs::Text::act_text))]
-fn put_act(out: &mut String, act: &Act) -> Mem<()>
-    ensures { OnOk result (string_bytes out.new ≡ string_bytes out.old ++ act_text act.now) }
-{
-    match act {
-        Act::Open { fid } => write!(out, "open @{fid}")?,
-        Act::Close { fid, contents } => {
-            write!(out, "close @{fid} hex:")?;
-            put_hex(out, contents.as_slice())?;
+impl<'a> Print for &'a Act {
+    ghost text = { λ act. act_text act.now };
+
+    #[tactic(auto, unfolding(afs_model::specs::Text::act_text))]
+    fn print<K: Sink>(&self, sink: &mut K) -> Result<(), Failed> {
+        match *self {
+            Act::Open { fid } => row!("open @", *fid).print(sink),
+            Act::Close { fid, contents } => {
+                row!("close @", *fid, " hex:", Hex(contents.as_slice())).print(sink)
+            }
         }
     }
-    Ok(())
 }
 
-#[tactic(auto, unfolding(afs_model::specs::Text::body_text))]
-fn put_body(out: &mut String, body: &Body) -> Mem<()>
-    ensures { OnOk result (string_bytes out.new ≡ string_bytes out.old ++ body_text body.now) }
-{
-    match body {
-        Body::File(contents) => {
-            out.push_str("f:")?;
-            put_hex(out, contents.as_slice())?;
+impl<'a> Print for &'a Body {
+    ghost text = { λ body. body_text body.now };
+
+    #[tactic(auto, unfolding(afs_model::specs::Text::body_text))]
+    fn print<K: Sink>(&self, sink: &mut K) -> Result<(), Failed> {
+        match *self {
+            Body::File(contents) => row!("f:", Hex(contents.as_slice())).print(sink),
         }
     }
-    Ok(())
+}
+
+impl Print for ReadSource {
+    ghost text = { source_text };
+
+    fn print<K: Sink>(&self, sink: &mut K) -> Result<(), Failed> {
+        match self {
+            ReadSource::Cached => "cached".print(sink),
+            ReadSource::Fetched => "fetched".print(sink),
+        }
+    }
 }
 
 #[tactic(auto, unfolding(afs_model::specs::Text::begin_text))]
-fn put_begin(out: &mut String, node: Node, act: &Act) -> Mem<()>
-    ensures { OnOk result (string_bytes out.new ≡ string_bytes out.old ++ begin_text node act.now) }
+fn put_begin<K: Sink>(sink: &mut K, node: Node, act: &Act) -> Result<(), Failed>
+    ensures { Puts (begin_text node act.now) (K.held sink.old) (K.held sink.new) (K.faults sink.old) (K.faults sink.new) result }
 {
-    write!(out, "begin {node} ")?;
-    put_act(out, act)?;
-    out.push_str("\n")?;
-    Ok(())
+    row!("begin ", node, " ", act, "\n").print(sink)
 }
 
 #[tactic(auto, unfolding(afs_model::specs::Text::grant_text))]
-fn put_grant(
-    out: &mut String,
+fn put_grant<K: Sink>(
+    sink: &mut K,
     server: Node,
     client: Node,
     fid: Fid,
     index: u32,
     expiry: u32,
-) -> Mem<()>
-    ensures { OnOk result (string_bytes out.new ≡ string_bytes out.old ++ grant_text server client fid index expiry) }
+) -> Result<(), Failed>
+    ensures { Puts (grant_text server client fid index expiry) (K.held sink.old) (K.held sink.new) (K.faults sink.old) (K.faults sink.new) result }
 {
-    writeln!(out, "grant {server} {client} {fid} {index} {expiry}")
+    row!(
+        "grant ", server, " ", client, " ", fid, " ", index, " ", expiry, "\n"
+    )
+    .print(sink)
 }
 
 #[tactic(auto, unfolding(afs_model::specs::Text::change_text))]
-fn put_change(out: &mut String, server: Node, key: Key, count: u32) -> Mem<()>
-    ensures { OnOk result (string_bytes out.new ≡ string_bytes out.old ++ change_text server key count) }
+fn put_change<K: Sink>(sink: &mut K, server: Node, key: Key, count: u32) -> Result<(), Failed>
+    ensures { Puts (change_text server key count) (K.held sink.old) (K.held sink.new) (K.faults sink.old) (K.faults sink.new) result }
 {
-    writeln!(out, "change {server} {key} {count}")
+    row!("change ", server, " ", key, " ", count, "\n").print(sink)
 }
 
 #[tactic(auto, unfolding(afs_model::specs::Text::version_text))]
-fn put_version(out: &mut String, version: &Version) -> Mem<()>
-    ensures { OnOk result (string_bytes out.new ≡ string_bytes out.old ++ version_text version.now) }
+fn put_version<K: Sink>(sink: &mut K, version: &Version) -> Result<(), Failed>
+    ensures { Puts (version_text version.now) (K.held sink.old) (K.held sink.new) (K.faults sink.old) (K.faults sink.new) result }
 {
-    write!(
-        out,
-        "version {} {} {} ",
-        version.fid, version.index, version.data_version
-    )?;
-    put_body(out, &version.body)?;
-    out.push_str("\n")?;
-    Ok(())
-}
-
-fn source_word(source: ReadSource) -> &'static str
-    ensures { result.now ≡ source_text source }
-{
-    match source {
-        ReadSource::Cached => "cached",
-        ReadSource::Fetched => "fetched",
-    }
+    row!(
+        "version ",
+        version.fid,
+        " ",
+        version.index,
+        " ",
+        version.data_version,
+        " ",
+        &version.body,
+        "\n"
+    )
+    .print(sink)
 }
 
 #[tactic(auto, unfolding(afs_model::specs::Text::read_text))]
-fn put_read(
-    out: &mut String,
+fn put_read<K: Sink>(
+    sink: &mut K,
     client: Node,
     fid: Fid,
     index: u32,
     source: ReadSource,
     body: &Body,
-) -> Mem<()>
-    ensures { OnOk result (string_bytes out.new ≡ string_bytes out.old ++ read_text client fid index source body.now) }
+) -> Result<(), Failed>
+    ensures { Puts (read_text client fid index source body.now) (K.held sink.old) (K.held sink.new) (K.faults sink.old) (K.faults sink.new) result }
 {
-    write!(out, "read {client} {fid} {index} {} ", source_word(source))?;
-    put_body(out, body)?;
-    out.push_str("\n")?;
-    Ok(())
+    row!(
+        "read ", client, " ", fid, " ", index, " ", source, " ", body, "\n"
+    )
+    .print(sink)
 }
 
 #[tactic(auto, unfolding(afs_model::specs::Text::answer_text))]
-fn put_answer(out: &mut String, node: Node, code: Code) -> Mem<()>
-    ensures { OnOk result (string_bytes out.new ≡ string_bytes out.old ++ answer_text node code) }
+fn put_answer<K: Sink>(sink: &mut K, node: Node, code: Code) -> Result<(), Failed>
+    ensures { Puts (answer_text node code) (K.held sink.old) (K.held sink.new) (K.faults sink.old) (K.faults sink.new) result }
 {
-    writeln!(out, "answer {node} {code}")
+    row!("answer ", node, " ", code, "\n").print(sink)
 }
 
-#[tactic(auto, unfolding(afs_model::specs::Text::line_text))]
-fn put_line(out: &mut String, line: &Line) -> Mem<()>
-    ensures { OnOk result (string_bytes out.new ≡ string_bytes out.old ++ line_text line.now) }
-{
-    match line {
-        Line::Begin { node, act } => put_begin(out, *node, act),
-        Line::Given { place } => writeln!(out, "given {place}"),
-        Line::Grant {
-            server,
-            client,
-            fid,
-            index,
-            expiry,
-        } => put_grant(out, *server, *client, *fid, *index, *expiry),
-        Line::Change { server, key, count } => put_change(out, *server, *key, *count),
-        Line::Version { version } => put_version(out, version),
-        Line::Read {
-            client,
-            fid,
-            index,
-            source,
-            body,
-        } => put_read(out, *client, *fid, *index, *source, body),
-        Line::Answer { node, code } => put_answer(out, *node, *code),
-        Line::Void => out.push_str("void\n"),
-    }
-}
+impl Print for Line {
+    ghost text = { line_text };
 
-#[tactic(auto, unfolding(afs_model::specs::Text::lines_text))]
-fn put_lines(out: &mut String, lines: &[Line]) -> Mem<()>
-    ensures { OnOk result (string_bytes out.new ≡ string_bytes out.old ++ lines_text lines.now) }
-{
-    for line in lines {
-        put_line(out, line)?;
+    #[tactic(auto, unfolding(afs_model::specs::Text::line_text))]
+    fn print<K: Sink>(&self, sink: &mut K) -> Result<(), Failed> {
+        match self {
+            Line::Begin { node, act } => put_begin(sink, *node, act),
+            Line::Given { place } => row!("given ", *place, "\n").print(sink),
+            Line::Grant {
+                server,
+                client,
+                fid,
+                index,
+                expiry,
+            } => put_grant(sink, *server, *client, *fid, *index, *expiry),
+            Line::Change { server, key, count } => put_change(sink, *server, *key, *count),
+            Line::Version { version } => put_version(sink, version),
+            Line::Read {
+                client,
+                fid,
+                index,
+                source,
+                body,
+            } => put_read(sink, *client, *fid, *index, *source, body),
+            Line::Answer { node, code } => put_answer(sink, *node, *code),
+            Line::Void => "void\n".print(sink),
+        }
     }
-    Ok(())
 }
 
 // ---- messages
@@ -231,7 +162,7 @@ fn put_lines(out: &mut String, lines: &[Line]) -> Mem<()>
 const HEADER: usize = 32;
 
 /// The code of a reply: its first word behind the header, 0 where there is none.
-#[tactic(auto, unfolding(afs_model::specs::Text::code_at, afs_shape::specs::Reading::signed_at, afs_xdr::specs::Words::word_at))]
+#[tactic(auto, unfolding(afs_model::specs::Telling::code_at, afs_shape::specs::Reading::signed_at, afs_xdr::specs::Words::word_at))]
 fn code_of(bytes: &[u8]) -> Code
     ensures { result.0 ≡ code_at bytes.now }
 {
@@ -245,271 +176,201 @@ fn code_of(bytes: &[u8]) -> Code
     }
 }
 
-#[tactic(auto, unfolding(afs_model::specs::Text::half_text))]
-fn put_half(out: &mut String, head: &Head) -> Mem<()>
-    ensures { OnOk result (string_bytes out.new ≡ string_bytes out.old ++ half_text head.now.half head.now) }
-{
-    match head.half {
-        Half::Call => write!(out, "call {} {}.{}", head.opcode, head.epoch, head.number),
-        Half::Reply => write!(out, "reply {} {}.{}", head.opcode, head.epoch, head.number),
-        Half::Boot => write!(out, "boot {} {}.{}", head.opcode, head.epoch, head.number),
+impl Print for Half {
+    ghost text = { half_word };
+
+    fn print<K: Sink>(&self, sink: &mut K) -> Result<(), Failed> {
+        match self {
+            Half::Call => "call ".print(sink),
+            Half::Reply => "reply ".print(sink),
+            Half::Boot => "boot ".print(sink),
+        }
+    }
+}
+
+impl Print for Head {
+    ghost text = { head_text };
+
+    #[tactic(auto, unfolding(afs_model::specs::Text::head_text))]
+    fn print<K: Sink>(&self, sink: &mut K) -> Result<(), Failed> {
+        row!(
+            self.from,
+            " ",
+            self.to,
+            " ",
+            self.half,
+            self.opcode,
+            " ",
+            self.epoch,
+            ".",
+            self.number
+        )
+        .print(sink)
     }
 }
 
 /// A reply alone has its code.
-#[tactic(auto, unfolding(afs_model::specs::Text::code_text))]
-fn put_code(out: &mut String, half: Half, code: Code) -> Mem<()>
-    ensures { OnOk result (string_bytes out.new ≡ string_bytes out.old ++ code_text half code.0) }
-{
-    match half {
-        Half::Reply => write!(out, " {code}"),
-        Half::Call | Half::Boot => Ok(()),
+#[derive(Drop)]
+struct HalfCode(Half, Code);
+
+impl Print for HalfCode {
+    ghost text = { λ c. code_text c.0 c.1.0 };
+
+    #[tactic(auto, unfolding(afs_model::specs::Text::code_text))]
+    fn print<K: Sink>(&self, sink: &mut K) -> Result<(), Failed> {
+        match self.0 {
+            Half::Reply => row!(" ", self.1).print(sink),
+            Half::Call | Half::Boot => Ok(()),
+        }
+    }
+}
+
+/// The bytes of a message, where they are asked for.
+#[derive(Drop)]
+struct Tail<'a> {
+    wire: bool,
+    bytes: &'a [u8],
+}
+
+impl<'a> Print for Tail<'a> {
+    ghost text = { λ t. tail_text t.wire t.bytes.now };
+
+    #[tactic(auto, unfolding(afs_model::specs::Text::tail_text))]
+    fn print<K: Sink>(&self, sink: &mut K) -> Result<(), Failed> {
+        if self.wire {
+            row!(" ", Hex(self.bytes)).print(sink)
+        } else {
+            Ok(())
+        }
     }
 }
 
 #[tactic(auto, unfolding(afs_model::specs::Text::sent_text))]
-fn put_sent(out: &mut String, place: u64, head: &Head, code: Code) -> Mem<()>
-    ensures { OnOk result (string_bytes out.new ≡ string_bytes out.old ++ sent_text place head.now code.0) }
-{
-    write!(out, "sent {place} {} {} ", head.from, head.to)?;
-    put_half(out, head)?;
-    put_code(out, head.half, code)?;
-    Ok(())
-}
-
-/// The bytes of a message, where they are asked for.
-#[tactic(auto, unfolding(afs_model::specs::Text::tail_text))]
-fn put_tail(out: &mut String, bytes: &[u8], wire: bool) -> Mem<()>
-    ensures { OnOk result (string_bytes out.new ≡ string_bytes out.old ++ tail_text wire bytes.now) }
-{
-    if wire {
-        out.push_str(" ")?;
-        put_hex(out, bytes)?;
-    }
-    Ok(())
-}
-
-#[tactic(auto, unfolding(afs_model::specs::Text::parcel_text))]
-fn put_parcel(out: &mut String, place: u64, parcel: &Parcel, wire: bool) -> Mem<()>
-    ensures { OnOk result (string_bytes out.new ≡ string_bytes out.old ++ parcel_text wire place parcel.now) }
+fn put_parcel<K: Sink>(sink: &mut K, place: u64, parcel: &Parcel, wire: bool) -> Result<(), Failed>
+    ensures { Puts (sent_text wire place parcel.now.head (code_at parcel.now.bytes) parcel.now.bytes) (K.held sink.old) (K.held sink.new) (K.faults sink.old) (K.faults sink.new) result }
 {
     let bytes = parcel.bytes.as_slice();
-    put_sent(out, place, &parcel.head, code_of(bytes))?;
-    put_tail(out, bytes, wire)?;
-    out.push_str("\n")?;
-    Ok(())
+    let code = HalfCode(parcel.head.half, code_of(bytes));
+    row!(
+        "sent ",
+        place,
+        " ",
+        parcel.head,
+        code,
+        Tail { wire, bytes },
+        "\n"
+    )
+    .print(sink)
 }
 
-fn put_parcels(out: &mut String, first_place: u64, parcels: &[Parcel], wire: bool) -> Mem<()>
-    requires { first_place + length parcels.now ≤ 2 ^ 64 }
-    ensures { OnOk result (string_bytes out.new ≡ string_bytes out.old ++ parcels_text wire first_place parcels.now) }
+/// Writes the messages of these parcels, the first of which has this place.
+fn put_parcels<K: Sink>(
+    sink: &mut K,
+    first_place: u64,
+    parcels: &[Parcel],
+    wire: bool,
+) -> Result<(), Failed>
+    requires read { AreRead parcels.now }
+    requires places { first_place + length parcels.now ≤ 2 ^ 64 }
+    ensures { Puts (messages_text wire first_place (messages_of parcels.now)) (K.held sink.old) (K.held sink.new) (K.faults sink.old) (K.faults sink.new) result }
 {
     for (i, parcel) in parcels.iter().enumerate() {
-        put_parcel(out, first_place + i as u64, parcel, wire)?;
+        put_parcel(sink, first_place + i as u64, parcel, wire)?;
     }
     Ok(())
 }
 
 // ---- entries
 
-#[tactic(auto, unfolding(afs_model::specs::Text::step_text))]
-fn put_step(out: &mut String, number: u64, node: Option<Node>) -> Mem<()>
-    ensures { OnOk result (string_bytes out.new ≡ string_bytes out.old ++ step_text number node) }
-{
-    match node {
-        Some(node) => writeln!(out, "entry {number} {node}"),
-        None => writeln!(out, "entry {number} none"),
-    }
+/// The number of an entry, and its node.
+#[derive(Drop)]
+struct Step {
+    number: u64,
+    node: Option<Node>,
 }
 
-#[tactic(auto, unfolding(afs_model::specs::Text::parcelled_entry_text))]
-fn put_entry(out: &mut String, entry: &Entry, number: u64, first_place: u64, wire: bool) -> Mem<()>
-    requires { first_place + length entry.now.parcels ≤ 2 ^ 64 }
-    ensures { OnOk result (string_bytes out.new ≡ string_bytes out.old ++ parcelled_entry_text wire number first_place entry.now) }
-{
-    put_step(out, number, entry.node)?;
-    put_lines(out, entry.lines.as_slice())?;
-    put_parcels(out, first_place, entry.parcels.as_slice(), wire)?;
-    Ok(())
-}
+impl Print for Step {
+    ghost text = { λ s. step_text s.number s.node };
 
-#[tactic(auto, unfolding(afs_model::specs::Text::parcelled_history_text))]
-fn put_history(out: &mut String, history: &[Entry], wire: bool) -> Mem<()>
-    requires { 1 + parcels_sent history.now < 2 ^ 64 }
-    ensures { OnOk result (string_bytes out.new ≡ string_bytes out.old ++ parcelled_history_text wire history.now) }
-{
-    let mut place = 1u64;
-    for (i, entry) in history.iter().enumerate() {
-        put_entry(out, entry, i as u64 + 1, place, wire)?;
-        place += entry.parcels.len() as u64;
-    }
-    Ok(())
-}
-
-// ---- the final part
-
-/// What a set-up line names in the volume's root.
-fn root_name(line: &SetupLine) -> &[u8]
-    ensures { result.now ≡ root_name line.now }
-{
-    match line {
-        SetupLine::File { path, .. } => first_name(path.as_slice()),
-    }
-}
-
-fn first_name(path: &[Octets]) -> &[u8]
-    ensures { result.now ≡ first_name path.now }
-{
-    match path {
-        [name, ..] => name.as_slice(),
-        [] => &[],
-    }
-}
-
-/// The name of the kth set-up line, and its file. A comma stands before all names but the first.
-#[tactic(auto, unfolding(afs_model::specs::Text::named_text))]
-fn put_named(out: &mut String, k: u64, line: &SetupLine) -> Mem<()>
-    requires { k < 2 ^ 63 }
-    ensures { OnOk result (string_bytes out.new ≡ string_bytes out.old ++ named_text k line.now) }
-{
-    put_comma(out, k)?;
-    put_name(out, root_name(line))?;
-    write!(out, "={}.{}", 2 * k, k + 1)?;
-    Ok(())
-}
-
-fn put_comma(out: &mut String, k: u64) -> Mem<()>
-    ensures { OnOk result (string_bytes out.new ≡ string_bytes out.old ++ comma_before k) }
-{
-    if k == 1 { Ok(()) } else { out.push_str(",") }
-}
-
-fn put_names(out: &mut String, lines: &[SetupLine]) -> Mem<()>
-    ensures { OnOk result (string_bytes out.new ≡ string_bytes out.old ++ names_text 1 lines.now) }
-{
-    for (i, line) in lines.iter().enumerate() {
-        put_named(out, i as u64 + 1, line)?;
-    }
-    Ok(())
-}
-
-#[tactic(auto, unfolding(afs_model::specs::Text::volume_line_text))]
-fn put_volume_line(out: &mut String, volume: &VolumeLine) -> Mem<()>
-    ensures { OnOk result (string_bytes out.new ≡ string_bytes out.old ++ volume_line_text volume.now) }
-{
-    write!(out, "volume {} {} ", volume.server, volume.id)?;
-    put_name(out, volume.name.as_slice())?;
-    out.push_str(" 0 0\n")?;
-    Ok(())
-}
-
-#[tactic(auto, unfolding(afs_model::specs::Text::root_text))]
-fn put_root(out: &mut String, volume: &VolumeLine) -> Mem<()>
-    ensures { OnOk result (string_bytes out.new ≡ string_bytes out.old ++ root_text volume.now) }
-{
-    write!(out, "vnode {}.1.1 2 1 1 d:", volume.id)?;
-    put_names(out, volume.lines.as_slice())?;
-    out.push_str("\n")?;
-    Ok(())
-}
-
-#[tactic(auto, unfolding(afs_model::specs::Text::file_text))]
-fn put_file(out: &mut String, file: &StoredFile) -> Mem<()>
-    ensures { OnOk result (string_bytes out.new ≡ string_bytes out.old ++ file_text file.now) }
-{
-    write!(
-        out,
-        "vnode {} 1 {} {} f:",
-        file.fid, file.index, file.data_version
-    )?;
-    put_hex(out, file.contents.as_slice())?;
-    out.push_str("\n")?;
-    Ok(())
-}
-
-fn put_files(out: &mut String, volume: u32, files: &[StoredFile]) -> Mem<()>
-    ensures { OnOk result (string_bytes out.new ≡ string_bytes out.old ++ flat_map (file_text_in volume) files.now) }
-{
-    for file in files {
-        if file.fid.volume == volume {
-            put_file(out, file)?;
+    #[tactic(auto, unfolding(afs_model::specs::Text::step_text))]
+    fn print<K: Sink>(&self, sink: &mut K) -> Result<(), Failed> {
+        match self.node {
+            Some(node) => row!("entry ", self.number, " ", node, "\n").print(sink),
+            None => row!("entry ", self.number, " none\n").print(sink),
         }
     }
-    Ok(())
 }
 
-#[tactic(auto, unfolding(afs_model::specs::Text::volume_text))]
-fn put_volume(out: &mut String, files: &[StoredFile], volume: &VolumeLine) -> Mem<()>
-    ensures { OnOk result (string_bytes out.new ≡ string_bytes out.old ++ volume_text files.now volume.now) }
+/// The number of an entry, its node and its lines.
+#[tactic(auto, unfolding(afs_model::specs::Text::lines_text))]
+fn put_lines<K: Sink>(sink: &mut K, number: u64, entry: &Entry) -> Result<(), Failed>
+    ensures { Puts (step_text number entry.now.node ++ lines_text entry.now.lines) (K.held sink.old) (K.held sink.new) (K.faults sink.old) (K.faults sink.new) result }
 {
-    put_volume_line(out, volume)?;
-    put_root(out, volume)?;
-    put_files(out, volume.id, files)?;
-    Ok(())
+    let step = Step {
+        number,
+        node: entry.node,
+    };
+    row!(step, Each(entry.lines.as_slice())).print(sink)
 }
 
-fn put_volumes(out: &mut String, files: &[StoredFile], volumes: &[VolumeLine]) -> Mem<()>
-    ensures { OnOk result (string_bytes out.new ≡ string_bytes out.old ++ flat_map (volume_text files.now) volumes.now) }
-{
-    for volume in volumes {
-        put_volume(out, files, volume)?;
-    }
-    Ok(())
-}
-
-#[tactic(auto, unfolding(afs_model::specs::Text::final_text))]
-fn put_final(out: &mut String, script: &Script, files: &[StoredFile]) -> Mem<()>
-    ensures { OnOk result (string_bytes out.new ≡ string_bytes out.old ++ final_text script.now files.now) }
-{
-    out.push_str("final\n")?;
-    put_volumes(out, files, script.volumes.as_slice())?;
-    out.push_str("end\n")?;
-    Ok(())
-}
-
-// ---- the whole text
-
-/// The text of an entry of this number, whose first message has this place; with the bytes of each message where `wire`
-/// asks for them.
-pub fn print_entry(
-    alloc: Global,
+/// Writes an entry of this number, which sent these parcels, from this place on; with the bytes of each message where
+/// `wire` asks for them.
+#[tactic(auto, unfolding(afs_model::specs::Text::entry_text))]
+pub fn print_entry<K: Sink>(
+    sink: &mut K,
     entry: &Entry,
+    sent: &[Parcel],
     number: u64,
     first_place: u64,
     wire: bool,
-) -> Mem<Octets>
-    requires { first_place + length entry.now.parcels ≤ 2 ^ 64 }
-    ensures { IfOk result (λ text. text ≡ parcelled_entry_text wire number first_place entry.now) }
+) -> Result<(), Failed>
+    requires read { AreRead sent.now }
+    requires places { first_place + length sent.now ≤ 2 ^ 64 }
+    ensures { Puts (entry_text wire number first_place (record { node = entry.now.node; lines = entry.now.lines; sent = messages_of sent.now })) (K.held sink.old) (K.held sink.new) (K.faults sink.old) (K.faults sink.new) result }
 {
-    let mut out = String::new(alloc);
-    put_entry(&mut out, entry, number, first_place, wire)?;
-    Ok(Octets::from_vec(out.into_bytes()))
+    put_lines(sink, number, entry)?;
+    put_parcels(sink, first_place, sent, wire)
 }
 
-/// The text of what stands at the end: the script's volumes, and the files of their server.
-pub fn print_final(alloc: Global, script: &Script, files: &[StoredFile]) -> Mem<Octets>
-    ensures { IfOk result (λ text. text ≡ final_text script.now files.now) }
+/// Writes the history that these entries tell with these parcels.
+#[tactic(auto, unfolding(afs_model::specs::Text::history_text))]
+fn put_history<K: Sink>(
+    sink: &mut K,
+    parcels: &[Parcel],
+    history: &[Entry],
+    wire: bool,
+) -> Result<(), Failed>
+    requires read { AreRead parcels.now }
+    requires all { sent_by history.now ≡ length parcels.now }
+    requires places { length parcels.now < 2 ^ 63 }
+    ensures { Puts (history_text wire (told parcels.now history.now)) (K.held sink.old) (K.held sink.new) (K.faults sink.old) (K.faults sink.new) result }
 {
-    let mut out = String::new(alloc);
-    put_final(&mut out, script, files)?;
-    Ok(Octets::from_vec(out.into_bytes()))
+    let mut place = 1u64;
+    let mut left = parcels;
+    for (i, entry) in history.iter().enumerate() {
+        let (sent, behind) = left.split_at(entry.sent);
+        print_entry(sink, entry, sent, i as u64 + 1, place, wire)?;
+        place += entry.sent as u64;
+        left = behind;
+    }
+    Ok(())
 }
 
-/// The whole text of a run of the script, whose server holds these files at the end; with the bytes of each message where
-/// `wire` asks for them.
-#[tactic(auto, unfolding(afs_model::specs::Text::parcelled_text))]
-pub fn print_run(
-    alloc: Global,
+/// Writes the whole text of a run of the script: the history that these entries tell with these parcels, and these files
+/// of the server at the end; with the bytes of each message where `wire` asks for them. It takes no memory.
+pub fn print_run<K: Sink>(
+    sink: &mut K,
     script: &Script,
+    parcels: &[Parcel],
     history: &[Entry],
     files: &[StoredFile],
     wire: bool,
-) -> Mem<Octets>
-    requires { 1 + parcels_sent history.now < 2 ^ 64 }
-    ensures { IfOk result (λ text. text ≡ parcelled_text wire script.now history.now files.now) }
+) -> Result<(), Failed>
+    requires read { AreRead parcels.now }
+    requires all { sent_by history.now ≡ length parcels.now }
+    requires places { length parcels.now < 2 ^ 63 }
+    ensures { Puts (history_text wire (told parcels.now history.now) ++ final_text script.now files.now) (K.held sink.old) (K.held sink.new) (K.faults sink.old) (K.faults sink.new) result }
 {
-    let mut out = String::new(alloc);
-    put_history(&mut out, history, wire)?;
-    put_final(&mut out, script, files)?;
-    Ok(Octets::from_vec(out.into_bytes()))
+    put_history(sink, parcels, history, wire)?;
+    put_final(sink, script, files)
 }

@@ -1,5 +1,3 @@
 pub mod Forms
-pub mod Memory
-pub mod Outside
 pub mod Statuses
 pub mod Top

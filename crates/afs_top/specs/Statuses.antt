@@ -1,6 +1,8 @@
 -- What a status is to the system and to a reader.
-use Rattle.std.specs.Prelude.{ℕ, List, ◌++◌, codes, [], Option, Some, None}
+use Rattle.std.specs.Prelude.{ℕ, List, ◌++◌, codes, [], Option, Some, None, Result}
 use Rattle.std.specs.Fmt.{decimal}
+use Rattle.afs_outside.specs.Outside.{Puts}
+use Rattle.afs_outside.specs.declared.outside.Failed.{Failed}
 use Rattle.afs_num.specs.declared.scripts.Reason.{Reason}
 use Rattle.afs_num.specs.declared.scripts.Reason.TheVariants as reasons
 use Rattle.afs_top.specs.declared.statuses.Status.{Status}
@@ -27,13 +29,17 @@ reason_word reasons.Limit = codes "Limit"
 reason_word reasons.Missing = codes "Missing"
 
 -- the line on standard error; there is none where all is done
-abbrev pub status_text : Status → List ℕ
-status_text statuses.Done = []
-status_text statuses.Usage = codes "usage: afscell replay [--wire]"
-status_text (statuses.Script line reason) = codes "script: line " ++ (decimal line ++ (codes ": " ++ reason_word reason))
-status_text statuses.ReadFault = codes "read fault"
-status_text statuses.WriteFault = codes "write fault"
-status_text statuses.OutOfMemory = codes "out of memory"
+abbrev pub status_line : Status → List ℕ
+status_line statuses.Done = []
+status_line statuses.Usage = codes "usage: afscell replay [--wire]\n"
+status_line (statuses.Script line reason) = codes "script: line " ++ (decimal line ++ (codes ": " ++ (reason_word reason ++ codes "\n")))
+status_line statuses.ReadFault = codes "read fault\n"
+status_line statuses.WriteFault = codes "write fault\n"
+status_line statuses.OutOfMemory = codes "out of memory\n"
+
+-- the line of a status was written, or where the sink failed, a beginning of it
+abbrev pub Shows : Status → Option (List ℕ) → Option (List ℕ) → ℕ → ℕ → Type 0
+Shows status old new before after = (taken : Result (Unit {0}) Failed) × Puts (status_line status) old new before after taken
 
 -- where the source told what it had, a script is refused by a line and a reason of that input
 abbrev pub Refuses : (ℕ → Reason → List ℕ → Type 0) → Status → Option (List ℕ) → Type 0

@@ -1,9 +1,12 @@
 -- What the program promises: what it writes is the text of a legal history of the script that it read.
-use Rattle.std.specs.Prelude.{◌≡◌, ℕ, List, ◌++◌, Bool, Result, Ok, Err}
+use Rattle.std.specs.Prelude.{◌≡◌, ◌<◌, ◌^◌, ℕ, List, ◌++◌, length, Bool, Result, Ok, Err}
 use Rattle.afs_num.specs.declared.scripts.Reason.{Reason}
 use Rattle.afs_num.specs.declared.scripts.Script.{Script}
-use Rattle.afs_model.specs.Runs.{Entry, Cell, RunsTo}
-use Rattle.afs_model.specs.Acts.{Acts}
+use Rattle.afs_model.specs.Runs.{Entry, Cell, RunsTo, start}
+use Rattle.afs_model.specs.Acts.{Acts, events_of}
+use Rattle.afs_model.specs.Playing.{entries_of, cell_after, all_acts}
+use Rattle.afs_model.specs.Telling.{AreRead, told, sent_by}
+use Rattle.afs_world.specs.Worlds.{WorldState}
 use Rattle.afs_model.specs.Legal.{Legal}
 use Rattle.afs_model.specs.Script.{script_of}
 use Rattle.afs_model.specs.Text as texts
@@ -22,7 +25,7 @@ pub record IsTextOf (script : Script) (wire : Bool) (text : List ℕ) : Type 0 w
   pub run : RunsTo history script end
   pub acts : Acts history script
   pub legal : Legal history script
-  pub told : text ≡ texts.text wire script history end
+  pub text_is : text ≡ texts.text wire script history end
 
 -- the input is a script, and the text is that of a history of it
 pub record IsReplay (wire : Bool) (input text : List ℕ) : Type 0 where
@@ -61,3 +64,17 @@ IsLongRefusal front refusals.OutOfMemory = Unit {0}
 abbrev pub refusal_status : Refusal → Status
 refusal_status (refusals.Script line reason) = statuses.Script line reason
 refusal_status refusals.OutOfMemory = statuses.OutOfMemory
+
+-- a replay ends in its text, a refusal of the script, a fault of the sink or want of memory
+abbrev pub IsReplayStatus : Status → Type 0
+IsReplayStatus statuses.Usage = ⊥
+IsReplayStatus statuses.ReadFault = ⊥
+IsReplayStatus status = Unit {0}
+
+-- the world told a history of this script, and holds the files at its end
+pub record IsPlayed (s : Script) (w : WorldState) : Type 0 where
+  pub history : told w.wire w.history ≡ entries_of (start s) (all_acts s) (events_of s.schedule)
+  pub files : w.server.state.files ≡ (cell_after (start s) (all_acts s) (events_of s.schedule)).server.files
+  pub read : AreRead w.wire
+  pub sent : sent_by w.history ≡ length w.wire
+  pub places : length w.wire < 2 ^ 63

@@ -1,21 +1,20 @@
 //! The call that does all that the program does.
 
-ghost use Rattle.std.specs.Prelude.{◌≡◌, ◌⊎◌, ◌+◌, ◌<◌, ◌↔◌, length, map, string_bytes, IfOk};
+ghost use Rattle.std.specs.Prelude.{◌≡◌, ◌⊎◌, ◌+◌, ◌<◌, ◌↔◌, length, map, string_bytes, IfOk, Some};
 ghost use Rattle.std.specs.Io.KnownBytes.{IsAtEnd};
 ghost use Rattle.afs_top.specs.Forms.{HaveForm};
-ghost use Rattle.afs_top.specs.Outside.{Rose, TakesAtMost, Gives, Prints, PrintsFront};
+ghost use Rattle.afs_outside.specs.Outside.{Rose, TakesAtMost, Gives, PutsSome, PrintsSome, PrintsSomeFront, Prints, PrintsFront};
 ghost use Rattle.afs_top.specs.Statuses.{Refuses};
-ghost use Rattle.afs_top.specs.Top.{IsTextOf, IsReplay, IsAnswer, IsScript, IsBad, IsScriptStatus, IsLongRefusal, RefusedBy, refusal_status};
+ghost use Rattle.afs_top.specs.Top.{IsTextOf, IsReplay, IsAnswer, IsScript, IsBad, IsScriptStatus, IsReplayStatus, IsPlayed, IsLongRefusal, RefusedBy, refusal_status};
 ghost use Rattle.afs_model.specs.Script.{script_of};
 
-use crate::outside::{ReadError, Sink, Source, read_all, write_all};
 use crate::statuses::{Form, Status, form_of};
 use afs_num::scripts::{Reason, Script};
-use afs_num::sequences::Octets;
+use afs_outside::outside::{Failed, ReadError, Sink, Source, pass_on, read_all};
 use afs_script::printing::print_run;
 use afs_script::{ScriptFault, read_script};
-use afs_world::world::play;
-use std::alloc::{AllocError, Global};
+use afs_world::world::{World, play};
+use std::alloc::Global;
 
 /// Why an input can't be played: it is no script, by its first bad line, or memory was wanting.
 #[derive(Drop)]
@@ -36,31 +35,43 @@ fn script(alloc: Global, input: &[u8]) -> Result<Script, Refusal>
     }
 }
 
-/// The text of a history of this script, with the bytes of each message where `wire` asks for them.
-fn tell(alloc: Global, input: &[u8], script: &Script, wire: bool) -> Result<Octets, AllocError>
-    requires { script_of input.now ≡ Ok script.now }
-    ensures { IfOk result (IsTextOf script.now wire) }
+/// Writes the text of this world's history, which is one of the input's script, with the bytes of each message where
+/// `wire` asks for them, and passes it on.
+fn tell<K: Sink>(
+    sink: &mut K,
+    input: &[u8],
+    script: &Script,
+    world: &World<'_>,
+    wire: bool,
+) -> Result<(), Failed>
+    requires read { script_of input.now ≡ Ok script.now }
+    requires played { IsPlayed script.now world.now }
+    ensures { PutsSome (IsReplay wire input.now) (K.held sink.old) (K.held sink.new) (K.faults sink.old) (K.faults sink.new) result }
 {
-    let world = play(alloc, script)?;
-    let text = print_run(
-        alloc,
-        script,
-        world.history.as_slice(),
-        world.server.state.files.as_slice(),
-        wire,
-    )?;
-    Ok(text)
+    let (parcels, history) = (world.parcels(), world.history());
+    print_run(sink, script, parcels, history, world.files(), wire)?;
+    pass_on(sink)
 }
 
-/// The text of a history of the input's script, with the bytes of each message where `wire` asks for them.
-fn replay(alloc: Global, input: &[u8], wire: bool) -> Result<Octets, Refusal>
-    ensures text { IfOk result (IsReplay wire input.now) }
-    ensures bad { RefusedBy input.now result }
+/// Plays the input's script and writes its text, with the bytes of each message where `wire` asks for them.
+fn replay<K: Sink>(alloc: Global, input: &[u8], wire: bool, sink: &mut K) -> Status
+    ensures done { result ≡ Status.Done → PrintsSome (IsReplay wire input.now) (K.held sink.old) (K.held sink.new) }
+    ensures front { result ≡ Status.WriteFault → PrintsSomeFront (IsReplay wire input.now) (K.held sink.old) (K.held sink.new) }
+    ensures cause { result ≡ Status.WriteFault → Rose (K.faults sink.old) (K.faults sink.new) }
+    ensures script { Refuses IsBad result (Some input.now) }
+    ensures quiet { IsScriptStatus result ⊎ (result ≡ Status.OutOfMemory) → sink.new ≡ sink.old }
+    ensures ends { IsReplayStatus result }
 {
-    let script = script(alloc, input)?;
-    match tell(alloc, input, &script, wire) {
-        Ok(text) => Ok(text),
-        Err(_) => Err(Refusal::OutOfMemory),
+    let script = match script(alloc, input) {
+        Ok(script) => script,
+        Err(refusal) => return status_of(refusal),
+    };
+    let Ok(world) = play(alloc, &script) else {
+        return Status::OutOfMemory;
+    };
+    match tell(sink, input, &script, &world, wire) {
+        Ok(()) => Status::Done,
+        Err(Failed) => Status::WriteFault,
     }
 }
 
@@ -77,8 +88,8 @@ fn refusal_of_long(alloc: Global, input: &[u8]) -> Refusal
 }
 
 /// Plays the script that the source holds and writes its text to the sink. The words are those behind the program's
-/// name: `replay`, with `--wire` behind it where the bytes of each message are asked for. The whole text is made before
-/// its first byte is written.
+/// name: `replay`, with `--wire` behind it where the bytes of each message are asked for. The script is played to its end
+/// before the first byte is written, and writing takes no memory.
 pub fn cell_main<S: Source, K: Sink>(
     alloc: Global,
     words: &[String],
@@ -119,14 +130,7 @@ pub fn cell_main<S: Source, K: Sink>(
         )),
         Err(ReadError::OutOfMemory) => return Status::OutOfMemory,
     };
-    let text = match replay(alloc, input.as_slice(), wire) {
-        Ok(text) => text,
-        Err(refusal) => return status_of(refusal),
-    };
-    match write_all(sink, text.as_slice()) {
-        Ok(()) => Status::Done,
-        Err(_) => Status::WriteFault,
-    }
+    replay(alloc, input.as_slice(), wire, sink)
 }
 
 /// The status of a refusal.

@@ -2,32 +2,28 @@
 #![tactic(auto)]
 
 pub mod cell;
-pub mod memory;
-pub mod outside;
+pub mod program;
 pub mod statuses;
 
-use cell::cell_main;
-use outside::{HostSink, HostSource};
-use statuses::Status;
+use afs_outside::outside::{HostSink, HostSource};
+use program::run;
+use std::alloc::Global;
+use std::io::{BufWriter, Stdout};
 use std::process::ExitCode;
 use std::{env, io};
 
-fn main(rt: HostRuntime) -> ExitCode {
-    let status = run(&rt);
-    if !matches!(&status, Status::Done) {
-        let _told = eprintln!(rt; "{status}");
-    }
-    ExitCode::from(status.number())
-}
-
 /// The program over the standard streams. Words that are no text are no form of it.
-fn run(rt: &HostRuntime) -> Status {
-    let Ok(words) = words(rt) else {
-        return Status::Usage;
+fn main(rt: HostRuntime) -> ExitCode {
+    let alloc = rt.alloc();
+    let words = match words(&rt) {
+        Ok(words) => words,
+        Err(_) => Vec::new(alloc),
     };
     let mut source = HostSource::new(rt.reader());
-    let mut sink = HostSink::new(io::writer(rt));
-    cell_main(rt.alloc(), words.as_slice(), &mut source, &mut sink)
+    let mut sink = HostSink::new(buffered(alloc, rt.stdout()));
+    let mut errors = HostSink::new(rt.stderr());
+    let ended = run(alloc, words.as_slice(), &mut source, &mut sink, &mut errors);
+    ExitCode::from(ended.number)
 }
 
 /// The words behind the program's name.
@@ -37,6 +33,17 @@ fn words(rt: &HostRuntime) -> io::Result<Vec<String>> {
         words.push(word)?;
     }
     Ok(words)
+}
+
+/// The stream behind a buffer, or without one where there is no memory for it.
+fn buffered(alloc: Global, stream: Stdout) -> BufWriter<Stdout> {
+    if let Ok(writer) = BufWriter::new(alloc, stream) {
+        return writer;
+    }
+    let Ok(writer) = BufWriter::with_capacity(alloc, 0, stream) else {
+        unreachable!()
+    };
+    writer
 }
 
 #[cfg(test)]

@@ -2,10 +2,12 @@
 
 ghost use Rattle.std.specs.Prelude.{◌≡◌, ◌↔◌, codes, map, string_bytes, IfSome, IsSome, IsTrue};
 ghost use Rattle.afs_top.specs.Forms.{Asks, HaveForm};
-ghost use Rattle.afs_top.specs.Statuses.{reason_word};
+ghost use Rattle.afs_top.specs.Statuses.{reason_word, status_line};
+ghost use Rattle.afs_outside.specs.Outside.{Puts};
 
 use afs_num::scripts::Reason;
-use std::fmt;
+use afs_outside::outside::{Failed, Sink};
+use afs_script::pieces::Print;
 
 /// How the program ended. A script is refused by the number of its first bad line, from 1, and the reason there.
 #[derive(Clone, Copy, Debug, PartialEq, Eq)]
@@ -53,22 +55,20 @@ fn reason_word(reason: Reason) -> &'static str
     }
 }
 
-impl fmt::Display for Status {
-    ghost use Rattle.std.specs.Prelude.{Some};
-    ghost use Rattle.afs_top.specs.Statuses.{status_text};
+/// Its line on standard error. There is none where all is done.
+impl Print for Status {
+    ghost text = { status_line };
 
-    ghost output = { λ s. Some (status_text s) };
-
-    fn fmt<W: fmt::Write>(&self, f: &mut fmt::Formatter<W>) -> fmt::Result {
+    fn print<K: Sink>(&self, sink: &mut K) -> Result<(), Failed> {
         match *self {
             Status::Done => Ok(()),
-            Status::Usage => write!(f, "usage: afscell replay [--wire]"),
+            Status::Usage => "usage: afscell replay [--wire]\n".print(sink),
             Status::Script(line, reason) => {
-                write!(f, "script: line {line}: {}", reason_word(reason))
+                ("script: line ", (line, (": ", (reason_word(reason), "\n")))).print(sink)
             }
-            Status::ReadFault => write!(f, "read fault"),
-            Status::WriteFault => write!(f, "write fault"),
-            Status::OutOfMemory => write!(f, "out of memory"),
+            Status::ReadFault => "read fault\n".print(sink),
+            Status::WriteFault => "write fault\n".print(sink),
+            Status::OutOfMemory => "out of memory\n".print(sink),
         }
     }
 }
@@ -109,16 +109,16 @@ pub fn form_of(words: &[String]) -> Option<Form>
 #[cfg(test)]
 mod tests {
     use super::*;
+    use afs_outside::memory::MemSink;
     use std::test::Fail;
 
     // the rows show the others
     #[test]
     fn want_of_memory_has_a_number_and_a_line(rt: HostRuntime) -> Result<(), Fail> {
+        let mut sink = MemSink::new(rt.alloc(), &[]);
         assert_eq!(rt; Status::OutOfMemory.number(), 7);
-        assert_eq!(rt;
-            Status::OutOfMemory.to_string(rt.alloc())?.as_str(),
-            "out of memory"
-        );
+        assert_eq!(rt; Status::OutOfMemory.print(&mut sink), Ok(()));
+        assert_eq!(rt; sink.as_slice(), b"out of memory\n".as_slice());
         Ok(())
     }
 }

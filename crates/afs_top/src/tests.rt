@@ -1,8 +1,8 @@
 //! What no row of the program shows: a sink that takes a beginning.
 
 use crate::cell::cell_main;
-use crate::memory::{MemSink, MemSource};
 use crate::statuses::Status;
+use afs_outside::memory::{MemSink, MemSource};
 use std::test::Fail;
 
 const OPEN_CLOSE: &[u8] =
@@ -13,7 +13,7 @@ fn a_sink_that_is_full_holds_a_beginning(rt: HostRuntime) -> Result<(), Fail> {
     let mut words = Vec::new(rt.alloc());
     words.push(String::from_str(rt.alloc(), "replay")?)?;
     let mut source = MemSource::new(OPEN_CLOSE, &[]);
-    let mut sink = MemSink::with_room(rt.alloc(), 10, &[]);
+    let mut sink = MemSink::with_room(rt.alloc(), 10, &[])?;
     assert_eq!(rt;
         cell_main(rt.alloc(), words.as_slice(), &mut source, &mut sink),
         Status::WriteFault

@@ -1,9 +1,13 @@
-use Rattle.std.proofs.Common.{◌≡◌, ◌+◌, ◌<◌, ◌^◌, ◌++◌, drop, string_bytes}
-use Rattle.afs_model.specs.Text.{parcelled_entries_text, parcels_sent}
+use Rattle.std.proofs.Common.{◌≡◌, ◌+◌, ◌<◌, ◌^◌, drop, length}
+use Rattle.afs_model.specs.Text.{entries_text}
+use Rattle.afs_model.specs.Telling.{AreRead, told, sent_by}
+use Rattle.afs_outside.proofs.Puts.{Completes}
 use Rattle.afs_script.proofs.printing.put_history.Given as goal
 
 abbrev pub invariant-loop-i : goal.invariant-loop-i
-invariant-loop-i l = record {
-  line_by_word : string_bytes l.out ++ parcelled_entries_text l.wire (l.i + 1) l.place (drop l.i l.history) ≡ string_bytes l.fn.out ++ parcelled_entries_text l.wire 1 1 l.history;
-  room : l.place + parcels_sent (drop l.i l.history) < 2 ^ 64;
+invariant-loop-i g l = record {
+  left : Completes (entries_text l.wire (l.i + 1) l.place (told l.left (drop l.i l.history))) (entries_text l.wire 1 1 (told l.parcels l.history)) (g.K.Sink.held l.fn.sink) (g.K.Sink.held l.sink) (g.K.Sink.faults l.fn.sink) (g.K.Sink.faults l.sink);
+  read : AreRead l.left;
+  all : sent_by (drop l.i l.history) ≡ length l.left;
+  places : l.place + length l.left < 2 ^ 63 + 1;
 }

@@ -1,19 +1,15 @@
-use Rattle.std.proofs.Common.{List, ap, ◌∙◌}
-use Rattle.afs_num.specs.declared.histories.Entry as parcelled
-use Rattle.afs_num.specs.declared.states.StoredFile.{StoredFile}
-use Rattle.afs_model.specs.Text.{parcelled_text}
-use Rattle.afs_model.proofs.ScriptForm.{script_has_form}
-use Rattle.afs_top.proofs.Told.{told}
+-- What was written is the text of a legal history of the script, or a beginning of it.
+use Rattle.std.proofs.Common.{ℕ, List, ◌++◌}
+use Rattle.afs_outside.proofs.Puts.{puts_passed, puts_fail}
+use Rattle.afs_top.proofs.Told.{text_of_run}
 use Rattle.afs_top.proofs.cell.tell.Goals as goal
 
-pub play-requires : goal.play-requires
-play-requires c = script_has_form c.args.input.now c.args.script.now c.requires
+pub returns-in_err-print_run : goal.returns-in_err-print_run
+returns-in_err-print_run g c =
+    let replay = text_of_run c.args.wire c.args.input.now c.args.script.now _ _ c.requires.read (rw (c.parcels-parcels.ensures, c.history-history.ensures) c.requires.played.history) (rw (c.files.ensures) c.requires.played.files) in
+    (_, record { script = c.args.script.now; read = c.requires.read; text_of = replay }, puts_fail _ _ _ _ _ _ _ c.from_residual.ensures.0 c.in_err-print_run.ensures)
 
 pub returns : goal.returns
-returns c =
-    let world = c.in_ok-world.world in
-    let script = c.args.script.now in
-    told c.args.wire c.args.input.now script world.history world.server.state.files c.in_ok-text.text c.requires c.in_ok-world.ensures.history c.in_ok-world.ensures.files
-    (c.in_ok-text.ensures
-    ∙ ap (λ (es : List parcelled.Entry). parcelled_text c.args.wire script es c.as_slice-2.result.now) c.as_slice.ensures
-    ∙ ap (λ (fs : List StoredFile). parcelled_text c.args.wire script world.history fs) c.as_slice-2.ensures)
+returns g c =
+    let replay = text_of_run c.args.wire c.args.input.now c.args.script.now _ _ c.requires.read (rw (c.parcels-parcels.ensures, c.history-history.ensures) c.requires.played.history) (rw (c.files.ensures) c.requires.played.files) in
+    (_, record { script = c.args.script.now; read = c.requires.read; text_of = replay }, puts_passed _ _ _ _ _ _ _ _ _ c.in_ok-print_run.ensures c.pass_on.ensures)

@@ -1,0 +1,126 @@
+//! What texts are made of, and how it is written to a sink.
+
+ghost use Rattle.std.specs.Prelude.{◌≡◌, ◌<◌, ◌≤◌, ◌++◌, List, ℕ, true, false, length};
+ghost use Rattle.std.specs.List.{flat_map};
+ghost use Rattle.std.specs.Fmt.{decimal, signed_decimal};
+ghost use Rattle.afs_num.specs.Texts.{node_text, fid_text, key_text};
+ghost use Rattle.afs_outside.specs.Outside.{Puts};
+
+use afs_num::types::{Code, Fid, Key, Node};
+use afs_outside::outside::{Failed, Sink, put_bytes};
+use itoa::Buffer;
+
+/// What has a text.
+pub trait Print {
+    /// Its text.
+    ghost text: { Self → List ℕ };
+
+    /// Writes its text.
+    fn print<K: Sink>(&self, sink: &mut K) -> Result<(), Failed>
+        ensures { Puts (text self.now) (K.held sink.old) (K.held sink.new) (K.faults sink.old) (K.faults sink.new) result };
+}
+
+/// Writes the texts of these items, one behind another.
+fn print_all<T: Print, K: Sink>(sink: &mut K, items: &[T]) -> Result<(), Failed>
+    ensures { Puts (flat_map T.text items.now) (K.held sink.old) (K.held sink.new) (K.faults sink.old) (K.faults sink.new) result }
+{
+    for item in items {
+        item.print(sink)?;
+    }
+    Ok(())
+}
+
+/// One behind the other.
+impl<A: Print, B: Print> Print for (A, B) {
+    ghost text = { λ p. A.text p.0 ++ B.text p.1 };
+
+    fn print<K: Sink>(&self, sink: &mut K) -> Result<(), Failed> {
+        self.0.print(sink)?;
+        self.1.print(sink)
+    }
+}
+
+/// Each of these items, one behind another.
+#[derive(Drop)]
+pub struct Each<'a, T>(pub &'a [T]);
+
+impl<'a, T: Print> Print for Each<'a, T> {
+    ghost text = { λ each. flat_map T.text each.0.now };
+
+    fn print<K: Sink>(&self, sink: &mut K) -> Result<(), Failed> {
+        print_all(sink, self.0)
+    }
+}
+
+impl<'a> Print for &'a str {
+    ghost text = { λ s. s.now };
+
+    fn print<K: Sink>(&self, sink: &mut K) -> Result<(), Failed> {
+        put_bytes(sink, self.as_bytes())
+    }
+}
+
+impl Print for u64 {
+    ghost text = { decimal };
+
+    fn print<K: Sink>(&self, sink: &mut K) -> Result<(), Failed> {
+        let mut buffer = Buffer::new();
+        put_bytes(sink, buffer.format(*self).as_bytes())
+    }
+}
+
+impl Print for u32 {
+    ghost text = { decimal };
+
+    fn print<K: Sink>(&self, sink: &mut K) -> Result<(), Failed> {
+        let mut buffer = Buffer::new();
+        put_bytes(sink, buffer.format(*self).as_bytes())
+    }
+}
+
+impl Print for u8 {
+    ghost text = { decimal };
+
+    fn print<K: Sink>(&self, sink: &mut K) -> Result<(), Failed> {
+        let mut buffer = Buffer::new();
+        put_bytes(sink, buffer.format(*self).as_bytes())
+    }
+}
+
+impl Print for Code {
+    ghost text = { λ c. signed_decimal c.0 };
+
+    fn print<K: Sink>(&self, sink: &mut K) -> Result<(), Failed> {
+        let mut buffer = Buffer::new();
+        put_bytes(sink, buffer.format(self.0).as_bytes())
+    }
+}
+
+impl Print for Node {
+    ghost text = { node_text };
+
+    fn print<K: Sink>(&self, sink: &mut K) -> Result<(), Failed> {
+        match *self {
+            Node::Loc => "loc".print(sink),
+            Node::Server(i) => row!("s", i).print(sink),
+            Node::Client(i) => row!("c", i).print(sink),
+            Node::Admin(i) => row!("a", i).print(sink),
+        }
+    }
+}
+
+impl Print for Fid {
+    ghost text = { fid_text };
+
+    fn print<K: Sink>(&self, sink: &mut K) -> Result<(), Failed> {
+        row!(self.volume, ".", self.vnode, ".", self.unique).print(sink)
+    }
+}
+
+impl Print for Key {
+    ghost text = { key_text };
+
+    fn print<K: Sink>(&self, sink: &mut K) -> Result<(), Failed> {
+        row!(self.node, ".", self.epoch, ".", self.number).print(sink)
+    }
+}
