@@ -3,9 +3,10 @@
 ghost use Rattle.std.specs.Prelude.{IfOk};
 ghost use Rattle.afs_world.specs.Serving.{IsWithin, count_limit};
 
+use crate::giving::Moment;
 use crate::server::FileServer;
 use afs_num::sequences::{Octets, Sequence};
-use afs_num::states::{ServerState, StoredFile};
+use afs_num::states::StoredFile;
 use afs_num::types::{Fid, Mem, Node};
 use std::alloc::Global;
 use std::test::Fail;
@@ -44,20 +45,13 @@ fn server(alloc: Global) -> Mem<FileServer>
         server_time: 0,
         contents: Octets::from_slice(alloc, b"abc")?,
     })?;
-    Ok(FileServer {
-        node: Node::Server(1),
-        state: ServerState {
-            boot: 1,
-            files,
-            seats: Sequence::new(alloc),
-        },
-    })
+    Ok(FileServer::new(alloc, Node::Server(1), 1, files))
 }
 
 /// What a fresh server sends where it is given these bytes, one message after another.
 fn answer(alloc: Global, bytes: &[u8]) -> Mem<Vec<u8>> {
     let mut server = server(alloc)?;
-    let outs = server.handle(alloc, 1, 0, bytes)?;
+    let outs = server.handle(alloc, Moment { place: 1, now: 0 }, bytes)?;
     let mut sent = Vec::new(alloc);
     for parcel in outs.parcels.as_slice() {
         sent.extend_from_slice(parcel.bytes.as_slice())?;
