@@ -1,20 +1,42 @@
 -- The header of what is read in bytes.
-use Rattle.std.proofs.Common.{◌≡◌, ℕ, List, Result, Ok, Err, refl, sym, ap, ◌∙◌}
+use Rattle.std.proofs.Common.{◌≡◌, ℕ, ℤ, List, [], Option, Result, Ok, Err, refl, sym, ap, ◌∙◌}
 use Rattle.afs_num.specs.declared.types.Half.{Half}
 use Rattle.afs_num.specs.declared.types.Half.TheVariants as halves
 use Rattle.afs_num.specs.declared.types.Head.{Head}
+use Rattle.afs_num.specs.declared.calls.FsCall.{FsCall}
+use Rattle.afs_num.specs.declared.calls.FsReply.{FsReply}
 use Rattle.afs_num.specs.declared.messages.Message.{Message}
 use Rattle.afs_num.specs.declared.messages.Received.TheVariants.{Nothing, Whole}
 use Rattle.afs_xdr.specs.declared.faults.XdrFault.{XdrFault}
-use Rattle.afs_model.specs.FsRows.{first_of}
+use Rattle.afs_shape.specs.declared.faults.ShapeFault.{ShapeFault}
+use Rattle.afs_shape.specs.declared.faults.ShapeFault.TheVariants as faults
+use Rattle.afs_shape.specs.declared.kinds.Field.{Field}
+use Rattle.afs_shape.specs.Reading.{fields_to_end_at}
+use Rattle.afs_model.specs.FsRows.{fs_calls, fs_replies}
+use Rattle.afs_model.specs.Rpc.{asked_at, replied_at, first_of}
 use Rattle.afs_model.specs.Heads.{head_at}
-use Rattle.afs_model.specs.Messages.{received, read_body, read_behind_head, asked_at, replied_at, notice_at}
-use Rattle.afs_model.proofs.Spellings.{found_call_is, found_answer_is}
+use Rattle.afs_model.specs.Messages.{received, read_body, read_behind_head, received_call, received_reply, received_notice}
+use Rattle.afs_model.proofs.Spellings.{whole_of}
+
+call_head : (head : Head) (read : Result (List ℕ × FsCall) ShapeFault) (m : Message) → received_call head read ≡ Whole m → head ≡ m.head
+call_head head (Ok c) m e = ap (λ (x : Message). x.head) (whole_of _ m e)
+call_head head (Err (faults.NoRow n)) m e = absurd cc
+call_head head (Err (faults.Head f)) m e = absurd cc
+call_head head (Err (faults.Field i f)) m e = absurd cc
+call_head head (Err faults.OutOfMemory) m e = absurd cc
+
+reply_head : (head : Head) (read : Result (ℤ × Option FsReply) ShapeFault) (m : Message) → received_reply head read ≡ Whole m → head ≡ m.head
+reply_head head (Ok r) m e = ap (λ (x : Message). x.head) (whole_of _ m e)
+reply_head head (Err f) m e = absurd cc
+
+notice_head : (head : Head) (read : Result (List Field) ShapeFault) (m : Message) → received_notice head read ≡ Whole m → head ≡ m.head
+notice_head head (Ok fs) m e = ap (λ (x : Message). x.head) (whole_of _ m e)
+notice_head head (Err f) m e = absurd cc
 
 body_head : (head : Head) (half : Half) (bytes : List ℕ) (m : Message) → read_body head half bytes ≡ Whole m → head ≡ m.head
-body_head head halves.Call bytes m e = ap (λ (x : Message). x.head) (found_call_is head (asked_at head.opcode bytes) m e).is
-body_head head halves.Reply bytes m e = ap (λ (x : Message). x.head) (found_answer_is head (replied_at head.opcode bytes) m e).is
-body_head head halves.Boot bytes m e = ap (λ (x : Message). x.head) (found_answer_is head (notice_at bytes) m e).is
+body_head head halves.Call bytes m e = call_head head (asked_at fs_calls head.opcode bytes) m e
+body_head head halves.Reply bytes m e = reply_head head (replied_at fs_replies head.opcode bytes) m e
+body_head head halves.Boot bytes m e = notice_head head (fields_to_end_at [] bytes) m e
 
 first_is : (h : Head × List ℕ) (head : Head) → ◌≡◌ {A = Result Head XdrFault} (first_of {A = Head} {E = XdrFault} (Ok h)) (Ok head) → h.0 ≡ head
 first_is h head e = cc
