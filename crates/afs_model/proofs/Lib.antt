@@ -32,3 +32,5 @@ pub mod FsLaws
 pub mod FsMade
 pub mod FsMessages
 pub mod Calls
+pub mod Edits
+pub mod Operated

@@ -28,3 +28,11 @@ pub mod Disk
 pub mod Journal
 pub mod Calls
 pub mod CallLaws
+pub mod AccessLists
+pub mod Directories
+pub mod Tables
+pub mod VnodeImage
+pub mod Volumes
+pub mod Operations
+pub mod Replies
+pub mod Soundness

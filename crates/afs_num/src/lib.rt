@@ -1,8 +1,10 @@
 //! The base types of the cell: what its nodes, calls, histories and scripts are made of.
 #![tactic(auto)]
 
+pub mod acls;
 pub mod calls;
 pub mod devices;
+pub mod directories;
 pub mod faults;
 pub mod grammar;
 pub mod histories;
@@ -13,3 +15,5 @@ pub mod sequences;
 pub mod states;
 pub mod texts;
 pub mod types;
+pub mod vnodes;
+pub mod volumes;

@@ -2,7 +2,7 @@
 
 ghost use Rattle.std.specs.Prelude.{◌≡◌, IfOk};
 
-use crate::sequences::{Names, Octets, Sequence};
+use crate::sequences::{Octets, Path, Sequence};
 use crate::types::{Fid, Node};
 use std::alloc::{AllocError, Global};
 
@@ -51,7 +51,7 @@ pub type Events = Sequence<Event>;
 /// A line that fills a volume at set-up. The path is the names below the volume's root.
 #[derive(Drop)]
 pub enum SetupLine {
-    File { path: Names, contents: Octets },
+    File { path: Path, contents: Octets },
 }
 
 pub type SetupLines = Sequence<SetupLine>;

@@ -99,8 +99,8 @@ impl Sequence<u8> {
 /// Bytes.
 pub type Octets = Sequence<u8>;
 
-/// Names, each as its bytes.
-pub type Names = Sequence<Octets>;
+/// A path: the names on its way, each as its bytes.
+pub type Path = Sequence<Octets>;
 
 /// The records of a journal, each as its bytes.
 pub type Records = Sequence<Octets>;
