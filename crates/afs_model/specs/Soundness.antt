@@ -7,10 +7,6 @@ use Rattle.afs_model.specs.Directories.{IsDirectory}
 use Rattle.afs_model.specs.Volumes.{Kind, a_file, a_directory, a_link, Vnode, Volume}
 use Rattle.afs_model.specs.Operations.{is_kind, is_below}
 
-abbrev pub Each : {A : Type 0} → (ℕ → A → Type 0) → Table A → Type 0
-Each {A} P [] = ⊤
-Each {A} P (p ∷ ps) = P p.0 p.1 × Each P ps
-
 -- ---- names and what they name
 
 abbrev pub names_it : ℕ → ℕ → Name → Bool
@@ -87,4 +83,4 @@ IsRoot (Some x) = (x.unique ≡ 1) × ((x.kind ≡ a_directory) × IsHeldBy 0 0 
 pub record IsSound (v : Volume) : Type 0 where
   pub root : IsRoot (get 1 v.vnodes)
   pub ascending : AscendsFrom 1 v.vnodes
-  pub vnodes : Each (IsSoundVnode v) v.vnodes
+  pub vnodes : (n : ℕ) (x : Vnode) → get n v.vnodes ≡ Some x → IsSoundVnode v n x
