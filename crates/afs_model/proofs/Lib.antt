@@ -41,3 +41,5 @@ pub mod ScriptSaid
 pub mod AccessLists
 pub mod Tables
 pub mod VnodeImage
+pub mod Edits
+pub mod Operated

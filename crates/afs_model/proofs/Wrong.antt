@@ -52,6 +52,7 @@ apart_places a b e q = apart_nodes a b e (some_of a b q)
 first_byte : Body → ℕ
 first_byte (bodies.File []) = 0
 first_byte (bodies.File (b ∷ rest)) = b
+first_byte b = 0
 
 other_bytes : bodies.File (codes "def") ≡ bodies.File (codes "abc") → ⊥
 unfolding first_byte

@@ -35,3 +35,7 @@ pub mod AccessLists
 pub mod Tables
 pub mod VnodeImage
 pub mod VnodeMaps
+pub mod Volumes
+pub mod Operations
+pub mod Replies
+pub mod Soundness

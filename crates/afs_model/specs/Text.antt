@@ -22,6 +22,7 @@ use Rattle.afs_num.specs.declared.scripts.Script.{Script}
 use Rattle.afs_num.specs.declared.scripts.SetupLine.{SetupLine}
 use Rattle.afs_num.specs.declared.scripts.SetupLine.TheVariants.{File}
 use Rattle.afs_num.specs.declared.scripts.VolumeLine.{VolumeLine}
+use Rattle.afs_num.specs.declared.directories.Name.{Name}
 use Rattle.afs_num.specs.declared.histories.Body.{Body}
 use Rattle.afs_num.specs.declared.histories.Body.TheVariants as bodies
 use Rattle.afs_num.specs.declared.histories.Line.{Line}
@@ -59,8 +60,22 @@ unfoldable pub act_text : Act → List ℕ
 act_text (Open fid) = codes "open @" ++ fid_text fid
 act_text (Close fid contents) = codes "close @" ++ (fid_text fid ++ (codes " hex:" ++ hex_text contents))
 
+-- a name in a directory and what it names; a comma stands before all names but the first
+abbrev pub entry_name_text : Name → List ℕ
+entry_name_text n = name_text n.name ++ (codes "=" ++ (decimal n.vnode ++ (codes "." ++ decimal n.unique)))
+
+unfoldable pub more_names_text : List Name → List ℕ
+more_names_text ns = flat_map (λ (n : Name). codes "," ++ entry_name_text n) ns
+
+unfoldable pub directory_text : List Name → List ℕ
+directory_text [] = []
+directory_text (n ∷ ns) = entry_name_text n ++ more_names_text ns
+
 unfoldable pub body_text : Body → List ℕ
 body_text (bodies.File contents) = codes "f:" ++ hex_text contents
+body_text (bodies.Dir names) = codes "d:" ++ directory_text names
+body_text (bodies.Link target) = codes "l:" ++ hex_text target
+body_text bodies.Gone = codes "gone"
 
 unfoldable pub begin_text : Node → Act → List ℕ
 begin_text node act = codes "begin " ++ (node_text node ++ (codes " " ++ (act_text act ++ codes "\n")))

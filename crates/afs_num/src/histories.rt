@@ -1,13 +1,17 @@
 //! What is told of a run.
 
+use crate::directories::Names;
 use crate::scripts::Act;
 use crate::sequences::{Octets, Sequence};
 use crate::types::{Code, Fid, Key, Node, Parcels};
 
-/// What a version holds.
+/// What a version holds: a file's bytes, a directory's names, a link's text; or the vnode is gone.
 #[derive(Drop)]
 pub enum Body {
     File(Octets),
+    Dir(Names),
+    Link(Octets),
+    Gone,
 }
 
 /// A version of a fid: the indexes of a fid are 1, 2, 3, ..

@@ -18,3 +18,4 @@ pub mod states;
 pub mod texts;
 pub mod types;
 pub mod vnodes;
+pub mod volumes;

@@ -3,12 +3,13 @@
 ghost use Rattle.std.specs.Prelude.{◌≡◌, ◌+◌, ◌<◌, ◌≤◌, ◌^◌, ◌++◌, length};
 ghost use Rattle.std.specs.List.{flat_map};
 ghost use Rattle.afs_outside.specs.Outside.{Puts};
-ghost use Rattle.afs_model.specs.Text.{act_text, body_text, begin_text, grant_text, change_text, version_text, source_text, read_text, answer_text, line_text, lines_text, half_word, head_text, code_text, tail_text, sent_text, messages_text, step_text, entry_text, history_text, final_text};
+ghost use Rattle.afs_model.specs.Text.{act_text, entry_name_text, more_names_text, directory_text, body_text, begin_text, grant_text, change_text, version_text, source_text, read_text, answer_text, line_text, lines_text, half_word, head_text, code_text, tail_text, sent_text, messages_text, step_text, entry_text, history_text, final_text};
 ghost use Rattle.afs_model.specs.Telling.{code_at, messages_of, AreRead, told, sent_by};
 
-use crate::bytes::Hex;
+use crate::bytes::{Hex, Name};
 use crate::final_part::put_final;
 use crate::pieces::{Each, Print};
+use afs_num::directories;
 use afs_num::histories::{Body, Entry, Line, ReadSource, Version};
 use afs_num::scripts::{Act, Script};
 use afs_num::states::StoredFile;
@@ -38,6 +39,63 @@ impl<'a> Print for &'a Body {
     fn print<K: Sink>(&self, sink: &mut K) -> Result<(), Failed> {
         match *self {
             Body::File(contents) => row!("f:", Hex(contents.as_slice())).print(sink),
+            Body::Dir(names) => row!("d:", Directory(names.as_slice())).print(sink),
+            Body::Link(target) => row!("l:", Hex(target.as_slice())).print(sink),
+            Body::Gone => "gone".print(sink),
+        }
+    }
+}
+
+impl<'a> Print for &'a directories::Name {
+    ghost text = { λ name. entry_name_text name.now };
+
+    fn print<K: Sink>(&self, sink: &mut K) -> Result<(), Failed> {
+        row!(
+            Name(self.name.as_slice()),
+            "=",
+            self.vnode,
+            ".",
+            self.unique
+        )
+        .print(sink)
+    }
+}
+
+/// Writes names in a directory, each behind a comma.
+#[tactic(auto, unfolding(afs_model::specs::Text::more_names_text))]
+fn put_more_names<K: Sink>(sink: &mut K, names: &[directories::Name]) -> Result<(), Failed>
+    ensures { Puts (more_names_text names.now) (K.held sink.old) (K.held sink.new) (K.faults sink.old) (K.faults sink.new) result }
+{
+    for name in names {
+        row!(",", name).print(sink)?;
+    }
+    Ok(())
+}
+
+/// Names in a directory behind others.
+#[derive(Drop)]
+struct MoreNames<'a>(&'a [directories::Name]);
+
+impl<'a> Print for MoreNames<'a> {
+    ghost text = { λ names. more_names_text names.0.now };
+
+    fn print<K: Sink>(&self, sink: &mut K) -> Result<(), Failed> {
+        put_more_names(sink, self.0)
+    }
+}
+
+/// The names of a directory.
+#[derive(Drop)]
+struct Directory<'a>(&'a [directories::Name]);
+
+impl<'a> Print for Directory<'a> {
+    ghost text = { λ directory. directory_text directory.0.now };
+
+    #[tactic(auto, unfolding(afs_model::specs::Text::directory_text))]
+    fn print<K: Sink>(&self, sink: &mut K) -> Result<(), Failed> {
+        match self.0 {
+            [] => "".print(sink),
+            [first, rest @ ..] => row!(first, MoreNames(rest)).print(sink),
         }
     }
 }
