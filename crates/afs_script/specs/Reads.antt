@@ -41,6 +41,6 @@ CutsClosed old new (Some part) = (old ≡ part ∷ new) × (0 < length new)
 
 -- the outcome, with the number where it is a reason
 abbrev pub IsAtLine : {A : Type 0} → ℕ → Result A LineFault → Result A ScriptFault → Type 0
-IsAtLine number (Ok x) line_by_word = line_by_word ≡ Ok x
-IsAtLine number (Err (faults.Bad reason)) line_by_word = line_by_word ≡ Err (ends.Line number reason)
-IsAtLine number (Err faults.OutOfMemory) line_by_word = line_by_word ≡ Err ends.OutOfMemory
+IsAtLine number (Ok x) read = read ≡ Ok x
+IsAtLine number (Err (faults.Bad reason)) read = read ≡ Err (ends.Line number reason)
+IsAtLine number (Err faults.OutOfMemory) read = read ≡ Err ends.OutOfMemory

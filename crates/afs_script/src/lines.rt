@@ -4,7 +4,7 @@ ghost use Rattle.std.specs.Prelude.{◌≡◌, ◌&&◌, ℕ, Bool, Some, None, 
 ghost use Rattle.std.specs.List.{list_any};
 ghost use Rattle.std.specs.Option.{option_copied};
 ghost use Rattle.afs_model.specs.ScriptWords.{parts};
-ghost use Rattle.afs_model.specs.Script.{LinesRead as Told, nothing_read, from_turn, to_turn, next_turn, is_due, has_ended, cell_line, servers_line, clients_line, volume_line, has_name, name_in_root, is_root_name, lays, laid, file_line, is_file_here, open_at, close_at, act_of, do_line, act_line, delivers, deliver_line, bare_line, line_by_word, line_of, is_silent, line_at, script_in, last_at};
+ghost use Rattle.afs_model.specs.Script.{LinesRead as Heard, nothing_read, from_turn, to_turn, next_turn, is_due, has_ended, cell_line, servers_line, clients_line, volume_line, has_name, name_in_root, is_root_name, lays, laid, file_line, is_file_here, open_at, close_at, act_of, do_line, act_line, delivers, deliver_line, bare_line, line_by_word, line_of, is_silent, line_at, script_in, last_at};
 ghost use Rattle.afs_script.specs.Reads.{Reads, ReadsInMemory, Gives};
 
 use crate::faults::LineFault;
@@ -54,9 +54,9 @@ impl Model for LinesRead {
     ghost use Rattle.std.specs.List.{list_any};
     ghost use Rattle.std.specs.Ordering.{nat_cmp};
     ghost use Rattle.std.specs.BTreeSet.{contains};
-    ghost use Rattle.afs_model.specs.Script.{LinesRead as Told, delivers};
+    ghost use Rattle.afs_model.specs.Script.{LinesRead as Heard, delivers};
 
-    ghost Value = { Told };
+    ghost Value = { Heard };
 
     ghost view = { λ r. record { turn = r.turn; servers = r.servers; clients = r.clients; volume = r.volume; tasks = r.tasks; events = r.events } };
 

@@ -4,7 +4,7 @@ use Rattle.afs_script.proofs.reader.read_lines.Given as goal
 
 abbrev pub invariant-loop-line : goal.invariant-loop-line
 invariant-loop-line l = record {
-  line_by_word : lines_at l.reading l.number l.room l.lines ≡ lines_at nothing_read 0 16777216 l.fn.lines;
+  so_far : lines_at l.reading l.number l.room l.lines ≡ lines_at nothing_read 0 16777216 l.fn.lines;
   few : l.number ≤ 200000;
 }
 

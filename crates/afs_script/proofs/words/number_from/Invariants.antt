@@ -4,6 +4,6 @@ use Rattle.afs_script.proofs.words.number_from.Given as goal
 
 abbrev pub invariant-loop-digit : goal.invariant-loop-digit
 invariant-loop-digit l = record {
-  line_by_word : number_from l.high l.number (drop l.digit-index l.digits) ≡ number_from l.high 0 l.digits;
+  so_far : number_from l.high l.number (drop l.digit-index l.digits) ≡ number_from l.high 0 l.digits;
   bound : l.number ≤ l.high;
 }
