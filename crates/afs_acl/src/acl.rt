@@ -1,4 +1,4 @@
-ghost use Rattle.std.specs.Prelude.{◌≡◌, ◌++◌, ◌∷◌, [], IfOk, OnOk, Ok};
+ghost use Rattle.std.specs.Prelude.{◌≡◌, ◌++◌, IfOk, OnOk, Ok};
 ghost use Rattle.std.specs.List.{flat_map};
 ghost use Rattle.afs_model.specs.AccessLists.{acl_at, acl_text, entry_text, number_line, matches, matching_rights, rights_of, without_rights};
 ghost use Rattle.afs_acl.specs.Reading.{Gives, GivesAcl};

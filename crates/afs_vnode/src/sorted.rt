@@ -1,10 +1,8 @@
 //! Vnodes in a vector by ascending numbers.
 
-ghost use Rattle.std.specs.Prelude.{◌≡◌, ◌≤◌, ◌<◌, ◌+◌, ◌*◌, ◌%◌, ◌↔◌, ℕ, true, Err, None, length, is_some, slice_get, OnOk, OnErr, IfOk, IfSome, IsOk};
-ghost use Rattle.std.specs.List.{AllByRecursion};
+ghost use Rattle.std.specs.Prelude.{◌≡◌, ◌≤◌, ◌<◌, ◌+◌, ◌%◌, ◌↔◌, ℕ, true, Err, None, length, is_some, slice_get, OnOk, OnErr, IfOk, IfSome, IsOk};
 ghost use Rattle.std.specs.Option.{option_copied};
 ghost use Rattle.afs_model.specs.Tables.{get, set, unset, AscendsFrom, lowest_free};
-ghost use Rattle.afs_model.specs.VnodeImage.{FitsImage};
 ghost use Rattle.afs_model.specs.VnodeMaps.{most_vnodes, is_full_for, first_number, allocated, changed_since};
 ghost use Rattle.afs_vnode.specs.Stores.{table_of, place_of, has_number, IsHint};
 ghost use Rattle.afs_vnode.specs.declared.faults.VnodeFault.TheVariants.{TooMany};

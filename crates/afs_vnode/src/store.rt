@@ -2,7 +2,7 @@
 
 ghost use Rattle.std.specs.Prelude.{◌≡◌, ◌≤◌, ◌<◌, ◌%◌, ◌↔◌, ℕ, true, [], Err, None, is_some, length, slice_get, IfOk, IfSome, IsOk, OnOk, OnErr};
 ghost use Rattle.std.specs.Option.{option_copied, option_map};
-ghost use Rattle.afs_model.specs.Tables.{get, set, unset, AscendsFrom, lowest_free};
+ghost use Rattle.afs_model.specs.Tables.{get, set, unset, AscendsFrom};
 ghost use Rattle.afs_model.specs.VnodeImage.{FitsImage};
 ghost use Rattle.afs_model.specs.VnodeMaps.{most_vnodes, is_full_for, first_number, allocated, changed_since};
 ghost use Rattle.afs_vnode.specs.Stores.{raised, lowered};
