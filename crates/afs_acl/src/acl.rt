@@ -1,10 +1,11 @@
-ghost use Rattle.std.specs.Prelude.{◌≡◌, ◌++◌, ◌∷◌, [], IfOk, OnOk, Ok};
+ghost use Rattle.std.specs.Prelude.{◌≡◌, ◌++◌, IfOk, OnOk, Ok};
 ghost use Rattle.std.specs.List.{flat_map};
 ghost use Rattle.afs_model.specs.AccessLists.{acl_at, acl_text, entry_text, number_line, matches, matching_rights, rights_of, without_rights};
 ghost use Rattle.afs_acl.specs.Reading.{Gives, GivesAcl};
 
-use crate::faults::{AclFault, Stop};
+use crate::faults::AclFault;
 use crate::reading::{count, entries, must_be_few, must_end};
+use crate::stops::Stop;
 use afs_num::acls::{AccessList, AclEntry};
 use afs_num::sequences::Octets;
 use afs_num::types::Mem;

@@ -4,4 +4,5 @@
 pub mod acl;
 pub mod faults;
 pub mod laws;
-pub mod reading;
+mod reading;
+mod stops;

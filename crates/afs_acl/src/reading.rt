@@ -1,12 +1,11 @@
 //! The parts of an access list's text, read from left to right.
 
-ghost use Rattle.std.specs.Prelude.{◌≡◌, ◌≤◌, ◌<◌, ◌+◌, ◌-◌, ◌*◌, ◌^◌, ◌&&◌, [], length, IfOk, IfSome, nat_eq, nat_le, Some, None, if◌then◌else◌};
+ghost use Rattle.std.specs.Prelude.{◌≡◌, ◌≤◌, ◌+◌, ◌-◌, ◌*◌, [], length, Some, None, if◌then◌else◌};
 ghost use Rattle.std.specs.List.{prefix_len};
-ghost use Rattle.afs_num.specs.Names.{is_in};
-ghost use Rattle.afs_model.specs.AccessLists.{goes_on, digits_at, line_number_at, count_at, is_acl_byte, is_named, name_length, named_at, name_at, entry_at, entries_at, must_be_few, must_end, most_rights};
+ghost use Rattle.afs_model.specs.AccessLists.{goes_on, digits_at, line_number_at, count_at, is_acl_byte, is_named, name_length, named_at, name_at, entry_at, entries_at, must_be_few, must_end};
 ghost use Rattle.afs_acl.specs.Reading.{Gives};
 
-use crate::faults::Stop;
+use crate::stops::Stop;
 use afs_num::acls::{AclEntries, AclEntry};
 use afs_num::sequences::Octets;
 use std::alloc::Global;

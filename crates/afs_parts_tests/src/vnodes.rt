@@ -1,4 +1,3 @@
-ghost use Rattle.std.specs.Prelude.{◌≡◌, IfOk};
 ghost use Rattle.afs_model.specs.VnodeImage.{FitsImage};
 
 use afs_num::sequences::Octets;

@@ -2,8 +2,8 @@
 
 ghost use Rattle.std.specs.Prelude.{◌≡◌, ◌≤◌, ◌++◌, length, take, OnOk, OnErr, IfOk};
 ghost use Rattle.afs_xdr.specs.Reading.{KeepsEnd};
-ghost use Rattle.afs_xdr.specs.Words.{words, opaque, AreWords};
-ghost use Rattle.afs_model.specs.VnodeImage.{kind_fits, word_field, kind_field, opaque_field, image_at, image, image_words, FitsImage, most_acl, most_contents};
+ghost use Rattle.afs_xdr.specs.Words.{words, AreWords};
+ghost use Rattle.afs_model.specs.VnodeImage.{kind_fits, word_field, kind_field, opaque_field, image_at, image, image_words, FitsImage};
 ghost use Rattle.afs_vnode.specs.Reading.{ReadsImage};
 
 use crate::faults::ImageFault;

@@ -1,10 +1,8 @@
 //! Vnodes in a vector by ascending numbers.
 
-ghost use Rattle.std.specs.Prelude.{◌≡◌, ◌≤◌, ◌<◌, ◌+◌, ◌*◌, ◌%◌, ◌↔◌, ℕ, true, Err, None, length, is_some, slice_get, OnOk, OnErr, IfOk, IfSome};
-ghost use Rattle.std.specs.List.{AllByRecursion};
+ghost use Rattle.std.specs.Prelude.{◌≡◌, ◌≤◌, ◌<◌, ◌+◌, ◌%◌, ◌↔◌, ℕ, true, Err, None, length, is_some, slice_get, OnOk, OnErr, IfOk, IfSome, IsOk};
 ghost use Rattle.std.specs.Option.{option_copied};
 ghost use Rattle.afs_model.specs.Tables.{get, set, unset, AscendsFrom, lowest_free};
-ghost use Rattle.afs_model.specs.VnodeImage.{FitsImage};
 ghost use Rattle.afs_model.specs.VnodeMaps.{most_vnodes, is_full_for, first_number, allocated, changed_since};
 ghost use Rattle.afs_vnode.specs.Stores.{table_of, place_of, has_number, IsHint};
 ghost use Rattle.afs_vnode.specs.declared.faults.VnodeFault.TheVariants.{TooMany};
@@ -74,6 +72,7 @@ fn put_in_place(vnodes: &mut Vec<Vnode>, v: Vnode) -> Mem<()>
     ensures err { OnErr result (vnodes.new.items ≡ vnodes.old.items) }
     ensures grows { length vnodes.new.items ≤ length vnodes.old.items + 1 }
     ensures replaces { is_some (get v.vnode (table_of vnodes.old.items)) ≡ true → length vnodes.new.items ≡ length vnodes.old.items }
+    ensures succeeds { is_some (get v.vnode (table_of vnodes.old.items)) ≡ true → IsOk result }
 {
     let place = place(vnodes, v.vnode);
     if is_at(vnodes, place, v.vnode) {
@@ -95,6 +94,7 @@ pub fn put(vnodes: &mut Vec<Vnode>, v: Vnode) -> Result<(), VnodeFault>
     ensures err { OnErr result (vnodes.new.items ≡ vnodes.old.items) }
     ensures few { length vnodes.new.items ≤ most_vnodes }
     ensures many { (result ≡ Err TooMany) ↔ (is_full_for v.vnode (table_of vnodes.old.items) ≡ true) }
+    ensures replaces { is_some (get v.vnode (table_of vnodes.old.items)) ≡ true → IsOk result }
 {
     if is_full_for(vnodes, v.vnode) {
         return Err(VnodeFault::TooMany);

@@ -1,8 +1,8 @@
 //! The vnodes of a volume by their numbers.
 
-ghost use Rattle.std.specs.Prelude.{◌≡◌, ◌≤◌, ◌<◌, ◌%◌, ◌↔◌, ℕ, true, [], Err, None, is_some, length, slice_get, IfOk, IfSome, OnOk, OnErr};
+ghost use Rattle.std.specs.Prelude.{◌≡◌, ◌≤◌, ◌<◌, ◌%◌, ◌↔◌, ℕ, true, [], Err, None, is_some, length, slice_get, IfOk, IfSome, IsOk, OnOk, OnErr};
 ghost use Rattle.std.specs.Option.{option_copied, option_map};
-ghost use Rattle.afs_model.specs.Tables.{get, set, unset, AscendsFrom, lowest_free};
+ghost use Rattle.afs_model.specs.Tables.{get, set, unset, AscendsFrom};
 ghost use Rattle.afs_model.specs.VnodeImage.{FitsImage};
 ghost use Rattle.afs_model.specs.VnodeMaps.{most_vnodes, is_full_for, first_number, allocated, changed_since};
 ghost use Rattle.afs_vnode.specs.Stores.{raised, lowered};
@@ -94,11 +94,13 @@ impl VnodeStore {
     }
 
     /// Puts a vnode in the place of the one with its number, if there is one. `TooMany` where there are 4,096 others.
+    /// One that takes another's place takes no memory.
     pub fn put(&mut self, v: Vnode) -> Result<(), VnodeFault>
         requires { FitsImage v }
         ensures ok { OnOk result (self.new ≡ set v.vnode v self.old) }
         ensures err { OnErr result (self.new ≡ self.old) }
         ensures many { (result ≡ Err TooMany) ↔ (is_full_for v.vnode self.old ≡ true) }
+        ensures replaces { is_some (get v.vnode self.old) ≡ true → IsOk result }
     {
         let number = v.vnode;
         sorted::put(&mut self.vnodes, v)?;
