@@ -35,6 +35,7 @@ const ONE: [u8; 12] = [1, 0, 0, 0, 2, 0, 0, 0, 1, 97, 98, 0];
 fn a_full_journal_tells_the_two_lengths(rt: HostRuntime) -> Result<(), Fail> {
     let alloc = rt.alloc();
     let mut journal = attach(alloc, empty(alloc, 100)).map_err(|e| e.0)?;
+    journal.reserve(90)?;
     assert_eq!(rt; journal.append(&[7; 90]), Ok(1));
     assert_eq!(rt; journal.append(&[8]), Err(JournalFault::Full(100, 100)));
     assert_eq!(rt;
