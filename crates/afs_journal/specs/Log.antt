@@ -32,7 +32,7 @@ pub record AtRest {D : Type 0} (seen : D → Option (List ℕ)) (size : D → �
   pub ends : size disk ≡ gate + 1
   pub settled : (bytes : List ℕ) → seen disk ≡ Some bytes → IsSettled count gate (may_leave disk) bytes
 
-pub record IsSound {D : Type 0} (seen : D → Option (List ℕ)) (size : D → ℕ) (may_leave : D → List ℕ → Type 0) (limit : D → ℕ) (log : Log D) : Type 0 where
+pub record IsSoundLog {D : Type 0} (seen : D → Option (List ℕ)) (size : D → ℕ) (may_leave : D → List ℕ → Type 0) (limit : D → ℕ) (log : Log D) : Type 0 where
   pub counts : 9 * log.count ≤ log.gate
   pub short : log.gate < 2 ^ 63
   pub small : limit log.disk ≤ 268435456

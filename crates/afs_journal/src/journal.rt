@@ -27,13 +27,13 @@ pub struct Journal<D: Disk> {
 
 impl<D: Disk> Model for Journal<D> {
     ghost use Rattle.std.specs.Vec.{vec_capacity};
-    ghost use Rattle.afs_journal.specs.Log.{Log, IsSound};
+    ghost use Rattle.afs_journal.specs.Log.{Log, IsSoundLog};
 
     ghost Value = { Log D };
 
     ghost view = { λ j. record { disk = j.disk; found = j.found; count = j.count; gate = j.gate; closed = j.closed; spelled = vec_capacity j.place } };
 
-    ghost invariant = { λ j. IsSound D.seen D.size D.may_leave D.limit (record { disk = j.disk; found = j.found; count = j.count; gate = j.gate; closed = j.closed; spelled = vec_capacity j.place }) };
+    ghost invariant = { λ j. IsSoundLog D.seen D.size D.may_leave D.limit (record { disk = j.disk; found = j.found; count = j.count; gate = j.gate; closed = j.closed; spelled = vec_capacity j.place }) };
 }
 
 // Whether a record of so many bytes fits behind a journal of this length.

@@ -157,7 +157,7 @@ new_by false b w o ne h = h
 seen_last : (id n k m u : ℕ) (w : Version) (ls : List Line) → w.fid ≡ fid_at id n k → last_version (fid_at id m u) (lines.Version w ∷ ls) ≡ cond (eqb n m && eqb k u) (Some w) (last_version (fid_at id m u) ls)
 seen_last id n k m u w ls e = ap (λ (t : Bool). cond t (Some w) (last_version (fid_at id m u) ls)) (ap (λ (f : Fid). same_fid f (fid_at id m u)) e ∙ same_parts id n m k u (eqb n m) (eqb k u) refl refl)
 
-amends_told : (id n : ℕ) (a : Amend) (v : Volume) (o : Option Vnode) (ls : List Line) → get n v.vnodes ≡ o → Sound id v ls → Told id (amends_at id n a v o).volume (amends_at id n a v o).told ls
+amends_told : (id n : ℕ) (a : Amend) (v : Volume) (o : Option Vnode) (ls : List Line) → get n v.vnodes ≡ o → Sound id v ls → Told id (amends_at id n a v o).volume (amends_at id n a v o).versions ls
 amends_told id n a v None ls e h = record { sound = h; grow = tt }
 amends_told id n a v (Some x) ls e h =
     let y : Vnode = amended (v.counter + 1) a x in
@@ -169,7 +169,7 @@ amends_told id n a v (Some x) ls e h =
       grow = ((refl, subst (λ (o : Option Version). index_in o ≤ x.index + 1) (sym (there id n v x ls e h)) (omega arith)), tt);
     }
 
-makes_told : (id n : ℕ) (x : Vnode) (v : Volume) (o : Option Vnode) (ls : List Line) → get n v.vnodes ≡ o → Sound id v ls → Told id (makes_at id n x v o).volume (makes_at id n x v o).told ls
+makes_told : (id n : ℕ) (x : Vnode) (v : Volume) (o : Option Vnode) (ls : List Line) → get n v.vnodes ≡ o → Sound id v ls → Told id (makes_at id n x v o).volume (makes_at id n x v o).versions ls
 makes_told id n x v (Some z) ls e h = record { sound = h; grow = tt }
 makes_told id n x v None ls e h =
     let y : Vnode = fresh (v.counter + 1) v.next x in
@@ -181,7 +181,7 @@ makes_told id n x v None ls e h =
       grow = ((refl, subst (λ (o : Option Version). index_in o ≤ 1) (sym (h.new n v.next (omega arith))) (omega arith)), tt);
     }
 
-frees_told : (id n : ℕ) (v : Volume) (o : Option Vnode) (ls : List Line) → get n v.vnodes ≡ o → Sound id v ls → Told id (frees_at id n v o).volume (frees_at id n v o).told ls
+frees_told : (id n : ℕ) (v : Volume) (o : Option Vnode) (ls : List Line) → get n v.vnodes ≡ o → Sound id v ls → Told id (frees_at id n v o).volume (frees_at id n v o).versions ls
 frees_told id n v None ls e h = record { sound = h; grow = tt }
 frees_told id n v (Some x) ls e h = record {
   sound = record {
@@ -191,7 +191,7 @@ frees_told id n v (Some x) ls e h = record {
   grow = ((refl, subst (λ (o : Option Version). index_in o ≤ x.index + 1) (sym (there id n v x ls e h)) (omega arith)), tt);
 }
 
-edit_told : (id : ℕ) (e : Edit) (v : Volume) (ls : List Line) → Sound id v ls → Told id (edited id e v).volume (edited id e v).told ls
+edit_told : (id : ℕ) (e : Edit) (v : Volume) (ls : List Line) → Sound id v ls → Told id (edited id e v).volume (edited id e v).versions ls
 edit_told id (amends n a) v ls h = amends_told id n a v (get n v.vnodes) ls refl h
 edit_told id (makes n x) v ls h = makes_told id n x v (get n v.vnodes) ls refl h
 edit_told id (frees n) v ls h = frees_told id n v (get n v.vnodes) ls refl h
@@ -205,11 +205,11 @@ grow_more id (v ∷ vs) ws ls a b = (a.0, grow_more id vs ws (lines.Version v �
 pub edits_told : (id : ℕ) (es : List Edit) (v : Volume) (ls : List Line) → Sound id v ls → Told id (edited_all id es v) (versions_by id es v) ls
 edits_told id [] v ls h = record { sound = h; grow = tt }
 edits_told id (e ∷ es) v ls h =
-    let one : Told id (edited id e v).volume (edited id e v).told ls = edit_told id e v ls h in
-    let rest : Told id (edited_all id es (edited id e v).volume) (versions_by id es (edited id e v).volume) (on_top (edited id e v).told ls) = edits_told id es (edited id e v).volume (on_top (edited id e v).told ls) one.sound in
+    let one : Told id (edited id e v).volume (edited id e v).versions ls = edit_told id e v ls h in
+    let rest : Told id (edited_all id es (edited id e v).volume) (versions_by id es (edited id e v).volume) (on_top (edited id e v).versions ls) = edits_told id es (edited id e v).volume (on_top (edited id e v).versions ls) one.sound in
     record {
-      sound = subst (Sound id (edited_all id es (edited id e v).volume)) (sym (on_top_more (edited id e v).told (versions_by id es (edited id e v).volume) ls)) rest.sound;
-      grow = grow_more id (edited id e v).told (versions_by id es (edited id e v).volume) ls one.grow rest.grow;
+      sound = subst (Sound id (edited_all id es (edited id e v).volume)) (sym (on_top_more (edited id e v).versions (versions_by id es (edited id e v).volume) ls)) rest.sound;
+      grow = grow_more id (edited id e v).versions (versions_by id es (edited id e v).volume) ls one.grow rest.grow;
     }
 
 pub counted_sound : (id : ℕ) (v : Volume) (ls : List Line) → Sound id v ls → Sound id (counted v) ls

@@ -27,7 +27,7 @@ use Rattle.afs_shape.proofs.FieldLaws.{bind_ok, in_place_ok, shape_ok_is}
 use Rattle.afs_model.specs.Heads.{head_at, half_at, node_at, known, half_of, is_zero}
 use Rattle.afs_model.specs.Rpc.{asked_at, answer_at, replied_at}
 use Rattle.afs_model.specs.FsRows.{fs_calls, fs_replies}
-use Rattle.afs_model.specs.Messages.{received_call, carried_reply, received_reply, received_notice, read_body, read_behind_head, received, spelled, found, meant}
+use Rattle.afs_model.specs.Messages.{received_call, carried_reply, received_reply, received_notice, read_body, read_behind_head, received, spelled, parcels_read, messages_spelled}
 use Rattle.afs_model.proofs.Spellings.{whole_of}
 use Rattle.afs_model.specs.Telling.{code_read, code_at}
 use Rattle.std.specs.Fmt.{decimal}
@@ -240,7 +240,7 @@ first_is h = cc
 others_are : {A : Type 0} {x y : A} {xs ys : List A} → x ∷ xs ≡ y ∷ ys → xs ≡ ys
 others_are h = cc
 
-pub parcels_length : (ps : List Parcel) (ms : List Message) → found ps ≡ meant ms → length ps ≡ length ms
+pub parcels_length : (ps : List Parcel) (ms : List Message) → parcels_read ps ≡ messages_spelled ms → length ps ≡ length ms
 parcels_length [] [] h = refl
 parcels_length [] (m ∷ ms) h = cc
 parcels_length (p ∷ ps) [] h = cc

@@ -262,21 +262,21 @@ pub record Found : Type 0 where
 
 -- what a reading call shows: a vnode's body and status, its status, its access list and status, several statuses, or the
 -- volume's own
-pub data Reading : Type 0 where
-  shows_body : Found → Reading
-  shows_status : Found → Reading
-  shows_acl : Found → Reading
-  shows_statuses : List Found → Reading
-  shows_volume : Reading
+pub data Shown : Type 0 where
+  shows_body : Found → Shown
+  shows_status : Found → Shown
+  shows_acl : Found → Shown
+  shows_statuses : List Found → Shown
+  shows_volume : Shown
 
 -- A call is refused with a code; something is read; or it is a change, whose reply shows this vnode beside those that the call
 -- names.
 pub data Result : Type 0 where
   refused : ℕ → Result
-  reads : Reading → Result
+  reads : Shown → Result
   changes : List Edit → ℕ → Result
 
-abbrev pub read_by : (Found → Reading) → Fid → Option Vnode → Result
+abbrev pub read_by : (Found → Shown) → Fid → Option Vnode → Result
 read_by show f None = refused 102
 read_by show f (Some x) = reads (show (record { fid = f; vnode = x }))
 

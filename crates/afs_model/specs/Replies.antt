@@ -13,7 +13,7 @@ use Rattle.afs_num.specs.declared.calls.FsReply.TheVariants as replies
 use Rattle.afs_model.specs.Tables.{get}
 use Rattle.afs_model.specs.AccessLists.{acl_text, anyuser, rights_of}
 use Rattle.afs_model.specs.Volumes.{Kind, a_file, a_directory, a_link, Vnode, Volume, fid_of, bytes_by, size_of, blocks_in}
-use Rattle.afs_model.specs.Operations.{Caller, rights_by, list_for, Found, Reading, shows_body, shows_status, shows_acl, shows_statuses, shows_volume, new_file}
+use Rattle.afs_model.specs.Operations.{Caller, rights_by, list_for, Found, Shown, shows_body, shows_status, shows_acl, shows_statuses, shows_volume, new_file}
 
 -- ---- statuses
 
@@ -61,7 +61,7 @@ no_callback = record { version = 0; expiration_time = 0; kind = 0 }
 abbrev pub found_status : Caller → Volume → (Fid → ℕ) → Found → AfsFetchStatus
 found_status caller v times f = status_of caller v (times f.fid) f.vnode
 
-abbrev pub reading_reply : ℕ → Caller → (Fid → ℕ) → Volume → Reading → FsReply
+abbrev pub reading_reply : ℕ → Caller → (Fid → ℕ) → Volume → Shown → FsReply
 reading_reply id caller times v (shows_body f) = replies.FetchData (bytes_by f.vnode.kind f.vnode) (found_status caller v times f) no_callback (sync_of v)
 reading_reply id caller times v (shows_status f) = replies.FetchStatus (found_status caller v times f) no_callback (sync_of v)
 reading_reply id caller times v (shows_acl f) = replies.FetchAcl (acl_text f.vnode.acl) (found_status caller v times f) (sync_of v)

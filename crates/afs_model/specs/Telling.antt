@@ -8,7 +8,7 @@ use Rattle.afs_num.specs.declared.messages.Received.TheVariants.{Whole}
 use Rattle.afs_num.specs.declared.histories.Entry as kept
 use Rattle.afs_xdr.specs.declared.faults.XdrFault.{XdrFault}
 use Rattle.afs_shape.specs.Reading.{signed_at}
-use Rattle.afs_model.specs.Messages.{received, found, meant}
+use Rattle.afs_model.specs.Messages.{received, parcels_read, messages_spelled}
 use Rattle.afs_model.specs.Runs.{Entry}
 
 abbrev pub with_received : Received → List Message → List Message
@@ -22,7 +22,7 @@ messages_of (p ∷ ps) = with_received (received p.bytes) (messages_of ps)
 
 -- all parcels are the spellings of messages, and are read as these
 abbrev pub AreRead : List Parcel → Type 0
-AreRead ps = found ps ≡ meant (messages_of ps)
+AreRead ps = parcels_read ps ≡ messages_spelled (messages_of ps)
 
 -- the history that these entries tell, each with the next of these parcels
 abbrev pub told : List Parcel → List kept.Entry → List Entry

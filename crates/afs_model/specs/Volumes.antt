@@ -168,28 +168,28 @@ gone_at id n x = record { fid = fid_of id n x; index = x.index + 1; data_version
 -- new vnode where one is.
 pub record Edited : Type 0 where
   pub volume : Volume
-  pub told : List Version
+  pub versions : List Version
 
 abbrev pub nothing_done : Volume → Edited
-nothing_done v = record { volume = v; told = [] }
+nothing_done v = record { volume = v; versions = [] }
 
 abbrev pub amends_at : ℕ → ℕ → Amend → Volume → Option Vnode → Edited
 amends_at id n a v None = nothing_done v
 amends_at id n a v (Some x) = record {
   volume = record v { vnodes = set n (amended (v.counter + 1) a x) v.vnodes };
-  told = version_at id n (amended (v.counter + 1) a x) ∷ [];
+  versions = version_at id n (amended (v.counter + 1) a x) ∷ [];
 }
 
 abbrev pub makes_at : ℕ → ℕ → Vnode → Volume → Option Vnode → Edited
 makes_at id n x v None = record {
   volume = record v { vnodes = set n (fresh (v.counter + 1) v.next x) v.vnodes; next = v.next + 1 };
-  told = version_at id n (fresh (v.counter + 1) v.next x) ∷ [];
+  versions = version_at id n (fresh (v.counter + 1) v.next x) ∷ [];
 }
 makes_at id n x v (Some y) = nothing_done v
 
 abbrev pub frees_at : ℕ → ℕ → Volume → Option Vnode → Edited
 frees_at id n v None = nothing_done v
-frees_at id n v (Some x) = record { volume = record v { vnodes = unset n v.vnodes }; told = gone_at id n x ∷ [] }
+frees_at id n v (Some x) = record { volume = record v { vnodes = unset n v.vnodes }; versions = gone_at id n x ∷ [] }
 
 -- an edit in the volume of this number
 abbrev pub edited : ℕ → Edit → Volume → Edited
@@ -204,7 +204,7 @@ edited_all id (e ∷ es) v = edited_all id es (edited id e v).volume
 
 abbrev pub versions_by : ℕ → List Edit → Volume → List Version
 versions_by id [] v = []
-versions_by id (e ∷ es) v = (edited id e v).told ++ versions_by id es (edited id e v).volume
+versions_by id (e ∷ es) v = (edited id e v).versions ++ versions_by id es (edited id e v).volume
 
 -- a change raises the volume's counter once
 abbrev pub counted : Volume → Volume

@@ -10,7 +10,7 @@ use Rattle.afs_num.specs.declared.histories.Entry as kept
 use Rattle.afs_num.specs.declared.messages.Message.{Message}
 use Rattle.afs_num.specs.declared.messages.Received.{Received}
 use Rattle.afs_num.specs.declared.messages.Received.TheVariants.{Nothing, Unknown, Unreadable, Whole}
-use Rattle.afs_model.specs.Messages.{received, spelled, found, meant}
+use Rattle.afs_model.specs.Messages.{received, spelled, parcels_read, messages_spelled}
 use Rattle.afs_model.specs.Telling.{with_received, messages_of, AreRead, told, sent_by, code_at}
 use Rattle.afs_model.specs.Text.{hex_byte, hex_text, sent_text, message_text, messages_text, entry_text, entries_text}
 use Rattle.afs_model.specs.Runs.{Entry}
@@ -63,10 +63,10 @@ few : (ps : List Parcel) → length (messages_of ps) ≤ length ps
 few [] = omega (arith)
 few (p ∷ ps) = omega (arith, few_received (received p.bytes) (messages_of ps), few ps)
 
-too_few : (p : Parcel) (ps : List Parcel) → found (p ∷ ps) ≡ meant (messages_of ps) → ⊥
+too_few : (p : Parcel) (ps : List Parcel) → parcels_read (p ∷ ps) ≡ messages_spelled (messages_of ps) → ⊥
 too_few p ps e = omega (arith, parcels_length (p ∷ ps) (messages_of ps) e, few ps)
 
-next : (p : Parcel) (ps : List Parcel) (r : Received) → received p.bytes ≡ r → found (p ∷ ps) ≡ meant (with_received r (messages_of ps)) → ReadNext p ps
+next : (p : Parcel) (ps : List Parcel) (r : Received) → received p.bytes ≡ r → parcels_read (p ∷ ps) ≡ messages_spelled (with_received r (messages_of ps)) → ReadNext p ps
 next p ps (Whole m) is e =
     let same = head_is _ _ _ _ e in
     record {
@@ -85,10 +85,10 @@ read_next p ps e = next p ps (received p.bytes) refl e
 
 read_more : (p : Parcel) (m : Message) (ps : List Parcel) → p.head ≡ m.head → p.bytes ≡ spelled m → received p.bytes ≡ Whole m → AreRead ps → AreRead (p ∷ ps)
 read_more p m ps head bytes read e =
-    ap (λ (h : Head). (h, p.bytes, received p.bytes) ∷ found ps) head
-    ∙ (ap (λ (b : List ℕ). (m.head, b, received p.bytes) ∷ found ps) bytes
-    ∙ (ap (λ (r : Received). (m.head, spelled m, r) ∷ found ps) read
-    ∙ (ap (λ (t : List Seen). (m.head, spelled m, Whole m) ∷ t) e ∙ ap (λ (r : Received). meant (with_received r (messages_of ps))) (sym read))))
+    ap (λ (h : Head). (h, p.bytes, received p.bytes) ∷ parcels_read ps) head
+    ∙ (ap (λ (b : List ℕ). (m.head, b, received p.bytes) ∷ parcels_read ps) bytes
+    ∙ (ap (λ (r : Received). (m.head, spelled m, r) ∷ parcels_read ps) read
+    ∙ (ap (λ (t : List Seen). (m.head, spelled m, Whole m) ∷ t) e ∙ ap (λ (r : Received). messages_spelled (with_received r (messages_of ps))) (sym read))))
 
 pub read_take : (n : ℕ) (ps : List Parcel) → AreRead ps → AreRead (take n ps) × AreRead (drop n ps)
 read_take zero ps e = (refl, e)

@@ -8,7 +8,7 @@ use Rattle.afs_num.specs.declared.types.Parcel.{Parcel}
 use Rattle.afs_num.specs.declared.messages.Message.{Message}
 use Rattle.afs_num.specs.declared.messages.Received.{Received}
 use Rattle.afs_num.specs.declared.messages.Received.TheVariants.{Nothing, Unknown, Unreadable, Whole}
-use Rattle.afs_model.specs.Messages.{received, spelled, found, meant}
+use Rattle.afs_model.specs.Messages.{received, spelled, parcels_read, messages_spelled}
 use Rattle.afs_model.specs.Runs.{Entry}
 use Rattle.afs_model.specs.Telling.{with_received, messages_of, AreRead, told, sent_by}
 
@@ -22,16 +22,16 @@ head_is x y xs ys e = cc
 tail_is : {X : Type 0} (x y : X) (xs ys : List X) → x ∷ xs ≡ y ∷ ys → xs ≡ ys
 tail_is x y xs ys e = cc
 
-pub messages_of-found : (ps : List Parcel) (ms : List Message) → found ps ≡ meant ms → messages_of ps ≡ ms
-messages_of-found [] [] e = refl
-messages_of-found [] (m ∷ ms) e = absurd cc
-messages_of-found (p ∷ ps) [] e = absurd cc
-messages_of-found (p ∷ ps) (m ∷ ms) e =
+pub messages_of-read : (ps : List Parcel) (ms : List Message) → parcels_read ps ≡ messages_spelled ms → messages_of ps ≡ ms
+messages_of-read [] [] e = refl
+messages_of-read [] (m ∷ ms) e = absurd cc
+messages_of-read (p ∷ ps) [] e = absurd cc
+messages_of-read (p ∷ ps) (m ∷ ms) e =
     let first : received p.bytes ≡ Whole m = ap (λ (x : Seen). x.2) (head_is _ _ _ _ e) in
-    ap (λ (r : Received). with_received r (messages_of ps)) first ∙ ap (λ (t : List Message). m ∷ t) (messages_of-found ps ms (tail_is _ _ _ _ e))
+    ap (λ (r : Received). with_received r (messages_of ps)) first ∙ ap (λ (t : List Message). m ∷ t) (messages_of-read ps ms (tail_is _ _ _ _ e))
 
-pub are_read : (ps : List Parcel) (ms : List Message) → found ps ≡ meant ms → AreRead ps
-are_read ps ms e = subst (λ (t : List Message). found ps ≡ meant t) (sym (messages_of-found ps ms e)) e
+pub are_read : (ps : List Parcel) (ms : List Message) → parcels_read ps ≡ messages_spelled ms → AreRead ps
+are_read ps ms e = subst (λ (t : List Message). parcels_read ps ≡ messages_spelled t) (sym (messages_of-read ps ms e)) e
 
 with_received-append : (r : Received) (ms ns : List Message) → with_received r (ms ++ ns) ≡ with_received r ms ++ ns
 with_received-append Nothing ms ns = refl
@@ -44,18 +44,18 @@ messages_of-append [] qs = refl
 messages_of-append (p ∷ ps) qs =
     ap (λ (t : List Message). with_received (received p.bytes) t) (messages_of-append ps qs) ∙ with_received-append (received p.bytes) (messages_of ps) (messages_of qs)
 
-found-append : (ps qs : List Parcel) → found (ps ++ qs) ≡ found ps ++ found qs
-found-append [] qs = refl
-found-append (p ∷ ps) qs = ap (λ (t : List Seen). (p.head, p.bytes, received p.bytes) ∷ t) (found-append ps qs)
+parcels_read-append : (ps qs : List Parcel) → parcels_read (ps ++ qs) ≡ parcels_read ps ++ parcels_read qs
+parcels_read-append [] qs = refl
+parcels_read-append (p ∷ ps) qs = ap (λ (t : List Seen). (p.head, p.bytes, received p.bytes) ∷ t) (parcels_read-append ps qs)
 
-meant-append : (ms ns : List Message) → meant (ms ++ ns) ≡ meant ms ++ meant ns
-meant-append [] ns = refl
-meant-append (m ∷ ms) ns = ap (λ (t : List Seen). (m.head, spelled m, Whole m) ∷ t) (meant-append ms ns)
+messages_spelled-append : (ms ns : List Message) → messages_spelled (ms ++ ns) ≡ messages_spelled ms ++ messages_spelled ns
+messages_spelled-append [] ns = refl
+messages_spelled-append (m ∷ ms) ns = ap (λ (t : List Seen). (m.head, spelled m, Whole m) ∷ t) (messages_spelled-append ms ns)
 
 pub AreRead-append : (ps qs : List Parcel) → AreRead ps → AreRead qs → AreRead (ps ++ qs)
 AreRead-append ps qs p q =
-    found-append ps qs ∙ ap (λ (t : List Seen). t ++ found qs) p ∙ ap (λ (t : List Seen). meant (messages_of ps) ++ t) q
-    ∙ sym (meant-append (messages_of ps) (messages_of qs)) ∙ ap meant (sym (messages_of-append ps qs))
+    parcels_read-append ps qs ∙ ap (λ (t : List Seen). t ++ parcels_read qs) p ∙ ap (λ (t : List Seen). messages_spelled (messages_of ps) ++ t) q
+    ∙ sym (messages_spelled-append (messages_of ps) (messages_of qs)) ∙ ap messages_spelled (sym (messages_of-append ps qs))
 
 -- ---- places
 
@@ -70,7 +70,7 @@ AtPlace None (Some m) = ⊥
 AtPlace (Some p) None = ⊥
 AtPlace (Some p) (Some m) = Carries p m
 
-pub places_agree : (ps : List Parcel) (ms : List Message) → found ps ≡ meant ms → (place : ℕ) → AtPlace (at_place ps place) (at_place ms place)
+pub places_agree : (ps : List Parcel) (ms : List Message) → parcels_read ps ≡ messages_spelled ms → (place : ℕ) → AtPlace (at_place ps place) (at_place ms place)
 places_agree [] [] e place = tt
 places_agree [] (m ∷ ms) e place = absurd cc
 places_agree (p ∷ ps) [] e place = absurd cc

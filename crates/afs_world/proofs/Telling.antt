@@ -30,7 +30,7 @@ use Rattle.afs_model.specs.Playing.{Played, as_played, begun, played, entries_of
 use Rattle.afs_model.specs.Telling.{messages_of, AreRead, told, sent_by}
 use Rattle.afs_world.specs.Serving.{IsWithin}
 use Rattle.afs_world.specs.Worlds.{WorldState, cell_of, receiver_at, notes, IsPlayable, Follows}
-use Rattle.afs_world.proofs.Parcels.{messages_of-found, are_read, messages_of-append, AreRead-append, AtPlace, Carries, places_agree, sent_by-push, told-push, with_messages}
+use Rattle.afs_world.proofs.Parcels.{messages_of-read, are_read, messages_of-append, AreRead-append, AtPlace, Carries, places_agree, sent_by-push, told-push, with_messages}
 use Rattle.afs_world.proofs.Within.{within_more, row_within}
 use Rattle.afs_world.proofs.Clients.{IsNext, begins_next, row_next}
 
@@ -170,7 +170,7 @@ pub server_follows : (old new : WorldState) (st : Step ServerState) (outs : Outs
     → Makes st new.server.state outs → new.server.node ≡ old.server.node → new.client ≡ old.client → new.acts ≡ old.acts → Tells old new (Server 1) outs
     → Follows old (as_played old.acts (server_moves (cell_of old) st)) new
 server_follows old new st outs h within made node client acts t =
-    let ms : messages_of outs.parcels ≡ st.sent = messages_of-found outs.parcels st.sent made.sent in
+    let ms : messages_of outs.parcels ≡ st.sent = messages_of-read outs.parcels st.sent made.sent in
     leaves_follow old new (moves_entry (Server 1) outs) outs.parcels _ h
     (record {
       server = node;
@@ -191,7 +191,7 @@ pub client_follows : (old new : WorldState) (st : Step ClientState) (outs : Outs
     → Makes st new.client.state outs → new.client.node ≡ old.client.node → new.server ≡ old.server → new.acts ≡ left → All IsShortAct left → Tells old new (Client 1) outs
     → Follows old (as_played left (client_moves (cell_of old) 1 st)) new
 client_follows old new st outs left h next made node server acts short t =
-    let ms : messages_of outs.parcels ≡ st.sent = messages_of-found outs.parcels st.sent made.sent in
+    let ms : messages_of outs.parcels ≡ st.sent = messages_of-read outs.parcels st.sent made.sent in
     let clients : put 1 st.state (others old.client.state) ≡ others st.state = put_twice 1 st.state old.client.state (λ n. first_client) in
     leaves_follow old new (moves_entry (Client 1) outs) outs.parcels _ h
     (record {

@@ -1,7 +1,7 @@
 //! What a step is given, and what it gives out.
 
 ghost use Rattle.std.specs.Prelude.{◌≡◌, ◌≤◌, [], ◌∷◌, length, IfOk};
-ghost use Rattle.afs_model.specs.Messages.{found, meant, HasSpelling};
+ghost use Rattle.afs_model.specs.Messages.{parcels_read, messages_spelled, HasSpelling};
 
 use afs_fsrpc::messages::encode_message;
 use afs_num::histories::{Line, Lines, Outs};
@@ -31,7 +31,7 @@ pub(crate) fn outs_of(alloc: Global, lines: Lines, head: Head, bytes: Octets) ->
 pub(crate) fn outs_with(alloc: Global, lines: Lines, message: &Message) -> Mem<Outs>
     requires { HasSpelling message.now }
     ensures lines { IfOk result (λ o. o.lines ≡ lines) }
-    ensures sent { IfOk result (λ o. found o.parcels ≡ meant (message.now ∷ [])) }
+    ensures sent { IfOk result (λ o. parcels_read o.parcels ≡ messages_spelled (message.now ∷ [])) }
     ensures few { IfOk result (λ o. length o.parcels ≤ 1) }
 {
     let bytes = encode_message(alloc, message)?;

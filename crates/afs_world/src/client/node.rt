@@ -3,7 +3,7 @@
 ghost use Rattle.std.specs.Prelude.{◌≡◌, ◌≤◌, ◌<◌, ◌+◌, ◌↔◌, [], ◌∷◌, length, None, IfOk, IsSome, IsTrue};
 ghost use Rattle.std.specs.Option.{option_copied};
 ghost use Rattle.afs_num.specs.Nodes.{IsNode};
-ghost use Rattle.afs_model.specs.Messages.{found, meant, received};
+ghost use Rattle.afs_model.specs.Messages.{parcels_read, messages_spelled, received};
 ghost use Rattle.afs_model.specs.Steps.{Answers, Makes};
 ghost use Rattle.afs_model.specs.ClientRow.{answers_step, begin_row, call_head, call_message, calls_step, client_row, ignores, shows_fetched_step, shows_step, takes_fetched};
 ghost use Rattle.afs_model.specs.Form.{IsShortAct};
@@ -100,7 +100,7 @@ impl CacheManager {
         requires node { IsNode self.now.node }
         requires short { IsShortAct act.now }
         ensures lines { IfOk result (λ o. o.lines ≡ lines) }
-        ensures sent { IfOk result (λ o. found o.parcels ≡ meant (call_message self.now.node (record self.now.state { last = number; boot = boot }) act.now ∷ [])) }
+        ensures sent { IfOk result (λ o. parcels_read o.parcels ≡ messages_spelled (call_message self.now.node (record self.now.state { last = number; boot = boot }) act.now ∷ [])) }
         ensures few { IfOk result (λ o. length o.parcels ≤ 1) }
     {
         let message = Message {
@@ -369,7 +369,7 @@ impl CacheManager {
         requires node { IsNode self.now.node }
         requires short { IsShortAct act.now }
         ensures lines { IfOk result (λ o. o.lines ≡ Line.Given place ∷ []) }
-        ensures sent { IfOk result (λ o. found o.parcels ≡ meant (call_message self.now.node (record self.now.state { boot = boot }) act.now ∷ [])) }
+        ensures sent { IfOk result (λ o. parcels_read o.parcels ≡ messages_spelled (call_message self.now.node (record self.now.state { boot = boot }) act.now ∷ [])) }
         ensures few { IfOk result (λ o. length o.parcels ≤ 1) }
     {
         let lines = given(alloc, place)?;

@@ -5,7 +5,7 @@ ghost use Rattle.std.specs.List.{All};
 ghost use Rattle.afs_model.specs.Calls.{admitted, call_seat, paired, runs};
 ghost use Rattle.afs_model.specs.Heads.{contents_limit, is_zero, IsSoundHead};
 ghost use Rattle.afs_model.specs.FsRows.{fetch_data, store_data};
-ghost use Rattle.afs_model.specs.Messages.{found, meant, received, HasSpelling, IsSoundReceived};
+ghost use Rattle.afs_model.specs.Messages.{parcels_read, messages_spelled, received, HasSpelling, IsSoundReceived};
 ghost use Rattle.afs_model.specs.Steps.{Answers, Makes};
 ghost use Rattle.afs_model.specs.ServerRow.{AreOrdered, admits, called, does, find_file, hears, keeps, refuses_step, sends_step, serves_call, server_row};
 ghost use Rattle.afs_model.specs.ServerRow as row;
@@ -64,7 +64,7 @@ fn arrival(alloc: Global, call: &Incoming) -> Mem<Lines>
 /// A kept reply, once more.
 fn repeat(alloc: Global, call: &Incoming, bytes: &[u8]) -> Mem<Outs>
     ensures lines { IfOk result (λ o. o.lines ≡ Line.Given call.now.moment.place ∷ []) }
-    ensures sent { (m : Message) → Spells m bytes.now → IfOk result (λ o. found o.parcels ≡ meant (m ∷ [])) }
+    ensures sent { (m : Message) → Spells m bytes.now → IfOk result (λ o. parcels_read o.parcels ≡ messages_spelled (m ∷ [])) }
     ensures few { IfOk result (λ o. length o.parcels ≤ 1) }
 {
     let lines = arrival(alloc, call)?;
