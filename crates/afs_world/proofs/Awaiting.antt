@@ -9,7 +9,7 @@ use Rattle.afs_num.specs.declared.messages.Received.{Received}
 use Rattle.afs_num.specs.declared.messages.Received.TheVariants.{Nothing, Unknown, Unreadable, Whole}
 use Rattle.afs_num.specs.declared.scripts.Act.{Act}
 use Rattle.afs_num.specs.declared.states.ClientState.{ClientState}
-use Rattle.afs_model.specs.FsRows.{first_of}
+use Rattle.afs_model.specs.Rpc.{first_of}
 use Rattle.afs_model.specs.Heads.{head_at}
 use Rattle.afs_model.specs.Messages.{received}
 use Rattle.afs_model.specs.Steps.{Answers, Makes, NodeState, Step}

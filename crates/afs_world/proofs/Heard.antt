@@ -7,7 +7,7 @@ use Rattle.afs_num.specs.declared.histories.Outs.{Outs}
 use Rattle.afs_num.specs.declared.messages.Message.{Message}
 use Rattle.afs_num.specs.declared.messages.Received.{Received}
 use Rattle.afs_num.specs.declared.messages.Received.TheVariants.{Nothing, Whole}
-use Rattle.afs_model.specs.FsRows.{first_of}
+use Rattle.afs_model.specs.Rpc.{first_of}
 use Rattle.afs_model.specs.Heads.{head_at}
 use Rattle.afs_model.specs.Messages.{received, parcels_read, messages_spelled}
 use Rattle.afs_model.proofs.Headers.{read_head_is}
