@@ -7,7 +7,7 @@ use afs_fsrpc::messages::read_message;
 use afs_num::histories::{Body, Entry, Line, Lines, ReadSource, Version};
 use afs_num::messages::Received;
 use afs_num::scripts::{Script, SetupLine, SetupLines, Tasks, VolumeLine, VolumeLines};
-use afs_num::sequences::{Names, Octets, Sequence};
+use afs_num::sequences::{Path, Octets, Sequence};
 use afs_num::states::StoredFile;
 use afs_num::types::{Code, Fid, Half, Head, Key, Mem, Node, Parcel};
 use afs_outside::memory::MemSink;
@@ -111,7 +111,7 @@ fn is_read(alloc: Global, parcel: &Parcel) -> Mem<bool>
 }
 
 fn script(alloc: Global) -> Mem<Script> {
-    let mut path = Names::new(alloc);
+    let mut path = Path::new(alloc);
     path.push(octets(alloc, b"a b")?)?;
     let mut lines = SetupLines::new(alloc);
     lines.push(SetupLine::File {
