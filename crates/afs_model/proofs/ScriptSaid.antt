@@ -27,7 +27,7 @@ use Rattle.afs_num.specs.declared.types.Node.{Node}
 use Rattle.afs_num.specs.declared.types.Node.TheVariants as nodes
 use Rattle.afs_model.specs.ScriptWords.{◌>>=◌, must, parts, word_at, ended, first_word, number_at, ranged, node_at, contents_at, path_of, fid_at, is_unbuilt}
 use Rattle.afs_model.specs.Script.{LinesRead, nothing_read, next_turn, is_due, has_ended, cell_line, servers_line, clients_line, has_name, volume_line, name_in_root, lays, laid, file_line, is_file_here, open_at, close_at, act_of, do_line, act_line, delivers, deliver_line, bare_line, line_by_word, line_of, is_silent, line_at, script_in, last_at, at_line, lines_at, script_of}
-use Rattle.afs_model.specs.ScriptText.{closed, spaced, node_word, fid_word, contents_word, path_word, setup_line, volume_lines, act_words, task_line, event_line, schedule_lines, script_lines, spoken, IsWritten}
+use Rattle.afs_model.specs.ScriptText.{closed, spaced, node_word, fid_word, contents_word, path_word, setup_line, volume_lines, act_words, task_line, event_line, schedule_lines, script_lines, is_empty_or_comment, spoken, IsWritten}
 use Rattle.afs_model.proofs.ScriptLines.{both}
 use Rattle.afs_model.proofs.ScriptServer.{bound, ok_of, must_true, some_in, le_of_test, range, at_line_ok}
 use Rattle.afs_model.proofs.ScriptWritten.{word_written, none_left, number_written, node_written, contents_written, path_written, fid_written, word_of, first_written, same_bytes, line_written, append_nil}
@@ -439,6 +439,11 @@ line_says r x line h e =
     line_written line word.value.0 word.value.1 (word_written (parts 32 line) word.value word.first) ∙ ap (λ (w : List ℕ). spaced w word.value.1) kind in
     subst (λ (l : List ℕ). Says r l x) (sym is) (word_says first.value r x word.value.1 (must_true _ _ _ due.first) h built.rest)
 
+-- what the reader passes over is what says nothing
+passed_over : (line : List ℕ) → is_empty_or_comment line ≡ is_silent line
+passed_over [] = refl
+passed_over (b ∷ bs) = refl
+
 -- a line says itself, or nothing
 record SaysAny (r : LinesRead) (line : List ℕ) (x : LinesRead) : Type 0 where
   more : said x ≡ said r ++ spoken (line ∷ [])
@@ -447,10 +452,10 @@ record SaysAny (r : LinesRead) (line : List ℕ) (x : LinesRead) : Type 0 where
 any_by : (t : Bool) (r x : LinesRead) (line : List ℕ) → InTurn r → is_silent line ≡ t → cond t (Ok r) (line_of r (parts 32 line)) ≡ Ok x → SaysAny r line x
 any_by true r x line h t e =
     let same : r ≡ x = ok_of _ _ _ _ e in
-    subst (λ (y : LinesRead). SaysAny r line y) same (record { more = sym (append_nil (said r)) ∙ ap (λ (b : Bool). said r ++ cond (not b) (line ∷ []) []) (sym t); turn = h })
+    subst (λ (y : LinesRead). SaysAny r line y) same (record { more = sym (append_nil (said r)) ∙ ap (λ (b : Bool). said r ++ cond (not b) (line ∷ []) []) (sym (passed_over line ∙ t)); turn = h })
 any_by false r x line h t e =
     let one = line_says r x line h e in
-    record { more = one.more ∙ ap (λ (b : Bool). said r ++ cond (not b) (line ∷ []) []) (sym t); turn = one.turn }
+    record { more = one.more ∙ ap (λ (b : Bool). said r ++ cond (not b) (line ∷ []) []) (sym (passed_over line ∙ t)); turn = one.turn }
 
 any_says : (r x : LinesRead) (number room : ℕ) (line : List ℕ) → InTurn r → line_at r number room line ≡ Ok x → SaysAny r line x
 unfolding line_at
@@ -498,7 +503,7 @@ spoken_by true line lines = refl
 spoken_by false line lines = refl
 
 split_spoken : (line : List ℕ) (lines : List (List ℕ)) → spoken (line ∷ []) ++ spoken lines ≡ spoken (line ∷ lines)
-split_spoken line lines = spoken_by (is_silent line) line lines
+split_spoken line lines = spoken_by (is_empty_or_comment line) line lines
 
 lines_say : (pieces : List (List ℕ)) (r : LinesRead) (number room : ℕ) (s : Script) → InTurn r → lines_at r number room pieces ≡ Ok s → SaysAll r pieces s
 lines_say [] r number room s h e = absurd cc

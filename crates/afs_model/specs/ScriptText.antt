@@ -17,7 +17,7 @@ use Rattle.afs_num.specs.declared.scripts.VolumeLine.{VolumeLine}
 use Rattle.afs_num.specs.declared.scripts.Script.{Script}
 use Rattle.afs_num.specs.declared.scripts.Reason.{Reason}
 use Rattle.afs_model.specs.ScriptWords.{◌>>=◌}
-use Rattle.afs_model.specs.Script.{LinesRead, nothing_read, at_line, line_at, last_at, script_of, is_silent, is_file_here, delivers}
+use Rattle.afs_model.specs.Script.{LinesRead, nothing_read, at_line, line_at, last_at, script_of, is_file_here, delivers}
 
 -- no byte of the part is the cut
 abbrev pub is_part : ℕ → List ℕ → Bool
@@ -198,9 +198,15 @@ pub record IsWithinLimits (lines : List (List ℕ)) : Type 0 where
 abbrev pub SpelledIsRead : Type 0
 SpelledIsRead = (s : Script) → IsOfForm s → IsWithinLimits (script_lines s) → script_of (script_text s) ≡ Ok s
 
--- The lines that say something: all but empty ones and comments.
+-- An empty line, or a comment, which begins with `#`. These words are the law's own, and not the reader's: a reader that
+-- passed over further lines would break the law.
+abbrev pub is_empty_or_comment : List ℕ → Bool
+is_empty_or_comment [] = true
+is_empty_or_comment (b ∷ bs) = nat_eq b 35
+
+-- The lines that say something: all but these.
 abbrev pub spoken : List (List ℕ) → List (List ℕ)
-spoken lines = filter (λ line. not (is_silent line)) lines
+spoken lines = filter (λ line. not (is_empty_or_comment line)) lines
 
 -- The bytes are lines, each with its newline, and those that say something are the lines of the script.
 pub record IsWritten (s : Script) (bytes : List ℕ) : Type 0 where
