@@ -7,7 +7,7 @@ use afs_fsrpc::messages::read_message;
 use afs_num::histories::{Body, Entry, Line, Lines, ReadSource, Version};
 use afs_num::messages::Received;
 use afs_num::scripts::{Script, SetupLine, SetupLines, Tasks, VolumeLine, VolumeLines};
-use afs_num::sequences::{Path, Octets, Sequence};
+use afs_num::sequences::{Octets, Path, Sequence};
 use afs_num::states::StoredFile;
 use afs_num::types::{Code, Fid, Half, Head, Key, Mem, Node, Parcel};
 use afs_outside::memory::MemSink;
