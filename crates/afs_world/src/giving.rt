@@ -49,11 +49,18 @@ pub(crate) fn quiet(alloc: Global, lines: Lines) -> Outs
     }
 }
 
+/// One line, with room for no other: a long run has many entries of one line.
+pub(crate) fn one_line(alloc: Global, line: Line) -> Mem<Lines>
+    ensures { IfOk result (λ ls. ls ≡ line ∷ []) }
+{
+    let mut lines = Sequence::from_vec(Vec::with_capacity(alloc, 1)?);
+    lines.push(line)?;
+    Ok(lines)
+}
+
 /// The line of a message that is given.
 pub(crate) fn given(alloc: Global, place: u64) -> Mem<Lines>
     ensures { IfOk result (λ ls. ls ≡ Line.Given place ∷ []) }
 {
-    let mut lines = Sequence::new(alloc);
-    lines.push(Line::Given { place })?;
-    Ok(lines)
+    one_line(alloc, Line::Given { place })
 }

@@ -10,7 +10,7 @@ ghost use Rattle.afs_model.specs.Telling.{AreRead, told, sent_by};
 ghost use Rattle.afs_world.specs.Worlds.{cell_of, receiver_at, notes, IsPlayable, Plays};
 
 use crate::client::CacheManager;
-use crate::giving::Moment;
+use crate::giving::{Moment, one_line};
 use crate::plans::Plan;
 use crate::server::FileServer;
 use afs_num::histories::{Entry, Line, Outs};
@@ -79,8 +79,7 @@ impl<'a> World<'a> {
         ensures ok { OnOk result (self.new ≡ record self.old { history = self.old.history ++ record { node = node; lines = line ∷ []; sent = 0 } ∷ [] }) }
         ensures err { OnErr result (self.new ≡ self.old) }
     {
-        let mut lines = Sequence::new(alloc);
-        lines.push(line)?;
+        let lines = one_line(alloc, line)?;
         self.history.push(Entry {
             node,
             lines,
