@@ -1,11 +1,11 @@
 //! The text of a run. What is printed was written from the rules.
 
-ghost use Rattle.std.specs.Prelude.{◌≡◌, ◌∷◌, [], IfOk, IsTrue};
+ghost use Rattle.std.specs.Prelude.{◌≡◌, ◌∷◌, [], IfOk};
 ghost use Rattle.afs_model.specs.Telling.{AreRead};
 
-use afs_fsrpc::messages::read_message;
+use afs_fsrpc::messages::encode_message;
 use afs_num::histories::{Body, Entry, Line, Lines, ReadSource, Version};
-use afs_num::messages::Received;
+use afs_num::messages::{Carried, Message};
 use afs_num::scripts::{Script, SetupLine, SetupLines, Tasks, VolumeLine, VolumeLines};
 use afs_num::sequences::{Octets, Path, Sequence};
 use afs_num::states::StoredFile;
@@ -25,7 +25,9 @@ fn octets(alloc: Global, bytes: &[u8]) -> Mem<Octets> {
     Octets::from_slice(alloc, bytes)
 }
 
-fn entry(node: Option<Node>, lines: Lines) -> Entry {
+fn entry(node: Option<Node>, lines: Lines) -> Entry
+    ensures { result.sent ≡ 0 }
+{
     Entry {
         node,
         lines,
@@ -73,41 +75,23 @@ fn stored_entry(alloc: Global) -> Mem<Entry> {
     Ok(entry(Some(Node::Server(1)), lines))
 }
 
-/// A message of these words, under this header.
-fn parcel(alloc: Global, half: Half, from: Node, to: Node, words: &[u32]) -> Mem<Parcel> {
-    let mut bytes = Vec::new(alloc);
-    for word in words {
-        bytes.extend_from_slice(&word.to_be_bytes())?;
-    }
-    Ok(Parcel {
-        head: Head {
-            half,
-            from,
-            to,
-            epoch: 1,
-            number: 2,
-            boot: 1,
-            stamp: 0,
-            opcode: 133,
-        },
-        bytes: octets(alloc, &bytes)?,
-    })
-}
-
 /// The refusal of client 1's second call, a store, with -453.
-fn refusal(alloc: Global) -> Mem<Parcel> {
-    let words = [2, 1, 101, 1, 2, 1, 0, 133, 0xfffffe3b];
-    parcel(alloc, Half::Reply, Node::Server(1), Node::Client(1), &words)
-}
-
-/// Whether the bytes of a message are read as one.
-fn is_read(alloc: Global, parcel: &Parcel) -> Mem<bool>
-    ensures { IfOk result (λ b. IsTrue b → AreRead (parcel.now ∷ [])) }
+fn refusal(alloc: Global) -> Mem<Parcel>
+    ensures { IfOk result (λ p. AreRead (p ∷ [])) }
 {
-    match read_message(alloc, parcel.bytes.as_slice())? {
-        Received::Whole { .. } => Ok(true),
-        _ => Ok(false),
-    }
+    let head = Head {
+        half: Half::Reply,
+        from: Node::Server(1),
+        to: Node::Client(1),
+        epoch: 1,
+        number: 2,
+        boot: 1,
+        stamp: 0,
+        opcode: 133,
+    };
+    let carried = Carried::Refusal { code: Code(-453) };
+    let bytes = encode_message(alloc, &Message { head, carried })?;
+    Ok(Parcel { head, bytes })
 }
 
 fn script(alloc: Global) -> Mem<Script> {
@@ -166,7 +150,6 @@ fn messages_come_last_and_with_their_bytes_where_asked(rt: HostRuntime) -> Resul
     let alloc = rt.alloc();
     let entry = stored_entry(alloc)?;
     let refusal = refusal(alloc)?;
-    assert!(rt; is_read(alloc, &refusal)?);
     let bare =
         b"entry 5 s1\nchange s1 c1.1.2 1\nversion 536870912.2.2 2 3 f:\nsent 18446744073709551615 s1 c1 reply 133 1.2 -453\n";
     let with_bytes =
