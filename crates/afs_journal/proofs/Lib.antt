@@ -1,3 +1,6 @@
 mod Appended
+mod Crash
 mod Mended
+mod Moments
+mod Records
 mod Sound

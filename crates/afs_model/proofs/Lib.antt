@@ -27,9 +27,6 @@ pub mod Sameness
 pub mod Schedules
 pub mod Spellings
 pub mod Served
-pub mod Crash
-pub mod Journal
-pub mod Moments
 pub mod HeadLaws
 pub mod RpcLaws
 pub mod FsMade

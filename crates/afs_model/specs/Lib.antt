@@ -25,8 +25,6 @@ pub mod ScriptLaws
 pub mod Form
 pub mod ActsLaws
 pub mod SpellingLaws
-pub mod Disk
-pub mod Journal
 pub mod Calls
 pub mod CallLaws
 pub mod Directories

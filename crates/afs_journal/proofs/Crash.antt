@@ -2,9 +2,9 @@
 use Rattle.std.proofs.Common.{◌≡◌, ◌<◌, ◌≤◌, inl, inr, ℕ, suc, ◌+◌, ◌*◌, ◌-◌, ◌^◌, List, [], ◌∷◌, ◌++◌, length, get_or, take, drop, None, refl, sym, ◌∙◌, ap, subst, arith, append_assoc, length-append, take-append-drop, length-drop}
 use Rattle.std.proofs.lemmas.List.{append-nil, take_at, drop_at, take_all, drop_all, drop_more, take_more, take-take, length-take, length-take-le, drop-drop, drop-take}
 use Rattle.std.proofs.lemmas.Bool.{cases_eq}
-use Rattle.afs_model.specs.Disk.{overwritten, Torn, CutShort}
-use Rattle.afs_model.specs.Journal.{place_of, blocks, journal_bytes, record_at, whole_records, IsBeforeOrAfter, Fit, EndsAt}
-use Rattle.afs_model.proofs.Journal.{blocks-push, fit-push, length-blocks, length-place_of, closed, short, none_in_front, stands_for, stands_for_nothing}
+use Rattle.afs_disk.specs.Disk.{overwritten, Torn, CutShort}
+use Rattle.afs_journal.specs.Records.{place_of, blocks, journal_bytes, record_at, whole_records, IsBeforeOrAfter, Fit, EndsAt}
+use Rattle.afs_journal.proofs.Records.{blocks-push, fit-push, length-blocks, length-place_of, closed, short, none_in_front, stands_for, stands_for_nothing}
 
 -- bytes that begin with these and go on with what is behind
 split_at : (n : ℕ) (c front : List ℕ) → take n c ≡ front → c ≡ front ++ drop n c

@@ -1,6 +1,6 @@
 -- How what a crash may leave goes on from one device call to the next.
 use Rattle.std.proofs.Common.{inl, inr, ⊎_elim, ℕ, List, Option, arith}
-use Rattle.afs_model.specs.Disk.{Passes, LeavesOnly, SameDisk}
+use Rattle.afs_disk.specs.Disk.{Passes, LeavesOnly, SameDisk}
 
 module _ {D : Type 0} (moment : D → ℕ) (left_since : D → ℕ → List ℕ → Type 0) where
   -- before the first call

@@ -6,7 +6,7 @@ use Rattle.std.proofs.lemmas.List.{append-nil, take_at, drop_at, drop-drop, take
 use Rattle.std.proofs.lemmas.Bool.{cases_lt}
 use Rattle.std.proofs.lemmas.Bool.Decides.{nat_tests}
 use Rattle.afs_xdr.specs.Words.{word}
-use Rattle.afs_model.specs.Journal.{number_at, place_of, blocks, is_whole, record_at, and_then, whole_from, whole_records, Fit, EndsAt, StartsWith}
+use Rattle.afs_journal.specs.Records.{number_at, place_of, blocks, is_whole, record_at, and_then, whole_from, whole_records, Fit, EndsAt, StartsWith}
 
 pub length-word : (n : ℕ) → length (word n) ≡ 4
 unfolding word
