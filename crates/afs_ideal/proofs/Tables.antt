@@ -1,7 +1,7 @@
 -- What is found in a table after a change, and which numbers are free.
 use Rattle.std.proofs.Common.{◌≡◌, ◌≢◌, ℕ, ◌+◌, ◌*◌, ◌%◌, ◌<◌, ◌≤◌, Bool, true, false, not, [], ◌∷◌, length, Some, None, is_some, nat_eq, nat_lt, if◌then◌else◌, arith, refl}
 use Rattle.std.proofs.lemmas.Bool.Decides.{nat_tests}
-use Rattle.afs_model.specs.Tables.{Table, get, set, unset, AscendsFrom, lowest_free}
+use Rattle.afs_ideal.specs.Tables.{Table, get, set, unset, AscendsFrom, lowest_free}
 
 -- ---- order
 

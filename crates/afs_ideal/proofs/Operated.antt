@@ -12,13 +12,13 @@ use Rattle.afs_num.specs.declared.histories.Body.{Body}
 use Rattle.afs_num.specs.declared.histories.Body.TheVariants as bodies
 use Rattle.afs_num.specs.declared.histories.Version.{Version}
 use Rattle.afs_num.specs.Names.{name_ok}
-use Rattle.afs_model.specs.AccessLists.{rights_of, acl_at, count_at, line_number_at, named_at, name_at, entry_at}
+use Rattle.afs_ideal.specs.AccessLists.{rights_of, acl_at, count_at, line_number_at, named_at, name_at, entry_at}
 use Rattle.std.specs.Option.{option_map}
-use Rattle.afs_model.specs.Tables.{get, set, unset}
-use Rattle.afs_model.specs.Directories.{bytes_below, directory_bytes, name_bytes}
+use Rattle.afs_ideal.specs.Tables.{get, set, unset}
+use Rattle.afs_ideal.specs.Directories.{bytes_below, directory_bytes, name_bytes}
 use Rattle.afs_xdr.specs.Words.{word, opaque, pad}
-use Rattle.afs_model.specs.Volumes.{Kind, a_file, a_directory, a_link, Vnode, Volume, blocks_in}
-use Rattle.afs_model.specs.Operations.{Caller, the_user, op, code_of, made_by, changed, links_of}
+use Rattle.afs_ideal.specs.Volumes.{Kind, a_file, a_directory, a_link, Vnode, Volume, blocks_in}
+use Rattle.afs_ideal.specs.Operations.{Caller, the_user, op, code_of, made_by, changed, links_of}
 
 -- ---- the volume 5: a file `a`, a directory `d` with a file of two names and a link, an empty directory `e`
 

@@ -1,9 +1,8 @@
 -- Laws about directories.
-use Rattle.std.specs.Prelude.{◌≡◌, ◌⊎◌, ℕ, true, false, List, Some, None, Ok, if◌then◌else◌}
+use Rattle.std.specs.Prelude.{◌≡◌, ◌⊎◌, ℕ, true, false, List, Some, None, Ok, if◌then◌else◌, ◌<◌, slice_index}
 use Rattle.std.specs.Str.{bytes_eq}
 use Rattle.afs_num.specs.declared.directories.Name.{Name}
-use Rattle.afs_model.specs.SpellingLaws.{IsBytes}
-use Rattle.afs_model.specs.Directories.{bytes_below, IsDirectory, named, with_name, without_name, add_refused, FitNames, directory_bytes, directory_of}
+use Rattle.afs_ideal.specs.Directories.{bytes_below, IsDirectory, named, with_name, without_name, add_refused, FitNames, directory_bytes, directory_of}
 
 -- byte order is a strict total order
 pub record ByteOrderIsStrict : Type 0 where
@@ -20,6 +19,10 @@ pub record AddedAreFound : Type 0 where
 pub record RemovedAreGone : Type 0 where
   pub directory : (name : List ℕ) (names : List Name) → IsDirectory names → IsDirectory (without_name name names)
   pub found : (gone name : List ℕ) (names : List Name) → named name (without_name gone names) ≡ (if bytes_eq gone name then None else named name names)
+
+-- numbers that are bytes
+abbrev pub IsBytes : List ℕ → Type 0
+IsBytes bytes = (i : ℕ) → slice_index bytes i < 256
 
 -- the bytes of a directory are read as it
 abbrev pub DirectoriesAreReadAgain : Type 0

@@ -7,10 +7,9 @@ use Rattle.std.proofs.lemmas.List.{append-nil, take-append-drop, take_at, drop_a
 use Rattle.afs_num.specs.Names.{is_in, has_size}
 use Rattle.afs_num.specs.declared.acls.AclEntry.{AclEntry}
 use Rattle.afs_num.specs.declared.acls.AccessList.{AccessList}
-use Rattle.afs_model.specs.ScriptWords.{◌>>=◌}
-use Rattle.afs_model.specs.AccessLists.{tab, newline, number_line, entry_text, acl_text, is_acl_byte, is_acl_name, is_named, most_rights, most_entries, IsEntry, AreEntries, IsAccessList, Refusal, bad_from, too_many, goes_on, digits_at, line_number_at, count_at, at_most, name_length, named_at, name_at, entry_at, entries_at, must_be_few, must_end, lists_at, acl_at}
-use Rattle.afs_model.proofs.ScriptLines.{both}
-use Rattle.afs_model.proofs.ScriptNumbers.{both_true, if_true, if_false, is_digit}
+use Rattle.afs_shape.specs.Reading.{◌>>=◌}
+use Rattle.afs_ideal.specs.AccessLists.{tab, newline, number_line, entry_text, acl_text, is_acl_byte, is_acl_name, is_named, most_rights, most_entries, IsEntry, AreEntries, IsAccessList, Refusal, bad_from, too_many, goes_on, digits_at, line_number_at, count_at, at_most, name_length, named_at, name_at, entry_at, entries_at, must_be_few, must_end, lists_at, acl_at}
+use Rattle.afs_ideal.proofs.Basics.{both, both_true, if_true, if_false, is_digit}
 
 -- ---- numbers
 

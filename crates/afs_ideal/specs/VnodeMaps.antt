@@ -2,8 +2,8 @@
 use Rattle.std.specs.Prelude.{ℕ, List, Bool, not, ◌&&◌, Option, Some, None, map, filter, length, is_some, nat_eq, nat_lt, if◌then◌else◌}
 use Rattle.std.specs.List.{AllByRecursion}
 use Rattle.afs_num.specs.declared.vnodes.Vnode.{Vnode}
-use Rattle.afs_model.specs.Tables.{Table, get, lowest_free}
-use Rattle.afs_model.specs.VnodeImage.{FitsImage}
+use Rattle.afs_ideal.specs.Tables.{Table, get, lowest_free}
+use Rattle.afs_ideal.specs.VnodeImage.{FitsImage}
 
 abbrev pub most_vnodes : ℕ
 most_vnodes = 4096

@@ -12,8 +12,8 @@ use Rattle.afs_xdr.specs.declared.faults.XdrFault.{XdrFault}
 use Rattle.afs_xdr.specs.Words.{word, words, opaque, word_at, opaque_at}
 use Rattle.afs_shape.specs.Reading.{◌>>=◌}
 use Rattle.afs_shape.proofs.Codecs.{IsBytes, Takes, Takes-then, word_codec, opaque_codec}
-use Rattle.afs_model.specs.Directories.{bytes_below, may_follow, follow, most_names, IsDirectory, name_bytes, directory_bytes, FitsName, FitNames, field, if_good, count_at, spelled_at, name_at, names_at, whole_at, at_offset, directory_of}
-use Rattle.afs_model.proofs.Directories.{both_so, good_is_short}
+use Rattle.afs_ideal.specs.Directories.{bytes_below, may_follow, follow, most_names, IsDirectory, name_bytes, directory_bytes, FitsName, FitNames, field, if_good, count_at, spelled_at, name_at, names_at, whole_at, at_offset, directory_of}
+use Rattle.afs_ideal.proofs.Directories.{both_so, good_is_short}
 
 -- ---- one step after the other
 

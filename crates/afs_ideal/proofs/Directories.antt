@@ -14,7 +14,7 @@ use Rattle.std.proofs.lemmas.List.Filters.{length-filter_both}
 use Rattle.afs_num.specs.Names.{has_size, is_name_byte, is_dots, name_ok}
 use Rattle.std.specs.List.{list_all}
 use Rattle.afs_num.specs.declared.directories.Name.{Name}
-use Rattle.afs_model.specs.Directories.{bytes_below, may_follow, follow, most_names, IsDirectory, is_named, named, with_name, without_name, add_refused}
+use Rattle.afs_ideal.specs.Directories.{bytes_below, may_follow, follow, most_names, IsDirectory, is_named, named, with_name, without_name, add_refused}
 
 -- ---- byte order
 

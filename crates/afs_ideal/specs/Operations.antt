@@ -13,10 +13,10 @@ use Rattle.afs_num.specs.declared.calls.FsCall.{FsCall}
 use Rattle.afs_num.specs.declared.calls.FsCall.TheVariants as calls
 use Rattle.afs_num.specs.declared.directories.Name.{Name}
 use Rattle.afs_num.specs.declared.histories.Version.{Version}
-use Rattle.afs_model.specs.Tables.{get, lowest_free}
-use Rattle.afs_model.specs.AccessLists.{acl_at, rights_of}
-use Rattle.afs_model.specs.Directories.{most_names, named, with_name, without_name}
-use Rattle.afs_model.specs.Volumes.{Kind, a_file, a_directory, a_link, Vnode, Volume, if_unique, vnode_of, blocks_in, Amend, Edit, amends, makes, frees, has_body, has_bit, with_status, edited_all, versions_by, counted, ascending}
+use Rattle.afs_ideal.specs.Tables.{get, lowest_free}
+use Rattle.afs_ideal.specs.AccessLists.{acl_at, rights_of}
+use Rattle.afs_ideal.specs.Directories.{most_names, named, with_name, without_name}
+use Rattle.afs_ideal.specs.Volumes.{Kind, a_file, a_directory, a_link, Vnode, Volume, if_unique, vnode_of, blocks_in, Amend, Edit, amends, makes, frees, has_body, has_bit, with_status, edited_all, versions_by, counted, ascending}
 
 -- ---- limits
 

@@ -2,10 +2,10 @@
 use Rattle.std.specs.Prelude.{◌≡◌, ◌≤◌, ◌<◌, ◌↔◌, ◌%◌, ◌+◌, ℕ, List, [], ◌∷◌, Bool, true, ◌&&◌, filter, length, nat_eq, Option, Some, None, ⊤, if◌then◌else◌}
 use Rattle.std.specs.List.{All}
 use Rattle.afs_num.specs.declared.directories.Name.{Name}
-use Rattle.afs_model.specs.Tables.{Table, get, AscendsFrom}
-use Rattle.afs_model.specs.Directories.{IsDirectory}
-use Rattle.afs_model.specs.Volumes.{Kind, a_file, a_directory, a_link, Vnode, Volume}
-use Rattle.afs_model.specs.Operations.{is_kind, is_below}
+use Rattle.afs_ideal.specs.Tables.{Table, get, AscendsFrom}
+use Rattle.afs_ideal.specs.Directories.{IsDirectory}
+use Rattle.afs_ideal.specs.Volumes.{Kind, a_file, a_directory, a_link, Vnode, Volume}
+use Rattle.afs_ideal.specs.Operations.{is_kind, is_below}
 
 -- ---- names and what they name
 

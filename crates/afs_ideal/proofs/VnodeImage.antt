@@ -5,7 +5,7 @@ use Rattle.afs_xdr.specs.Words.{word, words, opaque, word_at, AreWords}
 use Rattle.afs_num.specs.declared.vnodes.Vnode.{Vnode}
 use Rattle.afs_shape.specs.Reading.{◌>>=◌}
 use Rattle.afs_shape.proofs.Codecs.{word_codec, opaque_codec}
-use Rattle.afs_model.specs.VnodeImage.{kind_fits, most_acl, most_contents, image_words, image, FitsImage, BadField, as_field, word_field, opaque_field, kind_field, image_at}
+use Rattle.afs_ideal.specs.VnodeImage.{kind_fits, most_acl, most_contents, image_words, image, FitsImage, BadField, as_field, word_field, opaque_field, kind_field, image_at}
 
 -- ---- fields
 

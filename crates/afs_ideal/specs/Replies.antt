@@ -10,10 +10,10 @@ use Rattle.afs_num.specs.declared.calls.FsCall.{FsCall}
 use Rattle.afs_num.specs.declared.calls.FsCall.TheVariants as calls
 use Rattle.afs_num.specs.declared.calls.FsReply.{FsReply}
 use Rattle.afs_num.specs.declared.calls.FsReply.TheVariants as replies
-use Rattle.afs_model.specs.Tables.{get}
-use Rattle.afs_model.specs.AccessLists.{acl_text, anyuser, rights_of}
-use Rattle.afs_model.specs.Volumes.{Kind, a_file, a_directory, a_link, Vnode, Volume, fid_of, bytes_by, size_of, blocks_in}
-use Rattle.afs_model.specs.Operations.{Caller, rights_by, list_for, Found, Shown, shows_body, shows_status, shows_acl, shows_statuses, shows_volume, new_file}
+use Rattle.afs_ideal.specs.Tables.{get}
+use Rattle.afs_ideal.specs.AccessLists.{acl_text, anyuser, rights_of}
+use Rattle.afs_ideal.specs.Volumes.{Kind, a_file, a_directory, a_link, Vnode, Volume, fid_of, bytes_by, size_of, blocks_in}
+use Rattle.afs_ideal.specs.Operations.{Caller, rights_by, list_for, Found, Shown, shows_body, shows_status, shows_acl, shows_statuses, shows_volume, new_file}
 
 -- ---- statuses
 

@@ -1,6 +1,6 @@
 //! Laws about directories. Each is the contract of a function that does nothing.
 
-ghost use Rattle.afs_model.specs.DirectoryLaws.{AddedAreFound, ByteOrderIsStrict, DirectoriesAreReadAgain, ReadDirectoriesAreSpelled, RemovedAreGone};
+ghost use Rattle.afs_ideal.specs.DirectoryLaws.{AddedAreFound, ByteOrderIsStrict, DirectoriesAreReadAgain, ReadDirectoriesAreSpelled, RemovedAreGone};
 
 /// Byte order of names is a strict total order.
 pub fn byte_order_is_strict()

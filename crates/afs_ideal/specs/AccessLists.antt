@@ -6,7 +6,7 @@ use Rattle.std.specs.Str.{bytes_eq}
 use Rattle.afs_num.specs.Names.{is_in, has_size}
 use Rattle.afs_num.specs.declared.acls.AclEntry.{AclEntry}
 use Rattle.afs_num.specs.declared.acls.AccessList.{AccessList}
-use Rattle.afs_model.specs.ScriptWords.{◌>>=◌}
+use Rattle.afs_shape.specs.Reading.{◌>>=◌}
 
 -- ---- the text: how many entries there are of each kind, then the entries, those that give rights first
 

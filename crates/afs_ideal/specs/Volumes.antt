@@ -10,8 +10,8 @@ use Rattle.afs_num.specs.declared.directories.Name.{Name}
 use Rattle.afs_num.specs.declared.histories.Body.{Body}
 use Rattle.afs_num.specs.declared.histories.Body.TheVariants as bodies
 use Rattle.afs_num.specs.declared.histories.Version.{Version}
-use Rattle.afs_model.specs.Tables.{Table, get, set, unset}
-use Rattle.afs_model.specs.Directories.{directory_bytes}
+use Rattle.afs_ideal.specs.Tables.{Table, get, set, unset}
+use Rattle.afs_ideal.specs.Directories.{directory_bytes}
 
 -- ---- values
 

@@ -1,0 +1,4 @@
+//! What a volume is, and what each operation of a file server does to it, as definitions and laws. No code runs in it.
+#![tactic(auto)]
+
+pub mod directory_laws;
