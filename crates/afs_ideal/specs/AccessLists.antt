@@ -62,6 +62,10 @@ pub record IsAccessList (a : AccessList) : Type 0 where
   pub positive : AreEntries [] a.positive
   pub negative : AreEntries [] a.negative
 
+-- a list that says nothing; what is no directory has it
+abbrev pub no_acl : AccessList
+no_acl = record { positive = []; negative = [] }
+
 -- ---- reading a text
 
 -- why a text is no access list: the bytes from the first on that can't stand there, or the sum of its counts

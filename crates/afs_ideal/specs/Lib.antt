@@ -5,7 +5,9 @@ pub mod AccessLists
 pub mod VnodeImage
 pub mod VnodeMaps
 pub mod Volumes
+pub mod Images
 pub mod Operations
 pub mod Replies
+pub mod SetUp
 pub mod Soundness
 pub mod Told

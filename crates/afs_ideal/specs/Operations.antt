@@ -1,9 +1,9 @@
 -- The ideal operation of a file server on a volume, in two halves: the tests, of which the first that fails gives the code of
 -- the refusal; and the effect, which is what is read, or a list of edits. That no volume is there, that it is out of service
 -- or busy, and that a record doesn't fit on the disk, are the server's to tell.
-use Rattle.std.specs.Prelude.{ℕ, zero, suc, ◌+◌, ◌-◌, List, [], ◌∷◌, ◌++◌, Bool, true, false, not, ◌&&◌, ◌||◌, Option, Some, None, Ok, Err, ℤ, pos, negsuc, is_ok, is_some, nat_eq, nat_lt, length, if◌then◌else◌}
+use Rattle.std.specs.Prelude.{◌≡◌, ℕ, zero, suc, ◌+◌, ◌-◌, List, [], ◌∷◌, ◌++◌, Bool, true, false, not, ◌&&◌, ◌||◌, Option, Some, None, Ok, Err, ℤ, pos, negsuc, is_ok, is_some, nat_eq, nat_lt, length, if◌then◌else◌}
 use Rattle.std.specs.Prelude as std_result
-use Rattle.std.specs.List.{list_all}
+use Rattle.std.specs.List.{list_all, All}
 use Rattle.std.specs.Str.{bytes_eq}
 use Rattle.afs_num.specs.Names.{name_ok}
 use Rattle.afs_num.specs.declared.types.Fid.{Fid}
@@ -14,8 +14,9 @@ use Rattle.afs_num.specs.declared.calls.FsCall.TheVariants as calls
 use Rattle.afs_num.specs.declared.directories.Name.{Name}
 use Rattle.afs_num.specs.declared.histories.Version.{Version}
 use Rattle.afs_ideal.specs.Tables.{get, lowest_free}
-use Rattle.afs_ideal.specs.AccessLists.{acl_at, rights_of}
+use Rattle.afs_ideal.specs.AccessLists.{no_acl, acl_at, rights_of}
 use Rattle.afs_ideal.specs.Directories.{most_names, named, with_name, without_name}
+use Rattle.afs_ideal.specs.VnodeMaps.{most_vnodes}
 use Rattle.afs_ideal.specs.Volumes.{Kind, a_file, a_directory, a_link, Vnode, Volume, if_unique, vnode_of, blocks_in, Amend, Edit, amends, makes, frees, has_body, has_bit, with_status, edited_all, versions_by, counted, ascending}
 
 -- ---- limits
@@ -23,10 +24,6 @@ use Rattle.afs_ideal.specs.Volumes.{Kind, a_file, a_directory, a_link, Vnode, Vo
 -- at most so many bytes of a file
 abbrev pub most_bytes : ℕ
 most_bytes = 65536
-
--- at most so many vnodes in a volume
-abbrev pub most_vnodes : ℕ
-most_vnodes = 4096
 
 -- the last value of a count
 abbrev pub last_count : ℕ
@@ -70,14 +67,15 @@ abbrev pub number_named : Option Name → ℕ
 number_named None = 0
 number_named (Some n) = n.vnode
 
-abbrev pub same_number : Option Name → Option Name → Bool
-same_number (Some n) (Some m) = nat_eq n.vnode m.vnode && nat_eq n.unique m.unique
-same_number a b = false
+-- both names are there, and of one vnode
+abbrev pub same_vnode : Option Name → Option Name → Bool
+same_vnode (Some n) (Some m) = nat_eq n.vnode m.vnode && nat_eq n.unique m.unique
+same_vnode a b = false
 
 -- ---- rights: read 1, write 2, insert 4, lookup 8, delete 16, administer 64
 
 abbrev pub acl_of : Option Vnode → AccessList
-acl_of None = record { positive = []; negative = [] }
+acl_of None = no_acl
 acl_of (Some x) = x.acl
 
 -- a directory has an access list; a file or link has that of its parent
@@ -116,8 +114,8 @@ abbrev pub must_be_directory : Option Vnode → Bool × ℕ
 must_be_directory o = (is_directory o, 20)
 
 -- 30: a read-only or backup volume is never changed
-abbrev pub is_writable : Volume → Bool × ℕ
-is_writable v = (nat_eq v.kind 0, 30)
+abbrev pub is_read_write : Volume → Bool × ℕ
+is_read_write v = (nat_eq v.kind 0, 30)
 
 -- 13: the right is wanting
 abbrev pub has_right : Caller → ℕ → Volume → Option Vnode → Bool × ℕ
@@ -145,7 +143,7 @@ adds_name name names good = (good && name_ok name, 22) ∷ (not (is_some (named 
 -- CreateFile, MakeDir and Symlink
 abbrev pub create_tests : Caller → Fid → List ℕ → AfsStoreStatus → Volume → Tests
 create_tests caller d name status v =
-    is_there (vnode_of d v) ∷ must_be_directory (vnode_of d v) ∷ is_writable v ∷ has_right caller 4 v (vnode_of d v)
+    is_there (vnode_of d v) ∷ must_be_directory (vnode_of d v) ∷ is_read_write v ∷ has_right caller 4 v (vnode_of d v)
     ∷ adds_name name (names_in (vnode_of d v)) (is_mask status)
 
 -- a vnode leads up to another: it is that one, or its parent leads up to it
@@ -154,7 +152,7 @@ leads_up zero n top v o = false
 leads_up (suc more) n top v None = false
 leads_up (suc more) n top v (Some x) = nat_eq n top || leads_up more x.parent top v (get x.parent v.vnodes)
 
--- the directory n is `top`, or stands below it
+-- The vnode n is `top`, or stands below it. The way up meets no vnode twice, so it has no more steps than there are vnodes.
 abbrev pub is_below : ℕ → ℕ → Volume → Bool
 is_below n top v = leads_up (length v.vnodes) n top v (get n v.vnodes)
 
@@ -177,7 +175,7 @@ rename_rights caller d e new v =
 abbrev pub may_move : Fid → Fid → Option Name → Option Name → Volume → Option Vnode → Bool
 may_move d e source target v None = true
 may_move d e source target v (Some x) =
-    not (same_number source target)
+    not (same_vnode source target)
     && (if is_kind x.kind a_directory then not (is_below e.vnode (number_named source) v) else (nat_eq d.vnode e.vnode || nat_lt x.links 2))
 
 abbrev pub is_same_name : Fid → List ℕ → Fid → List ℕ → Bool
@@ -194,14 +192,14 @@ abbrev pub rename_tests : Caller → Fid → List ℕ → Fid → List ℕ → V
 rename_tests caller d old e new v =
     is_there (vnode_of d v) ∷ is_there (vnode_of e v) ∷ (is_directory (vnode_of d v) && is_directory (vnode_of e v), 20)
     ∷ (kinds_agree (vnode_in d old v) (vnode_in e new v)
-    ++ (is_writable v ∷ (rename_rights caller d e new v, 13)
+    ++ (is_read_write v ∷ (rename_rights caller d e new v, 13)
     ∷ (name_ok new && (not (is_same_name d old e new) && may_move d e (name_in d old v) (name_in e new v) v (vnode_in d old v)), 22)
     ∷ (is_some (name_in d old v), 2) ∷ (is_empty (vnode_in e new v), 39) ∷ (has_room_for d e new v, 27) ∷ []))
 
 -- to another volume, which isn't looked at
 abbrev pub rename_out_tests : Caller → Fid → Volume → Tests
 rename_out_tests caller d v =
-    is_there (vnode_of d v) ∷ must_be_directory (vnode_of d v) ∷ is_writable v ∷ has_right caller 16 v (vnode_of d v) ∷ (false, 22) ∷ []
+    is_there (vnode_of d v) ∷ must_be_directory (vnode_of d v) ∷ is_read_write v ∷ has_right caller 16 v (vnode_of d v) ∷ (false, 22) ∷ []
 
 -- a further name is given to a file alone, and in its own directory
 abbrev pub may_link : Fid → Option Vnode → Bool
@@ -211,7 +209,7 @@ may_link d (Some x) = is_kind x.kind a_file && (nat_eq x.parent d.vnode && nat_e
 abbrev pub link_tests : Caller → Fid → List ℕ → Fid → Volume → Tests
 link_tests caller d name f v =
     is_there (vnode_of d v) ∷ (implies (nat_eq f.volume d.volume) (is_some (vnode_of f v)), 102) ∷ must_be_directory (vnode_of d v)
-    ∷ is_writable v ∷ has_right caller 4 v (vnode_of d v)
+    ∷ is_read_write v ∷ has_right caller 4 v (vnode_of d v)
     ∷ adds_name name (names_in (vnode_of d v)) (nat_eq f.volume d.volume && may_link d (vnode_of f v))
 
 -- a file's bytes are fetched and stored whole
@@ -222,7 +220,7 @@ abbrev pub is_whole_store : List ℕ → ℤ → ℤ → ℤ → Bool
 is_whole_store contents position stored file_length =
     is_number position 0 && (is_number stored (length contents) && is_number file_length (length contents))
 
--- the bytes of a file want the right to read, all else that of lookup
+-- a file's bytes and a link's text want the right to read, a directory's names that of lookup
 abbrev pub read_right : Option Vnode → ℕ
 read_right o = if is_directory o then 8 else 1
 
@@ -232,15 +230,15 @@ tests caller (calls.FetchData f position wanted) v =
 tests caller (calls.FetchAcl f) v = is_there (vnode_of f v) ∷ must_be_directory (vnode_of f v) ∷ has_right caller 8 v (vnode_of f v) ∷ []
 tests caller (calls.FetchStatus f) v = is_there (vnode_of f v) ∷ has_right caller 8 v (vnode_of f v) ∷ []
 tests caller (calls.StoreData f status position stored file_length contents) v =
-    is_there (vnode_of f v) ∷ (not (is_directory (vnode_of f v)), 21) ∷ is_writable v ∷ has_right caller 2 v (vnode_of f v)
+    is_there (vnode_of f v) ∷ (not (is_directory (vnode_of f v)), 21) ∷ is_read_write v ∷ has_right caller 2 v (vnode_of f v)
     ∷ (kind_is a_file (vnode_of f v) && (is_whole_store contents position stored file_length && is_mask status), 22)
     ∷ (not (nat_lt most_bytes (length contents)), 27) ∷ []
 tests caller (calls.StoreAcl f acl) v =
-    is_there (vnode_of f v) ∷ must_be_directory (vnode_of f v) ∷ is_writable v ∷ has_right caller 64 v (vnode_of f v) ∷ (is_acl acl, 22) ∷ []
+    is_there (vnode_of f v) ∷ must_be_directory (vnode_of f v) ∷ is_read_write v ∷ has_right caller 64 v (vnode_of f v) ∷ (is_acl acl, 22) ∷ []
 tests caller (calls.StoreStatus f status) v =
-    is_there (vnode_of f v) ∷ is_writable v ∷ has_right caller 2 v (vnode_of f v) ∷ (is_mask status, 22) ∷ []
+    is_there (vnode_of f v) ∷ is_read_write v ∷ has_right caller 2 v (vnode_of f v) ∷ (is_mask status, 22) ∷ []
 tests caller (calls.RemoveFile d name) v =
-    is_there (vnode_of d v) ∷ must_be_directory (vnode_of d v) ∷ (not (is_directory (vnode_in d name v)), 21) ∷ is_writable v
+    is_there (vnode_of d v) ∷ must_be_directory (vnode_of d v) ∷ (not (is_directory (vnode_in d name v)), 21) ∷ is_read_write v
     ∷ has_right caller 16 v (vnode_of d v) ∷ (is_some (name_in d name v), 2) ∷ []
 tests caller (calls.CreateFile d name status) v = create_tests caller d name status v
 tests caller (calls.Rename d old e new) v = if nat_eq e.volume d.volume then rename_tests caller d old e new v else rename_out_tests caller d v
@@ -249,7 +247,7 @@ tests caller (calls.Link d name f) v = link_tests caller d name f v
 tests caller (calls.MakeDir d name status) v = create_tests caller d name status v
 tests caller (calls.RemoveDir d name) v =
     is_there (vnode_of d v) ∷ must_be_directory (vnode_of d v) ∷ (implies (is_some (name_in d name v)) (is_directory (vnode_in d name v)), 20)
-    ∷ is_writable v ∷ has_right caller 16 v (vnode_of d v) ∷ (is_some (name_in d name v), 2) ∷ (is_empty (vnode_in d name v), 39) ∷ []
+    ∷ is_read_write v ∷ has_right caller 16 v (vnode_of d v) ∷ (is_some (name_in d name v), 2) ∷ (is_empty (vnode_in d name v), 39) ∷ []
 tests caller (calls.GetVolumeStatus id) v = has_right caller 8 v (get 1 v.vnodes) ∷ []
 tests caller call v = []
 
@@ -269,18 +267,20 @@ pub data Shown : Type 0 where
   shows_statuses : List Found → Shown
   shows_volume : Shown
 
--- A call is refused with a code; something is read; or it is a change, whose reply shows this vnode beside those that the call
--- names.
+-- A call is refused with a code; something is read; it is a change, whose reply shows this vnode beside those that the call
+-- names; or it is no operation on a volume.
 pub data Result : Type 0 where
   refused : ℕ → Result
   reads : Shown → Result
   changes : List Edit → ℕ → Result
+  no_operation : Result
 
 abbrev pub read_by : (Found → Shown) → Fid → Option Vnode → Result
 read_by show f None = refused 102
 read_by show f (Some x) = reads (show (record { fid = f; vnode = x }))
 
--- several statuses, or the first refusal
+-- Several statuses, or the first refusal. All fids are of this volume: where a call names several, the server asks each volume
+-- for its own fids, in the list's order.
 abbrev pub one_more : Fid → Option ℕ → Option Vnode → Result → Result
 one_more f (Some code) o r = refused code
 one_more f None None r = refused 102
@@ -320,9 +320,6 @@ new_in d kind links mode contents acl = record {
   acl = acl;
 }
 
-abbrev pub no_acl : AccessList
-no_acl = record { positive = []; negative = [] }
-
 -- modes 644, 755 and 777 in octal
 abbrev pub new_file : Fid → Vnode
 new_file d = new_in d a_file 1 420 [] no_acl
@@ -347,7 +344,8 @@ creates d name status links x v =
     changes (ascending (amends d.vnode (record no_amend { names = Some (with_name (name_of name (free_number x.kind v) v.next) (names_in (vnode_of d v))); links = links })
     ∷ makes (free_number x.kind v) (with_status (Some status) x) ∷ [])) (free_number x.kind v)
 
--- one name of a file or link less; without its last one it goes
+-- What becomes of a vnode that loses a name: a file or link with others has one link less, and else it goes; a directory has
+-- just one name, so it goes.
 abbrev pub unlinks : ℕ → Option Vnode → List Edit
 unlinks n None = []
 unlinks n (Some x) = if not (is_kind x.kind a_directory) && nat_lt 1 x.links then amends n (record no_amend { links = Some (x.links - 1) }) ∷ [] else frees n ∷ []
@@ -417,7 +415,7 @@ effect caller (calls.MakeDir d name status) v =
 effect caller (calls.RemoveDir d name) v = removes d name (Some (links_of (vnode_of d v) - 1)) v
 effect caller (calls.GetVolumeStatus id) v = reads shows_volume
 effect caller (calls.BulkStatus fids) v = statuses caller v fids
-effect caller call v = refused 0
+effect caller call v = no_operation
 
 -- ---- limits, tested on what the effect makes
 
@@ -451,7 +449,7 @@ limits id es v =
 
 -- ---- the ideal operation
 
--- the volume of a call; none where no volume serves it
+-- the volume of a call; none where no volume serves it, or where its fids may be of several
 abbrev pub volume_called : FsCall → Option ℕ
 volume_called (calls.FetchData f position wanted) = Some f.volume
 volume_called (calls.FetchAcl f) = Some f.volume
@@ -485,7 +483,12 @@ abbrev pub limited : ℕ → Volume → Result → Result
 limited id v (changes es n) = by_tests (first_failing (limits id es v)) (changes es n)
 limited id v r = r
 
--- on the volume of this number
+-- every fid of the call that the operation looks at is of this volume
+abbrev pub IsOn : ℕ → FsCall → Type 0
+IsOn id (calls.BulkStatus fids) = All (λ (f : Fid). f.volume ≡ id) fids
+IsOn id call = volume_called call ≡ Some id
+
+-- on the volume of this number, on which the call is
 abbrev pub op : ℕ → Caller → FsCall → Volume → Result
 op id caller call v = by_tests (first_failing (tests caller call v)) (limited id v (effect caller call v))
 
@@ -498,6 +501,7 @@ abbrev pub made_by : ℕ → Result → Volume → List Version
 made_by id (changes es n) v = versions_by id es v
 made_by id r v = []
 
+-- 0 where nothing is refused
 abbrev pub code_of : Result → ℕ
 code_of (refused code) = code
 code_of r = 0

@@ -3,24 +3,19 @@ use Rattle.std.specs.Prelude.{ℕ, List, [], ◌∷◌, map, Option, Some, None,
 use Rattle.afs_num.specs.Fids.{same_fid}
 use Rattle.afs_num.specs.declared.types.Fid.{Fid}
 use Rattle.afs_num.specs.declared.histories.Version.{Version}
-use Rattle.afs_num.specs.declared.calls.AfsCallBack.{AfsCallBack}
 use Rattle.afs_num.specs.declared.calls.AfsFetchStatus.{AfsFetchStatus}
 use Rattle.afs_num.specs.declared.calls.AfsVolSync.{AfsVolSync}
 use Rattle.afs_num.specs.declared.calls.FsCall.{FsCall}
 use Rattle.afs_num.specs.declared.calls.FsCall.TheVariants as calls
 use Rattle.afs_num.specs.declared.calls.FsReply.{FsReply}
 use Rattle.afs_num.specs.declared.calls.FsReply.TheVariants as replies
+use Rattle.afs_shape.specs.Rows.{no_callback, no_sync}
 use Rattle.afs_ideal.specs.Tables.{get}
 use Rattle.afs_ideal.specs.AccessLists.{acl_text, anyuser, rights_of}
-use Rattle.afs_ideal.specs.Volumes.{Kind, a_file, a_directory, a_link, Vnode, Volume, fid_of, bytes_by, size_of, blocks_in}
+use Rattle.afs_ideal.specs.Volumes.{type_of, Vnode, Volume, fid_of, bytes_by, size_of, blocks_in}
 use Rattle.afs_ideal.specs.Operations.{Caller, rights_by, list_for, Found, Shown, shows_body, shows_status, shows_acl, shows_statuses, shows_volume, new_file}
 
 -- ---- statuses
-
-abbrev pub type_of : Kind → ℕ
-type_of a_file = 1
-type_of a_directory = 2
-type_of a_link = 3
 
 -- the status of a vnode for a caller. Its server's time stands beside the volume; the index is the sync counter
 abbrev pub status_of : Caller → Volume → ℕ → Vnode → AfsFetchStatus
@@ -52,19 +47,17 @@ status_of caller v time x = record {
 abbrev pub sync_of : Volume → AfsVolSync
 sync_of v = record { release = if nat_eq v.kind 0 then 0 else v.release; spare1 = 0; spare2 = 0; spare3 = 0; spare4 = 0; spare5 = 0 }
 
--- the server fills in its promise
-abbrev pub no_callback : AfsCallBack
-no_callback = record { version = 0; expiration_time = 0; kind = 0 }
-
--- ---- replies to reading calls
+-- ---- replies to reading calls. The server fills in its promises to call back
 
 abbrev pub found_status : Caller → Volume → (Fid → ℕ) → Found → AfsFetchStatus
 found_status caller v times f = status_of caller v (times f.fid) f.vnode
 
+-- several statuses have the release of the first one's volume, and none of them none
 abbrev pub reading_reply : ℕ → Caller → (Fid → ℕ) → Volume → Shown → FsReply
 reading_reply id caller times v (shows_body f) = replies.FetchData (bytes_by f.vnode.kind f.vnode) (found_status caller v times f) no_callback (sync_of v)
 reading_reply id caller times v (shows_status f) = replies.FetchStatus (found_status caller v times f) no_callback (sync_of v)
 reading_reply id caller times v (shows_acl f) = replies.FetchAcl (acl_text f.vnode.acl) (found_status caller v times f) (sync_of v)
+reading_reply id caller times v (shows_statuses []) = replies.BulkStatus [] [] no_sync
 reading_reply id caller times v (shows_statuses fs) =
     replies.BulkStatus (map (found_status caller v times) fs) (map (λ (f : Found). no_callback) fs) (sync_of v)
 reading_reply id caller times v shows_volume = replies.GetVolumeStatus id v.kind v.quota (blocks_in v.vnodes) v.name

@@ -1,8 +1,9 @@
 -- Sound volumes: what set-up, operations, clones and restores leave.
-use Rattle.std.specs.Prelude.{◌≡◌, ◌≤◌, ◌<◌, ◌↔◌, ◌%◌, ◌+◌, ℕ, List, [], ◌∷◌, Bool, true, ◌&&◌, filter, length, nat_eq, Option, Some, None, ⊤, if◌then◌else◌}
+use Rattle.std.specs.Prelude.{◌≡◌, ◌≤◌, ◌<◌, ◌↔◌, ◌%◌, ◌+◌, ℕ, List, [], ◌∷◌, Bool, true, ◌&&◌, filter, length, nat_eq, Option, Some, None}
 use Rattle.std.specs.List.{All}
 use Rattle.afs_num.specs.declared.directories.Name.{Name}
 use Rattle.afs_ideal.specs.Tables.{Table, get, AscendsFrom}
+use Rattle.afs_ideal.specs.AccessLists.{IsAccessList, no_acl}
 use Rattle.afs_ideal.specs.Directories.{IsDirectory}
 use Rattle.afs_ideal.specs.Volumes.{Kind, a_file, a_directory, a_link, Vnode, Volume}
 use Rattle.afs_ideal.specs.Operations.{is_kind, is_below}
@@ -16,6 +17,14 @@ names_it n unique name = nat_eq name.vnode n && nat_eq name.unique unique
 abbrev pub names_of : ℕ → ℕ → List Name → ℕ
 names_of n unique names = length (filter (names_it n unique) names)
 
+-- the numbers of directories are odd
+abbrev pub names_directory : Name → Bool
+names_directory name = nat_eq (name.vnode % 2) 1
+
+-- how many of these names are those of directories; a directory has just one name
+abbrev pub subdirectories : List Name → ℕ
+subdirectories names = length (filter names_directory names)
+
 -- the directory of this number and unique holds the vnode
 abbrev pub IsHeldBy : ℕ → ℕ → Vnode → Type 0
 IsHeldBy d unique x = (x.parent ≡ d) × (x.parent_unique ≡ unique)
@@ -27,14 +36,6 @@ GivesHeld d unique n (Some x) name = (n ≡ 1 → ⊥) × ((x.unique ≡ name.un
 
 abbrev pub GivesOne : Volume → ℕ → ℕ → Name → Type 0
 GivesOne v d unique name = GivesHeld d unique name.vnode (get name.vnode v.vnodes) name
-
--- a directory below this one
-abbrev pub is_held_directory : ℕ → Vnode → Bool
-is_held_directory d x = is_kind x.kind a_directory && nat_eq x.parent d
-
-abbrev pub subdirectories : ℕ → Table Vnode → ℕ
-subdirectories d [] = 0
-subdirectories d (p ∷ ps) = (if is_held_directory d p.1 then 1 else 0) + subdirectories d ps
 
 -- ---- one vnode
 
@@ -56,21 +57,28 @@ pub record IsPlaced (v : Volume) (n : ℕ) (x : Vnode) : Type 0 where
   pub named : IsNamedIn (get x.parent v.vnodes) n x
   pub reaches : is_below n 1 v ≡ true
 
-abbrev pub HasLinks : Kind → ℕ → ℕ → Type 0
-HasLinks a_directory links below = links ≡ 2 + below
-HasLinks kind links below = ⊤
+-- a directory has the names of one, an access list, and as many links as there are directories in it, and two
+pub record HasNamesOf (x : Vnode) : Type 0 where
+  pub names : IsDirectory x.names
+  pub acl : IsAccessList x.acl
+  pub contents : x.contents ≡ []
+  pub links : x.links ≡ 2 + subdirectories x.names
 
--- a file or link has no names
-abbrev pub NamesByKind : Kind → List Name → Type 0
-NamesByKind a_directory names = IsDirectory names
-NamesByKind kind names = names ≡ []
+-- a file or link has contents alone
+pub record HasContents (x : Vnode) : Type 0 where
+  pub names : x.names ≡ []
+  pub acl : x.acl ≡ no_acl
+
+-- what a vnode has is by its kind
+abbrev pub HasByKind : Kind → Vnode → Type 0
+HasByKind a_directory x = HasNamesOf x
+HasByKind kind x = HasContents x
 
 pub record IsSoundVnode (v : Volume) (n : ℕ) (x : Vnode) : Type 0 where
   pub kind : KindFits n x.kind
   pub unique : x.unique < v.next
-  pub names : NamesByKind x.kind x.names
+  pub body : HasByKind x.kind x
   pub given : All (GivesOne v n x.unique) x.names
-  pub links : HasLinks x.kind x.links (subdirectories n v.vnodes)
   pub placed : (n ≡ 1 → ⊥) → IsPlaced v n x
 
 -- ---- the volume

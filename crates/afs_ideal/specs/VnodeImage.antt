@@ -6,23 +6,23 @@ use Rattle.afs_xdr.specs.Words.{words, opaque, word_at, opaque_at}
 use Rattle.afs_num.specs.declared.vnodes.Vnode.{Vnode}
 use Rattle.afs_shape.specs.Reading.{◌>>=◌}
 
--- the kinds of vnodes
+-- the numbers of the kinds of vnodes
 
-abbrev pub a_file : ℕ
-a_file = 1
+abbrev pub file_type : ℕ
+file_type = 1
 
-abbrev pub a_directory : ℕ
-a_directory = 2
+abbrev pub directory_type : ℕ
+directory_type = 2
 
-abbrev pub a_link : ℕ
-a_link = 3
+abbrev pub link_type : ℕ
+link_type = 3
 
 abbrev pub is_directory : Vnode → Bool
-is_directory v = nat_eq v.kind a_directory
+is_directory v = nat_eq v.kind directory_type
 
 -- directories have odd numbers, files and links even ones
 unfoldable pub kind_fits : ℕ → ℕ → Bool
-kind_fits vnode kind = if vnode % 2 == 1 then nat_eq kind a_directory else nat_eq kind a_file || nat_eq kind a_link
+kind_fits vnode kind = if vnode % 2 == 1 then nat_eq kind directory_type else nat_eq kind file_type || nat_eq kind link_type
 
 -- the spelling
 

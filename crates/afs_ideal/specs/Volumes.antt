@@ -1,6 +1,6 @@
 -- A volume as a value, and its changes: a list of edits, of which one function makes the new volume and the versions that
--- are told. A value has no times: when a vnode was changed last stands beside it, since an interrupted step is told by a
--- restart, at a clock that the restart's entry doesn't have.
+-- are told. A value has no time of the server's: when a vnode was changed last stands beside it, since an interrupted step is
+-- told by a restart, at a clock that the restart's entry doesn't have.
 use Rattle.std.specs.Prelude.{ℕ, ◌+◌, ◌/◌, List, [], ◌∷◌, ◌++◌, Bool, true, false, length, Option, Some, None, nat_eq, nat_lt, bit_and, not, if◌then◌else◌}
 use Rattle.std.specs.Option.{option_map}
 use Rattle.afs_num.specs.declared.types.Fid.{Fid}
@@ -12,6 +12,7 @@ use Rattle.afs_num.specs.declared.histories.Body.TheVariants as bodies
 use Rattle.afs_num.specs.declared.histories.Version.{Version}
 use Rattle.afs_ideal.specs.Tables.{Table, get, set, unset}
 use Rattle.afs_ideal.specs.Directories.{directory_bytes}
+use Rattle.afs_ideal.specs.VnodeImage.{file_type, directory_type, link_type}
 
 -- ---- values
 
@@ -20,8 +21,15 @@ pub data Kind : Type 0 where
   a_directory : Kind
   a_link : Kind
 
+-- its number in images and statuses
+abbrev pub type_of : Kind → ℕ
+type_of a_file = file_type
+type_of a_directory = directory_type
+type_of a_link = link_type
+
 -- A file has its bytes for contents, a link its text; a directory has names and an access list. The parent is the
--- directory that holds the vnode, 0 and 0 in a root. The change counter is the volume's at the last change.
+-- directory that holds the vnode, 0 and 0 in a root. `links` is the number of a file's or link's names, and of a directory 2
+-- and how many directories it holds. `client_time` is what a client set. `changed` is the volume's counter at the last change.
 pub record Vnode : Type 0 where
   pub unique : ℕ
   pub kind : Kind
@@ -40,7 +48,9 @@ pub record Vnode : Type 0 where
   pub names : List Name
   pub acl : AccessList
 
--- without its number, by which it is found; the kind is 0 for a read-write volume, 1 for a read-only one, 2 for a backup
+-- Without its number, by which it is found. The kind is 0 for a read-write volume, 1 for a read-only one, 2 for a backup; `next`
+-- is the unique number that the next new vnode gets, `counter` the number of the volume's changes, from 1; `release` counts
+-- the clones.
 pub record Volume : Type 0 where
   pub family : ℕ
   pub name : List ℕ
