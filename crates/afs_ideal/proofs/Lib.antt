@@ -5,4 +5,5 @@ pub mod DirectoryBytes
 pub mod AccessLists
 pub mod VnodeImage
 pub mod Edits
+pub mod Scopes
 pub mod Operated

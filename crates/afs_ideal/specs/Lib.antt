@@ -11,3 +11,4 @@ pub mod Replies
 pub mod SetUp
 pub mod Soundness
 pub mod Told
+pub mod ChangeLaws

@@ -339,10 +339,14 @@ abbrev pub name_of : List ℕ → ℕ → ℕ → Name
 name_of name vnode unique = record { name = name; vnode = vnode; unique = unique }
 
 -- a new vnode and its name; one more link of the directory for a directory below it
+abbrev pub creating : Fid → List ℕ → AfsStoreStatus → Option ℕ → Vnode → Volume → List Edit
+creating d name status links x v =
+    amends d.vnode (record no_amend { names = Some (with_name (name_of name (free_number x.kind v) v.next) (names_in (vnode_of d v))); links = links })
+    ∷ makes (free_number x.kind v) (with_status (Some status) x)
+    ∷ []
+
 abbrev pub creates : Fid → List ℕ → AfsStoreStatus → Option ℕ → Vnode → Volume → Result
-creates d name status links x v =
-    changes (ascending (amends d.vnode (record no_amend { names = Some (with_name (name_of name (free_number x.kind v) v.next) (names_in (vnode_of d v))); links = links })
-    ∷ makes (free_number x.kind v) (with_status (Some status) x) ∷ [])) (free_number x.kind v)
+creates d name status links x v = changes (ascending (creating d name status links x v)) (free_number x.kind v)
 
 -- What becomes of a vnode that loses a name: a file or link with others has one link less, and else it goes; a directory has
 -- just one name, so it goes.
@@ -350,10 +354,20 @@ abbrev pub unlinks : ℕ → Option Vnode → List Edit
 unlinks n None = []
 unlinks n (Some x) = if not (is_kind x.kind a_directory) && nat_lt 1 x.links then amends n (record no_amend { links = Some (x.links - 1) }) ∷ [] else frees n ∷ []
 
+abbrev pub removing : Fid → List ℕ → Option ℕ → Volume → List Edit
+removing d name links v =
+    amends d.vnode (record no_amend { names = Some (without_name name (names_in (vnode_of d v))); links = links })
+    ∷ unlinks (number_named (name_in d name v)) (vnode_in d name v)
+
 abbrev pub removes : Fid → List ℕ → Option ℕ → Volume → Result
-removes d name links v =
-    changes (ascending (amends d.vnode (record no_amend { names = Some (without_name name (names_in (vnode_of d v))); links = links })
-    ∷ unlinks (number_named (name_in d name v)) (vnode_in d name v))) d.vnode
+removes d name links v = changes (ascending (removing d name links v)) d.vnode
+
+-- a further name of a file
+abbrev pub linking : Fid → List ℕ → Fid → Volume → List Edit
+linking d name f v =
+    amends d.vnode (record no_amend { names = Some (with_name (name_of name f.vnode f.unique) (names_in (vnode_of d v))) })
+    ∷ amends f.vnode (record no_amend { links = Some (links_of (vnode_of f v) + 1) })
+    ∷ []
 
 -- one link more where the first holds, one less where the second does
 abbrev pub linked : Bool → Bool → ℕ → ℕ
@@ -388,9 +402,9 @@ renames_across d e n old new moves target v =
     ∷ amends n.vnode (record no_amend { parent = Some (e.vnode, e.unique) })
     ∷ []
 
-abbrev pub renames_by : Fid → Fid → List ℕ → List ℕ → Option Name → Option Name → Volume → List Edit
-renames_by d e old new None target v = []
-renames_by d e old new (Some n) target v =
+abbrev pub renaming : Fid → Fid → List ℕ → List ℕ → Option Name → Option Name → Volume → List Edit
+renaming d e old new None target v = []
+renaming d e old new (Some n) target v =
     (if nat_eq d.vnode e.vnode then renames_within d n old new (named_vnode v target) v
     else renames_across d e n old new (is_directory (named_vnode v (Some n))) (named_vnode v target) v)
     ++ unlinks (number_named target) (named_vnode v target)
@@ -405,11 +419,9 @@ effect caller (calls.StoreAcl f acl) v = changes (amends f.vnode (record no_amen
 effect caller (calls.StoreStatus f status) v = changes (amends f.vnode (record no_amend { status = Some status }) ∷ []) f.vnode
 effect caller (calls.RemoveFile d name) v = removes d name None v
 effect caller (calls.CreateFile d name status) v = creates d name status None (new_file d) v
-effect caller (calls.Rename d old e new) v = changes (ascending (renames_by d e old new (name_in d old v) (name_in e new v) v)) e.vnode
+effect caller (calls.Rename d old e new) v = changes (ascending (renaming d e old new (name_in d old v) (name_in e new v) v)) e.vnode
 effect caller (calls.Symlink d name target status) v = creates d name status None (new_link d target) v
-effect caller (calls.Link d name f) v =
-    changes (ascending (amends d.vnode (record no_amend { names = Some (with_name (name_of name f.vnode f.unique) (names_in (vnode_of d v))) })
-    ∷ amends f.vnode (record no_amend { links = Some (links_of (vnode_of f v) + 1) }) ∷ [])) f.vnode
+effect caller (calls.Link d name f) v = changes (ascending (linking d name f v)) f.vnode
 effect caller (calls.MakeDir d name status) v =
     creates d name status (Some (links_of (vnode_of d v) + 1)) (new_directory d (acl_of (vnode_of d v))) v
 effect caller (calls.RemoveDir d name) v = removes d name (Some (links_of (vnode_of d v) - 1)) v
