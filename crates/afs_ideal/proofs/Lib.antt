@@ -1,0 +1,9 @@
+pub mod Basics
+pub mod Tables
+pub mod Directories
+pub mod DirectoryBytes
+pub mod AccessLists
+pub mod VnodeImage
+pub mod Edits
+pub mod Scopes
+pub mod Operated
