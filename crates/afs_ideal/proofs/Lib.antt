@@ -6,4 +6,8 @@ pub mod AccessLists
 pub mod VnodeImage
 pub mod Edits
 pub mod Scopes
+pub mod Counts
+pub mod Maps
+pub mod Ranks
+pub mod Steps
 pub mod Operated
