@@ -10,4 +10,5 @@ pub mod Counts
 pub mod Maps
 pub mod Ranks
 pub mod Steps
+pub mod Looks
 pub mod Operated

@@ -291,16 +291,60 @@ stays_out t p u next d g gone above nil h = record {
   named = λ k z is not_root. h.named k z is not_root (λ e. let none : None ≡ Some z = sym gone ∙ (ap g (sym e) ∙ is) in absurd cc);
 }
 
--- ---- maps of vnodes that are alike in all that soundness asks
+-- ---- maps of vnodes that look the same to each other
 
-pub record Like (x y : Vnode) : Type 0 where
+pub record Seen (x y : Vnode) : Type 0 where
   pub unique : y.unique ≡ x.unique
   pub kind : y.kind ≡ x.kind
   pub links : y.links ≡ x.links
   pub parent : y.parent ≡ x.parent
   pub parent_unique : y.parent_unique ≡ x.parent_unique
-  pub contents : y.contents ≡ x.contents
   pub names : y.names ≡ x.names
+
+abbrev pub AreSeen : Option Vnode → Option Vnode → Type 0
+AreSeen None None = ⊤
+AreSeen (Some x) (Some y) = Seen x y
+AreSeen a b = ⊥
+
+pub seen_of : (o : Option Vnode) (y : Vnode) → AreSeen o (Some y) → (x : Vnode) × ((o ≡ Some x) × Seen x y)
+seen_of None y h = absurd h
+seen_of (Some x) y h = (x, (refl, h))
+
+root_seen : (a b : Option Vnode) → AreSeen a b → IsRoot a → IsRoot b
+root_seen None b l h = absurd h
+root_seen (Some x) None l h = absurd l
+root_seen (Some x) (Some y) l h = (l.unique ∙ h.0, (l.kind ∙ h.1.0, (l.parent ∙ h.1.1.0, l.parent_unique ∙ h.1.1.1)))
+
+gives_seen : (d unique n : ℕ) (a b : Option Vnode) (m : Name) → AreSeen a b → GivesHeld d unique n a m → GivesHeld d unique n b m
+gives_seen d unique n None b m l h = absurd h
+gives_seen d unique n (Some x) None m l h = absurd l
+gives_seen d unique n (Some x) (Some y) m l h = (h.0, (l.unique ∙ h.1.0, (l.parent ∙ h.1.1.0, l.parent_unique ∙ h.1.1.1)))
+
+named_seen : (a b : Option Vnode) (n : ℕ) (x y : Vnode) → AreSeen a b → Seen x y → IsNamedIn a n x → IsNamedIn b n y
+named_seen None b n x y l w h = absurd h
+named_seen (Some d) None n x y l w h = absurd l
+named_seen (Some d) (Some e) n x y l w h =
+    let one : HasNames x.kind x.links (names_of n x.unique e.names) = subst (λ (ns : List Name). HasNames x.kind x.links (names_of n x.unique ns)) (sym l.names) h.1.1 in
+    let two : HasNames x.kind y.links (names_of n x.unique e.names) = subst (λ (k : ℕ). HasNames x.kind k (names_of n x.unique e.names)) (sym w.links) one in
+    let three : HasNames y.kind y.links (names_of n x.unique e.names) = subst (λ (k : Kind). HasNames k y.links (names_of n x.unique e.names)) (sym w.kind) two in
+    (l.kind ∙ h.0, (l.unique ∙ (h.1.0 ∙ sym w.parent_unique), subst (λ (u : ℕ). HasNames y.kind y.links (names_of n u e.names)) (sym w.unique) three))
+
+pub as_seen : (next : ℕ) (g k : Map) → ((n : ℕ) → AreSeen (g n) (k n)) → ((n : ℕ) (x : Vnode) → k n ≡ Some x → Own next n x) → Sound next g → Sound next k
+as_seen next g k l own h = record {
+  root = root_seen (g 1) (k 1) (l 1) h.root;
+  own = own;
+  given = λ d y is. (let o = seen_of (g d) y (subst (AreSeen (g d)) is (l d)) in
+    subst (λ (u : ℕ). AllByRecursion (Gives k d u) y.names) (sym o.1.1.unique) (subst (AllByRecursion (Gives k d o.0.unique)) (sym o.1.1.names)
+    (each_map (Gives g d o.0.unique) (Gives k d o.0.unique) o.0.names (λ m. gives_seen d o.0.unique m.vnode (g m.vnode) (k m.vnode) m (l m.vnode)) (h.given d o.0 o.1.0))));
+  named = λ n y is ne. (let o = seen_of (g n) y (subst (AreSeen (g n)) is (l n)) in
+    subst (λ (q : ℕ). IsNamedIn (k q) n y) (sym o.1.1.parent) (named_seen (g o.0.parent) (k o.0.parent) n o.0 y (l o.0.parent) o.1.1 (h.named n o.0 o.1.0 ne)));
+}
+
+-- ---- and have the same contents and access lists
+
+pub record Like (x y : Vnode) : Type 0 where
+  pub seen : Seen x y
+  pub contents : y.contents ≡ x.contents
   pub acl : y.acl ≡ x.acl
 
 abbrev pub AreLike : Option Vnode → Option Vnode → Type 0
@@ -310,55 +354,34 @@ AreLike a b = ⊥
 
 pub like_itself : (o : Option Vnode) → AreLike o o
 like_itself None = tt
-like_itself (Some x) = record { unique = refl; kind = refl; links = refl; parent = refl; parent_unique = refl; contents = refl; names = refl; acl = refl }
+like_itself (Some x) = record { seen = record { unique = refl; kind = refl; links = refl; parent = refl; parent_unique = refl; names = refl }; contents = refl; acl = refl }
 
 like_of : (o : Option Vnode) (y : Vnode) → AreLike o (Some y) → (x : Vnode) × ((o ≡ Some x) × Like x y)
 like_of None y h = absurd h
 like_of (Some x) y h = (x, (refl, h))
 
+like_seen : (a b : Option Vnode) → AreLike a b → AreSeen a b
+like_seen None None h = tt
+like_seen None (Some y) h = absurd h
+like_seen (Some x) None h = absurd h
+like_seen (Some x) (Some y) h = h.seen
+
 body_like : (k : Kind) (x y : Vnode) → Like x y → HasByKind k x → HasByKind k y
-body_like a_file x y l h = record { names = l.names ∙ h.names; acl = l.acl ∙ h.acl }
-body_like a_link x y l h = record { names = l.names ∙ h.names; acl = l.acl ∙ h.acl }
+body_like a_file x y l h = record { names = l.seen.names ∙ h.names; acl = l.acl ∙ h.acl }
+body_like a_link x y l h = record { names = l.seen.names ∙ h.names; acl = l.acl ∙ h.acl }
 body_like a_directory x y l h = record {
-  names = subst IsDirectory (sym l.names) h.names;
+  names = subst IsDirectory (sym l.seen.names) h.names;
   acl = subst IsAccessList (sym l.acl) h.acl;
   contents = l.contents ∙ h.contents;
-  links = l.links ∙ (h.links ∙ ap (λ (ns : List Name). 2 + subdirectories ns) (sym l.names));
+  links = l.seen.links ∙ (h.links ∙ ap (λ (ns : List Name). 2 + subdirectories ns) (sym l.seen.names));
 }
 
 own_like : (next n : ℕ) (x y : Vnode) → Like x y → Own next n x → Own next n y
 own_like next n x y l h = record {
-  kind = subst (KindFits n) (sym l.kind) h.kind;
-  unique = subst (λ (u : ℕ). u < next) (sym l.unique) h.unique;
-  body = subst (λ (k : Kind). HasByKind k y) (sym l.kind) (body_like x.kind x y l h.body);
+  kind = subst (KindFits n) (sym l.seen.kind) h.kind;
+  unique = subst (λ (u : ℕ). u < next) (sym l.seen.unique) h.unique;
+  body = subst (λ (k : Kind). HasByKind k y) (sym l.seen.kind) (body_like x.kind x y l h.body);
 }
-
-root_like : (a b : Option Vnode) → AreLike a b → IsRoot a → IsRoot b
-root_like None b l h = absurd h
-root_like (Some x) None l h = absurd l
-root_like (Some x) (Some y) l h = (l.unique ∙ h.0, (l.kind ∙ h.1.0, (l.parent ∙ h.1.1.0, l.parent_unique ∙ h.1.1.1)))
-
-gives_like : (d unique n : ℕ) (a b : Option Vnode) (m : Name) → AreLike a b → GivesHeld d unique n a m → GivesHeld d unique n b m
-gives_like d unique n None b m l h = absurd h
-gives_like d unique n (Some x) None m l h = absurd l
-gives_like d unique n (Some x) (Some y) m l h = (h.0, (l.unique ∙ h.1.0, (l.parent ∙ h.1.1.0, l.parent_unique ∙ h.1.1.1)))
-
-named_like : (a b : Option Vnode) (n : ℕ) (x y : Vnode) → AreLike a b → Like x y → IsNamedIn a n x → IsNamedIn b n y
-named_like None b n x y l w h = absurd h
-named_like (Some d) None n x y l w h = absurd l
-named_like (Some d) (Some e) n x y l w h =
-    let one : HasNames x.kind x.links (names_of n x.unique e.names) = subst (λ (ns : List Name). HasNames x.kind x.links (names_of n x.unique ns)) (sym l.names) h.1.1 in
-    let two : HasNames x.kind y.links (names_of n x.unique e.names) = subst (λ (k : ℕ). HasNames x.kind k (names_of n x.unique e.names)) (sym w.links) one in
-    let three : HasNames y.kind y.links (names_of n x.unique e.names) = subst (λ (k : Kind). HasNames k y.links (names_of n x.unique e.names)) (sym w.kind) two in
-    (l.kind ∙ h.0, (l.unique ∙ (h.1.0 ∙ sym w.parent_unique), subst (λ (u : ℕ). HasNames y.kind y.links (names_of n u e.names)) (sym w.unique) three))
 
 pub as_like : (next : ℕ) (g k : Map) → ((n : ℕ) → AreLike (g n) (k n)) → Sound next g → Sound next k
-as_like next g k l h = record {
-  root = root_like (g 1) (k 1) (l 1) h.root;
-  own = λ n y is. (let o = like_of (g n) y (subst (AreLike (g n)) is (l n)) in own_like next n o.0 y o.1.1 (h.own n o.0 o.1.0));
-  given = λ d y is. (let o = like_of (g d) y (subst (AreLike (g d)) is (l d)) in
-    subst (λ (u : ℕ). AllByRecursion (Gives k d u) y.names) (sym o.1.1.unique) (subst (AllByRecursion (Gives k d o.0.unique)) (sym o.1.1.names)
-    (each_map (Gives g d o.0.unique) (Gives k d o.0.unique) o.0.names (λ m. gives_like d o.0.unique m.vnode (g m.vnode) (k m.vnode) m (l m.vnode)) (h.given d o.0 o.1.0))));
-  named = λ n y is ne. (let o = like_of (g n) y (subst (AreLike (g n)) is (l n)) in
-    subst (λ (q : ℕ). IsNamedIn (k q) n y) (sym o.1.1.parent) (named_like (g o.0.parent) (k o.0.parent) n o.0 y (l o.0.parent) o.1.1 (h.named n o.0 o.1.0 ne)));
-}
+as_like next g k l h = as_seen next g k (λ n. like_seen (g n) (k n) (l n)) (λ n y is. let o = like_of (g n) y (subst (AreLike (g n)) is (l n)) in own_like next n o.0 y o.1.1 (h.own n o.0 o.1.0)) h

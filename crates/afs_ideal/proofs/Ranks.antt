@@ -178,3 +178,68 @@ pub below_is : (v : Volume) (rank : ℕ → ℕ) (top : ℕ) → Ranked (at v) r
     → (n : ℕ) (x : Vnode) → get n v.vnodes ≡ Some x → (n ≡ 1 → ⊥) → is_below n top v ≡ (nat_eq n top || is_below x.parent top v)
 below_is v rank top ranked parents root n x e ne =
     subst (λ (o : Option Vnode). leads_up (length v.vnodes) n top v o ≡ (nat_eq n top || is_below x.parent top v)) (sym e) (below_step v rank top ranked parents root (length v.vnodes) n x e ne (fewer rank n v.vnodes x e))
+
+-- ---- ranks after a change
+
+-- each vnode has its parent
+pub ranked_same : (g k : Map) (rank : ℕ → ℕ) → Ranked g rank → ((n : ℕ) (y : Vnode) → k n ≡ Some y → (x : Vnode) × ((g n ≡ Some x) × (y.parent ≡ x.parent))) → Ranked k rank
+ranked_same g k rank h same n y e ne =
+    let o = same n y e in
+    let up : rank o.0.parent < rank n = h n o.0 o.1.0 ne in
+    subst (λ (p : ℕ). rank p < rank n) (sym o.1.1) up
+
+-- all but t, which no other has for a parent
+leaf_by : (b : Bool) (t p q : ℕ) (rank : ℕ → ℕ) (n : ℕ) (x : Vnode) → eqb x.parent t ≡ b → (x.parent ≡ t → ⊥) → rank x.parent < q → cond b (rank p + 1) (rank x.parent) < q
+leaf_by true t p q rank n x e unheld lt = absurd (unheld (eqb-true x.parent t e))
+leaf_by false t p q rank n x e unheld lt = lt
+
+other_than : (a b : ℕ) → eqb a b ≡ false → a ≡ b → ⊥
+other_than a b e same = let yes : eqb a b ≡ true = eq-eqb a b same in absurd cc
+
+no_by : (b : Bool) (p t : ℕ) → eqb p t ≡ b → (p ≡ t → ⊥) → b ≡ false
+no_by true p t e ne = absurd (ne (eqb-true p t e))
+no_by false p t e ne = refl
+
+abbrev pub leaf_rank : ℕ → ℕ → (ℕ → ℕ) → ℕ → ℕ
+leaf_rank t p rank m = cond (eqb m t) (rank p + 1) (rank m)
+
+ranked_leaf_by : (b : Bool) (t p n : ℕ) (g k : Map) (rank : ℕ → ℕ) (y : Vnode) → Ranked g rank → ((n ≡ t → ⊥) → (x : Vnode) × ((g n ≡ Some x) × (y.parent ≡ x.parent)))
+    → ((n ≡ t) → y.parent ≡ p) → (p ≡ t → ⊥) → ((x : Vnode) → g n ≡ Some x → (n ≡ 1 → ⊥) → x.parent ≡ t → ⊥) → (n ≡ 1 → ⊥) → eqb n t ≡ b → leaf_rank t p rank y.parent < cond b (rank p + 1) (rank n)
+ranked_leaf_by true t p n g k rank y h same mine ne unheld not_root b =
+    let up : y.parent ≡ p = mine (eqb-true n t b) in
+    let low : eqb p t ≡ false = no_by (eqb p t) p t refl ne in
+    subst (λ (q : ℕ). leaf_rank t p rank q < rank p + 1) (sym up) (rw low (omega arith))
+ranked_leaf_by false t p n g k rank y h same mine ne unheld not_root b =
+    let o = same (other_than n t b) in
+    subst (λ (q : ℕ). leaf_rank t p rank q < rank n) (sym o.1.1) (leaf_by (eqb o.0.parent t) t p (rank n) rank n o.0 refl (unheld o.0 o.1.0 not_root) (h n o.0 o.1.0 not_root))
+
+pub ranked_leaf : (t p : ℕ) (g k : Map) (rank : ℕ → ℕ) → Ranked g rank → ((n : ℕ) (y : Vnode) → k n ≡ Some y → (n ≡ t → ⊥) → (x : Vnode) × ((g n ≡ Some x) × (y.parent ≡ x.parent)))
+    → ((y : Vnode) → k t ≡ Some y → y.parent ≡ p) → (p ≡ t → ⊥) → ((n : ℕ) (x : Vnode) → g n ≡ Some x → (n ≡ 1 → ⊥) → x.parent ≡ t → ⊥) → Ranked k (leaf_rank t p rank)
+ranked_leaf t p g k rank h same mine ne unheld n y e not_root =
+    ranked_leaf_by (eqb n t) t p n g k rank y h (λ d. same n y e d) (λ s. mine y (sym (ap k s) ∙ e)) ne (λ x is nr. unheld n x is nr) not_root refl
+
+-- a part moves: all below t, which comes to stand in p
+abbrev pub part_rank : (ℕ → Bool) → ℕ → (ℕ → ℕ) → ℕ → ℕ
+part_rank below p rank m = cond (below m) (rank m + (rank p + 1)) (rank m)
+
+part_by : (b c : Bool) (p q r : ℕ) → b ≡ c → q < r → cond c (q + (p + 1)) q < cond b (r + (p + 1)) r
+part_by true true p q r e lt = omega arith
+part_by false false p q r e lt = lt
+part_by true false p q r e lt = absurd cc
+part_by false true p q r e lt = absurd cc
+
+ranked_part_by : (b : Bool) (below : ℕ → Bool) (t p n : ℕ) (g : Map) (rank : ℕ → ℕ) (y : Vnode) → Ranked g rank → ((n ≡ t → ⊥) → (x : Vnode) × ((g n ≡ Some x) × (y.parent ≡ x.parent))) → ((n ≡ t) → y.parent ≡ p) → below t ≡ true → below p ≡ false
+    → ((x : Vnode) → g n ≡ Some x → below n ≡ (eqb n t || below x.parent)) → (n ≡ 1 → ⊥) → eqb n t ≡ b → part_rank below p rank y.parent < part_rank below p rank n
+ranked_part_by true below t p n g rank y h same mine top out step not_root b =
+    let number : n ≡ t = eqb-true n t b in
+    let high : below n ≡ true = ap below number ∙ top in
+    subst (λ (q : ℕ). part_rank below p rank q < part_rank below p rank n) (sym (mine number)) (rw (high, out) (omega arith))
+ranked_part_by false below t p n g rank y h same mine top out step not_root b =
+    let o = same (other_than n t b) in
+    let e : below n ≡ below o.0.parent = step o.0 o.1.0 ∙ rw b refl in
+    subst (λ (q : ℕ). part_rank below p rank q < part_rank below p rank n) (sym o.1.1) (part_by (below n) (below o.0.parent) (rank p) (rank o.0.parent) (rank n) e (h n o.0 o.1.0 not_root))
+
+pub ranked_part : (below : ℕ → Bool) (t p : ℕ) (g k : Map) (rank : ℕ → ℕ) → Ranked g rank → ((n : ℕ) (y : Vnode) → k n ≡ Some y → (n ≡ t → ⊥) → (x : Vnode) × ((g n ≡ Some x) × (y.parent ≡ x.parent)))
+    → ((y : Vnode) → k t ≡ Some y → y.parent ≡ p) → below t ≡ true → below p ≡ false → ((n : ℕ) (x : Vnode) → g n ≡ Some x → (n ≡ 1 → ⊥) → below n ≡ (eqb n t || below x.parent)) → Ranked k (part_rank below p rank)
+ranked_part below t p g k rank h same mine top out step n y e not_root =
+    ranked_part_by (eqb n t) below t p n g rank y h (λ d. same n y e d) (λ s. mine y (sym (ap k s) ∙ e)) top out (λ x is. step n x is not_root) not_root refl

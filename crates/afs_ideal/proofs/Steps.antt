@@ -1,17 +1,18 @@
 -- What operations do to the map of a sound volume: a name and its vnode come, go, or move.
-use Rattle.std.proofs.Common.{◌≡◌, ℕ, zero, suc, ◌+◌, ◌-◌, ◌<◌, ◌≤◌, ◌⊎◌, inl, inr, Bool, true, false, cond, eqb, ltb, not, List, [], ◌∷◌, length, Option, Some, None, refl, sym, ap, subst, ◌∙◌, arith, eq-eqb, eqb-true, ltb-true}
+use Rattle.std.proofs.Common.{◌≡◌, ℕ, zero, suc, ◌+◌, ◌-◌, ◌<◌, ◌≤◌, ◌⊎◌, inl, inr, Bool, true, false, cond, eqb, ltb, not, List, [], ◌∷◌, length, Option, Some, None, refl, sym, ap, subst, ◌∙◌, arith, eq-eqb, eqb-true, lt-ltb}
+use Rattle.afs_num.specs.Names.{name_ok}
 use Rattle.std.specs.Prelude.{◌&&◌, ◌%◌, ◌↔◌, nat_eq}
 use Rattle.std.specs.List.{AllByRecursion}
 use Rattle.afs_num.specs.declared.directories.Name.{Name}
 use Rattle.afs_ideal.specs.AccessLists.{IsAccessList}
-use Rattle.afs_ideal.specs.Directories.{IsDirectory, named, with_name, without_name, add_refused}
+use Rattle.afs_ideal.specs.Directories.{most_names, IsDirectory, named, with_name, without_name, add_refused}
 use Rattle.afs_ideal.specs.Volumes.{Kind, a_file, a_directory, a_link, Vnode}
 use Rattle.afs_ideal.specs.Operations.{is_kind}
 use Rattle.afs_ideal.specs.Soundness.{names_it, names_of, names_directory, subdirectories, GivesHeld, KindFits, HasNames, IsNamedIn, HasNamesOf, HasByKind, IsRoot}
 use Rattle.afs_ideal.proofs.Basics.{some_of}
 use Rattle.afs_ideal.proofs.Directories.{added_is_directory, removed_is_directory}
 use Rattle.afs_ideal.proofs.Counts.{one_if, count, count_with, count_without, none_counted, count_all, each_map, each_with, each_without, each_named}
-use Rattle.afs_ideal.proofs.Maps.{Map, put, Own, Gives, Sound, GivesBut, But, differ, here, other, Alike, SameFor, leave, leave_new, renames, changes, makes, frees, puts_back, repoints, stays_out}
+use Rattle.afs_ideal.proofs.Maps.{Map, put, Own, Gives, Sound, GivesBut, But, differ, here, other, Alike, SameFor, leave, leave_new, renames, changes, makes, frees, puts_back, repoints, stays_out, AreLike, like_itself, as_like}
 
 -- ---- a directory with other names
 
@@ -250,3 +251,95 @@ gains d t u next m x y g e dir number unique ok l k ne file h =
     puts_back t d u next (linked_by (y.links + 1) y) (with_names x (with_name m x.names) x.links) (put t (Some (linked_by (y.links + 1) y)) (added d x m x.links g)) (here t (Some (linked_by (y.links + 1) y)) (added d x m x.links g)) k.not_root k.unique k.parent
     (other t (Some (linked_by (y.links + 1) y)) (added d x m x.links g) d (λ s. ne (sym s)) ∙ here d (Some (with_names x (with_name m x.names) x.links)) g) dir k.parent_unique
     (as_many y.kind (y.links + 1) (names_of t u (with_name m x.names)) file (omega (arith, one, all)) (omega (arith, one))) changed
+
+-- ---- a name moves
+
+abbrev pub renamed_to : List ℕ → Name → Name
+renamed_to name m = record m { name = name }
+
+shorter : (name : List ℕ) (m : Name) (names : List Name) → IsDirectory names → named name names ≡ Some m → length (without_name name names) + 1 ≡ length names
+shorter name m names is found =
+    let a = count_without (λ (n : Name). true) name [] m names is.ordered found in
+    let b = count_all names in
+    let c = count_all (without_name name names) in
+    omega (arith, a, b, c)
+
+pub room_for : (name : List ℕ) (names : List Name) → name_ok name ≡ true → named name names ≡ None → length names < most_names → add_refused name names ≡ None
+room_for name names ok none room = rw (ok, none, lt-ltb (length names) most_names room) refl
+
+abbrev pub within : ℕ → Vnode → List ℕ → List ℕ → Name → ℕ → Map → Map
+within d x old new m links g = put d (Some (with_names x (with_name (renamed_to new m) (without_name old x.names)) links)) g
+
+put_twice : (n k : ℕ) (a b : Option Vnode) (g : Map) → put n a (put n b g) k ≡ put n a g k
+put_twice n k a b g = twice_by (eqb n k) a b (g k)
+  where
+    twice_by : (t : Bool) (a b c : Option Vnode) → cond t a (cond t b c) ≡ cond t a c
+    twice_by true a b c = refl
+    twice_by false a b c = refl
+
+pub same_like : (a b : Option Vnode) → a ≡ b → AreLike a b
+same_like a b e = subst (AreLike a) e (like_itself a)
+
+pub moves_within : (d next : ℕ) (old new : List ℕ) (m : Name) (x y : Vnode) (g : Map) → g d ≡ Some x → x.kind ≡ a_directory → named old x.names ≡ Some m → name_ok new ≡ true → named new (without_name old x.names) ≡ None
+    → Held d m.vnode m.unique x y g → (m.vnode ≡ d → ⊥) → Sound next g → Sound next (within d x old new m x.links g)
+moves_within d next old new m x y g e dir found ok none k ne h =
+    let t = m.vnode in
+    let u = m.unique in
+    let has = its_names next d x dir (h.own d x e) in
+    let ns : List Name = without_name old x.names in
+    let l : ℕ = 2 + subdirectories ns in
+    let counted = count_without names_directory old [] m x.names has.names.ordered found in
+    let mine = has.links in
+    let short = has.names.few in
+    let less = shorter old m x.names has.names found in
+    let out = takes d t u next l old m x g e dir found refl (omega (arith, counted, mine)) (left_out d t u next x y g k h) in
+    let at : put d (Some (with_names x ns l)) g d ≡ Some (with_names x ns l) = here d (Some (with_names x ns l)) g in
+    let in_again = adds d t u next x.links (renamed_to new m) (with_names x ns l) (put d (Some (with_names x ns l)) g) at dir refl refl (room_for new ns ok none (omega (arith, short, less))) (omega (arith, counted, mine)) out in
+    let two : Map = put d (Some (with_names x (with_name (renamed_to new m) ns) x.links)) (put d (Some (with_names x ns l)) g) in
+    let before = left_count d next t u old m x g e dir found refl refl h in
+    let after = one_more d next t u (renamed_to new m) (with_names x ns l) refl refl in
+    let there : two t ≡ Some y = other d (Some (with_names x (with_name (renamed_to new m) ns) x.links)) (put d (Some (with_names x ns l)) g) t ne ∙ (other d (Some (with_names x ns l)) g t ne ∙ k.there) in
+    let whole = puts_back t d u next y (with_names x (with_name (renamed_to new m) ns) x.links) two there k.not_root k.unique k.parent (here d (Some (with_names x (with_name (renamed_to new m) ns) x.links)) (put d (Some (with_names x ns l)) g)) dir k.parent_unique
+      (subst (HasNames y.kind y.links) (let z : names_of t u x.names ≡ names_of t u (with_name (renamed_to new m) ns) = omega (arith, before, after) in z) k.count) in_again in
+    as_like next two (within d x old new m x.links g) (λ n. same_like (two n) (within d x old new m x.links g n) (put_twice d n (Some (with_names x (with_name (renamed_to new m) ns) x.links)) (Some (with_names x ns l)) g)) (whole)
+
+abbrev pub held_in : ℕ → ℕ → Vnode → Vnode
+held_in parent unique y = record y { parent = parent; parent_unique = unique }
+
+own_held : (k : Kind) (parent unique : ℕ) (y : Vnode) → HasByKind k y → HasByKind k (held_in parent unique y)
+own_held a_file parent unique y h = record { names = h.names; acl = h.acl }
+own_held a_link parent unique y h = record { names = h.names; acl = h.acl }
+own_held a_directory parent unique y h = record { names = h.names; acl = h.acl; contents = h.contents; links = h.links }
+
+abbrev pub across : ℕ → ℕ → Vnode → Vnode → List ℕ → List ℕ → Name → Vnode → ℕ → ℕ → Map → Map
+across d e x z old new m y less more g =
+    put m.vnode (Some (held_in e z.unique y)) (put e (Some (with_names z (with_name (renamed_to new m) z.names) more)) (put d (Some (with_names x (without_name old x.names) less)) g))
+
+-- no other directory than its own names a vnode
+elsewhere : (b : Bool) (t u d e unique : ℕ) (y : Vnode) (g : Map) (n : Name) → ((g t ≡ Some y) × (y.parent ≡ d)) → (d ≡ e → ⊥) → eqb n.vnode t ≡ b → Gives g e unique n → (b && nat_eq n.unique u) ≡ false
+elsewhere true t u d e unique y g n k apart b h =
+    let held : GivesHeld e unique n.vnode (Some y) n = subst (λ (o : Option Vnode). GivesHeld e unique n.vnode o n) (ap g (eqb-true n.vnode t b) ∙ k.0) h in
+    absurd (apart (sym k.1 ∙ held.1.1.0))
+elsewhere false t u d e unique y g n k apart b h = refl
+
+pub moves_across : (d e next less more : ℕ) (old new : List ℕ) (m : Name) (x z y : Vnode) (g : Map) → g d ≡ Some x → x.kind ≡ a_directory → g e ≡ Some z → z.kind ≡ a_directory → (d ≡ e → ⊥) → named old x.names ≡ Some m → add_refused new z.names ≡ None
+    → x.links ≡ less + one_if (names_directory m) → more ≡ z.links + one_if (names_directory m) → Held d m.vnode m.unique x y g → (m.vnode ≡ d → ⊥) → (m.vnode ≡ e → ⊥) → names_of m.vnode m.unique x.names ≡ 1
+    → HasNames y.kind y.links 1 → Sound next g → Sound next (across d e x z old new m y less more g)
+moves_across d e next less more old new m x z y g at dir at_new new_dir apart found ok l n k not_old not_new single count h =
+    let t = m.vnode in
+    let u = m.unique in
+    let out = takes d t u next less old m x g at dir found refl l (left_out d t u next x y g k h) in
+    let g1 : Map = put d (Some (with_names x (without_name old x.names) less)) g in
+    let before = left_count d next t u old m x g at dir found refl refl h in
+    let pointed = repoints t d e u next (with_names x (without_name old x.names) less) g1 (here d (Some (with_names x (without_name old x.names) less)) g) (omega (arith, before, single)) out in
+    let z_there : g1 e ≡ Some z = other d (Some (with_names x (without_name old x.names) less)) g e (λ s. apart (sym s)) ∙ at_new in
+    let in_new = adds e t u next more (renamed_to new m) z g1 z_there new_dir refl refl ok n pointed in
+    let g2 : Map = put e (Some (with_names z (with_name (renamed_to new m) z.names) more)) g1 in
+    let there : g2 t ≡ Some y = other e (Some (with_names z (with_name (renamed_to new m) z.names) more)) g1 t not_new ∙ (other d (Some (with_names x (without_name old x.names) less)) g t not_old ∙ k.there) in
+    let own = h.own t y k.there in
+    let moved = changes t e u next y (held_in e z.unique y) g2 there k.not_root refl refl refl (record { kind = own.kind; unique = own.unique; body = own_held y.kind e z.unique y own.body }) in_new in
+    let none : names_of t u z.names ≡ 0 = none_counted (names_it t u) z.names (each_map (Gives g e z.unique) (λ (n : Name). names_it t u n ≡ false) z.names (λ n gives. elsewhere (eqb n.vnode t) t u d e z.unique y g n (k.there, k.parent) apart refl gives) (h.given e z at_new)) in
+    let one = one_more e next t u (renamed_to new m) z refl refl in
+    puts_back t e u next (held_in e z.unique y) (with_names z (with_name (renamed_to new m) z.names) more) (put t (Some (held_in e z.unique y)) g2) (here t (Some (held_in e z.unique y)) g2) k.not_root k.unique refl
+    (other t (Some (held_in e z.unique y)) g2 e (λ s. not_new (sym s)) ∙ here e (Some (with_names z (with_name (renamed_to new m) z.names) more)) g1) new_dir refl
+    (subst (HasNames y.kind y.links) (let w : 1 ≡ names_of t u (with_name (renamed_to new m) z.names) = omega (arith, none, one) in w) count) moved
