@@ -11,4 +11,6 @@ pub mod Maps
 pub mod Ranks
 pub mod Steps
 pub mod Looks
+pub mod Kept
+pub mod Comes
 pub mod Operated

@@ -132,7 +132,7 @@ left_out d t u next x y g k h = subst (λ (p : ℕ). But t p u next g) k.parent 
 
 -- ---- a name and its vnode go
 
-abbrev taken : ℕ → Vnode → List ℕ → ℕ → Map → Map
+abbrev pub taken : ℕ → Vnode → List ℕ → ℕ → Map → Map
 taken d x name links g = put d (Some (with_names x (without_name name x.names) links)) g
 
 -- how often it is named after one of its names went
@@ -194,7 +194,7 @@ loses d next links fewer name m x y g e dir found l k ne file less one h =
 
 -- ---- a name and a new vnode come
 
-abbrev added : ℕ → Vnode → Name → ℕ → Map → Map
+abbrev pub added : ℕ → Vnode → Name → ℕ → Map → Map
 added d x m links g = put d (Some (with_names x (with_name m x.names) links)) g
 
 pub later_own : (next n : ℕ) (x : Vnode) → Own next n x → Own (next + 1) n x
