@@ -13,7 +13,7 @@ use Rattle.afs_ideal.specs.AccessLists.{IsAccessList, no_acl}
 use Rattle.afs_ideal.specs.Directories.{most_names, IsDirectory, named, with_name, add_refused}
 use Rattle.afs_ideal.specs.Volumes.{Kind, a_file, a_directory, a_link, Vnode, Volume, vnode_of, Amend, Edit, amends, makes, or_old, with_status, amended, fresh, edited, edited_all, edit_number, ascending, counted}
 use Rattle.afs_ideal.specs.Operations.{Tests, first_failing, adds_name, is_kind, names_in, links_of, acl_of, implies, no_amend, free_number, new_in, name_of, creating, linking, may_link}
-use Rattle.afs_ideal.specs.Soundness.{names_of, names_directory, subdirectories, KindFits, HasNames, IsNamedIn, HasByKind, IsSound}
+use Rattle.afs_ideal.specs.Soundness.{names_of, names_directory, subdirectories, KindFits, HasNames, IsNamedIn, HasByKind, IsRoot, IsSound}
 use Rattle.afs_ideal.proofs.Basics.{some_of, both}
 use Rattle.afs_ideal.proofs.Tables.{free_is_free, free_parity, free_from}
 use Rattle.afs_ideal.proofs.Counts.{one_if}
@@ -122,3 +122,64 @@ creates_sound id d name status links new x v h found dir ok free above parent pa
       (λ n z e differs. same_parents id v.next t es v apart makes_as ((λ ne. refl), ((λ ne. absurd (ne refl)), tt)) n z e differs)
       (λ z e. ap (λ (w : Vnode). w.parent) (sym (some_of y z (sym there ∙ e))) ∙ parent)
       (λ s. ne (sym s)) (not_its_parent v t h free))
+
+-- ---- Link
+
+root_kind : (o : Option Vnode) (x : Vnode) → IsRoot o → o ≡ Some x → x.kind ≡ a_directory
+root_kind None x h e = absurd h
+root_kind (Some r) x h e = ap (λ (w : Vnode). w.kind) (sym (some_of r x e)) ∙ h.1.0
+
+file_is_no_directory : (k : Kind) → k ≡ a_file → k ≡ a_directory → ⊥
+file_is_no_directory a_file e f = absurd cc
+file_is_no_directory a_directory e f = absurd cc
+file_is_no_directory a_link e f = absurd cc
+
+named_in : (o : Option Vnode) (n : ℕ) (x y : Vnode) → o ≡ Some x → IsNamedIn o n y → (x.unique ≡ y.parent_unique) × HasNames y.kind y.links (names_of n y.unique x.names)
+named_in None n x y e h = absurd h
+named_in (Some d) n x y e h = subst (λ (w : Vnode). (w.unique ≡ y.parent_unique) × HasNames y.kind y.links (names_of n y.unique w.names)) (some_of d x e) h.1
+
+-- a file is held by its parent
+pub held_file : (d f : Fid) (x y : Vnode) (v : Volume) → IsSound v → Found d v x → Found f v y → y.kind ≡ a_file → y.parent ≡ d.vnode → Held d.vnode f.vnode f.unique x y (at v)
+held_file d f x y v h at_d at_f file parent =
+    let s = as_map v h in
+    let not_root : f.vnode ≡ 1 → ⊥ = λ e. file_is_no_directory y.kind file (root_kind (get 1 v.vnodes) y s.root (ap (λ (k : ℕ). get k v.vnodes) (sym e) ∙ at_f.there)) in
+    let named = named_in (get y.parent v.vnodes) f.vnode x y (ap (λ (k : ℕ). get k v.vnodes) parent ∙ at_d.there) (s.named f.vnode y at_f.there not_root) in
+    record {
+      there = at_f.there;
+      not_root = not_root;
+      unique = at_f.unique;
+      parent = parent;
+      parent_unique = named.0;
+      count = subst (λ (u : ℕ). HasNames y.kind y.links (names_of f.vnode u x.names)) at_f.unique named.1;
+    }
+
+-- what a directory holds isn't that directory: its rank is higher
+pub not_itself : (d t u : ℕ) (x y : Vnode) (g : Map) (rank : ℕ → ℕ) → Ranked g rank → Held d t u x y g → t ≡ d → ⊥
+not_itself d t u x y g rank h k same =
+    let up : rank y.parent < rank t = h t y k.there k.not_root in
+    let low : rank d < rank t = subst (λ (p : ℕ). rank p < rank t) k.parent up in
+    let one : rank t ≡ rank d = ap rank same in
+    absurd (omega (arith, low, one))
+
+-- files have even numbers
+even_file : (t next : ℕ) (y : Vnode) → y.kind ≡ a_file → Own next t y → one_if (nat_eq (t % 2) 1) ≡ 0
+even_file t next y file own = parity t y.kind own.kind ∙ ap (λ (k : Kind). one_if (is_kind k a_directory)) file
+
+pub links_sound : (id : ℕ) (d f : Fid) (name : List ℕ) (x y : Vnode) (v : Volume) → IsSound v → Found d v x → x.kind ≡ a_directory → Found f v y → y.kind ≡ a_file → y.parent ≡ d.vnode → add_refused name x.names ≡ None
+    → names_in (vnode_of d v) ≡ x.names → links_of (vnode_of f v) ≡ y.links → IsSound (counted (edited_all id (ascending (linking d name f v)) v))
+links_sound id d f name x y v h at_d dir at_f file parent ok its many =
+    let t : ℕ = f.vnode in
+    let m : Name = name_of name t f.unique in
+    let s = as_map v h in
+    let k = held_file d f x y v h at_d at_f file parent in
+    let ne = not_itself d.vnode t f.unique x y (at v) (steps v) (as_ranked v h) k in
+    let even = even_file t v.next y file (s.own t y at_f.there) in
+    let a : Amend = record no_amend { names = Some (with_name m (names_in (vnode_of d v))) } in
+    let b : Amend = record no_amend { links = Some (links_of (vnode_of f v) + 1) } in
+    let g : Map = put t (Some (linked_by (y.links + 1) y)) (added d.vnode x m x.links (at v)) in
+    plain_sound id (linking d name f v) v g h ((tt, tt), ((tt, tt), tt)) (refl, (refl, tt)) ((ne, tt), (tt, tt))
+    (gains d.vnode t f.unique v.next m x y (at v) at_d.there dir refl refl ok (omega (arith, even)) k ne (file_is_no_directory y.kind file) s)
+    (λ n. like_two (eqb t n) (eqb d.vnode n) (Some (linked_by (y.links + 1) y)) (Some (with_names x (with_name m x.names) x.links)) (option_map (amended (v.counter + 1) b) (get n v.vnodes)) (option_map (amended (v.counter + 1) a) (get n v.vnodes)) (get n v.vnodes)
+      (two_numbers d.vnode t n ne)
+      (λ p. amended_like t n (v.counter + 1) b y (linked_by (y.links + 1) y) v at_f.there p (record { seen = record { unique = refl; kind = refl; links = ap (λ (j : ℕ). j + 1) many; parent = refl; parent_unique = refl; names = refl }; contents = refl; acl = refl }))
+      (λ p. amended_like d.vnode n (v.counter + 1) a x (with_names x (with_name m x.names) x.links) v at_d.there p (record { seen = record { unique = refl; kind = refl; links = refl; parent = refl; parent_unique = refl; names = ap (with_name m) its }; contents = refl; acl = refl })))

@@ -13,4 +13,5 @@ pub mod Steps
 pub mod Looks
 pub mod Kept
 pub mod Comes
+pub mod Goes
 pub mod Operated
