@@ -14,4 +14,5 @@ pub mod Looks
 pub mod Kept
 pub mod Comes
 pub mod Goes
+pub mod Moves
 pub mod Operated

@@ -257,7 +257,7 @@ gains d t u next m x y g e dir number unique ok l k ne file h =
 abbrev pub renamed_to : List ℕ → Name → Name
 renamed_to name m = record m { name = name }
 
-shorter : (name : List ℕ) (m : Name) (names : List Name) → IsDirectory names → named name names ≡ Some m → length (without_name name names) + 1 ≡ length names
+pub shorter : (name : List ℕ) (m : Name) (names : List Name) → IsDirectory names → named name names ≡ Some m → length (without_name name names) + 1 ≡ length names
 shorter name m names is found =
     let a = count_without (λ (n : Name). true) name [] m names is.ordered found in
     let b = count_all names in
