@@ -15,4 +15,5 @@ pub mod Kept
 pub mod Comes
 pub mod Goes
 pub mod Moves
+pub mod Preserved
 pub mod Operated
