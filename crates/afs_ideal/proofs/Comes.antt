@@ -110,18 +110,18 @@ creates_sound id d name status links new x v h found dir ok free above parent pa
     let g : Map = put t (Some y) (added d.vnode x m (or_old links x.links) (at v)) in
     let sound : Sound (v.next + 1) g = comes d.vnode t v.next (or_old links x.links) m x y (at v) found.there dir free refl refl ok l refl parent (parent_unique ∙ sym found.unique) empty own single (as_map v h) in
     let like : (n : ℕ) → AreLike (g n) (look (v.counter + 1) v.next es n (get n v.vnodes)) = λ n.
-      like_two (eqb t n) (eqb d.vnode n) (Some y) (Some (with_names x (with_name m x.names) (or_old links x.links))) (one_edit (v.counter + 1) v.next (makes t (with_status (Some status) new)) (get n v.vnodes)) (option_map (amended (v.counter + 1) a) (get n v.vnodes)) (get n v.vnodes)
-      (two_numbers d.vnode t n ne)
-      (λ b. subst (λ (o : Option Vnode). AreLike (Some y) (one_edit (v.counter + 1) v.next (makes t (with_status (Some status) new)) o)) (sym (ap (λ (k : ℕ). get k v.vnodes) (sym (eqb-true t n b)) ∙ free)) (like_itself (Some y)))
-      (λ b. amended_like d.vnode n (v.counter + 1) a x (with_names x (with_name m x.names) (or_old links x.links)) v found.there b (record { seen = record { unique = refl; kind = refl; links = refl; parent = refl; parent_unique = refl; names = ap (with_name m) its }; contents = refl; acl = refl })) in
+    like_two (eqb t n) (eqb d.vnode n) (Some y) (Some (with_names x (with_name m x.names) (or_old links x.links))) (one_edit (v.counter + 1) v.next (makes t (with_status (Some status) new)) (get n v.vnodes)) (option_map (amended (v.counter + 1) a) (get n v.vnodes)) (get n v.vnodes)
+    (two_numbers d.vnode t n ne)
+    (λ b. subst (λ (o : Option Vnode). AreLike (Some y) (one_edit (v.counter + 1) v.next (makes t (with_status (Some status) new)) o)) (sym (ap (λ (k : ℕ). get k v.vnodes) (sym (eqb-true t n b)) ∙ free)) (like_itself (Some y)))
+    (λ b. amended_like d.vnode n (v.counter + 1) a x (with_names x (with_name m x.names) (or_old links x.links)) v found.there b (record { seen = record { unique = refl; kind = refl; links = refl; parent = refl; parent_unique = refl; names = ap (with_name m) its }; contents = refl; acl = refl })) in
     let looked : (n : ℕ) → get n (edited_all id (ascending es) v).vnodes ≡ look (v.counter + 1) v.next es n (get n v.vnodes) = λ n. holds_after id v.next n es v apart makes_as in
     let there : get t (edited_all id (ascending es) v).vnodes ≡ Some y = made_there (eqb d.vnode t) t d.vnode v x status new a free refl ne (looked t) in
     edited_sound id (v.next + 1) (ascending es) v (leaf_rank t d.vnode (steps v)) h up (made_next id (nat_lt t d.vnode) d.vnode t a (with_status (Some status) new) v x found.there free ne)
     (as_like (v.next + 1) g (at (edited_all id (ascending es) v)) (λ n. subst (AreLike (g n)) (sym (looked n)) (like n)) sound)
     (ranked_leaf t d.vnode (at v) (at (edited_all id (ascending es) v)) (steps v) (as_ranked v h)
-      (λ n z e differs. same_parents id v.next t es v apart makes_as ((λ ne. refl), ((λ ne. absurd (ne refl)), tt)) n z e differs)
-      (λ z e. ap (λ (w : Vnode). w.parent) (sym (some_of y z (sym there ∙ e))) ∙ parent)
-      (λ s. ne (sym s)) (not_its_parent v t h free))
+    (λ n z e differs. same_parents id v.next t es v apart makes_as ((λ ne. refl), ((λ ne. absurd (ne refl)), tt)) n z e differs)
+    (λ z e. ap (λ (w : Vnode). w.parent) (sym (some_of y z (sym there ∙ e))) ∙ parent)
+    (λ s. ne (sym s)) (not_its_parent v t h free))
 
 -- ---- Link
 
@@ -180,6 +180,6 @@ links_sound id d f name x y v h at_d dir at_f file parent ok its many =
     plain_sound id (linking d name f v) v g h ((tt, tt), ((tt, tt), tt)) (refl, (refl, tt)) ((ne, tt), (tt, tt))
     (gains d.vnode t f.unique v.next m x y (at v) at_d.there dir refl refl ok (omega (arith, even)) k ne (file_is_no_directory y.kind file) s)
     (λ n. like_two (eqb t n) (eqb d.vnode n) (Some (linked_by (y.links + 1) y)) (Some (with_names x (with_name m x.names) x.links)) (option_map (amended (v.counter + 1) b) (get n v.vnodes)) (option_map (amended (v.counter + 1) a) (get n v.vnodes)) (get n v.vnodes)
-      (two_numbers d.vnode t n ne)
-      (λ p. amended_like t n (v.counter + 1) b y (linked_by (y.links + 1) y) v at_f.there p (record { seen = record { unique = refl; kind = refl; links = ap (λ (j : ℕ). j + 1) many; parent = refl; parent_unique = refl; names = refl }; contents = refl; acl = refl }))
-      (λ p. amended_like d.vnode n (v.counter + 1) a x (with_names x (with_name m x.names) x.links) v at_d.there p (record { seen = record { unique = refl; kind = refl; links = refl; parent = refl; parent_unique = refl; names = ap (with_name m) its }; contents = refl; acl = refl })))
+    (two_numbers d.vnode t n ne)
+    (λ p. amended_like t n (v.counter + 1) b y (linked_by (y.links + 1) y) v at_f.there p (record { seen = record { unique = refl; kind = refl; links = ap (λ (j : ℕ). j + 1) many; parent = refl; parent_unique = refl; names = refl }; contents = refl; acl = refl }))
+    (λ p. amended_like d.vnode n (v.counter + 1) a x (with_names x (with_name m x.names) x.links) v at_d.there p (record { seen = record { unique = refl; kind = refl; links = refl; parent = refl; parent_unique = refl; names = ap (with_name m) its }; contents = refl; acl = refl })))

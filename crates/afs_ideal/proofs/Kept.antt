@@ -131,6 +131,13 @@ each_but t (e ∷ es) h = ((λ ne. h.0), each_but t es h.1)
 above_zero : (n : ℕ) (t : Table Vnode) (y : Vnode) → AscendsFrom 1 t → get n t ≡ Some y → n ≡ 0 → ⊥
 above_zero n t y up e z = let none : get n t ≡ None = get_below 1 n t (omega (arith, z)) up in let no_one : None ≡ Some y = sym none ∙ e in absurd cc
 
+pub above_root : (n : ℕ) (t : Table Vnode) (y : Vnode) → AscendsFrom 1 t → get n t ≡ Some y → 1 ≤ n
+above_root n t y up e = let ne = above_zero n t y up e in at_least n ne
+  where
+    at_least : (n : ℕ) → (n ≡ 0 → ⊥) → 1 ≤ n
+    at_least zero ne = absurd (ne refl)
+    at_least (suc k) ne = omega arith
+
 pub all_parents : (id u : ℕ) (es : List Edit) (v : Volume) → IsSound v → AllByRecursion IsAboveRoot (ascending es) → Distinct es → MakesAs u v.next (ascending es) → AllByRecursion KeepsParent es
     → (n : ℕ) (y : Vnode) → get n (edited_all id (ascending es) v).vnodes ≡ Some y → SameParent (get n v.vnodes) y
 all_parents id u es v h above apart makes_as keeps n y e =
@@ -210,8 +217,8 @@ stores_sound id n a x v h e ns l p own =
     let looked : (m : ℕ) → get m (edited_all id es v).vnodes ≡ look (v.counter + 1) v.next es m (get m v.vnodes) = λ m. looks id v.next m es v (tt, tt) tt in
     edited_sound id v.next es v (steps v) h (tt, tt) (next_all id es v (tt, tt))
     (as_seen v.next (at v) (at (edited_all id es v))
-      (λ m. subst (AreSeen (get m v.vnodes)) (sym (looked m)) (stored_seen (eqb n m) (v.counter + 1) a (get m v.vnodes) (get m v.vnodes) ns l p (λ b. refl)))
-      (λ m y is. stored_own (eqb n m) v.next (v.counter + 1) n m a x y v refl e own sound.own (sym (looked m) ∙ is)) sound)
+    (λ m. subst (AreSeen (get m v.vnodes)) (sym (looked m)) (stored_seen (eqb n m) (v.counter + 1) a (get m v.vnodes) (get m v.vnodes) ns l p (λ b. refl)))
+    (λ m y is. stored_own (eqb n m) v.next (v.counter + 1) n m a x y v refl e own sound.own (sym (looked m) ∙ is)) sound)
     (ranked_same (at v) (at (edited_all id es v)) (steps v) (as_ranked v h) (all_parents id v.next es v h (tt, tt) (tt, tt) tt (p, tt)))
 
 status_body : (k : Kind) (c : ℕ) (s : AfsStoreStatus) (x : Vnode) → HasByKind k x → HasByKind k (amended c (record no_amend { status = Some s }) x)

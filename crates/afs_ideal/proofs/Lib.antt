@@ -16,4 +16,5 @@ pub mod Comes
 pub mod Goes
 pub mod Moves
 pub mod Preserved
+pub mod Laid
 pub mod Operated

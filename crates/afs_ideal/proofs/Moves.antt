@@ -129,9 +129,9 @@ within_sound id d old new m x y v h at_d dir found ok none k its many =
     plain_sound id (amends d.vnode a ∷ []) v (within d.vnode x old new m x.links (at v)) h ((tt, tt), tt) (refl, tt) (tt, tt)
     (moves_within d.vnode v.next old new m x y (at v) at_d.there dir found ok gone k ne (as_map v h))
     (λ n. like_if (eqb d.vnode n) (Some (with_names x (with_name (renamed_to new m) (without_name old x.names)) x.links)) (option_map (amended (v.counter + 1) a) (get n v.vnodes)) (get n v.vnodes) (get n v.vnodes)
-      (λ p. amended_like d.vnode n (v.counter + 1) a x (with_names x (with_name (renamed_to new m) (without_name old x.names)) x.links) v at_d.there p
-        (record { seen = record { unique = refl; kind = refl; links = many; parent = refl; parent_unique = refl; names = ap (λ (ns : List Name). with_name (renamed_to new m) (without_name new (without_name old ns))) its ∙ ap (with_name (renamed_to new m)) (without_none new (without_name old x.names) gone) }; contents = refl; acl = refl }))
-      (like_itself (get n v.vnodes)))
+    (λ p. amended_like d.vnode n (v.counter + 1) a x (with_names x (with_name (renamed_to new m) (without_name old x.names)) x.links) v at_d.there p
+    (record { seen = record { unique = refl; kind = refl; links = many; parent = refl; parent_unique = refl; names = ap (λ (ns : List Name). with_name (renamed_to new m) (without_name new (without_name old ns))) its ∙ ap (with_name (renamed_to new m)) (without_none new (without_name old x.names) gone) }; contents = refl; acl = refl }))
+    (like_itself (get n v.vnodes)))
 
 pub within_replaced : (id : ℕ) (d : Fid) (old new : List ℕ) (m w : Name) (x y t : Vnode) (v : Volume) (b : Bool) → stays t ≡ b → IsSound v → Found d v x → x.kind ≡ a_directory → named old x.names ≡ Some m → name_ok new ≡ true → bytes_eq old new ≡ false → named new x.names ≡ Some w
     → Held d.vnode m.vnode m.unique x y (at v) → Held d.vnode w.vnode w.unique x t (at v) → (t.kind ≡ a_directory → t.names ≡ []) → names_in (vnode_of d v) ≡ x.names → links_of (vnode_of d v) ≡ x.links
@@ -159,10 +159,10 @@ within_replaced id d old new m w x y t v b e h at_d dir found ok differ target k
     let last : Vnode = with_names x1 (with_name (renamed_to new m) (without_name old x1.names)) l in
     plain_sound id es v (within d.vnode x1 old new m l g1) h ((tt, tt), (unlink_plain b w.vnode t, tt)) (refl, (unlink_keeps b w.vnode t, tt)) ((ne_edit, tt), (tt, tt)) s2
     (λ n. subst (λ (j : ℕ). AreLike (within d.vnode x1 old new m l g1 n) (cond (eqb d.vnode n) (option_map (amended (v.counter + 1) a) (get n v.vnodes)) (cond (eqb j n) (one_edit (v.counter + 1) v.next (unlink_by b w.vnode t) (get n v.vnodes)) (get n v.vnodes)))) (sym (unlink_number b w.vnode t))
-      (like_three (eqb d.vnode n) (eqb w.vnode n) (Some last) (Some x1) (unlinked b t) (option_map (amended (v.counter + 1) a) (get n v.vnodes)) (one_edit (v.counter + 1) v.next (unlink_by b w.vnode t) (get n v.vnodes)) (get n v.vnodes)
-      (λ p. amended_like d.vnode n (v.counter + 1) a x last v at_d.there p
-        (record { seen = record { unique = refl; kind = refl; links = ap (linked false gone) many; parent = refl; parent_unique = refl; names = ap (λ (ns : List Name). with_name (renamed_to new m) (without_name new (without_name old ns))) its ∙ ap (with_name (renamed_to new m)) (without_swap new old x.names) }; contents = refl; acl = refl }))
-      (λ p. unlinked_like b w.vnode n (v.counter + 1) v.next t v kt.there p)))
+    (like_three (eqb d.vnode n) (eqb w.vnode n) (Some last) (Some x1) (unlinked b t) (option_map (amended (v.counter + 1) a) (get n v.vnodes)) (one_edit (v.counter + 1) v.next (unlink_by b w.vnode t) (get n v.vnodes)) (get n v.vnodes)
+    (λ p. amended_like d.vnode n (v.counter + 1) a x last v at_d.there p
+    (record { seen = record { unique = refl; kind = refl; links = ap (linked false gone) many; parent = refl; parent_unique = refl; names = ap (λ (ns : List Name). with_name (renamed_to new m) (without_name new (without_name old ns))) its ∙ ap (with_name (renamed_to new m)) (without_swap new old x.names) }; contents = refl; acl = refl }))
+    (λ p. unlinked_like b w.vnode n (v.counter + 1) v.next t v kt.there p)))
 
 -- ---- from one directory to another: ranks
 
@@ -201,13 +201,17 @@ pub moved_ranked : (b : Bool) (t e : ℕ) (y : Vnode) (v : Volume) (k : Map) →
     → ((z : Vnode) → k t ≡ Some z → z.parent ≡ e) → (rank : ℕ → ℕ) × Ranked k rank
 moved_ranked true t e y v k is out h there ne same mine =
     let s = as_map v h in
-    let below : ℕ → Bool = λ n. is_below n t v in
-    (part_rank below e (steps v), ranked_part below t e (at v) k (steps v) (as_ranked v h) same mine (below_itself t v y there) out
-      (λ n x at_n not_root. below_is v (steps v) t (as_ranked v h) (has_parents v.next (at v) s) (root_parent v h) n x at_n not_root))
+    let below : ℕ → Bool = λ n. is_below n t v in (
+      part_rank below e (steps v),
+      ranked_part below t e (at v) k (steps v) (as_ranked v h) same mine (below_itself t v y there) out
+          (λ n x at_n not_root. below_is v (steps v) t (as_ranked v h) (has_parents v.next (at v) s) (root_parent v h) n x at_n not_root),
+    )
 moved_ranked false t e y v k is out h there ne same mine =
-    let s = as_map v h in
-    (leaf_rank t e (steps v), ranked_leaf t e (at v) k (steps v) (as_ranked v h) same mine (λ q. ne (sym q))
-      (λ n x at_n not_root up. kind_no y.kind is (parent_is_directory (get x.parent v.vnodes) n x y (ap (λ (j : ℕ). get j v.vnodes) up ∙ there) (s.named n x at_n not_root))))
+    let s = as_map v h in (
+      leaf_rank t e (steps v),
+      ranked_leaf t e (at v) k (steps v) (as_ranked v h) same mine (λ q. ne (sym q))
+          (λ n x at_n not_root up. kind_no y.kind is (parent_is_directory (get x.parent v.vnodes) n x y (ap (λ (j : ℕ). get j v.vnodes) up ∙ there) (s.named n x at_n not_root))),
+    )
 
 -- ---- from one directory to another: the volume
 
@@ -273,15 +277,15 @@ across_sound id d e old new m x z y v h at_d dir at_e new_dir apart found ok non
     let k_map : Map = at (edited_all id (ascending es) v) in
     let mine : k_map t ≡ Some (amended c (parent_edit e) y) = holds_after id v.next t es v distinct makes_as ∙ (third d.vnode e.vnode t _ _ _ _ (λ q. ne_d (sym q)) (λ q. not_new (sym q)) ∙ ap (option_map (amended c (parent_edit e))) k.there) in
     let ranked = moved_ranked moves t e.vnode y v k_map refl out h k.there not_new
-      (λ n w is ne. same_parents id v.next t es v distinct makes_as ((λ q. refl), ((λ q. refl), ((λ q. absurd (q refl)), tt))) n w is ne)
-      (λ w is. moved_parent t e c y w (k_map t) mine is) in
+    (λ n w is ne. same_parents id v.next t es v distinct makes_as ((λ q. refl), ((λ q. refl), ((λ q. absurd (q refl)), tt))) n w is ne)
+    (λ w is. moved_parent t e c y w (k_map t) mine is) in
     plain_ranked id es v ranked.0 g h plain distinct sound
     (λ n. like_four (eqb d.vnode n) (eqb e.vnode n) (eqb t n) (Some (with_names x (without_name old x.names) less)) (Some (with_names z (with_name (renamed_to new m) z.names) more)) (Some (held_in e.vnode z.unique y))
-      (option_map (amended c a1) (get n v.vnodes)) (option_map (amended c a2) (get n v.vnodes)) (option_map (amended c (parent_edit e)) (get n v.vnodes)) (get n v.vnodes)
-      (never_both d.vnode e.vnode n apart) (never_both d.vnode t n (λ q. ne_d (sym q))) (never_both e.vnode t n (λ q. not_new (sym q)))
-      (λ p. amended_like d.vnode n c a1 x (with_names x (without_name old x.names) less) v at_d.there p (record { seen = record { unique = refl; kind = refl; links = ap (linked false moves) many; parent = refl; parent_unique = refl; names = ap (without_name old) its }; contents = refl; acl = refl }))
-      (λ p. amended_like e.vnode n c a2 z (with_names z (with_name (renamed_to new m) z.names) more) v at_e.there p (record { seen = record { unique = refl; kind = refl; links = ap (linked moves false) many_new; parent = refl; parent_unique = refl; names = ap (λ (ns : List Name). with_name (renamed_to new m) (without_name new ns)) its_new ∙ ap (with_name (renamed_to new m)) (without_none new z.names none) }; contents = refl; acl = refl }))
-      (λ p. amended_like t n c (parent_edit e) y (held_in e.vnode z.unique y) v k.there p (record { seen = record { unique = refl; kind = refl; links = refl; parent = refl; parent_unique = sym at_e.unique; names = refl }; contents = refl; acl = refl })))
+    (option_map (amended c a1) (get n v.vnodes)) (option_map (amended c a2) (get n v.vnodes)) (option_map (amended c (parent_edit e)) (get n v.vnodes)) (get n v.vnodes)
+    (never_both d.vnode e.vnode n apart) (never_both d.vnode t n (λ q. ne_d (sym q))) (never_both e.vnode t n (λ q. not_new (sym q)))
+    (λ p. amended_like d.vnode n c a1 x (with_names x (without_name old x.names) less) v at_d.there p (record { seen = record { unique = refl; kind = refl; links = ap (linked false moves) many; parent = refl; parent_unique = refl; names = ap (without_name old) its }; contents = refl; acl = refl }))
+    (λ p. amended_like e.vnode n c a2 z (with_names z (with_name (renamed_to new m) z.names) more) v at_e.there p (record { seen = record { unique = refl; kind = refl; links = ap (linked moves false) many_new; parent = refl; parent_unique = refl; names = ap (λ (ns : List Name). with_name (renamed_to new m) (without_name new ns)) its_new ∙ ap (with_name (renamed_to new m)) (without_none new z.names none) }; contents = refl; acl = refl }))
+    (λ p. amended_like t n c (parent_edit e) y (held_in e.vnode z.unique y) v k.there p (record { seen = record { unique = refl; kind = refl; links = refl; parent = refl; parent_unique = sym at_e.unique; names = refl }; contents = refl; acl = refl })))
     ranked.1
 
 -- a replaced target is none of the vnodes that move
@@ -328,7 +332,7 @@ across_replaced id d e old new m w x z y t v b eb h at_d dir at_e new_dir apart 
     let room : length (without_name new z.names) < most_names = (let few_names = short.few in omega (arith, few_names, fits)) in
     let g : Map = across d.vnode e.vnode x z1 old new m y less more g1 in
     let sound : Sound v.next g = moves_across d.vnode e.vnode v.next less more old new m x z1 y g1 x_at dir z_at new_dir apart found (room_for new (without_name new z.names) ok (named_gone new z.names) room) x_less z_more (held_elsewhere d.vnode m.vnode m.unique x y (at v) g1 y_at k) ne_d not_new single
-      (subst (HasNames y.kind y.links) single k.count) s1 in
+    (subst (HasNames y.kind y.links) single k.count) s1 in
     let num : edit_number last ≡ w.vnode = unlink_number b w.vnode t in
     let distinct : Distinct es = (((λ q. apart (sym q)), (ne_d, ((λ q. d_w (sym q ∙ num)), tt))), ((not_new, ((λ q. ne_w (sym num ∙ q)), tt)), (((λ q. not_same (sym q ∙ num)), tt), (tt, tt)))) in
     let plain : AllByRecursion IsPlain es = ((tt, tt), ((tt, tt), ((tt, tt), (unlink_plain b w.vnode t, tt)))) in
@@ -337,17 +341,17 @@ across_replaced id d e old new m w x z y t v b eb h at_d dir at_e new_dir apart 
     let k_map : Map = at (edited_all id (ascending es) v) in
     let mine : k_map m.vnode ≡ Some (amended c (parent_edit e) y) = holds_after id v.next m.vnode es v distinct makes_as ∙ (third d.vnode e.vnode m.vnode _ _ _ _ (λ q. ne_d (sym q)) (λ q. not_new (sym q)) ∙ ap (option_map (amended c (parent_edit e))) k.there) in
     let ranked = moved_ranked moves m.vnode e.vnode y v k_map refl out h k.there not_new
-      (λ n j is ne. same_parents id v.next m.vnode es v distinct makes_as ((λ q. refl), ((λ q. refl), ((λ q. absurd (q refl)), ((λ q. unlink_keeps b w.vnode t), tt)))) n j is ne)
-      (λ j is. moved_parent m.vnode e c y j (k_map m.vnode) mine is) in
+    (λ n j is ne. same_parents id v.next m.vnode es v distinct makes_as ((λ q. refl), ((λ q. refl), ((λ q. absurd (q refl)), ((λ q. unlink_keeps b w.vnode t), tt)))) n j is ne)
+    (λ j is. moved_parent m.vnode e c y j (k_map m.vnode) mine is) in
     let z2 : Vnode = with_names z1 (with_name (renamed_to new m) z1.names) more in
     let x2 : Vnode = with_names x (without_name old x.names) less in
     plain_ranked id es v ranked.0 g h plain distinct sound
     (λ n. subst (λ (j : ℕ). AreLike (g n) (cond (eqb d.vnode n) (option_map (amended c a1) (get n v.vnodes)) (cond (eqb e.vnode n) (option_map (amended c a2) (get n v.vnodes)) (cond (eqb m.vnode n) (option_map (amended c (parent_edit e)) (get n v.vnodes)) (cond (eqb j n) (one_edit c v.next last (get n v.vnodes)) (get n v.vnodes)))))) (sym num)
-      (like_five (eqb d.vnode n) (eqb e.vnode n) (eqb m.vnode n) (eqb w.vnode n) (Some x2) (Some z2) (Some z1) (Some (held_in e.vnode z.unique y)) (unlinked b t)
-      (option_map (amended c a1) (get n v.vnodes)) (option_map (amended c a2) (get n v.vnodes)) (option_map (amended c (parent_edit e)) (get n v.vnodes)) (one_edit c v.next last (get n v.vnodes)) (get n v.vnodes)
-      (never_both d.vnode e.vnode n apart) (never_both d.vnode m.vnode n (λ q. ne_d (sym q))) (never_both e.vnode m.vnode n (λ q. not_new (sym q)))
-      (λ p. amended_like d.vnode n c a1 x x2 v at_d.there p (record { seen = record { unique = refl; kind = refl; links = ap (linked false moves) many; parent = refl; parent_unique = refl; names = ap (without_name old) its }; contents = refl; acl = refl }))
-      (λ p. amended_like e.vnode n c a2 z z2 v at_e.there p (record { seen = record { unique = refl; kind = refl; links = ap (linked moves gone) many_new; parent = refl; parent_unique = refl; names = ap (λ (ns : List Name). with_name (renamed_to new m) (without_name new ns)) its_new }; contents = refl; acl = refl }))
-      (λ p. amended_like m.vnode n c (parent_edit e) y (held_in e.vnode z.unique y) v k.there p (record { seen = record { unique = refl; kind = refl; links = refl; parent = refl; parent_unique = sym at_e.unique; names = refl }; contents = refl; acl = refl }))
-      (λ p. unlinked_like b w.vnode n c v.next t v kt.there p)))
+    (like_five (eqb d.vnode n) (eqb e.vnode n) (eqb m.vnode n) (eqb w.vnode n) (Some x2) (Some z2) (Some z1) (Some (held_in e.vnode z.unique y)) (unlinked b t)
+    (option_map (amended c a1) (get n v.vnodes)) (option_map (amended c a2) (get n v.vnodes)) (option_map (amended c (parent_edit e)) (get n v.vnodes)) (one_edit c v.next last (get n v.vnodes)) (get n v.vnodes)
+    (never_both d.vnode e.vnode n apart) (never_both d.vnode m.vnode n (λ q. ne_d (sym q))) (never_both e.vnode m.vnode n (λ q. not_new (sym q)))
+    (λ p. amended_like d.vnode n c a1 x x2 v at_d.there p (record { seen = record { unique = refl; kind = refl; links = ap (linked false moves) many; parent = refl; parent_unique = refl; names = ap (without_name old) its }; contents = refl; acl = refl }))
+    (λ p. amended_like e.vnode n c a2 z z2 v at_e.there p (record { seen = record { unique = refl; kind = refl; links = ap (linked moves gone) many_new; parent = refl; parent_unique = refl; names = ap (λ (ns : List Name). with_name (renamed_to new m) (without_name new ns)) its_new }; contents = refl; acl = refl }))
+    (λ p. amended_like m.vnode n c (parent_edit e) y (held_in e.vnode z.unique y) v k.there p (record { seen = record { unique = refl; kind = refl; links = refl; parent = refl; parent_unique = sym at_e.unique; names = refl }; contents = refl; acl = refl }))
+    (λ p. unlinked_like b w.vnode n c v.next t v kt.there p)))
     ranked.1

@@ -216,18 +216,29 @@ renames_by caller d e old new v h p =
     let ok = both (name_ok new) (not (is_same_name d old e new) && may_move d e (name_in d old v) (name_in e new v) v (vnode_in d old v)) rest.1.1.0 in
     let two = both (not (is_same_name d old e new)) (may_move d e (name_in d old v) (name_in e new v) v (vnode_in d old v)) ok.1 in
     let move : may_move d e (Some m.0) (name_in e new v) v (Some g.0) ≡ true = subst (λ (o : Option Vnode). may_move d e (Some m.0) (name_in e new v) v o ≡ true) (in_directory d old v i.0 m.0 g.0 g.1) (subst (λ (o : Option Name). may_move d e o (name_in e new v) v (vnode_in d old v) ≡ true) m.1 two.1) in
-    let parts = both (not (same_vnode (Some m.0) (name_in e new v))) (if is_kind g.0.kind a_directory then not (is_below e.vnode m.0.vnode v) else (nat_eq d.vnode e.vnode || nat_lt g.0.links 2)) move in
-    (i.0, (j.0, (m.0, (g.0, record {
-      from = i.1;
-      to = j.1;
-      source = g.1;
-      good = ok.0;
-      other_name = is_false (is_same_name d old e new) two.0;
-      other_vnode = is_false (same_vnode (Some m.0) (name_in e new v)) parts.0;
-      moves = parts.1;
-      empty = rest.1.1.1.1.0;
-      room = rest.1.1.1.1.1.0;
-    }))))
+    let parts = both (not (same_vnode (Some m.0) (name_in e new v))) (if is_kind g.0.kind a_directory then not (is_below e.vnode m.0.vnode v) else (nat_eq d.vnode e.vnode || nat_lt g.0.links 2)) move in (
+      i.0,
+      (
+        j.0,
+        (
+          m.0,
+          (
+            g.0,
+            record {
+              from = i.1;
+              to = j.1;
+              source = g.1;
+              good = ok.0;
+              other_name = is_false (is_same_name d old e new) two.0;
+              other_vnode = is_false (same_vnode (Some m.0) (name_in e new v)) parts.0;
+              moves = parts.1;
+              empty = rest.1.1.1.1.0;
+              room = rest.1.1.1.1.1.0;
+            },
+          ),
+        ),
+      ),
+    )
 
 stands_by : (b : Bool) (d e : Fid) (m : Name) (y : Vnode) (v : Volume) → (if b then not (is_below e.vnode m.vnode v) else (nat_eq d.vnode e.vnode || nat_lt y.links 2)) ≡ true → MayStandIn e.vnode m.vnode v b
 stands_by true d e m y v h = is_false (is_below e.vnode m.vnode v) h
@@ -281,9 +292,9 @@ moved_across id d e old new v x z m y None h r is apart =
     let few_names : length z.names < most_names = subst (λ (k : Option Vnode). length (names_in k) < most_names) r.to.found.found room in
     subst (λ (k : Option Vnode). IsSound (counted (edited_all id (ascending (ops.renames_across d e m old new (is_directory k) None v ++ [])) v))) (sym g.vnode)
     (across_sound id d e old new m x z y v h r.from.found r.from.directory r.to.found r.to.directory (apart_numbers d.vnode e.vnode apart) g.named (room_for new z.names r.good none few_names) none g.held
-      (not_there_by (is_kind y.kind a_directory) e m.vnode y z v refl out g.held.there r.to.found.there r.to.directory) out
-      (few_by (is_kind y.kind a_directory) (nat_eq d.vnode e.vnode) d e m y v refl refl apart r.moves)
-      (ap names_in r.from.found.found) (ap links_of r.from.found.found) (ap names_in r.to.found.found) (ap links_of r.to.found.found))
+    (not_there_by (is_kind y.kind a_directory) e m.vnode y z v refl out g.held.there r.to.found.there r.to.directory) out
+    (few_by (is_kind y.kind a_directory) (nat_eq d.vnode e.vnode) d e m y v refl refl apart r.moves)
+    (ap names_in r.from.found.found) (ap links_of r.from.found.found) (ap names_in r.to.found.found) (ap links_of r.to.found.found))
 moved_across id d e old new v x z m y (Some w) h r is apart =
     let g = r.source in
     let out : MayStandIn e.vnode m.vnode v (is_kind y.kind a_directory) = stands_by (is_kind y.kind a_directory) d e m y v r.moves in
@@ -295,10 +306,10 @@ moved_across id d e old new v x z m y (Some w) h r is apart =
     (subst (λ (q : Option Vnode). IsSound (counted (edited_all id (ascending (ops.renames_across d e m old new (is_directory (Some y)) q v ++ unlinks w.vnode q)) v))) (sym k.1.vnode)
     (subst (λ (es : List Edit). IsSound (counted (edited_all id (ascending (ops.renames_across d e m old new (is_directory (Some y)) (Some t) v ++ es)) v))) (sym (unlinks_is w.vnode t (stays t) refl))
     (across_replaced id d e old new m w x z y t v (stays t) refl h r.from.found r.from.directory r.to.found r.to.directory (apart_numbers d.vnode e.vnode apart) g.named r.good k.1.named g.held k.1.held (λ q. no_length t.names empty)
-      (not_same_by m w y t v g.held.there g.held.unique k.1.held.there k.1.held.unique differs)
-      (not_there_by (is_kind y.kind a_directory) e m.vnode y z v refl out g.held.there r.to.found.there r.to.directory) out
-      (few_by (is_kind y.kind a_directory) (nat_eq d.vnode e.vnode) d e m y v refl refl apart r.moves)
-      (ap names_in r.from.found.found) (ap links_of r.from.found.found) (ap names_in r.to.found.found) (ap links_of r.to.found.found))))
+    (not_same_by m w y t v g.held.there g.held.unique k.1.held.there k.1.held.unique differs)
+    (not_there_by (is_kind y.kind a_directory) e m.vnode y z v refl out g.held.there r.to.found.there r.to.directory) out
+    (few_by (is_kind y.kind a_directory) (nat_eq d.vnode e.vnode) d e m y v refl refl apart r.moves)
+    (ap names_in r.from.found.found) (ap links_of r.from.found.found) (ap names_in r.to.found.found) (ap links_of r.to.found.found))))
 
 -- within one directory
 same_directory : (d e : Fid) (v : Volume) (x z : Vnode) → Found d v x → Found e v z → d.vnode ≡ e.vnode → z ≡ x
@@ -372,7 +383,7 @@ kept_by id caller (calls.CreateFile d name status) v es n h p e =
     let above : 2 ≤ lowest_free 2 v.vnodes = free_from 2 v.vnodes in
     leaves_sorted id (creating d name status None (new_file d) v) es (free_number a_file v) n v e (omega arith)
     (creates_sound id d name status None (new_file d) x v h i.1.found i.1.directory (named_ok name d v x (is_mask status) i.1.found p.1.1.1.1) (free_is_free 1 2 v.vnodes h.ascending) (omega (arith, above)) refl refl refl (refl, omega arith)
-      (file_own (lowest_free 2 v.vnodes) 0 d 420 1 [] v status even) (even_none (lowest_free 2 v.vnodes) x.links even) (ap names_in i.1.found.found))
+    (file_own (lowest_free 2 v.vnodes) 0 d 420 1 [] v status even) (even_none (lowest_free 2 v.vnodes) x.links even) (ap names_in i.1.found.found))
 kept_by id caller (calls.Symlink d name target status) v es n h p e =
     let i = into d v p.0 p.1.0 in
     let x : Vnode = i.0 in
@@ -380,7 +391,7 @@ kept_by id caller (calls.Symlink d name target status) v es n h p e =
     let above : 2 ≤ lowest_free 2 v.vnodes = free_from 2 v.vnodes in
     leaves_sorted id (creating d name status None (new_link d target) v) es (free_number a_link v) n v e (omega arith)
     (creates_sound id d name status None (new_link d target) x v h i.1.found i.1.directory (named_ok name d v x (is_mask status) i.1.found p.1.1.1.1) (free_is_free 1 2 v.vnodes h.ascending) (omega (arith, above)) refl refl refl (refl, omega arith)
-      (link_own (lowest_free 2 v.vnodes) 0 d 511 1 target v status even) (even_none (lowest_free 2 v.vnodes) x.links even) (ap names_in i.1.found.found))
+    (link_own (lowest_free 2 v.vnodes) 0 d 511 1 target v status even) (even_none (lowest_free 2 v.vnodes) x.links even) (ap names_in i.1.found.found))
 kept_by id caller (calls.MakeDir d name status) v es n h p e =
     let i = into d v p.0 p.1.0 in
     let x : Vnode = i.0 in
@@ -392,7 +403,7 @@ kept_by id caller (calls.MakeDir d name status) v es n h p e =
     let many : links_of (vnode_of d v) + 1 ≡ x.links + 1 = ap (λ (o : Option Vnode). links_of o + 1) i.1.found.found in
     leaves_sorted id (creating d name status links (new_directory d acl) v) es (free_number a_directory v) n v e (omega arith)
     (creates_sound id d name status links (new_directory d acl) x v h i.1.found i.1.directory (named_ok name d v x (is_mask status) i.1.found p.1.1.1.1) (free_is_free 1 3 v.vnodes h.ascending) (omega (arith, above)) refl refl refl refl
-      (directory_own (lowest_free 3 v.vnodes) 0 d 493 acl v status odd inherited) (many ∙ odd_one (lowest_free 3 v.vnodes) x.links odd) (ap names_in i.1.found.found))
+    (directory_own (lowest_free 3 v.vnodes) 0 d 493 acl v status odd inherited) (many ∙ odd_one (lowest_free 3 v.vnodes) x.links odd) (ap names_in i.1.found.found))
 kept_by id caller (calls.RemoveDir d name) v es n h p e = leaves_sorted id (removing d name (Some (links_of (vnode_of d v) - 1)) v) es d.vnode n v e (omega arith) (directory_removed id caller d name v h p)
 kept_by id caller (calls.Link d name f) v es n h p e = leaves_sorted id (linking d name f v) es f.vnode n v e (omega arith) (linked_file id caller d name f v h p)
 kept_by id caller (calls.Rename d old e' new) v es n h p e = renamed_by (nat_eq e'.volume d.volume) id caller d e' old new v es n h p e

@@ -128,9 +128,9 @@ reached : (v : Volume) (rank : ℕ → ℕ) → Ranked (at v) rank → HasParent
 reached v rank ranked parents zero n x e lt = absurd (omega arith)
 reached v rank ranked parents (suc k) n x e lt =
     reached_by (eqb n 1) (leads_up k x.parent 1 v (get x.parent v.vnodes)) (λ b.
-      let d = parents n x e (apart n b) in
-      let less = lower_less rank x.parent (rank n) v.vnodes d.0 d.1 (ranked n x e (apart n b)) in
-      subst (λ (o : Option Vnode). leads_up k x.parent 1 v o ≡ true) (sym d.1) (reached v rank ranked parents k x.parent d.0 d.1 (omega (arith, less, lt))))
+    let d = parents n x e (apart n b) in
+    let less = lower_less rank x.parent (rank n) v.vnodes d.0 d.1 (ranked n x e (apart n b)) in
+    subst (λ (o : Option Vnode). leads_up k x.parent 1 v o ≡ true) (sym d.1) (reached v rank ranked parents k x.parent d.0 d.1 (omega (arith, less, lt))))
 
 pub ranked_reaching : (v : Volume) (rank : ℕ → ℕ) → Ranked (at v) rank → HasParents (at v) → (n : ℕ) (x : Vnode) → get n v.vnodes ≡ Some x → is_below n 1 v ≡ true
 ranked_reaching v rank ranked parents n x e =
@@ -160,9 +160,9 @@ same_up v rank top ranked parents root zero j n x e p q = absurd (omega arith)
 same_up v rank top ranked parents root (suc k) zero n x e p q = absurd (omega arith)
 same_up v rank top ranked parents root (suc k) (suc j) n x e p q =
     ap (λ (up : Bool). nat_eq n top || up) (parent_up (eqb n 1) v rank top n k j x e refl root
-      (λ ne. (let d = parents n x e ne in
-        let less = lower_less rank x.parent (rank n) v.vnodes d.0 d.1 (ranked n x e ne) in
-        subst (λ (o : Option Vnode). leads_up k x.parent top v o ≡ leads_up j x.parent top v o) (sym d.1) (same_up v rank top ranked parents root k j x.parent d.0 d.1 (omega (arith, less, p)) (omega (arith, less, q))))))
+    (λ ne. (let d = parents n x e ne in
+    let less = lower_less rank x.parent (rank n) v.vnodes d.0 d.1 (ranked n x e ne) in
+    subst (λ (o : Option Vnode). leads_up k x.parent top v o ≡ leads_up j x.parent top v o) (sym d.1) (same_up v rank top ranked parents root k j x.parent d.0 d.1 (omega (arith, less, p)) (omega (arith, less, q))))))
 
 below_step : (v : Volume) (rank : ℕ → ℕ) (top : ℕ) → Ranked (at v) rank → HasParents (at v) → ((x : Vnode) → get 1 v.vnodes ≡ Some x → get x.parent v.vnodes ≡ None)
     → (k n : ℕ) (x : Vnode) → get n v.vnodes ≡ Some x → (n ≡ 1 → ⊥) → lower rank (rank n) v.vnodes < k → leads_up k n top v (Some x) ≡ (nat_eq n top || leads_up k x.parent top v (get x.parent v.vnodes))

@@ -117,15 +117,17 @@ holds d next name m x g e found h =
     let gives : Gives g d x.unique m = each_named (Gives g d x.unique) name m x.names (h.given d x e) found in
     let o = held_by (g m.vnode) d x.unique m.vnode m gives in
     let y : Vnode = o.0 in
-    let held = o.1.1 in
-    (y, record {
-      there = o.1.0;
-      not_root = held.0;
-      unique = held.1.0;
-      parent = held.1.1.0;
-      parent_unique = sym held.1.1.1;
-      count = subst (λ (u : ℕ). HasNames y.kind y.links (names_of m.vnode u x.names)) held.1.0 (counted_in (g y.parent) m.vnode x y (ap g held.1.1.0 ∙ e) (h.named m.vnode y o.1.0 held.0));
-    })
+    let held = o.1.1 in (
+      y,
+      record {
+        there = o.1.0;
+        not_root = held.0;
+        unique = held.1.0;
+        parent = held.1.1.0;
+        parent_unique = sym held.1.1.1;
+        count = subst (λ (u : ℕ). HasNames y.kind y.links (names_of m.vnode u x.names)) held.1.0 (counted_in (g y.parent) m.vnode x y (ap g held.1.1.0 ∙ e) (h.named m.vnode y o.1.0 held.0));
+      },
+    )
 
 pub left_out : (d t u next : ℕ) (x y : Vnode) (g : Map) → Held d t u x y g → Sound next g → But t d u next g
 left_out d t u next x y g k h = subst (λ (p : ℕ). But t p u next g) k.parent (subst (λ (w : ℕ). But t y.parent w next g) k.unique (leave t next y g k.there h))
@@ -300,7 +302,7 @@ moves_within d next old new m x y g e dir found ok none k ne h =
     let after = one_more d next t u (renamed_to new m) (with_names x ns l) refl refl in
     let there : two t ≡ Some y = other d (Some (with_names x (with_name (renamed_to new m) ns) x.links)) (put d (Some (with_names x ns l)) g) t ne ∙ (other d (Some (with_names x ns l)) g t ne ∙ k.there) in
     let whole = puts_back t d u next y (with_names x (with_name (renamed_to new m) ns) x.links) two there k.not_root k.unique k.parent (here d (Some (with_names x (with_name (renamed_to new m) ns) x.links)) (put d (Some (with_names x ns l)) g)) dir k.parent_unique
-      (subst (HasNames y.kind y.links) (let z : names_of t u x.names ≡ names_of t u (with_name (renamed_to new m) ns) = omega (arith, before, after) in z) k.count) in_again in
+    (subst (HasNames y.kind y.links) (let z : names_of t u x.names ≡ names_of t u (with_name (renamed_to new m) ns) = omega (arith, before, after) in z) k.count) in_again in
     as_like next two (within d x old new m x.links g) (λ n. same_like (two n) (within d x old new m x.links g n) (put_twice d n (Some (with_names x (with_name (renamed_to new m) ns) x.links)) (Some (with_names x ns l)) g)) (whole)
 
 abbrev pub held_in : ℕ → ℕ → Vnode → Vnode
