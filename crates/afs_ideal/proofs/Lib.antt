@@ -6,4 +6,15 @@ pub mod AccessLists
 pub mod VnodeImage
 pub mod Edits
 pub mod Scopes
+pub mod Counts
+pub mod Maps
+pub mod Ranks
+pub mod Steps
+pub mod Looks
+pub mod Kept
+pub mod Comes
+pub mod Goes
+pub mod Moves
+pub mod Preserved
+pub mod Laid
 pub mod Operated

@@ -248,7 +248,7 @@ made id v es ds n m g e t =
 made_ascending : (id : ℕ) (v : Volume) (es ds : List Edit) (n m : ℕ) (g : Fid) → changes (ascending ds) m ≡ changes es n → touches g (versions_by id es v) ≡ true → IsTouched v id (edits_one g.vnode ds) g
 made_ascending id v es ds n m g e t = subst (λ (b : Bool). IsTouched v id b g) (ascending_one g.vnode ds) (made id v es (ascending ds) n m g e t)
 
-read_is_none : (show : Found → Shown) (f : Fid) (o : Option Vnode) (es : List Edit) (n : ℕ) → ops.read_by show f o ≡ changes es n → ⊥
+pub read_is_none : (show : Found → Shown) (f : Fid) (o : Option Vnode) (es : List Edit) (n : ℕ) → ops.read_by show f o ≡ changes es n → ⊥
 read_is_none show f None es n e = absurd cc
 read_is_none show f (Some x) es n e = absurd cc
 
@@ -264,7 +264,7 @@ one_more_none f None (Some x) (ops.refused code) es n h e = absurd cc
 one_more_none f None (Some x) ops.no_operation es n h e = absurd cc
 one_more_none f None (Some x) (changes ds m) es n h e = h ds m refl
 
-statuses_none : (caller : Caller) (v : Volume) (fs : List Fid) (es : List Edit) (n : ℕ) → ops.statuses caller v fs ≡ changes es n → ⊥
+pub statuses_none : (caller : Caller) (v : Volume) (fs : List Fid) (es : List Edit) (n : ℕ) → ops.statuses caller v fs ≡ changes es n → ⊥
 statuses_none caller v [] es n e = absurd cc
 statuses_none caller v (f ∷ fs) es n e = one_more_none f (first_failing (tests caller (calls.FetchStatus f) v)) (vnode_of f v) (ops.statuses caller v fs) es n (λ ds m. statuses_none caller v fs ds m) e
 

@@ -1,0 +1,23 @@
+-- Laws about sound volumes: what set-up and operations leave is sound.
+use Rattle.std.specs.Prelude.{◌≡◌, ◌<◌, ℕ, List, length, Ok}
+use Rattle.afs_num.specs.declared.calls.FsCall.{FsCall}
+use Rattle.afs_ideal.specs.Volumes.{Volume, Edit, edited_all, counted}
+use Rattle.afs_ideal.specs.Operations.{Caller, changes, op}
+use Rattle.afs_ideal.specs.SetUp.{Laid, new_volume, laid_at, acl_laid}
+use Rattle.afs_ideal.specs.Soundness.{IsSound}
+
+-- an accepted operation changes something, and leaves a sound volume
+pub record LeavesSound (id : ℕ) (es : List Edit) (v : Volume) : Type 0 where
+  pub sound : IsSound (counted (edited_all id es v))
+  pub some_edit : 0 < length es
+
+abbrev pub OperationsLeaveSound : Type 0
+OperationsLeaveSound = (id : ℕ) (caller : Caller) (call : FsCall) (v : Volume) (es : List Edit) (n : ℕ) → IsSound v → op id caller call v ≡ changes es n → LeavesSound id es v
+
+abbrev pub NewVolumesAreSound : Type 0
+NewVolumesAreSound = (family : ℕ) (name : List ℕ) (kind flags quota : ℕ) → IsSound (new_volume family name kind flags quota)
+
+-- and so is what set-up lays in a sound volume
+pub record SetUpLeavesSound : Type 0 where
+  pub names : (id : ℕ) (path : List (List ℕ)) (x : Laid) (v w : Volume) → IsSound v → laid_at id path x v ≡ Ok w → IsSound w
+  pub lists : (id : ℕ) (path : List (List ℕ)) (text : List ℕ) (v w : Volume) → IsSound v → acl_laid id path text v ≡ Ok w → IsSound w
