@@ -90,8 +90,7 @@ pub enum Line {
         node: Node,
         code: Code,
     },
-    /// The caller gave up waiting for the reply to this call of its to the callee; the count says for the how manieth
-    /// time.
+    /// The caller's call of this epoch and number to the callee stayed unanswered; so often by now.
     Timeout {
         caller: Node,
         callee: Node,
@@ -123,7 +122,7 @@ pub enum Line {
     Fault {
         node: Node,
     },
-    /// The node begins again, with this boot number.
+    /// The node begins again, with this boot number; a client's is its epoch.
     Restart {
         node: Node,
         boot: u32,
@@ -137,7 +136,7 @@ pub enum Line {
         client: Node,
         fid: Fid,
     },
-    /// The client gives up, or handles a break of, all that the server promised.
+    /// The client gives up all that the server promised, as the server breaks all of it.
     DropAll {
         client: Node,
         server: Node,
