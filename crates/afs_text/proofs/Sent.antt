@@ -12,7 +12,8 @@ use Rattle.afs_num.specs.declared.messages.Received.{Received}
 use Rattle.afs_num.specs.declared.messages.Received.TheVariants.{Nothing, Unknown, Unreadable, Whole}
 use Rattle.afs_model.specs.Messages.{received, spelled, parcels_read, messages_spelled}
 use Rattle.afs_model.specs.Telling.{with_received, messages_of, AreRead, told, sent_by, code_at}
-use Rattle.afs_model.specs.Text.{hex_byte, hex_text, sent_text, message_text, messages_text, entry_text, entries_text}
+use Rattle.afs_model.specs.LineText.{hex_byte, hex_text}
+use Rattle.afs_model.specs.Text.{sent_text, message_text, messages_text, entry_text, entries_text}
 use Rattle.afs_model.specs.Runs.{Entry}
 use Rattle.afs_model.proofs.Texts.{parcel_same, parcels_length}
 use Rattle.afs_outside.proofs.Puts.{Completes}
@@ -111,9 +112,9 @@ messages_next wire place p ps e =
 -- the text of the first entry, with the parcels that it sent, and that of the others
 pub entries_next : (wire : Bool) (number place : ℕ) (ps : List Parcel) (e : kept.Entry) (es : List kept.Entry) → AreRead ps → e.sent ≤ length ps
     → entries_text wire number place (told ps (e ∷ es))
-    ≡ entry_text wire number place (record { node = e.node; lines = e.lines; sent = messages_of (take e.sent ps) }) ++ entries_text wire (number + 1) (place + e.sent) (told (drop e.sent ps) es)
+    ≡ entry_text wire number place (record { actor = e.actor; lines = e.lines; sent = messages_of (take e.sent ps) }) ++ entries_text wire (number + 1) (place + e.sent) (told (drop e.sent ps) es)
 entries_next wire number place ps e es read within =
-    let entry : Entry = record { node = e.node; lines = e.lines; sent = messages_of (take e.sent ps) } in
+    let entry : Entry = record { actor = e.actor; lines = e.lines; sent = messages_of (take e.sent ps) } in
     let size : length (messages_of (take e.sent ps)) ≡ e.sent =
     sym (parcels_length (take e.sent ps) (messages_of (take e.sent ps)) (read_take e.sent ps read).0) ∙ length-take-le e.sent ps within in
     ap (λ (n : ℕ). entry_text wire number place entry ++ entries_text wire (number + 1) (place + n) (told (drop e.sent ps) es)) size
@@ -146,7 +147,7 @@ parcels_end wire place whole a b f g ps i all left =
 pub entries_left : (wire : Bool) (number place : ℕ) (ps own behind : List Parcel) (whole : List ℕ) (a b : Option (List ℕ)) (f g : ℕ) (es : List kept.Entry) (i : ℕ) (e : kept.Entry) → i < length es → e ≡ get_or es i e
     → own ≡ take e.sent ps → behind ≡ drop e.sent ps → AreRead ps → e.sent ≤ length ps
     → Completes (entries_text wire number place (told ps (drop i es))) whole a b f g
-    → Completes (entry_text wire number place (record { node = e.node; lines = e.lines; sent = messages_of own }) ++ entries_text wire (number + 1) (place + e.sent) (told behind (drop (i + 1) es))) whole a b f g
+    → Completes (entry_text wire number place (record { actor = e.actor; lines = e.lines; sent = messages_of own }) ++ entries_text wire (number + 1) (place + e.sent) (told behind (drop (i + 1) es))) whole a b f g
 entries_left wire number place ps own behind whole a b f g es i e within is front back read enough left =
     let here : drop i es ≡ e ∷ drop (i + 1) es = drop_more es i e within ∙ ap (λ (x : kept.Entry). x ∷ drop (i + 1) es) (sym is) in
     let left_here = subst (λ (xs : List kept.Entry). Completes (entries_text wire number place (told ps xs)) whole a b f g) here left in

@@ -3,7 +3,7 @@
 ghost use Rattle.std.specs.Prelude.{◌≡◌, ◌<◌, ◌≤◌, true, false, length};
 ghost use Rattle.std.specs.Fmt.{digit_glyph};
 ghost use Rattle.afs_outside.specs.Outside.{Puts};
-ghost use Rattle.afs_model.specs.Text.{hex_byte, hex_text, is_plain, name_byte, name_text};
+ghost use Rattle.afs_model.specs.LineText.{hex_byte, hex_text, is_plain, name_byte, name_text};
 
 use crate::pieces::Print;
 use afs_outside::outside::{Failed, Sink, put_bytes};
@@ -34,7 +34,7 @@ fn upper_hex_digit(n: u8) -> u8
 /// How many bytes are spelled at once, on the stack.
 const CHUNK: usize = 256;
 
-#[tactic(auto, unfolding(afs_model::specs::Text::hex_text))]
+#[tactic(auto, unfolding(afs_model::specs::LineText::hex_text))]
 fn put_chunk<K: Sink>(sink: &mut K, bytes: &[u8]) -> Result<(), Failed>
     requires { length bytes.now ≤ 256 }
     ensures { Puts (hex_text bytes.now) (K.held sink.old) (K.held sink.new) (K.faults sink.old) (K.faults sink.new) result }
@@ -92,7 +92,7 @@ pub struct Name<'a>(pub &'a [u8]);
 impl<'a> Print for Name<'a> {
     ghost text = { λ name. name_text name.0.now };
 
-    #[tactic(auto, unfolding(afs_model::specs::Text::name_text))]
+    #[tactic(auto, unfolding(afs_model::specs::LineText::name_text))]
     fn print<K: Sink>(&self, sink: &mut K) -> Result<(), Failed> {
         for b in self.0 {
             put_name_byte(sink, *b)?;

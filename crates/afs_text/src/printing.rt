@@ -1,218 +1,19 @@
 //! The text of a run: its entries, each with its lines and the messages that it sent, and what stands at the end.
 
 ghost use Rattle.std.specs.Prelude.{◌≡◌, ◌+◌, ◌<◌, ◌≤◌, ◌^◌, ◌++◌, length};
-ghost use Rattle.std.specs.List.{flat_map};
 ghost use Rattle.afs_outside.specs.Outside.{Puts};
-ghost use Rattle.afs_model.specs.Text.{act_text, entry_name_text, more_names_text, directory_text, body_text, begin_text, grant_text, change_text, version_text, source_text, read_text, answer_text, line_text, lines_text, half_word, head_text, code_text, tail_text, sent_text, messages_text, step_text, entry_text, history_text, final_text};
+ghost use Rattle.afs_model.specs.LineText.{lines_text};
+ghost use Rattle.afs_model.specs.Text.{half_word, head_text, code_text, tail_text, sent_text, messages_text, actor_text, step_text, entry_text, history_text, final_text};
 ghost use Rattle.afs_model.specs.Telling.{code_at, messages_of, AreRead, told, sent_by};
 
-use crate::bytes::{Hex, Name};
+use crate::bytes::Hex;
 use crate::final_part::put_final;
 use crate::pieces::{Each, Print};
-use afs_num::directories;
-use afs_num::histories::{Body, Entry, Line, ReadSource, Version};
-use afs_num::scripts::{Act, Script};
+use afs_num::histories::{Actor, Entry};
+use afs_num::scripts::Script;
 use afs_num::states::StoredFile;
-use afs_num::types::{Code, Fid, Half, Head, Key, Node, Parcel};
+use afs_num::types::{Code, Half, Head, Parcel};
 use afs_outside::outside::{Failed, Sink};
-
-// ---- lines
-
-impl<'a> Print for &'a Act {
-    ghost text = { λ act. act_text act.now };
-
-    #[tactic(auto, unfolding(afs_model::specs::Text::act_text))]
-    fn print<K: Sink>(&self, sink: &mut K) -> Result<(), Failed> {
-        match *self {
-            Act::Open { fid } => row!("open @", *fid).print(sink),
-            Act::Close { fid, contents } => {
-                row!("close @", *fid, " hex:", Hex(contents.as_slice())).print(sink)
-            }
-        }
-    }
-}
-
-impl<'a> Print for &'a Body {
-    ghost text = { λ body. body_text body.now };
-
-    #[tactic(auto, unfolding(afs_model::specs::Text::body_text))]
-    fn print<K: Sink>(&self, sink: &mut K) -> Result<(), Failed> {
-        match *self {
-            Body::File(contents) => row!("f:", Hex(contents.as_slice())).print(sink),
-            Body::Dir(names) => row!("d:", Directory(names.as_slice())).print(sink),
-            Body::Link(target) => row!("l:", Hex(target.as_slice())).print(sink),
-            Body::Gone => "gone".print(sink),
-        }
-    }
-}
-
-impl<'a> Print for &'a directories::Name {
-    ghost text = { λ name. entry_name_text name.now };
-
-    fn print<K: Sink>(&self, sink: &mut K) -> Result<(), Failed> {
-        row!(
-            Name(self.name.as_slice()),
-            "=",
-            self.vnode,
-            ".",
-            self.unique
-        )
-        .print(sink)
-    }
-}
-
-/// Writes names in a directory, each behind a comma.
-#[tactic(auto, unfolding(afs_model::specs::Text::more_names_text))]
-fn put_more_names<K: Sink>(sink: &mut K, names: &[directories::Name]) -> Result<(), Failed>
-    ensures { Puts (more_names_text names.now) (K.held sink.old) (K.held sink.new) (K.faults sink.old) (K.faults sink.new) result }
-{
-    for name in names {
-        row!(",", name).print(sink)?;
-    }
-    Ok(())
-}
-
-/// Names in a directory behind others.
-#[derive(Drop)]
-struct MoreNames<'a>(&'a [directories::Name]);
-
-impl<'a> Print for MoreNames<'a> {
-    ghost text = { λ names. more_names_text names.0.now };
-
-    fn print<K: Sink>(&self, sink: &mut K) -> Result<(), Failed> {
-        put_more_names(sink, self.0)
-    }
-}
-
-/// The names of a directory.
-#[derive(Drop)]
-struct Directory<'a>(&'a [directories::Name]);
-
-impl<'a> Print for Directory<'a> {
-    ghost text = { λ directory. directory_text directory.0.now };
-
-    #[tactic(auto, unfolding(afs_model::specs::Text::directory_text))]
-    fn print<K: Sink>(&self, sink: &mut K) -> Result<(), Failed> {
-        match self.0 {
-            [] => "".print(sink),
-            [first, rest @ ..] => row!(first, MoreNames(rest)).print(sink),
-        }
-    }
-}
-
-impl Print for ReadSource {
-    ghost text = { source_text };
-
-    fn print<K: Sink>(&self, sink: &mut K) -> Result<(), Failed> {
-        match self {
-            ReadSource::Cached => "cached".print(sink),
-            ReadSource::Fetched => "fetched".print(sink),
-        }
-    }
-}
-
-#[tactic(auto, unfolding(afs_model::specs::Text::begin_text))]
-fn put_begin<K: Sink>(sink: &mut K, node: Node, act: &Act) -> Result<(), Failed>
-    ensures { Puts (begin_text node act.now) (K.held sink.old) (K.held sink.new) (K.faults sink.old) (K.faults sink.new) result }
-{
-    row!("begin ", node, " ", act, "\n").print(sink)
-}
-
-#[tactic(auto, unfolding(afs_model::specs::Text::grant_text))]
-fn put_grant<K: Sink>(
-    sink: &mut K,
-    server: Node,
-    client: Node,
-    fid: Fid,
-    index: u32,
-    expiry: u32,
-) -> Result<(), Failed>
-    ensures { Puts (grant_text server client fid index expiry) (K.held sink.old) (K.held sink.new) (K.faults sink.old) (K.faults sink.new) result }
-{
-    row!(
-        "grant ", server, " ", client, " ", fid, " ", index, " ", expiry, "\n"
-    )
-    .print(sink)
-}
-
-#[tactic(auto, unfolding(afs_model::specs::Text::change_text))]
-fn put_change<K: Sink>(sink: &mut K, server: Node, key: Key, count: u32) -> Result<(), Failed>
-    ensures { Puts (change_text server key count) (K.held sink.old) (K.held sink.new) (K.faults sink.old) (K.faults sink.new) result }
-{
-    row!("change ", server, " ", key, " ", count, "\n").print(sink)
-}
-
-#[tactic(auto, unfolding(afs_model::specs::Text::version_text))]
-fn put_version<K: Sink>(sink: &mut K, version: &Version) -> Result<(), Failed>
-    ensures { Puts (version_text version.now) (K.held sink.old) (K.held sink.new) (K.faults sink.old) (K.faults sink.new) result }
-{
-    row!(
-        "version ",
-        version.fid,
-        " ",
-        version.index,
-        " ",
-        version.data_version,
-        " ",
-        &version.body,
-        "\n"
-    )
-    .print(sink)
-}
-
-#[tactic(auto, unfolding(afs_model::specs::Text::read_text))]
-fn put_read<K: Sink>(
-    sink: &mut K,
-    client: Node,
-    fid: Fid,
-    index: u32,
-    source: ReadSource,
-    body: &Body,
-) -> Result<(), Failed>
-    ensures { Puts (read_text client fid index source body.now) (K.held sink.old) (K.held sink.new) (K.faults sink.old) (K.faults sink.new) result }
-{
-    row!(
-        "read ", client, " ", fid, " ", index, " ", source, " ", body, "\n"
-    )
-    .print(sink)
-}
-
-#[tactic(auto, unfolding(afs_model::specs::Text::answer_text))]
-fn put_answer<K: Sink>(sink: &mut K, node: Node, code: Code) -> Result<(), Failed>
-    ensures { Puts (answer_text node code) (K.held sink.old) (K.held sink.new) (K.faults sink.old) (K.faults sink.new) result }
-{
-    row!("answer ", node, " ", code, "\n").print(sink)
-}
-
-impl Print for Line {
-    ghost text = { line_text };
-
-    #[tactic(auto, unfolding(afs_model::specs::Text::line_text))]
-    fn print<K: Sink>(&self, sink: &mut K) -> Result<(), Failed> {
-        match self {
-            Line::Begin { node, act } => put_begin(sink, *node, act),
-            Line::Given { place } => row!("given ", *place, "\n").print(sink),
-            Line::Grant {
-                server,
-                client,
-                fid,
-                index,
-                expiry,
-            } => put_grant(sink, *server, *client, *fid, *index, *expiry),
-            Line::Change { server, key, count } => put_change(sink, *server, *key, *count),
-            Line::Version { version } => put_version(sink, version),
-            Line::Read {
-                client,
-                fid,
-                index,
-                source,
-                body,
-            } => put_read(sink, *client, *fid, *index, *source, body),
-            Line::Answer { node, code } => put_answer(sink, *node, *code),
-            Line::Void => "void\n".print(sink),
-        }
-    }
-}
 
 // ---- messages
 
@@ -340,33 +141,42 @@ fn put_parcels<K: Sink>(
 
 // ---- entries
 
-/// The number of an entry, and its node.
-#[derive(Drop)]
-struct Step {
-    number: u64,
-    node: Option<Node>,
-}
+impl Print for Actor {
+    ghost text = { actor_text };
 
-impl Print for Step {
-    ghost text = { λ s. step_text s.number s.node };
-
-    #[tactic(auto, unfolding(afs_model::specs::Text::step_text))]
     fn print<K: Sink>(&self, sink: &mut K) -> Result<(), Failed> {
-        match self.node {
-            Some(node) => row!("entry ", self.number, " ", node, "\n").print(sink),
-            None => row!("entry ", self.number, " none\n").print(sink),
+        match self {
+            Actor::Node(node) => node.print(sink),
+            Actor::Clock => "clock".print(sink),
+            Actor::Nobody => "none".print(sink),
         }
     }
 }
 
-/// The number of an entry, its node and its lines.
-#[tactic(auto, unfolding(afs_model::specs::Text::lines_text))]
+/// The number of an entry, and whose it is.
+#[derive(Drop)]
+struct Step {
+    number: u64,
+    actor: Actor,
+}
+
+impl Print for Step {
+    ghost text = { λ s. step_text s.number s.actor };
+
+    #[tactic(auto, unfolding(afs_model::specs::Text::step_text))]
+    fn print<K: Sink>(&self, sink: &mut K) -> Result<(), Failed> {
+        row!("entry ", self.number, " ", self.actor, "\n").print(sink)
+    }
+}
+
+/// The number of an entry, whose it is, and its lines.
+#[tactic(auto, unfolding(afs_model::specs::LineText::lines_text))]
 fn put_lines<K: Sink>(sink: &mut K, number: u64, entry: &Entry) -> Result<(), Failed>
-    ensures { Puts (step_text number entry.now.node ++ lines_text entry.now.lines) (K.held sink.old) (K.held sink.new) (K.faults sink.old) (K.faults sink.new) result }
+    ensures { Puts (step_text number entry.now.actor ++ lines_text entry.now.lines) (K.held sink.old) (K.held sink.new) (K.faults sink.old) (K.faults sink.new) result }
 {
     let step = Step {
         number,
-        node: entry.node,
+        actor: entry.actor,
     };
     row!(step, Each(entry.lines.as_slice())).print(sink)
 }
@@ -384,7 +194,7 @@ pub fn print_entry<K: Sink>(
 ) -> Result<(), Failed>
     requires read { AreRead sent.now }
     requires places { first_place + length sent.now ≤ 2 ^ 64 }
-    ensures { Puts (entry_text wire number first_place (record { node = entry.now.node; lines = entry.now.lines; sent = messages_of sent.now })) (K.held sink.old) (K.held sink.new) (K.faults sink.old) (K.faults sink.new) result }
+    ensures { Puts (entry_text wire number first_place (record { actor = entry.now.actor; lines = entry.now.lines; sent = messages_of sent.now })) (K.held sink.old) (K.held sink.new) (K.faults sink.old) (K.faults sink.new) result }
 {
     put_lines(sink, number, entry)?;
     put_parcels(sink, first_place, sent, wire)

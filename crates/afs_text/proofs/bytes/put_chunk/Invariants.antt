@@ -1,8 +1,8 @@
 use Rattle.std.proofs.Common.{◌≡◌, ◌*◌, take}
 use Rattle.std.specs.List.{flat_map}
 use Rattle.arrayvec.specs.ArrayVec.{array_vec_len}
-use Rattle.afs_model.specs.Text.{hex_byte}
-use Rattle.afs_script.proofs.bytes.put_chunk.Given as goal
+use Rattle.afs_model.specs.LineText.{hex_byte}
+use Rattle.afs_text.proofs.bytes.put_chunk.Given as goal
 
 abbrev pub invariant-loop-byte : goal.invariant-loop-byte
 invariant-loop-byte g l = record {

@@ -1,7 +1,7 @@
 -- Each item goes on behind those before it.
 use Rattle.std.specs.List.{flat_map}
 use Rattle.afs_outside.proofs.Puts.{completes_more, completes_stop, completes_end, at_item, at_end}
-use Rattle.afs_script.proofs.pieces.print_all.Goals as goal
+use Rattle.afs_text.proofs.pieces.print_all.Goals as goal
 
 pub loop-item-preserved : goal.loop-item-preserved
 loop-item-preserved g c =

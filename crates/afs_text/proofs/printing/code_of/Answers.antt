@@ -5,7 +5,7 @@ use Rattle.std.proofs.Math.Dec.{ltb}
 use Rattle.afs_xdr.specs.Words.{word_at}
 use Rattle.afs_shape.specs.Reading.{signed_at}
 use Rattle.afs_model.specs.Telling.{code_at}
-use Rattle.afs_script.proofs.printing.code_of.Goals as goal
+use Rattle.afs_text.proofs.printing.code_of.Goals as goal
 
 pub returns-then-bytes-lt-HEADER : goal.returns-then-bytes-lt-HEADER
 unfolding code_at signed_at word_at

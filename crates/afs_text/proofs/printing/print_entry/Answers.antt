@@ -1,7 +1,7 @@
 use Rattle.std.proofs.Common.{◌++◌, append_assoc}
 use Rattle.afs_outside.proofs.Puts.{puts_then, puts_stop}
 use Rattle.afs_model.specs.Text.{entry_text}
-use Rattle.afs_script.proofs.printing.print_entry.Goals as goal
+use Rattle.afs_text.proofs.printing.print_entry.Goals as goal
 
 pub returns-in_err-put_lines : goal.returns-in_err-put_lines
 unfolding entry_text

@@ -3,8 +3,8 @@ use Rattle.std.proofs.Common.{◌+◌, arith, rules, length}
 use Rattle.std.proofs.lemmas.List.{length-take-le}
 use Rattle.afs_model.specs.Text.{history_text}
 use Rattle.afs_outside.proofs.Puts.{completes_more, completes_stop, completes_end}
-use Rattle.afs_script.proofs.Sent.{entries_left, entries_end, enough_left, others_left, own_read, others_read}
-use Rattle.afs_script.proofs.printing.put_history.Goals as goal
+use Rattle.afs_text.proofs.Sent.{entries_left, entries_end, enough_left, others_left, own_read, others_read}
+use Rattle.afs_text.proofs.printing.put_history.Goals as goal
 
 pub split_at-requires : goal.split_at-requires
 split_at-requires g c = enough_left _ _ _ _ c.loop-i-test.true c.index-history-i.is c.loop-i.invariant.all

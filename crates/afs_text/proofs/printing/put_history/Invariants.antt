@@ -2,7 +2,7 @@ use Rattle.std.proofs.Common.{◌≡◌, ◌+◌, ◌<◌, ◌^◌, drop, length
 use Rattle.afs_model.specs.Text.{entries_text}
 use Rattle.afs_model.specs.Telling.{AreRead, told, sent_by}
 use Rattle.afs_outside.proofs.Puts.{Completes}
-use Rattle.afs_script.proofs.printing.put_history.Given as goal
+use Rattle.afs_text.proofs.printing.put_history.Given as goal
 
 abbrev pub invariant-loop-i : goal.invariant-loop-i
 invariant-loop-i g l = record {

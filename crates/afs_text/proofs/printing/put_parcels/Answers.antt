@@ -1,8 +1,8 @@
 -- The line of each parcel goes on behind those before it.
 use Rattle.std.proofs.Common.{◌+◌, arith}
 use Rattle.afs_outside.proofs.Puts.{completes_more, completes_stop, completes_end}
-use Rattle.afs_script.proofs.Sent.{parcels_left, parcels_end}
-use Rattle.afs_script.proofs.printing.put_parcels.Goals as goal
+use Rattle.afs_text.proofs.Sent.{parcels_left, parcels_end}
+use Rattle.afs_text.proofs.printing.put_parcels.Goals as goal
 
 pub loop-i-preserved : goal.loop-i-preserved
 loop-i-preserved g c =

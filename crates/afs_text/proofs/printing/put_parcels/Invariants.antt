@@ -2,7 +2,7 @@ use Rattle.std.proofs.Common.{◌+◌, drop}
 use Rattle.afs_model.specs.Text.{messages_text}
 use Rattle.afs_model.specs.Telling.{messages_of, AreRead}
 use Rattle.afs_outside.proofs.Puts.{Completes}
-use Rattle.afs_script.proofs.printing.put_parcels.Given as goal
+use Rattle.afs_text.proofs.printing.put_parcels.Given as goal
 
 abbrev pub invariant-loop-i : goal.invariant-loop-i
 invariant-loop-i g l = record {

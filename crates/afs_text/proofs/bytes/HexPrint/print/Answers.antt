@@ -1,7 +1,7 @@
 -- Each chunk goes on behind those before it.
 use Rattle.afs_outside.proofs.Puts.{completes_more, completes_stop, completes_end}
-use Rattle.afs_script.proofs.Sent.{hex_chunk, hex_end}
-use Rattle.afs_script.proofs.bytes.HexPrint.print.Goals as goal
+use Rattle.afs_text.proofs.Sent.{hex_chunk, hex_end}
+use Rattle.afs_text.proofs.bytes.HexPrint.print.Goals as goal
 
 pub loop-rest-preserved : goal.loop-rest-preserved
 loop-rest-preserved g c =

@@ -1,7 +1,7 @@
 use Rattle.std.proofs.Common.{length}
-use Rattle.afs_model.specs.Text.{hex_text}
+use Rattle.afs_model.specs.LineText.{hex_text}
 use Rattle.afs_outside.proofs.Puts.{Completes}
-use Rattle.afs_script.proofs.bytes.HexPrint.print.Given as goal
+use Rattle.afs_text.proofs.bytes.HexPrint.print.Given as goal
 
 abbrev pub invariant-loop-rest : goal.invariant-loop-rest
 invariant-loop-rest g l =

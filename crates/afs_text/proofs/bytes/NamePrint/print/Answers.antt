@@ -1,8 +1,8 @@
 use Rattle.std.proofs.Common.{refl}
 use Rattle.std.specs.List.{flat_map}
-use Rattle.afs_model.specs.Text.{name_byte, name_text}
+use Rattle.afs_model.specs.LineText.{name_byte, name_text}
 use Rattle.afs_outside.proofs.Puts.{completes_more, completes_stop, completes_end, at_item, at_end}
-use Rattle.afs_script.proofs.bytes.NamePrint.print.Goals as goal
+use Rattle.afs_text.proofs.bytes.NamePrint.print.Goals as goal
 
 pub loop-b-preserved : goal.loop-b-preserved
 loop-b-preserved g c =

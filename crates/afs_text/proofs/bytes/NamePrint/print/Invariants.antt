@@ -1,8 +1,8 @@
 use Rattle.std.proofs.Common.{drop, ◌+◌}
 use Rattle.std.specs.List.{flat_map}
-use Rattle.afs_model.specs.Text.{name_byte}
+use Rattle.afs_model.specs.LineText.{name_byte}
 use Rattle.afs_outside.proofs.Puts.{Completes}
-use Rattle.afs_script.proofs.bytes.NamePrint.print.Given as goal
+use Rattle.afs_text.proofs.bytes.NamePrint.print.Given as goal
 
 abbrev pub invariant-loop-b : goal.invariant-loop-b
 invariant-loop-b g l =

@@ -1,7 +1,7 @@
 use Rattle.std.specs.List.{flat_map}
 use Rattle.afs_model.specs.Text.{file_text_in}
 use Rattle.afs_outside.proofs.Puts.{completes_more, completes_stop, completes_end, at_item, at_end}
-use Rattle.afs_script.proofs.final_part.FilesInPrint.print.Goals as goal
+use Rattle.afs_text.proofs.final_part.FilesInPrint.print.Goals as goal
 
 pub loop-file-preserved : goal.loop-file-preserved
 loop-file-preserved g c =

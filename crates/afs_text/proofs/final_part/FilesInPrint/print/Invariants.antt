@@ -2,7 +2,7 @@ use Rattle.std.proofs.Common.{drop, ◌+◌}
 use Rattle.std.specs.List.{flat_map}
 use Rattle.afs_model.specs.Text.{file_text_in}
 use Rattle.afs_outside.proofs.Puts.{Completes}
-use Rattle.afs_script.proofs.final_part.FilesInPrint.print.Given as goal
+use Rattle.afs_text.proofs.final_part.FilesInPrint.print.Given as goal
 
 abbrev pub invariant-loop-file : goal.invariant-loop-file
 invariant-loop-file g l =

@@ -1,7 +1,7 @@
 use Rattle.std.proofs.Common.{◌+◌}
 use Rattle.afs_model.specs.Text.{names_text}
 use Rattle.afs_outside.proofs.Puts.{completes_more, completes_stop, completes_end, at_item, at_end}
-use Rattle.afs_script.proofs.final_part.RootNamesPrint.print.Goals as goal
+use Rattle.afs_text.proofs.final_part.RootNamesPrint.print.Goals as goal
 
 pub loop-i-preserved : goal.loop-i-preserved
 loop-i-preserved g c =

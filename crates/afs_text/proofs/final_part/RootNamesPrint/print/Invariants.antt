@@ -1,7 +1,7 @@
 use Rattle.std.proofs.Common.{drop, ◌+◌}
 use Rattle.afs_model.specs.Text.{names_text}
 use Rattle.afs_outside.proofs.Puts.{Completes}
-use Rattle.afs_script.proofs.final_part.RootNamesPrint.print.Given as goal
+use Rattle.afs_text.proofs.final_part.RootNamesPrint.print.Given as goal
 
 abbrev pub invariant-loop-i : goal.invariant-loop-i
 invariant-loop-i g l =

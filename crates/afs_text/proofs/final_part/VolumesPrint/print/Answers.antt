@@ -1,7 +1,7 @@
 use Rattle.std.specs.List.{flat_map}
 use Rattle.afs_model.specs.Text.{volume_text}
 use Rattle.afs_outside.proofs.Puts.{completes_more, completes_stop, completes_end, at_item, at_end}
-use Rattle.afs_script.proofs.final_part.VolumesPrint.print.Goals as goal
+use Rattle.afs_text.proofs.final_part.VolumesPrint.print.Goals as goal
 
 pub loop-volume-preserved : goal.loop-volume-preserved
 loop-volume-preserved g c =

@@ -1,8 +1,8 @@
 use Rattle.std.proofs.Common.{◌++◌, drop, codes}
 use Rattle.std.specs.List.{flat_map}
-use Rattle.afs_model.specs.Text.{entry_name_text}
+use Rattle.afs_model.specs.LineText.{entry_name_text}
 use Rattle.afs_outside.proofs.Puts.{Completes}
-use Rattle.afs_script.proofs.printing.put_more_names.Given as goal
+use Rattle.afs_text.proofs.bodies.put_more_names.Given as goal
 
 abbrev pub invariant-loop-name : goal.invariant-loop-name
 invariant-loop-name g l =

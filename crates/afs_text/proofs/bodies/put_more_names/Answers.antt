@@ -2,9 +2,9 @@
 use Rattle.std.proofs.Common.{ℕ, ◌++◌, List, codes}
 use Rattle.std.specs.List.{flat_map}
 use Rattle.afs_num.specs.declared.directories.Name.{Name}
-use Rattle.afs_model.specs.Text.{entry_name_text, more_names_text}
+use Rattle.afs_model.specs.LineText.{entry_name_text, more_names_text}
 use Rattle.afs_outside.proofs.Puts.{completes_more, completes_stop, completes_end, at_item, at_end}
-use Rattle.afs_script.proofs.printing.put_more_names.Goals as goal
+use Rattle.afs_text.proofs.bodies.put_more_names.Goals as goal
 
 abbrev more : List Name → List ℕ
 more ns = flat_map (λ (n : Name). codes "," ++ entry_name_text n) ns
