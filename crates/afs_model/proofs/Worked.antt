@@ -1,5 +1,5 @@
 -- The definition of a legal history, on worked histories.
-use Rattle.std.proofs.Common.{◌≡◌, ℕ, List, [], ◌∷◌, Some, None, pos, refl, length, arith, inl, inr}
+use Rattle.std.proofs.Common.{◌≡◌, ℕ, List, [], ◌∷◌, None, pos, refl, length, arith, inl, inr}
 use Rattle.std.specs.Prelude.{codes}
 use Rattle.afs_num.specs.declared.types.Fid.{Fid}
 use Rattle.afs_num.specs.declared.types.Half.{Half}

@@ -13,7 +13,7 @@ use Rattle.afs_num.specs.declared.messages.Received.TheVariants.{Nothing, Unknow
 use Rattle.afs_model.specs.Messages.{received, spelled, parcels_read, messages_spelled}
 use Rattle.afs_model.specs.Telling.{with_received, messages_of, AreRead, told, sent_by, code_at}
 use Rattle.afs_model.specs.LineText.{hex_byte, hex_text}
-use Rattle.afs_model.specs.Text.{sent_text, message_text, messages_text, entry_text, entries_text}
+use Rattle.afs_model.specs.Text.{sent_text, messages_text, entry_text, entries_text}
 use Rattle.afs_model.specs.Runs.{Entry}
 use Rattle.afs_model.proofs.Texts.{parcel_same, parcels_length}
 use Rattle.afs_outside.proofs.Puts.{Completes}
