@@ -1,6 +1,7 @@
 pub mod Loops
 pub mod Spellable
 pub mod Codecs
+pub mod Entries
 pub mod FieldLaws
 pub mod RowLaws
 pub mod BodyLaws
