@@ -3,8 +3,9 @@ use Rattle.std.proofs.Common.{ℕ, Bool, true, false, cond, Option, Some, None, 
 use Rattle.afs_num.specs.declared.types.Fid.{Fid}
 use Rattle.afs_num.specs.declared.types.Head.{Head}
 use Rattle.afs_num.specs.declared.types.Node.{Node}
-use Rattle.afs_num.specs.declared.calls.FsReply.{FsReply}
+use Rattle.afs_num.specs.declared.messages.Reply.{Reply}
 use Rattle.afs_num.specs.declared.calls.FsReply.TheVariants as replies
+use Rattle.afs_num.specs.declared.messages.Reply.TheVariants as tells
 use Rattle.afs_num.specs.declared.messages.Carried.{Carried}
 use Rattle.afs_num.specs.declared.messages.Carried.TheVariants as carried
 use Rattle.afs_num.specs.declared.messages.Message.{Message}
@@ -37,11 +38,11 @@ fetched_first : (me : Node) (c : ClientState) (place : ℕ) (entry : CacheEntry)
 fetched_first me c place entry true = refl
 fetched_first me c place entry false = refl
 
-takes_first : (me : Node) (c : ClientState) (clock place : ℕ) (act : Act) (reply : FsReply) → BeginsWith (lines.Given place) (takes me c clock place act reply).lines
-takes_first me c clock place (Open fid) (replies.FetchData contents status callback sync) =
+takes_first : (me : Node) (c : ClientState) (clock place : ℕ) (act : Act) (reply : Reply) → BeginsWith (lines.Given place) (takes me c clock place act reply).lines
+takes_first me c clock place (Open fid) (tells.File (replies.FetchData contents status callback sync)) =
     let entry : CacheEntry = record { fid = fid; index = status.sync_counter; expiry = callback.expiration_time; contents = contents } in
     fetched_first me c place entry (is_trusted clock entry)
-takes_first me c clock place (Close fid contents) (replies.StoreData status sync) = refl
+takes_first me c clock place (Close fid contents) (tells.File (replies.StoreData status sync)) = refl
 takes_first me c clock place act reply = refl
 
 counts_first : (me : Node) (c : ClientState) (clock place : ℕ) (act : Act) (head : Head) (carries : Carried) → BeginsWith (lines.Given place) (counts me c clock place act head carries).lines

@@ -2,6 +2,7 @@
 use Rattle.std.proofs.Common.{◌≡◌, ℕ, true, false, List, Option, Some, None, refl}
 use Rattle.afs_num.specs.declared.types.Head.{Head}
 use Rattle.afs_num.specs.declared.calls.FsCall.TheVariants as calls
+use Rattle.afs_num.specs.declared.messages.Call.TheVariants as asks
 use Rattle.afs_num.specs.declared.states.StoredFile.{StoredFile}
 use Rattle.afs_model.specs.ServerRow.{refuses, fetches, stores, find_file, not_served}
 use Rattle.afs_model.specs.Laws.{UnservedAreRefused}
@@ -18,6 +19,6 @@ true_is_false : {P : Type 0} → true ≡ false → P
 true_is_false {P} e = absurd cc
 
 pub unserved_are_refused : UnservedAreRefused
-unserved_are_refused files head user (calls.FetchData fid position length) = (λ e. fetch_served head (find_file fid files) e, λ e. true_is_false e)
-unserved_are_refused files head user (calls.StoreData fid status position length file_length contents) = (λ e. store_served head contents (find_file fid files) e, λ e. true_is_false e)
+unserved_are_refused files head user (asks.File (calls.FetchData fid position length)) = (λ e. fetch_served head (find_file fid files) e, λ e. true_is_false e)
+unserved_are_refused files head user (asks.File (calls.StoreData fid status position length file_length contents)) = (λ e. store_served head contents (find_file fid files) e, λ e. true_is_false e)
 unserved_are_refused files head user call = (λ e. refl, λ e. refl)

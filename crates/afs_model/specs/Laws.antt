@@ -7,7 +7,7 @@ use Rattle.afs_num.specs.declared.histories.Body.{Body}
 use Rattle.afs_num.specs.declared.histories.Line.{Line}
 use Rattle.afs_num.specs.declared.histories.ReadSource.{ReadSource}
 use Rattle.afs_num.specs.declared.types.Head.{Head}
-use Rattle.afs_num.specs.declared.calls.FsCall.{FsCall}
+use Rattle.afs_num.specs.declared.messages.Call.{Call}
 use Rattle.afs_num.specs.declared.messages.Carried.TheVariants as carried
 use Rattle.afs_num.specs.declared.states.StoredFile.{StoredFile}
 use Rattle.afs_model.specs.FsRows.{call_number}
@@ -37,4 +37,4 @@ ReadsAreNewest =
 -- a server tells that a call isn't served exactly where its opcode is none of those that it serves
 abbrev pub UnservedAreRefused : Type 0
 UnservedAreRefused =
-    (files : List StoredFile) (head : Head) (user : List ℕ) (call : FsCall) → (runs files head (whole head (carried.Call user call)) ≡ refuses head not_served) ↔ (serves (call_number call) ≡ false)
+    (files : List StoredFile) (head : Head) (user : List ℕ) (call : Call) → (runs files head (whole head (carried.Call user call)) ≡ refuses head not_served) ↔ (serves (call_number call) ≡ false)

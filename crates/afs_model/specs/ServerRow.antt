@@ -13,9 +13,11 @@ use Rattle.afs_num.specs.declared.types.Key.{Key}
 use Rattle.afs_num.specs.declared.calls.AfsFetchStatus.{AfsFetchStatus}
 use Rattle.afs_num.specs.declared.calls.AfsVolSync.{AfsVolSync}
 use Rattle.afs_num.specs.declared.calls.AfsCallBack.{AfsCallBack}
-use Rattle.afs_num.specs.declared.calls.FsCall.{FsCall}
+use Rattle.afs_num.specs.declared.messages.Call.{Call}
 use Rattle.afs_num.specs.declared.calls.FsCall.TheVariants as calls
+use Rattle.afs_num.specs.declared.messages.Call.TheVariants as asks
 use Rattle.afs_num.specs.declared.calls.FsReply.TheVariants as replies
+use Rattle.afs_num.specs.declared.messages.Reply.TheVariants as tells
 use Rattle.afs_num.specs.declared.messages.Carried.{Carried}
 use Rattle.afs_num.specs.declared.messages.Carried.TheVariants as carried
 use Rattle.afs_num.specs.declared.messages.Message.{Message}
@@ -135,9 +137,9 @@ stores head contents None = refuses head no_file
 stores head contents (Some file) = saves head contents file
 
 -- a call that can be read
-abbrev pub serves_call : List StoredFile → Head → FsCall → Decision
-serves_call files head (calls.FetchData fid position length) = fetches head (find_file fid files)
-serves_call files head (calls.StoreData fid status position length file_length contents) = stores head contents (find_file fid files)
+abbrev pub serves_call : List StoredFile → Head → Call → Decision
+serves_call files head (asks.File (calls.FetchData fid position length)) = fetches head (find_file fid files)
+serves_call files head (asks.File (calls.StoreData fid status position length file_length contents)) = stores head contents (find_file fid files)
 serves_call files head call = refuses head not_served
 
 abbrev pub runs_carried : List StoredFile → Head → Carried → Decision
@@ -207,10 +209,10 @@ abbrev pub refusal : ℕ → Head → ℤ → Message
 refusal boot head code = replied boot head (carried.Refusal (record { 0 = code }))
 
 abbrev pub fetched_reply : ℕ → Head → StoredFile → ℕ → Message
-fetched_reply boot head file expiry = replied boot head (carried.Reply (replies.FetchData file.contents (status_of file) (promise_until expiry) no_release))
+fetched_reply boot head file expiry = replied boot head (carried.Reply (tells.File (replies.FetchData file.contents (status_of file) (promise_until expiry) no_release)))
 
 abbrev pub stored_reply : ℕ → Head → StoredFile → Message
-stored_reply boot head file = replied boot head (carried.Reply (replies.StoreData (status_of file) no_release))
+stored_reply boot head file = replied boot head (carried.Reply (tells.File (replies.StoreData (status_of file) no_release)))
 
 -- the reply is kept beside the pair of its call
 abbrev pub keeps : Head → Message → ServerState → ServerState

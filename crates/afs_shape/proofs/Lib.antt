@@ -6,3 +6,4 @@ pub mod FieldLaws
 pub mod RowLaws
 pub mod BodyLaws
 pub mod MadeLaws
+pub mod InterfaceLaws

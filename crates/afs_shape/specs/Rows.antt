@@ -112,6 +112,18 @@ made_in opcode fs (r ∷ rs) = cond (nat_eq opcode r.opcode) (r.make fs) (made_i
 abbrev pub message_of : {X : Type 0} → MessageTable X → ℕ → List Field → Option X
 message_of table opcode fs = made_in opcode fs (map table.row table.each)
 
+-- ---- interfaces as parts of one
+
+-- the opcodes of a table
+abbrev pub opcodes : {X : Type 0} → MessageTable X → List ℕ
+opcodes table = map (λ x. (table.row x).opcode) table.each
+
+-- a row of one interface as a row of all
+abbrev pub in_interface : {X Y : Type 0} → (X → Y) → MessageRow X → MessageRow Y
+in_interface part r = record { opcode = r.opcode; kinds = r.kinds; fields = r.fields; make = λ fs. option_map part (r.make fs) }
+
+-- ---- limits
+
 -- a message within the limits of its row
 abbrev pub HasRow : List (ℕ × List Kind) → ℕ → List Field → Type 0
 HasRow rows opcode fs = IsSomeAnd (kinds_in opcode rows) (λ ks. AreOf ks fs)

@@ -1,7 +1,7 @@
 -- Tables of shapes, and what fields have a shape.
 use Rattle.std.specs.Prelude.{ℕ, ◌<◌, ◌≤◌, ◌^◌, ◌==◌, List, [], ◌∷◌, length, take, Bool, true, false, Option, find, map, option_map, FitsSigned}
 use Rattle.std.specs.Int.{w32}
-use Rattle.std.specs.List.{prefix_len, AllByRecursion}
+use Rattle.std.specs.List.{prefix_len, list_any, AllByRecursion}
 use Rattle.afs_xdr.specs.Words.{AreWords}
 use Rattle.afs_shape.specs.Spelling.{fid_words, store_status_words, status_words, callback_words, sync_words, listed_volume_words, site_words, entry_words}
 use Rattle.afs_shape.specs.Items.{volume_name_limit, site_limit}
@@ -35,6 +35,10 @@ rows_of rows = map told_row rows
 -- the kinds of the row of this opcode
 abbrev pub kinds_in : ℕ → List (ℕ × List Kind) → Option (List Kind)
 kinds_in opcode rows = option_map (λ r. r.1) (find (λ r. r.0 == opcode) rows)
+
+-- whether a number stands in a list
+abbrev pub is_among : List ℕ → ℕ → Bool
+is_among ns n = list_any (λ m. m == n) ns
 
 -- a count of at most so many, and a word
 abbrev pub IsCount : ℕ → ℕ → Type 0
