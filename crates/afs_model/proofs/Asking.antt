@@ -10,7 +10,7 @@ use Rattle.afs_num.specs.declared.types.Key.{Key}
 use Rattle.afs_num.specs.declared.types.Node.TheVariants.{Client}
 use Rattle.afs_num.specs.declared.messages.Call.{Call}
 use Rattle.afs_num.specs.declared.calls.FsCall.TheVariants as calls
-use Rattle.afs_num.specs.declared.messages.Call.TheVariants as asks
+use Rattle.afs_num.specs.declared.messages.Call.TheVariants as ask
 use Rattle.afs_num.specs.declared.messages.Carried.TheVariants as carried
 use Rattle.afs_num.specs.declared.messages.Message.{Message}
 use Rattle.afs_num.specs.declared.scripts.Act.{Act}
@@ -263,13 +263,13 @@ call_is (Close f contents) = refl
 
 -- where no store of the client's own may run, none but of files that it doesn't hold may
 safe_over : (call : Call) (e l d m : ℕ) (running other : Option Act) (cache : List CacheEntry) (head : Head) → ((f : Fid) (y : List ℕ) → running ≡ Some (Close f y) → ⊥) → IsSafe e l running cache head call → IsSafe d m other cache head call
-safe_over (asks.File (calls.StoreData f status position wanted file_length contents)) e l d m running other cache head shut (inl x) = absurd (shut f contents x.0)
-safe_over (asks.File (calls.StoreData f status position wanted file_length contents)) e l d m running other cache head shut (inr x) = inr x
+safe_over (ask.File (calls.StoreData f status position wanted file_length contents)) e l d m running other cache head shut (inl x) = absurd (shut f contents x.0)
+safe_over (ask.File (calls.StoreData f status position wanted file_length contents)) e l d m running other cache head shut (inr x) = inr x
 safe_over call e l d m running other cache head shut x = tt
 
 pub safe_cache : (call : Call) (e l : ℕ) (running : Option Act) (cache other : List CacheEntry) (head : Head) → ((f : Fid) → find_cached f cache ≡ None → find_cached f other ≡ None) → IsSafe e l running cache head call → IsSafe e l running other head call
-safe_cache (asks.File (calls.StoreData f status position wanted file_length contents)) e l running cache other head w (inl x) = inl x
-safe_cache (asks.File (calls.StoreData f status position wanted file_length contents)) e l running cache other head w (inr x) = inr (w f x)
+safe_cache (ask.File (calls.StoreData f status position wanted file_length contents)) e l running cache other head w (inl x) = inl x
+safe_cache (ask.File (calls.StoreData f status position wanted file_length contents)) e l running cache other head w (inr x) = inr (w f x)
 safe_cache call e l running cache other head w x = tt
 
 pub safe_own : (act : Act) (e l : ℕ) (running : Option Act) (cache : List CacheEntry) (head : Head) → running ≡ Some act → head.epoch ≡ e → head.number ≡ l → IsSafe e l running cache head (call_of act)

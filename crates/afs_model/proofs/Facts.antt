@@ -9,9 +9,9 @@ use Rattle.afs_num.specs.declared.types.Node.{Node}
 use Rattle.afs_num.specs.declared.types.Node.TheVariants.{Client}
 use Rattle.afs_num.specs.declared.messages.Call.{Call}
 use Rattle.afs_num.specs.declared.calls.FsCall.TheVariants as calls
-use Rattle.afs_num.specs.declared.messages.Call.TheVariants as asks
+use Rattle.afs_num.specs.declared.messages.Call.TheVariants as ask
 use Rattle.afs_num.specs.declared.calls.FsReply.TheVariants as replies
-use Rattle.afs_num.specs.declared.messages.Reply.TheVariants as tells
+use Rattle.afs_num.specs.declared.messages.Reply.TheVariants as tell
 use Rattle.afs_num.specs.declared.messages.Carried.{Carried}
 use Rattle.afs_num.specs.declared.messages.Carried.TheVariants as carried
 use Rattle.afs_num.specs.declared.messages.Message.{Message}
@@ -90,7 +90,7 @@ pub record Plain (j : ℕ) (f : Fid) (index : ℕ) (server : Node) (newer : List
   pub before : (y : List ℕ) → v.running ≡ Some (Close f y) → LastRan v → ⊥
 
 abbrev pub stored_index : Carried → Option ℕ
-stored_index (carried.Reply (tells.File (replies.StoreData status sync))) = Some status.sync_counter
+stored_index (carried.Reply (tell.File (replies.StoreData status sync))) = Some status.sync_counter
 stored_index c = None
 
 -- an entry whose client waits for the reply to its own store, which ran
@@ -125,8 +125,8 @@ pub record IsFetched (j : ℕ) (f : Fid) (index : ℕ) (contents : List ℕ) (ex
   pub newest : IsNewest held.grant.server j f index (since (Client j) f expiry reply past held.grant) (lines_of past)
 
 abbrev pub Fits : ℕ → Act → Message → Carried → List Entry → Type 0
-Fits j (Open f) m (carried.Reply (tells.File (replies.FetchData contents status callback sync))) past = IsFetched j f status.sync_counter contents callback.expiration_time m past
-Fits j (Close f contents) m (carried.Reply (tells.File (replies.StoreData status sync))) past = HasVersion f status.sync_counter (bodies.File contents) (lines_of past)
+Fits j (Open f) m (carried.Reply (tell.File (replies.FetchData contents status callback sync))) past = IsFetched j f status.sync_counter contents callback.expiration_time m past
+Fits j (Close f contents) m (carried.Reply (tell.File (replies.StoreData status sync))) past = HasVersion f status.sync_counter (bodies.File contents) (lines_of past)
 Fits j act m (carried.Refusal code) past = ⊤
 Fits j act m c past = ⊥
 
@@ -162,7 +162,7 @@ pub record ClientFacts (j : ℕ) (v : View) (past : List Entry) : Type 0 where
 
 -- a store that may still run is that of the running act, or its file is not in the cache
 abbrev pub IsSafe : ℕ → ℕ → Option Act → List CacheEntry → Head → Call → Type 0
-IsSafe epoch last running cache head (asks.File (calls.StoreData f status position wanted file_length contents)) =
+IsSafe epoch last running cache head (ask.File (calls.StoreData f status position wanted file_length contents)) =
     ((running ≡ Some (Close f contents)) × ((head.epoch ≡ epoch) × (head.number ≡ last))) ⊎ (find_cached f cache ≡ None)
 IsSafe epoch last running cache head call = ⊤
 

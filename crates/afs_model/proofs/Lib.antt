@@ -33,6 +33,9 @@ pub mod Moments
 pub mod HeadLaws
 pub mod RpcLaws
 pub mod FsMade
+pub mod VolMade
+pub mod LocMade
+pub mod CellMade
 pub mod Directories
 pub mod DirectoryBytes
 pub mod Calls

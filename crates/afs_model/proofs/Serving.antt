@@ -12,7 +12,7 @@ use Rattle.afs_num.specs.declared.types.Node.{Node}
 use Rattle.afs_num.specs.declared.types.Node.TheVariants.{Client}
 use Rattle.afs_num.specs.declared.messages.Call.{Call}
 use Rattle.afs_num.specs.declared.calls.FsCall.TheVariants as calls
-use Rattle.afs_num.specs.declared.messages.Call.TheVariants as asks
+use Rattle.afs_num.specs.declared.messages.Call.TheVariants as ask
 use Rattle.afs_num.specs.declared.messages.Carried.{Carried}
 use Rattle.afs_num.specs.declared.messages.Carried.TheVariants as carried
 use Rattle.afs_num.specs.declared.messages.Message.{Message}
@@ -190,8 +190,8 @@ ran_now s c past p n h user act e H w is at = record {
 -- ---- acts and their calls
 
 act_of : Call → Act
-act_of (asks.File (calls.FetchData f position wanted)) = Open f
-act_of (asks.File (calls.StoreData f status position wanted file_length contents)) = Close f contents
+act_of (ask.File (calls.FetchData f position wanted)) = Open f
+act_of (ask.File (calls.StoreData f status position wanted file_length contents)) = Close f contents
 act_of call = Open (record { volume = 0; vnode = 0; unique = 0 })
 
 act_again : (act : Act) → act_of (asked act) ≡ act

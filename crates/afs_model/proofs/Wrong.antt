@@ -11,7 +11,7 @@ use Rattle.afs_num.specs.declared.types.Node.{Node}
 use Rattle.afs_num.specs.declared.types.Node.TheVariants.{Server, Client}
 use Rattle.afs_num.specs.declared.messages.Call.{Call}
 use Rattle.afs_num.specs.declared.calls.FsCall.TheVariants as calls
-use Rattle.afs_num.specs.declared.messages.Call.TheVariants as asks
+use Rattle.afs_num.specs.declared.messages.Call.TheVariants as ask
 use Rattle.afs_num.specs.declared.messages.Carried.{Carried}
 use Rattle.afs_num.specs.declared.messages.Carried.TheVariants as carried
 use Rattle.afs_num.specs.declared.messages.Message.{Message}
@@ -337,8 +337,8 @@ stored_one false contents (Some v) = omega arith
 stored_one true contents (Some v) = omega arith
 
 at_most_one : (user : List ℕ) (c : Call) (older : List Line) → length (op user c older).versions ≤ 1
-at_most_one user (asks.File (calls.FetchData f position wanted)) older = fetched_none _ (last_version f older)
-at_most_one user (asks.File (calls.StoreData f given position wanted file_length contents)) older = stored_one _ contents (last_version f older)
+at_most_one user (ask.File (calls.FetchData f position wanted)) older = fetched_none _ (last_version f older)
+at_most_one user (ask.File (calls.StoreData f given position wanted file_length contents)) older = stored_one _ contents (last_version f older)
 at_most_one user c older = omega arith
 
 two_versions : (m : ℕ) → 2 ≡ m → m ≤ 1 → ⊥
@@ -353,7 +353,7 @@ version_alone g = g.0.0
 
 -- a change by a call with other bytes than its act's
 bytes_of : Carried → Body
-bytes_of (carried.Call user (asks.File (calls.StoreData f given position wanted file_length contents))) = bodies.File contents
+bytes_of (carried.Call user (ask.File (calls.StoreData f given position wanted file_length contents))) = bodies.File contents
 bytes_of c = bodies.File []
 
 other_call : (user : List ℕ) (c : Call) (act : Act) → carried.Call (codes "guest") (store file (codes "def")) ≡ carried.Call user c → Some (Close file (codes "abc")) ≡ Some act → c ≡ asked act → ⊥

@@ -1,5 +1,5 @@
 -- Tables of several interfaces as one table.
-use Rattle.std.proofs.Common.{◌≡◌, ℕ, Bool, true, false, cond, eqb, List, [], ◌∷◌, ◌++◌, Option, Some, None, refl, sym, ap, ◌∙◌}
+use Rattle.std.proofs.Common.{◌≡◌, ℕ, Bool, true, false, cond, eqb, List, [], ◌∷◌, ◌++◌, Option, Some, None, refl, sym, ap, ◌∙◌, append-nil}
 use Rattle.std.specs.Prelude.{nat_eq, ◌==◌, ◌||◌, ◌&&◌, find, map, not}
 use Rattle.std.specs.Option.{option_map}
 use Rattle.std.specs.List.{list_any}
@@ -47,6 +47,11 @@ made_in_front table whole part same n fs [] behind x e = absurd cc
 made_in_front table whole part same n fs (y ∷ ys) behind x e =
     let further = made_in_front table whole part same n fs ys behind x in
     rw (same y) (front_here part (nat_eq n (table.row y).opcode) ((table.row y).make fs) (made_in n fs (map table.row ys)) (made_in n fs (map whole.row (map part ys ++ behind))) x further e)
+
+pub made_in_last : {X Y : Type 0} (table : MessageTable X) (whole : MessageTable Y) (part : X → Y) → ((x : X) → whole.row (part x) ≡ in_interface part (table.row x))
+    → (n : ℕ) (fs : List Field) (xs : List X) (x : X) → made_in n fs (map table.row xs) ≡ Some x → made_in n fs (map whole.row (map part xs)) ≡ Some (part x)
+made_in_last {X} {Y} table whole part same n fs xs x e =
+    ap (λ (ys : List Y). made_in n fs (map whole.row ys)) (sym (append-nil (map part xs))) ∙ made_in_front table whole part same n fs xs [] x e
 
 neither : (x y : Bool) → (x || y) ≡ false → (x ≡ false) × (y ≡ false)
 neither false y e = (refl, e)
