@@ -30,6 +30,9 @@ pub mod Served
 pub mod HeadLaws
 pub mod RpcLaws
 pub mod FsMade
+pub mod VolMade
+pub mod LocMade
+pub mod CellMade
 pub mod Calls
 pub mod ScriptWritten
 pub mod ScriptSaid

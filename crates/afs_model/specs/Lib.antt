@@ -1,6 +1,9 @@
 pub mod Heads
 pub mod Rpc
 pub mod FsRows
+pub mod VolRows
+pub mod LocRows
+pub mod CellRows
 pub mod Messages
 pub mod Steps
 pub mod ServerRow

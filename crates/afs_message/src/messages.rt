@@ -1,15 +1,15 @@
-//! Whole messages, as bytes and as values: what a node receives in the bytes that it is given, and what it sends.
+//! Whole messages.
 
 ghost use Rattle.std.specs.Prelude.{◌≡◌, [], IfOk, OnOk};
 ghost use Rattle.afs_num.specs.declared.messages.Received.TheVariants.{Whole};
 ghost use Rattle.afs_xdr.specs.Words.{AreWords};
 ghost use Rattle.afs_shape.specs.Reading.{fields_to_end_at};
 ghost use Rattle.afs_model.specs.Heads.{head_words};
-ghost use Rattle.afs_model.specs.Rpc.{asked_at, replied_at};
-ghost use Rattle.afs_model.specs.FsRows.{fs_calls, fs_replies};
-ghost use Rattle.afs_model.specs.Messages.{received_call, received_reply, received_notice, read_body, received, spelled, IsSoundReceived, HasSpelling, FitsMessage};
+ghost use Rattle.afs_model.specs.Rpc.{replied_at};
+ghost use Rattle.afs_model.specs.CellRows.{cell_calls, cell_replies};
+ghost use Rattle.afs_model.specs.Messages.{called_at, received_reply, received_notice, read_body, received_by, received, spelled, IsSoundReceived, HasSpelling, FitsMessage, FindsMessages};
 
-use crate::tables::{FsCalls, FsReplies};
+use crate::cell::{CellCalls, CellReplies};
 use afs_num::messages::{Carried, Message, Received};
 use afs_num::sequences::Octets;
 use afs_num::types::{Code, Half, Head, Mem};
@@ -29,23 +29,25 @@ fn whole(head: Head, carried: Carried) -> Received
     }
 }
 
-/// A call, or why there is none.
-fn receive_call(alloc: Global, r: &mut Reader, head: Head) -> Mem<Received>
-    ensures { IfOk result (λ x. x ≡ received_call head (asked_at fs_calls head.opcode r.old.left)) }
+/// A call of these, or why there is none. What isn't among them is told by its header, and no more of it is read.
+fn receive_call(alloc: Global, served: &[u32], r: &mut Reader, head: Head) -> Mem<Received>
+    ensures { IfOk result (λ x. x ≡ called_at served.now head r.old.left) }
 {
-    match read_asked::<FsCalls>(alloc, head.opcode, r) {
+    if !served.contains(&head.opcode) {
+        return Ok(Received::Unserved { head });
+    }
+    match read_asked::<CellCalls>(alloc, head.opcode, r) {
         Ok((user, call)) => Ok(whole(head, Carried::Call { user, call })),
         Err(ShapeFault::OutOfMemory) => Err(AllocError),
-        Err(ShapeFault::NoRow(_)) => Ok(Received::Unknown { head }),
         Err(_) => Ok(Received::Unreadable { head }),
     }
 }
 
 /// A reply, where there is one.
 fn receive_reply(alloc: Global, r: &mut Reader, head: Head) -> Mem<Received>
-    ensures { IfOk result (λ x. x ≡ received_reply head (replied_at fs_replies head.opcode r.old.left)) }
+    ensures { IfOk result (λ x. x ≡ received_reply head (replied_at cell_replies head.opcode r.old.left)) }
 {
-    match read_replied::<FsReplies>(alloc, head.opcode, r) {
+    match read_replied::<CellReplies>(alloc, head.opcode, r) {
         Ok((_, Some(reply))) => Ok(whole(head, Carried::Reply { reply })),
         Ok((code, None)) => Ok(whole(head, Carried::Refusal { code })),
         Err(ShapeFault::OutOfMemory) => Err(AllocError),
@@ -64,35 +66,37 @@ fn receive_notice(alloc: Global, r: &Reader, head: Head) -> Mem<Received>
     }
 }
 
-fn receive_body(alloc: Global, r: &mut Reader, head: Head) -> Mem<Received>
-    ensures { IfOk result (λ x. x ≡ read_body head head.half r.old.left) }
+fn receive_body(alloc: Global, served: &[u32], r: &mut Reader, head: Head) -> Mem<Received>
+    ensures { IfOk result (λ x. x ≡ read_body served.now head head.half r.old.left) }
 {
     match head.half {
-        Half::Call => receive_call(alloc, r, head),
+        Half::Call => receive_call(alloc, served, r, head),
         Half::Reply => receive_reply(alloc, r, head),
         Half::Boot => receive_notice(alloc, r, head),
     }
 }
 
 /// What is read in these bytes.
-#[tactic(auto, unfolding(afs_model::specs::Messages::received))]
-fn receive(alloc: Global, bytes: &[u8]) -> Mem<Received>
-    ensures { IfOk result (λ x. x ≡ received bytes.now) }
+#[tactic(auto, unfolding(afs_model::specs::Messages::received_by))]
+fn receive(alloc: Global, served: &[u32], bytes: &[u8]) -> Mem<Received>
+    ensures { IfOk result (λ x. x ≡ received_by served.now bytes.now) }
 {
     let mut r = Reader::new(bytes);
     match head_of(&mut r) {
-        Ok(head) => receive_body(alloc, &mut r, head),
+        Ok(head) => receive_body(alloc, served, &mut r, head),
         Err(_) => Ok(Received::Nothing),
     }
 }
 
-/// What a node finds in these bytes: a message, a call whose opcode has no row, one whose user or fields can't be
-/// read, or nothing.
-pub fn read_message(alloc: Global, bytes: &[u8]) -> Mem<Received>
-    ensures value { IfOk result (λ x. x ≡ received bytes.now) }
+/// What a node finds in these bytes that serves calls of these opcodes: a message, a call that it doesn't serve, one
+/// whose user or fields can't be read, or nothing.
+pub fn read_message(alloc: Global, served: &[u32], bytes: &[u8]) -> Mem<Received>
+    ensures value { IfOk result (λ x. x ≡ received_by served.now bytes.now) }
     ensures sound { IfOk result IsSoundReceived }
+    // A message that stands in the bytes is found, unless it is a call that isn't served.
+    ensures found { FindsMessages served.now bytes.now }
 {
-    let received = receive(alloc, bytes)?;
+    let received = receive(alloc, served, bytes)?;
     Ok(received)
 }
 
@@ -116,10 +120,10 @@ fn encode(alloc: Global, message: &Message) -> Mem<Octets>
 {
     match &message.carried {
         Carried::Call { user, call } => {
-            spell_call::<FsCalls>(alloc, &message.head, user.as_slice(), call)
+            spell_call::<CellCalls>(alloc, &message.head, user.as_slice(), call)
         },
-        Carried::Refusal { code } => spell_reply::<FsReplies>(alloc, &message.head, *code, None),
-        Carried::Reply { reply } => spell_reply::<FsReplies>(
+        Carried::Refusal { code } => spell_reply::<CellReplies>(alloc, &message.head, *code, None),
+        Carried::Reply { reply } => spell_reply::<CellReplies>(
             alloc,
             &message.head,
             Code(0),
