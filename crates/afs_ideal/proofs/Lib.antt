@@ -18,3 +18,6 @@ pub mod Moves
 pub mod Preserved
 pub mod Laid
 pub mod Operated
+pub mod Limits
+pub mod Made
+pub mod Unsound
