@@ -1,8 +1,7 @@
 -- Rows at the limits: what is too big or too many (27), what is above the quota (109), and counts that can't be raised (108).
-use Rattle.std.proofs.Common.{◌≡◌, ℕ, zero, suc, ◌+◌, ◌*◌, ◌<◌, ◌≤◌, Bool, true, false, List, [], ◌∷◌, ◌++◌, length, Option, Some, None, refl, sym, ap, subst, ◌∙◌, pos, eq-eqb, lt-ltb, arith}
+use Rattle.std.proofs.Common.{◌≡◌, ℕ, ◌+◌, ◌<◌, Bool, true, false, List, [], ◌∷◌, length, Option, Some, None, refl, sym, subst, ◌∙◌, eq-eqb, lt-ltb, arith}
 use Rattle.std.specs.Prelude.{codes, ◌&&◌, nat_lt, if◌then◌else◌}
 use Rattle.std.specs.List.{AllByRecursion, list_all}
-use Rattle.std.proofs.lemmas.Bool.Decides.{nat_tests}
 use Rattle.afs_num.specs.Names.{name_ok}
 use Rattle.afs_num.specs.declared.types.Fid.{Fid}
 use Rattle.afs_num.specs.declared.calls.AfsStoreStatus.{AfsStoreStatus}
@@ -10,14 +9,14 @@ use Rattle.afs_num.specs.declared.calls.FsCall.{FsCall}
 use Rattle.afs_num.specs.declared.calls.FsCall.TheVariants as calls
 use Rattle.afs_num.specs.declared.directories.Name.{Name}
 use Rattle.afs_xdr.specs.Words.{word, opaque, pad}
-use Rattle.afs_ideal.specs.AccessLists.{rights_of, acl_at, count_at, line_number_at, named_at, name_at, entry_at, no_acl}
+use Rattle.afs_ideal.specs.AccessLists.{rights_of, acl_at, count_at, line_number_at, named_at, name_at, entry_at}
 use Rattle.afs_ideal.specs.Directories.{named, bytes_below, directory_bytes, name_bytes}
-use Rattle.afs_ideal.specs.Tables.{Table, get, set}
-use Rattle.afs_ideal.specs.Volumes.{Kind, a_file, a_directory, a_link, Vnode, Volume, vnode_of, Edit, amends, makes, with_status, ascending}
+use Rattle.afs_ideal.specs.Tables.{get, set}
+use Rattle.afs_ideal.specs.Volumes.{Vnode, Volume, vnode_of, Edit, amends, makes, with_status, ascending}
 use Rattle.afs_ideal.specs.Operations as ops
 use Rattle.afs_ideal.specs.Operations.{Caller, the_user, all_rights, changes, first_failing, tests, edit_fits, links_of, acl_of, creating, new_file, new_directory, new_link, op}
 use Rattle.afs_ideal.proofs.Basics.{both}
-use Rattle.afs_ideal.proofs.Operated.{name, directory, other, with_rights, volume, fid, status, quota_of, root, a, d, e, f, l, store, code}
+use Rattle.afs_ideal.proofs.Operated.{name, directory, volume, status, quota_of, root, a, d, e, store, code}
 use Rattle.afs_ideal.proofs.Scopes.{accepted, all_pass}
 
 -- ---- 27: a file of more than 65,536 bytes, a directory of more than 1,024 names

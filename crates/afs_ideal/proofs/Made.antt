@@ -1,13 +1,11 @@
 -- Rows on what operations make and reply: rights by negative entries and by names, each word of a status, parents, counters, and the
 -- replies.
-use Rattle.std.proofs.Common.{◌≡◌, ℕ, ◌+◌, Bool, true, false, List, [], ◌∷◌, ◌++◌, length, Option, Some, None, refl, pos}
+use Rattle.std.proofs.Common.{◌≡◌, ℕ, List, [], ◌∷◌, Option, Some, None, refl, pos}
 use Rattle.std.specs.Prelude.{codes}
-use Rattle.std.specs.List.{AllByRecursion}
 use Rattle.std.specs.Option.{option_map}
 use Rattle.afs_num.specs.Names.{name_ok}
 use Rattle.afs_num.specs.declared.types.Fid.{Fid}
 use Rattle.afs_num.specs.declared.acls.AclEntry.{AclEntry}
-use Rattle.afs_num.specs.declared.acls.AccessList.{AccessList}
 use Rattle.afs_num.specs.declared.calls.AfsFetchStatus.{AfsFetchStatus}
 use Rattle.afs_num.specs.declared.calls.AfsStoreStatus.{AfsStoreStatus}
 use Rattle.afs_num.specs.declared.calls.AfsVolSync.{AfsVolSync}
@@ -18,13 +16,13 @@ use Rattle.afs_num.specs.declared.calls.FsReply.TheVariants as replies
 use Rattle.afs_num.specs.declared.histories.Body.TheVariants as bodies
 use Rattle.afs_shape.specs.Rows.{no_callback, no_sync}
 use Rattle.afs_xdr.specs.Words.{word, opaque, pad}
-use Rattle.afs_ideal.specs.AccessLists.{rights_of, acl_text, entry_text, acl_at, count_at, line_number_at, named_at, name_at, entry_at, no_acl}
+use Rattle.afs_ideal.specs.AccessLists.{rights_of, acl_text, entry_text, acl_at, count_at, line_number_at, named_at, name_at, entry_at}
 use Rattle.afs_ideal.specs.Directories.{bytes_below, directory_bytes, name_bytes}
-use Rattle.afs_ideal.specs.Tables.{Table, get, set}
-use Rattle.afs_ideal.specs.Volumes.{Kind, a_file, a_directory, a_link, Vnode, Volume}
-use Rattle.afs_ideal.specs.Operations.{Caller, the_user, Result, refused, reads, changes, no_operation, op, code_of, changed}
+use Rattle.afs_ideal.specs.Tables.{get, set}
+use Rattle.afs_ideal.specs.Volumes.{a_file, a_link, Vnode, Volume}
+use Rattle.afs_ideal.specs.Operations.{the_user, Result, reads, changes, no_operation, op, code_of, changed}
 use Rattle.afs_ideal.specs.Replies.{reading_reply, change_reply}
-use Rattle.afs_ideal.proofs.Operated.{name, directory, other, with_rights, volume, fid, status, root, a, d, e, f, l, store, fetch, told, version}
+use Rattle.afs_ideal.proofs.Operated.{name, directory, other, volume, fid, status, root, a, d, l, store, fetch, told, version}
 
 -- ---- rights
 

@@ -1,9 +1,8 @@
--- The ideal operation on a small volume, one row for each call and each code: the law of a cell can't judge the operation, since it is what the
--- ideal cell does.
-use Rattle.std.proofs.Common.{◌≡◌, ℕ, List, [], ◌∷◌, length, Some, refl, ℤ, pos}
+-- Rows on a small volume, for each call and each code but those at limits, which stand in Limits: the law of a cell can't judge the
+-- operation, since it is what the ideal cell does. Made has the rows on what is made and replied.
+use Rattle.std.proofs.Common.{◌≡◌, ℕ, List, [], ◌∷◌, length, Some, refl, pos}
 use Rattle.std.specs.Prelude.{codes}
 use Rattle.afs_num.specs.declared.types.Fid.{Fid}
-use Rattle.afs_num.specs.declared.acls.AccessList.{AccessList}
 use Rattle.afs_num.specs.declared.calls.AfsStoreStatus.{AfsStoreStatus}
 use Rattle.afs_num.specs.declared.calls.FsCall.{FsCall}
 use Rattle.afs_num.specs.declared.calls.FsCall.TheVariants as calls
@@ -18,7 +17,7 @@ use Rattle.afs_ideal.specs.Tables.{get, set, unset}
 use Rattle.afs_ideal.specs.Directories.{bytes_below, directory_bytes, name_bytes}
 use Rattle.afs_xdr.specs.Words.{word, opaque, pad}
 use Rattle.afs_ideal.specs.Volumes.{Kind, a_file, a_directory, a_link, Vnode, Volume, blocks_in}
-use Rattle.afs_ideal.specs.Operations.{Caller, the_user, op, code_of, made_by, changed, links_of}
+use Rattle.afs_ideal.specs.Operations.{the_user, op, code_of, made_by, changed, links_of}
 
 -- ---- the volume 5: a file `a`, a directory `d` with a file of two names and a link, an empty directory `e`
 

@@ -1,5 +1,5 @@
 -- Each accepted operation leaves a sound volume: its tests give what the case needs.
-use Rattle.std.proofs.Common.{◌≡◌, ℕ, zero, suc, ◌+◌, ◌-◌, ◌<◌, ◌≤◌, Bool, true, false, cond, eqb, ltb, not, List, [], ◌∷◌, ◌++◌, length, Option, Some, None, refl, sym, ap, subst, ◌∙◌, arith, eq-eqb, eqb-true, ltb-true}
+use Rattle.std.proofs.Common.{◌≡◌, ℕ, suc, ◌+◌, ◌-◌, ◌<◌, ◌≤◌, Bool, true, false, not, List, [], ◌∷◌, ◌++◌, length, Option, Some, None, refl, sym, ap, subst, ◌∙◌, arith, eq-eqb, eqb-true, ltb-true}
 use Rattle.std.specs.Prelude.{◌&&◌, ◌||◌, nat_lt, nat_eq, ⊤, is_some, is_ok, ◌%◌, if◌then◌else◌, Ok, Err}
 use Rattle.std.specs.Prelude as std_result
 use Rattle.std.specs.List.{AllByRecursion}
@@ -7,14 +7,13 @@ use Rattle.std.specs.Str.{bytes_eq}
 use Rattle.afs_num.specs.Names.{name_ok}
 use Rattle.afs_num.specs.declared.types.Fid.{Fid}
 use Rattle.afs_num.specs.declared.acls.AccessList.{AccessList}
-use Rattle.afs_num.specs.declared.calls.AfsStoreStatus.{AfsStoreStatus}
 use Rattle.afs_num.specs.declared.calls.FsCall.{FsCall}
 use Rattle.afs_num.specs.declared.calls.FsCall.TheVariants as calls
 use Rattle.afs_num.specs.declared.directories.Name.{Name}
 use Rattle.afs_ideal.specs.Tables.{get, lowest_free}
 use Rattle.afs_ideal.specs.AccessLists.{Refusal, IsAccessList, acl_at}
-use Rattle.afs_ideal.specs.Directories.{most_names, named, with_name, without_name, add_refused}
-use Rattle.afs_ideal.specs.Volumes.{Kind, a_file, a_directory, a_link, Vnode, Volume, if_unique, vnode_of, Amend, Edit, amends, or_old, edited_all, edit_number, placed, ascending, counted}
+use Rattle.afs_ideal.specs.Directories.{most_names, named, without_name, add_refused}
+use Rattle.afs_ideal.specs.Volumes.{Kind, a_file, a_directory, a_link, Vnode, Volume, if_unique, vnode_of, Edit, amends, or_old, edited_all, edit_number, placed, ascending, counted}
 use Rattle.afs_ideal.specs.Operations as ops
 use Rattle.afs_ideal.specs.Operations.{Caller, Result, changes, first_failing, tests, effect, is_kind, kind_is, is_directory, names_in, links_of, acl_of, acl_read, named_vnode, number_named, vnode_in, name_in, implies, is_mask, is_empty, same_vnode, is_below, may_link, may_move, is_same_name, has_room_for, kinds_agree, rename_rights, rename_tests, free_number, new_file, new_link, new_directory, creating, removing, linking, renaming, unlinks, linked, op}
 use Rattle.afs_ideal.specs.Soundness.{names_directory, IsSound}
@@ -23,11 +22,10 @@ use Rattle.afs_ideal.proofs.Basics.{some_of, both, yes_no}
 use Rattle.afs_ideal.proofs.AccessLists.{read_is_text}
 use Rattle.afs_ideal.proofs.Tables.{free_is_free, free_parity, free_from}
 use Rattle.afs_ideal.proofs.Counts.{one_if}
-use Rattle.afs_ideal.proofs.Maps.{Sound, Own}
 use Rattle.afs_ideal.proofs.Steps.{Held, holds, its_names, parity, room_for}
-use Rattle.afs_ideal.proofs.Ranks.{at, steps}
-use Rattle.afs_ideal.proofs.Kept.{as_map, as_ranked, Found, finds, kind_found, status_sound, data_sound, acl_sound}
-use Rattle.afs_ideal.proofs.Comes.{may_add, file_own, link_own, directory_own, creates_sound, links_sound, not_itself}
+use Rattle.afs_ideal.proofs.Ranks.{at}
+use Rattle.afs_ideal.proofs.Kept.{as_map, Found, finds, kind_found, status_sound, data_sound, acl_sound}
+use Rattle.afs_ideal.proofs.Comes.{may_add, file_own, link_own, directory_own, creates_sound, links_sound}
 use Rattle.afs_ideal.proofs.Goes.{stays, unlink_by, unlinks_is, removes_sound}
 use Rattle.afs_ideal.proofs.Moves.{two_links, within_sound, within_replaced, across_sound, across_replaced, MayStandIn, below_itself}
 use Rattle.afs_ideal.proofs.Scopes.{accepted, all_pass, implied, read_is_none, statuses_none}

@@ -1,18 +1,15 @@
 -- What operations do to the map of a sound volume: a name and its vnode come, go, or move.
-use Rattle.std.proofs.Common.{◌≡◌, ℕ, zero, suc, ◌+◌, ◌-◌, ◌<◌, ◌≤◌, ◌⊎◌, inl, inr, Bool, true, false, cond, eqb, ltb, not, List, [], ◌∷◌, length, Option, Some, None, refl, sym, ap, subst, ◌∙◌, arith, eq-eqb, eqb-true, lt-ltb}
+use Rattle.std.proofs.Common.{◌≡◌, ℕ, ◌+◌, ◌<◌, ◌≤◌, inl, Bool, true, false, cond, eqb, List, [], length, Option, Some, None, refl, sym, ap, subst, ◌∙◌, arith, eq-eqb, eqb-true, lt-ltb}
 use Rattle.afs_num.specs.Names.{name_ok}
-use Rattle.std.specs.Prelude.{◌&&◌, ◌%◌, ◌↔◌, nat_eq}
-use Rattle.std.specs.List.{AllByRecursion}
+use Rattle.std.specs.Prelude.{◌&&◌, ◌%◌, nat_eq}
 use Rattle.afs_num.specs.declared.directories.Name.{Name}
-use Rattle.afs_ideal.specs.AccessLists.{IsAccessList}
 use Rattle.afs_ideal.specs.Directories.{most_names, IsDirectory, named, with_name, without_name, add_refused}
 use Rattle.afs_ideal.specs.Volumes.{Kind, a_file, a_directory, a_link, Vnode}
 use Rattle.afs_ideal.specs.Operations.{is_kind}
 use Rattle.afs_ideal.specs.Soundness.{names_it, names_of, names_directory, subdirectories, GivesHeld, KindFits, HasNames, IsNamedIn, HasNamesOf, HasByKind, IsRoot}
-use Rattle.afs_ideal.proofs.Basics.{some_of}
 use Rattle.afs_ideal.proofs.Directories.{added_is_directory, removed_is_directory}
 use Rattle.afs_ideal.proofs.Counts.{one_if, count, count_with, count_without, none_counted, count_all, each_map, each_with, each_without, each_named}
-use Rattle.afs_ideal.proofs.Maps.{Map, put, Own, Gives, Sound, GivesBut, But, differ, here, other, Alike, SameFor, leave, leave_new, renames, changes, makes, frees, puts_back, repoints, stays_out, AreLike, like_itself, as_like}
+use Rattle.afs_ideal.proofs.Maps.{Map, put, Own, Gives, Sound, GivesBut, But, here, other, Alike, SameFor, leave, leave_new, renames, changes, makes, frees, puts_back, repoints, stays_out, AreLike, like_itself, as_like}
 
 -- ---- a directory with other names
 

@@ -1,14 +1,14 @@
 -- A volume that is sound, and for each condition one that is unsound by it alone.
-use Rattle.std.proofs.Common.{◌≡◌, ℕ, ◌+◌, ◌<◌, ◌≤◌, Bool, true, false, cond, eqb, List, [], ◌∷◌, length, Option, Some, None, refl, sym, ap, subst, ◌∙◌, arith, eqb-true}
+use Rattle.std.proofs.Common.{◌≡◌, ℕ, ◌<◌, ◌≤◌, Bool, true, false, cond, eqb, List, [], ◌∷◌, length, Some, refl, ap, subst, arith, eqb-true}
 use Rattle.std.specs.Prelude.{codes}
 use Rattle.std.specs.List.{AllByRecursion}
 use Rattle.afs_num.specs.Names.{name_ok}
 use Rattle.afs_num.specs.declared.acls.AccessList.{AccessList}
 use Rattle.afs_num.specs.declared.directories.Name.{Name}
 use Rattle.afs_ideal.specs.AccessLists.{IsAccessList}
-use Rattle.afs_ideal.specs.Directories.{bytes_below, IsDirectory}
+use Rattle.afs_ideal.specs.Directories.{bytes_below}
 use Rattle.afs_ideal.specs.Tables.{Table, get, set, unset}
-use Rattle.afs_ideal.specs.Volumes.{Kind, a_file, a_directory, a_link, Vnode, Volume}
+use Rattle.afs_ideal.specs.Volumes.{a_file, a_link, Vnode, Volume}
 use Rattle.afs_ideal.specs.Soundness.{GivesOne, IsSoundVnode, IsSound}
 use Rattle.afs_ideal.proofs.Basics.{some_of}
 use Rattle.afs_ideal.proofs.Counts.{all_each, each_all}
