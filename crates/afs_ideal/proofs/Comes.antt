@@ -41,22 +41,22 @@ may_add name names good h = room_for name names (both good (name_ok name) h.0).1
 abbrev pub made : Volume → AfsStoreStatus → Vnode → Vnode
 made v status x = fresh (v.counter + 1) v.next (with_status (Some status) x)
 
-pub file_own : (n next : ℕ) (d : Fid) (mode links : ℕ) (bytes : List ℕ) (v : Volume) (status : AfsStoreStatus) → n % 2 ≡ 0 → Own (v.next + 1) n (made v status (new_in d a_file links mode bytes no_acl))
-file_own n next d mode links bytes v status even = record {
+pub file_own : (n : ℕ) (d : Fid) (mode links : ℕ) (bytes : List ℕ) (v : Volume) (status : AfsStoreStatus) → n % 2 ≡ 0 → Own (v.next + 1) n (made v status (new_in d a_file links mode bytes no_acl))
+file_own n d mode links bytes v status even = record {
   kind = (λ e. absurd cc, λ odd. absurd (omega (arith, even, odd)));
   unique = omega arith;
   body = record { names = refl; acl = refl };
 }
 
-pub link_own : (n next : ℕ) (d : Fid) (mode links : ℕ) (bytes : List ℕ) (v : Volume) (status : AfsStoreStatus) → n % 2 ≡ 0 → Own (v.next + 1) n (made v status (new_in d a_link links mode bytes no_acl))
-link_own n next d mode links bytes v status even = record {
+pub link_own : (n : ℕ) (d : Fid) (mode links : ℕ) (bytes : List ℕ) (v : Volume) (status : AfsStoreStatus) → n % 2 ≡ 0 → Own (v.next + 1) n (made v status (new_in d a_link links mode bytes no_acl))
+link_own n d mode links bytes v status even = record {
   kind = (λ e. absurd cc, λ odd. absurd (omega (arith, even, odd)));
   unique = omega arith;
   body = record { names = refl; acl = refl };
 }
 
-pub directory_own : (n next : ℕ) (d : Fid) (mode : ℕ) (acl : AccessList) (v : Volume) (status : AfsStoreStatus) → n % 2 ≡ 1 → IsAccessList acl → Own (v.next + 1) n (made v status (new_in d a_directory 2 mode [] acl))
-directory_own n next d mode acl v status odd is = record {
+pub directory_own : (n : ℕ) (d : Fid) (mode : ℕ) (acl : AccessList) (v : Volume) (status : AfsStoreStatus) → n % 2 ≡ 1 → IsAccessList acl → Own (v.next + 1) n (made v status (new_in d a_directory 2 mode [] acl))
+directory_own n d mode acl v status odd is = record {
   kind = (λ e. odd, λ e. refl);
   unique = omega arith;
   body = record { names = record { ordered = refl; few = omega arith }; acl = is; contents = refl; links = refl };

@@ -38,7 +38,7 @@ unfolding stays
 unlinks_is n y true e = rw e refl
 unlinks_is n y false e = rw e refl
 
-no_directory : (k : Kind) → not (is_kind k a_directory) ≡ true → k ≡ a_directory → ⊥
+pub no_directory : (k : Kind) → not (is_kind k a_directory) ≡ true → k ≡ a_directory → ⊥
 no_directory a_file e f = absurd cc
 no_directory a_directory e f = absurd cc
 no_directory a_link e f = absurd cc

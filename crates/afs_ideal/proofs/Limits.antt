@@ -17,6 +17,7 @@ use Rattle.afs_ideal.specs.Operations as ops
 use Rattle.afs_ideal.specs.Operations.{Caller, the_user, all_rights, changes, first_failing, tests, edit_fits, links_of, acl_of, creating, new_file, new_directory, new_link, op}
 use Rattle.afs_ideal.proofs.Basics.{both}
 use Rattle.afs_ideal.proofs.Operated.{name, directory, volume, status, quota_of, root, a, d, e, store, code}
+use Rattle.afs_ideal.proofs.Preserved.{same_edits}
 use Rattle.afs_ideal.proofs.Scopes.{accepted, all_pass}
 
 -- ---- 27: a file of more than 65,536 bytes, a directory of more than 1,024 names
@@ -65,6 +66,15 @@ link_in_full_but_one : (names : List Name) → length names ≡ 1023 → named (
 unfolding rights_of acl_at count_at line_number_at entry_at name_at named_at bytes_below directory_bytes name_bytes opaque word pad name_ok
 link_in_full_but_one names e none = rw (none, e) refl
 
+-- a name that is there comes first, and the quota last
+existing_in_full : (names : List Name) → length names ≡ 1024 → named (codes "x") names ≡ Some (name (codes "x") 2 2) → code (calls.CreateFile root (codes "x") (status 0)) (named_so names) ≡ 17
+unfolding rights_of acl_at count_at line_number_at entry_at name_at named_at bytes_below directory_bytes name_bytes opaque word pad name_ok
+existing_in_full names many found = rw found refl
+
+full_above_quota : (names : List Name) → length names ≡ 1024 → named (codes "x") names ≡ None → code (calls.CreateFile root (codes "x") (status 0)) (record (named_so names) { quota = 0 }) ≡ 27
+unfolding rights_of acl_at count_at line_number_at entry_at name_at named_at bytes_below directory_bytes name_bytes opaque word pad name_ok
+full_above_quota names e none = rw (none, e) refl
+
 rename_into_full : (names : List Name) → length names ≡ 1024 → named (codes "x") names ≡ None → code (calls.Rename d (codes "l") root (codes "x")) (named_so names) ≡ 27
 unfolding rights_of acl_at count_at line_number_at entry_at name_at named_at bytes_below directory_bytes name_bytes opaque word pad name_ok
 rename_into_full names e none = rw (none, e) refl
@@ -88,9 +98,6 @@ the_last_one_fits v n x e lt = rw (e, lt-ltb v.next 4294967295 lt) refl
 second_of : (b : Bool) (v : Volume) (c : Edit) (m : Edit) → edit_fits v m ≡ false → list_all (edit_fits v) (if b then m ∷ c ∷ [] else c ∷ m ∷ []) ≡ true → ⊥
 second_of true v c m e h = let z = (both (edit_fits v m) (edit_fits v c && true) h).0 in absurd cc
 second_of false v c m e h = let z = (both (edit_fits v m) true (both (edit_fits v c) (edit_fits v m && true) h).1).0 in absurd cc
-
-same_edits : (ds es : List Edit) (m n : ℕ) → changes ds m ≡ changes es n → ds ≡ es
-same_edits ds es m n e = cc
 
 creating_refused : (id : ℕ) (caller : Caller) (call : FsCall) (dir : Fid) (new : List ℕ) (s : AfsStoreStatus) (links : Option ℕ) (x : Vnode) (v : Volume) (es : List Edit) (n : ℕ) → ops.effect caller call v ≡ changes (ascending (creating dir new s links x v)) (ops.free_number x.kind v)
     → length v.vnodes ≡ 4096 → op id caller call v ≡ changes es n → ⊥

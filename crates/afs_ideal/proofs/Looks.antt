@@ -23,9 +23,9 @@ same_at : (b : Bool) (n m : ℕ) (v : Volume) (o : Option Vnode) → eqb n m ≡
 same_at true n m v o e is = sym is ∙ ap (λ (k : ℕ). get k v.vnodes) (eqb-true n m e)
 same_at false n m v o e is = refl
 
-amends_look : (id n m c : ℕ) (a : Amend) (v : Volume) (o : Option Vnode) → get n v.vnodes ≡ o → get m (amends_at id n a v o).volume.vnodes ≡ cond (eqb n m) (option_map (amended (v.counter + 1) a) o) (get m v.vnodes)
-amends_look id n m c a v None e = sym (same_at (eqb n m) n m v None refl e)
-amends_look id n m c a v (Some x) e = get_set m n (amended (v.counter + 1) a x) v.vnodes
+amends_look : (id n m : ℕ) (a : Amend) (v : Volume) (o : Option Vnode) → get n v.vnodes ≡ o → get m (amends_at id n a v o).volume.vnodes ≡ cond (eqb n m) (option_map (amended (v.counter + 1) a) o) (get m v.vnodes)
+amends_look id n m a v None e = sym (same_at (eqb n m) n m v None refl e)
+amends_look id n m a v (Some x) e = get_set m n (amended (v.counter + 1) a x) v.vnodes
 
 makes_look : (id n m : ℕ) (x : Vnode) (v : Volume) (o : Option Vnode) → get n v.vnodes ≡ o → get m (makes_at id n x v o).volume.vnodes ≡ cond (eqb n m) (one_edit (v.counter + 1) v.next (makes n x) o) (get m v.vnodes)
 makes_look id n m x v None e = get_set m n (fresh (v.counter + 1) v.next x) v.vnodes
@@ -41,7 +41,7 @@ at_number true n m f v e = ap (λ (k : ℕ). f (get k v.vnodes)) (eqb-true n m e
 at_number false n m f v e = refl
 
 edit_look : (id m : ℕ) (e : Edit) (v : Volume) → get m (edited id e v).volume.vnodes ≡ cond (eqb (edit_number e) m) (one_edit (v.counter + 1) v.next e (get m v.vnodes)) (get m v.vnodes)
-edit_look id m (amends n a) v = amends_look id n m 0 a v (get n v.vnodes) refl ∙ at_number (eqb n m) n m (option_map (amended (v.counter + 1) a)) v refl
+edit_look id m (amends n a) v = amends_look id n m a v (get n v.vnodes) refl ∙ at_number (eqb n m) n m (option_map (amended (v.counter + 1) a)) v refl
 edit_look id m (makes n x) v = makes_look id n m x v (get n v.vnodes) refl ∙ at_number (eqb n m) n m (one_edit (v.counter + 1) v.next (makes n x)) v refl
 edit_look id m (frees n) v = frees_look id n m v (get n v.vnodes) refl
 
