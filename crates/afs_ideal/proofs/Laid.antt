@@ -1,12 +1,12 @@
 -- Set-up: a new volume is sound, and what its lines lay leaves it so.
-use Rattle.std.proofs.Common.{◌≡◌, ℕ, ◌+◌, ◌<◌, ◌≤◌, Bool, true, false, cond, eqb, List, [], ◌∷◌, Option, Some, None, refl, sym, ap, subst, ◌∙◌, arith, eqb-true}
-use Rattle.std.specs.Prelude.{Result, Ok, Err, ⊤}
+use Rattle.std.proofs.Common.{◌≡◌, ℕ, Bool, true, false, cond, eqb, List, [], ◌∷◌, Option, Some, None, refl, sym, ap, subst, ◌∙◌, arith, eqb-true}
+use Rattle.std.specs.Prelude.{Result, Ok, Err}
 use Rattle.afs_shape.specs.Reading.{◌>>=◌}
 use Rattle.afs_num.specs.declared.calls.FsCall.{FsCall}
 use Rattle.std.specs.Option.{ok_or}
 use Rattle.afs_num.specs.declared.calls.FsCall.TheVariants as calls
 use Rattle.afs_num.specs.declared.types.Fid.{Fid}
-use Rattle.afs_ideal.specs.Tables.{Table, get, set, AscendsFrom}
+use Rattle.afs_ideal.specs.Tables.{Table, get, AscendsFrom}
 use Rattle.afs_ideal.specs.AccessLists.{IsAccessList}
 use Rattle.afs_ideal.specs.Volumes.{Vnode, Volume, Edit, edit_number, edited_all, counted}
 use Rattle.afs_ideal.specs.Operations as ops
@@ -15,8 +15,8 @@ use Rattle.afs_ideal.specs.SetUp.{new_root, new_volume, at_first, one_at_first, 
 use Rattle.afs_ideal.specs.Soundness.{IsSoundVnode, IsSound}
 use Rattle.afs_ideal.proofs.Basics.{some_of}
 use Rattle.afs_ideal.proofs.Tables.{get_set, ascends_set}
-use Rattle.afs_ideal.proofs.Maps.{Map, Sound, Seen, Like, AreLike, like_itself, like_of, as_like}
-use Rattle.afs_ideal.proofs.Ranks.{Ranked, at, steps, ranked_same}
+use Rattle.afs_ideal.proofs.Maps.{Sound, AreLike, like_itself, like_of, as_like}
+use Rattle.afs_ideal.proofs.Ranks.{at, steps, ranked_same}
 use Rattle.afs_ideal.proofs.Kept.{as_map, as_ranked, as_volume, above_root}
 use Rattle.afs_ideal.proofs.Preserved.{operations_leave_sound}
 

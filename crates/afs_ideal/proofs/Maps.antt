@@ -1,15 +1,14 @@
 -- Sound volumes, step by step: a volume is seen as a map from numbers, and while one vnode is taken out of a directory or put in
 -- one, everything else stays sound.
-use Rattle.std.proofs.Common.{◌≡◌, ℕ, zero, suc, ◌+◌, ◌<◌, ◌≤◌, ◌⊎◌, inl, inr, Bool, true, false, cond, eqb, not, List, [], ◌∷◌, length, Option, Some, None, refl, sym, ap, subst, ◌∙◌, arith, eq-eqb, eqb-true}
-use Rattle.std.specs.Prelude.{filter, ◌&&◌, ◌↔◌, ◌%◌, ⊤}
+use Rattle.std.proofs.Common.{◌≡◌, ℕ, ◌+◌, ◌<◌, ◌≤◌, ◌⊎◌, inl, inr, Bool, true, false, cond, eqb, List, [], ◌∷◌, Option, Some, None, refl, sym, ap, subst, ◌∙◌, arith, eq-eqb, eqb-true}
+use Rattle.std.specs.Prelude.{⊤}
 use Rattle.std.specs.List.{AllByRecursion}
 use Rattle.afs_num.specs.declared.directories.Name.{Name}
 use Rattle.afs_ideal.specs.Volumes.{Kind, a_file, a_directory, a_link, Vnode}
-use Rattle.afs_num.specs.declared.acls.AccessList.{AccessList}
 use Rattle.afs_ideal.specs.AccessLists.{IsAccessList}
 use Rattle.afs_ideal.specs.Directories.{IsDirectory}
-use Rattle.afs_ideal.specs.Soundness.{subdirectories, names_it, names_of, IsHeldBy, GivesHeld, KindFits, HasNames, IsNamedIn, HasByKind, IsRoot}
-use Rattle.afs_ideal.proofs.Basics.{some_of, both}
+use Rattle.afs_ideal.specs.Soundness.{subdirectories, names_it, names_of, GivesHeld, KindFits, HasNames, IsNamedIn, HasByKind, IsRoot}
+use Rattle.afs_ideal.proofs.Basics.{some_of}
 use Rattle.afs_ideal.proofs.Counts.{each_map, none_pass}
 
 abbrev pub Map : Type 0

@@ -1,6 +1,6 @@
 -- Rename leaves a sound volume sound: a target that is replaced goes first, then the name moves.
-use Rattle.std.proofs.Common.{◌≡◌, ℕ, zero, suc, ◌+◌, ◌-◌, ◌<◌, ◌≤◌, Bool, true, false, cond, eqb, ltb, not, List, [], ◌∷◌, ◌++◌, length, Option, Some, None, refl, sym, ap, subst, ◌∙◌, arith, eq-eqb, eqb-true, ltb-true, lt-ltb}
-use Rattle.std.specs.Prelude.{◌&&◌, ◌||◌, nat_lt, nat_eq, ⊤, is_some, ◌%◌, if◌then◌else◌, filter}
+use Rattle.std.proofs.Common.{◌≡◌, ℕ, zero, suc, ◌+◌, ◌<◌, ◌≤◌, Bool, true, false, cond, eqb, List, [], ◌∷◌, length, Option, Some, None, refl, sym, ap, subst, ◌∙◌, arith, eq-eqb, eqb-true}
+use Rattle.std.specs.Prelude.{nat_eq, ⊤, ◌%◌, filter}
 use Rattle.std.specs.List.{AllByRecursion}
 use Rattle.std.specs.Option.{option_map}
 use Rattle.std.specs.Str.{bytes_eq}
@@ -10,18 +10,18 @@ use Rattle.afs_num.specs.declared.types.Fid.{Fid}
 use Rattle.afs_num.specs.declared.directories.Name.{Name}
 use Rattle.afs_ideal.specs.Tables.{get}
 use Rattle.afs_ideal.specs.Directories.{most_names, named, with_name, without_name, add_refused}
-use Rattle.afs_ideal.specs.Volumes.{Kind, a_file, a_directory, a_link, Vnode, Volume, if_unique, vnode_of, Amend, Edit, amends, frees, or_old, amended, edited_all, edit_number, ascending, counted}
+use Rattle.afs_ideal.specs.Volumes.{Kind, a_file, a_directory, a_link, Vnode, Volume, vnode_of, Amend, Edit, amends, amended, edited_all, edit_number, ascending, counted}
 use Rattle.afs_ideal.specs.Operations.{is_kind, names_in, links_of, is_below, leads_up, no_amend, linked, renamed}
-use Rattle.afs_ideal.specs.Soundness.{names_of, names_directory, subdirectories, HasNames, IsNamedIn, IsRoot, IsSound}
-use Rattle.afs_ideal.proofs.Basics.{some_of, both}
+use Rattle.afs_ideal.specs.Soundness.{names_of, names_directory, HasNames, IsNamedIn, IsRoot, IsSound}
+use Rattle.afs_ideal.proofs.Basics.{some_of}
 use Rattle.afs_ideal.proofs.Tables.{get_below}
 use Rattle.afs_ideal.proofs.Directories.{same_is, named-without_name}
 use Rattle.afs_ideal.proofs.Counts.{one_if, without_none}
-use Rattle.afs_ideal.proofs.Maps.{Map, put, here, other, Own, Sound, Seen, Like, AreLike, like_itself}
+use Rattle.afs_ideal.proofs.Maps.{Map, put, here, other, Own, Sound, AreLike, like_itself}
 use Rattle.afs_ideal.proofs.Steps.{with_names, Held, holds, its_names, shorter, parity, room_for, renamed_to, within, moves_within, held_in, across, moves_across, taken}
 use Rattle.afs_ideal.proofs.Ranks.{Ranked, at, steps, leaf_rank, ranked_leaf, part_rank, ranked_part, below_is}
-use Rattle.afs_ideal.proofs.Looks.{one_edit, look, Distinct, no_makes, MakesAs, each_ascending, IsNoMake}
-use Rattle.afs_ideal.proofs.Kept.{as_map, as_ranked, has_parents, Found, KeepsBut, KeepsParent, IsPlain, holds_after, same_parents, plain_sound, plain_ranked, like_if, amended_like}
+use Rattle.afs_ideal.proofs.Looks.{one_edit, Distinct, no_makes, MakesAs, each_ascending, IsNoMake}
+use Rattle.afs_ideal.proofs.Kept.{as_map, as_ranked, has_parents, Found, IsPlain, holds_after, same_parents, plain_sound, plain_ranked, like_if, amended_like}
 use Rattle.afs_ideal.proofs.Comes.{not_itself}
 use Rattle.afs_ideal.proofs.Goes.{stays, unlinked, unlink_by, drops, unlinked_like, unlink_number, unlink_plain, unlink_keeps}
 

@@ -1,5 +1,5 @@
 -- Each accepted operation leaves a sound volume: its tests give what the case needs.
-use Rattle.std.proofs.Common.{◌≡◌, ℕ, zero, suc, ◌+◌, ◌-◌, ◌<◌, ◌≤◌, Bool, true, false, cond, eqb, ltb, not, List, [], ◌∷◌, ◌++◌, length, Option, Some, None, refl, sym, ap, subst, ◌∙◌, arith, eq-eqb, eqb-true, ltb-true}
+use Rattle.std.proofs.Common.{◌≡◌, ℕ, suc, ◌+◌, ◌-◌, ◌<◌, ◌≤◌, Bool, true, false, not, List, [], ◌∷◌, ◌++◌, length, Option, Some, None, refl, sym, ap, subst, ◌∙◌, arith, eq-eqb, eqb-true, ltb-true}
 use Rattle.std.specs.Prelude.{◌&&◌, ◌||◌, nat_lt, nat_eq, ⊤, is_some, is_ok, ◌%◌, if◌then◌else◌, Ok, Err}
 use Rattle.std.specs.Prelude as std_result
 use Rattle.std.specs.List.{AllByRecursion}
@@ -7,14 +7,13 @@ use Rattle.std.specs.Str.{bytes_eq}
 use Rattle.afs_num.specs.Names.{name_ok}
 use Rattle.afs_num.specs.declared.types.Fid.{Fid}
 use Rattle.afs_num.specs.declared.acls.AccessList.{AccessList}
-use Rattle.afs_num.specs.declared.calls.AfsStoreStatus.{AfsStoreStatus}
 use Rattle.afs_num.specs.declared.calls.FsCall.{FsCall}
 use Rattle.afs_num.specs.declared.calls.FsCall.TheVariants as calls
 use Rattle.afs_num.specs.declared.directories.Name.{Name}
 use Rattle.afs_ideal.specs.Tables.{get, lowest_free}
 use Rattle.afs_ideal.specs.AccessLists.{Refusal, IsAccessList, acl_at}
-use Rattle.afs_ideal.specs.Directories.{most_names, named, with_name, without_name, add_refused}
-use Rattle.afs_ideal.specs.Volumes.{Kind, a_file, a_directory, a_link, Vnode, Volume, if_unique, vnode_of, Amend, Edit, amends, or_old, edited_all, edit_number, placed, ascending, counted}
+use Rattle.afs_ideal.specs.Directories.{most_names, named, without_name, add_refused}
+use Rattle.afs_ideal.specs.Volumes.{Kind, a_file, a_directory, a_link, Vnode, Volume, if_unique, vnode_of, Edit, amends, or_old, edited_all, edit_number, placed, ascending, counted}
 use Rattle.afs_ideal.specs.Operations as ops
 use Rattle.afs_ideal.specs.Operations.{Caller, Result, changes, first_failing, tests, effect, is_kind, kind_is, is_directory, names_in, links_of, acl_of, acl_read, named_vnode, number_named, vnode_in, name_in, implies, is_mask, is_empty, same_vnode, is_below, may_link, may_move, is_same_name, has_room_for, kinds_agree, rename_rights, rename_tests, free_number, new_file, new_link, new_directory, creating, removing, linking, renaming, unlinks, linked, op}
 use Rattle.afs_ideal.specs.Soundness.{names_directory, IsSound}
@@ -23,18 +22,18 @@ use Rattle.afs_ideal.proofs.Basics.{some_of, both, yes_no}
 use Rattle.afs_ideal.proofs.AccessLists.{read_is_text}
 use Rattle.afs_ideal.proofs.Tables.{free_is_free, free_parity, free_from}
 use Rattle.afs_ideal.proofs.Counts.{one_if}
-use Rattle.afs_ideal.proofs.Maps.{Sound, Own}
 use Rattle.afs_ideal.proofs.Steps.{Held, holds, its_names, parity, room_for}
-use Rattle.afs_ideal.proofs.Ranks.{at, steps}
-use Rattle.afs_ideal.proofs.Kept.{as_map, as_ranked, Found, finds, kind_found, status_sound, data_sound, acl_sound}
-use Rattle.afs_ideal.proofs.Comes.{may_add, file_own, link_own, directory_own, creates_sound, links_sound, not_itself}
-use Rattle.afs_ideal.proofs.Goes.{stays, unlink_by, unlinks_is, removes_sound}
+use Rattle.afs_ideal.proofs.Maps.{differ}
+use Rattle.afs_ideal.proofs.Ranks.{at}
+use Rattle.afs_ideal.proofs.Kept.{as_map, Found, finds, kind_found, status_sound, data_sound, acl_sound}
+use Rattle.afs_ideal.proofs.Comes.{may_add, file_own, link_own, directory_own, creates_sound, links_sound}
+use Rattle.afs_ideal.proofs.Goes.{no_directory, stays, unlink_by, unlinks_is, removes_sound}
 use Rattle.afs_ideal.proofs.Moves.{two_links, within_sound, within_replaced, across_sound, across_replaced, MayStandIn, below_itself}
 use Rattle.afs_ideal.proofs.Scopes.{accepted, all_pass, implied, read_is_none, statuses_none}
 
 -- ---- edits of a result
 
-same_edits : (ds es : List Edit) (m n : ℕ) → changes ds m ≡ changes es n → ds ≡ es
+pub same_edits : (ds es : List Edit) (m n : ℕ) → changes ds m ≡ changes es n → ds ≡ es
 same_edits ds es m n e = cc
 
 placed_long : (b : Bool) (e d : Edit) (ds : List Edit) → 0 < length (if b then d ∷ placed e ds else e ∷ d ∷ ds)
@@ -120,11 +119,6 @@ removal_is d name links v x m y g =
     ap (λ (es : List Edit). removal d name links v ∷ es)
     (ap (λ (o : Option Name). unlinks (number_named o) (named_vnode v o)) g.name_is ∙ (ap (unlinks m.vnode) g.vnode ∙ unlinks_is m.vnode y (stays y) refl))
 
-not_kind : (k : Kind) → not (is_kind k a_directory) ≡ true → k ≡ a_directory → ⊥
-not_kind a_file e f = absurd cc
-not_kind a_directory e f = absurd cc
-not_kind a_link e f = absurd cc
-
 kind_one : (k : Kind) → k ≡ a_directory → one_if (is_kind k a_directory) ≡ 1
 kind_one k e = rw e refl
 
@@ -151,7 +145,7 @@ file_removed id caller d name v h p =
     let g = gives d name v i.0 m.0 h i.1.found m.1 in
     let other_kind : not (is_kind g.0.kind a_directory) ≡ true = subst (λ (o : Option Vnode). not (is_directory o) ≡ true) (in_directory d name v i.0 m.0 g.0 g.1) p.1.1.0 in
     let nothing = kind_none (is_kind g.0.kind a_directory) other_kind in
-    removed id d name None i.0 m.0 g.0 v h i.1 g.1 (λ e. absurd (not_kind g.0.kind other_kind e)) (omega (arith, nothing))
+    removed id d name None i.0 m.0 g.0 v h i.1 g.1 (λ e. absurd (no_directory g.0.kind other_kind e)) (omega (arith, nothing))
 
 directory_removed : (id : ℕ) (caller : Caller) (d : Fid) (name : List ℕ) (v : Volume) → IsSound v → Pass (tests caller (calls.RemoveDir d name) v) → IsSound (counted (edited_all id (ascending (removing d name (Some (links_of (vnode_of d v) - 1)) v)) v))
 directory_removed id caller d name v h p =
@@ -254,9 +248,6 @@ few_by true c d e m y v k is ne h file = absurd (file (kind_is_directory y.kind 
 few_by false true d e m y v k is ne h file = absurd cc
 few_by false false d e m y v k is ne h file = ltb-true y.links 2 h
 
-apart_numbers : (a b : ℕ) → nat_eq a b ≡ false → a ≡ b → ⊥
-apart_numbers a b e same = yes_no (nat_eq a b) (eq-eqb a b same) e
-
 -- the vnode that moves isn't the directory to which it does
 not_there_by : (b : Bool) (e : Fid) (t : ℕ) (y z : Vnode) (v : Volume) → is_kind y.kind a_directory ≡ b → MayStandIn e.vnode t v b → get t v.vnodes ≡ Some y → get e.vnode v.vnodes ≡ Some z → z.kind ≡ a_directory → t ≡ e.vnode → ⊥
 not_there_by true e t y z v k out at_t at_e dir same = yes_no (is_below e.vnode t v) (subst (λ (n : ℕ). is_below n t v ≡ true) same (below_itself t v y at_t)) out
@@ -291,7 +282,7 @@ moved_across id d e old new v x z m y None h r is apart =
     let room = room_by (nat_eq d.vnode e.vnode) (name_in e new v) (length (names_in (vnode_of e v))) apart is long in
     let few_names : length z.names < most_names = subst (λ (k : Option Vnode). length (names_in k) < most_names) r.to.found.found room in
     subst (λ (k : Option Vnode). IsSound (counted (edited_all id (ascending (ops.renames_across d e m old new (is_directory k) None v ++ [])) v))) (sym g.vnode)
-    (across_sound id d e old new m x z y v h r.from.found r.from.directory r.to.found r.to.directory (apart_numbers d.vnode e.vnode apart) g.named (room_for new z.names r.good none few_names) none g.held
+    (across_sound id d e old new m x z y v h r.from.found r.from.directory r.to.found r.to.directory (differ d.vnode e.vnode apart) g.named (room_for new z.names r.good none few_names) none g.held
     (not_there_by (is_kind y.kind a_directory) e m.vnode y z v refl out g.held.there r.to.found.there r.to.directory) out
     (few_by (is_kind y.kind a_directory) (nat_eq d.vnode e.vnode) d e m y v refl refl apart r.moves)
     (ap names_in r.from.found.found) (ap links_of r.from.found.found) (ap names_in r.to.found.found) (ap links_of r.to.found.found))
@@ -305,7 +296,7 @@ moved_across id d e old new v x z m y (Some w) h r is apart =
     subst (λ (q : Option Vnode). IsSound (counted (edited_all id (ascending (ops.renames_across d e m old new (is_directory q) (named_vnode v (Some w)) v ++ unlinks w.vnode (named_vnode v (Some w)))) v))) (sym g.vnode)
     (subst (λ (q : Option Vnode). IsSound (counted (edited_all id (ascending (ops.renames_across d e m old new (is_directory (Some y)) q v ++ unlinks w.vnode q)) v))) (sym k.1.vnode)
     (subst (λ (es : List Edit). IsSound (counted (edited_all id (ascending (ops.renames_across d e m old new (is_directory (Some y)) (Some t) v ++ es)) v))) (sym (unlinks_is w.vnode t (stays t) refl))
-    (across_replaced id d e old new m w x z y t v (stays t) refl h r.from.found r.from.directory r.to.found r.to.directory (apart_numbers d.vnode e.vnode apart) g.named r.good k.1.named g.held k.1.held (λ q. no_length t.names empty)
+    (across_replaced id d e old new m w x z y t v (stays t) refl h r.from.found r.from.directory r.to.found r.to.directory (differ d.vnode e.vnode apart) g.named r.good k.1.named g.held k.1.held (λ q. no_length t.names empty)
     (not_same_by m w y t v g.held.there g.held.unique k.1.held.there k.1.held.unique differs)
     (not_there_by (is_kind y.kind a_directory) e m.vnode y z v refl out g.held.there r.to.found.there r.to.directory) out
     (few_by (is_kind y.kind a_directory) (nat_eq d.vnode e.vnode) d e m y v refl refl apart r.moves)
@@ -383,7 +374,7 @@ kept_by id caller (calls.CreateFile d name status) v es n h p e =
     let above : 2 ≤ lowest_free 2 v.vnodes = free_from 2 v.vnodes in
     leaves_sorted id (creating d name status None (new_file d) v) es (free_number a_file v) n v e (omega arith)
     (creates_sound id d name status None (new_file d) x v h i.1.found i.1.directory (named_ok name d v x (is_mask status) i.1.found p.1.1.1.1) (free_is_free 1 2 v.vnodes h.ascending) (omega (arith, above)) refl refl refl (refl, omega arith)
-    (file_own (lowest_free 2 v.vnodes) 0 d 420 1 [] v status even) (even_none (lowest_free 2 v.vnodes) x.links even) (ap names_in i.1.found.found))
+    (file_own (lowest_free 2 v.vnodes) d 420 1 [] v status even) (even_none (lowest_free 2 v.vnodes) x.links even) (ap names_in i.1.found.found))
 kept_by id caller (calls.Symlink d name target status) v es n h p e =
     let i = into d v p.0 p.1.0 in
     let x : Vnode = i.0 in
@@ -391,7 +382,7 @@ kept_by id caller (calls.Symlink d name target status) v es n h p e =
     let above : 2 ≤ lowest_free 2 v.vnodes = free_from 2 v.vnodes in
     leaves_sorted id (creating d name status None (new_link d target) v) es (free_number a_link v) n v e (omega arith)
     (creates_sound id d name status None (new_link d target) x v h i.1.found i.1.directory (named_ok name d v x (is_mask status) i.1.found p.1.1.1.1) (free_is_free 1 2 v.vnodes h.ascending) (omega (arith, above)) refl refl refl (refl, omega arith)
-    (link_own (lowest_free 2 v.vnodes) 0 d 511 1 target v status even) (even_none (lowest_free 2 v.vnodes) x.links even) (ap names_in i.1.found.found))
+    (link_own (lowest_free 2 v.vnodes) d 511 1 target v status even) (even_none (lowest_free 2 v.vnodes) x.links even) (ap names_in i.1.found.found))
 kept_by id caller (calls.MakeDir d name status) v es n h p e =
     let i = into d v p.0 p.1.0 in
     let x : Vnode = i.0 in
@@ -403,7 +394,7 @@ kept_by id caller (calls.MakeDir d name status) v es n h p e =
     let many : links_of (vnode_of d v) + 1 ≡ x.links + 1 = ap (λ (o : Option Vnode). links_of o + 1) i.1.found.found in
     leaves_sorted id (creating d name status links (new_directory d acl) v) es (free_number a_directory v) n v e (omega arith)
     (creates_sound id d name status links (new_directory d acl) x v h i.1.found i.1.directory (named_ok name d v x (is_mask status) i.1.found p.1.1.1.1) (free_is_free 1 3 v.vnodes h.ascending) (omega (arith, above)) refl refl refl refl
-    (directory_own (lowest_free 3 v.vnodes) 0 d 493 acl v status odd inherited) (many ∙ odd_one (lowest_free 3 v.vnodes) x.links odd) (ap names_in i.1.found.found))
+    (directory_own (lowest_free 3 v.vnodes) d 493 acl v status odd inherited) (many ∙ odd_one (lowest_free 3 v.vnodes) x.links odd) (ap names_in i.1.found.found))
 kept_by id caller (calls.RemoveDir d name) v es n h p e = leaves_sorted id (removing d name (Some (links_of (vnode_of d v) - 1)) v) es d.vnode n v e (omega arith) (directory_removed id caller d name v h p)
 kept_by id caller (calls.Link d name f) v es n h p e = leaves_sorted id (linking d name f v) es f.vnode n v e (omega arith) (linked_file id caller d name f v h p)
 kept_by id caller (calls.Rename d old e' new) v es n h p e = renamed_by (nat_eq e'.volume d.volume) id caller d e' old new v es n h p e

@@ -1,22 +1,20 @@
 -- What a change may touch: the vnodes that its edits name, and new ones.
-use Rattle.std.proofs.Common.{◌≡◌, ℕ, ◌+◌, ◌-◌, ◌<◌, ◌≤◌, ◌⊎◌, inl, inr, Bool, true, false, cond, eqb, ltb, not, List, [], ◌∷◌, ◌++◌, Option, Some, None, refl, sym, ap, subst, ◌∙◌, arith, eq-eqb, eqb-true}
+use Rattle.std.proofs.Common.{◌≡◌, ℕ, ◌+◌, ◌-◌, ◌≤◌, ◌⊎◌, inl, inr, Bool, true, false, cond, eqb, List, [], ◌∷◌, ◌++◌, Option, Some, None, refl, sym, ap, subst, ◌∙◌, arith, eq-eqb, eqb-true}
 use Rattle.std.specs.Prelude.{◌&&◌, ◌||◌, nat_eq, nat_lt, is_some, if◌then◌else◌}
 use Rattle.std.specs.List.{AllByRecursion}
 use Rattle.afs_num.specs.Names.{name_ok}
 use Rattle.afs_num.specs.Fids.{same_fid}
 use Rattle.afs_num.specs.declared.types.Fid.{Fid}
-use Rattle.afs_num.specs.declared.acls.AccessList.{AccessList}
 use Rattle.afs_num.specs.declared.calls.FsCall.{FsCall}
 use Rattle.afs_num.specs.declared.calls.FsCall.TheVariants as calls
-use Rattle.afs_num.specs.declared.directories.Name.{Name}
 use Rattle.afs_num.specs.declared.histories.Version.{Version}
-use Rattle.afs_ideal.specs.Tables.{get, set, unset}
-use Rattle.afs_ideal.specs.Volumes.{a_file, a_directory, a_link, Vnode, Volume, if_unique, vnode_of, Edit, amends, makes, frees, Amend, amended, fresh, amends_at, makes_at, frees_at, edited, edited_all, versions_by, placed, ascending, edit_number}
+use Rattle.afs_ideal.specs.Tables.{get}
+use Rattle.afs_ideal.specs.Volumes.{a_file, a_directory, a_link, Vnode, Volume, if_unique, vnode_of, Edit, amends, makes, frees, Amend, amended, fresh, amends_at, makes_at, frees_at, edited, versions_by, placed, ascending, edit_number}
 use Rattle.afs_ideal.specs.Operations as ops
 use Rattle.afs_ideal.specs.Operations.{Caller, Result, changes, first_failing, tests, effect, limits, limited, by_tests, implies, may_link, Found, Shown, op, IsOn}
 use Rattle.afs_ideal.specs.Told.{touches, fid_at}
 use Rattle.afs_ideal.specs.ChangeLaws.{is_in_scope}
-use Rattle.afs_ideal.proofs.Basics.{both, both_true, same_fid-true, same_fid-refl, some_of}
+use Rattle.afs_ideal.proofs.Basics.{both, both_true, same_fid-true, some_of}
 use Rattle.afs_ideal.proofs.Tables.{get_set, get_unset}
 
 -- ---- an accepted change: its tests pass, and it is the effect

@@ -1,6 +1,6 @@
 //! Laws about sound volumes. Each is the contract of a function that does nothing.
 
-ghost use Rattle.afs_ideal.specs.SoundnessLaws.{NewVolumesAreSound, OperationsLeaveSound, SetUpLeavesSound};
+ghost use Rattle.afs_ideal.specs.SoundnessLaws.{NewVolumesAreSound, OperationsLeaveSound, SetUpLeavesSound, SoundAreReadAgain};
 
 /// An accepted operation makes at least one edit, and leaves a sound volume sound.
 pub fn operations_leave_sound()
@@ -15,4 +15,9 @@ pub fn new_volumes_are_sound()
 /// What is laid at set-up leaves a sound volume sound.
 pub fn set_up_leaves_sound()
     ensures { SetUpLeavesSound }
+{}
+
+/// A vnode of a sound volume is what its image is read as, where its words and lengths are within an image's.
+pub fn sound_are_read_again()
+    ensures { SoundAreReadAgain }
 {}
