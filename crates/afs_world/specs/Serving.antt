@@ -8,8 +8,9 @@ use Rattle.afs_num.specs.declared.types.Node.{Node}
 use Rattle.afs_num.specs.declared.types.Head.{Head}
 use Rattle.afs_num.specs.declared.states.StoredFile.{StoredFile}
 use Rattle.afs_num.specs.declared.histories.Line.TheVariants as lines
-use Rattle.afs_num.specs.declared.calls.FsCall.{FsCall}
+use Rattle.afs_num.specs.declared.messages.Call.{Call}
 use Rattle.afs_num.specs.declared.calls.FsCall.TheVariants as calls
+use Rattle.afs_num.specs.declared.messages.Call.TheVariants as ask
 use Rattle.afs_num.specs.declared.messages.Carried.{Carried}
 use Rattle.afs_num.specs.declared.messages.Carried.TheVariants as carried
 use Rattle.afs_num.specs.declared.messages.Message.{Message}
@@ -95,9 +96,9 @@ saved_step me s place head file = record {
 -- ---- limits
 
 -- a call that is served stands under its opcode, and contents are within their limit
-abbrev pub IsSoundCall : ℕ → FsCall → Type 0
-IsSoundCall opcode (calls.FetchData fid position count) = opcode ≡ fetch_data
-IsSoundCall opcode (calls.StoreData fid status position count file_length contents) = (opcode ≡ store_data) × (length contents ≤ contents_limit)
+abbrev pub IsSoundCall : ℕ → Call → Type 0
+IsSoundCall opcode (ask.File (calls.FetchData fid position count)) = opcode ≡ fetch_data
+IsSoundCall opcode (ask.File (calls.StoreData fid status position count file_length contents)) = (opcode ≡ store_data) × (length contents ≤ contents_limit)
 IsSoundCall opcode call = Unit {0}
 
 abbrev pub CarriesSound : ℕ → Carried → Type 0
