@@ -1,0 +1,11 @@
+use crate::faults::OpFault;
+use afs_num::types::Code;
+
+/// The refusal with this code, where the test fails.
+pub fn check(holds: bool, code: u16) -> Result<(), OpFault> {
+    if holds {
+        Ok(())
+    } else {
+        Err(OpFault::Code(Code(i32::from(code))))
+    }
+}
