@@ -4,12 +4,14 @@
 mod callers;
 mod changes;
 mod checks;
+mod creating;
 pub mod edits;
 pub mod faults;
 mod finding;
 mod making;
 mod naming;
 mod operations;
+mod removing;
 mod renaming;
 mod replies;
 mod volume;

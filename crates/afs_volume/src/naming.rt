@@ -1,31 +1,60 @@
-//! Operations that add and remove names.
+//! Names that operations add and remove, and the order of their edits.
 
-use crate::Volume;
-use crate::callers::Caller;
+ghost use Rattle.std.specs.Prelude.{◌≡◌, ◌∷◌, [], Some, None, true, false, is_some, IfOk, IfErr, OnOk, ◌×◌, ◌++◌};
+ghost use Rattle.std.specs.Option.{option_copied, option_map};
+ghost use Rattle.afs_ideal.specs.Directories.{named, with_name, without_name};
+ghost use Rattle.afs_ideal.specs.Operations.{adds_name, first_failing, name_of, no_amend, unlinks};
+ghost use Rattle.afs_ideal.specs.Volumes.{amends, ascending, placed};
+ghost use Rattle.afs_volume.specs.Giving.{edit_seen, edits_seen, IsRefused, Passes};
+ghost use Rattle.afs_volume.specs.Seen.{seen};
+
 use crate::checks::check;
 use crate::edits::{Amend, Edit, Edits, Plan};
 use crate::faults::OpFault;
-use crate::finding::{DIRECTORY, FILE, is_directory, names_of};
-use crate::making::{new_directory, new_file, new_link, set_status};
-use crate::operations::is_mask;
+use crate::finding::is_directory;
+use crate::making::spelled;
 use afs_dir::{Dir, DirFault};
-use afs_num::calls::AfsStoreStatus;
-use afs_num::sequences::Octets;
-use afs_num::types::{Fid, Mem};
+use afs_num::types::{Code, Mem};
 use afs_num::vnodes::Vnode;
 use std::alloc::{AllocError, Global};
 
-impl From<DirFault> for OpFault {
-    fn from(fault: DirFault) -> OpFault {
-        match fault {
-            DirFault::Code(code) => OpFault::Code(code),
-            _ => OpFault::OutOfMemory,
-        }
+/// Adds a name: 22 where it is none or something else is bad, 17 where it is there, 27 where there are too many.
+#[tactic(auto, using(crate::proofs::Naming::added_by))]
+pub fn add_name(
+    names: &mut Dir,
+    name: &[u8],
+    vnode: u32,
+    unique: u32,
+    good: bool,
+) -> Result<(), OpFault>
+    ensures answer { Passes (first_failing (adds_name name.now names.old good)) result }
+    ensures ok { OnOk result (names.new ≡ with_name (name_of name.now vnode unique) names.old) }
+{
+    check(good, 22)?;
+    match names.add(name, vnode, unique) {
+        Ok(()) => Ok(()),
+        Err(DirFault::Code(code)) => Err(OpFault::Code(code)),
+        Err(_) => Err(OpFault::OutOfMemory),
+    }
+}
+
+/// Removes a name: 2 where it isn't there.
+pub fn remove_name(names: &mut Dir, name: &[u8]) -> Result<(), OpFault>
+    ensures there { OnOk result (is_some (named name.now names.old) ≡ true) }
+    ensures ok { OnOk result (names.new ≡ without_name name.now names.old) }
+    ensures absent { IfErr result (λ e. (is_some (named name.now names.old) ≡ false) × IsRefused 2 e) }
+{
+    match names.remove(name) {
+        Ok(_) => Ok(()),
+        Err(_) => Err(OpFault::Code(Code(2))),
     }
 }
 
 /// The edit in its place among those that stand by ascending vnode.
-fn put_in_place(edits: &mut Vec<Edit>, edit: Edit) -> Mem<()> {
+#[tactic(auto, using(crate::proofs::Naming::put_in_place))]
+fn put_in_place(edits: &mut Vec<Edit>, edit: Edit) -> Mem<()>
+    ensures { OnOk result (edits_seen edits.new.items ≡ placed (edit_seen edit) (edits_seen edits.old.items)) }
+{
     let number = edit.number();
     let place = edits.iter().take_while(|e| e.number() < number).count();
     match edits.insert(place, edit) {
@@ -35,7 +64,9 @@ fn put_in_place(edits: &mut Vec<Edit>, edit: Edit) -> Mem<()> {
 }
 
 /// The edits by ascending vnode.
-pub fn ascending(alloc: Global, edits: Edits) -> Mem<Edits> {
+pub fn ascending(alloc: Global, edits: Edits) -> Mem<Edits>
+    ensures { IfOk result (λ es. edits_seen es ≡ ascending (edits_seen edits)) }
+{
     let mut left = edits.into_vec();
     let mut placed = Vec::new(alloc);
     while let Some(edit) = left.pop() {
@@ -45,178 +76,52 @@ pub fn ascending(alloc: Global, edits: Edits) -> Mem<Edits> {
 }
 
 /// One name of a file or link less; without its last one it goes.
-pub fn unlink(number: u32, x: &Vnode) -> Edit {
-    if x.kind != DIRECTORY && 1 < x.link_count {
+#[tactic(auto, unfolding(crate::specs::Seen::seen))]
+fn unlink(number: u32, x: &Vnode) -> Edit
+    ensures { edit_seen result ∷ [] ≡ unlinks number (Some (seen x.now)) }
+{
+    if !is_directory(x) && 1 < x.link_count {
         Edit::Amends(number, Amend::with_links(u64::from(x.link_count) - 1))
     } else {
         Edit::Frees(number)
     }
 }
 
-/// The number that a name names, 0 where it isn't there.
-pub fn number_named(name: Option<(u32, u32)>) -> u32 {
-    match name {
-        Some((number, _)) => number,
-        None => 0,
+/// Appends what becomes of the vnode that loses a name, where there is one.
+pub fn push_unlink(edits: &mut Edits, number: u32, target: Option<&Vnode>) -> Mem<()>
+    ensures { OnOk result (edits_seen edits.new ≡ edits_seen edits.old ++ unlinks number (option_map seen (option_copied target))) }
+{
+    match target {
+        Some(x) => edits.push(unlink(number, x)),
+        None => Ok(()),
     }
 }
 
-/// A further name is given to a file alone, and in its own directory.
-fn may_link(d: &Fid, x: &Vnode) -> bool {
-    x.kind == FILE && x.parent_vnode == d.vnode && x.parent_unique == d.unique
+/// Appends other names of a directory.
+pub fn push_names(edits: &mut Edits, d: u32, names: &Dir, links: Option<u64>) -> Mem<()>
+    ensures { OnOk result (edits_seen edits.new ≡ edits_seen edits.old ++ amends d (record no_amend { names = Some names.now; links = links }) ∷ []) }
+{
+    let bytes = spelled(names)?;
+    edits.push(Edit::Amends(d, Amend::with_names(bytes, links)))
 }
 
-/// One name less in a directory, and the vnode that it named without that name.
-fn removes(
+/// A name less in a directory, and the vnode that it named without that name.
+pub fn removes(
     alloc: Global,
     d: u32,
     names: &Dir,
     links: Option<u64>,
     number: u32,
     target: Option<&Vnode>,
-) -> Mem<Plan> {
+) -> Mem<Plan>
+    ensures edits { IfOk result (λ p. edits_seen p.edits ≡ ascending (amends d (record no_amend { names = Some names.now; links = links }) ∷ unlinks number (option_map seen (option_copied target)))) }
+    ensures shown { IfOk result (λ p. p.shown ≡ d) }
+{
     let mut edits = Edits::new(alloc);
-    edits.push(Edit::Amends(d, Amend::with_names(names.to_bytes()?, links)))?;
-    if let Some(x) = target {
-        edits.push(unlink(number, x))?;
-    }
+    push_names(&mut edits, d, names, links)?;
+    push_unlink(&mut edits, number, target)?;
     Ok(Plan {
         edits: ascending(alloc, edits)?,
         shown: d,
     })
-}
-
-impl Volume {
-    /// A new vnode and its name: 22, 17, 27.
-    fn creates(
-        &self,
-        d: &Vnode,
-        name: &[u8],
-        status: &AfsStoreStatus,
-        links: Option<u64>,
-        made: Vnode,
-    ) -> Result<Plan, OpFault> {
-        check(is_mask(status), 22)?;
-        let number = self.vnodes.lowest_free(made.kind == DIRECTORY);
-        let mut names = names_of(self.alloc, d)?;
-        names.add(name, number, self.head.unique)?;
-        let mut made = made;
-        set_status(&mut made, status);
-        let mut edits = Edits::new(self.alloc);
-        edits.push(Edit::Amends(
-            d.vnode,
-            Amend::with_names(names.to_bytes()?, links),
-        ))?;
-        edits.push(Edit::Makes(number, made))?;
-        Ok(Plan {
-            edits: ascending(self.alloc, edits)?,
-            shown: number,
-        })
-    }
-
-    pub(crate) fn create_file(
-        &self,
-        caller: &Caller,
-        fid: &Fid,
-        name: &[u8],
-        status: &AfsStoreStatus,
-    ) -> Result<Plan, OpFault> {
-        let d = self.changed_directory(caller, 4, fid)?;
-        self.creates(d, name, status, None, new_file(self.alloc, fid))
-    }
-
-    pub(crate) fn symlink(
-        &self,
-        caller: &Caller,
-        fid: &Fid,
-        name: &[u8],
-        target: &Octets,
-        status: &AfsStoreStatus,
-    ) -> Result<Plan, OpFault> {
-        let d = self.changed_directory(caller, 4, fid)?;
-        let made = new_link(self.alloc, fid, target)?;
-        self.creates(d, name, status, None, made)
-    }
-
-    pub(crate) fn make_dir(
-        &self,
-        caller: &Caller,
-        fid: &Fid,
-        name: &[u8],
-        status: &AfsStoreStatus,
-    ) -> Result<Plan, OpFault> {
-        let d = self.changed_directory(caller, 4, fid)?;
-        let made = new_directory(self.alloc, fid, &d.acl)?;
-        self.creates(d, name, status, Some(u64::from(d.link_count) + 1), made)
-    }
-
-    pub(crate) fn remove_file(
-        &self,
-        caller: &Caller,
-        fid: &Fid,
-        name: &[u8],
-    ) -> Result<Plan, OpFault> {
-        let d = self.found_directory(fid)?;
-        let mut names = names_of(self.alloc, d)?;
-        let named = names.find(name);
-        let target = self.named(named);
-        check(!is_directory(target), 21)?;
-        self.check_writable()?;
-        self.check_right(caller, 16, d)?;
-        names.remove(name)?;
-        Ok(removes(self.alloc, d.vnode, &names, None, number_named(named), target)?)
-    }
-
-    pub(crate) fn remove_dir(
-        &self,
-        caller: &Caller,
-        fid: &Fid,
-        name: &[u8],
-    ) -> Result<Plan, OpFault> {
-        let d = self.found_directory(fid)?;
-        let mut names = names_of(self.alloc, d)?;
-        let named = names.find(name);
-        let target = self.named(named);
-        check(named.is_none() || is_directory(target), 20)?;
-        self.check_writable()?;
-        self.check_right(caller, 16, d)?;
-        names.remove(name)?;
-        check(self.is_empty(target)?, 39)?;
-        let links = u64::from(d.link_count).saturating_sub(1);
-        Ok(removes(self.alloc, d.vnode, &names, Some(links), number_named(named), target)?)
-    }
-
-    pub(crate) fn link(
-        &self,
-        caller: &Caller,
-        fid: &Fid,
-        name: &[u8],
-        existing: &Fid,
-    ) -> Result<Plan, OpFault> {
-        let d = self.found(fid)?;
-        let is_here = existing.volume == fid.volume;
-        let x = self.vnode(existing);
-        check(!is_here || x.is_some(), 102)?;
-        check(d.kind == DIRECTORY, 20)?;
-        self.check_writable()?;
-        self.check_right(caller, 4, d)?;
-        let Some(x) = x else {
-            return Err(check_elsewhere());
-        };
-        check(is_here && may_link(fid, x), 22)?;
-        let mut names = names_of(self.alloc, d)?;
-        names.add(name, existing.vnode, existing.unique)?;
-        let mut edits = Edits::new(self.alloc);
-        edits.push(Edit::Amends(d.vnode, Amend::with_names(names.to_bytes()?, None)))?;
-        edits.push(Edit::Amends(existing.vnode, Amend::with_links(u64::from(x.link_count) + 1)))?;
-        Ok(Plan {
-            edits: ascending(self.alloc, edits)?,
-            shown: existing.vnode,
-        })
-    }
-}
-
-/// 22: what is linked to stands in another volume.
-fn check_elsewhere() -> OpFault {
-    OpFault::Code(afs_num::types::Code(22))
 }

@@ -1,3 +1,7 @@
+ghost use Rattle.std.specs.Prelude.{◌≡◌};
+ghost use Rattle.afs_ideal.specs.Volumes.{blocks_in};
+ghost use Rattle.afs_volume.specs.Seen.{all_seen, AreReadable};
+
 use crate::callers::Caller;
 use crate::changes::blocks;
 use crate::checks::check;
@@ -20,6 +24,8 @@ pub struct Volume {
     pub(crate) head: VolumeHead,
     pub(crate) vnodes: VnodeStore,
     pub(crate) blocks: u32,
+    ghost readable: { AreReadable vnodes },
+    ghost counted: { blocks ≡ blocks_in (all_seen vnodes) },
 }
 
 impl Volume {

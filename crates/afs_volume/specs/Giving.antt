@@ -1,0 +1,104 @@
+-- What the calls on a volume give.
+use Rattle.std.specs.Prelude.{◌≡◌, ℕ, ℤ, pos, List, Option, Some, None, Result, Ok, Err, map, Bool, true, false, is_some, ◌×◌}
+use Rattle.std.specs.Option.{option_map}
+use Rattle.afs_num.specs.declared.acls.AccessList.{AccessList}
+use Rattle.afs_ideal.specs.AccessLists.{acl_at}
+use Rattle.afs_ideal.specs.Operations as op
+use Rattle.afs_ideal.specs.Operations.{Caller, the_user, all_rights, acl_read, refused, reads, changes}
+use Rattle.afs_ideal.specs.Volumes as ideal
+use Rattle.afs_volume.specs.Seen.{seen, names_spelled, volume_seen}
+use Rattle.afs_num.specs.declared.calls.FsCall.{FsCall}
+use Rattle.afs_num.specs.declared.vnodes.Vnode as image
+use Rattle.afs_volume.specs.declared.volume.Volume.{Volume}
+use Rattle.afs_volume.specs.declared.callers.Caller as callers
+use Rattle.afs_volume.specs.declared.callers.Caller.TheVariants as caller_kinds
+use Rattle.afs_volume.specs.declared.edits.Amend.{Amend}
+use Rattle.afs_volume.specs.declared.edits.Edit.{Edit}
+use Rattle.afs_volume.specs.declared.edits.Edit.TheVariants.{Amends, Makes, Frees}
+use Rattle.afs_volume.specs.declared.edits.Plan.{Plan}
+use Rattle.afs_volume.specs.declared.faults.OpFault.{OpFault}
+use Rattle.afs_volume.specs.declared.faults.OpFault.TheVariants as faults
+
+abbrev pub caller_seen : callers.Caller → Caller
+caller_seen (caller_kinds.User user) = the_user user.now
+caller_seen caller_kinds.AllRights = all_rights
+
+-- ---- refusals
+
+-- what is refused with this code, or isn't refused; memory may be wanting either way
+abbrev pub Passes : {A : Type 0} → Option ℕ → Result A OpFault → Type 0
+Passes {A} refusal (Ok x) = refusal ≡ None
+Passes {A} refusal (Err (faults.Code code)) = option_map pos refusal ≡ Some code.0
+Passes {A} refusal (Err faults.OutOfMemory) = Unit {0}
+
+-- ---- edits
+
+-- an access list by its text
+abbrev pub list_given : Option (List ℕ) → Option AccessList
+list_given None = None
+list_given (Some text) = acl_read (acl_at text)
+
+abbrev pub amend_seen : Amend → ideal.Amend
+amend_seen a = record {
+  contents = a.contents;
+  names = option_map names_spelled a.names;
+  links = a.links;
+  parent = a.parent;
+  status = a.status;
+  acl = list_given a.acl;
+}
+
+abbrev pub edit_seen : Edit → ideal.Edit
+edit_seen (Amends n a) = ideal.amends n (amend_seen a)
+edit_seen (Makes n x) = ideal.makes n (seen x)
+edit_seen (Frees n) = ideal.frees n
+
+abbrev pub edits_seen : List Edit → List ideal.Edit
+edits_seen es = map edit_seen es
+
+-- the code of a refusal
+abbrev pub refusal_of : op.Result → Option ℕ
+refusal_of (refused code) = Some code
+refusal_of (reads shown) = None
+refusal_of (changes es n) = None
+
+-- these edits are to be made, or the operation is refused
+abbrev pub Plans : op.Result → Result Plan OpFault → Type 0
+Plans r (Ok plan) = r ≡ changes (edits_seen plan.edits) plan.shown
+Plans r (Err (faults.Code code)) = option_map pos (refusal_of r) ≡ Some code.0
+Plans r (Err faults.OutOfMemory) = Unit {0}
+
+-- ---- volumes
+
+abbrev pub volume_of : Volume → ideal.Volume
+volume_of v = volume_seen v.head v.vnodes
+
+-- what an operation is to do, before its limits
+abbrev pub planned : Caller → FsCall → ideal.Volume → op.Result
+planned caller call v = op.by_tests (op.first_failing (op.tests caller call v)) (op.effect caller call v)
+
+-- a test that fails gives its code
+abbrev pub checked : Bool → ℕ → Result (Unit {0}) OpFault
+checked true code = Ok tt
+checked false code = Err (faults.Code (record { 0 = pos code }))
+
+-- the vnode that is found is this one, or there is none: 102
+abbrev pub Finds : {X : Type 0} → (X → image.Vnode) → Option ideal.Vnode → Result X OpFault → Type 0
+Finds {X} view found (Ok x) = found ≡ Some (seen (view x))
+Finds {X} view found (Err e) = (found ≡ None) × (e ≡ faults.Code (record { 0 = pos 102 }))
+
+-- the parts of a vnode that its status doesn't have stay
+pub record KeepsBody (old new : image.Vnode) : Type 0 where
+  pub vnode : new.vnode ≡ old.vnode
+  pub unique : new.unique ≡ old.unique
+  pub kind : new.kind ≡ old.kind
+  pub contents : new.contents ≡ old.contents
+  pub acl : new.acl ≡ old.acl
+
+-- a refusal with this code
+abbrev pub IsRefused : ℕ → OpFault → Type 0
+IsRefused code e = e ≡ faults.Code (record { 0 = pos code })
+
+-- the call may change a volume
+abbrev pub IsChange : FsCall → Type 0
+IsChange call = is_some (op.volume_changed call) ≡ true
