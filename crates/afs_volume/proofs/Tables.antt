@@ -1,11 +1,10 @@
 -- What is found in the vnodes of a volume as they are seen.
-use Rattle.std.proofs.Common.{◌≡◌, ℕ, Bool, true, false, List, [], ◌∷◌, Option, Some, None, map, nat_eq, nat_lt, ◌+◌, refl, subst, if◌then◌else◌}
+use Rattle.std.proofs.Common.{◌≡◌, ℕ, Bool, true, false, List, [], ◌∷◌, Option, Some, None, map, nat_eq, nat_lt, ◌+◌, refl, if◌then◌else◌}
 use Rattle.std.specs.Option.{option_map}
-use Rattle.std.specs.List.{AllByRecursion}
 use Rattle.afs_num.specs.declared.vnodes.Vnode as image
 use Rattle.afs_ideal.specs.Tables.{Table, get, lowest_free}
 use Rattle.afs_ideal.specs.Volumes as ideal
-use Rattle.afs_volume.specs.Seen.{seen, all_seen, IsReadable, AreReadable}
+use Rattle.afs_volume.specs.Seen.{seen, all_seen}
 
 got_by : (b : Bool) (x : image.Vnode) (o : Option image.Vnode) (p : Option ideal.Vnode) → p ≡ option_map seen o → (if b then Some (seen x) else p) ≡ option_map seen (if b then Some x else o)
 got_by true x o p e = refl
@@ -15,14 +14,6 @@ pub got : (n : ℕ) (t : Table image.Vnode) → get n (all_seen t) ≡ option_ma
 unfolding all_seen
 got n [] = refl
 got n (p ∷ ps) = got_by (nat_eq p.0 n) p.1 (get n ps) (get n (all_seen ps)) (got n ps)
-
-readable_by : (b : Bool) (x y : image.Vnode) (o : Option image.Vnode) → IsReadable x → (o ≡ Some y → IsReadable y) → (if b then Some x else o) ≡ Some y → IsReadable y
-readable_by true x y o is later e = subst IsReadable cc is
-readable_by false x y o is later e = later e
-
-pub readable : (n : ℕ) (t : Table image.Vnode) (x : image.Vnode) → AreReadable t → get n t ≡ Some x → IsReadable x
-readable n [] x all e = absurd cc
-readable n (p ∷ ps) x all e = readable_by (nat_eq p.0 n) p.1 x (get n ps) all.0 (readable n ps x all.1) e
 
 free_by : (b l : Bool) (n : ℕ) (x : image.Vnode) (m k : ℕ) → m ≡ k → (c d : ℕ) → c ≡ d → (if b then c else (if l then n else m)) ≡ (if b then d else (if l then n else k))
 free_by b l n x m k e c d f = rw (e, f) refl

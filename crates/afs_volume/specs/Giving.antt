@@ -1,5 +1,5 @@
 -- What the calls on a volume give.
-use Rattle.std.specs.Prelude.{◌≡◌, ℕ, ℤ, pos, List, Option, Some, None, Result, Ok, Err, map, Bool, true, false, is_some, ◌×◌}
+use Rattle.std.specs.Prelude.{◌≡◌, ℕ, ℤ, pos, List, [], ◌∷◌, Option, Some, None, Result, Ok, Err, map, Bool, true, false, is_some}
 use Rattle.std.specs.Option.{option_map}
 use Rattle.afs_num.specs.declared.acls.AccessList.{AccessList}
 use Rattle.afs_ideal.specs.AccessLists.{acl_at}
@@ -102,3 +102,8 @@ IsRefused code e = e ≡ faults.Code (record { 0 = pos code })
 -- the call may change a volume
 abbrev pub IsChange : FsCall → Type 0
 IsChange call = is_some (op.volume_changed call) ≡ true
+
+-- these edits put in their place among others, the last one first
+abbrev pub placed_among : List ideal.Edit → List ideal.Edit → List ideal.Edit
+placed_among [] ps = ps
+placed_among (e ∷ es) ps = ideal.placed e (placed_among es ps)

@@ -1,8 +1,7 @@
 -- How a volume in memory is seen as a volume of the definitions: the contents of a directory as its names, an access list by its
 -- text. The times of the server stay in the images of the vnodes.
-use Rattle.std.specs.Prelude.{◌≡◌, ℕ, ◌×◌, List, [], Bool, true, Option, Some, None, Result, Ok, Err, map, nat_eq, is_ok, if◌then◌else◌}
+use Rattle.std.specs.Prelude.{◌≡◌, ℕ, List, [], Bool, true, Option, Some, None, Result, Ok, Err, map, nat_eq, is_ok, if◌then◌else◌}
 use Rattle.std.specs.Option.{option_map}
-use Rattle.std.specs.List.{AllByRecursion}
 use Rattle.afs_num.specs.declared.acls.AccessList.{AccessList}
 use Rattle.afs_num.specs.declared.directories.Name.{Name}
 use Rattle.afs_num.specs.declared.vnodes.Vnode as image
@@ -11,7 +10,7 @@ use Rattle.afs_ideal.specs.AccessLists.{acl_at}
 use Rattle.afs_ideal.specs.Directories.{directory_of, directory_bytes}
 use Rattle.afs_ideal.specs.Operations.{no_acl}
 use Rattle.afs_ideal.specs.Replies.{type_of}
-use Rattle.afs_ideal.specs.Tables.{Table}
+use Rattle.afs_ideal.specs.Tables.{Table, get}
 use Rattle.afs_ideal.specs.Volumes.{Kind, a_file, a_directory, a_link, Vnode, Volume}
 
 -- ---- vnodes
@@ -89,10 +88,10 @@ volume_seen head t = record {
 -- ---- what every vnode of a volume keeps
 
 -- its kind is one; the contents of a directory spell its names, and its access list has a text
-pub record IsReadable (x : image.Vnode) : Type 0 where
-  pub kind : type_of (kind_seen x.kind) ≡ x.kind
-  pub names : kind_seen x.kind ≡ a_directory → directory_bytes (names_spelled x.contents) ≡ x.contents
-  pub list : kind_seen x.kind ≡ a_directory → is_ok (acl_at x.acl) ≡ true
+abbrev pub IsReadable : image.Vnode → Type 0
+IsReadable x =
+    (type_of (kind_seen x.kind) ≡ x.kind)
+    × ((kind_seen x.kind ≡ a_directory → directory_bytes (names_spelled x.contents) ≡ x.contents) × (kind_seen x.kind ≡ a_directory → is_ok (acl_at x.acl) ≡ true))
 
 abbrev pub AreReadable : Table image.Vnode → Type 0
-AreReadable t = AllByRecursion (λ (p : ℕ × image.Vnode). IsReadable p.1) t
+AreReadable t = (n : ℕ) (x : image.Vnode) → get n t ≡ Some x → IsReadable x

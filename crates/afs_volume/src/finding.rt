@@ -70,7 +70,7 @@ pub fn is_file(x: &Vnode) -> bool
 
 /// A vnode is there, and is a directory.
 pub fn is_directory_there(x: Option<&Vnode>) -> bool
-    ensures { result ≡ is_directory (option_map seen (option_copied x)) }
+    ensures { result ≡ is_directory (option_map seen (option_copied x.entry)) }
 {
     match x {
         Some(x) => is_directory(x),
@@ -81,7 +81,7 @@ pub fn is_directory_there(x: Option<&Vnode>) -> bool
 /// The rights of a caller by the list of this directory.
 #[tactic(auto, unfolding(crate::specs::Seen::seen, afs_ideal::specs::AccessLists::rights_of))]
 pub fn rights_in(alloc: Global, caller: &Caller, holder: Option<&Vnode>) -> Mem<u32>
-    ensures { IfOk result (λ r. r ≡ rights_by (caller_seen caller.now) (acl_of (option_map seen (option_copied holder)))) }
+    ensures { IfOk result (λ r. r ≡ rights_by (caller_seen caller.now) (acl_of (option_map seen (option_copied holder.entry)))) }
 {
     match (caller, holder) {
         (Caller::AllRights, _) => Ok(127),
@@ -95,7 +95,7 @@ pub fn rights_in(alloc: Global, caller: &Caller, holder: Option<&Vnode>) -> Mem<
 /// How many links a vnode has.
 #[tactic(auto, unfolding(crate::specs::Seen::seen))]
 pub fn links_of(x: &Vnode) -> u64
-    ensures { result ≡ (seen x.now).links }
+    ensures value { result ≡ (seen x.now).links }
     ensures small { result < 2 ^ 32 }
 {
     u64::from(x.link_count)
@@ -103,7 +103,7 @@ pub fn links_of(x: &Vnode) -> u64
 
 /// How many links a vnode has that may not be there.
 pub fn links_there(x: Option<&Vnode>) -> u64
-    ensures { result ≡ links_of (option_map seen (option_copied x)) }
+    ensures value { result ≡ links_of (option_map seen (option_copied x.entry)) }
     ensures small { result < 2 ^ 32 }
 {
     match x {
@@ -124,7 +124,7 @@ pub fn list_of(d: &Vnode) -> &Octets
 /// A further name is given to a file alone, and in its own directory.
 #[tactic(auto, unfolding(crate::specs::Seen::seen))]
 pub fn may_link(d: &Fid, x: Option<&Vnode>) -> bool
-    ensures { result ≡ may_link d.now (option_map seen (option_copied x)) }
+    ensures { result ≡ may_link d.now (option_map seen (option_copied x.entry)) }
 {
     match x {
         Some(x) => is_file(x) && x.parent_vnode == d.vnode && x.parent_unique == d.unique,
@@ -151,7 +151,7 @@ pub fn number_named(names: &Dir, name: &[u8]) -> u32
 
 impl Volume {
     /// The vnode of a number.
-    #[tactic(auto, using(crate::proofs::Tables::got, crate::proofs::Tables::readable))]
+    #[tactic(auto, using(crate::proofs::Tables::got))]
     pub(crate) fn get(&self, number: u32) -> Option<&Vnode>
         ensures value { option_copied result ≡ get number self.now.vnodes }
         ensures seen { option_map seen (option_copied result) ≡ get number (volume_of self.now).vnodes }
@@ -217,7 +217,7 @@ impl Volume {
     /// Whether a directory has no names, or isn't there.
     #[tactic(auto, unfolding(crate::specs::Seen::seen))]
     pub(crate) fn is_empty(&self, x: Option<&Vnode>) -> Mem<bool>
-        ensures { IfOk result (λ b. b ≡ is_empty (option_map seen (option_copied x))) }
+        ensures { IfOk result (λ b. b ≡ is_empty (option_map seen (option_copied x.entry))) }
     {
         match x {
             Some(x) if is_directory(x) => Ok(names_of(self.alloc, x)?.is_empty()),

@@ -2,7 +2,6 @@
 #![tactic(auto)]
 
 mod callers;
-mod changes;
 mod checks;
 mod creating;
 pub mod edits;
@@ -12,8 +11,6 @@ mod making;
 mod naming;
 mod operations;
 mod removing;
-mod renaming;
-mod replies;
 mod volume;
 
 pub use volume::Volume;

@@ -1,10 +1,11 @@
 //! Names that operations add and remove, and the order of their edits.
 
-ghost use Rattle.std.specs.Prelude.{◌≡◌, ◌∷◌, [], Some, None, true, false, is_some, IfOk, IfErr, OnOk, ◌×◌, ◌++◌};
+ghost use Rattle.std.specs.Prelude.{◌≡◌, ◌∷◌, [], Some, None, true, false, is_some, IfOk, IfErr, OnOk, ◌++◌, ◌≤◌, length, nat_lt};
+ghost use Rattle.std.specs.List.{prefix_len};
 ghost use Rattle.std.specs.Option.{option_copied, option_map};
 ghost use Rattle.afs_ideal.specs.Directories.{named, with_name, without_name};
 ghost use Rattle.afs_ideal.specs.Operations.{adds_name, first_failing, name_of, no_amend, unlinks};
-ghost use Rattle.afs_ideal.specs.Volumes.{amends, ascending, placed};
+ghost use Rattle.afs_ideal.specs.Volumes.{amends, ascending, edit_number, placed};
 ghost use Rattle.afs_volume.specs.Giving.{edit_seen, edits_seen, IsRefused, Passes};
 ghost use Rattle.afs_volume.specs.Seen.{seen};
 
@@ -16,10 +17,10 @@ use crate::making::spelled;
 use afs_dir::{Dir, DirFault};
 use afs_num::types::{Code, Mem};
 use afs_num::vnodes::Vnode;
-use std::alloc::{AllocError, Global};
+use std::alloc::Global;
 
 /// Adds a name: 22 where it is none or something else is bad, 17 where it is there, 27 where there are too many.
-#[tactic(auto, using(crate::proofs::Naming::added_by))]
+#[tactic(auto, using(crate::proofs::Placed::added_by))]
 pub fn add_name(
     names: &mut Dir,
     name: &[u8],
@@ -50,21 +51,33 @@ pub fn remove_name(names: &mut Dir, name: &[u8]) -> Result<(), OpFault>
     }
 }
 
+fn is_before(edit: &Edit, number: u32) -> bool
+    ensures { result ≡ nat_lt (edit_number (edit_seen edit.now)) number }
+{
+    edit.number() < number
+}
+
+/// How many edits stand before those of this vnode.
+fn place_of(edits: &[Edit], number: u32) -> usize
+    ensures value { result ≡ prefix_len (λ e. nat_lt (edit_number (edit_seen e)) number) edits.now }
+    ensures bound { result ≤ length edits.now }
+{
+    edits.iter().take_while(|e| is_before(e, number)).count()
+}
+
 /// The edit in its place among those that stand by ascending vnode.
-#[tactic(auto, using(crate::proofs::Naming::put_in_place))]
-fn put_in_place(edits: &mut Vec<Edit>, edit: Edit) -> Mem<()>
+#[tactic(auto, using(crate::proofs::Placed::placed_at))]
+fn put_in_place(edits: &mut Vec<Edit>, edit: Edit) -> Result<(), OpFault>
     ensures { OnOk result (edits_seen edits.new.items ≡ placed (edit_seen edit) (edits_seen edits.old.items)) }
 {
-    let number = edit.number();
-    let place = edits.iter().take_while(|e| e.number() < number).count();
-    match edits.insert(place, edit) {
-        Ok(()) => Ok(()),
-        Err(_) => Err(AllocError),
-    }
+    let place = place_of(edits, edit.number());
+    edits.insert(place, edit)?;
+    Ok(())
 }
 
 /// The edits by ascending vnode.
-pub fn ascending(alloc: Global, edits: Edits) -> Mem<Edits>
+#[tactic(auto, using(crate::proofs::Placed::placed_none, crate::proofs::Placed::taken_last))]
+pub fn ascending(alloc: Global, edits: Edits) -> Result<Edits, OpFault>
     ensures { IfOk result (λ es. edits_seen es ≡ ascending (edits_seen edits)) }
 {
     let mut left = edits.into_vec();
@@ -89,7 +102,7 @@ fn unlink(number: u32, x: &Vnode) -> Edit
 
 /// Appends what becomes of the vnode that loses a name, where there is one.
 pub fn push_unlink(edits: &mut Edits, number: u32, target: Option<&Vnode>) -> Mem<()>
-    ensures { OnOk result (edits_seen edits.new ≡ edits_seen edits.old ++ unlinks number (option_map seen (option_copied target))) }
+    ensures { OnOk result (edits_seen edits.new ≡ edits_seen edits.old ++ unlinks number (option_map seen (option_copied target.entry))) }
 {
     match target {
         Some(x) => edits.push(unlink(number, x)),
@@ -113,8 +126,8 @@ pub fn removes(
     links: Option<u64>,
     number: u32,
     target: Option<&Vnode>,
-) -> Mem<Plan>
-    ensures edits { IfOk result (λ p. edits_seen p.edits ≡ ascending (amends d (record no_amend { names = Some names.now; links = links }) ∷ unlinks number (option_map seen (option_copied target)))) }
+) -> Result<Plan, OpFault>
+    ensures edits { IfOk result (λ p. edits_seen p.edits ≡ ascending (amends d (record no_amend { names = Some names.now; links = links }) ∷ unlinks number (option_map seen (option_copied target.entry)))) }
     ensures shown { IfOk result (λ p. p.shown ≡ d) }
 {
     let mut edits = Edits::new(alloc);

@@ -1,10 +1,10 @@
-//! Operations on one vnode, StoreData, StoreACL and StoreStatus; and what the operation of a call is to do.
+//! Operations on one vnode: StoreData, StoreACL, StoreStatus.
 
-ghost use Rattle.std.specs.Prelude.{◌≡◌, ◌∷◌, [], Ok, Err, IfOk, is_ok};
+ghost use Rattle.std.specs.Prelude.{◌≡◌, ◌∷◌, [], IfOk};
 ghost use Rattle.afs_num.specs.declared.calls.FsCall.TheVariants as calls;
 ghost use Rattle.afs_ideal.specs.Operations.{is_acl, is_mask, is_whole_store};
 ghost use Rattle.afs_ideal.specs.Volumes.{amends};
-ghost use Rattle.afs_volume.specs.Giving.{amend_seen, caller_seen, checked, edits_seen, planned, volume_of, IsChange, Passes, Plans};
+ghost use Rattle.afs_volume.specs.Giving.{amend_seen, caller_seen, edits_seen, planned, volume_of, Plans};
 
 use crate::Volume;
 use crate::callers::Caller;
@@ -14,7 +14,7 @@ use crate::faults::OpFault;
 use crate::finding::{is_directory, is_file};
 use afs_acl::acl::Acl;
 use afs_acl::faults::AclFault;
-use afs_num::calls::{AfsStoreStatus, FsCall};
+use afs_num::calls::AfsStoreStatus;
 use afs_num::sequences::Octets;
 use afs_num::types::{Fid, Mem};
 use std::alloc::{AllocError, Global};
@@ -62,7 +62,7 @@ fn is_acl(alloc: Global, text: &[u8]) -> Mem<bool>
 }
 
 impl Volume {
-    fn store_data(
+    pub(crate) fn store_data(
         &self,
         caller: &Caller,
         fid: &Fid,
@@ -87,7 +87,7 @@ impl Volume {
         Ok(plan_one(self.alloc, fid.vnode, amend)?)
     }
 
-    fn store_acl(&self, caller: &Caller, fid: &Fid, acl: &Octets) -> Result<Plan, OpFault>
+    pub(crate) fn store_acl(&self, caller: &Caller, fid: &Fid, acl: &Octets) -> Result<Plan, OpFault>
         ensures { Plans (planned (caller_seen caller.now) (calls.StoreAcl fid.now acl.now) (volume_of self.now)) result }
     {
         let d = self.found(fid)?;
@@ -100,7 +100,7 @@ impl Volume {
         Ok(plan_one(self.alloc, fid.vnode, amend)?)
     }
 
-    fn store_status(
+    pub(crate) fn store_status(
         &self,
         caller: &Caller,
         fid: &Fid,
@@ -115,62 +115,5 @@ impl Volume {
         let mut amend = Amend::nothing();
         amend.status = Some(*status);
         Ok(plan_one(self.alloc, fid.vnode, amend)?)
-    }
-
-    /// What the operation of a call is to do.
-    pub(crate) fn plan(&self, caller: &Caller, call: &FsCall) -> Result<Plan, OpFault>
-        requires { IsChange call.now }
-        ensures { Plans (planned (caller_seen caller.now) call.now (volume_of self.now)) result }
-    {
-        match call {
-            FsCall::StoreData {
-                fid,
-                status,
-                position,
-                length,
-                file_length,
-                contents,
-            } => self.store_data(
-                caller,
-                fid,
-                status,
-                *position,
-                *length,
-                *file_length,
-                contents,
-            ),
-            FsCall::StoreAcl { fid, acl } => self.store_acl(caller, fid, acl),
-            FsCall::StoreStatus { fid, status } => self.store_status(caller, fid, status),
-            FsCall::RemoveFile { directory, name } => self.remove_file(caller, directory, name),
-            FsCall::CreateFile {
-                directory,
-                name,
-                status,
-            } => self.create_file(caller, directory, name, status),
-            FsCall::Rename {
-                old_directory,
-                old_name,
-                new_directory,
-                new_name,
-            } => self.rename(caller, old_directory, old_name, new_directory, new_name),
-            FsCall::Symlink {
-                directory,
-                name,
-                target,
-                status,
-            } => self.symlink(caller, directory, name, target, status),
-            FsCall::Link {
-                directory,
-                name,
-                existing,
-            } => self.link(caller, directory, name, existing),
-            FsCall::MakeDir {
-                directory,
-                name,
-                status,
-            } => self.make_dir(caller, directory, name, status),
-            FsCall::RemoveDir { directory, name } => self.remove_dir(caller, directory, name),
-            _ => unreachable!(),
-        }
     }
 }

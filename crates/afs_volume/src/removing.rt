@@ -32,7 +32,7 @@ impl Volume {
         check(self.is_writable(), 30)?;
         check(self.may(caller, 16, d)?, 13)?;
         remove_name(&mut names, name.as_slice())?;
-        Ok(removes(self.alloc, fid.vnode, &names, None, number, target)?)
+        removes(self.alloc, fid.vnode, &names, None, number, target)
     }
 
     pub(crate) fn remove_dir(
@@ -54,6 +54,6 @@ impl Volume {
         remove_name(&mut names, name.as_slice())?;
         check(self.is_empty(target)?, 39)?;
         let links = links_of(d).saturating_sub(1);
-        Ok(removes(self.alloc, fid.vnode, &names, Some(links), number, target)?)
+        removes(self.alloc, fid.vnode, &names, Some(links), number, target)
     }
 }
