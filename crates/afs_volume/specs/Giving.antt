@@ -8,6 +8,12 @@ use Rattle.afs_ideal.specs.Operations.{Caller, the_user, all_rights, acl_read, r
 use Rattle.afs_ideal.specs.Volumes as ideal
 use Rattle.afs_volume.specs.Seen.{seen, names_spelled, volume_seen}
 use Rattle.afs_num.specs.declared.calls.FsCall.{FsCall}
+use Rattle.afs_num.specs.declared.calls.FsCall.TheVariants as calls
+use Rattle.afs_num.specs.declared.calls.FsReply.{FsReply}
+use Rattle.afs_num.specs.declared.calls.AfsFetchStatus.{AfsFetchStatus}
+use Rattle.afs_num.specs.declared.types.Fid.{Fid}
+use Rattle.afs_ideal.specs.Replies.{reading_reply}
+use Rattle.afs_ideal.specs.Tables.{get}
 use Rattle.afs_num.specs.declared.vnodes.Vnode as image
 use Rattle.afs_volume.specs.declared.volume.Volume.{Volume}
 use Rattle.afs_volume.specs.declared.callers.Caller as callers
@@ -61,6 +67,7 @@ abbrev pub refusal_of : op.Result → Option ℕ
 refusal_of (refused code) = Some code
 refusal_of (reads shown) = None
 refusal_of (changes es n) = None
+refusal_of op.no_operation = None
 
 -- these edits are to be made, or the operation is refused
 abbrev pub Plans : op.Result → Result Plan OpFault → Type 0
@@ -107,3 +114,61 @@ IsChange call = is_some (op.volume_changed call) ≡ true
 abbrev pub placed_among : List ideal.Edit → List ideal.Edit → List ideal.Edit
 placed_among [] ps = ps
 placed_among (e ∷ es) ps = ideal.placed e (placed_among es ps)
+
+-- ---- replies
+
+-- the status of a vnode, to a caller with these rights where everyone has the others
+pub record IsStatus (caller anonymous : ℕ) (x : image.Vnode) (s : AfsFetchStatus) : Type 0 where
+  pub same : s ≡ record {
+    interface_version = 1;
+    file_type = ideal.type_of (seen x).kind;
+    link_count = (seen x).links;
+    length = ideal.size_of (seen x);
+    data_version = (seen x).data_version;
+    author = 0;
+    owner = (seen x).owner;
+    caller_access = caller;
+    anonymous_access = anonymous;
+    unix_mode_bits = (seen x).mode;
+    parent_vnode = (seen x).parent;
+    parent_unique = (seen x).parent_unique;
+    seg_size = (seen x).segment_size;
+    client_mod_time = (seen x).client_time;
+    server_mod_time = x.server_time;
+    group = (seen x).group;
+    sync_counter = (seen x).index;
+    spare1 = 0;
+    spare2 = 0;
+    spare3 = 0;
+    spare4 = 0;
+  }
+
+-- the server's time of the vnode of a fid stands in its image
+abbrev pub time_in : Option image.Vnode → ℕ
+time_in None = 0
+time_in (Some x) = x.server_time
+
+abbrev pub times_of : Volume → Fid → ℕ
+times_of v f = time_in (get f.vnode v.vnodes)
+
+-- what a reading call is answered
+abbrev pub reply_of : Caller → Volume → op.Result → Option FsReply
+reply_of caller v (refused code) = None
+reply_of caller v (reads shown) = Some (reading_reply v.head.id caller (times_of v) (volume_of v) shown)
+reply_of caller v (changes es n) = None
+reply_of caller v op.no_operation = None
+
+-- the reply to this result, or its refusal
+abbrev pub Replies : Caller → Volume → op.Result → Result FsReply OpFault → Type 0
+Replies caller v r (Ok reply) = reply_of caller v r ≡ Some reply
+Replies caller v r (Err (faults.Code code)) = option_map pos (refusal_of r) ≡ Some code.0
+Replies caller v r (Err faults.OutOfMemory) = Unit {0}
+
+-- the call reads a volume
+abbrev pub is_reading : FsCall → Bool
+is_reading (calls.FetchData f position wanted) = true
+is_reading (calls.FetchAcl f) = true
+is_reading (calls.FetchStatus f) = true
+is_reading (calls.GetVolumeStatus id) = true
+is_reading (calls.BulkStatus fids) = true
+is_reading call = false

@@ -6,12 +6,10 @@ use Rattle.afs_num.specs.declared.acls.AccessList.{AccessList}
 use Rattle.afs_num.specs.declared.directories.Name.{Name}
 use Rattle.afs_num.specs.declared.vnodes.Vnode as image
 use Rattle.afs_num.specs.declared.volumes.VolumeHead.{VolumeHead}
-use Rattle.afs_ideal.specs.AccessLists.{acl_at}
+use Rattle.afs_ideal.specs.AccessLists.{acl_at, no_acl}
 use Rattle.afs_ideal.specs.Directories.{directory_of, directory_bytes}
-use Rattle.afs_ideal.specs.Operations.{no_acl}
-use Rattle.afs_ideal.specs.Replies.{type_of}
 use Rattle.afs_ideal.specs.Tables.{Table, get}
-use Rattle.afs_ideal.specs.Volumes.{Kind, a_file, a_directory, a_link, Vnode, Volume}
+use Rattle.afs_ideal.specs.Volumes.{Kind, a_file, a_directory, a_link, type_of, Vnode, Volume}
 
 -- ---- vnodes
 

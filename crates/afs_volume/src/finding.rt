@@ -167,6 +167,8 @@ impl Volume {
     pub(crate) fn at(&self, number: u32, unique: u32) -> Option<&Vnode>
         ensures seen { option_map seen (option_copied result) ≡ if_unique unique (get number (volume_of self.now).vnodes) }
         ensures number { IfSome result (λ x. x.now.vnode ≡ number) }
+        ensures value { IfSome result (λ x. get number self.now.vnodes ≡ Some x.now) }
+        ensures fits { IfSome result (λ x. FitsImage x.now) }
         ensures readable { IfSome result (λ x. IsReadable x.now) }
     {
         match self.get(number) {
@@ -188,6 +190,8 @@ impl Volume {
     pub(crate) fn vnode(&self, fid: &Fid) -> Option<&Vnode>
         ensures seen { option_map seen (option_copied result) ≡ vnode_of fid.now (volume_of self.now) }
         ensures number { IfSome result (λ x. x.now.vnode ≡ fid.now.vnode) }
+        ensures value { IfSome result (λ x. get fid.now.vnode self.now.vnodes ≡ Some x.now) }
+        ensures fits { IfSome result (λ x. FitsImage x.now) }
         ensures readable { IfSome result (λ x. IsReadable x.now) }
     {
         self.at(fid.vnode, fid.unique)
@@ -197,6 +201,8 @@ impl Volume {
     pub(crate) fn found(&self, fid: &Fid) -> Result<&Vnode, OpFault>
         ensures found { Finds (λ x. x.now) (vnode_of fid.now (volume_of self.now)) result }
         ensures number { IfOk result (λ x. x.now.vnode ≡ fid.now.vnode) }
+        ensures value { IfOk result (λ x. get fid.now.vnode self.now.vnodes ≡ Some x.now) }
+        ensures fits { IfOk result (λ x. FitsImage x.now) }
         ensures readable { IfOk result (λ x. IsReadable x.now) }
     {
         match self.vnode(fid) {

@@ -10,7 +10,9 @@ mod finding;
 mod making;
 mod naming;
 mod operations;
+mod reading;
 mod removing;
+mod replies;
 mod volume;
 
 pub use volume::Volume;

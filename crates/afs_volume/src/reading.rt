@@ -1,0 +1,95 @@
+//! Reading calls: the tests in the order of refusals, then the reply.
+
+ghost use Rattle.std.specs.Prelude.{◌≡◌, true};
+ghost use Rattle.afs_num.specs.declared.calls.FsCall.TheVariants as calls;
+ghost use Rattle.afs_ideal.specs.AccessLists.{acl_text};
+ghost use Rattle.afs_ideal.specs.Operations.{is_kind, op, read_right};
+ghost use Rattle.afs_ideal.specs.Volumes.{a_directory};
+ghost use Rattle.afs_volume.specs.Giving.{caller_seen, is_reading, volume_of, Replies};
+ghost use Rattle.afs_volume.specs.Seen.{seen, IsReadable};
+
+use crate::Volume;
+use crate::callers::Caller;
+use crate::checks::check;
+use crate::faults::OpFault;
+use crate::finding::is_directory;
+use crate::replies::{bytes_of, no_callback};
+use afs_num::calls::{FsCall, FsReply};
+use afs_num::sequences::Octets;
+use afs_num::types::Fid;
+use afs_num::vnodes::Vnode;
+
+/// The text of a directory's access list.
+#[tactic(auto, unfolding(crate::specs::Seen::seen), using(crate::proofs::Texts::text_is_list))]
+fn list_text(d: &Vnode) -> &Octets
+    requires readable { IsReadable d.now }
+    requires directory { is_kind (seen d.now).kind a_directory ≡ true }
+    ensures { result.now ≡ acl_text (seen d.now).acl }
+{
+    &d.acl
+}
+
+impl Volume {
+    fn fetch_data(
+        &self,
+        caller: &Caller,
+        fid: &Fid,
+        position: i32,
+        length: i32,
+    ) -> Result<FsReply, OpFault>
+        ensures { Replies (caller_seen caller.now) self.now (op self.now.head.id (caller_seen caller.now) (calls.FetchData fid.now position length) (volume_of self.now)) result }
+    {
+        let x = self.found(fid)?;
+        let right = if is_directory(x) { 8 } else { 1 };
+        check(self.may(caller, right, x)?, 13)?;
+        check(position == 0 && length == 2_147_483_647, 22)?;
+        Ok(FsReply::FetchData {
+            contents: bytes_of(x).copy(self.alloc)?,
+            status: self.status(caller, x)?,
+            callback: no_callback(),
+            sync: self.sync(),
+        })
+    }
+
+    fn fetch_acl(&self, caller: &Caller, fid: &Fid) -> Result<FsReply, OpFault>
+        ensures { Replies (caller_seen caller.now) self.now (op self.now.head.id (caller_seen caller.now) (calls.FetchAcl fid.now) (volume_of self.now)) result }
+    {
+        let d = self.found(fid)?;
+        check(is_directory(d), 20)?;
+        check(self.may(caller, 8, d)?, 13)?;
+        Ok(FsReply::FetchAcl {
+            acl: list_text(d).copy(self.alloc)?,
+            status: self.status(caller, d)?,
+            sync: self.sync(),
+        })
+    }
+
+    fn fetch_status(&self, caller: &Caller, fid: &Fid) -> Result<FsReply, OpFault>
+        ensures { Replies (caller_seen caller.now) self.now (op self.now.head.id (caller_seen caller.now) (calls.FetchStatus fid.now) (volume_of self.now)) result }
+    {
+        let x = self.found(fid)?;
+        check(self.may(caller, 8, x)?, 13)?;
+        Ok(FsReply::FetchStatus {
+            status: self.status(caller, x)?,
+            callback: no_callback(),
+            sync: self.sync(),
+        })
+    }
+
+    fn volume_status(&self, caller: &Caller, id: u32) -> Result<FsReply, OpFault>
+        ensures { Replies (caller_seen caller.now) self.now (op self.now.head.id (caller_seen caller.now) (calls.GetVolumeStatus id) (volume_of self.now)) result }
+    {
+        let may = match self.get(1) {
+            Some(root) => self.may(caller, 8, root)?,
+            None => false,
+        };
+        check(may, 13)?;
+        Ok(FsReply::GetVolumeStatus {
+            volume: self.head.id,
+            kind: self.head.kind,
+            quota: self.head.quota,
+            blocks_used: self.blocks,
+            name: self.head.name.copy(self.alloc)?,
+        })
+    }
+}
