@@ -1,9 +1,9 @@
 //! Operations that make a vnode or a further name: CreateFile, Symlink, MakeDir, Link.
 
-ghost use Rattle.std.specs.Prelude.{◌≡◌, ◌+◌, ◌∷◌, [], Some, None};
+ghost use Rattle.std.specs.Prelude.{◌≡◌, ◌+◌, ◌∷◌, [], Some, None, true};
 ghost use Rattle.afs_num.specs.declared.calls.FsCall.TheVariants as calls;
-ghost use Rattle.afs_ideal.specs.Operations.{adds_name, by_tests, creates, first_failing, is_mask, names_in};
-ghost use Rattle.afs_ideal.specs.Volumes.{vnode_of};
+ghost use Rattle.afs_ideal.specs.Operations.{adds_name, by_tests, creates, first_failing, is_kind, is_mask, names_in};
+ghost use Rattle.afs_ideal.specs.Volumes.{a_directory, vnode_of};
 ghost use Rattle.afs_volume.specs.Giving.{caller_seen, planned, volume_of, Plans};
 ghost use Rattle.afs_volume.specs.Seen.{seen};
 
@@ -32,7 +32,8 @@ impl Volume {
         links: Option<u64>,
         made: Vnode,
     ) -> Result<Plan, OpFault>
-        requires { vnode_of fid.now (volume_of self.now) ≡ Some (seen d.now) }
+        requires found { vnode_of fid.now (volume_of self.now) ≡ Some (seen d.now) }
+        requires directory { is_kind (seen d.now).kind a_directory ≡ true }
         ensures { Plans (by_tests (first_failing (adds_name name.now (names_in (Some (seen d.now))) (is_mask status.now))) (creates fid.now name.now status.now links (seen made) (volume_of self.now))) result }
     {
         let number = self.free_number(&made);

@@ -9,6 +9,7 @@ pub mod faults;
 mod finding;
 mod making;
 mod naming;
+mod new;
 mod operations;
 mod reading;
 mod removing;

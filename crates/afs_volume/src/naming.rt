@@ -6,6 +6,7 @@ ghost use Rattle.std.specs.Option.{option_copied, option_map};
 ghost use Rattle.afs_ideal.specs.Directories.{named, with_name, without_name};
 ghost use Rattle.afs_ideal.specs.Operations.{adds_name, first_failing, name_of, no_amend, unlinks};
 ghost use Rattle.afs_ideal.specs.Volumes.{amends, ascending, edit_number, placed};
+ghost use Rattle.afs_volume.specs.declared.faults.OpFault.TheVariants.{OutOfMemory};
 ghost use Rattle.afs_volume.specs.Giving.{edit_seen, edits_seen, IsRefused, Passes};
 ghost use Rattle.afs_volume.specs.Seen.{seen};
 
@@ -68,7 +69,8 @@ fn place_of(edits: &[Edit], number: u32) -> usize
 /// The edit in its place among those that stand by ascending vnode.
 #[tactic(auto, using(crate::proofs::Placed::placed_at))]
 fn put_in_place(edits: &mut Vec<Edit>, edit: Edit) -> Result<(), OpFault>
-    ensures { OnOk result (edits_seen edits.new.items ≡ placed (edit_seen edit) (edits_seen edits.old.items)) }
+    ensures ok { OnOk result (edits_seen edits.new.items ≡ placed (edit_seen edit) (edits_seen edits.old.items)) }
+    ensures err { IfErr result (λ e. e ≡ OutOfMemory) }
 {
     let place = place_of(edits, edit.number());
     edits.insert(place, edit)?;
@@ -78,7 +80,8 @@ fn put_in_place(edits: &mut Vec<Edit>, edit: Edit) -> Result<(), OpFault>
 /// The edits by ascending vnode.
 #[tactic(auto, using(crate::proofs::Placed::placed_none, crate::proofs::Placed::taken_last))]
 pub fn ascending(alloc: Global, edits: Edits) -> Result<Edits, OpFault>
-    ensures { IfOk result (λ es. edits_seen es ≡ ascending (edits_seen edits)) }
+    ensures ok { IfOk result (λ es. edits_seen es ≡ ascending (edits_seen edits)) }
+    ensures err { IfErr result (λ e. e ≡ OutOfMemory) }
 {
     let mut left = edits.into_vec();
     let mut placed = Vec::new(alloc);
@@ -129,6 +132,7 @@ pub fn removes(
 ) -> Result<Plan, OpFault>
     ensures edits { IfOk result (λ p. edits_seen p.edits ≡ ascending (amends d (record no_amend { names = Some names.now; links = links }) ∷ unlinks number (option_map seen (option_copied target.entry)))) }
     ensures shown { IfOk result (λ p. p.shown ≡ d) }
+    ensures err { IfErr result (λ e. e ≡ OutOfMemory) }
 {
     let mut edits = Edits::new(alloc);
     push_names(&mut edits, d, names, links)?;

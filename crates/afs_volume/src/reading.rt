@@ -1,10 +1,10 @@
-//! Reading calls: the tests in the order of refusals, then the reply.
+//! What a volume shows. Reading calls: the tests in the order of refusals, then the reply.
 
 ghost use Rattle.std.specs.Prelude.{◌≡◌, true};
 ghost use Rattle.afs_num.specs.declared.calls.FsCall.TheVariants as calls;
 ghost use Rattle.afs_ideal.specs.AccessLists.{acl_text};
 ghost use Rattle.afs_ideal.specs.Operations.{is_kind, op, read_right};
-ghost use Rattle.afs_ideal.specs.Volumes.{a_directory};
+ghost use Rattle.afs_ideal.specs.Volumes.{a_directory, blocks_in};
 ghost use Rattle.afs_volume.specs.Giving.{caller_seen, is_reading, volume_of, Replies};
 ghost use Rattle.afs_volume.specs.Seen.{seen, IsReadable};
 
@@ -18,6 +18,8 @@ use afs_num::calls::{FsCall, FsReply};
 use afs_num::sequences::Octets;
 use afs_num::types::Fid;
 use afs_num::vnodes::Vnode;
+use afs_num::volumes::VolumeHead;
+use afs_vnode::store::VnodeStore;
 
 /// The text of a directory's access list.
 #[tactic(auto, unfolding(crate::specs::Seen::seen), using(crate::proofs::Texts::text_is_list))]
@@ -30,6 +32,35 @@ fn list_text(d: &Vnode) -> &Octets
 }
 
 impl Volume {
+    /// The head. It takes no memory.
+    pub fn head(&self) -> &VolumeHead
+        ensures { result.now ≡ self.now.head }
+    {
+        &self.head
+    }
+
+    /// The vnodes. It takes no memory.
+    pub fn vnodes(&self) -> &VnodeStore
+        ensures { result.now ≡ self.now.vnodes }
+    {
+        &self.vnodes
+    }
+
+    /// How many blocks of 1,024 bytes the vnodes take. It takes no memory.
+    pub fn blocks(&self) -> u32
+        ensures { result ≡ blocks_in (volume_of self.now).vnodes }
+    {
+        self.blocks
+    }
+
+    /// Other flags, and nothing else. It takes no memory.
+    pub fn set_flags(&mut self, flags: u32)
+        ensures head { self.new.head ≡ record self.old.head { flags = flags } }
+        ensures vnodes { self.new.vnodes ≡ self.old.vnodes }
+    {
+        self.head.flags = flags;
+    }
+
     fn fetch_data(
         &self,
         caller: &Caller,
