@@ -32,7 +32,8 @@ impl Volume {
         check(self.is_writable(), 30)?;
         check(self.may(caller, 16, d)?, 13)?;
         remove_name(&mut names, name.as_slice())?;
-        removes(self.alloc, fid.vnode, &names, None, number, target)
+        let plan = removes(self.alloc, fid.vnode, &names, None, number, target)?;
+        Ok(plan)
     }
 
     pub(crate) fn remove_dir(
@@ -54,6 +55,7 @@ impl Volume {
         remove_name(&mut names, name.as_slice())?;
         check(self.is_empty(target)?, 39)?;
         let links = links_of(d).saturating_sub(1);
-        removes(self.alloc, fid.vnode, &names, Some(links), number, target)
+        let plan = removes(self.alloc, fid.vnode, &names, Some(links), number, target)?;
+        Ok(plan)
     }
 }
