@@ -1,6 +1,7 @@
 //! Volumes: every operation of a file server on one of them.
 #![tactic(auto)]
 
+mod bulk;
 mod callers;
 mod checks;
 mod creating;

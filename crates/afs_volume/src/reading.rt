@@ -3,7 +3,7 @@
 ghost use Rattle.std.specs.Prelude.{◌≡◌, true};
 ghost use Rattle.afs_num.specs.declared.calls.FsCall.TheVariants as calls;
 ghost use Rattle.afs_ideal.specs.AccessLists.{acl_text};
-ghost use Rattle.afs_ideal.specs.Operations.{is_kind, op, read_right};
+ghost use Rattle.afs_ideal.specs.Operations.{is_kind, op, the_user};
 ghost use Rattle.afs_ideal.specs.Volumes.{a_directory, blocks_in};
 ghost use Rattle.afs_volume.specs.Giving.{caller_seen, is_reading, volume_of, Replies};
 ghost use Rattle.afs_volume.specs.Seen.{seen, IsReadable};
@@ -122,5 +122,25 @@ impl Volume {
             blocks_used: self.blocks,
             name: self.head.name.copy(self.alloc)?,
         })
+    }
+
+    /// The reply to a reading call, without the server's promise to call back: 102; 20; 13; 22.
+    pub fn read(&self, call: &FsCall, user: &[u8]) -> Result<FsReply, OpFault>
+        requires { is_reading call.now ≡ true }
+        ensures { Replies (the_user user.now) self.now (op self.now.head.id (the_user user.now) call.now (volume_of self.now)) result }
+    {
+        let caller = Caller::User(user);
+        match call {
+            FsCall::FetchData {
+                fid,
+                position,
+                length,
+            } => self.fetch_data(&caller, fid, *position, *length),
+            FsCall::FetchAcl { fid } => self.fetch_acl(&caller, fid),
+            FsCall::FetchStatus { fid } => self.fetch_status(&caller, fid),
+            FsCall::GetVolumeStatus { volume } => self.volume_status(&caller, *volume),
+            FsCall::BulkStatus { fids } => self.bulk_status(&caller, fids.as_slice()),
+            _ => unreachable!(),
+        }
     }
 }
