@@ -1,5 +1,5 @@
 -- Names that are added, and edits that are put in their place.
-use Rattle.std.proofs.Common.{◌≡◌, ℕ, ◌+◌, Bool, true, false, not, List, [], ◌∷◌, ◌++◌, length, Option, Some, None, map, nat_lt, is_some, refl, ap, ◌∙◌, suc, arith, if◌then◌else◌}
+use Rattle.std.proofs.Common.{◌≡◌, ℕ, ◌+◌, Bool, true, false, not, List, [], ◌∷◌, ◌++◌, length, Option, Some, None, nat_lt, is_some, refl, ap, ◌∙◌, suc, arith, if◌then◌else◌}
 use Rattle.std.specs.Prelude.{◌&&◌}
 use Rattle.std.specs.List.{insert, prefix_len}
 use Rattle.afs_num.specs.Names.{name_ok}

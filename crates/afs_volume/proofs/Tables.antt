@@ -1,5 +1,5 @@
 -- What is found in the vnodes of a volume as they are seen.
-use Rattle.std.proofs.Common.{◌≡◌, ℕ, Bool, true, false, List, [], ◌∷◌, Option, Some, None, map, nat_eq, nat_lt, ◌+◌, refl, if◌then◌else◌}
+use Rattle.std.proofs.Common.{◌≡◌, ℕ, Bool, true, false, [], ◌∷◌, Option, Some, nat_eq, nat_lt, ◌+◌, refl, if◌then◌else◌}
 use Rattle.std.specs.Option.{option_map}
 use Rattle.afs_num.specs.declared.vnodes.Vnode as image
 use Rattle.afs_ideal.specs.Tables.{Table, get, lowest_free}

@@ -1,5 +1,5 @@
 -- What the calls on a volume give.
-use Rattle.std.specs.Prelude.{◌≡◌, ℕ, ℤ, pos, List, [], ◌∷◌, Option, Some, None, Result, Ok, Err, map, Bool, true, false, is_some}
+use Rattle.std.specs.Prelude.{◌≡◌, ℕ, pos, List, [], ◌∷◌, Option, Some, None, Result, Ok, Err, map, Bool, true, false, is_some}
 use Rattle.std.specs.Option.{option_map}
 use Rattle.afs_num.specs.declared.acls.AccessList.{AccessList}
 use Rattle.afs_ideal.specs.AccessLists.{acl_at}

@@ -60,7 +60,11 @@ impl Volume {
     fn sync_beside(&self, fids: &[Fid]) -> AfsVolSync
         ensures { result ≡ sync_beside (volume_of self.now) fids.now }
     {
-        if fids.is_empty() { no_sync() } else { self.sync() }
+        if fids.is_empty() {
+            no_sync()
+        } else {
+            self.sync()
+        }
     }
 
     pub(crate) fn bulk_status(&self, caller: &Caller, fids: &[Fid]) -> Result<FsReply, OpFault>

@@ -64,7 +64,14 @@ impl Volume {
         check(is_directory(d), 20)?;
         check(self.is_writable(), 30)?;
         check(self.may(caller, 4, d)?, 13)?;
-        self.creates(fid, d, name.as_slice(), status, None, new_file(self.alloc, fid))
+        self.creates(
+            fid,
+            d,
+            name.as_slice(),
+            status,
+            None,
+            new_file(self.alloc, fid),
+        )
     }
 
     pub(crate) fn symlink(
@@ -120,7 +127,13 @@ impl Volume {
         check(self.may(caller, 4, d)?, 13)?;
         let mut names = names_of(self.alloc, d)?;
         let good = is_here && may_link(fid, x);
-        add_name(&mut names, name.as_slice(), existing.vnode, existing.unique, good)?;
+        add_name(
+            &mut names,
+            name.as_slice(),
+            existing.vnode,
+            existing.unique,
+            good,
+        )?;
         let links = links_there(x) + 1;
         let mut edits = Edits::new(self.alloc);
         push_names(&mut edits, fid.vnode, &names, None)?;

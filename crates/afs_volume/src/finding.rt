@@ -23,7 +23,9 @@ use afs_num::vnodes::Vnode;
 use std::alloc::{AllocError, Global};
 
 pub const FILE: u32 = 1;
+
 pub const DIRECTORY: u32 = 2;
+
 pub const LINK: u32 = 3;
 
 /// The names of a directory; contents that spell none have none.

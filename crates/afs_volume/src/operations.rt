@@ -87,7 +87,12 @@ impl Volume {
         Ok(plan_one(self.alloc, fid.vnode, amend)?)
     }
 
-    pub(crate) fn store_acl(&self, caller: &Caller, fid: &Fid, acl: &Octets) -> Result<Plan, OpFault>
+    pub(crate) fn store_acl(
+        &self,
+        caller: &Caller,
+        fid: &Fid,
+        acl: &Octets,
+    ) -> Result<Plan, OpFault>
         ensures { Plans (planned (caller_seen caller.now) (calls.StoreAcl fid.now acl.now) (volume_of self.now)) result }
     {
         let d = self.found(fid)?;

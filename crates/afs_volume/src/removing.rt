@@ -9,7 +9,9 @@ use crate::callers::Caller;
 use crate::checks::check;
 use crate::edits::Plan;
 use crate::faults::OpFault;
-use crate::finding::{has_name, is_directory, is_directory_there, links_of, names_of, number_named};
+use crate::finding::{
+    has_name, is_directory, is_directory_there, links_of, names_of, number_named,
+};
 use crate::naming::{remove_name, removes};
 use afs_num::sequences::Octets;
 use afs_num::types::Fid;
@@ -49,7 +51,10 @@ impl Volume {
         let mut names = names_of(self.alloc, d)?;
         let number = number_named(&names, name.as_slice());
         let target = self.named(&names, name.as_slice());
-        check(!has_name(&names, name.as_slice()) || is_directory_there(target), 20)?;
+        check(
+            !has_name(&names, name.as_slice()) || is_directory_there(target),
+            20,
+        )?;
         check(self.is_writable(), 30)?;
         check(self.may(caller, 16, d)?, 13)?;
         remove_name(&mut names, name.as_slice())?;

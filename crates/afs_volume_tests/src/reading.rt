@@ -109,7 +109,10 @@ fn a_new_volume_has_no_names_and_one_list(rt: HostRuntime) -> Result<(), Fail> {
     let acl = FsCall::FetchAcl { fid: fid(1, 1) };
     let volume = FsCall::GetVolumeStatus { volume: ID };
     assert_eq!(rt; shown(alloc, &data)?.as_slice(), [0_u8, 0, 0, 0].as_slice());
-    assert_eq!(rt; shown(alloc, &acl)?.as_slice(), b"1\n0\nsystem:anyuser\t127\n".as_slice());
+    assert_eq!(rt;
+        shown(alloc, &acl)?.as_slice(),
+        b"1\n0\nsystem:anyuser\t127\n".as_slice()
+    );
     assert_eq!(rt; shown(alloc, &volume)?.as_slice(), b"proj".as_slice());
     Ok(())
 }
@@ -118,8 +121,20 @@ fn a_new_volume_has_no_names_and_one_list(rt: HostRuntime) -> Result<(), Fail> {
 fn a_new_volume_takes_one_block(rt: HostRuntime) -> Result<(), Fail> {
     let volume = proj(rt.alloc())?;
     let head = volume.head();
-    assert_eq!(rt; [head.id, head.family, head.quota, volume.blocks()], [ID, ID, 1_000, 1]);
-    assert_eq!(rt; [head.kind, head.flags, head.unique, head.counter, head.release], [0, 0, 2, 1, 0]);
+    assert_eq!(rt;
+        [head.id, head.family, head.quota, volume.blocks()],
+        [ID, ID, 1_000, 1]
+    );
+    assert_eq!(rt;
+        [
+            head.kind,
+            head.flags,
+            head.unique,
+            head.counter,
+            head.release
+        ],
+        [0, 0, 2, 1, 0]
+    );
     assert_eq!(rt; volume.vnodes().len(), 1);
     Ok(())
 }
@@ -129,7 +144,10 @@ fn flags_are_set_alone(rt: HostRuntime) -> Result<(), Fail> {
     let mut volume = proj(rt.alloc())?;
     volume.set_flags(2);
     let head = volume.head();
-    assert_eq!(rt; [head.flags, head.quota, head.unique, volume.blocks()], [2, 1_000, 2, 1]);
+    assert_eq!(rt;
+        [head.flags, head.quota, head.unique, volume.blocks()],
+        [2, 1_000, 2, 1]
+    );
     Ok(())
 }
 

@@ -1,5 +1,4 @@
 use Rattle.std.proofs.Common.{arith, get_or, refl, rules}
-use Rattle.std.specs.List.{AllByRecursion}
 use Rattle.afs_num.specs.declared.types.Fid.{Fid}
 use Rattle.afs_volume.specs.Bulk.{refusal_at, IsRefusal, IsShown}
 use Rattle.afs_volume.specs.Giving.{caller_seen, volume_of}
