@@ -1,5 +1,5 @@
 -- What the calls on a volume give.
-use Rattle.std.specs.Prelude.{◌≡◌, ℕ, pos, List, [], ◌∷◌, Option, Some, None, Result, Ok, Err, map, Bool, true, false, is_some}
+use Rattle.std.specs.Prelude.{◌≡◌, ℕ, pos, List, [], ◌∷◌, Option, Some, None, Result, Ok, Err, map, Bool, true, false}
 use Rattle.std.specs.Option.{option_map}
 use Rattle.afs_num.specs.declared.acls.AccessList.{AccessList}
 use Rattle.afs_ideal.specs.AccessLists.{acl_at}
@@ -105,10 +105,6 @@ pub record KeepsBody (old new : image.Vnode) : Type 0 where
 -- a refusal with this code
 abbrev pub IsRefused : ℕ → OpFault → Type 0
 IsRefused code e = e ≡ faults.Code (record { 0 = pos code })
-
--- the call may change a volume
-abbrev pub IsChange : FsCall → Type 0
-IsChange call = is_some (op.volume_changed call) ≡ true
 
 -- these edits put in their place among others, the last one first
 abbrev pub placed_among : List ideal.Edit → List ideal.Edit → List ideal.Edit

@@ -67,6 +67,7 @@ impl Volume {
         }
     }
 
+    /// BulkStatus: all statuses, or the refusal of the first fid that is refused.
     pub(crate) fn bulk_status(&self, caller: &Caller, fids: &[Fid]) -> Result<FsReply, OpFault>
         ensures { Replies (caller_seen caller.now) self.now (op self.now.head.id (caller_seen caller.now) (calls.BulkStatus fids.now) (volume_of self.now)) result }
     {

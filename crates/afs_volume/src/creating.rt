@@ -22,7 +22,7 @@ use afs_num::types::Fid;
 use afs_num::vnodes::Vnode;
 
 impl Volume {
-    /// A new vnode and its name.
+    /// A new vnode and its name, in a directory that the caller may change: 22, 17, 27.
     fn creates(
         &self,
         fid: &Fid,
@@ -50,7 +50,7 @@ impl Volume {
         })
     }
 
-    /// The directory in which a caller makes a name: 102, 20, 30, 13.
+    /// CreateFile: a file of mode 644, in octal, and its name.
     pub(crate) fn create_file(
         &self,
         caller: &Caller,
@@ -74,6 +74,7 @@ impl Volume {
         )
     }
 
+    /// Symlink: a link of mode 777 with this text, and its name.
     pub(crate) fn symlink(
         &self,
         caller: &Caller,
@@ -92,6 +93,7 @@ impl Volume {
         self.creates(fid, d, name.as_slice(), status, None, made)
     }
 
+    /// MakeDir: a directory of mode 755 with its parent's access list, and its name.
     pub(crate) fn make_dir(
         &self,
         caller: &Caller,
@@ -109,6 +111,7 @@ impl Volume {
         self.creates(fid, d, name.as_slice(), status, Some(links_of(d) + 1), made)
     }
 
+    /// Link: a further name of a file.
     pub(crate) fn link(
         &self,
         caller: &Caller,

@@ -62,6 +62,7 @@ fn is_acl(alloc: Global, text: &[u8]) -> Mem<bool>
 }
 
 impl Volume {
+    /// StoreData: a file's bytes, and the words of a status.
     pub(crate) fn store_data(
         &self,
         caller: &Caller,
@@ -87,6 +88,7 @@ impl Volume {
         Ok(plan_one(self.alloc, fid.vnode, amend)?)
     }
 
+    /// StoreACL: a directory's access list.
     pub(crate) fn store_acl(
         &self,
         caller: &Caller,
@@ -105,6 +107,7 @@ impl Volume {
         Ok(plan_one(self.alloc, fid.vnode, amend)?)
     }
 
+    /// StoreStatus: the words of a status, also where they are what was there.
     pub(crate) fn store_status(
         &self,
         caller: &Caller,

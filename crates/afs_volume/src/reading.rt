@@ -61,6 +61,7 @@ impl Volume {
         self.head.flags = flags;
     }
 
+    /// FetchData: a vnode's bytes and status.
     fn fetch_data(
         &self,
         caller: &Caller,
@@ -82,6 +83,7 @@ impl Volume {
         })
     }
 
+    /// FetchACL: a directory's access list and status.
     fn fetch_acl(&self, caller: &Caller, fid: &Fid) -> Result<FsReply, OpFault>
         ensures { Replies (caller_seen caller.now) self.now (op self.now.head.id (caller_seen caller.now) (calls.FetchAcl fid.now) (volume_of self.now)) result }
     {
@@ -95,6 +97,7 @@ impl Volume {
         })
     }
 
+    /// FetchStatus.
     fn fetch_status(&self, caller: &Caller, fid: &Fid) -> Result<FsReply, OpFault>
         ensures { Replies (caller_seen caller.now) self.now (op self.now.head.id (caller_seen caller.now) (calls.FetchStatus fid.now) (volume_of self.now)) result }
     {
@@ -107,6 +110,7 @@ impl Volume {
         })
     }
 
+    /// GetVolumeStatus, which wants the right to look up at the root.
     fn volume_status(&self, caller: &Caller, id: u32) -> Result<FsReply, OpFault>
         ensures { Replies (caller_seen caller.now) self.now (op self.now.head.id (caller_seen caller.now) (calls.GetVolumeStatus id) (volume_of self.now)) result }
     {
@@ -124,7 +128,8 @@ impl Volume {
         })
     }
 
-    /// The reply to a reading call, without the server's promise to call back: 102; 20; 13; 22.
+    /// The reply to a reading call, 130 to 132, 149 or 155, all of whose fids are of this volume; or its refusal, by 102,
+    /// 20, 13 or 22. Promises to call back are left for the server to fill.
     pub fn read(&self, call: &FsCall, user: &[u8]) -> Result<FsReply, OpFault>
         requires { is_reading call.now ≡ true }
         ensures { Replies (the_user user.now) self.now (op self.now.head.id (the_user user.now) call.now (volume_of self.now)) result }

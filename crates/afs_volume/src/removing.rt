@@ -17,6 +17,7 @@ use afs_num::sequences::Octets;
 use afs_num::types::Fid;
 
 impl Volume {
+    /// RemoveFile: a name of a file or link less.
     pub(crate) fn remove_file(
         &self,
         caller: &Caller,
@@ -38,6 +39,7 @@ impl Volume {
         Ok(plan)
     }
 
+    /// RemoveDir: an empty directory and its name.
     pub(crate) fn remove_dir(
         &self,
         caller: &Caller,

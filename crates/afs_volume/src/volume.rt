@@ -6,7 +6,7 @@ use afs_num::volumes::VolumeHead;
 use afs_vnode::store::VnodeStore;
 use std::alloc::Global;
 
-/// A volume: its head, its vnodes, and how many blocks they take.
+/// A volume: its head, its vnodes, and how many blocks they take. The names of a directory stand in its contents.
 #[derive(Drop)]
 pub struct Volume {
     pub(crate) alloc: Global,
