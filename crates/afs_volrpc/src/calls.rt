@@ -10,9 +10,9 @@ ghost use Rattle.afs_model.specs.VolRows.{vol_calls};
 ghost use Rattle.afs_shape.specs.Rows.{IsWithin};
 
 use crate::tables::VolCalls;
-use afs_num::volume_calls::VolCall;
 use afs_num::sequences::Octets;
 use afs_num::types::{Head, Mem};
+use afs_num::volume_calls::VolCall;
 use afs_shape::faults::ShapeFault;
 use std::alloc::Global;
 

@@ -9,9 +9,9 @@ ghost use Rattle.afs_model.specs.Rpc.{spelled_reply, SpellsReply, ReadsReply, Is
 ghost use Rattle.afs_model.specs.VolRows.{vol_replies};
 
 use crate::tables::VolReplies;
-use afs_num::volume_calls::VolReply;
 use afs_num::sequences::Octets;
 use afs_num::types::{Code, Head, Mem};
+use afs_num::volume_calls::VolReply;
 use afs_shape::faults::ShapeFault;
 use std::alloc::Global;
 

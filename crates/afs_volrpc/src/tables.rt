@@ -3,8 +3,8 @@
 ghost use Rattle.afs_model.specs.VolRows.{vol_calls, vol_replies};
 ghost use Rattle.afs_model.proofs.VolMade.{calls_sound, replies_sound};
 
-use afs_num::volume_calls::{VolCall, VolReply};
 use afs_num::types::Mem;
+use afs_num::volume_calls::{VolCall, VolReply};
 use afs_shape::faults::ShapeFault;
 use afs_shape::kinds::Part;
 use afs_shape::messages::Messages;
