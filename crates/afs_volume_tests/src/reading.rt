@@ -2,7 +2,7 @@ ghost use Rattle.std.specs.Prelude.{◌≡◌, true};
 ghost use Rattle.afs_volume.specs.Giving.{is_reading};
 
 use afs_num::calls::{AfsFetchStatus, FsCall, FsReply};
-use afs_num::sequences::{Octets, Sequence};
+use afs_num::sequences::Sequence;
 use afs_num::types::{Code, Fid, Mem};
 use afs_volume::Volume;
 use afs_volume::faults::OpFault;
@@ -78,42 +78,11 @@ fn status(alloc: Global, call: &FsCall) -> Result<Option<[u32; 12]>, OpFault>
     }
 }
 
-// The bytes in a reply: contents, an access list, or a volume's name.
-fn shown(alloc: Global, call: &FsCall) -> Result<Octets, OpFault>
-    requires { is_reading call.now ≡ true }
-{
-    match answer(alloc, call)? {
-        FsReply::FetchData { contents, .. } => Ok(contents),
-        FsReply::FetchAcl { acl, .. } => Ok(acl),
-        FsReply::GetVolumeStatus { name, .. } => Ok(name),
-        _ => Ok(Octets::from_slice(alloc, b"none of these")?),
-    }
-}
-
 #[test]
 fn the_root_of_a_new_volume_is_an_empty_directory(rt: HostRuntime) -> Result<(), Fail> {
     let call = FsCall::FetchStatus { fid: fid(1, 1) };
     let want = [1, 2, 2, 4, 1, 1, 0o755, 127, 127, 0, 0, 0];
     assert_eq!(rt; status(rt.alloc(), &call)?, Some(want));
-    Ok(())
-}
-
-#[test]
-fn a_new_volume_has_no_names_and_one_list(rt: HostRuntime) -> Result<(), Fail> {
-    let alloc = rt.alloc();
-    let data = FsCall::FetchData {
-        fid: fid(1, 1),
-        position: 0,
-        length: 2_147_483_647,
-    };
-    let acl = FsCall::FetchAcl { fid: fid(1, 1) };
-    let volume = FsCall::GetVolumeStatus { volume: ID };
-    assert_eq!(rt; shown(alloc, &data)?.as_slice(), [0_u8, 0, 0, 0].as_slice());
-    assert_eq!(rt;
-        shown(alloc, &acl)?.as_slice(),
-        b"1\n0\nsystem:anyuser\t127\n".as_slice()
-    );
-    assert_eq!(rt; shown(alloc, &volume)?.as_slice(), b"proj".as_slice());
     Ok(())
 }
 
