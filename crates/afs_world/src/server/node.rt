@@ -388,9 +388,7 @@ impl FileServer {
         };
         match message.carried {
             Carried::Call { .. } => self.serve(alloc, &call, Received::Whole { message }),
-            Carried::Refusal { .. } => self.drop_call(alloc, &call),
-            Carried::Reply { .. } => self.drop_call(alloc, &call),
-            Carried::Notice => self.drop_call(alloc, &call),
+            _ => self.drop_call(alloc, &call),
         }
     }
 
