@@ -10,7 +10,7 @@ ghost use Rattle.afs_model.specs.CellRows.{file_server_calls};
 ghost use Rattle.afs_model.specs.Steps.{Answers, Makes};
 ghost use Rattle.afs_model.specs.ServerRow.{AreOrdered, admits, called, does, find_file, hears, keeps, refuses_step, sends_step, serves_call, server_row};
 ghost use Rattle.afs_model.specs.ServerRow as row;
-ghost use Rattle.afs_world.specs.Serving.{AsksSound, CarriesSound, IsKept, IsSoundCall, IsWithin, Spells, count_limit, fetches_step, saved_step, stores_step};
+ghost use Rattle.afs_world.specs.Serving.{AsksSound, CarriesSound, IsKept, IsKnown, IsSoundCall, IsWithin, Spells, count_limit, fetches_step, saved_step, stores_step};
 
 use super::callers::Callers;
 use super::files::{Files, find_stored};
@@ -244,6 +244,28 @@ impl FileServer {
         self.save(alloc, call, file)
     }
 
+    /// Runs a call of its interface that can be read.
+    fn run_file_call(&mut self, alloc: Global, call: &Incoming, asked: FsCall) -> Mem<Outs>
+        requires head { IsSoundHead call.now.head }
+        requires asked { IsSoundCall call.now.head.opcode (Call.File asked) }
+        requires limits { IsWithin count_limit self.old.state }
+        requires now { call.now.moment.now ≤ 1000000000 }
+        requires runs { paired call.now.head.epoch call.now.head.number (call_seat call.now.head.from self.old.state.seats) ≡ runs }
+        ensures step { Answers (does self.old.node self.old.state call.now.moment.now call.now.moment.place (serves_call self.old.state.files call.now.head (Call.File asked))) self.old self.new result }
+        ensures few { IfOk result (λ o. length o.parcels ≤ 1) }
+    {
+        match asked {
+            FsCall::FetchData { fid, .. } => self.grant(
+                alloc,
+                call,
+                &fid,
+                call.moment.now + PROMISE_TICKS,
+            ),
+            FsCall::StoreData { fid, contents, .. } => self.store(alloc, call, &fid, contents),
+            _ => self.refuse(alloc, call, RXGEN_OPCODE),
+        }
+    }
+
     /// Runs a call that can be read.
     fn run_call(&mut self, alloc: Global, call: &Incoming, asked: Call) -> Mem<Outs>
         requires head { IsSoundHead call.now.head }
@@ -255,15 +277,7 @@ impl FileServer {
         ensures few { IfOk result (λ o. length o.parcels ≤ 1) }
     {
         match asked {
-            Call::File(FsCall::FetchData { fid, .. }) => self.grant(
-                alloc,
-                call,
-                &fid,
-                call.moment.now + PROMISE_TICKS,
-            ),
-            Call::File(FsCall::StoreData { fid, contents, .. }) => self.store(
-                alloc, call, &fid, contents,
-            ),
+            Call::File(asked) => self.run_file_call(alloc, call, asked),
             _ => self.refuse(alloc, call, RXGEN_OPCODE),
         }
     }
@@ -307,6 +321,28 @@ impl FileServer {
         outs_with(alloc, lines, &notice(self.callers.boot(), &call.head))
     }
 
+    /// What is given out for a call that isn't to run, by its boot number and its pair; `None` for one that is.
+    fn answer_known(&self, alloc: Global, call: &Incoming) -> Mem<Option<Outs>>
+        requires head { IsSoundHead call.now.head }
+        ensures { IfOk result (λ o. IsKnown self.now.node self.now.state call.now.moment.now call.now.moment.place call.now.head o) }
+    {
+        match self.callers.admit(&call.head) {
+            Admit::Run => Ok(None),
+            Admit::Kept(reply) => {
+                let outs = repeat(alloc, call, reply)?;
+                Ok(Some(outs))
+            }
+            Admit::InProgress | Admit::Old => {
+                let outs = self.drop_call(alloc, call)?;
+                Ok(Some(outs))
+            }
+            Admit::WrongBoot(_) => {
+                let outs = self.tell_boot(alloc, call)?;
+                Ok(Some(outs))
+            }
+        }
+    }
+
     /// Compares the call's boot number, and its pair with the last one of its caller.
     fn admit(&mut self, alloc: Global, call: &Incoming, found: Received) -> Mem<Outs>
         requires head { IsSoundHead call.now.head }
@@ -316,11 +352,9 @@ impl FileServer {
         ensures step { Answers (does self.old.node self.old.state call.now.moment.now call.now.moment.place (admits self.old.state.files call.now.head found (admitted self.old.state.boot self.old.state.seats call.now.head))) self.old self.new result }
         ensures few { IfOk result (λ o. length o.parcels ≤ 1) }
     {
-        match self.callers.admit(&call.head) {
-            Admit::Run => self.run(alloc, call, found),
-            Admit::Kept(reply) => repeat(alloc, call, reply),
-            Admit::InProgress | Admit::Old => self.drop_call(alloc, call),
-            Admit::WrongBoot(_) => self.tell_boot(alloc, call),
+        match self.answer_known(alloc, call)? {
+            None => self.run(alloc, call, found),
+            Some(outs) => Ok(outs),
         }
     }
 
