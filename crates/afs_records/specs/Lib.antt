@@ -1,0 +1,6 @@
+pub mod Forms
+pub mod Records
+pub mod Sound
+pub mod Durable
+pub mod Changes
+pub mod Laws
