@@ -118,7 +118,7 @@ words_join [] b kind = flat_map-cons word kind b
 words_join (x ∷ a) b kind =
     flat_map-cons word x (a ++ (kind ∷ b)) ∙ (ap (λ (t : List ℕ). word x ++ t) (words_join a b kind) ∙ (sym (append_assoc (word x) (words a) (word kind ++ words b)) ∙ ap (λ (t : List ℕ). t ++ (word kind ++ words b)) (sym (flat_map-cons word x a))))
 
-whole : (bytes : List ℕ) (v : Vnode) (rest behind : List ℕ) (made : Vnode) → Takes bytes (words (image_words made) ++ (opaque made.acl ++ opaque made.contents)) behind → HasImageForm made → fine (made, behind) ≡ Ok (v, rest) → Takes bytes (image v) rest × HasImageForm v
+whole : (bytes : List ℕ) (v : Vnode) (rest behind : List ℕ) (made : Vnode) → Takes bytes (words (image_words made) ++ (opaque made.acl ++ opaque made.contents)) behind → HasImageForm made → fine {A = Vnode × List ℕ} (made, behind) ≡ Ok (v, rest) → Takes bytes (image v) rest × HasImageForm v
 unfolding image
 whole bytes v rest behind made t form e =
     let pair : Vnode × List ℕ = (made, behind) in

@@ -1,5 +1,5 @@
 -- What is read as a record is spelled so, and what is spelled is read.
-use Rattle.std.proofs.Common.{◌≡◌, ◌⊎◌, ℕ, ◌+◌, ◌-◌, ◌<◌, ◌≤◌, ◌^◌, Bool, true, false, cond, leb, List, [], ◌∷◌, ◌++◌, length, map, Option, Some, None, refl, sym, ap, subst, ◌∙◌, arith, append_assoc, append-nil, inl, inr, lit≤, lit<, suc}
+use Rattle.std.proofs.Common.{◌≡◌, ◌⊎◌, ℕ, ◌+◌, ◌-◌, ◌<◌, ◌≤◌, ◌^◌, Bool, true, false, cond, leb, List, [], ◌∷◌, ◌++◌, length, map, Option, Some, None, refl, sym, ap, subst, ◌∙◌, arith, append_assoc, append-nil, inl, inr, lit≤, lit<, suc, if◌then◌else◌}
 use Rattle.std.specs.Prelude.{◌&&◌, nat_eq, nat_lt, not}
 use Rattle.std.specs.List.{flat_map, AllByRecursion}
 use Rattle.std.proofs.lemmas.Bool.{eqb-true, leb-true}
@@ -179,23 +179,28 @@ volume_sound =
 
 -- ---- rows
 
--- what a field of a row takes, and what its value makes of the rest
-pub record Behind {A F X : Type 0} (form : Form A) (make : F → List ℕ → Option X) (maker : A → F) (bytes : List ℕ) (x : X) : Type 0 where
-  pub value : A
-  pub rest : List ℕ
-  pub takes : Takes bytes (form.spelled value) rest
-  pub fits : form.Fits value
-  pub next : make (maker value) rest ≡ Some x
+-- what was read by a row: each field's value with the bytes behind it, and at the end what they make
+abbrev Taking : Type 0 → Type 0 → Type 1
+Taking F X = F → List ℕ → X → Type 0
 
-behind : {A F X : Type 0} (form : Form A) → IsSoundForm form → (make : F → List ℕ → Option X) (maker : A → F) (bytes : List ℕ) (x : X) → IsBytes bytes → made_behind form make maker bytes ≡ Some x → Behind form make maker bytes x
-behind {A} {F} {X} form p make maker bytes x fits e =
+abbrev TakesEnd : {X : Type 0} → Taking X X
+TakesEnd {X} y bytes x = (bytes ≡ []) × (y ≡ x)
+
+abbrev TakesField : {A F X : Type 0} → Form A → Taking F X → Taking (A → F) X
+TakesField {A} {F} {X} form Others maker bytes x = (a : A) × ((rest : List ℕ) × ((bytes ≡ form.spelled a ++ rest) × (form.Fits a × Others (maker a) rest x)))
+
+abbrev IsTaking : {F X : Type 0} → (F → List ℕ → Option X) → Taking F X → Type 0
+IsTaking {F} {X} make Took = (maker : F) (bytes : List ℕ) (x : X) → IsBytes bytes → make maker bytes ≡ Some x → Took maker bytes x
+
+at_end : {X : Type 0} → IsTaking {F = X} {X = X} made_at_end TakesEnd
+at_end {X} y [] x fits e = (refl, some_is y x e)
+at_end {X} y (b ∷ bytes) x fits e = absurd cc
+
+behind : {A F X : Type 0} (form : Form A) → IsSoundForm form → (make : F → List ℕ → Option X) (Took : Taking F X) → IsTaking make Took → IsTaking (made_behind form make) (TakesField form Took)
+behind {A} {F} {X} form p make Took others maker bytes x fits e =
     let a = bound (form.at bytes) (λ y. make (maker y.0) y.1) x e in
     let t = p.takes bytes a.0.0 a.0.1 fits a.1.0 in
-    record { value = a.0.0; rest = a.0.1; takes = t.0; fits = t.1; next = a.1.1 }
-
-at_end : {X : Type 0} (y x : X) (bytes : List ℕ) → made_at_end y bytes ≡ Some x → (bytes ≡ []) × (y ≡ x)
-at_end {X} y x [] e = (refl, some_is y x e)
-at_end {X} y x (b ∷ bytes) e = absurd cc
+    (a.0.0, (a.0.1, (t.0.parts, (t.1, others (maker a.0.0) a.0.1 x t.0.rest_fits a.1.1))))
 
 behind_again : {A F X : Type 0} (form : Form A) → IsSoundForm form → (make : F → List ℕ → Option X) (maker : A → F) (a : A) (rest : List ℕ) → form.Fits a → made_behind form make maker (form.spelled a ++ rest) ≡ make (maker a) rest
 behind_again {A} {F} {X} form p make maker a rest fits = ap (λ (o : Option (A × List ℕ)). o >>= λ y. make (maker y.0) y.1) (p.again a rest fits)
@@ -209,81 +214,65 @@ pub record IsRow (number : ℕ) (bytes : List ℕ) (x : RecordBody) : Type 0 whe
 abbrev RowIsSound : RecordBody → Type 0
 RowIsSound d = (bytes : List ℕ) (x : RecordBody) → IsBytes bytes → (row d).make bytes ≡ Some x → IsRow (row d).number bytes x
 
+first_row : (bytes : List ℕ) (x : RecordBody) → (TakesField (list_form volume_form) TakesEnd) bodies.First bytes x → IsRow (row (bodies.First [])).number bytes x
+first_row bytes x t = subst (λ (y : RecordBody). IsRow (row (bodies.First [])).number bytes y) {x = bodies.First t.0} t.1.1.1.1.1 (record { numbered = refl; spelled = t.1.1.0 ∙ ap (λ (s : List ℕ). (list_form volume_form).spelled t.0 ++ s) (t.1.1.1.1.0); fits = (t.1.1.1.0, tt) })
+
 first_sound : RowIsSound (bodies.First [])
-first_sound bytes x fits e =
-    let a1 = behind (list_form volume_form) (list_sound volume_form volume_sound) made_at_end (bodies.First) bytes x fits e in
-    let z = at_end (bodies.First a1.value) x a1.rest a1.next in
-    subst (λ (y : RecordBody). IsRow (row (bodies.First [])).number bytes y) z.1 (record { numbered = refl; spelled = a1.takes.parts ∙ ap (λ (t : List ℕ). (list_form volume_form).spelled a1.value ++ t) (z.0); fits = (a1.fits, tt) })
+first_sound bytes x fits e = first_row bytes x ((behind (list_form volume_form) (list_sound volume_form volume_sound) made_at_end TakesEnd at_end) bodies.First bytes x fits e)
+
+change_row : (bytes : List ℕ) (x : RecordBody) → (TakesField word_form (TakesField word_form (TakesField word_form (TakesField (list_form image_form) (TakesField (list_form word_form) TakesEnd))))) bodies.Change bytes x → IsRow (row (bodies.Change 0 0 0 [] [])).number bytes x
+change_row bytes x t = subst (λ (y : RecordBody). IsRow (row (bodies.Change 0 0 0 [] [])).number bytes y) {x = bodies.Change t.0 t.1.1.1.1.0 t.1.1.1.1.1.1.1.1.0 t.1.1.1.1.1.1.1.1.1.1.1.1.0 t.1.1.1.1.1.1.1.1.1.1.1.1.1.1.1.1.0} t.1.1.1.1.1.1.1.1.1.1.1.1.1.1.1.1.1.1.1.1.1 (record { numbered = refl; spelled = t.1.1.0 ∙ ap (λ (s : List ℕ). word_form.spelled t.0 ++ s) (t.1.1.1.1.1.1.0 ∙ ap (λ (s : List ℕ). word_form.spelled t.1.1.1.1.0 ++ s) (t.1.1.1.1.1.1.1.1.1.1.0 ∙ ap (λ (s : List ℕ). word_form.spelled t.1.1.1.1.1.1.1.1.0 ++ s) (t.1.1.1.1.1.1.1.1.1.1.1.1.1.1.0 ∙ ap (λ (s : List ℕ). (list_form image_form).spelled t.1.1.1.1.1.1.1.1.1.1.1.1.0 ++ s) (t.1.1.1.1.1.1.1.1.1.1.1.1.1.1.1.1.1.1.0 ∙ ap (λ (s : List ℕ). (list_form word_form).spelled t.1.1.1.1.1.1.1.1.1.1.1.1.1.1.1.1.0 ++ s) (t.1.1.1.1.1.1.1.1.1.1.1.1.1.1.1.1.1.1.1.1.0))))); fits = (t.1.1.1.0, (t.1.1.1.1.1.1.1.0, (t.1.1.1.1.1.1.1.1.1.1.1.0, (t.1.1.1.1.1.1.1.1.1.1.1.1.1.1.1.0, (t.1.1.1.1.1.1.1.1.1.1.1.1.1.1.1.1.1.1.1.0, tt))))) })
 
 change_sound : RowIsSound (bodies.Change 0 0 0 [] [])
-change_sound bytes x fits e =
-    let a1 = behind word_form word_sound (made_behind word_form (made_behind word_form (made_behind (list_form image_form) (made_behind (list_form word_form) made_at_end)))) (bodies.Change) bytes x fits e in
-    let a2 = behind word_form word_sound (made_behind word_form (made_behind (list_form image_form) (made_behind (list_form word_form) made_at_end))) (bodies.Change a1.value) a1.rest x a1.takes.rest_fits a1.next in
-    let a3 = behind word_form word_sound (made_behind (list_form image_form) (made_behind (list_form word_form) made_at_end)) (bodies.Change a1.value a2.value) a2.rest x a2.takes.rest_fits a2.next in
-    let a4 = behind (list_form image_form) (list_sound image_form image_sound) (made_behind (list_form word_form) made_at_end) (bodies.Change a1.value a2.value a3.value) a3.rest x a3.takes.rest_fits a3.next in
-    let a5 = behind (list_form word_form) (list_sound word_form word_sound) made_at_end (bodies.Change a1.value a2.value a3.value a4.value) a4.rest x a4.takes.rest_fits a4.next in
-    let z = at_end (bodies.Change a1.value a2.value a3.value a4.value a5.value) x a5.rest a5.next in
-    subst (λ (y : RecordBody). IsRow (row (bodies.Change 0 0 0 [] [])).number bytes y) z.1 (record { numbered = refl; spelled = a1.takes.parts ∙ ap (λ (t : List ℕ). word_form.spelled a1.value ++ t) (a2.takes.parts ∙ ap (λ (t : List ℕ). word_form.spelled a2.value ++ t) (a3.takes.parts ∙ ap (λ (t : List ℕ). word_form.spelled a3.value ++ t) (a4.takes.parts ∙ ap (λ (t : List ℕ). (list_form image_form).spelled a4.value ++ t) (a5.takes.parts ∙ ap (λ (t : List ℕ). (list_form word_form).spelled a5.value ++ t) (z.0))))); fits = (a1.fits, (a2.fits, (a3.fits, (a4.fits, (a5.fits, tt))))) })
+change_sound bytes x fits e = change_row bytes x ((behind word_form word_sound (made_behind word_form (made_behind word_form (made_behind (list_form image_form) (made_behind (list_form word_form) made_at_end)))) (TakesField word_form (TakesField word_form (TakesField (list_form image_form) (TakesField (list_form word_form) TakesEnd)))) (behind word_form word_sound (made_behind word_form (made_behind (list_form image_form) (made_behind (list_form word_form) made_at_end))) (TakesField word_form (TakesField (list_form image_form) (TakesField (list_form word_form) TakesEnd))) (behind word_form word_sound (made_behind (list_form image_form) (made_behind (list_form word_form) made_at_end)) (TakesField (list_form image_form) (TakesField (list_form word_form) TakesEnd)) (behind (list_form image_form) (list_sound image_form image_sound) (made_behind (list_form word_form) made_at_end) (TakesField (list_form word_form) TakesEnd) (behind (list_form word_form) (list_sound word_form word_sound) made_at_end TakesEnd at_end))))) bodies.Change bytes x fits e)
+
+boot_row : (bytes : List ℕ) (x : RecordBody) → (TakesField word_form TakesEnd) bodies.Boot bytes x → IsRow (row (bodies.Boot 0)).number bytes x
+boot_row bytes x t = subst (λ (y : RecordBody). IsRow (row (bodies.Boot 0)).number bytes y) {x = bodies.Boot t.0} t.1.1.1.1.1 (record { numbered = refl; spelled = t.1.1.0 ∙ ap (λ (s : List ℕ). word_form.spelled t.0 ++ s) (t.1.1.1.1.0); fits = (t.1.1.1.0, tt) })
 
 boot_sound : RowIsSound (bodies.Boot 0)
-boot_sound bytes x fits e =
-    let a1 = behind word_form word_sound made_at_end (bodies.Boot) bytes x fits e in
-    let z = at_end (bodies.Boot a1.value) x a1.rest a1.next in
-    subst (λ (y : RecordBody). IsRow (row (bodies.Boot 0)).number bytes y) z.1 (record { numbered = refl; spelled = a1.takes.parts ∙ ap (λ (t : List ℕ). word_form.spelled a1.value ++ t) (z.0); fits = (a1.fits, tt) })
+boot_sound bytes x fits e = boot_row bytes x ((behind word_form word_sound made_at_end TakesEnd at_end) bodies.Boot bytes x fits e)
+
+create_row : (bytes : List ℕ) (x : RecordBody) → (TakesField word_form (TakesField word_form (TakesField (text_form most_name) (TakesField kind_form (TakesField word_form (TakesField word_form (TakesField flag_form TakesEnd))))))) bodies.Create bytes x → IsRow (row (bodies.Create 0 0 [] 0 0 0 false)).number bytes x
+create_row bytes x t = subst (λ (y : RecordBody). IsRow (row (bodies.Create 0 0 [] 0 0 0 false)).number bytes y) {x = bodies.Create t.0 t.1.1.1.1.0 t.1.1.1.1.1.1.1.1.0 t.1.1.1.1.1.1.1.1.1.1.1.1.0 t.1.1.1.1.1.1.1.1.1.1.1.1.1.1.1.1.0 t.1.1.1.1.1.1.1.1.1.1.1.1.1.1.1.1.1.1.1.1.0 t.1.1.1.1.1.1.1.1.1.1.1.1.1.1.1.1.1.1.1.1.1.1.1.1.0} t.1.1.1.1.1.1.1.1.1.1.1.1.1.1.1.1.1.1.1.1.1.1.1.1.1.1.1.1.1 (record { numbered = refl; spelled = t.1.1.0 ∙ ap (λ (s : List ℕ). word_form.spelled t.0 ++ s) (t.1.1.1.1.1.1.0 ∙ ap (λ (s : List ℕ). word_form.spelled t.1.1.1.1.0 ++ s) (t.1.1.1.1.1.1.1.1.1.1.0 ∙ ap (λ (s : List ℕ). (text_form most_name).spelled t.1.1.1.1.1.1.1.1.0 ++ s) (t.1.1.1.1.1.1.1.1.1.1.1.1.1.1.0 ∙ ap (λ (s : List ℕ). kind_form.spelled t.1.1.1.1.1.1.1.1.1.1.1.1.0 ++ s) (t.1.1.1.1.1.1.1.1.1.1.1.1.1.1.1.1.1.1.0 ∙ ap (λ (s : List ℕ). word_form.spelled t.1.1.1.1.1.1.1.1.1.1.1.1.1.1.1.1.0 ++ s) (t.1.1.1.1.1.1.1.1.1.1.1.1.1.1.1.1.1.1.1.1.1.1.0 ∙ ap (λ (s : List ℕ). word_form.spelled t.1.1.1.1.1.1.1.1.1.1.1.1.1.1.1.1.1.1.1.1.0 ++ s) (t.1.1.1.1.1.1.1.1.1.1.1.1.1.1.1.1.1.1.1.1.1.1.1.1.1.1.0 ∙ ap (λ (s : List ℕ). flag_form.spelled t.1.1.1.1.1.1.1.1.1.1.1.1.1.1.1.1.1.1.1.1.1.1.1.1.0 ++ s) (t.1.1.1.1.1.1.1.1.1.1.1.1.1.1.1.1.1.1.1.1.1.1.1.1.1.1.1.1.0))))))); fits = (t.1.1.1.0, (t.1.1.1.1.1.1.1.0, (t.1.1.1.1.1.1.1.1.1.1.1.0, (t.1.1.1.1.1.1.1.1.1.1.1.1.1.1.1.0, (t.1.1.1.1.1.1.1.1.1.1.1.1.1.1.1.1.1.1.1.0, (t.1.1.1.1.1.1.1.1.1.1.1.1.1.1.1.1.1.1.1.1.1.1.1.0, (t.1.1.1.1.1.1.1.1.1.1.1.1.1.1.1.1.1.1.1.1.1.1.1.1.1.1.1.0, tt))))))) })
 
 create_sound : RowIsSound (bodies.Create 0 0 [] 0 0 0 false)
-create_sound bytes x fits e =
-    let a1 = behind word_form word_sound (made_behind word_form (made_behind (text_form most_name) (made_behind kind_form (made_behind word_form (made_behind word_form (made_behind flag_form made_at_end)))))) (bodies.Create) bytes x fits e in
-    let a2 = behind word_form word_sound (made_behind (text_form most_name) (made_behind kind_form (made_behind word_form (made_behind word_form (made_behind flag_form made_at_end))))) (bodies.Create a1.value) a1.rest x a1.takes.rest_fits a1.next in
-    let a3 = behind (text_form most_name) (text_sound most_name) (made_behind kind_form (made_behind word_form (made_behind word_form (made_behind flag_form made_at_end)))) (bodies.Create a1.value a2.value) a2.rest x a2.takes.rest_fits a2.next in
-    let a4 = behind kind_form kind_sound (made_behind word_form (made_behind word_form (made_behind flag_form made_at_end))) (bodies.Create a1.value a2.value a3.value) a3.rest x a3.takes.rest_fits a3.next in
-    let a5 = behind word_form word_sound (made_behind word_form (made_behind flag_form made_at_end)) (bodies.Create a1.value a2.value a3.value a4.value) a4.rest x a4.takes.rest_fits a4.next in
-    let a6 = behind word_form word_sound (made_behind flag_form made_at_end) (bodies.Create a1.value a2.value a3.value a4.value a5.value) a5.rest x a5.takes.rest_fits a5.next in
-    let a7 = behind flag_form flag_sound made_at_end (bodies.Create a1.value a2.value a3.value a4.value a5.value a6.value) a6.rest x a6.takes.rest_fits a6.next in
-    let z = at_end (bodies.Create a1.value a2.value a3.value a4.value a5.value a6.value a7.value) x a7.rest a7.next in
-    subst (λ (y : RecordBody). IsRow (row (bodies.Create 0 0 [] 0 0 0 false)).number bytes y) z.1 (record { numbered = refl; spelled = a1.takes.parts ∙ ap (λ (t : List ℕ). word_form.spelled a1.value ++ t) (a2.takes.parts ∙ ap (λ (t : List ℕ). word_form.spelled a2.value ++ t) (a3.takes.parts ∙ ap (λ (t : List ℕ). (text_form most_name).spelled a3.value ++ t) (a4.takes.parts ∙ ap (λ (t : List ℕ). kind_form.spelled a4.value ++ t) (a5.takes.parts ∙ ap (λ (t : List ℕ). word_form.spelled a5.value ++ t) (a6.takes.parts ∙ ap (λ (t : List ℕ). word_form.spelled a6.value ++ t) (a7.takes.parts ∙ ap (λ (t : List ℕ). flag_form.spelled a7.value ++ t) (z.0))))))); fits = (a1.fits, (a2.fits, (a3.fits, (a4.fits, (a5.fits, (a6.fits, (a7.fits, tt))))))) })
+create_sound bytes x fits e = create_row bytes x ((behind word_form word_sound (made_behind word_form (made_behind (text_form most_name) (made_behind kind_form (made_behind word_form (made_behind word_form (made_behind flag_form made_at_end)))))) (TakesField word_form (TakesField (text_form most_name) (TakesField kind_form (TakesField word_form (TakesField word_form (TakesField flag_form TakesEnd)))))) (behind word_form word_sound (made_behind (text_form most_name) (made_behind kind_form (made_behind word_form (made_behind word_form (made_behind flag_form made_at_end))))) (TakesField (text_form most_name) (TakesField kind_form (TakesField word_form (TakesField word_form (TakesField flag_form TakesEnd))))) (behind (text_form most_name) (text_sound most_name) (made_behind kind_form (made_behind word_form (made_behind word_form (made_behind flag_form made_at_end)))) (TakesField kind_form (TakesField word_form (TakesField word_form (TakesField flag_form TakesEnd)))) (behind kind_form kind_sound (made_behind word_form (made_behind word_form (made_behind flag_form made_at_end))) (TakesField word_form (TakesField word_form (TakesField flag_form TakesEnd))) (behind word_form word_sound (made_behind word_form (made_behind flag_form made_at_end)) (TakesField word_form (TakesField flag_form TakesEnd)) (behind word_form word_sound (made_behind flag_form made_at_end) (TakesField flag_form TakesEnd) (behind flag_form flag_sound made_at_end TakesEnd at_end))))))) bodies.Create bytes x fits e)
+
+delete_row : (bytes : List ℕ) (x : RecordBody) → (TakesField word_form TakesEnd) bodies.Delete bytes x → IsRow (row (bodies.Delete 0)).number bytes x
+delete_row bytes x t = subst (λ (y : RecordBody). IsRow (row (bodies.Delete 0)).number bytes y) {x = bodies.Delete t.0} t.1.1.1.1.1 (record { numbered = refl; spelled = t.1.1.0 ∙ ap (λ (s : List ℕ). word_form.spelled t.0 ++ s) (t.1.1.1.1.0); fits = (t.1.1.1.0, tt) })
 
 delete_sound : RowIsSound (bodies.Delete 0)
-delete_sound bytes x fits e =
-    let a1 = behind word_form word_sound made_at_end (bodies.Delete) bytes x fits e in
-    let z = at_end (bodies.Delete a1.value) x a1.rest a1.next in
-    subst (λ (y : RecordBody). IsRow (row (bodies.Delete 0)).number bytes y) z.1 (record { numbered = refl; spelled = a1.takes.parts ∙ ap (λ (t : List ℕ). word_form.spelled a1.value ++ t) (z.0); fits = (a1.fits, tt) })
+delete_sound bytes x fits e = delete_row bytes x ((behind word_form word_sound made_at_end TakesEnd at_end) bodies.Delete bytes x fits e)
+
+clone_row : (bytes : List ℕ) (x : RecordBody) → (TakesField word_form (TakesField word_form (TakesField (text_form most_name) (TakesField kind_form (TakesField word_form TakesEnd))))) bodies.Clone bytes x → IsRow (row (bodies.Clone 0 0 [] 0 0)).number bytes x
+clone_row bytes x t = subst (λ (y : RecordBody). IsRow (row (bodies.Clone 0 0 [] 0 0)).number bytes y) {x = bodies.Clone t.0 t.1.1.1.1.0 t.1.1.1.1.1.1.1.1.0 t.1.1.1.1.1.1.1.1.1.1.1.1.0 t.1.1.1.1.1.1.1.1.1.1.1.1.1.1.1.1.0} t.1.1.1.1.1.1.1.1.1.1.1.1.1.1.1.1.1.1.1.1.1 (record { numbered = refl; spelled = t.1.1.0 ∙ ap (λ (s : List ℕ). word_form.spelled t.0 ++ s) (t.1.1.1.1.1.1.0 ∙ ap (λ (s : List ℕ). word_form.spelled t.1.1.1.1.0 ++ s) (t.1.1.1.1.1.1.1.1.1.1.0 ∙ ap (λ (s : List ℕ). (text_form most_name).spelled t.1.1.1.1.1.1.1.1.0 ++ s) (t.1.1.1.1.1.1.1.1.1.1.1.1.1.1.0 ∙ ap (λ (s : List ℕ). kind_form.spelled t.1.1.1.1.1.1.1.1.1.1.1.1.0 ++ s) (t.1.1.1.1.1.1.1.1.1.1.1.1.1.1.1.1.1.1.0 ∙ ap (λ (s : List ℕ). word_form.spelled t.1.1.1.1.1.1.1.1.1.1.1.1.1.1.1.1.0 ++ s) (t.1.1.1.1.1.1.1.1.1.1.1.1.1.1.1.1.1.1.1.1.0))))); fits = (t.1.1.1.0, (t.1.1.1.1.1.1.1.0, (t.1.1.1.1.1.1.1.1.1.1.1.0, (t.1.1.1.1.1.1.1.1.1.1.1.1.1.1.1.0, (t.1.1.1.1.1.1.1.1.1.1.1.1.1.1.1.1.1.1.1.0, tt))))) })
 
 clone_sound : RowIsSound (bodies.Clone 0 0 [] 0 0)
-clone_sound bytes x fits e =
-    let a1 = behind word_form word_sound (made_behind word_form (made_behind (text_form most_name) (made_behind kind_form (made_behind word_form made_at_end)))) (bodies.Clone) bytes x fits e in
-    let a2 = behind word_form word_sound (made_behind (text_form most_name) (made_behind kind_form (made_behind word_form made_at_end))) (bodies.Clone a1.value) a1.rest x a1.takes.rest_fits a1.next in
-    let a3 = behind (text_form most_name) (text_sound most_name) (made_behind kind_form (made_behind word_form made_at_end)) (bodies.Clone a1.value a2.value) a2.rest x a2.takes.rest_fits a2.next in
-    let a4 = behind kind_form kind_sound (made_behind word_form made_at_end) (bodies.Clone a1.value a2.value a3.value) a3.rest x a3.takes.rest_fits a3.next in
-    let a5 = behind word_form word_sound made_at_end (bodies.Clone a1.value a2.value a3.value a4.value) a4.rest x a4.takes.rest_fits a4.next in
-    let z = at_end (bodies.Clone a1.value a2.value a3.value a4.value a5.value) x a5.rest a5.next in
-    subst (λ (y : RecordBody). IsRow (row (bodies.Clone 0 0 [] 0 0)).number bytes y) z.1 (record { numbered = refl; spelled = a1.takes.parts ∙ ap (λ (t : List ℕ). word_form.spelled a1.value ++ t) (a2.takes.parts ∙ ap (λ (t : List ℕ). word_form.spelled a2.value ++ t) (a3.takes.parts ∙ ap (λ (t : List ℕ). (text_form most_name).spelled a3.value ++ t) (a4.takes.parts ∙ ap (λ (t : List ℕ). kind_form.spelled a4.value ++ t) (a5.takes.parts ∙ ap (λ (t : List ℕ). word_form.spelled a5.value ++ t) (z.0))))); fits = (a1.fits, (a2.fits, (a3.fits, (a4.fits, (a5.fits, tt))))) })
+clone_sound bytes x fits e = clone_row bytes x ((behind word_form word_sound (made_behind word_form (made_behind (text_form most_name) (made_behind kind_form (made_behind word_form made_at_end)))) (TakesField word_form (TakesField (text_form most_name) (TakesField kind_form (TakesField word_form TakesEnd)))) (behind word_form word_sound (made_behind (text_form most_name) (made_behind kind_form (made_behind word_form made_at_end))) (TakesField (text_form most_name) (TakesField kind_form (TakesField word_form TakesEnd))) (behind (text_form most_name) (text_sound most_name) (made_behind kind_form (made_behind word_form made_at_end)) (TakesField kind_form (TakesField word_form TakesEnd)) (behind kind_form kind_sound (made_behind word_form made_at_end) (TakesField word_form TakesEnd) (behind word_form word_sound made_at_end TakesEnd at_end))))) bodies.Clone bytes x fits e)
+
+restore_row : (bytes : List ℕ) (x : RecordBody) → (TakesField word_form (TakesField (text_form most_dump) TakesEnd)) bodies.Restore bytes x → IsRow (row (bodies.Restore 0 [])).number bytes x
+restore_row bytes x t = subst (λ (y : RecordBody). IsRow (row (bodies.Restore 0 [])).number bytes y) {x = bodies.Restore t.0 t.1.1.1.1.0} t.1.1.1.1.1.1.1.1.1 (record { numbered = refl; spelled = t.1.1.0 ∙ ap (λ (s : List ℕ). word_form.spelled t.0 ++ s) (t.1.1.1.1.1.1.0 ∙ ap (λ (s : List ℕ). (text_form most_dump).spelled t.1.1.1.1.0 ++ s) (t.1.1.1.1.1.1.1.1.0)); fits = (t.1.1.1.0, (t.1.1.1.1.1.1.1.0, tt)) })
 
 restore_sound : RowIsSound (bodies.Restore 0 [])
-restore_sound bytes x fits e =
-    let a1 = behind word_form word_sound (made_behind (text_form most_dump) made_at_end) (bodies.Restore) bytes x fits e in
-    let a2 = behind (text_form most_dump) (text_sound most_dump) made_at_end (bodies.Restore a1.value) a1.rest x a1.takes.rest_fits a1.next in
-    let z = at_end (bodies.Restore a1.value a2.value) x a2.rest a2.next in
-    subst (λ (y : RecordBody). IsRow (row (bodies.Restore 0 [])).number bytes y) z.1 (record { numbered = refl; spelled = a1.takes.parts ∙ ap (λ (t : List ℕ). word_form.spelled a1.value ++ t) (a2.takes.parts ∙ ap (λ (t : List ℕ). (text_form most_dump).spelled a2.value ++ t) (z.0)); fits = (a1.fits, (a2.fits, tt)) })
+restore_sound bytes x fits e = restore_row bytes x ((behind word_form word_sound (made_behind (text_form most_dump) made_at_end) (TakesField (text_form most_dump) TakesEnd) (behind (text_form most_dump) (text_sound most_dump) made_at_end TakesEnd at_end)) bodies.Restore bytes x fits e)
+
+flags_row : (bytes : List ℕ) (x : RecordBody) → (TakesField word_form (TakesField word_form TakesEnd)) bodies.Flags bytes x → IsRow (row (bodies.Flags 0 0)).number bytes x
+flags_row bytes x t = subst (λ (y : RecordBody). IsRow (row (bodies.Flags 0 0)).number bytes y) {x = bodies.Flags t.0 t.1.1.1.1.0} t.1.1.1.1.1.1.1.1.1 (record { numbered = refl; spelled = t.1.1.0 ∙ ap (λ (s : List ℕ). word_form.spelled t.0 ++ s) (t.1.1.1.1.1.1.0 ∙ ap (λ (s : List ℕ). word_form.spelled t.1.1.1.1.0 ++ s) (t.1.1.1.1.1.1.1.1.0)); fits = (t.1.1.1.0, (t.1.1.1.1.1.1.1.0, tt)) })
 
 flags_sound : RowIsSound (bodies.Flags 0 0)
-flags_sound bytes x fits e =
-    let a1 = behind word_form word_sound (made_behind word_form made_at_end) (bodies.Flags) bytes x fits e in
-    let a2 = behind word_form word_sound made_at_end (bodies.Flags a1.value) a1.rest x a1.takes.rest_fits a1.next in
-    let z = at_end (bodies.Flags a1.value a2.value) x a2.rest a2.next in
-    subst (λ (y : RecordBody). IsRow (row (bodies.Flags 0 0)).number bytes y) z.1 (record { numbered = refl; spelled = a1.takes.parts ∙ ap (λ (t : List ℕ). word_form.spelled a1.value ++ t) (a2.takes.parts ∙ ap (λ (t : List ℕ). word_form.spelled a2.value ++ t) (z.0)); fits = (a1.fits, (a2.fits, tt)) })
+flags_sound bytes x fits e = flags_row bytes x ((behind word_form word_sound (made_behind word_form made_at_end) (TakesField word_form TakesEnd) (behind word_form word_sound made_at_end TakesEnd at_end)) bodies.Flags bytes x fits e)
+
+forward_row : (bytes : List ℕ) (x : RecordBody) → (TakesField word_form (TakesField server_form TakesEnd)) bodies.Forward bytes x → IsRow (row (bodies.Forward 0 0)).number bytes x
+forward_row bytes x t = subst (λ (y : RecordBody). IsRow (row (bodies.Forward 0 0)).number bytes y) {x = bodies.Forward t.0 t.1.1.1.1.0} t.1.1.1.1.1.1.1.1.1 (record { numbered = refl; spelled = t.1.1.0 ∙ ap (λ (s : List ℕ). word_form.spelled t.0 ++ s) (t.1.1.1.1.1.1.0 ∙ ap (λ (s : List ℕ). server_form.spelled t.1.1.1.1.0 ++ s) (t.1.1.1.1.1.1.1.1.0)); fits = (t.1.1.1.0, (t.1.1.1.1.1.1.1.0, tt)) })
 
 forward_sound : RowIsSound (bodies.Forward 0 0)
-forward_sound bytes x fits e =
-    let a1 = behind word_form word_sound (made_behind server_form made_at_end) (bodies.Forward) bytes x fits e in
-    let a2 = behind server_form server_sound made_at_end (bodies.Forward a1.value) a1.rest x a1.takes.rest_fits a1.next in
-    let z = at_end (bodies.Forward a1.value a2.value) x a2.rest a2.next in
-    subst (λ (y : RecordBody). IsRow (row (bodies.Forward 0 0)).number bytes y) z.1 (record { numbered = refl; spelled = a1.takes.parts ∙ ap (λ (t : List ℕ). word_form.spelled a1.value ++ t) (a2.takes.parts ∙ ap (λ (t : List ℕ). server_form.spelled a2.value ++ t) (z.0)); fits = (a1.fits, (a2.fits, tt)) })
+forward_sound bytes x fits e = forward_row bytes x ((behind word_form word_sound (made_behind server_form made_at_end) (TakesField server_form TakesEnd) (behind server_form server_sound made_at_end TakesEnd at_end)) bodies.Forward bytes x fits e)
+
+stamp_row : (bytes : List ℕ) (x : RecordBody) → TakesEnd bodies.Stamp bytes x → IsRow (row (bodies.Stamp)).number bytes x
+stamp_row bytes x t = subst (λ (y : RecordBody). IsRow (row (bodies.Stamp)).number bytes y) {x = bodies.Stamp} t.1 (record { numbered = refl; spelled = t.0; fits = tt })
 
 stamp_sound : RowIsSound (bodies.Stamp)
-stamp_sound bytes x fits e =
-    let z = at_end (bodies.Stamp) x bytes e in
-    subst (λ (y : RecordBody). IsRow (row (bodies.Stamp)).number bytes y) z.1 (record { numbered = refl; spelled = z.0; fits = tt })
+stamp_sound bytes x fits e = stamp_row bytes x (at_end bodies.Stamp bytes x fits e)
 
 in_rows : (number : ℕ) (bytes : List ℕ) (x : RecordBody) (ds : List RecordBody) → AllByRecursion RowIsSound ds → IsBytes bytes → made_in number bytes ds ≡ Some x → IsRow number bytes x
 in_rows number bytes x [] h fits e = absurd (none_is_some x e)

@@ -2,4 +2,5 @@
 //! volumes. No code runs in it.
 #![tactic(auto)]
 
+pub mod laws;
 pub mod records;
