@@ -1,4 +1,6 @@
 pub mod Forms
 pub mod Images
 pub mod Spelled
+pub mod Tested
+pub mod Kept
 pub mod Worked

@@ -137,11 +137,7 @@ start_is_32 : length (record_bytes (boot_record 2)) ≡ 32
 unfolding word
 start_is_32 = ap length start_bytes ∙ refl
 
--- ---- set-up makes the first; and what the three stand for
-
-set_up_makes_it : first_record (line ∷ []) ≡ Some first
-unfolding led laid_at acls.acl_text directories.directory_bytes directories.name_bytes word opaque pad directories.bytes_below
-set_up_makes_it = refl
+-- ---- what the three stand for
 
 abbrev after : Durable
 after = record {
