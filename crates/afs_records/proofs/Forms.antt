@@ -51,7 +51,7 @@ before_sound {A} {B} first second p q = record {
       let u = q.takes a.0.1 b.0.0 b.0.1 t.0.rest_fits b.1.0 in
       let made : (A × B) × List ℕ = ((a.0.0, b.0.0), b.0.1) in
       subst (λ (y : (A × B) × List ℕ). Takes bytes (first.spelled y.0.0 ++ second.spelled y.0.1) y.1 × (first.Fits y.0.0 × second.Fits y.0.1)) (some_is made (z, rest) b.1.1)
-        (Takes-then bytes (first.spelled a.0.0) a.0.1 (second.spelled b.0.0) b.0.1 t.0 u.0, (t.1, u.1));
+      (Takes-then bytes (first.spelled a.0.0) a.0.1 (second.spelled b.0.0) b.0.1 t.0 u.0, (t.1, u.1));
   again = λ z rest fits.
       ap (λ (bytes : List ℕ). first.at bytes >>= λ x. (second.at x.1 >>= λ y. Some ((x.0, y.0), y.1))) (append_assoc (first.spelled z.0) (second.spelled z.1) rest)
       ∙ rw (p.again z.0 (second.spelled z.1 ++ rest) fits.0, q.again z.1 rest fits.1) refl;
@@ -67,7 +67,7 @@ known_sound {A} {B} form told made p back = record {
       let is : told b.0 ≡ a.0.0 = back a.0.0 b.0 b.1.0 in
       let pair : B × List ℕ = (b.0, a.0.1) in
       let first : Takes bytes (form.spelled (told b.0)) a.0.1 × (form.Fits (told b.0) × (made (told b.0) ≡ Some b.0)) =
-          subst (λ (x : A). Takes bytes (form.spelled x) a.0.1 × (form.Fits x × (made x ≡ Some b.0))) (sym is) (t.0, (t.1, b.1.0)) in
+      subst (λ (x : A). Takes bytes (form.spelled x) a.0.1 × (form.Fits x × (made x ≡ Some b.0))) (sym is) (t.0, (t.1, b.1.0)) in
       subst (λ (z : B × List ℕ). Takes bytes (form.spelled (told z.0)) z.1 × (form.Fits (told z.0) × (made (told z.0) ≡ Some z.0))) (some_is pair (y, rest) b.1.1) first;
   again = λ y rest fits. rw (p.again (told y) rest fits.0, fits.1) refl;
 }
@@ -96,7 +96,7 @@ pub many_again : {A : Type 0} (form : Form A) → IsSoundForm form → (xs : Lis
 many_again {A} form p [] rest fits = refl
 many_again {A} form p (x ∷ xs) rest fits =
     let regrouped : flat_map form.spelled (x ∷ xs) ++ rest ≡ form.spelled x ++ (flat_map form.spelled xs ++ rest) =
-        ap (λ (t : List ℕ). t ++ rest) (flat_map-cons form.spelled x xs) ∙ append_assoc (form.spelled x) (flat_map form.spelled xs) rest in
+    ap (λ (t : List ℕ). t ++ rest) (flat_map-cons form.spelled x xs) ∙ append_assoc (form.spelled x) (flat_map form.spelled xs) rest in
     ap (many_at form.at (suc (length xs))) regrouped ∙ rw (p.again x (flat_map form.spelled xs ++ rest) fits.0, many_again form p xs rest fits.1) refl
 
 pub list_sound : {A : Type 0} (form : Form A) → IsSoundForm form → IsSoundForm (list_form form)

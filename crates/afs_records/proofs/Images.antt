@@ -157,7 +157,7 @@ image_took bytes v rest fits e =
     let is : image_words made ≡ a.0.0 ++ (k.0.0 ∷ b.0.0) = front_back a.0.0 b.0.0 l.0.0 c.0.0 k.0.0 at.1.0 bt.1.0 in
     let numbers : Takes bytes (words (image_words made)) b.0.1 = subst (λ (t : List ℕ). Takes bytes t b.0.1) (sym (words_join a.0.0 b.0.0 k.0.0) ∙ ap words (sym is)) front in
     whole bytes v rest c.0.1 made (Takes-then bytes (words (image_words made)) b.0.1 (opaque made.acl ++ opaque made.contents) c.0.1 numbers (parts made a.0.0 k.0.0 b.0.0 l.0.0 c.0.0 b.0.1 c.0.1 refl texts))
-      (formed made a.0.0 k.0.0 b.0.0 l.0.0 c.0.0 refl lt.1 ct.1 (subst AreWords (sym is) (are_words a.0.0 b.0.0 k.0.0 at.1.1 kt.1.0 bt.1.1)) kt.1.1) c.2
+    (formed made a.0.0 k.0.0 b.0.0 l.0.0 c.0.0 refl lt.1 ct.1 (subst AreWords (sym is) (are_words a.0.0 b.0.0 k.0.0 at.1.1 kt.1.0 bt.1.1)) kt.1.1) c.2
 
 pub image_sound : IsSoundForm image_form
 image_sound = record {

@@ -72,11 +72,11 @@ same_tables {A} m n (p ∷ s) (q ∷ t) up down e =
       | inr le ↦ elim (cases_lt q.0 p.0) [
         | inl lt ↦ absurd (missing q.1 (sym (get_below p.0 q.0 (p ∷ s) lt (omega arith, up.1)) ∙ (e q.0 ∙ here q t)))
         | inr ge ↦
-          let same : p.0 ≡ q.0 = omega (arith, le, ge) in
-          let value : p.1 ≡ q.1 = some_is p.1 q.1 (sym (here p s) ∙ (e p.0 ∙ (ap (λ (k : ℕ). get k (q ∷ t)) same ∙ here q t))) in
-          let first : p ≡ q = ap (λ (k : ℕ). (k, p.1)) same ∙ ap (λ (x : A). (q.0, x)) value in
-          let rest : s ≡ t = same_tables (p.0 + 1) (q.0 + 1) s t up.1 down.1 (λ k. tail_same p q s t k (nat_eq p.0 k) refl same up.1 down.1 (e k)) in
-          ap (λ (r : ℕ × A). r ∷ s) first ∙ ap (λ (r : Table A). q ∷ r) rest
+            let same : p.0 ≡ q.0 = omega (arith, le, ge) in
+            let value : p.1 ≡ q.1 = some_is p.1 q.1 (sym (here p s) ∙ (e p.0 ∙ (ap (λ (k : ℕ). get k (q ∷ t)) same ∙ here q t))) in
+            let first : p ≡ q = ap (λ (k : ℕ). (k, p.1)) same ∙ ap (λ (x : A). (q.0, x)) value in
+            let rest : s ≡ t = same_tables (p.0 + 1) (q.0 + 1) s t up.1 down.1 (λ k. tail_same p q s t k (nat_eq p.0 k) refl same up.1 down.1 (e k)) in
+            ap (λ (r : ℕ × A). r ∷ s) first ∙ ap (λ (r : Table A). q ∷ r) rest
       ]
     ]
 
@@ -192,7 +192,7 @@ gone_gets k [] before after t = refl
 gone_gets k (e ∷ es) before after t =
     let n = edit_number e in
     let one = gone_one k n (get n before.vnodes) (get n after.vnodes) (get k before.vnodes) (get k after.vnodes) (numbers_gone es before after) t (nat_eq n k) refl
-      (λ is. (let j : n ≡ k = grind (arith, nat_tests, is) in (ap (λ (i : ℕ). get i before.vnodes) j, ap (λ (i : ℕ). get i after.vnodes) j))) in
+    (λ is. (let j : n ≡ k = grind (arith, nat_tests, is) in (ap (λ (i : ℕ). get i before.vnodes) j, ap (λ (i : ℕ). get i after.vnodes) j))) in
     ap (λ (u : Table Vnode). get k u) one.1.0
     ∙ (gone_gets k es before after one.0
     ∙ (ap (λ (o : Option Vnode). cond (is_edited k es) (gone_or (get k before.vnodes) (get k after.vnodes) o) o) one.1.1
@@ -241,8 +241,8 @@ vnodes_after : (id : ℕ) (es : List Edit) (before : Volume) → AscendsFrom 1 b
 vnodes_after id es before up down =
     let after = counted (edited_all id es before) in
     same_tables 1 1 (unset_all (numbers_gone es before after) (put_left es after before.vnodes)) (edited_all id es before).vnodes
-      (unset_up (numbers_gone es before after) (put_left es after before.vnodes) (put_up es after before.vnodes down up)) down
-      (λ k. leaves_after k es before after (all_keep id k es before))
+    (unset_up (numbers_gone es before after) (put_left es after before.vnodes) (put_up es after before.vnodes down up)) down
+    (λ k. leaves_after k es before after (all_keep id k es before))
 
 -- ---- the fold of the record
 
@@ -314,9 +314,9 @@ changed_is id time es s up down values few sound =
     let put = held (put_left es after s.volume.vnodes) (set_times images s.times) s in
     let told = counted_as after.counter after.next put in
     let left : without gone told ≡ stored_after id time es s =
-        without_is gone told
-        ∙ ap (λ (t : Table Vnode). record s { volume = record s.volume { vnodes = t; counter = after.counter; next = after.next }; times = unset_times gone (set_times images s.times) }) (vnodes_after id es s.volume up down)
-        ∙ ap (λ (v : Volume). record s { volume = record v { counter = after.counter }; times = unset_times gone (set_times images s.times) }) (sym (same_rest id es s.volume)) in
+    without_is gone told
+    ∙ ap (λ (t : Table Vnode). record s { volume = record s.volume { vnodes = t; counter = after.counter; next = after.next }; times = unset_times gone (set_times images s.times) }) (vnodes_after id es s.volume up down)
+    ∙ ap (λ (v : Volume). record s { volume = record v { counter = after.counter }; times = unset_times gone (set_times images s.times) }) (sym (same_rest id es s.volume)) in
     rw (are_there es s after, images_put time es after s values, left) (may_be_stored (stored_after id time es s) few sound)
 
 pub change_kept : (head : RecordHead) (id time : ℕ) (es : List Edit) (s : Stored) (d : Durable) → get id d.volumes ≡ Some s → CanBeStored id es s.volume → is_sound (counted (edited_all id es s.volume)) ≡ true →

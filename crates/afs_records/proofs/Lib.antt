@@ -3,4 +3,5 @@ pub mod Images
 pub mod Spelled
 pub mod Tested
 pub mod Kept
+pub mod Lengths
 pub mod Worked

@@ -104,12 +104,12 @@ pub head_sound : IsSoundForm head_form
 unfolding head_form
 head_sound =
     known_sound (word_form before word_form before caller_form before word_form before word_form before text_form most_reply) head_parts head_made
-      (before_sound word_form (word_form before caller_form before word_form before word_form before text_form most_reply) word_sound
-      (before_sound word_form (caller_form before word_form before word_form before text_form most_reply) word_sound
-      (before_sound caller_form (word_form before word_form before text_form most_reply) caller_sound
-      (before_sound word_form (word_form before text_form most_reply) word_sound
-      (before_sound word_form (text_form most_reply) word_sound (text_sound most_reply))))))
-      (λ p h e. ap head_parts (sym (some_is _ h e)))
+    (before_sound word_form (word_form before caller_form before word_form before word_form before text_form most_reply) word_sound
+    (before_sound word_form (caller_form before word_form before word_form before text_form most_reply) word_sound
+    (before_sound caller_form (word_form before word_form before text_form most_reply) caller_sound
+    (before_sound word_form (word_form before text_form most_reply) word_sound
+    (before_sound word_form (text_form most_reply) word_sound (text_sound most_reply))))))
+    (λ p h e. ap head_parts (sym (some_is _ h e)))
 
 -- ---- a whole volume
 
@@ -151,12 +151,12 @@ vnodes_sound = record {
       let both = Takes-then bytes ((list_form listed_form).spelled a.0.0) a.0.1 (flat_map marked_form.spelled b.0.0) b.0.1 t.0 u.0 in
       let same = whole_are a.0.0 b.0.0 g.0 in
       let here : Takes bytes (vnodes_form.spelled b.0.0) b.0.1 × vnodes_form.Fits b.0.0 =
-          subst (λ (ps : List (ℕ × ℕ)). Takes bytes ((list_form listed_form).spelled ps ++ flat_map marked_form.spelled b.0.0) b.0.1 × ((list_form listed_form).Fits ps × (AllByRecursion marked_form.Fits b.0.0 × (are_whole ps b.0.0 ≡ true)))) {x = a.0.0} same (both, (t.1, (u.1.1, g.0))) in
+      subst (λ (ps : List (ℕ × ℕ)). Takes bytes ((list_form listed_form).spelled ps ++ flat_map marked_form.spelled b.0.0) b.0.1 × ((list_form listed_form).Fits ps × (AllByRecursion marked_form.Fits b.0.0 × (are_whole ps b.0.0 ≡ true)))) {x = a.0.0} same (both, (t.1, (u.1.1, g.0))) in
       subst (λ (y : List Vnode × List ℕ). Takes bytes (vnodes_form.spelled y.0) y.1 × vnodes_form.Fits y.0) {x = b.0} g.1 here;
   again = λ vs rest fits.
       let regrouped = append_assoc ((list_form listed_form).spelled (map listed vs)) (flat_map marked_form.spelled vs) rest in
       let many : many_at marked_form.at (length (map listed vs)) (flat_map marked_form.spelled vs ++ rest) ≡ Some (vs, rest) =
-          ap (λ (n : ℕ). many_at marked_form.at n (flat_map marked_form.spelled vs ++ rest)) (listed_length vs) ∙ many_again marked_form marked_sound vs rest fits.1.0 in
+      ap (λ (n : ℕ). many_at marked_form.at n (flat_map marked_form.spelled vs ++ rest)) (listed_length vs) ∙ many_again marked_form marked_sound vs rest fits.1.0 in
       ap vnodes_form.at regrouped ∙ rw ((list_sound listed_form listed_sound).again (map listed vs) (flat_map marked_form.spelled vs ++ rest) fits.0, many, fits.1.1) refl;
 }
 
@@ -164,18 +164,18 @@ pub volume_sound : IsSoundForm volume_form
 unfolding volume_form
 volume_sound =
     known_sound (text_form most_name before word_form before mark_form volume_mark before word_form before word_form before kind_form before word_form before word_form before word_form before word_form before vnodes_form) volume_parts volume_made
-      (before_sound (text_form most_name) (word_form before mark_form volume_mark before word_form before word_form before kind_form before word_form before word_form before word_form before word_form before vnodes_form) (text_sound most_name)
-      (before_sound (word_form) (mark_form volume_mark before word_form before word_form before kind_form before word_form before word_form before word_form before word_form before vnodes_form) (word_sound)
-      (before_sound (mark_form volume_mark) (word_form before word_form before kind_form before word_form before word_form before word_form before word_form before vnodes_form) (mark_sound volume_mark)
-      (before_sound (word_form) (word_form before kind_form before word_form before word_form before word_form before word_form before vnodes_form) (word_sound)
-      (before_sound (word_form) (kind_form before word_form before word_form before word_form before word_form before vnodes_form) (word_sound)
-      (before_sound (kind_form) (word_form before word_form before word_form before word_form before vnodes_form) (kind_sound)
-      (before_sound (word_form) (word_form before word_form before word_form before vnodes_form) (word_sound)
-      (before_sound (word_form) (word_form before word_form before vnodes_form) (word_sound)
-      (before_sound (word_form) (word_form before vnodes_form) (word_sound)
-      (before_sound (word_form) (vnodes_form) (word_sound)
-      vnodes_sound))))))))))
-      (λ p v e. ap volume_parts (sym (some_is _ v e)))
+    (before_sound (text_form most_name) (word_form before mark_form volume_mark before word_form before word_form before kind_form before word_form before word_form before word_form before word_form before vnodes_form) (text_sound most_name)
+    (before_sound (word_form) (mark_form volume_mark before word_form before word_form before kind_form before word_form before word_form before word_form before word_form before vnodes_form) (word_sound)
+    (before_sound (mark_form volume_mark) (word_form before word_form before kind_form before word_form before word_form before word_form before word_form before vnodes_form) (mark_sound volume_mark)
+    (before_sound (word_form) (word_form before kind_form before word_form before word_form before word_form before word_form before vnodes_form) (word_sound)
+    (before_sound (word_form) (kind_form before word_form before word_form before word_form before word_form before vnodes_form) (word_sound)
+    (before_sound (kind_form) (word_form before word_form before word_form before word_form before vnodes_form) (kind_sound)
+    (before_sound (word_form) (word_form before word_form before word_form before vnodes_form) (word_sound)
+    (before_sound (word_form) (word_form before word_form before vnodes_form) (word_sound)
+    (before_sound (word_form) (word_form before vnodes_form) (word_sound)
+    (before_sound (word_form) (vnodes_form) (word_sound)
+    vnodes_sound))))))))))
+    (λ p v e. ap volume_parts (sym (some_is _ v e)))
 
 -- ---- rows
 
@@ -327,6 +327,6 @@ record_spelled bytes r fits e =
     let w = body_takes a.0.0 b.0.1 c.0 u.0.rest_fits c.1.0 in
     let made : StoreRecord = record { head = b.0.0; body = c.0 } in
     let is : word_form.spelled (row c.0).number ++ (head_form.spelled b.0.0 ++ (row c.0).spelled) ≡ bytes =
-        ap (λ (n : ℕ). word_form.spelled n ++ (head_form.spelled b.0.0 ++ (row c.0).spelled)) w.numbered
-        ∙ sym (t.0.parts ∙ ap (λ (s : List ℕ). word_form.spelled a.0.0 ++ s) (u.0.parts ∙ ap (λ (s : List ℕ). head_form.spelled b.0.0 ++ s) w.spelled)) in
+    ap (λ (n : ℕ). word_form.spelled n ++ (head_form.spelled b.0.0 ++ (row c.0).spelled)) w.numbered
+    ∙ sym (t.0.parts ∙ ap (λ (s : List ℕ). word_form.spelled a.0.0 ++ s) (u.0.parts ∙ ap (λ (s : List ℕ). head_form.spelled b.0.0 ++ s) w.spelled)) in
     subst (λ (y : StoreRecord). FitsRecord y × ((word_form.spelled (row y.body).number ++ (head_form.spelled y.head ++ (row y.body).spelled)) ≡ bytes)) (some_is made r c.1.1) (record { head = u.1; body = w.fits }, is)

@@ -142,22 +142,25 @@ start_is_32 = ap length start_bytes ∙ refl
 abbrev after : Durable
 after = record {
   boot = 2;
-  volumes = (home, record {
-    volume = record {
-      family = home;
-      name = codes "proj";
-      kind = 0;
-      flags = 0;
-      quota = 1000;
-      next = 3;
-      counter = 2;
-      release = 0;
-      vnodes = (1, record new_root { names = (record { name = codes "a"; vnode = 2; unique = 2 }) ∷ [] })
-      ∷ (2, record (fresh 2 2 (new_file (record { volume = home; vnode = 1; unique = 1 }))) { index = 2; data_version = 2; contents = codes "def" }) ∷ [];
-    };
-    times = (1, 0) ∷ (2, 0) ∷ [];
-    is_new = false;
-  }) ∷ [];
+  volumes = (
+    home,
+    record {
+      volume = record {
+        family = home;
+        name = codes "proj";
+        kind = 0;
+        flags = 0;
+        quota = 1000;
+        next = 3;
+        counter = 2;
+        release = 0;
+        vnodes = (1, record new_root { names = (record { name = codes "a"; vnode = 2; unique = 2 }) ∷ [] })
+            ∷ (2, record (fresh 2 2 (new_file (record { volume = home; vnode = 1; unique = 1 }))) { index = 2; data_version = 2; contents = codes "def" }) ∷ [];
+      };
+      times = (1, 0) ∷ (2, 0) ∷ [];
+      is_new = false;
+    },
+  ) ∷ [];
   stamps = [];
   forwardings = [];
   kept = (101, record { epoch = 1; number = 1; reply = reply }) ∷ [];

@@ -5,7 +5,9 @@ use Rattle.afs_ideal.specs.Tables.{Table, get, set, AscendsFrom}
 use Rattle.afs_ideal.specs.DirectoryLaws.{IsBytes}
 use Rattle.afs_ideal.specs.Images.{HasImage}
 use Rattle.afs_ideal.specs.VnodeMaps.{most_vnodes}
-use Rattle.afs_ideal.specs.Volumes.{Vnode, Volume, Edit, edited_all, counted}
+use Rattle.afs_ideal.specs.AccessLists.{IsAccessList}
+use Rattle.afs_ideal.specs.Directories.{IsDirectory}
+use Rattle.afs_ideal.specs.Volumes.{a_directory, Vnode, Volume, Edit, edited_all, counted}
 use Rattle.afs_ideal.specs.Soundness.{IsSound}
 use Rattle.afs_records.specs.declared.records.RecordHead.{RecordHead}
 use Rattle.afs_records.specs.declared.records.StoreRecord.{StoreRecord}
@@ -25,6 +27,14 @@ ReadRecordsAreSpelled = (bytes : List ℕ) (r : StoreRecord) → IsBytes bytes �
 -- a sound volume passes the test
 abbrev pub SoundVolumesPass : Type 0
 SoundVolumesPass = (v : Volume) → IsSound v → is_sound v ≡ true
+
+-- a directory's names and access list are those of one, as they are where they were read from an image
+abbrev pub IsRead : Vnode → Type 0
+IsRead x = x.kind ≡ a_directory → IsDirectory x.names × IsAccessList x.acl
+
+-- a volume that passes is sound, where its vnodes were read
+abbrev pub PassingVolumesAreSound : Type 0
+PassingVolumesAreSound = (v : Volume) → ((n : ℕ) (x : Vnode) → get n v.vnodes ≡ Some x → IsRead x) → is_sound v ≡ true → IsSound v
 
 -- edits of the volume of this number that leave a volume which a disk may hold
 pub record CanBeStored (id : ℕ) (es : List Edit) (v : Volume) : Type 0 where

@@ -154,7 +154,7 @@ volume_made p = Some (record {
 unfoldable pub volume_form : Form StoredVolume
 volume_form =
     known_as (text_form most_name before word_form before mark_form volume_mark before word_form before word_form before kind_form before word_form before word_form before word_form before word_form before vnodes_form)
-      volume_parts volume_made
+    volume_parts volume_made
 
 -- ---- a row of the table: one & the next & .. & end, each field's form with its value. They take a maker of type F to
 -- what the row makes.

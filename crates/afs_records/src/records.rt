@@ -31,7 +31,9 @@ pub type StoredVolumes = Sequence<StoredVolume>;
 #[derive(Drop)]
 pub enum RecordBody {
     /// Set-up: these are the volumes.
-    First { volumes: StoredVolumes },
+    First {
+        volumes: StoredVolumes,
+    },
     /// A volume changed: its counter and next unique number after it, the vnodes that were made or changed, as they are
     /// after it, and the numbers of those that went.
     Change {
@@ -42,7 +44,9 @@ pub enum RecordBody {
         removed: VnodeNumbers,
     },
     /// The server started with this boot number. Volumes with the flag of delete on salvage are gone.
-    Boot { boot: u32 },
+    Boot {
+        boot: u32,
+    },
     /// A volume was made, with its root alone. It is new where it was made under no stamp.
     Create {
         id: u32,
@@ -54,7 +58,9 @@ pub enum RecordBody {
         is_new: bool,
     },
     /// A volume was deleted.
-    Delete { id: u32 },
+    Delete {
+        id: u32,
+    },
     /// A clone of a volume was made, or made anew, with this release, which is then the volume's too.
     Clone {
         source: u32,
@@ -64,11 +70,20 @@ pub enum RecordBody {
         release: u32,
     },
     /// A dump was restored into a volume.
-    Restore { id: u32, dump: Octets },
+    Restore {
+        id: u32,
+        dump: Octets,
+    },
     /// A volume's flags were set.
-    Flags { id: u32, flags: u32 },
+    Flags {
+        id: u32,
+        flags: u32,
+    },
     /// Calls for this volume are to go to this server, 1 to 8.
-    Forward { id: u32, server: u32 },
+    Forward {
+        id: u32,
+        server: u32,
+    },
     /// Nothing but what the head says.
     Stamp,
 }
