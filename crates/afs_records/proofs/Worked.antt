@@ -1,7 +1,8 @@
 -- Worked records: the first, a change and a start of a server with one file, as words of their bytes.
-use Rattle.std.proofs.Common.{◌≡◌, ℕ, List, [], ◌∷◌, Some, None, refl, length, ap, ◌∙◌}
+use Rattle.std.proofs.Common.{◌≡◌, ℕ, List, [], ◌∷◌, Some, None, ◌++◌, refl, length, ap, ◌∙◌, lit<, lit≤}
 use Rattle.std.specs.Prelude.{codes, true, false}
-use Rattle.std.specs.Option.{option_map}
+use Rattle.std.specs.Fmt.{decimal}
+use Rattle.std.proofs.lemmas.Fmt.{decimal_digit, decimal_step}
 use Rattle.afs_num.specs.declared.types.Node.TheVariants.{Server, Client}
 use Rattle.afs_num.specs.declared.vnodes.Vnode.{Vnode}
 use Rattle.afs_num.specs.declared.scripts.SetupLine.TheVariants as setup
@@ -21,8 +22,8 @@ use Rattle.afs_records.specs.declared.records.RecordBody.TheVariants as bodies
 use Rattle.afs_records.specs.declared.records.StoreRecord.{StoreRecord}
 use Rattle.afs_records.specs.Records.{head_form, volume_form, record_bytes, record_at}
 use Rattle.afs_records.specs.Sound.{is_sound}
-use Rattle.afs_records.specs.Durable.{Stored, Kept, Durable, folded, fold_all}
-use Rattle.afs_records.specs.Changes.{no_head, boot_record, first_record, first_length, set_up}
+use Rattle.afs_records.specs.Durable.{Stored, Kept, Durable, has_room, folded, fold_all}
+use Rattle.afs_records.specs.Changes.{no_head, boot_record, can_boot, first_record}
 
 -- ---- a volume with one file
 
@@ -136,6 +137,42 @@ change_is_264 = ap length change_bytes ∙ refl
 start_is_32 : length (record_bytes (boot_record 2)) ≡ 32
 unfolding word
 start_is_32 = ap length start_bytes ∙ refl
+
+-- ---- set-up makes the first
+
+one_is : decimal 1 ≡ codes "1"
+one_is = decimal_digit 1 (lit< tt)
+
+zero_is : decimal 0 ≡ codes "0"
+zero_is = decimal_digit 0 (lit< tt)
+
+all_rights_is : decimal 127 ≡ codes "127"
+all_rights_is = decimal_step 127 (lit≤ tt) (lit< tt) ∙ ap (λ (t : List ℕ). t ++ (55 ∷ [])) (decimal_step 12 (lit≤ tt) (lit< tt) ∙ ap (λ (t : List ℕ). t ++ (50 ∷ [])) one_is)
+
+list_text : acls.acl_text new_root.acl ≡ codes "1\n0\nsystem:anyuser\t127\n"
+unfolding acls.acl_text acls.entry_text
+list_text = rw (one_is, zero_is, all_rights_is) refl
+
+set_up_makes_it : first_record (line ∷ []) ≡ Some first
+unfolding led laid_at directories.directory_bytes directories.name_bytes word opaque pad directories.bytes_below name_ok
+set_up_makes_it = rw list_text refl
+
+-- ---- whether a change fits: the journal with the first record has 298 bytes, the place of the change 273
+
+abbrev disk_of : ℕ → Durable
+disk_of capacity = record { boot = 1; volumes = []; stamps = []; forwardings = []; kept = []; journal = 298; capacity = capacity }
+
+no_room : has_room (disk_of 570) change ≡ false
+no_room = rw change_is_264 refl
+
+just_room : has_room (disk_of 571) change ≡ true
+just_room = rw change_is_264 refl
+
+no_start : can_boot (disk_of 338) ≡ false
+no_start = rw start_is_32 refl
+
+a_start : can_boot (disk_of 339) ≡ true
+a_start = rw start_is_32 refl
 
 -- ---- what the three stand for
 
