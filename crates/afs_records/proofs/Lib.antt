@@ -4,4 +4,5 @@ pub mod Spelled
 pub mod Tested
 pub mod Kept
 pub mod Lengths
+pub mod Fitting
 pub mod Worked

@@ -1,5 +1,5 @@
 -- Laws about records: bytes and records are one for one, and the fold of a server's own records is what its steps do.
-use Rattle.std.specs.Prelude.{◌≡◌, ◌≤◌, ◌<◌, ◌+◌, ℕ, List, length, true, Option, Some, None, filter, not}
+use Rattle.std.specs.Prelude.{◌≡◌, ◌≤◌, ◌<◌, ◌+◌, ◌^◌, ℕ, List, length, true, Option, Some, None, filter, not}
 use Rattle.afs_num.specs.declared.types.Node.{Node}
 use Rattle.afs_ideal.specs.Tables.{Table, get, set, AscendsFrom}
 use Rattle.afs_ideal.specs.DirectoryLaws.{IsBytes}
@@ -11,7 +11,7 @@ use Rattle.afs_ideal.specs.Volumes.{a_directory, Vnode, Volume, Edit, edited_all
 use Rattle.afs_ideal.specs.Soundness.{IsSound}
 use Rattle.afs_records.specs.declared.records.RecordHead.{RecordHead}
 use Rattle.afs_records.specs.declared.records.StoreRecord.{StoreRecord}
-use Rattle.afs_records.specs.Records.{record_bytes, record_at, FitsRecord}
+use Rattle.afs_records.specs.Records.{head_form, record_bytes, record_at, FitsRecord}
 use Rattle.afs_records.specs.Sound.{is_sound}
 use Rattle.afs_records.specs.Durable.{Stored, Durable, place_length, folded, noted, longer, is_flagged}
 use Rattle.afs_records.specs.Changes.{change_record, stored_after, boot_record}
@@ -42,6 +42,20 @@ pub record CanBeStored (id : ℕ) (es : List Edit) (v : Volume) : Type 0 where
   pub sound : IsSound (counted (edited_all id es v))
   pub few : length (edited_all id es v).vnodes ≤ most_vnodes
   pub images : (n : ℕ) (x : Vnode) → get n (edited_all id es v).vnodes ≡ Some x → HasImage x
+
+-- what a change's record says fits in words
+pub record IsInWords (id time : ℕ) (es : List Edit) (before after : Volume) : Type 0 where
+  pub volume : id < 2 ^ 32
+  pub clock : time < 2 ^ 32
+  pub counter : after.counter < 2 ^ 32
+  pub unique : after.next < 2 ^ 32
+  pub edits : length es < 2 ^ 32
+  pub left : (n : ℕ) (x : Vnode) → get n after.vnodes ≡ Some x → n < 2 ^ 32
+  pub gone : (n : ℕ) (x : Vnode) → get n before.vnodes ≡ Some x → n < 2 ^ 32
+
+-- the record of such a change is within the limits
+abbrev pub ChangesFit : Type 0
+ChangesFit = (head : RecordHead) (id time : ℕ) (es : List Edit) (v : Volume) → head_form.Fits head → CanBeStored id es v → IsInWords id time es v (counted (edited_all id es v)) → FitsRecord (change_record head id time es v)
 
 abbrev pub volume_put : ℕ → Stored → Durable → Durable
 volume_put id s d = record d { volumes = set id s d.volumes }

@@ -3,4 +3,5 @@ pub mod Records
 pub mod Sound
 pub mod Durable
 pub mod Changes
+pub mod Stands
 pub mod Laws

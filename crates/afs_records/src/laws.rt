@@ -1,6 +1,6 @@
 //! Laws about records. Each is the contract of a function that does nothing.
 
-ghost use Rattle.afs_records.specs.Laws.{ChangesAreKept, LengthHasNoTime, PassingVolumesAreSound, ReadRecordsAreSpelled, RecordsAreReadAgain, SoundVolumesPass, StartsAreKept};
+ghost use Rattle.afs_records.specs.Laws.{ChangesAreKept, ChangesFit, LengthHasNoTime, PassingVolumesAreSound, ReadRecordsAreSpelled, RecordsAreReadAgain, SoundVolumesPass, StartsAreKept};
 
 /// A record within its limits is read again from its bytes.
 pub fn records_are_read_again()
@@ -20,6 +20,11 @@ pub fn sound_volumes_pass()
 /// A volume that passes the test is sound, where its directories were read from images.
 pub fn passing_volumes_are_sound()
     ensures { PassingVolumesAreSound }
+{}
+
+/// The record of a change has a spelling.
+pub fn changes_fit()
+    ensures { ChangesFit }
 {}
 
 /// The fold of a change's record puts the volume that its edits make, and keeps the reply.
