@@ -78,7 +78,7 @@ pub change_fits : (head : RecordHead) (id time : ℕ) (es : List Edit) (v : Volu
 change_fits head id time es v fits can small =
     let after = counted (edited_all id es v) in
     let images : AllByRecursion HasImageForm (images_left time es after) =
-        all_left time es after (λ n x e. image_fits n time x (small.left n x e) small.clock (can.sound.vnodes n x e).kind (can.images n x e)) in
+    all_left time es after (λ n x e. image_fits n time x (small.left n x e) small.clock (can.sound.vnodes n x e).kind (can.images n x e)) in
     record {
       head = fits;
       body = (small.volume, (small.counter, (small.unique, ((omega (arith, few_left time es after, small.edits), images), ((omega (arith, few_gone es v after, small.edits), all_gone es v after small.gone), tt)))));

@@ -5,4 +5,5 @@ pub mod Tested
 pub mod Kept
 pub mod Lengths
 pub mod Fitting
+pub mod Grows
 pub mod Worked

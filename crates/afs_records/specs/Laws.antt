@@ -1,5 +1,5 @@
 -- Laws about records: bytes and records are one for one, and the fold of a server's own records is what its steps do.
-use Rattle.std.specs.Prelude.{◌≡◌, ◌≤◌, ◌<◌, ◌+◌, ◌^◌, ℕ, List, length, true, Option, Some, None, filter, not}
+use Rattle.std.specs.Prelude.{◌≡◌, ◌≤◌, ◌<◌, ◌+◌, ◌^◌, ℕ, List, [], ◌∷◌, ◌++◌, length, true, Option, Some, None, filter, not}
 use Rattle.afs_num.specs.declared.types.Node.{Node}
 use Rattle.afs_ideal.specs.Tables.{Table, get, set, AscendsFrom}
 use Rattle.afs_ideal.specs.DirectoryLaws.{IsBytes}
@@ -13,7 +13,7 @@ use Rattle.afs_records.specs.declared.records.RecordHead.{RecordHead}
 use Rattle.afs_records.specs.declared.records.StoreRecord.{StoreRecord}
 use Rattle.afs_records.specs.Records.{head_form, record_bytes, record_at, FitsRecord}
 use Rattle.afs_records.specs.Sound.{is_sound}
-use Rattle.afs_records.specs.Durable.{Stored, Durable, place_length, folded, noted, longer, is_flagged}
+use Rattle.afs_records.specs.Durable.{Stored, Durable, place_length, folded, StandFor, noted, longer, is_flagged}
 use Rattle.afs_records.specs.Changes.{change_record, stored_after, boot_record}
 
 -- a record within the limits is read again from its bytes
@@ -81,3 +81,7 @@ StartsAreKept = (d : Durable) → folded (boot_record (d.boot + 1)) d ≡ Some (
 abbrev pub LengthHasNoTime : Type 0
 LengthHasNoTime = (head other : RecordHead) (id time later : ℕ) (es : List Edit) (v : Volume) → length head.reply ≡ length other.reply →
     length (record_bytes (change_record head id time es v)) ≡ length (record_bytes (change_record other id later es v))
+
+-- One more record, that can be taken, stands for what the fold makes of it.
+abbrev pub OneMoreStands : Type 0
+OneMoreStands = (records : List (List ℕ)) (r : StoreRecord) (d e : Durable) → StandFor records d → FitsRecord r → folded r d ≡ Some e → StandFor (records ++ record_bytes r ∷ []) e

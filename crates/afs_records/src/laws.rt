@@ -1,6 +1,6 @@
 //! Laws about records. Each is the contract of a function that does nothing.
 
-ghost use Rattle.afs_records.specs.Laws.{ChangesAreKept, ChangesFit, LengthHasNoTime, PassingVolumesAreSound, ReadRecordsAreSpelled, RecordsAreReadAgain, SoundVolumesPass, StartsAreKept};
+ghost use Rattle.afs_records.specs.Laws.{ChangesAreKept, ChangesFit, LengthHasNoTime, OneMoreStands, PassingVolumesAreSound, ReadRecordsAreSpelled, RecordsAreReadAgain, SoundVolumesPass, StartsAreKept};
 
 /// A record within its limits is read again from its bytes.
 pub fn records_are_read_again()
@@ -40,4 +40,9 @@ pub fn starts_are_kept()
 /// How long the record of a change is doesn't depend on its time.
 pub fn length_has_no_time()
     ensures { LengthHasNoTime }
+{}
+
+/// One more record, that can be taken, stands for what the fold makes of it.
+pub fn one_more_stands()
+    ensures { OneMoreStands }
 {}
