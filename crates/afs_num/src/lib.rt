@@ -12,6 +12,7 @@ pub mod histories;
 pub mod keyed;
 pub mod messages;
 pub mod names;
+pub mod records;
 pub mod scripts;
 pub mod sequences;
 pub mod states;

@@ -9,7 +9,7 @@ use Rattle.afs_ideal.specs.Images.{Image, IsWord, image_of, HasImage}
 use Rattle.afs_ideal.specs.Volumes.{Kind, a_file, a_directory, a_link, type_of, Vnode, Volume, Edit, edit_number, edited_all, counted}
 use Rattle.afs_ideal.specs.Operations.{is_kind}
 use Rattle.afs_ideal.specs.Soundness.{KindFits}
-use Rattle.afs_records.specs.declared.records.RecordHead.{RecordHead}
+use Rattle.afs_num.specs.declared.records.RecordHead.{RecordHead}
 use Rattle.afs_records.specs.Forms.{word_form, HasImageForm, image_form, list_form}
 use Rattle.afs_records.specs.Records.{head_form, FitsRecord}
 use Rattle.afs_records.specs.Changes.{image_left, images_left, gone_between, numbers_gone, change_record}

@@ -4,11 +4,11 @@ use Rattle.std.specs.Prelude.{nat_eq}
 use Rattle.afs_shape.specs.Taking.{◌>>=◌}
 use Rattle.afs_ideal.specs.Tables.{get}
 use Rattle.afs_num.specs.declared.types.Node.{Node}
-use Rattle.afs_records.specs.declared.records.RecordHead.{RecordHead}
-use Rattle.afs_records.specs.declared.records.StoredVolume.{StoredVolume}
-use Rattle.afs_records.specs.declared.records.RecordBody.{RecordBody}
-use Rattle.afs_records.specs.declared.records.RecordBody.TheVariants as bodies
-use Rattle.afs_records.specs.declared.records.StoreRecord.{StoreRecord}
+use Rattle.afs_num.specs.declared.records.RecordHead.{RecordHead}
+use Rattle.afs_num.specs.declared.records.StoredVolume.{StoredVolume}
+use Rattle.afs_num.specs.declared.records.RecordBody.{RecordBody}
+use Rattle.afs_num.specs.declared.records.RecordBody.TheVariants as bodies
+use Rattle.afs_num.specs.declared.records.StoreRecord.{StoreRecord}
 use Rattle.afs_records.specs.Records.{record_bytes, record_at, FitsRecord}
 use Rattle.afs_records.specs.Durable.{Stored, Durable, nothing_on, place_length, with_stored, stored_of, with_volumes, changed_stored, replaced, booted, body_taken, with_stamp, with_reply, noted, longer, folded, is_first, first_folded, fold_from, fold_all, StandFor}
 use Rattle.afs_records.proofs.Forms.{bound, some_is}

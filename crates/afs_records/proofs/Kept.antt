@@ -15,7 +15,7 @@ use Rattle.afs_ideal.specs.Soundness.{HasByKind, IsSound}
 use Rattle.afs_ideal.proofs.Tables.{get_below, ascends_set, ascends_unset, get_set, get_unset}
 use Rattle.afs_ideal.proofs.AccessLists.{acl_again}
 use Rattle.afs_ideal.proofs.DirectoryBytes.{spelled_is_read}
-use Rattle.afs_records.specs.declared.records.RecordHead.{RecordHead}
+use Rattle.afs_num.specs.declared.records.RecordHead.{RecordHead}
 use Rattle.afs_records.specs.Sound.{is_sound}
 use Rattle.afs_records.specs.Durable.{Stored, Durable, place_length, allowed, with_image, with_images, is_there, without_one, without, counted_as, changed_stored, replaced, folded, noted, longer}
 use Rattle.afs_records.specs.Changes.{image_left, images_left, gone_between, numbers_gone, record_between, change_record, set_times, unset_times, stored_between, stored_after}

@@ -11,7 +11,7 @@ use Rattle.afs_ideal.specs.VnodeImage.{image, image_words}
 use Rattle.afs_ideal.specs.Images.{Image, image_of}
 use Rattle.afs_ideal.specs.Volumes as volumes
 use Rattle.afs_ideal.specs.Volumes.{Volume, Edit, edit_number, edited_all, counted}
-use Rattle.afs_records.specs.declared.records.RecordHead.{RecordHead}
+use Rattle.afs_num.specs.declared.records.RecordHead.{RecordHead}
 use Rattle.afs_records.specs.Forms.{word_form, image_form, list_form}
 use Rattle.afs_records.specs.Records.{caller_number, head_form, record_bytes}
 use Rattle.afs_records.specs.Changes.{image_left, images_left, numbers_gone, change_record}

@@ -10,11 +10,11 @@ use Rattle.afs_num.specs.declared.vnodes.Vnode.{Vnode}
 use Rattle.afs_xdr.specs.Words.{word}
 use Rattle.afs_shape.specs.Taking.{◌>>=◌}
 use Rattle.afs_shape.proofs.Codecs.{IsBytes, Takes, Takes-then}
-use Rattle.afs_records.specs.declared.records.RecordHead.{RecordHead}
-use Rattle.afs_records.specs.declared.records.StoredVolume.{StoredVolume}
-use Rattle.afs_records.specs.declared.records.RecordBody.{RecordBody}
-use Rattle.afs_records.specs.declared.records.RecordBody.TheVariants as bodies
-use Rattle.afs_records.specs.declared.records.StoreRecord.{StoreRecord}
+use Rattle.afs_num.specs.declared.records.RecordHead.{RecordHead}
+use Rattle.afs_num.specs.declared.records.StoredVolume.{StoredVolume}
+use Rattle.afs_num.specs.declared.records.RecordBody.{RecordBody}
+use Rattle.afs_num.specs.declared.records.RecordBody.TheVariants as bodies
+use Rattle.afs_num.specs.declared.records.StoreRecord.{StoreRecord}
 use Rattle.afs_records.specs.Forms.{Form, word_form, text_form, image_form, ◌before◌, known_as, only, many_at, list_form}
 use Rattle.afs_records.specs.Records as table
 use Rattle.afs_records.specs.Records.{most_name, most_dump, most_reply, between, mark_form, kind_form, server_form, flag_number, flag_of, flag_form, caller_number, caller_of, caller_form, head_parts, head_made, head_form, volume_mark, vnode_mark, listed_form, marked_form, listed, are_listed, ascend_from, was_changed, are_whole, vnodes_form, volume_parts, volume_made, volume_form, made_at_end, made_behind, row, each, made_in, body_at, record_bytes, record_at, FitsRecord}

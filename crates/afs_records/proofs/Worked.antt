@@ -16,10 +16,10 @@ use Rattle.afs_ideal.specs.SetUp.{new_root, led, laid_at}
 use Rattle.afs_ideal.specs.Volumes.{fresh}
 use Rattle.afs_ideal.specs.Operations.{new_file}
 use Rattle.afs_num.specs.Names.{name_ok}
-use Rattle.afs_records.specs.declared.records.RecordHead.{RecordHead}
-use Rattle.afs_records.specs.declared.records.StoredVolume.{StoredVolume}
-use Rattle.afs_records.specs.declared.records.RecordBody.TheVariants as bodies
-use Rattle.afs_records.specs.declared.records.StoreRecord.{StoreRecord}
+use Rattle.afs_num.specs.declared.records.RecordHead.{RecordHead}
+use Rattle.afs_num.specs.declared.records.StoredVolume.{StoredVolume}
+use Rattle.afs_num.specs.declared.records.RecordBody.TheVariants as bodies
+use Rattle.afs_num.specs.declared.records.StoreRecord.{StoreRecord}
 use Rattle.afs_records.specs.Records.{head_form, volume_form, record_bytes, record_at}
 use Rattle.afs_records.specs.Sound.{is_sound}
 use Rattle.afs_records.specs.Durable.{Stored, Kept, Durable, has_room, folded, fold_all}

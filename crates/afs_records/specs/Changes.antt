@@ -11,10 +11,10 @@ use Rattle.afs_ideal.specs.Images.{Image, image_of}
 use Rattle.afs_ideal.specs.Volumes.{Vnode, Volume, Edit, edit_number, edited_all, counted}
 use Rattle.afs_ideal.specs.Operations.{last_count}
 use Rattle.afs_ideal.specs.SetUp.{new_volume, laid}
-use Rattle.afs_records.specs.declared.records.RecordHead.{RecordHead}
-use Rattle.afs_records.specs.declared.records.StoredVolume.{StoredVolume}
-use Rattle.afs_records.specs.declared.records.RecordBody.TheVariants as bodies
-use Rattle.afs_records.specs.declared.records.StoreRecord.{StoreRecord}
+use Rattle.afs_num.specs.declared.records.RecordHead.{RecordHead}
+use Rattle.afs_num.specs.declared.records.StoredVolume.{StoredVolume}
+use Rattle.afs_num.specs.declared.records.RecordBody.TheVariants as bodies
+use Rattle.afs_num.specs.declared.records.StoreRecord.{StoreRecord}
 use Rattle.afs_records.specs.Records.{record_bytes}
 use Rattle.afs_records.specs.Durable.{Stored, Durable, nothing_on, or_zero, has_room, first_folded}
 

@@ -15,12 +15,12 @@ use Rattle.afs_ideal.specs.Tables.{Table, get, set, unset}
 use Rattle.afs_ideal.specs.VnodeMaps.{most_vnodes}
 use Rattle.afs_ideal.specs.Images.{Image, value_of, values_of}
 use Rattle.afs_ideal.specs.Volumes.{Vnode, Volume, has_bit, version_at, gone_at}
-use Rattle.afs_records.specs.declared.records.RecordHead.{RecordHead}
-use Rattle.afs_records.specs.declared.records.StoredVolume.{StoredVolume}
-use Rattle.afs_records.specs.declared.records.RecordBody.{RecordBody}
-use Rattle.afs_records.specs.declared.records.RecordBody.TheVariants as bodies
-use Rattle.afs_records.specs.declared.records.StoreRecord.{StoreRecord}
-use Rattle.afs_records.specs.declared.records.Mark.{Mark}
+use Rattle.afs_num.specs.declared.records.RecordHead.{RecordHead}
+use Rattle.afs_num.specs.declared.records.StoredVolume.{StoredVolume}
+use Rattle.afs_num.specs.declared.records.RecordBody.{RecordBody}
+use Rattle.afs_num.specs.declared.records.RecordBody.TheVariants as bodies
+use Rattle.afs_num.specs.declared.records.StoreRecord.{StoreRecord}
+use Rattle.afs_num.specs.declared.records.Mark.{Mark}
 use Rattle.afs_records.specs.Records.{record_bytes, record_at}
 use Rattle.afs_records.specs.Sound.{is_sound}
 

@@ -9,8 +9,8 @@ use Rattle.afs_ideal.specs.AccessLists.{IsAccessList}
 use Rattle.afs_ideal.specs.Directories.{IsDirectory}
 use Rattle.afs_ideal.specs.Volumes.{a_directory, Vnode, Volume, Edit, edited_all, counted}
 use Rattle.afs_ideal.specs.Soundness.{IsSound}
-use Rattle.afs_records.specs.declared.records.RecordHead.{RecordHead}
-use Rattle.afs_records.specs.declared.records.StoreRecord.{StoreRecord}
+use Rattle.afs_num.specs.declared.records.RecordHead.{RecordHead}
+use Rattle.afs_num.specs.declared.records.StoreRecord.{StoreRecord}
 use Rattle.afs_records.specs.Records.{head_form, record_bytes, record_at, FitsRecord}
 use Rattle.afs_records.specs.Sound.{is_sound}
 use Rattle.afs_records.specs.Durable.{Stored, Durable, place_length, folded, StandFor, noted, longer, is_flagged}

@@ -7,11 +7,11 @@ use Rattle.afs_num.specs.declared.types.Node.{Node}
 use Rattle.afs_num.specs.declared.types.Node.TheVariants.{Loc}
 use Rattle.afs_num.specs.declared.vnodes.Vnode.{Vnode}
 use Rattle.afs_num.specs.declared.volumes.VolumeHead.{VolumeHead}
-use Rattle.afs_records.specs.declared.records.RecordHead.{RecordHead}
-use Rattle.afs_records.specs.declared.records.StoredVolume.{StoredVolume}
-use Rattle.afs_records.specs.declared.records.RecordBody.{RecordBody}
-use Rattle.afs_records.specs.declared.records.RecordBody.TheVariants as bodies
-use Rattle.afs_records.specs.declared.records.StoreRecord.{StoreRecord}
+use Rattle.afs_num.specs.declared.records.RecordHead.{RecordHead}
+use Rattle.afs_num.specs.declared.records.StoredVolume.{StoredVolume}
+use Rattle.afs_num.specs.declared.records.RecordBody.{RecordBody}
+use Rattle.afs_num.specs.declared.records.RecordBody.TheVariants as bodies
+use Rattle.afs_num.specs.declared.records.StoreRecord.{StoreRecord}
 use Rattle.afs_shape.specs.Taking.{◌>>=◌}
 use Rattle.afs_ideal.specs.VnodeMaps.{most_vnodes}
 use Rattle.afs_records.specs.Forms.{Form, word_form, text_form, image_form, ◌before◌, known_as, only, many_at, list_form}

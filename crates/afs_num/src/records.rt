@@ -1,9 +1,9 @@
 //! What a server keeps on its disk: the records of its journal.
 
-use afs_num::sequences::{Octets, Sequence};
-use afs_num::types::Node;
-use afs_num::vnodes::{VnodeNumbers, Vnodes};
-use afs_num::volumes::VolumeHead;
+use crate::sequences::{Octets, Sequence};
+use crate::types::Node;
+use crate::vnodes::{VnodeNumbers, Vnodes};
+use crate::volumes::VolumeHead;
 
 /// What stands before the fields of each record: the stamp that it raises for a family of volumes (0 and 0 where it
 /// raises none), and the reply that it keeps, the whole message, with the caller, epoch and number of its call (0 and
