@@ -1,6 +1,6 @@
 -- CreateFile, Symlink, MakeDir and Link leave a sound volume sound.
-use Rattle.std.proofs.Common.{◌≡◌, ℕ, zero, suc, ◌+◌, ◌-◌, ◌<◌, ◌≤◌, Bool, true, false, cond, eqb, ltb, not, List, [], ◌∷◌, ◌++◌, length, Option, Some, None, refl, sym, ap, subst, ◌∙◌, arith, eq-eqb, eqb-true, ltb-true}
-use Rattle.std.specs.Prelude.{◌&&◌, nat_lt, nat_eq, ⊤, is_some, ◌%◌, if◌then◌else◌}
+use Rattle.std.proofs.Common.{◌≡◌, ℕ, ◌+◌, ◌<◌, ◌≤◌, Bool, true, false, cond, eqb, not, List, [], ◌∷◌, length, Option, Some, None, refl, sym, ap, subst, ◌∙◌, arith, eq-eqb, eqb-true, ltb-true}
+use Rattle.std.specs.Prelude.{nat_lt, nat_eq, is_some, ◌%◌, if◌then◌else◌}
 use Rattle.std.specs.List.{AllByRecursion}
 use Rattle.std.specs.Option.{option_map}
 use Rattle.afs_num.specs.Names.{name_ok}
@@ -8,20 +8,19 @@ use Rattle.afs_num.specs.declared.types.Fid.{Fid}
 use Rattle.afs_num.specs.declared.acls.AccessList.{AccessList}
 use Rattle.afs_num.specs.declared.calls.AfsStoreStatus.{AfsStoreStatus}
 use Rattle.afs_num.specs.declared.directories.Name.{Name}
-use Rattle.afs_ideal.specs.Tables.{get, lowest_free}
+use Rattle.afs_ideal.specs.Tables.{get}
 use Rattle.afs_ideal.specs.AccessLists.{IsAccessList, no_acl}
-use Rattle.afs_ideal.specs.Directories.{most_names, IsDirectory, named, with_name, add_refused}
-use Rattle.afs_ideal.specs.Volumes.{Kind, a_file, a_directory, a_link, Vnode, Volume, vnode_of, Amend, Edit, amends, makes, or_old, with_status, amended, fresh, edited, edited_all, edit_number, ascending, counted}
-use Rattle.afs_ideal.specs.Operations.{Tests, first_failing, adds_name, is_kind, names_in, links_of, acl_of, implies, no_amend, free_number, new_in, name_of, creating, linking, may_link}
-use Rattle.afs_ideal.specs.Soundness.{names_of, names_directory, subdirectories, KindFits, HasNames, IsNamedIn, HasByKind, IsRoot, IsSound}
+use Rattle.afs_ideal.specs.Directories.{most_names, named, with_name, add_refused}
+use Rattle.afs_ideal.specs.Volumes.{Kind, a_file, a_directory, a_link, Vnode, Volume, vnode_of, Amend, Edit, amends, makes, or_old, with_status, amended, fresh, edited, edited_all, ascending, counted}
+use Rattle.afs_ideal.specs.Operations.{adds_name, is_kind, names_in, links_of, no_amend, free_number, new_in, name_of, creating, linking}
+use Rattle.afs_ideal.specs.Soundness.{names_of, HasNames, IsNamedIn, IsRoot, IsSound}
 use Rattle.afs_ideal.proofs.Basics.{some_of, both}
-use Rattle.afs_ideal.proofs.Tables.{free_is_free, free_parity, free_from}
 use Rattle.afs_ideal.proofs.Counts.{one_if}
-use Rattle.afs_ideal.proofs.Maps.{Map, put, Own, Sound, Seen, Like, AreLike, like_itself, as_like}
-use Rattle.afs_ideal.proofs.Steps.{with_names, Held, its_names, parity, room_for, comes, gains, linked_by, added}
+use Rattle.afs_ideal.proofs.Maps.{Map, put, Own, Sound, AreLike, like_itself, as_like}
+use Rattle.afs_ideal.proofs.Steps.{with_names, Held, parity, room_for, comes, gains, linked_by, added}
 use Rattle.afs_ideal.proofs.Ranks.{Ranked, at, steps, leaf_rank, ranked_leaf}
-use Rattle.afs_ideal.proofs.Looks.{one_edit, look, Distinct, MakesAs, two_makes, IsNoMake, looks, same_next, next_all, each_ascending, IsAboveRoot, all_up}
-use Rattle.afs_ideal.proofs.Kept.{as_map, as_ranked, edited_sound, Found, KeepsBut, holds_after, same_parents, IsPlain, plain_sound, like_if, like_two, two_numbers, amended_like}
+use Rattle.afs_ideal.proofs.Looks.{one_edit, look, Distinct, MakesAs, two_makes, looks, same_next, each_ascending, IsAboveRoot}
+use Rattle.afs_ideal.proofs.Kept.{as_map, as_ranked, edited_sound, Found, holds_after, same_parents, plain_sound, like_two, two_numbers, amended_like}
 
 -- ---- a name that may be added
 
@@ -42,22 +41,22 @@ may_add name names good h = room_for name names (both good (name_ok name) h.0).1
 abbrev pub made : Volume → AfsStoreStatus → Vnode → Vnode
 made v status x = fresh (v.counter + 1) v.next (with_status (Some status) x)
 
-pub file_own : (n next : ℕ) (d : Fid) (mode links : ℕ) (bytes : List ℕ) (v : Volume) (status : AfsStoreStatus) → n % 2 ≡ 0 → Own (v.next + 1) n (made v status (new_in d a_file links mode bytes no_acl))
-file_own n next d mode links bytes v status even = record {
+pub file_own : (n : ℕ) (d : Fid) (mode links : ℕ) (bytes : List ℕ) (v : Volume) (status : AfsStoreStatus) → n % 2 ≡ 0 → Own (v.next + 1) n (made v status (new_in d a_file links mode bytes no_acl))
+file_own n d mode links bytes v status even = record {
   kind = (λ e. absurd cc, λ odd. absurd (omega (arith, even, odd)));
   unique = omega arith;
   body = record { names = refl; acl = refl };
 }
 
-pub link_own : (n next : ℕ) (d : Fid) (mode links : ℕ) (bytes : List ℕ) (v : Volume) (status : AfsStoreStatus) → n % 2 ≡ 0 → Own (v.next + 1) n (made v status (new_in d a_link links mode bytes no_acl))
-link_own n next d mode links bytes v status even = record {
+pub link_own : (n : ℕ) (d : Fid) (mode links : ℕ) (bytes : List ℕ) (v : Volume) (status : AfsStoreStatus) → n % 2 ≡ 0 → Own (v.next + 1) n (made v status (new_in d a_link links mode bytes no_acl))
+link_own n d mode links bytes v status even = record {
   kind = (λ e. absurd cc, λ odd. absurd (omega (arith, even, odd)));
   unique = omega arith;
   body = record { names = refl; acl = refl };
 }
 
-pub directory_own : (n next : ℕ) (d : Fid) (mode : ℕ) (acl : AccessList) (v : Volume) (status : AfsStoreStatus) → n % 2 ≡ 1 → IsAccessList acl → Own (v.next + 1) n (made v status (new_in d a_directory 2 mode [] acl))
-directory_own n next d mode acl v status odd is = record {
+pub directory_own : (n : ℕ) (d : Fid) (mode : ℕ) (acl : AccessList) (v : Volume) (status : AfsStoreStatus) → n % 2 ≡ 1 → IsAccessList acl → Own (v.next + 1) n (made v status (new_in d a_directory 2 mode [] acl))
+directory_own n d mode acl v status odd is = record {
   kind = (λ e. odd, λ e. refl);
   unique = omega arith;
   body = record { names = record { ordered = refl; few = omega arith }; acl = is; contents = refl; links = refl };
@@ -110,18 +109,18 @@ creates_sound id d name status links new x v h found dir ok free above parent pa
     let g : Map = put t (Some y) (added d.vnode x m (or_old links x.links) (at v)) in
     let sound : Sound (v.next + 1) g = comes d.vnode t v.next (or_old links x.links) m x y (at v) found.there dir free refl refl ok l refl parent (parent_unique ∙ sym found.unique) empty own single (as_map v h) in
     let like : (n : ℕ) → AreLike (g n) (look (v.counter + 1) v.next es n (get n v.vnodes)) = λ n.
-      like_two (eqb t n) (eqb d.vnode n) (Some y) (Some (with_names x (with_name m x.names) (or_old links x.links))) (one_edit (v.counter + 1) v.next (makes t (with_status (Some status) new)) (get n v.vnodes)) (option_map (amended (v.counter + 1) a) (get n v.vnodes)) (get n v.vnodes)
-      (two_numbers d.vnode t n ne)
-      (λ b. subst (λ (o : Option Vnode). AreLike (Some y) (one_edit (v.counter + 1) v.next (makes t (with_status (Some status) new)) o)) (sym (ap (λ (k : ℕ). get k v.vnodes) (sym (eqb-true t n b)) ∙ free)) (like_itself (Some y)))
-      (λ b. amended_like d.vnode n (v.counter + 1) a x (with_names x (with_name m x.names) (or_old links x.links)) v found.there b (record { seen = record { unique = refl; kind = refl; links = refl; parent = refl; parent_unique = refl; names = ap (with_name m) its }; contents = refl; acl = refl })) in
+    like_two (eqb t n) (eqb d.vnode n) (Some y) (Some (with_names x (with_name m x.names) (or_old links x.links))) (one_edit (v.counter + 1) v.next (makes t (with_status (Some status) new)) (get n v.vnodes)) (option_map (amended (v.counter + 1) a) (get n v.vnodes)) (get n v.vnodes)
+    (two_numbers d.vnode t n ne)
+    (λ b. subst (λ (o : Option Vnode). AreLike (Some y) (one_edit (v.counter + 1) v.next (makes t (with_status (Some status) new)) o)) (sym (ap (λ (k : ℕ). get k v.vnodes) (sym (eqb-true t n b)) ∙ free)) (like_itself (Some y)))
+    (λ b. amended_like d.vnode n (v.counter + 1) a x (with_names x (with_name m x.names) (or_old links x.links)) v found.there b (record { seen = record { unique = refl; kind = refl; links = refl; parent = refl; parent_unique = refl; names = ap (with_name m) its }; contents = refl; acl = refl })) in
     let looked : (n : ℕ) → get n (edited_all id (ascending es) v).vnodes ≡ look (v.counter + 1) v.next es n (get n v.vnodes) = λ n. holds_after id v.next n es v apart makes_as in
     let there : get t (edited_all id (ascending es) v).vnodes ≡ Some y = made_there (eqb d.vnode t) t d.vnode v x status new a free refl ne (looked t) in
     edited_sound id (v.next + 1) (ascending es) v (leaf_rank t d.vnode (steps v)) h up (made_next id (nat_lt t d.vnode) d.vnode t a (with_status (Some status) new) v x found.there free ne)
     (as_like (v.next + 1) g (at (edited_all id (ascending es) v)) (λ n. subst (AreLike (g n)) (sym (looked n)) (like n)) sound)
     (ranked_leaf t d.vnode (at v) (at (edited_all id (ascending es) v)) (steps v) (as_ranked v h)
-      (λ n z e differs. same_parents id v.next t es v apart makes_as ((λ ne. refl), ((λ ne. absurd (ne refl)), tt)) n z e differs)
-      (λ z e. ap (λ (w : Vnode). w.parent) (sym (some_of y z (sym there ∙ e))) ∙ parent)
-      (λ s. ne (sym s)) (not_its_parent v t h free))
+    (λ n z e differs. same_parents id v.next t es v apart makes_as ((λ ne. refl), ((λ ne. absurd (ne refl)), tt)) n z e differs)
+    (λ z e. ap (λ (w : Vnode). w.parent) (sym (some_of y z (sym there ∙ e))) ∙ parent)
+    (λ s. ne (sym s)) (not_its_parent v t h free))
 
 -- ---- Link
 
@@ -180,6 +179,6 @@ links_sound id d f name x y v h at_d dir at_f file parent ok its many =
     plain_sound id (linking d name f v) v g h ((tt, tt), ((tt, tt), tt)) (refl, (refl, tt)) ((ne, tt), (tt, tt))
     (gains d.vnode t f.unique v.next m x y (at v) at_d.there dir refl refl ok (omega (arith, even)) k ne (file_is_no_directory y.kind file) s)
     (λ n. like_two (eqb t n) (eqb d.vnode n) (Some (linked_by (y.links + 1) y)) (Some (with_names x (with_name m x.names) x.links)) (option_map (amended (v.counter + 1) b) (get n v.vnodes)) (option_map (amended (v.counter + 1) a) (get n v.vnodes)) (get n v.vnodes)
-      (two_numbers d.vnode t n ne)
-      (λ p. amended_like t n (v.counter + 1) b y (linked_by (y.links + 1) y) v at_f.there p (record { seen = record { unique = refl; kind = refl; links = ap (λ (j : ℕ). j + 1) many; parent = refl; parent_unique = refl; names = refl }; contents = refl; acl = refl }))
-      (λ p. amended_like d.vnode n (v.counter + 1) a x (with_names x (with_name m x.names) x.links) v at_d.there p (record { seen = record { unique = refl; kind = refl; links = refl; parent = refl; parent_unique = refl; names = ap (with_name m) its }; contents = refl; acl = refl })))
+    (two_numbers d.vnode t n ne)
+    (λ p. amended_like t n (v.counter + 1) b y (linked_by (y.links + 1) y) v at_f.there p (record { seen = record { unique = refl; kind = refl; links = ap (λ (j : ℕ). j + 1) many; parent = refl; parent_unique = refl; names = refl }; contents = refl; acl = refl }))
+    (λ p. amended_like d.vnode n (v.counter + 1) a x (with_names x (with_name m x.names) x.links) v at_d.there p (record { seen = record { unique = refl; kind = refl; links = refl; parent = refl; parent_unique = refl; names = ap (with_name m) its }; contents = refl; acl = refl })))

@@ -1,22 +1,21 @@
 -- RemoveFile and RemoveDir leave a sound volume sound.
-use Rattle.std.proofs.Common.{◌≡◌, ℕ, zero, suc, ◌+◌, ◌-◌, ◌<◌, ◌≤◌, Bool, true, false, cond, eqb, ltb, not, List, [], ◌∷◌, ◌++◌, length, Option, Some, None, refl, sym, ap, subst, ◌∙◌, arith, eq-eqb, eqb-true, ltb-true, ltb-false}
-use Rattle.std.specs.Prelude.{◌&&◌, nat_lt, nat_eq, ⊤, is_some, ◌%◌, if◌then◌else◌}
+use Rattle.std.proofs.Common.{◌≡◌, ℕ, ◌+◌, ◌-◌, ◌<◌, ◌≤◌, Bool, true, false, cond, eqb, not, List, [], ◌∷◌, Option, Some, None, refl, sym, ap, subst, ◌∙◌, arith, ltb-true}
+use Rattle.std.specs.Prelude.{◌&&◌, nat_lt}
 use Rattle.std.proofs.lemmas.Bool.Decides.{nat_tests}
-use Rattle.std.specs.List.{AllByRecursion}
 use Rattle.std.specs.Option.{option_map}
 use Rattle.afs_num.specs.declared.types.Fid.{Fid}
 use Rattle.afs_num.specs.declared.directories.Name.{Name}
 use Rattle.afs_ideal.specs.Tables.{get}
 use Rattle.afs_ideal.specs.Directories.{named, without_name}
-use Rattle.afs_ideal.specs.Volumes.{Kind, a_file, a_directory, a_link, Vnode, Volume, if_unique, vnode_of, Amend, Edit, amends, frees, or_old, amended, edited_all, edit_number, ascending, counted}
-use Rattle.afs_ideal.specs.Operations.{is_kind, names_in, links_of, named_vnode, number_named, name_in, no_amend, unlinks, removing}
-use Rattle.afs_ideal.specs.Soundness.{names_of, names_directory, HasNames, HasByKind, HasContents, IsSound}
-use Rattle.afs_ideal.proofs.Basics.{some_of, both}
+use Rattle.afs_ideal.specs.Volumes.{Kind, a_file, a_directory, a_link, Vnode, Volume, vnode_of, Amend, Edit, amends, frees, or_old, amended, edited_all, edit_number, ascending, counted}
+use Rattle.afs_ideal.specs.Operations.{is_kind, names_in, no_amend, unlinks, removing}
+use Rattle.afs_ideal.specs.Soundness.{names_of, names_directory, HasNames, HasByKind, IsSound}
+use Rattle.afs_ideal.proofs.Basics.{both}
 use Rattle.afs_ideal.proofs.Counts.{one_if}
-use Rattle.afs_ideal.proofs.Maps.{Map, put, Own, Sound, Seen, Like, AreLike, like_itself}
-use Rattle.afs_ideal.proofs.Steps.{with_names, Held, holds, parity, goes, loses, linked_by, taken}
+use Rattle.afs_ideal.proofs.Maps.{Map, put, Sound, AreLike}
+use Rattle.afs_ideal.proofs.Steps.{with_names, Held, goes, loses, linked_by, taken}
 use Rattle.afs_ideal.proofs.Ranks.{at, steps}
-use Rattle.afs_ideal.proofs.Looks.{one_edit, look, Distinct}
+use Rattle.afs_ideal.proofs.Looks.{one_edit}
 use Rattle.afs_ideal.proofs.Kept.{as_map, as_ranked, Found, KeepsParent, IsPlain, plain_sound, like_two, two_numbers, amended_like}
 use Rattle.afs_ideal.proofs.Comes.{not_itself}
 
@@ -39,7 +38,7 @@ unfolding stays
 unlinks_is n y true e = rw e refl
 unlinks_is n y false e = rw e refl
 
-no_directory : (k : Kind) → not (is_kind k a_directory) ≡ true → k ≡ a_directory → ⊥
+pub no_directory : (k : Kind) → not (is_kind k a_directory) ≡ true → k ≡ a_directory → ⊥
 no_directory a_file e f = absurd cc
 no_directory a_directory e f = absurd cc
 no_directory a_link e f = absurd cc
@@ -101,7 +100,7 @@ removes_sound id d name links m x y v b e h at_d dir found k empty l its is =
     (plain_sound id es v g h ((tt, tt), (unlink_plain b t y, tt)) (refl, (unlink_keeps b t y, tt)) ((ne_edit, tt), (tt, tt))
     (drops d.vnode v.next (or_old links x.links) name m x y (at v) b e at_d.there dir found l k ne empty (as_map v h))
     (λ n. subst (λ (j : ℕ). AreLike (g n) (cond (eqb d.vnode n) (option_map (amended (v.counter + 1) a) (get n v.vnodes)) (cond (eqb j n) (one_edit (v.counter + 1) v.next (unlink_by b t y) (get n v.vnodes)) (get n v.vnodes)))) (sym (unlink_number b t y))
-      (like_two (eqb t n) (eqb d.vnode n) (unlinked b y) (Some (with_names x (without_name name x.names) (or_old links x.links))) (one_edit (v.counter + 1) v.next (unlink_by b t y) (get n v.vnodes)) (option_map (amended (v.counter + 1) a) (get n v.vnodes)) (get n v.vnodes)
-      (two_numbers d.vnode t n ne)
-      (λ p. unlinked_like b t n (v.counter + 1) v.next y v k.there p)
-      (λ p. amended_like d.vnode n (v.counter + 1) a x (with_names x (without_name name x.names) (or_old links x.links)) v at_d.there p (record { seen = record { unique = refl; kind = refl; links = refl; parent = refl; parent_unique = refl; names = ap (without_name name) its }; contents = refl; acl = refl })))))
+    (like_two (eqb t n) (eqb d.vnode n) (unlinked b y) (Some (with_names x (without_name name x.names) (or_old links x.links))) (one_edit (v.counter + 1) v.next (unlink_by b t y) (get n v.vnodes)) (option_map (amended (v.counter + 1) a) (get n v.vnodes)) (get n v.vnodes)
+    (two_numbers d.vnode t n ne)
+    (λ p. unlinked_like b t n (v.counter + 1) v.next y v k.there p)
+    (λ p. amended_like d.vnode n (v.counter + 1) a x (with_names x (without_name name x.names) (or_old links x.links)) v at_d.there p (record { seen = record { unique = refl; kind = refl; links = refl; parent = refl; parent_unique = refl; names = ap (without_name name) its }; contents = refl; acl = refl })))))

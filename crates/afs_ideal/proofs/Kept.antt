@@ -1,28 +1,22 @@
 -- A sound volume as a sound map and back, and the operations one by one.
-use Rattle.std.proofs.Common.{◌≡◌, ℕ, zero, suc, ◌+◌, ◌-◌, ◌<◌, ◌≤◌, Bool, true, false, cond, eqb, ltb, not, List, [], ◌∷◌, ◌++◌, length, Option, Some, None, refl, sym, ap, subst, ◌∙◌, arith, eq-eqb, eqb-true, ltb-true, ltb-false}
-use Rattle.std.specs.Prelude.{◌&&◌, nat_lt, nat_eq, ⊤, is_some, is_ok, ◌%◌}
-use Rattle.std.specs.Prelude as std_result
+use Rattle.std.proofs.Common.{◌≡◌, ℕ, zero, suc, ◌+◌, ◌≤◌, Bool, true, false, cond, eqb, List, [], ◌∷◌, Option, Some, None, refl, sym, ap, subst, ◌∙◌, arith, eq-eqb, eqb-true}
+use Rattle.std.specs.Prelude.{⊤, is_some}
 use Rattle.std.specs.List.{AllByRecursion}
 use Rattle.std.specs.Option.{option_map}
-use Rattle.afs_num.specs.Names.{name_ok}
 use Rattle.afs_num.specs.declared.types.Fid.{Fid}
 use Rattle.afs_num.specs.declared.acls.AccessList.{AccessList}
 use Rattle.afs_num.specs.declared.calls.AfsStoreStatus.{AfsStoreStatus}
-use Rattle.afs_num.specs.declared.directories.Name.{Name}
-use Rattle.afs_ideal.specs.Tables.{Table, get, AscendsFrom, lowest_free}
-use Rattle.afs_ideal.specs.AccessLists.{IsAccessList, no_acl, acl_at}
-use Rattle.afs_ideal.specs.Directories.{most_names, IsDirectory, named, with_name, without_name, add_refused}
-use Rattle.afs_ideal.specs.Volumes.{Kind, a_file, a_directory, a_link, Vnode, Volume, if_unique, vnode_of, Amend, Edit, amends, makes, frees, or_old, with_status, amended, fresh, edited, edited_all, edit_number, ascending, counted}
-use Rattle.afs_ideal.specs.Operations as ops
-use Rattle.afs_ideal.specs.Operations.{is_kind, is_directory, kind_is, names_in, links_of, named_vnode, is_below, implies, first_failing, no_amend, free_number}
-use Rattle.afs_ideal.specs.Soundness.{names_of, names_directory, subdirectories, GivesOne, KindFits, HasNames, IsNamedIn, HasByKind, HasContents, HasNamesOf, IsSoundVnode, IsSound}
-use Rattle.afs_ideal.proofs.Basics.{some_of, both}
-use Rattle.afs_ideal.proofs.Tables.{free_is_free, free_parity, free_from, get_below}
-use Rattle.afs_ideal.proofs.Counts.{one_if, all_each, each_all}
-use Rattle.afs_ideal.proofs.Maps.{Map, put, Own, Gives, Sound, Seen, AreSeen, as_seen, Like, AreLike, like_itself, as_like}
-use Rattle.afs_ideal.proofs.Steps.{with_names, Held, holds, its_names, parity, room_for, goes, loses, comes, gains, linked_by, taken, added}
-use Rattle.afs_ideal.proofs.Ranks.{Ranked, at, steps, reaching_ranked, HasParents, ranked_reaching, ranked_same, leaf_rank, ranked_leaf}
-use Rattle.afs_ideal.proofs.Looks.{one_edit, look, looks, ascending_looks, Distinct, distinct_ascending, MakesAs, no_makes, two_makes, IsNoMake, next_all, each_ascending, IsAboveRoot, all_up}
+use Rattle.afs_ideal.specs.Tables.{Table, get, AscendsFrom}
+use Rattle.afs_ideal.specs.AccessLists.{IsAccessList}
+use Rattle.afs_ideal.specs.Volumes.{Kind, a_file, a_directory, a_link, Vnode, Volume, if_unique, vnode_of, Amend, Edit, amends, makes, frees, or_old, amended, edited_all, edit_number, ascending, counted}
+use Rattle.afs_ideal.specs.Operations.{is_kind, kind_is, no_amend}
+use Rattle.afs_ideal.specs.Soundness.{GivesOne, IsNamedIn, HasByKind, IsSound}
+use Rattle.afs_ideal.proofs.Basics.{some_of}
+use Rattle.afs_ideal.proofs.Tables.{get_below}
+use Rattle.afs_ideal.proofs.Counts.{all_each, each_all}
+use Rattle.afs_ideal.proofs.Maps.{Map, Own, Sound, AreSeen, as_seen, Like, AreLike, like_itself, as_like}
+use Rattle.afs_ideal.proofs.Ranks.{Ranked, at, steps, reaching_ranked, HasParents, ranked_reaching, ranked_same}
+use Rattle.afs_ideal.proofs.Looks.{one_edit, look, looks, ascending_looks, Distinct, distinct_ascending, MakesAs, no_makes, IsNoMake, next_all, each_ascending, IsAboveRoot, all_up}
 use Rattle.afs_ideal.proofs.Scopes.{found_by}
 
 -- ---- a volume as a map
@@ -131,6 +125,13 @@ each_but t (e ∷ es) h = ((λ ne. h.0), each_but t es h.1)
 above_zero : (n : ℕ) (t : Table Vnode) (y : Vnode) → AscendsFrom 1 t → get n t ≡ Some y → n ≡ 0 → ⊥
 above_zero n t y up e z = let none : get n t ≡ None = get_below 1 n t (omega (arith, z)) up in let no_one : None ≡ Some y = sym none ∙ e in absurd cc
 
+pub above_root : (n : ℕ) (t : Table Vnode) (y : Vnode) → AscendsFrom 1 t → get n t ≡ Some y → 1 ≤ n
+above_root n t y up e = let ne = above_zero n t y up e in at_least n ne
+  where
+    at_least : (n : ℕ) → (n ≡ 0 → ⊥) → 1 ≤ n
+    at_least zero ne = absurd (ne refl)
+    at_least (suc k) ne = omega arith
+
 pub all_parents : (id u : ℕ) (es : List Edit) (v : Volume) → IsSound v → AllByRecursion IsAboveRoot (ascending es) → Distinct es → MakesAs u v.next (ascending es) → AllByRecursion KeepsParent es
     → (n : ℕ) (y : Vnode) → get n (edited_all id (ascending es) v).vnodes ≡ Some y → SameParent (get n v.vnodes) y
 all_parents id u es v h above apart makes_as keeps n y e =
@@ -210,8 +211,8 @@ stores_sound id n a x v h e ns l p own =
     let looked : (m : ℕ) → get m (edited_all id es v).vnodes ≡ look (v.counter + 1) v.next es m (get m v.vnodes) = λ m. looks id v.next m es v (tt, tt) tt in
     edited_sound id v.next es v (steps v) h (tt, tt) (next_all id es v (tt, tt))
     (as_seen v.next (at v) (at (edited_all id es v))
-      (λ m. subst (AreSeen (get m v.vnodes)) (sym (looked m)) (stored_seen (eqb n m) (v.counter + 1) a (get m v.vnodes) (get m v.vnodes) ns l p (λ b. refl)))
-      (λ m y is. stored_own (eqb n m) v.next (v.counter + 1) n m a x y v refl e own sound.own (sym (looked m) ∙ is)) sound)
+    (λ m. subst (AreSeen (get m v.vnodes)) (sym (looked m)) (stored_seen (eqb n m) (v.counter + 1) a (get m v.vnodes) (get m v.vnodes) ns l p (λ b. refl)))
+    (λ m y is. stored_own (eqb n m) v.next (v.counter + 1) n m a x y v refl e own sound.own (sym (looked m) ∙ is)) sound)
     (ranked_same (at v) (at (edited_all id es v)) (steps v) (as_ranked v h) (all_parents id v.next es v h (tt, tt) (tt, tt) tt (p, tt)))
 
 status_body : (k : Kind) (c : ℕ) (s : AfsStoreStatus) (x : Vnode) → HasByKind k x → HasByKind k (amended c (record no_amend { status = Some s }) x)

@@ -14,4 +14,12 @@ pub mod Looks
 pub mod Kept
 pub mod Comes
 pub mod Goes
+pub mod Moves
+pub mod Preserved
+pub mod Laid
+pub mod Images
 pub mod Operated
+pub mod Limits
+pub mod Made
+pub mod Unsound
+pub mod LaidRows
