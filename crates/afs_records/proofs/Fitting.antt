@@ -1,16 +1,15 @@
 -- The record of a change is within the limits of a record.
-use Rattle.std.proofs.Common.{◌≡◌, ℕ, suc, ◌+◌, ◌%◌, ◌<◌, ◌≤◌, ◌^◌, Bool, true, false, List, [], ◌∷◌, ◌++◌, length, Option, Some, None, nat_eq, refl, sym, ap, ◌∙◌, arith, lit<}
-use Rattle.std.specs.Prelude.{◌==◌, ◌↔◌}
+use Rattle.std.proofs.Common.{◌≡◌, ℕ, suc, ◌%◌, ◌<◌, ◌≤◌, ◌^◌, Bool, true, false, List, [], ◌∷◌, ◌++◌, length, Option, Some, None, refl, arith, lit<}
+use Rattle.std.specs.Prelude.{◌==◌}
 use Rattle.std.specs.List.{AllByRecursion}
 use Rattle.std.proofs.lemmas.Bool.Decides.{nat_tests}
 use Rattle.afs_ideal.specs.Tables.{get}
 use Rattle.afs_ideal.specs.VnodeImage.{kind_fits}
-use Rattle.afs_ideal.specs.Images.{Image, IsWord, image_of, HasImage}
+use Rattle.afs_ideal.specs.Images.{Image, image_of, HasImage}
 use Rattle.afs_ideal.specs.Volumes.{Kind, a_file, a_directory, a_link, type_of, Vnode, Volume, Edit, edit_number, edited_all, counted}
-use Rattle.afs_ideal.specs.Operations.{is_kind}
 use Rattle.afs_ideal.specs.Soundness.{KindFits}
 use Rattle.afs_num.specs.declared.records.RecordHead.{RecordHead}
-use Rattle.afs_records.specs.Forms.{word_form, HasImageForm, image_form, list_form}
+use Rattle.afs_records.specs.Forms.{HasImageForm}
 use Rattle.afs_records.specs.Records.{head_form, FitsRecord}
 use Rattle.afs_records.specs.Changes.{image_left, images_left, gone_between, numbers_gone, change_record}
 use Rattle.afs_records.specs.Laws.{CanBeStored, IsInWords}

@@ -10,7 +10,7 @@ use Rattle.afs_num.specs.declared.records.RecordBody.{RecordBody}
 use Rattle.afs_num.specs.declared.records.RecordBody.TheVariants as bodies
 use Rattle.afs_num.specs.declared.records.StoreRecord.{StoreRecord}
 use Rattle.afs_records.specs.Records.{record_bytes, record_at, FitsRecord}
-use Rattle.afs_records.specs.Durable.{Stored, Durable, nothing_on, place_length, with_stored, stored_of, with_volumes, changed_stored, replaced, booted, body_taken, with_stamp, with_reply, noted, longer, folded, is_first, first_folded, fold_from, fold_all, StandFor}
+use Rattle.afs_records.specs.Durable.{Stored, Durable, nothing_on, place_length, with_stored, stored_of, with_volumes, changed_stored, replaced, booted, body_taken, with_stamp, with_reply, noted, longer, folded, first_folded, fold_from, fold_all, StandFor}
 use Rattle.afs_records.proofs.Forms.{bound, some_is}
 use Rattle.afs_records.proofs.Spelled.{record_read}
 

@@ -1,24 +1,22 @@
 -- The fold of the record of a change puts the volume that the edits make.
-use Rattle.std.proofs.Common.{◌≡◌, ◌⊎◌, ℕ, zero, suc, ◌+◌, ◌<◌, ◌≤◌, ◌^◌, Bool, true, false, not, cond, eqb, List, [], ◌∷◌, ◌++◌, length, Option, Some, None, is_some, Ok, nat_eq, nat_lt, if◌then◌else◌, refl, sym, ap, subst, ◌∙◌, arith, inl, inr, le-ltb}
-use Rattle.std.specs.Prelude.{◌||◌, ◌&&◌}
+use Rattle.std.proofs.Common.{◌≡◌, ℕ, ◌+◌, ◌<◌, ◌≤◌, Bool, true, false, cond, List, [], ◌∷◌, ◌++◌, length, Option, Some, None, nat_eq, refl, sym, ap, ◌∙◌, arith, inl, inr, le-ltb}
+use Rattle.std.specs.Prelude.{◌||◌}
 use Rattle.std.specs.List.{list_all}
 use Rattle.std.proofs.lemmas.Bool.{cases_lt}
 use Rattle.std.proofs.lemmas.Bool.Decides.{nat_tests}
-use Rattle.afs_shape.specs.Taking.{◌>>=◌}
 use Rattle.afs_ideal.specs.Tables.{Table, get, set, unset, AscendsFrom}
-use Rattle.afs_ideal.specs.AccessLists.{no_acl, acl_at, acl_text}
-use Rattle.afs_ideal.specs.Directories.{FitNames, directory_of, directory_bytes}
-use Rattle.afs_ideal.specs.Images.{Image, acl_by, image_of, kind_of, value_of_kind, value_of, HasImage}
+use Rattle.afs_ideal.specs.Directories.{FitNames}
+use Rattle.afs_ideal.specs.Images.{Image, acl_by, image_of, kind_of, value_of_kind, value_of}
 use Rattle.afs_ideal.specs.VnodeMaps.{most_vnodes}
 use Rattle.afs_ideal.specs.Volumes.{Kind, a_file, a_directory, a_link, type_of, bytes_by, Vnode, Volume, Edit, amends, makes, frees, edit_number, edited, edited_all, counted}
-use Rattle.afs_ideal.specs.Soundness.{HasByKind, IsSound}
+use Rattle.afs_ideal.specs.Soundness.{HasByKind}
 use Rattle.afs_ideal.proofs.Tables.{get_below, ascends_set, ascends_unset, get_set, get_unset}
 use Rattle.afs_ideal.proofs.AccessLists.{acl_again}
 use Rattle.afs_ideal.proofs.DirectoryBytes.{spelled_is_read}
 use Rattle.afs_num.specs.declared.records.RecordHead.{RecordHead}
 use Rattle.afs_records.specs.Sound.{is_sound}
-use Rattle.afs_records.specs.Durable.{Stored, Durable, place_length, allowed, with_image, with_images, is_there, without_one, without, counted_as, changed_stored, replaced, folded, noted, longer}
-use Rattle.afs_records.specs.Changes.{image_left, images_left, gone_between, numbers_gone, record_between, change_record, set_times, unset_times, stored_between, stored_after}
+use Rattle.afs_records.specs.Durable.{Stored, Durable, place_length, allowed, with_images, is_there, without_one, without, counted_as, changed_stored, folded, noted, longer}
+use Rattle.afs_records.specs.Changes.{image_left, images_left, gone_between, numbers_gone, change_record, set_times, unset_times, stored_after}
 use Rattle.afs_records.specs.Laws.{CanBeStored, volume_put}
 
 -- ---- a value that is spelled as an image is read again

@@ -3,7 +3,6 @@ use Rattle.std.proofs.Common.{◌≡◌, ℕ, ◌+◌, List, [], ◌∷◌, ◌+
 use Rattle.std.specs.List.{flat_map}
 use Rattle.std.proofs.lemmas.List.{length-append}
 use Rattle.std.proofs.lemmas.List.Concat.{flat_map-cons}
-use Rattle.afs_num.specs.declared.vnodes.Vnode.{Vnode}
 use Rattle.afs_xdr.specs.Words.{word, words, opaque, pad, pad_length}
 use Rattle.afs_shape.proofs.Codecs.{length_words}
 use Rattle.afs_ideal.specs.Tables.{get}
@@ -12,9 +11,8 @@ use Rattle.afs_ideal.specs.Images.{Image, image_of}
 use Rattle.afs_ideal.specs.Volumes as volumes
 use Rattle.afs_ideal.specs.Volumes.{Volume, Edit, edit_number, edited_all, counted}
 use Rattle.afs_num.specs.declared.records.RecordHead.{RecordHead}
-use Rattle.afs_records.specs.Forms.{word_form, image_form, list_form}
 use Rattle.afs_records.specs.Records.{caller_number, head_form, record_bytes}
-use Rattle.afs_records.specs.Changes.{image_left, images_left, numbers_gone, change_record}
+use Rattle.afs_records.specs.Changes.{image_left, images_left, change_record}
 
 joined : (a b c d : List ℕ) → length a ≡ length c → length b ≡ length d → length (a ++ b) ≡ length (c ++ d)
 joined a b c d p q = length-append a b ∙ (ap (λ (n : ℕ). n + length b) p ∙ (ap (λ (n : ℕ). length c + n) q ∙ sym (length-append c d)))

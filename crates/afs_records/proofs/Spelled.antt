@@ -1,23 +1,19 @@
 -- What is read as a record is spelled so, and what is spelled is read.
-use Rattle.std.proofs.Common.{◌≡◌, ◌⊎◌, ℕ, ◌+◌, ◌-◌, ◌<◌, ◌≤◌, ◌^◌, Bool, true, false, cond, leb, List, [], ◌∷◌, ◌++◌, length, map, Option, Some, None, refl, sym, ap, subst, ◌∙◌, arith, append_assoc, append-nil, inl, inr, lit≤, lit<, suc, if◌then◌else◌}
-use Rattle.std.specs.Prelude.{◌&&◌, nat_eq, nat_lt, not}
+use Rattle.std.proofs.Common.{◌≡◌, ◌⊎◌, ℕ, ◌+◌, ◌-◌, ◌<◌, ◌≤◌, ◌^◌, Bool, true, false, cond, leb, List, [], ◌∷◌, ◌++◌, length, map, Option, Some, None, refl, sym, ap, subst, ◌∙◌, arith, append_assoc, inl, inr, lit≤, lit<, suc, if◌then◌else◌}
+use Rattle.std.specs.Prelude.{◌&&◌, nat_eq}
 use Rattle.std.specs.List.{flat_map, AllByRecursion}
 use Rattle.std.proofs.lemmas.Bool.{eqb-true, leb-true}
 use Rattle.afs_num.specs.Nodes.{node_number, node_of, is_between}
 use Rattle.afs_num.specs.declared.types.Node.{Node}
 use Rattle.afs_num.specs.declared.types.Node.TheVariants.{Loc, Server, Client, Admin}
 use Rattle.afs_num.specs.declared.vnodes.Vnode.{Vnode}
-use Rattle.afs_xdr.specs.Words.{word}
 use Rattle.afs_shape.specs.Taking.{◌>>=◌}
 use Rattle.afs_shape.proofs.Codecs.{IsBytes, Takes, Takes-then}
-use Rattle.afs_num.specs.declared.records.RecordHead.{RecordHead}
-use Rattle.afs_num.specs.declared.records.StoredVolume.{StoredVolume}
 use Rattle.afs_num.specs.declared.records.RecordBody.{RecordBody}
 use Rattle.afs_num.specs.declared.records.RecordBody.TheVariants as bodies
 use Rattle.afs_num.specs.declared.records.StoreRecord.{StoreRecord}
-use Rattle.afs_records.specs.Forms.{Form, word_form, text_form, image_form, ◌before◌, known_as, only, many_at, list_form}
-use Rattle.afs_records.specs.Records as table
-use Rattle.afs_records.specs.Records.{most_name, most_dump, most_reply, between, mark_form, kind_form, server_form, flag_number, flag_of, flag_form, caller_number, caller_of, caller_form, head_parts, head_made, head_form, volume_mark, vnode_mark, listed_form, marked_form, listed, are_listed, ascend_from, was_changed, are_whole, vnodes_form, volume_parts, volume_made, volume_form, made_at_end, made_behind, row, each, made_in, body_at, record_bytes, record_at, FitsRecord}
+use Rattle.afs_records.specs.Forms.{Form, word_form, text_form, image_form, ◌before◌, many_at, list_form}
+use Rattle.afs_records.specs.Records.{most_name, most_dump, most_reply, between, mark_form, kind_form, server_form, flag_number, flag_of, flag_form, caller_number, caller_of, caller_form, head_parts, head_made, head_form, volume_mark, vnode_mark, listed_form, marked_form, listed, are_listed, are_whole, vnodes_form, volume_parts, volume_made, volume_form, made_at_end, made_behind, row, each, made_in, body_at, record_bytes, record_at, FitsRecord}
 use Rattle.afs_records.proofs.Forms.{IsSoundForm, bound, some_is, word_sound, text_sound, before_sound, known_sound, only_sound, many_takes, many_again, list_sound}
 use Rattle.afs_records.proofs.Images.{image_sound}
 

@@ -1,5 +1,5 @@
 -- A sound volume passes the test.
-use Rattle.std.proofs.Common.{◌≡◌, ℕ, zero, suc, ◌+◌, ◌%◌, ◌<◌, ◌≤◌, Bool, true, false, not, List, [], ◌∷◌, length, Option, Some, None, nat_eq, nat_lt, if◌then◌else◌, refl, sym, ap, ◌∙◌, arith, lt-ltb, le-ltb, eq-eqb}
+use Rattle.std.proofs.Common.{◌≡◌, ℕ, ◌+◌, ◌%◌, Bool, true, false, not, List, [], ◌∷◌, Option, Some, None, nat_eq, nat_lt, if◌then◌else◌, refl, sym, ap, ◌∙◌, arith, lt-ltb, le-ltb, eq-eqb}
 use Rattle.std.specs.Prelude.{◌||◌, ◌&&◌, ◌↔◌}
 use Rattle.std.specs.List.{list_all, AllByRecursion}
 use Rattle.std.proofs.lemmas.Bool.Decides.{nat_tests}
@@ -11,7 +11,7 @@ use Rattle.afs_ideal.specs.Directories.{IsDirectory}
 use Rattle.afs_ideal.specs.Tables.{Table, get, AscendsFrom}
 use Rattle.afs_ideal.specs.Volumes.{Kind, a_file, a_directory, a_link, Vnode, Volume}
 use Rattle.afs_ideal.specs.Operations.{is_kind, is_below}
-use Rattle.afs_ideal.specs.Soundness.{names_of, subdirectories, IsHeldBy, GivesHeld, GivesOne, KindFits, HasNames, IsNamedIn, IsPlaced, HasContents, HasByKind, IsSoundVnode, IsRoot, IsSound}
+use Rattle.afs_ideal.specs.Soundness.{names_of, subdirectories, IsHeldBy, GivesHeld, GivesOne, HasNames, IsNamedIn, IsPlaced, HasContents, HasByKind, IsSoundVnode, IsRoot, IsSound}
 use Rattle.afs_ideal.proofs.Counts.{all_each, each_all}
 use Rattle.afs_ideal.proofs.Tables.{get_below}
 use Rattle.afs_records.specs.Laws.{IsRead}

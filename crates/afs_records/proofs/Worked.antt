@@ -1,5 +1,5 @@
 -- Worked records: the first, a change and a start of a server with one file, as words of their bytes.
-use Rattle.std.proofs.Common.{◌≡◌, ℕ, List, [], ◌∷◌, Some, None, ◌++◌, refl, length, ap, ◌∙◌, lit<, lit≤}
+use Rattle.std.proofs.Common.{◌≡◌, ℕ, List, [], ◌∷◌, Some, ◌++◌, refl, length, ap, ◌∙◌, lit<, lit≤}
 use Rattle.std.specs.Prelude.{codes, true, false}
 use Rattle.std.specs.Fmt.{decimal}
 use Rattle.std.proofs.lemmas.Fmt.{decimal_digit, decimal_step}
@@ -16,13 +16,12 @@ use Rattle.afs_ideal.specs.SetUp.{new_root, led, laid_at}
 use Rattle.afs_ideal.specs.Volumes.{fresh}
 use Rattle.afs_ideal.specs.Operations.{new_file}
 use Rattle.afs_num.specs.Names.{name_ok}
-use Rattle.afs_num.specs.declared.records.RecordHead.{RecordHead}
 use Rattle.afs_num.specs.declared.records.StoredVolume.{StoredVolume}
 use Rattle.afs_num.specs.declared.records.RecordBody.TheVariants as bodies
 use Rattle.afs_num.specs.declared.records.StoreRecord.{StoreRecord}
 use Rattle.afs_records.specs.Records.{head_form, volume_form, record_bytes, record_at}
 use Rattle.afs_records.specs.Sound.{is_sound}
-use Rattle.afs_records.specs.Durable.{Stored, Kept, Durable, has_room, folded, fold_all}
+use Rattle.afs_records.specs.Durable.{Durable, has_room, folded, fold_all}
 use Rattle.afs_records.specs.Changes.{no_head, boot_record, can_boot, first_record}
 
 -- ---- a volume with one file

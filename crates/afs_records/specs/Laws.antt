@@ -1,7 +1,6 @@
 -- Laws about records: bytes and records are one for one, and the fold of a server's own records is what its steps do.
-use Rattle.std.specs.Prelude.{◌≡◌, ◌≤◌, ◌<◌, ◌+◌, ◌^◌, ℕ, List, [], ◌∷◌, ◌++◌, length, true, Option, Some, None, filter, not}
-use Rattle.afs_num.specs.declared.types.Node.{Node}
-use Rattle.afs_ideal.specs.Tables.{Table, get, set, AscendsFrom}
+use Rattle.std.specs.Prelude.{◌≡◌, ◌≤◌, ◌<◌, ◌+◌, ◌^◌, ℕ, List, [], ◌∷◌, ◌++◌, length, true, Some, filter, not}
+use Rattle.afs_ideal.specs.Tables.{get, set, AscendsFrom}
 use Rattle.afs_ideal.specs.DirectoryLaws.{IsBytes}
 use Rattle.afs_ideal.specs.Images.{HasImage}
 use Rattle.afs_ideal.specs.VnodeMaps.{most_vnodes}

@@ -1,12 +1,10 @@
 -- The records of a server's journal, and the one table that spells them in both directions.
 -- Where something is read from bytes, `.0` is what was read, and `.1` are the bytes behind it.
-use Rattle.std.specs.Prelude.{◌≡◌, ◌<◌, ◌^◌, ◌+◌, ℕ, List, [], ◌∷◌, ◌++◌, length, map, Bool, true, false, ◌&&◌, not, Option, Some, None, nat_eq, nat_lt, if◌then◌else◌}
+use Rattle.std.specs.Prelude.{◌≡◌, ◌+◌, ℕ, List, [], ◌∷◌, ◌++◌, length, map, Bool, true, false, ◌&&◌, not, Option, Some, None, nat_eq, nat_lt, if◌then◌else◌}
 use Rattle.std.specs.List.{flat_map, list_all, AllByRecursion}
 use Rattle.afs_num.specs.Nodes.{is_between, node_number, node_of}
 use Rattle.afs_num.specs.declared.types.Node.{Node}
-use Rattle.afs_num.specs.declared.types.Node.TheVariants.{Loc}
 use Rattle.afs_num.specs.declared.vnodes.Vnode.{Vnode}
-use Rattle.afs_num.specs.declared.volumes.VolumeHead.{VolumeHead}
 use Rattle.afs_num.specs.declared.records.RecordHead.{RecordHead}
 use Rattle.afs_num.specs.declared.records.StoredVolume.{StoredVolume}
 use Rattle.afs_num.specs.declared.records.RecordBody.{RecordBody}

@@ -1,13 +1,9 @@
 -- Whether a volume is sound, as a test: a volume that isn't is no volume that a disk may hold.
-use Rattle.std.specs.Prelude.{ℕ, ◌+◌, ◌%◌, List, [], ◌∷◌, Bool, true, false, not, ◌&&◌, ◌||◌, Option, Some, None, length, nat_eq, nat_lt}
+use Rattle.std.specs.Prelude.{ℕ, ◌+◌, ◌%◌, List, [], ◌∷◌, Bool, true, false, not, ◌&&◌, ◌||◌, Option, Some, None, nat_eq, nat_lt}
 use Rattle.std.specs.List.{list_all}
-use Rattle.std.specs.Str.{bytes_eq}
-use Rattle.afs_num.specs.declared.acls.AccessList.{AccessList}
-use Rattle.afs_num.specs.declared.acls.AclEntry.{AclEntry}
 use Rattle.afs_num.specs.declared.directories.Name.{Name}
 use Rattle.afs_ideal.specs.Tables.{Table, get}
-use Rattle.afs_ideal.specs.Directories.{follow, most_names}
-use Rattle.afs_ideal.specs.Volumes.{Kind, a_file, a_directory, a_link, Vnode, Volume}
+use Rattle.afs_ideal.specs.Volumes.{Kind, a_directory, Vnode, Volume}
 use Rattle.afs_ideal.specs.Operations.{is_kind, is_below}
 use Rattle.afs_ideal.specs.Soundness.{names_of, subdirectories}
 
