@@ -13,6 +13,7 @@ pub mod keyed;
 pub mod location_calls;
 pub mod messages;
 pub mod names;
+pub mod records;
 pub mod scripts;
 pub mod sequences;
 pub mod states;
