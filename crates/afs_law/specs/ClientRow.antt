@@ -1,0 +1,378 @@
+use Rattle.afs_model.specs.Calls.{Admitted, paired}
+use Rattle.afs_model.specs.Calls as pairs
+use Rattle.afs_num.specs.declared.directories.Name.{Name}
+use Rattle.afs_model.specs.Directories.{directory_of}
+use Rattle.std.specs.Prelude.{Result, Ok, Err, ℕ, ◌+◌, List, [], ◌∷◌, Bool, true, false, not, ◌&&◌, Option, Some, None, pos, negsuc, nat_eq, nat_lt, map, filter, find, codes, length, if◌then◌else◌}
+use Rattle.afs_num.specs.Fids.{same_fid}
+use Rattle.afs_num.specs.Nodes.{same_node}
+use Rattle.afs_num.specs.declared.types.Code.{Code}
+use Rattle.afs_num.specs.declared.types.Fid.{Fid}
+use Rattle.afs_num.specs.declared.types.Node.{Node}
+use Rattle.afs_num.specs.declared.types.Node.TheVariants.{Server}
+use Rattle.afs_num.specs.declared.types.Head.{Head}
+use Rattle.afs_num.specs.declared.calls.AfsStoreStatus.{AfsStoreStatus}
+use Rattle.afs_num.specs.declared.calls.FsCall.{FsCall}
+use Rattle.afs_num.specs.declared.calls.FsReply.{FsReply}
+use Rattle.afs_num.specs.declared.messages.Carried.{Carried}
+use Rattle.afs_num.specs.declared.messages.Message.{Message}
+use Rattle.afs_num.specs.declared.messages.Received.{Received}
+use Rattle.afs_num.specs.declared.messages.Received.TheVariants.{Nothing, Unknown, Unreadable, Whole}
+use Rattle.afs_law.specs.Acts.{Act, Open}
+use Rattle.afs_law.specs.Going.{ClientState, Going, Need, reads, asks_for, answers, next, asked, began, with_read}
+use Rattle.afs_law.specs.Lines.{Line}
+use Rattle.afs_law.specs.ServerRow.{replied, boot_told}
+use Rattle.afs_law.specs.States.{CacheEntry, Seat}
+use Rattle.afs_law.specs.Steps.{Step}
+use Rattle.afs_model.specs.FsRows.{call_number}
+use Rattle.afs_model.specs.Operations.{volume_changed}
+use Rattle.afs_num.specs.declared.histories.ReadSource.TheVariants.{Cached, Fetched}
+use Rattle.afs_num.specs.declared.calls.AfsFetchStatus.{AfsFetchStatus}
+use Rattle.afs_num.specs.declared.calls.AfsCallBack.{AfsCallBack}
+use Rattle.afs_num.specs.declared.histories.Body.{Body}
+use Rattle.afs_num.specs.declared.types.Half.TheVariants as halves
+use Rattle.afs_num.specs.declared.calls.FsCall.TheVariants as calls
+use Rattle.afs_num.specs.declared.calls.FsReply.TheVariants as replies
+use Rattle.afs_num.specs.declared.messages.Carried.TheVariants as carried
+use Rattle.afs_num.specs.declared.histories.Body.TheVariants as bodies
+use Rattle.afs_law.specs.Lines as lines
+
+-- The row of a client, a cache manager: how an act begins, and what it does with a message.
+
+-- ---- the cache
+
+abbrev pub find_cached : Fid → List CacheEntry → Option CacheEntry
+find_cached fid cache = find (λ e. same_fid e.fid fid) cache
+
+-- an entry that is used stands first
+abbrev pub used_first : CacheEntry → List CacheEntry → List CacheEntry
+used_first entry cache = entry ∷ filter (λ e. not (same_fid e.fid entry.fid)) cache
+
+abbrev pub is_trusted : ℕ → CacheEntry → Bool
+is_trusted clock entry = nat_lt clock entry.expiry
+
+-- after the client's own store, a trusted entry of the fid holds the stored bytes under the reply's index, and keeps
+-- its expiry; an entry that isn't trusted stays
+abbrev pub refreshed : ℕ → Fid → ℕ → List ℕ → CacheEntry → CacheEntry
+refreshed clock fid index contents entry =
+    if (same_fid entry.fid fid && is_trusted clock entry) then record entry { index = index; body = bodies.File contents } else entry
+
+-- ---- calls
+
+-- the one server of the cell
+abbrev pub the_server : Node
+the_server = Server 1
+
+-- the user of every client
+abbrev pub guest : List ℕ
+guest = codes "guest"
+
+abbrev pub call_of : Going → FsCall
+call_of g = asked g
+
+abbrev pub opcode_of : Going → ℕ
+opcode_of act = call_number (call_of act)
+
+abbrev pub call_head : Node → ClientState → Going → Head
+call_head me c act = record {
+  half = halves.Call;
+  from = me;
+  to = the_server;
+  epoch = c.epoch;
+  number = c.last;
+  boot = c.boot;
+  stamp = 0;
+  opcode = opcode_of act;
+}
+
+-- the client's unanswered call
+abbrev pub call_message : Node → ClientState → Going → Message
+call_message me c act = record { head = call_head me c act; carried = carried.Call guest (call_of act) }
+
+abbrev pub asking : ClientState → Going → ClientState
+asking c act = record c { last = c.last + 1; tries = 0; running = Some act; spoiled = false }
+
+-- the act goes on with a call under the next number
+abbrev pub calls_step : Node → ClientState → Going → Line → Step ClientState
+calls_step me c act line = record {
+  state = asking c act;
+  lines = line ∷ [];
+  sent = call_message me (asking c act) act ∷ [];
+}
+
+-- ---- an act begins
+
+abbrev pub zero_code : Code
+zero_code = record { 0 = pos 0 }
+
+-- the code of an act that needs no more
+abbrev pub code_by : Need → Code
+code_by (answers n) = record { 0 = pos n }
+code_by need = zero_code
+
+abbrev pub shows_step : Node → ClientState → Fid → CacheEntry → Step ClientState
+shows_step me c fid entry = record {
+  state = record c { cache = used_first entry c.cache };
+  lines = lines.Begin me (Open fid) ∷ lines.Read me fid entry.index Cached entry.body ∷ lines.Answer me (code_by (next (with_read fid entry.body (began (Open fid))))) ∷ [];
+  sent = [];
+}
+
+abbrev pub opens : Node → ClientState → ℕ → Fid → Option CacheEntry → Step ClientState
+opens me c clock fid None = calls_step me c (began (Open fid)) (lines.Begin me (Open fid))
+opens me c clock fid (Some entry) =
+    if is_trusted clock entry then shows_step me c fid entry else calls_step me c (began (Open fid)) (lines.Begin me (Open fid))
+
+-- the client `me`, which is idle, begins an act
+unfoldable pub begin_row : Node → ClientState → ℕ → Act → Step ClientState
+begin_row me c clock (Open fid) = opens me c clock fid (find_cached fid c.cache)
+begin_row me c clock act = calls_step me c (began act) (lines.Begin me act)
+
+-- ---- a message comes
+
+abbrev pub ignores : ClientState → ℕ → Step ClientState
+ignores c place = record { state = c; lines = lines.Given place ∷ []; sent = [] }
+
+abbrev pub ended : ClientState → List CacheEntry → ClientState
+ended c cache = record c { running = None; cache = cache }
+
+abbrev pub answers_step : Node → ClientState → ℕ → Code → Step ClientState
+answers_step me c place code = record { state = ended c c.cache; lines = lines.Given place ∷ lines.Answer me code ∷ []; sent = [] }
+
+abbrev pub uses_step : Node → ClientState → ℕ → Going → CacheEntry → Step ClientState
+uses_step me c place act entry = record {
+  state = ended c (used_first entry c.cache);
+  lines = lines.Given place ∷ lines.Read me entry.fid entry.index Fetched entry.body ∷ lines.Answer me (code_by (next (with_read entry.fid entry.body act))) ∷ [];
+  sent = [];
+}
+
+-- the act has read, and calls on
+abbrev pub reads_on_step : Node → ClientState → ℕ → Going → CacheEntry → Step ClientState
+reads_on_step me c place act entry = record {
+  state = record c { last = c.last + 1; tries = 0; running = Some act; spoiled = false; cache = used_first entry c.cache };
+  lines = lines.Given place ∷ lines.Read me entry.fid entry.index Fetched entry.body ∷ [];
+  sent = call_message me (asking c act) act ∷ [];
+}
+
+-- by what the act needed, and what it needs behind the read
+abbrev pub used_on : Node → ClientState → ℕ → Going → CacheEntry → Need → Need → Step ClientState
+used_on me c place act entry (reads f) (answers n) = uses_step me c place act entry
+used_on me c place act entry (reads f) need = reads_on_step me c place (with_read entry.fid entry.body act) entry
+used_on me c place act entry before need = uses_step me c place act entry
+
+-- a promise that has ended by now can't be used: the client calls again
+abbrev pub takes_fetched : Node → ClientState → ℕ → ℕ → Going → CacheEntry → Step ClientState
+takes_fetched me c clock place act entry =
+    if is_trusted clock entry then used_on me c place act entry (next act) (next (with_read entry.fid entry.body act)) else calls_step me c act (lines.Given place)
+
+abbrev pub takes_stored : Node → ClientState → ℕ → ℕ → Fid → ℕ → List ℕ → Step ClientState
+takes_stored me c clock place fid index contents = record {
+  state = ended c (map (refreshed clock fid index contents) c.cache);
+  lines = lines.Given place ∷ lines.Answer me zero_code ∷ [];
+  sent = [];
+}
+
+-- the entries of a volume
+abbrev pub left_in : Option ℕ → List CacheEntry → List CacheEntry
+left_in None cache = cache
+left_in (Some id) cache = filter (λ e. not (nat_eq e.fid.volume id)) cache
+
+abbrev pub given_up_in : Option ℕ → List CacheEntry → List CacheEntry
+given_up_in None cache = []
+given_up_in (Some id) cache = filter (λ e. nat_eq e.fid.volume id) cache
+
+-- a reply that a break overtook: nothing of it is cached
+abbrev pub takes_overtaken : Node → ClientState → ℕ → Fid → Step ClientState
+takes_overtaken me c place fid = record {
+  state = ended c (filter (λ e. not (same_fid e.fid fid)) c.cache);
+  lines = lines.Given place ∷ lines.Answer me zero_code ∷ [];
+  sent = [];
+}
+
+-- their lines, before these
+abbrev pub dropped : Node → List CacheEntry → List Line → List Line
+dropped me [] ls = ls
+dropped me (e ∷ es) ls = lines.Drop me e.fid ∷ dropped me es ls
+
+-- any other call is answered, and the entries of the volume that it changed are given up
+abbrev pub takes_plain : Node → ClientState → ℕ → FsCall → Step ClientState
+takes_plain me c place call = record {
+  state = ended c (left_in (volume_changed call) c.cache);
+  lines = lines.Given place ∷ dropped me (given_up_in (volume_changed call) c.cache) (lines.Answer me zero_code ∷ []);
+  sent = [];
+}
+
+-- the names that bytes spell; other bytes spell none
+abbrev pub names_told : Result (List Name) ℕ → List Name
+names_told (Ok names) = names
+names_told (Err offset) = []
+
+-- what a body is, by the type in its status
+abbrev pub body_told : ℕ → List ℕ → Body
+body_told kind contents = if nat_eq kind 1 then bodies.File contents else (if nat_eq kind 2 then bodies.Dir (names_told (directory_of contents)) else bodies.Link contents)
+
+abbrev pub takes_data : Node → ClientState → ℕ → ℕ → Going → List ℕ → AfsFetchStatus → AfsCallBack → FsCall → Step ClientState
+takes_data me c clock place act contents status callback (calls.FetchData fid position wanted) =
+    takes_fetched me c clock place act (record { fid = fid; index = status.sync_counter; expiry = callback.expiration_time; body = body_told status.file_type contents })
+takes_data me c clock place act contents status callback call = takes_plain me c place call
+
+abbrev pub takes_set : Node → ClientState → ℕ → ℕ → AfsFetchStatus → FsCall → Step ClientState
+takes_set me c clock place status (calls.StoreData fid set position wanted file_length contents) = if c.spoiled then takes_overtaken me c place fid else takes_stored me c clock place fid status.sync_counter contents
+takes_set me c clock place status call = takes_plain me c place call
+
+abbrev pub takes : Node → ClientState → ℕ → ℕ → Going → FsCall → FsReply → Step ClientState
+takes me c clock place act call (replies.FetchData contents status callback sync) = takes_data me c clock place act contents status callback call
+takes me c clock place act call (replies.StoreData status sync) = takes_set me c clock place status call
+takes me c clock place act call reply = takes_plain me c place call
+
+-- a reading reply that a break overtook isn't used
+abbrev pub is_reading : Option ℕ → Bool
+is_reading None = true
+is_reading (Some id) = false
+
+abbrev pub is_spent : ClientState → Going → Bool
+is_spent c act = c.spoiled && is_reading (volume_changed (call_of act))
+
+-- the call is sent again with the boot number that the server told
+abbrev pub resends_step : Node → ClientState → ℕ → Going → ℕ → Step ClientState
+resends_step me c place act boot = record {
+  state = record c { boot = boot };
+  lines = lines.Given place ∷ [];
+  sent = call_message me (record c { boot = boot }) act ∷ [];
+}
+
+abbrev pub counts : Node → ClientState → ℕ → ℕ → Going → Head → Carried → Step ClientState
+counts me c clock place act head (carried.Call user call) = ignores c place
+counts me c clock place act head (carried.Refusal code) = if is_spent c act then calls_step me c act (lines.Given place) else answers_step me c place code
+counts me c clock place act head (carried.Reply reply) = if is_spent c act then calls_step me c act (lines.Given place) else takes me c clock place act (call_of act) reply
+counts me c clock place act head carried.Notice = resends_step me c place act head.boot
+
+-- whether a reply or notice is that to the unanswered call: it comes from its callee, and has its key and its opcode
+abbrev pub is_awaited : Node → ClientState → Going → Head → Bool
+is_awaited me c act head =
+    same_node head.to me && (same_node head.from the_server && (nat_eq head.epoch c.epoch && (nat_eq head.number c.last && nat_eq head.opcode (opcode_of act))))
+
+abbrev pub awaits : Node → ClientState → ℕ → ℕ → Message → Option Going → Step ClientState
+awaits me c clock place m None = ignores c place
+awaits me c clock place m (Some act) =
+    if is_awaited me c act m.head then counts me c clock place act m.head m.carried else ignores c place
+
+-- ---- a server breaks promises
+
+abbrev pub is_named : Fid → List Fid → Bool
+is_named f [] = false
+is_named f (g ∷ fs) = if same_fid g f then true else is_named f fs
+
+-- the reply to the call is of one of the fids; replies to other calls aren't cached
+abbrev pub names_call : List Fid → FsCall → Bool
+names_call fs (calls.FetchData fid position wanted) = is_named fid fs
+names_call fs (calls.StoreData fid status position wanted file_length contents) = is_named fid fs
+names_call fs call = false
+
+abbrev pub names_act : List Fid → Option Going → Bool
+names_act fs None = false
+names_act fs (Some act) = names_call fs (call_of act)
+
+abbrev pub is_waiting : Option Going → Bool
+is_waiting None = false
+is_waiting (Some act) = true
+
+abbrev pub drop_line : Node → Fid → Line
+drop_line me f = lines.Drop me f
+
+-- the reply to a server's call
+abbrev pub done_reply : ClientState → Head → FsReply → Message
+done_reply c head reply = replied c.epoch head (carried.Reply reply)
+
+abbrev pub back_seat : Head → Message → Seat
+back_seat head reply = record { caller = head.from; epoch = head.epoch; number = head.number; reply = Some reply }
+
+-- the entries go, and a reply that names one of the fids is spoiled
+abbrev pub drops_fids : Node → ClientState → ℕ → Head → List Fid → Step ClientState
+drops_fids me c place head fs = record {
+  state = record c {
+    cache = filter (λ e. not (is_named e.fid fs)) c.cache;
+    spoiled = if names_act fs c.running then true else c.spoiled;
+    seat = Some (back_seat head (done_reply c head replies.CallBack));
+  };
+  lines = lines.Given place ∷ map (drop_line me) fs;
+  sent = done_reply c head replies.CallBack ∷ [];
+}
+
+abbrev pub drops_all : Node → ClientState → ℕ → Head → Step ClientState
+drops_all me c place head = record {
+  state = record c {
+    cache = [];
+    spoiled = if is_waiting c.running then true else c.spoiled;
+    seat = Some (back_seat head (done_reply c head replies.InitCallBackState));
+  };
+  lines = lines.Given place ∷ lines.DropAll me head.from ∷ [];
+  sent = done_reply c head replies.InitCallBackState ∷ [];
+}
+
+abbrev pub told_step : ClientState → ℕ → List Message → Step ClientState
+told_step c place sent = record { state = c; lines = lines.Given place ∷ []; sent = sent }
+
+abbrev pub breaks : Node → ClientState → ℕ → Head → FsCall → Step ClientState
+breaks me c place head (calls.CallBack fs callbacks) = drops_fids me c place head fs
+breaks me c place head calls.InitCallBackState = drops_all me c place head
+breaks me c place head call = ignores c place
+
+abbrev pub admits_back : Node → ClientState → ℕ → Head → FsCall → Admitted Message → Step ClientState
+admits_back me c place head call pairs.runs = breaks me c place head call
+admits_back me c place head call (pairs.kept reply) = told_step c place (reply ∷ [])
+admits_back me c place head call pairs.in_progress = ignores c place
+admits_back me c place head call pairs.older = ignores c place
+admits_back me c place head call (pairs.wrong_boot boot) = told_step c place (boot_told c.epoch head ∷ [])
+
+-- first the epoch is compared, then the pair
+abbrev pub called_back : Node → ClientState → ℕ → Head → FsCall → Step ClientState
+called_back me c place head call =
+    if same_node head.from the_server then
+    (if nat_eq head.boot c.epoch then admits_back me c place head call (paired head.epoch head.number c.seat) else told_step c place (boot_told c.epoch head ∷ []))
+    else ignores c place
+
+abbrev pub hears_in : Node → ClientState → ℕ → ℕ → Head → Carried → Step ClientState
+hears_in me c clock place head (carried.Call user call) = called_back me c place head call
+hears_in me c clock place head x = awaits me c clock place (record { head = head; carried = x }) c.running
+
+abbrev pub takes_in : Node → ClientState → ℕ → ℕ → Received → Step ClientState
+takes_in me c clock place Nothing = ignores c place
+takes_in me c clock place (Unknown head) = ignores c place
+takes_in me c clock place (Unreadable head) = ignores c place
+takes_in me c clock place (Whole m) = hears_in me c clock place m.head m.carried
+
+-- the client `me`, given the message of this place
+unfoldable pub client_row : Node → ClientState → ℕ → ℕ → Received → Step ClientState
+client_row me c clock place m = takes_in me c clock place m
+
+-- ---- the unanswered call is timed out
+
+-- -1: the call was given up
+abbrev pub dead_code : Code
+dead_code = record { 0 = negsuc 0 }
+
+abbrev pub tries_again : Node → ClientState → Going → Step ClientState
+tries_again me c act = record {
+  state = record c { tries = c.tries + 1 };
+  lines = lines.Timeout me the_server c.epoch c.last (c.tries + 1) ∷ [];
+  sent = call_message me c act ∷ [];
+}
+
+abbrev pub gives_up' : Node → ClientState → FsCall → Step ClientState
+gives_up' me c call = record {
+  state = ended c (left_in (volume_changed call) c.cache);
+  lines = lines.Timeout me the_server c.epoch c.last 3 ∷ dropped me (given_up_in (volume_changed call) c.cache) (lines.Answer me dead_code ∷ []);
+  sent = [];
+}
+
+-- a changing call that was given up may still run: no entry of its volume stays
+abbrev pub gives_up : Node → ClientState → Going → Step ClientState
+gives_up me c act = gives_up' me c (call_of act)
+
+-- the first and second timeout of a call send it again
+abbrev pub timeout_row : Node → ClientState → Going → Step ClientState
+timeout_row me c act = if nat_lt c.tries 2 then tries_again me c act else gives_up me c act
+
+-- ---- a client stops: it keeps nothing, and begins again with the next epoch
+
+abbrev pub reborn : ClientState → ClientState
+reborn c = record { epoch = c.epoch + 1; last = 0; boot = 1; tries = 0; running = None; cache = []; spoiled = false; seat = None }

@@ -1,0 +1,40 @@
+-- Laws about the runs of a script.
+use Rattle.afs_num.specs.declared.messages.Carried.TheVariants as carried
+use Rattle.std.specs.Prelude.{◌≡◌, ◌↔◌, ℕ, List, ◌++◌, false}
+use Rattle.afs_num.specs.declared.types.Fid.{Fid}
+use Rattle.afs_num.specs.declared.types.Node.{Node}
+use Rattle.afs_num.specs.declared.scripts.Script.{Script}
+use Rattle.afs_num.specs.declared.histories.Body.{Body}
+use Rattle.afs_law.specs.Grants.{since, IsOutstanding}
+use Rattle.afs_law.specs.Ideal.{IsLast}
+use Rattle.afs_law.specs.Legal.{GoodRead, Legal}
+use Rattle.afs_law.specs.Lines.{Line}
+use Rattle.afs_law.specs.Once.{ChangesOnce}
+use Rattle.afs_law.specs.OneServer.{IsOneServer}
+use Rattle.afs_law.specs.Past.{lines_of}
+use Rattle.afs_law.specs.Runs.{Entry, Cell, RunsTo}
+use Rattle.afs_law.specs.ServerRow.{serves, runs, refuses, not_served, whole}
+use Rattle.afs_law.specs.States.{ServerState}
+use Rattle.afs_model.specs.FsRows.{call_number}
+use Rattle.afs_num.specs.declared.histories.ReadSource.{ReadSource}
+use Rattle.afs_num.specs.declared.types.Head.{Head}
+use Rattle.afs_num.specs.declared.calls.FsCall.{FsCall}
+
+-- every run of a script for one server is legal, whatever is given to its nodes, how often and in what order
+abbrev pub RunsAreLegal : Type 0
+RunsAreLegal = (s : Script) (history : List Entry) (end : Cell) → IsOneServer s → RunsTo history s end → Legal history s
+
+-- in every run a key changes something at most once
+abbrev pub KeysRunOnce : Type 0
+KeysRunOnce = (s : Script) (history : List Entry) (end : Cell) → RunsTo history s end → ChangesOnce history
+
+-- a good read shows the newest version where no break of its grant is outstanding
+abbrev pub ReadsAreNewest : Type 0
+ReadsAreNewest =
+    (c : Node) (f : Fid) (index : ℕ) (source : ReadSource) (body : Body) (past : List Entry) (own : List Line) (read : GoodRead c f index source body past own)
+    → (IsOutstanding read.grant.server c f (own ++ since c f read.expiry read.reply past read.grant) → ⊥) → IsLast f index (own ++ lines_of past)
+
+-- a server tells that a call isn't served exactly where its opcode is none of those that it serves
+abbrev pub UnservedAreRefused : Type 0
+UnservedAreRefused =
+    (s : ServerState) (head : Head) (user : List ℕ) (call : FsCall) → (runs s head (whole head (carried.Call user call)) ≡ refuses head not_served) ↔ (serves (call_number call) ≡ false)
