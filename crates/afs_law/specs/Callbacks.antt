@@ -74,12 +74,14 @@ caller n = 0
 abbrev pub is_promise : ℕ → Fid → Promise → Bool
 is_promise n f p = nat_eq p.client n && same_fid p.fid f
 
-abbrev pub repromised : ℕ → Fid → ℕ → Backs → Backs
-repromised n f expiry b = record b { promises = filter (λ p. not (is_promise n f p)) b.promises ++ record { client = n; fid = f; expiry = expiry } ∷ [] }
+-- a new promise takes the place of the client's old one on that fid, and stands last
+abbrev pub with_promise : ℕ → ℕ → Fid → List Promise → List Promise
+with_promise n expiry f ps = filter (λ p. not (is_promise n f p)) ps ++ record { client = n; fid = f; expiry = expiry } ∷ []
 
-abbrev pub repromised_all : ℕ → List Found → ℕ → Backs → Backs
-repromised_all n [] expiry b = b
-repromised_all n (f ∷ fs) expiry b = repromised_all n fs expiry (repromised n f.fid expiry b)
+-- one after the other
+abbrev pub with_promises : ℕ → ℕ → List Found → List Promise → List Promise
+with_promises n expiry [] ps = ps
+with_promises n expiry (f ∷ fs) ps = with_promises n expiry fs (with_promise n expiry f.fid ps)
 
 -- a change of the fid by this client withdraws the promise
 abbrev pub is_hit : ℕ → Fid → Promise → Bool
@@ -174,7 +176,7 @@ turn_for me s clock b (tells_boot head) = record { backs = b; lines = []; sent =
 turn_for me s clock b (repeats reply) = repeats_by b reply (is_held (key_answered reply) b.held) (is_seat_of reply (call_seat reply.head.to s.durable))
 turn_for me s clock b (refuses head code) = record { backs = b; lines = []; sent = []; outs = record { reply = refusal s.boot head code; waits = [] } ∷ [] }
 turn_for me s clock b (shows head r) = record {
-  backs = repromised_all (caller head.from) (granted_by r.shown) (clock + promise_ticks) b;
+  backs = record b { promises = with_promises (caller head.from) (clock + promise_ticks) (granted_by r.shown) b.promises };
   lines = [];
   sent = [];
   outs = record { reply = read_reply_to s.boot head s.times (clock + promise_ticks) r; waits = [] } ∷ [];

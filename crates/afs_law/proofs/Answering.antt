@@ -1,0 +1,878 @@
+use Rattle.afs_num.specs.declared.directories.Name.{Name}
+use Rattle.std.proofs.Common.{◌++◌, ◌≡◌, ℕ, ◌<◌, ◌≤◌, inl, inr, Bool, true, false, cond, nat_lt, not, List, [], ◌∷◌, map, Option, Some, None, ℤ, refl, sym, ap, subst, ◌∙◌, eqb-true, ltb-true, lt-ltb, le_of_eq, append-nil, arith}
+use Rattle.std.specs.Prelude.{◌&&◌, filter, pos, ◌⊎◌, ℤ, ⊤}
+use Rattle.std.specs.Option.{option_map}
+use Rattle.afs_num.specs.Fids.{same_fid}
+use Rattle.afs_num.specs.Nodes.{same_node}
+use Rattle.afs_num.specs.declared.types.Code.{Code}
+use Rattle.afs_num.specs.declared.types.Fid.{Fid}
+use Rattle.afs_num.specs.declared.types.Head.{Head}
+use Rattle.afs_num.specs.declared.types.Key.{Key}
+use Rattle.afs_num.specs.declared.types.Node.{Node}
+use Rattle.afs_num.specs.declared.types.Node.TheVariants.{Client}
+use Rattle.afs_num.specs.declared.calls.AfsCallBack.{AfsCallBack}
+use Rattle.afs_num.specs.declared.calls.AfsFetchStatus.{AfsFetchStatus}
+use Rattle.afs_num.specs.declared.calls.AfsVolSync.{AfsVolSync}
+use Rattle.afs_num.specs.declared.calls.FsCall.{FsCall}
+use Rattle.afs_num.specs.declared.calls.FsReply.{FsReply}
+use Rattle.afs_num.specs.declared.messages.Carried.{Carried}
+use Rattle.afs_num.specs.declared.messages.Message.{Message}
+use Rattle.afs_num.specs.declared.messages.Received.TheVariants.{Whole}
+use Rattle.afs_law.proofs.Asking.{client_kept, call_known, reply_still, step_entry, view_after, moves, nothing_new, Heard, told_passes, shown_lines, shown_file, shown_reach, shown_seen, answered_seen, own_zero, shown_passes, answered_lines, answered_file, answered_reach, answered_passes, used_lines, used_grant, used_file, used_reach, used_passes, quiet, safe_cache, own_call, asks, own_begun, idle_asks, no_scope, same_one, call_is, heard_dull, used_by, Passes, not_client, reads_by_other, new_one}
+use Rattle.afs_law.proofs.Basics.{UpTo, Above, IfCall, IfReply, IfNotice, OfReply, OfNotice, up_to_by, yes_no, both, same_fid-true, same_fid-refl, same_node-refl, client_number, up_to_both, found-cached-fid, found-first, none-first, found-refreshed, OfCall, each_at, some_of, ByServer, OfClient, by_client, IfBack, up_to_next, next_not, same_node-true, raised_up_to}
+use Rattle.afs_law.proofs.Dropping.{left_out, called_goes}
+use Rattle.afs_law.proofs.Edits.{index_in}
+use Rattle.afs_law.proofs.Facts.{Ghost, Seen, IsAged, Spot, spot, LastStored, IsStored, IsUntrusted, IsSafe, Fits, View, view, last_key, LastRan, Reached, IsNewest, Overtaken, Stands, IsCurrent, HasCurrent, Answers, stored_index, ClientFacts, CallFact, CallIn, ReplyFact, ReplyIn, Holds, Goes, IsFetched, FitsPlain, FitsData, FitsSet, FitsReply, WasStored, WasChanged, InScope, is_in_scope, IsNoticed}
+use Rattle.afs_law.proofs.Owing.{BackIn}
+use Rattle.afs_law.proofs.Passing.{PassesSeen, PassesGrant, PassesFile, PassesAct, PassesReach, StaysNewest, stays, held_over, fetch_reply_by, current_over, kept_over, cause_behind}
+use Rattle.afs_law.proofs.Resting.{voids}
+use Rattle.afs_law.proofs.Saving.{old_withdrawn}
+use Rattle.afs_law.proofs.Serving.{told_file, told_reach, told_act, not_ran, stale_none, reached_still}
+use Rattle.afs_law.proofs.Skipping.{own_ended, skips, drop_lines, was_given, drop_file, drop_reach, drop_seen, drop_passes, ended_running, left_found, left_scope, left_none, scope_is, drops_good}
+use Rattle.afs_law.specs.Acts.{Act, Open, Close, WalkTo, Ask}
+use Rattle.afs_law.specs.ClientRow.{the_server, find_cached, guest, used_first, refreshed, call_message, calls_step, zero_code, shows_step, opens, begin_row, ignores, ended, answers_step, uses_step, takes_stored, takes, resends_step, counts, is_awaited, awaits, client_row, takes_overtaken, is_spent, hears_in, takes_plain, takes_data, takes_set, left_in, given_up_in, body_told, call_of, used_on, reads_on_step, asking, code_by, is_reading}
+use Rattle.afs_law.specs.Going.{asked, Going, Need, next, answers, began, with_read, read_on, ClientState, shown_code, Shown, Goal, shows, calls_on, calls_in, at_end, steps, step_to, is_last_name, looked_up, fid_of, plan_of, call_for, reads, asks_for}
+use Rattle.afs_law.specs.Grants.{has_fetched, fetch_reply, since}
+use Rattle.afs_law.specs.Ideal.{is_zero_code, reach, last_version, HasVersion}
+use Rattle.afs_law.specs.Legal.{Cause, code_told, GoodCode, IsDone}
+use Rattle.afs_law.specs.Lines.{Line}
+use Rattle.afs_law.specs.Past.{onto, lines_of, sent_of, given_message, answered_key, running, has_begun, CalledSince, IsCall}
+use Rattle.afs_law.specs.Runs.{Entry, Cell, message_at, client_moves, begun_by, voided}
+use Rattle.afs_law.specs.States.{CacheEntry, Seat}
+use Rattle.afs_law.specs.Steps.{Step}
+use Rattle.afs_model.specs.Calls.{call_seat}
+use Rattle.afs_model.specs.Operations.{volume_changed}
+use Rattle.afs_num.specs.declared.scripts.Script.{Script}
+use Rattle.afs_num.specs.declared.histories.ReadSource.TheVariants.{Fetched}
+use Rattle.std.proofs.Math.Nat.{le_refl, le_trans, eq-or-lt_of_le}
+use Rattle.afs_num.specs.declared.histories.Body.{Body}
+use Rattle.afs_num.specs.declared.calls.AfsStoreStatus.{AfsStoreStatus}
+use Rattle.afs_num.specs.declared.calls.FsReply.TheVariants as replies
+use Rattle.afs_num.specs.declared.messages.Carried.TheVariants as carried
+use Rattle.afs_num.specs.declared.histories.Body.TheVariants as bodies
+use Rattle.afs_law.specs.Lines as lines
+use Rattle.afs_num.specs.declared.calls.FsCall.TheVariants as calls
+-- The clients' steps that answer an act.
+
+
+-- a reply to a client that waits for none
+pub idle_reply : (j : ℕ) (v w : View) (past newer : List Entry) (m : Message) → v.epoch ≡ w.epoch → v.last ≡ w.last → v.floor ≡ w.floor → v.boot ≡ w.boot → v.seat ≡ w.seat → v.durable ≡ w.durable → w.running ≡ None → ReplyFact j v past m → ReplyFact j w newer m
+idle_reply j v w past newer m a b c d e g none f = record {
+  behind = subst (λ (x : ℕ). UpTo m.head.epoch m.head.number x w.last) a (subst (λ (x : ℕ). UpTo m.head.epoch m.head.number v.epoch x) b f.behind);
+  booted = subst (λ (x : ℕ). m.head.boot ≤ x) d f.booted;
+  recent = λ y k. subst (λ (x : ℕ). x ≤ m.head.boot) c (f.recent (y ∙ sym a) (k ∙ sym b));
+  tied = λ q above. f.tied (q ∙ sym d) (subst (λ (o : Option Seat). Above o m.head.epoch m.head.number) (sym e) above);
+  answers = λ act y. absurd cc;
+}
+
+-- ---- an entry is shown
+
+pub same_entry : (a b : CacheEntry) (o : Option CacheEntry) → o ≡ Some a → o ≡ Some b → a ≡ b
+same_entry a b o x y = some_of a b (sym x ∙ y)
+
+-- what is found where an entry was used was found before
+used_found : (g : Fid) (u : CacheEntry) (cache : List CacheEntry) (v : CacheEntry) → find_cached u.fid cache ≡ Some u → find_cached g (used_first u cache) ≡ Some v → find_cached g cache ≡ Some v
+used_found g u cache v at found = elim (found-first g u cache v found) [
+  | inl q ↦ subst (λ (x : Fid). find_cached x cache ≡ Some v) q.0 (subst (λ (x : CacheEntry). find_cached u.fid cache ≡ Some x) q.1 at)
+  | inr q ↦ q.1
+]
+
+pub not_waiting : (j : ℕ) (f : Fid) (i : ℕ) (server : Node) (newer : List Line) (v : View) (past : List Entry) → v.running ≡ None → Overtaken j f i server newer v past → ⊥
+not_waiting j f i server newer v past none o = let runs = o.runs in absurd cc
+
+pub idle_reached : (j : ℕ) (f : Fid) (i : ℕ) (server : Node) (newer : List Line) (v : View) (past : List Entry) → v.running ≡ None → Stands j f i server newer v past → Seen j f i past
+idle_reached j f i server newer v past none (inl a) = a.reached
+idle_reached j f i server newer v past none (inr o) = absurd (not_waiting j f i server newer v past none o)
+
+pub idle_newest : (j : ℕ) (f : Fid) (i : ℕ) (server : Node) (newer : List Line) (v : View) (past : List Entry) → v.running ≡ None → Stands j f i server newer v past → IsNewest server j f i newer (lines_of past)
+idle_newest j f i server newer v past none (inl a) = a.newest
+idle_newest j f i server newer v past none (inr o) = absurd (not_waiting j f i server newer v past none o)
+
+-- an open that has read needs no more
+pub open_by : (f : Fid) (b : Body) → next (with_read f b (began (Open f))) ≡ answers (shown_code b)
+open_by f b = refl
+
+pub open_done : (f : Fid) (b : Body) → IsDone (with_read f b (began (Open f))) (code_by (next (with_read f b (began (Open f))))).0
+open_done f b = record { number = shown_code b; is = refl; by = refl }
+
+pub own_read : (n : ℕ) (f : Fid) (b : Body) (g : Going) (o : Option Going) → o ≡ Some g → read_on (same_node (Client n) (Client n)) f b o ≡ Some (with_read f b g)
+own_read n f b g o e = rw (same_node-refl (Client n), e) refl
+
+pub shown_now : (s : Script) (c : Cell) (past : List Entry) (n : ℕ) (f : Fid) (u : CacheEntry) → Holds s c past → (c.clients n).running ≡ None → find_cached f (c.clients n).cache ≡ Some u → nat_lt c.clock u.expiry ≡ true
+    → Goes s past (client_moves c n (shows_step (Client n) (c.clients n) f u))
+shown_now s c past n f u h none found lasts =
+    let d = h.clients n in
+    let st : Step ClientState = shows_step (Client n) (c.clients n) f u in
+    let a : Act = Open f in
+    let k : Code = code_by (next (with_read f u.body (began a))) in
+    let e : Entry = step_entry n (shown_lines n a f u.index u.body k) [] in
+    let lt : c.clock < u.expiry = ltb-true _ _ lasts in
+    let cur = d.current f u found lt in
+    let own : u.fid ≡ f = same_fid-true u.fid f (found-cached-fid f (c.clients n).cache u found) in
+    let first : find_cached u.fid (c.clients n).cache ≡ Some u = ap (λ (x : Fid). find_cached x (c.clients n).cache) own ∙ found in
+    let old : Seen n f u.index past = idle_reached n f u.index _ _ (view h.floors c n) past none cur.state in
+    let over : (m : Message) → ReplyFact n (view h.floors c n) past m → ReplyFact n (view_after c n (h.floors n) st.state) (e ∷ past) m = λ m f. idle_reply n (view h.floors c n) (view_after c n (h.floors n) st.state) past (e ∷ past) m refl refl refl refl refl refl none f in
+    moves s c past n (h.floors n) st h (
+      tt,
+      (
+        (
+          refl,
+          record {
+            whole = cur.held.whole;
+            not_older = old;
+            reply = cur.reply;
+            by = cur.by;
+            expiry = u.expiry;
+            grant = cur.held.grant;
+            lasts = subst (λ (t : ℕ). t < u.expiry) (sym h.clock) lt;
+            kept = cur.held.kept refl;
+            newest = idle_newest n f u.index _ _ (view h.floors c n) past none cur.state;
+          },
+        ),
+        ((refl, record { act = with_read f u.body (began a); runs = own_read n f u.body (began a) _ (own_begun n (began a) (running (Client n) (lines_of past))); cause = inr (inl (open_done f u.body)) }), tt),
+      ),
+    )
+    (shown_passes s n u.index a f u.body k past)
+    (record {
+      behind = d.behind;
+      behind_durable = d.behind_durable;
+      lower = d.lower;
+      kept = kept_over n _ (view h.floors c n) (view_after c n (h.floors n) st.state) past (e ∷ past) over d.kept;
+      stored = kept_over n _ (view h.floors c n) (view_after c n (h.floors n) st.state) past (e ∷ past) over d.stored;
+      known = d.known;
+      floored = d.floored;
+      holds = d.holds;
+      waits = λ b y. absurd cc;
+      idle = λ y. rw (same_node-refl (Client n)) refl;
+      made = λ b y. absurd cc;
+      current = λ g w at lasts'.
+          let before : find_cached g (c.clients n).cache ≡ Some w = used_found g u (c.clients n).cache w first at in
+          current_over n g w (view h.floors c n) (view_after c n (h.floors n) st.state) e past (le_refl _) (shown_file n n u.index a f g u.body k past)
+          (λ server newer q stands. inl (record {
+            reached = shown_seen n n u.index a f g u.body k past w.index (λ t y. le_of_eq (ap (λ (x : CacheEntry). x.index) (same_entry u w (find_cached g (c.clients n).cache) (ap (λ (x : Fid). find_cached x (c.clients n).cache) (sym (same_fid-true f g y)) ∙ found) before))) (inl (le_trans (le_of_eq (own_zero n (reach (Client n) g past).made)) (omega arith))) (idle_reached n g w.index server newer (view h.floors c n) past none stands);
+            newest = idle_newest n g w.index server newer (view h.floors c n) past none stands;
+            before = λ y is sc ran. absurd cc;
+          })) (d.current g w before lasts');
+      runs = λ b y. absurd cc;
+      asked = λ b y. absurd cc;
+      reached = λ g. shown_reach n n u.index a f g u.body k past (index_in (last_version g (lines_of past))) (λ t y. subst (λ (x : Fid). u.index ≤ index_in (last_version x (lines_of past))) (same_fid-true f g y) (h.top f u.index (u.body) cur.held.whole)) (d.reached g);
+    })
+    (λ head call w. record {
+      behind = w.behind;
+      booted = w.booted;
+      stale = w.stale;
+      own = w.own;
+      safe = λ q above. safe_cache call c.clock (c.clients n).epoch (c.clients n).last (c.clients n).running (c.clients n).cache (used_first u (c.clients n).cache) (IsAged (view h.floors c n) head) head (λ g y v at lasts'. y v (used_found g u (c.clients n).cache v first at) lasts') (w.safe q above);
+    })
+    over (nothing_new _ _) (λ a x z. absurd cc) refl
+
+pub trusted_goes : (s : Script) (c : Cell) (past : List Entry) (n : ℕ) (f : Fid) (u : CacheEntry) (t : Bool) → Holds s c past → (c.clients n).running ≡ None → find_cached f (c.clients n).cache ≡ Some u → nat_lt c.clock u.expiry ≡ t
+    → Goes s past (client_moves c n (cond t (shows_step (Client n) (c.clients n) f u) (calls_step (Client n) (c.clients n) (began (Open f)) (lines.Begin (Client n) (Open f)))))
+trusted_goes s c past n f u true h none found lasts = shown_now s c past n f u h none found lasts
+trusted_goes s c past n f u false h none found lasts = idle_asks s c past n (Open f) h none
+
+pub opens_goes : (s : Script) (c : Cell) (past : List Entry) (n : ℕ) (f : Fid) (o : Option CacheEntry) → Holds s c past → (c.clients n).running ≡ None → find_cached f (c.clients n).cache ≡ o → Goes s past (client_moves c n (opens (Client n) (c.clients n) c.clock f o))
+opens_goes s c past n f None h none e = idle_asks s c past n (Open f) h none
+opens_goes s c past n f (Some u) h none e = trusted_goes s c past n f u (nat_lt c.clock u.expiry) h none e refl
+
+pub begins_goes : (s : Script) (c : Cell) (past : List Entry) (n : ℕ) (act : Act) → Holds s c past → (c.clients n).running ≡ None → Goes s past (client_moves c n (begin_row (Client n) (c.clients n) c.clock act))
+unfolding begin_row
+begins_goes s c past n (Open f) h none = opens_goes s c past n f (find_cached f (c.clients n).cache) h none refl
+begins_goes s c past n (Close f contents) h none = idle_asks s c past n (Close f contents) h none
+begins_goes s c past n (Ask call) h none = idle_asks s c past n (Ask call) h none
+begins_goes s c past n (WalkTo volume path) h none = idle_asks s c past n (WalkTo volume path) h none
+
+-- ---- the reply to the running act
+
+pub record Due (c : Cell) (fl : ℕ → Ghost) (past : List Entry) (n p : ℕ) (act : Going) (m : Message) : Type 0 where
+  pub running : (c.clients n).running ≡ Some act
+  pub epoch : m.head.epoch ≡ (c.clients n).epoch
+  pub number : m.head.number ≡ (c.clients n).last
+  pub fact : ReplyFact n (view fl c n) past m
+  pub key : answered_key m.head ≡ last_key n (view fl c n)
+  pub answers : Answers (c.clients n).spoiled n (asked act) (spot (view fl c n)) c.server.boot m past
+  pub heard : Heard c p m
+  pub at : message_at (sent_of past) p ≡ Some m
+
+-- its act is answered with its code
+pub good_code : (s : Script) (c : Cell) (past : List Entry) (n p : ℕ) (act : Going) (m : Message) (code : Code) (own : List Line) → (h : Holds s c past) → Due c h.floors past n p act m → code_told m.carried ≡ Some code.0 → given_message own (sent_of past) ≡ message_at (sent_of past) p
+    → has_begun (Client n) own ≡ false → running (Client n) (own ++ lines_of past) ≡ running (Client n) (lines_of past) → GoodCode (Client n) code past own
+good_code s c past n p act m code own h d told by none still =
+    let cause : Cause m code.0 (asked act) past [] = subst (λ (z : ℤ). Cause m z (asked act) past []) (some_of _ _ (sym d.answers.cause.told ∙ told)) d.answers.cause in
+    let asked_now : CalledSince (answered_key m.head) guest (asked act) past = subst (λ (k : Key). CalledSince k guest (asked act) past) (sym d.key) ((h.clients n).asked act d.running) in
+    record {
+      act = act;
+      runs = still ∙ (h.clients n).runs act d.running;
+      cause = inl (record {
+        reply = m;
+        by = by ∙ d.at;
+        to = ap (λ (k : Key). k.node) d.key;
+        cause = cause_behind m code.0 (asked act) past own cause;
+        before = none;
+        called = subst (λ (u : List ℕ). CalledSince (answered_key m.head) u cause.call past) (sym cause.own_user) (subst (λ (x : FsCall). CalledSince (answered_key m.head) guest x past) (sym cause.asks) asked_now);
+      });
+    }
+
+-- An act that ended leaves no change that may run of what the client trusts, but where all that it holds is of an older
+-- boot: where a reply was made no call below its own may run; its own may only in a later boot, and if it was refused
+pub plain_safe : (call : FsCall) (x : Spot) (m : Message) (t e l : ℕ) (cache : List CacheEntry) (aged : Type 0) (head : Head) (o : Option ℕ) → volume_changed call ≡ o → FitsPlain x m call → (LastStored x → ⊥) → IsSafe t e l None cache aged head call
+plain_safe call x m t e l cache aged head None o fits none = inl o
+plain_safe call x m t e l cache aged head (Some id) o fits none = absurd (none (fits id o).ran)
+
+pub data_safe : (sp : Bool) (call : FsCall) (n : ℕ) (x : Spot) (m : Message) (past : List Entry) (contents : List ℕ) (status : AfsFetchStatus) (callback : AfsCallBack) (t e l : ℕ) (cache : List CacheEntry) (aged : Type 0) (head : Head) → FitsData sp n x m past contents status callback call → (LastStored x → ⊥) → IsSafe t e l None cache aged head call
+data_safe sp (calls.FetchData f p w) n x m past contents status callback t e l cache aged head fits none = inl refl
+data_safe sp call n x m past contents status callback t e l cache aged head fits none = plain_safe call x m t e l cache aged head (volume_changed call) refl fits none
+
+pub set_safe : (call : FsCall) (n : ℕ) (x : Spot) (m : Message) (past : List Entry) (status : AfsFetchStatus) (t e l : ℕ) (cache : List CacheEntry) (aged : Type 0) (head : Head) → FitsSet n x m past status call → (LastStored x → ⊥) → IsSafe t e l None cache aged head call
+set_safe (calls.StoreData f st p w k b) n x m past status t e l cache aged head fits none = absurd (none fits.1.0.ran)
+set_safe call n x m past status t e l cache aged head fits none = plain_safe call x m t e l cache aged head (volume_changed call) refl fits none
+
+pub reply_safe : (sp : Bool) (reply : FsReply) (n : ℕ) (call : FsCall) (x : Spot) (m : Message) (past : List Entry) (t e l : ℕ) (cache : List CacheEntry) (aged : Type 0) (head : Head) → FitsReply sp n call x m past reply → (LastStored x → ⊥) → IsSafe t e l None cache aged head call
+reply_safe sp (replies.FetchData contents status callback sync) n call x m past t e l cache aged head fits none = data_safe sp call n x m past contents status callback t e l cache aged head fits none
+reply_safe sp (replies.StoreData status sync) n call x m past t e l cache aged head fits none = set_safe call n x m past status t e l cache aged head fits none
+reply_safe sp reply n call x m past t e l cache aged head fits none = plain_safe call x m t e l cache aged head (volume_changed call) refl fits none
+
+pub ended_safe : (sp : Bool) (n : ℕ) (call : FsCall) (x : Spot) (boot : ℕ) (m : Message) (c : Carried) (past : List Entry) (t e l : ℕ) (cache : List CacheEntry) (aged : Type 0) (head : Head) → Fits sp n call x boot m c past → (LastStored x → ⊥)
+    → ((code : Code) → c ≡ carried.Refusal code → aged) → IsSafe t e l None cache aged head call
+ended_safe sp n call x boot m (carried.Reply reply) past t e l cache aged head fits none w = reply_safe sp reply n call x m past t e l cache aged head fits none
+ended_safe sp n call x boot m (carried.Refusal code) past t e l cache aged head fits none w = inr (inr (inr (w code refl)))
+ended_safe sp n call x boot m c past t e l cache aged head fits none w = absurd fits
+
+abbrev pub holding : (ℕ → Ghost) → ℕ → ℕ → Ghost
+holding fl n held = record { floor = (fl n).floor; held = held }
+
+-- what a client holds that waited for a reply of an older boot
+pub old_held : (s : Script) (c : Cell) (past : List Entry) (n : ℕ) (act : Going) (m : Message) (held : ℕ) → (h : Holds s c past) → {p : ℕ} → Due c h.floors past n p act m → held ≡ (h.floors n).held → m.head.boot < c.server.boot → held < c.server.boot
+old_held s c past n act m held h {p} d same l =
+    let a : (h.floors n).held ≤ (h.floors n).floor = (h.clients n).waits act d.running in
+    let b : (h.floors n).floor ≤ m.head.boot = d.fact.recent d.epoch d.number in
+    omega arith
+
+pub below_boot : (s : Script) (c : Cell) (past : List Entry) (n : ℕ) (act : Going) (m : Message) (head : Head) → (h : Holds s c past) → {p : ℕ} → Due c h.floors past n p act m → head.epoch ≡ (c.clients n).epoch → head.number ≡ (c.clients n).last → Above (call_seat (Client n) c.server.seats) head.epoch head.number → m.head.boot < c.server.boot
+below_boot s c past n act m head h {p} d e k above = elim (eq-or-lt_of_le d.fact.booted) [
+  | inl same ↦ absurd (d.fact.tied same (subst (λ (x : ℕ). Above (call_seat (Client n) c.server.seats) x m.head.number) (e ∙ sym d.epoch) (subst (λ (x : ℕ). Above (call_seat (Client n) c.server.seats) head.epoch x) (k ∙ sym d.number) above)))
+  | inr l ↦ l
+]
+
+pub ended_calls : (s : Script) (c : Cell) (past : List Entry) (n p : ℕ) (act : Going) (m : Message) (cache : List CacheEntry) (held : ℕ) → (h : Holds s c past) → Due c h.floors past n p act m
+    → ((code : Code) → m.carried ≡ carried.Refusal code → held ≡ (h.floors n).held)
+    → (head : Head) (call : FsCall) → CallFact (view h.floors c n) head call → CallFact (view_after c n (holding h.floors n held) (ended (c.clients n) cache)) head call
+ended_calls s c past n p act m cache held h d w head call f = record {
+  behind = f.behind;
+  booted = f.booted;
+  stale = f.stale;
+  own = λ b x y z. absurd cc;
+  safe = λ q above. elim (up_to_by _ _ _ _ f.behind) [
+    | inl l ↦ absurd (stale_none h.floors c past n head call m f q above d.fact d.epoch d.number l)
+    | inr same ↦ subst (λ (x : FsCall). IsSafe c.clock (c.clients n).epoch (c.clients n).last None cache (IsAged (view_after c n (holding h.floors n held) (ended (c.clients n) cache)) head) head x) (sym (f.own act d.running same.0 same.1))
+        (ended_safe (c.clients n).spoiled n (asked act) (spot (view h.floors c n)) c.server.boot m m.carried past c.clock (c.clients n).epoch (c.clients n).last cache (IsAged (view_after c n (holding h.floors n held) (ended (c.clients n) cache)) head) head d.answers.fits (not_ran (view h.floors c n) head.epoch head.number ((h.clients n).lower head.epoch head.number above) f.behind)
+        (λ code is. (old_held s c past n act m held h d (w code is) (below_boot s c past n act m head h d same.0 same.1 above), λ a y. absurd cc)))
+  ];
+}
+
+pub ended_reply : (s : Script) (c : Cell) (past : List Entry) (n : ℕ) (cache : List CacheEntry) (held : ℕ) (e : Entry) → (h : Holds s c past) → (m : Message) → ReplyFact n (view h.floors c n) past m → ReplyFact n (view_after c n (holding h.floors n held) (ended (c.clients n) cache)) (e ∷ past) m
+ended_reply s c past n cache held e h m f = idle_reply n (view h.floors c n) (view_after c n (holding h.floors n held) (ended (c.clients n) cache)) past (e ∷ past) m refl refl refl refl refl refl refl f
+
+pub ended_facts : (s : Script) (c : Cell) (past : List Entry) (n : ℕ) (cache : List CacheEntry) (held : ℕ) (e : Entry) → (h : Holds s c past) → held ≤ c.server.boot → running (Client n) (lines_of (e ∷ past)) ≡ None → HasCurrent n (view_after c n (holding h.floors n held) (ended (c.clients n) cache)) (e ∷ past) → ((f : Fid) → Reached (Client n) f (index_in (last_version f (lines_of (e ∷ past)))) (e ∷ past))
+    → ClientFacts n (view_after c n (holding h.floors n held) (ended (c.clients n) cache)) (e ∷ past)
+ended_facts s c past n cache held e h le idle cur r =
+    let d = h.clients n in
+    let v : View = view_after c n (holding h.floors n held) (ended (c.clients n) cache) in
+    record {
+      behind = d.behind;
+      behind_durable = d.behind_durable;
+      lower = d.lower;
+      kept = kept_over n _ (view h.floors c n) v past (e ∷ past) (ended_reply s c past n cache held e h) d.kept;
+      stored = kept_over n _ (view h.floors c n) v past (e ∷ past) (ended_reply s c past n cache held e h) d.stored;
+      known = d.known;
+      floored = d.floored;
+      holds = le;
+      waits = λ b y. absurd cc;
+      idle = λ y. idle;
+      made = λ b y. absurd cc;
+      current = cur;
+      runs = λ b y. absurd cc;
+      asked = λ b y. absurd cc;
+      reached = r;
+    }
+
+-- an entry of another file
+pub ended_stands : (fl : ℕ → Ghost) (c : Cell) (past : List Entry) (n : ℕ) (cache : List CacheEntry) (g : Ghost) (e : Entry) (f : Fid) (i : ℕ) → (Seen n f i past → Seen n f i (e ∷ past)) → StaysNewest n f e past → ((a : Going) → (c.clients n).running ≡ Some a → InScope (asked a) f → LastRan (view fl c n) → ⊥)
+    → (server : Node) (newer : List Line) → server ≡ the_server → Stands n f i server newer (view fl c n) past → Stands n f i server (onto newer e.lines) (view_after c n g (ended (c.clients n) cache)) (e ∷ past)
+ended_stands fl c past n cache g e f i r stay none server newer q (inl a) = inl (record { reached = r a.reached; newest = stay server i newer q a.newest; before = λ y x sc ran. absurd cc })
+ended_stands fl c past n cache g e f i r stay none server newer q (inr o) = absurd (none o.act o.runs o.scope o.ran)
+
+-- the seat of the client's last call has one reply
+pub one_reply : (v : Spot) (a b : LastStored v) (m k : Message) → a.seat.reply ≡ Some m → b.seat.reply ≡ Some k → m ≡ k
+one_reply v a b m k x y = let same : a.seat ≡ b.seat = some_of _ _ (sym a.at ∙ b.at) in some_of m k (sym x ∙ (ap (λ (z : Seat). z.reply) same ∙ y))
+
+-- ---- a refusal
+
+-- a store that ran after it was refused left the entry of its file withdrawn
+pub refused_stands : (s : Script) (c : Cell) (past : List Entry) (n p : ℕ) (act : Going) (head : Head) (code : Code) (e : Entry) (f : Fid) (u : CacheEntry) → (h : Holds s c past) → (d : Due c h.floors past n p act (record { head = head; carried = carried.Refusal code })) → (cur : IsCurrent n f u (view h.floors c n) past) → PassesSeen n f e past → PassesGrant n f e past → StaysNewest n f e past
+    → Stands n f u.index cur.held.grant.server (since (Client n) f u.expiry cur.reply past cur.held.grant) (view h.floors c n) past
+    → Stands n f u.index cur.held.grant.server (onto (since (Client n) f u.expiry cur.reply past cur.held.grant) e.lines) (view_after c n (holding h.floors n (h.floors n).held) (ended (c.clients n) (c.clients n).cache)) (e ∷ past)
+refused_stands s c past n p act head code e f u h d cur r g stay (inl a) = inl (record { reached = r u.index a.reached; newest = stay _ u.index _ cur.held.server a.newest; before = λ y x sc ran. absurd cc })
+refused_stands s c past n p act head code e f u h d cur r g stay (inr o) =
+    let m : Message = record { head = head; carried = carried.Refusal code } in
+    let l : m.head.boot < c.server.boot = d.answers.fits.1 o.ran in
+    inl (record { reached = r u.index o.was; newest = inl (g.withdrawn _ _ (old_withdrawn s c past n f u h cur (old_held s c past n act m (h.floors n).held h d refl l))); before = λ y x sc ran. absurd cc })
+
+pub takes_refused : (s : Script) (c : Cell) (past : List Entry) (n p : ℕ) (act : Going) (head : Head) (code : Code) → (h : Holds s c past) → Due c h.floors past n p act (record { head = head; carried = carried.Refusal code }) → Goes s past (client_moves c n (answers_step (Client n) (c.clients n) p code))
+takes_refused s c past n p act head code h d =
+    let m : Message = record { head = head; carried = carried.Refusal code } in
+    let e : Entry = step_entry n (answered_lines n p code) [] in
+    let nz : is_zero_code code ≡ false = d.answers.fits.0 in
+    let held : ℕ = (h.floors n).held in
+    moves s c past n (holding h.floors n held) (answers_step (Client n) (c.clients n) p code) h
+    (tt, ((refl, good_code s c past n p act m code (lines.Given p ∷ []) h d refl refl refl refl), tt))
+    (answered_passes s c past n p m code h d.heard)
+    (ended_facts s c past n (c.clients n).cache held e h (h.clients n).holds (own_ended n (running (Client n) (lines_of past)))
+    (λ f u found lasts. let cur : IsCurrent n f u (view h.floors c n) past = (h.clients n).current f u found lasts in
+    let file : PassesFile n f e past = answered_file n n p code past f in
+    record {
+      reply = cur.reply;
+      boot = cur.boot;
+      by = fetch_reply_by (has_fetched (Client n) f e.lines) (given_message e.lines (sent_of past)) (fetch_reply (Client n) f past) file.fetched ∙ cur.by;
+      held = held_over n f u.index u.body u.expiry cur.reply e past file.grant cur.held;
+      state = refused_stands s c past n p act head code e f u h d cur (answered_seen n n p code past f (λ t z. yes_no (is_zero_code code) z nz)) file.grant (stays n f e past file.grant refl) cur.state;
+    })
+    (reached_still s c past n e h (answered_reach n n p code past) (λ f. refl)))
+    (ended_calls s c past n p act m (c.clients n).cache held h d (λ k is. refl)) (ended_reply s c past n (c.clients n).cache held e h) (nothing_new _ _) (λ a x z. absurd cc) refl
+
+-- ---- a fetched file
+
+used_reply : (n : ℕ) (f : Fid) (o u : Option Message) → cond (cond (same_node (Client n) (Client n) && same_fid f f) true false) o u ≡ o
+used_reply n f o u = rw (same_node-refl (Client n), same_fid-refl f) refl
+
+-- what needs no read needs the same behind one more
+abbrev pub IsFinal : Need → Type 0
+IsFinal (reads f) = ⊥
+IsFinal need = ⊤
+
+pub end_stable : (goal : Goal) (f : Fid) (rs : List Shown) (r : Shown) → IsFinal (at_end goal f rs) → at_end goal f (rs ++ r ∷ []) ≡ at_end goal f rs
+end_stable shows f [] r h = absurd h
+end_stable shows f (x ∷ rs) r h = refl
+end_stable (calls_on c) f rs r h = refl
+end_stable (calls_in c) f [] r h = absurd h
+end_stable (calls_in c) f (x ∷ rs) r h = refl
+
+pub test_stable : (t : Bool) (a b : Need) → (IsFinal b → a ≡ b) → IsFinal (cond t (answers 20) b) → cond t (answers 20) a ≡ cond t (answers 20) b
+test_stable true a b w h = refl
+test_stable false a b w h = w h
+
+pub step_stable : (last : Bool) (more less : Fid → Need) (volume : ℕ) (o : Option (Option Name)) → ((f : Fid) → IsFinal (less f) → more f ≡ less f) → IsFinal (step_to last less volume o) → step_to last more volume o ≡ step_to last less volume o
+step_stable last more less volume None w h = refl
+step_stable last more less volume (Some None) w h = refl
+step_stable last more less volume (Some (Some n)) w h = test_stable _ _ _ (w (fid_of volume n)) h
+
+pub stable : (goal : Goal) (names : List (List ℕ)) (rs : List Shown) (r : Shown) (f : Fid) → IsFinal (steps goal names rs f) → steps goal names (rs ++ r ∷ []) f ≡ steps goal names rs f
+stable goal [] rs r f h = end_stable goal f rs r h
+stable goal (name ∷ names) [] r f h = absurd h
+stable goal (name ∷ names) (x ∷ rs) r f h = step_stable (is_last_name names) (steps goal names (rs ++ r ∷ [])) (steps goal names rs) f.volume (looked_up name x.body) (λ g y. stable goal names rs r g y) h
+
+pub next_stable : (f : Fid) (b : Body) (g : Going) (need : Need) → next g ≡ need → IsFinal need → next (with_read f b g) ≡ need
+next_stable f b g need e h = stable (plan_of g.act).goal (plan_of g.act).path g.reads _ (plan_of g.act).start (subst IsFinal (sym e) h) ∙ e
+
+abbrev pub UsedCode : Fid → Body → Going → Type 0
+UsedCode f b g = IsDone (with_read f b g) (code_by (next (with_read f b g))).0 ⊎ ((asked (with_read f b g) ≡ asked g) × (code_by (next (with_read f b g)) ≡ zero_code))
+
+pub answers_code : (f : Fid) (b : Body) (g : Going) (n : ℕ) → next (with_read f b g) ≡ answers n → UsedCode f b g
+answers_code f b g n e = inl (record { number = n; is = ap (λ (x : Need). (code_by x).0) e; by = e })
+
+pub asks_code : (f : Fid) (b : Body) (g : Going) (c : FsCall) → next g ≡ asks_for c → UsedCode f b g
+asks_code f b g c e = let more = next_stable f b g (asks_for c) e tt in inr (ap call_for (more ∙ sym e), ap code_by more)
+
+used_good : (s : Script) (c : Cell) (past : List Entry) (n p : ℕ) (act : Going) (m : Message) (f : Fid) (i : ℕ) (b : Body) → (h : Holds s c past) → Due c h.floors past n p act m → code_told m.carried ≡ Some (pos 0) → IsDone (with_read f b act) (code_by (next (with_read f b act))).0 ⊎ ((asked (with_read f b act) ≡ asked act) × (code_by (next (with_read f b act)) ≡ zero_code))
+    → GoodCode (Client n) (code_by (next (with_read f b act))) past (lines.Read (Client n) f i Fetched b ∷ lines.Given p ∷ [])
+used_good s c past n p act m f i b h d told (inl x) = record { act = with_read f b act; runs = own_read n f b act (running (Client n) (lines_of past)) ((h.clients n).runs act d.running); cause = inr (inl x) }
+used_good s c past n p act m f i b h d told (inr x) =
+    subst (λ (k : Code). GoodCode (Client n) k past (lines.Read (Client n) f i Fetched b ∷ lines.Given p ∷ [])) (sym x.1)
+    (let g : GoodCode (Client n) zero_code past (lines.Given p ∷ []) = good_code s c past n p act m zero_code (lines.Given p ∷ []) h d told refl refl refl in
+    let cause : Cause m (pos 0) (asked act) past [] = subst (λ (z : ℤ). Cause m z (asked act) past []) (some_of _ _ (sym d.answers.cause.told ∙ told)) d.answers.cause in
+    let cause' : Cause m (pos 0) (asked (with_read f b act)) past [] = subst (λ (z : FsCall). Cause m (pos 0) z past []) (sym x.0) cause in
+    let asked_now : CalledSince (answered_key m.head) guest (asked (with_read f b act)) past = subst (λ (z : FsCall). CalledSince (answered_key m.head) guest z past) (sym x.0) (subst (λ (k : Key). CalledSince k guest (asked act) past) (sym d.key) ((h.clients n).asked act d.running)) in
+    record {
+      act = with_read f b act;
+      runs = own_read n f b act (running (Client n) (lines_of past)) ((h.clients n).runs act d.running);
+      cause = inl (record {
+        reply = m;
+        by = d.at;
+        to = ap (λ (k : Key). k.node) d.key;
+        cause = cause_behind m (pos 0) (asked (with_read f b act)) past (lines.Read (Client n) f i Fetched b ∷ lines.Given p ∷ []) cause';
+        before = refl;
+        called = subst (λ (u : List ℕ). CalledSince (answered_key m.head) u cause'.call past) (sym cause'.own_user) (subst (λ (y : FsCall). CalledSince (answered_key m.head) guest y past) (sym cause'.asks) asked_now);
+      });
+    })
+
+pub takes_used : (s : Script) (c : Cell) (past : List Entry) (n p : ℕ) (act : Going) (f : Fid) (head : Head) (contents : List ℕ) (status : AfsFetchStatus) (callback : AfsCallBack) (sync : AfsVolSync) → (h : Holds s c past)
+    → Due c h.floors past n p act (record { head = head; carried = carried.Reply (replies.FetchData contents status callback sync) }) → volume_changed (asked act) ≡ None → IsFetched false n f status.sync_counter (body_told status.file_type contents) callback.expiration_time (record { head = head; carried = carried.Reply (replies.FetchData contents status callback sync) }) past → UsedCode f (body_told status.file_type contents) act → nat_lt c.clock callback.expiration_time ≡ true
+    → Goes s past (client_moves c n (uses_step (Client n) (c.clients n) p act (record { fid = f; index = status.sync_counter; expiry = callback.expiration_time; body = body_told status.file_type contents })))
+takes_used s c past n p act f head contents status callback sync h d shut a used lasts =
+    let m : Message = record { head = head; carried = carried.Reply (replies.FetchData contents status callback sync) } in
+    let i : ℕ = status.sync_counter in
+    let body : Body = body_told status.file_type contents in
+    let code : Code = code_by (next (with_read f body act)) in
+    let x : ℕ = callback.expiration_time in
+    let new : CacheEntry = record { fid = f; index = i; expiry = x; body = body } in
+    let cache : List CacheEntry = used_first new (c.clients n).cache in
+    let e : Entry = step_entry n (used_lines n p f i body code) [] in
+    let lt : c.clock < x = ltb-true _ _ lasts in
+    let held : ℕ = c.server.boot in
+    let none : (g : Fid) → (reach (Client n) g past).made ≡ 0 = λ g. (h.clients n).made act d.running g (no_scope (asked act) g shut) in
+    let up : (g : Fid) (k : ℕ) → Seen n g k past → Reached (Client n) g k past = λ g k y. record { made = le_trans (le_of_eq (none g)) (omega arith); seen = y } in
+    moves s c past n (holding h.floors n held) (uses_step (Client n) (c.clients n) p act new) h (
+      tt,
+      (
+        (
+          refl,
+          record {
+            whole = a.held.whole;
+            not_older = a.reached;
+            reply = m;
+            by = d.at;
+            expiry = x;
+            grant = a.held.grant;
+            lasts = subst (λ (t : ℕ). t < x) (sym h.clock) lt;
+            kept = a.held.kept refl;
+            newest = a.newest;
+          },
+        ),
+        ((refl, used_good s c past n p act m f i body h d refl used), tt),
+      ),
+    )
+    (used_passes s c past n p i f body code m h d.heard)
+    (ended_facts s c past n cache held e h (le_refl _) (own_ended n _)
+    (λ g u found lasts'. elim (found-first g new (c.clients n).cache u found) [
+      | inl q ↦ subst (λ (y : CacheEntry). IsCurrent n g y (view_after c n (holding h.floors n held) (ended (c.clients n) cache)) (e ∷ past)) q.1 (subst (λ (y : Fid). IsCurrent n y new (view_after c n (holding h.floors n held) (ended (c.clients n) cache)) (e ∷ past)) q.0 (record {
+        reply = m;
+        boot = d.fact.booted;
+        by = used_reply n f (given_message e.lines (sent_of past)) (fetch_reply (Client n) f past) ∙ d.at;
+        held = held_over n f i body x m e past (used_grant n n p i f f body code past) a.held;
+        state = inl (record {
+          reached = (used_reach n n p i f f body code past i (λ t y. le_of_eq refl) (up f i a.reached)).seen;
+          newest = a.newest;
+          before = λ y is sc ran. absurd cc;
+        });
+      }))
+      | inr q ↦ current_over n g u (view h.floors c n) (view_after c n (holding h.floors n held) (ended (c.clients n) cache)) e past (h.clients n).holds (used_file n n p i f g body code past (λ y z. q.0 z))
+          (ended_stands h.floors c past n cache (holding h.floors n held) e g u.index (λ y. (used_reach n n p i f g body code past u.index (λ t z. absurd (q.0 (same_fid-true f g z))) (up g u.index y)).seen) (stays n g e past (used_grant n n p i f g body code past) refl)
+          (λ b runs sc ran. no_scope (asked act) g shut (subst (λ (z : Going). InScope (asked z) g) (sym (some_of act b (sym d.running ∙ runs))) sc))) ((h.clients n).current g u q.1 lasts')
+    ])
+    (λ g. used_reach n n p i f g body code past (index_in (last_version g (lines_of past))) (λ t y. subst (λ (z : Fid). i ≤ index_in (last_version z (lines_of past))) (same_fid-true f g y) (h.top f i body a.held.whole)) ((h.clients n).reached g)))
+    (ended_calls s c past n p act m cache held h d (λ code is. absurd cc)) (ended_reply s c past n cache held e h) (nothing_new _ _) (λ a x z. absurd cc) refl
+
+-- ---- the act has read, and calls on
+
+abbrev pub read_lines : ℕ → ℕ → Fid → ℕ → Body → List Line
+read_lines n p f i b = lines.Given p ∷ lines.Read (Client n) f i Fetched b ∷ []
+
+pub read_grant : (n j p i : ℕ) (f g : Fid) (b : Body) (ms : List Message) (past : List Entry) → PassesGrant j g (step_entry n (read_lines n p f i b) ms) past
+read_grant n j p i f g b ms past = record { version = λ k x l y. y; dropped = λ q l d. d; withdrawn = λ q l w. w }
+
+pub read_file : (n j p i : ℕ) (f g : Fid) (b : Body) (ms : List Message) (past : List Entry) → (n ≡ j → f ≡ g → ⊥) → PassesFile j g (step_entry n (read_lines n p f i b) ms) past
+read_file n j p i f g b ms past ne = record { grant = read_grant n j p i f g b ms past; fetched = used_by (same_node (Client n) (Client j)) (same_fid f g) (λ x y. ne (client_number n j (same_node-true (Client n) (Client j) x)) (same_fid-true f g y)) }
+
+pub read_seen : (n j p i : ℕ) (f g : Fid) (b : Body) (ms : List Message) (past : List Entry) (k : ℕ) → (same_node (Client n) (Client j) ≡ true → same_fid f g ≡ true → i ≤ k) → Seen j g k past → Seen j g k (step_entry n (read_lines n p f i b) ms ∷ past)
+read_seen n j p i f g b ms past k le h = raised_up_to (same_node (Client n) (Client j) && same_fid f g) i (reach (Client j) g past).seen k (λ t. let q = both (same_node (Client n) (Client j)) (same_fid f g) t in le q.0 q.1) h
+
+pub read_both : (n j p i : ℕ) (f g : Fid) (b : Body) (ms : List Message) (past : List Entry) (k : ℕ) → (same_node (Client n) (Client j) ≡ true → same_fid f g ≡ true → i ≤ k) → Reached (Client j) g k past → Reached (Client j) g k (step_entry n (read_lines n p f i b) ms ∷ past)
+read_both n j p i f g b ms past k le h = record { made = h.made; seen = read_seen n j p i f g b ms past k le h.seen }
+
+pub read_passes : (s : Script) (c : Cell) (past : List Entry) (n p i : ℕ) (f : Fid) (b : Body) (m : Message) (ms : List Message) → Holds s c past → Heard c p m → Passes s n (read_lines n p f i b) ms past
+read_passes s c past n p i f b m ms h d = record {
+  file = λ j ne g. read_file n j p i f g b ms past (λ q x. ne q);
+  reach = λ j ne g. record { both = λ k x. read_both n j p i f g b ms past k (λ t u. absurd (not_client n j ne t)) x; seen = λ k x. read_seen n j p i f g b ms past k (λ t u. absurd (not_client n j ne t)) x; made = λ x. x };
+  act = λ j ne. record { runs = λ l. reads_by_other n j f b (running (Client j) l) ne; begins = refl };
+  last = λ g o. refl;
+  back = λ g k x o y. y;
+  new = λ k o x. x;
+  clock = λ o. refl;
+  home = λ id o x. x;
+  boot = λ o. refl;
+  plain = record { up = refl; still = refl; oweless = refl; unchanging = refl };
+  ideal = λ id. refl;
+  dull = heard_dull s c past p m h d;
+}
+
+pub reads_on_goes : (s : Script) (c : Cell) (past : List Entry) (n p : ℕ) (act : Going) (f : Fid) (head : Head) (contents : List ℕ) (status : AfsFetchStatus) (callback : AfsCallBack) (sync : AfsVolSync) → (h : Holds s c past)
+    → Due c h.floors past n p act (record { head = head; carried = carried.Reply (replies.FetchData contents status callback sync) }) → volume_changed (asked act) ≡ None → IsFetched false n f status.sync_counter (body_told status.file_type contents) callback.expiration_time (record { head = head; carried = carried.Reply (replies.FetchData contents status callback sync) }) past → nat_lt c.clock callback.expiration_time ≡ true
+    → Goes s past (client_moves c n (reads_on_step (Client n) (c.clients n) p (with_read f (body_told status.file_type contents) act) (record { fid = f; index = status.sync_counter; expiry = callback.expiration_time; body = body_told status.file_type contents })))
+reads_on_goes s c past n p act f head contents status callback sync h d shut a lasts =
+    let m : Message = record { head = head; carried = carried.Reply (replies.FetchData contents status callback sync) } in
+    let i : ℕ = status.sync_counter in
+    let body : Body = body_told status.file_type contents in
+    let t : ℕ = callback.expiration_time in
+    let new : CacheEntry = record { fid = f; index = i; expiry = t; body = body } in
+    let act' : Going = with_read f body act in
+    let k = h.clients n in
+    let st : Step ClientState = reads_on_step (Client n) (c.clients n) p act' new in
+    let ms : List Message = call_message (Client n) (asking (c.clients n) act') act' ∷ [] in
+    let e : Entry = step_entry n (read_lines n p f i body) ms in
+    let g : Ghost = record { floor = c.server.boot; held = c.server.boot } in
+    let v : View = view_after c n g st.state in
+    let lt : c.clock < t = ltb-true _ _ lasts in
+    let never : LastRan v → ⊥ = λ ran. next_not _ _ _ _ (k.behind_durable ran.seat ran.at) ran.epoch ran.number in
+    let over : (q : Message) → ReplyFact n (view h.floors c n) past q → ReplyFact n v (e ∷ past) q = λ q r. record {
+      behind = up_to_next _ _ _ _ r.behind;
+      booted = r.booted;
+      recent = λ y z. absurd (next_not _ _ _ _ r.behind y z);
+      tied = r.tied;
+      answers = λ b runs y z. absurd (next_not _ _ _ _ r.behind y z);
+    } in
+    let now : running (Client n) (lines_of (e ∷ past)) ≡ Some act' = own_read n f body act (running (Client n) (lines_of past)) (k.runs act d.running) in
+    moves s c past n g st h (
+      tt,
+      (
+        (
+          refl,
+          record {
+            whole = a.held.whole;
+            not_older = a.reached;
+            reply = m;
+            by = d.at;
+            expiry = t;
+            grant = a.held.grant;
+            lasts = subst (λ (x : ℕ). x < t) (sym h.clock) lt;
+            kept = a.held.kept refl;
+            newest = a.newest;
+          },
+        ),
+        tt,
+      ),
+    )
+    (read_passes s c past n p i f body m ms h d.heard)
+    (record {
+      behind = λ seat y. up_to_next _ _ _ _ (k.behind seat y);
+      behind_durable = λ seat y. up_to_next _ _ _ _ (k.behind_durable seat y);
+      lower = k.lower;
+      kept = kept_over n _ (view h.floors c n) v past (e ∷ past) over k.kept;
+      stored = kept_over n _ (view h.floors c n) v past (e ∷ past) over k.stored;
+      known = k.known;
+      floored = le_refl _;
+      holds = le_refl _;
+      waits = λ b y. le_refl _;
+      idle = λ y. absurd cc;
+      made = λ b y x o. k.made act d.running x (no_scope (asked act) x shut);
+      current = λ x u found lasts'. elim (found-first x new (c.clients n).cache u found) [
+        | inl q ↦ subst (λ (y : CacheEntry). IsCurrent n x y v (e ∷ past)) q.1 (subst (λ (y : Fid). IsCurrent n y new v (e ∷ past)) q.0 (record {
+          reply = m;
+          boot = d.fact.booted;
+          by = used_reply n f (given_message e.lines (sent_of past)) (fetch_reply (Client n) f past) ∙ d.at;
+          held = held_over n f i body t m e past (read_grant n n p i f f body ms past) a.held;
+          state = inl (record { reached = read_seen n n p i f f body ms past i (λ t y. le_of_eq refl) a.reached; newest = a.newest; before = λ y z sc ran. never ran });
+        }))
+        | inr q ↦ current_over n x u (view h.floors c n) v e past k.holds (read_file n n p i f x body ms past (λ y z. q.0 z))
+            (λ server newer z stands. elim stands [
+              | inl o ↦ inl (record { reached = read_seen n n p i f x body ms past u.index (λ t z. absurd (q.0 (same_fid-true f x z))) o.reached; newest = stays n x e past (read_grant n n p i f x body ms past) refl server u.index newer z o.newest; before = λ y w sc ran. never ran })
+              | inr o ↦ absurd (no_scope (asked o.act) x (ap (λ (y : Going). volume_changed (asked y)) (some_of o.act act (sym o.runs ∙ d.running)) ∙ shut) o.scope)
+            ]) (k.current x u q.1 lasts')
+      ];
+      runs = λ b y. now ∙ y;
+      asked = λ b y. subst (λ (x : Going). CalledSince (last_key n v) guest (asked x) (e ∷ past)) (some_of act' b y) (inl (refl, inl (refl, refl)));
+      reached = λ x. read_both n n p i f x body ms past (index_in (last_version x (lines_of past))) (λ t y. subst (λ (z : Fid). i ≤ index_in (last_version z (lines_of past))) (same_fid-true f x y) (h.top f i body a.held.whole)) (k.reached x);
+    })
+    (λ head' call r. record {
+      behind = up_to_next _ _ _ _ r.behind;
+      booted = r.booted;
+      stale = λ y. r.booted;
+      own = λ b y z w. absurd (next_not _ _ _ _ r.behind z w);
+      safe = λ q above. elim (up_to_by _ _ _ _ r.behind) [
+        | inl l ↦ absurd (stale_none h.floors c past n head' call m r q above d.fact d.epoch d.number l)
+        | inr same ↦ inl (ap volume_changed (r.own act d.running same.0 same.1) ∙ shut)
+      ];
+    })
+    over (own_call h.floors c past n g st.state act' (read_lines n p f i body) k.known refl now (new_one s c past n act' h)) (λ b x z. inr (record { act = act; runs = d.running; read = shut })) refl
+
+used_on_goes : (x y : Need) (s : Script) (c : Cell) (past : List Entry) (n p : ℕ) (act : Going) (f : Fid) (head : Head) (contents : List ℕ) (status : AfsFetchStatus) (callback : AfsCallBack) (sync : AfsVolSync) → (h : Holds s c past)
+    → Due c h.floors past n p act (record { head = head; carried = carried.Reply (replies.FetchData contents status callback sync) }) → volume_changed (asked act) ≡ None → IsFetched false n f status.sync_counter (body_told status.file_type contents) callback.expiration_time (record { head = head; carried = carried.Reply (replies.FetchData contents status callback sync) }) past → nat_lt c.clock callback.expiration_time ≡ true
+    → next act ≡ x → next (with_read f (body_told status.file_type contents) act) ≡ y
+    → Goes s past (client_moves c n (used_on (Client n) (c.clients n) p act (record { fid = f; index = status.sync_counter; expiry = callback.expiration_time; body = body_told status.file_type contents }) x y))
+used_on_goes (reads g) (answers k) s c past n p act f head contents status callback sync h d shut a lasts ex ey = takes_used s c past n p act f head contents status callback sync h d shut a (answers_code f (body_told status.file_type contents) act k ey) lasts
+used_on_goes (reads g) (reads g') s c past n p act f head contents status callback sync h d shut a lasts ex ey = reads_on_goes s c past n p act f head contents status callback sync h d shut a lasts
+used_on_goes (reads g) (asks_for call) s c past n p act f head contents status callback sync h d shut a lasts ex ey = reads_on_goes s c past n p act f head contents status callback sync h d shut a lasts
+used_on_goes (asks_for call) y s c past n p act f head contents status callback sync h d shut a lasts ex ey = takes_used s c past n p act f head contents status callback sync h d shut a (asks_code f (body_told status.file_type contents) act call ex) lasts
+used_on_goes (answers k) y s c past n p act f head contents status callback sync h d shut a lasts ex ey = takes_used s c past n p act f head contents status callback sync h d shut a (answers_code f (body_told status.file_type contents) act k (next_stable f (body_told status.file_type contents) act (answers k) ex tt)) lasts
+
+-- the client calls again
+pub again_goes : (s : Script) (c : Cell) (past : List Entry) (n p : ℕ) (act : Going) (m : Message) → (h : Holds s c past) → Due c h.floors past n p act m → volume_changed (asked act) ≡ None → Goes s past (client_moves c n (calls_step (Client n) (c.clients n) act (lines.Given p)))
+again_goes s c past n p act m h d shut =
+    asks s c past n act (lines.Given p) h (tt, tt) (told_passes s c past n p _ _ h d.heard) (λ g. told_file n p g (Some (Client n)) _ past) (λ g. told_reach n p g (Some (Client n)) _ past) (λ g o. (h.clients n).made act d.running g o) (λ b y. ap (λ (z : Going). volume_changed (asked z)) (some_of b act (sym y ∙ d.running)) ∙ shut) ((h.clients n).runs act d.running) (λ z. d.running)
+
+pub fetched_goes : (s : Script) (c : Cell) (past : List Entry) (n p : ℕ) (act : Going) (f : Fid) (head : Head) (contents : List ℕ) (status : AfsFetchStatus) (callback : AfsCallBack) (sync : AfsVolSync) (t : Bool) → (h : Holds s c past)
+    → Due c h.floors past n p act (record { head = head; carried = carried.Reply (replies.FetchData contents status callback sync) }) → volume_changed (asked act) ≡ None → IsFetched false n f status.sync_counter (body_told status.file_type contents) callback.expiration_time (record { head = head; carried = carried.Reply (replies.FetchData contents status callback sync) }) past → nat_lt c.clock callback.expiration_time ≡ t
+    → Goes s past (client_moves c n (cond t (used_on (Client n) (c.clients n) p act (record { fid = f; index = status.sync_counter; expiry = callback.expiration_time; body = body_told status.file_type contents }) (next act) (next (with_read f (body_told status.file_type contents) act))) (calls_step (Client n) (c.clients n) act (lines.Given p))))
+fetched_goes s c past n p act f head contents status callback sync true h d shut a lasts = used_on_goes _ _ s c past n p act f head contents status callback sync h d shut a lasts refl refl
+fetched_goes s c past n p act f head contents status callback sync false h d shut a lasts =
+    asks s c past n act (lines.Given p) h (tt, tt) (told_passes s c past n p _ _ h d.heard) (λ g. told_file n p g (Some (Client n)) _ past) (λ g. told_reach n p g (Some (Client n)) _ past) (λ g o. (h.clients n).made act d.running g o) (λ b y. ap (λ (z : Going). volume_changed (asked z)) (some_of b act (sym y ∙ d.running)) ∙ shut) ((h.clients n).runs act d.running) (λ z. d.running)
+
+-- ---- an answered store
+
+-- the entry of the file holds what was stored, under the reply's index
+pub stored_state : (fl : ℕ → Ghost) (c : Cell) (past : List Entry) (n p : ℕ) (act : Going) (st : AfsStoreStatus) (pp ww ll : ℤ) (f : Fid) (b : List ℕ) (m : Message) (index i : ℕ) (server : Node) (newer : List Line) (e : Entry) (cache : List CacheEntry) → Due c fl past n p act m → IsStored (spot (view fl c n)) m → asked act ≡ calls.StoreData f st pp ww ll b → stored_index m.carried ≡ Some index
+    → Seen n f index (e ∷ past) → StaysNewest n f e past → server ≡ the_server → Stands n f i server newer (view fl c n) past
+    → Stands n f index server (onto newer e.lines) (view_after c n (holding fl n (fl n).held) (ended (c.clients n) cache)) (e ∷ past)
+stored_state fl c past n p act st pp ww ll f b m index i server newer e cache d is same told r stay q (inl a) = absurd (a.before act d.running (ap (λ (z : FsCall). is_in_scope z f) same ∙ same_fid-refl f) is.ran)
+stored_state fl c past n p act st pp ww ll f b m index i server newer e cache d is same told r stay q (inr o) =
+    let one : o.act ≡ act = some_of o.act act (sym o.runs ∙ d.running) in
+    let w : WasStored n f server newer o.ran.seat.reply past = subst (λ (z : FsCall). WasChanged n f server newer o.ran.seat.reply past z) (ap asked one ∙ same) o.changed in
+    let is_reply : m ≡ w.reply = one_reply (spot (view fl c n)) is.ran o.ran m w.reply is.kept w.kept in
+    let same_index : w.index ≡ index = some_of _ _ (sym w.told ∙ (ap (λ (x : Message). stored_index x.carried) (sym is_reply) ∙ told)) in
+    inl (record {
+      reached = r;
+      newest = subst (λ (k : ℕ). IsNewest server n f k (onto newer e.lines) (lines_of (e ∷ past))) same_index (stay server w.index newer q w.newest);
+      before = λ y x sc ran. absurd cc;
+    })
+
+-- that of the file
+pub stored_own : (s : Script) (c : Cell) (past : List Entry) (n p : ℕ) (act : Going) (st : AfsStoreStatus) (pp ww ll : ℤ) (f : Fid) (b : List ℕ) (m : Message) (index : ℕ) (x : CacheEntry) (e : Entry) (cache : List CacheEntry) → (h : Holds s c past) → Due c h.floors past n p act m → IsStored (spot (view h.floors c n)) m → asked act ≡ calls.StoreData f st pp ww ll b → stored_index m.carried ≡ Some index
+    → HasVersion f index (bodies.File b) (lines_of past) → PassesFile n f e past → Seen n f index (e ∷ past) → StaysNewest n f e past → IsCurrent n f x (view h.floors c n) past
+    → IsCurrent n f (record x { index = index; body = bodies.File b }) (view_after c n (holding h.floors n (h.floors n).held) (ended (c.clients n) cache)) (e ∷ past)
+stored_own s c past n p act st pp ww ll f b m index x e cache h d is same told whole pass r stay cur = record {
+  reply = cur.reply;
+  boot = cur.boot;
+  by = fetch_reply_by (has_fetched (Client n) f e.lines) (given_message e.lines (sent_of past)) (fetch_reply (Client n) f past) pass.fetched ∙ cur.by;
+  held = held_over n f index (bodies.File b) x.expiry cur.reply e past pass.grant (record { grant = cur.held.grant; server = cur.held.server; kept = cur.held.kept; whole = whole; base = cur.held.base; split = cur.held.split; begun = cur.held.begun });
+  state = stored_state h.floors c past n p act st pp ww ll f b m index x.index cur.held.grant.server (since (Client n) f x.expiry cur.reply past cur.held.grant) e cache d is same told r stay cur.held.server cur.state;
+}
+
+pub stored_by : (t live : Bool) (s : Script) (c : Cell) (past : List Entry) (n p : ℕ) (act : Going) (st : AfsStoreStatus) (pp ww ll : ℤ) (f g : Fid) (b : List ℕ) (m : Message) (index : ℕ) (x u : CacheEntry) (e : Entry) (cache : List CacheEntry) → (h : Holds s c past) → Due c h.floors past n p act m → IsStored (spot (view h.floors c n)) m → asked act ≡ calls.StoreData f st pp ww ll b → stored_index m.carried ≡ Some index
+    → HasVersion f index (bodies.File b) (lines_of past) → ((k : Fid) → PassesFile n k e past) → Seen n f index (e ∷ past) → ((k : Fid) (i : ℕ) → (f ≡ k → ⊥) → Seen n k i past → Seen n k i (e ∷ past)) → ((k : Fid) → StaysNewest n k e past)
+    → same_fid x.fid f ≡ t → nat_lt c.clock x.expiry ≡ live → same_fid x.fid g ≡ true → find_cached g (c.clients n).cache ≡ Some x → cond (t && live) (record x { index = index; body = bodies.File b }) x ≡ u → c.clock < u.expiry
+    → IsCurrent n g u (view_after c n (holding h.floors n (h.floors n).held) (ended (c.clients n) cache)) (e ∷ past)
+stored_by true true s c past n p act st pp ww ll f g b m index x u e cache h d kept same told whole pass z r stay t live own found is lasts =
+    let fg : f ≡ g = sym (same_fid-true x.fid f t) ∙ same_fid-true x.fid g own in
+    subst (λ (y : CacheEntry). IsCurrent n g y (view_after c n (holding h.floors n (h.floors n).held) (ended (c.clients n) cache)) (e ∷ past)) is
+    (subst (λ (y : Fid). IsCurrent n y (record x { index = index; body = bodies.File b }) (view_after c n (holding h.floors n (h.floors n).held) (ended (c.clients n) cache)) (e ∷ past)) fg
+    (stored_own s c past n p act st pp ww ll f b m index x e cache h d kept same told whole (pass f) z (stay f) ((h.clients n).current f x (ap (λ (y : Fid). find_cached y (c.clients n).cache) fg ∙ found) (ltb-true _ _ live))))
+stored_by true false s c past n p act st pp ww ll f g b m index x u e cache h d kept same told whole pass z r stay t live own found is lasts =
+    let lasts' : c.clock < x.expiry = subst (λ (y : CacheEntry). c.clock < y.expiry) (sym is) lasts in
+    let yes : nat_lt c.clock x.expiry ≡ true = lt-ltb _ _ lasts' in
+    absurd cc
+stored_by false live s c past n p act st pp ww ll f g b m index x u e cache h d kept same told whole pass z r stay t live' own found is lasts =
+    let ne : f ≡ g → ⊥ = λ q. let yes : same_fid x.fid f ≡ true = ap (same_fid x.fid) q ∙ own in absurd cc in
+    let lasts' : c.clock < x.expiry = subst (λ (y : CacheEntry). c.clock < y.expiry) (sym is) lasts in
+    subst (λ (y : CacheEntry). IsCurrent n g y (view_after c n (holding h.floors n (h.floors n).held) (ended (c.clients n) cache)) (e ∷ past)) is
+    (current_over n g x (view h.floors c n) (view_after c n (holding h.floors n (h.floors n).held) (ended (c.clients n) cache)) e past (le_refl _) (pass g) (ended_stands h.floors c past n cache (holding h.floors n (h.floors n).held) e g x.index (r g x.index ne) (stay g)
+    (λ a runs sc ran. ne (same_fid-true f g (ap (λ (z : FsCall). is_in_scope z g) (sym same) ∙ (ap (λ (z : Going). is_in_scope (asked z) g) (some_of act a (sym d.running ∙ runs)) ∙ sc))))) ((h.clients n).current g x found lasts'))
+
+pub stored_of : (o : Option CacheEntry) (s : Script) (c : Cell) (past : List Entry) (n p : ℕ) (act : Going) (st : AfsStoreStatus) (pp ww ll : ℤ) (f g : Fid) (b : List ℕ) (m : Message) (index : ℕ) (u : CacheEntry) (e : Entry) (cache : List CacheEntry) → (h : Holds s c past) → Due c h.floors past n p act m → IsStored (spot (view h.floors c n)) m → asked act ≡ calls.StoreData f st pp ww ll b → stored_index m.carried ≡ Some index
+    → HasVersion f index (bodies.File b) (lines_of past) → ((k : Fid) → PassesFile n k e past) → Seen n f index (e ∷ past) → ((k : Fid) (i : ℕ) → (f ≡ k → ⊥) → Seen n k i past → Seen n k i (e ∷ past)) → ((k : Fid) → StaysNewest n k e past)
+    → find_cached g (c.clients n).cache ≡ o → option_map (refreshed c.clock f index b) o ≡ Some u → c.clock < u.expiry
+    → IsCurrent n g u (view_after c n (holding h.floors n (h.floors n).held) (ended (c.clients n) cache)) (e ∷ past)
+stored_of None s c past n p act st pp ww ll f g b m index u e cache h d kept same told whole pass z r stay found is lasts = absurd cc
+stored_of (Some x) s c past n p act st pp ww ll f g b m index u e cache h d kept same told whole pass z r stay found is lasts =
+    stored_by (same_fid x.fid f) (nat_lt c.clock x.expiry) s c past n p act st pp ww ll f g b m index x u e cache h d kept same told whole pass z r stay refl refl (found-cached-fid g (c.clients n).cache x found) found (some_of _ _ is) lasts
+
+pub takes_saved : (s : Script) (c : Cell) (past : List Entry) (n p : ℕ) (act : Going) (st : AfsStoreStatus) (pp ww ll : ℤ) (f : Fid) (b : List ℕ) (head : Head) (status : AfsFetchStatus) (sync : AfsVolSync) → (h : Holds s c past) → Due c h.floors past n p act (record { head = head; carried = carried.Reply (replies.StoreData status sync) })
+    → asked act ≡ calls.StoreData f st pp ww ll b → FitsSet n (spot (view h.floors c n)) (record { head = head; carried = carried.Reply (replies.StoreData status sync) }) past status (calls.StoreData f st pp ww ll b) → Goes s past (client_moves c n (takes_stored (Client n) (c.clients n) c.clock p f status.sync_counter b))
+takes_saved s c past n p act st pp ww ll f b head status sync h d same fits =
+    let m : Message = record { head = head; carried = carried.Reply (replies.StoreData status sync) } in
+    let i : ℕ = status.sync_counter in
+    let held : ℕ = (h.floors n).held in
+    let cache : List CacheEntry = map (refreshed c.clock f i b) (c.clients n).cache in
+    let e : Entry = step_entry n (answered_lines n p zero_code) [] in
+    moves s c past n (holding h.floors n held) (takes_stored (Client n) (c.clients n) c.clock p f i b) h
+    (tt, ((refl, good_code s c past n p act m zero_code (lines.Given p ∷ []) h d refl refl refl refl), tt))
+    (answered_passes s c past n p m zero_code h d.heard)
+    (ended_facts s c past n cache held e h (h.clients n).holds (own_ended n (running (Client n) (lines_of past)))
+    (λ g u found lasts. stored_of (find_cached g (c.clients n).cache) s c past n p act st pp ww ll f g b m i u e cache h d fits.1.0 same refl fits.0 (answered_file n n p zero_code past) (answered_reach n n p zero_code past f i fits.1.1).seen
+    (λ k j ne y. (answered_reach n n p zero_code past k j (record { made = le_trans (le_of_eq ((h.clients n).made act d.running k (λ z. ne (same_fid-true f k (ap (λ (x : FsCall). is_in_scope x k) (sym same) ∙ z))))) (omega arith); seen = y })).seen) (λ k. stays n k e past (answered_file n n p zero_code past k).grant refl)
+    refl (sym (found-refreshed c.clock f g i b (c.clients n).cache) ∙ found) lasts)
+    (reached_still s c past n e h (answered_reach n n p zero_code past) (λ g. refl)))
+    (ended_calls s c past n p act m cache held h d (λ code is. absurd cc)) (ended_reply s c past n cache held e h) (nothing_new _ _) (λ a x z. absurd cc) refl
+
+-- ---- any other answered call: the entries of the volume that it may have changed are given up
+
+pub takes_other : (s : Script) (c : Cell) (past : List Entry) (n p : ℕ) (act : Going) (head : Head) (reply : FsReply) → (h : Holds s c past) → Due c h.floors past n p act (record { head = head; carried = carried.Reply reply }) → Goes s past (client_moves c n (takes_plain (Client n) (c.clients n) p (asked act)))
+takes_other s c past n p act head reply h d =
+    let m : Message = record { head = head; carried = carried.Reply reply } in
+    let x : ClientState = c.clients n in
+    let call : FsCall = asked act in
+    let cache : List CacheEntry = left_in (volume_changed call) x.cache in
+    let es : List CacheEntry = given_up_in (volume_changed call) x.cache in
+    let e : Entry = step_entry n (drop_lines n (was_given p) zero_code es) [] in
+    let last : (f : Fid) → last_version f (lines_of (e ∷ past)) ≡ last_version f (lines_of past) = λ f. (skips n zero_code es).last f _ in
+    let held : ℕ = (h.floors n).held in
+    let g : Ghost = holding h.floors n held in
+    moves s c past n g (takes_plain (Client n) x p call) h
+    (tt, drops_good s n p act m past es (lines.Given p ∷ []) (λ own a b r. good_code s c past n p act m zero_code own h d refl a b r) refl refl refl)
+    (drop_passes s c past n (was_given p) zero_code es (heard_dull s c past p m h d.heard))
+    (ended_facts s c past n cache held e h (h.clients n).holds (ended_running n zero_code es (lines.Given p ∷ lines_of past))
+    (λ k u found lasts.
+    let out : InScope call k → ⊥ = λ z. left_scope (volume_changed call) k x.cache u found (scope_is call k z) in
+    let file : PassesFile n k e past = drop_file n n (was_given p) zero_code es past k (left_none (volume_changed call) (Client n) (Client n) k x.cache u found) in
+    current_over n k u (view h.floors c n) (view_after c n g (ended x cache)) e past (le_refl _) file
+    (ended_stands h.floors c past n cache g e k u.index (λ y. drop_seen n n (was_given p) zero_code es past k u.index (le_trans (le_of_eq ((h.clients n).made act d.running k out)) (omega arith)) y) (stays n k e past file.grant (last k)) (λ a is sc ran. out (subst (λ (z : Going). InScope (asked z) k) (sym (some_of act a (sym d.running ∙ is))) sc)))
+    ((h.clients n).current k u (left_found (volume_changed call) k x.cache u found) lasts))
+    (reached_still s c past n e h (drop_reach n n (was_given p) zero_code es past) last))
+    (ended_calls s c past n p act m cache held h d (λ code is. absurd cc)) (ended_reply s c past n cache held e h) (nothing_new _ _) (λ a x z. absurd cc) refl
+
+-- ---- a boot notice
+
+pub resends_goes : (s : Script) (c : Cell) (past : List Entry) (n p : ℕ) (act : Going) (m : Message) (boot : ℕ) → Holds s c past → Heard c p m → boot ≤ c.server.boot → (c.clients n).running ≡ Some act → Goes s past (client_moves c n (resends_step (Client n) (c.clients n) p act boot))
+resends_goes s c past n p act m boot h d le runs =
+    let x : ClientState = record (c.clients n) { boot = boot } in
+    let ms : List Message = call_message (Client n) x act ∷ [] in
+    let e : Entry = step_entry n (lines.Given p ∷ []) ms in
+    moves s c past n (h.floors n) (resends_step (Client n) (c.clients n) p act boot) h (tt, tt) (told_passes s c past n p m ms h d)
+    (client_kept s c past n boot e h le (λ f. told_file n p f (Some (Client n)) ms past) (λ f. told_reach n p f (Some (Client n)) ms past) (told_act n p (Some (Client n)) ms past) (λ f. refl))
+    (λ head call f. call_known (view h.floors c n) boot head call f)
+    (reply_still n (view h.floors c n) e past (λ f. told_file n p f (Some (Client n)) ms past) (λ f. told_reach n p f (Some (Client n)) ms past) (λ f. refl))
+    (own_call h.floors c past n (h.floors n) x act (lines.Given p ∷ []) le runs ((h.clients n).runs act runs) (same_one s c past n act ms h runs)) (λ a x z. inl x) refl
+
+-- ---- the row, by its cases
+
+pub plain_goes : (s : Script) (c : Cell) (past : List Entry) (n p : ℕ) (act : Going) (call : FsCall) (head : Head) (reply : FsReply) → (h : Holds s c past) → Due c h.floors past n p act (record { head = head; carried = carried.Reply reply }) → asked act ≡ call → Goes s past (client_moves c n (takes_plain (Client n) (c.clients n) p call))
+plain_goes s c past n p act call head reply h d same = subst (λ (x : FsCall). Goes s past (client_moves c n (takes_plain (Client n) (c.clients n) p x))) same (takes_other s c past n p act head reply h d)
+
+-- a reply to a reading call that isn't spent isn't spoiled
+pub spent_shut : (sp : Bool) (o : Option ℕ) → (sp && is_reading o) ≡ true → o ≡ None
+spent_shut true None e = refl
+spent_shut true (Some id) e = absurd cc
+spent_shut false o e = absurd cc
+
+pub fresh_of : (sp : Bool) (o : Option ℕ) → (sp && is_reading o) ≡ false → o ≡ None → sp ≡ false
+fresh_of true None e q = absurd cc
+fresh_of true (Some id) e q = absurd cc
+fresh_of false o e q = refl
+
+pub data_goes : (s : Script) (c : Cell) (past : List Entry) (n p : ℕ) (act : Going) (call : FsCall) (head : Head) (contents : List ℕ) (status : AfsFetchStatus) (callback : AfsCallBack) (sync : AfsVolSync) → (h : Holds s c past) → Due c h.floors past n p act (record { head = head; carried = carried.Reply (replies.FetchData contents status callback sync) })
+    → is_spent (c.clients n) act ≡ false → asked act ≡ call → FitsData (c.clients n).spoiled n (spot (view h.floors c n)) (record { head = head; carried = carried.Reply (replies.FetchData contents status callback sync) }) past contents status callback call → Goes s past (client_moves c n (takes_data (Client n) (c.clients n) c.clock p act contents status callback call))
+data_goes s c past n p act (calls.FetchData f pp w) head contents status callback sync h d fresh same fits =
+    let shut : volume_changed (asked act) ≡ None = ap volume_changed same in
+    fetched_goes s c past n p act f head contents status callback sync (nat_lt c.clock callback.expiration_time) h d shut
+    (subst (λ (sp : Bool). IsFetched sp n f status.sync_counter (body_told status.file_type contents) callback.expiration_time (record { head = head; carried = carried.Reply (replies.FetchData contents status callback sync) }) past) (fresh_of (c.clients n).spoiled (volume_changed (asked act)) fresh shut) fits) refl
+data_goes s c past n p act call head contents status callback sync h d fresh same fits = plain_goes s c past n p act call head (replies.FetchData contents status callback sync) h d same
+
+-- a store that was overtaken: the client drops its entry
+pub takes_spoiled : (s : Script) (c : Cell) (past : List Entry) (n p : ℕ) (act : Going) (st : AfsStoreStatus) (pp ww ll : ℤ) (f : Fid) (b : List ℕ) (head : Head) (status : AfsFetchStatus) (sync : AfsVolSync) → (h : Holds s c past) → Due c h.floors past n p act (record { head = head; carried = carried.Reply (replies.StoreData status sync) })
+    → asked act ≡ calls.StoreData f st pp ww ll b → Goes s past (client_moves c n (takes_overtaken (Client n) (c.clients n) p f))
+takes_spoiled s c past n p act st pp ww ll f b head status sync h d same =
+    let m : Message = record { head = head; carried = carried.Reply (replies.StoreData status sync) } in
+    let held : ℕ = (h.floors n).held in
+    let cache : List CacheEntry = filter (λ e. not (same_fid e.fid f)) (c.clients n).cache in
+    let e : Entry = step_entry n (answered_lines n p zero_code) [] in
+    moves s c past n (holding h.floors n held) (takes_overtaken (Client n) (c.clients n) p f) h
+    (tt, ((refl, good_code s c past n p act m zero_code (lines.Given p ∷ []) h d refl refl refl refl), tt))
+    (answered_passes s c past n p m zero_code h d.heard)
+    (ended_facts s c past n cache held e h (h.clients n).holds (own_ended n (running (Client n) (lines_of past)))
+    (λ g u found lasts.
+    let was = left_out (λ x. same_fid x f) g (c.clients n).cache u found in
+    let out : InScope (asked act) g → ⊥ = λ z.
+        let q : f ≡ g = same_fid-true f g (ap (λ (x : FsCall). is_in_scope x g) (sym same) ∙ z) in
+        let yes : same_fid g f ≡ true = ap (λ (x : Fid). same_fid x f) (sym q) ∙ same_fid-refl f in let other = was.1 in absurd cc in
+    current_over n g u (view h.floors c n) (view_after c n (holding h.floors n held) (ended (c.clients n) cache)) e past (le_refl _) (answered_file n n p zero_code past g)
+    (ended_stands h.floors c past n cache (holding h.floors n held) e g u.index (λ y. (answered_reach n n p zero_code past g u.index (record { made = le_trans (le_of_eq ((h.clients n).made act d.running g out)) (omega arith); seen = y })).seen) (stays n g e past (answered_file n n p zero_code past g).grant refl)
+    (λ a runs sc ran. out (subst (λ (z : Going). InScope (asked z) g) (sym (some_of act a (sym d.running ∙ runs))) sc))) ((h.clients n).current g u was.0 lasts))
+    (reached_still s c past n e h (answered_reach n n p zero_code past) (λ g. refl)))
+    (ended_calls s c past n p act m cache held h d (λ code is. absurd cc)) (ended_reply s c past n cache held e h) (nothing_new _ _) (λ a x z. absurd cc) refl
+
+pub stored_goes : (t : Bool) (s : Script) (c : Cell) (past : List Entry) (n p : ℕ) (act : Going) (st : AfsStoreStatus) (pp ww ll : ℤ) (f : Fid) (b : List ℕ) (head : Head) (status : AfsFetchStatus) (sync : AfsVolSync) → (h : Holds s c past) → Due c h.floors past n p act (record { head = head; carried = carried.Reply (replies.StoreData status sync) })
+    → asked act ≡ calls.StoreData f st pp ww ll b → FitsSet n (spot (view h.floors c n)) (record { head = head; carried = carried.Reply (replies.StoreData status sync) }) past status (calls.StoreData f st pp ww ll b)
+    → Goes s past (client_moves c n (cond t (takes_overtaken (Client n) (c.clients n) p f) (takes_stored (Client n) (c.clients n) c.clock p f status.sync_counter b)))
+stored_goes true s c past n p act st pp ww ll f b head status sync h d same fits = takes_spoiled s c past n p act st pp ww ll f b head status sync h d same
+stored_goes false s c past n p act st pp ww ll f b head status sync h d same fits = takes_saved s c past n p act st pp ww ll f b head status sync h d same fits
+
+pub set_goes : (s : Script) (c : Cell) (past : List Entry) (n p : ℕ) (act : Going) (call : FsCall) (head : Head) (status : AfsFetchStatus) (sync : AfsVolSync) → (h : Holds s c past) → Due c h.floors past n p act (record { head = head; carried = carried.Reply (replies.StoreData status sync) })
+    → asked act ≡ call → FitsSet n (spot (view h.floors c n)) (record { head = head; carried = carried.Reply (replies.StoreData status sync) }) past status call → Goes s past (client_moves c n (takes_set (Client n) (c.clients n) c.clock p status call))
+set_goes s c past n p act (calls.StoreData f st pp ww ll b) head status sync h d same fits = stored_goes (c.clients n).spoiled s c past n p act st pp ww ll f b head status sync h d same fits
+set_goes s c past n p act call head status sync h d same fits = plain_goes s c past n p act call head (replies.StoreData status sync) h d same
+
+pub takes_goes : (s : Script) (c : Cell) (past : List Entry) (n p : ℕ) (act : Going) (call : FsCall) (head : Head) (reply : FsReply) → (h : Holds s c past) → Due c h.floors past n p act (record { head = head; carried = carried.Reply reply }) → is_spent (c.clients n) act ≡ false → asked act ≡ call → Goes s past (client_moves c n (takes (Client n) (c.clients n) c.clock p act call reply))
+takes_goes s c past n p act call head (replies.FetchData contents status callback sync) h d fresh same = data_goes s c past n p act call head contents status callback sync h d fresh same (subst (λ (x : FsCall). FitsData (c.clients n).spoiled n (spot (view h.floors c n)) (record { head = head; carried = carried.Reply (replies.FetchData contents status callback sync) }) past contents status callback x) same d.answers.fits)
+takes_goes s c past n p act call head (replies.StoreData status sync) h d fresh same = set_goes s c past n p act call head status sync h d same (subst (λ (x : FsCall). FitsSet n (spot (view h.floors c n)) (record { head = head; carried = carried.Reply (replies.StoreData status sync) }) past status x) same d.answers.fits)
+takes_goes s c past n p act call head reply h d fresh same = plain_goes s c past n p act call head reply h d same
+
+-- a reply that isn't used
+pub spent_goes : (s : Script) (c : Cell) (past : List Entry) (n p : ℕ) (act : Going) (m : Message) → (h : Holds s c past) → Due c h.floors past n p act m → is_spent (c.clients n) act ≡ true → Goes s past (client_moves c n (calls_step (Client n) (c.clients n) act (lines.Given p)))
+spent_goes s c past n p act m h d e = again_goes s c past n p act m h d (spent_shut (c.clients n).spoiled (volume_changed (asked act)) e)
+
+pub refused_goes : (s : Script) (c : Cell) (past : List Entry) (n p : ℕ) (act : Going) (head : Head) (code : Code) (t : Bool) → (h : Holds s c past) → Due c h.floors past n p act (record { head = head; carried = carried.Refusal code }) → is_spent (c.clients n) act ≡ t
+    → Goes s past (client_moves c n (cond t (calls_step (Client n) (c.clients n) act (lines.Given p)) (answers_step (Client n) (c.clients n) p code)))
+refused_goes s c past n p act head code true h d e = spent_goes s c past n p act _ h d e
+refused_goes s c past n p act head code false h d e = takes_refused s c past n p act head code h d
+
+pub replied_goes : (s : Script) (c : Cell) (past : List Entry) (n p : ℕ) (act : Going) (head : Head) (reply : FsReply) (t : Bool) → (h : Holds s c past) → Due c h.floors past n p act (record { head = head; carried = carried.Reply reply }) → is_spent (c.clients n) act ≡ t
+    → Goes s past (client_moves c n (cond t (calls_step (Client n) (c.clients n) act (lines.Given p)) (takes (Client n) (c.clients n) c.clock p act (call_of act) reply)))
+replied_goes s c past n p act head reply true h d e = spent_goes s c past n p act _ h d e
+replied_goes s c past n p act head reply false h d e = takes_goes s c past n p act (call_of act) head reply h d e (sym (call_is act))
+
+-- what is known of a message to the client that may be awaited
+pub record Awaited (c : Cell) (n : ℕ) (act : Going) (m : Message) : Type 0 where
+  pub epoch : m.head.epoch ≡ (c.clients n).epoch
+  pub number : m.head.number ≡ (c.clients n).last
+
+pub awaited : (c : Cell) (n : ℕ) (act : Going) (m : Message) → is_awaited (Client n) (c.clients n) act m.head ≡ true → Awaited c n act m
+awaited c n act m t =
+    let a = both _ _ t in
+    let b = both _ _ a.1 in
+    let e = both _ _ b.1 in
+    let k = both _ _ e.1 in
+    record { epoch = eqb-true _ _ e.0; number = eqb-true _ _ k.0 }
+
+abbrev pub key_by : Node → ℕ → ℕ → Key
+key_by node epoch number = record { node = node; epoch = epoch; number = number }
+
+pub same_parts : (a b : Node) (e d n m : ℕ) → a ≡ b → e ≡ d → n ≡ m → key_by a e n ≡ key_by b d m
+same_parts a b e d n m x y z = ap (λ (q : Node). key_by q e n) x ∙ (ap (λ (q : ℕ). key_by b q n) y ∙ ap (λ (q : ℕ). key_by b d q) z)
+
+pub is_due : (s : Script) (c : Cell) (past : List Entry) (n p : ℕ) (act : Going) (m : Message) → (h : Holds s c past) → Heard c p m → m.head.to ≡ Client n → ReplyIn (view h.floors c) past m → Awaited c n act m → (c.clients n).running ≡ Some act → Due c h.floors past n p act m
+is_due s c past n p act m h heard to f w runs =
+    let one : f.client ≡ n = client_number f.client n (sym f.to ∙ to) in
+    let fact : ReplyFact n (view h.floors c n) past m = subst (λ (j : ℕ). ReplyFact j (view h.floors c j) past m) one f.fact in
+    record {
+      running = runs;
+      epoch = w.epoch;
+      number = w.number;
+      fact = fact;
+      key = same_parts m.head.to (Client n) m.head.epoch (c.clients n).epoch m.head.number (c.clients n).last to w.epoch w.number;
+      answers = fact.answers act runs w.epoch w.number;
+      heard = heard;
+      at = ap (λ (ms : List Message). message_at ms p) h.sent.told ∙ heard.at;
+    }
+
+pub counts_goes : (s : Script) (c : Cell) (past : List Entry) (n p : ℕ) (act : Going) (head : Head) (x : Carried) → (h : Holds s c past) → Heard c p (record { head = head; carried = x }) → head.to ≡ Client n → OfReply (ReplyIn (view h.floors c) past (record { head = head; carried = x })) x
+    → OfNotice (IsNoticed c.server.boot (record { head = head; carried = x })) x → Awaited c n act (record { head = head; carried = x }) → (c.clients n).running ≡ Some act → Goes s past (client_moves c n (counts (Client n) (c.clients n) c.clock p act head x))
+counts_goes s c past n p act head (carried.Call user call) h heard to f k w runs = quiet s c past n p (record { head = head; carried = carried.Call user call }) h heard
+counts_goes s c past n p act head (carried.Refusal code) h heard to f k w runs = refused_goes s c past n p act head code (is_spent (c.clients n) act) h (is_due s c past n p act (record { head = head; carried = carried.Refusal code }) h heard to f w runs) refl
+counts_goes s c past n p act head (carried.Reply reply) h heard to f k w runs = replied_goes s c past n p act head reply (is_spent (c.clients n) act) h (is_due s c past n p act (record { head = head; carried = carried.Reply reply }) h heard to f w runs) refl
+counts_goes s c past n p act head carried.Notice h heard to f k w runs = resends_goes s c past n p act (record { head = head; carried = carried.Notice }) head.boot h heard k runs
+
+pub test_goes : (s : Script) (c : Cell) (past : List Entry) (n p : ℕ) (act : Going) (m : Message) (t : Bool) → (h : Holds s c past) → Heard c p m → m.head.to ≡ Client n → OfReply (ReplyIn (view h.floors c) past m) m.carried → OfNotice (IsNoticed c.server.boot m) m.carried → is_awaited (Client n) (c.clients n) act m.head ≡ t → (c.clients n).running ≡ Some act
+    → Goes s past (client_moves c n (cond t (counts (Client n) (c.clients n) c.clock p act m.head m.carried) (ignores (c.clients n) p)))
+test_goes s c past n p act m true h heard to f k t runs = counts_goes s c past n p act m.head m.carried h heard to f k (awaited c n act m t) runs
+test_goes s c past n p act m false h heard to f k t runs = quiet s c past n p m h heard
+
+pub awaits_goes : (s : Script) (c : Cell) (past : List Entry) (n p : ℕ) (m : Message) (o : Option Going) → (h : Holds s c past) → Heard c p m → m.head.to ≡ Client n → OfReply (ReplyIn (view h.floors c) past m) m.carried → OfNotice (IsNoticed c.server.boot m) m.carried → (c.clients n).running ≡ o → Goes s past (client_moves c n (awaits (Client n) (c.clients n) c.clock p m o))
+awaits_goes s c past n p m None h heard to f k runs = quiet s c past n p m h heard
+awaits_goes s c past n p m (Some act) h heard to f k runs = test_goes s c past n p act m (is_awaited (Client n) (c.clients n) act m.head) h heard to f k refl runs
+
+pub to_reply : (n : ℕ) (to : Node) (X : Type 0) (c : Carried) → to ≡ Client n → OfReply (OfClient to X) c → OfReply X c
+to_reply n to X (carried.Call user call) e h = tt
+to_reply n to X (carried.Refusal code) e h = by_client n to X e h
+to_reply n to X (carried.Reply reply) e h = by_client n to X e h
+to_reply n to X carried.Notice e h = tt
+
+pub to_notice : (n : ℕ) (to : Node) (X : Type 0) (c : Carried) → to ≡ Client n → OfNotice (OfClient to X) c → OfNotice X c
+to_notice n to X (carried.Call user call) e h = tt
+to_notice n to X (carried.Refusal code) e h = tt
+to_notice n to X (carried.Reply reply) e h = tt
+to_notice n to X carried.Notice e h = by_client n to X e h
+
+pub hears_goes : (s : Script) (c : Cell) (past : List Entry) (n p : ℕ) (head : Head) (x : Carried) → (h : Holds s c past) → message_at c.sent p ≡ Some (record { head = head; carried = x }) → head.to ≡ Client n → Heard c p (record { head = head; carried = x }) → OfCall (ByServer (BackIn c.down c.backs.calls c.backs.last_call c.server.boot)) head x
+    → IfReply (ReplyIn (view h.floors c) past) (record { head = head; carried = x }) → IfNotice (IsNoticed c.server.boot) (record { head = head; carried = x }) → Goes s past (client_moves c n (hears_in (Client n) (c.clients n) c.clock p head x))
+hears_goes s c past n p head (carried.Call user call) h at to heard b f k = called_goes s c past n p head user call h heard to b
+hears_goes s c past n p head (carried.Refusal code) h at to heard b f k = awaits_goes s c past n p _ (c.clients n).running h heard to (by_client n head.to _ to f) tt refl
+hears_goes s c past n p head (carried.Reply reply) h at to heard b f k = awaits_goes s c past n p _ (c.clients n).running h heard to (by_client n head.to _ to f) tt refl
+hears_goes s c past n p head carried.Notice h at to heard b f k = awaits_goes s c past n p _ (c.clients n).running h heard to tt (by_client n head.to _ to k) refl
+
+pub client_goes : (s : Script) (c : Cell) (past : List Entry) (n p : ℕ) (m : Message) → Holds s c past → message_at c.sent p ≡ Some m → m.head.to ≡ Client n → Goes s past (client_moves c n (client_row (Client n) (c.clients n) c.clock p (Whole m)))
+unfolding client_row
+client_goes s c past n p m h at to =
+    hears_goes s c past n p m.head m.carried h at to (record { at = at; not_to = λ x. let y : Client n ≡ the_server = sym to ∙ x in absurd cc }) (each_at (IfBack (BackIn c.down c.backs.calls c.backs.last_call c.server.boot)) c.sent p m at (h.backs refl).calls)
+    (each_at (IfReply (ReplyIn (view h.floors c) past)) c.sent p m at h.sent.replies) (each_at (IfNotice (IsNoticed c.server.boot)) c.sent p m at h.sent.notices)
+
+pub begun_goes : (s : Script) (c : Cell) (past : List Entry) (n : ℕ) (act : Act) (o : Option Going) → Holds s c past → (c.clients n).running ≡ o → Goes s past (begun_by c n act o)
+begun_goes s c past n act None h e = begins_goes s c past n act h e
+begun_goes s c past n act (Some other) h e = voids s c past h
