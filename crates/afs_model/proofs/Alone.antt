@@ -11,9 +11,11 @@ use Rattle.afs_num.specs.declared.messages.Carried.TheVariants as carried
 use Rattle.afs_num.specs.declared.messages.Message.{Message}
 use Rattle.afs_num.specs.declared.scripts.Act.{Act}
 use Rattle.afs_num.specs.declared.scripts.Act.TheVariants.{Open, Close}
+use Rattle.afs_num.specs.declared.histories.Actor.TheVariants as actors
 use Rattle.afs_num.specs.declared.histories.Body.TheVariants as bodies
 use Rattle.afs_num.specs.declared.histories.Line.{Line}
 use Rattle.afs_num.specs.declared.histories.Line.TheVariants as lines
+use Rattle.afs_num.specs.declared.histories.ReadBody.TheVariants.{Contents}
 use Rattle.afs_num.specs.declared.histories.ReadSource.{ReadSource}
 use Rattle.afs_num.specs.declared.histories.ReadSource.TheVariants.{Cached, Fetched}
 use Rattle.afs_model.specs.Runs.{Entry}
@@ -32,7 +34,7 @@ after es = past_of (set_up script ∷ []) es
 
 -- this entry ran the call, behind some entries and before others
 abbrev ran : (r : Head) (front : List Entry) (at : Entry) (back : List Entry) (m : Message) → past_of (at ∷ after front) back ≡ past_of [] back ++ (at ∷ after front) → given_message at.lines (sent_of (after front)) ≡ Some m
-    → IsCall m.carried → called_key m.head ≡ answered_key r → m.head.boot ≡ r.boot → m.head.to ≡ r.from → at.node ≡ Some m.head.to → IsUnheard (answered_key r) r.boot (after front) → Ran r (past_of (at ∷ after front) back)
+    → IsCall m.carried → called_key m.head ≡ answered_key r → m.head.boot ≡ r.boot → m.head.to ≡ r.from → at.actor ≡ actors.Node m.head.to → IsUnheard (answered_key r) r.boot (after front) → Ran r (past_of (at ∷ after front) back)
 ran r front at back m split given is_call key boot callee node first = record {
   newer = past_of [] back;
   at = at;
@@ -49,14 +51,14 @@ ran r front at back m split given is_call key boot callee node first = record {
 }
 
 -- its grant is its last line
-abbrev granted : (c : Node) (r : Message) (past : List Entry) (server : Node) (index : ℕ) (before : List Line) → IsReply r → r.head.to ≡ c → (ran : Ran r.head past) → ran.at.node ≡ Some server → ran.at.lines ≡ before ++ lines.Grant server c file index 7200 ∷ [] → GrantOf c file 7200 r past
+abbrev granted : (c : Node) (r : Message) (past : List Entry) (server : Node) (index : ℕ) (before : List Line) → IsReply r → r.head.to ≡ c → (ran : Ran r.head past) → ran.at.actor ≡ actors.Node server → ran.at.lines ≡ before ++ lines.Grant server c file index 7200 ∷ [] → GrantOf c file 7200 r past
 granted c r past server index before is_reply to ran node line = record { is_reply = is_reply; to = to; ran = ran; server = server; node = node; index = index; before = before; after = []; line = line }
 
 abbrev NewestBy : (c : Node) (index : ℕ) (r : Message) (past : List Entry) (own : List Line) → GrantOf c file 7200 r past → Type 0
 NewestBy c index r past own g = IsWithdrawn g.server c file (own ++ since c file 7200 r past g) ⊎ IsLast file index (own ++ lines_of past)
 
 abbrev shown : (c : Node) (index : ℕ) (source : ReadSource) (contents : List ℕ) (past : List Entry) (own : List Line) (r : Message) → HasVersion file index (bodies.File contents) (own ++ lines_of past) → seen c file past own ≤ index → read_reply c file source past own ≡ Some r
-    → (g : GrantOf c file 7200 r past) → clock_of (own ++ lines_of past) < 7200 → (IsDropped g.server c file (own ++ since c file 7200 r past g) → ⊥) → NewestBy c index r past own g → GoodRead c file index source (bodies.File contents) past own
+    → (g : GrantOf c file 7200 r past) → clock_of (own ++ lines_of past) < 7200 → (IsDropped g.server c file (own ++ since c file 7200 r past g) → ⊥) → NewestBy c index r past own g → GoodRead c file index source (Contents (bodies.File contents)) past own
 shown c index source contents past own r whole not_older by g lasts kept newest = record { whole = whole; not_older = not_older; reply = r; by = by; expiry = 7200; grant = g; lasts = lasts; kept = kept; newest = newest }
 
 abbrev begun : ℕ → Act → List Line
@@ -91,20 +93,20 @@ abbrev grant_1 : (back : List Entry) → past_of (grants 1 1 1 1 abc ∷ after (
 grant_1 back split = granted (Client 1) (fetched_by 1) (past_of (grants 1 1 1 1 abc ∷ after (asks_open 1 1 ∷ [])) back) (Server 1) 1 (given 1) (refl, tt) refl
     (ran (fetched_by 1).head (asks_open 1 1 ∷ []) (grants 1 1 1 1 abc) back (call 1 1 130 (fetch file)) split refl tt refl refl refl refl (λ x. x, (λ x. x, tt))) refl refl
 
-never_stored : HasVersion file 3 (bodies.File def) (begun 2 (Open file) ++ lines_of (after (overtaken []))) → GoodRead (Client 2) file 3 Cached (bodies.File def) (after (overtaken [])) (begun 2 (Open file))
+never_stored : HasVersion file 3 (bodies.File def) (begun 2 (Open file) ++ lines_of (after (overtaken []))) → GoodRead (Client 2) file 3 Cached (Contents (bodies.File def)) (after (overtaken [])) (begun 2 (Open file))
 never_stored h = shown (Client 2) 3 Cached def (after (overtaken [])) (begun 2 (Open file)) (fetched_by 2) h (omega arith) refl grant_2 (omega arith) (λ x. x) (inl (inl (refl, (refl, λ x. absurd cc))))
 
-other_version : HasVersion file 2 (bodies.File abc) (begun 1 (Open file) ++ lines_of (after (asks_open 1 1 ∷ grants 1 1 1 1 abc ∷ stored_own))) → GoodRead (Client 1) file 2 Cached (bodies.File abc) (after (asks_open 1 1 ∷ grants 1 1 1 1 abc ∷ stored_own)) (begun 1 (Open file))
+other_version : HasVersion file 2 (bodies.File abc) (begun 1 (Open file) ++ lines_of (after (asks_open 1 1 ∷ grants 1 1 1 1 abc ∷ stored_own))) → GoodRead (Client 1) file 2 Cached (Contents (bodies.File abc)) (after (asks_open 1 1 ∷ grants 1 1 1 1 abc ∷ stored_own)) (begun 1 (Open file))
 other_version h = shown (Client 1) 2 Cached abc (after (asks_open 1 1 ∷ grants 1 1 1 1 abc ∷ stored_own)) (begun 1 (Open file)) (fetched_by 1) h (omega arith) refl (grant_1 stored_own refl) (omega arith) (λ x. x) (inr refl)
 
-older_after : seen (Client 1) file (after (outdone [])) (begun 1 (Open file)) ≤ 1 → GoodRead (Client 1) file 1 Cached (bodies.File abc) (after (outdone [])) (begun 1 (Open file))
+older_after : seen (Client 1) file (after (outdone [])) (begun 1 (Open file)) ≤ 1 → GoodRead (Client 1) file 1 Cached (Contents (bodies.File abc)) (after (outdone [])) (begun 1 (Open file))
 older_after h = shown (Client 1) 1 Cached abc (after (outdone [])) (begun 1 (Open file)) (fetched_by 1) (inr (inr (inl (refl, (refl, refl))))) h refl (grant_1 (shows 1 2 1 abc ∷ asks_close 1 2 def ∷ changes 1 2 3 2 def ∷ answers 1 4 0 ∷ asks_close 2 1 ghi ∷ changes 2 1 5 3 ghi ∷ []) refl) (omega arith) (λ x. x) (inl (inl (refl, (refl, λ x. absurd cc))))
 
-read_ungranted : (server_entry (given 1) (fetched_by 1 ∷ [])).lines ≡ given 1 ++ lines.Grant (Server 1) (Client 1) file 1 7200 ∷ [] → GoodRead (Client 1) file 1 Fetched (bodies.File abc) (after (asks_open 1 1 ∷ (server_entry (given 1) (fetched_by 1 ∷ [])) ∷ [])) (given 2)
+read_ungranted : (server_entry (given 1) (fetched_by 1 ∷ [])).lines ≡ given 1 ++ lines.Grant (Server 1) (Client 1) file 1 7200 ∷ [] → GoodRead (Client 1) file 1 Fetched (Contents (bodies.File abc)) (after (asks_open 1 1 ∷ (server_entry (given 1) (fetched_by 1 ∷ [])) ∷ [])) (given 2)
 read_ungranted h = shown (Client 1) 1 Fetched abc (after (asks_open 1 1 ∷ (server_entry (given 1) (fetched_by 1 ∷ [])) ∷ [])) (given 2) (fetched_by 1) (inl (refl, (refl, refl))) (omega arith) refl
     (granted (Client 1) (fetched_by 1) (after (asks_open 1 1 ∷ (server_entry (given 1) (fetched_by 1 ∷ [])) ∷ [])) (Server 1) 1 (given 1) (refl, tt) refl (ran (fetched_by 1).head (asks_open 1 1 ∷ []) (server_entry (given 1) (fetched_by 1 ∷ [])) [] (call 1 1 130 (fetch file)) refl refl tt refl refl refl refl (λ x. x, (λ x. x, tt))) refl h) (omega arith) (λ x. x) (inr refl)
 
-granted_by_other : grants_for_other.node ≡ Some (Server 2) → GoodRead (Client 1) file 1 Fetched (bodies.File abc) (after (asks_open 1 1 ∷ grants_for_other ∷ [])) (given 2)
+granted_by_other : grants_for_other.actor ≡ actors.Node (Server 2) → GoodRead (Client 1) file 1 Fetched (Contents (bodies.File abc)) (after (asks_open 1 1 ∷ grants_for_other ∷ [])) (given 2)
 granted_by_other h = shown (Client 1) 1 Fetched abc (after (asks_open 1 1 ∷ grants_for_other ∷ [])) (given 2) (fetched_by 1) (inl (refl, (refl, refl))) (omega arith) refl
     (granted (Client 1) (fetched_by 1) (after (asks_open 1 1 ∷ grants_for_other ∷ [])) (Server 2) 1 (given 1) (refl, tt) refl (ran (fetched_by 1).head (asks_open 1 1 ∷ []) grants_for_other [] (call 1 1 130 (fetch file)) refl refl tt refl refl refl refl (λ x. x, (λ x. x, tt))) h refl) (omega arith) (λ x. x) (inr refl)
 
@@ -114,7 +116,7 @@ grant_after = granted (Client 2) (reply 2 1 130 (fetched 2 def)) (after (asks_cl
     (λ x. x, ((λ x. let other : Client 1 ≡ Client 2 = ap (λ (k : Key). k.node) x.1.0 in absurd cc), (λ x. x, (λ x. x, tt))))) refl refl
 
 old_version : NewestBy (Client 2) 1 (reply 2 1 130 (fetched 2 def)) (after (asks_close 1 1 def ∷ changes 1 1 1 2 def ∷ asks_open 2 1 ∷ grants 2 1 3 2 def ∷ [])) (given 4) grant_after
-    → GoodRead (Client 2) file 1 Fetched (bodies.File abc) (after (asks_close 1 1 def ∷ changes 1 1 1 2 def ∷ asks_open 2 1 ∷ grants 2 1 3 2 def ∷ [])) (given 4)
+    → GoodRead (Client 2) file 1 Fetched (Contents (bodies.File abc)) (after (asks_close 1 1 def ∷ changes 1 1 1 2 def ∷ asks_open 2 1 ∷ grants 2 1 3 2 def ∷ [])) (given 4)
 old_version h = shown (Client 2) 1 Fetched abc (after (asks_close 1 1 def ∷ changes 1 1 1 2 def ∷ asks_open 2 1 ∷ grants 2 1 3 2 def ∷ [])) (given 4) (reply 2 1 130 (fetched 2 def)) (inr (inl (refl, (refl, refl)))) (omega arith) refl grant_after (omega arith) (λ x. x) h
 
 abbrev grant_own : GrantOf (Client 2) file 7200 (fetched_by 2) (after (asks_open 2 1 ∷ grants 2 1 1 1 abc ∷ shows 2 2 1 abc ∷ asks_close 2 2 def ∷ changes 2 2 3 2 def ∷ []))
@@ -122,31 +124,31 @@ grant_own = granted (Client 2) (fetched_by 2) (after (asks_open 2 1 ∷ grants 2
     (ran (fetched_by 2).head (asks_open 2 1 ∷ []) (grants 2 1 1 1 abc) (shows 2 2 1 abc ∷ asks_close 2 2 def ∷ changes 2 2 3 2 def ∷ []) (call 2 1 130 (fetch file)) refl refl tt refl refl refl refl (λ x. x, (λ x. x, tt))) refl refl
 
 old_after_own : NewestBy (Client 2) 1 (fetched_by 2) (after (asks_open 2 1 ∷ grants 2 1 1 1 abc ∷ shows 2 2 1 abc ∷ asks_close 2 2 def ∷ changes 2 2 3 2 def ∷ [])) [] grant_own
-    → GoodRead (Client 2) file 1 Cached (bodies.File abc) (after (asks_open 2 1 ∷ grants 2 1 1 1 abc ∷ shows 2 2 1 abc ∷ asks_close 2 2 def ∷ changes 2 2 3 2 def ∷ [])) []
+    → GoodRead (Client 2) file 1 Cached (Contents (bodies.File abc)) (after (asks_open 2 1 ∷ grants 2 1 1 1 abc ∷ shows 2 2 1 abc ∷ asks_close 2 2 def ∷ changes 2 2 3 2 def ∷ [])) []
 old_after_own h = shown (Client 2) 1 Cached abc (after (asks_open 2 1 ∷ grants 2 1 1 1 abc ∷ shows 2 2 1 abc ∷ asks_close 2 2 def ∷ changes 2 2 3 2 def ∷ [])) [] (fetched_by 2) (inr (inl (refl, (refl, refl)))) (omega arith) refl grant_own (omega arith) (λ x. x) h
 
-noticed : IsReply notice → GoodRead (Client 1) file 1 Fetched (bodies.File abc) (after (asks_open 1 1 ∷ (server_entry (given 1 ++ lines.Grant (Server 1) (Client 1) file 1 7200 ∷ []) (notice ∷ [])) ∷ [])) (given 2)
+noticed : IsReply notice → GoodRead (Client 1) file 1 Fetched (Contents (bodies.File abc)) (after (asks_open 1 1 ∷ (server_entry (given 1 ++ lines.Grant (Server 1) (Client 1) file 1 7200 ∷ []) (notice ∷ [])) ∷ [])) (given 2)
 noticed h = shown (Client 1) 1 Fetched abc (after (asks_open 1 1 ∷ (server_entry (given 1 ++ lines.Grant (Server 1) (Client 1) file 1 7200 ∷ []) (notice ∷ [])) ∷ [])) (given 2) notice (inl (refl, (refl, refl))) (omega arith) refl
     (granted (Client 1) notice (after (asks_open 1 1 ∷ (server_entry (given 1 ++ lines.Grant (Server 1) (Client 1) file 1 7200 ∷ []) (notice ∷ [])) ∷ [])) (Server 1) 1 (given 1) h refl (ran notice.head (asks_open 1 1 ∷ []) (server_entry (given 1 ++ lines.Grant (Server 1) (Client 1) file 1 7200 ∷ []) (notice ∷ [])) [] (call 1 1 130 (fetch file)) refl refl tt refl refl refl refl (λ x. x, (λ x. x, tt))) refl refl) (omega arith) (λ x. x) (inr refl)
 
-others_reply_shown : (fetched_by 2).head.to ≡ Client 1 → GoodRead (Client 1) file 1 Fetched (bodies.File abc) (after (asks_open 1 1 ∷ asks_open 2 1 ∷ (server_entry (given 2 ++ lines.Grant (Server 1) (Client 1) file 1 7200 ∷ []) (fetched_by 2 ∷ [])) ∷ [])) (given 3)
+others_reply_shown : (fetched_by 2).head.to ≡ Client 1 → GoodRead (Client 1) file 1 Fetched (Contents (bodies.File abc)) (after (asks_open 1 1 ∷ asks_open 2 1 ∷ (server_entry (given 2 ++ lines.Grant (Server 1) (Client 1) file 1 7200 ∷ []) (fetched_by 2 ∷ [])) ∷ [])) (given 3)
 others_reply_shown h = shown (Client 1) 1 Fetched abc (after (asks_open 1 1 ∷ asks_open 2 1 ∷ (server_entry (given 2 ++ lines.Grant (Server 1) (Client 1) file 1 7200 ∷ []) (fetched_by 2 ∷ [])) ∷ [])) (given 3) (fetched_by 2) (inl (refl, (refl, refl))) (omega arith) refl
     (granted (Client 1) (fetched_by 2) (after (asks_open 1 1 ∷ asks_open 2 1 ∷ (server_entry (given 2 ++ lines.Grant (Server 1) (Client 1) file 1 7200 ∷ []) (fetched_by 2 ∷ [])) ∷ [])) (Server 1) 1 (given 2) (refl, tt) h (ran (fetched_by 2).head (asks_open 1 1 ∷ asks_open 2 1 ∷ []) (server_entry (given 2 ++ lines.Grant (Server 1) (Client 1) file 1 7200 ∷ []) (fetched_by 2 ∷ [])) [] (call 2 1 130 (fetch file)) refl refl tt refl refl refl refl (λ x. x, (λ x. x, (λ x. x, tt)))) refl refl) (omega arith) (λ x. x) (inr refl)
 
-no_call_run : IsCall no_call.carried → GoodRead (Client 1) file 1 Fetched (bodies.File abc) (after (client_entry 1 (begun 1 (Open file)) (no_call ∷ []) ∷ (grants 1 1 1 1 abc) ∷ [])) (given 2)
+no_call_run : IsCall no_call.carried → GoodRead (Client 1) file 1 Fetched (Contents (bodies.File abc)) (after (client_entry 1 (begun 1 (Open file)) (no_call ∷ []) ∷ (grants 1 1 1 1 abc) ∷ [])) (given 2)
 no_call_run h = shown (Client 1) 1 Fetched abc (after (client_entry 1 (begun 1 (Open file)) (no_call ∷ []) ∷ (grants 1 1 1 1 abc) ∷ [])) (given 2) (fetched_by 1) (inl (refl, (refl, refl))) (omega arith) refl
     (granted (Client 1) (fetched_by 1) (after (client_entry 1 (begun 1 (Open file)) (no_call ∷ []) ∷ (grants 1 1 1 1 abc) ∷ [])) (Server 1) 1 (given 1) (refl, tt) refl (ran (fetched_by 1).head (client_entry 1 (begun 1 (Open file)) (no_call ∷ []) ∷ []) (grants 1 1 1 1 abc) [] no_call refl refl h refl refl refl refl (λ x. x, (λ x. x, tt))) refl refl) (omega arith) (λ x. x) (inr refl)
 
-run_elsewhere : other_grants.node ≡ Some (Server 1) → GoodRead (Client 1) file 1 Fetched (bodies.File abc) (after (asks_open 1 1 ∷ other_grants ∷ [])) (given 2)
+run_elsewhere : other_grants.actor ≡ actors.Node (Server 1) → GoodRead (Client 1) file 1 Fetched (Contents (bodies.File abc)) (after (asks_open 1 1 ∷ other_grants ∷ [])) (given 2)
 run_elsewhere h = shown (Client 1) 1 Fetched abc (after (asks_open 1 1 ∷ other_grants ∷ [])) (given 2) (fetched_by 1) (inl (refl, (refl, refl))) (omega arith) refl
     (granted (Client 1) (fetched_by 1) (after (asks_open 1 1 ∷ other_grants ∷ [])) (Server 2) 1 (given 1) (refl, tt) refl (ran (fetched_by 1).head (asks_open 1 1 ∷ []) other_grants [] (call 1 1 130 (fetch file)) refl refl tt refl refl refl h (λ x. x, (λ x. x, tt))) refl refl) (omega arith) (λ x. x) (inr refl)
 
-replied_by_other : (call 1 1 130 (fetch file)).head.to ≡ other_reply.head.from → GoodRead (Client 1) file 1 Fetched (bodies.File abc) (after (asks_open 1 1 ∷ (server_entry (given 1 ++ lines.Grant (Server 1) (Client 1) file 1 7200 ∷ []) (other_reply ∷ [])) ∷ [])) (given 2)
+replied_by_other : (call 1 1 130 (fetch file)).head.to ≡ other_reply.head.from → GoodRead (Client 1) file 1 Fetched (Contents (bodies.File abc)) (after (asks_open 1 1 ∷ (server_entry (given 1 ++ lines.Grant (Server 1) (Client 1) file 1 7200 ∷ []) (other_reply ∷ [])) ∷ [])) (given 2)
 replied_by_other h = shown (Client 1) 1 Fetched abc (after (asks_open 1 1 ∷ (server_entry (given 1 ++ lines.Grant (Server 1) (Client 1) file 1 7200 ∷ []) (other_reply ∷ [])) ∷ [])) (given 2) other_reply (inl (refl, (refl, refl))) (omega arith) refl
     (granted (Client 1) other_reply (after (asks_open 1 1 ∷ (server_entry (given 1 ++ lines.Grant (Server 1) (Client 1) file 1 7200 ∷ []) (other_reply ∷ [])) ∷ [])) (Server 1) 1 (given 1) (refl, tt) refl (ran other_reply.head (asks_open 1 1 ∷ []) (server_entry (given 1 ++ lines.Grant (Server 1) (Client 1) file 1 7200 ∷ []) (other_reply ∷ [])) [] (call 1 1 130 (fetch file)) refl refl tt refl refl h refl (λ x. x, (λ x. x, tt))) refl refl) (omega arith) (λ x. x) (inr refl)
 
 -- in its own client's entry
-read_elsewhere : GoodRead (Client 1) file 1 Fetched (bodies.File abc) (after (asks_open 1 1 ∷ (grants 1 1 1 1 abc) ∷ [])) (given 2)
+read_elsewhere : GoodRead (Client 1) file 1 Fetched (Contents (bodies.File abc)) (after (asks_open 1 1 ∷ (grants 1 1 1 1 abc) ∷ [])) (given 2)
 read_elsewhere = shown (Client 1) 1 Fetched abc (after (asks_open 1 1 ∷ (grants 1 1 1 1 abc) ∷ [])) (given 2) (fetched_by 1) (inl (refl, (refl, refl))) (omega arith) refl
     (granted (Client 1) (fetched_by 1) (after (asks_open 1 1 ∷ (grants 1 1 1 1 abc) ∷ [])) (Server 1) 1 (given 1) (refl, tt) refl (ran (fetched_by 1).head (asks_open 1 1 ∷ []) (grants 1 1 1 1 abc) [] (call 1 1 130 (fetch file)) refl refl tt refl refl refl refl (λ x. x, (λ x. x, tt))) refl refl) (omega arith) (λ x. x) (inr refl)
 

@@ -23,9 +23,11 @@ use Rattle.afs_num.specs.declared.messages.Received.TheVariants.{Whole}
 use Rattle.afs_num.specs.declared.scripts.Act.{Act}
 use Rattle.afs_num.specs.declared.scripts.Act.TheVariants.{Open, Close}
 use Rattle.afs_num.specs.declared.scripts.Script.{Script}
+use Rattle.afs_num.specs.declared.histories.Actor.TheVariants as actors
 use Rattle.afs_num.specs.declared.histories.Body.TheVariants as bodies
 use Rattle.afs_num.specs.declared.histories.Line.{Line}
 use Rattle.afs_num.specs.declared.histories.Line.TheVariants as lines
+use Rattle.afs_num.specs.declared.histories.ReadBody.TheVariants.{Contents}
 use Rattle.afs_num.specs.declared.histories.ReadSource.TheVariants.{Fetched}
 use Rattle.afs_num.specs.declared.states.CacheEntry.{CacheEntry}
 use Rattle.afs_num.specs.declared.states.ClientState.{ClientState}
@@ -244,7 +246,7 @@ takes_used s c past n p f head contents status callback sync h d lasts =
             newest = a.newest;
           },
         ),
-        ((refl, good_code s c past n p (Open f) m zero_code (lines.Read (Client n) f i Fetched (bodies.File contents) ∷ lines.Given p ∷ []) h d refl refl refl refl), tt),
+        ((refl, good_code s c past n p (Open f) m zero_code (lines.Read (Client n) f i Fetched (Contents (bodies.File contents)) ∷ lines.Given p ∷ []) h d refl refl refl refl), tt),
       ),
     )
     (used_passes s c past n p i f contents m h d.heard)
@@ -272,7 +274,7 @@ fetched_goes : (s : Script) (c : Cell) (past : List Entry) (n p : ℕ) (f : Fid)
     → Goes s past (client_moves c n (cond t (shows_fetched_step (Client n) (c.clients n) p (record { fid = f; index = status.sync_counter; expiry = callback.expiration_time; contents = contents })) (calls_step (Client n) (c.clients n) (Open f) (lines.Given p))))
 fetched_goes s c past n p f head contents status callback sync true h d lasts = takes_used s c past n p f head contents status callback sync h d lasts
 fetched_goes s c past n p f head contents status callback sync false h d lasts =
-    asks s c past n (Open f) (lines.Given p) h (tt, tt) (told_passes s c past n p _ _ h d.heard) (λ g. told_file n p g (Some (Client n)) _ past) (λ g. told_reach n p g (Some (Client n)) _ past) (λ g y. not_close c past n p f g y _ d) ((h.clients n).runs (Open f) d.running)
+    asks s c past n (Open f) (lines.Given p) h (tt, tt) (told_passes s c past n p _ _ h d.heard) (λ g. told_file n p g (actors.Node (Client n)) _ past) (λ g. told_reach n p g (actors.Node (Client n)) _ past) (λ g y. not_close c past n p f g y _ d) ((h.clients n).runs (Open f) d.running)
 
 -- ---- an answered store
 
@@ -355,7 +357,7 @@ resends_goes s c past n p act m boot h d runs =
     let x : ClientState = record (c.clients n) { boot = boot } in
     let ms : List Message = call_message (Client n) x act ∷ [] in
     moves s c past n (resends_step (Client n) (c.clients n) p act boot) h (tt, tt) (told_passes s c past n p m ms h d)
-    (client_still n (view c n) (step_entry n (lines.Given p ∷ []) ms) past (λ f. told_file n p f (Some (Client n)) ms past) (λ f. told_reach n p f (Some (Client n)) ms past) (told_act n p (Some (Client n)) ms past) (λ f. refl) (h.clients n))
+    (client_still n (view c n) (step_entry n (lines.Given p ∷ []) ms) past (λ f. told_file n p f (actors.Node (Client n)) ms past) (λ f. told_reach n p f (actors.Node (Client n)) ms past) (told_act n p (actors.Node (Client n)) ms past) (λ f. refl) (h.clients n))
     (λ head call f. f)
     (own_call c past n x act (lines.Given p ∷ []) runs ((h.clients n).runs act runs))
 
@@ -436,12 +438,12 @@ client_goes s c past n p m h at to =
 
 -- ---- no node moves
 
-void_act : (j : ℕ) (past : List Entry) → PassesAct j (record { node = None; lines = lines.Void ∷ []; sent = [] }) past
+void_act : (j : ℕ) (past : List Entry) → PassesAct j (record { actor = actors.Nobody; lines = lines.Void ∷ []; sent = [] }) past
 void_act j past = record { runs = λ l. refl; begins = refl }
 
 pub voids : (s : Script) (c : Cell) (past : List Entry) → HoldsAt s c past → Goes s past (voided c)
 voids s c past h =
-    let e : Entry = record { node = None; lines = lines.Void ∷ []; sent = [] } in
+    let e : Entry = record { actor = actors.Nobody; lines = lines.Void ∷ []; sent = [] } in
     record {
       good = (tt, tt);
       holds = record {

@@ -15,10 +15,12 @@ use Rattle.afs_num.specs.declared.messages.Message.{Message}
 use Rattle.afs_num.specs.declared.scripts.Act.{Act}
 use Rattle.afs_num.specs.declared.scripts.Act.TheVariants.{Open, Close}
 use Rattle.afs_num.specs.declared.scripts.Script.{Script}
+use Rattle.afs_num.specs.declared.histories.Actor.TheVariants as actors
 use Rattle.afs_num.specs.declared.histories.Body.{Body}
 use Rattle.afs_num.specs.declared.histories.Body.TheVariants as bodies
 use Rattle.afs_num.specs.declared.histories.Line.{Line}
 use Rattle.afs_num.specs.declared.histories.Line.TheVariants as lines
+use Rattle.afs_num.specs.declared.histories.ReadBody.TheVariants.{Contents}
 use Rattle.afs_num.specs.declared.histories.ReadSource.TheVariants.{Cached, Fetched}
 use Rattle.afs_num.specs.declared.histories.Version.{Version}
 use Rattle.afs_num.specs.declared.states.CacheEntry.{CacheEntry}
@@ -41,7 +43,7 @@ use Rattle.afs_model.proofs.Serving.{told_file, told_reach, told_act, reached_st
 -- ---- what any step of client n needs
 
 abbrev pub step_entry : ℕ → List Line → List Message → Entry
-step_entry n ls ms = record { node = Some (Client n); lines = ls; sent = ms }
+step_entry n ls ms = record { actor = actors.Node (Client n); lines = ls; sent = ms }
 
 -- what its lines leave as it was
 pub record Passes (s : Script) (n : ℕ) (ls : List Line) (ms : List Message) (past : List Entry) : Type 0 where
@@ -74,7 +76,7 @@ calls_moved c n x sent w h = each_map (IfCall (CallIn (view c))) (IfCall (CallIn
 replies_moved : (c : Cell) (n : ℕ) (x : ClientState) (sent : List Message) → Each (IfReply (ReplyIn (view c))) sent → Each (IfReply (ReplyIn (views_after c n x))) sent
 replies_moved c n x sent h = each_map (IfReply (ReplyIn (view c))) (IfReply (ReplyIn (views_after c n x))) (if_reply (ReplyIn (view c)) (ReplyIn (views_after c n x)) (λ m f. record { client = f.client; to = f.to; fact = f.fact })) sent h
 
-pub moves : (s : Script) (c : Cell) (past : List Entry) (n : ℕ) (st : Step ClientState) → HoldsAt s c past → AreGood s (Some (Client n)) past [] st.lines → Passes s n st.lines st.sent past
+pub moves : (s : Script) (c : Cell) (past : List Entry) (n : ℕ) (st : Step ClientState) → HoldsAt s c past → AreGood s (actors.Node (Client n)) past [] st.lines → Passes s n st.lines st.sent past
     → ClientFacts n (view_after c n st.state) ((client_moves c n st).entry ∷ past)
     → ((head : Head) (call : FsCall) → CallFact (view c n) head call → CallFact (view_after c n st.state) head call)
     → News st.sent (views_after c n st.state) ((client_moves c n st).entry ∷ past) → Goes s past (client_moves c n st)
@@ -112,9 +114,9 @@ heard_dull s c past p m h d k boot x = d.not_call (subst (λ (o : Option Message
 
 pub told_passes : (s : Script) (c : Cell) (past : List Entry) (n p : ℕ) (m : Message) (ms : List Message) → HoldsAt s c past → Heard c p m → Passes s n (lines.Given p ∷ []) ms past
 told_passes s c past n p m ms h d = record {
-  file = λ j ne f. told_file j p f (Some (Client n)) ms past;
-  reach = λ j ne f. told_reach j p f (Some (Client n)) ms past;
-  act = λ j ne. told_act j p (Some (Client n)) ms past;
+  file = λ j ne f. told_file j p f (actors.Node (Client n)) ms past;
+  reach = λ j ne f. told_reach j p f (actors.Node (Client n)) ms past;
+  act = λ j ne. told_act j p (actors.Node (Client n)) ms past;
   last = λ f o. refl;
   back = λ f i b o x. x;
   new = λ k o x. x;
@@ -157,7 +159,7 @@ begin_passes s n a ms past = record {
 }
 
 abbrev pub shown_lines : ℕ → Act → Fid → ℕ → List ℕ → List Line
-shown_lines n a f i b = lines.Begin (Client n) a ∷ lines.Read (Client n) f i Cached (bodies.File b) ∷ lines.Answer (Client n) zero_code ∷ []
+shown_lines n a f i b = lines.Begin (Client n) a ∷ lines.Read (Client n) f i Cached (Contents (bodies.File b)) ∷ lines.Answer (Client n) zero_code ∷ []
 
 pub shown_file : (n j i : ℕ) (a : Act) (f g : Fid) (b : List ℕ) (past : List Entry) → PassesFile j g (step_entry n (shown_lines n a f i b) []) past
 shown_file n j i a f g b past = record { grant = record { version = λ k x l y. y; dropped = λ q l d. d; withdrawn = λ q l w. w }; fetched = refl }
@@ -212,7 +214,7 @@ answered_passes s c past n p m code h d = record {
 }
 
 abbrev pub used_lines : ℕ → ℕ → Fid → ℕ → List ℕ → List Line
-used_lines n p f i b = lines.Given p ∷ lines.Read (Client n) f i Fetched (bodies.File b) ∷ lines.Answer (Client n) zero_code ∷ []
+used_lines n p f i b = lines.Given p ∷ lines.Read (Client n) f i Fetched (Contents (bodies.File b)) ∷ lines.Answer (Client n) zero_code ∷ []
 
 used_by : (a b : Bool) → (a ≡ true → b ≡ true → ⊥) → cond (a && b) true false ≡ false
 used_by true true h = absurd (h refl refl)
@@ -251,7 +253,7 @@ used_passes s c past n p i f b m h d = record {
 
 pub quiet : (s : Script) (c : Cell) (past : List Entry) (n p : ℕ) (m : Message) → HoldsAt s c past → Heard c p m → Goes s past (client_moves c n (ignores (c.clients n) p))
 quiet s c past n p m h d = moves s c past n (ignores (c.clients n) p) h (tt, tt) (told_passes s c past n p m [] h d)
-    (client_still n (view c n) (step_entry n (lines.Given p ∷ []) []) past (λ f. told_file n p f (Some (Client n)) [] past) (λ f. told_reach n p f (Some (Client n)) [] past) (told_act n p (Some (Client n)) [] past) (λ f. refl) (h.clients n))
+    (client_still n (view c n) (step_entry n (lines.Given p ∷ []) []) past (λ f. told_file n p f (actors.Node (Client n)) [] past) (λ f. told_reach n p f (actors.Node (Client n)) [] past) (told_act n p (actors.Node (Client n)) [] past) (λ f. refl) (h.clients n))
     (λ head call f. f) (nothing_new _ _)
 
 -- ---- a call is sent
@@ -298,7 +300,7 @@ own_call c past n x act ls runs at = record {
   origins = (record { act = act; called = inl (refl, (inl (refl, refl), at)); own_user = refl; own_call = call_is act }, tt);
 }
 
-pub asks : (s : Script) (c : Cell) (past : List Entry) (n : ℕ) (act : Act) (l : Line) → HoldsAt s c past → AreGood s (Some (Client n)) past [] (l ∷ []) → Passes s n (l ∷ []) (call_message (Client n) (asking (c.clients n) act) act ∷ []) past
+pub asks : (s : Script) (c : Cell) (past : List Entry) (n : ℕ) (act : Act) (l : Line) → HoldsAt s c past → AreGood s (actors.Node (Client n)) past [] (l ∷ []) → Passes s n (l ∷ []) (call_message (Client n) (asking (c.clients n) act) act ∷ []) past
     → ((f : Fid) → PassesFile n f (step_entry n (l ∷ []) (call_message (Client n) (asking (c.clients n) act) act ∷ [])) past) → ((f : Fid) → PassesReach n f (step_entry n (l ∷ []) (call_message (Client n) (asking (c.clients n) act) act ∷ [])) past)
     → ((f : Fid) (y : List ℕ) → (c.clients n).running ≡ Some (Close f y) → ⊥) → running (Client n) (l ∷ lines_of past) ≡ Some act → Goes s past (client_moves c n (calls_step (Client n) (c.clients n) act l))
 asks s c past n act l h good p q r shut at =

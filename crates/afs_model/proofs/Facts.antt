@@ -228,5 +228,5 @@ pub record HoldsAt (s : Script) (c : Cell) (past : List Entry) : Type 0 where
   pub top : HasTop (lines_of past)
 
 pub record Goes (s : Script) (past : List Entry) (m : Moved) : Type 0 where
-  pub good : AreGood s m.entry.node past [] m.entry.lines
+  pub good : AreGood s m.entry.actor past [] m.entry.lines
   pub holds : HoldsAt s m.cell (m.entry ∷ past)

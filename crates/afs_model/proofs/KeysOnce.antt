@@ -3,6 +3,7 @@ use Rattle.std.proofs.Common.{◌≡◌, Option, List, [], ◌∷◌, ◌++◌, 
 use Rattle.afs_num.specs.declared.types.Key.{Key}
 use Rattle.afs_num.specs.declared.types.Node.{Node}
 use Rattle.afs_num.specs.declared.scripts.Script.{Script}
+use Rattle.afs_num.specs.declared.histories.Actor.{Actor}
 use Rattle.afs_num.specs.declared.histories.Line.{Line}
 use Rattle.afs_num.specs.declared.histories.Line.TheVariants as lines
 use Rattle.afs_num.specs.declared.states.StoredFile.{StoredFile}
@@ -21,7 +22,7 @@ use Rattle.afs_model.proofs.Law.{onto_last, legal}
 
 -- ---- a legal history changes under each key once
 
-entry_once : (s : Script) (who : Option Node) (past : List Entry) (own ls : List Line) → AreGood s who past own ls → AreOnce (own ++ lines_of past) → AreOnce (onto (own ++ lines_of past) ls)
+entry_once : (s : Script) (who : Actor) (past : List Entry) (own ls : List Line) → AreGood s who past own ls → AreOnce (own ++ lines_of past) → AreOnce (onto (own ++ lines_of past) ls)
 entry_once s who past own [] g h = h
 entry_once s who past own (lines.Begin n a ∷ ls) g h = entry_once s who past (lines.Begin n a ∷ own) ls g.1 h
 entry_once s who past own (lines.Given p ∷ ls) g h = entry_once s who past (lines.Given p ∷ own) ls g.1 h
@@ -30,11 +31,24 @@ entry_once s who past own (lines.Change q k n ∷ ls) g h = entry_once s who pas
 entry_once s who past own (lines.Version v ∷ ls) g h = entry_once s who past (lines.Version v ∷ own) ls g.1 h
 entry_once s who past own (lines.Read c f i r b ∷ ls) g h = entry_once s who past (lines.Read c f i r b ∷ own) ls g.1 h
 entry_once s who past own (lines.Answer n m ∷ ls) g h = entry_once s who past (lines.Answer n m ∷ own) ls g.1 h
+entry_once s who past own (lines.Timeout caller callee epoch number count ∷ ls) g h = entry_once s who past (lines.Timeout caller callee epoch number count ∷ own) ls g.1 h
+entry_once s who past own (lines.Tick ticks ∷ ls) g h = entry_once s who past (lines.Tick ticks ∷ own) ls g.1 h
+entry_once s who past own (lines.Stop node calls pick ∷ ls) g h = entry_once s who past (lines.Stop node calls pick ∷ own) ls g.1 h
+entry_once s who past own (lines.Fail node calls ∷ ls) g h = entry_once s who past (lines.Fail node calls ∷ own) ls g.1 h
+entry_once s who past own (lines.Crash node ∷ ls) g h = entry_once s who past (lines.Crash node ∷ own) ls g.1 h
+entry_once s who past own (lines.Fault node ∷ ls) g h = entry_once s who past (lines.Fault node ∷ own) ls g.1 h
+entry_once s who past own (lines.Restart node boot ∷ ls) g h = entry_once s who past (lines.Restart node boot ∷ own) ls g.1 h
+entry_once s who past own (lines.Full node ∷ ls) g h = entry_once s who past (lines.Full node ∷ own) ls g.1 h
+entry_once s who past own (lines.Drop client fid ∷ ls) g h = entry_once s who past (lines.Drop client fid ∷ own) ls g.1 h
+entry_once s who past own (lines.DropAll client server ∷ ls) g h = entry_once s who past (lines.DropAll client server ∷ own) ls g.1 h
+entry_once s who past own (lines.Owe server client fid number ∷ ls) g h = entry_once s who past (lines.Owe server client fid number ∷ own) ls g.1 h
+entry_once s who past own (lines.Settle server client number ∷ ls) g h = entry_once s who past (lines.Settle server client number ∷ own) ls g.1 h
+entry_once s who past own (lines.Quit server client number ∷ ls) g h = entry_once s who past (lines.Quit server client number ∷ own) ls g.1 h
 entry_once s who past own (lines.Void ∷ ls) g h = entry_once s who past (lines.Void ∷ own) ls g.1 h
 
 after_once : (s : Script) (past es : List Entry) → LegalAfter s past es → AreOnce (lines_of past) → AreOnce (lines_of (past_of past es))
 after_once s past [] g h = h
-after_once s past (e ∷ es) g h = after_once s (e ∷ past) es g.1 (entry_once s e.node past [] e.lines g.0 h)
+after_once s past (e ∷ es) g h = after_once s (e ∷ past) es g.1 (entry_once s e.actor past [] e.lines g.0 h)
 
 first_once : (files : List StoredFile) → AreOnce (onto [] (first_lines files))
 first_once [] = tt
@@ -59,6 +73,19 @@ new_front k (lines.Change q l n ∷ a) b h = (h.0, new_front k a b h.1)
 new_front k (lines.Version v ∷ a) b h = new_front k a b h
 new_front k (lines.Read c f i r x ∷ a) b h = new_front k a b h
 new_front k (lines.Answer n m ∷ a) b h = new_front k a b h
+new_front k (lines.Timeout caller callee epoch number count ∷ a) b h = new_front k a b h
+new_front k (lines.Tick ticks ∷ a) b h = new_front k a b h
+new_front k (lines.Stop node calls pick ∷ a) b h = new_front k a b h
+new_front k (lines.Fail node calls ∷ a) b h = new_front k a b h
+new_front k (lines.Crash node ∷ a) b h = new_front k a b h
+new_front k (lines.Fault node ∷ a) b h = new_front k a b h
+new_front k (lines.Restart node boot ∷ a) b h = new_front k a b h
+new_front k (lines.Full node ∷ a) b h = new_front k a b h
+new_front k (lines.Drop client fid ∷ a) b h = new_front k a b h
+new_front k (lines.DropAll client server ∷ a) b h = new_front k a b h
+new_front k (lines.Owe server client fid number ∷ a) b h = new_front k a b h
+new_front k (lines.Settle server client number ∷ a) b h = new_front k a b h
+new_front k (lines.Quit server client number ∷ a) b h = new_front k a b h
 new_front k (lines.Void ∷ a) b h = new_front k a b h
 
 once_front : (a b : List Line) → AreOnce (a ++ b) → AreOnce a
@@ -70,6 +97,19 @@ once_front (lines.Change q l n ∷ a) b h = (new_front l a b h.0, once_front a b
 once_front (lines.Version v ∷ a) b h = once_front a b h
 once_front (lines.Read c f i r x ∷ a) b h = once_front a b h
 once_front (lines.Answer n m ∷ a) b h = once_front a b h
+once_front (lines.Timeout caller callee epoch number count ∷ a) b h = once_front a b h
+once_front (lines.Tick ticks ∷ a) b h = once_front a b h
+once_front (lines.Stop node calls pick ∷ a) b h = once_front a b h
+once_front (lines.Fail node calls ∷ a) b h = once_front a b h
+once_front (lines.Crash node ∷ a) b h = once_front a b h
+once_front (lines.Fault node ∷ a) b h = once_front a b h
+once_front (lines.Restart node boot ∷ a) b h = once_front a b h
+once_front (lines.Full node ∷ a) b h = once_front a b h
+once_front (lines.Drop client fid ∷ a) b h = once_front a b h
+once_front (lines.DropAll client server ∷ a) b h = once_front a b h
+once_front (lines.Owe server client fid number ∷ a) b h = once_front a b h
+once_front (lines.Settle server client number ∷ a) b h = once_front a b h
+once_front (lines.Quit server client number ∷ a) b h = once_front a b h
 once_front (lines.Void ∷ a) b h = once_front a b h
 
 -- the set-up stands under all entries

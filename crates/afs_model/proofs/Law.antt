@@ -10,6 +10,7 @@ use Rattle.afs_num.specs.declared.types.Node.TheVariants.{Loc, Server, Client, A
 use Rattle.afs_num.specs.declared.messages.Message.{Message}
 use Rattle.afs_num.specs.declared.messages.Received.TheVariants.{Whole}
 use Rattle.afs_num.specs.declared.scripts.Script.{Script}
+use Rattle.afs_num.specs.declared.histories.Actor.TheVariants as actors
 use Rattle.afs_num.specs.declared.histories.Body.{Body}
 use Rattle.afs_num.specs.declared.histories.Body.TheVariants as bodies
 use Rattle.afs_num.specs.declared.histories.Line.{Line}
@@ -144,7 +145,7 @@ reach_first : (c : Node) (f : Fid) (past : List Entry) (r : Reach) (files : List
 reach_first c f past r [] ls = refl
 reach_first c f past r (file ∷ files) ls = ap (λ (x : List Line). reach_over c f past false r x) (append_again (first_lines files) (lines.Version (first_version file)) ls) ∙ reach_first c f past r files (lines.Version (first_version file) ∷ ls)
 
-reached_first : (c : Node) (f : Fid) (i : ℕ) (files : List StoredFile) → Reached c f i (record { node = None; lines = first_lines files; sent = [] } ∷ [])
+reached_first : (c : Node) (f : Fid) (i : ℕ) (files : List StoredFile) → Reached c f i (record { actor = actors.Nobody; lines = first_lines files; sent = [] } ∷ [])
 reached_first c f i files =
     let at : reach_over c f [] false (record { made = 0; seen = 0 }) (first_lines files) ≡ record { made = 0; seen = 0 } =
     ap (λ (x : List Line). reach_over c f [] false (record { made = 0; seen = 0 }) x) (sym (append-nil (first_lines files))) ∙ reach_first c f [] (record { made = 0; seen = 0 }) files [] in

@@ -95,6 +95,19 @@ change_more k (lines.Grant s n f i x) ls h = h
 change_more k (lines.Version v) ls h = h
 change_more k (lines.Read n f i c b) ls h = h
 change_more k (lines.Answer n m) ls h = h
+change_more k (lines.Timeout caller callee epoch number count) ls h = h
+change_more k (lines.Tick ticks) ls h = h
+change_more k (lines.Stop node calls pick) ls h = h
+change_more k (lines.Fail node calls) ls h = h
+change_more k (lines.Crash node) ls h = h
+change_more k (lines.Fault node) ls h = h
+change_more k (lines.Restart node boot) ls h = h
+change_more k (lines.Full node) ls h = h
+change_more k (lines.Drop client fid) ls h = h
+change_more k (lines.DropAll client server) ls h = h
+change_more k (lines.Owe server client fid number) ls h = h
+change_more k (lines.Settle server client number) ls h = h
+change_more k (lines.Quit server client number) ls h = h
 change_more k lines.Void ls h = h
 
 change_onto : (k : Key) (ls o : List Line) → HasChange k o → HasChange k (onto o ls)

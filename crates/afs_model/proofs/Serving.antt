@@ -19,6 +19,8 @@ use Rattle.afs_num.specs.declared.messages.Received.TheVariants.{Whole}
 use Rattle.afs_num.specs.declared.scripts.Act.{Act}
 use Rattle.afs_num.specs.declared.scripts.Act.TheVariants.{Open, Close}
 use Rattle.afs_num.specs.declared.scripts.Script.{Script}
+use Rattle.afs_num.specs.declared.histories.Actor.{Actor}
+use Rattle.afs_num.specs.declared.histories.Actor.TheVariants as actors
 use Rattle.afs_num.specs.declared.histories.Body.{Body}
 use Rattle.afs_num.specs.declared.histories.Body.TheVariants as bodies
 use Rattle.afs_num.specs.declared.histories.Line.{Line}
@@ -56,13 +58,13 @@ at_told : (s : Script) (c : Cell) (past : List Entry) (p : ℕ) (m : Message) �
 at_told s c past p m h at = ap (λ (ms : List Message). message_at ms p) h.sent.told ∙ at
 
 -- what no line of a version, a read or an answer touches
-pub told_file : (j p : ℕ) (f : Fid) (o : Option Node) (ms : List Message) (past : List Entry) → PassesFile j f (record { node = o; lines = lines.Given p ∷ []; sent = ms }) past
+pub told_file : (j p : ℕ) (f : Fid) (o : Actor) (ms : List Message) (past : List Entry) → PassesFile j f (record { actor = o; lines = lines.Given p ∷ []; sent = ms }) past
 told_file j p f o ms past = record { grant = record { version = λ i b l s. s; dropped = λ s l d. d; withdrawn = λ s l w. w }; fetched = refl }
 
-pub told_reach : (j p : ℕ) (f : Fid) (o : Option Node) (ms : List Message) (past : List Entry) → PassesReach j f (record { node = o; lines = lines.Given p ∷ []; sent = ms }) past
+pub told_reach : (j p : ℕ) (f : Fid) (o : Actor) (ms : List Message) (past : List Entry) → PassesReach j f (record { actor = o; lines = lines.Given p ∷ []; sent = ms }) past
 told_reach j p f o ms past i h = record { made = h.made; seen = h.seen }
 
-pub told_act : (j p : ℕ) (o : Option Node) (ms : List Message) (past : List Entry) → PassesAct j (record { node = o; lines = lines.Given p ∷ []; sent = ms }) past
+pub told_act : (j p : ℕ) (o : Actor) (ms : List Message) (past : List Entry) → PassesAct j (record { actor = o; lines = lines.Given p ∷ []; sent = ms }) past
 told_act j p o ms past = record { runs = λ l. refl; begins = refl }
 
 quiet : (s : Script) (c : Cell) (past : List Entry) (p : ℕ) (m : Message) (ms : List Message) → HoldsAt s c past → message_at c.sent p ≡ Some m → Dull c.server.seats c.server.boot m
@@ -76,7 +78,7 @@ quiet s c past p m ms h at d n =
         home = h.home;
         new = h.new;
         unheard = unheard_over c.server.seats c.server.boot e past m (at_told s c past p m h at) d h.unheard;
-        clients = λ j. client_still j (view c j) e past (λ f. told_file j p f (Some the_server) ms past) (λ f. told_reach j p f (Some the_server) ms past) (told_act j p (Some the_server) ms past) (λ f. refl) (h.clients j);
+        clients = λ j. client_still j (view c j) e past (λ f. told_file j p f (actors.Node the_server) ms past) (λ f. told_reach j p f (actors.Node the_server) ms past) (told_act j p (actors.Node the_server) ms past) (λ f. refl) (h.clients j);
         sent = more_sent c.sent (view c) (view c) e past h.sent h.sent.calls h.sent.replies (n (e ∷ past));
         clock = h.clock;
         top = h.top;
@@ -169,7 +171,7 @@ reply_now c n h r to e k = record {
 }
 
 -- the entry ran the call
-abbrev ran_now : (s : Script) (c : Cell) (past : List Entry) (p n : ℕ) (h : Head) (user : List ℕ) (act : Act) (e : Entry) → HoldsAt s c past → Now c past p n h user act → given_message e.lines (sent_of past) ≡ message_at (sent_of past) p → e.node ≡ Some the_server
+abbrev ran_now : (s : Script) (c : Cell) (past : List Entry) (p n : ℕ) (h : Head) (user : List ℕ) (act : Act) (e : Entry) → HoldsAt s c past → Now c past p n h user act → given_message e.lines (sent_of past) ≡ message_at (sent_of past) p → e.actor ≡ actors.Node the_server
     → Ran (reply_head c.server.boot (client_head n h)) (e ∷ past)
 ran_now s c past p n h user act e H w is at = record {
   newer = [];
@@ -202,7 +204,7 @@ pub same_act : (a b : Act) → asked a ≡ asked b → a ≡ b
 same_act a b e = sym (act_again a) ∙ (ap act_of e ∙ act_again b)
 
 -- the reply has the code of the ideal operation
-cause_now : (s : Script) (c : Cell) (past : List Entry) (p n : ℕ) (h : Head) (user : List ℕ) (act : Act) (x : Carried) (code : ℤ) (e : Entry) → HoldsAt s c past → Now c past p n h user act → given_message e.lines (sent_of past) ≡ message_at (sent_of past) p → e.node ≡ Some the_server
+cause_now : (s : Script) (c : Cell) (past : List Entry) (p n : ℕ) (h : Head) (user : List ℕ) (act : Act) (x : Carried) (code : ℤ) (e : Entry) → HoldsAt s c past → Now c past p n h user act → given_message e.lines (sent_of past) ≡ message_at (sent_of past) p → e.actor ≡ actors.Node the_server
     → HasCode x → code_told x ≡ Some code → (op user (asked act) (lines_of past)).code ≡ code → IsMade (called_key (client_head n h)) (op user (asked act) (lines_of past)).versions (lines_of (e ∷ past))
     → Cause (replied c.server.boot (client_head n h) x) code act (e ∷ past) []
 cause_now s c past p n h user act x code e H w is at has told gives made = record {
@@ -268,6 +270,19 @@ last_has f (lines.Grant s n g i x ∷ ls) w e = last_has f ls w e
 last_has f (lines.Change s k i ∷ ls) w e = last_has f ls w e
 last_has f (lines.Read n g i c b ∷ ls) w e = last_has f ls w e
 last_has f (lines.Answer n m ∷ ls) w e = last_has f ls w e
+last_has f (lines.Timeout caller callee epoch number count ∷ ls) w e = last_has f ls w e
+last_has f (lines.Tick ticks ∷ ls) w e = last_has f ls w e
+last_has f (lines.Stop node calls pick ∷ ls) w e = last_has f ls w e
+last_has f (lines.Fail node calls ∷ ls) w e = last_has f ls w e
+last_has f (lines.Crash node ∷ ls) w e = last_has f ls w e
+last_has f (lines.Fault node ∷ ls) w e = last_has f ls w e
+last_has f (lines.Restart node boot ∷ ls) w e = last_has f ls w e
+last_has f (lines.Full node ∷ ls) w e = last_has f ls w e
+last_has f (lines.Drop client fid ∷ ls) w e = last_has f ls w e
+last_has f (lines.DropAll client server ∷ ls) w e = last_has f ls w e
+last_has f (lines.Owe server client fid number ∷ ls) w e = last_has f ls w e
+last_has f (lines.Settle server client number ∷ ls) w e = last_has f ls w e
+last_has f (lines.Quit server client number ∷ ls) w e = last_has f ls w e
 last_has f (lines.Void ∷ ls) w e = last_has f ls w e
 
 none_by : (t : Bool) (f : Fid) (i : ℕ) (b : Body) (v : Version) (o : Option Version) (S : Type 0) → same_fid v.fid f ≡ t → (o ≡ None → S → ⊥) → cond t (Some v) o ≡ None → ((v.fid ≡ f) × ((v.index ≡ i) × (v.body ≡ b))) ⊎ S → ⊥
@@ -284,6 +299,19 @@ none_has f i b (lines.Grant m n g j x ∷ ls) e s = none_has f i b ls e s
 none_has f i b (lines.Change m k j ∷ ls) e s = none_has f i b ls e s
 none_has f i b (lines.Read n g j c y ∷ ls) e s = none_has f i b ls e s
 none_has f i b (lines.Answer n m ∷ ls) e s = none_has f i b ls e s
+none_has f i b (lines.Timeout caller callee epoch number count ∷ ls) e s = none_has f i b ls e s
+none_has f i b (lines.Tick ticks ∷ ls) e s = none_has f i b ls e s
+none_has f i b (lines.Stop node calls pick ∷ ls) e s = none_has f i b ls e s
+none_has f i b (lines.Fail node calls ∷ ls) e s = none_has f i b ls e s
+none_has f i b (lines.Crash node ∷ ls) e s = none_has f i b ls e s
+none_has f i b (lines.Fault node ∷ ls) e s = none_has f i b ls e s
+none_has f i b (lines.Restart node boot ∷ ls) e s = none_has f i b ls e s
+none_has f i b (lines.Full node ∷ ls) e s = none_has f i b ls e s
+none_has f i b (lines.Drop client fid ∷ ls) e s = none_has f i b ls e s
+none_has f i b (lines.DropAll client server ∷ ls) e s = none_has f i b ls e s
+none_has f i b (lines.Owe server client fid number ∷ ls) e s = none_has f i b ls e s
+none_has f i b (lines.Settle server client number ∷ ls) e s = none_has f i b ls e s
+none_has f i b (lines.Quit server client number ∷ ls) e s = none_has f i b ls e s
 none_has f i b (lines.Void ∷ ls) e s = none_has f i b ls e s
 
 -- ---- the caller's entries where its call changed nothing: none is overtaken by a store of its own
@@ -334,7 +362,7 @@ none_close act ls none f y e = subst (λ (a : Act). none_of ls a) e none
 refuses_goes : (s : Script) (c : Cell) (past : List Entry) (p n : ℕ) (h : Head) (user : List ℕ) (act : Act) → HoldsAt s c past → Now c past p n h user act → none_of (lines_of past) act → Goes s past (server_moves c (does the_server c.server c.clock p (refuses (client_head n h) no_file)))
 refuses_goes s c past p n h user act H w none =
     let r : Message = refusal c.server.boot (client_head n h) no_file in
-    let e : Entry = record { node = Some the_server; lines = lines.Given p ∷ []; sent = r ∷ [] } in
+    let e : Entry = record { actor = actors.Node the_server; lines = lines.Given p ∷ []; sent = r ∷ [] } in
     record {
       good = (tt, tt);
       holds = record {
@@ -344,12 +372,12 @@ refuses_goes s c past p n h user act H w none =
         unheard = unheard_after s c past p n h user act r e H w refl;
         clients = λ j. at_seat (taken n h r) (Client j) c.server.seats (λ o. ClientFacts j (seated_view c j o) (e ∷ past))
             (λ q. subst (λ (m : ℕ). ClientFacts m (seated_view c m (Some (taken n h r))) (e ∷ past)) (client_number n j q)
-            (caller_after s c past p n h user act r e H w (told_act n p (Some the_server) (r ∷ []) past)
+            (caller_after s c past p n h user act r e H w (told_act n p (actors.Node the_server) (r ∷ []) past)
             (record { to = refl; from = refl; epoch = refl; number = refl; is_reply = λ x. x })
             (record { fits = refusal_fits n act r _ (e ∷ past); code = pos 102; cause = cause_now s c past p n h user act r.carried (pos 102) e H w refl refl tt refl (refusal_code user act (lines_of past) none) (refusal_makes (called_key (client_head n h)) user act (lines_of past) (lines_of (e ∷ past)) none) })
-            (current_same s c past p n h user act r e H w (λ f. told_file n p f (Some the_server) (r ∷ []) past) (λ f. told_reach n p f (Some the_server) (r ∷ []) past) (λ f. refl) (none_close act (lines_of past) none))
-            (reached_still s c past n e H (λ f. told_reach n p f (Some the_server) (r ∷ []) past) (λ f. refl))))
-            (λ ne. client_still j (view c j) e past (λ f. told_file j p f (Some the_server) (r ∷ []) past) (λ f. told_reach j p f (Some the_server) (r ∷ []) past) (told_act j p (Some the_server) (r ∷ []) past) (λ f. refl) (H.clients j));
+            (current_same s c past p n h user act r e H w (λ f. told_file n p f (actors.Node the_server) (r ∷ []) past) (λ f. told_reach n p f (actors.Node the_server) (r ∷ []) past) (λ f. refl) (none_close act (lines_of past) none))
+            (reached_still s c past n e H (λ f. told_reach n p f (actors.Node the_server) (r ∷ []) past) (λ f. refl))))
+            (λ ne. client_still j (view c j) e past (λ f. told_file j p f (actors.Node the_server) (r ∷ []) past) (λ f. told_reach j p f (actors.Node the_server) (r ∷ []) past) (told_act j p (actors.Node the_server) (r ∷ []) past) (λ f. refl) (H.clients j));
         sent = more_sent c.sent (view c) (views_after c n h r) e past H.sent (calls_after s c past n h r H w.above) (replies_after s c past n h r H w.above)
             (record { calls = (tt, tt); replies = (reply_now c n h r refl refl refl, tt); origins = (tt, tt) });
         clock = H.clock;
@@ -359,13 +387,13 @@ refuses_goes s c past p n h user act H w none =
 
 -- ---- the file is read
 
-grants_file : (j p : ℕ) (server c' : Node) (g : Fid) (i x : ℕ) (o : Option Node) (ms : List Message) (past : List Entry) (f : Fid) → PassesFile j f (record { node = o; lines = lines.Given p ∷ lines.Grant server c' g i x ∷ []; sent = ms }) past
+grants_file : (j p : ℕ) (server c' : Node) (g : Fid) (i x : ℕ) (o : Actor) (ms : List Message) (past : List Entry) (f : Fid) → PassesFile j f (record { actor = o; lines = lines.Given p ∷ lines.Grant server c' g i x ∷ []; sent = ms }) past
 grants_file j p server c' g i x o ms past f = record { grant = record { version = λ k b l s. s; dropped = λ s l d. d; withdrawn = λ s l w. w }; fetched = refl }
 
-grants_reach : (j p : ℕ) (server c' : Node) (g : Fid) (i x : ℕ) (o : Option Node) (ms : List Message) (past : List Entry) (f : Fid) → PassesReach j f (record { node = o; lines = lines.Given p ∷ lines.Grant server c' g i x ∷ []; sent = ms }) past
+grants_reach : (j p : ℕ) (server c' : Node) (g : Fid) (i x : ℕ) (o : Actor) (ms : List Message) (past : List Entry) (f : Fid) → PassesReach j f (record { actor = o; lines = lines.Given p ∷ lines.Grant server c' g i x ∷ []; sent = ms }) past
 grants_reach j p server c' g i x o ms past f k h = record { made = h.made; seen = h.seen }
 
-grants_act : (j p : ℕ) (server c' : Node) (g : Fid) (i x : ℕ) (o : Option Node) (ms : List Message) (past : List Entry) → PassesAct j (record { node = o; lines = lines.Given p ∷ lines.Grant server c' g i x ∷ []; sent = ms }) past
+grants_act : (j p : ℕ) (server c' : Node) (g : Fid) (i x : ℕ) (o : Actor) (ms : List Message) (past : List Entry) → PassesAct j (record { actor = o; lines = lines.Given p ∷ lines.Grant server c' g i x ∷ []; sent = ms }) past
 grants_act j p server c' g i x o ms past = record { runs = λ l. refl; begins = refl }
 
 reached_at : (s : Script) (c : Cell) (past : List Entry) (j : ℕ) (f : Fid) (v : Version) → HoldsAt s c past → last_version f (lines_of past) ≡ Some v → Reached (Client j) f v.index past
@@ -377,7 +405,7 @@ grants_goes s c past p n h user file H w found =
     let x : ℕ = c.clock + promise_ticks in
     let act : Act = Open file.fid in
     let r : Message = fetched_reply c.server.boot (client_head n h) file x in
-    let e : Entry = record { node = Some the_server; lines = lines.Given p ∷ lines.Grant the_server (Client n) file.fid file.index x ∷ []; sent = r ∷ [] } in
+    let e : Entry = record { actor = actors.Node the_server; lines = lines.Given p ∷ lines.Grant the_server (Client n) file.fid file.index x ∷ []; sent = r ∷ [] } in
     let last : last_version file.fid (lines_of past) ≡ Some (version_of file) = last_before file.fid c.server.files file (lines_of past) found H.files in
     let old : Reached (Client n) file.fid file.index past = reached_at s c past n file.fid (version_of file) H last in
     record {
@@ -389,7 +417,7 @@ grants_goes s c past p n h user file H w found =
         unheard = unheard_after s c past p n h user act r e H w refl;
         clients = λ j. at_seat (taken n h r) (Client j) c.server.seats (λ o. ClientFacts j (seated_view c j o) (e ∷ past))
             (λ q. subst (λ (m : ℕ). ClientFacts m (seated_view c m (Some (taken n h r))) (e ∷ past)) (client_number n j q)
-            (caller_after s c past p n h user act r e H w (grants_act n p the_server (Client n) file.fid file.index x (Some the_server) (r ∷ []) past)
+            (caller_after s c past p n h user act r e H w (grants_act n p the_server (Client n) file.fid file.index x (actors.Node the_server) (r ∷ []) past)
             (record { to = refl; from = refl; epoch = refl; number = refl; is_reply = λ y. y })
             (record {
               fits = record {
@@ -405,9 +433,9 @@ grants_goes s c past p n h user file H w found =
               code = pos 0;
               cause = cause_now s c past p n h user act r.carried (pos 0) e H w refl refl tt refl (rw last refl) (rw last tt);
             })
-            (current_same s c past p n h user act r e H w (grants_file n p the_server (Client n) file.fid file.index x (Some the_server) (r ∷ []) past) (grants_reach n p the_server (Client n) file.fid file.index x (Some the_server) (r ∷ []) past) (λ f. refl) (λ f y is. absurd cc))
-            (reached_still s c past n e H (grants_reach n p the_server (Client n) file.fid file.index x (Some the_server) (r ∷ []) past) (λ f. refl))))
-            (λ ne. client_still j (view c j) e past (grants_file j p the_server (Client n) file.fid file.index x (Some the_server) (r ∷ []) past) (grants_reach j p the_server (Client n) file.fid file.index x (Some the_server) (r ∷ []) past) (grants_act j p the_server (Client n) file.fid file.index x (Some the_server) (r ∷ []) past) (λ f. refl) (H.clients j));
+            (current_same s c past p n h user act r e H w (grants_file n p the_server (Client n) file.fid file.index x (actors.Node the_server) (r ∷ []) past) (grants_reach n p the_server (Client n) file.fid file.index x (actors.Node the_server) (r ∷ []) past) (λ f. refl) (λ f y is. absurd cc))
+            (reached_still s c past n e H (grants_reach n p the_server (Client n) file.fid file.index x (actors.Node the_server) (r ∷ []) past) (λ f. refl))))
+            (λ ne. client_still j (view c j) e past (grants_file j p the_server (Client n) file.fid file.index x (actors.Node the_server) (r ∷ []) past) (grants_reach j p the_server (Client n) file.fid file.index x (actors.Node the_server) (r ∷ []) past) (grants_act j p the_server (Client n) file.fid file.index x (actors.Node the_server) (r ∷ []) past) (λ f. refl) (H.clients j));
         sent = more_sent c.sent (view c) (views_after c n h r) e past H.sent (calls_after s c past n h r H w.above) (replies_after s c past n h r H w.above)
             (record { calls = (tt, tt); replies = (reply_now c n h r refl refl refl, tt); origins = (tt, tt) });
         clock = H.clock;
@@ -433,7 +461,7 @@ home_after : (s : Script) (x : StoredFile) (files : List StoredFile) (ls : List 
 home_after s x files ls at h g u e = home_by (same_fid x.fid g) s x u (find_file g files) ls at (h g u) (sym (found-with_file x g files) ∙ e)
 
 abbrev saved_entry : ℕ → Key → Version → Message → Entry
-saved_entry p k w r = record { node = Some the_server; lines = lines.Given p ∷ lines.Change the_server k 1 ∷ lines.Version w ∷ []; sent = r ∷ [] }
+saved_entry p k w r = record { actor = actors.Node the_server; lines = lines.Given p ∷ lines.Change the_server k 1 ∷ lines.Version w ∷ []; sent = r ∷ [] }
 
 saves_file : (j p : ℕ) (k : Key) (w : Version) (r : Message) (past : List Entry) (f : Fid) → PassesFile j f (saved_entry p k w r) past
 saves_file j p k w r past f = record { grant = record { version = λ i b l s. inr s; dropped = λ s l d. d; withdrawn = λ s l x. inr x }; fetched = refl }

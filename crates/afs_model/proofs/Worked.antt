@@ -18,9 +18,11 @@ use Rattle.afs_num.specs.declared.messages.Message.{Message}
 use Rattle.afs_num.specs.declared.scripts.Act.TheVariants.{Open, Close}
 use Rattle.afs_num.specs.declared.scripts.Script.{Script}
 use Rattle.afs_num.specs.declared.scripts.SetupLine.TheVariants as setup
+use Rattle.afs_num.specs.declared.histories.Actor.TheVariants as actors
 use Rattle.afs_num.specs.declared.histories.Body.TheVariants as bodies
 use Rattle.afs_num.specs.declared.histories.Line.{Line}
 use Rattle.afs_num.specs.declared.histories.Line.TheVariants as lines
+use Rattle.afs_num.specs.declared.histories.ReadBody.TheVariants.{Contents}
 use Rattle.afs_num.specs.declared.histories.ReadSource.{ReadSource}
 use Rattle.afs_num.specs.declared.histories.ReadSource.TheVariants.{Cached, Fetched}
 use Rattle.afs_model.specs.Runs.{Entry, Cell, Input, begins, gives, moved, start, RunsTo}
@@ -79,16 +81,16 @@ abbrev pub no_such_file : Carried
 no_such_file = carried.Refusal (record { 0 = pos 102 })
 
 abbrev pub client_entry : ℕ → List Line → List Message → Entry
-client_entry n ls ms = record { node = Some (Client n); lines = ls; sent = ms }
+client_entry n ls ms = record { actor = actors.Node (Client n); lines = ls; sent = ms }
 
 abbrev pub server_entry : List Line → List Message → Entry
-server_entry ls ms = record { node = Some (Server 1); lines = ls; sent = ms }
+server_entry ls ms = record { actor = actors.Node (Server 1); lines = ls; sent = ms }
 
 abbrev pub answer : ℕ → ℕ → Line
 answer n code = lines.Answer (Client n) (record { 0 = pos code })
 
 abbrev pub read : ℕ → ℕ → ReadSource → List ℕ → Line
-read n index source contents = lines.Read (Client n) file index source (bodies.File contents)
+read n index source contents = lines.Read (Client n) file index source (Contents (bodies.File contents))
 
 abbrev pub version : ℕ → List ℕ → Line
 version index contents = lines.Version (record { fid = file; index = index; data_version = index; body = bodies.File contents })

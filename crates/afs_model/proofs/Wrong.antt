@@ -16,6 +16,8 @@ use Rattle.afs_num.specs.declared.messages.Carried.TheVariants as carried
 use Rattle.afs_num.specs.declared.messages.Message.{Message}
 use Rattle.afs_num.specs.declared.scripts.Act.{Act}
 use Rattle.afs_num.specs.declared.scripts.Act.TheVariants.{Open, Close}
+use Rattle.afs_num.specs.declared.histories.Actor.{Actor}
+use Rattle.afs_num.specs.declared.histories.Actor.TheVariants as actors
 use Rattle.afs_num.specs.declared.histories.Body.{Body}
 use Rattle.afs_num.specs.declared.histories.Body.TheVariants as bodies
 use Rattle.afs_num.specs.declared.histories.Line.{Line}
@@ -46,8 +48,11 @@ apart_codes m n e q = apart_numbers m n e (ap number_of q)
 apart_nodes : (a b : Node) → same_node a b ≡ false → a ≡ b → ⊥
 apart_nodes a b e q = yes_no (same_node a b) (ap (same_node a) (sym q) ∙ same_node-refl a) e
 
-apart_places : (a b : Node) → same_node a b ≡ false → Some a ≡ Some b → ⊥
-apart_places a b e q = apart_nodes a b e (some_of a b q)
+same_actor : (a b : Node) → actors.Node a ≡ actors.Node b → a ≡ b
+same_actor a b q = cc
+
+apart_actors : (a b : Node) → same_node a b ≡ false → actors.Node a ≡ actors.Node b → ⊥
+apart_actors a b e q = apart_nodes a b e (same_actor a b q)
 
 first_byte : Body → ℕ
 first_byte (bodies.File []) = 0
@@ -118,20 +123,20 @@ any_found t [] l after e = found_now (t l) _ e
 any_found t (k ∷ before) l after e = found_later (t k) _ (any_found t before l after e)
 
 -- a grant of this node
-abbrev is_grant_of : Option Node → Line → Bool
-is_grant_of (Some n) (lines.Grant server client f index expiry) = same_node server n
+abbrev is_grant_of : Actor → Line → Bool
+is_grant_of (actors.Node n) (lines.Grant server client f index expiry) = same_node server n
 is_grant_of n l = false
 
-own_grant : (n : Option Node) (server client : Node) (f : Fid) (index expiry : ℕ) → n ≡ Some server → is_grant_of n (lines.Grant server client f index expiry) ≡ true
-own_grant n server client f index expiry e = subst (λ (x : Option Node). is_grant_of x (lines.Grant server client f index expiry) ≡ true) (sym e) (same_node-refl server)
+own_grant : (n : Actor) (server client : Node) (f : Fid) (index expiry : ℕ) → n ≡ actors.Node server → is_grant_of n (lines.Grant server client f index expiry) ≡ true
+own_grant n server client f index expiry e = subst (λ (x : Actor). is_grant_of x (lines.Grant server client f index expiry) ≡ true) (sym e) (same_node-refl server)
 
 abbrev has_own_grant : Entry → Bool
-has_own_grant e = any_line (is_grant_of e.node) e.lines
+has_own_grant e = any_line (is_grant_of e.actor) e.lines
 
 grant_there : (c : Node) (f : Fid) (expiry : ℕ) (r : Message) (past : List Entry) (g : GrantOf c f expiry r past) → has_own_grant g.ran.at ≡ true
 grant_there c f expiry r past g =
-    subst (λ (ls : List Line). any_line (is_grant_of g.ran.at.node) ls ≡ true) (sym g.line)
-    (any_found (is_grant_of g.ran.at.node) g.before (lines.Grant g.server c f g.index expiry) g.after (own_grant g.ran.at.node g.server c f g.index expiry g.node))
+    subst (λ (ls : List Line). any_line (is_grant_of g.ran.at.actor) ls ≡ true) (sym g.line)
+    (any_found (is_grant_of g.ran.at.actor) g.before (lines.Grant g.server c f g.index expiry) g.after (own_grant g.ran.at.actor g.server c f g.index expiry g.node))
 
 HasNoGrant : Entry → List Entry → Type 0
 HasNoGrant at older = has_own_grant at ≡ false
@@ -169,6 +174,19 @@ by_one c (lines.Grant s n f i x) ls h = (tt, h)
 by_one c (lines.Version v) ls h = (tt, h)
 by_one c (lines.Read n f i x b) ls h = (tt, h)
 by_one c (lines.Answer n m) ls h = (tt, h)
+by_one c (lines.Timeout caller callee epoch number count) ls h = (tt, h)
+by_one c (lines.Tick ticks) ls h = (tt, h)
+by_one c (lines.Stop node calls pick) ls h = (tt, h)
+by_one c (lines.Fail node calls) ls h = (tt, h)
+by_one c (lines.Crash node) ls h = (tt, h)
+by_one c (lines.Fault node) ls h = (tt, h)
+by_one c (lines.Restart node boot) ls h = (tt, h)
+by_one c (lines.Full node) ls h = (tt, h)
+by_one c (lines.Drop client fid) ls h = (tt, h)
+by_one c (lines.DropAll client server) ls h = (tt, h)
+by_one c (lines.Owe server client fid number) ls h = (tt, h)
+by_one c (lines.Settle server client number) ls h = (tt, h)
+by_one c (lines.Quit server client number) ls h = (tt, h)
 by_one c lines.Void ls h = (tt, h)
 
 by_more : (c : Node) (l : Line) (ls : List Line) → AreBy c (l ∷ []) → AreBy c ls → AreBy c (l ∷ ls)
@@ -179,6 +197,19 @@ by_more c (lines.Grant s n f i x) ls a h = h
 by_more c (lines.Version v) ls a h = h
 by_more c (lines.Read n f i x b) ls a h = h
 by_more c (lines.Answer n m) ls a h = h
+by_more c (lines.Timeout caller callee epoch number count) ls a h = h
+by_more c (lines.Tick ticks) ls a h = h
+by_more c (lines.Stop node calls pick) ls a h = h
+by_more c (lines.Fail node calls) ls a h = h
+by_more c (lines.Crash node) ls a h = h
+by_more c (lines.Fault node) ls a h = h
+by_more c (lines.Restart node boot) ls a h = h
+by_more c (lines.Full node) ls a h = h
+by_more c (lines.Drop client fid) ls a h = h
+by_more c (lines.DropAll client server) ls a h = h
+by_more c (lines.Owe server client fid number) ls a h = h
+by_more c (lines.Settle server client number) ls a h = h
+by_more c (lines.Quit server client number) ls a h = h
 by_more c lines.Void ls a h = h
 
 by_after : (c : Node) (before : List Line) (l : Line) (after : List Line) → AreBy c (before ++ l ∷ after) → AreBy c after
@@ -217,6 +248,19 @@ not_withdrawn s c f (lines.Given p ∷ ls) h w = not_withdrawn s c f ls h w
 not_withdrawn s c f (lines.Grant q n g i x ∷ ls) h w = not_withdrawn s c f ls h w
 not_withdrawn s c f (lines.Read n g i x b ∷ ls) h w = not_withdrawn s c f ls h w
 not_withdrawn s c f (lines.Answer n m ∷ ls) h w = not_withdrawn s c f ls h w
+not_withdrawn s c f (lines.Timeout caller callee epoch number count ∷ ls) h w = not_withdrawn s c f ls h w
+not_withdrawn s c f (lines.Tick ticks ∷ ls) h w = not_withdrawn s c f ls h w
+not_withdrawn s c f (lines.Stop node calls pick ∷ ls) h w = not_withdrawn s c f ls h w
+not_withdrawn s c f (lines.Fail node calls ∷ ls) h w = not_withdrawn s c f ls h w
+not_withdrawn s c f (lines.Crash node ∷ ls) h w = not_withdrawn s c f ls h w
+not_withdrawn s c f (lines.Fault node ∷ ls) h w = not_withdrawn s c f ls h w
+not_withdrawn s c f (lines.Restart node boot ∷ ls) h w = not_withdrawn s c f ls h w
+not_withdrawn s c f (lines.Full node ∷ ls) h w = not_withdrawn s c f ls h w
+not_withdrawn s c f (lines.Drop client fid ∷ ls) h w = not_withdrawn s c f ls h w
+not_withdrawn s c f (lines.DropAll client server ∷ ls) h w = not_withdrawn s c f ls h w
+not_withdrawn s c f (lines.Owe server client fid number ∷ ls) h w = not_withdrawn s c f ls h w
+not_withdrawn s c f (lines.Settle server client number ∷ ls) h w = not_withdrawn s c f ls h w
+not_withdrawn s c f (lines.Quit server client number ∷ ls) h w = not_withdrawn s c f ls h w
 not_withdrawn s c f (lines.Void ∷ ls) h w = not_withdrawn s c f ls h w
 
 -- since each entry with a grant, all changes are by calls of the client
@@ -257,17 +301,17 @@ old_after_own g = let r = g.1.1.1.1.1.0.0.1 in elim r.newest [
 -- ---- reads whose reply is none, or whose call was not run
 
 -- what an entry has of which the call of this reply was run
-abbrev CanRun : Head → Option Node → Option Message → Type 0
+abbrev CanRun : Head → Actor → Option Message → Type 0
 CanRun r n None = ⊥
-CanRun r n (Some m) = IsCall m.carried × ((called_key m.head ≡ answered_key r) × ((m.head.boot ≡ r.boot) × ((m.head.to ≡ r.from) × (n ≡ Some m.head.to))))
+CanRun r n (Some m) = IsCall m.carried × ((called_key m.head ≡ answered_key r) × ((m.head.boot ≡ r.boot) × ((m.head.to ≡ r.from) × (n ≡ actors.Node m.head.to))))
 
 CannotRun : Head → Entry → List Entry → Type 0
-CannotRun r at older = CanRun r at.node (given_message at.lines (sent_of older)) → ⊥
+CannotRun r at older = CanRun r at.actor (given_message at.lines (sent_of older)) → ⊥
 
 never_ran : (r : Head) (past : List Entry) → AtEach (CannotRun r) past → Ran r past → ⊥
 unfolding CannotRun
 never_ran r past h ran = at_split (CannotRun r) past ran.newer ran.at ran.older ran.split h
-    (subst (λ (o : Option Message). CanRun r ran.at.node o) (sym ran.given) (ran.is_call, (ran.key, (ran.boot, (ran.callee, ran.node)))))
+    (subst (λ (o : Option Message). CanRun r ran.at.actor o) (sym ran.given) (ran.is_call, (ran.key, (ran.boot, (ran.callee, ran.node)))))
 
 -- the reply to the read is this message
 ran_by : (m r : Message) (past : List Entry) → Some m ≡ Some r → Ran r.head past → Ran m.head past
@@ -297,13 +341,13 @@ no_call_run g = let r = g.1.1.0.1.0.1 in
 
 -- the call was given to another server than its receiver, and that one granted
 abbrev pub other_grants : Entry
-other_grants = record { node = Some (Server 2); lines = lines.Given 1 ∷ lines.Grant (Server 2) (Client 1) file 1 7200 ∷ []; sent = reply 1 1 130 (fetched 1 (codes "abc")) ∷ [] }
+other_grants = record { actor = actors.Node (Server 2); lines = lines.Given 1 ∷ lines.Grant (Server 2) (Client 1) file 1 7200 ∷ []; sent = reply 1 1 130 (fetched 1 (codes "abc")) ∷ [] }
 
 run_elsewhere : Legal (asks_open 1 1 ∷ other_grants ∷ reads 1 2 1 (codes "abc") ∷ []) script → ⊥
 unfolding CannotRun
 run_elsewhere g = let r = g.1.1.0.1.0.1 in
     let m : Message = reply 1 1 130 (fetched 1 (codes "abc")) in
-    never_ran m.head (other_grants ∷ asks_open 1 1 ∷ set_up script ∷ []) (λ x. apart_places (Server 2) (Server 1) refl x.1.1.1.1, (λ x. x, (λ x. x, tt))) (ran_by m r.reply _ r.by r.grant.ran)
+    never_ran m.head (other_grants ∷ asks_open 1 1 ∷ set_up script ∷ []) (λ x. apart_actors (Server 2) (Server 1) refl x.1.1.1.1, (λ x. x, (λ x. x, tt))) (ran_by m r.reply _ r.by r.grant.ran)
 
 -- the reply comes from another server than the call's receiver
 abbrev pub other_reply : Message
@@ -316,7 +360,7 @@ replied_by_other g = let r = g.1.1.0.1.0.1 in
 
 -- a read in the entry of another client
 read_elsewhere : Legal (asks_open 1 1 ∷ grants 1 1 1 1 (codes "abc") ∷ client_entry 2 (lines.Given 2 ∷ read 1 1 Fetched (codes "abc") ∷ []) [] ∷ []) script → ⊥
-read_elsewhere g = apart_places (Client 2) (Client 1) refl g.1.1.0.1.0.0
+read_elsewhere g = apart_actors (Client 2) (Client 1) refl g.1.1.0.1.0.0
 
 -- ---- changes
 
@@ -367,12 +411,12 @@ other_bytes_stored g = let change = g.1.0.1.0.1 in elim change.called [
 ]
 
 -- a change at a server that doesn't accept stores of the volume
-other_server : Legal (asks_close 1 1 (codes "def") ∷ record { node = Some (Server 2); lines = lines.Given 1 ∷ lines.Change (Server 2) (key 1 1) 1 ∷ version 2 (codes "def") ∷ []; sent = [] } ∷ []) script → ⊥
+other_server : Legal (asks_close 1 1 (codes "def") ∷ record { actor = actors.Node (Server 2); lines = lines.Given 1 ∷ lines.Change (Server 2) (key 1 1) 1 ∷ version 2 (codes "def") ∷ []; sent = [] } ∷ []) script → ⊥
 other_server g = elim g.1.0.1.0.1.home.0 [ inl x ↦ apart_nodes (Server 1) (Server 2) refl x.1 | inr x ↦ x ]
 
 -- a change in the entry of another node than its server
 changed_elsewhere : Legal (asks_close 1 1 (codes "def") ∷ client_entry 1 (lines.Given 1 ∷ lines.Change (Server 1) (key 1 1) 1 ∷ version 2 (codes "def") ∷ []) [] ∷ []) script → ⊥
-changed_elsewhere g = apart_places (Client 1) (Server 1) refl g.1.0.1.0.0
+changed_elsewhere g = apart_actors (Client 1) (Server 1) refl g.1.0.1.0.0
 
 -- a store that the client sent once more when its act was answered, under a new key
 abbrev pub asks_again : Entry
@@ -387,7 +431,7 @@ stored_after g = let change = g.1.1.1.1.0.1.0.1 in elim change.called [
   | inr x ↦ elim x [
     | inl y ↦ y.1.0
     | inr y ↦ elim y [
-      | inl z ↦ apart_places (Server 1) (Client 1) refl z.0
+      | inl z ↦ apart_actors (Server 1) (Client 1) refl z.0
       | inr z ↦ elim z [
         | inl u ↦ elim u.1.0 [ inl v ↦ apart_keys (key 1 1) (key 1 2) refl v.0 | inr v ↦ v ]
         | inr u ↦ elim u [ inl v ↦ v.1.0 | inr v ↦ v ]
@@ -450,8 +494,8 @@ abbrev in_name : List Entry
 in_name = grants 1 1 1 1 (codes "abc") ∷ sends_in_name ∷ begins_alone ∷ set_up script ∷ []
 
 not_itself : (user : List ℕ) (x : FsCall) → CalledSince (key 1 1) user x in_name → ⊥
-not_itself user x (inl y) = apart_places (Server 1) (Client 1) refl y.0
-not_itself user x (inr (n, inl y)) = apart_places (Server 1) (Client 1) refl y.0
+not_itself user x (inl y) = apart_actors (Server 1) (Client 1) refl y.0
+not_itself user x (inr (n, inl y)) = apart_actors (Server 1) (Client 1) refl y.0
 not_itself user x (inr (n, inr (m, inl y))) = y.1
 not_itself user x (inr (n, inr (m, inr y))) = let begun = y.0 in absurd cc
 
@@ -461,7 +505,7 @@ sent_by_other g = let a = g.1.1.1.0.1.0.1 in
 
 -- an answer in the entry of another client
 answered_elsewhere : Legal (asks_close 1 1 (codes "def") ∷ changes 1 1 1 2 (codes "def") ∷ client_entry 2 (lines.Given 2 ∷ answer 1 0 ∷ []) [] ∷ []) script → ⊥
-answered_elsewhere g = apart_places (Client 2) (Client 1) refl g.1.1.0.1.0.0
+answered_elsewhere g = apart_actors (Client 2) (Client 1) refl g.1.1.0.1.0.0
 
 -- an open that is answered without a read of its file
 nothing_shown : Legal (client_entry 1 (lines.Begin (Client 1) (Open file) ∷ answer 1 0 ∷ []) [] ∷ []) script → ⊥

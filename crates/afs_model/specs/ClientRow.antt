@@ -22,6 +22,7 @@ use Rattle.afs_num.specs.declared.messages.Received.TheVariants.{Nothing, Unknow
 use Rattle.afs_num.specs.declared.scripts.Act.{Act}
 use Rattle.afs_num.specs.declared.scripts.Act.TheVariants.{Open, Close}
 use Rattle.afs_num.specs.declared.histories.Body.TheVariants as bodies
+use Rattle.afs_num.specs.declared.histories.ReadBody.TheVariants.{Contents}
 use Rattle.afs_num.specs.declared.histories.ReadSource.TheVariants.{Cached, Fetched}
 use Rattle.afs_num.specs.declared.histories.Line.{Line}
 use Rattle.afs_num.specs.declared.histories.Line.TheVariants as lines
@@ -113,7 +114,7 @@ zero_code = record { 0 = pos 0 }
 abbrev pub shows_step : Node → ClientState → Fid → CacheEntry → Step ClientState
 shows_step me c fid entry = record {
   state = record c { cache = used_first entry c.cache };
-  lines = lines.Begin me (Open fid) ∷ lines.Read me fid entry.index Cached (bodies.File entry.contents) ∷ lines.Answer me zero_code ∷ [];
+  lines = lines.Begin me (Open fid) ∷ lines.Read me fid entry.index Cached (Contents (bodies.File entry.contents)) ∷ lines.Answer me zero_code ∷ [];
   sent = [];
 }
 
@@ -141,7 +142,7 @@ answers_step me c place code = record { state = ended c c.cache; lines = lines.G
 abbrev pub shows_fetched_step : Node → ClientState → ℕ → CacheEntry → Step ClientState
 shows_fetched_step me c place entry = record {
   state = ended c (used_first entry c.cache);
-  lines = lines.Given place ∷ lines.Read me entry.fid entry.index Fetched (bodies.File entry.contents) ∷ lines.Answer me zero_code ∷ [];
+  lines = lines.Given place ∷ lines.Read me entry.fid entry.index Fetched (Contents (bodies.File entry.contents)) ∷ lines.Answer me zero_code ∷ [];
   sent = [];
 }
 

@@ -6,6 +6,7 @@ use Rattle.afs_num.specs.declared.types.Fid.{Fid}
 use Rattle.afs_num.specs.declared.types.Key.{Key}
 use Rattle.afs_num.specs.declared.types.Node.{Node}
 use Rattle.afs_num.specs.declared.messages.Message.{Message}
+use Rattle.afs_num.specs.declared.histories.Actor.TheVariants as actors
 use Rattle.afs_num.specs.declared.histories.Line.{Line}
 use Rattle.afs_num.specs.declared.histories.Line.TheVariants as lines
 use Rattle.afs_num.specs.declared.histories.ReadSource.{ReadSource}
@@ -38,7 +39,7 @@ pub record GrantOf (c : Node) (f : Fid) (expiry : ℕ) (reply : Message) (past :
   pub to : reply.head.to ≡ c
   pub ran : Ran reply.head past
   pub server : Node
-  pub node : ran.at.node ≡ Some server
+  pub node : ran.at.actor ≡ actors.Node server
   pub index : ℕ
   pub before : List Line
   pub after : List Line

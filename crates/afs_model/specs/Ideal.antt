@@ -15,10 +15,13 @@ use Rattle.afs_num.specs.declared.scripts.Act.{Act}
 use Rattle.afs_num.specs.declared.scripts.Act.TheVariants.{Open, Close}
 use Rattle.afs_num.specs.declared.scripts.Script.{Script}
 use Rattle.afs_num.specs.declared.scripts.VolumeLine.{VolumeLine}
+use Rattle.afs_num.specs.declared.histories.Actor.TheVariants as actors
 use Rattle.afs_num.specs.declared.histories.Body.{Body}
 use Rattle.afs_num.specs.declared.histories.Body.TheVariants as bodies
 use Rattle.afs_num.specs.declared.histories.Line.{Line}
 use Rattle.afs_num.specs.declared.histories.Line.TheVariants as lines
+use Rattle.afs_num.specs.declared.histories.ReadBody.{ReadBody}
+use Rattle.afs_num.specs.declared.histories.ReadBody.TheVariants.{Contents}
 use Rattle.afs_num.specs.declared.histories.Version.{Version}
 use Rattle.afs_num.specs.declared.states.StoredFile.{StoredFile}
 use Rattle.afs_model.specs.Runs.{Entry, files_of}
@@ -36,7 +39,7 @@ first_lines (file ∷ files) = first_lines files ++ lines.Version (first_version
 
 -- the set-up, as an entry before all others
 abbrev pub set_up : Script → Entry
-set_up s = record { node = None; lines = first_lines (flat_map files_of s.volumes); sent = [] }
+set_up s = record { actor = actors.Nobody; lines = first_lines (flat_map files_of s.volumes); sent = [] }
 
 -- ---- versions. Lines are read from the newest
 
@@ -54,6 +57,11 @@ abbrev pub HasVersion : Fid → ℕ → Body → List Line → Type 0
 HasVersion f index body [] = ⊥
 HasVersion f index body (lines.Version v ∷ older) = ((v.fid ≡ f) × ((v.index ≡ index) × (v.body ≡ body))) ⊎ HasVersion f index body older
 HasVersion f index body (l ∷ older) = HasVersion f index body older
+
+-- a read may show this of the fid's version of this index; no act asks for a status or an access list so far
+abbrev pub Shows : Fid → ℕ → ReadBody → List Line → Type 0
+Shows f index (Contents body) older = HasVersion f index body older
+Shows f index shown older = ⊥
 
 -- ---- servers and the clock
 

@@ -3,7 +3,7 @@ use Rattle.std.specs.Prelude.{◌≡◌, ◌↔◌, ℕ, List, ◌++◌, false}
 use Rattle.afs_num.specs.declared.types.Fid.{Fid}
 use Rattle.afs_num.specs.declared.types.Node.{Node}
 use Rattle.afs_num.specs.declared.scripts.Script.{Script}
-use Rattle.afs_num.specs.declared.histories.Body.{Body}
+use Rattle.afs_num.specs.declared.histories.ReadBody.{ReadBody}
 use Rattle.afs_num.specs.declared.histories.Line.{Line}
 use Rattle.afs_num.specs.declared.histories.ReadSource.{ReadSource}
 use Rattle.afs_num.specs.declared.types.Head.{Head}
@@ -31,7 +31,7 @@ KeysRunOnce = (s : Script) (history : List Entry) (end : Cell) → RunsTo histor
 -- a good read shows the newest version where no break of its grant is outstanding
 abbrev pub ReadsAreNewest : Type 0
 ReadsAreNewest =
-    (c : Node) (f : Fid) (index : ℕ) (source : ReadSource) (body : Body) (past : List Entry) (own : List Line) (read : GoodRead c f index source body past own)
+    (c : Node) (f : Fid) (index : ℕ) (source : ReadSource) (body : ReadBody) (past : List Entry) (own : List Line) (read : GoodRead c f index source body past own)
     → (IsOutstanding read.grant.server c f (own ++ since c f read.expiry read.reply past read.grant) → ⊥) → IsLast f index (own ++ lines_of past)
 
 -- a server tells that a call isn't served exactly where its opcode is none of those that it serves

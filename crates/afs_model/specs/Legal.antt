@@ -1,5 +1,5 @@
 -- Which histories are legal: those of which each line is good after all that stands before it.
--- `who` is the entry's node, `past` are the entries before, the newest first, `own` the entry's own lines before, the
+-- `who` is whose the entry is, `past` are the entries before, the newest first, `own` the entry's own lines before, the
 -- newest first, and `next` its lines after.
 use Rattle.std.specs.Prelude.{◌≡◌, ℕ, ◌≤◌, ◌<◌, List, [], ◌∷◌, ◌++◌, false, Option, Some, None, ℤ, pos, length, ⊤, ◌⊎◌}
 use Rattle.afs_num.specs.declared.types.Code.{Code}
@@ -13,7 +13,9 @@ use Rattle.afs_num.specs.declared.messages.Message.{Message}
 use Rattle.afs_num.specs.declared.scripts.Act.{Act}
 use Rattle.afs_num.specs.declared.scripts.Act.TheVariants.{Open, Close}
 use Rattle.afs_num.specs.declared.scripts.Script.{Script}
-use Rattle.afs_num.specs.declared.histories.Body.{Body}
+use Rattle.afs_num.specs.declared.histories.Actor.{Actor}
+use Rattle.afs_num.specs.declared.histories.Actor.TheVariants as actors
+use Rattle.afs_num.specs.declared.histories.ReadBody.{ReadBody}
 use Rattle.afs_num.specs.declared.histories.Line.{Line}
 use Rattle.afs_num.specs.declared.histories.Line.TheVariants as lines
 use Rattle.afs_num.specs.declared.histories.ReadSource.{ReadSource}
@@ -21,15 +23,15 @@ use Rattle.afs_num.specs.declared.histories.ReadSource.TheVariants.{Cached}
 use Rattle.afs_num.specs.declared.histories.Version.{Version}
 use Rattle.afs_model.specs.Runs.{Entry}
 use Rattle.afs_model.specs.Past.{lines_of, sent_of, given_message, answered_key, IsReply, running, has_begun, Called, CalledSince, Ran}
-use Rattle.afs_model.specs.Ideal.{set_up, IsLast, HasVersion, Accepts, clock_of, user_of, asked, op, seen}
+use Rattle.afs_model.specs.Ideal.{set_up, IsLast, Shows, Accepts, clock_of, user_of, asked, op, seen}
 use Rattle.afs_model.specs.Grants.{read_reply, GrantOf, since, IsWithdrawn, IsDropped}
 
 -- ---- reads
 
 -- a read is whole: it shows a version; it is not older than any that the client has seen; and it is the newest unless its
 -- grant, which lasts and was not given up, was withdrawn
-pub record GoodRead (c : Node) (f : Fid) (index : ℕ) (source : ReadSource) (body : Body) (past : List Entry) (own : List Line) : Type 0 where
-  pub whole : HasVersion f index body (own ++ lines_of past)
+pub record GoodRead (c : Node) (f : Fid) (index : ℕ) (source : ReadSource) (body : ReadBody) (past : List Entry) (own : List Line) : Type 0 where
+  pub whole : Shows f index body (own ++ lines_of past)
   pub not_older : seen c f past own ≤ index
   pub reply : Message
   pub by : read_reply c f source past own ≡ Some reply
@@ -147,21 +149,21 @@ pub record GoodCode (c : Node) (code : Code) (past : List Entry) (own : List Lin
 -- ---- histories
 
 -- a read or an answer stands in an entry of its client, a change in one of its server; lines that begin an act, give a
--- message, grant, or tell of nothing are always good
-abbrev pub IsGood : Script → Option Node → Line → List Entry → List Line → List Line → Type 0
-IsGood s who (lines.Read c f index source body) past own next = (who ≡ Some c) × GoodRead c f index source body past own
-IsGood s who (lines.Change server k count) past own next = (who ≡ Some server) × GoodChange s server k count past own next
+-- message, grant, or tell of nothing are always good, and of those that no step makes so far nothing is asked
+abbrev pub IsGood : Script → Actor → Line → List Entry → List Line → List Line → Type 0
+IsGood s who (lines.Read c f index source body) past own next = (who ≡ actors.Node c) × GoodRead c f index source body past own
+IsGood s who (lines.Change server k count) past own next = (who ≡ actors.Node server) × GoodChange s server k count past own next
 IsGood s who (lines.Version v) past own next = IsUnderChange own
-IsGood s who (lines.Answer c code) past own next = (who ≡ Some c) × GoodCode c code past own
+IsGood s who (lines.Answer c code) past own next = (who ≡ actors.Node c) × GoodCode c code past own
 IsGood s who l past own next = ⊤
 
-abbrev pub AreGood : Script → Option Node → List Entry → List Line → List Line → Type 0
+abbrev pub AreGood : Script → Actor → List Entry → List Line → List Line → Type 0
 AreGood s who past own [] = ⊤
 AreGood s who past own (l ∷ next) = IsGood s who l past own next × AreGood s who past (l ∷ own) next
 
 abbrev pub LegalAfter : Script → List Entry → List Entry → Type 0
 LegalAfter s past [] = ⊤
-LegalAfter s past (e ∷ es) = AreGood s e.node past [] e.lines × LegalAfter s (e ∷ past) es
+LegalAfter s past (e ∷ es) = AreGood s e.actor past [] e.lines × LegalAfter s (e ∷ past) es
 
 abbrev pub Legal : List Entry → Script → Type 0
 Legal history s = LegalAfter s (set_up s ∷ []) history

@@ -20,6 +20,7 @@ pub mod Script
 pub mod ScriptText
 pub mod ScriptTooLong
 pub mod Telling
+pub mod LineText
 pub mod Text
 pub mod ScriptLaws
 pub mod Form

@@ -11,6 +11,8 @@ use Rattle.afs_num.specs.declared.scripts.Script.{Script}
 use Rattle.afs_num.specs.declared.scripts.SetupLine.{SetupLine}
 use Rattle.afs_num.specs.declared.scripts.SetupLine.TheVariants.{File}
 use Rattle.afs_num.specs.declared.scripts.VolumeLine.{VolumeLine}
+use Rattle.afs_num.specs.declared.histories.Actor.{Actor}
+use Rattle.afs_num.specs.declared.histories.Actor.TheVariants as actors
 use Rattle.afs_num.specs.declared.histories.Line.{Line}
 use Rattle.afs_num.specs.declared.histories.Line.TheVariants as lines
 use Rattle.afs_num.specs.declared.states.StoredFile.{StoredFile}
@@ -19,9 +21,9 @@ use Rattle.afs_model.specs.Steps.{Step}
 use Rattle.afs_model.specs.ServerRow.{ServerState, server_row}
 use Rattle.afs_model.specs.ClientRow.{the_server, begin_row, client_row}
 
--- one step of a run: its node (none where nothing happened), its lines and the messages that it sent
+-- one step of a run: whose it is, its lines and the messages that it sent
 pub record Entry : Type 0 where
-  pub node : Option Node
+  pub actor : Actor
   pub lines : List Line
   pub sent : List Message
 
@@ -47,17 +49,17 @@ abbrev pub put : {A : Type 0} → ℕ → A → (ℕ → A) → ℕ → A
 put n x h j = cond (nat_eq n j) x (h j)
 
 abbrev pub voided : Cell → Moved
-voided c = record { entry = record { node = None; lines = lines.Void ∷ []; sent = [] }; cell = c }
+voided c = record { entry = record { actor = actors.Nobody; lines = lines.Void ∷ []; sent = [] }; cell = c }
 
 abbrev pub client_moves : Cell → ℕ → Step ClientState → Moved
 client_moves c n s = record {
-  entry = record { node = Some (Client n); lines = s.lines; sent = s.sent };
+  entry = record { actor = actors.Node (Client n); lines = s.lines; sent = s.sent };
   cell = record c { clients = put n s.state c.clients; sent = c.sent ++ s.sent };
 }
 
 abbrev pub server_moves : Cell → Step ServerState → Moved
 server_moves c s = record {
-  entry = record { node = Some the_server; lines = s.lines; sent = s.sent };
+  entry = record { actor = actors.Node the_server; lines = s.lines; sent = s.sent };
   cell = record c { server = s.state; sent = c.sent ++ s.sent };
 }
 

@@ -27,7 +27,7 @@ AreRead ps = parcels_read ps ≡ messages_spelled (messages_of ps)
 -- the history that these entries tell, each with the next of these parcels
 abbrev pub told : List Parcel → List kept.Entry → List Entry
 told ps [] = []
-told ps (e ∷ es) = record { node = e.node; lines = e.lines; sent = messages_of (take e.sent ps) } ∷ told (drop e.sent ps) es
+told ps (e ∷ es) = record { actor = e.actor; lines = e.lines; sent = messages_of (take e.sent ps) } ∷ told (drop e.sent ps) es
 
 -- how many messages these entries sent
 abbrev pub sent_by : List kept.Entry → ℕ

@@ -1,119 +1,27 @@
 -- The text of a run: what is told of each step, and then what stands at the end.
 -- The bytes of a message are its spelling. Each definition about messages takes `wire`, which says whether they are told
 -- too.
-use Rattle.std.specs.Prelude.{ℕ, ◌+◌, ◌*◌, ◌/◌, ◌%◌, ◌||◌, List, [], ◌∷◌, ◌++◌, Bool, true, false, nat_eq, Option, Some, None, ℤ, pos, codes, length, if◌then◌else◌}
+use Rattle.std.specs.Prelude.{ℕ, ◌+◌, ◌*◌, List, [], ◌∷◌, ◌++◌, Bool, true, false, nat_eq, ℤ, pos, codes, length, if◌then◌else◌}
 use Rattle.std.specs.List.{flat_map}
-use Rattle.std.specs.Fmt.{decimal, signed_decimal, digit_glyph}
-use Rattle.afs_num.specs.Nodes.{is_between}
-use Rattle.afs_num.specs.Texts.{node_text, fid_text, key_text}
-use Rattle.afs_num.specs.declared.types.Code.{Code}
-use Rattle.afs_num.specs.declared.types.Fid.{Fid}
+use Rattle.std.specs.Fmt.{decimal, signed_decimal}
+use Rattle.afs_num.specs.Texts.{node_text, fid_text}
 use Rattle.afs_num.specs.declared.types.Half.{Half}
 use Rattle.afs_num.specs.declared.types.Half.TheVariants as halves
 use Rattle.afs_num.specs.declared.types.Head.{Head}
-use Rattle.afs_num.specs.declared.types.Key.{Key}
 use Rattle.afs_num.specs.declared.types.Node.{Node}
 use Rattle.afs_num.specs.declared.messages.Carried.{Carried}
 use Rattle.afs_num.specs.declared.messages.Carried.TheVariants as carried
 use Rattle.afs_num.specs.declared.messages.Message.{Message}
-use Rattle.afs_num.specs.declared.scripts.Act.{Act}
-use Rattle.afs_num.specs.declared.scripts.Act.TheVariants.{Open, Close}
 use Rattle.afs_num.specs.declared.scripts.Script.{Script}
 use Rattle.afs_num.specs.declared.scripts.SetupLine.{SetupLine}
 use Rattle.afs_num.specs.declared.scripts.SetupLine.TheVariants.{File}
 use Rattle.afs_num.specs.declared.scripts.VolumeLine.{VolumeLine}
-use Rattle.afs_num.specs.declared.directories.Name.{Name}
-use Rattle.afs_num.specs.declared.histories.Body.{Body}
-use Rattle.afs_num.specs.declared.histories.Body.TheVariants as bodies
-use Rattle.afs_num.specs.declared.histories.Line.{Line}
-use Rattle.afs_num.specs.declared.histories.Line.TheVariants as lines
-use Rattle.afs_num.specs.declared.histories.ReadSource.{ReadSource}
-use Rattle.afs_num.specs.declared.histories.ReadSource.TheVariants.{Cached, Fetched}
-use Rattle.afs_num.specs.declared.histories.Version.{Version}
+use Rattle.afs_num.specs.declared.histories.Actor.{Actor}
+use Rattle.afs_num.specs.declared.histories.Actor.TheVariants as actors
 use Rattle.afs_num.specs.declared.states.StoredFile.{StoredFile}
+use Rattle.afs_model.specs.LineText.{hex_text, name_text, lines_text}
 use Rattle.afs_model.specs.Messages.{spelled}
 use Rattle.afs_model.specs.Runs.{Entry, Cell}
-
--- ---- bytes
-
--- a byte as two lower-case hexadecimal digits
-abbrev pub hex_byte : ℕ → List ℕ
-hex_byte b = digit_glyph false (b / 16) ∷ digit_glyph false (b % 16) ∷ []
-
-unfoldable pub hex_text : List ℕ → List ℕ
-hex_text bytes = flat_map hex_byte bytes
-
--- a letter, a digit, `.`, `_` or `-`
-abbrev pub is_plain : ℕ → Bool
-is_plain b = is_between 97 122 b || (is_between 65 90 b || (is_between 48 57 b || (nat_eq b 46 || (nat_eq b 95 || nat_eq b 45))))
-
--- any other byte of a name is `%` and two upper-case hexadecimal digits
-abbrev pub name_byte : ℕ → List ℕ
-name_byte b = if is_plain b then b ∷ [] else 37 ∷ digit_glyph true (b / 16) ∷ digit_glyph true (b % 16) ∷ []
-
-unfoldable pub name_text : List ℕ → List ℕ
-name_text name = flat_map name_byte name
-
--- ---- lines
-
-unfoldable pub act_text : Act → List ℕ
-act_text (Open fid) = codes "open @" ++ fid_text fid
-act_text (Close fid contents) = codes "close @" ++ (fid_text fid ++ (codes " hex:" ++ hex_text contents))
-
--- a name in a directory and what it names; a comma stands before all names but the first
-abbrev pub entry_name_text : Name → List ℕ
-entry_name_text n = name_text n.name ++ (codes "=" ++ (decimal n.vnode ++ (codes "." ++ decimal n.unique)))
-
-unfoldable pub more_names_text : List Name → List ℕ
-more_names_text ns = flat_map (λ (n : Name). codes "," ++ entry_name_text n) ns
-
-unfoldable pub directory_text : List Name → List ℕ
-directory_text [] = []
-directory_text (n ∷ ns) = entry_name_text n ++ more_names_text ns
-
-unfoldable pub body_text : Body → List ℕ
-body_text (bodies.File contents) = codes "f:" ++ hex_text contents
-body_text (bodies.Dir names) = codes "d:" ++ directory_text names
-body_text (bodies.Link target) = codes "l:" ++ hex_text target
-body_text bodies.Gone = codes "gone"
-
-unfoldable pub begin_text : Node → Act → List ℕ
-begin_text node act = codes "begin " ++ (node_text node ++ (codes " " ++ (act_text act ++ codes "\n")))
-
-unfoldable pub grant_text : Node → Node → Fid → ℕ → ℕ → List ℕ
-grant_text server client fid index expiry =
-    codes "grant " ++ (node_text server ++ (codes " " ++ (node_text client ++ (codes " " ++ (fid_text fid ++ (codes " " ++ (decimal index ++ (codes " " ++ (decimal expiry ++ codes "\n")))))))))
-
-unfoldable pub change_text : Node → Key → ℕ → List ℕ
-change_text server key count = codes "change " ++ (node_text server ++ (codes " " ++ (key_text key ++ (codes " " ++ (decimal count ++ codes "\n")))))
-
-unfoldable pub version_text : Version → List ℕ
-version_text v =
-    codes "version " ++ (fid_text v.fid ++ (codes " " ++ (decimal v.index ++ (codes " " ++ (decimal v.data_version ++ (codes " " ++ (body_text v.body ++ codes "\n")))))))
-
-abbrev pub source_text : ReadSource → List ℕ
-source_text Cached = codes "cached"
-source_text Fetched = codes "fetched"
-
-unfoldable pub read_text : Node → Fid → ℕ → ReadSource → Body → List ℕ
-read_text client fid index source body =
-    codes "read " ++ (node_text client ++ (codes " " ++ (fid_text fid ++ (codes " " ++ (decimal index ++ (codes " " ++ (source_text source ++ (codes " " ++ (body_text body ++ codes "\n")))))))))
-
-unfoldable pub answer_text : Node → Code → List ℕ
-answer_text node code = codes "answer " ++ (node_text node ++ (codes " " ++ (signed_decimal code.0 ++ codes "\n")))
-
-unfoldable pub line_text : Line → List ℕ
-line_text (lines.Begin node act) = begin_text node act
-line_text (lines.Given place) = codes "given " ++ (decimal place ++ codes "\n")
-line_text (lines.Grant server client fid index expiry) = grant_text server client fid index expiry
-line_text (lines.Change server key count) = change_text server key count
-line_text (lines.Version version) = version_text version
-line_text (lines.Read client fid index source body) = read_text client fid index source body
-line_text (lines.Answer node code) = answer_text node code
-line_text lines.Void = codes "void\n"
-
-unfoldable pub lines_text : List Line → List ℕ
-lines_text ls = flat_map line_text ls
 
 -- ---- messages
 
@@ -156,14 +64,19 @@ messages_text wire place (m ∷ ms) = message_text wire place m ++ messages_text
 
 -- ---- entries
 
--- the number of an entry and its node; none where nothing happened
-unfoldable pub step_text : ℕ → Option Node → List ℕ
-step_text number (Some node) = codes "entry " ++ (decimal number ++ (codes " " ++ (node_text node ++ codes "\n")))
-step_text number None = codes "entry " ++ (decimal number ++ codes " none\n")
+-- whose an entry is: the clock's where it rises, nobody's where nothing happened
+abbrev pub actor_text : Actor → List ℕ
+actor_text (actors.Node node) = node_text node
+actor_text actors.Clock = codes "clock"
+actor_text actors.Nobody = codes "none"
+
+-- the number of an entry, and whose it is
+unfoldable pub step_text : ℕ → Actor → List ℕ
+step_text number actor = codes "entry " ++ (decimal number ++ (codes " " ++ (actor_text actor ++ codes "\n")))
 
 -- an entry of this number, whose first message has this place; its messages come last
 unfoldable pub entry_text : Bool → ℕ → ℕ → Entry → List ℕ
-entry_text wire number place e = (step_text number e.node ++ lines_text e.lines) ++ messages_text wire place e.sent
+entry_text wire number place e = (step_text number e.actor ++ lines_text e.lines) ++ messages_text wire place e.sent
 
 -- entries are numbered one after another, and so are the places of all messages
 abbrev pub entries_text : Bool → ℕ → ℕ → List Entry → List ℕ

@@ -1,3 +1,2 @@
 pub mod FirstPart
 pub mod LineByLine
-pub mod Sent

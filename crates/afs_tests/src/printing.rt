@@ -4,14 +4,14 @@ ghost use Rattle.std.specs.Prelude.{◌≡◌, ◌∷◌, [], IfOk};
 ghost use Rattle.afs_model.specs.Telling.{AreRead};
 
 use afs_fsrpc::messages::encode_message;
-use afs_num::histories::{Body, Entry, Line, Lines, ReadSource, Version};
+use afs_num::histories::{Actor, Body, Entry, Line, Lines, ReadBody, ReadSource, Version};
 use afs_num::messages::{Carried, Message};
 use afs_num::scripts::{Script, SetupLine, SetupLines, Tasks, VolumeLine, VolumeLines};
 use afs_num::sequences::{Octets, Path, Sequence};
 use afs_num::states::StoredFile;
 use afs_num::types::{Code, Fid, Half, Head, Key, Mem, Node, Parcel};
 use afs_outside::memory::MemSink;
-use afs_script::printing::{print_entry, print_run};
+use afs_text::printing::{print_entry, print_run};
 use std::alloc::Global;
 use std::test::Fail;
 
@@ -25,11 +25,11 @@ fn octets(alloc: Global, bytes: &[u8]) -> Mem<Octets> {
     Octets::from_slice(alloc, bytes)
 }
 
-fn entry(node: Option<Node>, lines: Lines) -> Entry
+fn entry(actor: Actor, lines: Lines) -> Entry
     ensures { result.sent ≡ 0 }
 {
     Entry {
-        node,
+        actor,
         lines,
         sent: 0,
     }
@@ -43,13 +43,13 @@ fn fetched_entry(alloc: Global) -> Mem<Entry> {
         fid: FID,
         index: 1,
         source: ReadSource::Fetched,
-        body: Body::File(octets(alloc, b"abc\xff")?),
+        body: ReadBody::Contents(Body::File(octets(alloc, b"abc\xff")?)),
     })?;
     lines.push(Line::Answer {
         node: Node::Client(1),
         code: Code(-453),
     })?;
-    Ok(entry(Some(Node::Client(1)), lines))
+    Ok(entry(Actor::Node(Node::Client(1)), lines))
 }
 
 fn stored_entry(alloc: Global) -> Mem<Entry> {
@@ -72,7 +72,7 @@ fn stored_entry(alloc: Global) -> Mem<Entry> {
             body: Body::File(octets(alloc, b"")?),
         },
     })?;
-    Ok(entry(Some(Node::Server(1)), lines))
+    Ok(entry(Actor::Node(Node::Server(1)), lines))
 }
 
 /// The refusal of client 1's second call, a store, with -453.
@@ -173,7 +173,7 @@ fn what_stands_at_the_end_comes_last(rt: HostRuntime) -> Result<(), Fail> {
     let files = files(alloc)?;
     let mut lines = Lines::new(alloc);
     lines.push(Line::Void)?;
-    let history = [entry(None, lines)];
+    let history = [entry(Actor::Nobody, lines)];
     let mut sink = MemSink::new(alloc, &[]);
     assert_eq!(rt;
         print_run(&mut sink, &script, &[], &history, files.as_slice(), false),

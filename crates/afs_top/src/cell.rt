@@ -11,8 +11,8 @@ ghost use Rattle.afs_model.specs.Script.{script_of};
 use crate::statuses::{Form, Status, form_of};
 use afs_num::scripts::{Reason, Script};
 use afs_outside::outside::{Failed, ReadError, Sink, Source, pass_on, read_all};
-use afs_script::printing::print_run;
 use afs_script::{ScriptFault, read_script};
+use afs_text::printing::print_run;
 use afs_world::world::{World, play};
 use std::alloc::Global;
 

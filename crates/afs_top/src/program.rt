@@ -10,7 +10,7 @@ ghost use Rattle.afs_top.specs.Top.{IsAnswer, IsScript, IsBad, IsScriptStatus};
 use crate::cell::cell_main;
 use crate::statuses::Status;
 use afs_outside::outside::{Failed, Sink, Source, pass_on};
-use afs_script::pieces::Print;
+use afs_text::pieces::Print;
 use std::alloc::Global;
 
 /// How the program ended: its status, and the number with which the process ends.

@@ -7,7 +7,7 @@ ghost use Rattle.afs_outside.specs.Outside.{Puts};
 
 use afs_num::scripts::Reason;
 use afs_outside::outside::{Failed, Sink};
-use afs_script::pieces::Print;
+use afs_text::pieces::Print;
 
 /// How the program ended. A script is refused by the number of its first bad line, from 1, and the reason there.
 #[derive(Clone, Copy, Debug, PartialEq, Eq)]

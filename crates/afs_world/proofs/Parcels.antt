@@ -89,7 +89,7 @@ sent_by-push (x ∷ es) e =
 
 -- an entry with these messages
 abbrev pub with_messages : kept.Entry → List Message → Entry
-with_messages e ms = record { node = e.node; lines = e.lines; sent = ms }
+with_messages e ms = record { actor = e.actor; lines = e.lines; sent = ms }
 
 -- an entry more tells its own messages, and changes nothing of what was told before
 pub told-push : (ps qs : List Parcel) (es : List kept.Entry) (e : kept.Entry) → sent_by es ≡ length ps → e.sent ≡ length qs → told (ps ++ qs) (es ++ e ∷ []) ≡ told ps es ++ with_messages e (messages_of qs) ∷ []

@@ -13,6 +13,8 @@ use Rattle.afs_num.specs.declared.types.Parcel.{Parcel}
 use Rattle.afs_num.specs.declared.messages.Message.{Message}
 use Rattle.afs_num.specs.declared.messages.Received.{Received}
 use Rattle.afs_num.specs.declared.messages.Received.TheVariants.{Whole}
+use Rattle.afs_num.specs.declared.histories.Actor.{Actor}
+use Rattle.afs_num.specs.declared.histories.Actor.TheVariants as actors
 use Rattle.afs_num.specs.declared.histories.Entry as kept
 use Rattle.afs_num.specs.declared.histories.Line.{Line}
 use Rattle.afs_num.specs.declared.histories.Line.TheVariants as lines
@@ -74,8 +76,8 @@ with_clients s ms k = record { server = s; clients = k; sent = ms; clock = 0 }
 cell_is : (s t : ServerState) (c d : ClientState) (ms ns : List Message) → s ≡ t → c ≡ d → ms ≡ ns → cell_made s c ms ≡ cell_made t d ns
 cell_is s t c d ms ns p q r = λ i. cell_made (p i) (q i) (r i)
 
-entry_is : (n : Option Node) (ls ks : List Line) (ms ns : List Message) → ls ≡ ks → ms ≡ ns → (let e : Entry = record { node = n; lines = ls; sent = ms } in e) ≡ record { node = n; lines = ks; sent = ns }
-entry_is n ls ks ms ns p q = λ i. record { node = n; lines = p i; sent = q i }
+entry_is : (n : Actor) (ls ks : List Line) (ms ns : List Message) → ls ≡ ks → ms ≡ ns → (let e : Entry = record { actor = n; lines = ls; sent = ms } in e) ≡ record { actor = n; lines = ks; sent = ns }
+entry_is n ls ks ms ns p q = λ i. record { actor = n; lines = p i; sent = q i }
 
 -- the nodes go on by a step, these messages are sent, and an entry counts them
 record Leaves (old new : WorldState) (entry : kept.Entry) (parcels : List Parcel) : Type 0 where
@@ -133,12 +135,12 @@ same_within old h = within_more (length old.history + 1) (length old.history + 2
 
 -- ---- a step of one line, in which no node moves
 
-abbrev pub noted : WorldState → Option Node → Line → WorldState
-noted w n l = record w { history = w.history ++ record { node = n; lines = l ∷ []; sent = 0 } ∷ [] }
+abbrev pub noted : WorldState → Actor → Line → WorldState
+noted w n l = record w { history = w.history ++ record { actor = n; lines = l ∷ []; sent = 0 } ∷ [] }
 
-pub noted_follows : (w : WorldState) (n : Option Node) (l : Line) → IsPlayable w → Follows w (as_played w.acts (notes (cell_of w) n l)) (noted w n l)
+pub noted_follows : (w : WorldState) (n : Actor) (l : Line) → IsPlayable w → Follows w (as_played w.acts (notes (cell_of w) n l)) (noted w n l)
 noted_follows w n l h =
-    leaves_follow w (noted w n l) (record { node = n; lines = l ∷ []; sent = 0 }) [] _ h
+    leaves_follow w (noted w n l) (record { actor = n; lines = l ∷ []; sent = 0 }) [] _ h
     (record {
       server = refl;
       client = refl;
@@ -155,7 +157,7 @@ noted_follows w n l h =
 -- ---- a node moves
 
 abbrev pub moves_entry : Node → Outs → kept.Entry
-moves_entry n outs = record { node = Some n; lines = outs.lines; sent = length outs.parcels }
+moves_entry n outs = record { actor = actors.Node n; lines = outs.lines; sent = length outs.parcels }
 
 -- what a step of a node leaves of the world besides that node
 pub record Tells (old new : WorldState) (n : Node) (outs : Outs) : Type 0 where
@@ -252,11 +254,11 @@ hears w place p h e to =
 absent_clients : (w : WorldState) (n : ℕ) → (1 ≡ n → ⊥) → with_clients w.server.state (messages_of w.wire ++ []) (put n first_client (others w.client.state)) ≡ cell_of w
 absent_clients w n ne = λ i. with_clients w.server.state (append-nil (messages_of w.wire) i) (other_stays n w.client.state ne i)
 
-absent_hears : (w : WorldState) (n place : ℕ) (m : Message) → (1 ≡ n → ⊥) → given_to (cell_of w) place m (Client n) ≡ notes (cell_of w) (Some (Client n)) (lines.Given place)
+absent_hears : (w : WorldState) (n place : ℕ) (m : Message) → (1 ≡ n → ⊥) → given_to (cell_of w) place m (Client n) ≡ notes (cell_of w) (actors.Node (Client n)) (lines.Given place)
 unfolding client_row
 absent_hears w n place m ne =
     ap (λ (c : ClientState). client_moves (cell_of w) n (client_hears (Client n) c 0 place (Whole m))) (other_is_first n w.client.state ne)
-    ∙ ap (λ (c : Cell). notes c (Some (Client n)) (lines.Given place)) (absent_clients w n ne)
+    ∙ ap (λ (c : Cell). notes c (actors.Node (Client n)) (lines.Given place)) (absent_clients w n ne)
 
 -- no server but the first, no database and no administrator is there
 abbrev pub IsStray : Option Node → Type 0
@@ -289,7 +291,7 @@ strays_at w place (Some p) r h e is stray =
     let to : r ≡ Some p.head.to = sym is ∙ ap (option_map (λ q. q.head.to)) e in
     gives_to w place p p.head.to g refl ∙ stray_to (cell_of w) place g.message p.head.to (subst IsStray to stray)
 
-ignores_at : (w : WorldState) (place n : ℕ) (o : Option Parcel) → IsPlayable w → at_place w.wire place ≡ o → receiver_at w.wire place ≡ Some (Client n) → (1 ≡ n → ⊥) → moved (cell_of w) (gives place) ≡ notes (cell_of w) (Some (Client n)) (lines.Given place)
+ignores_at : (w : WorldState) (place n : ℕ) (o : Option Parcel) → IsPlayable w → at_place w.wire place ≡ o → receiver_at w.wire place ≡ Some (Client n) → (1 ≡ n → ⊥) → moved (cell_of w) (gives place) ≡ notes (cell_of w) (actors.Node (Client n)) (lines.Given place)
 ignores_at w place n None h e is ne =
     let none : receiver_at w.wire place ≡ None = ap (option_map (λ q. q.head.to)) e in
     let never : (let o : Option Node = None in o) ≡ Some (Client n) = sym none ∙ is in
@@ -298,7 +300,7 @@ ignores_at w place n (Some p) h e is ne =
     let g = gives_parcel w place p h e in
     gives_to w place p (Client n) g (sent_to w.wire place p (Client n) e is) ∙ absent_hears w n place g.message ne
 
-pub absent_ignores : (w : WorldState) (place n : ℕ) → IsPlayable w → receiver_at w.wire place ≡ Some (Client n) → (1 ≡ n → ⊥) → moved (cell_of w) (gives place) ≡ notes (cell_of w) (Some (Client n)) (lines.Given place)
+pub absent_ignores : (w : WorldState) (place n : ℕ) → IsPlayable w → receiver_at w.wire place ≡ Some (Client n) → (1 ≡ n → ⊥) → moved (cell_of w) (gives place) ≡ notes (cell_of w) (actors.Node (Client n)) (lines.Given place)
 absent_ignores w place n h is ne = ignores_at w place n (at_place w.wire place) h refl is ne
 
 pub strays : (w : WorldState) (place : ℕ) (r : Option Node) → IsPlayable w → receiver_at w.wire place ≡ r → IsStray r → moved (cell_of w) (gives place) ≡ voided (cell_of w)

@@ -6,6 +6,7 @@ use Rattle.afs_num.specs.Places.{at_place}
 use Rattle.afs_num.specs.declared.types.Node.{Node}
 use Rattle.afs_num.specs.declared.types.Node.TheVariants.{Server, Client}
 use Rattle.afs_num.specs.declared.types.Parcel.{Parcel}
+use Rattle.afs_num.specs.declared.histories.Actor.{Actor}
 use Rattle.afs_num.specs.declared.histories.Entry as kept
 use Rattle.afs_num.specs.declared.histories.Line.{Line}
 use Rattle.afs_num.specs.declared.scripts.Act.{Act}
@@ -41,8 +42,8 @@ abbrev pub receiver_at : List Parcel → ℕ → Option Node
 receiver_at ps place = option_map (λ p. p.head.to) (at_place ps place)
 
 -- a step of one line, which leaves the cell as it is
-abbrev pub notes : Cell → Option Node → Line → Moved
-notes c n l = record { entry = record { node = n; lines = l ∷ []; sent = [] }; cell = c }
+abbrev pub notes : Cell → Actor → Line → Moved
+notes c n l = record { entry = record { actor = n; lines = l ∷ []; sent = [] }; cell = c }
 
 -- what is kept from event to event
 pub record IsPlayable (w : WorldState) : Type 0 where

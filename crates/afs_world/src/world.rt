@@ -13,7 +13,7 @@ use crate::client::CacheManager;
 use crate::giving::{Moment, one_line};
 use crate::plans::Plan;
 use crate::server::FileServer;
-use afs_num::histories::{Entry, Line, Outs};
+use afs_num::histories::{Actor, Entry, Line, Outs};
 use afs_num::scripts::{Act, Event, Script, SetupLine, VolumeLine, VolumeLines};
 use afs_num::sequences::Sequence;
 use afs_num::states::{StoredFile, StoredFiles};
@@ -58,11 +58,11 @@ fn tell(wire: &mut Wire, history: &mut Vec<Entry>, node: Node, outs: Outs)
     requires room { 1 ≤ wire.old.room }
     requires entry { vec_len history.old < vec_capacity history.old }
     ensures sent { wire.new.messages ≡ wire.old.messages ++ outs.parcels }
-    ensures history { history.new.items ≡ history.old.items ++ record { node = Some node; lines = outs.lines; sent = length outs.parcels } ∷ [] }
+    ensures history { history.new.items ≡ history.old.items ++ record { actor = Actor.Node node; lines = outs.lines; sent = length outs.parcels } ∷ [] }
 {
     let Outs { parcels, lines } = outs;
     let entry = Entry {
-        node: Some(node),
+        actor: Actor::Node(node),
         lines,
         sent: parcels.len(),
     };
@@ -75,13 +75,13 @@ fn tell(wire: &mut Wire, history: &mut Vec<Entry>, node: Node, outs: Outs)
 
 impl<'a> World<'a> {
     /// A step of one line, in which nothing is sent.
-    fn note(&mut self, alloc: Global, node: Option<Node>, line: Line) -> Mem<()>
-        ensures ok { OnOk result (self.new ≡ record self.old { history = self.old.history ++ record { node = node; lines = line ∷ []; sent = 0 } ∷ [] }) }
+    fn note(&mut self, alloc: Global, actor: Actor, line: Line) -> Mem<()>
+        ensures ok { OnOk result (self.new ≡ record self.old { history = self.old.history ++ record { actor = actor; lines = line ∷ []; sent = 0 } ∷ [] }) }
         ensures err { OnErr result (self.new ≡ self.old) }
     {
         let lines = one_line(alloc, line)?;
         self.history.push(Entry {
-            node,
+            actor,
             lines,
             sent: 0,
         })?;
@@ -93,16 +93,20 @@ impl<'a> World<'a> {
         requires holds { IsPlayable self.old }
         ensures { Plays self.old (as_played self.old.acts (voided (cell_of self.old))) result self.new }
     {
-        self.note(alloc, None, Line::Void)?;
+        self.note(alloc, Actor::Nobody, Line::Void)?;
         Ok(())
     }
 
     /// A client that isn't there is given the message of this place, and ignores it.
     fn ignore(&mut self, alloc: Global, client: u8, place: u64) -> Mem<()>
         requires holds { IsPlayable self.old }
-        ensures { Plays self.old (as_played self.old.acts (notes (cell_of self.old) (Some (Node.Client client)) (Line.Given place))) result self.new }
+        ensures { Plays self.old (as_played self.old.acts (notes (cell_of self.old) (Actor.Node (Node.Client client)) (Line.Given place))) result self.new }
     {
-        self.note(alloc, Some(Node::Client(client)), Line::Given { place })?;
+        self.note(
+            alloc,
+            Actor::Node(Node::Client(client)),
+            Line::Given { place },
+        )?;
         Ok(())
     }
 

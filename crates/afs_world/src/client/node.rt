@@ -15,7 +15,7 @@ use crate::giving::{Moment, given, outs_with, quiet};
 use afs_fsrpc::heads::read_head;
 use afs_fsrpc::messages::read_message;
 use afs_num::calls::FsReply;
-use afs_num::histories::{Body, Line, Lines, Outs, ReadSource};
+use afs_num::histories::{Body, Line, Lines, Outs, ReadBody, ReadSource};
 use afs_num::messages::{Carried, Message, Received};
 use afs_num::scripts::Act;
 use afs_num::sequences::{Octets, Sequence};
@@ -145,7 +145,7 @@ impl CacheManager {
             fid: *fid,
             index: entry.index,
             source: ReadSource::Cached,
-            body: Body::File(entry.contents.copy(alloc)?),
+            body: ReadBody::Contents(Body::File(entry.contents.copy(alloc)?)),
         })?;
         lines.push(Line::Answer {
             node: self.node,
@@ -245,7 +245,7 @@ impl CacheManager {
             fid: entry.fid,
             index: entry.index,
             source: ReadSource::Fetched,
-            body: Body::File(entry.contents.copy(alloc)?),
+            body: ReadBody::Contents(Body::File(entry.contents.copy(alloc)?)),
         })?;
         lines.push(Line::Answer {
             node: self.node,

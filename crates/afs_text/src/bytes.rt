@@ -1,0 +1,102 @@
+//! Contents and names as texts.
+
+ghost use Rattle.std.specs.Prelude.{◌≡◌, ◌<◌, ◌≤◌, true, false, length};
+ghost use Rattle.std.specs.Fmt.{digit_glyph};
+ghost use Rattle.afs_outside.specs.Outside.{Puts};
+ghost use Rattle.afs_model.specs.LineText.{hex_byte, hex_text, is_plain, name_byte, name_text};
+
+use crate::pieces::Print;
+use afs_outside::outside::{Failed, Sink, put_bytes};
+use arrayvec::ArrayVec;
+
+/// The hexadecimal digit of a number below 16.
+fn hex_digit(n: u8) -> u8
+    requires { n < 16 }
+    ensures { result ≡ digit_glyph false n }
+{
+    match n {
+        0..=9 => b'0' + n,
+        _ => b'a' + (n - 10),
+    }
+}
+
+/// The upper-case hexadecimal digit of a number below 16.
+fn upper_hex_digit(n: u8) -> u8
+    requires { n < 16 }
+    ensures { result ≡ digit_glyph true n }
+{
+    match n {
+        0..=9 => b'0' + n,
+        _ => b'A' + (n - 10),
+    }
+}
+
+/// How many bytes are spelled at once, on the stack.
+const CHUNK: usize = 256;
+
+#[tactic(auto, unfolding(afs_model::specs::LineText::hex_text))]
+fn put_chunk<K: Sink>(sink: &mut K, bytes: &[u8]) -> Result<(), Failed>
+    requires { length bytes.now ≤ 256 }
+    ensures { Puts (hex_text bytes.now) (K.held sink.old) (K.held sink.new) (K.faults sink.old) (K.faults sink.new) result }
+{
+    let mut digits: ArrayVec<u8, 512> = ArrayVec::new();
+    for byte in bytes {
+        digits.push(hex_digit(*byte / 16));
+        digits.push(hex_digit(*byte % 16));
+    }
+    put_bytes(sink, digits.as_slice())
+}
+
+/// Bytes as hexadecimal digits.
+#[derive(Drop)]
+pub struct Hex<'a>(pub &'a [u8]);
+
+impl<'a> Print for Hex<'a> {
+    ghost text = { λ hex. hex_text hex.0.now };
+
+    fn print<K: Sink>(&self, sink: &mut K) -> Result<(), Failed> {
+        let mut rest = self.0;
+        while 0 < rest.len() {
+            let (chunk, behind) = rest.split_at(rest.len().min(CHUNK));
+            put_chunk(sink, chunk)?;
+            rest = behind;
+        }
+        Ok(())
+    }
+}
+
+/// Whether a byte stands in a name as itself.
+fn is_plain(b: u8) -> bool
+    ensures { result ≡ is_plain b }
+{
+    matches!(b, b'a'..=b'z' | b'A'..=b'Z' | b'0'..=b'9' | b'.' | b'_' | b'-')
+}
+
+fn put_name_byte<K: Sink>(sink: &mut K, b: u8) -> Result<(), Failed>
+    ensures { Puts (name_byte b) (K.held sink.old) (K.held sink.new) (K.faults sink.old) (K.faults sink.new) result }
+{
+    if is_plain(b) {
+        put_bytes(sink, &[b])
+    } else {
+        put_bytes(
+            sink,
+            &[b'%', upper_hex_digit(b / 16), upper_hex_digit(b % 16)],
+        )
+    }
+}
+
+/// A name, whose bytes are escaped where they aren't plain.
+#[derive(Drop)]
+pub struct Name<'a>(pub &'a [u8]);
+
+impl<'a> Print for Name<'a> {
+    ghost text = { λ name. name_text name.0.now };
+
+    #[tactic(auto, unfolding(afs_model::specs::LineText::name_text))]
+    fn print<K: Sink>(&self, sink: &mut K) -> Result<(), Failed> {
+        for b in self.0 {
+            put_name_byte(sink, *b)?;
+        }
+        Ok(())
+    }
+}

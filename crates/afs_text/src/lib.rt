@@ -1,0 +1,15 @@
+//! The text that tells of a run: the lines of its history, its messages, and what stands at its end.
+#![tactic(auto)]
+
+/// All of these as one, to be written one behind another.
+macro_rules! row {
+    ($last:expr) => { $last };
+    ($first:expr, $($rest:expr),+) => { ($first, row!($($rest),+)) };
+}
+
+mod bodies;
+mod bytes;
+mod final_part;
+mod lines;
+pub mod pieces;
+pub mod printing;

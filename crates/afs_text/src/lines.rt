@@ -1,0 +1,282 @@
+//! The lines of a history.
+
+ghost use Rattle.std.specs.Prelude.{◌≡◌, ◌++◌};
+ghost use Rattle.afs_outside.specs.Outside.{Puts};
+ghost use Rattle.afs_model.specs.LineText.{answer_text, begin_text, change_text, crash_text, drop_all_text, drop_text, fail_text, fault_text, full_text, given_text, grant_text, line_text, owe_text, quit_text, read_text, restart_text, settle_text, stop_text, tick_text, timeout_text, version_text};
+
+use crate::bodies::Owed;
+use crate::pieces::Print;
+use afs_num::histories::{Line, ReadBody, ReadSource, Version};
+use afs_num::scripts::Act;
+use afs_num::types::{Code, Fid, Key, Node};
+use afs_outside::outside::{Failed, Sink};
+
+// ---- acts, versions, reads and answers
+
+#[tactic(auto, unfolding(afs_model::specs::LineText::begin_text))]
+fn put_begin<K: Sink>(sink: &mut K, node: Node, act: &Act) -> Result<(), Failed>
+    ensures { Puts (begin_text node act.now) (K.held sink.old) (K.held sink.new) (K.faults sink.old) (K.faults sink.new) result }
+{
+    row!("begin ", node, " ", act, "\n").print(sink)
+}
+
+#[tactic(auto, unfolding(afs_model::specs::LineText::change_text))]
+fn put_change<K: Sink>(sink: &mut K, server: Node, key: Key, count: u32) -> Result<(), Failed>
+    ensures { Puts (change_text server key count) (K.held sink.old) (K.held sink.new) (K.faults sink.old) (K.faults sink.new) result }
+{
+    row!("change ", server, " ", key, " ", count, "\n").print(sink)
+}
+
+#[tactic(auto, unfolding(afs_model::specs::LineText::version_text))]
+fn put_version<K: Sink>(sink: &mut K, version: &Version) -> Result<(), Failed>
+    ensures { Puts (version_text version.now) (K.held sink.old) (K.held sink.new) (K.faults sink.old) (K.faults sink.new) result }
+{
+    row!(
+        "version ",
+        version.fid,
+        " ",
+        version.index,
+        " ",
+        version.data_version,
+        " ",
+        &version.body,
+        "\n"
+    )
+    .print(sink)
+}
+
+#[tactic(auto, unfolding(afs_model::specs::LineText::read_text))]
+fn put_read<K: Sink>(
+    sink: &mut K,
+    client: Node,
+    fid: Fid,
+    index: u32,
+    source: ReadSource,
+    body: &ReadBody,
+) -> Result<(), Failed>
+    ensures { Puts (read_text client fid index source body.now) (K.held sink.old) (K.held sink.new) (K.faults sink.old) (K.faults sink.new) result }
+{
+    row!(
+        "read ", client, " ", fid, " ", index, " ", source, " ", body, "\n"
+    )
+    .print(sink)
+}
+
+#[tactic(auto, unfolding(afs_model::specs::LineText::answer_text))]
+fn put_answer<K: Sink>(sink: &mut K, node: Node, code: Code) -> Result<(), Failed>
+    ensures { Puts (answer_text node code) (K.held sink.old) (K.held sink.new) (K.faults sink.old) (K.faults sink.new) result }
+{
+    row!("answer ", node, " ", code, "\n").print(sink)
+}
+
+#[tactic(auto, unfolding(afs_model::specs::LineText::given_text))]
+fn put_given<K: Sink>(sink: &mut K, place: u64) -> Result<(), Failed>
+    ensures { Puts (given_text place) (K.held sink.old) (K.held sink.new) (K.faults sink.old) (K.faults sink.new) result }
+{
+    row!("given ", place, "\n").print(sink)
+}
+
+// ---- promises and breaks
+
+#[tactic(auto, unfolding(afs_model::specs::LineText::grant_text))]
+fn put_grant<K: Sink>(
+    sink: &mut K,
+    server: Node,
+    client: Node,
+    fid: Fid,
+    index: u32,
+    expiry: u32,
+) -> Result<(), Failed>
+    ensures { Puts (grant_text server client fid index expiry) (K.held sink.old) (K.held sink.new) (K.faults sink.old) (K.faults sink.new) result }
+{
+    row!(
+        "grant ", server, " ", client, " ", fid, " ", index, " ", expiry, "\n"
+    )
+    .print(sink)
+}
+
+#[tactic(auto, unfolding(afs_model::specs::LineText::owe_text))]
+fn put_owe<K: Sink>(
+    sink: &mut K,
+    server: Node,
+    client: Node,
+    fid: Option<Fid>,
+    number: u32,
+) -> Result<(), Failed>
+    ensures { Puts (owe_text server client fid number) (K.held sink.old) (K.held sink.new) (K.faults sink.old) (K.faults sink.new) result }
+{
+    row!(
+        "owe ",
+        server,
+        " ",
+        client,
+        " ",
+        Owed(fid),
+        " ",
+        number,
+        "\n"
+    )
+    .print(sink)
+}
+
+#[tactic(auto, unfolding(afs_model::specs::LineText::settle_text))]
+fn put_settle<K: Sink>(sink: &mut K, server: Node, client: Node, number: u32) -> Result<(), Failed>
+    ensures { Puts (settle_text server client number) (K.held sink.old) (K.held sink.new) (K.faults sink.old) (K.faults sink.new) result }
+{
+    row!("settle ", server, " ", client, " ", number, "\n").print(sink)
+}
+
+#[tactic(auto, unfolding(afs_model::specs::LineText::quit_text))]
+fn put_quit<K: Sink>(sink: &mut K, server: Node, client: Node, number: u32) -> Result<(), Failed>
+    ensures { Puts (quit_text server client number) (K.held sink.old) (K.held sink.new) (K.faults sink.old) (K.faults sink.new) result }
+{
+    row!("quit ", server, " ", client, " ", number, "\n").print(sink)
+}
+
+#[tactic(auto, unfolding(afs_model::specs::LineText::drop_text))]
+fn put_drop<K: Sink>(sink: &mut K, client: Node, fid: Fid) -> Result<(), Failed>
+    ensures { Puts (drop_text client fid) (K.held sink.old) (K.held sink.new) (K.faults sink.old) (K.faults sink.new) result }
+{
+    row!("drop ", client, " ", fid, "\n").print(sink)
+}
+
+#[tactic(auto, unfolding(afs_model::specs::LineText::drop_all_text))]
+fn put_drop_all<K: Sink>(sink: &mut K, client: Node, server: Node) -> Result<(), Failed>
+    ensures { Puts (drop_all_text client server) (K.held sink.old) (K.held sink.new) (K.faults sink.old) (K.faults sink.new) result }
+{
+    row!("drop ", client, " all ", server, "\n").print(sink)
+}
+
+// ---- crashes and disks
+
+#[tactic(auto, unfolding(afs_model::specs::LineText::crash_text))]
+fn put_crash<K: Sink>(sink: &mut K, node: Node) -> Result<(), Failed>
+    ensures { Puts (crash_text node) (K.held sink.old) (K.held sink.new) (K.faults sink.old) (K.faults sink.new) result }
+{
+    row!("crash ", node, "\n").print(sink)
+}
+
+#[tactic(auto, unfolding(afs_model::specs::LineText::fault_text))]
+fn put_fault<K: Sink>(sink: &mut K, node: Node) -> Result<(), Failed>
+    ensures { Puts (fault_text node) (K.held sink.old) (K.held sink.new) (K.faults sink.old) (K.faults sink.new) result }
+{
+    row!("fault ", node, "\n").print(sink)
+}
+
+#[tactic(auto, unfolding(afs_model::specs::LineText::full_text))]
+fn put_full<K: Sink>(sink: &mut K, node: Node) -> Result<(), Failed>
+    ensures { Puts (full_text node) (K.held sink.old) (K.held sink.new) (K.faults sink.old) (K.faults sink.new) result }
+{
+    row!("full ", node, "\n").print(sink)
+}
+
+#[tactic(auto, unfolding(afs_model::specs::LineText::restart_text))]
+fn put_restart<K: Sink>(sink: &mut K, node: Node, boot: u32) -> Result<(), Failed>
+    ensures { Puts (restart_text node boot) (K.held sink.old) (K.held sink.new) (K.faults sink.old) (K.faults sink.new) result }
+{
+    row!("restart ", node, " ", boot, "\n").print(sink)
+}
+
+#[tactic(auto, unfolding(afs_model::specs::LineText::stop_text))]
+fn put_stop<K: Sink>(sink: &mut K, node: Node, calls: u32, pick: u8) -> Result<(), Failed>
+    ensures { Puts (stop_text node calls pick) (K.held sink.old) (K.held sink.new) (K.faults sink.old) (K.faults sink.new) result }
+{
+    row!("stop ", node, " ", calls, " ", pick, "\n").print(sink)
+}
+
+#[tactic(auto, unfolding(afs_model::specs::LineText::fail_text))]
+fn put_fail<K: Sink>(sink: &mut K, node: Node, calls: u32) -> Result<(), Failed>
+    ensures { Puts (fail_text node calls) (K.held sink.old) (K.held sink.new) (K.faults sink.old) (K.faults sink.new) result }
+{
+    row!("fail ", node, " ", calls, "\n").print(sink)
+}
+
+// ---- timeouts and the clock
+
+#[tactic(auto, unfolding(afs_model::specs::LineText::timeout_text))]
+fn put_timeout<K: Sink>(
+    sink: &mut K,
+    caller: Node,
+    callee: Node,
+    epoch: u32,
+    number: u32,
+    count: u32,
+) -> Result<(), Failed>
+    ensures { Puts (timeout_text caller callee epoch number count) (K.held sink.old) (K.held sink.new) (K.faults sink.old) (K.faults sink.new) result }
+{
+    row!(
+        "timeout ", caller, " ", callee, " ", epoch, ".", number, " ", count, "\n"
+    )
+    .print(sink)
+}
+
+#[tactic(auto, unfolding(afs_model::specs::LineText::tick_text))]
+fn put_tick<K: Sink>(sink: &mut K, ticks: u32) -> Result<(), Failed>
+    ensures { Puts (tick_text ticks) (K.held sink.old) (K.held sink.new) (K.faults sink.old) (K.faults sink.new) result }
+{
+    row!("tick ", ticks, "\n").print(sink)
+}
+
+// ---- lines
+
+impl Print for Line {
+    ghost text = { line_text };
+
+    #[tactic(auto, unfolding(afs_model::specs::LineText::line_text))]
+    fn print<K: Sink>(&self, sink: &mut K) -> Result<(), Failed> {
+        match self {
+            Line::Begin { node, act } => put_begin(sink, *node, act),
+            Line::Given { place } => put_given(sink, *place),
+            Line::Grant {
+                server,
+                client,
+                fid,
+                index,
+                expiry,
+            } => put_grant(sink, *server, *client, *fid, *index, *expiry),
+            Line::Change { server, key, count } => put_change(sink, *server, *key, *count),
+            Line::Version { version } => put_version(sink, version),
+            Line::Read {
+                client,
+                fid,
+                index,
+                source,
+                body,
+            } => put_read(sink, *client, *fid, *index, *source, body),
+            Line::Answer { node, code } => put_answer(sink, *node, *code),
+            Line::Timeout {
+                caller,
+                callee,
+                epoch,
+                number,
+                count,
+            } => put_timeout(sink, *caller, *callee, *epoch, *number, *count),
+            Line::Tick { ticks } => put_tick(sink, *ticks),
+            Line::Stop { node, calls, pick } => put_stop(sink, *node, *calls, *pick),
+            Line::Fail { node, calls } => put_fail(sink, *node, *calls),
+            Line::Crash { node } => put_crash(sink, *node),
+            Line::Fault { node } => put_fault(sink, *node),
+            Line::Restart { node, boot } => put_restart(sink, *node, *boot),
+            Line::Full { node } => put_full(sink, *node),
+            Line::Drop { client, fid } => put_drop(sink, *client, *fid),
+            Line::DropAll { client, server } => put_drop_all(sink, *client, *server),
+            Line::Owe {
+                server,
+                client,
+                fid,
+                number,
+            } => put_owe(sink, *server, *client, *fid, *number),
+            Line::Settle {
+                server,
+                client,
+                number,
+            } => put_settle(sink, *server, *client, *number),
+            Line::Quit {
+                server,
+                client,
+                number,
+            } => put_quit(sink, *server, *client, *number),
+            Line::Void => "void\n".print(sink),
+        }
+    }
+}
