@@ -1,8 +1,8 @@
 -- Reading one entry after the other.
 use Rattle.std.proofs.Common.{◌≡◌, ℕ, suc, ◌+◌, ◌-◌, ◌<◌, List, [], ◌∷◌, ◌++◌, Result, Ok, Err, ap, sym, ◌∙◌, arith}
 use Rattle.afs_num.specs.declared.acls.AclEntry.{AclEntry}
-use Rattle.afs_model.specs.ScriptWords.{◌>>=◌}
-use Rattle.afs_model.specs.AccessLists.{Refusal, entry_at, entries_at}
+use Rattle.afs_shape.specs.Reading.{◌>>=◌}
+use Rattle.afs_ideal.specs.AccessLists.{Refusal, entry_at, entries_at}
 
 -- at least one is left to read
 one_left : (count counter : ℕ) (others : List AclEntry) (bytes : List ℕ) → counter < count → entries_at (count - counter) others bytes ≡ (entry_at others bytes >>= (λ e. entries_at (count - (counter + 1)) (others ++ e.0 ∷ []) e.1))

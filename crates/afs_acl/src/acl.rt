@@ -1,6 +1,6 @@
 ghost use Rattle.std.specs.Prelude.{◌≡◌, ◌++◌, IfOk, OnOk, Ok};
 ghost use Rattle.std.specs.List.{flat_map};
-ghost use Rattle.afs_model.specs.AccessLists.{acl_at, acl_text, entry_text, number_line, matches, matching_rights, rights_of, without_rights};
+ghost use Rattle.afs_ideal.specs.AccessLists.{acl_at, acl_text, entry_text, number_line, matches, matching_rights, rights_of, without_rights};
 ghost use Rattle.afs_acl.specs.Reading.{Gives, GivesAcl};
 
 use crate::faults::AclFault;
@@ -22,7 +22,7 @@ pub struct Acl {
 
 impl Model for Acl {
     ghost use Rattle.afs_num.specs.declared.acls.AccessList.{AccessList};
-    ghost use Rattle.afs_model.specs.AccessLists.{IsAccessList};
+    ghost use Rattle.afs_ideal.specs.AccessLists.{IsAccessList};
 
     ghost Value = { AccessList };
 
@@ -55,7 +55,7 @@ impl Acl {
     }
 
     /// The rights that a user has by the list, as their sum. It takes no memory.
-    #[tactic(auto, unfolding(afs_model::specs::AccessLists::rights_of))]
+    #[tactic(auto, unfolding(afs_ideal::specs::AccessLists::rights_of))]
     pub fn rights(&self, user: &[u8]) -> u32
         ensures { result ≡ rights_of user.now self.now }
     {
@@ -66,7 +66,7 @@ impl Acl {
 }
 
 /// The access list that stands in a text.
-#[tactic(auto, unfolding(afs_model::specs::AccessLists::acl_at))]
+#[tactic(auto, unfolding(afs_ideal::specs::AccessLists::acl_at))]
 fn read(alloc: Global, text: &[u8]) -> Result<AccessList, Stop<'_>>
     ensures { Gives (λ a. a) (acl_at text.now) result }
 {
@@ -117,7 +117,7 @@ fn put_number(alloc: Global, out: &mut Vec<u8>, n: usize) -> Mem<()>
 }
 
 /// Appends an entry.
-#[tactic(auto, unfolding(afs_model::specs::AccessLists::entry_text))]
+#[tactic(auto, unfolding(afs_ideal::specs::AccessLists::entry_text))]
 fn put_entry(alloc: Global, out: &mut Vec<u8>, entry: &AclEntry) -> Mem<()>
     ensures { OnOk result (out.new.items ≡ out.old.items ++ entry_text entry.now) }
 {
@@ -137,7 +137,7 @@ fn put_entries(alloc: Global, out: &mut Vec<u8>, entries: &[AclEntry]) -> Mem<()
 }
 
 /// The text of an access list.
-#[tactic(auto, unfolding(afs_model::specs::AccessLists::acl_text))]
+#[tactic(auto, unfolding(afs_ideal::specs::AccessLists::acl_text))]
 fn spelled(alloc: Global, list: &AccessList) -> Mem<Octets>
     ensures { IfOk result (λ t. t ≡ acl_text list.now) }
 {

@@ -2,7 +2,7 @@
 
 ghost use Rattle.std.specs.Prelude.{◌≡◌, ◌≤◌, ◌+◌, ◌-◌, ◌*◌, [], length, Some, None, if◌then◌else◌};
 ghost use Rattle.std.specs.List.{prefix_len};
-ghost use Rattle.afs_model.specs.AccessLists.{goes_on, digits_at, line_number_at, count_at, is_acl_byte, is_named, name_length, named_at, name_at, entry_at, entries_at, must_be_few, must_end};
+ghost use Rattle.afs_ideal.specs.AccessLists.{goes_on, digits_at, line_number_at, count_at, is_acl_byte, is_named, name_length, named_at, name_at, entry_at, entries_at, must_be_few, must_end};
 ghost use Rattle.afs_acl.specs.Reading.{Gives};
 
 use crate::stops::Stop;
@@ -45,7 +45,7 @@ fn digits(bytes: &[u8], most: u32, first: u32) -> Result<(u32, &[u8]), Stop<'_>>
 }
 
 /// The number on the line that stands first, and what follows it.
-#[tactic(auto, unfolding(afs_model::specs::AccessLists::line_number_at))]
+#[tactic(auto, unfolding(afs_ideal::specs::AccessLists::line_number_at))]
 fn line_number(bytes: &[u8], most: u32) -> Result<(u32, &[u8]), Stop<'_>>
     ensures { Gives (λ r. (r.0, r.1.now)) (line_number_at most bytes.now) result }
 {
@@ -58,7 +58,7 @@ fn line_number(bytes: &[u8], most: u32) -> Result<(u32, &[u8]), Stop<'_>>
 }
 
 /// A count of entries.
-#[tactic(auto, unfolding(afs_model::specs::AccessLists::count_at))]
+#[tactic(auto, unfolding(afs_ideal::specs::AccessLists::count_at))]
 pub fn count(bytes: &[u8]) -> Result<(u32, &[u8]), Stop<'_>>
     ensures { Gives (λ r. (r.0, r.1.now)) (count_at bytes.now) result }
 {
@@ -96,7 +96,7 @@ fn is_named(entries: &[AclEntry], name: &[u8]) -> bool
 }
 
 /// What follows the tab behind a name, where the name is new.
-#[tactic(auto, unfolding(afs_model::specs::AccessLists::named_at))]
+#[tactic(auto, unfolding(afs_ideal::specs::AccessLists::named_at))]
 fn named<'a>(
     others: &[AclEntry],
     name: &'a [u8],
@@ -111,7 +111,7 @@ fn named<'a>(
 }
 
 /// A name that none of the others has, and what follows its tab.
-#[tactic(auto, unfolding(afs_model::specs::AccessLists::name_at))]
+#[tactic(auto, unfolding(afs_ideal::specs::AccessLists::name_at))]
 fn name<'a>(others: &[AclEntry], bytes: &'a [u8]) -> Result<(&'a [u8], &'a [u8]), Stop<'a>>
     ensures { Gives (λ r. (r.0.now, r.1.now)) (name_at others.now bytes.entry.now) result }
 {
@@ -120,7 +120,7 @@ fn name<'a>(others: &[AclEntry], bytes: &'a [u8]) -> Result<(&'a [u8], &'a [u8])
 }
 
 /// An entry behind the others, and what follows it.
-#[tactic(auto, unfolding(afs_model::specs::AccessLists::entry_at))]
+#[tactic(auto, unfolding(afs_ideal::specs::AccessLists::entry_at))]
 fn entry<'a>(
     alloc: Global,
     others: &[AclEntry],

@@ -5,7 +5,7 @@ use Rattle.std.proofs.lemmas.List.{append-nil}
 use Rattle.afs_num.specs.declared.directories.Name.{Name}
 use Rattle.afs_shape.specs.Reading.{◌>>=◌}
 use Rattle.afs_shape.proofs.Loops.{with_front}
-use Rattle.afs_model.specs.Directories.{may_follow, follow, name_at, names_at}
+use Rattle.afs_ideal.specs.Directories.{may_follow, follow, name_at, names_at}
 use Rattle.afs_xdr.specs.Reading.{Reading}
 use Rattle.afs_dir.specs.declared.reading.Stop.{Stop}
 use Rattle.afs_dir.specs.declared.reading.Stop.TheVariants as causes

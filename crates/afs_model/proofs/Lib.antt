@@ -33,13 +33,6 @@ pub mod Moments
 pub mod HeadLaws
 pub mod RpcLaws
 pub mod FsMade
-pub mod Directories
-pub mod DirectoryBytes
 pub mod Calls
 pub mod ScriptWritten
 pub mod ScriptSaid
-pub mod AccessLists
-pub mod Tables
-pub mod VnodeImage
-pub mod Edits
-pub mod Operated

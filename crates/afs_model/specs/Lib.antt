@@ -30,13 +30,3 @@ pub mod Disk
 pub mod Journal
 pub mod Calls
 pub mod CallLaws
-pub mod Directories
-pub mod DirectoryLaws
-pub mod AccessLists
-pub mod Tables
-pub mod VnodeImage
-pub mod VnodeMaps
-pub mod Volumes
-pub mod Operations
-pub mod Replies
-pub mod Soundness

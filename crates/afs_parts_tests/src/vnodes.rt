@@ -1,4 +1,4 @@
-ghost use Rattle.afs_model.specs.VnodeImage.{FitsImage};
+ghost use Rattle.afs_ideal.specs.VnodeImage.{FitsImage};
 
 use afs_num::sequences::Octets;
 use afs_num::vnodes::Vnode;

@@ -1,7 +1,7 @@
 -- What a call that reads an image gives, in terms of the bytes that were left.
 use Rattle.std.specs.Prelude.{◌≡◌, ℕ, List, Result, Ok, Err}
 use Rattle.afs_xdr.specs.Reading.{Reading}
-use Rattle.afs_model.specs.VnodeImage.{BadField}
+use Rattle.afs_ideal.specs.VnodeImage.{BadField}
 use Rattle.afs_vnode.specs.declared.faults.ImageFault.{ImageFault}
 use Rattle.afs_vnode.specs.declared.faults.ImageFault.TheVariants as faults
 

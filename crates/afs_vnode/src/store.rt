@@ -2,9 +2,9 @@
 
 ghost use Rattle.std.specs.Prelude.{◌≡◌, ◌≤◌, ◌<◌, ◌%◌, ◌↔◌, ℕ, true, [], Err, None, is_some, length, slice_get, IfOk, IfSome, IsOk, OnOk, OnErr};
 ghost use Rattle.std.specs.Option.{option_copied, option_map};
-ghost use Rattle.afs_model.specs.Tables.{get, set, unset, AscendsFrom};
-ghost use Rattle.afs_model.specs.VnodeImage.{FitsImage};
-ghost use Rattle.afs_model.specs.VnodeMaps.{most_vnodes, is_full_for, first_number, allocated, changed_since};
+ghost use Rattle.afs_ideal.specs.Tables.{get, set, unset, AscendsFrom};
+ghost use Rattle.afs_ideal.specs.VnodeImage.{FitsImage};
+ghost use Rattle.afs_ideal.specs.VnodeMaps.{most_vnodes, is_full_for, first_number, allocated, changed_since};
 ghost use Rattle.afs_vnode.specs.Stores.{raised, lowered};
 ghost use Rattle.afs_vnode.specs.declared.faults.VnodeFault.TheVariants.{TooMany};
 
@@ -26,7 +26,7 @@ pub struct VnodeStore {
 
 impl Model for VnodeStore {
     ghost use Rattle.afs_num.specs.declared.vnodes.Vnode.{Vnode};
-    ghost use Rattle.afs_model.specs.Tables.{Table};
+    ghost use Rattle.afs_ideal.specs.Tables.{Table};
     ghost use Rattle.afs_vnode.specs.Stores.{table_of, IsStore};
 
     ghost Value = { Table Vnode };

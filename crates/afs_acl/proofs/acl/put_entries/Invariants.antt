@@ -1,6 +1,6 @@
 use Rattle.std.proofs.Common.{◌≡◌, ◌++◌, take}
 use Rattle.std.specs.List.{flat_map}
-use Rattle.afs_model.specs.AccessLists.{entry_text}
+use Rattle.afs_ideal.specs.AccessLists.{entry_text}
 use Rattle.afs_acl.proofs.acl.put_entries.Given as goal
 
 abbrev pub invariant-loop-entry : goal.invariant-loop-entry

@@ -1,7 +1,7 @@
 use Rattle.std.proofs.Common.{refl, ap, ◌∙◌}
 use Rattle.std.specs.Ordering.{is_some_and, is_lt}
 use Rattle.std.specs.Cmp.Lexicographic.{lists_agrees}
-use Rattle.afs_model.specs.Directories.{bytes_below}
+use Rattle.afs_ideal.specs.Directories.{bytes_below}
 use Rattle.afs_dir.proofs.places.is_below.Goals as goal
 
 -- `<` on slices is the order of `cmp`

@@ -1,7 +1,7 @@
 use Rattle.std.proofs.Common.{◌≡◌, true, is_some, length, sym, ◌∙◌, arith, rules}
 use Rattle.std.proofs.lemmas.List.{length-map}
-use Rattle.afs_model.specs.Tables.{get}
-use Rattle.afs_model.proofs.Tables.{free_from, free_bound, free_above, free_here}
+use Rattle.afs_ideal.specs.Tables.{get}
+use Rattle.afs_ideal.proofs.Tables.{free_from, free_bound, free_above, free_here}
 use Rattle.afs_vnode.specs.Stores.{table_of}
 use Rattle.afs_vnode.proofs.sorted.free_number.Goals as goal
 

@@ -1,5 +1,5 @@
 use Rattle.std.proofs.Common.{◌≡◌, ◌+◌, ◌-◌, ◌*◌, length}
-use Rattle.afs_model.specs.Tables.{lowest_free}
+use Rattle.afs_ideal.specs.Tables.{lowest_free}
 use Rattle.afs_vnode.specs.Stores.{table_of}
 use Rattle.afs_vnode.proofs.sorted.free_number.Given as goal
 

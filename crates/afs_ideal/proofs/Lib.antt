@@ -1,0 +1,14 @@
+pub mod Basics
+pub mod Tables
+pub mod Directories
+pub mod DirectoryBytes
+pub mod AccessLists
+pub mod VnodeImage
+pub mod Edits
+pub mod Scopes
+pub mod Counts
+pub mod Maps
+pub mod Ranks
+pub mod Steps
+pub mod Looks
+pub mod Operated

@@ -1,0 +1,14 @@
+pub mod Tables
+pub mod Directories
+pub mod DirectoryLaws
+pub mod AccessLists
+pub mod VnodeImage
+pub mod VnodeMaps
+pub mod Volumes
+pub mod Images
+pub mod Operations
+pub mod Replies
+pub mod SetUp
+pub mod Soundness
+pub mod Told
+pub mod ChangeLaws
