@@ -18,6 +18,7 @@ use Rattle.afs_num.specs.declared.calls.FsReply.{FsReply}
 use Rattle.afs_num.specs.declared.messages.Carried.{Carried}
 use Rattle.afs_num.specs.declared.messages.Message.{Message}
 use Rattle.afs_num.specs.declared.messages.Received.TheVariants.{Whole}
+use Rattle.afs_ideal.specs.Operations.{volume_changed}
 use Rattle.afs_law.proofs.Asking.{client_kept, call_known, reply_still, step_entry, view_after, moves, nothing_new, Heard, told_passes, shown_lines, shown_file, shown_reach, shown_seen, answered_seen, own_zero, shown_passes, answered_lines, answered_file, answered_reach, answered_passes, used_lines, used_grant, used_file, used_reach, used_passes, quiet, safe_cache, own_call, asks, own_begun, idle_asks, no_scope, same_one, call_is, heard_dull, used_by, Passes, not_client, reads_by_other, new_one}
 use Rattle.afs_law.proofs.Basics.{UpTo, Above, IfCall, IfReply, IfNotice, OfReply, OfNotice, up_to_by, yes_no, both, same_fid-true, same_fid-refl, same_node-refl, client_number, up_to_both, found-cached-fid, found-first, none-first, found-refreshed, OfCall, each_at, some_of, ByServer, OfClient, by_client, IfBack, up_to_next, next_not, same_node-true, raised_up_to}
 use Rattle.afs_law.proofs.Dropping.{left_out, called_goes}
@@ -41,8 +42,8 @@ use Rattle.afs_law.specs.Runs.{Entry, Cell, message_at, client_moves, begun_by, 
 use Rattle.afs_law.specs.States.{CacheEntry, Seat}
 use Rattle.afs_law.specs.Steps.{Step}
 use Rattle.afs_model.specs.Calls.{call_seat}
-use Rattle.afs_model.specs.Operations.{volume_changed}
 use Rattle.afs_num.specs.declared.scripts.Script.{Script}
+use Rattle.afs_num.specs.declared.histories.Actor.TheVariants as actors
 use Rattle.afs_num.specs.declared.histories.ReadSource.TheVariants.{Fetched}
 use Rattle.std.proofs.Math.Nat.{le_refl, le_trans, eq-or-lt_of_le}
 use Rattle.afs_num.specs.declared.histories.Body.{Body}
@@ -597,14 +598,14 @@ used_on_goes (answers k) y s c past n p act f head contents status callback sync
 -- the client calls again
 pub again_goes : (s : Script) (c : Cell) (past : List Entry) (n p : ℕ) (act : Going) (m : Message) → (h : Holds s c past) → Due c h.floors past n p act m → volume_changed (asked act) ≡ None → Goes s past (client_moves c n (calls_step (Client n) (c.clients n) act (lines.Given p)))
 again_goes s c past n p act m h d shut =
-    asks s c past n act (lines.Given p) h (tt, tt) (told_passes s c past n p _ _ h d.heard) (λ g. told_file n p g (Some (Client n)) _ past) (λ g. told_reach n p g (Some (Client n)) _ past) (λ g o. (h.clients n).made act d.running g o) (λ b y. ap (λ (z : Going). volume_changed (asked z)) (some_of b act (sym y ∙ d.running)) ∙ shut) ((h.clients n).runs act d.running) (λ z. d.running)
+    asks s c past n act (lines.Given p) h (tt, tt) (told_passes s c past n p _ _ h d.heard) (λ g. told_file n p g (actors.Node (Client n)) _ past) (λ g. told_reach n p g (actors.Node (Client n)) _ past) (λ g o. (h.clients n).made act d.running g o) (λ b y. ap (λ (z : Going). volume_changed (asked z)) (some_of b act (sym y ∙ d.running)) ∙ shut) ((h.clients n).runs act d.running) (λ z. d.running)
 
 pub fetched_goes : (s : Script) (c : Cell) (past : List Entry) (n p : ℕ) (act : Going) (f : Fid) (head : Head) (contents : List ℕ) (status : AfsFetchStatus) (callback : AfsCallBack) (sync : AfsVolSync) (t : Bool) → (h : Holds s c past)
     → Due c h.floors past n p act (record { head = head; carried = carried.Reply (replies.FetchData contents status callback sync) }) → volume_changed (asked act) ≡ None → IsFetched false n f status.sync_counter (body_told status.file_type contents) callback.expiration_time (record { head = head; carried = carried.Reply (replies.FetchData contents status callback sync) }) past → nat_lt c.clock callback.expiration_time ≡ t
     → Goes s past (client_moves c n (cond t (used_on (Client n) (c.clients n) p act (record { fid = f; index = status.sync_counter; expiry = callback.expiration_time; body = body_told status.file_type contents }) (next act) (next (with_read f (body_told status.file_type contents) act))) (calls_step (Client n) (c.clients n) act (lines.Given p))))
 fetched_goes s c past n p act f head contents status callback sync true h d shut a lasts = used_on_goes _ _ s c past n p act f head contents status callback sync h d shut a lasts refl refl
 fetched_goes s c past n p act f head contents status callback sync false h d shut a lasts =
-    asks s c past n act (lines.Given p) h (tt, tt) (told_passes s c past n p _ _ h d.heard) (λ g. told_file n p g (Some (Client n)) _ past) (λ g. told_reach n p g (Some (Client n)) _ past) (λ g o. (h.clients n).made act d.running g o) (λ b y. ap (λ (z : Going). volume_changed (asked z)) (some_of b act (sym y ∙ d.running)) ∙ shut) ((h.clients n).runs act d.running) (λ z. d.running)
+    asks s c past n act (lines.Given p) h (tt, tt) (told_passes s c past n p _ _ h d.heard) (λ g. told_file n p g (actors.Node (Client n)) _ past) (λ g. told_reach n p g (actors.Node (Client n)) _ past) (λ g o. (h.clients n).made act d.running g o) (λ b y. ap (λ (z : Going). volume_changed (asked z)) (some_of b act (sym y ∙ d.running)) ∙ shut) ((h.clients n).runs act d.running) (λ z. d.running)
 
 -- ---- an answered store
 
@@ -716,9 +717,9 @@ resends_goes s c past n p act m boot h d le runs =
     let ms : List Message = call_message (Client n) x act ∷ [] in
     let e : Entry = step_entry n (lines.Given p ∷ []) ms in
     moves s c past n (h.floors n) (resends_step (Client n) (c.clients n) p act boot) h (tt, tt) (told_passes s c past n p m ms h d)
-    (client_kept s c past n boot e h le (λ f. told_file n p f (Some (Client n)) ms past) (λ f. told_reach n p f (Some (Client n)) ms past) (told_act n p (Some (Client n)) ms past) (λ f. refl))
+    (client_kept s c past n boot e h le (λ f. told_file n p f (actors.Node (Client n)) ms past) (λ f. told_reach n p f (actors.Node (Client n)) ms past) (told_act n p (actors.Node (Client n)) ms past) (λ f. refl))
     (λ head call f. call_known (view h.floors c n) boot head call f)
-    (reply_still n (view h.floors c n) e past (λ f. told_file n p f (Some (Client n)) ms past) (λ f. told_reach n p f (Some (Client n)) ms past) (λ f. refl))
+    (reply_still n (view h.floors c n) e past (λ f. told_file n p f (actors.Node (Client n)) ms past) (λ f. told_reach n p f (actors.Node (Client n)) ms past) (λ f. refl))
     (own_call h.floors c past n (h.floors n) x act (lines.Given p ∷ []) le runs ((h.clients n).runs act runs) (same_one s c past n act ms h runs)) (λ a x z. inl x) refl
 
 -- ---- the row, by its cases

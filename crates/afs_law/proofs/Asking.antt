@@ -9,6 +9,7 @@ use Rattle.afs_num.specs.declared.types.Key.{Key}
 use Rattle.afs_num.specs.declared.types.Node.TheVariants.{Client}
 use Rattle.afs_num.specs.declared.calls.FsCall.{FsCall}
 use Rattle.afs_num.specs.declared.messages.Message.{Message}
+use Rattle.afs_ideal.specs.Operations.{volume_changed}
 use Rattle.afs_law.proofs.Backing.{Plain, backed_plain, seated_over, plain_step}
 use Rattle.afs_law.proofs.Basics.{Each, IfCall, IfReply, ByClient, OfClient, client_any, by_client, both, same_fid-true, same_node-true, same_node-refl, node_apart, client_number, up_to_same, up_to_next, next_not, below_not, at_puts, each_map, if_call, raised_up_to, some_of, IfBack, IfDone, same_key-refl, OfCall, UpTo}
 use Rattle.afs_law.proofs.Edits.{index_in, fid_at, sound_same}
@@ -29,8 +30,8 @@ use Rattle.afs_law.specs.Runs.{Entry, Cell, message_at, client_moves}
 use Rattle.afs_law.specs.States.{CacheEntry, Seat}
 use Rattle.afs_law.specs.Steps.{Step}
 use Rattle.afs_model.specs.Calls.{call_seat}
-use Rattle.afs_model.specs.Operations.{volume_changed}
 use Rattle.afs_num.specs.declared.scripts.Script.{Script}
+use Rattle.afs_num.specs.declared.histories.Actor.TheVariants as actors
 use Rattle.afs_num.specs.declared.histories.Body.{Body}
 use Rattle.afs_num.specs.declared.histories.ReadSource.TheVariants.{Cached, Fetched}
 use Rattle.afs_num.specs.declared.histories.Version.{Version}
@@ -46,7 +47,7 @@ use Rattle.afs_law.specs.Lines as lines
 -- ---- what any step of client n needs
 
 abbrev pub step_entry : ℕ → List Line → List Message → Entry
-step_entry n ls ms = record { node = Some (Client n); lines = ls; sent = ms; volumes = [] }
+step_entry n ls ms = record { actor = actors.Node (Client n); lines = ls; sent = ms; volumes = [] }
 
 -- what its lines leave as it was
 pub record Passes (s : Script) (n : ℕ) (ls : List Line) (ms : List Message) (past : List Entry) : Type 0 where
@@ -95,7 +96,7 @@ pub seat_put : (t : Bool) (c : Cell) (n j : ℕ) (x y : ClientState) (seat : Sea
 seat_put true c n j x y seat m past e at is a b = subst (λ (k : ℕ). SeatedIn c.down c.backs.calls c.backs.last_call c.server.boot past k m) (eqb-true n j e) (a seat m at is)
 seat_put false c n j x y seat m past e at is a b = b at
 
-pub moves_back : (s : Script) (c : Cell) (past : List Entry) (n : ℕ) (floor : Ghost) (st : Step ClientState) → (h : Holds s c past) → AreGood s (Some (Client n)) past [] st.lines → Passes s n st.lines st.sent past
+pub moves_back : (s : Script) (c : Cell) (past : List Entry) (n : ℕ) (floor : Ghost) (st : Step ClientState) → (h : Holds s c past) → AreGood s (actors.Node (Client n)) past [] st.lines → Passes s n st.lines st.sent past
     → ClientFacts n (view_after c n floor st.state) ((client_moves c n st).entry ∷ past)
     → ((head : Head) (call : FsCall) → CallFact (view h.floors c n) head call → CallFact (view_after c n floor st.state) head call)
     → ((m : Message) → ReplyFact n (view h.floors c n) past m → ReplyFact n (view_after c n floor st.state) ((client_moves c n st).entry ∷ past) m)
@@ -112,7 +113,7 @@ moves_back s c past n floor st h good p own w q fresh went keeps =
         floors = put n floor h.floors;
         count = h.count;
         ideal = λ id. h.ideal id ∙ sym (p.ideal id);
-        readable = h.readable;
+        fine = h.fine;
         sound = λ id. sound_same id _ (lines_of past) (lines_of (e ∷ past)) (λ a u. last (fid_at id a u)) (h.sound id);
         home = λ id v found. p.home id (lines_of past) (h.home id v found);
         new = λ k above. p.new k (lines_of past) (h.new k above);
@@ -135,7 +136,7 @@ pub old_seat : (s : Script) (c : Cell) (past : List Entry) (n : ℕ) (e : Entry)
 old_seat s c past n e p h seat m x y = seated_over c.down c.down c.backs c.backs c.server.boot c.clock c.clock e past (plain_step c.down c.backs c.clock c.clock e past p (le_refl _)) n m ((h.backs refl).seated n seat m x y)
 
 -- the client keeps what it kept for the server
-pub moves : (s : Script) (c : Cell) (past : List Entry) (n : ℕ) (floor : Ghost) (st : Step ClientState) → (h : Holds s c past) → AreGood s (Some (Client n)) past [] st.lines → Passes s n st.lines st.sent past
+pub moves : (s : Script) (c : Cell) (past : List Entry) (n : ℕ) (floor : Ghost) (st : Step ClientState) → (h : Holds s c past) → AreGood s (actors.Node (Client n)) past [] st.lines → Passes s n st.lines st.sent past
     → ClientFacts n (view_after c n floor st.state) ((client_moves c n st).entry ∷ past)
     → ((head : Head) (call : FsCall) → CallFact (view h.floors c n) head call → CallFact (view_after c n floor st.state) head call)
     → ((m : Message) → ReplyFact n (view h.floors c n) past m → ReplyFact n (view_after c n floor st.state) ((client_moves c n st).entry ∷ past) m)
@@ -158,9 +159,9 @@ heard_dull s c past p m h d k boot x = d.not_to (subst (λ (o : Option Message).
 
 pub told_passes : (s : Script) (c : Cell) (past : List Entry) (n p : ℕ) (m : Message) (ms : List Message) → Holds s c past → Heard c p m → Passes s n (lines.Given p ∷ []) ms past
 told_passes s c past n p m ms h d = record {
-  file = λ j ne f. told_file j p f (Some (Client n)) ms past;
-  reach = λ j ne f. told_reach j p f (Some (Client n)) ms past;
-  act = λ j ne. told_act j p (Some (Client n)) ms past;
+  file = λ j ne f. told_file j p f (actors.Node (Client n)) ms past;
+  reach = λ j ne f. told_reach j p f (actors.Node (Client n)) ms past;
+  act = λ j ne. told_act j p (actors.Node (Client n)) ms past;
   last = λ f o. refl;
   back = λ f i b o x. x;
   new = λ k o x. x;
@@ -360,8 +361,8 @@ pub quiet : (s : Script) (c : Cell) (past : List Entry) (n p : ℕ) (m : Message
 quiet s c past n p m h d =
     let e : Entry = step_entry n (lines.Given p ∷ []) [] in
     moves s c past n (h.floors n) (ignores (c.clients n) p) h (tt, tt) (told_passes s c past n p m [] h d)
-    (client_still n (view h.floors c n) e past (λ f. told_file n p f (Some (Client n)) [] past) (λ f. told_reach n p f (Some (Client n)) [] past) (told_act n p (Some (Client n)) [] past) (λ f. refl) (h.clients n))
-    (λ head call f. f) (reply_still n (view h.floors c n) e past (λ f. told_file n p f (Some (Client n)) [] past) (λ f. told_reach n p f (Some (Client n)) [] past) (λ f. refl)) (nothing_new _ _) (λ a x z. inl x) refl
+    (client_still n (view h.floors c n) e past (λ f. told_file n p f (actors.Node (Client n)) [] past) (λ f. told_reach n p f (actors.Node (Client n)) [] past) (told_act n p (actors.Node (Client n)) [] past) (λ f. refl) (h.clients n))
+    (λ head call f. f) (reply_still n (view h.floors c n) e past (λ f. told_file n p f (actors.Node (Client n)) [] past) (λ f. told_reach n p f (actors.Node (Client n)) [] past) (λ f. refl)) (nothing_new _ _) (λ a x z. inl x) refl
 
 -- ---- a call is sent
 
@@ -495,7 +496,7 @@ same_one s c past n act ms h runs =
     (subst (λ (x : FsCall). call_under k (sent_of past) ≡ Some (guest, x)) (sym (call_is act))
     (called_one n k guest (asked act) (sent_of past) past refl ((h.clients n).asked act runs) (subst (λ (S : List Message). Each (IfCall (IsOne S)) S) (sym h.sent.told) h.sent.ones)))
 
-pub asks : (s : Script) (c : Cell) (past : List Entry) (n : ℕ) (act : Going) (l : Line) → Holds s c past → AreGood s (Some (Client n)) past [] (l ∷ []) → Passes s n (l ∷ []) (call_message (Client n) (asking (c.clients n) act) act ∷ []) past
+pub asks : (s : Script) (c : Cell) (past : List Entry) (n : ℕ) (act : Going) (l : Line) → Holds s c past → AreGood s (actors.Node (Client n)) past [] (l ∷ []) → Passes s n (l ∷ []) (call_message (Client n) (asking (c.clients n) act) act ∷ []) past
     → ((f : Fid) → PassesFile n f (step_entry n (l ∷ []) (call_message (Client n) (asking (c.clients n) act) act ∷ [])) past) → ((f : Fid) → PassesReach n f (step_entry n (l ∷ []) (call_message (Client n) (asking (c.clients n) act) act ∷ [])) past)
     → ((f : Fid) → (InScope (asked act) f → ⊥) → (reach (Client n) f (step_entry n (l ∷ []) (call_message (Client n) (asking (c.clients n) act) act ∷ []) ∷ past)).made ≡ 0) → ((a : Going) → (c.clients n).running ≡ Some a → volume_changed (asked a) ≡ None) → running (Client n) (l ∷ lines_of past) ≡ Some act → (has_begun (Client n) (l ∷ []) ≡ false → (c.clients n).running ≡ Some act) → Goes s past (client_moves c n (calls_step (Client n) (c.clients n) act l))
 asks s c past n act l h good p q r none shut at went =

@@ -1,11 +1,15 @@
 use Rattle.std.proofs.Common.{◌≡◌, ℕ, ◌+◌, ◌<◌, ◌≤◌, ◌⊎◌, inl, inr, Bool, true, false, cond, nat_eq, length, List, [], ◌∷◌, ◌++◌, Option, Some, None, ℤ, pos, refl, sym, ap, subst, ◌∙◌, arith, eq-eqb, eqb-true, le_of_eq, append-nil, nat_lt, ltb-true, ltb-false, eqb}
+use Rattle.afs_ideal.specs.Operations.{the_user, reads, Shown, Result, refused, changes, no_operation, code_of, op, shows_acl, no_amend, volume_called, volume_changed, changed}
+use Rattle.afs_ideal.specs.Replies.{status_of, change_reply, stamped}
+use Rattle.afs_ideal.specs.Tables.{Table, get, set}
+use Rattle.afs_ideal.specs.Volumes.{type_of, bytes_by, Volume, Vnode, Kind, a_file, a_directory, a_link, body_by, body_of, vnode_of, if_unique, version_at, Edit, versions_by, edited_all, counted, amended}
 use Rattle.afs_law.proofs.Backing.{Plain, all_lines, is_up, is_still, is_oweless, is_unchanging, backed_fall, granted_over, change_back, no_owe, promised_over}
 use Rattle.afs_law.proofs.Basics.{kept_last, not_above, runs_above, Below, UpTo, Above, Each, IfCall, IfReply, IfNotice, if_notice, OfReply, OfNotice, above_up, up_to_by, by_server, IfBack, IfDone, ByClient, OfClient, client_any, by_client, both, same_fid-true, same_fid-refl, apart, same_node-true, client_number, up_to_below, below_up_to, below_not, up_to_same, LastSeat, own_seat, at_seat, OfCall, each_map, each_at, if_call, if_reply, raised_up_to, some_of, yes_no}
 use Rattle.afs_law.proofs.Edits.{index_in, fid_at, Sound, SoundIn, sound_same, Tops, live, live_index, get-set, on_top, Grow, Told, edits_told, counted_sound, Rises, rises, tops, touches, untouched, touched_volume, not_touched, there}
 use Rattle.afs_law.proofs.Facts.{HeldIn, ToClient, Ghost, Seen, HoldsAt, server_boot, up_boot, risen, LastStored, IsStored, IsActs, IsLastCall, IsAged, IsUntrusted, View, view_of, view, Spot, spot, LastRan, ReplyFact, IsBehind, AreKept, MayRun, HasFallen, IsCut, Reached, Stands, IsCurrent, HasCurrent, Fits, Answers, IsReply, KeptReply, ClientFacts, CallFact, CallIn, ReplyIn, Origin, AreHome, AreNew, AreUnheard, stored_index, Holds, Goes, IsNoticed, IsOne, InScope, IsFetched, FitsReply, FitsData, FitsSet, FitsPlain, WasChanged, AreIdeal, AreSound, is_in_scope, WasStored}
 use Rattle.afs_law.proofs.Loading.{is_tickless, down_later, none_loaded, still_backed, known_backed, resent, change_loaded, rise_loaded, owes_unchanging, all_new, number_front, number_second, run_loaded, key_held, no_change, all_waited, NewReply, settles_good, settles_backed, quits_good, quits_backed, retries_backed, all_owed, alls_good}
 use Rattle.afs_law.proofs.Notes.{AreNotes, Skips, skips, told_entry, told_rests, risen_entry, risen_rests, noted_entry, noted_rests, owe_notes, settle_notes, quit_notes, no_versions}
-use Rattle.afs_law.proofs.Ops.{IsShown, reads_is, op_code}
+use Rattle.afs_law.proofs.Ops.{IsShown, reads_is, op_code, op_is}
 use Rattle.afs_law.proofs.Owing.{AllOf, HeldWaits, BackedIn, IsDone, DroppedOwe, IsGranted, IsNumberIn, all_filter, DoneIn}
 use Rattle.afs_law.proofs.Passing.{ran_over, stands_over, answers_over, reply_over, kept_over, replies_over, waiting_over, fallen_over, replies_still, PassesBoth, PassesSeen, held_over, fetch_reply_by, cause_over, PassesFile, PassesAct, PassesReach, StaysNewest, stays, current_over, reached_more, client_over, client_still, News, more_sent, PassesGrant}
 use Rattle.afs_law.proofs.Pumping.{of_reply_any, no_call, no_notice, no_news, news_more, news_held, pumped_news, starts_held, news_break}
@@ -28,10 +32,6 @@ use Rattle.afs_law.specs.Runs.{begun_by_disk, Entry, Cell, message_at, Armed, un
 use Rattle.afs_law.specs.ServerRow.{begun_after, begun_before, not_served, serves_call, shows, Reading, no_room, has_room, longer, revived, device_calls, promise_until, promise_ticks, decides, Decision, drops, tells_boot, repeats, refuses, saves, runs, admits, called, hears, reply_head, replied, boot_told, refusal, told, does, versioned, Change, made, result, saved, decided, in_volume, with_volume}
 use Rattle.afs_law.specs.States.{CacheEntry, Seat, ServerState}
 use Rattle.afs_model.specs.Calls.{Admitted, call_seat, call_seated}
-use Rattle.afs_model.specs.Operations.{the_user, reads, Shown, Result, refused, changes, code_of, op, shows_acl, no_amend, volume_called, volume_changed, changed}
-use Rattle.afs_model.specs.Replies.{status_of, type_of, change_reply, stamped}
-use Rattle.afs_model.specs.Tables.{Table, get, set}
-use Rattle.afs_model.specs.Volumes.{bytes_by, Volume, Vnode, Kind, a_file, a_directory, a_link, body_by, body_of, vnode_of, if_unique, version_at, Edit, versions_by, edited_all, counted, amended}
 use Rattle.afs_model.specs.Calls as pairs
 use Rattle.afs_num.specs.declared.messages.Received.{Received}
 use Rattle.std.specs.Prelude.{◌&&◌, ⊤, map, filter, not}
@@ -49,6 +49,7 @@ use Rattle.afs_num.specs.declared.messages.Carried.{Carried}
 use Rattle.afs_num.specs.declared.messages.Message.{Message}
 use Rattle.afs_num.specs.declared.messages.Received.TheVariants.{Whole}
 use Rattle.afs_num.specs.declared.scripts.Script.{Script}
+use Rattle.afs_num.specs.declared.histories.Actor.TheVariants as actors
 use Rattle.afs_num.specs.declared.histories.Body.{Body}
 use Rattle.afs_num.specs.declared.histories.Version.{Version}
 use Rattle.std.proofs.Math.Nat.{le_refl, le_trans, eq-or-lt_of_le}
@@ -153,6 +154,7 @@ pub decided_just : (s : Script) (c : Cell) (past : List Entry) (n : ℕ) (h : He
     → IsJust c H.floors past (call_at n h user call) (decided c.server (client_head n h) (the_user user) call id v r)
 decided_just s c past n h user call id v (refused code) H w of at e = record { call = call; due = due c H.floors past n h user call w; some = op_code id (the_user user) call v code of e; why = inl (why_refused (client_head n h) (answer_at user call past) code (answer_of s c past user call id (Some v) H of at ∙ ap Some e)) }
 decided_just s c past n h user call id v (reads shown) H w of at e = record { call = call; due = due c H.floors past n h user call w; of_volume = of; at = at; is = reads_is id (the_user user) call v shown of e; result = answer_of s c past user call id (Some v) H of at ∙ ap Some e }
+decided_just s c past n h user call id v no_operation H w of at e = absurd (op_is id (the_user user) call v of e)
 decided_just s c past n h user call id v (changes es shown) H w of at e = roomed_just s c past n h user call id v es shown _ H w (record { at = at; of_volume = of; result = e })
 
 pub in_just : (s : Script) (c : Cell) (past : List Entry) (n : ℕ) (h : Head) (user : List ℕ) (call : FsCall) (id : ℕ) (o : Option Volume) → (H : Holds s c past) → Now c H.floors past n h user call → volume_called call ≡ Some id → get id c.server.volumes ≡ o → IsJust c H.floors past (call_at n h user call) (in_volume c.server (client_head n h) (the_user user) call id o)
@@ -407,7 +409,7 @@ revives s b c past x h held backs =
       count = h.count;
       ideal = h.ideal;
       sound = h.sound;
-      readable = h.readable;
+      fine = h.fine;
       home = h.home;
       new = h.new;
       unheard = revived_heard c past h.unheard;
@@ -459,7 +461,7 @@ revives_down s c past fall h e =
       count = r.count;
       ideal = r.ideal;
       sound = r.sound;
-      readable = r.readable;
+      fine = r.fine;
       home = r.home;
       new = r.new;
       unheard = unheard_down c.down c.server.seats c.server.durable c.server.boot past h.unheard;
@@ -516,17 +518,17 @@ rises_goes s c past fall h e =
 
 -- from what is found the server rises, or stays down
 
-pub stays_before : (s : Script) (c : Cell) (past : List Entry) (fall : Fall) (l : Line) → Holds s c past → Rests s (alone (Some the_server) l) past → server_boot the_server (l ∷ lines_of past) ≡ None → clock_of (l ∷ lines_of past) ≡ clock_of (lines_of past) → given_message (l ∷ []) (sent_of past) ≡ None
-    → HasFallen (Some fall) c.server c.sent (alone (Some the_server) l ∷ past) → (c.down ≡ None → ⊥) → is_oweless l ≡ true → is_still l ≡ true → Holds s (record c { down = Some fall; armed = unarmed }) (alone (Some the_server) l ∷ past)
+pub stays_before : (s : Script) (c : Cell) (past : List Entry) (fall : Fall) (l : Line) → Holds s c past → Rests s (alone (actors.Node the_server) l) past → server_boot the_server (l ∷ lines_of past) ≡ None → clock_of (l ∷ lines_of past) ≡ clock_of (lines_of past) → given_message (l ∷ []) (sent_of past) ≡ None
+    → HasFallen (Some fall) c.server c.sent (alone (actors.Node the_server) l ∷ past) → (c.down ≡ None → ⊥) → is_oweless l ≡ true → is_still l ≡ true → Holds s (record c { down = Some fall; armed = unarmed }) (alone (actors.Node the_server) l ∷ past)
 stays_before s c past fall l h r boots clock none fallen dn ow st =
-    let e : Entry = alone (Some the_server) l in
+    let e : Entry = alone (actors.Node the_server) l in
     still s None (record c { down = Some fall; armed = unarmed }) (e ∷ past) (rests s None c past e 0 (Some fall) unarmed h boots refl r (clock ∙ plus_nothing (clock_of (lines_of past)))
     (λ k b lt. (λ x. subst (λ (o : Option Message). IsCallUnder the_server k b o) none x, unheard_later c.down c.server.seats c.server.boot past h.unheard k b lt)) fallen (λ z. fall_backed s c past e fall (rw ow refl) (rw st refl) (λ u. absurd (dn u)) h))
 
 pub ends_before : (s : Script) (c : Cell) (past : List Entry) (fall : Fall) (o : Outcome) → Holds s c past → c.down ≡ Some fall → Goes s past (server_ends c (begun_before c.server) fall o)
 ends_before s c past fall comes_up h e = rises_goes s c past fall h e
 ends_before s c past fall fails_early h e =
-    let x : Entry = alone (Some the_server) (lines.Fault the_server) in
+    let x : Entry = alone (actors.Node the_server) (lines.Fault the_server) in
     record { good = (tt, tt); replies = tt; holds = stays_before s c past fall (lines.Fault the_server) h (fault_rests s past) refl refl refl (subst (λ (d : Option Fall). HasFallen d c.server c.sent (x ∷ past)) e (fallen_still c.down c x past h.down)) (λ u. absurd cc) refl refl }
 ends_before s c past fall fails_midway h e = record { good = (tt, tt); replies = tt; holds = stays_before s c past in_boot (lines.Fault the_server) h (fault_rests s past) refl refl refl tt (λ u. absurd cc) refl refl }
 ends_before s c past fall is_full h e = record { good = (tt, tt); replies = tt; holds = stays_before s c past at_rest (lines.Full the_server) h (full_rests s past) (h.boots ∙ ap (λ (d : Option Fall). up_boot d c.server.boot) e) refl refl tt (λ u. absurd cc) refl refl }
@@ -546,7 +548,7 @@ pub down_not : (c : Cell) → {fall : Fall} → c.down ≡ Some fall → c.down 
 down_not c e z = absurd cc
 
 pub after_good : (s : Script) (c : Cell) (past : List Entry) (n : ℕ) (h : Head) (user : List ℕ) (call : FsCall) (id : ℕ) (v : Volume) (es : List Edit) (shown : ℕ) (ls : List Line) → (H : Holds s c past) → Now c H.floors past n h user call → Change' c past user call id v es shown → {fall : Fall} → c.down ≡ Some fall → versions_first ls ≡ []
-    → AreGood s (Some the_server) past (on_top (versions_by id es v) (lines.Change the_server (called_key (client_head n h)) (length (versions_by id es v)) ∷ [])) ls → AreGood s (Some the_server) past [] (lines.Change the_server (called_key (client_head n h)) (length (versions_by id es v)) ∷ versioned (versions_by id es v) ls)
+    → AreGood s (actors.Node the_server) past (on_top (versions_by id es v) (lines.Change the_server (called_key (client_head n h)) (length (versions_by id es v)) ∷ [])) ls → AreGood s (actors.Node the_server) past [] (lines.Change the_server (called_key (client_head n h)) (length (versions_by id es v)) ∷ versioned (versions_by id es v) ls)
 after_good s c past n h user call id v es shown ls H w q down none good =
     ((refl, saves_change_good s c past [] ls n h user call id v es shown H w q (H.new _ w.above_durable) refl (H.home id v q.at) none (λ j f x ne y l t. absurd (down_not c down ((H.backs refl).promised j f x l (subst (λ (z : ℕ). z < x) H.clock t)).0))), versions_good s past _ ls (versions_by id es v) tt good)
 
@@ -624,7 +626,7 @@ restarts_goes s c past after o (Some fall) h e = at_fall s c past after (settled
 
 pub stops_goes : (s : Script) (c : Cell) (past : List Entry) (d : Option Fall) → Holds s c past → c.down ≡ d → Goes s past (server_stopped c d)
 stops_goes s c past None h e =
-    let x : Entry = alone (Some the_server) (lines.Crash the_server) in
+    let x : Entry = alone (actors.Node the_server) (lines.Crash the_server) in
     record {
       good = (tt, tt);
       holds = still s None (record c { down = Some at_rest; armed = unarmed }) (x ∷ past) (rests s None c past x 0 (Some at_rest) unarmed h refl refl (server_crash_rests s past) (omega arith) (λ k b l. (λ z. z, unheard_later c.down c.server.seats c.server.boot past h.unheard k b l)) tt (λ z. fall_backed s c past x at_rest refl refl (λ u o. inl refl) h));
@@ -632,7 +634,7 @@ stops_goes s c past None h e =
     }
 stops_goes s c past (Some fall) h e = voids s c past h
 
-pub cut_good : (s : Script) (past : List Entry) (p : ℕ) (stops : Bool) → AreGood s (Some the_server) past [] (lines.Given p ∷ blow_line stops ∷ [])
+pub cut_good : (s : Script) (past : List Entry) (p : ℕ) (stops : Bool) → AreGood s (actors.Node the_server) past [] (lines.Given p ∷ blow_line stops ∷ [])
 cut_good s past p true = (tt, (tt, tt))
 cut_good s past p false = (tt, (tt, tt))
 

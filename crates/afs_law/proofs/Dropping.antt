@@ -42,6 +42,7 @@ use Rattle.afs_num.specs.declared.messages.Carried.{Carried}
 use Rattle.afs_num.specs.declared.messages.Carried.TheVariants as carried
 use Rattle.afs_num.specs.declared.messages.Message.{Message}
 use Rattle.afs_num.specs.declared.scripts.Script.{Script}
+use Rattle.afs_num.specs.declared.histories.Actor.TheVariants as actors
 use Rattle.afs_num.specs.declared.histories.Body.{Body}
 use Rattle.afs_num.specs.declared.histories.Body.TheVariants as bodies
 use Rattle.afs_law.specs.Lines as lines
@@ -93,7 +94,7 @@ pub record Skips (n : ℕ) (fs : List Fid) : Type 0 where
   pub owelesss : all_lines is_oweless (drops_of n fs) ≡ true
   pub unchangings : all_lines is_unchanging (drops_of n fs) ≡ true
   pub reach : (c : Node) (f : Fid) (past : List Entry) (r : Reach) → reach_over c f past false r (drops_of n fs) ≡ r
-  pub good : (s : Script) (past : List Entry) (own : List Line) → AreGood s (Some (Client n)) past own (drops_of n fs)
+  pub good : (s : Script) (past : List Entry) (own : List Line) → AreGood s (actors.Node (Client n)) past own (drops_of n fs)
   pub drop : (w : Option Fid) (o : List Line) → NamesIn w fs → HasDrop the_server (Client n) w (onto o (drops_of n fs))
 
 pub is_name : (w : Option Fid) (g : Fid) (fs : List Fid) → NamesIn w (g ∷ fs) → (w ≡ Some g) ⊎ NamesIn w fs
@@ -194,8 +195,8 @@ pub tells_goes : (s : Script) (c : Cell) (past : List Entry) (n p : ℕ) (m : Me
 tells_goes s c past n p m ms h heard fresh =
     let e : Entry = step_entry n (lines.Given p ∷ []) ms in
     moves s c past n (h.floors n) (told_step (c.clients n) p ms) h (tt, tt) (told_passes s c past n p m ms h heard)
-    (client_still n (view h.floors c n) e past (λ f. told_file n p f (Some (Client n)) ms past) (λ f. told_reach n p f (Some (Client n)) ms past) (told_act n p (Some (Client n)) ms past) (λ f. refl) (h.clients n))
-    (λ head call f. f) (reply_still n (view h.floors c n) e past (λ f. told_file n p f (Some (Client n)) ms past) (λ f. told_reach n p f (Some (Client n)) ms past) (λ f. refl)) (fresh e (record { up = refl; still = refl; oweless = refl; unchanging = refl })) (λ a x z. inl x) refl
+    (client_still n (view h.floors c n) e past (λ f. told_file n p f (actors.Node (Client n)) ms past) (λ f. told_reach n p f (actors.Node (Client n)) ms past) (told_act n p (actors.Node (Client n)) ms past) (λ f. refl) (h.clients n))
+    (λ head call f. f) (reply_still n (view h.floors c n) e past (λ f. told_file n p f (actors.Node (Client n)) ms past) (λ f. told_reach n p f (actors.Node (Client n)) ms past) (λ f. refl)) (fresh e (record { up = refl; still = refl; oweless = refl; unchanging = refl })) (λ a x z. inl x) refl
 
 -- ---- what the client has dropped by then
 

@@ -6,11 +6,11 @@ use Rattle.afs_num.specs.Fids.{same_fid}
 use Rattle.afs_num.specs.declared.types.Fid.{Fid}
 use Rattle.afs_num.specs.declared.histories.Body.{Body}
 use Rattle.afs_num.specs.declared.histories.Body.TheVariants as bodies
+use Rattle.afs_ideal.specs.Tables.{Table, get, set, unset}
+use Rattle.afs_ideal.specs.Volumes.{Kind, a_file, a_directory, a_link, Vnode, Volume, Edit, amends, makes, frees, Amend, amended, fresh, version_at, gone_at, if_unique, Edited, amends_at, makes_at, frees_at, edited, edited_all, versions_by, body_by, counted}
 use Rattle.afs_law.proofs.Basics.{yes_no, same_fid-true, same_fid-refl, apart, some_of}
 use Rattle.afs_law.specs.Ideal.{version_in, latest, last_version, HasVersion}
 use Rattle.afs_law.specs.Lines.{Line}
-use Rattle.afs_model.specs.Tables.{Table, get, set, unset}
-use Rattle.afs_model.specs.Volumes.{Kind, a_file, a_directory, a_link, Vnode, Volume, Edit, amends, makes, frees, Amend, amended, fresh, version_at, gone_at, if_unique, Edited, amends_at, makes_at, frees_at, edited, edited_all, versions_by, body_by, counted}
 use Rattle.afs_law.specs.Lines as lines
 use Rattle.afs_num.specs.declared.histories.Version.{Version}
 

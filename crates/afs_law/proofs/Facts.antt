@@ -10,6 +10,10 @@ use Rattle.afs_num.specs.declared.types.Node.TheVariants.{Client}
 use Rattle.afs_num.specs.declared.calls.FsCall.{FsCall}
 use Rattle.afs_num.specs.declared.messages.Carried.{Carried}
 use Rattle.afs_num.specs.declared.messages.Message.{Message}
+use Rattle.afs_ideal.specs.Directories.{IsDirectory, FitNames}
+use Rattle.afs_ideal.specs.Operations.{volume_changed}
+use Rattle.afs_ideal.specs.Tables.{AscendsFrom, Table, get}
+use Rattle.afs_ideal.specs.Volumes.{Kind, a_directory, Vnode, Volume}
 use Rattle.afs_law.proofs.Basics.{Below, UpTo, Above, Each, IfCall, IfReply, IfNotice, OfCall, OfReply}
 use Rattle.afs_law.proofs.Edits.{index_in, SoundIn, Tops}
 use Rattle.afs_law.proofs.Owing.{BackedIn}
@@ -26,10 +30,6 @@ use Rattle.afs_law.specs.Runs.{Entry, Cell, Moved, Fall, at_rest, in_step, in_bo
 use Rattle.afs_law.specs.ServerRow.{reply_head}
 use Rattle.afs_law.specs.States.{CacheEntry, Seat, ServerState}
 use Rattle.afs_model.specs.Calls.{call_seat}
-use Rattle.afs_model.specs.Directories.{IsDirectory, FitNames}
-use Rattle.afs_model.specs.Operations.{volume_changed}
-use Rattle.afs_model.specs.Tables.{Table, get}
-use Rattle.afs_model.specs.Volumes.{Kind, a_directory, Vnode, Volume}
 use Rattle.afs_num.specs.declared.scripts.Script.{Script}
 use Rattle.afs_num.specs.declared.histories.Body.{Body}
 use Rattle.afs_num.specs.declared.histories.Version.{Version}
@@ -439,8 +439,14 @@ pub record IsReadable (n : ℕ) (x : Vnode) : Type 0 where
   pub names : IsDirectory x.names
   pub fit : FitNames x.names
 
-abbrev pub AreReadable : Table Volume → Type 0
-AreReadable volumes = (id n : ℕ) (v : Volume) (x : Vnode) → get id volumes ≡ Some v → get n v.vnodes ≡ Some x → IsReadable n x
+-- the vnodes stand by their numbers, with unique numbers that were given out, and can be read again
+pub record IsFine (v : Volume) : Type 0 where
+  pub ascends : AscendsFrom 1 v.vnodes
+  pub below : (n : ℕ) (x : Vnode) → get n v.vnodes ≡ Some x → x.unique < v.next
+  pub readable : (n : ℕ) (x : Vnode) → get n v.vnodes ≡ Some x → IsReadable n x
+
+abbrev pub AreFine : Table Volume → Type 0
+AreFine volumes = (id : ℕ) (v : Volume) → get id volumes ≡ Some v → IsFine v
 
 abbrev pub AreHome : Script → Table Volume → List Line → Type 0
 AreHome s volumes ls = (id : ℕ) (v : Volume) → get id volumes ≡ Some v → Accepts s id the_server ls
@@ -479,7 +485,7 @@ pub record HoldsAt (s : Script) (now : Option ℕ) (c : Cell) (past : List Entry
   pub floors : ℕ → Ghost
   pub ideal : AreIdeal c.server.volumes past
   pub sound : AreSound c.server.volumes (lines_of past)
-  pub readable : AreReadable c.server.volumes
+  pub fine : AreFine c.server.volumes
   pub home : AreHome s c.server.volumes (lines_of past)
   pub new : AreNew c.server.durable (lines_of past)
   pub unheard : AreUnheard c.down c.server.seats c.server.boot past
@@ -498,6 +504,6 @@ abbrev pub Holds : Script → Cell → List Entry → Type 0
 Holds s c past = HoldsAt s (up_boot c.down c.server.boot) c past
 
 pub record Goes (s : Script) (past : List Entry) (m : Moved) : Type 0 where
-  pub good : AreGood s m.entry.node past [] m.entry.lines
+  pub good : AreGood s m.entry.actor past [] m.entry.lines
   pub replies : AreGoodReplies (m.entry ∷ past) m.entry.sent
   pub holds : Holds s m.cell (m.entry ∷ past)

@@ -13,6 +13,7 @@ use Rattle.afs_num.specs.declared.calls.FsCall.{FsCall}
 use Rattle.afs_num.specs.declared.messages.Carried.{Carried}
 use Rattle.afs_num.specs.declared.messages.Carried.TheVariants as carried
 use Rattle.afs_num.specs.declared.messages.Message.{Message}
+use Rattle.afs_ideal.specs.Operations.{Found}
 use Rattle.afs_law.proofs.Backing.{Plain, Stepping, all_lines, is_up, is_still, is_oweless, is_unchanging, settled_onto, stopped_back, grant_back, front_onto, change_back, no_owe, owes_over, ended_over, back_pass, done_pass, CallsPass, calls_same, backed_step, seated_over, plain_step, plain_waits, waits_over, granted_over, owed_over, call_over, dropped_over, backed_plain, promised_over, live_back, numbered_over, number_back, zero_back}
 use Rattle.afs_law.proofs.Basics.{both, same_node-true, same_node-refl, same_fid-refl, same_fid-true, client_number, Above, Each, IfBack, IfDone, OfCall, OfReply, OfServer, ByServer, each_more, each_map, if_back, if_done, some_of}
 use Rattle.afs_law.proofs.Owing.{AllOf, all_map, all_both, all_filter, IsGranted, IsIn, IsNumberIn, IsOpen, AccountedBy, WaitedBy, AllWaitedBy, HeldWaits, IsOwed, CallOut, BackIn, DroppedOwe, IsDone, DoneIn, SeatedIn, BackedIn, Promised, IsPromised, promise_to, Numbered}
@@ -28,7 +29,7 @@ use Rattle.afs_law.specs.Runs.{Entry, Fall}
 use Rattle.afs_law.specs.ServerRow.{granted, promise_ticks}
 use Rattle.afs_law.specs.States.{Seat}
 use Rattle.afs_model.specs.Calls.{call_seat}
-use Rattle.afs_model.specs.Operations.{Found}
+use Rattle.afs_num.specs.declared.histories.Actor.TheVariants as actors
 use Rattle.afs_num.specs.declared.histories.Version.{Version}
 use Rattle.afs_law.specs.Lines as lines
 use Rattle.afs_num.specs.declared.scripts.Script.{Script}
@@ -148,13 +149,13 @@ good_settle : (n k : ℕ) (os : List Owed) (past : List Entry) (own : List Line)
 good_settle n k [] past own e h = absurd cc
 good_settle n k (o ∷ os) past own e h = settle_by (nat_eq o.number k) n k o os past own refl e h.0 (λ x. good_settle n k os past own x h.1)
 
-settles_by_good : (t : Bool) (s : Script) (n : ℕ) (c : BackCall) (o : Owed) (past : List Entry) (own : List Line) (xs : List Owed) → is_among n c.breaks o ≡ t → AllOf (DroppedOwe n (lines_of past)) c.breaks → ((own : List Line) → AreGood s (Some the_server) past own (map (settle_line the_server) xs)) → AreGood s (Some the_server) past own (map (settle_line the_server) (cond t (o ∷ xs) xs))
+settles_by_good : (t : Bool) (s : Script) (n : ℕ) (c : BackCall) (o : Owed) (past : List Entry) (own : List Line) (xs : List Owed) → is_among n c.breaks o ≡ t → AllOf (DroppedOwe n (lines_of past)) c.breaks → ((own : List Line) → AreGood s (actors.Node the_server) past own (map (settle_line the_server) xs)) → AreGood s (actors.Node the_server) past own (map (settle_line the_server) (cond t (o ∷ xs) xs))
 settles_by_good true s n c o past own xs e h w =
     let q = both (nat_eq o.client n) (has_number o.number c.breaks) e in
     ((refl, subst (λ (j : ℕ). GoodSettle the_server (Client j) o.number past own) (sym (eqb-true o.client n q.0)) (good_settle n o.number c.breaks past own q.1 h)), w (settle_line the_server o ∷ own))
 settles_by_good false s n c o past own xs e h w = w own
 
-pub settles_good : (s : Script) (n : ℕ) (c : BackCall) (past : List Entry) (os : List Owed) (own : List Line) → AllOf (DroppedOwe n (lines_of past)) c.breaks → AreGood s (Some the_server) past own (map (settle_line the_server) (filter (is_among n c.breaks) os))
+pub settles_good : (s : Script) (n : ℕ) (c : BackCall) (past : List Entry) (os : List Owed) (own : List Line) → AllOf (DroppedOwe n (lines_of past)) c.breaks → AreGood s (actors.Node the_server) past own (map (settle_line the_server) (filter (is_among n c.breaks) os))
 settles_good s n c past [] own h = tt
 settles_good s n c past (o ∷ os) own h = settles_by_good (is_among n c.breaks o) s n c o past own (filter (is_among n c.breaks) os) refl h (λ x. settles_good s n c past os x h)
 
@@ -189,17 +190,17 @@ good_quit n k boot c [] past own last e out le third h = absurd cc
 good_quit n k boot c (o ∷ os) past own last e out le third h = quit_by (nat_eq o.number k) n k boot c o os past own last refl e out le third h.0 (λ x. good_quit n k boot c os past own last x out le third h.1)
 
 quits_by_good : (t : Bool) (s : Script) (n boot last : ℕ) (c : BackCall) (o : Owed) (past : List Entry) (own : List Line) (xs : List Owed) → is_among n c.breaks o ≡ t → CallOut n c last boot past → 2 ≤ c.tries → HasTimeout the_server (Client n) boot c.number 3 own → AllOf (MayQuit n past boot c.number (breaks_call c.breaks)) c.breaks
-    → ((own : List Line) → HasTimeout the_server (Client n) boot c.number 3 own → AreGood s (Some the_server) past own (map (quit_line the_server) xs)) → AreGood s (Some the_server) past own (map (quit_line the_server) (cond t (o ∷ xs) xs))
+    → ((own : List Line) → HasTimeout the_server (Client n) boot c.number 3 own → AreGood s (actors.Node the_server) past own (map (quit_line the_server) xs)) → AreGood s (actors.Node the_server) past own (map (quit_line the_server) (cond t (o ∷ xs) xs))
 quits_by_good true s n boot last c o past own xs e out le third h w =
     let q = both (nat_eq o.client n) (has_number o.number c.breaks) e in
     ((refl, subst (λ (j : ℕ). GoodQuit the_server (Client j) o.number past own) (sym (eqb-true o.client n q.0)) (good_quit n o.number boot c c.breaks past own last q.1 out le third h)), w (quit_line the_server o ∷ own) third)
 quits_by_good false s n boot last c o past own xs e out le third h w = w own third
 
-quits_all : (s : Script) (n boot last : ℕ) (c : BackCall) (past : List Entry) (os : List Owed) (own : List Line) → CallOut n c last boot past → 2 ≤ c.tries → HasTimeout the_server (Client n) boot c.number 3 own → AllOf (MayQuit n past boot c.number (breaks_call c.breaks)) c.breaks → AreGood s (Some the_server) past own (map (quit_line the_server) (filter (is_among n c.breaks) os))
+quits_all : (s : Script) (n boot last : ℕ) (c : BackCall) (past : List Entry) (os : List Owed) (own : List Line) → CallOut n c last boot past → 2 ≤ c.tries → HasTimeout the_server (Client n) boot c.number 3 own → AllOf (MayQuit n past boot c.number (breaks_call c.breaks)) c.breaks → AreGood s (actors.Node the_server) past own (map (quit_line the_server) (filter (is_among n c.breaks) os))
 quits_all s n boot last c past [] own out le third h = tt
 quits_all s n boot last c past (o ∷ os) own out le third h = quits_by_good (is_among n c.breaks o) s n boot last c o past own (filter (is_among n c.breaks) os) refl out le third h (λ x y. quits_all s n boot last c past os x out le y h)
 
-pub quits_good : (s : Script) (n boot last : ℕ) (c : BackCall) (past : List Entry) (os : List Owed) → CallOut n c last boot past → nat_lt c.tries 2 ≡ false → AreGood s (Some the_server) past (lines.Timeout the_server (Client n) boot c.number 3 ∷ []) (map (quit_line the_server) (filter (is_among n c.breaks) os))
+pub quits_good : (s : Script) (n boot last : ℕ) (c : BackCall) (past : List Entry) (os : List Owed) → CallOut n c last boot past → nat_lt c.tries 2 ≡ false → AreGood s (actors.Node the_server) past (lines.Timeout the_server (Client n) boot c.number 3 ∷ []) (map (quit_line the_server) (filter (is_among n c.breaks) os))
 quits_good s n boot last c past os out e = quits_all s n boot last c past os _ out (ltb-false _ _ e) (inl (refl, (refl, (refl, (refl, refl)))))
     (two_all (IsOwed n (lines_of past)) (λ (o : Owed). CarriesBreak (breaks_call c.breaks) o.what) (MayQuit n past boot c.number (breaks_call c.breaks)) (λ o x y. record { owe = x; carries = y }) c.breaks out.owes out.carries)
 
@@ -692,7 +693,7 @@ change_loaded b ps more boot seats now cs clock sent e past pre os hd m h grante
     (λ j seat k x y. seated_over None None b after boot clock clock e past s j k (h.seated j seat k x y)))
 
 -- numbers of new breaks
-pub numbers_good : (s : Script) (k : ℕ) (ps : List Promise) (past : List Entry) (own : List Line) → last_number the_server (own ++ lines_of past) ≤ k → AreGood s (Some the_server) past own (map (owe_line the_server) (owes_from k ps))
+pub numbers_good : (s : Script) (k : ℕ) (ps : List Promise) (past : List Entry) (own : List Line) → last_number the_server (own ++ lines_of past) ≤ k → AreGood s (actors.Node the_server) past own (map (owe_line the_server) (owes_from k ps))
 numbers_good s k [] past own h = tt
 numbers_good s k (p ∷ ps) past own h = (omega arith, numbers_good s (k + 1) ps past (lines.Owe the_server (Client p.client) (Some p.fid) (k + 1) ∷ own) (le_refl _))
 
@@ -700,7 +701,7 @@ pub numbers_rise : (k : ℕ) (ps : List Promise) (base : List Line) → last_num
 numbers_rise k [] base h = omega arith
 numbers_rise k (p ∷ ps) base h = let x : last_number the_server (onto (lines.Owe the_server (Client p.client) (Some p.fid) (k + 1) ∷ base) (map (owe_line the_server) (owes_from (k + 1) ps))) ≤ (k + 1) + length (owes_from (k + 1) ps) = numbers_rise (k + 1) ps (lines.Owe the_server (Client p.client) (Some p.fid) (k + 1) ∷ base) (le_refl _) in omega arith
 
-pub alls_good : (s : Script) (x k m : ℕ) (past : List Entry) (own : List Line) → last_number the_server (own ++ lines_of past) ≤ k → AreGood s (Some the_server) past own (map (owe_line the_server) (owes_all x k m))
+pub alls_good : (s : Script) (x k m : ℕ) (past : List Entry) (own : List Line) → last_number the_server (own ++ lines_of past) ≤ k → AreGood s (actors.Node the_server) past own (map (owe_line the_server) (owes_all x k m))
 alls_good s x k zero past own h = tt
 alls_good s x k (suc m) past own h = (omega arith, alls_good s x (k + 1) m past (lines.Owe the_server (Client (k + 1)) None (k + 1) ∷ own) (le_refl _))
 

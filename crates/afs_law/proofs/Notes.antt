@@ -7,7 +7,9 @@ use Rattle.afs_num.specs.declared.types.Node.{Node}
 use Rattle.afs_num.specs.declared.types.Node.TheVariants.{Client}
 use Rattle.afs_num.specs.declared.messages.Message.{Message}
 use Rattle.afs_num.specs.declared.scripts.Script.{Script}
+use Rattle.afs_num.specs.declared.histories.Actor.TheVariants as actors
 use Rattle.afs_num.specs.declared.histories.Body.{Body}
+use Rattle.afs_ideal.specs.Operations.{Found}
 use Rattle.afs_law.proofs.Basics.{Each}
 use Rattle.afs_law.proofs.Facts.{View, server_boot, HeldIn}
 use Rattle.afs_law.proofs.Passing.{PassesFile, PassesAct, PassesReach, News}
@@ -21,7 +23,6 @@ use Rattle.afs_law.specs.Lines.{Line}
 use Rattle.afs_law.specs.Past.{onto, lines_of, sent_of, given_message, running, has_begun}
 use Rattle.afs_law.specs.Runs.{Entry}
 use Rattle.afs_law.specs.ServerRow.{granted}
-use Rattle.afs_model.specs.Operations.{Found}
 use Rattle.afs_law.specs.Lines as lines
 
 abbrev pub IsNote : Line → Type 0
@@ -184,7 +185,7 @@ skips (lines.Grant s c g a x ∷ ls) h =
 skips (l ∷ ls) h = absurd h.0
 
 abbrev pub noted_entry : (ls : List Line) (ms : List Message) → Entry
-noted_entry ls ms = record { node = Some the_server; lines = ls; sent = ms; volumes = [] }
+noted_entry ls ms = record { actor = actors.Node the_server; lines = ls; sent = ms; volumes = [] }
 
 pub noted_rests : (s : Script) (ls : List Line) (ms : List Message) (past : List Entry) → Skips ls → Rests s (noted_entry ls ms) past
 noted_rests s ls ms past k = record {
@@ -203,7 +204,7 @@ noted_rests s ls ms past k = record {
 }
 
 abbrev pub told_entry : (p : ℕ) (ls : List Line) (ms : List Message) → Entry
-told_entry p ls ms = record { node = Some the_server; lines = lines.Given p ∷ ls; sent = ms; volumes = [] }
+told_entry p ls ms = record { actor = actors.Node the_server; lines = lines.Given p ∷ ls; sent = ms; volumes = [] }
 
 pub told_rests : (s : Script) (p : ℕ) (ls : List Line) (ms : List Message) (past : List Entry) → Skips ls → Rests s (told_entry p ls ms) past
 told_rests s p ls ms past k = record {
@@ -222,7 +223,7 @@ told_rests s p ls ms past k = record {
 }
 
 abbrev pub risen_entry : (boot : ℕ) (ls : List Line) (ms : List Message) → Entry
-risen_entry boot ls ms = record { node = Some the_server; lines = lines.Restart the_server boot ∷ ls; sent = ms; volumes = [] }
+risen_entry boot ls ms = record { actor = actors.Node the_server; lines = lines.Restart the_server boot ∷ ls; sent = ms; volumes = [] }
 
 pub risen_rests : (s : Script) (boot : ℕ) (ls : List Line) (ms : List Message) (past : List Entry) → Skips ls → Rests s (risen_entry boot ls ms) past
 risen_rests s boot ls ms past k = record {

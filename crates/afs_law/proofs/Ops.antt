@@ -9,14 +9,14 @@ use Rattle.afs_num.specs.declared.calls.FsCall.{FsCall}
 use Rattle.afs_num.specs.declared.calls.FsCall.TheVariants as calls
 use Rattle.afs_num.specs.declared.directories.Name.{Name}
 use Rattle.afs_num.specs.declared.histories.Version.{Version}
+use Rattle.afs_ideal.specs.Operations.{Caller, Found, Shown, shows_body, shows_status, shows_acl, shows_statuses, shows_volume, reads, no_amend, Result, refused, changes, no_operation, by_tests, limited, limits, first_failing, tests, effect, read_by, one_more, statuses, op, volume_called, volume_changed, kind_is, is_kind, kinds_agree, vnode_in, name_in, removes, creates}
+use Rattle.afs_ideal.specs.Tables.{Table, get, set}
+use Rattle.afs_ideal.specs.Volumes.{Kind, a_file, a_directory, a_link, Vnode, Volume, Edit, amends, makes, frees, Amend, vnode_of, if_unique, versions_by, edited_all, amends_at, amended, version_at, ascending}
 use Rattle.afs_law.proofs.Basics.{both, some_of, same_fid-true, same_fid-refl}
 use Rattle.afs_law.proofs.Edits.{get-set, fid_at, Grow, touches, touched_volume}
 use Rattle.afs_law.proofs.Facts.{InScope}
 use Rattle.afs_law.specs.Ideal.{is_zero_code, is_volume}
 use Rattle.afs_law.specs.Lines.{Line}
-use Rattle.afs_model.specs.Operations.{Caller, Found, Shown, shows_body, shows_status, shows_acl, shows_statuses, shows_volume, reads, no_amend, Result, refused, changes, by_tests, limited, limits, first_failing, tests, effect, read_by, one_more, statuses, op, volume_called, volume_changed, kind_is, is_kind, kinds_agree, vnode_in, renames_by, name_in, removes, creates}
-use Rattle.afs_model.specs.Tables.{Table, get, set}
-use Rattle.afs_model.specs.Volumes.{Kind, a_file, a_directory, a_link, Vnode, Volume, Edit, amends, makes, frees, Amend, vnode_of, if_unique, versions_by, edited_all, amends_at, amended, version_at, ascending}
 
 -- ---- reading calls
 
@@ -46,6 +46,7 @@ tested_shows call v None r h = h
 limited_shows : (call : FsCall) (id : ℕ) (v : Volume) (r : Result) → Shows call v r → Shows call v (limited id v r)
 limited_shows call id v (refused code) h = tt
 limited_shows call id v (reads shown) h = h
+limited_shows call id v no_operation h = tt
 limited_shows call id v (changes es n) h = tested_shows call v (first_failing (limits id es v)) (changes es n) tt
 
 read_shows : (call : FsCall) (v : Volume) (show : Found → Shown) (g : Fid) (o : Option Vnode) → ((x : Vnode) → o ≡ Some x → IsShown call v (show (found_of g x))) → Shows call v (read_by show g o)
@@ -80,6 +81,47 @@ shown_reads (calls.FetchAcl g) v shown is = refl
 shown_reads (calls.FetchStatus g) v shown is = refl
 shown_reads (calls.GetVolumeStatus n) v shown is = refl
 shown_reads call v shown is = absurd is
+
+-- ---- a call of a volume is an operation on it
+
+abbrev pub IsOperation : Result → Type 0
+IsOperation no_operation = ⊥
+IsOperation r = ⊤
+
+tested_operation : (o : Option ℕ) (r : Result) → IsOperation r → IsOperation (by_tests o r)
+tested_operation (Some n) r h = tt
+tested_operation None r h = h
+
+limited_operation : (id : ℕ) (v : Volume) (r : Result) → IsOperation r → IsOperation (limited id v r)
+limited_operation id v (refused code) h = tt
+limited_operation id v (reads shown) h = tt
+limited_operation id v no_operation h = absurd h
+limited_operation id v (changes es n) h = tested_operation (first_failing (limits id es v)) (changes es n) tt
+
+read_operation : (show : Found → Shown) (g : Fid) (o : Option Vnode) → IsOperation (read_by show g o)
+read_operation show g None = tt
+read_operation show g (Some x) = tt
+
+effect_operation : (id : ℕ) (caller : Caller) (call : FsCall) (v : Volume) → volume_called call ≡ Some id → IsOperation (effect caller call v)
+effect_operation id caller (calls.FetchData f p w) v of = read_operation shows_body f (vnode_of f v)
+effect_operation id caller (calls.FetchAcl f) v of = read_operation shows_acl f (vnode_of f v)
+effect_operation id caller (calls.FetchStatus f) v of = read_operation shows_status f (vnode_of f v)
+effect_operation id caller (calls.GetVolumeStatus k) v of = tt
+effect_operation id caller (calls.StoreData f st p w l b) v of = tt
+effect_operation id caller (calls.StoreAcl f acl) v of = tt
+effect_operation id caller (calls.StoreStatus f st) v of = tt
+effect_operation id caller (calls.RemoveFile d name) v of = tt
+effect_operation id caller (calls.CreateFile d name st) v of = tt
+effect_operation id caller (calls.Rename d name d' other) v of = tt
+effect_operation id caller (calls.Symlink d name target st) v of = tt
+effect_operation id caller (calls.Link d name f) v of = tt
+effect_operation id caller (calls.MakeDir d name st) v of = tt
+effect_operation id caller (calls.RemoveDir d name) v of = tt
+effect_operation id caller call v of = absurd cc
+
+pub op_is : (id : ℕ) (caller : Caller) (call : FsCall) (v : Volume) → volume_called call ≡ Some id → op id caller call v ≡ no_operation → ⊥
+op_is id caller call v of e =
+    subst IsOperation e (tested_operation (first_failing (tests caller call v)) (limited id v (effect caller call v)) (limited_operation id v (effect caller call v) (effect_operation id caller call v of)))
 
 -- ---- codes of refusals are none of them 0
 
@@ -141,6 +183,7 @@ tested_code ts None r h at z = z
 limited_code : (id : ℕ) (v : Volume) (r : Result) → IsNoZero r → IsNoZero (limited id v r)
 limited_code id v (refused code) z = z
 limited_code id v (reads shown) z = tt
+limited_code id v no_operation z = tt
 limited_code id v (changes es n) z = tested_code (limits id es v) (first_failing (limits id es v)) (changes es n) (refl, (refl, tt)) refl tt
 
 read_code : (show : Found → Shown) (f : Fid) (o : Option Vnode) → IsNoZero (read_by show f o)
@@ -157,6 +200,7 @@ more_code f None (Some x) (reads (shows_status g)) h z = tt
 more_code f None (Some x) (reads (shows_acl g)) h z = tt
 more_code f None (Some x) (reads shows_volume) h z = tt
 more_code f None (Some x) (changes es n) h z = tt
+more_code f None (Some x) no_operation h z = tt
 
 statuses_code : (caller : Caller) (v : Volume) (fids : List Fid) → IsNoZero (statuses caller v fids)
 statuses_code caller v [] = tt
@@ -266,6 +310,7 @@ tested_keeps None r h = h
 limited_keeps : (id : ℕ) (v : Volume) (r : Result) → Keeps r → Keeps (limited id v r)
 limited_keeps id v (refused code) h = tt
 limited_keeps id v (reads shown) h = tt
+limited_keeps id v no_operation h = tt
 limited_keeps id v (changes es n) h = absurd h
 
 read_keeps : (show : Found → Shown) (g : Fid) (o : Option Vnode) → Keeps (read_by show g o)

@@ -8,6 +8,8 @@ use Rattle.afs_num.specs.declared.calls.FsCall.{FsCall}
 use Rattle.afs_num.specs.declared.messages.Carried.{Carried}
 use Rattle.afs_num.specs.declared.messages.Message.{Message}
 use Rattle.afs_num.specs.declared.scripts.Script.{Script}
+use Rattle.afs_num.specs.declared.histories.Actor.{Actor}
+use Rattle.afs_num.specs.declared.histories.Actor.TheVariants as actors
 use Rattle.afs_num.specs.declared.histories.Body.{Body}
 use Rattle.afs_law.proofs.Backing.{Plain, all_lines, is_up, is_still, is_oweless, is_unchanging, backed_plain, backed_fall, plain_step, seated_over}
 use Rattle.afs_law.proofs.Basics.{Each, IfCall, IfReply, each_map, if_call}
@@ -93,7 +95,7 @@ rests s b c past e n d armed h boots none p clock heard fallen backs =
   floors = h.floors;
   count = h.count;
   ideal = λ id. h.ideal id ∙ sym (p.ideal id);
-  readable = h.readable;
+  fine = h.fine;
   sound = λ id. sound_same id _ (lines_of past) (lines_of (e ∷ past)) (λ m u. p.last (fid_at id m u) (lines_of past)) (h.sound id);
   home = λ id v found. p.home id (lines_of past) (h.home id v found);
   new = λ k above. p.new k (lines_of past) (h.new k above);
@@ -146,10 +148,10 @@ unheard_still d c e past none h k b may = (λ x. subst (λ (o : Option Message).
 pub fallen_still : (d : Option Fall) (c : Cell) (e : Entry) (past : List Entry) → HasFallen d c.server c.sent past → HasFallen d c.server c.sent (e ∷ past)
 fallen_still d c e past h = subst (λ (ms : List Message). HasFallen d c.server ms (e ∷ past)) (append-nil c.sent) (fallen_over d c.server c.sent [] e past h)
 
-abbrev pub alone : Option Node → Line → Entry
-alone o l = record { node = o; lines = l ∷ []; sent = []; volumes = [] }
+abbrev pub alone : Actor → Line → Entry
+alone o l = record { actor = o; lines = l ∷ []; sent = []; volumes = [] }
 
-void_rests : (s : Script) (past : List Entry) → Rests s (alone None lines.Void) past
+void_rests : (s : Script) (past : List Entry) → Rests s (alone actors.Nobody lines.Void) past
 void_rests s past = record {
   file = λ j f. record { grant = record { version = λ i b l x. x; dropped = λ q l d. d; withdrawn = λ q l w. w }; fetched = refl };
   reach = λ j f. record { both = λ i x. record { made = x.made; seen = x.seen }; seen = λ i x. x; made = λ x. x };
@@ -161,7 +163,7 @@ void_rests s past = record {
   ideal = λ id. refl;
 }
 
-tick_rests : (s : Script) (n : ℕ) (past : List Entry) → Rests s (alone None (lines.Tick n)) past
+tick_rests : (s : Script) (n : ℕ) (past : List Entry) → Rests s (alone actors.Clock (lines.Tick n)) past
 tick_rests s n past = record {
   file = λ j f. record { grant = record { version = λ i b l x. x; dropped = λ q l d. d; withdrawn = λ q l w. w }; fetched = refl };
   reach = λ j f. record { both = λ i x. record { made = x.made; seen = x.seen }; seen = λ i x. x; made = λ x. x };
@@ -173,7 +175,7 @@ tick_rests s n past = record {
   ideal = λ id. refl;
 }
 
-stop_rests : (s : Script) (o : Option Node) (node : Node) (n pick : ℕ) (past : List Entry) → Rests s (alone o (lines.Stop node n pick)) past
+stop_rests : (s : Script) (o : Actor) (node : Node) (n pick : ℕ) (past : List Entry) → Rests s (alone o (lines.Stop node n pick)) past
 stop_rests s o node n pick past = record {
   file = λ j f. record { grant = record { version = λ i b l x. x; dropped = λ q l d. d; withdrawn = λ q l w. w }; fetched = refl };
   reach = λ j f. record { both = λ i x. record { made = x.made; seen = x.seen }; seen = λ i x. x; made = λ x. x };
@@ -185,7 +187,7 @@ stop_rests s o node n pick past = record {
   ideal = λ id. refl;
 }
 
-fail_rests : (s : Script) (o : Option Node) (node : Node) (n : ℕ) (past : List Entry) → Rests s (alone o (lines.Fail node n)) past
+fail_rests : (s : Script) (o : Actor) (node : Node) (n : ℕ) (past : List Entry) → Rests s (alone o (lines.Fail node n)) past
 fail_rests s o node n past = record {
   file = λ j f. record { grant = record { version = λ i b l x. x; dropped = λ q l d. d; withdrawn = λ q l w. w }; fetched = refl };
   reach = λ j f. record { both = λ i x. record { made = x.made; seen = x.seen }; seen = λ i x. x; made = λ x. x };
@@ -197,7 +199,7 @@ fail_rests s o node n past = record {
   ideal = λ id. refl;
 }
 
-pub restart_rests : (s : Script) (o : Option Node) (node : Node) (n : ℕ) (past : List Entry) → Rests s (alone o (lines.Restart node n)) past
+pub restart_rests : (s : Script) (o : Actor) (node : Node) (n : ℕ) (past : List Entry) → Rests s (alone o (lines.Restart node n)) past
 restart_rests s o node n past = record {
   file = λ j f. record { grant = record { version = λ i b l x. x; dropped = λ q l d. d; withdrawn = λ q l w. w }; fetched = refl };
   reach = λ j f. record { both = λ i x. record { made = x.made; seen = x.seen }; seen = λ i x. x; made = λ x. x };
@@ -209,7 +211,7 @@ restart_rests s o node n past = record {
   ideal = λ id. refl;
 }
 
-pub fault_rests : (s : Script) (past : List Entry) → Rests s (alone (Some the_server) (lines.Fault the_server)) past
+pub fault_rests : (s : Script) (past : List Entry) → Rests s (alone (actors.Node the_server) (lines.Fault the_server)) past
 fault_rests s past = record {
   file = λ j f. record { grant = record { version = λ i b l x. x; dropped = λ q l d. d; withdrawn = λ q l w. inr w }; fetched = refl };
   reach = λ j f. record { both = λ i x. record { made = x.made; seen = x.seen }; seen = λ i x. x; made = λ x. x };
@@ -221,7 +223,7 @@ fault_rests s past = record {
   ideal = λ id. refl;
 }
 
-pub full_rests : (s : Script) (past : List Entry) → Rests s (alone (Some the_server) (lines.Full the_server)) past
+pub full_rests : (s : Script) (past : List Entry) → Rests s (alone (actors.Node the_server) (lines.Full the_server)) past
 full_rests s past = record {
   file = λ j f. record { grant = record { version = λ i b l x. x; dropped = λ q l d. d; withdrawn = λ q l w. w }; fetched = refl };
   reach = λ j f. record { both = λ i x. record { made = x.made; seen = x.seen }; seen = λ i x. x; made = λ x. x };
@@ -233,7 +235,7 @@ full_rests s past = record {
   ideal = λ id. refl;
 }
 
-pub server_crash_rests : (s : Script) (past : List Entry) → Rests s (alone (Some the_server) (lines.Crash the_server)) past
+pub server_crash_rests : (s : Script) (past : List Entry) → Rests s (alone (actors.Node the_server) (lines.Crash the_server)) past
 server_crash_rests s past = record {
   file = λ j f. record { grant = record { version = λ i b l x. x; dropped = λ q l d. d; withdrawn = λ q l w. inr w }; fetched = refl };
   reach = λ j f. record { both = λ i x. record { made = x.made; seen = x.seen }; seen = λ i x. x; made = λ x. x };
@@ -247,7 +249,7 @@ server_crash_rests s past = record {
 
 -- the server stops in a step, or its disk fails
 abbrev pub cut_entry : ℕ → Bool → Entry
-cut_entry p stops = record { node = Some the_server; lines = lines.Given p ∷ blow_line stops ∷ []; sent = []; volumes = [] }
+cut_entry p stops = record { actor = actors.Node the_server; lines = lines.Given p ∷ blow_line stops ∷ []; sent = []; volumes = [] }
 
 pub cut_rests : (s : Script) (p : ℕ) (stops : Bool) (past : List Entry) → Rests s (cut_entry p stops) past
 cut_rests s p true past = record {
@@ -280,23 +282,23 @@ still s b c past h = subst (λ (n : ℕ). HoldsAt s b (record c { clock = n }) p
 pub voids : (s : Script) (c : Cell) (past : List Entry) → Holds s c past → Goes s past (voided c)
 voids s c past h = record {
   good = (tt, tt);
-  holds = still s _ c _ (rests s (up_boot c.down c.server.boot) c past (alone None lines.Void) 0 c.down c.armed h h.boots refl (void_rests s past) (omega arith) (unheard_still c.down c (alone None lines.Void) past refl h.unheard) (fallen_still c.down c (alone None lines.Void) past h.down) (λ z. rest_backed s c past (alone None lines.Void) 0 (plain_refl lines.Void refl refl refl refl) h));
+  holds = still s _ c _ (rests s (up_boot c.down c.server.boot) c past (alone actors.Nobody lines.Void) 0 c.down c.armed h h.boots refl (void_rests s past) (omega arith) (unheard_still c.down c (alone actors.Nobody lines.Void) past refl h.unheard) (fallen_still c.down c (alone actors.Nobody lines.Void) past h.down) (λ z. rest_backed s c past (alone actors.Nobody lines.Void) 0 (plain_refl lines.Void refl refl refl refl) h));
   replies = tt;
 }
 
 pub ticks_goes : (s : Script) (c : Cell) (past : List Entry) (n : ℕ) → Holds s c past → Goes s past (ticked c n)
 ticks_goes s c past n h = record {
   good = (tt, tt);
-  holds = rests s (up_boot c.down c.server.boot) c past (alone None (lines.Tick n)) n c.down c.armed h h.boots refl (tick_rests s n past) refl (unheard_still c.down c (alone None (lines.Tick n)) past refl h.unheard) (fallen_still c.down c (alone None (lines.Tick n)) past h.down) (λ z. rest_backed s c past (alone None (lines.Tick n)) n (plain_refl (lines.Tick n) refl refl refl refl) h);
+  holds = rests s (up_boot c.down c.server.boot) c past (alone actors.Clock (lines.Tick n)) n c.down c.armed h h.boots refl (tick_rests s n past) refl (unheard_still c.down c (alone actors.Clock (lines.Tick n)) past refl h.unheard) (fallen_still c.down c (alone actors.Clock (lines.Tick n)) past h.down) (λ z. rest_backed s c past (alone actors.Clock (lines.Tick n)) n (plain_refl (lines.Tick n) refl refl refl refl) h);
   replies = tt;
 }
 
 pub stop_set : (s : Script) (c : Cell) (past : List Entry) (n pick : ℕ) (armed : Armed) → Holds s c past → Goes s past (server_set c (lines.Stop the_server n pick) armed)
 stop_set s c past n pick armed h =
-    let e : Entry = alone (Some the_server) (lines.Stop the_server n pick) in
-    record { good = (tt, tt); holds = still s _ (record c { armed = armed }) _ (rests s (up_boot c.down c.server.boot) c past e 0 c.down armed h h.boots refl (stop_rests s (Some the_server) the_server n pick past) (omega arith) (unheard_still c.down c e past refl h.unheard) (fallen_still c.down c e past h.down) (λ z. rest_backed s c past e 0 (plain_refl (lines.Stop the_server n pick) refl refl refl refl) h)); replies = tt }
+    let e : Entry = alone (actors.Node the_server) (lines.Stop the_server n pick) in
+    record { good = (tt, tt); holds = still s _ (record c { armed = armed }) _ (rests s (up_boot c.down c.server.boot) c past e 0 c.down armed h h.boots refl (stop_rests s (actors.Node the_server) the_server n pick past) (omega arith) (unheard_still c.down c e past refl h.unheard) (fallen_still c.down c e past h.down) (λ z. rest_backed s c past e 0 (plain_refl (lines.Stop the_server n pick) refl refl refl refl) h)); replies = tt }
 
 pub fail_set : (s : Script) (c : Cell) (past : List Entry) (n : ℕ) (armed : Armed) → Holds s c past → Goes s past (server_set c (lines.Fail the_server n) armed)
 fail_set s c past n armed h =
-    let e : Entry = alone (Some the_server) (lines.Fail the_server n) in
-    record { good = (tt, tt); holds = still s _ (record c { armed = armed }) _ (rests s (up_boot c.down c.server.boot) c past e 0 c.down armed h h.boots refl (fail_rests s (Some the_server) the_server n past) (omega arith) (unheard_still c.down c e past refl h.unheard) (fallen_still c.down c e past h.down) (λ z. rest_backed s c past e 0 (plain_refl (lines.Fail the_server n) refl refl refl refl) h)); replies = tt }
+    let e : Entry = alone (actors.Node the_server) (lines.Fail the_server n) in
+    record { good = (tt, tt); holds = still s _ (record c { armed = armed }) _ (rests s (up_boot c.down c.server.boot) c past e 0 c.down armed h h.boots refl (fail_rests s (actors.Node the_server) the_server n past) (omega arith) (unheard_still c.down c e past refl h.unheard) (fallen_still c.down c e past h.down) (λ z. rest_backed s c past e 0 (plain_refl (lines.Fail the_server n) refl refl refl refl) h)); replies = tt }

@@ -14,12 +14,16 @@ use Rattle.afs_num.specs.declared.calls.FsCall.{FsCall}
 use Rattle.afs_num.specs.declared.messages.Carried.{Carried}
 use Rattle.afs_num.specs.declared.messages.Message.{Message}
 use Rattle.afs_num.specs.declared.messages.Received.TheVariants.{Whole}
+use Rattle.afs_ideal.specs.Operations.{Caller, the_user, reads, Shown, Result, refused, changes, code_of, op, shows_acl, no_amend, volume_called, volume_changed, changed}
+use Rattle.afs_ideal.specs.Replies.{vnode_or_none, status_at, status_of, change_reply, stamped}
+use Rattle.afs_ideal.specs.Tables.{Table, get, set}
+use Rattle.afs_ideal.specs.Volumes.{type_of, bytes_by, Volume, Vnode, Kind, a_file, a_directory, a_link, body_by, body_of, vnode_of, if_unique, version_at, Edit, versions_by, edited_all, counted, amended}
 use Rattle.afs_law.proofs.Backing.{Plain, all_lines, is_up, is_still, is_oweless, is_unchanging, backed_fall, granted_over, change_back, no_owe}
 use Rattle.afs_law.proofs.Basics.{Below, UpTo, Above, Each, IfCall, IfReply, IfNotice, if_notice, OfReply, OfNotice, above_up, up_to_by, by_server, IfBack, IfDone, ByClient, OfClient, client_any, by_client, both, same_fid-true, same_fid-refl, apart, same_node-true, client_number, up_to_below, below_up_to, below_not, up_to_same, LastSeat, own_seat, at_seat, OfCall, each_map, each_at, if_call, if_reply, raised_up_to, some_of, yes_no}
 use Rattle.afs_law.proofs.Edits.{index_in, fid_at, Sound, SoundIn, sound_same, Tops, live, live_index, get-set, on_top, Grow, Told, edits_told, counted_sound, Rises, rises, tops, touches, untouched, touched_volume, not_touched, there}
 use Rattle.afs_law.proofs.Facts.{HeldIn, ToClient, Ghost, Seen, HoldsAt, server_boot, up_boot, risen, LastStored, IsStored, IsActs, IsLastCall, IsAged, IsUntrusted, View, view_of, view, Spot, spot, LastRan, ReplyFact, IsBehind, AreKept, MayRun, HasFallen, IsCut, Reached, Stands, IsCurrent, HasCurrent, Fits, Answers, IsReply, KeptReply, ClientFacts, CallFact, CallIn, ReplyIn, Origin, AreHome, AreNew, AreUnheard, stored_index, Holds, Goes, IsNoticed, IsOne, InScope, IsFetched, FitsReply, FitsData, FitsSet, FitsPlain, WasChanged, AreIdeal, AreSound, is_in_scope, WasStored}
 use Rattle.afs_law.proofs.Loading.{all_hits, all_left, down_later, none_loaded, still_backed, known_backed, resent, change_loaded, rise_loaded, owes_unchanging, all_new, number_front, number_second, run_loaded, key_held, no_change, all_waited, NewReply, settles_good, settles_backed, quits_good, quits_backed, retries_backed, left_promised, has_owe, touched_hit, numbers_good, numbers_rise}
-use Rattle.afs_law.proofs.Naming.{readable_after}
+use Rattle.afs_law.proofs.Naming.{fine_after}
 use Rattle.afs_law.proofs.Notes.{AreNotes, Skips, skips, told_entry, told_rests, risen_entry, risen_rests, noted_entry, noted_rests, owe_notes, settle_notes, quit_notes, no_versions}
 use Rattle.afs_law.proofs.Ops.{in_scope, changes_is, Storing, storing, stored_vnode}
 use Rattle.afs_law.proofs.Owing.{AllOf, HeldWaits, BackedIn, IsDone, DroppedOwe, IsGranted, IsNumberIn, all_filter, DoneIn}
@@ -43,11 +47,8 @@ use Rattle.afs_law.specs.Runs.{Entry, Cell, message_at, Armed, unarmed, Luck, Bl
 use Rattle.afs_law.specs.ServerRow.{record_of, carried_by, change_reply_to, no_room, has_room, longer, revived, device_calls, promise_until, promise_ticks, decides, Decision, drops, tells_boot, repeats, refuses, saves, runs, admits, called, hears, reply_head, replied, boot_told, refusal, told, does, versioned, Change, made, result, saved, decided, in_volume, with_volume}
 use Rattle.afs_law.specs.States.{CacheEntry, Seat, ServerState}
 use Rattle.afs_model.specs.Calls.{call_seated, call_seat}
-use Rattle.afs_model.specs.Operations.{Caller, the_user, reads, Shown, Result, refused, changes, code_of, op, shows_acl, no_amend, volume_called, volume_changed, changed}
-use Rattle.afs_model.specs.Replies.{vnode_or_none, status_at, status_of, type_of, change_reply, stamped}
-use Rattle.afs_model.specs.Tables.{Table, get, set}
-use Rattle.afs_model.specs.Volumes.{bytes_by, Volume, Vnode, Kind, a_file, a_directory, a_link, body_by, body_of, vnode_of, if_unique, version_at, Edit, versions_by, edited_all, counted, amended}
 use Rattle.afs_num.specs.declared.scripts.Script.{Script}
+use Rattle.afs_num.specs.declared.histories.Actor.TheVariants as actors
 use Rattle.afs_num.specs.declared.histories.Body.{Body}
 use Rattle.afs_num.specs.declared.histories.Version.{Version}
 use Rattle.std.proofs.Math.Nat.{le_refl, le_trans, eq-or-lt_of_le}
@@ -84,7 +85,7 @@ saved_sent faults r = []
 saved_sent fills r = []
 
 abbrev pub saved_entry : Way → Key → List Version → Message → Entry
-saved_entry y k vs r = record { node = Some the_server; lines = saved_lines y k vs; sent = saved_sent y r; volumes = [] }
+saved_entry y k vs r = record { actor = actors.Node the_server; lines = saved_lines y k vs; sent = saved_sent y r; volumes = [] }
 
 -- ---- versions among lines
 
@@ -697,7 +698,7 @@ saves_holds y s now c past after armed d n h user call time id v es shown H w q 
     (record {
       ideal = ideal_after y s c past user call id v es shown k r H q w.one;
       sound = sound_after y s c past user call id v es shown k r H q;
-      readable = readable_after id (the_user user) call v es shown c.server.volumes H.readable q.of_volume q.at q.result;
+      fine = fine_after id (the_user user) call v es shown c.server.volumes H.fine q.of_volume q.at q.result;
       home = λ i u z. saves_home y s i k vs r past (home_by (eqb id i) s id i (counted (edited_all id es v)) u (get i c.server.volumes) (lines_of past) refl (H.home id v q.at) (H.home i u) (sym (get-set id i (counted (edited_all id es v)) c.server.volumes) ∙ z));
       new = λ l above. saves_new y k l vs r past (λ same. new_not c n h r l same above) (H.new l (above_before c.server.durable n h r l.node l.epoch l.number w.above_durable above));
       other = λ j ne. client_over j (view fl c j) e past (saves_file y j k vs r past) (λ f. other_reach y j n k vs r past f refl (other j ne)) (λ f. other_newest y j n k vs r past f refl (other j ne)) (saves_act y j k vs r past) (λ f. rises_saved y past k id vs r f grow);
@@ -726,7 +727,7 @@ saves_holds y s now c past after armed d n h user call time id v es shown H w q 
     })
     boots heard fallen gives backs
 
-pub versions_good : (s : Script) (past : List Entry) (own tail : List Line) (vs : List Version) → IsUnderChange own → AreGood s (Some the_server) past (on_top vs own) tail → AreGood s (Some the_server) past own (versioned vs tail)
+pub versions_good : (s : Script) (past : List Entry) (own tail : List Line) (vs : List Version) → IsUnderChange own → AreGood s (actors.Node the_server) past (on_top vs own) tail → AreGood s (actors.Node the_server) past own (versioned vs tail)
 versions_good s past own tail [] under h = h
 versions_good s past own tail (v ∷ vs) under h = (under, versions_good s past (lines.Version v ∷ own) tail vs under h)
 

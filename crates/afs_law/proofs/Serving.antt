@@ -1,10 +1,15 @@
 use Rattle.std.proofs.Common.{◌≡◌, ℕ, ◌+◌, ◌<◌, ◌≤◌, ◌⊎◌, inl, inr, Bool, true, false, cond, nat_eq, length, List, [], ◌∷◌, ◌++◌, Option, Some, None, ℤ, pos, refl, sym, ap, subst, ◌∙◌, arith, eq-eqb, eqb-true, le_of_eq, append-nil, nat_lt, ltb-true, ltb-false, eqb}
 use Rattle.std.specs.Prelude as std_result
 use Rattle.afs_num.specs.declared.directories.Name.{Name}
+use Rattle.afs_ideal.proofs.DirectoryBytes.{spelled_is_read}
+use Rattle.afs_ideal.specs.Operations.{shows_volume, shows_status, shows_body, Found, reads, Shown, Result, refused, changes, code_of, op, shows_acl, no_amend, volume_called, volume_changed, changed}
+use Rattle.afs_ideal.specs.Replies.{status_of, change_reply, stamped}
+use Rattle.afs_ideal.specs.Tables.{Table, get, set}
+use Rattle.afs_ideal.specs.Volumes.{type_of, bytes_by, Volume, Vnode, Kind, a_file, a_directory, a_link, body_by, body_of, vnode_of, if_unique, version_at, Edit, versions_by, edited_all, counted, amended}
 use Rattle.afs_law.proofs.Backing.{Plain, all_lines, is_up, is_still, is_oweless, is_unchanging, backed_fall, granted_over, change_back, no_owe, promised_over}
 use Rattle.afs_law.proofs.Basics.{Below, UpTo, Above, Each, IfCall, IfReply, IfNotice, if_notice, OfReply, OfNotice, above_up, up_to_by, by_server, IfBack, IfDone, ByClient, OfClient, client_any, by_client, both, same_fid-true, same_fid-refl, apart, same_node-true, client_number, up_to_below, below_up_to, below_not, up_to_same, LastSeat, own_seat, at_seat, OfCall, each_map, each_at, if_call, if_reply, raised_up_to, some_of, yes_no}
 use Rattle.afs_law.proofs.Edits.{index_in, fid_at, Sound, SoundIn, sound_same, Tops, live, live_index, get-set, on_top, Grow, Told, edits_told, counted_sound, Rises, rises, tops, touches, untouched, touched_volume, not_touched, there}
-use Rattle.afs_law.proofs.Facts.{IsReadable, AreReadable, HeldIn, ToClient, Ghost, Seen, HoldsAt, server_boot, up_boot, risen, LastStored, IsStored, IsActs, IsLastCall, IsAged, IsUntrusted, View, view_of, view, Spot, spot, LastRan, ReplyFact, IsBehind, AreKept, MayRun, HasFallen, IsCut, Reached, Stands, IsCurrent, HasCurrent, Fits, Answers, IsReply, KeptReply, ClientFacts, CallFact, CallIn, ReplyIn, Origin, AreHome, AreNew, AreUnheard, stored_index, Holds, Goes, IsNoticed, IsOne, InScope, IsFetched, FitsReply, FitsData, FitsSet, FitsPlain, WasChanged, AreIdeal, AreSound, is_in_scope, WasStored}
+use Rattle.afs_law.proofs.Facts.{IsReadable, AreFine, HeldIn, ToClient, Ghost, Seen, HoldsAt, server_boot, up_boot, risen, LastStored, IsStored, IsActs, IsLastCall, IsAged, IsUntrusted, View, view_of, view, Spot, spot, LastRan, ReplyFact, IsBehind, AreKept, MayRun, HasFallen, IsCut, Reached, Stands, IsCurrent, HasCurrent, Fits, Answers, IsReply, KeptReply, ClientFacts, CallFact, CallIn, ReplyIn, Origin, AreHome, AreNew, AreUnheard, stored_index, Holds, Goes, IsNoticed, IsOne, InScope, IsFetched, FitsReply, FitsData, FitsSet, FitsPlain, WasChanged, AreIdeal, AreSound, is_in_scope, WasStored}
 use Rattle.afs_law.proofs.Loading.{all_promised, all_granted, granted_all, down_later, none_loaded, still_backed, known_backed, resent, change_loaded, rise_loaded, owes_unchanging, all_new, number_front, number_second, run_loaded, key_held, no_change, all_waited, NewReply, settles_good, settles_backed, quits_good, quits_backed, retries_backed}
 use Rattle.afs_law.proofs.Notes.{granted_notes, AreNotes, Skips, skips, told_entry, told_rests, risen_entry, risen_rests, noted_entry, noted_rests, owe_notes, settle_notes, quit_notes, no_versions}
 use Rattle.afs_law.proofs.Ops.{IsShown, in_scope, changes_is, Storing, storing, stored_vnode, reads_is, op_code}
@@ -27,12 +32,7 @@ use Rattle.afs_law.specs.Records.{change_record}
 use Rattle.afs_law.specs.Runs.{Entry, Cell, message_at, Armed, unarmed, Luck, Blow, struck, lowered, Fall, at_rest, in_step, in_boot, settled, Outcome, comes_up, fails_early, fails_midway, is_full, server_rises, server_ends, server_falls, blow_line, server_stopped, server_restarted, server_served, server_given, server_adds, server_does, back_timed, server_timed, server_wakes}
 use Rattle.afs_law.specs.ServerRow.{shows, granted_by, read_reply_of, granted, Reading, no_room, has_room, longer, revived, device_calls, promise_until, promise_ticks, decides, Decision, drops, tells_boot, repeats, refuses, saves, runs, admits, called, hears, reply_head, replied, boot_told, refusal, told, does, versioned, Change, made, result, saved, decided, in_volume, with_volume}
 use Rattle.afs_law.specs.States.{CacheEntry, Seat, ServerState}
-use Rattle.afs_model.proofs.DirectoryBytes.{spelled_is_read}
 use Rattle.afs_model.specs.Calls.{call_seated, call_seat}
-use Rattle.afs_model.specs.Operations.{shows_volume, shows_status, shows_body, Found, reads, Shown, Result, refused, changes, code_of, op, shows_acl, no_amend, volume_called, volume_changed, changed}
-use Rattle.afs_model.specs.Replies.{status_of, type_of, change_reply, stamped}
-use Rattle.afs_model.specs.Tables.{Table, get, set}
-use Rattle.afs_model.specs.Volumes.{bytes_by, Volume, Vnode, Kind, a_file, a_directory, a_link, body_by, body_of, vnode_of, if_unique, version_at, Edit, versions_by, edited_all, counted, amended}
 use Rattle.std.specs.Prelude.{◌&&◌, ⊤, map, filter, not}
 use Rattle.std.specs.Option.{option_map}
 use Rattle.afs_num.specs.Fids.{same_fid}
@@ -48,6 +48,8 @@ use Rattle.afs_num.specs.declared.messages.Carried.{Carried}
 use Rattle.afs_num.specs.declared.messages.Message.{Message}
 use Rattle.afs_num.specs.declared.messages.Received.TheVariants.{Whole}
 use Rattle.afs_num.specs.declared.scripts.Script.{Script}
+use Rattle.afs_num.specs.declared.histories.Actor.{Actor}
+use Rattle.afs_num.specs.declared.histories.Actor.TheVariants as actors
 use Rattle.afs_num.specs.declared.histories.Body.{Body}
 use Rattle.afs_num.specs.declared.histories.Version.{Version}
 use Rattle.std.proofs.Math.Nat.{le_refl, le_trans, eq-or-lt_of_le}
@@ -85,13 +87,13 @@ pub at_told : (s : Script) (c : Cell) (past : List Entry) (p : ℕ) (m : Message
 at_told s c past p m h at = ap (λ (ms : List Message). message_at ms p) h.sent.told ∙ at
 
 -- what no line of a version, a read or an answer touches
-pub told_file : (j p : ℕ) (f : Fid) (o : Option Node) (ms : List Message) (past : List Entry) → PassesFile j f (record { node = o; lines = lines.Given p ∷ []; sent = ms; volumes = [] }) past
+pub told_file : (j p : ℕ) (f : Fid) (o : Actor) (ms : List Message) (past : List Entry) → PassesFile j f (record { actor = o; lines = lines.Given p ∷ []; sent = ms; volumes = [] }) past
 told_file j p f o ms past = record { grant = record { version = λ i b l s. s; dropped = λ s l d. d; withdrawn = λ s l w. w }; fetched = refl }
 
-pub told_reach : (j p : ℕ) (f : Fid) (o : Option Node) (ms : List Message) (past : List Entry) → PassesReach j f (record { node = o; lines = lines.Given p ∷ []; sent = ms; volumes = [] }) past
+pub told_reach : (j p : ℕ) (f : Fid) (o : Actor) (ms : List Message) (past : List Entry) → PassesReach j f (record { actor = o; lines = lines.Given p ∷ []; sent = ms; volumes = [] }) past
 told_reach j p f o ms past = record { both = λ i h. record { made = h.made; seen = h.seen }; seen = λ i h. h; made = λ x. x }
 
-pub told_act : (j p : ℕ) (o : Option Node) (ms : List Message) (past : List Entry) → PassesAct j (record { node = o; lines = lines.Given p ∷ []; sent = ms; volumes = [] }) past
+pub told_act : (j p : ℕ) (o : Actor) (ms : List Message) (past : List Entry) → PassesAct j (record { actor = o; lines = lines.Given p ∷ []; sent = ms; volumes = [] }) past
 told_act j p o ms past = record { runs = λ l. refl; begins = refl }
 
 -- a step that runs no call, where the server is then down or not
@@ -111,7 +113,7 @@ noted s now c past armed d e b h boots p clock heard fallen gives backs =
       floors = h.floors;
       count = h.count;
       ideal = λ id. h.ideal id ∙ sym (p.ideal id);
-      readable = h.readable;
+      fine = h.fine;
       sound = λ id. sound_same id _ (lines_of past) (lines_of (e ∷ past)) (λ m u. p.last (fid_at id m u) (lines_of past)) (h.sound id);
       home = λ id v found. p.home id (lines_of past) (h.home id v found);
       new = λ k above. p.new k (lines_of past) (h.new k above);
@@ -147,7 +149,7 @@ up_boots s c past h up = h.boots ∙ ap (λ (d : Option Fall). up_boot d c.serve
 
 -- the server is given a message that runs nothing
 pub quiet : (s : Script) (c : Cell) (past : List Entry) (armed : Armed) (p : ℕ) (m : Message) (t : Turn) → (h : Holds s c past) → c.down ≡ None → message_at c.sent p ≡ Some m → Dull c.server.seats c.server.boot m → AreNotes t.lines
-    → AreGood s (Some the_server) past (lines.Given p ∷ []) t.lines
+    → AreGood s (actors.Node the_server) past (lines.Given p ∷ []) t.lines
     → ((e : Entry) → ((j : ℕ) (r : Message) → ReplyFact j (view h.floors c j) past r → ReplyFact j (view h.floors c j) (e ∷ past) r) → Each (HeldIn (view h.floors c) (e ∷ past)) (replies_of c.backs.held) → Turns (view h.floors c) c.server.boot (e ∷ past) t)
     → ((e : Entry) → e ≡ told_entry p t.lines (pumped the_server c.server.boot t).sent → Loads c (e ∷ past) t)
     → Goes s past (server_adds c armed c.server (lines.Given p ∷ []) t)
@@ -167,7 +169,7 @@ quiet s c past armed p m t h up at dull notes good turns loads =
     }
 
 -- the server does something by itself
-pub acts_alone : (s : Script) (c : Cell) (past : List Entry) (armed : Armed) (t : Turn) → (h : Holds s c past) → c.down ≡ None → AreNotes t.lines → AreGood s (Some the_server) past [] t.lines
+pub acts_alone : (s : Script) (c : Cell) (past : List Entry) (armed : Armed) (t : Turn) → (h : Holds s c past) → c.down ≡ None → AreNotes t.lines → AreGood s (actors.Node the_server) past [] t.lines
     → ((e : Entry) → Each (HeldIn (view h.floors c) (e ∷ past)) (replies_of c.backs.held) → Turns (view h.floors c) c.server.boot (e ∷ past) t)
     → ((e : Entry) → e ≡ noted_entry t.lines (pumped the_server c.server.boot t).sent → Loads c (e ∷ past) t) → Goes s past (server_adds c armed c.server [] t)
 acts_alone s c past armed t h up notes good turns loads =
@@ -355,7 +357,7 @@ unheard_after s c past p n h user call r e H up at w is = unheard_over None (sea
 
 -- the entry ran the call
 abbrev pub ran_now : (s : Script) (c : Cell) (past : List Entry) (p n : ℕ) (h : Head) (user : List ℕ) (call : FsCall) (e : Entry) → (H : Holds s c past) → c.down ≡ None → message_at c.sent p ≡ Some (call_at n h user call) → Now c H.floors past n h user call
-    → given_message e.lines (sent_of past) ≡ message_at (sent_of past) p → e.node ≡ Some the_server → Ran (reply_head c.server.boot (client_head n h)) (e ∷ past)
+    → given_message e.lines (sent_of past) ≡ message_at (sent_of past) p → e.actor ≡ actors.Node the_server → Ran (reply_head c.server.boot (client_head n h)) (e ∷ past)
 ran_now s c past p n h user call e H up sent w is at = record {
   newer = [];
   at = e;
@@ -436,7 +438,7 @@ reply_now good fl c past newer n h user call x w le a = record {
 pub record Serves (good : Bool) (s : Script) (c : Cell) (fl : ℕ → Ghost) (past : List Entry) (n : ℕ) (h : Head) (user : List ℕ) (call : FsCall) (x : Carried) (e : Entry) (st : Stock) : Type 0 where
   pub ideal : AreIdeal st.volumes (e ∷ past)
   pub sound : AreSound st.volumes (lines_of (e ∷ past))
-  pub readable : AreReadable st.volumes
+  pub fine : AreFine st.volumes
   pub home : AreHome s st.volumes (lines_of (e ∷ past))
   pub new : AreNew (durable_after good c n h (replied c.server.boot (client_head n h) x)) (lines_of (e ∷ past))
   pub other : (j : ℕ) → (n ≡ j → ⊥) → ClientFacts j (view fl c j) past → ClientFacts j (view fl c j) (e ∷ past)
@@ -528,7 +530,7 @@ serves good s b c past n h user call x e st after d armed H w v boots heard fall
       floors = H.floors;
       count = H.count;
       ideal = v.ideal;
-      readable = v.readable;
+      fine = v.fine;
       sound = v.sound;
       home = v.home;
       new = v.new;
@@ -602,7 +604,7 @@ serves_still s c past n h user call x e H w pf pr pa l ideal home new clock top 
     let r : Message = replied c.server.boot (client_head n h) x in
     record {
       ideal = ideal;
-      readable = H.readable;
+      fine = H.fine;
       sound = λ id. sound_same id _ (lines_of past) (lines_of (e ∷ past)) (λ m u. l (fid_at id m u)) (H.sound id);
       home = home;
       new = new;
@@ -621,7 +623,7 @@ serves_still s c past n h user call x e H w pf pr pa l ideal home new clock top 
 
 -- the call runs now
 abbrev pub has_run : (s : Script) (c : Cell) (past : List Entry) (p n : ℕ) (h : Head) (user : List ℕ) (call : FsCall) (e : Entry) → (H : Holds s c past) → c.down ≡ None → message_at c.sent p ≡ Some (call_at n h user call) → Now c H.floors past n h user call
-    → given_message e.lines (sent_of past) ≡ message_at (sent_of past) p → e.node ≡ Some the_server → HasRun c n h user call (e ∷ past)
+    → given_message e.lines (sent_of past) ≡ message_at (sent_of past) p → e.actor ≡ actors.Node the_server → HasRun c n h user call (e ∷ past)
 has_run s c past p n h user call e H up at w is by = record { ran = ran_now s c past p n h user call e H up at w is by; is = refl; ideal = H.ideal }
 
 -- the reply to a call that runs now, in the server's memory
@@ -645,12 +647,12 @@ refuses_goes s c past armed p n h user call code H up at w nz result =
     let r : Message = replied c.server.boot (client_head n h) x in
     let t : Turn = turn_for the_server c.server c.clock (expired c.clock c.backs) (refuses (client_head n h) code) in
     let ms : List Message = (pumped the_server c.server.boot t).sent in
-    let e : Entry = record { node = Some the_server; lines = lines.Given p ∷ []; sent = ms; volumes = [] } in
+    let e : Entry = record { actor = actors.Node the_server; lines = lines.Given p ∷ []; sent = ms; volumes = [] } in
     let pump : Pumps c.server.boot (seats_after c n h r) (seats_of c) c.clock c.sent (e ∷ past) t = pumps c.server.boot (seats_after c n h r) (seats_of c) c.clock c.sent e past t refl H.clock (run_backed s c past n h user call x e (expired c.clock c.backs).promises H up w (λ y. y) refl refl refl (granted_over e past (expired c.clock c.backs).promises refl ((up_backed s c past H up).granted refl)) (promised_over None (expired c.clock c.backs).promises c.clock c.clock e past refl (le_refl _) (up_backed s c past H up).promised)) (record { good = tt; calls = tt; dones = tt }) in
     record {
       good = (tt, tt);
       holds = serves false s (Some c.server.boot) c past n h user call x e (stock c.server) (pumped the_server c.server.boot t).backs None armed H w
-          (serves_still s c past n h user call x e H w (λ j f. told_file j p f (Some the_server) ms past) (λ j f. told_reach j p f (Some the_server) ms past) (λ j. told_act j p (Some the_server) ms past) (λ f. refl) H.ideal H.home H.new H.clock H.top (λ y. y)
+          (serves_still s c past n h user call x e H w (λ j f. told_file j p f (actors.Node the_server) ms past) (λ j f. told_reach j p f (actors.Node the_server) ms past) (λ j. told_act j p (actors.Node the_server) ms past) (λ f. refl) H.ideal H.home H.new H.clock H.top (λ y. y)
           (record {
             fits = refusal_fits (c.clients n).spoiled n call (spot_at (call_seat (Client n) c.server.durable) h.epoch h.number) c.server.boot r (record { 0 = code }) (e ∷ past) nz (not_stored (call_seat (Client n) c.server.durable) h.epoch h.number w.above_durable);
             code = code;
@@ -697,7 +699,7 @@ pub body_same : (a b : Found) → shows_body a ≡ shows_body b → a ≡ b
 body_same a b e = cc
 
 -- grants are always good
-pub granted_good : (s : Script) (past : List Entry) (own : List Line) (c : Node) (x : ℕ) (fs : List Found) → AreGood s (Some the_server) past own (granted the_server c x fs [])
+pub granted_good : (s : Script) (past : List Entry) (own : List Line) (c : Node) (x : ℕ) (fs : List Found) → AreGood s (actors.Node the_server) past own (granted the_server c x fs [])
 granted_good s past own c x [] = tt
 granted_good s past own c x (f ∷ fs) = (tt, granted_good s past (lines.Grant the_server c f.fid f.vnode.index x ∷ own) c x fs)
 
@@ -767,7 +769,7 @@ shows_goes s c past armed p n h user call r H up at w of there is result =
                 let q = fid_in call r.id r.volume r.shown f of is yes in
                 let here : get f.fid.volume c.server.volumes ≡ Some r.volume = ap (λ (i : ℕ). get i c.server.volumes) q.0 ∙ there in
                 let last : last_version f.fid (lines_of past) ≡ Some (version_at f.fid.volume f.fid.vnode f.vnode) = found_last s c past f.fid r.volume f.vnode H here q.1 in
-                let back : body_told (type_of f.vnode.kind) (bytes_by f.vnode.kind f.vnode) ≡ body_of f.vnode = told_kind f.fid.vnode f.vnode.kind f.vnode (H.readable f.fid.volume f.fid.vnode r.volume f.vnode here (own_found f.fid.unique (get f.fid.vnode r.volume.vnodes) f.vnode q.1)) in
+                let back : body_told (type_of f.vnode.kind) (bytes_by f.vnode.kind f.vnode) ≡ body_of f.vnode = told_kind f.fid.vnode f.vnode.kind f.vnode ((H.fine f.fid.volume r.volume here).readable f.fid.vnode f.vnode (own_found f.fid.unique (get f.fid.vnode r.volume.vnodes) f.vnode q.1)) in
                 let g = grant_at (Client n) t p r.shown f yes in
                 record {
                   held = record {

@@ -1,6 +1,10 @@
 use Rattle.std.proofs.Common.{◌≡◌, ℕ, ◌+◌, ◌<◌, ◌≤◌, inl, inr, Bool, true, false, cond, nat_eq, nat_lt, not, List, [], ◌∷◌, ◌++◌, Option, Some, None, refl, sym, ap, subst, ◌∙◌, arith, eq-eqb}
 use Rattle.std.specs.Prelude.{filter, ⊤}
+use Rattle.afs_num.specs.declared.histories.Actor.TheVariants as actors
 use Rattle.afs_num.specs.declared.histories.Body.{Body}
+use Rattle.afs_ideal.specs.Operations.{volume_changed}
+use Rattle.afs_ideal.specs.Tables.{Table}
+use Rattle.afs_ideal.specs.Volumes.{Volume}
 use Rattle.afs_law.proofs.Asking.{step_entry, view_after, Passes, moves, nothing_new, runs_by_other, client_kept, call_known, reply_still, own_call, other_client}
 use Rattle.afs_law.proofs.Backing.{all_lines, is_up, is_still, is_oweless, is_unchanging}
 use Rattle.afs_law.proofs.Basics.{same_fid-true, same_node-refl, client_number, raised_up_to, some_of, UpTo}
@@ -19,9 +23,6 @@ use Rattle.afs_law.specs.Lines.{Line}
 use Rattle.afs_law.specs.Past.{onto, lines_of, sent_of, given_message, has_begun, running, CalledSince, IsCallUnder}
 use Rattle.afs_law.specs.Runs.{Entry, Cell, Moved, client_moves, turned, client_falls, client_rises, waited_by, message_at}
 use Rattle.afs_law.specs.States.{CacheEntry}
-use Rattle.afs_model.specs.Operations.{volume_changed}
-use Rattle.afs_model.specs.Tables.{Table}
-use Rattle.afs_model.specs.Volumes.{Volume}
 use Rattle.std.proofs.Math.Nat.{le_refl, le_trans}
 use Rattle.std.proofs.Common.{le_of_eq}
 use Rattle.std.specs.Prelude.{◌&&◌}
@@ -270,6 +271,6 @@ scope_is call g z = z
 
 -- the answer 0 is good behind the drops
 pub drops_good : (s : Script) (n p : ℕ) (act : Going) (m : Message) (past : List Entry) (es : List CacheEntry) (own : List Line) → ((own : List Line) → given_message own (sent_of past) ≡ message_at (sent_of past) p → has_begun (Client n) own ≡ false → running (Client n) (own ++ lines_of past) ≡ running (Client n) (lines_of past) → GoodCode (Client n) zero_code past own)
-    → given_message own (sent_of past) ≡ message_at (sent_of past) p → has_begun (Client n) own ≡ false → running (Client n) (own ++ lines_of past) ≡ running (Client n) (lines_of past) → AreGood s (Some (Client n)) past own (dropped (Client n) es (last_line n zero_code))
+    → given_message own (sent_of past) ≡ message_at (sent_of past) p → has_begun (Client n) own ≡ false → running (Client n) (own ++ lines_of past) ≡ running (Client n) (lines_of past) → AreGood s (actors.Node (Client n)) past own (dropped (Client n) es (last_line n zero_code))
 drops_good s n p act m past [] own good a b r = ((refl, good own a b r), tt)
 drops_good s n p act m past (u ∷ es) own good a b r = (tt, drops_good s n p act m past es (lines.Drop (Client n) u.fid ∷ own) good a b r)

@@ -1,6 +1,10 @@
 use Rattle.std.proofs.Common.{◌≡◌, ℕ, ◌+◌, ◌<◌, ◌≤◌, inl, inr, Bool, true, false, cond, nat_eq, nat_lt, not, List, [], ◌∷◌, ◌++◌, Option, Some, None, refl, sym, ap, subst, ◌∙◌, arith, eq-eqb, le_of_eq, eqb-true}
 use Rattle.std.specs.Prelude.{filter, ⊤, ◌&&◌}
+use Rattle.afs_num.specs.declared.histories.Actor.TheVariants as actors
 use Rattle.afs_num.specs.declared.histories.Body.{Body}
+use Rattle.afs_ideal.specs.Operations.{volume_changed}
+use Rattle.afs_ideal.specs.Tables.{Table}
+use Rattle.afs_ideal.specs.Volumes.{Volume}
 use Rattle.afs_law.proofs.Answering.{holding, ended_facts, ended_reply, ended_stands, idle_reply}
 use Rattle.afs_law.proofs.Asking.{moves_back, step_entry, view_after, Passes, moves, nothing_new, runs_by_other, client_kept, call_known, reply_still, own_call, other_client, same_one, call_is}
 use Rattle.afs_law.proofs.Backing.{Plain, all_lines, is_up, is_still, is_oweless, is_unchanging}
@@ -21,9 +25,6 @@ use Rattle.afs_law.specs.Lines.{Line}
 use Rattle.afs_law.specs.Past.{onto, lines_of, sent_of, given_message, has_begun, running, CalledSince, IsCallUnder}
 use Rattle.afs_law.specs.Runs.{Entry, Cell, Moved, client_moves, turned, client_falls, client_rises, waited_by, message_at}
 use Rattle.afs_law.specs.States.{CacheEntry}
-use Rattle.afs_model.specs.Operations.{volume_changed}
-use Rattle.afs_model.specs.Tables.{Table}
-use Rattle.afs_model.specs.Volumes.{Volume}
 use Rattle.std.proofs.Math.Nat.{le_refl, le_trans}
 use Rattle.afs_num.specs.Fids.{same_fid}
 use Rattle.afs_num.specs.Nodes.{same_node}
@@ -88,7 +89,7 @@ not_raised false = refl
 
 -- the answer is good behind the drops
 pub dead_good : (s : Script) (n : ℕ) (act : Going) (key : Key) (past : List Entry) (es : List CacheEntry) (own : List Line) → running (Client n) (own ++ lines_of past) ≡ Some act → given_up (Client n) own ≡ Some key → has_begun (Client n) own ≡ false → CalledSince key (user_of (Client n)) (asked act) past
-    → AreGood s (Some (Client n)) past own (dropped (Client n) es (last_line n dead_code))
+    → AreGood s (actors.Node (Client n)) past own (dropped (Client n) es (last_line n dead_code))
 dead_good s n act key past [] own runs third before called = ((refl, record { act = act; runs = runs; cause = inr (inr (record { is = refl; key = key; third = third; before = before; called = called })) }), tt)
 dead_good s n act key past (u ∷ es) own runs third before called = (tt, dead_good s n act key past es (lines.Drop (Client n) u.fid ∷ own) runs third before called)
 
@@ -142,6 +143,7 @@ away_again s c past a h = record {
   count = h.count;
   ideal = h.ideal;
   sound = h.sound;
+  fine = h.fine;
   home = h.home;
   new = h.new;
   unheard = h.unheard;

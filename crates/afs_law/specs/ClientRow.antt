@@ -1,7 +1,15 @@
+use Rattle.afs_ideal.specs.Directories.{directory_of}
+use Rattle.afs_ideal.specs.Operations.{volume_changed}
+use Rattle.afs_law.specs.Acts.{Act, Open}
+use Rattle.afs_law.specs.Going.{ClientState, Going, Need, reads, asks_for, answers, next, asked, began, with_read}
+use Rattle.afs_law.specs.Lines.{Line}
+use Rattle.afs_law.specs.ServerRow.{replied, boot_told}
+use Rattle.afs_law.specs.States.{CacheEntry, Seat}
+use Rattle.afs_law.specs.Steps.{Step}
 use Rattle.afs_model.specs.Calls.{Admitted, paired}
+use Rattle.afs_model.specs.FsRows.{call_number}
 use Rattle.afs_model.specs.Calls as pairs
 use Rattle.afs_num.specs.declared.directories.Name.{Name}
-use Rattle.afs_model.specs.Directories.{directory_of}
 use Rattle.std.specs.Prelude.{Result, Ok, Err, ℕ, ◌+◌, List, [], ◌∷◌, Bool, true, false, not, ◌&&◌, Option, Some, None, pos, negsuc, nat_eq, nat_lt, map, filter, find, codes, length, if◌then◌else◌}
 use Rattle.afs_num.specs.Fids.{same_fid}
 use Rattle.afs_num.specs.Nodes.{same_node}
@@ -17,14 +25,6 @@ use Rattle.afs_num.specs.declared.messages.Carried.{Carried}
 use Rattle.afs_num.specs.declared.messages.Message.{Message}
 use Rattle.afs_num.specs.declared.messages.Received.{Received}
 use Rattle.afs_num.specs.declared.messages.Received.TheVariants.{Nothing, Unknown, Unreadable, Whole}
-use Rattle.afs_law.specs.Acts.{Act, Open}
-use Rattle.afs_law.specs.Going.{ClientState, Going, Need, reads, asks_for, answers, next, asked, began, with_read}
-use Rattle.afs_law.specs.Lines.{Line}
-use Rattle.afs_law.specs.ServerRow.{replied, boot_told}
-use Rattle.afs_law.specs.States.{CacheEntry, Seat}
-use Rattle.afs_law.specs.Steps.{Step}
-use Rattle.afs_model.specs.FsRows.{call_number}
-use Rattle.afs_model.specs.Operations.{volume_changed}
 use Rattle.afs_num.specs.declared.histories.ReadSource.TheVariants.{Cached, Fetched}
 use Rattle.afs_num.specs.declared.calls.AfsFetchStatus.{AfsFetchStatus}
 use Rattle.afs_num.specs.declared.calls.AfsCallBack.{AfsCallBack}

@@ -1,10 +1,10 @@
 -- What a server's disk keeps, and for which such parts it may stand in a cell. The cell has no bytes: that each disk stands
 -- for one of these parts is a promise of the world's code, by the spelling of records.
 use Rattle.std.specs.Prelude.{◌≡◌, ℕ, ◌⊎◌, List, Bool, true, not, ◌&&◌, ◌||◌, nat_eq, Option, Some, None}
+use Rattle.afs_ideal.specs.Tables.{Table}
+use Rattle.afs_ideal.specs.Volumes.{Volume}
 use Rattle.afs_law.specs.Runs.{Blow, Fall, Cell, begun_by_disk}
 use Rattle.afs_law.specs.States.{Seat, ServerState}
-use Rattle.afs_model.specs.Tables.{Table}
-use Rattle.afs_model.specs.Volumes.{Volume}
 use Rattle.afs_num.specs.declared.types.Fid.{Fid}
 
 pub record Durable : Type 0 where

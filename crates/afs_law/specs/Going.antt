@@ -1,15 +1,14 @@
 -- What runs at a client: an act, and what it has read; and what it needs next.
 use Rattle.afs_num.specs.declared.directories.Name.{Name}
-use Rattle.afs_model.specs.Directories.{named}
+use Rattle.afs_ideal.specs.Directories.{named}
+use Rattle.afs_law.specs.Acts.{Act, Open, Close, WalkTo, Ask}
+use Rattle.afs_law.specs.States.{CacheEntry, Seat}
 use Rattle.std.specs.Prelude.{◌≡◌, ℕ, zero, suc, List, [], ◌∷◌, ◌++◌, Bool, true, false, not, ◌&&◌, Option, Some, None, Result, Ok, Err, ℤ, pos, length, if◌then◌else◌}
 use Rattle.std.specs.Option.{option_map}
 use Rattle.afs_num.specs.declared.types.Fid.{Fid}
 use Rattle.afs_num.specs.declared.calls.AfsStoreStatus.{AfsStoreStatus}
 use Rattle.afs_num.specs.declared.calls.FsCall.{FsCall}
 use Rattle.afs_num.specs.declared.calls.FsCall.TheVariants as calls
-use Rattle.afs_law.specs.Acts.{Act, Open, Close, WalkTo, Ask}
-use Rattle.afs_law.specs.States.{CacheEntry, Seat}
-use Rattle.afs_model.specs.Directories.{named}
 use Rattle.afs_num.specs.declared.histories.Body.{Body}
 use Rattle.afs_num.specs.declared.histories.Body.TheVariants as bodies
 

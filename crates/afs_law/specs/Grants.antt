@@ -8,6 +8,7 @@ use Rattle.afs_num.specs.declared.messages.Message.{Message}
 use Rattle.afs_law.specs.Lines.{Line}
 use Rattle.afs_law.specs.Past.{onto, lines_on, sent_of, given_message, IsReply, Ran}
 use Rattle.afs_law.specs.Runs.{Entry}
+use Rattle.afs_num.specs.declared.histories.Actor.TheVariants as actors
 use Rattle.afs_num.specs.declared.histories.ReadSource.{ReadSource}
 use Rattle.afs_num.specs.declared.histories.ReadSource.TheVariants.{Cached, Fetched}
 use Rattle.afs_law.specs.Lines as lines
@@ -39,7 +40,7 @@ pub record GrantOf (c : Node) (f : Fid) (expiry : ℕ) (reply : Message) (past :
   pub to : reply.head.to ≡ c
   pub ran : Ran reply.head past
   pub server : Node
-  pub node : ran.at.node ≡ Some server
+  pub node : ran.at.actor ≡ actors.Node server
   pub index : ℕ
   pub before : List Line
   pub after : List Line

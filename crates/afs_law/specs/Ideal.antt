@@ -1,4 +1,11 @@
-use Rattle.afs_model.specs.Operations.{the_user}
+use Rattle.afs_ideal.specs.Operations.{the_user, volume_called, changed, op, is_number}
+use Rattle.afs_ideal.specs.Tables.{Table, get}
+use Rattle.afs_ideal.specs.Volumes.{Volume, Edit, versions_by}
+use Rattle.afs_law.specs.Acts.{Act, Open, Close, Ask}
+use Rattle.afs_law.specs.Lines.{Line}
+use Rattle.afs_law.specs.Past.{onto, is_of_act, sent_of, is_called}
+use Rattle.afs_law.specs.Runs.{Entry, first_edits, empty_volume, first_volumes}
+use Rattle.afs_law.specs.ServerRow.{versioned}
 use Rattle.std.specs.Prelude.{is_some, ◌≡◌, ℕ, ◌+◌, List, [], ◌∷◌, ◌++◌, Bool, true, false, ◌&&◌, Option, Some, None, ℤ, pos, negsuc, nat_eq, codes, length, max, if◌then◌else◌, ◌⊎◌}
 use Rattle.std.specs.Option.{option_map}
 use Rattle.afs_num.specs.Fids.{same_fid}
@@ -8,16 +15,9 @@ use Rattle.afs_num.specs.declared.types.Fid.{Fid}
 use Rattle.afs_num.specs.declared.types.Node.{Node}
 use Rattle.afs_num.specs.declared.calls.AfsStoreStatus.{AfsStoreStatus}
 use Rattle.afs_num.specs.declared.calls.FsCall.{FsCall}
-use Rattle.afs_law.specs.Acts.{Act, Open, Close, Ask}
-use Rattle.afs_law.specs.Lines.{Line}
-use Rattle.afs_law.specs.Past.{onto, is_of_act, sent_of, is_called}
-use Rattle.afs_law.specs.Runs.{Entry, first_edits, empty_volume, first_volumes}
-use Rattle.afs_law.specs.ServerRow.{versioned}
-use Rattle.afs_model.specs.Operations.{volume_called, changed, op, is_number}
-use Rattle.afs_model.specs.Tables.{Table, get}
-use Rattle.afs_model.specs.Volumes.{Volume, Edit, versions_by}
 use Rattle.afs_num.specs.declared.scripts.Script.{Script}
 use Rattle.afs_num.specs.declared.scripts.VolumeLine.{VolumeLine}
+use Rattle.afs_num.specs.declared.histories.Actor.TheVariants as actors
 use Rattle.afs_num.specs.declared.histories.Body.{Body}
 use Rattle.afs_num.specs.declared.histories.Version.{Version}
 use Rattle.afs_num.specs.declared.types.Key.{Key}
@@ -44,7 +44,7 @@ first_lines (v ∷ vs) = unless (is_some (get v.id (first_volumes vs))) (first_l
 
 -- the set-up, as an entry before all others
 abbrev pub set_up : Script → Entry
-set_up s = record { node = None; lines = first_lines s.volumes; sent = []; volumes = first_volumes s.volumes }
+set_up s = record { actor = actors.Nobody; lines = first_lines s.volumes; sent = []; volumes = first_volumes s.volumes }
 
 -- ---- volumes. The call that a message carries under a key
 

@@ -8,6 +8,8 @@ use Rattle.afs_num.specs.declared.types.Node.TheVariants.{Server, Client}
 use Rattle.afs_num.specs.declared.calls.FsCall.{FsCall}
 use Rattle.afs_num.specs.declared.messages.Carried.{Carried}
 use Rattle.afs_num.specs.declared.messages.Message.{Message}
+use Rattle.afs_ideal.specs.Operations.{Caller, the_user, Result, refused, changes, op, code_of, volume_called}
+use Rattle.afs_ideal.specs.Volumes.{Volume, Edit, versions_by}
 use Rattle.afs_law.specs.Acts.{Act, Open}
 use Rattle.afs_law.specs.Breaks.{AllOwes, EndedOf, EndedAll, GoodSettle, GoodQuit, live_grant, HasOwe, last_number}
 use Rattle.afs_law.specs.Going.{Going, answers, next, asked}
@@ -16,9 +18,9 @@ use Rattle.afs_law.specs.Ideal.{set_up, IsLast, HasVersion, Accepts, clock_of, u
 use Rattle.afs_law.specs.Lines.{Line}
 use Rattle.afs_law.specs.Past.{lines_of, sent_of, given_message, answered_key, IsReply, running, has_begun, Called, CalledSince, Ran}
 use Rattle.afs_law.specs.Runs.{Entry}
-use Rattle.afs_model.specs.Operations.{Caller, the_user, Result, refused, changes, op, code_of, volume_called}
-use Rattle.afs_model.specs.Volumes.{Volume, Edit, versions_by}
 use Rattle.afs_num.specs.declared.scripts.Script.{Script}
+use Rattle.afs_num.specs.declared.histories.Actor.{Actor}
+use Rattle.afs_num.specs.declared.histories.Actor.TheVariants as actors
 use Rattle.afs_num.specs.declared.histories.Body.{Body}
 use Rattle.afs_num.specs.declared.histories.ReadSource.{ReadSource}
 use Rattle.afs_num.specs.declared.histories.ReadSource.TheVariants.{Cached}
@@ -215,24 +217,24 @@ GoodRestart s n next = ⊤
 
 -- a read or an answer stands in an entry of its client, a change in one of its server; lines that begin an act, give a
 -- message, grant, or tell of nothing are always good
-abbrev pub IsGood : Script → Option Node → Line → List Entry → List Line → List Line → Type 0
-IsGood s who (lines.Read c f index source body) past own next = (who ≡ Some c) × GoodRead c f index source body past own
-IsGood s who (lines.Change server k count) past own next = (who ≡ Some server) × GoodChange s server k count past own next
+abbrev pub IsGood : Script → Actor → Line → List Entry → List Line → List Line → Type 0
+IsGood s who (lines.Read c f index source body) past own next = (who ≡ actors.Node c) × GoodRead c f index source body past own
+IsGood s who (lines.Change server k count) past own next = (who ≡ actors.Node server) × GoodChange s server k count past own next
 IsGood s who (lines.Version v) past own next = IsUnderChange own
-IsGood s who (lines.Answer c code) past own next = (who ≡ Some c) × GoodCode c code past own
+IsGood s who (lines.Answer c code) past own next = (who ≡ actors.Node c) × GoodCode c code past own
 IsGood s who (lines.Owe server c what n) past own next = last_number server (own ++ lines_of past) < n
-IsGood s who (lines.Settle server c n) past own next = (who ≡ Some server) × GoodSettle server c n past own
-IsGood s who (lines.Quit server c n) past own next = (who ≡ Some server) × GoodQuit server c n past own
+IsGood s who (lines.Settle server c n) past own next = (who ≡ actors.Node server) × GoodSettle server c n past own
+IsGood s who (lines.Quit server c n) past own next = (who ≡ actors.Node server) × GoodQuit server c n past own
 IsGood s who (lines.Restart n boot) past own next = GoodRestart s n next
 IsGood s who l past own next = ⊤
 
-abbrev pub AreGood : Script → Option Node → List Entry → List Line → List Line → Type 0
+abbrev pub AreGood : Script → Actor → List Entry → List Line → List Line → Type 0
 AreGood s who past own [] = ⊤
 AreGood s who past own (l ∷ next) = IsGood s who l past own next × AreGood s who past (l ∷ own) next
 
 abbrev pub LegalAfter : Script → List Entry → List Entry → Type 0
 LegalAfter s past [] = ⊤
-LegalAfter s past (e ∷ es) = (AreGood s e.node past [] e.lines × AreGoodReplies (e ∷ past) e.sent) × LegalAfter s (e ∷ past) es
+LegalAfter s past (e ∷ es) = (AreGood s e.actor past [] e.lines × AreGoodReplies (e ∷ past) e.sent) × LegalAfter s (e ∷ past) es
 
 abbrev pub Legal : List Entry → Script → Type 0
 Legal history s = LegalAfter s (set_up s ∷ []) history

@@ -13,6 +13,7 @@ use Rattle.afs_law.specs.Runs.{Entry, message_at}
 use Rattle.afs_num.specs.declared.types.Half.TheVariants as halves
 use Rattle.afs_num.specs.declared.messages.Carried.TheVariants as carried
 use Rattle.afs_law.specs.Lines as lines
+use Rattle.afs_num.specs.declared.histories.Actor.TheVariants as actors
 
 -- The past of a moment: the entries before it, the newest first, and what can be looked up in them.
 
@@ -114,13 +115,13 @@ Sends k user call (m ∷ ms) = ((called_key m.head ≡ k) × (m.carried ≡ carr
 abbrev pub Called : Key → List ℕ → FsCall → Going → List Entry → Type 0
 Called k user call act [] = ⊥
 Called k user call act (e ∷ past) =
-    ((e.node ≡ Some k.node) × (Sends k user call e.sent × (running k.node (lines_of (e ∷ past)) ≡ Some act))) ⊎ Called k user call act past
+    ((e.actor ≡ actors.Node k.node) × (Sends k user call e.sent × (running k.node (lines_of (e ∷ past)) ≡ Some act))) ⊎ Called k user call act past
 
 -- the same, by the key's node since it last began an act
 abbrev pub CalledSince : Key → List ℕ → FsCall → List Entry → Type 0
 CalledSince k user call [] = ⊥
 CalledSince k user call (e ∷ past) =
-    ((e.node ≡ Some k.node) × Sends k user call e.sent) ⊎ ((has_begun k.node e.lines ≡ false) × CalledSince k user call past)
+    ((e.actor ≡ actors.Node k.node) × Sends k user call e.sent) ⊎ ((has_begun k.node e.lines ≡ false) × CalledSince k user call past)
 
 -- ---- the entry that ran a call
 
@@ -146,5 +147,5 @@ pub record Ran (reply : Head) (past : List Entry) : Type 0 where
   pub key : called_key message.head ≡ answered_key reply
   pub boot : message.head.boot ≡ reply.boot
   pub callee : message.head.to ≡ reply.from
-  pub node : at.node ≡ Some message.head.to
+  pub node : at.actor ≡ actors.Node message.head.to
   pub first : IsUnheard reply.from (answered_key reply) reply.boot older

@@ -8,12 +8,11 @@ use Rattle.afs_num.specs.declared.messages.Message.{Message}
 use Rattle.afs_num.specs.declared.histories.Version.{Version}
 use Rattle.afs_num.specs.declared.vnodes.Vnode as images
 use Rattle.afs_xdr.specs.Words.{words, opaque}
-use Rattle.afs_model.specs.AccessLists.{acl_text}
+use Rattle.afs_ideal.specs.AccessLists.{acl_text}
+use Rattle.afs_ideal.specs.Tables.{Table, get}
+use Rattle.afs_ideal.specs.VnodeImage.{image}
+use Rattle.afs_ideal.specs.Volumes.{Kind, a_directory, Vnode, Volume, bytes_by, fid_of, type_of}
 use Rattle.afs_model.specs.Messages.{spelled}
-use Rattle.afs_model.specs.Tables.{Table, get}
-use Rattle.afs_model.specs.VnodeImage.{image}
-use Rattle.afs_model.specs.Volumes.{Kind, a_directory, Vnode, Volume, bytes_by, fid_of}
-use Rattle.afs_model.specs.Replies.{type_of}
 
 -- ---- vnodes
 

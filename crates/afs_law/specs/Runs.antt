@@ -2,42 +2,40 @@ use Rattle.afs_num.specs.Places.{at_place}
 use Rattle.afs_num.specs.declared.types.Fid.{Fid}
 use Rattle.afs_num.specs.declared.directories.Name.{Name}
 use Rattle.afs_num.specs.declared.acls.AccessList.{AccessList}
-use Rattle.afs_model.specs.AccessLists.{anyuser}
-use Rattle.afs_model.specs.Directories.{with_name}
-use Rattle.afs_model.specs.Volumes.{counted}
-use Rattle.afs_law.specs.Records.{first_record, record_length}
-use Rattle.afs_law.specs.ServerRow.{Begun, begun_before, begun_after}
+use Rattle.afs_ideal.specs.AccessLists.{anyuser}
+use Rattle.afs_ideal.specs.Directories.{with_name}
+use Rattle.afs_ideal.specs.Operations.{new_file, new_directory}
+use Rattle.afs_ideal.specs.Tables.{Table, get, set}
+use Rattle.afs_ideal.specs.Volumes.{counted, Volume, Edit, makes, edited_all}
+use Rattle.afs_law.specs.Acts.{Act}
+use Rattle.afs_law.specs.Callbacks.{put, Backs, BackCall, Turn, Started, expired, turned_by, timed, pumped, no_turn, risen_turn, first_backs}
+use Rattle.afs_law.specs.ClientRow.{the_server, begin_row, client_row, timeout_row, reborn}
+use Rattle.afs_law.specs.Going.{ClientState, Going}
+use Rattle.afs_law.specs.Lines.{Line}
+use Rattle.afs_law.specs.Records.{first_record, record_length, boot_record}
+use Rattle.afs_law.specs.ServerRow.{Begun, begun_before, begun_after, Decision, decides, does, device_calls, has_room, revived}
+use Rattle.afs_law.specs.States.{ServerState}
+use Rattle.afs_law.specs.Steps.{Step}
 use Rattle.std.specs.Prelude.{is_some, ◌≡◌, ℕ, zero, suc, ◌+◌, ◌-◌, ◌*◌, List, [], ◌∷◌, ◌++◌, Bool, true, false, cond, nat_eq, nat_lt, Option, Some, None, if◌then◌else◌, length}
 use Rattle.std.specs.Option.{option_map}
 use Rattle.afs_num.specs.declared.types.Node.{Node}
 use Rattle.afs_num.specs.declared.types.Node.TheVariants.{Loc, Server, Client, Admin}
 use Rattle.afs_num.specs.declared.messages.Message.{Message}
 use Rattle.afs_num.specs.declared.messages.Received.TheVariants.{Whole}
-use Rattle.afs_law.specs.Acts.{Act}
-use Rattle.afs_law.specs.Callbacks.{put, Backs, BackCall, Turn, Started, expired, turned_by, timed, pumped, no_turn, risen_turn, first_backs}
-use Rattle.afs_law.specs.ClientRow.{the_server, begin_row, client_row, timeout_row, reborn}
-use Rattle.afs_law.specs.Going.{ClientState, Going}
-use Rattle.afs_law.specs.Lines.{Line}
-use Rattle.afs_law.specs.Records.{boot_record}
-use Rattle.afs_law.specs.ServerRow.{Decision, decides, does, device_calls, has_room, revived}
-use Rattle.afs_law.specs.States.{ServerState}
-use Rattle.afs_law.specs.Steps.{Step}
-use Rattle.afs_model.specs.Directories.{with_name}
-use Rattle.afs_model.specs.Operations.{new_file, new_directory}
-use Rattle.afs_model.specs.Tables.{Table, get, set}
-use Rattle.afs_model.specs.Volumes.{Volume, Edit, makes, edited_all}
 use Rattle.afs_num.specs.declared.scripts.Script.{Script}
 use Rattle.afs_num.specs.declared.scripts.SetupLine.{SetupLine}
 use Rattle.afs_num.specs.declared.scripts.SetupLine.TheVariants.{File}
 use Rattle.afs_num.specs.declared.scripts.VolumeLine.{VolumeLine}
 use Rattle.afs_law.specs.Lines as lines
+use Rattle.afs_num.specs.declared.histories.Actor.{Actor}
+use Rattle.afs_num.specs.declared.histories.Actor.TheVariants as actors
 
 -- The cell, what it is given, and the runs of a script. A run knows no schedule.
 
--- one step of a run: its node (none where nothing happened), its lines, the messages that it sent, and the volumes that it
+-- one step of a run: whose it is, its lines, the messages that it sent, and the volumes that it
 -- brought whole: the set-up all, later steps those of their `made` lines
 pub record Entry : Type 0 where
-  pub node : Option Node
+  pub actor : Actor
   pub lines : List Line
   pub sent : List Message
   pub volumes : Table Volume
@@ -146,18 +144,18 @@ pub record Moved : Type 0 where
   pub cell : Cell
 
 abbrev pub voided : Cell → Moved
-voided c = record { entry = record { node = None; lines = lines.Void ∷ []; sent = []; volumes = [] }; cell = c }
+voided c = record { entry = record { actor = actors.Nobody; lines = lines.Void ∷ []; sent = []; volumes = [] }; cell = c }
 
 abbrev pub client_moves : Cell → ℕ → Step ClientState → Moved
 client_moves c n s = record {
-  entry = record { node = Some (Client n); lines = s.lines; sent = s.sent; volumes = [] };
+  entry = record { actor = actors.Node (Client n); lines = s.lines; sent = s.sent; volumes = [] };
   cell = record c { clients = put n s.state c.clients; sent = c.sent ++ s.sent };
 }
 
 -- what the server does with its calls and promises comes last in its step; these are all its lines
 abbrev pub server_moves : Cell → Armed → ServerState → List Line → Turn → Moved
 server_moves c armed s ls t = record {
-  entry = record { node = Some the_server; lines = ls; sent = (pumped the_server s.boot t).sent; volumes = [] };
+  entry = record { actor = actors.Node the_server; lines = ls; sent = (pumped the_server s.boot t).sent; volumes = [] };
   cell = record c { server = s; backs = (pumped the_server s.boot t).backs; down = None; armed = armed; sent = c.sent ++ (pumped the_server s.boot t).sent };
 }
 
@@ -168,12 +166,12 @@ server_adds c armed s ls t = server_moves c armed s (ls ++ t.lines) t
 -- a step of the server that leaves its state
 abbrev pub server_falls : Cell → List Line → Fall → Moved
 server_falls c ls fall = record {
-  entry = record { node = Some the_server; lines = ls; sent = []; volumes = [] };
+  entry = record { actor = actors.Node the_server; lines = ls; sent = []; volumes = [] };
   cell = record c { down = Some fall; armed = unarmed };
 }
 
 abbrev pub server_set : Cell → Line → Armed → Moved
-server_set c l armed = record { entry = record { node = Some the_server; lines = l ∷ []; sent = []; volumes = [] }; cell = record c { armed = armed } }
+server_set c l armed = record { entry = record { actor = actors.Node the_server; lines = l ∷ []; sent = []; volumes = [] }; cell = record c { armed = armed } }
 
 -- the message of a place; the first message sent has place 1
 abbrev pub message_at : List Message → ℕ → Option Message
@@ -219,7 +217,7 @@ waited_by c n None = voided c
 waited_by c n (Some act) = client_moves c n (timeout_row (Client n) (c.clients n) act)
 
 abbrev pub ticked : Cell → ℕ → Moved
-ticked c n = record { entry = record { node = None; lines = lines.Tick n ∷ []; sent = []; volumes = [] }; cell = record c { clock = c.clock + n } }
+ticked c n = record { entry = record { actor = actors.Clock; lines = lines.Tick n ∷ []; sent = []; volumes = [] }; cell = record c { clock = c.clock + n } }
 
 -- a client's step after which it is down, or up
 abbrev pub turned : ℕ → Bool → Moved → Moved
@@ -249,7 +247,7 @@ server_rises c f = server_moves c unarmed (revived f.state) (f.before (lines.Res
 -- the server stays down, in the state that was found
 abbrev pub server_stays : Cell → Begun → Line → Fall → Moved
 server_stays c f l fall = record {
-  entry = record { node = Some the_server; lines = f.before (l ∷ []); sent = []; volumes = [] };
+  entry = record { actor = actors.Node the_server; lines = f.before (l ∷ []); sent = []; volumes = [] };
   cell = record c { server = f.state; down = Some fall; armed = unarmed };
 }
 

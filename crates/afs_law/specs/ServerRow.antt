@@ -18,17 +18,17 @@ use Rattle.afs_num.specs.declared.messages.Message.{Message}
 use Rattle.afs_num.specs.declared.messages.Received.{Received}
 use Rattle.afs_num.specs.declared.messages.Received.TheVariants.{Nothing, Unknown, Unreadable, Whole}
 use Rattle.afs_num.specs.declared.histories.Version.{Version}
-use Rattle.afs_model.specs.Calls.{CallSeat, Admitted, admitted, call_seated}
-use Rattle.afs_model.specs.Calls as pairs
-use Rattle.afs_model.specs.Tables.{get, set}
-use Rattle.afs_model.specs.Volumes.{Volume, Edit, versions_by, edited_all, counted}
-use Rattle.afs_model.specs.Operations.{Caller, the_user, Found, Shown, shows_body, shows_status, shows_acl, shows_statuses, shows_volume, Result, refused, reads, changes, op, volume_called}
-use Rattle.afs_model.specs.Replies.{reading_reply, change_reply, stamped}
+use Rattle.afs_ideal.specs.Operations.{Caller, the_user, Found, Shown, shows_body, shows_status, shows_acl, shows_statuses, shows_volume, Result, refused, reads, changes, no_operation, op, volume_called}
+use Rattle.afs_ideal.specs.Replies.{reading_reply, change_reply, stamped}
+use Rattle.afs_ideal.specs.Tables.{get, set}
+use Rattle.afs_ideal.specs.Volumes.{Volume, Edit, versions_by, edited_all, counted}
 use Rattle.afs_law.specs.Lines.{Line}
-use Rattle.afs_law.specs.Lines as lines
 use Rattle.afs_law.specs.Records.{change_record, boot_record, record_length}
 use Rattle.afs_law.specs.States.{Seat, ServerState}
 use Rattle.afs_law.specs.Steps.{Step}
+use Rattle.afs_model.specs.Calls.{CallSeat, Admitted, admitted, call_seated}
+use Rattle.afs_model.specs.Calls as pairs
+use Rattle.afs_law.specs.Lines as lines
 
 -- ---- promises in replies
 
@@ -167,6 +167,7 @@ roomed s head c = if has_room s (record_of s head 0 c) then saves head c else re
 abbrev pub decided : ServerState → Head → Caller → FsCall → ℕ → Volume → Result → Decision
 decided s head caller call id v (refused code) = refuses head (pos code)
 decided s head caller call id v (reads shown) = shows head (record { id = id; volume = v; caller = caller; shown = shown })
+decided s head caller call id v no_operation = refuses head not_served
 decided s head caller call id v (changes es n) = roomed s head (record { id = id; caller = caller; call = call; before = v; edits = es; shown = n })
 
 -- 103: no such volume here

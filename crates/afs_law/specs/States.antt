@@ -3,9 +3,9 @@ use Rattle.std.specs.Prelude.{ℕ, List, Option}
 use Rattle.afs_num.specs.declared.types.Fid.{Fid}
 use Rattle.afs_num.specs.declared.messages.Message.{Message}
 use Rattle.afs_num.specs.declared.histories.Body.{Body}
+use Rattle.afs_ideal.specs.Tables.{Table}
+use Rattle.afs_ideal.specs.Volumes.{Volume}
 use Rattle.afs_model.specs.Calls.{CallSeat}
-use Rattle.afs_model.specs.Tables.{Table}
-use Rattle.afs_model.specs.Volumes.{Volume}
 
 -- what a callee knows of a caller
 abbrev pub Seat : Type 0
