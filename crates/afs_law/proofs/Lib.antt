@@ -19,3 +19,5 @@ pub mod Skipping
 pub mod Dropping
 pub mod Answering
 pub mod Waiting
+pub mod Law
+pub mod KeysOnce

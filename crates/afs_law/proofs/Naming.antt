@@ -13,23 +13,27 @@ use Rattle.afs_num.specs.declared.calls.FsCall.{FsCall}
 use Rattle.afs_num.specs.declared.calls.FsCall.TheVariants as calls
 use Rattle.afs_num.specs.declared.scripts.SetupLine.{SetupLine}
 use Rattle.afs_num.specs.declared.scripts.SetupLine.TheVariants as setup
-use Rattle.afs_ideal.specs.Directories.{IsDirectory, FitNames, FitsName, most_names, named, with_name, without_name, add_refused}
-use Rattle.afs_ideal.specs.Operations.{number_named, Caller, all_rights, Result, op, changes, volume_called, tests, effect, first_failing, limits, edit_fits, is_last_count, last_count, no_amend, name_in, names_in, named_vnode, creates, removes, unlinks, renaming, renames_within, renames_across, renamed, creating, removing, linking, may_link, free_number, name_of, new_file, new_directory, new_link, is_directory, links_of, linked}
-use Rattle.afs_ideal.specs.Operations as ops
-use Rattle.afs_ideal.specs.SetUp.{new_volume, new_root, called, laid_by, laid_in, laid_at, laid, at_first, one_at_first, all_at_first, a_file_of}
-use Rattle.afs_ideal.specs.Tables.{Table, get, set, unset, AscendsFrom, lowest_free}
-use Rattle.afs_ideal.specs.Volumes.{Kind, a_file, a_link, a_directory, Vnode, Volume, Edit, Amend, amends, makes, frees, amended, fresh, amends_at, makes_at, frees_at, edited, edited_all, edit_number, counted, vnode_of, if_unique, with_status, or_old, ascending, placed}
 use Rattle.afs_ideal.proofs.Counts.{each_with, each_without, each_named}
 use Rattle.afs_ideal.proofs.Directories.{added_is_directory, removed_is_directory, named-without_name, same_is, shorter-without_name}
 use Rattle.afs_ideal.proofs.Looks.{each_ascending}
 use Rattle.afs_ideal.proofs.Scopes.{Accepted, accepted, all_pass, found_by}
 use Rattle.afs_ideal.proofs.Steps.{room_for}
 use Rattle.afs_ideal.proofs.Tables.{ascends_set, ascends_unset, get_below, free_bound, free_from}
+use Rattle.afs_ideal.specs.Directories.{IsDirectory, FitNames, FitsName, most_names, named, with_name, without_name, add_refused}
+use Rattle.afs_ideal.specs.Operations.{number_named, Caller, all_rights, Result, op, changes, volume_called, tests, effect, first_failing, limits, edit_fits, is_last_count, last_count, no_amend, name_in, names_in, named_vnode, creates, removes, unlinks, renaming, renames_within, renames_across, renamed, creating, removing, linking, may_link, free_number, name_of, new_file, new_directory, new_link, is_directory, links_of, linked}
+use Rattle.afs_ideal.specs.SetUp.{new_volume, new_root, called, laid_by, laid_in, laid_at, laid, led, parted, at_first, one_at_first, all_at_first, a_file_of, nothing_set, stores_all, new_fid}
+use Rattle.afs_ideal.specs.Tables.{Table, get, set, unset, AscendsFrom, lowest_free}
+use Rattle.afs_ideal.specs.Volumes.{Kind, a_file, a_link, a_directory, Vnode, Volume, Edit, Amend, amends, makes, frees, amended, fresh, amends_at, makes_at, frees_at, edited, edited_all, edit_number, counted, vnode_of, if_unique, with_status, or_old, ascending, placed}
 use Rattle.afs_law.proofs.Basics.{some_of, both}
 use Rattle.afs_law.proofs.Edits.{get-set, get-unset}
+use Rattle.afs_law.proofs.Facts.{IsReadable, IsFine, AreFine}
 use Rattle.afs_law.proofs.Ops.{AllHold, all_hold}
 use Rattle.afs_law.proofs.Serving.{own_found, own_unique}
-use Rattle.afs_law.proofs.Facts.{IsReadable, IsFine, AreFine}
+use Rattle.afs_law.specs.Runs.{laid_or, all_laid, first_volume}
+use Rattle.afs_ideal.specs.Operations as ops
+use Rattle.std.specs.Option.{ok_or}
+use Rattle.afs_shape.specs.Reading.{◌>>=◌}
+use Rattle.afs_num.specs.declared.scripts.VolumeLine.{VolumeLine}
 
 -- ---- edits that leave them so
 
@@ -323,7 +327,7 @@ rename_by : (b : Bool) (caller : Caller) (d e : Fid) (old new : List ℕ) (v : V
 rename_by false caller d e old new v k f = let z : false ≡ true = k.1.1.1.1.0 in absurd cc
 rename_by true caller d e old new v k f = last_fits caller d e old new v k.0 k.1.0 (kinds_hold (ops.vnode_in d old v) (ops.vnode_in e new v) (last_tests caller d old e new v) k.1.1.1) f
 
-call_fits : (id : ℕ) (caller : Caller) (call : FsCall) (v : Volume) → volume_called call ≡ Some id → AllHold (tests caller call v) → IsLimited id v (effect caller call v) → IsFine v → Fits v.next (effect caller call v)
+call_fits : (id : ℕ) (caller : Caller) (call : FsCall) (v : Volume) → (volume_called call ≡ None → ⊥) → AllHold (tests caller call v) → IsLimited id v (effect caller call v) → IsFine v → Fits v.next (effect caller call v)
 call_fits id caller (calls.FetchData g p w) v of h lim f = read_fits v.next ops.shows_body g (vnode_of g v)
 call_fits id caller (calls.FetchAcl g) v of h lim f = read_fits v.next ops.shows_acl g (vnode_of g v)
 call_fits id caller (calls.FetchStatus g) v of h lim f = read_fits v.next ops.shows_status g (vnode_of g v)
@@ -340,10 +344,10 @@ call_fits id caller (calls.Link d name g) v of h lim f =
 call_fits id caller (calls.MakeDir d name st) v of h lim f = creates_fit d name st (Some (links_of (vnode_of d v) + 1)) 0 0 (new_directory d (ops.acl_of (vnode_of d v))) v refl (free_by a_directory v) h.0 (both _ _ h.1.1.1.1.0).1 (no_name _ h.1.1.1.1.1.0) (ltb-true _ _ h.1.1.1.1.1.1.0) lim f
 call_fits id caller (calls.RemoveDir d name) v of h lim f = removes_fit d name (Some (links_of (vnode_of d v) - 1)) v h.0 f
 call_fits id caller (calls.GetVolumeStatus k) v of h lim f = tt
-call_fits id caller call v of h lim f = absurd cc
+call_fits id caller call v of h lim f = absurd (of refl)
 
 -- an operation leaves a fine volume fine
-pub op_fine : (id : ℕ) (caller : Caller) (call : FsCall) (v : Volume) (es : List Edit) (n : ℕ) → volume_called call ≡ Some id → op id caller call v ≡ changes es n → IsFine v → IsFine (counted (edited_all id es v))
+pub op_fine : (id : ℕ) (caller : Caller) (call : FsCall) (v : Volume) (es : List Edit) (n : ℕ) → (volume_called call ≡ None → ⊥) → op id caller call v ≡ changes es n → IsFine v → IsFine (counted (edited_all id es v))
 op_fine id caller call v es n of e f =
     let a : Accepted id caller call v es n = accepted id caller call v es n e in
     let lim : list_all (edit_fits v) es ≡ true = (both (not (is_last_count v.counter)) _ (all_hold (limits id es v) a.fits).1.0).1 in
@@ -358,4 +362,78 @@ one_by true new u o f h e = subst IsFine (some_of new u e) f
 one_by false new u o f h e = h e
 
 pub fine_after : (id : ℕ) (caller : Caller) (call : FsCall) (v : Volume) (es : List Edit) (n : ℕ) (volumes : Table Volume) → AreFine volumes → volume_called call ≡ Some id → get id volumes ≡ Some v → op id caller call v ≡ changes es n → AreFine (set id (counted (edited_all id es v)) volumes)
-fine_after id caller call v es n volumes h of at e i u found = one_by (eqb id i) (counted (edited_all id es v)) u (get i volumes) (op_fine id caller call v es n of e (h id v at)) (h i u) (sym (get-set id i (counted (edited_all id es v)) volumes) ∙ found)
+fine_after id caller call v es n volumes h of at e i u found = one_by (eqb id i) (counted (edited_all id es v)) u (get i volumes) (op_fine id caller call v es n (λ z. absurd cc) e (h id v at)) (h i u) (sym (get-set id i (counted (edited_all id es v)) volumes) ∙ found)
+
+-- ---- the set-up
+
+one_first : (n : ℕ) (o : Option Vnode) (t : Table Vnode) (next : ℕ) → get n t ≡ o → AscendsFrom 1 t → ((m : ℕ) (x : Vnode) → get m t ≡ Some x → x.unique < next) → ((m : ℕ) (x : Vnode) → get m t ≡ Some x → IsReadable m x)
+    → AscendsFrom 1 (one_at_first n o t) × (((m : ℕ) (x : Vnode) → get m (one_at_first n o t) ≡ Some x → x.unique < next) × ((m : ℕ) (x : Vnode) → get m (one_at_first n o t) ≡ Some x → IsReadable m x))
+one_first n None t next e a b r = (a, (b, r))
+one_first n (Some x) t next e a b r =
+    let w : IsReadable n x = r n x e in
+    (ascends_set 1 n (at_first x) t (low_by n t x (ltb n 1) refl a e) a,
+    (at_set (λ m y. y.unique < next) n (at_first x) t (b n x e) b, at_set IsReadable n (at_first x) t (record { number = w.number; unique = w.unique; names = w.names; fit = w.fit }) r))
+
+all_first : (es : List Edit) (t : Table Vnode) (next : ℕ) → AscendsFrom 1 t → ((m : ℕ) (x : Vnode) → get m t ≡ Some x → x.unique < next) → ((m : ℕ) (x : Vnode) → get m t ≡ Some x → IsReadable m x)
+    → AscendsFrom 1 (all_at_first es t) × (((m : ℕ) (x : Vnode) → get m (all_at_first es t) ≡ Some x → x.unique < next) × ((m : ℕ) (x : Vnode) → get m (all_at_first es t) ≡ Some x → IsReadable m x))
+all_first [] t next a b r = (a, (b, r))
+all_first (e ∷ es) t next a b r =
+    let q = one_first (edit_number e) (get (edit_number e) t) t next refl a b r in
+    all_first es (one_at_first (edit_number e) (get (edit_number e) t) t) next q.0 q.1.0 q.1.1
+
+-- what was laid is fine
+abbrev pub FineIn : std_result.Result Volume ℕ → Type 0
+FineIn (Ok v) = IsFine v
+FineIn (Err code) = ⊤
+
+laid_fine_by : (id : ℕ) (call : FsCall) (v : Volume) (r : Result) → (volume_called call ≡ None → ⊥) → op id all_rights call v ≡ r → IsFine v → FineIn (laid_by id r v)
+laid_fine_by id call v (ops.refused code) of e f = tt
+laid_fine_by id call v (ops.reads shown) of e f = tt
+laid_fine_by id call v ops.no_operation of e f = tt
+laid_fine_by id call v (changes es n) of e f =
+    let g : IsFine (counted (edited_all id es v)) = op_fine id all_rights call v es n of e f in
+    let q = all_first es (counted (edited_all id es v)).vnodes (counted (edited_all id es v)).next g.ascends g.below g.readable in
+    record { ascends = q.0; below = q.1.0; readable = q.1.1 }
+
+called_fine : (id : ℕ) (call : FsCall) (v : Volume) → (volume_called call ≡ None → ⊥) → IsFine v → FineIn (called id call v)
+called_fine id call v of f = laid_fine_by id call v (op id all_rights call v) of refl f
+
+then_fine : {A : Type 0} → (r : std_result.Result A ℕ) (next : A → std_result.Result Volume ℕ) → ((x : A) → r ≡ Ok x → FineIn (next x)) → FineIn (r >>= next)
+then_fine {A} (Ok x) next h = h x refl
+then_fine {A} (Err code) next h = tt
+
+fine_of : (r : std_result.Result Volume ℕ) (w : Volume) → FineIn r → r ≡ Ok w → IsFine w
+fine_of r w h e = subst FineIn e h
+
+file_fine : (id : ℕ) (v : Volume) (d : Fid) (name bytes : List ℕ) → IsFine v → FineIn (laid_in id v d name (a_file_of bytes))
+file_fine id v d name bytes f =
+    then_fine (called id (calls.CreateFile d name nothing_set) v) (λ made. called id (stores_all (new_fid id v) bytes) made)
+    (λ made e. called_fine id (stores_all (new_fid id v) bytes) made (λ z. absurd cc) (fine_of (called id (calls.CreateFile d name nothing_set) v) made (called_fine id (calls.CreateFile d name nothing_set) v (λ z. absurd cc) f) e))
+
+line_fine : (id : ℕ) (l : SetupLine) (v : Volume) → IsFine v → FineIn (laid id l v)
+unfolding laid_at
+line_fine id (setup.File path bytes) v f =
+    then_fine (ok_or (parted path) 22) (λ parts. led id v parts.0 >>= (λ at. laid_in id v at.fid parts.1 (a_file_of bytes)))
+    (λ parts e. then_fine (led id v parts.0) (λ at. laid_in id v at.fid parts.1 (a_file_of bytes)) (λ at g. file_fine id v at.fid parts.1 bytes f))
+
+or_fine : (v : Volume) (r : std_result.Result Volume ℕ) → FineIn r → IsFine v → IsFine (laid_or v r)
+or_fine v (Ok w) h f = h
+or_fine v (Err code) h f = f
+
+all_fine : (id : ℕ) (ls : List SetupLine) (v : Volume) → IsFine v → IsFine (all_laid id ls v)
+all_fine id [] v f = f
+all_fine id (l ∷ ls) v f = all_fine id ls (laid_or v (laid id l v)) (or_fine v (laid id l v) (line_fine id l v f) f)
+
+root_by : (P : ℕ → Vnode → Type 0) (t : Bool) (n : ℕ) (x : Vnode) → eqb 1 n ≡ t → P 1 new_root → cond t (Some new_root) None ≡ Some x → P n x
+root_by P true n x t p e = subst (λ (k : ℕ). P k x) (eqb-true 1 n t) (subst (P 1) (some_of new_root x e) p)
+root_by P false n x t p e = absurd cc
+
+new_fine : (family : ℕ) (name : List ℕ) (kind flags quota : ℕ) → IsFine (new_volume family name kind flags quota)
+new_fine family name kind flags quota = record {
+  ascends = (le_refl 1, tt);
+  below = λ n x e. root_by (λ m y. y.unique < 2) (eqb 1 n) n x refl (omega arith) e;
+  readable = λ n x e. root_by IsReadable (eqb 1 n) n x refl (record { number = omega arith; unique = omega arith; names = no_names; fit = tt }) e;
+}
+
+pub first_fine : (v : VolumeLine) → IsFine (first_volume v)
+first_fine v = all_fine v.id v.lines (new_volume v.id v.name 0 0 v.quota) (new_fine v.id v.name 0 0 v.quota)

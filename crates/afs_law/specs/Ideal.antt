@@ -1,10 +1,10 @@
 use Rattle.afs_ideal.specs.Operations.{the_user, volume_called, changed, op, is_number}
 use Rattle.afs_ideal.specs.Tables.{Table, get}
-use Rattle.afs_ideal.specs.Volumes.{Volume, Edit, versions_by}
+use Rattle.afs_ideal.specs.Volumes.{Vnode, version_at, Volume, Edit, versions_by}
 use Rattle.afs_law.specs.Acts.{Act, Open, Close, Ask}
 use Rattle.afs_law.specs.Lines.{Line}
 use Rattle.afs_law.specs.Past.{onto, is_of_act, sent_of, is_called}
-use Rattle.afs_law.specs.Runs.{Entry, first_edits, empty_volume, first_volumes}
+use Rattle.afs_law.specs.Runs.{Entry, first_volume, first_volumes}
 use Rattle.afs_law.specs.ServerRow.{versioned}
 use Rattle.std.specs.Prelude.{is_some, ◌≡◌, ℕ, ◌+◌, List, [], ◌∷◌, ◌++◌, Bool, true, false, ◌&&◌, Option, Some, None, ℤ, pos, negsuc, nat_eq, codes, length, max, if◌then◌else◌, ◌⊎◌}
 use Rattle.std.specs.Option.{option_map}
@@ -33,6 +33,11 @@ use Rattle.afs_num.specs.declared.messages.Carried.TheVariants as carried
 
 -- ---- the set-up
 
+-- the first version of each vnode, the last number first, before these lines
+abbrev pub first_told : ℕ → Table Vnode → List Line → List Line
+first_told id [] tail = tail
+first_told id (p ∷ ps) tail = first_told id ps (lines.Version (version_at id p.0 p.1) ∷ tail)
+
 -- the versions that the set-up of each volume makes; of two volumes under one number the last counts
 abbrev pub unless : Bool → List Line → List Line → List Line
 unless true a b = a
@@ -40,7 +45,7 @@ unless false a b = b
 
 abbrev pub first_lines : List VolumeLine → List Line
 first_lines [] = []
-first_lines (v ∷ vs) = unless (is_some (get v.id (first_volumes vs))) (first_lines vs) (first_lines vs ++ versioned (versions_by v.id (first_edits v) (empty_volume v)) [])
+first_lines (v ∷ vs) = unless (is_some (get v.id (first_volumes vs))) (first_lines vs) (first_lines vs ++ first_told v.id (first_volume v).vnodes [])
 
 -- the set-up, as an entry before all others
 abbrev pub set_up : Script → Entry

@@ -1,12 +1,8 @@
 use Rattle.afs_num.specs.Places.{at_place}
 use Rattle.afs_num.specs.declared.types.Fid.{Fid}
-use Rattle.afs_num.specs.declared.directories.Name.{Name}
-use Rattle.afs_num.specs.declared.acls.AccessList.{AccessList}
-use Rattle.afs_ideal.specs.AccessLists.{anyuser}
-use Rattle.afs_ideal.specs.Directories.{with_name}
-use Rattle.afs_ideal.specs.Operations.{new_file, new_directory}
 use Rattle.afs_ideal.specs.Tables.{Table, get, set}
-use Rattle.afs_ideal.specs.Volumes.{counted, Volume, Edit, makes, edited_all}
+use Rattle.afs_ideal.specs.SetUp.{new_volume, laid}
+use Rattle.afs_ideal.specs.Volumes.{Volume}
 use Rattle.afs_law.specs.Acts.{Act}
 use Rattle.afs_law.specs.Callbacks.{put, Backs, BackCall, Turn, Started, expired, turned_by, timed, pumped, no_turn, risen_turn, first_backs}
 use Rattle.afs_law.specs.ClientRow.{the_server, begin_row, client_row, timeout_row, reborn}
@@ -16,7 +12,7 @@ use Rattle.afs_law.specs.Records.{first_record, record_length, boot_record}
 use Rattle.afs_law.specs.ServerRow.{Begun, begun_before, begun_after, Decision, decides, does, device_calls, has_room, revived}
 use Rattle.afs_law.specs.States.{ServerState}
 use Rattle.afs_law.specs.Steps.{Step}
-use Rattle.std.specs.Prelude.{is_some, ◌≡◌, ℕ, zero, suc, ◌+◌, ◌-◌, ◌*◌, List, [], ◌∷◌, ◌++◌, Bool, true, false, cond, nat_eq, nat_lt, Option, Some, None, if◌then◌else◌, length}
+use Rattle.std.specs.Prelude.{Result, Ok, Err, is_some, ◌≡◌, ℕ, zero, suc, ◌+◌, ◌-◌, ◌*◌, List, [], ◌∷◌, ◌++◌, Bool, true, false, cond, nat_eq, nat_lt, Option, Some, None, if◌then◌else◌, length}
 use Rattle.std.specs.Option.{option_map}
 use Rattle.afs_num.specs.declared.types.Node.{Node}
 use Rattle.afs_num.specs.declared.types.Node.TheVariants.{Loc, Server, Client, Admin}
@@ -24,7 +20,6 @@ use Rattle.afs_num.specs.declared.messages.Message.{Message}
 use Rattle.afs_num.specs.declared.messages.Received.TheVariants.{Whole}
 use Rattle.afs_num.specs.declared.scripts.Script.{Script}
 use Rattle.afs_num.specs.declared.scripts.SetupLine.{SetupLine}
-use Rattle.afs_num.specs.declared.scripts.SetupLine.TheVariants.{File}
 use Rattle.afs_num.specs.declared.scripts.VolumeLine.{VolumeLine}
 use Rattle.afs_law.specs.Lines as lines
 use Rattle.afs_num.specs.declared.histories.Actor.{Actor}
@@ -309,40 +304,18 @@ Leads c (x ∷ xs) [] end = ⊥
 
 -- ---- the set-up of a script
 
--- The volume that set-up lines make, each file in the root under the next even vnode and the next unique: by edits of an
--- empty one
-abbrev pub last_of : List (List ℕ) → List ℕ
-last_of [] = []
-last_of (x ∷ []) = x
-last_of (x ∷ y ∷ xs) = last_of (y ∷ xs)
+-- a line that can't be laid leaves the volume as it was; a script has none
+abbrev pub laid_or : Volume → Result Volume ℕ → Volume
+laid_or v (Ok w) = w
+laid_or v (Err code) = v
 
-abbrev pub no_directory : Fid
-no_directory = record { volume = 0; vnode = 0; unique = 0 }
+abbrev pub all_laid : ℕ → List SetupLine → Volume → Volume
+all_laid id [] v = v
+all_laid id (l ∷ ls) v = all_laid id ls (laid_or v (laid id l v))
 
--- the root of a volume
-abbrev pub root_of : ℕ → Fid
-root_of id = record { volume = id; vnode = 1; unique = 1 }
-
-abbrev pub first_files : ℕ → ℕ → List SetupLine → List Edit
-first_files id k [] = []
-first_files id k (File path contents ∷ rest) = makes (2 * k) (record (new_file (root_of id)) { contents = contents }) ∷ first_files id (k + 1) rest
-
-abbrev pub first_names : ℕ → List SetupLine → List Name
-first_names k [] = []
-first_names k (File path contents ∷ rest) = with_name (record { name = last_of path; vnode = 2 * k; unique = k + 1 }) (first_names (k + 1) rest)
-
--- all have all rights
-abbrev pub all_allowed : AccessList
-all_allowed = record { positive = record { name = anyuser; rights = 127 } ∷ []; negative = [] }
-
-abbrev pub first_edits : VolumeLine → List Edit
-first_edits v = makes 1 (record (new_directory no_directory all_allowed) { names = first_names 1 v.lines }) ∷ first_files v.id 1 v.lines
-
-abbrev pub empty_volume : VolumeLine → Volume
-empty_volume v = record { family = v.id; name = v.name; kind = 0; flags = 0; quota = v.quota; next = 1; counter = 0; release = 0; vnodes = [] }
-
+-- the volume that a script's lines make of a new one: read-write, in service
 abbrev pub first_volume : VolumeLine → Volume
-first_volume v = counted (edited_all v.id (first_edits v) (empty_volume v))
+first_volume v = all_laid v.id v.lines (new_volume v.id v.name 0 0 v.quota)
 
 abbrev pub unless_there : Bool → ℕ → Volume → Table Volume → Table Volume
 unless_there true id v vs = vs

@@ -1,0 +1,18 @@
+//! Laws about the runs of a script. Each is the contract of a function that does nothing.
+
+ghost use Rattle.afs_law.specs.Laws.{KeysRunOnce, ReadsAreNewest, RunsAreLegal};
+
+/// Every run of a script for one server is legal.
+pub fn runs_are_legal()
+    ensures { RunsAreLegal }
+{}
+
+/// No key changes something twice in a run.
+pub fn keys_run_once()
+    ensures { KeysRunOnce }
+{}
+
+/// A good read shows the newest version, unless its grant was withdrawn and the client has not given it up.
+pub fn reads_are_newest()
+    ensures { ReadsAreNewest }
+{}
