@@ -115,6 +115,24 @@ pub grant_back : (c : Node) (f : Fid) (ls o : List Line) → all_lines is_still 
 grant_back c f [] o h = refl
 grant_back c f (l ∷ ls) o h = let q = both (is_still l) (all_lines is_still ls) h in grant_back c f ls (l ∷ o) q.1 ∙ grant_before c f l o q.0
 
+-- it grants this client nothing
+abbrev pub is_still_to : Node → Line → Bool
+is_still_to c (lines.Grant s d f index expiry) = not (same_node d c)
+is_still_to c l = true
+
+granted_other : (a b : Bool) (s : Bool) (x : ℕ) (o : Option ℕ) → not a ≡ true → cond (s && (a && b)) (Some x) o ≡ o
+granted_other true b s x o h = absurd cc
+granted_other false b true x o h = refl
+granted_other false b false x o h = refl
+
+grant_before_to : (c : Node) (f : Fid) (l : Line) (o : List Line) → is_still_to c l ≡ true → last_grant the_server c f (l ∷ o) ≡ last_grant the_server c f o
+grant_before_to c f (lines.Grant s d g index expiry) o h = granted_other (same_node d c) (same_fid g f) (same_node s the_server) expiry (last_grant the_server c f o) h
+grant_before_to c f l o h = refl
+
+pub grant_back_to : (c : Node) (f : Fid) (ls o : List Line) → all_lines (is_still_to c) ls ≡ true → last_grant the_server c f (onto o ls) ≡ last_grant the_server c f o
+grant_back_to c f [] o h = refl
+grant_back_to c f (l ∷ ls) o h = let q = both (is_still_to c l) (all_lines (is_still_to c) ls) h in grant_back_to c f ls (l ∷ o) q.1 ∙ grant_before_to c f l o q.0
+
 change_before : (k : Key) (l : Line) (o : List Line) → is_unchanging l ≡ true → HasChange k (l ∷ o) → HasChange k o
 change_before k (lines.Change s q count) o h x = absurd cc
 change_before k l o h x = x

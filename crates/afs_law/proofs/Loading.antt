@@ -14,7 +14,7 @@ use Rattle.afs_num.specs.declared.messages.Carried.{Carried}
 use Rattle.afs_num.specs.declared.messages.Carried.TheVariants as carried
 use Rattle.afs_num.specs.declared.messages.Message.{Message}
 use Rattle.afs_ideal.specs.Operations.{Found}
-use Rattle.afs_law.proofs.Backing.{Plain, Stepping, all_lines, is_up, is_still, is_oweless, is_unchanging, settled_onto, stopped_back, grant_back, front_onto, change_back, no_owe, owes_over, ended_over, back_pass, done_pass, CallsPass, calls_same, backed_step, seated_over, plain_step, plain_waits, waits_over, granted_over, owed_over, call_over, dropped_over, backed_plain, promised_over, live_back, numbered_over, number_back, zero_back}
+use Rattle.afs_law.proofs.Backing.{Plain, Stepping, all_lines, is_up, is_still, is_oweless, is_unchanging, is_still_to, grant_back_to, settled_onto, stopped_back, grant_back, front_onto, change_back, no_owe, owes_over, ended_over, back_pass, done_pass, CallsPass, calls_same, backed_step, seated_over, plain_step, plain_waits, waits_over, granted_over, owed_over, call_over, dropped_over, backed_plain, promised_over, live_back, numbered_over, number_back, zero_back}
 use Rattle.afs_law.proofs.Basics.{both, same_node-true, same_node-refl, same_fid-refl, same_fid-true, client_number, Above, Each, IfBack, IfDone, OfCall, OfReply, OfServer, ByServer, each_more, each_map, if_back, if_done, some_of}
 use Rattle.afs_law.proofs.Owing.{AllOf, all_map, all_both, all_filter, IsGranted, IsIn, IsNumberIn, IsOpen, AccountedBy, WaitedBy, AllWaitedBy, HeldWaits, IsOwed, CallOut, BackIn, DroppedOwe, IsDone, DoneIn, SeatedIn, BackedIn, Promised, IsPromised, promise_to, Numbered}
 use Rattle.afs_law.proofs.Turning.{loaded, TurnSends, in_filter, put_call, call_good, kept_in}
@@ -416,6 +416,10 @@ pub owes_still : (os : List Owed) → all_lines is_still (map (owe_line the_serv
 owes_still [] = refl
 owes_still (o ∷ os) = owes_still os
 
+pub owes_still_to : (c : Node) (os : List Owed) → all_lines (is_still_to c) (map (owe_line the_server) os) ≡ true
+owes_still_to c [] = refl
+owes_still_to c (o ∷ os) = owes_still_to c os
+
 pub owes_unchanging : (os : List Owed) → all_lines is_unchanging (map (owe_line the_server) os) ≡ true
 owes_unchanging [] = refl
 owes_unchanging (o ∷ os) = owes_unchanging os
@@ -520,14 +524,36 @@ held_last k [] hd e = held_here (is_reply_to k hd.reply) false (reply_to_key k h
 held_last k (h ∷ hs) hd e = held_next (is_reply_to k h.reply) (is_held k (hs ++ hd ∷ [])) (held_last k hs hd e)
 
 -- a break on a fid that ends with the last grant
-pub record NewOwe (ls : List Line) (o : Owed) : Type 0 where
+-- a promise to another client
+abbrev pub IsOfOther : ℕ → Promise → Type 0
+IsOfOther n p = p.client ≡ n → ⊥
+
+other_by : (a b : Bool) (n : ℕ) (p : Promise) → nat_eq p.client n ≡ b → (a && not b) ≡ true → IsOfOther n p
+other_by a true n p e h = let z = both a false h in absurd cc
+other_by a false n p e h = λ q. let yes : nat_eq p.client n ≡ true = eq-eqb p.client n q in absurd cc
+
+first_other : (t : Bool) (n : ℕ) (p : Promise) (ps : List Promise) → (t ≡ true → IsOfOther n p) → AllOf (IsOfOther n) ps → AllOf (IsOfOther n) (cond t (p ∷ ps) ps)
+first_other true n p ps w h = (w refl, h)
+first_other false n p ps w h = h
+
+hit_other : (n : ℕ) (f : Fid) (ps : List Promise) → AllOf (IsOfOther n) (filter (is_hit n f) ps)
+hit_other n f [] = tt
+hit_other n f (p ∷ ps) = first_other (is_hit n f p) n p (filter (is_hit n f) ps) (λ t. other_by (same_fid p.fid f) (nat_eq p.client n) n p refl t) (hit_other n f ps)
+
+-- what a client's change withdraws are promises to others
+pub hits_other : (n : ℕ) (vs : List Version) (ps : List Promise) → AllOf (IsOfOther n) (hits n vs ps)
+hits_other n [] ps = tt
+hits_other n (v ∷ vs) ps = all_both (IsOfOther n) (filter (is_hit n v.fid) ps) (hits n vs (filter (λ p. not (is_hit n v.fid p)) ps)) (hit_other n v.fid ps) (hits_other n vs (filter (λ p. not (is_hit n v.fid p)) ps))
+
+pub record NewOwe (n : ℕ) (ls : List Line) (o : Owed) : Type 0 where
+  pub other : o.client ≡ n → ⊥
   pub fid : Fid
   pub on : o.what ≡ Some fid
   pub granted : last_grant the_server (Client o.client) fid ls ≡ Some o.expiry
 
-pub all_new : (ls : List Line) (k : ℕ) (ps : List Promise) → AllOf (IsGranted ls) ps → AllOf (NewOwe ls) (owes_from k ps)
-all_new ls k [] h = tt
-all_new ls k (p ∷ ps) h = (record { fid = p.fid; on = refl; granted = h.0 }, all_new ls (k + 1) ps h.1)
+pub all_new : (n : ℕ) (ls : List Line) (k : ℕ) (ps : List Promise) → AllOf (IsGranted ls) ps → AllOf (IsOfOther n) ps → AllOf (NewOwe n ls) (owes_from k ps)
+all_new n ls k [] h o = tt
+all_new n ls k (p ∷ ps) h o = (record { other = o.0; fid = p.fid; on = refl; granted = h.0 }, all_new n ls (k + 1) ps h.1 o.1)
 
 -- of the promises some are withdrawn, and the others stay
 pub all_hits : (P : Promise → Type 0) (n : ℕ) (vs : List Version) (ps : List Promise) → AllOf P ps → AllOf P (hits n vs ps)
@@ -593,16 +619,6 @@ owed_dead j f x y k (q ∷ ps) base (inl e) l = owe_dead j f x y (k + 1) q base 
 owed_dead j f x y k (q ∷ ps) base (inr h) l = owed_dead j f x y (k + 1) ps (lines.Owe the_server (Client q.client) (Some q.fid) (k + 1) ∷ base) h l
 
 -- behind a change
-pub left_promised : (n k : ℕ) (vs : List Version) (ps : List Promise) (clock : ℕ) (e : Entry) (past : List Entry) (pre : List Line) → e.lines ≡ pre ++ map (owe_line the_server) (owes_from k (hits n vs ps)) → all_lines is_still pre ≡ true → Promised None ps clock (lines_of past) → Promised None (left n vs ps) clock (lines_of (e ∷ past))
-left_promised n k vs ps clock e past pre are still h j f x l t =
-    let owes : List Line = map (owe_line the_server) (owes_from k (hits n vs ps)) in
-    let here : live_grant the_server (Client j) f (onto (onto (lines_of past) pre) owes) ≡ Some x = subst (λ (ls : List Line). live_grant the_server (Client j) f ls ≡ Some x) (ap (onto (lines_of past)) are ∙ onto_both (lines_of past) pre owes) l in
-    let before = live_back (Client j) f x pre (lines_of past) still (live_back (Client j) f x owes (onto (lines_of past) pre) (owes_still (owes_from k (hits n vs ps))) here) in
-    elim (hit_or_left n vs ps (promise_to j f x) (h j f x before t).1) [
-      | inl y ↦ absurd (owed_dead j f x x k (hits n vs ps) (onto (lines_of past) pre) y here)
-      | inr y ↦ (refl, y)
-    ]
-
 -- behind a grant
 not_promise : (b : Bool) (n j : ℕ) (f g : Fid) → (nat_eq j n && same_fid g f) ≡ b → (same_node (Client n) (Client j) && same_fid f g) ≡ false → not (nat_eq j n && same_fid g f) ≡ true
 not_promise true n j f g e h =
@@ -621,16 +637,75 @@ grant_promised false n j f g x y o ps e h l = in_first (promise_to j g y) (filte
 promised_now : (n : ℕ) (f : Fid) (x index clock : ℕ) (base : List Line) (ps : List Promise) → Promised None ps clock base → Promised None (with_promise n x f ps) clock (lines.Grant the_server (Client n) f index x ∷ base)
 promised_now n f x index clock base ps h j g y l t = (refl, grant_promised (same_node (Client n) (Client j) && same_fid f g) n j f g x y (live_grant the_server (Client j) g base) ps refl (λ k. (h j g y k t).1) l)
 
+-- grants, and lines behind them
+pub onto_granted : (n x : ℕ) (fs : List Found) (tail o : List Line) → onto o (granted the_server (Client n) x fs tail) ≡ onto (onto o (granted the_server (Client n) x fs [])) tail
+onto_granted n x [] tail o = refl
+onto_granted n x (f ∷ fs) tail o = onto_granted n x fs tail (lines.Grant the_server (Client n) f.fid f.vnode.index x ∷ o)
+
+in_either : (p : Promise) (a b : List Promise) → IsPromised p (a ++ b) → IsPromised p a ⊎ IsPromised p b
+in_either p [] b h = inr h
+in_either p (q ∷ a) b (inl e) = inl (inl e)
+in_either p (q ∷ a) b (inr h) = elim (in_either p a b h) [ | inl x ↦ inl (inr x) | inr x ↦ inr x ]
+
+kept_by : (t : Bool) (q : Promise → Bool) (p x : Promise) (rest all : List Promise) → q x ≡ t → (IsPromised p rest → IsPromised p all × (q p ≡ true)) → IsPromised p (cond t (x ∷ rest) rest) → IsPromised p (x ∷ all) × (q p ≡ true)
+kept_by true q p x rest all e w (inl z) = (inl z, subst (λ (y : Promise). q y ≡ true) z e)
+kept_by true q p x rest all e w (inr z) = let k = w z in (inr k.0, k.1)
+kept_by false q p x rest all e w z = let k = w z in (inr k.0, k.1)
+
+in_filter_both : (q : Promise → Bool) (p : Promise) (ps : List Promise) → IsPromised p (filter q ps) → IsPromised p ps × (q p ≡ true)
+in_filter_both q p [] h = absurd h
+in_filter_both q p (x ∷ ps) h = kept_by (q x) q p x (filter q ps) ps refl (in_filter_both q p ps) h
+
+-- what is promised beside some that are withdrawn still is when more is promised
+with_left : (n x : ℕ) (f : Fid) (p : Promise) (ps qs hs : List Promise) → ((q : Promise) → IsPromised q ps → IsPromised q hs ⊎ IsPromised q qs) → IsPromised p (with_promise n x f ps) → IsPromised p hs ⊎ IsPromised p (with_promise n x f qs)
+with_left n x f p ps qs hs w h = elim (in_either p (filter (λ z. not (is_promise n f z)) ps) (promise_to n f x ∷ []) h) [
+  | inl y ↦ let k = in_filter_both (λ z. not (is_promise n f z)) p ps y in elim (w p k.0) [
+    | inl z ↦ inl z
+    | inr z ↦ inr (in_first p (filter (λ z. not (is_promise n f z)) qs) (promise_to n f x ∷ []) (kept_in (λ z. not (is_promise n f z)) p qs z k.1))
+  ]
+  | inr y ↦ inr (in_last p (filter (λ z. not (is_promise n f z)) qs) (promise_to n f x ∷ []) y)
+]
+
+all_with_left : (n x : ℕ) (fs : List Found) (ps qs hs : List Promise) → ((q : Promise) → IsPromised q ps → IsPromised q hs ⊎ IsPromised q qs) → (p : Promise) → IsPromised p (with_promises n x fs ps) → IsPromised p hs ⊎ IsPromised p (with_promises n x fs qs)
+all_with_left n x [] ps qs hs w p h = w p h
+all_with_left n x (f ∷ fs) ps qs hs w p h = all_with_left n x fs (with_promise n x f.fid ps) (with_promise n x f.fid qs) hs (λ q z. with_left n x f.fid q ps qs hs w z) p h
+
 pub all_promised : (n x clock : ℕ) (fs : List Found) (base : List Line) (ps : List Promise) → Promised None ps clock base → Promised None (with_promises n x fs ps) clock (onto base (granted the_server (Client n) x fs []))
 all_promised n x clock [] base ps h = h
 all_promised n x clock (f ∷ fs) base ps h = all_promised n x clock fs (lines.Grant the_server (Client n) f.fid f.vnode.index x ∷ base) (with_promise n x f.fid ps) (promised_now n f.fid x f.vnode.index clock base ps h)
 
 -- ---- a change, and what it owes
 
-pub record Changing (b : Backs) (seats now : List Seat) (e : Entry) (past : List Entry) (pre : List Line) (os : List Owed) (hd : Held) (m : Message) : Type 0 where
+pub left_promised : (n k x clock : ℕ) (vs : List Version) (ps : List Promise) (fs : List Found) (e : Entry) (past : List Entry) (front : List Line) → e.lines ≡ front ++ granted the_server (Client n) x fs (map (owe_line the_server) (owes_from k (hits n vs ps))) → all_lines is_still front ≡ true → Promised None ps clock (lines_of past)
+    → Promised None (with_promises n x fs (left n vs ps)) clock (lines_of (e ∷ past))
+left_promised n k x clock vs ps fs e past front are still h j f y l t =
+    let owes : List Line = map (owe_line the_server) (owes_from k (hits n vs ps)) in
+    let base : List Line = onto (lines_of past) front in
+    let mid : List Line = onto base (granted the_server (Client n) x fs []) in
+    let here : live_grant the_server (Client j) f (onto mid owes) ≡ Some y = subst (λ (ls : List Line). live_grant the_server (Client j) f ls ≡ Some y) (ap (onto (lines_of past)) are ∙ (onto_both (lines_of past) front (granted the_server (Client n) x fs owes) ∙ onto_granted n x fs owes base)) l in
+    let before = live_back (Client j) f y owes mid (owes_still (owes_from k (hits n vs ps))) here in
+    let had : IsPromised (promise_to j f y) (with_promises n x fs ps) = (all_promised n x clock fs base ps (λ i g z a b. h i g z (live_back (Client i) g z front (lines_of past) still a) b) j f y before t).1 in
+    elim (all_with_left n x fs ps (left n vs ps) (hits n vs ps) (λ q z. hit_or_left n vs ps q z) (promise_to j f y) had) [
+      | inl z ↦ absurd (owed_dead j f y y k (hits n vs ps) mid z here)
+      | inr z ↦ (refl, z)
+    ]
+
+-- the promises behind a change
+pub left_granted : (n k x : ℕ) (vs : List Version) (ps : List Promise) (fs : List Found) (e : Entry) (past : List Entry) (front : List Line) → e.lines ≡ front ++ granted the_server (Client n) x fs (map (owe_line the_server) (owes_from k (hits n vs ps))) → all_lines is_still front ≡ true → AllOf (IsGranted (lines_of past)) ps
+    → AllOf (IsGranted (lines_of (e ∷ past))) (with_promises n x fs (left n vs ps))
+left_granted n k x vs ps fs e past front are still h =
+    let owes : List Line = map (owe_line the_server) (owes_from k (hits n vs ps)) in
+    let base : List Line = onto (lines_of past) front in
+    let mid : List Line = onto base (granted the_server (Client n) x fs []) in
+    let first : AllOf (IsGranted base) (left n vs ps) = all_map (IsGranted (lines_of past)) (IsGranted base) (λ p z. grant_back (Client p.client) p.fid front (lines_of past) still ∙ z) (left n vs ps) (all_left (IsGranted (lines_of past)) n vs ps h) in
+    let second : AllOf (IsGranted mid) (with_promises n x fs (left n vs ps)) = all_granted n x fs base (left n vs ps) first in
+    subst (λ (ls : List Line). AllOf (IsGranted ls) (with_promises n x fs (left n vs ps))) (sym (ap (onto (lines_of past)) are ∙ (onto_both (lines_of past) front (granted the_server (Client n) x fs owes) ∙ onto_granted n x fs owes base)))
+    (all_map (IsGranted mid) (IsGranted (onto mid owes)) (λ p z. grant_back (Client p.client) p.fid owes mid (owes_still (owes_from k (hits n vs ps))) ∙ z) (with_promises n x fs (left n vs ps)) second)
+
+pub record Changing (n : ℕ) (b : Backs) (seats now : List Seat) (e : Entry) (past : List Entry) (pre : List Line) (os : List Owed) (hd : Held) (m : Message) : Type 0 where
   pub are : e.lines ≡ pre ++ map (owe_line the_server) os
   pub up : all_lines is_up pre ≡ true
-  pub still : all_lines is_still pre ≡ true
+  pub still : (c : ℕ) → (c ≡ n → ⊥) → all_lines (is_still_to (Client c)) pre ≡ true
   pub oweless : all_lines is_oweless pre ≡ true
   pub given : given_message e.lines (sent_of past) ≡ Some m
   pub key : key_answered hd.reply ≡ called_key m.head
@@ -638,18 +713,18 @@ pub record Changing (b : Backs) (seats now : List Seat) (e : Entry) (past : List
   pub seat : (n : Node) (x y : ℕ) → Above (call_seat n now) x y → Above (call_seat n seats) x y
   pub reply : NewReply now (e ∷ past) hd
   pub changed : (k : Key) → HasChange k (lines_of (e ∷ past)) → HasChange k (lines_of past) ⊎ Above (call_seat k.node seats) k.epoch k.number
-  pub owes : AllOf (NewOwe (lines_of past)) os
+  pub owes : AllOf (NewOwe n (lines_of past)) os
   pub own : (n : ℕ) → IsNumberIn n (numbers os) → IsNumberIn n hd.waits
   pub all : (n : ℕ) → IsNumberIn n (alls b.owed) → IsNumberIn n hd.waits
 
-pub change_loaded : (b : Backs) (ps : List Promise) (more boot : ℕ) (seats now : List Seat) (cs : ℕ → Option Seat) (clock : ℕ) (sent : List Message) (e : Entry) (past : List Entry) (pre : List Line) (os : List Owed) (hd : Held) (m : Message) → BackedIn None b boot seats cs clock sent past → AllOf (IsGranted (lines_of past)) ps → Promised None ps clock (lines_of (e ∷ past)) → Numbered None more (lines_of (e ∷ past)) → Changing b seats now e past pre os hd m
+pub change_loaded : (n : ℕ) (b : Backs) (ps : List Promise) (more boot : ℕ) (seats now : List Seat) (cs : ℕ → Option Seat) (clock : ℕ) (sent : List Message) (e : Entry) (past : List Entry) (pre : List Line) (os : List Owed) (hd : Held) (m : Message) → BackedIn None b boot seats cs clock sent past → AllOf (IsGranted (lines_of (e ∷ past))) ps → Promised None ps clock (lines_of (e ∷ past)) → Numbered None more (lines_of (e ∷ past)) → Changing n b seats now e past pre os hd m
     → BackedIn None (record b { promises = ps; owed = b.owed ++ os; last_owed = more; held = b.held ++ hd ∷ [] }) boot now cs clock sent (e ∷ past)
-change_loaded b ps more boot seats now cs clock sent e past pre os hd m h granted promised numbered w =
+change_loaded who b ps more boot seats now cs clock sent e past pre os hd m h granted promised numbered w =
     let after : Backs = record b { promises = ps; owed = b.owed ++ os; last_owed = more; held = b.held ++ hd ∷ [] } in
     let up : all_lines is_up e.lines ≡ true = subst (λ (ls : List Line). all_lines is_up ls ≡ true) (sym w.are) (lines_both is_up pre _ w.up (owes_up os)) in
-    let still : all_lines is_still e.lines ≡ true = subst (λ (ls : List Line). all_lines is_still ls ≡ true) (sym w.are) (lines_both is_still pre _ w.still (owes_still os)) in
+    let still : (c : ℕ) → (c ≡ who → ⊥) → all_lines (is_still_to (Client c)) e.lines ≡ true = λ c ne. subst (λ (ls : List Line). all_lines (is_still_to (Client c)) ls ≡ true) (sym w.are) (lines_both (is_still_to (Client c)) pre _ (w.still c ne) (owes_still_to (Client c) os)) in
     let found : (before after : List Line) (c : Node) (what : Option Fid) (n : ℕ) → e.lines ≡ before ++ lines.Owe the_server c what n ∷ after → OweFound os c what n = λ before after c what n line. owes_found pre os before after c what n w.oweless (sym w.are ∙ line) in
-    let not_all : (before after : List Line) (c : Node) (what : Option Fid) (n : ℕ) → e.lines ≡ before ++ lines.Owe the_server c what n ∷ after → what ≡ None → ⊥ = λ before after c what n line z. let f = found before after c what n line in let x = in_all (NewOwe (lines_of past)) f.o os f.is_in w.owes in let y : Some x.fid ≡ None = sym x.on ∙ (f.on ∙ z) in absurd cc in
+    let not_all : (before after : List Line) (c : Node) (what : Option Fid) (n : ℕ) → e.lines ≡ before ++ lines.Owe the_server c what n ∷ after → what ≡ None → ⊥ = λ before after c what n line z. let f = found before after c what n line in let x = in_all (NewOwe who (lines_of past)) f.o os f.is_in w.owes in let y : Some x.fid ≡ None = sym x.on ∙ (f.on ∙ z) in absurd cc in
     let under : (k : Key) (t : ℕ) → IsCallUnder the_server k t (given_message e.lines (sent_of past)) → called_key m.head ≡ k = λ k t y. (subst (λ (o : Option Message). IsCallUnder the_server k t o) w.given y).1.0 in
     let none : is_held (key_answered hd.reply) b.held ≡ true → ⊥ = λ y. key_held b boot seats cs clock sent past (called_key m.head) h w.above (subst (λ (k : Key). is_held k b.held ≡ true) w.key y) in
     let s : Stepping None None b after clock clock e past = record {
@@ -657,14 +732,14 @@ change_loaded b ps more boot seats now cs clock sent e past pre os hd m h grante
       up = λ x. up;
       or_stopped = λ x. inl x;
       later = le_refl _;
-      new = λ before rest c what n line. let f = found before rest c what n line in let x = in_all (NewOwe (lines_of past)) f.o os f.is_in w.owes in inr (refl, record {
+      new = λ before rest c what n line. let f = found before rest c what n line in let x = in_all (NewOwe who (lines_of past)) f.o os f.is_in w.owes in inr (refl, record {
         o = f.o;
         is_in = in_second f.o b.owed os f.is_in;
         number = f.number;
         client = f.client;
         on = f.on;
         expiry = subst (λ (z : Option Fid). expiry_of the_server c z (onto (lines_of past) before) ≡ Some f.o.expiry) (sym x.on ∙ f.on) (subst (λ (z : Node). last_grant the_server z x.fid (onto (lines_of past) before) ≡ Some f.o.expiry) f.client
-            (grant_back (Client f.o.client) x.fid before (lines_of past) (lines_front is_still before _ (subst (λ (ls : List Line). all_lines is_still ls ≡ true) line still)) ∙ x.granted));
+            (grant_back_to (Client f.o.client) x.fid before (lines_of past) (lines_front (is_still_to (Client f.o.client)) before _ (subst (λ (ls : List Line). all_lines (is_still_to (Client f.o.client)) ls ≡ true) line (still f.o.client x.other))) ∙ x.granted));
         waits = λ k t y. inr (held_last k b.held hd (w.key ∙ under k t y));
       });
       gone = λ o x. inl (in_front o b.owed os x);
@@ -673,7 +748,7 @@ change_loaded b ps more boot seats now cs clock sent e past pre os hd m h grante
       calls = calls_same b.calls b.last_call;
     } in
     subst (λ (ms : List Message). BackedIn None after boot now cs clock ms (e ∷ past)) (append-nil sent)
-    (backed_step None None b after boot seats now cs cs clock clock sent [] e past s h (λ x. granted_over e past ps still granted) promised numbered
+    (backed_step None None b after boot seats now cs cs clock clock sent [] e past s h (λ x. granted) promised numbered
     (λ x. all_both (λ (o : Owed). IsOwed o.client (lines_of (e ∷ past)) o) b.owed os (owed_over e past b.owed up (h.owed x))
         (subst (λ (ls : List Line). AllOf (λ (o : Owed). IsOwed o.client ls o) os) (sym (ap (onto (lines_of past)) w.are ∙ onto_both (lines_of past) pre (map (owe_line the_server) os))) (owes_at os (onto (lines_of past) pre))))
     (λ x. all_both (HeldWaits now clock (e ∷ past)) b.held (hd ∷ [])

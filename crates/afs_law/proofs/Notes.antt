@@ -243,9 +243,9 @@ risen_rests s boot ls ms past k = record {
 
 -- ---- lines by the promises and breaks
 
-pub granted_notes : (c : Node) (x : ℕ) (fs : List Found) → AreNotes (granted the_server c x fs [])
-granted_notes c x [] = tt
-granted_notes c x (f ∷ fs) = (tt, granted_notes c x fs)
+pub granted_notes : (c : Node) (x : ℕ) (fs : List Found) (tail : List Line) → AreNotes tail → AreNotes (granted the_server c x fs tail)
+granted_notes c x [] tail h = h
+granted_notes c x (f ∷ fs) tail h = (tt, granted_notes c x fs tail h)
 
 
 pub owe_notes : (os : List Owed) → AreNotes (map (owe_line the_server) os)

@@ -14,17 +14,17 @@ use Rattle.afs_num.specs.declared.calls.FsCall.{FsCall}
 use Rattle.afs_num.specs.declared.messages.Carried.{Carried}
 use Rattle.afs_num.specs.declared.messages.Message.{Message}
 use Rattle.afs_num.specs.declared.messages.Received.TheVariants.{Whole}
-use Rattle.afs_ideal.specs.Operations.{Caller, the_user, reads, Shown, Result, refused, changes, code_of, op, shows_acl, no_amend, volume_called, volume_changed, changed}
+use Rattle.afs_ideal.specs.Operations.{Found, Caller, the_user, reads, Shown, Result, refused, changes, code_of, op, shows_acl, no_amend, volume_called, volume_changed, changed}
 use Rattle.afs_ideal.specs.Replies.{vnode_or_none, status_at, status_of, change_reply, stamped}
 use Rattle.afs_ideal.specs.Tables.{Table, get, set}
 use Rattle.afs_ideal.specs.Volumes.{type_of, bytes_by, Volume, Vnode, Kind, a_file, a_directory, a_link, body_by, body_of, vnode_of, if_unique, version_at, Edit, versions_by, edited_all, counted, amended}
-use Rattle.afs_law.proofs.Backing.{Plain, all_lines, is_up, is_still, is_oweless, is_unchanging, backed_fall, granted_over, change_back, no_owe}
-use Rattle.afs_law.proofs.Basics.{Below, UpTo, Above, Each, IfCall, IfReply, IfNotice, if_notice, OfReply, OfNotice, above_up, up_to_by, by_server, IfBack, IfDone, ByClient, OfClient, client_any, by_client, both, same_fid-true, same_fid-refl, apart, same_node-true, client_number, up_to_below, below_up_to, below_not, up_to_same, LastSeat, own_seat, at_seat, OfCall, each_map, each_at, if_call, if_reply, raised_up_to, some_of, yes_no}
+use Rattle.afs_law.proofs.Backing.{is_still_to, Plain, all_lines, is_up, is_still, is_oweless, is_unchanging, backed_fall, granted_over, change_back, no_owe}
+use Rattle.afs_law.proofs.Basics.{node_apart, Below, UpTo, Above, Each, IfCall, IfReply, IfNotice, if_notice, OfReply, OfNotice, above_up, up_to_by, by_server, IfBack, IfDone, ByClient, OfClient, client_any, by_client, both, same_fid-true, same_fid-refl, apart, same_node-true, client_number, up_to_below, below_up_to, below_not, up_to_same, LastSeat, own_seat, at_seat, OfCall, each_map, each_at, if_call, if_reply, raised_up_to, some_of, yes_no}
 use Rattle.afs_law.proofs.Edits.{index_in, fid_at, Sound, SoundIn, sound_same, Tops, live, live_index, get-set, on_top, Grow, Told, edits_told, counted_sound, Rises, rises, tops, touches, untouched, touched_volume, not_touched, there}
 use Rattle.afs_law.proofs.Facts.{HeldIn, ToClient, Ghost, Seen, HoldsAt, server_boot, up_boot, risen, LastStored, IsStored, IsActs, IsLastCall, IsAged, IsUntrusted, View, view_of, view, Spot, spot, LastRan, ReplyFact, IsBehind, AreKept, MayRun, HasFallen, IsCut, Reached, Stands, IsCurrent, HasCurrent, Fits, Answers, IsReply, KeptReply, ClientFacts, CallFact, CallIn, ReplyIn, Origin, AreHome, AreNew, AreUnheard, stored_index, Holds, Goes, IsNoticed, IsOne, InScope, IsFetched, FitsReply, FitsData, FitsSet, FitsPlain, WasChanged, AreIdeal, AreSound, is_in_scope, WasStored}
-use Rattle.afs_law.proofs.Loading.{all_hits, all_left, down_later, none_loaded, still_backed, known_backed, resent, change_loaded, rise_loaded, owes_unchanging, all_new, number_front, number_second, run_loaded, key_held, no_change, all_waited, NewReply, settles_good, settles_backed, quits_good, quits_backed, retries_backed, left_promised, has_owe, touched_hit, numbers_good, numbers_rise}
+use Rattle.afs_law.proofs.Loading.{hits_other, granted_all, onto_granted, left_granted, all_hits, all_left, down_later, none_loaded, still_backed, known_backed, resent, change_loaded, rise_loaded, owes_unchanging, all_new, number_front, number_second, run_loaded, key_held, no_change, all_waited, NewReply, settles_good, settles_backed, quits_good, quits_backed, retries_backed, left_promised, has_owe, touched_hit, numbers_good, numbers_rise}
 use Rattle.afs_law.proofs.Naming.{fine_after}
-use Rattle.afs_law.proofs.Notes.{AreNotes, Skips, skips, told_entry, told_rests, risen_entry, risen_rests, noted_entry, noted_rests, owe_notes, settle_notes, quit_notes, no_versions}
+use Rattle.afs_law.proofs.Notes.{granted_notes, AreNotes, Skips, skips, told_entry, told_rests, risen_entry, risen_rests, noted_entry, noted_rests, owe_notes, settle_notes, quit_notes, no_versions}
 use Rattle.afs_law.proofs.Ops.{in_scope, changes_is, Storing, storing, stored_vnode}
 use Rattle.afs_law.proofs.Owing.{AllOf, HeldWaits, BackedIn, IsDone, DroppedOwe, IsGranted, IsNumberIn, all_filter, DoneIn}
 use Rattle.afs_law.proofs.Passing.{ran_over, stands_over, answers_over, reply_over, kept_over, replies_over, waiting_over, fallen_over, replies_still, PassesBoth, PassesSeen, held_over, fetch_reply_by, cause_over, PassesFile, PassesAct, PassesReach, StaysNewest, stays, current_over, reached_more, client_over, client_still, News, more_sent, PassesGrant}
@@ -44,7 +44,7 @@ use Rattle.afs_law.specs.Lines.{Line}
 use Rattle.afs_law.specs.Past.{IsUnheard, onto, lines_of, sent_of, given_message, called_key, HasCode, is_of_act, IsCallUnder, Ran, running, has_begun}
 use Rattle.afs_law.specs.Records.{change_record}
 use Rattle.afs_law.specs.Runs.{Entry, Cell, message_at, Armed, unarmed, Luck, Blow, struck, lowered, Fall, at_rest, in_step, in_boot, settled, Outcome, comes_up, fails_early, fails_midway, is_full, server_rises, server_ends, server_falls, blow_line, server_stopped, server_restarted, server_served, server_given, server_moves, server_does, back_timed, server_timed, server_wakes}
-use Rattle.afs_law.specs.ServerRow.{record_of, carried_by, change_reply_to, no_room, has_room, longer, revived, device_calls, promise_until, promise_ticks, decides, Decision, drops, tells_boot, repeats, refuses, saves, runs, admits, called, hears, reply_head, replied, boot_told, refusal, told, does, versioned, Change, made, result, saved, decided, in_volume, with_volume}
+use Rattle.afs_law.specs.ServerRow.{granted, granted_in, record_of, carried_by, change_reply_to, no_room, has_room, longer, revived, device_calls, promise_until, promise_ticks, decides, Decision, drops, tells_boot, repeats, refuses, saves, runs, admits, called, hears, reply_head, replied, boot_told, refusal, told, does, versioned, Change, made, result, saved, decided, in_volume, with_volume}
 use Rattle.afs_law.specs.States.{CacheEntry, Seat, ServerState}
 use Rattle.afs_model.specs.Calls.{call_seated, call_seat}
 use Rattle.afs_num.specs.declared.scripts.Script.{Script}
@@ -763,6 +763,27 @@ pub on_changed : (k : Key) (vs : List Version) (o : List Line) → HasChange k (
 on_changed k [] o h = h
 on_changed k (v ∷ vs) o h = on_changed k vs (lines.Version v ∷ o) h
 
+-- grants before the breaks
+pub granted_front : (n x : ℕ) (fs : List Found) (tail : List Line) → granted the_server (Client n) x fs tail ≡ granted the_server (Client n) x fs [] ++ tail
+granted_front n x [] tail = refl
+granted_front n x (f ∷ fs) tail = ap (λ (ls : List Line). lines.Grant the_server (Client n) f.fid f.vnode.index x ∷ ls) (granted_front n x fs tail)
+
+pub granted_number : (n x : ℕ) (fs : List Found) (o : List Line) → last_number the_server (onto o (granted the_server (Client n) x fs [])) ≡ last_number the_server o
+granted_number n x [] o = refl
+granted_number n x (f ∷ fs) o = granted_number n x fs (lines.Grant the_server (Client n) f.fid f.vnode.index x ∷ o)
+
+pub granted_top : (n x : ℕ) (fs : List Found) (own o : List Line) → last_number the_server (onto own (granted the_server (Client n) x fs []) ++ o) ≡ last_number the_server (own ++ o)
+granted_top n x [] own o = refl
+granted_top n x (f ∷ fs) own o = granted_top n x fs (lines.Grant the_server (Client n) f.fid f.vnode.index x ∷ own) o
+
+pub owe_granted : (c : Node) (what : Option Fid) (n x : ℕ) (fs : List Found) (tail : List Line) → HasOwe the_server c what tail → HasOwe the_server c what (granted the_server (Client n) x fs tail)
+owe_granted c what n x [] tail h = h
+owe_granted c what n x (f ∷ fs) tail h = owe_granted c what n x fs tail h
+
+pub granted_then : (s : Script) (past : List Entry) (own : List Line) (n x : ℕ) (fs : List Found) (tail : List Line) → AreGood s (actors.Node the_server) past (onto own (granted the_server (Client n) x fs [])) tail → AreGood s (actors.Node the_server) past own (granted the_server (Client n) x fs tail)
+granted_then s past own n x [] tail h = h
+granted_then s past own n x (f ∷ fs) tail h = (tt, granted_then s past (lines.Grant the_server (Client n) f.fid f.vnode.index x ∷ own) n x fs tail h)
+
 pub saves_goes : (s : Script) (c : Cell) (past : List Entry) (armed : Armed) (p n : ℕ) (h : Head) (user : List ℕ) (call : FsCall) (id : ℕ) (v : Volume) (es : List Edit) (shown : ℕ) → (H : Holds s c past) → c.down ≡ None → message_at c.sent p ≡ Some (call_at n h user call) → Now c H.floors past n h user call → Change' c past user call id v es shown
     → Goes s past (server_does c armed p (call_at n h user call) (saves (client_head n h) (change_at id user call v es shown)))
 saves_goes s c past armed p n h user call id v es shown H up at w q =
@@ -772,33 +793,47 @@ saves_goes s c past armed p n h user call id v es shown H up at w q =
     let b0 : Backs = expired c.clock c.backs in
     let t : Turn = turn_for the_server c.server c.clock b0 (saves (client_head n h) (change_at id user call v es shown)) in
     let os : List Owed = new_owes n vs b0 in
-    let notes : AreNotes t.lines = owe_notes os in
-    let sk : Skips t.lines = skips t.lines notes in
-    let y : Way = whole p t.lines notes (pumped the_server c.server.boot t).sent in
+    let fs : List Found = granted_in (change_at id user call v es shown) in
+    let x : ℕ = c.clock + promise_ticks in
+    let tl : List Line = granted the_server (Client n) x fs t.lines in
+    let notes : AreNotes tl = granted_notes (Client n) x fs t.lines (owe_notes os) in
+    let sk : Skips tl = skips tl notes in
+    let y : Way = whole p tl notes (pumped the_server c.server.boot t).sent in
     let e : Entry = saved_entry y k vs r in
     let B : BackedIn None b0 c.server.boot c.server.seats (seats_of c) c.clock c.sent past = up_backed s c past H up in
-    let pre : List Line = lines.Given p ∷ lines.Change the_server k (length vs) ∷ versioned vs [] in
-    let are : e.lines ≡ pre ++ t.lines = ap (λ (ls : List Line). lines.Given p ∷ lines.Change the_server k (length vs) ∷ ls) (versioned_front vs [] t.lines) in
+    let front : List Line = lines.Given p ∷ lines.Change the_server k (length vs) ∷ versioned vs [] in
+    let pre : List Line = lines.Given p ∷ lines.Change the_server k (length vs) ∷ versioned vs (granted the_server (Client n) x fs []) in
+    let fronted : e.lines ≡ front ++ tl = ap (λ (ls : List Line). lines.Given p ∷ lines.Change the_server k (length vs) ∷ ls) (versioned_front vs [] tl) in
+    let are : e.lines ≡ pre ++ t.lines = ap (λ (ls : List Line). lines.Given p ∷ lines.Change the_server k (length vs) ∷ ls) (ap (versioned vs) (granted_front n x fs t.lines) ∙ versioned_front vs (granted the_server (Client n) x fs []) t.lines) in
+    let base0 : List Line = on_top vs (base y k (length vs) (lines_of past)) in
     let hd : Held = record { reply = r; waits = numbers os ++ alls b0.owed } in
     let loads : BackedIn None (loaded t) c.server.boot (seats_after c n h r) (seats_of c) c.clock c.sent (e ∷ past) =
-        change_loaded b0 t.backs.promises t.backs.last_owed c.server.boot c.server.seats (seats_after c n h r) (seats_of c) c.clock c.sent e past pre os hd (call_at n h user call) B (all_left (IsGranted (lines_of past)) n vs b0.promises (B.granted refl)) (left_promised n b0.last_owed vs b0.promises c.clock e past pre are (versions_lines is_still vs [] (λ z. refl) refl) B.promised) (subst (λ (ls : List Line). last_number the_server ls ≤ t.backs.last_owed) (sym (saved_on y k vs (lines_of past))) (numbers_rise b0.last_owed (hits n vs b0.promises) (on_top vs (base y k (length vs) (lines_of past))) (subst (λ (i : ℕ). i ≤ b0.last_owed) (sym (on_number vs (base y k (length vs) (lines_of past)))) B.numbered))) (record {
+        change_loaded n b0 t.backs.promises t.backs.last_owed c.server.boot c.server.seats (seats_after c n h r) (seats_of c) c.clock c.sent e past pre os hd (call_at n h user call) B
+        (left_granted n b0.last_owed x vs b0.promises fs e past front fronted (versions_lines is_still vs [] (λ z. refl) refl) (B.granted refl))
+        (left_promised n b0.last_owed x c.clock vs b0.promises fs e past front fronted (versions_lines is_still vs [] (λ z. refl) refl) B.promised)
+        (subst (λ (ls : List Line). last_number the_server ls ≤ t.backs.last_owed) (sym (saved_on y k vs (lines_of past) ∙ onto_granted n x fs t.lines base0))
+        (numbers_rise b0.last_owed (hits n vs b0.promises) (onto base0 (granted the_server (Client n) x fs [])) (subst (λ (i : ℕ). i ≤ b0.last_owed) (sym (granted_number n x fs base0 ∙ on_number vs (base y k (length vs) (lines_of past)))) B.numbered))) (record {
           are = are;
-          up = versions_lines is_up vs [] (λ z. refl) refl;
-          still = versions_lines is_still vs [] (λ z. refl) refl;
-          oweless = versions_lines is_oweless vs [] (λ z. refl) refl;
+          up = versions_lines is_up vs (granted the_server (Client n) x fs []) (λ z. refl) (granted_all is_up (Client n) x fs (λ f i. refl));
+          still = λ j ne. versions_lines (is_still_to (Client j)) vs (granted the_server (Client n) x fs []) (λ z. refl) (granted_all (is_still_to (Client j)) (Client n) x fs (λ f i. ap not (node_apart (Client n) (Client j) (λ q. ne (sym (client_number n j q))))));
+          oweless = versions_lines is_oweless vs (granted the_server (Client n) x fs []) (λ z. refl) (granted_all is_oweless (Client n) x fs (λ f i. refl));
           given = at_told s c past p (call_at n h user call) H at;
           key = refl;
           above = w.above;
           seat = λ m x z. above_before c.server.seats n h r m x z w.above;
           reply = record { client = n; to = refl; from = refl; is_reply = carried_reply (c.clock + promise_ticks) (change_reply id (the_user user) (stamped c.clock vs c.server.times) (counted (edited_all id es v)) shown call); under = taken_not c.server.seats n h r };
-          changed = λ l z. elim (on_changed l vs (lines.Change the_server k (length vs) ∷ lines.Given p ∷ lines_of past) (change_back l t.lines _ (owes_unchanging os) (subst (HasChange l) (saved_on y k vs (lines_of past)) z))) [ | inl same ↦ inr (subst (λ (u : Key). Above (call_seat u.node c.server.seats) u.epoch u.number) same w.above) | inr old ↦ inl old ];
-          owes = all_new (lines_of past) b0.last_owed (hits n vs b0.promises) (all_hits (IsGranted (lines_of past)) n vs b0.promises (B.granted refl));
+          changed = λ l z. elim (on_changed l vs (lines.Change the_server k (length vs) ∷ lines.Given p ∷ lines_of past) (change_back l (granted the_server (Client n) x fs []) base0 (granted_all is_unchanging (Client n) x fs (λ f i. refl)) (change_back l t.lines _ (owes_unchanging os) (subst (HasChange l) (saved_on y k vs (lines_of past) ∙ onto_granted n x fs t.lines base0) z)))) [ | inl same ↦ inr (subst (λ (u : Key). Above (call_seat u.node c.server.seats) u.epoch u.number) same w.above) | inr old ↦ inl old ];
+          owes = all_new n (lines_of past) b0.last_owed (hits n vs b0.promises) (all_hits (IsGranted (lines_of past)) n vs b0.promises (B.granted refl)) (hits_other n vs b0.promises);
           own = λ i z. number_front i (numbers os) (alls b0.owed) z;
           all = λ i z. number_second i (numbers os) (alls b0.owed) z;
         }) in
     let pump : Pumps c.server.boot (seats_after c n h r) (seats_of c) c.clock c.sent (e ∷ past) t = pumps c.server.boot (seats_after c n h r) (seats_of c) c.clock c.sent e past t refl (saves_clock y k vs r past ∙ H.clock) loads (record { good = tt; calls = tt; dones = tt }) in
     record {
-      good = (tt, ((refl, saves_change_good s c past (lines.Given p ∷ []) t.lines n h user call id v es shown H w q (H.new _ w.above_durable) refl (H.home id v q.at) (no_versions t.lines notes) (λ j f x ne c l y. owe_behind (Client j) (Some f) vs t.lines (has_owe j f x b0.last_owed (hits n vs b0.promises) (touched_hit n j f x vs b0.promises (λ z. ne (ap Client z)) c (B.promised j f x l (subst (λ (z : ℕ). z < x) H.clock y)).1)))), versions_good s past _ t.lines vs tt (numbers_good s b0.last_owed (hits n vs b0.promises) past (on_top vs (lines.Change the_server k (length vs) ∷ lines.Given p ∷ [])) (subst (λ (i : ℕ). i ≤ b0.last_owed) (sym (top_number vs (lines.Change the_server k (length vs) ∷ lines.Given p ∷ []) (lines_of past))) B.numbered))));
+      good = (tt, ((refl, saves_change_good s c past (lines.Given p ∷ []) tl n h user call id v es shown H w q (H.new _ w.above_durable) refl (H.home id v q.at) (no_versions tl notes)
+      (λ j f z ne d l u. owe_behind (Client j) (Some f) vs tl (owe_granted (Client j) (Some f) n x fs t.lines (has_owe j f z b0.last_owed (hits n vs b0.promises) (touched_hit n j f z vs b0.promises (λ a. ne (ap Client a)) d (B.promised j f z l (subst (λ (i : ℕ). i < z) H.clock u)).1))))),
+      versions_good s past _ tl vs tt (granted_then s past (on_top vs (lines.Change the_server k (length vs) ∷ lines.Given p ∷ [])) n x fs t.lines
+      (numbers_good s b0.last_owed (hits n vs b0.promises) past (onto (on_top vs (lines.Change the_server k (length vs) ∷ lines.Given p ∷ [])) (granted the_server (Client n) x fs []))
+      (subst (λ (i : ℕ). i ≤ b0.last_owed) (sym (granted_top n x fs (on_top vs (lines.Change the_server k (length vs) ∷ lines.Given p ∷ [])) (lines_of past) ∙ top_number vs (lines.Change the_server k (length vs) ∷ lines.Given p ∷ []) (lines_of past))) B.numbered)))));
       holds = saves_holds y s (Some c.server.boot) c past (pumped the_server c.server.boot t).backs armed None n h user call c.clock id v es shown H w q (has_run s c past p n h user call e H up at w refl refl) (saves_boot y k vs r past ∙ (sk.boot _ ∙ up_boots s c past H up)) (unheard_after s c past p n h user call r e H up at w refl) tt
           (λ own held. pumped_news (views_after true H.floors c n h r) c.server.boot (e ∷ past) c.server.boot t (no_news _ _ _) (own, tt) held) (λ z. pump.backed);
       replies = pump.good;

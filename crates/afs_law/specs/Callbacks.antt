@@ -16,7 +16,7 @@ use Rattle.afs_num.specs.declared.messages.Carried.TheVariants as carried
 use Rattle.afs_num.specs.declared.messages.Message.{Message}
 use Rattle.afs_ideal.specs.Operations.{Found}
 use Rattle.afs_law.specs.Lines.{Line}
-use Rattle.afs_law.specs.ServerRow.{Decision, drops, tells_boot, repeats, refuses, shows, saves, made, granted_by, change_reply_to, read_reply_to, refusal, boot_told, promise_ticks}
+use Rattle.afs_law.specs.ServerRow.{Decision, drops, tells_boot, repeats, refuses, shows, saves, made, granted_by, granted_in, change_reply_to, read_reply_to, refusal, boot_told, promise_ticks}
 use Rattle.afs_law.specs.States.{Seat, ServerState}
 use Rattle.afs_model.specs.Calls.{call_seat}
 use Rattle.afs_law.specs.Lines as lines
@@ -182,7 +182,7 @@ turn_for me s clock b (shows head r) = record {
   outs = record { reply = read_reply_to s.boot head s.times (clock + promise_ticks) r; waits = [] } ∷ [];
 }
 turn_for me s clock b (saves head c) = record {
-  backs = withdraws (caller head.from) (made c) b;
+  backs = record (withdraws (caller head.from) (made c) b) { promises = with_promises (caller head.from) (clock + promise_ticks) (granted_in c) (left (caller head.from) (made c) b.promises) };
   lines = map (owe_line me) (new_owes (caller head.from) (made c) b);
   sent = [];
   outs = record { reply = change_reply_to s.boot head clock s.times c; waits = numbers (new_owes (caller head.from) (made c) b) ++ alls b.owed } ∷ [];

@@ -19,9 +19,10 @@ use Rattle.afs_num.specs.declared.messages.Received.{Received}
 use Rattle.afs_num.specs.declared.messages.Received.TheVariants.{Nothing, Unknown, Unreadable, Whole}
 use Rattle.afs_num.specs.declared.histories.Version.{Version}
 use Rattle.afs_ideal.specs.Operations.{Caller, the_user, Found, Shown, shows_body, shows_status, shows_acl, shows_statuses, shows_volume, Result, refused, reads, changes, no_operation, op, volume_called}
-use Rattle.afs_ideal.specs.Replies.{reading_reply, change_reply, stamped}
+use Rattle.afs_ideal.specs.Replies.{reading_reply, change_reply, stamped, vnode_at}
+use Rattle.afs_num.specs.declared.calls.FsCall.TheVariants as calls
 use Rattle.afs_ideal.specs.Tables.{get, set}
-use Rattle.afs_ideal.specs.Volumes.{Volume, Edit, versions_by, edited_all, counted}
+use Rattle.afs_ideal.specs.Volumes.{fid_of, Volume, Edit, versions_by, edited_all, counted}
 use Rattle.afs_law.specs.Lines.{Line}
 use Rattle.afs_law.specs.Records.{change_record, boot_record, record_length}
 use Rattle.afs_law.specs.States.{Seat, ServerState}
@@ -109,6 +110,19 @@ made c = versions_by c.id c.edits c.before
 
 abbrev pub result : Change → Volume
 result c = counted (edited_all c.id c.edits c.before)
+
+-- the vnode that a reply shows, as it stands in the volume
+abbrev pub found_at : ℕ → Volume → ℕ → Found
+found_at id v n = record { fid = fid_of id n (vnode_at v n); vnode = vnode_at v n }
+
+-- the new vnodes that a change promises
+abbrev pub granted_new : ℕ → Volume → ℕ → FsCall → List Found
+granted_new id v n (calls.CreateFile d name status) = found_at id v n ∷ []
+granted_new id v n (calls.MakeDir d name status) = found_at id v n ∷ []
+granted_new id v n call = []
+
+abbrev pub granted_in : Change → List Found
+granted_in c = granted_new c.id (result c) c.shown c.call
 
 -- -455: the call isn't served here
 abbrev pub not_served : ℤ
@@ -272,7 +286,7 @@ shows_step me s place head r expiry tail = record {
 abbrev pub saves_step : Node → ServerState → ℕ → ℕ → Head → Change → List Line → Step ServerState
 saves_step me s clock place head c tail = record {
   state = keeps_for_good head (change_reply_to s.boot head clock s.times c) (saved head clock c s);
-  lines = lines.Given place ∷ lines.Change me (key_of head) (length (made c)) ∷ versioned (made c) tail;
+  lines = lines.Given place ∷ lines.Change me (key_of head) (length (made c)) ∷ versioned (made c) (granted me head.from (clock + promise_ticks) (granted_in c) tail);
   sent = [];
 }
 
