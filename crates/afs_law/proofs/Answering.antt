@@ -114,7 +114,7 @@ shown_now s c past n f u h none found lasts =
     let old : Seen n f u.index past = idle_reached n f u.index _ _ (view h.floors c n) past none cur.state in
     let over : (m : Message) → ReplyFact n (view h.floors c n) past m → ReplyFact n (view_after c n (h.floors n) st.state) (e ∷ past) m = λ m f. idle_reply n (view h.floors c n) (view_after c n (h.floors n) st.state) past (e ∷ past) m refl refl refl refl refl refl none f in
     moves s c past n (h.floors n) st h (
-      tt,
+      refl,
       (
         (
           refl,

@@ -109,6 +109,7 @@ moves_back s c past n floor st h good p own w q fresh went keeps =
     record {
       good = good;
       replies = fresh.good;
+      volumes = refl;
       holds = record {
         floors = put n floor h.floors;
         count = h.count;
@@ -554,4 +555,4 @@ pub begins_now : (n : ℕ) (S : Type 0) → has_begun (Client n) (lines.Begin (C
 begins_now n S e = let yes : same_node (Client n) (Client n) ≡ true = same_node-refl (Client n) in absurd cc
 
 pub idle_asks : (s : Script) (c : Cell) (past : List Entry) (n : ℕ) (act : Act) → Holds s c past → (c.clients n).running ≡ None → Goes s past (client_moves c n (calls_step (Client n) (c.clients n) (began act) (lines.Begin (Client n) act)))
-idle_asks s c past n act h none = asks s c past n (began act) (lines.Begin (Client n) act) h (tt, tt) (begin_passes s n act _ past) (begin_file n n act _ past) (begin_reach n n act _ past) (λ f o. own_zero n (reach (Client n) f past).made) (λ a e. absurd cc) (own_begun n (began act) (running (Client n) (lines_of past))) (λ z. begins_now n _ z)
+idle_asks s c past n act h none = asks s c past n (began act) (lines.Begin (Client n) act) h (refl, tt) (begin_passes s n act _ past) (begin_file n n act _ past) (begin_reach n n act _ past) (λ f o. own_zero n (reach (Client n) f past).made) (λ a e. absurd cc) (own_begun n (began act) (running (Client n) (lines_of past))) (λ z. begins_now n _ z)

@@ -24,7 +24,7 @@ use Rattle.afs_law.specs.ClientRow.{the_server, find_cached, body_told}
 use Rattle.afs_law.specs.Going.{asked, Going, Need, next, answers, began, with_read, read_on}
 use Rattle.afs_law.specs.Grants.{IsWithdrawn, has_fetched, fetch_reply, since, change_below, IsByOther, IsDropped}
 use Rattle.afs_law.specs.Ideal.{Reach, is_zero_code, raised, IsLast, version_in, latest, IsThat, user_of, clock_of, last_version, HasVersion, Accepts, reach, volume_after, change_key, call_under, reach_over, applied, applied_by, is_volume}
-use Rattle.afs_law.specs.Legal.{code_given, IsResult, AreGood, IsGood, code_told, Cause, IsNew, HasChange, GoodChange, versions_first, AreGoodReplies, IsTold, answer_at, answer_on, IsUnderChange, GoodRestart, op_on}
+use Rattle.afs_law.specs.Legal.{IsChanging, code_given, IsResult, AreGood, IsGood, code_told, Cause, IsNew, HasChange, GoodChange, versions_first, AreGoodReplies, IsTold, answer_at, answer_on, IsUnderChange, GoodRestart, op_on}
 use Rattle.afs_law.specs.Lines.{Line}
 use Rattle.afs_law.specs.Past.{IsUnheard, onto, lines_of, sent_of, given_message, called_key, HasCode, is_of_act, IsCallUnder, Ran, running, has_begun}
 use Rattle.afs_law.specs.Records.{change_record}
@@ -92,7 +92,7 @@ pub record JustRefusal (c : Cell) (fl : ℕ → Ghost) (past : List Entry) (msg 
   pub call : FsCall
   pub due : Due c fl past msg head call
   pub some : is_zero_code (record { 0 = code }) ≡ false
-  pub why : ((code_given (answer_at due.user call past) ≡ code) × IsTold (called_key (client_head due.client head)) (answer_at due.user call past) []) ⊎ (code ≡ no_room)
+  pub why : ((code_given (answer_at due.user call past) ≡ code) × IsTold (called_key (client_head due.client head)) (answer_at due.user call past) []) ⊎ ((code ≡ no_room) × IsChanging (answer_at due.user call past))
 
 pub record JustReading (c : Cell) (fl : ℕ → Ghost) (past : List Entry) (msg : Message) (head : Head) (r : Reading) : Type 0 where
   pub call : FsCall
@@ -148,7 +148,7 @@ why_unserved head o e = subst (λ (x : Option Result). (code_given x ≡ not_ser
 pub roomed_just : (s : Script) (c : Cell) (past : List Entry) (n : ℕ) (h : Head) (user : List ℕ) (call : FsCall) (id : ℕ) (v : Volume) (es : List Edit) (shown : ℕ) (t : Bool) → (H : Holds s c past) → Now c H.floors past n h user call → Change' c past user call id v es shown
     → IsJust c H.floors past (call_at n h user call) (cond t (saves (client_head n h) (change_at id user call v es shown)) (refuses (client_head n h) no_room))
 roomed_just s c past n h user call id v es shown true H w q = record { call = call; due = due c H.floors past n h user call w; own = refl; change = q }
-roomed_just s c past n h user call id v es shown false H w q = record { call = call; due = due c H.floors past n h user call w; some = refl; why = inr refl }
+roomed_just s c past n h user call id v es shown false H w q = record { call = call; due = due c H.floors past n h user call w; some = refl; why = inr (refl, subst IsChanging (sym (answer_of s c past user call id (Some v) H q.of_volume q.at ∙ ap Some q.result)) tt) }
 
 pub decided_just : (s : Script) (c : Cell) (past : List Entry) (n : ℕ) (h : Head) (user : List ℕ) (call : FsCall) (id : ℕ) (v : Volume) (r : Result) → (H : Holds s c past) → Now c H.floors past n h user call → volume_called call ≡ Some id → get id c.server.volumes ≡ Some v → op id (the_user user) call v ≡ r
     → IsJust c H.floors past (call_at n h user call) (decided c.server (client_head n h) (the_user user) call id v r)
@@ -255,7 +255,7 @@ told_more k (Some (changes es n)) ls h = absurd h
 told_more k o ls h = tt
 
 pub refuses_by : (s : Script) (c : Cell) (past : List Entry) (armed : Armed) (p n : ℕ) (head : Head) (user : List ℕ) (call : FsCall) (code : ℤ) → (H : Holds s c past) → c.down ≡ None → message_at c.sent p ≡ Some (call_at n head user call) → Now c H.floors past n head user call → is_zero_code (record { 0 = code }) ≡ false
-    → ((code_given (answer_at user call past) ≡ code) × IsTold (called_key (client_head n head)) (answer_at user call past) []) ⊎ (code ≡ no_room)
+    → ((code_given (answer_at user call past) ≡ code) × IsTold (called_key (client_head n head)) (answer_at user call past) []) ⊎ ((code ≡ no_room) × IsChanging (answer_at user call past))
     → Goes s past (server_does c armed p (call_at n head user call) (refuses (client_head n head) code))
 refuses_by s c past armed p n head user call code H up at w nz (inl x) = refuses_goes s c past armed p n head user call code H up at w nz (inl (x.0, told_more (called_key (client_head n head)) (answer_at user call past) (lines.Given p ∷ lines_of past) x.1))
 refuses_by s c past armed p n head user call code H up at w nz (inr x) = refuses_goes s c past armed p n head user call code H up at w nz (inr x)
@@ -511,7 +511,8 @@ rises_goes s c past fall h e =
         (rise_loaded c.count c.down c.backs c.server.boot c.server.seats c.server.durable (seats_of c) c.clock c.sent x past (lines.Restart the_server b ∷ []) (λ z. absurd cc) (h.backs refl) h.clock refl refl refl refl (sk.given (sent_of past))) (record { good = tt; calls = tt; dones = tt }) in
     record {
       replies = pump.good;
-      good = (rises_owed s c h, alls_good s (c.clock + promise_ticks) 0 c.count past _ (le_of_eq (down_number s c past fall h e)));
+      volumes = refl;
+      good = ((refl, rises_owed s c h), alls_good s (c.clock + promise_ticks) 0 c.count past _ (le_of_eq (down_number s c past fall h e)));
       holds = revives s (Some b) _ (x ∷ past) (pumped the_server b t).backs (noted s (Some b) c past c.armed c.down x c.backs h (sk.boot _ ∙ rises_at s c past fall b h e) (risen_rests s b t.lines (pumped the_server b t).sent past sk) (sk.clock _)
           (unheard_still c.down c x past (sk.given (sent_of past)) h.unheard) (fallen_over c.down c.server c.sent (pumped the_server b t).sent x past h.down) (rising_gives _ b _ _ c c.backs.held) (λ z. absurd (up_not c fall _ e (sym z)))) (λ fl z. nothing_held b c _ _) (λ z. pump.backed);
     }
@@ -529,9 +530,9 @@ pub ends_before : (s : Script) (c : Cell) (past : List Entry) (fall : Fall) (o :
 ends_before s c past fall comes_up h e = rises_goes s c past fall h e
 ends_before s c past fall fails_early h e =
     let x : Entry = alone (actors.Node the_server) (lines.Fault the_server) in
-    record { good = (tt, tt); replies = tt; holds = stays_before s c past fall (lines.Fault the_server) h (fault_rests s past) refl refl refl (subst (λ (d : Option Fall). HasFallen d c.server c.sent (x ∷ past)) e (fallen_still c.down c x past h.down)) (λ u. absurd cc) refl refl }
-ends_before s c past fall fails_midway h e = record { good = (tt, tt); replies = tt; holds = stays_before s c past in_boot (lines.Fault the_server) h (fault_rests s past) refl refl refl tt (λ u. absurd cc) refl refl }
-ends_before s c past fall is_full h e = record { good = (tt, tt); replies = tt; holds = stays_before s c past at_rest (lines.Full the_server) h (full_rests s past) (h.boots ∙ ap (λ (d : Option Fall). up_boot d c.server.boot) e) refl refl tt (λ u. absurd cc) refl refl }
+    record { good = (refl, tt); replies = tt; volumes = refl; holds = stays_before s c past fall (lines.Fault the_server) h (fault_rests s past) refl refl refl (subst (λ (d : Option Fall). HasFallen d c.server c.sent (x ∷ past)) e (fallen_still c.down c x past h.down)) (λ u. absurd cc) refl refl }
+ends_before s c past fall fails_midway h e = record { good = (refl, tt); replies = tt; volumes = refl; holds = stays_before s c past in_boot (lines.Fault the_server) h (fault_rests s past) refl refl refl tt (λ u. absurd cc) refl refl }
+ends_before s c past fall is_full h e = record { good = (refl, tt); replies = tt; volumes = refl; holds = stays_before s c past at_rest (lines.Full the_server) h (full_rests s past) (h.boots ∙ ap (λ (d : Option Fall). up_boot d c.server.boot) e) refl refl tt (λ u. absurd cc) refl refl }
 
 -- the disk has the boot record that was interrupted: its number was never told
 pub ends_booted : (s : Script) (c : Cell) (past : List Entry) (o : Outcome) → Holds s c past → c.down ≡ Some in_boot → Goes s past (server_ends c (begun_before (revived c.server)) in_boot o)
@@ -539,10 +540,10 @@ ends_booted s c past comes_up h e = rises_goes s (revived_down c) past at_rest (
 ends_booted s c past fails_early h e = ends_before s c past in_boot fails_early h e
 ends_booted s c past fails_midway h e =
     let k : Holds s (revived_down c) past = revives_down s c past in_boot h e in
-    record { good = (tt, tt); replies = tt; holds = stays_before s (revived_down c) past in_boot (lines.Fault the_server) k (fault_rests s past) refl refl refl tt (λ u. absurd cc) refl refl }
+    record { good = (refl, tt); replies = tt; volumes = refl; holds = stays_before s (revived_down c) past in_boot (lines.Fault the_server) k (fault_rests s past) refl refl refl tt (λ u. absurd cc) refl refl }
 ends_booted s c past is_full h e =
     let k : Holds s (revived_down c) past = revives_down s c past in_boot h e in
-    record { good = (tt, tt); replies = tt; holds = stays_before s (revived_down c) past at_rest (lines.Full the_server) k (full_rests s past) k.boots refl refl tt (λ u. absurd cc) refl refl }
+    record { good = (refl, tt); replies = tt; volumes = refl; holds = stays_before s (revived_down c) past at_rest (lines.Full the_server) k (full_rests s past) k.boots refl refl tt (λ u. absurd cc) refl refl }
 
 pub down_not : (c : Cell) → {fall : Fall} → c.down ≡ Some fall → c.down ≡ None → ⊥
 down_not c e z = absurd cc
@@ -581,21 +582,24 @@ ends_saved s c past fall comes_up n h user call time id v es shown H e w q is_cu
         (ap (λ (ls : List Line). lines.Change the_server key (length vs) ∷ ls) (versioned_front vs (lines.Restart the_server x ∷ []) t.lines)) (versions_lines is_oweless vs (lines.Restart the_server x ∷ []) (λ z. refl) refl) (versions_lines is_tickless vs (lines.Restart the_server x ∷ []) (λ z. refl) refl) (versions_lines is_still vs (lines.Restart the_server x ∷ []) (λ z. refl) refl) given) (record { good = tt; calls = tt; dones = tt }) in
     record {
       replies = pump.good;
-      good = after_good s c past n h user call id v es shown (lines.Restart the_server x ∷ t.lines) H w q e refl (rises_owed s c H, alls_good s (c.clock + promise_ticks) 0 c.count past _ (le_of_eq (top_number vs (lines.Change the_server key (length vs) ∷ []) (lines_of past) ∙ down_number s c past fall H e)));
+      volumes = refl;
+      good = after_good s c past n h user call id v es shown (lines.Restart the_server x ∷ t.lines) H w q e refl ((refl, rises_owed s c H), alls_good s (c.clock + promise_ticks) 0 c.count past _ (le_of_eq (top_number vs (lines.Change the_server key (length vs) ∷ []) (lines_of past) ∙ down_number s c past fall H e)));
       holds = revives s (Some x) _ _ (pumped the_server x t).backs (after_holds y s (Some x) c past c.backs at_rest n h user call time id v es shown H w q is_cut given (λ u z b. tt) (saves_boot y key vs r past ∙ (sk.boot _ ∙ rises_at s c past fall x H e)) (λ own. rising_gives _ x _ _ c c.backs.held) (λ z. absurd cc)) (λ fl z. nothing_held x c _ _) (λ z. pump.backed);
     }
 ends_saved s c past fall fails_early n h user call time id v es shown H e w q is_cut = ends_before s c past fall fails_early H e
 ends_saved s c past fall fails_midway n h user call time id v es shown H e w q is_cut = record {
-  good = after_good s c past n h user call id v es shown (lines.Fault the_server ∷ []) H w q e refl (tt, tt);
+  good = after_good s c past n h user call id v es shown (lines.Fault the_server ∷ []) H w q e refl (refl, tt);
   holds = nothing_less s None _ _ (after_holds faults s None c past c.backs in_boot n h user call time id v es shown H w q is_cut (given_on (versions_by id es v) _ (sent_of past)) (λ x y z. tt) (saves_boot faults _ (versions_by id es v) (saved_reply c (client_head n h) time user call id v es shown) past)
       (λ own held. (no_news _ _ _, held)) (λ z. backed_fall c.down in_boot c.backs c.server.boot c.server.seats _ (seats_of c) c.clock c.sent _ past (versions_lines is_oweless (versions_by id es v) (lines.Fault the_server ∷ []) (λ y. refl) refl) (versions_lines is_still (versions_by id es v) (lines.Fault the_server ∷ []) (λ y. refl) refl) (λ u. absurd cc) (H.backs refl)));
   replies = tt;
+      volumes = refl;
 }
 ends_saved s c past fall is_full n h user call time id v es shown H e w q is_cut = record {
-  good = after_good s c past n h user call id v es shown (lines.Full the_server ∷ []) H w q e refl (tt, tt);
+  good = after_good s c past n h user call id v es shown (lines.Full the_server ∷ []) H w q e refl (refl, tt);
   holds = nothing_less s None _ _ (after_holds fills s None c past c.backs at_rest n h user call time id v es shown H w q is_cut (given_on (versions_by id es v) _ (sent_of past)) (λ x y z. tt) (saves_boot fills _ (versions_by id es v) (saved_reply c (client_head n h) time user call id v es shown) past ∙ (H.boots ∙ ap (λ (d : Option Fall). up_boot d c.server.boot) e))
       (λ own held. (no_news _ _ _, held)) (λ z. backed_fall c.down at_rest c.backs c.server.boot c.server.seats _ (seats_of c) c.clock c.sent _ past (versions_lines is_oweless (versions_by id es v) (lines.Full the_server ∷ []) (λ y. refl) refl) (versions_lines is_still (versions_by id es v) (lines.Full the_server ∷ []) (λ y. refl) refl) (λ u. absurd cc) (H.backs refl)));
   replies = tt;
+      volumes = refl;
 }
 
 pub ends_after : (s : Script) (c : Cell) (past : List Entry) (fall : Fall) (o : Outcome) (m : Message) (time : ℕ) (d : Decision) → (H : Holds s c past) → c.down ≡ Some fall → IsJust c H.floors past m d → IsCut c.server c.sent m past → Goes s past (server_ends c (begun_after the_server c.server time d) fall o)
@@ -628,15 +632,16 @@ pub stops_goes : (s : Script) (c : Cell) (past : List Entry) (d : Option Fall) �
 stops_goes s c past None h e =
     let x : Entry = alone (actors.Node the_server) (lines.Crash the_server) in
     record {
-      good = (tt, tt);
+      good = (refl, tt);
       holds = still s None (record c { down = Some at_rest; armed = unarmed }) (x ∷ past) (rests s None c past x 0 (Some at_rest) unarmed h refl refl (server_crash_rests s past) (omega arith) (λ k b l. (λ z. z, unheard_later c.down c.server.seats c.server.boot past h.unheard k b l)) tt (λ z. fall_backed s c past x at_rest refl refl (λ u o. inl refl) h));
       replies = tt;
+      volumes = refl;
     }
 stops_goes s c past (Some fall) h e = voids s c past h
 
 pub cut_good : (s : Script) (past : List Entry) (p : ℕ) (stops : Bool) → AreGood s (actors.Node the_server) past [] (lines.Given p ∷ blow_line stops ∷ [])
-cut_good s past p true = (tt, (tt, tt))
-cut_good s past p false = (tt, (tt, tt))
+cut_good s past p true = (tt, (refl, tt))
+cut_good s past p false = (tt, (refl, tt))
 
 pub cut_oweless : (p : ℕ) (stops : Bool) → all_lines is_oweless (lines.Given p ∷ blow_line stops ∷ []) ≡ true
 cut_oweless p true = refl
@@ -667,6 +672,7 @@ cuts_saved s c past p n h user call stops H up at w =
     record {
       good = cut_good s past p stops;
       replies = tt;
+      volumes = refl;
       holds = still s None (record c { down = Some (in_step m c.clock); armed = unarmed }) (e ∷ past) (rests s None c past e 0 (Some (in_step m c.clock)) unarmed H (cut_boot p stops (lines_of past)) refl (cut_rests s p stops past) (cut_clock p stops (lines_of past))
           (λ k b l. (λ x. let x' : IsCallUnder the_server k b (Some m) = subst (λ (o : Option Message). IsCallUnder the_server k b o) (at_told s c past p m H at) x in let is : h.boot ≡ b = x'.1.1 in absurd (omega arith), unheard_later c.down c.server.seats c.server.boot past H.unheard k b l))
           (record { place = p; at = at; ran = ran_now s c past p n h user call e H up at w refl refl; is = refl; ideal = H.ideal }) (λ z. fall_backed s c past e (in_step m c.clock) (cut_oweless p stops) (cut_still p stops) (λ u o. cut_stops p stops o) H));
@@ -701,14 +707,14 @@ given_goes s c past p luck m (Some fall) i h e at to = voids s c past h
 pub timed_goes : (s : Script) (c : Cell) (past : List Entry) (n : ℕ) (b : BackCall) (x : Bool) → (H : Holds s c past) → c.down ≡ None → c.backs.calls n ≡ Some b → nat_lt b.tries 2 ≡ x → Goes s past (server_adds c c.armed c.server [] (cond x (retries the_server c.server.boot n b (expired c.clock c.backs)) (quits the_server c.server.boot n b (expired c.clock c.backs))))
 timed_goes s c past n b true H up at e =
     let x : Backs = expired c.clock c.backs in
-    acts_alone s c past c.armed (retries the_server c.server.boot n b x) H up (tt, tt) (tt, tt) (λ k held. record { notes = (tt, tt); sent = news_break _ _ _ c.server.boot n (x.known n) b; outs = tt; held = held })
+    acts_alone s c past c.armed (retries the_server c.server.boot n b x) H up (tt, tt) (refl, tt) (λ k held. record { notes = (tt, tt); sent = news_break _ _ _ c.server.boot n (x.known n) b; outs = tt; held = held })
     (λ k q. let old = up_backed s c past H up in record {
       backed = retries_backed x c.server.boot c.server.seats (seats_of c) c.clock c.sent k past n b at (ap (λ (y : Entry). y.lines) q) old;
       sends = record { good = (break_good (k ∷ past) c.server.boot n (x.known n) b, tt); calls = resent x c.server.boot c.server.seats (seats_of c) c.clock c.sent past (k ∷ past) n (x.known n) b (put n (Some (record b { tries = b.tries + 1 })) x.calls) old at (λ y w. put_call n n (record b { tries = b.tries + 1 }) y x.calls _ w (λ u v. ap (λ (z : BackCall). z.breaks) (sym v)) (λ u. ap (λ (z : BackCall). z.breaks) (some_of y b (sym u ∙ at)))); dones = (tt, tt) };
     })
 timed_goes s c past n b false H up at e =
     let x : Backs = expired c.clock c.backs in
-    acts_alone s c past c.armed (quits the_server c.server.boot n b x) H up (tt, quit_notes _) (tt, quits_good s n c.server.boot x.last_call b past x.owed ((up_backed s c past H up).outs refl n b at) e) (λ k held. record { notes = (tt, quit_notes _); sent = no_news _ _ _; outs = tt; held = held })
+    acts_alone s c past c.armed (quits the_server c.server.boot n b x) H up (tt, quit_notes _) (refl, quits_good s n c.server.boot x.last_call b past x.owed ((up_backed s c past H up).outs refl n b at) e) (λ k held. record { notes = (tt, quit_notes _); sent = no_news _ _ _; outs = tt; held = held })
     (λ k q. record { backed = quits_backed x c.server.boot c.server.seats (seats_of c) c.clock c.sent k past n b (ap (λ (y : Entry). y.lines) q) (up_backed s c past H up); sends = record { good = tt; calls = tt; dones = tt } })
 
 pub back_times : (s : Script) (c : Cell) (past : List Entry) (n : ℕ) (o : Option BackCall) → (H : Holds s c past) → c.down ≡ None → c.backs.calls n ≡ o → Goes s past (back_timed c n o)

@@ -153,7 +153,7 @@ skips n (g ∷ fs) =
       owelesss = ih.owelesss;
       unchangings = ih.unchangings;
       reach = ih.reach;
-      good = λ s past own. (tt, ih.good s past (lines.Drop (Client n) g ∷ own));
+      good = λ s past own. (refl, ih.good s past (lines.Drop (Client n) g ∷ own));
       drop = λ w o h. elim (is_name w g fs h) [ | inl e ↦ drop_onto the_server (Client n) w (drops_of n fs) (lines.Drop (Client n) g ∷ o) (inl (refl, e)) | inr y ↦ ih.drop w (lines.Drop (Client n) g ∷ o) y ];
     }
 
@@ -425,7 +425,7 @@ drops_all_goes s c past n p head user h heard to from b =
       };
     } in
     let done : SeatedIn c.down c.backs.calls c.backs.last_call c.server.boot (e ∷ past) n reply = done_seated c n (e ∷ past) (c.clients n) head replies.InitCallBackState from to (handled s c past n head user calls.InitCallBackState e h b to refl (λ w o z. inl (refl, from))) in
-    moves_back s c past n (h.floors n) st h (tt, (tt, tt)) (all_passes s c past n p _ head.from (reply ∷ []) h heard)
+    moves_back s c past n (h.floors n) st h (tt, (refl, tt)) (all_passes s c past n p _ head.from (reply ∷ []) h heard)
     (record {
       behind = d.behind;
       behind_durable = d.behind_durable;

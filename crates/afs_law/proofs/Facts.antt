@@ -506,4 +506,5 @@ Holds s c past = HoldsAt s (up_boot c.down c.server.boot) c past
 pub record Goes (s : Script) (past : List Entry) (m : Moved) : Type 0 where
   pub good : AreGood s m.entry.actor past [] m.entry.lines
   pub replies : AreGoodReplies (m.entry ∷ past) m.entry.sent
+  pub volumes : m.entry.volumes ≡ []
   pub holds : Holds s m.cell (m.entry ∷ past)

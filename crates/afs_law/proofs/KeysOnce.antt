@@ -33,7 +33,7 @@ entry_once s who past own (l ∷ ls) g h = entry_once s who past (l ∷ own) ls 
 
 pub after_once : (s : Script) (past es : List Entry) → LegalAfter s past es → AreOnce (lines_of past) → AreOnce (lines_of (past_of past es))
 after_once s past [] g h = h
-after_once s past (e ∷ es) g h = after_once s (e ∷ past) es g.1 (entry_once s e.actor past [] e.lines g.0.0 h)
+after_once s past (e ∷ es) g h = after_once s (e ∷ past) es g.1 (entry_once s e.actor past [] e.lines g.0.0.0 h)
 
 -- ---- without the set-up
 
@@ -87,7 +87,7 @@ all_at (v ∷ vs) = (refl, all_at vs)
 
 pub once : (s : Script) (h : List Entry) (end : Cell) → RunsTo h s end → ChangesOnce h
 once s h end r =
-    let one : Script = record s { volumes = map at_server s.volumes } in
+    let one : Script = record s { servers = 1; volumes = map at_server s.volumes } in
     let same : start s ≡ start one = ap (λ (volumes : Table Volume). record { server = first_server volumes; backs = first_backs; count = s.clients;
   down = None; armed = unarmed; clients = λ n. first_client; away = λ n. false; sent = []; clock = 0 }) (sym (same_volumes s.volumes)) in
-    legal_once one h (legal one h end (all_at s.volumes) (record { inputs = r.inputs; leads = subst (λ (c : Cell). Leads c r.inputs h end) same r.leads }))
+    legal_once one h (legal one h end (refl, all_at s.volumes) (record { inputs = r.inputs; leads = subst (λ (c : Cell). Leads c r.inputs h end) same r.leads }))

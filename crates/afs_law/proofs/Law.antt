@@ -94,7 +94,7 @@ legal_after s [] c past (e ∷ es) end h r = absurd r
 legal_after s (x ∷ xs) c past [] end h r = absurd r
 legal_after s (x ∷ xs) c past (e ∷ es) end h r =
     subst (λ (y : Entry). LegalAfter s past (y ∷ es)) (sym r.0)
-    (((goes s c past x h).good, (goes s c past x h).replies), legal_after s xs (moved c x).cell ((moved c x).entry ∷ past) es end (goes s c past x h).holds r.1)
+    ((((goes s c past x h).good, (goes s c past x h).replies), (goes s c past x h).volumes), legal_after s xs (moved c x).cell ((moved c x).entry ∷ past) es end (goes s c past x h).holds r.1)
 
 -- ---- the set-up
 
@@ -332,7 +332,7 @@ starts s one =
       ideal = ideal_first s;
       sound = facts.sound;
       fine = facts.fine;
-      home = λ id v found. any_home s id the_server (lines_of (set_up s ∷ [])) (found_home s.volumes one id v found);
+      home = λ id v found. any_home s id the_server (lines_of (set_up s ∷ [])) (found_home s.volumes one.1 id v found);
       new = λ k above. first_passed (IsNew k) (λ v o h. h) s.volumes [] tt;
       unheard = λ k b may. ((λ x. subst (λ (o : Option Message). IsCallUnder the_server k b o) (given_first (first_lines s.volumes) [] (all_versions s.volumes)) x), tt);
       booted = le_refl 1;

@@ -20,4 +20,5 @@ pub mod Dropping
 pub mod Answering
 pub mod Waiting
 pub mod Law
+pub mod Agreeing
 pub mod KeysOnce

@@ -770,7 +770,7 @@ change_loaded who b ps more boot seats now cs clock sent e past pre os hd m h gr
 -- numbers of new breaks
 pub numbers_good : (s : Script) (k : ℕ) (ps : List Promise) (past : List Entry) (own : List Line) → last_number the_server (own ++ lines_of past) ≤ k → AreGood s (actors.Node the_server) past own (map (owe_line the_server) (owes_from k ps))
 numbers_good s k [] past own h = tt
-numbers_good s k (p ∷ ps) past own h = (omega arith, numbers_good s (k + 1) ps past (lines.Owe the_server (Client p.client) (Some p.fid) (k + 1) ∷ own) (le_refl _))
+numbers_good s k (p ∷ ps) past own h = ((refl, omega arith), numbers_good s (k + 1) ps past (lines.Owe the_server (Client p.client) (Some p.fid) (k + 1) ∷ own) (le_refl _))
 
 pub numbers_rise : (k : ℕ) (ps : List Promise) (base : List Line) → last_number the_server base ≤ k → last_number the_server (onto base (map (owe_line the_server) (owes_from k ps))) ≤ k + length (owes_from k ps)
 numbers_rise k [] base h = omega arith
@@ -778,7 +778,7 @@ numbers_rise k (p ∷ ps) base h = let x : last_number the_server (onto (lines.O
 
 pub alls_good : (s : Script) (x k m : ℕ) (past : List Entry) (own : List Line) → last_number the_server (own ++ lines_of past) ≤ k → AreGood s (actors.Node the_server) past own (map (owe_line the_server) (owes_all x k m))
 alls_good s x k zero past own h = tt
-alls_good s x k (suc m) past own h = (omega arith, alls_good s x (k + 1) m past (lines.Owe the_server (Client (k + 1)) None (k + 1) ∷ own) (le_refl _))
+alls_good s x k (suc m) past own h = ((refl, omega arith), alls_good s x (k + 1) m past (lines.Owe the_server (Client (k + 1)) None (k + 1) ∷ own) (le_refl _))
 
 pub alls_rise : (x k m : ℕ) (base : List Line) → last_number the_server base ≤ k → last_number the_server (onto base (map (owe_line the_server) (owes_all x k m))) ≤ k + m
 alls_rise x k zero base h = omega arith

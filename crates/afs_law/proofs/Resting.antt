@@ -281,24 +281,24 @@ still s b c past h = subst (λ (n : ℕ). HoldsAt s b (record c { clock = n }) p
 
 pub voids : (s : Script) (c : Cell) (past : List Entry) → Holds s c past → Goes s past (voided c)
 voids s c past h = record {
-  good = (tt, tt);
+  good = (refl, tt);
   holds = still s _ c _ (rests s (up_boot c.down c.server.boot) c past (alone actors.Nobody lines.Void) 0 c.down c.armed h h.boots refl (void_rests s past) (omega arith) (unheard_still c.down c (alone actors.Nobody lines.Void) past refl h.unheard) (fallen_still c.down c (alone actors.Nobody lines.Void) past h.down) (λ z. rest_backed s c past (alone actors.Nobody lines.Void) 0 (plain_refl lines.Void refl refl refl refl) h));
-  replies = tt;
+  replies = tt; volumes = refl;
 }
 
 pub ticks_goes : (s : Script) (c : Cell) (past : List Entry) (n : ℕ) → Holds s c past → Goes s past (ticked c n)
 ticks_goes s c past n h = record {
-  good = (tt, tt);
+  good = (refl, tt);
   holds = rests s (up_boot c.down c.server.boot) c past (alone actors.Clock (lines.Tick n)) n c.down c.armed h h.boots refl (tick_rests s n past) refl (unheard_still c.down c (alone actors.Clock (lines.Tick n)) past refl h.unheard) (fallen_still c.down c (alone actors.Clock (lines.Tick n)) past h.down) (λ z. rest_backed s c past (alone actors.Clock (lines.Tick n)) n (plain_refl (lines.Tick n) refl refl refl refl) h);
-  replies = tt;
+  replies = tt; volumes = refl;
 }
 
 pub stop_set : (s : Script) (c : Cell) (past : List Entry) (n pick : ℕ) (armed : Armed) → Holds s c past → Goes s past (server_set c (lines.Stop the_server n pick) armed)
 stop_set s c past n pick armed h =
     let e : Entry = alone (actors.Node the_server) (lines.Stop the_server n pick) in
-    record { good = (tt, tt); holds = still s _ (record c { armed = armed }) _ (rests s (up_boot c.down c.server.boot) c past e 0 c.down armed h h.boots refl (stop_rests s (actors.Node the_server) the_server n pick past) (omega arith) (unheard_still c.down c e past refl h.unheard) (fallen_still c.down c e past h.down) (λ z. rest_backed s c past e 0 (plain_refl (lines.Stop the_server n pick) refl refl refl refl) h)); replies = tt }
+    record { good = (refl, tt); holds = still s _ (record c { armed = armed }) _ (rests s (up_boot c.down c.server.boot) c past e 0 c.down armed h h.boots refl (stop_rests s (actors.Node the_server) the_server n pick past) (omega arith) (unheard_still c.down c e past refl h.unheard) (fallen_still c.down c e past h.down) (λ z. rest_backed s c past e 0 (plain_refl (lines.Stop the_server n pick) refl refl refl refl) h)); replies = tt; volumes = refl }
 
 pub fail_set : (s : Script) (c : Cell) (past : List Entry) (n : ℕ) (armed : Armed) → Holds s c past → Goes s past (server_set c (lines.Fail the_server n) armed)
 fail_set s c past n armed h =
     let e : Entry = alone (actors.Node the_server) (lines.Fail the_server n) in
-    record { good = (tt, tt); holds = still s _ (record c { armed = armed }) _ (rests s (up_boot c.down c.server.boot) c past e 0 c.down armed h h.boots refl (fail_rests s (actors.Node the_server) the_server n past) (omega arith) (unheard_still c.down c e past refl h.unheard) (fallen_still c.down c e past h.down) (λ z. rest_backed s c past e 0 (plain_refl (lines.Fail the_server n) refl refl refl refl) h)); replies = tt }
+    record { good = (refl, tt); holds = still s _ (record c { armed = armed }) _ (rests s (up_boot c.down c.server.boot) c past e 0 c.down armed h h.boots refl (fail_rests s (actors.Node the_server) the_server n past) (omega arith) (unheard_still c.down c e past refl h.unheard) (fallen_still c.down c e past h.down) (λ z. rest_backed s c past e 0 (plain_refl (lines.Fail the_server n) refl refl refl refl) h)); replies = tt; volumes = refl }

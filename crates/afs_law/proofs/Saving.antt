@@ -782,7 +782,7 @@ owe_granted c what n x (f ∷ fs) tail h = owe_granted c what n x fs tail h
 
 pub granted_then : (s : Script) (past : List Entry) (own : List Line) (n x : ℕ) (fs : List Found) (tail : List Line) → AreGood s (actors.Node the_server) past (onto own (granted the_server (Client n) x fs [])) tail → AreGood s (actors.Node the_server) past own (granted the_server (Client n) x fs tail)
 granted_then s past own n x [] tail h = h
-granted_then s past own n x (f ∷ fs) tail h = (tt, granted_then s past (lines.Grant the_server (Client n) f.fid f.vnode.index x ∷ own) n x fs tail h)
+granted_then s past own n x (f ∷ fs) tail h = (refl, granted_then s past (lines.Grant the_server (Client n) f.fid f.vnode.index x ∷ own) n x fs tail h)
 
 pub saves_goes : (s : Script) (c : Cell) (past : List Entry) (armed : Armed) (p n : ℕ) (h : Head) (user : List ℕ) (call : FsCall) (id : ℕ) (v : Volume) (es : List Edit) (shown : ℕ) → (H : Holds s c past) → c.down ≡ None → message_at c.sent p ≡ Some (call_at n h user call) → Now c H.floors past n h user call → Change' c past user call id v es shown
     → Goes s past (server_does c armed p (call_at n h user call) (saves (client_head n h) (change_at id user call v es shown)))
@@ -837,4 +837,5 @@ saves_goes s c past armed p n h user call id v es shown H up at w q =
       holds = saves_holds y s (Some c.server.boot) c past (pumped the_server c.server.boot t).backs armed None n h user call c.clock id v es shown H w q (has_run s c past p n h user call e H up at w refl refl) (saves_boot y k vs r past ∙ (sk.boot _ ∙ up_boots s c past H up)) (unheard_after s c past p n h user call r e H up at w refl) tt
           (λ own held. pumped_news (views_after true H.floors c n h r) c.server.boot (e ∷ past) c.server.boot t (no_news _ _ _) (own, tt) held) (λ z. pump.backed);
       replies = pump.good;
+      volumes = refl;
     }

@@ -162,6 +162,7 @@ quiet s c past armed p m t h up at dull notes good turns loads =
     record {
       good = (tt, good);
       replies = pump.good;
+      volumes = refl;
       holds = noted s (Some c.server.boot) c past armed None e (pumped the_server c.server.boot t).backs h (k.boot _ ∙ up_boots s c past h up) rest (k.clock _)
           (unheard_over None c.server.seats c.server.boot e past m (at_told s c past p m h at) dull (unheard_up c past up h.unheard)) tt
           (λ held. let x = turns e (λ j r. reply_over j (view h.floors c j) r e past (λ f. (rest.file j f).grant) (rest.reach j) (λ f. stays j f e past (rest.file j f).grant (rest.last f (lines_of past)))) held in
@@ -181,6 +182,7 @@ acts_alone s c past armed t h up notes good turns loads =
     record {
       good = good;
       replies = pump.good;
+      volumes = refl;
       holds = noted s (Some c.server.boot) c past armed None e (pumped the_server c.server.boot t).backs h (k.boot _ ∙ up_boots s c past h up) rest (k.clock _)
           (λ key b may. ((λ x. subst (λ (o : Option Message). IsCallUnder the_server key b o) (k.given (sent_of past)) x), unheard_up c past up h.unheard key b may)) tt
           (λ held. let x = turns e held in pumped_news (view h.floors c) c.server.boot (e ∷ past) c.server.boot t x.sent x.outs x.held) (λ z. pump.backed);
@@ -660,6 +662,7 @@ refuses_goes s c past armed p n h user call code H up at w nz result =
           }))
           (H.boots ∙ ap (λ (d : Option Fall). up_boot d c.server.boot) up) (unheard_after s c past p n h user call r e H up at w refl) tt (λ own held. pumped_news (views_after false H.floors c n h r) c.server.boot (e ∷ past) c.server.boot t (no_news _ _ _) (own, tt) held) (λ z. pump.backed);
       replies = pump.good;
+      volumes = refl;
     }
 
 -- ---- a volume is read
@@ -701,7 +704,7 @@ body_same a b e = cc
 -- grants are always good
 pub granted_good : (s : Script) (past : List Entry) (own : List Line) (c : Node) (x : ℕ) (fs : List Found) → AreGood s (actors.Node the_server) past own (granted the_server c x fs [])
 granted_good s past own c x [] = tt
-granted_good s past own c x (f ∷ fs) = (tt, granted_good s past (lines.Grant the_server c f.fid f.vnode.index x ∷ own) c x fs)
+granted_good s past own c x (f ∷ fs) = (refl, granted_good s past (lines.Grant the_server c f.fid f.vnode.index x ∷ own) c x fs)
 
 pub version_fid : (f : Fid) (v : Volume) (x : Vnode) → vnode_of f v ≡ Some x → (version_at f.volume f.vnode x).fid ≡ f
 version_fid f v x e = ap (λ (u : ℕ). fid_at f.volume f.vnode u) (own_unique f.unique (get f.vnode v.vnodes) x e)
@@ -789,4 +792,5 @@ shows_goes s c past armed p n h user call r H up at w of there is result =
           }))
           boots (unheard_after s c past p n h user call m e H up at w refl) tt (λ own held. pumped_news (views_after false H.floors c n h m) c.server.boot (e ∷ past) c.server.boot turn (no_news _ _ _) (own, tt) held) (λ z. pump.backed);
       replies = pump.good;
+      volumes = refl;
     }

@@ -273,4 +273,4 @@ scope_is call g z = z
 pub drops_good : (s : Script) (n p : ℕ) (act : Going) (m : Message) (past : List Entry) (es : List CacheEntry) (own : List Line) → ((own : List Line) → given_message own (sent_of past) ≡ message_at (sent_of past) p → has_begun (Client n) own ≡ false → running (Client n) (own ++ lines_of past) ≡ running (Client n) (lines_of past) → GoodCode (Client n) zero_code past own)
     → given_message own (sent_of past) ≡ message_at (sent_of past) p → has_begun (Client n) own ≡ false → running (Client n) (own ++ lines_of past) ≡ running (Client n) (lines_of past) → AreGood s (actors.Node (Client n)) past own (dropped (Client n) es (last_line n zero_code))
 drops_good s n p act m past [] own good a b r = ((refl, good own a b r), tt)
-drops_good s n p act m past (u ∷ es) own good a b r = (tt, drops_good s n p act m past es (lines.Drop (Client n) u.fid ∷ own) good a b r)
+drops_good s n p act m past (u ∷ es) own good a b r = (refl, drops_good s n p act m past es (lines.Drop (Client n) u.fid ∷ own) good a b r)

@@ -72,7 +72,7 @@ tries_goes s c past n act h runs =
     let x : ClientState = c.clients n in
     let ms : List Message = call_message (Client n) x act ∷ [] in
     let e : Entry = step_entry n (lines.Timeout (Client n) the_server x.epoch x.last (x.tries + 1) ∷ []) ms in
-    moves s c past n (h.floors n) (tries_again (Client n) x act) h (tt, tt) (timeout_passes s n x.epoch x.last (x.tries + 1) ms past)
+    moves s c past n (h.floors n) (tries_again (Client n) x act) h (refl, tt) (timeout_passes s n x.epoch x.last (x.tries + 1) ms past)
     (client_kept s c past n x.boot e h (h.clients n).known (timeout_file n n x.epoch x.last (x.tries + 1) ms past) (timeout_reach n n x.epoch x.last (x.tries + 1) ms past) (timeout_act n n x.epoch x.last (x.tries + 1) ms past) (λ f. refl))
     (λ head call f. call_known (view h.floors c n) x.boot head call f)
     (reply_still n (view h.floors c n) e past (timeout_file n n x.epoch x.last (x.tries + 1) ms past) (timeout_reach n n x.epoch x.last (x.tries + 1) ms past) (λ f. refl))
@@ -91,7 +91,7 @@ not_raised false = refl
 pub dead_good : (s : Script) (n : ℕ) (act : Going) (key : Key) (past : List Entry) (es : List CacheEntry) (own : List Line) → running (Client n) (own ++ lines_of past) ≡ Some act → given_up (Client n) own ≡ Some key → has_begun (Client n) own ≡ false → CalledSince key (user_of (Client n)) (asked act) past
     → AreGood s (actors.Node (Client n)) past own (dropped (Client n) es (last_line n dead_code))
 dead_good s n act key past [] own runs third before called = ((refl, record { act = act; runs = runs; cause = inr (inr (record { is = refl; key = key; third = third; before = before; called = called })) }), tt)
-dead_good s n act key past (u ∷ es) own runs third before called = (tt, dead_good s n act key past es (lines.Drop (Client n) u.fid ∷ own) runs third before called)
+dead_good s n act key past (u ∷ es) own runs third before called = (refl, dead_good s n act key past es (lines.Drop (Client n) u.fid ∷ own) runs third before called)
 
 pub dead_safe : (call : FsCall) (t e l : ℕ) (act : Going) (o : Option Going) (cache : List CacheEntry) (aged older : Type 0) (head : Head) → o ≡ Some act → (aged → older) → IsSafe t e l o cache aged head call → IsSafe t e l None (left_in (volume_changed (asked act)) cache) older head call
 dead_safe call t e l act o cache aged older head runs w (inl x) = inl x
@@ -110,7 +110,7 @@ gives_up_by s c past n act h runs =
     let held : ℕ = (h.floors n).held in
     let g : Ghost = holding h.floors n held in
     moves s c past n g (gives_up' (Client n) x call) h
-    (tt, dead_good s n act (last_key n (view h.floors c n)) past es (lines.Timeout (Client n) the_server x.epoch x.last 3 ∷ []) ((h.clients n).runs act runs) (rw (same_node-refl (Client n)) refl) refl ((h.clients n).asked act runs))
+    (refl, dead_good s n act (last_key n (view h.floors c n)) past es (lines.Timeout (Client n) the_server x.epoch x.last 3 ∷ []) ((h.clients n).runs act runs) (rw (same_node-refl (Client n)) refl) refl ((h.clients n).asked act runs))
     (drop_passes s c past n (timed x.epoch x.last) dead_code es (λ k boot y. y))
     (ended_facts s c past n cache held e h (h.clients n).holds (ended_running n dead_code es (lines.Timeout (Client n) the_server x.epoch x.last 3 ∷ lines_of past))
     (λ k u found lasts.
@@ -158,7 +158,7 @@ away_again s c past a h = record {
 }
 
 pub turned_goes : (s : Script) (past : List Entry) (n : ℕ) (away : Bool) (m : Moved) → Goes s past m → Goes s past (turned n away m)
-turned_goes s past n away m g = record { good = g.good; replies = g.replies; holds = away_again s m.cell (m.entry ∷ past) _ g.holds }
+turned_goes s past n away m g = record { good = g.good; replies = g.replies; volumes = g.volumes; holds = away_again s m.cell (m.entry ∷ past) _ g.holds }
 
 pub crash_passes : (s : Script) (n : ℕ) (past : List Entry) → Passes s n (lines.Crash (Client n) ∷ []) [] past
 crash_passes s n past = record {
@@ -217,7 +217,7 @@ client_stops_goes s c past n h =
       tied = f.tied;
       answers = λ b y. absurd cc;
     } in
-    turned_goes s past n true _ (moves_back s c past n g (record { state = x; lines = lines.Crash (Client n) ∷ []; sent = [] }) h (tt, tt) (crash_passes s n past)
+    turned_goes s past n true _ (moves_back s c past n g (record { state = x; lines = lines.Crash (Client n) ∷ []; sent = [] }) h (refl, tt) (crash_passes s n past)
     (record {
       behind = λ seat y. new_epoch _ _ _ _ (d.behind seat y);
       behind_durable = λ seat y. new_epoch _ _ _ _ (d.behind_durable seat y);
@@ -244,6 +244,6 @@ client_starts_goes s c past n h =
     let e : Entry = step_entry n (lines.Restart (Client n) x.epoch ∷ []) [] in
     let file : (f : Fid) → PassesFile n f e past = λ f. record { grant = record { version = λ i b o x. x; dropped = λ s o d. d; withdrawn = λ s o w. w }; fetched = refl } in
     let reach_ : (f : Fid) → PassesReach n f e past = λ f. record { both = λ i r. record { made = r.made; seen = r.seen }; seen = λ i r. r; made = λ x. x } in
-    turned_goes s past n false _ (moves s c past n (h.floors n) (record { state = x; lines = lines.Restart (Client n) x.epoch ∷ []; sent = [] }) h (tt, tt) (restart_passes s n x.epoch past)
+    turned_goes s past n false _ (moves s c past n (h.floors n) (record { state = x; lines = lines.Restart (Client n) x.epoch ∷ []; sent = [] }) h ((refl, tt), tt) (restart_passes s n x.epoch past)
     (client_kept s c past n x.boot e h (h.clients n).known file reach_ (record { runs = λ o. refl; begins = refl }) (λ f. refl))
     (λ head call f. call_known (view h.floors c n) x.boot head call f) (reply_still n (view h.floors c n) e past file reach_ (λ f. refl)) (nothing_new _ _) (λ a x z. inl x) refl)

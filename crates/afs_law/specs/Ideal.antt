@@ -120,6 +120,15 @@ abbrev pub last_version : Fid → List Line → Option Version
 last_version f [] = None
 last_version f (l ∷ older) = latest f (version_in l) (last_version f older)
 
+-- all versions that lines tell
+abbrev pub told_by : Option Version → List Version → List Version
+told_by None vs = vs
+told_by (Some v) vs = v ∷ vs
+
+abbrev pub versions_in : List Line → List Version
+versions_in [] = []
+versions_in (l ∷ older) = told_by (version_in l) (versions_in older)
+
 -- the last index of the fid
 abbrev pub IsLast : Fid → ℕ → List Line → Type 0
 IsLast f index older = option_map (λ v. v.index) (last_version f older) ≡ Some index

@@ -1,18 +1,21 @@
 -- Laws about the runs of a script.
+use Rattle.afs_ideal.specs.Tables.{get}
+use Rattle.afs_ideal.specs.Volumes.{Volume}
+use Rattle.afs_ideal.specs.Told.{Agrees}
 use Rattle.afs_num.specs.declared.messages.Carried.TheVariants as carried
-use Rattle.std.specs.Prelude.{◌≡◌, ◌↔◌, ℕ, List, ◌++◌, false}
+use Rattle.std.specs.Prelude.{None, Some, Option, ◌∷◌, [], ◌≡◌, ◌↔◌, ℕ, List, ◌++◌, false}
 use Rattle.afs_num.specs.declared.types.Fid.{Fid}
 use Rattle.afs_num.specs.declared.types.Node.{Node}
 use Rattle.afs_num.specs.declared.scripts.Script.{Script}
 use Rattle.afs_num.specs.declared.histories.Body.{Body}
 use Rattle.afs_law.specs.Grants.{since, IsOutstanding}
-use Rattle.afs_law.specs.Ideal.{IsLast}
+use Rattle.afs_law.specs.Ideal.{versions_in, volume_after, set_up, IsLast}
 use Rattle.afs_law.specs.Legal.{GoodRead, Legal}
 use Rattle.afs_law.specs.Lines.{Line}
-use Rattle.afs_law.specs.Once.{ChangesOnce}
+use Rattle.afs_law.specs.Once.{past_of, ChangesOnce}
 use Rattle.afs_law.specs.OneServer.{IsOneServer}
 use Rattle.afs_law.specs.Past.{lines_of}
-use Rattle.afs_law.specs.Runs.{Entry, Cell, RunsTo}
+use Rattle.afs_law.specs.Runs.{Leads, start, Input, Entry, Cell, RunsTo}
 use Rattle.afs_law.specs.ServerRow.{serves, runs, refuses, not_served, whole}
 use Rattle.afs_law.specs.States.{ServerState}
 use Rattle.afs_model.specs.FsRows.{call_number}
@@ -27,6 +30,18 @@ RunsAreLegal = (s : Script) (history : List Entry) (end : Cell) → IsOneServer 
 -- in every run a key changes something at most once
 abbrev pub KeysRunOnce : Type 0
 KeysRunOnce = (s : Script) (history : List Entry) (end : Cell) → RunsTo history s end → ChangesOnce history
+
+-- the same inputs make one run: its entries and its end
+abbrev pub RunsAreOne : Type 0
+RunsAreOne = (s : Script) (inputs : List Input) (history other : List Entry) (end last : Cell) → Leads (start s) inputs history end → Leads (start s) inputs other last → (history ≡ other) × (end ≡ last)
+
+-- what the server holds of a volume at the end of a run is the ideal volume, and the versions that were told agree with it
+pub record IsHeld (id : ℕ) (end : Cell) (past : List Entry) : Type 0 where
+  pub ideal : get id end.server.volumes ≡ volume_after id past
+  pub told : (v : Volume) → volume_after id past ≡ Some v → Agrees id v (versions_in (lines_of past))
+
+abbrev pub VolumesAreTold : Type 0
+VolumesAreTold = (s : Script) (history : List Entry) (end : Cell) → IsOneServer s → RunsTo history s end → (id : ℕ) → IsHeld id end (past_of (set_up s ∷ []) history)
 
 -- a good read shows the newest version where no break of its grant is outstanding
 abbrev pub ReadsAreNewest : Type 0

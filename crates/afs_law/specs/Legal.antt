@@ -139,9 +139,14 @@ abbrev pub IsTold : Key → Option Result → List Line → Type 0
 IsTold k (Some (changes es shown)) ls = HasChange k ls
 IsTold k r ls = ⊤
 
--- the code is that of the ideal operation, and what that changes was told; or the server had no room
+-- the ideal operation makes versions
+abbrev pub IsChanging : Option Result → Type 0
+IsChanging (Some (changes es shown)) = ⊤
+IsChanging r = ⊥
+
+-- the code is that of the ideal operation, and what that changes was told; or the server had no room for the change
 abbrev pub IsResult : ℤ → Option Result → Key → List Line → Type 0
-IsResult code r k ls = ((code_given r ≡ code) × IsTold k r ls) ⊎ (code ≡ pos 108)
+IsResult code r k ls = ((code_given r ≡ code) × IsTold k r ls) ⊎ ((code ≡ pos 108) × IsChanging r)
 
 -- the reply has this code, and so has the ideal operation where the call ran; the call is the one that the act asks, for
 -- its user; and where the operation makes versions, their change stands before
@@ -215,26 +220,39 @@ GoodRestart s n next = ⊤
 
 -- ---- histories
 
--- a read or an answer stands in an entry of its client, a change in one of its server; lines that begin an act, give a
--- message, grant, or tell of nothing are always good
+-- Each line stands in an entry of its own node: a read, an answer, a drop in one of its client, a change, a grant, a break in
+-- one of its server, a tick in the clock's, and that nothing happened in nobody's
 abbrev pub IsGood : Script → Actor → Line → List Entry → List Line → List Line → Type 0
-IsGood s who (lines.Read c f index source body) past own next = (who ≡ actors.Node c) × GoodRead c f index source body past own
+IsGood s who (lines.Begin c act) past own next = who ≡ actors.Node c
+IsGood s who (lines.Given place) past own next = ⊤
+IsGood s who (lines.Grant server c f index expiry) past own next = who ≡ actors.Node server
 IsGood s who (lines.Change server k count) past own next = (who ≡ actors.Node server) × GoodChange s server k count past own next
 IsGood s who (lines.Version v) past own next = IsUnderChange own
+IsGood s who (lines.Read c f index source body) past own next = (who ≡ actors.Node c) × GoodRead c f index source body past own
 IsGood s who (lines.Answer c code) past own next = (who ≡ actors.Node c) × GoodCode c code past own
-IsGood s who (lines.Owe server c what n) past own next = last_number server (own ++ lines_of past) < n
+IsGood s who (lines.Timeout c callee epoch number count) past own next = who ≡ actors.Node c
+IsGood s who (lines.Tick n) past own next = who ≡ actors.Clock
+IsGood s who (lines.Stop n calls pick) past own next = who ≡ actors.Node n
+IsGood s who (lines.Fail n call) past own next = who ≡ actors.Node n
+IsGood s who (lines.Crash n) past own next = who ≡ actors.Node n
+IsGood s who (lines.Fault n) past own next = who ≡ actors.Node n
+IsGood s who (lines.Restart n boot) past own next = (who ≡ actors.Node n) × GoodRestart s n next
+IsGood s who (lines.Full n) past own next = who ≡ actors.Node n
+IsGood s who (lines.Drop c f) past own next = who ≡ actors.Node c
+IsGood s who (lines.DropAll c server) past own next = who ≡ actors.Node c
+IsGood s who (lines.Owe server c what n) past own next = (who ≡ actors.Node server) × (last_number server (own ++ lines_of past) < n)
 IsGood s who (lines.Settle server c n) past own next = (who ≡ actors.Node server) × GoodSettle server c n past own
 IsGood s who (lines.Quit server c n) past own next = (who ≡ actors.Node server) × GoodQuit server c n past own
-IsGood s who (lines.Restart n boot) past own next = GoodRestart s n next
-IsGood s who l past own next = ⊤
+IsGood s who lines.Void past own next = who ≡ actors.Nobody
 
 abbrev pub AreGood : Script → Actor → List Entry → List Line → List Line → Type 0
 AreGood s who past own [] = ⊤
 AreGood s who past own (l ∷ next) = IsGood s who l past own next × AreGood s who past (l ∷ own) next
 
+-- an entry lays no volumes, for the set-up alone does
 abbrev pub LegalAfter : Script → List Entry → List Entry → Type 0
 LegalAfter s past [] = ⊤
-LegalAfter s past (e ∷ es) = (AreGood s e.actor past [] e.lines × AreGoodReplies (e ∷ past) e.sent) × LegalAfter s (e ∷ past) es
+LegalAfter s past (e ∷ es) = ((AreGood s e.actor past [] e.lines × AreGoodReplies (e ∷ past) e.sent) × (e.volumes ≡ [])) × LegalAfter s (e ∷ past) es
 
 abbrev pub Legal : List Entry → Script → Type 0
 Legal history s = LegalAfter s (set_up s ∷ []) history

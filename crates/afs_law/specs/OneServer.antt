@@ -10,4 +10,4 @@ AreAtServer [] = ⊤
 AreAtServer (v ∷ vs) = (v.server ≡ the_server) × AreAtServer vs
 
 abbrev pub IsOneServer : Script → Type 0
-IsOneServer s = AreAtServer s.volumes
+IsOneServer s = (s.servers ≡ 1) × AreAtServer s.volumes

@@ -1,6 +1,6 @@
 //! Laws about the runs of a script. Each is the contract of a function that does nothing.
 
-ghost use Rattle.afs_law.specs.Laws.{KeysRunOnce, ReadsAreNewest, RunsAreLegal};
+ghost use Rattle.afs_law.specs.Laws.{KeysRunOnce, ReadsAreNewest, RunsAreLegal, RunsAreOne, VolumesAreTold};
 
 /// Every run of a script for one server is legal.
 pub fn runs_are_legal()
@@ -15,4 +15,14 @@ pub fn keys_run_once()
 /// A good read shows the newest version, unless its grant was withdrawn and the client has not given it up.
 pub fn reads_are_newest()
     ensures { ReadsAreNewest }
+{}
+
+/// The same inputs make the same run.
+pub fn runs_are_one()
+    ensures { RunsAreOne }
+{}
+
+/// What the server holds of its volumes is what the versions told.
+pub fn volumes_are_told()
+    ensures { VolumesAreTold }
 {}
