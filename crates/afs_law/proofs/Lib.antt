@@ -22,3 +22,4 @@ pub mod Waiting
 pub mod Law
 pub mod Agreeing
 pub mod KeysOnce
+pub mod Worked
