@@ -23,15 +23,15 @@ use Rattle.afs_law.proofs.Asking.{client_kept, call_known, reply_still, step_ent
 use Rattle.afs_law.proofs.Basics.{UpTo, Above, IfCall, IfReply, IfNotice, OfReply, OfNotice, up_to_by, yes_no, both, same_fid-true, same_fid-refl, same_node-refl, client_number, up_to_both, found-cached-fid, found-first, none-first, found-refreshed, OfCall, each_at, some_of, ByServer, OfClient, by_client, IfBack, up_to_next, next_not, same_node-true, raised_up_to}
 use Rattle.afs_law.proofs.Dropping.{left_out, called_goes}
 use Rattle.afs_law.proofs.Edits.{index_in}
-use Rattle.afs_law.proofs.Facts.{Ghost, Seen, IsAged, Spot, spot, LastStored, IsStored, IsUntrusted, IsSafe, Fits, View, view, last_key, LastRan, Reached, IsNewest, Overtaken, Stands, IsCurrent, HasCurrent, Answers, stored_index, ClientFacts, CallFact, CallIn, ReplyFact, ReplyIn, Holds, Goes, IsFetched, FitsPlain, FitsData, FitsSet, FitsReply, WasStored, WasChanged, InScope, is_in_scope, IsNoticed}
+use Rattle.afs_law.proofs.Facts.{IsTrusted, Ghost, Seen, IsAged, Spot, spot, LastStored, IsStored, IsUntrusted, IsSafe, Fits, View, view, last_key, LastRan, Reached, IsNewest, Overtaken, Stands, IsCurrent, HasCurrent, Answers, stored_index, ClientFacts, CallFact, CallIn, ReplyFact, ReplyIn, Holds, Goes, IsFetched, FitsPlain, FitsData, FitsSet, FitsReply, WasStored, WasChanged, InScope, IsNoticed}
 use Rattle.afs_law.proofs.Owing.{BackIn}
 use Rattle.afs_law.proofs.Passing.{PassesSeen, PassesGrant, PassesFile, PassesAct, PassesReach, StaysNewest, stays, held_over, fetch_reply_by, current_over, kept_over, cause_behind}
 use Rattle.afs_law.proofs.Resting.{voids}
 use Rattle.afs_law.proofs.Saving.{old_withdrawn}
 use Rattle.afs_law.proofs.Serving.{told_file, told_reach, told_act, not_ran, stale_none, reached_still}
-use Rattle.afs_law.proofs.Skipping.{own_ended, skips, drop_lines, was_given, drop_file, drop_reach, drop_seen, drop_passes, ended_running, left_found, left_scope, left_none, scope_is, drops_good}
+use Rattle.afs_law.proofs.Skipping.{none_where, own_ended, skips, drop_lines, was_given, drop_file, drop_reach, drop_seen, drop_passes, ended_running, left_found, left_scope, left_none, scope_is, drops_good}
 use Rattle.afs_law.specs.Acts.{Act, Open, Close, WalkTo, Ask}
-use Rattle.afs_law.specs.ClientRow.{the_server, find_cached, guest, used_first, refreshed, call_message, calls_step, zero_code, shows_step, opens, begin_row, ignores, ended, answers_step, uses_step, takes_stored, takes, resends_step, counts, is_awaited, awaits, client_row, takes_overtaken, is_spent, hears_in, takes_plain, takes_data, takes_set, left_in, given_up_in, body_told, call_of, used_on, reads_on_step, asking, code_by, is_reading}
+use Rattle.afs_law.specs.ClientRow.{dropped_after, left_after, the_server, find_cached, guest, used_first, refreshed, call_message, calls_step, zero_code, shows_step, opens, begin_row, ignores, ended, answers_step, uses_step, takes_stored, takes, resends_step, counts, is_awaited, awaits, client_row, is_spent, hears_in, takes_plain, takes_data, takes_set, left_in, given_up_in, body_told, call_of, used_on, reads_on_step, asking, code_by, is_reading}
 use Rattle.afs_law.specs.Going.{asked, Going, Need, next, answers, began, with_read, read_on, ClientState, shown_code, Shown, Goal, shows, calls_on, calls_in, at_end, steps, step_to, is_last_name, looked_up, fid_of, plan_of, call_for, reads, asks_for}
 use Rattle.afs_law.specs.Grants.{has_fetched, fetch_reply, since}
 use Rattle.afs_law.specs.Ideal.{is_zero_code, reach, last_version, HasVersion}
@@ -39,6 +39,7 @@ use Rattle.afs_law.specs.Legal.{Cause, code_told, GoodCode, IsDone}
 use Rattle.afs_law.specs.Lines.{Line}
 use Rattle.afs_law.specs.Past.{onto, lines_of, sent_of, given_message, answered_key, running, has_begun, CalledSince, IsCall}
 use Rattle.afs_law.specs.Runs.{Entry, Cell, message_at, client_moves, begun_by, voided}
+use Rattle.afs_law.specs.Scopes.{is_in_scope}
 use Rattle.afs_law.specs.States.{CacheEntry, Seat}
 use Rattle.afs_law.specs.Steps.{Step}
 use Rattle.afs_model.specs.Calls.{call_seat}
@@ -420,7 +421,7 @@ takes_used s c past n p act f head contents status callback sync h d shut a used
     let e : Entry = step_entry n (used_lines n p f i body code) [] in
     let lt : c.clock < x = ltb-true _ _ lasts in
     let held : ℕ = c.server.boot in
-    let none : (g : Fid) → (reach (Client n) g past).made ≡ 0 = λ g. (h.clients n).made act d.running g (no_scope (asked act) g shut) in
+    let none : (g : Fid) → (reach (Client n) g past).made ≡ 0 = λ g. (h.clients n).made act d.running g (no_scope (asked act) g shut) (inl shut) in
     let up : (g : Fid) (k : ℕ) → Seen n g k past → Reached (Client n) g k past = λ g k y. record { made = le_trans (le_of_eq (none g)) (omega arith); seen = y } in
     moves s c past n (holding h.floors n held) (uses_step (Client n) (c.clients n) p act new) h (
       tt,
@@ -554,7 +555,7 @@ reads_on_goes s c past n p act f head contents status callback sync h d shut a l
       holds = le_refl _;
       waits = λ b y. le_refl _;
       idle = λ y. absurd cc;
-      made = λ b y x o. k.made act d.running x (no_scope (asked act) x shut);
+      made = λ b y x o z. k.made act d.running x (no_scope (asked act) x shut) (inl shut);
       current = λ x u found lasts'. elim (found-first x new (c.clients n).cache u found) [
         | inl q ↦ subst (λ (y : CacheEntry). IsCurrent n x y v (e ∷ past)) q.1 (subst (λ (y : Fid). IsCurrent n y new v (e ∷ past)) q.0 (record {
           reply = m;
@@ -598,14 +599,14 @@ used_on_goes (answers k) y s c past n p act f head contents status callback sync
 -- the client calls again
 pub again_goes : (s : Script) (c : Cell) (past : List Entry) (n p : ℕ) (act : Going) (m : Message) → (h : Holds s c past) → Due c h.floors past n p act m → volume_changed (asked act) ≡ None → Goes s past (client_moves c n (calls_step (Client n) (c.clients n) act (lines.Given p)))
 again_goes s c past n p act m h d shut =
-    asks s c past n act (lines.Given p) h (tt, tt) (told_passes s c past n p _ _ h d.heard) (λ g. told_file n p g (actors.Node (Client n)) _ past) (λ g. told_reach n p g (actors.Node (Client n)) _ past) (λ g o. (h.clients n).made act d.running g o) (λ b y. ap (λ (z : Going). volume_changed (asked z)) (some_of b act (sym y ∙ d.running)) ∙ shut) ((h.clients n).runs act d.running) (λ z. d.running)
+    asks s c past n act (lines.Given p) h (tt, tt) (told_passes s c past n p _ _ h d.heard) (λ g. told_file n p g (actors.Node (Client n)) _ past) (λ g. told_reach n p g (actors.Node (Client n)) _ past) (λ g o. (h.clients n).made act d.running g o (inl shut)) (λ b y. ap (λ (z : Going). volume_changed (asked z)) (some_of b act (sym y ∙ d.running)) ∙ shut) ((h.clients n).runs act d.running) (λ z. d.running)
 
 pub fetched_goes : (s : Script) (c : Cell) (past : List Entry) (n p : ℕ) (act : Going) (f : Fid) (head : Head) (contents : List ℕ) (status : AfsFetchStatus) (callback : AfsCallBack) (sync : AfsVolSync) (t : Bool) → (h : Holds s c past)
     → Due c h.floors past n p act (record { head = head; carried = carried.Reply (replies.FetchData contents status callback sync) }) → volume_changed (asked act) ≡ None → IsFetched false n f status.sync_counter (body_told status.file_type contents) callback.expiration_time (record { head = head; carried = carried.Reply (replies.FetchData contents status callback sync) }) past → nat_lt c.clock callback.expiration_time ≡ t
     → Goes s past (client_moves c n (cond t (used_on (Client n) (c.clients n) p act (record { fid = f; index = status.sync_counter; expiry = callback.expiration_time; body = body_told status.file_type contents }) (next act) (next (with_read f (body_told status.file_type contents) act))) (calls_step (Client n) (c.clients n) act (lines.Given p))))
 fetched_goes s c past n p act f head contents status callback sync true h d shut a lasts = used_on_goes _ _ s c past n p act f head contents status callback sync h d shut a lasts refl refl
 fetched_goes s c past n p act f head contents status callback sync false h d shut a lasts =
-    asks s c past n act (lines.Given p) h (tt, tt) (told_passes s c past n p _ _ h d.heard) (λ g. told_file n p g (actors.Node (Client n)) _ past) (λ g. told_reach n p g (actors.Node (Client n)) _ past) (λ g o. (h.clients n).made act d.running g o) (λ b y. ap (λ (z : Going). volume_changed (asked z)) (some_of b act (sym y ∙ d.running)) ∙ shut) ((h.clients n).runs act d.running) (λ z. d.running)
+    asks s c past n act (lines.Given p) h (tt, tt) (told_passes s c past n p _ _ h d.heard) (λ g. told_file n p g (actors.Node (Client n)) _ past) (λ g. told_reach n p g (actors.Node (Client n)) _ past) (λ g o. (h.clients n).made act d.running g o (inl shut)) (λ b y. ap (λ (z : Going). volume_changed (asked z)) (some_of b act (sym y ∙ d.running)) ∙ shut) ((h.clients n).runs act d.running) (λ z. d.running)
 
 -- ---- an answered store
 
@@ -638,7 +639,7 @@ stored_own s c past n p act st pp ww ll f b m index x e cache h d is same told w
 }
 
 pub stored_by : (t live : Bool) (s : Script) (c : Cell) (past : List Entry) (n p : ℕ) (act : Going) (st : AfsStoreStatus) (pp ww ll : ℤ) (f g : Fid) (b : List ℕ) (m : Message) (index : ℕ) (x u : CacheEntry) (e : Entry) (cache : List CacheEntry) → (h : Holds s c past) → Due c h.floors past n p act m → IsStored (spot (view h.floors c n)) m → asked act ≡ calls.StoreData f st pp ww ll b → stored_index m.carried ≡ Some index
-    → HasVersion f index (bodies.File b) (lines_of past) → ((k : Fid) → PassesFile n k e past) → Seen n f index (e ∷ past) → ((k : Fid) (i : ℕ) → (f ≡ k → ⊥) → Seen n k i past → Seen n k i (e ∷ past)) → ((k : Fid) → StaysNewest n k e past)
+    → HasVersion f index (bodies.File b) (lines_of past) → ((k : Fid) → PassesFile n k e past) → Seen n f index (e ∷ past) → ((k : Fid) (i : ℕ) → (f ≡ k → ⊥) → IsTrusted c.clock k (c.clients n).cache → Seen n k i past → Seen n k i (e ∷ past)) → ((k : Fid) → StaysNewest n k e past)
     → same_fid x.fid f ≡ t → nat_lt c.clock x.expiry ≡ live → same_fid x.fid g ≡ true → find_cached g (c.clients n).cache ≡ Some x → cond (t && live) (record x { index = index; body = bodies.File b }) x ≡ u → c.clock < u.expiry
     → IsCurrent n g u (view_after c n (holding h.floors n (h.floors n).held) (ended (c.clients n) cache)) (e ∷ past)
 stored_by true true s c past n p act st pp ww ll f g b m index x u e cache h d kept same told whole pass z r stay t live own found is lasts =
@@ -654,11 +655,11 @@ stored_by false live s c past n p act st pp ww ll f g b m index x u e cache h d 
     let ne : f ≡ g → ⊥ = λ q. let yes : same_fid x.fid f ≡ true = ap (same_fid x.fid) q ∙ own in absurd cc in
     let lasts' : c.clock < x.expiry = subst (λ (y : CacheEntry). c.clock < y.expiry) (sym is) lasts in
     subst (λ (y : CacheEntry). IsCurrent n g y (view_after c n (holding h.floors n (h.floors n).held) (ended (c.clients n) cache)) (e ∷ past)) is
-    (current_over n g x (view h.floors c n) (view_after c n (holding h.floors n (h.floors n).held) (ended (c.clients n) cache)) e past (le_refl _) (pass g) (ended_stands h.floors c past n cache (holding h.floors n (h.floors n).held) e g x.index (r g x.index ne) (stay g)
+    (current_over n g x (view h.floors c n) (view_after c n (holding h.floors n (h.floors n).held) (ended (c.clients n) cache)) e past (le_refl _) (pass g) (ended_stands h.floors c past n cache (holding h.floors n (h.floors n).held) e g x.index (r g x.index ne (record { entry = x; found = found; lasts = lasts' })) (stay g)
     (λ a runs sc ran. ne (same_fid-true f g (ap (λ (z : FsCall). is_in_scope z g) (sym same) ∙ (ap (λ (z : Going). is_in_scope (asked z) g) (some_of act a (sym d.running ∙ runs)) ∙ sc))))) ((h.clients n).current g x found lasts'))
 
 pub stored_of : (o : Option CacheEntry) (s : Script) (c : Cell) (past : List Entry) (n p : ℕ) (act : Going) (st : AfsStoreStatus) (pp ww ll : ℤ) (f g : Fid) (b : List ℕ) (m : Message) (index : ℕ) (u : CacheEntry) (e : Entry) (cache : List CacheEntry) → (h : Holds s c past) → Due c h.floors past n p act m → IsStored (spot (view h.floors c n)) m → asked act ≡ calls.StoreData f st pp ww ll b → stored_index m.carried ≡ Some index
-    → HasVersion f index (bodies.File b) (lines_of past) → ((k : Fid) → PassesFile n k e past) → Seen n f index (e ∷ past) → ((k : Fid) (i : ℕ) → (f ≡ k → ⊥) → Seen n k i past → Seen n k i (e ∷ past)) → ((k : Fid) → StaysNewest n k e past)
+    → HasVersion f index (bodies.File b) (lines_of past) → ((k : Fid) → PassesFile n k e past) → Seen n f index (e ∷ past) → ((k : Fid) (i : ℕ) → (f ≡ k → ⊥) → IsTrusted c.clock k (c.clients n).cache → Seen n k i past → Seen n k i (e ∷ past)) → ((k : Fid) → StaysNewest n k e past)
     → find_cached g (c.clients n).cache ≡ o → option_map (refreshed c.clock f index b) o ≡ Some u → c.clock < u.expiry
     → IsCurrent n g u (view_after c n (holding h.floors n (h.floors n).held) (ended (c.clients n) cache)) (e ∷ past)
 stored_of None s c past n p act st pp ww ll f g b m index u e cache h d kept same told whole pass z r stay found is lasts = absurd cc
@@ -678,7 +679,7 @@ takes_saved s c past n p act st pp ww ll f b head status sync h d same fits =
     (answered_passes s c past n p m zero_code h d.heard)
     (ended_facts s c past n cache held e h (h.clients n).holds (own_ended n (running (Client n) (lines_of past)))
     (λ g u found lasts. stored_of (find_cached g (c.clients n).cache) s c past n p act st pp ww ll f g b m i u e cache h d fits.1.0 same refl fits.0 (answered_file n n p zero_code past) (answered_reach n n p zero_code past f i fits.1.1).seen
-    (λ k j ne y. (answered_reach n n p zero_code past k j (record { made = le_trans (le_of_eq ((h.clients n).made act d.running k (λ z. ne (same_fid-true f k (ap (λ (x : FsCall). is_in_scope x k) (sym same) ∙ z))))) (omega arith); seen = y })).seen) (λ k. stays n k e past (answered_file n n p zero_code past k).grant refl)
+    (λ k j ne trusted y. (answered_reach n n p zero_code past k j (record { made = le_trans (le_of_eq ((h.clients n).made act d.running k (λ z. ne (same_fid-true f k (ap (λ (x : FsCall). is_in_scope x k) (sym same) ∙ z))) (inr trusted))) (omega arith); seen = y })).seen) (λ k. stays n k e past (answered_file n n p zero_code past k).grant refl)
     refl (sym (found-refreshed c.clock f g i b (c.clients n).cache) ∙ found) lasts)
     (reached_still s c past n e h (answered_reach n n p zero_code past) (λ g. refl)))
     (ended_calls s c past n p act m cache held h d (λ code is. absurd cc)) (ended_reply s c past n cache held e h) (nothing_new _ _) (λ a x z. absurd cc) refl
@@ -690,8 +691,8 @@ takes_other s c past n p act head reply h d =
     let m : Message = record { head = head; carried = carried.Reply reply } in
     let x : ClientState = c.clients n in
     let call : FsCall = asked act in
-    let cache : List CacheEntry = left_in (volume_changed call) x.cache in
-    let es : List CacheEntry = given_up_in (volume_changed call) x.cache in
+    let cache : List CacheEntry = left_after call x.cache in
+    let es : List CacheEntry = dropped_after call x.cache in
     let e : Entry = step_entry n (drop_lines n (was_given p) zero_code es) [] in
     let last : (f : Fid) → last_version f (lines_of (e ∷ past)) ≡ last_version f (lines_of past) = λ f. (skips n zero_code es).last f _ in
     let held : ℕ = (h.floors n).held in
@@ -701,11 +702,12 @@ takes_other s c past n p act head reply h d =
     (drop_passes s c past n (was_given p) zero_code es (heard_dull s c past p m h d.heard))
     (ended_facts s c past n cache held e h (h.clients n).holds (ended_running n zero_code es (lines.Given p ∷ lines_of past))
     (λ k u found lasts.
-    let out : InScope call k → ⊥ = λ z. left_scope (volume_changed call) k x.cache u found (scope_is call k z) in
-    let file : PassesFile n k e past = drop_file n n (was_given p) zero_code es past k (left_none (volume_changed call) (Client n) (Client n) k x.cache u found) in
+    let was = left_out (is_in_scope call) k x.cache u found in
+    let out : InScope call k → ⊥ = λ z. yes_no (is_in_scope call k) z was.1 in
+    let file : PassesFile n k e past = drop_file n n (was_given p) zero_code es past k (none_where (is_in_scope call) (Client n) (Client n) k x.cache was.1) in
     current_over n k u (view h.floors c n) (view_after c n g (ended x cache)) e past (le_refl _) file
-    (ended_stands h.floors c past n cache g e k u.index (λ y. drop_seen n n (was_given p) zero_code es past k u.index (le_trans (le_of_eq ((h.clients n).made act d.running k out)) (omega arith)) y) (stays n k e past file.grant (last k)) (λ a is sc ran. out (subst (λ (z : Going). InScope (asked z) k) (sym (some_of act a (sym d.running ∙ is))) sc)))
-    ((h.clients n).current k u (left_found (volume_changed call) k x.cache u found) lasts))
+    (ended_stands h.floors c past n cache g e k u.index (λ y. drop_seen n n (was_given p) zero_code es past k u.index (le_trans (le_of_eq ((h.clients n).made act d.running k out (inr (record { entry = u; found = was.0; lasts = lasts })))) (omega arith)) y) (stays n k e past file.grant (last k)) (λ a is sc ran. out (subst (λ (z : Going). InScope (asked z) k) (sym (some_of act a (sym d.running ∙ is))) sc)))
+    ((h.clients n).current k u was.0 lasts))
     (reached_still s c past n e h (drop_reach n n (was_given p) zero_code es past) last))
     (ended_calls s c past n p act m cache held h d (λ code is. absurd cc)) (ended_reply s c past n cache held e h) (nothing_new _ _) (λ a x z. absurd cc) refl
 
@@ -746,33 +748,10 @@ data_goes s c past n p act (calls.FetchData f pp w) head contents status callbac
     (subst (λ (sp : Bool). IsFetched sp n f status.sync_counter (body_told status.file_type contents) callback.expiration_time (record { head = head; carried = carried.Reply (replies.FetchData contents status callback sync) }) past) (fresh_of (c.clients n).spoiled (volume_changed (asked act)) fresh shut) fits) refl
 data_goes s c past n p act call head contents status callback sync h d fresh same fits = plain_goes s c past n p act call head (replies.FetchData contents status callback sync) h d same
 
--- a store that was overtaken: the client drops its entry
-pub takes_spoiled : (s : Script) (c : Cell) (past : List Entry) (n p : ℕ) (act : Going) (st : AfsStoreStatus) (pp ww ll : ℤ) (f : Fid) (b : List ℕ) (head : Head) (status : AfsFetchStatus) (sync : AfsVolSync) → (h : Holds s c past) → Due c h.floors past n p act (record { head = head; carried = carried.Reply (replies.StoreData status sync) })
-    → asked act ≡ calls.StoreData f st pp ww ll b → Goes s past (client_moves c n (takes_overtaken (Client n) (c.clients n) p f))
-takes_spoiled s c past n p act st pp ww ll f b head status sync h d same =
-    let m : Message = record { head = head; carried = carried.Reply (replies.StoreData status sync) } in
-    let held : ℕ = (h.floors n).held in
-    let cache : List CacheEntry = filter (λ e. not (same_fid e.fid f)) (c.clients n).cache in
-    let e : Entry = step_entry n (answered_lines n p zero_code) [] in
-    moves s c past n (holding h.floors n held) (takes_overtaken (Client n) (c.clients n) p f) h
-    (tt, ((refl, good_code s c past n p act m zero_code (lines.Given p ∷ []) h d refl refl refl refl), tt))
-    (answered_passes s c past n p m zero_code h d.heard)
-    (ended_facts s c past n cache held e h (h.clients n).holds (own_ended n (running (Client n) (lines_of past)))
-    (λ g u found lasts.
-    let was = left_out (λ x. same_fid x f) g (c.clients n).cache u found in
-    let out : InScope (asked act) g → ⊥ = λ z.
-        let q : f ≡ g = same_fid-true f g (ap (λ (x : FsCall). is_in_scope x g) (sym same) ∙ z) in
-        let yes : same_fid g f ≡ true = ap (λ (x : Fid). same_fid x f) (sym q) ∙ same_fid-refl f in let other = was.1 in absurd cc in
-    current_over n g u (view h.floors c n) (view_after c n (holding h.floors n held) (ended (c.clients n) cache)) e past (le_refl _) (answered_file n n p zero_code past g)
-    (ended_stands h.floors c past n cache (holding h.floors n held) e g u.index (λ y. (answered_reach n n p zero_code past g u.index (record { made = le_trans (le_of_eq ((h.clients n).made act d.running g out)) (omega arith); seen = y })).seen) (stays n g e past (answered_file n n p zero_code past g).grant refl)
-    (λ a runs sc ran. out (subst (λ (z : Going). InScope (asked z) g) (sym (some_of act a (sym d.running ∙ runs))) sc))) ((h.clients n).current g u was.0 lasts))
-    (reached_still s c past n e h (answered_reach n n p zero_code past) (λ g. refl)))
-    (ended_calls s c past n p act m cache held h d (λ code is. absurd cc)) (ended_reply s c past n cache held e h) (nothing_new _ _) (λ a x z. absurd cc) refl
-
 pub stored_goes : (t : Bool) (s : Script) (c : Cell) (past : List Entry) (n p : ℕ) (act : Going) (st : AfsStoreStatus) (pp ww ll : ℤ) (f : Fid) (b : List ℕ) (head : Head) (status : AfsFetchStatus) (sync : AfsVolSync) → (h : Holds s c past) → Due c h.floors past n p act (record { head = head; carried = carried.Reply (replies.StoreData status sync) })
     → asked act ≡ calls.StoreData f st pp ww ll b → FitsSet n (spot (view h.floors c n)) (record { head = head; carried = carried.Reply (replies.StoreData status sync) }) past status (calls.StoreData f st pp ww ll b)
-    → Goes s past (client_moves c n (cond t (takes_overtaken (Client n) (c.clients n) p f) (takes_stored (Client n) (c.clients n) c.clock p f status.sync_counter b)))
-stored_goes true s c past n p act st pp ww ll f b head status sync h d same fits = takes_spoiled s c past n p act st pp ww ll f b head status sync h d same
+    → Goes s past (client_moves c n (cond t (takes_plain (Client n) (c.clients n) p (calls.StoreData f st pp ww ll b)) (takes_stored (Client n) (c.clients n) c.clock p f status.sync_counter b)))
+stored_goes true s c past n p act st pp ww ll f b head status sync h d same fits = plain_goes s c past n p act (calls.StoreData f st pp ww ll b) head (replies.StoreData status sync) h d same
 stored_goes false s c past n p act st pp ww ll f b head status sync h d same fits = takes_saved s c past n p act st pp ww ll f b head status sync h d same fits
 
 pub set_goes : (s : Script) (c : Cell) (past : List Entry) (n p : ℕ) (act : Going) (call : FsCall) (head : Head) (status : AfsFetchStatus) (sync : AfsVolSync) → (h : Holds s c past) → Due c h.floors past n p act (record { head = head; carried = carried.Reply (replies.StoreData status sync) })

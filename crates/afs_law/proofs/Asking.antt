@@ -13,7 +13,7 @@ use Rattle.afs_ideal.specs.Operations.{volume_changed}
 use Rattle.afs_law.proofs.Backing.{Plain, backed_plain, seated_over, plain_step}
 use Rattle.afs_law.proofs.Basics.{Each, IfCall, IfReply, ByClient, OfClient, client_any, by_client, both, same_fid-true, same_node-true, same_node-refl, node_apart, client_number, up_to_same, up_to_next, next_not, below_not, at_puts, each_map, if_call, raised_up_to, some_of, IfBack, IfDone, same_key-refl, OfCall, UpTo}
 use Rattle.afs_law.proofs.Edits.{index_in, fid_at, sound_same}
-use Rattle.afs_law.proofs.Facts.{Ghost, Seen, IsAged, server_boot, View, view_of, view, desk, last_key, LastRan, Reached, ReplyFact, ClientFacts, IsUntrusted, IsSafe, CallFact, CallIn, Holds, Goes, Reading, InScope, is_in_scope, IsOwn, IsOne}
+use Rattle.afs_law.proofs.Facts.{Ghost, Seen, IsAged, server_boot, View, view_of, view, desk, last_key, LastRan, Reached, ReplyFact, ClientFacts, IsUntrusted, IsSafe, CallFact, CallIn, Holds, Goes, Reading, InScope, IsOwn, IsOne}
 use Rattle.afs_law.proofs.Owing.{BackIn, DoneIn, SeatedIn}
 use Rattle.afs_law.proofs.Passing.{PassesGrant, PassesFile, PassesAct, PassesReach, stays, PassesBoth, PassesSeen, current_over, reply_over, kept_over, client_still, News, more_sent, replies_over, fallen_over, one_more}
 use Rattle.afs_law.proofs.Serving.{told_file, told_reach, told_act, reached_still}
@@ -22,11 +22,12 @@ use Rattle.afs_law.specs.Acts.{Act, Open}
 use Rattle.afs_law.specs.Callbacks.{put, Held, replies_of}
 use Rattle.afs_law.specs.ClientRow.{the_server, find_cached, guest, call_of, call_head, call_message, asking, calls_step, zero_code, ignores}
 use Rattle.afs_law.specs.Going.{asked, Going, Need, next, answers, began, with_read, read_on, ClientState}
-use Rattle.afs_law.specs.Ideal.{last_version, HasVersion, Accepts, clock_of, reach, raised, is_zero_code, volume_after, call_in, call_under, is_volume}
+use Rattle.afs_law.specs.Ideal.{last_version, HasVersion, Accepts, clock_of, reach, raised, is_zero_code, volume_after, call_in, call_under}
 use Rattle.afs_law.specs.Legal.{IsNew, AreGood, AreGoodReplies}
 use Rattle.afs_law.specs.Lines.{Line}
 use Rattle.afs_law.specs.Past.{onto, lines_of, sent_of, given_message, running, CalledSince, IsCall, IsCallUnder, has_begun, called_key, is_called, same_key, Sends}
 use Rattle.afs_law.specs.Runs.{Entry, Cell, message_at, client_moves}
+use Rattle.afs_law.specs.Scopes.{is_in_scope, is_volume}
 use Rattle.afs_law.specs.States.{CacheEntry, Seat}
 use Rattle.afs_law.specs.Steps.{Step}
 use Rattle.afs_model.specs.Calls.{call_seat}
@@ -377,6 +378,11 @@ scope_volume n (Some m) e t = absurd cc
 
 pub no_scope : (call : FsCall) (f : Fid) → volume_changed call ≡ None → InScope call f → ⊥
 no_scope (calls.StoreData g status position wanted file_length contents) f e t = absurd cc
+no_scope (calls.StoreAcl g acl) f e t = absurd cc
+no_scope (calls.StoreStatus g status) f e t = absurd cc
+no_scope (calls.CreateFile d name status) f e t = absurd cc
+no_scope (calls.Symlink d name target status) f e t = absurd cc
+no_scope (calls.MakeDir d name status) f e t = absurd cc
 no_scope call f e t = scope_volume f.volume (volume_changed call) e t
 
 -- where no change of the client's own may run, none but of what it doesn't trust may
@@ -527,7 +533,7 @@ asks s c past n act l h good p q r none shut at went =
       holds = d.holds;
       waits = λ b y. d.holds;
       idle = λ y. absurd cc;
-      made = λ b y f o. none f (λ z. o (subst (λ (a : Going). InScope (asked a) f) (some_of act b y) z));
+      made = λ b y f o k. none f (λ z. o (subst (λ (a : Going). InScope (asked a) f) (some_of act b y) z));
       current = λ f u found lasts. current_over n f u (view h.floors c n) v e past (le_refl _) (q f) (λ server newer z st. elim st [
         | inl a ↦ inl (record { reached = (r f).seen u.index a.reached; newest = stays n f e past (q f).grant (last f) server u.index newer z a.newest; before = λ y is sc ran. not ran })
         | inr o ↦ absurd (no_scope (asked o.act) f (shut o.act o.runs) o.scope)

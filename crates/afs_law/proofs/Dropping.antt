@@ -2,7 +2,7 @@ use Rattle.afs_num.specs.declared.calls.AfsFetchStatus.{AfsFetchStatus}
 use Rattle.afs_law.proofs.Asking.{Passes, Fresh, KeepsSeat, moves_back, moves, old_seat, step_entry, view_after, views_after, Heard, heard_dull, told_passes, quiet, client_kept, call_known, reply_still, safe_cache, nothing_new}
 use Rattle.afs_law.proofs.Backing.{Plain, all_lines, is_up, is_still, is_oweless, is_unchanging, drop_onto, owe_over}
 use Rattle.afs_law.proofs.Basics.{both, same_fid-true, same_fid-refl, same_node-true, client_number, Each, IfBack, IfDone, OfCall, OfReply, OfNotice, OfClient, OfServer, ByClient, ByServer, by_server, server_any, LastSeat, some_of, kept_last}
-use Rattle.afs_law.proofs.Facts.{Ghost, View, view, Spot, spot, Held, IsFetched, Fits, Answers, ReplyFact, ClientFacts, IsAged, IsLastCall, CallIn, ReplyIn, Origin, IsActs, ToClient, server_boot, Holds, Goes, Reached, FitsData, FitsSet, FitsReply, IsOne}
+use Rattle.afs_law.proofs.Facts.{IsKnown, Ghost, View, view, Spot, spot, Held, IsFetched, Fits, Answers, ReplyFact, ClientFacts, IsAged, IsLastCall, CallIn, ReplyIn, Origin, IsActs, ToClient, server_boot, Holds, Goes, Reached, FitsData, FitsSet, FitsReply, IsOne}
 use Rattle.afs_law.proofs.Owing.{AllOf, all_map, IsOwed, CallOut, BackIn, DroppedOwe, IsDone, DoneIn, SeatedIn, BackedIn}
 use Rattle.afs_law.proofs.Passing.{News, PassesGrant, PassesFile, PassesAct, PassesReach, current_over, stands_over, stays, kept_over, grant_over, cause_over, onto_front, client_still}
 use Rattle.afs_law.proofs.Pumping.{no_call, no_notice, of_reply_any}
@@ -65,6 +65,15 @@ left_by false false q g x u rest old b t ih e = ih (sym (ap (λ (k : Bool). cond
 pub left_out : (q : Fid → Bool) (g : Fid) (cache : List CacheEntry) (u : CacheEntry) → find_cached g (filter (λ e. not (q e.fid)) cache) ≡ Some u → (find_cached g cache ≡ Some u) × (q g ≡ false)
 left_out q g [] u e = absurd cc
 left_out q g (x ∷ cache) u e = left_by (q x.fid) (same_fid x.fid g) q g x u (filter (λ y. not (q y.fid)) cache) cache refl refl (left_out q g cache u) e
+
+-- what is trusted behind that was trusted before
+pub left_known : (q : Fid → Bool) (act : Going) (clock : ℕ) (f : Fid) (cache : List CacheEntry) → IsKnown act clock f (filter (λ e. not (q e.fid)) cache) → IsKnown act clock f cache
+left_known q act clock f cache (inl x) = inl x
+left_known q act clock f cache (inr x) = inr (record { entry = x.entry; found = (left_out q f cache x.entry x.found).0; lasts = x.lasts })
+
+pub no_known : (act : Going) (clock : ℕ) (f : Fid) (cache : List CacheEntry) → IsKnown act clock f [] → IsKnown act clock f cache
+no_known act clock f cache (inl x) = inl x
+no_known act clock f cache (inr x) = let none : find_cached f [] ≡ Some x.entry = x.found in absurd cc
 
 -- ---- lines of drops
 
@@ -339,7 +348,7 @@ drops_goes s c past n p head user fs cbs h heard to from b =
       holds = d.holds;
       waits = d.waits;
       idle = λ y. (skips n fs).runs (Client n) (lines.Given p ∷ lines_of past) ∙ d.idle y;
-      made = λ act y f o. (broken_reach n n p fs (reply ∷ []) past f).made (d.made act y f o);
+      made = λ act y f o z. (broken_reach n n p fs (reply ∷ []) past f).made (d.made act y f o (left_known (λ x. is_named x fs) act c.clock f (c.clients n).cache z));
       current = λ f u found lasts.
           let was = left_out (λ x. is_named x fs) f (c.clients n).cache u found in
           let pass : PassesFile n f e past = broken_file n n p fs (reply ∷ []) past f (λ z. was.1) in
@@ -437,7 +446,7 @@ drops_all_goes s c past n p head user h heard to from b =
       holds = d.holds;
       waits = d.waits;
       idle = d.idle;
-      made = d.made;
+      made = λ act y f o z. d.made act y f o (no_known act c.clock f (c.clients n).cache z);
       current = λ f u found lasts. absurd cc;
       runs = d.runs;
       asked = λ act y. inr (refl, d.asked act y);

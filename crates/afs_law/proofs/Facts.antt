@@ -1,15 +1,3 @@
-use Rattle.std.specs.Prelude.{Bool, true, false, ◌++◌, if◌then◌else◌, ⊤}
-use Rattle.afs_num.specs.Nodes.{same_node}
-use Rattle.std.proofs.Common.{◌≡◌, ℕ, ◌<◌, ◌≤◌, ◌^◌, ◌⊎◌, List, [], ◌∷◌, Option, Some, None, ℤ}
-use Rattle.std.specs.Option.{option_map}
-use Rattle.afs_num.specs.declared.types.Fid.{Fid}
-use Rattle.afs_num.specs.declared.types.Head.{Head}
-use Rattle.afs_num.specs.declared.types.Key.{Key}
-use Rattle.afs_num.specs.declared.types.Node.{Node}
-use Rattle.afs_num.specs.declared.types.Node.TheVariants.{Client}
-use Rattle.afs_num.specs.declared.calls.FsCall.{FsCall}
-use Rattle.afs_num.specs.declared.messages.Carried.{Carried}
-use Rattle.afs_num.specs.declared.messages.Message.{Message}
 use Rattle.afs_ideal.specs.Directories.{IsDirectory, FitNames}
 use Rattle.afs_ideal.specs.Operations.{volume_changed}
 use Rattle.afs_ideal.specs.Tables.{AscendsFrom, Table, get}
@@ -22,14 +10,27 @@ use Rattle.afs_law.specs.Callbacks.{replies_of}
 use Rattle.afs_law.specs.ClientRow.{the_server, find_cached, body_told, names_told}
 use Rattle.afs_law.specs.Going.{asked, Going, Need, next, answers, began, with_read, read_on, ClientState}
 use Rattle.afs_law.specs.Grants.{fetch_reply, GrantOf, since, IsWithdrawn, IsDropped}
-use Rattle.afs_law.specs.Ideal.{is_zero_code, last_version, IsLast, HasVersion, Accepts, clock_of, user_of, reach, is_volume, call_under, volume_after}
+use Rattle.afs_law.specs.Ideal.{is_zero_code, last_version, IsLast, HasVersion, Accepts, clock_of, user_of, reach, call_under, volume_after}
 use Rattle.afs_law.specs.Legal.{IsNew, Cause, AreGood, AreGoodReplies}
 use Rattle.afs_law.specs.Lines.{Line}
 use Rattle.afs_law.specs.Past.{is_of_act, lines_of, sent_of, called_key, running, Called, CalledSince, IsUnheard, Ran}
 use Rattle.afs_law.specs.Runs.{Entry, Cell, Moved, Fall, at_rest, in_step, in_boot, message_at}
+use Rattle.afs_law.specs.Scopes.{is_in_scope, is_volume}
 use Rattle.afs_law.specs.ServerRow.{reply_head}
 use Rattle.afs_law.specs.States.{CacheEntry, Seat, ServerState}
 use Rattle.afs_model.specs.Calls.{call_seat}
+use Rattle.std.specs.Prelude.{Bool, true, false, ◌++◌, if◌then◌else◌, ⊤}
+use Rattle.afs_num.specs.Nodes.{same_node}
+use Rattle.std.proofs.Common.{◌≡◌, ℕ, ◌<◌, ◌≤◌, ◌^◌, ◌⊎◌, List, [], ◌∷◌, Option, Some, None, ℤ}
+use Rattle.std.specs.Option.{option_map}
+use Rattle.afs_num.specs.declared.types.Fid.{Fid}
+use Rattle.afs_num.specs.declared.types.Head.{Head}
+use Rattle.afs_num.specs.declared.types.Key.{Key}
+use Rattle.afs_num.specs.declared.types.Node.{Node}
+use Rattle.afs_num.specs.declared.types.Node.TheVariants.{Client}
+use Rattle.afs_num.specs.declared.calls.FsCall.{FsCall}
+use Rattle.afs_num.specs.declared.messages.Carried.{Carried}
+use Rattle.afs_num.specs.declared.messages.Message.{Message}
 use Rattle.afs_num.specs.declared.scripts.Script.{Script}
 use Rattle.afs_num.specs.declared.histories.Body.{Body}
 use Rattle.afs_num.specs.declared.histories.Version.{Version}
@@ -147,10 +148,6 @@ up_boot None boot = Some boot
 up_boot (Some fall) boot = None
 
 -- ---- the fids that a call may change
-
-abbrev pub is_in_scope : FsCall → Fid → Bool
-is_in_scope (calls.StoreData g status position wanted file_length contents) f = same_fid g f
-is_in_scope call f = is_volume f.volume (volume_changed call)
 
 abbrev pub InScope : FsCall → Fid → Type 0
 InScope call f = is_in_scope call f ≡ true
@@ -309,6 +306,16 @@ IsBehind o v = (seat : Seat) → o ≡ Some seat → UpTo seat.epoch seat.number
 abbrev pub AreKept : ℕ → Option Seat → View → List Entry → Type 0
 AreKept j o v past = (seat : Seat) (m : Message) → o ≡ Some seat → seat.reply ≡ Some m → KeptReply j seat m × ReplyFact j v past m
 
+-- the client trusts its entry of the fid
+pub record IsTrusted (clock : ℕ) (f : Fid) (cache : List CacheEntry) : Type 0 where
+  pub entry : CacheEntry
+  pub found : find_cached f cache ≡ Some entry
+  pub lasts : clock < entry.expiry
+
+-- an act that only reads so far has made nothing; one that changes has made nothing of what the client trusts but in its scope
+abbrev pub IsKnown : Going → ℕ → Fid → List CacheEntry → Type 0
+IsKnown act clock f cache = (volume_changed (asked act) ≡ None) ⊎ IsTrusted clock f cache
+
 pub record ClientFacts (j : ℕ) (v : View) (past : List Entry) : Type 0 where
   pub behind : IsBehind v.seat v
   pub behind_durable : IsBehind v.durable v
@@ -320,7 +327,7 @@ pub record ClientFacts (j : ℕ) (v : View) (past : List Entry) : Type 0 where
   pub holds : v.held ≤ v.boot
   pub waits : (act : Going) → v.running ≡ Some act → v.held ≤ v.floor
   pub idle : v.running ≡ None → running (Client j) (lines_of past) ≡ None
-  pub made : (act : Going) → v.running ≡ Some act → (f : Fid) → (InScope (asked act) f → ⊥) → (reach (Client j) f past).made ≡ 0
+  pub made : (act : Going) → v.running ≡ Some act → (f : Fid) → (InScope (asked act) f → ⊥) → IsKnown act v.clock f v.cache → (reach (Client j) f past).made ≡ 0
   pub current : HasCurrent j v past
   pub runs : (act : Going) → v.running ≡ Some act → running (Client j) (lines_of past) ≡ Some act
   pub asked : (act : Going) → v.running ≡ Some act → CalledSince (last_key j v) (user_of (Client j)) (asked act) past

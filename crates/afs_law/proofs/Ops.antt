@@ -1,5 +1,15 @@
 -- What the single operations are: each law by the calls.
-use Rattle.std.proofs.Common.{◌≡◌, ℕ, ◌+◌, ◌⊎◌, inl, inr, Bool, true, false, cond, eqb, nat_eq, not, List, [], ◌∷◌, ◌++◌, Option, Some, None, ℤ, pos, negsuc, refl, sym, ap, subst, ◌∙◌, eq-eqb, eqb-true}
+use Rattle.afs_ideal.proofs.Scopes.{stays_in_scope}
+use Rattle.afs_ideal.specs.Operations.{Caller, Found, Shown, shows_body, shows_status, shows_acl, shows_statuses, shows_volume, reads, no_amend, Result, refused, changes, no_operation, by_tests, limited, limits, first_failing, tests, effect, read_by, one_more, statuses, op, volume_called, volume_changed, kind_is, is_kind, kinds_agree, vnode_in, name_in, removes, creates}
+use Rattle.afs_ideal.specs.Tables.{Table, get, set}
+use Rattle.afs_ideal.specs.Volumes.{Kind, a_file, a_directory, a_link, Vnode, Volume, Edit, amends, makes, frees, Amend, vnode_of, if_unique, versions_by, edited_all, amends_at, amended, version_at, ascending}
+use Rattle.afs_law.proofs.Basics.{both, some_of, same_fid-true, same_fid-refl}
+use Rattle.afs_law.proofs.Edits.{get-set, fid_at, Grow, touches, touched_volume}
+use Rattle.afs_law.proofs.Facts.{InScope}
+use Rattle.afs_law.specs.Ideal.{is_zero_code}
+use Rattle.afs_law.specs.Lines.{Line}
+use Rattle.afs_law.specs.Scopes.{is_volume}
+use Rattle.std.proofs.Common.{◌≤◌, ◌≡◌, ℕ, ◌+◌, ◌⊎◌, inl, inr, Bool, true, false, cond, eqb, nat_eq, not, List, [], ◌∷◌, ◌++◌, Option, Some, None, ℤ, pos, negsuc, refl, sym, ap, subst, ◌∙◌, eq-eqb, eqb-true}
 use Rattle.std.specs.Prelude.{◌&&◌, ⊤, is_some}
 use Rattle.afs_num.specs.Fids.{same_fid}
 use Rattle.afs_num.specs.declared.types.Fid.{Fid}
@@ -9,14 +19,6 @@ use Rattle.afs_num.specs.declared.calls.FsCall.{FsCall}
 use Rattle.afs_num.specs.declared.calls.FsCall.TheVariants as calls
 use Rattle.afs_num.specs.declared.directories.Name.{Name}
 use Rattle.afs_num.specs.declared.histories.Version.{Version}
-use Rattle.afs_ideal.specs.Operations.{Caller, Found, Shown, shows_body, shows_status, shows_acl, shows_statuses, shows_volume, reads, no_amend, Result, refused, changes, no_operation, by_tests, limited, limits, first_failing, tests, effect, read_by, one_more, statuses, op, volume_called, volume_changed, kind_is, is_kind, kinds_agree, vnode_in, name_in, removes, creates}
-use Rattle.afs_ideal.specs.Tables.{Table, get, set}
-use Rattle.afs_ideal.specs.Volumes.{Kind, a_file, a_directory, a_link, Vnode, Volume, Edit, amends, makes, frees, Amend, vnode_of, if_unique, versions_by, edited_all, amends_at, amended, version_at, ascending}
-use Rattle.afs_law.proofs.Basics.{both, some_of, same_fid-true, same_fid-refl}
-use Rattle.afs_law.proofs.Edits.{get-set, fid_at, Grow, touches, touched_volume}
-use Rattle.afs_law.proofs.Facts.{InScope}
-use Rattle.afs_law.specs.Ideal.{is_zero_code, is_volume}
-use Rattle.afs_law.specs.Lines.{Line}
 
 -- ---- reading calls
 
@@ -342,13 +344,18 @@ changes_is id caller call v es n of e z =
 volume_scope : (o : Option ℕ) (id n : ℕ) → o ≡ Some id → n ≡ id → is_volume n o ≡ true
 volume_scope o id n e same = ap (is_volume n) e ∙ eq-eqb id n (sym same)
 
-pub in_scope : (caller : Caller) (call : FsCall) (id : ℕ) (v : Volume) (es : List Edit) (n : ℕ) (g : Fid) (ls : List Line) → op id caller call v ≡ changes es n → volume_called call ≡ Some id → Grow id (versions_by id es v) ls → touches g (versions_by id es v) ≡ true → InScope call g
-in_scope caller (calls.StoreData f st p w l b) id v es n g ls e at grow t = ap (same_fid f) (sym (store_touches id f g st b v es n (storing id caller f st p w l b v es n e) (some_of f.volume id at) t)) ∙ same_fid-refl f
+pub in_scope : (caller : Caller) (call : FsCall) (id : ℕ) (v : Volume) (es : List Edit) (n : ℕ) (g : Fid) (ls : List Line) → op id caller call v ≡ changes es n → volume_called call ≡ Some id → Grow id (versions_by id es v) ls → touches g (versions_by id es v) ≡ true → (InScope call g) ⊎ (v.next ≤ g.unique)
+in_scope caller (calls.StoreData f st p w l b) id v es n g ls e at grow t = stays_in_scope id caller (calls.StoreData f st p w l b) v es n g at e t
+in_scope caller (calls.StoreAcl f acl) id v es n g ls e at grow t = stays_in_scope id caller (calls.StoreAcl f acl) v es n g at e t
+in_scope caller (calls.StoreStatus f st) id v es n g ls e at grow t = stays_in_scope id caller (calls.StoreStatus f st) v es n g at e t
+in_scope caller (calls.CreateFile d name st) id v es n g ls e at grow t = stays_in_scope id caller (calls.CreateFile d name st) v es n g at e t
+in_scope caller (calls.Symlink d name target st) id v es n g ls e at grow t = stays_in_scope id caller (calls.Symlink d name target st) v es n g at e t
+in_scope caller (calls.MakeDir d name st) id v es n g ls e at grow t = stays_in_scope id caller (calls.MakeDir d name st) v es n g at e t
 in_scope caller (calls.FetchData f p w) id v es n g ls e at grow t = absurd (changes_is id caller (calls.FetchData f p w) v es n at e refl)
 in_scope caller (calls.FetchAcl f) id v es n g ls e at grow t = absurd (changes_is id caller (calls.FetchAcl f) v es n at e refl)
 in_scope caller (calls.FetchStatus f) id v es n g ls e at grow t = absurd (changes_is id caller (calls.FetchStatus f) v es n at e refl)
 in_scope caller (calls.GetVolumeStatus k) id v es n g ls e at grow t = absurd (changes_is id caller (calls.GetVolumeStatus k) v es n at e refl)
-in_scope caller call id v es n g ls e at grow t = volume_scope (volume_called call) id g.volume at (touched_volume g id (versions_by id es v) ls grow t)
+in_scope caller call id v es n g ls e at grow t = inl (volume_scope (volume_called call) id g.volume at (touched_volume g id (versions_by id es v) ls grow t))
 
 -- the file, after a store
 pub stored_vnode : (id : ℕ) (f : Fid) (st : AfsStoreStatus) (b : List ℕ) (v : Volume) (es : List Edit) (n : ℕ) → (s : Storing f st b v es n) → get f.vnode (edited_all id es v).vnodes ≡ Some (amended (v.counter + 1) (record no_amend { contents = Some b; status = Some st }) s.vnode)

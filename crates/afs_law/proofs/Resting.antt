@@ -14,7 +14,7 @@ use Rattle.afs_num.specs.declared.histories.Body.{Body}
 use Rattle.afs_law.proofs.Backing.{Plain, all_lines, is_up, is_still, is_oweless, is_unchanging, backed_plain, backed_fall, plain_step, seated_over}
 use Rattle.afs_law.proofs.Basics.{Each, IfCall, IfReply, each_map, if_call}
 use Rattle.afs_law.proofs.Edits.{index_in, fid_at, sound_same}
-use Rattle.afs_law.proofs.Facts.{HoldsAt, server_boot, up_boot, IsLastCall, View, view, ReplyFact, ClientFacts, IsSafe, IsUntrusted, CallFact, CallIn, HasFallen, AreUnheard, Holds, Goes}
+use Rattle.afs_law.proofs.Facts.{IsKnown, HoldsAt, server_boot, up_boot, IsLastCall, View, view, ReplyFact, ClientFacts, IsSafe, IsUntrusted, CallFact, CallIn, HasFallen, AreUnheard, Holds, Goes}
 use Rattle.afs_law.proofs.Owing.{BackedIn}
 use Rattle.afs_law.proofs.Passing.{waiting_over, PassesFile, PassesAct, PassesReach, client_still, News, more_sent, replies_over, reply_over, stays, acts_over, fallen_over, older_origins}
 use Rattle.afs_law.specs.Acts.{Act}
@@ -56,6 +56,10 @@ later_safe n call t e l running cache aged head (inr (inl x)) = inr (inl x)
 later_safe n call t e l running cache aged head (inr (inr (inl x))) = inr (inr (inl (λ f y u at lasts. x f y u at (omega arith))))
 later_safe n call t e l running cache aged head (inr (inr (inr x))) = inr (inr (inr x))
 
+later_known : (n : ℕ) (act : Going) (clock : ℕ) (f : Fid) (cache : List CacheEntry) → IsKnown act (clock + n) f cache → IsKnown act clock f cache
+later_known n act clock f cache (inl x) = inl x
+later_known n act clock f cache (inr x) = let l : clock + n < x.entry.expiry = x.lasts in inr (record { entry = x.entry; found = x.found; lasts = omega arith })
+
 later_client : (n j : ℕ) (v : View) (past : List Entry) → ClientFacts j v past → ClientFacts j (later_view n v) past
 later_client n j v past h = record {
   behind = h.behind;
@@ -68,7 +72,7 @@ later_client n j v past h = record {
   holds = h.holds;
   waits = h.waits;
   idle = h.idle;
-  made = h.made;
+  made = λ act x f o z. h.made act x f o (later_known n act v.clock f v.cache z);
   current = λ f e at lasts. h.current f e at (omega arith);
   runs = h.runs;
   asked = h.asked;

@@ -21,7 +21,7 @@ use Rattle.afs_ideal.specs.Volumes.{type_of, bytes_by, Volume, Vnode, Kind, a_fi
 use Rattle.afs_law.proofs.Backing.{is_still_to, Plain, all_lines, is_up, is_still, is_oweless, is_unchanging, backed_fall, granted_over, change_back, no_owe}
 use Rattle.afs_law.proofs.Basics.{node_apart, Below, UpTo, Above, Each, IfCall, IfReply, IfNotice, if_notice, OfReply, OfNotice, above_up, up_to_by, by_server, IfBack, IfDone, ByClient, OfClient, client_any, by_client, both, same_fid-true, same_fid-refl, apart, same_node-true, client_number, up_to_below, below_up_to, below_not, up_to_same, LastSeat, own_seat, at_seat, OfCall, each_map, each_at, if_call, if_reply, raised_up_to, some_of, yes_no}
 use Rattle.afs_law.proofs.Edits.{index_in, fid_at, Sound, SoundIn, sound_same, Tops, live, live_index, get-set, on_top, Grow, Told, edits_told, counted_sound, Rises, rises, tops, touches, untouched, touched_volume, not_touched, there}
-use Rattle.afs_law.proofs.Facts.{HeldIn, ToClient, Ghost, Seen, HoldsAt, server_boot, up_boot, risen, LastStored, IsStored, IsActs, IsLastCall, IsAged, IsUntrusted, View, view_of, view, Spot, spot, LastRan, ReplyFact, IsBehind, AreKept, MayRun, HasFallen, IsCut, Reached, Stands, IsCurrent, HasCurrent, Fits, Answers, IsReply, KeptReply, ClientFacts, CallFact, CallIn, ReplyIn, Origin, AreHome, AreNew, AreUnheard, stored_index, Holds, Goes, IsNoticed, IsOne, InScope, IsFetched, FitsReply, FitsData, FitsSet, FitsPlain, WasChanged, AreIdeal, AreSound, is_in_scope, WasStored}
+use Rattle.afs_law.proofs.Facts.{HeldIn, ToClient, Ghost, Seen, HoldsAt, server_boot, up_boot, risen, LastStored, IsStored, IsActs, IsLastCall, IsAged, IsUntrusted, View, view_of, view, Spot, spot, LastRan, ReplyFact, IsBehind, AreKept, MayRun, HasFallen, IsCut, Reached, Stands, IsCurrent, HasCurrent, Fits, Answers, IsReply, KeptReply, ClientFacts, CallFact, CallIn, ReplyIn, Origin, AreHome, AreNew, AreUnheard, stored_index, Holds, Goes, IsNoticed, IsOne, InScope, IsFetched, FitsReply, FitsData, FitsSet, FitsPlain, WasChanged, AreIdeal, AreSound, WasStored}
 use Rattle.afs_law.proofs.Loading.{hits_other, granted_all, onto_granted, left_granted, all_hits, all_left, down_later, none_loaded, still_backed, known_backed, resent, change_loaded, rise_loaded, owes_unchanging, all_new, number_front, number_second, run_loaded, key_held, no_change, all_waited, NewReply, settles_good, settles_backed, quits_good, quits_backed, retries_backed, left_promised, has_owe, touched_hit, numbers_good, numbers_rise}
 use Rattle.afs_law.proofs.Naming.{fine_after}
 use Rattle.afs_law.proofs.Notes.{granted_notes, AreNotes, Skips, skips, told_entry, told_rests, risen_entry, risen_rests, noted_entry, noted_rests, owe_notes, settle_notes, quit_notes, no_versions}
@@ -30,7 +30,7 @@ use Rattle.afs_law.proofs.Owing.{AllOf, HeldWaits, BackedIn, IsDone, DroppedOwe,
 use Rattle.afs_law.proofs.Passing.{ran_over, stands_over, answers_over, reply_over, kept_over, replies_over, waiting_over, fallen_over, replies_still, PassesBoth, PassesSeen, held_over, fetch_reply_by, cause_over, PassesFile, PassesAct, PassesReach, StaysNewest, stays, current_over, reached_more, client_over, client_still, News, more_sent, PassesGrant}
 use Rattle.afs_law.proofs.Pumping.{of_reply_any, no_call, no_notice, no_news, news_more, news_held, pumped_news, starts_held, news_break}
 use Rattle.afs_law.proofs.Resting.{rest_backed, fall_backed, Rests, fault_rests, full_rests, alone, rests, still, voids, unheard_still, fallen_still, restart_rests, server_crash_rests, cut_entry, cut_rests}
-use Rattle.afs_law.proofs.Serving.{up_backed, seats_of, Gives, taken_not, up_boots, reached_at, Dull, unheard_over, at_told, unheard_up, client_head, Now, call_at, taken, seats_after, durable_after, Stock, stock, server_after, own_durable, seated_view, caller_view, views_after, above_more, above_before, not_ran, dull_after, unheard_after, ran_now, HasRun, cause_now, running_act, stale_none, Serves, served_cell, serves, last_has, has_run, spot_at, not_stored, unheard_later, quiet, refuses_goes, told_file, told_reach, told_act}
+use Rattle.afs_law.proofs.Serving.{none_has, up_backed, seats_of, Gives, taken_not, up_boots, reached_at, Dull, unheard_over, at_told, unheard_up, client_head, Now, call_at, taken, seats_after, durable_after, Stock, stock, server_after, own_durable, seated_view, caller_view, views_after, above_more, above_before, not_ran, dull_after, unheard_after, ran_now, HasRun, cause_now, running_act, stale_none, Serves, served_cell, serves, last_has, has_run, spot_at, not_stored, unheard_later, quiet, refuses_goes, told_file, told_reach, told_act}
 use Rattle.afs_law.proofs.Turning.{loaded, TurnSends, Pumps, pumps, expired_backed, call_good, good_more, put_call, break_good}
 use Rattle.afs_law.specs.Acts.{Act}
 use Rattle.afs_law.specs.Breaks.{HasStopped, GoodSettle, GoodQuit, live_grant, HasOwe, last_number}
@@ -38,12 +38,13 @@ use Rattle.afs_law.specs.Callbacks.{hits, left, retries, quits, Backs, Held, Owe
 use Rattle.afs_law.specs.ClientRow.{the_server, find_cached, body_told}
 use Rattle.afs_law.specs.Going.{asked, Going, Need, next, answers, began, with_read, read_on}
 use Rattle.afs_law.specs.Grants.{IsWithdrawn, has_fetched, fetch_reply, since, change_below, IsByOther, IsDropped}
-use Rattle.afs_law.specs.Ideal.{Reach, is_zero_code, raised, IsLast, version_in, latest, IsThat, user_of, clock_of, last_version, HasVersion, Accepts, reach, volume_after, change_key, call_under, reach_over, applied, applied_by, is_volume}
+use Rattle.afs_law.specs.Ideal.{Reach, is_zero_code, raised, IsLast, version_in, latest, IsThat, user_of, clock_of, last_version, HasVersion, Accepts, reach, volume_after, change_key, call_under, reach_over, applied, applied_by}
 use Rattle.afs_law.specs.Legal.{code_given, IsResult, AreGood, IsGood, code_told, Cause, IsNew, HasChange, GoodChange, versions_first, AreGoodReplies, IsTold, answer_at, answer_on, IsUnderChange, IsChanged, op_on}
 use Rattle.afs_law.specs.Lines.{Line}
 use Rattle.afs_law.specs.Past.{IsUnheard, onto, lines_of, sent_of, given_message, called_key, HasCode, is_of_act, IsCallUnder, Ran, running, has_begun}
 use Rattle.afs_law.specs.Records.{change_record}
 use Rattle.afs_law.specs.Runs.{Entry, Cell, message_at, Armed, unarmed, Luck, Blow, struck, lowered, Fall, at_rest, in_step, in_boot, settled, Outcome, comes_up, fails_early, fails_midway, is_full, server_rises, server_ends, server_falls, blow_line, server_stopped, server_restarted, server_served, server_given, server_moves, server_does, back_timed, server_timed, server_wakes}
+use Rattle.afs_law.specs.Scopes.{is_in_scope, is_volume}
 use Rattle.afs_law.specs.ServerRow.{granted, granted_in, record_of, carried_by, change_reply_to, no_room, has_room, longer, revived, device_calls, promise_until, promise_ticks, decides, Decision, drops, tells_boot, repeats, refuses, saves, runs, admits, called, hears, reply_head, replied, boot_told, refusal, told, does, versioned, Change, made, result, saved, decided, in_volume, with_volume}
 use Rattle.afs_law.specs.States.{CacheEntry, Seat, ServerState}
 use Rattle.afs_model.specs.Calls.{call_seated, call_seat}
@@ -673,6 +674,11 @@ pub answer_is : (user : List ℕ) (call : FsCall) (id : ℕ) (v : Volume) (es : 
 answer_is user call id v es shown volumes older of at ideal res =
     ap (λ (o : Option ℕ). answer_on user call o older) of ∙ (ap (λ (o : Option Volume). Some (op_on id (the_user user) call o)) (sym (ideal id) ∙ at) ∙ ap Some res)
 
+-- a fid that had a version isn't new
+pub scope_of : (g : Fid) (i : ℕ) (b : Body) (id : ℕ) (v : Volume) (ls : List Line) (S : Type 0) → Sound id v ls → g.volume ≡ id → HasVersion g i b ls → S ⊎ (v.next ≤ g.unique) → S
+scope_of g i b id v ls S sound at had (inl s) = s
+scope_of g i b id v ls S sound at had (inr new) = absurd (none_has g i b ls (ap (λ (x : ℕ). last_version (fid_at x g.vnode g.unique) ls) at ∙ sound.new g.vnode g.unique new) had)
+
 pub saves_holds : (y : Way) (s : Script) (now : Option ℕ) (c : Cell) (past : List Entry) (after : Backs) (armed : Armed) (d : Option Fall) (n : ℕ) (h : Head) (user : List ℕ) (call : FsCall) (time id : ℕ) (v : Volume) (es : List Edit) (shown : ℕ) → (H : Holds s c past) → Now c H.floors past n h user call → Change' c past user call id v es shown
     → HasRun c n h user call (NewEntry y n h (versions_by id es v) (saved_reply c (client_head n h) time user call id v es shown) ∷ past)
     → server_boot the_server (lines_of (NewEntry y n h (versions_by id es v) (saved_reply c (client_head n h) time user call id v es shown) ∷ past)) ≡ now
@@ -691,7 +697,9 @@ saves_holds y s now c past after armed d n h user call time id v es shown H w q 
     let e : Entry = saved_entry y k vs r in
     let grow : Grow id vs (base y k (length vs) (lines_of past)) = (told_at y s c past user call id v es shown k H q).grow in
     let some : volume_changed call ≡ None → ⊥ = changes_is id (the_user user) call v es shown q.of_volume q.result in
-    let scope : (g : Fid) → touches g vs ≡ true → is_in_scope call g ≡ true = λ g. in_scope (the_user user) call id v es shown g (base y k (length vs) (lines_of past)) q.result q.of_volume grow in
+    let scope : (g : Fid) (i : ℕ) (b : Body) → HasVersion g i b (lines_of past) → touches g vs ≡ true → is_in_scope call g ≡ true = λ g i b had t.
+        scope_of g i b id v (lines_of past) (is_in_scope call g ≡ true) (subst (λ (o : Option Volume). SoundIn id o (lines_of past)) q.at (H.sound id)) (touched_volume g id vs (base y k (length vs) (lines_of past)) grow t) had
+        (in_scope (the_user user) call id v es shown g (base y k (length vs) (lines_of past)) q.result q.of_volume grow t) in
     let other : (j : ℕ) → (n ≡ j → ⊥) → Client n ≡ Client j → ⊥ = λ j ne z. ne (client_number n j z) in
     let result : answer_at user call run.ran.older ≡ Some (changes es shown) = answer_is user call id v es shown c.server.volumes run.ran.older q.of_volume q.at run.ideal q.result in
     serves true s now c past n h user call x e (stock_after c (client_head n h) time (change_at id user call v es shown)) after d armed H w
@@ -717,10 +725,16 @@ saves_holds y s now c past after armed d n h user call time id v es shown H w q 
             boot = cur.boot;
             by = fetch_reply_by (has_fetched (Client n) f e.lines) (given_message e.lines (sent_of past)) (fetch_reply (Client n) f past) (saves_file y n k vs r past f).fetched ∙ cur.by;
             held = held_over n f u.index u.body u.expiry cur.reply e past (saves_grant y n k vs r past f) cur.held;
-            state = own_stands (is_in_scope call f) y fl c past n h user call vs r f u.index cur.held.grant.server (since (Client n) f u.expiry cur.reply past cur.held.grant) w refl some (scope f)
+            state = own_stands (is_in_scope call f) y fl c past n h user call vs r f u.index cur.held.grant.server (since (Client n) f u.expiry cur.reply past cur.held.grant) w refl some (scope f u.index u.body cur.held.whole)
                 (λ t. was_changed call y s c past n (client_head n h) user id time v es shown k f cur.held.grant.server (onto (since (Client n) f u.expiry cur.reply past cur.held.grant) e.lines) H q t) (λ z. z u found lasts) (old_withdrawn s c past n f u H cur) cur.state;
           };
-      made = λ a runs f o. made_saved y n k vs r past f (λ z. no_touch' (touches f vs) (λ t. elim (w.acts z a ((H.clients n).runs a runs)) [ | inl none ↦ some none | inr same ↦ o (ap (λ (b : FsCall). is_in_scope b f) (sym same) ∙ scope f t) ])) ∙ (H.clients n).made a runs f o;
+      made = λ a runs f o known. made_saved y n k vs r past f (λ z. no_touch' (touches f vs) (λ t. elim (w.acts z a ((H.clients n).runs a runs)) [
+        | inl none ↦ some none
+        | inr same ↦ elim known [
+          | inl reading ↦ some (ap volume_changed same ∙ reading)
+          | inr trusted ↦ o (ap (λ (b : FsCall). is_in_scope b f) (sym same) ∙ scope f trusted.entry.index trusted.entry.body ((H.clients n).current f trusted.entry trusted.found trusted.lasts).held.whole t)
+        ]
+      ])) ∙ (H.clients n).made a runs f o known;
       reached = λ f. own_reached y past n k id vs r f grow ((H.clients n).reached f);
       clock = saves_clock y k vs r past ∙ H.clock;
       top = saves_tops y id k vs r past grow H.top;

@@ -9,7 +9,7 @@ use Rattle.afs_law.proofs.Asking.{step_entry, view_after, Passes, moves, nothing
 use Rattle.afs_law.proofs.Backing.{all_lines, is_up, is_still, is_oweless, is_unchanging}
 use Rattle.afs_law.proofs.Basics.{same_fid-true, same_node-refl, client_number, raised_up_to, some_of, UpTo}
 use Rattle.afs_law.proofs.Edits.{index_in}
-use Rattle.afs_law.proofs.Facts.{Ghost, IsAged, server_boot, View, view, last_key, LastRan, IsSafe, IsUntrusted, CallFact, ReplyFact, ClientFacts, Holds, Goes, InScope, is_in_scope, Seen, Reached}
+use Rattle.afs_law.proofs.Facts.{Ghost, IsAged, server_boot, View, view, last_key, LastRan, IsSafe, IsUntrusted, CallFact, ReplyFact, ClientFacts, Holds, Goes, InScope, Seen, Reached}
 use Rattle.afs_law.proofs.Passing.{PassesBoth, PassesFile, PassesAct, PassesReach, stays, current_over, kept_over, PassesGrant, PassesSeen}
 use Rattle.afs_law.proofs.Resting.{voids}
 use Rattle.afs_law.proofs.Serving.{reached_still}
@@ -17,11 +17,12 @@ use Rattle.afs_law.specs.Acts.{Act, Open}
 use Rattle.afs_law.specs.ClientRow.{the_server, find_cached, dead_code, tries_again, left_in, given_up_in, dropped, gives_up, timeout_row, call_message, ended, reborn, zero_code}
 use Rattle.afs_law.specs.Going.{asked, Going, Need, next, answers, began, with_read, read_on, ClientState}
 use Rattle.afs_law.specs.Grants.{has_fetched, IsWithdrawn, IsDropped}
-use Rattle.afs_law.specs.Ideal.{raised, last_version, HasVersion, Accepts, clock_of, user_of, Reach, reach_over, reach, is_zero_code, change_key, volume_after, is_volume, changed_under, brought}
+use Rattle.afs_law.specs.Ideal.{raised, last_version, HasVersion, Accepts, clock_of, user_of, Reach, reach_over, reach, is_zero_code, change_key, volume_after, changed_under, brought}
 use Rattle.afs_law.specs.Legal.{IsNew, given_up, AreGood, GoodCode, IsGood}
 use Rattle.afs_law.specs.Lines.{Line}
 use Rattle.afs_law.specs.Past.{onto, lines_of, sent_of, given_message, has_begun, running, CalledSince, IsCallUnder}
 use Rattle.afs_law.specs.Runs.{Entry, Cell, Moved, client_moves, turned, client_falls, client_rises, waited_by, message_at}
+use Rattle.afs_law.specs.Scopes.{is_in_scope, is_volume}
 use Rattle.afs_law.specs.States.{CacheEntry}
 use Rattle.std.proofs.Math.Nat.{le_refl, le_trans}
 use Rattle.std.proofs.Common.{le_of_eq}
@@ -267,7 +268,21 @@ left_none (Some v) m c g cache u e = none_in_volume m c g v cache (volume_left v
 -- a fid in the scope of a call is of its volume
 pub scope_is : (call : FsCall) (g : Fid) → InScope call g → is_volume g.volume (volume_changed call) ≡ true
 scope_is (calls.StoreData f st p w l b) g z = eq-eqb f.volume g.volume (ap (λ (x : Fid). x.volume) (same_fid-true f g z))
+scope_is (calls.StoreAcl f acl) g z = eq-eqb f.volume g.volume (ap (λ (x : Fid). x.volume) (same_fid-true f g z))
+scope_is (calls.StoreStatus f status) g z = eq-eqb f.volume g.volume (ap (λ (x : Fid). x.volume) (same_fid-true f g z))
+scope_is (calls.CreateFile f name status) g z = eq-eqb f.volume g.volume (ap (λ (x : Fid). x.volume) (same_fid-true f g z))
+scope_is (calls.Symlink f name target status) g z = eq-eqb f.volume g.volume (ap (λ (x : Fid). x.volume) (same_fid-true f g z))
+scope_is (calls.MakeDir f name status) g z = eq-eqb f.volume g.volume (ap (λ (x : Fid). x.volume) (same_fid-true f g z))
 scope_is call g z = z
+
+none_of : (t : Bool) (q : Fid → Bool) (m c : Node) (f : Fid) (u : CacheEntry) (es : List CacheEntry) → q u.fid ≡ t → q f ≡ false → AreNone m c f es → AreNone m c f (cond t (u ∷ es) es)
+none_of true q m c f u es t other h = ((λ x y. let yes : q f ≡ true = ap q (sym y) ∙ t in absurd cc), h)
+none_of false q m c f u es t other h = h
+
+-- of the entries whose fids are so, none is of one that isn't
+pub none_where : (q : Fid → Bool) (m c : Node) (f : Fid) (cache : List CacheEntry) → q f ≡ false → AreNone m c f (filter (λ e. q e.fid) cache)
+none_where q m c f [] other = tt
+none_where q m c f (u ∷ cache) other = none_of (q u.fid) q m c f u _ refl other (none_where q m c f cache other)
 
 -- the answer 0 is good behind the drops
 pub drops_good : (s : Script) (n p : ℕ) (act : Going) (m : Message) (past : List Entry) (es : List CacheEntry) (own : List Line) → ((own : List Line) → given_message own (sent_of past) ≡ message_at (sent_of past) p → has_begun (Client n) own ≡ false → running (Client n) (own ++ lines_of past) ≡ running (Client n) (lines_of past) → GoodCode (Client n) zero_code past own)

@@ -10,7 +10,7 @@ use Rattle.afs_law.proofs.Asking.{moves_back, step_entry, view_after, Passes, mo
 use Rattle.afs_law.proofs.Backing.{Plain, all_lines, is_up, is_still, is_oweless, is_unchanging}
 use Rattle.afs_law.proofs.Basics.{same_fid-true, same_node-refl, client_number, raised_up_to, some_of, UpTo}
 use Rattle.afs_law.proofs.Edits.{index_in}
-use Rattle.afs_law.proofs.Facts.{Ghost, IsAged, server_boot, View, view, last_key, LastRan, IsSafe, IsUntrusted, CallFact, ReplyFact, ClientFacts, Holds, Goes, InScope, is_in_scope, Seen, Reached}
+use Rattle.afs_law.proofs.Facts.{Ghost, IsAged, server_boot, View, view, last_key, LastRan, IsSafe, IsUntrusted, CallFact, ReplyFact, ClientFacts, Holds, Goes, InScope, Seen, Reached}
 use Rattle.afs_law.proofs.Passing.{PassesBoth, PassesFile, PassesAct, PassesReach, stays, current_over, kept_over, PassesGrant, PassesSeen}
 use Rattle.afs_law.proofs.Resting.{voids}
 use Rattle.afs_law.proofs.Serving.{reached_still}
@@ -19,11 +19,12 @@ use Rattle.afs_law.specs.Acts.{Act, Open}
 use Rattle.afs_law.specs.ClientRow.{the_server, find_cached, dead_code, tries_again, dropped, gives_up, timeout_row, call_message, ended, reborn, left_in, given_up_in, zero_code, gives_up', call_of}
 use Rattle.afs_law.specs.Going.{asked, Going, Need, next, answers, began, with_read, read_on, ClientState}
 use Rattle.afs_law.specs.Grants.{has_fetched, IsWithdrawn, IsDropped}
-use Rattle.afs_law.specs.Ideal.{raised, last_version, HasVersion, Accepts, clock_of, user_of, Reach, reach_over, reach, is_zero_code, change_key, volume_after, is_volume, changed_under, brought}
+use Rattle.afs_law.specs.Ideal.{raised, last_version, HasVersion, Accepts, clock_of, user_of, Reach, reach_over, reach, is_zero_code, change_key, volume_after, changed_under, brought}
 use Rattle.afs_law.specs.Legal.{IsNew, given_up, AreGood, GoodCode, IsGood}
 use Rattle.afs_law.specs.Lines.{Line}
 use Rattle.afs_law.specs.Past.{onto, lines_of, sent_of, given_message, has_begun, running, CalledSince, IsCallUnder}
 use Rattle.afs_law.specs.Runs.{Entry, Cell, Moved, client_moves, turned, client_falls, client_rises, waited_by, message_at}
+use Rattle.afs_law.specs.Scopes.{is_in_scope, is_volume}
 use Rattle.afs_law.specs.States.{CacheEntry}
 use Rattle.std.proofs.Math.Nat.{le_refl, le_trans}
 use Rattle.afs_num.specs.Fids.{same_fid}

@@ -4,6 +4,10 @@ use Rattle.std.specs.Prelude.{codes, true, false, Bool, filter, map, not, ⊤}
 use Rattle.afs_num.specs.declared.types.Fid.{Fid}
 use Rattle.afs_num.specs.declared.types.Key.{Key}
 use Rattle.afs_num.specs.declared.types.Node.TheVariants.{Server, Client}
+use Rattle.afs_ideal.specs.AccessLists.{rights_of, acl_text, entry_text}
+use Rattle.afs_ideal.specs.Directories.{directory_bytes, name_bytes, directory_of, names_at, whole_at, count_at, name_at, spelled_at, bytes_below}
+use Rattle.afs_ideal.specs.SetUp.{laid_at, led}
+use Rattle.afs_ideal.specs.VnodeImage.{image}
 use Rattle.afs_law.proofs.Law.{legal}
 use Rattle.afs_law.specs.Acts.{Open, Close, Ask, WalkTo}
 use Rattle.afs_law.specs.ClientRow.{begin_row, client_row}
@@ -12,11 +16,7 @@ use Rattle.afs_law.specs.Lines.{Line}
 use Rattle.afs_law.specs.Records.{change_record, boot_record, first_record, volume_bytes}
 use Rattle.afs_law.specs.Runs.{comes_up, steady, waits, starts_again, sets_stop, ticks, server_waits, Entry, Cell, Input, begins, gives, moved, start, Leads}
 use Rattle.afs_model.specs.Messages.{spelled}
-use Rattle.afs_ideal.specs.SetUp.{laid_at, led}
 use Rattle.afs_num.specs.Names.{name_ok}
-use Rattle.afs_ideal.specs.Directories.{directory_bytes, name_bytes, directory_of, names_at, whole_at, count_at, name_at, spelled_at, bytes_below}
-use Rattle.afs_ideal.specs.AccessLists.{rights_of, acl_text, entry_text}
-use Rattle.afs_ideal.specs.VnodeImage.{image}
 use Rattle.std.specs.Fmt.{digits}
 use Rattle.afs_num.specs.declared.calls.FsCall.TheVariants as calls
 use Rattle.afs_num.specs.declared.scripts.Script.{Script}

@@ -1,8 +1,10 @@
+use Rattle.std.specs.List.{list_any}
 use Rattle.afs_ideal.specs.Directories.{directory_of}
 use Rattle.afs_ideal.specs.Operations.{volume_changed}
 use Rattle.afs_law.specs.Acts.{Act, Open}
 use Rattle.afs_law.specs.Going.{ClientState, Going, Need, reads, asks_for, answers, next, asked, began, with_read}
 use Rattle.afs_law.specs.Lines.{Line}
+use Rattle.afs_law.specs.Scopes.{is_in_scope}
 use Rattle.afs_law.specs.ServerRow.{replied, boot_told}
 use Rattle.afs_law.specs.States.{CacheEntry, Seat}
 use Rattle.afs_law.specs.Steps.{Step}
@@ -10,7 +12,7 @@ use Rattle.afs_model.specs.Calls.{Admitted, paired}
 use Rattle.afs_model.specs.FsRows.{call_number}
 use Rattle.afs_model.specs.Calls as pairs
 use Rattle.afs_num.specs.declared.directories.Name.{Name}
-use Rattle.std.specs.Prelude.{Result, Ok, Err, ℕ, ◌+◌, List, [], ◌∷◌, Bool, true, false, not, ◌&&◌, Option, Some, None, pos, negsuc, nat_eq, nat_lt, map, filter, find, codes, length, if◌then◌else◌}
+use Rattle.std.specs.Prelude.{◌||◌, Result, Ok, Err, ℕ, ◌+◌, List, [], ◌∷◌, Bool, true, false, not, ◌&&◌, Option, Some, None, pos, negsuc, nat_eq, nat_lt, map, filter, find, codes, length, if◌then◌else◌}
 use Rattle.afs_num.specs.Fids.{same_fid}
 use Rattle.afs_num.specs.Nodes.{same_node}
 use Rattle.afs_num.specs.declared.types.Code.{Code}
@@ -179,24 +181,23 @@ abbrev pub given_up_in : Option ℕ → List CacheEntry → List CacheEntry
 given_up_in None cache = []
 given_up_in (Some id) cache = filter (λ e. nat_eq e.fid.volume id) cache
 
--- a reply that a break overtook: nothing of it is cached
-abbrev pub takes_overtaken : Node → ClientState → ℕ → Fid → Step ClientState
-takes_overtaken me c place fid = record {
-  state = ended c (filter (λ e. not (same_fid e.fid fid)) c.cache);
-  lines = lines.Given place ∷ lines.Answer me zero_code ∷ [];
-  sent = [];
-}
+-- the entries that a call, answered with 0, leaves, and those that it takes away
+abbrev pub left_after : FsCall → List CacheEntry → List CacheEntry
+left_after call cache = filter (λ e. not (is_in_scope call e.fid)) cache
+
+abbrev pub dropped_after : FsCall → List CacheEntry → List CacheEntry
+dropped_after call cache = filter (λ e. is_in_scope call e.fid) cache
 
 -- their lines, before these
 abbrev pub dropped : Node → List CacheEntry → List Line → List Line
 dropped me [] ls = ls
 dropped me (e ∷ es) ls = lines.Drop me e.fid ∷ dropped me es ls
 
--- any other call is answered, and the entries of the volume that it changed are given up
+-- any other call is answered, and the entries of what it may have changed are given up
 abbrev pub takes_plain : Node → ClientState → ℕ → FsCall → Step ClientState
 takes_plain me c place call = record {
-  state = ended c (left_in (volume_changed call) c.cache);
-  lines = lines.Given place ∷ dropped me (given_up_in (volume_changed call) c.cache) (lines.Answer me zero_code ∷ []);
+  state = ended c (left_after call c.cache);
+  lines = lines.Given place ∷ dropped me (dropped_after call c.cache) (lines.Answer me zero_code ∷ []);
   sent = [];
 }
 
@@ -214,8 +215,10 @@ takes_data me c clock place act contents status callback (calls.FetchData fid po
     takes_fetched me c clock place act (record { fid = fid; index = status.sync_counter; expiry = callback.expiration_time; body = body_told status.file_type contents })
 takes_data me c clock place act contents status callback call = takes_plain me c place call
 
+-- of a reply that a break overtook nothing is cached
 abbrev pub takes_set : Node → ClientState → ℕ → ℕ → AfsFetchStatus → FsCall → Step ClientState
-takes_set me c clock place status (calls.StoreData fid set position wanted file_length contents) = if c.spoiled then takes_overtaken me c place fid else takes_stored me c clock place fid status.sync_counter contents
+takes_set me c clock place status (calls.StoreData fid set position wanted file_length contents) =
+    if c.spoiled then takes_plain me c place (calls.StoreData fid set position wanted file_length contents) else takes_stored me c clock place fid status.sync_counter contents
 takes_set me c clock place status call = takes_plain me c place call
 
 abbrev pub takes : Node → ClientState → ℕ → ℕ → Going → FsCall → FsReply → Step ClientState
@@ -261,10 +264,22 @@ abbrev pub is_named : Fid → List Fid → Bool
 is_named f [] = false
 is_named f (g ∷ fs) = if same_fid g f then true else is_named f fs
 
--- the reply to the call is of one of the fids; replies to other calls aren't cached
+-- one of the fids is among the call's arguments
 abbrev pub names_call : List Fid → FsCall → Bool
 names_call fs (calls.FetchData fid position wanted) = is_named fid fs
+names_call fs (calls.FetchAcl fid) = is_named fid fs
+names_call fs (calls.FetchStatus fid) = is_named fid fs
 names_call fs (calls.StoreData fid status position wanted file_length contents) = is_named fid fs
+names_call fs (calls.StoreAcl fid acl) = is_named fid fs
+names_call fs (calls.StoreStatus fid status) = is_named fid fs
+names_call fs (calls.RemoveFile directory name) = is_named directory fs
+names_call fs (calls.CreateFile directory name status) = is_named directory fs
+names_call fs (calls.Rename directory name target other) = is_named directory fs || is_named target fs
+names_call fs (calls.Symlink directory name target status) = is_named directory fs
+names_call fs (calls.Link directory name fid) = is_named directory fs || is_named fid fs
+names_call fs (calls.MakeDir directory name status) = is_named directory fs
+names_call fs (calls.RemoveDir directory name) = is_named directory fs
+names_call fs (calls.BulkStatus fids) = list_any (λ f. is_named f fs) fids
 names_call fs call = false
 
 abbrev pub names_act : List Fid → Option Going → Bool

@@ -5,6 +5,7 @@ use Rattle.afs_law.specs.Acts.{Act, Open, Close, Ask}
 use Rattle.afs_law.specs.Lines.{Line}
 use Rattle.afs_law.specs.Past.{onto, is_of_act, sent_of, is_called}
 use Rattle.afs_law.specs.Runs.{Entry, first_volume, first_volumes}
+use Rattle.afs_law.specs.Scopes.{is_volume}
 use Rattle.afs_law.specs.ServerRow.{versioned}
 use Rattle.std.specs.Prelude.{is_some, ◌≡◌, ℕ, ◌+◌, List, [], ◌∷◌, ◌++◌, Bool, true, false, ◌&&◌, Option, Some, None, ℤ, pos, negsuc, nat_eq, codes, length, max, if◌then◌else◌, ◌⊎◌}
 use Rattle.std.specs.Option.{option_map}
@@ -60,10 +61,6 @@ call_in c = None
 abbrev pub call_under : Key → List Message → Option (List ℕ × FsCall)
 call_under k [] = None
 call_under k (m ∷ ms) = if is_called k m.head m.carried then call_in m.carried else call_under k ms
-
-abbrev pub is_volume : ℕ → Option ℕ → Bool
-is_volume id None = false
-is_volume id (Some n) = nat_eq n id
 
 abbrev pub applied_by : Bool → ℕ → List ℕ → FsCall → Option Volume → Option Volume
 applied_by false id user call o = o

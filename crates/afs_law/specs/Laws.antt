@@ -1,13 +1,7 @@
 -- Laws about the runs of a script.
 use Rattle.afs_ideal.specs.Tables.{get}
-use Rattle.afs_ideal.specs.Volumes.{Volume}
 use Rattle.afs_ideal.specs.Told.{Agrees}
-use Rattle.afs_num.specs.declared.messages.Carried.TheVariants as carried
-use Rattle.std.specs.Prelude.{None, Some, Option, ◌∷◌, [], ◌≡◌, ◌↔◌, ℕ, List, ◌++◌, false}
-use Rattle.afs_num.specs.declared.types.Fid.{Fid}
-use Rattle.afs_num.specs.declared.types.Node.{Node}
-use Rattle.afs_num.specs.declared.scripts.Script.{Script}
-use Rattle.afs_num.specs.declared.histories.Body.{Body}
+use Rattle.afs_ideal.specs.Volumes.{Volume}
 use Rattle.afs_law.specs.Grants.{since, IsOutstanding}
 use Rattle.afs_law.specs.Ideal.{versions_in, volume_after, set_up, IsLast}
 use Rattle.afs_law.specs.Legal.{GoodRead, Legal}
@@ -19,6 +13,12 @@ use Rattle.afs_law.specs.Runs.{Leads, start, Input, Entry, Cell, RunsTo}
 use Rattle.afs_law.specs.ServerRow.{serves, runs, refuses, not_served, whole}
 use Rattle.afs_law.specs.States.{ServerState}
 use Rattle.afs_model.specs.FsRows.{call_number}
+use Rattle.afs_num.specs.declared.messages.Carried.TheVariants as carried
+use Rattle.std.specs.Prelude.{None, Some, Option, ◌∷◌, [], ◌≡◌, ◌↔◌, ℕ, List, ◌++◌, false}
+use Rattle.afs_num.specs.declared.types.Fid.{Fid}
+use Rattle.afs_num.specs.declared.types.Node.{Node}
+use Rattle.afs_num.specs.declared.scripts.Script.{Script}
+use Rattle.afs_num.specs.declared.histories.Body.{Body}
 use Rattle.afs_num.specs.declared.histories.ReadSource.{ReadSource}
 use Rattle.afs_num.specs.declared.types.Head.{Head}
 use Rattle.afs_num.specs.declared.calls.FsCall.{FsCall}

@@ -3,6 +3,7 @@ pub mod Lines
 pub mod States
 pub mod Steps
 pub mod Records
+pub mod Scopes
 pub mod ServerRow
 pub mod Callbacks
 pub mod Going

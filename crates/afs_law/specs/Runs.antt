@@ -1,7 +1,7 @@
 use Rattle.afs_num.specs.Places.{at_place}
 use Rattle.afs_num.specs.declared.types.Fid.{Fid}
-use Rattle.afs_ideal.specs.Tables.{Table, get, set}
 use Rattle.afs_ideal.specs.SetUp.{new_volume, laid}
+use Rattle.afs_ideal.specs.Tables.{Table, get, set}
 use Rattle.afs_ideal.specs.Volumes.{Volume}
 use Rattle.afs_law.specs.Acts.{Act}
 use Rattle.afs_law.specs.Callbacks.{put, Backs, BackCall, Turn, Started, expired, turned_by, timed, pumped, no_turn, risen_turn, first_backs}

@@ -20,7 +20,6 @@ use Rattle.afs_num.specs.declared.messages.Received.TheVariants.{Nothing, Unknow
 use Rattle.afs_num.specs.declared.histories.Version.{Version}
 use Rattle.afs_ideal.specs.Operations.{Caller, the_user, Found, Shown, shows_body, shows_status, shows_acl, shows_statuses, shows_volume, Result, refused, reads, changes, no_operation, op, volume_called}
 use Rattle.afs_ideal.specs.Replies.{reading_reply, change_reply, stamped, vnode_at}
-use Rattle.afs_num.specs.declared.calls.FsCall.TheVariants as calls
 use Rattle.afs_ideal.specs.Tables.{get, set}
 use Rattle.afs_ideal.specs.Volumes.{fid_of, Volume, Edit, versions_by, edited_all, counted}
 use Rattle.afs_law.specs.Lines.{Line}
@@ -28,6 +27,7 @@ use Rattle.afs_law.specs.Records.{change_record, boot_record, record_length}
 use Rattle.afs_law.specs.States.{Seat, ServerState}
 use Rattle.afs_law.specs.Steps.{Step}
 use Rattle.afs_model.specs.Calls.{CallSeat, Admitted, admitted, call_seated}
+use Rattle.afs_num.specs.declared.calls.FsCall.TheVariants as calls
 use Rattle.afs_model.specs.Calls as pairs
 use Rattle.afs_law.specs.Lines as lines
 
