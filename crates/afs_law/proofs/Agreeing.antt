@@ -5,7 +5,7 @@ use Rattle.afs_num.specs.declared.histories.Version.{Version}
 use Rattle.afs_num.specs.declared.scripts.Script.{Script}
 use Rattle.afs_ideal.specs.Told.{last_told, fid_at, live, Agrees}
 use Rattle.afs_ideal.specs.Volumes.{Volume}
-use Rattle.afs_law.proofs.Edits.{SoundIn}
+use Rattle.afs_law.proofs.Edits.{agrees_of, SoundIn}
 use Rattle.afs_law.proofs.Facts.{Holds}
 use Rattle.afs_law.proofs.Law.{goes, starts}
 use Rattle.afs_law.specs.Ideal.{last_version, latest, version_in, versions_in, told_by, set_up, volume_after}
@@ -32,14 +32,6 @@ one_run (x ∷ xs) c (e ∷ h) (f ∷ k) a b r q =
 
 -- ---- what was told
 
-last_by : (f : Fid) (o : Option Version) (ls : List Line) (p : Option Version) → p ≡ last_told f (versions_in ls) → latest f o p ≡ last_told f (told_by o (versions_in ls))
-last_by f None ls p e = e
-last_by f (Some v) ls p e = ap (λ (x : Option Version). cond (same_fid v.fid f) (Some v) x) e
-
-pub last_of : (f : Fid) (ls : List Line) → last_version f ls ≡ last_told f (versions_in ls)
-last_of f [] = refl
-last_of f (l ∷ ls) = last_by f (version_in l) ls (last_version f ls) (last_of f ls)
-
 pub holds_after : (s : Script) (xs : List Input) (c : Cell) (past es : List Entry) (end : Cell) → Holds s c past → Leads c xs es end → Holds s end (past_of past es)
 holds_after s [] c past [] end h r = subst (λ (x : Cell). Holds s x past) (sym r) h
 holds_after s [] c past (e ∷ es) end h r = absurd r
@@ -54,10 +46,7 @@ agrees_by : (id : ℕ) (v : Volume) (o : Option Volume) (ls : List Line) → o �
 agrees_by id v None ls e x = absurd cc
 agrees_by id v (Some u) ls e x =
     let same : u ≡ v = cc in
-    subst (λ (w : Volume). Agrees id w (versions_in ls)) same (record {
-      held = λ n q. ap live (sym (last_of (fid_at id n q) ls)) ∙ x.agree n q;
-      unseen = λ n q le. sym (last_of (fid_at id n q) ls) ∙ x.new n q le;
-    })
+    subst (λ (w : Volume). Agrees id w (versions_in ls)) same (agrees_of id u ls x)
 
 pub held : (s : Script) (h : List Entry) (end : Cell) → IsOneServer s → RunsTo h s end → (id : ℕ) → IsHeld id end (past_of (set_up s ∷ []) h)
 held s h end one r id =

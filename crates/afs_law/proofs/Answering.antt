@@ -1,5 +1,5 @@
 use Rattle.afs_num.specs.declared.directories.Name.{Name}
-use Rattle.std.proofs.Common.{◌++◌, ◌≡◌, ℕ, ◌<◌, ◌≤◌, inl, inr, Bool, true, false, cond, nat_lt, not, List, [], ◌∷◌, map, Option, Some, None, ℤ, refl, sym, ap, subst, ◌∙◌, eqb-true, ltb-true, lt-ltb, le_of_eq, append-nil, arith}
+use Rattle.std.proofs.Common.{◌+◌, nat_eq, ◌++◌, ◌≡◌, ℕ, ◌<◌, ◌≤◌, inl, inr, Bool, true, false, cond, nat_lt, not, List, [], ◌∷◌, map, Option, Some, None, ℤ, refl, sym, ap, subst, ◌∙◌, eqb-true, ltb-true, lt-ltb, le_of_eq, append-nil, arith}
 use Rattle.std.specs.Prelude.{◌&&◌, filter, pos, ◌⊎◌, ℤ, ⊤}
 use Rattle.std.specs.Option.{option_map}
 use Rattle.afs_num.specs.Fids.{same_fid}
@@ -23,7 +23,7 @@ use Rattle.afs_law.proofs.Asking.{client_kept, call_known, reply_still, step_ent
 use Rattle.afs_law.proofs.Basics.{UpTo, Above, IfCall, IfReply, IfNotice, OfReply, OfNotice, up_to_by, yes_no, both, same_fid-true, same_fid-refl, same_node-refl, client_number, up_to_both, found-cached-fid, found-first, none-first, found-refreshed, OfCall, each_at, some_of, ByServer, OfClient, by_client, IfBack, up_to_next, next_not, same_node-true, raised_up_to}
 use Rattle.afs_law.proofs.Dropping.{left_out, called_goes}
 use Rattle.afs_law.proofs.Edits.{index_in}
-use Rattle.afs_law.proofs.Facts.{IsTrusted, Ghost, Seen, IsAged, Spot, spot, LastStored, IsStored, IsUntrusted, IsSafe, Fits, View, view, last_key, LastRan, Reached, IsNewest, Overtaken, Stands, IsCurrent, HasCurrent, Answers, stored_index, ClientFacts, CallFact, CallIn, ReplyFact, ReplyIn, Holds, Goes, IsFetched, FitsPlain, FitsData, FitsSet, FitsReply, WasStored, WasChanged, InScope, IsNoticed}
+use Rattle.afs_law.proofs.Facts.{IsKeptBody, IsTrusted, Ghost, Seen, IsAged, Spot, spot, LastStored, IsStored, IsUntrusted, IsSafe, Fits, View, view, last_key, LastRan, Reached, IsNewest, Overtaken, Stands, IsCurrent, HasCurrent, Answers, stored_index, ClientFacts, CallFact, CallIn, ReplyFact, ReplyIn, Holds, Goes, IsFetched, FitsPlain, FitsData, FitsSet, FitsReply, WasStored, WasChanged, InScope, IsNoticed}
 use Rattle.afs_law.proofs.Owing.{BackIn}
 use Rattle.afs_law.proofs.Passing.{PassesSeen, PassesGrant, PassesFile, PassesAct, PassesReach, StaysNewest, stays, held_over, fetch_reply_by, current_over, kept_over, cause_behind}
 use Rattle.afs_law.proofs.Resting.{voids}
@@ -31,7 +31,7 @@ use Rattle.afs_law.proofs.Saving.{old_withdrawn}
 use Rattle.afs_law.proofs.Serving.{told_file, told_reach, told_act, not_ran, stale_none, reached_still}
 use Rattle.afs_law.proofs.Skipping.{none_where, own_ended, skips, drop_lines, was_given, drop_file, drop_reach, drop_seen, drop_passes, ended_running, left_found, left_scope, left_none, scope_is, drops_good}
 use Rattle.afs_law.specs.Acts.{Act, Open, Close, WalkTo, Ask}
-use Rattle.afs_law.specs.ClientRow.{dropped_after, left_after, the_server, find_cached, guest, used_first, refreshed, call_message, calls_step, zero_code, shows_step, opens, begin_row, ignores, ended, answers_step, uses_step, takes_stored, takes, resends_step, counts, is_awaited, awaits, client_row, is_spent, hears_in, takes_plain, takes_data, takes_set, left_in, given_up_in, body_told, call_of, used_on, reads_on_step, asking, code_by, is_reading}
+use Rattle.afs_law.specs.ClientRow.{is_below, dropped_after, left_after, the_server, find_cached, guest, used_first, refreshed, call_message, calls_step, zero_code, shows_step, opens, begin_row, ignores, ended, answers_step, uses_step, takes_stored, takes, resends_step, counts, is_awaited, awaits, client_row, is_spent, hears_in, takes_plain, takes_data, takes_set, left_in, given_up_in, body_told, call_of, used_on, reads_on_step, asking, code_by, is_reading}
 use Rattle.afs_law.specs.Going.{asked, Going, Need, next, answers, began, with_read, read_on, ClientState, shown_code, Shown, Goal, shows, calls_on, calls_in, at_end, steps, step_to, is_last_name, looked_up, fid_of, plan_of, call_for, reads, asks_for}
 use Rattle.afs_law.specs.Grants.{has_fetched, fetch_reply, since}
 use Rattle.afs_law.specs.Ideal.{is_zero_code, reach, last_version, HasVersion}
@@ -227,11 +227,15 @@ data_safe sp call n x m past contents status callback t e l cache aged head fits
 
 pub set_safe : (call : FsCall) (n : ℕ) (x : Spot) (m : Message) (past : List Entry) (status : AfsFetchStatus) (t e l : ℕ) (cache : List CacheEntry) (aged : Type 0) (head : Head) → FitsSet n x m past status call → (LastStored x → ⊥) → IsSafe t e l None cache aged head call
 set_safe (calls.StoreData f st p w k b) n x m past status t e l cache aged head fits none = absurd (none fits.1.0.ran)
+set_safe (calls.StoreAcl f acl) n x m past status t e l cache aged head fits none = absurd (none fits.1.0.ran)
+set_safe (calls.StoreStatus f st) n x m past status t e l cache aged head fits none = absurd (none fits.1.0.ran)
 set_safe call n x m past status t e l cache aged head fits none = plain_safe call x m t e l cache aged head (volume_changed call) refl fits none
 
 pub reply_safe : (sp : Bool) (reply : FsReply) (n : ℕ) (call : FsCall) (x : Spot) (m : Message) (past : List Entry) (t e l : ℕ) (cache : List CacheEntry) (aged : Type 0) (head : Head) → FitsReply sp n call x m past reply → (LastStored x → ⊥) → IsSafe t e l None cache aged head call
 reply_safe sp (replies.FetchData contents status callback sync) n call x m past t e l cache aged head fits none = data_safe sp call n x m past contents status callback t e l cache aged head fits none
 reply_safe sp (replies.StoreData status sync) n call x m past t e l cache aged head fits none = set_safe call n x m past status t e l cache aged head fits none
+reply_safe sp (replies.StoreAcl status sync) n call x m past t e l cache aged head fits none = set_safe call n x m past status t e l cache aged head fits none
+reply_safe sp (replies.StoreStatus status sync) n call x m past t e l cache aged head fits none = set_safe call n x m past status t e l cache aged head fits none
 reply_safe sp reply n call x m past t e l cache aged head fits none = plain_safe call x m t e l cache aged head (volume_changed call) refl fits none
 
 pub ended_safe : (sp : Bool) (n : ℕ) (call : FsCall) (x : Spot) (boot : ℕ) (m : Message) (c : Carried) (past : List Entry) (t e l : ℕ) (cache : List CacheEntry) (aged : Type 0) (head : Head) → Fits sp n call x boot m c past → (LastStored x → ⊥)
@@ -610,14 +614,24 @@ fetched_goes s c past n p act f head contents status callback sync false h d shu
 
 -- ---- an answered store
 
+-- the act's call is a store of the fid: that alone is in its scope, and its reply tells the new index
+pub record IsStoreBy (act : Going) (call : FsCall) (f : Fid) : Type 0 where
+  pub asks : asked act ≡ call
+  pub scope : (g : Fid) → is_in_scope call g ≡ same_fid f g
+  pub changed : (n : ℕ) (g : Fid) (server : Node) (newer : List Line) (reply : Option Message) (past : List Entry) → WasChanged n g server newer reply past call → WasStored n g server newer reply past
+
+-- what the store made of the body of the client's entry was told
+abbrev pub IsLeft : Cell → ℕ → Fid → ℕ → (Body → Body) → List Entry → Type 0
+IsLeft c n f index made past = (x : CacheEntry) → find_cached f (c.clients n).cache ≡ Some x → c.clock < x.expiry → HasVersion f index (made x.body) (lines_of past)
+
 -- the entry of the file holds what was stored, under the reply's index
-pub stored_state : (fl : ℕ → Ghost) (c : Cell) (past : List Entry) (n p : ℕ) (act : Going) (st : AfsStoreStatus) (pp ww ll : ℤ) (f : Fid) (b : List ℕ) (m : Message) (index i : ℕ) (server : Node) (newer : List Line) (e : Entry) (cache : List CacheEntry) → Due c fl past n p act m → IsStored (spot (view fl c n)) m → asked act ≡ calls.StoreData f st pp ww ll b → stored_index m.carried ≡ Some index
+pub stored_state : (fl : ℕ → Ghost) (c : Cell) (past : List Entry) (n p : ℕ) (act : Going) (call : FsCall) (f : Fid) (b : Body → Body) (m : Message) (index i : ℕ) (server : Node) (newer : List Line) (e : Entry) (cache : List CacheEntry) → Due c fl past n p act m → IsStored (spot (view fl c n)) m → IsStoreBy act call f → stored_index m.carried ≡ Some index
     → Seen n f index (e ∷ past) → StaysNewest n f e past → server ≡ the_server → Stands n f i server newer (view fl c n) past
     → Stands n f index server (onto newer e.lines) (view_after c n (holding fl n (fl n).held) (ended (c.clients n) cache)) (e ∷ past)
-stored_state fl c past n p act st pp ww ll f b m index i server newer e cache d is same told r stay q (inl a) = absurd (a.before act d.running (ap (λ (z : FsCall). is_in_scope z f) same ∙ same_fid-refl f) is.ran)
-stored_state fl c past n p act st pp ww ll f b m index i server newer e cache d is same told r stay q (inr o) =
+stored_state fl c past n p act call f b m index i server newer e cache d is same told r stay q (inl a) = absurd (a.before act d.running (ap (λ (z : FsCall). is_in_scope z f) same.asks ∙ (same.scope f ∙ same_fid-refl f)) is.ran)
+stored_state fl c past n p act call f b m index i server newer e cache d is same told r stay q (inr o) =
     let one : o.act ≡ act = some_of o.act act (sym o.runs ∙ d.running) in
-    let w : WasStored n f server newer o.ran.seat.reply past = subst (λ (z : FsCall). WasChanged n f server newer o.ran.seat.reply past z) (ap asked one ∙ same) o.changed in
+    let w : WasStored n f server newer o.ran.seat.reply past = same.changed n f server newer o.ran.seat.reply past (subst (λ (z : FsCall). WasChanged n f server newer o.ran.seat.reply past z) (ap asked one ∙ same.asks) o.changed) in
     let is_reply : m ≡ w.reply = one_reply (spot (view fl c n)) is.ran o.ran m w.reply is.kept w.kept in
     let same_index : w.index ≡ index = some_of _ _ (sym w.told ∙ (ap (λ (x : Message). stored_index x.carried) (sym is_reply) ∙ told)) in
     inl (record {
@@ -627,68 +641,68 @@ stored_state fl c past n p act st pp ww ll f b m index i server newer e cache d 
     })
 
 -- that of the file
-pub stored_own : (s : Script) (c : Cell) (past : List Entry) (n p : ℕ) (act : Going) (st : AfsStoreStatus) (pp ww ll : ℤ) (f : Fid) (b : List ℕ) (m : Message) (index : ℕ) (x : CacheEntry) (e : Entry) (cache : List CacheEntry) → (h : Holds s c past) → Due c h.floors past n p act m → IsStored (spot (view h.floors c n)) m → asked act ≡ calls.StoreData f st pp ww ll b → stored_index m.carried ≡ Some index
-    → HasVersion f index (bodies.File b) (lines_of past) → PassesFile n f e past → Seen n f index (e ∷ past) → StaysNewest n f e past → IsCurrent n f x (view h.floors c n) past
-    → IsCurrent n f (record x { index = index; body = bodies.File b }) (view_after c n (holding h.floors n (h.floors n).held) (ended (c.clients n) cache)) (e ∷ past)
-stored_own s c past n p act st pp ww ll f b m index x e cache h d is same told whole pass r stay cur = record {
+pub stored_own : (s : Script) (c : Cell) (past : List Entry) (n p : ℕ) (act : Going) (call : FsCall) (f : Fid) (b : Body → Body) (m : Message) (index : ℕ) (x : CacheEntry) (e : Entry) (cache : List CacheEntry) → (h : Holds s c past) → Due c h.floors past n p act m → IsStored (spot (view h.floors c n)) m → IsStoreBy act call f → stored_index m.carried ≡ Some index
+    → HasVersion f index (b x.body) (lines_of past) → PassesFile n f e past → Seen n f index (e ∷ past) → StaysNewest n f e past → IsCurrent n f x (view h.floors c n) past
+    → IsCurrent n f (record x { index = index; body = b x.body }) (view_after c n (holding h.floors n (h.floors n).held) (ended (c.clients n) cache)) (e ∷ past)
+stored_own s c past n p act call f b m index x e cache h d is same told whole pass r stay cur = record {
   reply = cur.reply;
   boot = cur.boot;
   by = fetch_reply_by (has_fetched (Client n) f e.lines) (given_message e.lines (sent_of past)) (fetch_reply (Client n) f past) pass.fetched ∙ cur.by;
-  held = held_over n f index (bodies.File b) x.expiry cur.reply e past pass.grant (record { grant = cur.held.grant; server = cur.held.server; kept = cur.held.kept; whole = whole; base = cur.held.base; split = cur.held.split; begun = cur.held.begun });
-  state = stored_state h.floors c past n p act st pp ww ll f b m index x.index cur.held.grant.server (since (Client n) f x.expiry cur.reply past cur.held.grant) e cache d is same told r stay cur.held.server cur.state;
+  held = held_over n f index (b x.body) x.expiry cur.reply e past pass.grant (record { grant = cur.held.grant; server = cur.held.server; kept = cur.held.kept; whole = whole; base = cur.held.base; split = cur.held.split; begun = cur.held.begun });
+  state = stored_state h.floors c past n p act call f b m index x.index cur.held.grant.server (since (Client n) f x.expiry cur.reply past cur.held.grant) e cache d is same told r stay cur.held.server cur.state;
 }
 
-pub stored_by : (t live : Bool) (s : Script) (c : Cell) (past : List Entry) (n p : ℕ) (act : Going) (st : AfsStoreStatus) (pp ww ll : ℤ) (f g : Fid) (b : List ℕ) (m : Message) (index : ℕ) (x u : CacheEntry) (e : Entry) (cache : List CacheEntry) → (h : Holds s c past) → Due c h.floors past n p act m → IsStored (spot (view h.floors c n)) m → asked act ≡ calls.StoreData f st pp ww ll b → stored_index m.carried ≡ Some index
-    → HasVersion f index (bodies.File b) (lines_of past) → ((k : Fid) → PassesFile n k e past) → Seen n f index (e ∷ past) → ((k : Fid) (i : ℕ) → (f ≡ k → ⊥) → IsTrusted c.clock k (c.clients n).cache → Seen n k i past → Seen n k i (e ∷ past)) → ((k : Fid) → StaysNewest n k e past)
-    → same_fid x.fid f ≡ t → nat_lt c.clock x.expiry ≡ live → same_fid x.fid g ≡ true → find_cached g (c.clients n).cache ≡ Some x → cond (t && live) (record x { index = index; body = bodies.File b }) x ≡ u → c.clock < u.expiry
+pub stored_by : (t live : Bool) (s : Script) (c : Cell) (past : List Entry) (n p : ℕ) (act : Going) (call : FsCall) (f g : Fid) (b : Body → Body) (m : Message) (index : ℕ) (x u : CacheEntry) (e : Entry) (cache : List CacheEntry) → (h : Holds s c past) → Due c h.floors past n p act m → IsStored (spot (view h.floors c n)) m → IsStoreBy act call f → stored_index m.carried ≡ Some index
+    → IsLeft c n f index b past → ((k : Fid) → PassesFile n k e past) → Seen n f index (e ∷ past) → ((k : Fid) (i : ℕ) → (f ≡ k → ⊥) → IsTrusted c.clock k (c.clients n).cache → Seen n k i past → Seen n k i (e ∷ past)) → ((k : Fid) → StaysNewest n k e past)
+    → same_fid x.fid f ≡ t → nat_lt c.clock x.expiry ≡ live → same_fid x.fid g ≡ true → find_cached g (c.clients n).cache ≡ Some x → cond (t && live) (record x { index = index; body = b x.body }) x ≡ u → c.clock < u.expiry
     → IsCurrent n g u (view_after c n (holding h.floors n (h.floors n).held) (ended (c.clients n) cache)) (e ∷ past)
-stored_by true true s c past n p act st pp ww ll f g b m index x u e cache h d kept same told whole pass z r stay t live own found is lasts =
+stored_by true true s c past n p act call f g b m index x u e cache h d kept same told whole pass z r stay t live own found is lasts =
     let fg : f ≡ g = sym (same_fid-true x.fid f t) ∙ same_fid-true x.fid g own in
     subst (λ (y : CacheEntry). IsCurrent n g y (view_after c n (holding h.floors n (h.floors n).held) (ended (c.clients n) cache)) (e ∷ past)) is
-    (subst (λ (y : Fid). IsCurrent n y (record x { index = index; body = bodies.File b }) (view_after c n (holding h.floors n (h.floors n).held) (ended (c.clients n) cache)) (e ∷ past)) fg
-    (stored_own s c past n p act st pp ww ll f b m index x e cache h d kept same told whole (pass f) z (stay f) ((h.clients n).current f x (ap (λ (y : Fid). find_cached y (c.clients n).cache) fg ∙ found) (ltb-true _ _ live))))
-stored_by true false s c past n p act st pp ww ll f g b m index x u e cache h d kept same told whole pass z r stay t live own found is lasts =
+    (subst (λ (y : Fid). IsCurrent n y (record x { index = index; body = b x.body }) (view_after c n (holding h.floors n (h.floors n).held) (ended (c.clients n) cache)) (e ∷ past)) fg
+    (stored_own s c past n p act call f b m index x e cache h d kept same told (whole x (ap (λ (y : Fid). find_cached y (c.clients n).cache) fg ∙ found) (ltb-true _ _ live)) (pass f) z (stay f) ((h.clients n).current f x (ap (λ (y : Fid). find_cached y (c.clients n).cache) fg ∙ found) (ltb-true _ _ live))))
+stored_by true false s c past n p act call f g b m index x u e cache h d kept same told whole pass z r stay t live own found is lasts =
     let lasts' : c.clock < x.expiry = subst (λ (y : CacheEntry). c.clock < y.expiry) (sym is) lasts in
     let yes : nat_lt c.clock x.expiry ≡ true = lt-ltb _ _ lasts' in
     absurd cc
-stored_by false live s c past n p act st pp ww ll f g b m index x u e cache h d kept same told whole pass z r stay t live' own found is lasts =
+stored_by false live s c past n p act call f g b m index x u e cache h d kept same told whole pass z r stay t live' own found is lasts =
     let ne : f ≡ g → ⊥ = λ q. let yes : same_fid x.fid f ≡ true = ap (same_fid x.fid) q ∙ own in absurd cc in
     let lasts' : c.clock < x.expiry = subst (λ (y : CacheEntry). c.clock < y.expiry) (sym is) lasts in
     subst (λ (y : CacheEntry). IsCurrent n g y (view_after c n (holding h.floors n (h.floors n).held) (ended (c.clients n) cache)) (e ∷ past)) is
     (current_over n g x (view h.floors c n) (view_after c n (holding h.floors n (h.floors n).held) (ended (c.clients n) cache)) e past (le_refl _) (pass g) (ended_stands h.floors c past n cache (holding h.floors n (h.floors n).held) e g x.index (r g x.index ne (record { entry = x; found = found; lasts = lasts' })) (stay g)
-    (λ a runs sc ran. ne (same_fid-true f g (ap (λ (z : FsCall). is_in_scope z g) (sym same) ∙ (ap (λ (z : Going). is_in_scope (asked z) g) (some_of act a (sym d.running ∙ runs)) ∙ sc))))) ((h.clients n).current g x found lasts'))
+    (λ a runs sc ran. ne (same_fid-true f g (sym (same.scope g) ∙ (ap (λ (z : FsCall). is_in_scope z g) (sym same.asks) ∙ (ap (λ (z : Going). is_in_scope (asked z) g) (some_of act a (sym d.running ∙ runs)) ∙ sc)))))) ((h.clients n).current g x found lasts'))
 
-pub stored_of : (o : Option CacheEntry) (s : Script) (c : Cell) (past : List Entry) (n p : ℕ) (act : Going) (st : AfsStoreStatus) (pp ww ll : ℤ) (f g : Fid) (b : List ℕ) (m : Message) (index : ℕ) (u : CacheEntry) (e : Entry) (cache : List CacheEntry) → (h : Holds s c past) → Due c h.floors past n p act m → IsStored (spot (view h.floors c n)) m → asked act ≡ calls.StoreData f st pp ww ll b → stored_index m.carried ≡ Some index
-    → HasVersion f index (bodies.File b) (lines_of past) → ((k : Fid) → PassesFile n k e past) → Seen n f index (e ∷ past) → ((k : Fid) (i : ℕ) → (f ≡ k → ⊥) → IsTrusted c.clock k (c.clients n).cache → Seen n k i past → Seen n k i (e ∷ past)) → ((k : Fid) → StaysNewest n k e past)
+pub stored_of : (o : Option CacheEntry) (s : Script) (c : Cell) (past : List Entry) (n p : ℕ) (act : Going) (call : FsCall) (f g : Fid) (b : Body → Body) (m : Message) (index : ℕ) (u : CacheEntry) (e : Entry) (cache : List CacheEntry) → (h : Holds s c past) → Due c h.floors past n p act m → IsStored (spot (view h.floors c n)) m → IsStoreBy act call f → stored_index m.carried ≡ Some index
+    → IsLeft c n f index b past → ((k : Fid) → PassesFile n k e past) → Seen n f index (e ∷ past) → ((k : Fid) (i : ℕ) → (f ≡ k → ⊥) → IsTrusted c.clock k (c.clients n).cache → Seen n k i past → Seen n k i (e ∷ past)) → ((k : Fid) → StaysNewest n k e past)
     → find_cached g (c.clients n).cache ≡ o → option_map (refreshed c.clock f index b) o ≡ Some u → c.clock < u.expiry
     → IsCurrent n g u (view_after c n (holding h.floors n (h.floors n).held) (ended (c.clients n) cache)) (e ∷ past)
-stored_of None s c past n p act st pp ww ll f g b m index u e cache h d kept same told whole pass z r stay found is lasts = absurd cc
-stored_of (Some x) s c past n p act st pp ww ll f g b m index u e cache h d kept same told whole pass z r stay found is lasts =
-    stored_by (same_fid x.fid f) (nat_lt c.clock x.expiry) s c past n p act st pp ww ll f g b m index x u e cache h d kept same told whole pass z r stay refl refl (found-cached-fid g (c.clients n).cache x found) found (some_of _ _ is) lasts
+stored_of None s c past n p act call f g b m index u e cache h d kept same told whole pass z r stay found is lasts = absurd cc
+stored_of (Some x) s c past n p act call f g b m index u e cache h d kept same told whole pass z r stay found is lasts =
+    stored_by (same_fid x.fid f) (nat_lt c.clock x.expiry) s c past n p act call f g b m index x u e cache h d kept same told whole pass z r stay refl refl (found-cached-fid g (c.clients n).cache x found) found (some_of _ _ is) lasts
 
-pub takes_saved : (s : Script) (c : Cell) (past : List Entry) (n p : ℕ) (act : Going) (st : AfsStoreStatus) (pp ww ll : ℤ) (f : Fid) (b : List ℕ) (head : Head) (status : AfsFetchStatus) (sync : AfsVolSync) → (h : Holds s c past) → Due c h.floors past n p act (record { head = head; carried = carried.Reply (replies.StoreData status sync) })
-    → asked act ≡ calls.StoreData f st pp ww ll b → FitsSet n (spot (view h.floors c n)) (record { head = head; carried = carried.Reply (replies.StoreData status sync) }) past status (calls.StoreData f st pp ww ll b) → Goes s past (client_moves c n (takes_stored (Client n) (c.clients n) c.clock p f status.sync_counter b))
-takes_saved s c past n p act st pp ww ll f b head status sync h d same fits =
-    let m : Message = record { head = head; carried = carried.Reply (replies.StoreData status sync) } in
-    let i : ℕ = status.sync_counter in
+pub takes_saved : (s : Script) (c : Cell) (past : List Entry) (n p : ℕ) (act : Going) (call : FsCall) (f : Fid) (b : Body → Body) (i : ℕ) (m : Message) → (h : Holds s c past) → Due c h.floors past n p act m → code_told m.carried ≡ Some (pos 0) → ((code : Code) → m.carried ≡ carried.Refusal code → ⊥)
+    → IsStoreBy act call f → stored_index m.carried ≡ Some i → IsStored (spot (view h.floors c n)) m → Reached (Client n) f i past → IsLeft c n f i b past → Goes s past (client_moves c n (takes_stored (Client n) (c.clients n) c.clock p f i b))
+takes_saved s c past n p act call f b i m h d zero not same told kept up left =
     let held : ℕ = (h.floors n).held in
     let cache : List CacheEntry = map (refreshed c.clock f i b) (c.clients n).cache in
     let e : Entry = step_entry n (answered_lines n p zero_code) [] in
     moves s c past n (holding h.floors n held) (takes_stored (Client n) (c.clients n) c.clock p f i b) h
-    (tt, ((refl, good_code s c past n p act m zero_code (lines.Given p ∷ []) h d refl refl refl refl), tt))
+    (tt, ((refl, good_code s c past n p act m zero_code (lines.Given p ∷ []) h d zero refl refl refl), tt))
     (answered_passes s c past n p m zero_code h d.heard)
     (ended_facts s c past n cache held e h (h.clients n).holds (own_ended n (running (Client n) (lines_of past)))
-    (λ g u found lasts. stored_of (find_cached g (c.clients n).cache) s c past n p act st pp ww ll f g b m i u e cache h d fits.1.0 same refl fits.0 (answered_file n n p zero_code past) (answered_reach n n p zero_code past f i fits.1.1).seen
-    (λ k j ne trusted y. (answered_reach n n p zero_code past k j (record { made = le_trans (le_of_eq ((h.clients n).made act d.running k (λ z. ne (same_fid-true f k (ap (λ (x : FsCall). is_in_scope x k) (sym same) ∙ z))) (inr trusted))) (omega arith); seen = y })).seen) (λ k. stays n k e past (answered_file n n p zero_code past k).grant refl)
+    (λ g u found lasts. stored_of (find_cached g (c.clients n).cache) s c past n p act call f g b m i u e cache h d kept same told left (answered_file n n p zero_code past) (answered_reach n n p zero_code past f i up).seen
+    (λ k j ne trusted y. (answered_reach n n p zero_code past k j (record { made = le_trans (le_of_eq ((h.clients n).made act d.running k (λ z. ne (same_fid-true f k (sym (same.scope k) ∙ (ap (λ (x : FsCall). is_in_scope x k) (sym same.asks) ∙ z)))) (inr trusted))) (omega arith); seen = y })).seen) (λ k. stays n k e past (answered_file n n p zero_code past k).grant refl)
     refl (sym (found-refreshed c.clock f g i b (c.clients n).cache) ∙ found) lasts)
     (reached_still s c past n e h (answered_reach n n p zero_code past) (λ g. refl)))
-    (ended_calls s c past n p act m cache held h d (λ code is. absurd cc)) (ended_reply s c past n cache held e h) (nothing_new _ _) (λ a x z. absurd cc) refl
+    (ended_calls s c past n p act m cache held h d (λ code is. absurd (not code is))) (ended_reply s c past n cache held e h) (nothing_new _ _) (λ a x z. absurd cc) refl
 
 -- ---- any other answered call: the entries of the volume that it may have changed are given up
 
-pub takes_other : (s : Script) (c : Cell) (past : List Entry) (n p : ℕ) (act : Going) (head : Head) (reply : FsReply) → (h : Holds s c past) → Due c h.floors past n p act (record { head = head; carried = carried.Reply reply }) → Goes s past (client_moves c n (takes_plain (Client n) (c.clients n) p (asked act)))
-takes_other s c past n p act head reply h d =
-    let m : Message = record { head = head; carried = carried.Reply reply } in
+reply_not : (reply : FsReply) (code : Code) → carried.Reply reply ≡ carried.Refusal code → ⊥
+reply_not reply code e = absurd cc
+
+pub takes_other : (s : Script) (c : Cell) (past : List Entry) (n p : ℕ) (act : Going) (m : Message) (reply : FsReply) → (h : Holds s c past) → Due c h.floors past n p act m → m.carried ≡ carried.Reply reply → Goes s past (client_moves c n (takes_plain (Client n) (c.clients n) p (asked act)))
+takes_other s c past n p act m reply h d is =
     let x : ClientState = c.clients n in
     let call : FsCall = asked act in
     let cache : List CacheEntry = left_after call x.cache in
@@ -698,7 +712,7 @@ takes_other s c past n p act head reply h d =
     let held : ℕ = (h.floors n).held in
     let g : Ghost = holding h.floors n held in
     moves s c past n g (takes_plain (Client n) x p call) h
-    (tt, drops_good s n p act m past es (lines.Given p ∷ []) (λ own a b r. good_code s c past n p act m zero_code own h d refl a b r) refl refl refl)
+    (tt, drops_good s n p act m past es (lines.Given p ∷ []) (λ own a b r. good_code s c past n p act m zero_code own h d (ap code_told is) a b r) refl refl refl)
     (drop_passes s c past n (was_given p) zero_code es (heard_dull s c past p m h d.heard))
     (ended_facts s c past n cache held e h (h.clients n).holds (ended_running n zero_code es (lines.Given p ∷ lines_of past))
     (λ k u found lasts.
@@ -709,7 +723,7 @@ takes_other s c past n p act head reply h d =
     (ended_stands h.floors c past n cache g e k u.index (λ y. drop_seen n n (was_given p) zero_code es past k u.index (le_trans (le_of_eq ((h.clients n).made act d.running k out (inr (record { entry = u; found = was.0; lasts = lasts })))) (omega arith)) y) (stays n k e past file.grant (last k)) (λ a is sc ran. out (subst (λ (z : Going). InScope (asked z) k) (sym (some_of act a (sym d.running ∙ is))) sc)))
     ((h.clients n).current k u was.0 lasts))
     (reached_still s c past n e h (drop_reach n n (was_given p) zero_code es past) last))
-    (ended_calls s c past n p act m cache held h d (λ code is. absurd cc)) (ended_reply s c past n cache held e h) (nothing_new _ _) (λ a x z. absurd cc) refl
+    (ended_calls s c past n p act m cache held h d (λ code x. absurd (reply_not reply code (sym is ∙ x)))) (ended_reply s c past n cache held e h) (nothing_new _ _) (λ a x z. absurd cc) refl
 
 -- ---- a boot notice
 
@@ -726,8 +740,8 @@ resends_goes s c past n p act m boot h d le runs =
 
 -- ---- the row, by its cases
 
-pub plain_goes : (s : Script) (c : Cell) (past : List Entry) (n p : ℕ) (act : Going) (call : FsCall) (head : Head) (reply : FsReply) → (h : Holds s c past) → Due c h.floors past n p act (record { head = head; carried = carried.Reply reply }) → asked act ≡ call → Goes s past (client_moves c n (takes_plain (Client n) (c.clients n) p call))
-plain_goes s c past n p act call head reply h d same = subst (λ (x : FsCall). Goes s past (client_moves c n (takes_plain (Client n) (c.clients n) p x))) same (takes_other s c past n p act head reply h d)
+pub plain_goes : (s : Script) (c : Cell) (past : List Entry) (n p : ℕ) (act : Going) (call : FsCall) (m : Message) (reply : FsReply) → (h : Holds s c past) → Due c h.floors past n p act m → m.carried ≡ carried.Reply reply → asked act ≡ call → Goes s past (client_moves c n (takes_plain (Client n) (c.clients n) p call))
+plain_goes s c past n p act call m reply h d is same = subst (λ (x : FsCall). Goes s past (client_moves c n (takes_plain (Client n) (c.clients n) p x))) same (takes_other s c past n p act m reply h d is)
 
 -- a reply to a reading call that isn't spent isn't spoiled
 pub spent_shut : (sp : Bool) (o : Option ℕ) → (sp && is_reading o) ≡ true → o ≡ None
@@ -746,23 +760,51 @@ data_goes s c past n p act (calls.FetchData f pp w) head contents status callbac
     let shut : volume_changed (asked act) ≡ None = ap volume_changed same in
     fetched_goes s c past n p act f head contents status callback sync (nat_lt c.clock callback.expiration_time) h d shut
     (subst (λ (sp : Bool). IsFetched sp n f status.sync_counter (body_told status.file_type contents) callback.expiration_time (record { head = head; carried = carried.Reply (replies.FetchData contents status callback sync) }) past) (fresh_of (c.clients n).spoiled (volume_changed (asked act)) fresh shut) fits) refl
-data_goes s c past n p act call head contents status callback sync h d fresh same fits = plain_goes s c past n p act call head (replies.FetchData contents status callback sync) h d same
+data_goes s c past n p act call head contents status callback sync h d fresh same fits = plain_goes s c past n p act call _ (replies.FetchData contents status callback sync) h d refl same
 
-pub stored_goes : (t : Bool) (s : Script) (c : Cell) (past : List Entry) (n p : ℕ) (act : Going) (st : AfsStoreStatus) (pp ww ll : ℤ) (f : Fid) (b : List ℕ) (head : Head) (status : AfsFetchStatus) (sync : AfsVolSync) → (h : Holds s c past) → Due c h.floors past n p act (record { head = head; carried = carried.Reply (replies.StoreData status sync) })
-    → asked act ≡ calls.StoreData f st pp ww ll b → FitsSet n (spot (view h.floors c n)) (record { head = head; carried = carried.Reply (replies.StoreData status sync) }) past status (calls.StoreData f st pp ww ll b)
-    → Goes s past (client_moves c n (cond t (takes_plain (Client n) (c.clients n) p (calls.StoreData f st pp ww ll b)) (takes_stored (Client n) (c.clients n) c.clock p f status.sync_counter b)))
-stored_goes true s c past n p act st pp ww ll f b head status sync h d same fits = plain_goes s c past n p act (calls.StoreData f st pp ww ll b) head (replies.StoreData status sync) h d same
-stored_goes false s c past n p act st pp ww ll f b head status sync h d same fits = takes_saved s c past n p act st pp ww ll f b head status sync h d same fits
+pub data_stored : (t : Bool) (s : Script) (c : Cell) (past : List Entry) (n p : ℕ) (act : Going) (st : AfsStoreStatus) (pp ww ll : ℤ) (f : Fid) (b : List ℕ) (status : AfsFetchStatus) (m : Message) (reply : FsReply) → (h : Holds s c past) → Due c h.floors past n p act m → m.carried ≡ carried.Reply reply → stored_index m.carried ≡ Some status.sync_counter
+    → asked act ≡ calls.StoreData f st pp ww ll b → FitsSet n (spot (view h.floors c n)) m past status (calls.StoreData f st pp ww ll b)
+    → Goes s past (client_moves c n (cond t (takes_plain (Client n) (c.clients n) p (calls.StoreData f st pp ww ll b)) (takes_stored (Client n) (c.clients n) c.clock p f status.sync_counter (λ body. bodies.File b))))
+data_stored true s c past n p act st pp ww ll f b status m reply h d is told same fits = plain_goes s c past n p act (calls.StoreData f st pp ww ll b) m reply h d is same
+data_stored false s c past n p act st pp ww ll f b status m reply h d is told same fits =
+    takes_saved s c past n p act (calls.StoreData f st pp ww ll b) f (λ body. bodies.File b) status.sync_counter m h d (ap code_told is) (λ code x. absurd (reply_not reply code (sym is ∙ x))) (record { asks = same; scope = λ g. refl; changed = λ k g server newer o older w. w }) told fits.1.0 fits.1.1 (λ x found lasts. fits.0)
 
-pub set_goes : (s : Script) (c : Cell) (past : List Entry) (n p : ℕ) (act : Going) (call : FsCall) (head : Head) (status : AfsFetchStatus) (sync : AfsVolSync) → (h : Holds s c past) → Due c h.floors past n p act (record { head = head; carried = carried.Reply (replies.StoreData status sync) })
-    → asked act ≡ call → FitsSet n (spot (view h.floors c n)) (record { head = head; carried = carried.Reply (replies.StoreData status sync) }) past status call → Goes s past (client_moves c n (takes_set (Client n) (c.clients n) c.clock p status call))
-set_goes s c past n p act (calls.StoreData f st pp ww ll b) head status sync h d same fits = stored_goes (c.clients n).spoiled s c past n p act st pp ww ll f b head status sync h d same fits
-set_goes s c past n p act call head status sync h d same fits = plain_goes s c past n p act call head (replies.StoreData status sync) h d same
+-- the entry stands just below the new index, so its body is that of the version before
+pub left_body : (s : Script) (c : Cell) (past : List Entry) (n : ℕ) (f : Fid) (index : ℕ) → (h : Holds s c past) → IsKeptBody f index (lines_of past) → is_below c.clock index (find_cached f (c.clients n).cache) ≡ true → IsLeft c n f index (λ body. body) past
+left_body s c past n f index h kept t x found lasts =
+    let below : is_below c.clock index (Some x) ≡ true = subst (λ (o : Option CacheEntry). is_below c.clock index o ≡ true) found t in
+    let live : nat_lt c.clock x.expiry ≡ true = lt-ltb _ _ lasts in
+    let at : cond (nat_lt c.clock x.expiry) (nat_eq (x.index + 1) index) true ≡ true = below in
+    let here : nat_eq (x.index + 1) index ≡ true = sym (ap (λ (b : Bool). cond b (nat_eq (x.index + 1) index) true) live) ∙ at in
+    let is : x.index + 1 ≡ index = eqb-true _ _ here in
+    let next : index ≡ kept.before + 1 = kept.next in
+    let same : kept.before ≡ x.index = omega arith in
+    let had : HasVersion f kept.before x.body (lines_of past) = subst (λ (i : ℕ). HasVersion f i x.body (lines_of past)) (sym same) ((h.clients n).current f x found lasts).held.whole in
+    subst (λ (b : Body). HasVersion f index b (lines_of past)) (h.one f kept.before kept.body x.body kept.old had) kept.new
+
+pub status_by : (t u : Bool) (s : Script) (c : Cell) (past : List Entry) (n p : ℕ) (act : Going) (call : FsCall) (f : Fid) (index : ℕ) (m : Message) (reply : FsReply) → (h : Holds s c past) → Due c h.floors past n p act m → m.carried ≡ carried.Reply reply → stored_index m.carried ≡ Some index
+    → IsStoreBy act call f → IsStored (spot (view h.floors c n)) m → Reached (Client n) f index past → IsKeptBody f index (lines_of past) → is_below c.clock index (find_cached f (c.clients n).cache) ≡ u
+    → Goes s past (client_moves c n (cond (not t && u) (takes_stored (Client n) (c.clients n) c.clock p f index (λ body. body)) (takes_plain (Client n) (c.clients n) p call)))
+status_by true u s c past n p act call f index m reply h d is told same stored up kept below = plain_goes s c past n p act call m reply h d is same.asks
+status_by false false s c past n p act call f index m reply h d is told same stored up kept below = plain_goes s c past n p act call m reply h d is same.asks
+status_by false true s c past n p act call f index m reply h d is told same stored up kept below =
+    takes_saved s c past n p act call f (λ body. body) index m h d (ap code_told is) (λ code x. absurd (reply_not reply code (sym is ∙ x))) same told stored up (left_body s c past n f index h kept below)
+
+pub set_goes : (s : Script) (c : Cell) (past : List Entry) (n p : ℕ) (act : Going) (call : FsCall) (status : AfsFetchStatus) (m : Message) (reply : FsReply) → (h : Holds s c past) → Due c h.floors past n p act m → m.carried ≡ carried.Reply reply → stored_index m.carried ≡ Some status.sync_counter
+    → asked act ≡ call → FitsSet n (spot (view h.floors c n)) m past status call → Goes s past (client_moves c n (takes_set (Client n) (c.clients n) c.clock p status call))
+set_goes s c past n p act (calls.StoreData f st pp ww ll b) status m reply h d is told same fits = data_stored (c.clients n).spoiled s c past n p act st pp ww ll f b status m reply h d is told same fits
+set_goes s c past n p act (calls.StoreAcl f acl) status m reply h d is told same fits =
+    status_by (c.clients n).spoiled (is_below c.clock status.sync_counter (find_cached f (c.clients n).cache)) s c past n p act (calls.StoreAcl f acl) f status.sync_counter m reply h d is told (record { asks = same; scope = λ g. refl; changed = λ k g server newer o older w. w }) fits.1.0 fits.1.1 fits.0 refl
+set_goes s c past n p act (calls.StoreStatus f st) status m reply h d is told same fits =
+    status_by (c.clients n).spoiled (is_below c.clock status.sync_counter (find_cached f (c.clients n).cache)) s c past n p act (calls.StoreStatus f st) f status.sync_counter m reply h d is told (record { asks = same; scope = λ g. refl; changed = λ k g server newer o older w. w }) fits.1.0 fits.1.1 fits.0 refl
+set_goes s c past n p act call status m reply h d is told same fits = plain_goes s c past n p act call m reply h d is same
 
 pub takes_goes : (s : Script) (c : Cell) (past : List Entry) (n p : ℕ) (act : Going) (call : FsCall) (head : Head) (reply : FsReply) → (h : Holds s c past) → Due c h.floors past n p act (record { head = head; carried = carried.Reply reply }) → is_spent (c.clients n) act ≡ false → asked act ≡ call → Goes s past (client_moves c n (takes (Client n) (c.clients n) c.clock p act call reply))
 takes_goes s c past n p act call head (replies.FetchData contents status callback sync) h d fresh same = data_goes s c past n p act call head contents status callback sync h d fresh same (subst (λ (x : FsCall). FitsData (c.clients n).spoiled n (spot (view h.floors c n)) (record { head = head; carried = carried.Reply (replies.FetchData contents status callback sync) }) past contents status callback x) same d.answers.fits)
-takes_goes s c past n p act call head (replies.StoreData status sync) h d fresh same = set_goes s c past n p act call head status sync h d same (subst (λ (x : FsCall). FitsSet n (spot (view h.floors c n)) (record { head = head; carried = carried.Reply (replies.StoreData status sync) }) past status x) same d.answers.fits)
-takes_goes s c past n p act call head reply h d fresh same = plain_goes s c past n p act call head reply h d same
+takes_goes s c past n p act call head (replies.StoreData status sync) h d fresh same = set_goes s c past n p act call status _ (replies.StoreData status sync) h d refl refl same (subst (λ (x : FsCall). FitsSet n (spot (view h.floors c n)) (record { head = head; carried = carried.Reply (replies.StoreData status sync) }) past status x) same d.answers.fits)
+takes_goes s c past n p act call head (replies.StoreAcl status sync) h d fresh same = set_goes s c past n p act call status _ (replies.StoreAcl status sync) h d refl refl same (subst (λ (x : FsCall). FitsSet n (spot (view h.floors c n)) (record { head = head; carried = carried.Reply (replies.StoreAcl status sync) }) past status x) same d.answers.fits)
+takes_goes s c past n p act call head (replies.StoreStatus status sync) h d fresh same = set_goes s c past n p act call status _ (replies.StoreStatus status sync) h d refl refl same (subst (λ (x : FsCall). FitsSet n (spot (view h.floors c n)) (record { head = head; carried = carried.Reply (replies.StoreStatus status sync) }) past status x) same d.answers.fits)
+takes_goes s c past n p act call head reply h d fresh same = plain_goes s c past n p act call _ reply h d refl same
 
 -- a reply that isn't used
 pub spent_goes : (s : Script) (c : Cell) (past : List Entry) (n p : ℕ) (act : Going) (m : Message) → (h : Holds s c past) → Due c h.floors past n p act m → is_spent (c.clients n) act ≡ true → Goes s past (client_moves c n (calls_step (Client n) (c.clients n) act (lines.Given p)))

@@ -129,6 +129,7 @@ moves_back s c past n floor st h good p own w q fresh went keeps =
         down = fallen_over c.down c.server c.sent st.sent e past h.down;
         clock = p.clock (lines_of past) ∙ h.clock;
         top = λ f i b x. subst (λ (o : Option Version). i ≤ index_in o) (sym (last f)) (h.top f i b (p.back f i b (lines_of past) x));
+        one = λ f i a b x y. h.one f i a b (p.back f i a (lines_of past) x) (p.back f i b (lines_of past) y);
         backs = λ z. backed_plain c.down c.backs c.server.boot c.server.seats (λ j. (c.clients j).seat) (λ j. (put n st.state c.clients j).seat) c.clock c.clock c.sent st.sent e past p.plain (le_refl _) b fresh.calls fresh.dones
             (λ j seat m x y. seat_put (nat_eq n j) c n j st.state (c.clients j) seat m (e ∷ past) refl x y keeps (λ k. seated_over c.down c.down c.backs c.backs c.server.boot c.clock c.clock e past (plain_step c.down c.backs c.clock c.clock e past p.plain (le_refl _)) j m (b.seated j seat m k y)));
       };

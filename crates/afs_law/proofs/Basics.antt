@@ -1,3 +1,4 @@
+use Rattle.afs_num.specs.declared.histories.Body.{Body}
 use Rattle.afs_law.specs.Callbacks.{put}
 use Rattle.afs_law.specs.ClientRow.{find_cached, used_first, is_trusted, refreshed}
 use Rattle.afs_law.specs.Ideal.{raised}
@@ -291,7 +292,7 @@ none_by false g n es t at e = found-left n.fid g es (apart n.fid g t) ∙ e
 pub none-first : (g : Fid) (n : CacheEntry) (es : List CacheEntry) → find_cached n.fid es ≡ Some n → find_cached g es ≡ None → find_cached g (used_first n es) ≡ None
 none-first g n es at e = none_by (same_fid n.fid g) g n es refl at e
 
-refreshed_fid_by : (c : Bool) (i : ℕ) (b : List ℕ) (v : CacheEntry) → (cond c (record v { index = i; body = bodies.File b }) v).fid ≡ v.fid
+refreshed_fid_by : (c : Bool) (i : ℕ) (b : Body → Body) (v : CacheEntry) → (cond c (record v { index = i; body = b v.body }) v).fid ≡ v.fid
 refreshed_fid_by true i b v = refl
 refreshed_fid_by false i b v = refl
 
@@ -299,7 +300,7 @@ cached_by : (c : Bool) (h : CacheEntry → CacheEntry) (v : CacheEntry) (o : Opt
 cached_by true h v o = refl
 cached_by false h v o = refl
 
-pub found-refreshed : (clock : ℕ) (f g : Fid) (i : ℕ) (b : List ℕ) (vs : List CacheEntry) → find_cached g (map (refreshed clock f i b) vs) ≡ option_map (refreshed clock f i b) (find_cached g vs)
+pub found-refreshed : (clock : ℕ) (f g : Fid) (i : ℕ) (b : Body → Body) (vs : List CacheEntry) → find_cached g (map (refreshed clock f i b) vs) ≡ option_map (refreshed clock f i b) (find_cached g vs)
 found-refreshed clock f g i b [] = refl
 found-refreshed clock f g i b (v ∷ vs) = rw (refreshed_fid_by (same_fid v.fid f && is_trusted clock v) i b v, found-refreshed clock f g i b vs) (cached_by (same_fid v.fid g) (refreshed clock f i b) v (find_cached g vs))
 

@@ -431,6 +431,7 @@ revives s b c past x h held backs =
       down = tt;
       clock = h.clock;
       top = h.top;
+      one = h.one;
       backs = backs;
     }
 
@@ -473,6 +474,7 @@ revives_down s c past fall h e =
       down = tt;
       clock = r.clock;
       top = r.top;
+      one = r.one;
       backs = λ z. down_later c.down c.backs c.server.boot c.server.seats c.server.durable (seats_of c) c.clock c.sent past at_rest (λ u. absurd cc) (h.backs refl);
     }
 

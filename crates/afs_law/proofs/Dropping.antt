@@ -4,7 +4,7 @@ use Rattle.afs_law.proofs.Backing.{Plain, all_lines, is_up, is_still, is_oweless
 use Rattle.afs_law.proofs.Basics.{both, same_fid-true, same_fid-refl, same_node-true, client_number, Each, IfBack, IfDone, OfCall, OfReply, OfNotice, OfClient, OfServer, ByClient, ByServer, by_server, server_any, LastSeat, some_of, kept_last}
 use Rattle.afs_law.proofs.Facts.{IsKnown, Ghost, View, view, Spot, spot, Held, IsFetched, Fits, Answers, ReplyFact, ClientFacts, IsAged, IsLastCall, CallIn, ReplyIn, Origin, IsActs, ToClient, server_boot, Holds, Goes, Reached, FitsData, FitsSet, FitsReply, IsOne}
 use Rattle.afs_law.proofs.Owing.{AllOf, all_map, IsOwed, CallOut, BackIn, DroppedOwe, IsDone, DoneIn, SeatedIn, BackedIn}
-use Rattle.afs_law.proofs.Passing.{News, PassesGrant, PassesFile, PassesAct, PassesReach, current_over, stands_over, stays, kept_over, grant_over, cause_over, onto_front, client_still}
+use Rattle.afs_law.proofs.Passing.{body_kept, News, PassesGrant, PassesFile, PassesAct, PassesReach, current_over, stands_over, stays, kept_over, grant_over, cause_over, onto_front, client_still}
 use Rattle.afs_law.proofs.Pumping.{no_call, no_notice, of_reply_any}
 use Rattle.afs_law.proofs.Serving.{told_file, told_reach, told_act, reached_still}
 use Rattle.afs_law.specs.Acts.{Act}
@@ -301,12 +301,16 @@ broken_data sp n p x m contents status callback call fs ms past last h = h
 
 pub broken_set : (n p : ℕ) (x : Spot) (m : Message) (status : AfsFetchStatus) (call : FsCall) (fs : List Fid) (ms : List Message) (past : List Entry) → FitsSet n x m past status call → FitsSet n x m (step_entry n (broken_lines n p fs) ms ∷ past) status call
 broken_set n p x m status (calls.StoreData f set position wanted file_length contents) fs ms past h = ((skips n fs).version f status.sync_counter (bodies.File contents) (lines.Given p ∷ lines_of past) h.0, (h.1.0, (broken_reach n n p fs ms past f).both status.sync_counter h.1.1))
+broken_set n p x m status (calls.StoreAcl f acl) fs ms past h = (body_kept f status.sync_counter (lines_of past) (lines_of (step_entry n (broken_lines n p fs) ms ∷ past)) (λ i b y. (skips n fs).version f i b (lines.Given p ∷ lines_of past) y) h.0, (h.1.0, (broken_reach n n p fs ms past f).both status.sync_counter h.1.1))
+broken_set n p x m status (calls.StoreStatus f set) fs ms past h = (body_kept f status.sync_counter (lines_of past) (lines_of (step_entry n (broken_lines n p fs) ms ∷ past)) (λ i b y. (skips n fs).version f i b (lines.Given p ∷ lines_of past) y) h.0, (h.1.0, (broken_reach n n p fs ms past f).both status.sync_counter h.1.1))
 broken_set n p x m status call fs ms past h = h
 
 pub broken_reply : (sp : Bool) (n p : ℕ) (call : FsCall) (x : Spot) (m : Message) (reply : FsReply) (fs : List Fid) (ms : List Message) (past : List Entry) → ((f : Fid) → last_version f (lines_of (step_entry n (broken_lines n p fs) ms ∷ past)) ≡ last_version f (lines_of past))
     → FitsReply sp n call x m past reply → FitsReply (cond (names_call fs call) true sp) n call x m (step_entry n (broken_lines n p fs) ms ∷ past) reply
 broken_reply sp n p call x m (replies.FetchData contents status callback sync) fs ms past last h = broken_data sp n p x m contents status callback call fs ms past last h
 broken_reply sp n p call x m (replies.StoreData status sync) fs ms past last h = broken_set n p x m status call fs ms past h
+broken_reply sp n p call x m (replies.StoreAcl status sync) fs ms past last h = broken_set n p x m status call fs ms past h
+broken_reply sp n p call x m (replies.StoreStatus status sync) fs ms past last h = broken_set n p x m status call fs ms past h
 broken_reply sp n p call x m reply fs ms past last h = h
 
 pub broken_fits : (sp : Bool) (n p : ℕ) (call : FsCall) (x : Spot) (boot : ℕ) (m : Message) (c : Carried) (fs : List Fid) (ms : List Message) (past : List Entry) → ((f : Fid) → last_version f (lines_of (step_entry n (broken_lines n p fs) ms ∷ past)) ≡ last_version f (lines_of past))
@@ -399,12 +403,16 @@ all_data sp n x m contents status callback call e past v r w last h = h
 
 pub all_set : (n : ℕ) (x : Spot) (m : Message) (status : AfsFetchStatus) (call : FsCall) (e : Entry) (past : List Entry) → ((f : Fid) (i : ℕ) (b : Body) → HasVersion f i b (lines_of past) → HasVersion f i b (lines_of (e ∷ past))) → ((f : Fid) → PassesReach n f e past) → FitsSet n x m past status call → FitsSet n x m (e ∷ past) status call
 all_set n x m status (calls.StoreData f set position wanted file_length contents) e past v r h = (v f status.sync_counter (bodies.File contents) h.0, (h.1.0, (r f).both status.sync_counter h.1.1))
+all_set n x m status (calls.StoreAcl f acl) e past v r h = (body_kept f status.sync_counter (lines_of past) (lines_of (e ∷ past)) (v f) h.0, (h.1.0, (r f).both status.sync_counter h.1.1))
+all_set n x m status (calls.StoreStatus f set) e past v r h = (body_kept f status.sync_counter (lines_of past) (lines_of (e ∷ past)) (v f) h.0, (h.1.0, (r f).both status.sync_counter h.1.1))
 all_set n x m status call e past v r h = h
 
 pub all_reply : (sp : Bool) (n : ℕ) (call : FsCall) (x : Spot) (m : Message) (reply : FsReply) (e : Entry) (past : List Entry) → ((f : Fid) (i : ℕ) (b : Body) → HasVersion f i b (lines_of past) → HasVersion f i b (lines_of (e ∷ past))) → ((f : Fid) → PassesReach n f e past) → ((f : Fid) (i : ℕ) (q : Node) (o : List Line) → IsWithdrawn q (Client n) f o → IsWithdrawn q (Client n) f (onto o e.lines))
     → ((f : Fid) → last_version f (lines_of (e ∷ past)) ≡ last_version f (lines_of past)) → FitsReply sp n call x m past reply → FitsReply true n call x m (e ∷ past) reply
 all_reply sp n call x m (replies.FetchData contents status callback sync) e past v r w last h = all_data sp n x m contents status callback call e past v r w last h
 all_reply sp n call x m (replies.StoreData status sync) e past v r w last h = all_set n x m status call e past v r h
+all_reply sp n call x m (replies.StoreAcl status sync) e past v r w last h = all_set n x m status call e past v r h
+all_reply sp n call x m (replies.StoreStatus status sync) e past v r w last h = all_set n x m status call e past v r h
 all_reply sp n call x m reply e past v r w last h = h
 
 pub all_fits : (sp : Bool) (n p : ℕ) (call : FsCall) (x : Spot) (boot : ℕ) (m : Message) (c : Carried) (e : Entry) (past : List Entry) → ((f : Fid) (i : ℕ) (b : Body) → HasVersion f i b (lines_of past) → HasVersion f i b (lines_of (e ∷ past))) → ((f : Fid) → PassesReach n f e past) → ((f : Fid) (i : ℕ) (q : Node) (o : List Line) → IsWithdrawn q (Client n) f o → IsWithdrawn q (Client n) f (onto o e.lines))

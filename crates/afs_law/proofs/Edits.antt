@@ -1,4 +1,10 @@
 -- Edits: tables, and what a list of edits tells is what it makes.
+use Rattle.afs_ideal.specs.Tables.{Table, get, set, unset}
+use Rattle.afs_ideal.specs.Told.{last_told, Agrees, AreNext, Follows}
+use Rattle.afs_ideal.specs.Volumes.{Kind, a_file, a_directory, a_link, Vnode, Volume, Edit, amends, makes, frees, Amend, amended, fresh, version_at, gone_at, if_unique, Edited, amends_at, makes_at, frees_at, edited, edited_all, versions_by, body_by, counted}
+use Rattle.afs_law.proofs.Basics.{yes_no, same_fid-true, same_fid-refl, apart, some_of}
+use Rattle.afs_law.specs.Ideal.{IsThat, told_by, versions_in, version_in, latest, last_version, HasVersion}
+use Rattle.afs_law.specs.Lines.{Line}
 use Rattle.std.proofs.Common.{◌≡◌, ℕ, ◌+◌, ◌<◌, ◌≤◌, ◌⊎◌, inl, inr, Bool, true, false, cond, eqb, ltb, not, List, [], ◌∷◌, ◌++◌, Option, Some, None, refl, sym, ap, subst, ◌∙◌, arith, eq-eqb, eqb-true, ltb-true, ltb-false}
 use Rattle.std.specs.Prelude.{filter, ◌&&◌, ⊤}
 use Rattle.std.specs.Option.{option_map}
@@ -6,11 +12,6 @@ use Rattle.afs_num.specs.Fids.{same_fid}
 use Rattle.afs_num.specs.declared.types.Fid.{Fid}
 use Rattle.afs_num.specs.declared.histories.Body.{Body}
 use Rattle.afs_num.specs.declared.histories.Body.TheVariants as bodies
-use Rattle.afs_ideal.specs.Tables.{Table, get, set, unset}
-use Rattle.afs_ideal.specs.Volumes.{Kind, a_file, a_directory, a_link, Vnode, Volume, Edit, amends, makes, frees, Amend, amended, fresh, version_at, gone_at, if_unique, Edited, amends_at, makes_at, frees_at, edited, edited_all, versions_by, body_by, counted}
-use Rattle.afs_law.proofs.Basics.{yes_no, same_fid-true, same_fid-refl, apart, some_of}
-use Rattle.afs_law.specs.Ideal.{version_in, latest, last_version, HasVersion}
-use Rattle.afs_law.specs.Lines.{Line}
 use Rattle.afs_law.specs.Lines as lines
 use Rattle.afs_num.specs.declared.histories.Version.{Version}
 
@@ -250,6 +251,61 @@ top_by false w f i b ls t le top (inr x) = top f i b x
 pub tops : (id : ℕ) (vs : List Version) (ls : List Line) → Grow id vs ls → Tops ls → Tops (on_top vs ls)
 tops id [] ls g h = h
 tops id (v ∷ vs) ls g h = tops id vs (lines.Version v ∷ ls) g.1 (λ f i b x. top_by (same_fid v.fid f) v f i b ls refl g.0.1 h x)
+
+pub none_by : (t : Bool) (f : Fid) (i : ℕ) (b : Body) (v : Version) (o : Option Version) (S : Type 0) → same_fid v.fid f ≡ t → (o ≡ None → S → ⊥) → cond t (Some v) o ≡ None → ((v.fid ≡ f) × ((v.index ≡ i) × (v.body ≡ b))) ⊎ S → ⊥
+none_by true f i b v o S t h e s = absurd cc
+none_by false f i b v o S t h e (inl x) = let yes : same_fid v.fid f ≡ true = ap (λ (y : Fid). same_fid y f) x.0 ∙ same_fid-refl f in absurd cc
+none_by false f i b v o S t h e (inr s) = h e s
+
+pub none_in : (f : Fid) (i : ℕ) (b : Body) (l o : Option Version) (S : Type 0) → (o ≡ None → S → ⊥) → latest f l o ≡ None → IsThat f i b l S → ⊥
+none_in f i b None o S h e x = h e x
+none_in f i b (Some v) o S h e x = none_by (same_fid v.fid f) f i b v o S refl h e x
+
+pub none_has : (f : Fid) (i : ℕ) (b : Body) (ls : List Line) → last_version f ls ≡ None → HasVersion f i b ls → ⊥
+none_has f i b [] e x = x
+none_has f i b (l ∷ ls) e x = none_in f i b (version_in l) (last_version f ls) (HasVersion f i b ls) (none_has f i b ls) e x
+
+-- a fid has one body under each index
+abbrev pub Ones : List Line → Type 0
+Ones ls = (f : Fid) (i : ℕ) (a b : Body) → HasVersion f i a ls → HasVersion f i b ls → a ≡ b
+
+pub one_more : (w : Version) (ls : List Line) → ((i : ℕ) (b : Body) → HasVersion w.fid i b ls → i < w.index) → Ones ls → Ones (lines.Version w ∷ ls)
+one_more w ls above h f i a b (inl x) (inl y) = sym x.1.1 ∙ y.1.1
+one_more w ls above h f i a b (inl x) (inr y) =
+    let l : i < w.index = above i b (subst (λ (g : Fid). HasVersion g i b ls) (sym x.0) y) in let e : w.index ≡ i = x.1.0 in absurd (omega arith)
+one_more w ls above h f i a b (inr x) (inl y) =
+    let l : i < w.index = above i a (subst (λ (g : Fid). HasVersion g i a ls) (sym y.0) x) in let e : w.index ≡ i = y.1.0 in absurd (omega arith)
+one_more w ls above h f i a b (inr x) (inr y) = h f i a b x y
+
+-- the version is above all of its fid
+follow_above : (w : Version) (ls : List Line) (o : Option Version) → last_version w.fid ls ≡ o → Follows o w → Tops ls → (i : ℕ) (b : Body) → HasVersion w.fid i b ls → i < w.index
+follow_above w ls None e f top i b x = absurd (none_has w.fid i b ls e x)
+follow_above w ls (Some last) e f top i b x =
+    let le : i ≤ last.index = subst (λ (o : Option Version). i ≤ index_in o) e (top w.fid i b x) in let next : w.index ≡ last.index + 1 = f.1.0 in omega arith
+
+last_more : (w : Version) (ls : List Line) (told : List Version) → ((f : Fid) → last_version f ls ≡ last_told f told) → (f : Fid) → last_version f (lines.Version w ∷ ls) ≡ last_told f (w ∷ told)
+last_more w ls told same f = ap (λ (o : Option Version). cond (same_fid w.fid f) (Some w) o) (same f)
+
+pub ones : (id : ℕ) (vs : List Version) (ls : List Line) (told : List Version) → ((f : Fid) → last_version f ls ≡ last_told f told) → AreNext id vs told → Grow id vs ls → Tops ls → Ones ls → Ones (on_top vs ls)
+ones id [] ls told same next g top h = h
+ones id (v ∷ vs) ls told same next g top h =
+    ones id vs (lines.Version v ∷ ls) (v ∷ told) (last_more v ls told same) next.1.1 g.1 (tops id (v ∷ []) ls (g.0, tt) top)
+    (one_more v ls (follow_above v ls (last_told v.fid told) (same v.fid) next.1.0 top) h)
+
+-- all that lines tell
+last_by : (f : Fid) (o : Option Version) (ls : List Line) (p : Option Version) → p ≡ last_told f (versions_in ls) → latest f o p ≡ last_told f (told_by o (versions_in ls))
+last_by f None ls p e = e
+last_by f (Some v) ls p e = ap (λ (x : Option Version). cond (same_fid v.fid f) (Some v) x) e
+
+pub last_of : (f : Fid) (ls : List Line) → last_version f ls ≡ last_told f (versions_in ls)
+last_of f [] = refl
+last_of f (l ∷ ls) = last_by f (version_in l) ls (last_version f ls) (last_of f ls)
+
+pub agrees_of : (id : ℕ) (v : Volume) (ls : List Line) → Sound id v ls → Agrees id v (versions_in ls)
+agrees_of id v ls x = record {
+  held = λ n q. ap live (sym (last_of (fid_at id n q) ls)) ∙ x.agree n q;
+  unseen = λ n q le. sym (last_of (fid_at id n q) ls) ∙ x.new n q le;
+}
 
 -- of another volume they are none
 abbrev pub touches : Fid → List Version → Bool

@@ -3,7 +3,7 @@ use Rattle.afs_ideal.specs.Operations.{volume_changed}
 use Rattle.afs_ideal.specs.Tables.{AscendsFrom, Table, get}
 use Rattle.afs_ideal.specs.Volumes.{Kind, a_directory, Vnode, Volume}
 use Rattle.afs_law.proofs.Basics.{Below, UpTo, Above, Each, IfCall, IfReply, IfNotice, OfCall, OfReply}
-use Rattle.afs_law.proofs.Edits.{index_in, SoundIn, Tops}
+use Rattle.afs_law.proofs.Edits.{Ones, index_in, SoundIn, Tops}
 use Rattle.afs_law.proofs.Owing.{BackedIn}
 use Rattle.afs_law.specs.Acts.{Act}
 use Rattle.afs_law.specs.Callbacks.{replies_of}
@@ -21,7 +21,7 @@ use Rattle.afs_law.specs.States.{CacheEntry, Seat, ServerState}
 use Rattle.afs_model.specs.Calls.{call_seat}
 use Rattle.std.specs.Prelude.{Bool, true, false, ◌++◌, if◌then◌else◌, ⊤}
 use Rattle.afs_num.specs.Nodes.{same_node}
-use Rattle.std.proofs.Common.{◌≡◌, ℕ, ◌<◌, ◌≤◌, ◌^◌, ◌⊎◌, List, [], ◌∷◌, Option, Some, None, ℤ}
+use Rattle.std.proofs.Common.{◌+◌, ◌≡◌, ℕ, ◌<◌, ◌≤◌, ◌^◌, ◌⊎◌, List, [], ◌∷◌, Option, Some, None, ℤ}
 use Rattle.std.specs.Option.{option_map}
 use Rattle.afs_num.specs.declared.types.Fid.{Fid}
 use Rattle.afs_num.specs.declared.types.Head.{Head}
@@ -177,6 +177,8 @@ Plain j f index server newer v past = IsPlain j f index server newer v.running (
 
 abbrev pub stored_index : Carried → Option ℕ
 stored_index (carried.Reply (replies.StoreData status sync)) = Some status.sync_counter
+stored_index (carried.Reply (replies.StoreAcl status sync)) = Some status.sync_counter
+stored_index (carried.Reply (replies.StoreStatus status sync)) = Some status.sync_counter
 stored_index c = None
 
 pub record WasStored (j : ℕ) (f : Fid) (server : Node) (newer : List Line) (kept_reply : Option Message) (past : List Entry) : Type 0 where
@@ -190,6 +192,8 @@ pub record WasStored (j : ℕ) (f : Fid) (server : Node) (newer : List Line) (ke
 -- after a store the reply tells the new index; after any other change the entry will be given up
 abbrev pub WasChanged : ℕ → Fid → Node → List Line → Option Message → List Entry → FsCall → Type 0
 WasChanged j f server newer reply past (calls.StoreData g status position wanted file_length contents) = WasStored j f server newer reply past
+WasChanged j f server newer reply past (calls.StoreAcl g acl) = WasStored j f server newer reply past
+WasChanged j f server newer reply past (calls.StoreStatus g status) = WasStored j f server newer reply past
 WasChanged j f server newer reply past call = ⊤
 
 -- an entry whose client waits for the reply to its own call, which ran and may have changed that
@@ -240,14 +244,33 @@ abbrev pub FitsData : Bool → ℕ → Spot → Message → List Entry → List 
 FitsData sp j v m past contents status callback (calls.FetchData f position wanted) = IsFetched sp j f status.sync_counter (body_told status.file_type contents) callback.expiration_time m past
 FitsData sp j v m past contents status callback call = FitsPlain v m call
 
+-- the version has the body of the one before
+pub record IsKeptBody (f : Fid) (index : ℕ) (ls : List Line) : Type 0 where
+  pub before : ℕ
+  pub next : index ≡ before + 1
+  pub body : Body
+  pub old : HasVersion f before body ls
+  pub new : HasVersion f index body ls
+
+-- what a store left was told
+abbrev pub Leaves : FsCall → Fid → ℕ → List Line → Type 0
+Leaves (calls.StoreData g set position wanted file_length contents) f index ls = HasVersion f index (bodies.File contents) ls
+Leaves call f index ls = IsKeptBody f index ls
+
+abbrev pub FitsStore : ℕ → Fid → Spot → Message → List Entry → AfsFetchStatus → FsCall → Type 0
+FitsStore j f v m past status call = Leaves call f status.sync_counter (lines_of past) × (IsStored v m × Reached (Client j) f status.sync_counter past)
+
 abbrev pub FitsSet : ℕ → Spot → Message → List Entry → AfsFetchStatus → FsCall → Type 0
-FitsSet j v m past status (calls.StoreData f set position wanted file_length contents) =
-    HasVersion f status.sync_counter (bodies.File contents) (lines_of past) × (IsStored v m × Reached (Client j) f status.sync_counter past)
+FitsSet j v m past status (calls.StoreData f set position wanted file_length contents) = FitsStore j f v m past status (calls.StoreData f set position wanted file_length contents)
+FitsSet j v m past status (calls.StoreAcl f acl) = FitsStore j f v m past status (calls.StoreAcl f acl)
+FitsSet j v m past status (calls.StoreStatus f set) = FitsStore j f v m past status (calls.StoreStatus f set)
 FitsSet j v m past status call = FitsPlain v m call
 
 abbrev pub FitsReply : Bool → ℕ → FsCall → Spot → Message → List Entry → FsReply → Type 0
 FitsReply sp j call v m past (replies.FetchData contents status callback sync) = FitsData sp j v m past contents status callback call
 FitsReply sp j call v m past (replies.StoreData status sync) = FitsSet j v m past status call
+FitsReply sp j call v m past (replies.StoreAcl status sync) = FitsSet j v m past status call
+FitsReply sp j call v m past (replies.StoreStatus status sync) = FitsSet j v m past status call
 FitsReply sp j call v m past reply = FitsPlain v m call
 
 -- A refusal has a code. A refused call may have changed something since, but in a later boot
@@ -504,6 +527,7 @@ pub record HoldsAt (s : Script) (now : Option ℕ) (c : Cell) (past : List Entry
   pub down : HasFallen c.down c.server c.sent past
   pub clock : clock_of (lines_of past) ≡ c.clock
   pub top : Tops (lines_of past)
+  pub one : Ones (lines_of past)
   -- of the server's memory, but in the midst of a restart
   pub backs : now ≡ up_boot c.down c.server.boot → BackedIn c.down c.backs c.server.boot c.server.seats (λ j. (c.clients j).seat) c.clock c.sent past
 

@@ -7,11 +7,10 @@ use Rattle.afs_law.proofs.Answering.{client_goes, begun_goes}
 use Rattle.afs_law.proofs.Backing.{all_lines, is_oweless, no_owe, is_still, live_back, zero_back}
 use Rattle.afs_law.proofs.Basics.{same_fid-refl, same_fid-true, apart, some_of, both}
 use Rattle.afs_law.proofs.Deciding.{server_times, server_wakes_goes, given_goes, stops_goes, restarts_goes}
-use Rattle.afs_law.proofs.Edits.{index_in, fid_at, live, Sound, SoundIn, sound_same, Tops, tops, Told, Grow, on_top, edits_told, untouched, not_touched, get-set}
+use Rattle.afs_law.proofs.Edits.{one_more, Ones, index_in, fid_at, live, Sound, SoundIn, sound_same, Tops, tops, Told, Grow, on_top, edits_told, untouched, not_touched, get-set, none_has}
 use Rattle.afs_law.proofs.Facts.{IsFine, AreFine, server_boot, Reached, Holds, Goes, AreSound}
 use Rattle.afs_law.proofs.Naming.{first_fine}
 use Rattle.afs_law.proofs.Resting.{voids, ticks_goes, stop_set, fail_set}
-use Rattle.afs_law.proofs.Serving.{none_has}
 use Rattle.afs_law.proofs.Waiting.{waits_goes, client_stops_goes, client_starts_goes}
 use Rattle.afs_law.specs.Breaks.{live_grant, last_number}
 use Rattle.afs_law.specs.ClientRow.{the_server}
@@ -167,6 +166,7 @@ told_none a b e = subst (λ (x : Option Version). or_told x b ≡ b) (sym e) ref
 pub record FirstFacts (t : Table Volume) (ls : List Line) : Type 0 where
   pub sound : AreSound t ls
   pub top : Tops ls
+  pub one : Ones ls
   pub fine : AreFine t
 
 pub not_some : (o : Option Volume) → is_some o ≡ false → o ≡ None
@@ -199,6 +199,16 @@ tops_lines id m (p ∷ ps) o a none h f i b (inr x) =
     ])
     (λ t. tops_lines id (p.0 + 1) ps o a.1 none h f i b x)
 
+-- they are the first of their fids
+pub ones_lines : (id m : ℕ) (t : Table Vnode) (o : List Line) → AscendsFrom m t → ((n u : ℕ) → last_version (fid_at id n u) o ≡ None) → Ones o → Ones (version_lines id t o)
+ones_lines id m [] o a none h = h
+ones_lines id m (p ∷ ps) o a none h =
+    let w : Version = version_at id p.0 p.1 in
+    one_more w (version_lines id ps o) (λ i b x. elim (numbers_from w.fid i b id (p.0 + 1) ps o a.1 x) [
+      | inl y ↦ let l : p.0 + 1 ≤ p.0 = y.0 in absurd (omega arith)
+      | inr y ↦ absurd (none_has w.fid i b o (none p.0 p.1.unique) y)
+    ]) (ones_lines id (p.0 + 1) ps o a.1 none h)
+
 pub first_sound_by : (t : Bool) (id other : ℕ) (V : Volume) (o : Option Volume) (L : List Line) → eqb id other ≡ t → IsFine V → ((n u : ℕ) → last_version (fid_at id n u) L ≡ None) → SoundIn other o L → SoundIn other (cond t (Some V) o) (version_lines id V.vnodes L)
 first_sound_by true id other V o L t f none old =
     let a = first_agrees id V f.ascends f.below in
@@ -219,6 +229,7 @@ first_new_volume v t ls none h =
     record {
       sound = λ other. subst (λ (o : Option Volume). SoundIn other o (version_lines v.id (first_volume v).vnodes ls)) (sym (get-set v.id other (first_volume v) t)) (first_sound_by (eqb v.id other) v.id other (first_volume v) (get other t) ls refl (first_fine v) old (h.sound other));
       top = tops_lines v.id 1 (first_volume v).vnodes ls (first_fine v).ascends old h.top;
+      one = ones_lines v.id 1 (first_volume v).vnodes ls (first_fine v).ascends old h.one;
       fine = λ i u e. fine_by (eqb v.id i) (first_volume v) u (get i t) (first_fine v) (h.fine i u) (sym (get-set v.id i (first_volume v) t) ∙ e);
     }
 
@@ -227,7 +238,7 @@ first_facts_by true v t ls b h = h
 first_facts_by false v t ls b h = subst (FirstFacts (set v.id (first_volume v) t)) (sym (onto_more [] ls (lines_at v) ∙ onto_first v.id (first_volume v).vnodes [] (onto [] ls))) (first_new_volume v t (onto [] ls) (not_some (get v.id t) b) h)
 
 pub first_facts : (vs : List VolumeLine) → FirstFacts (first_volumes vs) (onto [] (first_lines vs))
-first_facts [] = record { sound = λ id n u. refl; top = λ f i b x. absurd x; fine = λ i u e. absurd cc }
+first_facts [] = record { sound = λ id n u. refl; top = λ f i b x. absurd x; one = λ f i a b x y. absurd x; fine = λ i u e. absurd cc }
 first_facts (v ∷ vs) = first_facts_by (is_some (get v.id (first_volumes vs))) v (first_volumes vs) (first_lines vs) refl (first_facts vs)
 
 -- ---- nothing else is told at set-up
@@ -358,6 +369,7 @@ starts s one =
       sent = record { calls = tt; replies = tt; notices = tt; origins = tt; acts = tt; ones = tt; told = refl; waiting = tt; to_clients = tt };
       clock = first_passed (λ (ls : List Line). clock_of ls ≡ 0) (λ v o h. h) s.volumes [] refl;
       top = facts.top;
+      one = facts.one;
       backs = λ z. record {
         granted = λ x. tt;
         numbered = let y : last_number the_server (onto [] (first_lines s.volumes)) ≡ 0 = zero_back (first_lines s.volumes) [] (first_oweless (first_lines s.volumes) (all_versions s.volumes)) refl in le_of_eq y;

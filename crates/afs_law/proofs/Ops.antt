@@ -1,6 +1,7 @@
 -- What the single operations are: each law by the calls.
+use Rattle.afs_ideal.specs.AccessLists.{acl_at}
 use Rattle.afs_ideal.proofs.Scopes.{stays_in_scope}
-use Rattle.afs_ideal.specs.Operations.{Caller, Found, Shown, shows_body, shows_status, shows_acl, shows_statuses, shows_volume, reads, no_amend, Result, refused, changes, no_operation, by_tests, limited, limits, first_failing, tests, effect, read_by, one_more, statuses, op, volume_called, volume_changed, kind_is, is_kind, kinds_agree, vnode_in, name_in, removes, creates}
+use Rattle.afs_ideal.specs.Operations.{acl_read, Caller, Found, Shown, shows_body, shows_status, shows_acl, shows_statuses, shows_volume, reads, no_amend, Result, refused, changes, no_operation, by_tests, limited, limits, first_failing, tests, effect, read_by, one_more, statuses, op, volume_called, volume_changed, kind_is, is_kind, kinds_agree, vnode_in, name_in, removes, creates}
 use Rattle.afs_ideal.specs.Tables.{Table, get, set}
 use Rattle.afs_ideal.specs.Volumes.{Kind, a_file, a_directory, a_link, Vnode, Volume, Edit, amends, makes, frees, Amend, vnode_of, if_unique, versions_by, edited_all, amends_at, amended, version_at, ascending}
 use Rattle.afs_law.proofs.Basics.{both, some_of, same_fid-true, same_fid-refl}
@@ -231,12 +232,25 @@ op_code id caller call v code of e =
 
 -- ---- a store changes its file alone
 
-pub record Storing (f : Fid) (st : AfsStoreStatus) (contents : List ℕ) (v : Volume) (es : List Edit) (n : ℕ) : Type 0 where
+-- what a store amends
+abbrev pub amend_of : FsCall → Amend
+amend_of (calls.StoreData f st p w l b) = record no_amend { contents = Some b; status = Some st }
+amend_of (calls.StoreAcl f acl) = record no_amend { acl = acl_read (acl_at acl) }
+amend_of (calls.StoreStatus f st) = record no_amend { status = Some st }
+amend_of call = no_amend
+
+-- the fid of a store
+abbrev pub stored_fid : FsCall → Option Fid
+stored_fid (calls.StoreData f st p w l b) = Some f
+stored_fid (calls.StoreAcl f acl) = Some f
+stored_fid (calls.StoreStatus f st) = Some f
+stored_fid call = None
+
+pub record Storing (f : Fid) (a : Amend) (v : Volume) (es : List Edit) (n : ℕ) : Type 0 where
   pub vnode : Vnode
   pub found : get f.vnode v.vnodes ≡ Some vnode
   pub unique : vnode.unique ≡ f.unique
-  pub kind : vnode.kind ≡ a_file
-  pub edits : es ≡ amends f.vnode (record no_amend { contents = Some contents; status = Some st }) ∷ []
+  pub edits : es ≡ amends f.vnode a ∷ []
   pub shows : n ≡ f.vnode
 
 change_same : (es fs : List Edit) (a b : ℕ) → changes es a ≡ changes fs b → (es ≡ fs) × (a ≡ b)
@@ -276,29 +290,40 @@ kept_kind : (t : Bool) (y : Vnode) → kind_is a_file (cond t (Some y) None) ≡
 kept_kind true y e = file_by y.kind e
 kept_kind false y e = absurd cc
 
-storing_at : (f : Fid) (st : AfsStoreStatus) (contents : List ℕ) (v : Volume) (es : List Edit) (n : ℕ) (o : Option Vnode) → get f.vnode v.vnodes ≡ o → is_some (if_unique f.unique o) ≡ true → kind_is a_file (if_unique f.unique o) ≡ true
-    → es ≡ amends f.vnode (record no_amend { contents = Some contents; status = Some st }) ∷ [] → n ≡ f.vnode → Storing f st contents v es n
-storing_at f st contents v es n None at there kind a b = absurd cc
-storing_at f st contents v es n (Some y) at there kind a b = record { vnode = y; found = at; unique = stored_unique (nat_eq y.unique f.unique) f.unique y refl there; kind = kept_kind (nat_eq y.unique f.unique) y kind; edits = a; shows = b }
+storing_at : (f : Fid) (a : Amend) (v : Volume) (es : List Edit) (n : ℕ) (o : Option Vnode) → get f.vnode v.vnodes ≡ o → is_some (if_unique f.unique o) ≡ true
+    → es ≡ amends f.vnode a ∷ [] → n ≡ f.vnode → Storing f a v es n
+storing_at f a v es n None at there x y = absurd cc
+storing_at f a v es n (Some y) at there x z = record { vnode = y; found = at; unique = stored_unique (nat_eq y.unique f.unique) f.unique y refl there; edits = x; shows = z }
 
-pub storing : (id : ℕ) (caller : Caller) (f : Fid) (st : AfsStoreStatus) (p w l : ℤ) (b : List ℕ) (v : Volume) (es : List Edit) (n : ℕ) → op id caller (calls.StoreData f st p w l b) v ≡ changes es n → Storing f st b v es n
-storing id caller f st p w l b v es n e =
+storing_by : (id : ℕ) (caller : Caller) (call : FsCall) (f : Fid) (v : Volume) (es : List Edit) (n : ℕ) → (o : Option ℕ) → (o ≡ None → is_some (vnode_of f v) ≡ true) → by_tests o (limited id v (changes (amends f.vnode (amend_of call) ∷ []) f.vnode)) ≡ changes es n → Storing f (amend_of call) v es n
+storing_by id caller call f v es n o there e =
+    let q = passed_by o id v (amends f.vnode (amend_of call) ∷ []) es f.vnode n e in
+    storing_at f (amend_of call) v es n (get f.vnode v.vnodes) refl (there q.0) (sym q.1.0) (sym q.1.1)
+
+pub storing : (id : ℕ) (caller : Caller) (call : FsCall) (f : Fid) (v : Volume) (es : List Edit) (n : ℕ) → stored_fid call ≡ Some f → op id caller call v ≡ changes es n → Storing f (amend_of call) v es n
+storing id caller (calls.StoreData g st p w l b) f v es n is e =
+    let same : g ≡ f = cc in
+    subst (λ (x : Fid). Storing x (amend_of (calls.StoreData g st p w l b)) v es n) same (storing_by id caller (calls.StoreData g st p w l b) g v es n (first_failing (tests caller (calls.StoreData g st p w l b) v)) (λ ok. (all_hold (tests caller (calls.StoreData g st p w l b) v) ok).0) e)
+storing id caller (calls.StoreAcl g acl) f v es n is e =
+    let same : g ≡ f = cc in
+    subst (λ (x : Fid). Storing x (amend_of (calls.StoreAcl g acl)) v es n) same (storing_by id caller (calls.StoreAcl g acl) g v es n (first_failing (tests caller (calls.StoreAcl g acl) v)) (λ ok. (all_hold (tests caller (calls.StoreAcl g acl) v) ok).0) e)
+storing id caller (calls.StoreStatus g st) f v es n is e =
+    let same : g ≡ f = cc in
+    subst (λ (x : Fid). Storing x (amend_of (calls.StoreStatus g st)) v es n) same (storing_by id caller (calls.StoreStatus g st) g v es n (first_failing (tests caller (calls.StoreStatus g st) v)) (λ ok. (all_hold (tests caller (calls.StoreStatus g st) v) ok).0) e)
+storing id caller call f v es n is e = absurd cc
+
+kept_by : (f : Fid) (v : Volume) (x : Vnode) (o : Option Vnode) → get f.vnode v.vnodes ≡ o → kind_is a_file (if_unique f.unique o) ≡ true → o ≡ Some x → x.kind ≡ a_file
+kept_by f v x None at kind e = absurd cc
+kept_by f v x (Some y) at kind e = let same : y ≡ x = cc in subst (λ (z : Vnode). z.kind ≡ a_file) same (kept_kind (nat_eq y.unique f.unique) y kind)
+
+-- data is stored in files
+pub stored_kind : (id : ℕ) (caller : Caller) (f : Fid) (st : AfsStoreStatus) (p w l : ℤ) (b : List ℕ) (v : Volume) (es : List Edit) (n : ℕ) → op id caller (calls.StoreData f st p w l b) v ≡ changes es n → (x : Vnode) → get f.vnode v.vnodes ≡ Some x → x.kind ≡ a_file
+stored_kind id caller f st p w l b v es n e x at =
     let q = passed_by (first_failing (tests caller (calls.StoreData f st p w l b) v)) id v (amends f.vnode (record no_amend { contents = Some b; status = Some st }) ∷ []) es f.vnode n e in
     let h : AllHold (tests caller (calls.StoreData f st p w l b) v) = all_hold (tests caller (calls.StoreData f st p w l b) v) q.0 in
-    storing_at f st b v es n (get f.vnode v.vnodes) refl h.0 (both (kind_is a_file (vnode_of f v)) _ h.1.1.1.1.0).0 (sym q.1.0) (sym q.1.1)
+    kept_by f v x (get f.vnode v.vnodes) refl (both (kind_is a_file (vnode_of f v)) _ h.1.1.1.1.0).0 at
 
 -- ---- a change is of the fids that its call may change
-
-one_touch : (t : Bool) (f g : Fid) (w : Version) → same_fid w.fid f ≡ t → w.fid ≡ g → cond t true false ≡ true → g ≡ f
-one_touch true f g w t e h = sym e ∙ same_fid-true w.fid f t
-one_touch false f g w t e h = absurd cc
-
-store_touches : (id : ℕ) (f g : Fid) (st : AfsStoreStatus) (b : List ℕ) (v : Volume) (es : List Edit) (n : ℕ) → Storing f st b v es n → f.volume ≡ id → touches g (versions_by id es v) ≡ true → f ≡ g
-store_touches id f g st b v es n s at t =
-    let a : Amend = record no_amend { contents = Some b; status = Some st } in
-    let t' : touches g (versions_by id (amends f.vnode a ∷ []) v) ≡ true = subst (λ (x : List Edit). touches g (versions_by id x v) ≡ true) s.edits t in
-    let t2 : touches g ((amends_at id f.vnode a v (Some s.vnode)).versions ++ []) ≡ true = subst (λ (o : Option Vnode). touches g ((amends_at id f.vnode a v o).versions ++ []) ≡ true) s.found t' in
-    one_touch _ g f (version_at id f.vnode (amended (v.counter + 1) a s.vnode)) refl (ap (λ (z : ℕ). fid_at z f.vnode s.vnode.unique) (sym at) ∙ ap (λ (u : ℕ). fid_at f.volume f.vnode u) s.unique) t2
 
 -- what only reads makes no change
 abbrev pub Keeps : Result → Type 0
@@ -357,10 +382,9 @@ in_scope caller (calls.FetchStatus f) id v es n g ls e at grow t = absurd (chang
 in_scope caller (calls.GetVolumeStatus k) id v es n g ls e at grow t = absurd (changes_is id caller (calls.GetVolumeStatus k) v es n at e refl)
 in_scope caller call id v es n g ls e at grow t = inl (volume_scope (volume_called call) id g.volume at (touched_volume g id (versions_by id es v) ls grow t))
 
--- the file, after a store
-pub stored_vnode : (id : ℕ) (f : Fid) (st : AfsStoreStatus) (b : List ℕ) (v : Volume) (es : List Edit) (n : ℕ) → (s : Storing f st b v es n) → get f.vnode (edited_all id es v).vnodes ≡ Some (amended (v.counter + 1) (record no_amend { contents = Some b; status = Some st }) s.vnode)
-stored_vnode id f st b v es n s =
-    let a : Amend = record no_amend { contents = Some b; status = Some st } in
+-- the vnode, after a store
+pub stored_vnode : (id : ℕ) (f : Fid) (a : Amend) (v : Volume) (es : List Edit) (n : ℕ) → (s : Storing f a v es n) → get f.vnode (edited_all id es v).vnodes ≡ Some (amended (v.counter + 1) a s.vnode)
+stored_vnode id f a v es n s =
     subst (λ (x : List Edit). get f.vnode (edited_all id x v).vnodes ≡ Some (amended (v.counter + 1) a s.vnode)) (sym s.edits)
     (subst (λ (o : Option Vnode). get f.vnode (amends_at id f.vnode a v o).volume.vnodes ≡ Some (amended (v.counter + 1) a s.vnode)) (sym s.found)
     (get-set f.vnode f.vnode (amended (v.counter + 1) a s.vnode) v.vnodes ∙ rw (eq-eqb f.vnode f.vnode refl) refl))

@@ -11,7 +11,7 @@ use Rattle.afs_num.specs.declared.messages.Message.{Message}
 use Rattle.afs_ideal.specs.Operations.{reads, volume_changed, Result, refused, changes}
 use Rattle.afs_law.proofs.Basics.{Each, IfCall, IfReply, IfNotice, each_more, each_map, if_call, if_reply, if_notice, at_more, ByClient, OfClient, by_client, both, same_node-true, same_node-refl, client_number, OfCall}
 use Rattle.afs_law.proofs.Edits.{index_in}
-use Rattle.afs_law.proofs.Facts.{Seen, IsActs, IsLastCall, View, Spot, spot, Reached, Held, IsNewest, Stands, IsCurrent, IsFetched, Fits, Answers, ReplyFact, AreKept, ClientFacts, CallIn, ReplyIn, Origin, HeldIn, ToClient, SentFacts, HasFallen, Reading, FitsReply, FitsData, FitsSet, WasChanged, WasStored, IsOne, IsNoticed}
+use Rattle.afs_law.proofs.Facts.{IsKeptBody, Seen, IsActs, IsLastCall, View, Spot, spot, Reached, Held, IsNewest, Stands, IsCurrent, IsFetched, Fits, Answers, ReplyFact, AreKept, ClientFacts, CallIn, ReplyIn, Origin, HeldIn, ToClient, SentFacts, HasFallen, Reading, FitsReply, FitsData, FitsSet, WasChanged, WasStored, IsOne, IsNoticed}
 use Rattle.afs_law.specs.Acts.{Act}
 use Rattle.afs_law.specs.ClientRow.{the_server, body_told}
 use Rattle.afs_law.specs.Going.{asked, Going, Need, next, answers, began, with_read, read_on}
@@ -190,9 +190,8 @@ current_over j f u v w e past le p st h = record {
   state = st h.held.grant.server (since (Client j) f u.expiry h.reply past h.held.grant) h.held.server h.state;
 }
 
-was_over : (j : ℕ) (f : Fid) (server : Node) (newer : List Line) (reply : Option Message) (e : Entry) (past : List Entry) (call : FsCall) → PassesSeen j f e past → StaysNewest j f e past → server ≡ the_server
-    → WasChanged j f server newer reply past call → WasChanged j f server (onto newer e.lines) reply (e ∷ past) call
-was_over j f server newer reply e past (calls.StoreData g status position wanted file_length contents) r n q h = record {
+stored_over : (j : ℕ) (f : Fid) (server : Node) (newer : List Line) (reply : Option Message) (e : Entry) (past : List Entry) → PassesSeen j f e past → StaysNewest j f e past → server ≡ the_server → WasStored j f server newer reply past → WasStored j f server (onto newer e.lines) reply (e ∷ past)
+stored_over j f server newer reply e past r n q h = record {
   index = h.index;
   reply = h.reply;
   kept = h.kept;
@@ -200,6 +199,12 @@ was_over j f server newer reply e past (calls.StoreData g status position wanted
   reached = r h.index h.reached;
   newest = n server h.index newer q h.newest;
 }
+
+was_over : (j : ℕ) (f : Fid) (server : Node) (newer : List Line) (reply : Option Message) (e : Entry) (past : List Entry) (call : FsCall) → PassesSeen j f e past → StaysNewest j f e past → server ≡ the_server
+    → WasChanged j f server newer reply past call → WasChanged j f server (onto newer e.lines) reply (e ∷ past) call
+was_over j f server newer reply e past (calls.StoreData g status position wanted file_length contents) r n q h = stored_over j f server newer reply e past r n q h
+was_over j f server newer reply e past (calls.StoreAcl g acl) r n q h = stored_over j f server newer reply e past r n q h
+was_over j f server newer reply e past (calls.StoreStatus g status) r n q h = stored_over j f server newer reply e past r n q h
 was_over j f server newer reply e past call r n q h = tt
 
 -- where the view stays
@@ -229,15 +234,22 @@ data_over : (sp : Bool) (j : ℕ) (v : Spot) (m : Message) (e : Entry) (past : L
 data_over sp j v m e past contents status callback (calls.FetchData f position wanted) p r n h = fetched_over j f status.sync_counter (body_told status.file_type contents) callback.expiration_time m e past (p f) (r f).seen (n f) h
 data_over sp j v m e past contents status callback call p r n h = h
 
+pub body_kept : (f : Fid) (i : ℕ) (ls more : List Line) → ((k : ℕ) (b : Body) → HasVersion f k b ls → HasVersion f k b more) → IsKeptBody f i ls → IsKeptBody f i more
+body_kept f i ls more w h = record { before = h.before; next = h.next; body = h.body; old = w h.before h.body h.old; new = w i h.body h.new }
+
 set_over : (j : ℕ) (v : Spot) (m : Message) (e : Entry) (past : List Entry) (status : AfsFetchStatus) (call : FsCall) → ((f : Fid) → PassesGrant j f e past) → ((f : Fid) → PassesReach j f e past)
     → FitsSet j v m past status call → FitsSet j v m (e ∷ past) status call
 set_over j v m e past status (calls.StoreData f set position wanted file_length contents) p r h = ((p f).version status.sync_counter (bodies.File contents) (lines_of past) h.0, (h.1.0, (r f).both status.sync_counter h.1.1))
+set_over j v m e past status (calls.StoreAcl f acl) p r h = (body_kept f status.sync_counter (lines_of past) (lines_of (e ∷ past)) (λ i b x. (p f).version i b (lines_of past) x) h.0, (h.1.0, (r f).both status.sync_counter h.1.1))
+set_over j v m e past status (calls.StoreStatus f set) p r h = (body_kept f status.sync_counter (lines_of past) (lines_of (e ∷ past)) (λ i b x. (p f).version i b (lines_of past) x) h.0, (h.1.0, (r f).both status.sync_counter h.1.1))
 set_over j v m e past status call p r h = h
 
 reply_fits : (sp : Bool) (j : ℕ) (call : FsCall) (v : Spot) (m : Message) (e : Entry) (past : List Entry) (reply : FsReply) → ((f : Fid) → PassesGrant j f e past) → ((f : Fid) → PassesReach j f e past) → ((f : Fid) → StaysNewest j f e past)
     → FitsReply sp j call v m past reply → FitsReply sp j call v m (e ∷ past) reply
 reply_fits sp j call v m e past (replies.FetchData contents status callback sync) p r n h = data_over sp j v m e past contents status callback call p r n h
 reply_fits sp j call v m e past (replies.StoreData status sync) p r n h = set_over j v m e past status call p r h
+reply_fits sp j call v m e past (replies.StoreAcl status sync) p r n h = set_over j v m e past status call p r h
+reply_fits sp j call v m e past (replies.StoreStatus status sync) p r n h = set_over j v m e past status call p r h
 reply_fits sp j call v m e past reply p r n h = h
 
 fits_over : (sp : Bool) (j : ℕ) (call : FsCall) (v : Spot) (boot : ℕ) (m : Message) (c : Carried) (e : Entry) (past : List Entry) → ((f : Fid) → PassesGrant j f e past) → ((f : Fid) → PassesReach j f e past) → ((f : Fid) → StaysNewest j f e past)

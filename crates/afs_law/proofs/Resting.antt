@@ -123,6 +123,7 @@ rests s b c past e n d armed h boots none p clock heard fallen backs =
   down = fallen;
   clock = clock ∙ ap (λ (t : ℕ). t + n) h.clock;
   top = λ f i b x. subst (λ (o : Option Version). i ≤ index_in o) (sym (p.last f (lines_of past))) (h.top f i b (p.back f i b (lines_of past) x));
+  one = λ f i a b x y. h.one f i a b (p.back f i a (lines_of past) x) (p.back f i b (lines_of past) y);
   backs = backs;
 }
 

@@ -1,4 +1,41 @@
+use Rattle.afs_num.specs.declared.directories.Name.{Name}
+use Rattle.afs_ideal.specs.Operations.{Found, Caller, the_user, reads, Shown, Result, refused, changes, code_of, op, shows_acl, no_amend, volume_called, volume_changed, changed}
+use Rattle.afs_ideal.specs.Replies.{vnode_or_none, status_at, status_of, change_reply, stamped}
+use Rattle.afs_ideal.specs.Tables.{Table, get, set}
+use Rattle.afs_ideal.specs.Told.{AreNext}
+use Rattle.afs_ideal.specs.Volumes.{or_old, with_status, Amend, type_of, bytes_by, Volume, Vnode, Kind, a_file, a_directory, a_link, body_by, body_of, vnode_of, if_unique, version_at, Edit, versions_by, edited_all, counted, amended}
+use Rattle.afs_law.proofs.Backing.{is_still_to, Plain, all_lines, is_up, is_still, is_oweless, is_unchanging, backed_fall, granted_over, change_back, no_owe}
+use Rattle.afs_law.proofs.Basics.{node_apart, Below, UpTo, Above, Each, IfCall, IfReply, IfNotice, if_notice, OfReply, OfNotice, above_up, up_to_by, by_server, IfBack, IfDone, ByClient, OfClient, client_any, by_client, both, same_fid-true, same_fid-refl, apart, same_node-true, client_number, up_to_below, below_up_to, below_not, up_to_same, LastSeat, own_seat, at_seat, OfCall, each_map, each_at, if_call, if_reply, raised_up_to, some_of, yes_no}
+use Rattle.afs_law.proofs.Edits.{agrees_of, last_of, ones, Ones, index_in, fid_at, Sound, SoundIn, sound_same, Tops, live, live_index, get-set, on_top, Grow, Told, edits_told, counted_sound, Rises, rises, tops, touches, untouched, touched_volume, not_touched, there, none_has}
+use Rattle.afs_law.proofs.Facts.{IsKeptBody, Leaves, HeldIn, ToClient, Ghost, Seen, HoldsAt, server_boot, up_boot, risen, LastStored, IsStored, IsActs, IsLastCall, IsAged, IsUntrusted, View, view_of, view, Spot, spot, LastRan, ReplyFact, IsBehind, AreKept, MayRun, HasFallen, IsCut, Reached, Stands, IsCurrent, HasCurrent, Fits, Answers, IsReply, KeptReply, ClientFacts, CallFact, CallIn, ReplyIn, Origin, AreHome, AreNew, AreUnheard, stored_index, Holds, Goes, IsNoticed, IsOne, InScope, IsFetched, FitsReply, FitsData, FitsSet, FitsPlain, WasChanged, AreIdeal, AreSound, WasStored}
+use Rattle.afs_law.proofs.Loading.{hits_other, granted_all, onto_granted, left_granted, all_hits, all_left, down_later, none_loaded, still_backed, known_backed, resent, change_loaded, rise_loaded, owes_unchanging, all_new, number_front, number_second, run_loaded, key_held, no_change, all_waited, NewReply, settles_good, settles_backed, quits_good, quits_backed, retries_backed, left_promised, has_owe, touched_hit, numbers_good, numbers_rise}
+use Rattle.afs_law.proofs.Naming.{fine_after}
+use Rattle.afs_law.proofs.Notes.{granted_notes, AreNotes, Skips, skips, told_entry, told_rests, risen_entry, risen_rests, noted_entry, noted_rests, owe_notes, settle_notes, quit_notes, no_versions}
+use Rattle.afs_law.proofs.Ops.{stored_kind, stored_fid, amend_of, in_scope, changes_is, Storing, storing, stored_vnode}
+use Rattle.afs_law.proofs.Owing.{AllOf, HeldWaits, BackedIn, IsDone, DroppedOwe, IsGranted, IsNumberIn, all_filter, DoneIn}
+use Rattle.afs_law.proofs.Passing.{ran_over, stands_over, answers_over, reply_over, kept_over, replies_over, waiting_over, fallen_over, replies_still, PassesBoth, PassesSeen, held_over, fetch_reply_by, cause_over, PassesFile, PassesAct, PassesReach, StaysNewest, stays, current_over, reached_more, client_over, client_still, News, more_sent, PassesGrant}
+use Rattle.afs_law.proofs.Pumping.{of_reply_any, no_call, no_notice, no_news, news_more, news_held, pumped_news, starts_held, news_break}
+use Rattle.afs_law.proofs.Resting.{rest_backed, fall_backed, Rests, fault_rests, full_rests, alone, rests, still, voids, unheard_still, fallen_still, restart_rests, server_crash_rests, cut_entry, cut_rests}
+use Rattle.afs_law.proofs.Serving.{up_backed, seats_of, Gives, taken_not, up_boots, reached_at, Dull, unheard_over, at_told, unheard_up, client_head, Now, call_at, taken, seats_after, durable_after, Stock, stock, server_after, own_durable, seated_view, caller_view, views_after, above_more, above_before, not_ran, dull_after, unheard_after, ran_now, HasRun, cause_now, running_act, stale_none, Serves, served_cell, serves, last_has, has_run, spot_at, not_stored, unheard_later, quiet, refuses_goes, told_file, told_reach, told_act}
+use Rattle.afs_law.proofs.Turning.{loaded, TurnSends, Pumps, pumps, expired_backed, call_good, good_more, put_call, break_good}
+use Rattle.afs_law.specs.Acts.{Act}
+use Rattle.afs_law.specs.Breaks.{HasStopped, GoodSettle, GoodQuit, live_grant, HasOwe, last_number}
+use Rattle.afs_law.specs.Callbacks.{hits, left, retries, quits, Backs, Held, Owed, Turn, Started, BackCall, replies_of, pumped, expired, turn_for, turned_by, no_turn, repeats_by, new_owes, owe_line, is_held, key_answered, is_seat_of, risen_turn, revived_backs, owes_all, timed, first_backs, numbers, is_hit, alls, Promise, put, settles, settles_by, is_back_awaited, answered_by, renews, renews_by, noticed_by}
+use Rattle.afs_law.specs.ClientRow.{the_server, find_cached, body_told}
+use Rattle.afs_law.specs.Going.{asked, Going, Need, next, answers, began, with_read, read_on}
+use Rattle.afs_law.specs.Grants.{IsWithdrawn, has_fetched, fetch_reply, since, change_below, IsByOther, IsDropped}
+use Rattle.afs_law.specs.Ideal.{versions_in, Reach, is_zero_code, raised, IsLast, version_in, latest, IsThat, user_of, clock_of, last_version, HasVersion, Accepts, reach, volume_after, change_key, call_under, reach_over, applied, applied_by}
+use Rattle.afs_law.specs.Legal.{code_given, IsResult, AreGood, IsGood, code_told, Cause, IsNew, HasChange, GoodChange, versions_first, AreGoodReplies, IsTold, answer_at, answer_on, IsUnderChange, IsChanged, op_on}
+use Rattle.afs_law.specs.Lines.{Line}
+use Rattle.afs_law.specs.Past.{IsUnheard, onto, lines_of, sent_of, given_message, called_key, HasCode, is_of_act, IsCallUnder, Ran, running, has_begun}
+use Rattle.afs_law.specs.Records.{change_record}
+use Rattle.afs_law.specs.Runs.{Entry, Cell, message_at, Armed, unarmed, Luck, Blow, struck, lowered, Fall, at_rest, in_step, in_boot, settled, Outcome, comes_up, fails_early, fails_midway, is_full, server_rises, server_ends, server_falls, blow_line, server_stopped, server_restarted, server_served, server_given, server_moves, server_does, back_timed, server_timed, server_wakes}
+use Rattle.afs_law.specs.Scopes.{is_in_scope, is_volume}
+use Rattle.afs_law.specs.ServerRow.{granted, granted_in, record_of, carried_by, change_reply_to, no_room, has_room, longer, revived, device_calls, promise_until, promise_ticks, decides, Decision, drops, tells_boot, repeats, refuses, saves, runs, admits, called, hears, reply_head, replied, boot_told, refusal, told, does, versioned, Change, made, result, saved, decided, in_volume, with_volume}
+use Rattle.afs_law.specs.States.{CacheEntry, Seat, ServerState}
+use Rattle.afs_model.specs.Calls.{call_seated, call_seat}
 use Rattle.afs_num.specs.declared.calls.AfsStoreStatus.{AfsStoreStatus}
+use Rattle.afs_ideal.proofs.Edits as ideal_edits
 use Rattle.std.proofs.Common.{◌≡◌, ℕ, ◌+◌, ◌<◌, ◌≤◌, ◌⊎◌, inl, inr, Bool, true, false, cond, nat_eq, length, List, [], ◌∷◌, ◌++◌, Option, Some, None, ℤ, pos, refl, sym, ap, subst, ◌∙◌, arith, eq-eqb, eqb-true, le_of_eq, append-nil, nat_lt, ltb-true, ltb-false, eqb}
 use Rattle.std.specs.Prelude.{◌&&◌, ⊤, map, filter, not}
 use Rattle.std.specs.Option.{option_map}
@@ -14,40 +51,6 @@ use Rattle.afs_num.specs.declared.calls.FsCall.{FsCall}
 use Rattle.afs_num.specs.declared.messages.Carried.{Carried}
 use Rattle.afs_num.specs.declared.messages.Message.{Message}
 use Rattle.afs_num.specs.declared.messages.Received.TheVariants.{Whole}
-use Rattle.afs_ideal.specs.Operations.{Found, Caller, the_user, reads, Shown, Result, refused, changes, code_of, op, shows_acl, no_amend, volume_called, volume_changed, changed}
-use Rattle.afs_ideal.specs.Replies.{vnode_or_none, status_at, status_of, change_reply, stamped}
-use Rattle.afs_ideal.specs.Tables.{Table, get, set}
-use Rattle.afs_ideal.specs.Volumes.{type_of, bytes_by, Volume, Vnode, Kind, a_file, a_directory, a_link, body_by, body_of, vnode_of, if_unique, version_at, Edit, versions_by, edited_all, counted, amended}
-use Rattle.afs_law.proofs.Backing.{is_still_to, Plain, all_lines, is_up, is_still, is_oweless, is_unchanging, backed_fall, granted_over, change_back, no_owe}
-use Rattle.afs_law.proofs.Basics.{node_apart, Below, UpTo, Above, Each, IfCall, IfReply, IfNotice, if_notice, OfReply, OfNotice, above_up, up_to_by, by_server, IfBack, IfDone, ByClient, OfClient, client_any, by_client, both, same_fid-true, same_fid-refl, apart, same_node-true, client_number, up_to_below, below_up_to, below_not, up_to_same, LastSeat, own_seat, at_seat, OfCall, each_map, each_at, if_call, if_reply, raised_up_to, some_of, yes_no}
-use Rattle.afs_law.proofs.Edits.{index_in, fid_at, Sound, SoundIn, sound_same, Tops, live, live_index, get-set, on_top, Grow, Told, edits_told, counted_sound, Rises, rises, tops, touches, untouched, touched_volume, not_touched, there}
-use Rattle.afs_law.proofs.Facts.{HeldIn, ToClient, Ghost, Seen, HoldsAt, server_boot, up_boot, risen, LastStored, IsStored, IsActs, IsLastCall, IsAged, IsUntrusted, View, view_of, view, Spot, spot, LastRan, ReplyFact, IsBehind, AreKept, MayRun, HasFallen, IsCut, Reached, Stands, IsCurrent, HasCurrent, Fits, Answers, IsReply, KeptReply, ClientFacts, CallFact, CallIn, ReplyIn, Origin, AreHome, AreNew, AreUnheard, stored_index, Holds, Goes, IsNoticed, IsOne, InScope, IsFetched, FitsReply, FitsData, FitsSet, FitsPlain, WasChanged, AreIdeal, AreSound, WasStored}
-use Rattle.afs_law.proofs.Loading.{hits_other, granted_all, onto_granted, left_granted, all_hits, all_left, down_later, none_loaded, still_backed, known_backed, resent, change_loaded, rise_loaded, owes_unchanging, all_new, number_front, number_second, run_loaded, key_held, no_change, all_waited, NewReply, settles_good, settles_backed, quits_good, quits_backed, retries_backed, left_promised, has_owe, touched_hit, numbers_good, numbers_rise}
-use Rattle.afs_law.proofs.Naming.{fine_after}
-use Rattle.afs_law.proofs.Notes.{granted_notes, AreNotes, Skips, skips, told_entry, told_rests, risen_entry, risen_rests, noted_entry, noted_rests, owe_notes, settle_notes, quit_notes, no_versions}
-use Rattle.afs_law.proofs.Ops.{in_scope, changes_is, Storing, storing, stored_vnode}
-use Rattle.afs_law.proofs.Owing.{AllOf, HeldWaits, BackedIn, IsDone, DroppedOwe, IsGranted, IsNumberIn, all_filter, DoneIn}
-use Rattle.afs_law.proofs.Passing.{ran_over, stands_over, answers_over, reply_over, kept_over, replies_over, waiting_over, fallen_over, replies_still, PassesBoth, PassesSeen, held_over, fetch_reply_by, cause_over, PassesFile, PassesAct, PassesReach, StaysNewest, stays, current_over, reached_more, client_over, client_still, News, more_sent, PassesGrant}
-use Rattle.afs_law.proofs.Pumping.{of_reply_any, no_call, no_notice, no_news, news_more, news_held, pumped_news, starts_held, news_break}
-use Rattle.afs_law.proofs.Resting.{rest_backed, fall_backed, Rests, fault_rests, full_rests, alone, rests, still, voids, unheard_still, fallen_still, restart_rests, server_crash_rests, cut_entry, cut_rests}
-use Rattle.afs_law.proofs.Serving.{none_has, up_backed, seats_of, Gives, taken_not, up_boots, reached_at, Dull, unheard_over, at_told, unheard_up, client_head, Now, call_at, taken, seats_after, durable_after, Stock, stock, server_after, own_durable, seated_view, caller_view, views_after, above_more, above_before, not_ran, dull_after, unheard_after, ran_now, HasRun, cause_now, running_act, stale_none, Serves, served_cell, serves, last_has, has_run, spot_at, not_stored, unheard_later, quiet, refuses_goes, told_file, told_reach, told_act}
-use Rattle.afs_law.proofs.Turning.{loaded, TurnSends, Pumps, pumps, expired_backed, call_good, good_more, put_call, break_good}
-use Rattle.afs_law.specs.Acts.{Act}
-use Rattle.afs_law.specs.Breaks.{HasStopped, GoodSettle, GoodQuit, live_grant, HasOwe, last_number}
-use Rattle.afs_law.specs.Callbacks.{hits, left, retries, quits, Backs, Held, Owed, Turn, Started, BackCall, replies_of, pumped, expired, turn_for, turned_by, no_turn, repeats_by, new_owes, owe_line, is_held, key_answered, is_seat_of, risen_turn, revived_backs, owes_all, timed, first_backs, numbers, is_hit, alls, Promise, put, settles, settles_by, is_back_awaited, answered_by, renews, renews_by, noticed_by}
-use Rattle.afs_law.specs.ClientRow.{the_server, find_cached, body_told}
-use Rattle.afs_law.specs.Going.{asked, Going, Need, next, answers, began, with_read, read_on}
-use Rattle.afs_law.specs.Grants.{IsWithdrawn, has_fetched, fetch_reply, since, change_below, IsByOther, IsDropped}
-use Rattle.afs_law.specs.Ideal.{Reach, is_zero_code, raised, IsLast, version_in, latest, IsThat, user_of, clock_of, last_version, HasVersion, Accepts, reach, volume_after, change_key, call_under, reach_over, applied, applied_by}
-use Rattle.afs_law.specs.Legal.{code_given, IsResult, AreGood, IsGood, code_told, Cause, IsNew, HasChange, GoodChange, versions_first, AreGoodReplies, IsTold, answer_at, answer_on, IsUnderChange, IsChanged, op_on}
-use Rattle.afs_law.specs.Lines.{Line}
-use Rattle.afs_law.specs.Past.{IsUnheard, onto, lines_of, sent_of, given_message, called_key, HasCode, is_of_act, IsCallUnder, Ran, running, has_begun}
-use Rattle.afs_law.specs.Records.{change_record}
-use Rattle.afs_law.specs.Runs.{Entry, Cell, message_at, Armed, unarmed, Luck, Blow, struck, lowered, Fall, at_rest, in_step, in_boot, settled, Outcome, comes_up, fails_early, fails_midway, is_full, server_rises, server_ends, server_falls, blow_line, server_stopped, server_restarted, server_served, server_given, server_moves, server_does, back_timed, server_timed, server_wakes}
-use Rattle.afs_law.specs.Scopes.{is_in_scope, is_volume}
-use Rattle.afs_law.specs.ServerRow.{granted, granted_in, record_of, carried_by, change_reply_to, no_room, has_room, longer, revived, device_calls, promise_until, promise_ticks, decides, Decision, drops, tells_boot, repeats, refuses, saves, runs, admits, called, hears, reply_head, replied, boot_told, refusal, told, does, versioned, Change, made, result, saved, decided, in_volume, with_volume}
-use Rattle.afs_law.specs.States.{CacheEntry, Seat, ServerState}
-use Rattle.afs_model.specs.Calls.{call_seated, call_seat}
 use Rattle.afs_num.specs.declared.scripts.Script.{Script}
 use Rattle.afs_num.specs.declared.histories.Actor.TheVariants as actors
 use Rattle.afs_num.specs.declared.histories.Body.{Body}
@@ -282,6 +285,18 @@ saves_tops (rises_to b tl a ms) id k vs r past g h = by_saved Tops (rises_to b t
 saves_tops faults id k vs r past g h = by_saved Tops faults k vs (lines_of past) (tops id vs _ g h)
 saves_tops fills id k vs r past g h = by_saved Tops fills k vs (lines_of past) (tops id vs _ g h)
 
+pub ones_on : (ls : List Line) → AreNotes ls → (o : List Line) → Ones o → Ones (onto o ls)
+ones_on ls a o h f i b d x y = h f i b d ((skips ls a).back f i b o x) ((skips ls a).back f i d o y)
+
+pub versions_by_next : (id : ℕ) (es : List Edit) (v : Volume) (ls : List Line) → Sound id v ls → AreNext id (versions_by id es v) (versions_in ls)
+versions_by_next id es v ls sound = (ideal_edits.edits_told id es v (versions_in ls) (agrees_of id v ls sound)).next
+
+pub saves_ones : (y : Way) (id : ℕ) (k : Key) (vs : List Version) (r : Message) (past : List Entry) → Grow id vs (base y k (length vs) (lines_of past)) → AreNext id vs (versions_in (base y k (length vs) (lines_of past))) → Tops (lines_of past) → Ones (lines_of past) → Ones (lines_of (saved_entry y k vs r ∷ past))
+saves_ones (whole p tl a ms) id k vs r past g next h one = by_saved Ones (whole p tl a ms) k vs (lines_of past) (ones_on tl a _ (ones id vs (base (whole p tl a ms) k (length vs) (lines_of past)) (versions_in (base (whole p tl a ms) k (length vs) (lines_of past))) (λ f. last_of f (base (whole p tl a ms) k (length vs) (lines_of past))) next g h one))
+saves_ones (rises_to b tl a ms) id k vs r past g next h one = by_saved Ones (rises_to b tl a ms) k vs (lines_of past) (ones_on tl a _ (ones id vs (base (rises_to b tl a ms) k (length vs) (lines_of past)) (versions_in (base (rises_to b tl a ms) k (length vs) (lines_of past))) (λ f. last_of f (base (rises_to b tl a ms) k (length vs) (lines_of past))) next g h one))
+saves_ones faults id k vs r past g next h one = by_saved Ones faults k vs (lines_of past) (ones id vs (base faults k (length vs) (lines_of past)) (versions_in (base faults k (length vs) (lines_of past))) (λ f. last_of f (base faults k (length vs) (lines_of past))) next g h one)
+saves_ones fills id k vs r past g next h one = by_saved Ones fills k vs (lines_of past) (ones id vs (base fills k (length vs) (lines_of past)) (versions_in (base fills k (length vs) (lines_of past))) (λ f. last_of f (base fills k (length vs) (lines_of past))) next g h one)
+
 pub saves_ideal : (y : Way) (id : ℕ) (k : Key) (vs : List Version) (r : Message) (past : List Entry) → volume_after id (saved_entry y k vs r ∷ past) ≡ applied id (call_under k (sent_of past)) (volume_after id past)
 saves_ideal (whole p tl a ms) id k vs r past = refl
 saves_ideal (rises_to b tl a ms) id k vs r past = refl
@@ -453,16 +468,14 @@ rises_saved y past k id vs r f g =
 
 -- ---- a store: its file's new version, and the index that its reply tells
 
-abbrev pub stored_by_call : Volume → List ℕ → AfsStoreStatus → Vnode → Vnode
-stored_by_call v b st x = amended (v.counter + 1) (record no_amend { contents = Some b; status = Some st }) x
-
-pub store_last : (y : Way) (s : Script) (c : Cell) (past : List Entry) (user : List ℕ) (call : FsCall) (f : Fid) (st : AfsStoreStatus) (b : List ℕ) (id : ℕ) (v : Volume) (es : List Edit) (shown : ℕ) (k : Key) (r : Message) → Holds s c past → Change' c past user call id v es shown → f.volume ≡ id → (x : Storing f st b v es shown)
-    → last_version f (lines_of (saved_entry y k (versions_by id es v) r ∷ past)) ≡ Some (version_at id f.vnode (stored_by_call v b st x.vnode))
-store_last y s c past user call f st b id v es shown k r H g at x =
+pub store_last : (y : Way) (s : Script) (c : Cell) (past : List Entry) (user : List ℕ) (call : FsCall) (f : Fid) (a : Amend) (id : ℕ) (v : Volume) (es : List Edit) (shown : ℕ) (k : Key) (r : Message) → Holds s c past → Change' c past user call id v es shown → f.volume ≡ id → (x : Storing f a v es shown)
+    → last_version f (lines_of (saved_entry y k (versions_by id es v) r ∷ past)) ≡ Some (version_at id f.vnode (amended (v.counter + 1) a x.vnode))
+store_last y s c past user call f a id v es shown k r H g at x =
     let L : List Line = lines_of (saved_entry y k (versions_by id es v) r ∷ past) in
+    let new : Vnode = amended (v.counter + 1) a x.vnode in
     let t = told_at y s c past user call id v es shown k H g in
-    let sound : Sound id (edited_all id es v) L = sound_same id (Some (edited_all id es v)) _ L (λ a u. saves_last y k (versions_by id es v) r past (fid_at id a u)) t.sound in
-    let there : last_version (fid_at id f.vnode x.vnode.unique) L ≡ Some (version_at id f.vnode (stored_by_call v b st x.vnode)) = there id f.vnode (edited_all id es v) (stored_by_call v b st x.vnode) L (stored_vnode id f st b v es shown x) sound in
+    let sound : Sound id (edited_all id es v) L = sound_same id (Some (edited_all id es v)) _ L (λ m u. saves_last y k (versions_by id es v) r past (fid_at id m u)) t.sound in
+    let there : last_version (fid_at id f.vnode x.vnode.unique) L ≡ Some (version_at id f.vnode new) = there id f.vnode (edited_all id es v) new L (stored_vnode id f a v es shown x) sound in
     ap (λ (i : ℕ). last_version (fid_at i f.vnode f.unique) L) at ∙ (ap (λ (u : ℕ). last_version (fid_at id f.vnode u) L) (sym x.unique) ∙ there)
 
 abbrev pub index_told : Carried → ℕ → Type 0
@@ -472,65 +485,107 @@ index_told c i = stored_index c ≡ Some i
 abbrev pub change_carried : ℕ → List ℕ → FsCall → ℕ → (Fid → ℕ) → Volume → List Edit → ℕ → Carried
 change_carried time user call id times v es shown = carried_by (time + promise_ticks) (change_reply id (the_user user) (stamped time (versions_by id es v) times) (counted (edited_all id es v)) shown call)
 
-pub store_told : (id time : ℕ) (user : List ℕ) (times : Fid → ℕ) (f : Fid) (st : AfsStoreStatus) (p w l : ℤ) (b : List ℕ) (v : Volume) (es : List Edit) (shown : ℕ) → (x : Storing f st b v es shown) → stored_index (change_carried time user (calls.StoreData f st p w l b) id times v es shown) ≡ Some (x.vnode.index + 1)
-store_told id time user times f st p w l b v es shown x = ap (λ (o : Option Vnode). Some ((vnode_or_none o).index)) (stored_vnode id f st b v es shown x)
+index_at : (id : ℕ) (f : Fid) (a : Amend) (v : Volume) (es : List Edit) (shown : ℕ) → (x : Storing f a v es shown) → (vnode_or_none (get f.vnode (edited_all id es v).vnodes)).index ≡ x.vnode.index + 1
+index_at id f a v es shown x = ap (λ (o : Option Vnode). (vnode_or_none o).index) (stored_vnode id f a v es shown x)
 
-pub store_before : (s : Script) (c : Cell) (past : List Entry) (user : List ℕ) (call : FsCall) (f : Fid) (st : AfsStoreStatus) (b : List ℕ) (id : ℕ) (v : Volume) (es : List Edit) (shown : ℕ) → Holds s c past → Change' c past user call id v es shown → f.volume ≡ id → (x : Storing f st b v es shown) → last_version f (lines_of past) ≡ Some (version_at id f.vnode x.vnode)
-store_before s c past user call f st b id v es shown H g at x =
+-- what a change is answered
+pub store_told : (call : FsCall) (id time : ℕ) (user : List ℕ) (times : Fid → ℕ) (f : Fid) (v : Volume) (es : List Edit) (shown : ℕ) → stored_fid call ≡ Some f → (x : Storing f (amend_of call) v es shown) → stored_index (change_carried time user call id times v es shown) ≡ Some (x.vnode.index + 1)
+store_told (calls.StoreData g st p w l b) id time user times f v es shown is x = let same : g ≡ f = cc in ap (λ (h : Fid). Some ((vnode_or_none (get h.vnode (edited_all id es v).vnodes)).index)) same ∙ ap Some (index_at id f (amend_of (calls.StoreData g st p w l b)) v es shown x)
+store_told (calls.StoreAcl g acl) id time user times f v es shown is x = let same : g ≡ f = cc in ap (λ (h : Fid). Some ((vnode_or_none (get h.vnode (edited_all id es v).vnodes)).index)) same ∙ ap Some (index_at id f (amend_of (calls.StoreAcl g acl)) v es shown x)
+store_told (calls.StoreStatus g st) id time user times f v es shown is x = let same : g ≡ f = cc in ap (λ (h : Fid). Some ((vnode_or_none (get h.vnode (edited_all id es v).vnodes)).index)) same ∙ ap Some (index_at id f (amend_of (calls.StoreStatus g st)) v es shown x)
+store_told call id time user times f v es shown is x = absurd cc
+
+pub store_before : (s : Script) (c : Cell) (past : List Entry) (user : List ℕ) (call : FsCall) (f : Fid) (a : Amend) (id : ℕ) (v : Volume) (es : List Edit) (shown : ℕ) → Holds s c past → Change' c past user call id v es shown → f.volume ≡ id → (x : Storing f a v es shown) → last_version f (lines_of past) ≡ Some (version_at id f.vnode x.vnode)
+store_before s c past user call f a id v es shown H g at x =
     let sound : Sound id v (lines_of past) = subst (λ (o : Option Volume). SoundIn id o (lines_of past)) g.at (H.sound id) in
     ap (λ (i : ℕ). last_version (fid_at i f.vnode f.unique) (lines_of past)) at ∙ (ap (λ (u : ℕ). last_version (fid_at id f.vnode u) (lines_of past)) (sym x.unique) ∙ there id f.vnode v x.vnode (lines_of past) x.found sound)
 
 abbrev pub saved_reply : Cell → Head → ℕ → List ℕ → FsCall → ℕ → Volume → List Edit → ℕ → Message
 saved_reply c head time user call id v es shown = change_reply_to c.server.boot head time c.server.times (change_at id user call v es shown)
 
--- an entry that the caller's own change has overtaken
-pub was_changed : (call : FsCall) (y : Way) (s : Script) (c : Cell) (past : List Entry) (n : ℕ) (head : Head) (user : List ℕ) (id time : ℕ) (v : Volume) (es : List Edit) (shown : ℕ) (k : Key) (g : Fid) (server : Node) (newer : List Line) → Holds s c past → Change' c past user call id v es shown → is_in_scope call g ≡ true
-    → WasChanged n g server newer (Some (saved_reply c head time user call id v es shown)) (saved_entry y k (versions_by id es v) (saved_reply c head time user call id v es shown) ∷ past) call
-was_changed (calls.StoreData f st p w l b) y s c past n head user id time v es shown k g server newer H q scope =
-    let call : FsCall = calls.StoreData f st p w l b in
+pub was_stored : (call : FsCall) (f : Fid) (y : Way) (s : Script) (c : Cell) (past : List Entry) (n : ℕ) (head : Head) (user : List ℕ) (id time : ℕ) (v : Volume) (es : List Edit) (shown : ℕ) (k : Key) (g : Fid) (server : Node) (newer : List Line) → Holds s c past → Change' c past user call id v es shown → stored_fid call ≡ Some f → f.volume ≡ id → f ≡ g
+    → WasStored n g server newer (Some (saved_reply c head time user call id v es shown)) (saved_entry y k (versions_by id es v) (saved_reply c head time user call id v es shown) ∷ past)
+was_stored call f y s c past n head user id time v es shown k g server newer H q is at fg =
     let r : Message = saved_reply c head time user call id v es shown in
-    let fg : f ≡ g = same_fid-true f g scope in
-    let at : f.volume ≡ id = some_of f.volume id q.of_volume in
-    let x : Storing f st b v es shown = storing id (the_user user) f st p w l b v es shown q.result in
-    let last = store_last y s c past user call f st b id v es shown k r H q at x in
-    let before = store_before s c past user call f st b id v es shown H q at x in
+    let x : Storing f (amend_of call) v es shown = storing id (the_user user) call f v es shown is q.result in
+    let last = store_last y s c past user call f (amend_of call) id v es shown k r H q at x in
+    let before = store_before s c past user call f (amend_of call) id v es shown H q at x in
     let low : (reach (Client n) f past).seen ≤ x.vnode.index = (reached_at s c past n f (version_at id f.vnode x.vnode) H before).seen in
     subst (λ (z : Fid). WasStored n z server newer (Some r) (saved_entry y k (versions_by id es v) r ∷ past)) fg
     (record {
       index = x.vnode.index + 1;
       reply = r;
       kept = refl;
-      told = store_told id time user c.server.times f st p w l b v es shown x;
+      told = store_told call id time user c.server.times f v es shown is x;
       reached = seen_saved y n k (versions_by id es v) r past f (x.vnode.index + 1) (omega arith);
       newest = inr (ap (option_map (λ (z : Version). z.index)) last);
     })
+
+-- an entry that the caller's own change has overtaken
+pub was_changed : (call : FsCall) (y : Way) (s : Script) (c : Cell) (past : List Entry) (n : ℕ) (head : Head) (user : List ℕ) (id time : ℕ) (v : Volume) (es : List Edit) (shown : ℕ) (k : Key) (g : Fid) (server : Node) (newer : List Line) → Holds s c past → Change' c past user call id v es shown → is_in_scope call g ≡ true
+    → WasChanged n g server newer (Some (saved_reply c head time user call id v es shown)) (saved_entry y k (versions_by id es v) (saved_reply c head time user call id v es shown) ∷ past) call
+was_changed (calls.StoreData f st p w l b) y s c past n head user id time v es shown k g server newer H q scope = was_stored (calls.StoreData f st p w l b) f y s c past n head user id time v es shown k g server newer H q refl (some_of f.volume id q.of_volume) (same_fid-true f g scope)
+was_changed (calls.StoreAcl f acl) y s c past n head user id time v es shown k g server newer H q scope = was_stored (calls.StoreAcl f acl) f y s c past n head user id time v es shown k g server newer H q refl (some_of f.volume id q.of_volume) (same_fid-true f g scope)
+was_changed (calls.StoreStatus f st) y s c past n head user id time v es shown k g server newer H q scope = was_stored (calls.StoreStatus f st) f y s c past n head user id time v es shown k g server newer H q refl (some_of f.volume id q.of_volume) (same_fid-true f g scope)
 was_changed call y s c past n head user id time v es shown k g server newer H q scope = tt
 
 pub stored_reach : (y : Way) (past : List Entry) (n : ℕ) (k : Key) (id : ℕ) (vs : List Version) (r : Message) (f : Fid) (w : Version) → last_version f (lines_of (saved_entry y k vs r ∷ past)) ≡ Some w → Grow id vs (base y k (length vs) (lines_of past)) → Reached (Client n) f (index_in (last_version f (lines_of past))) past
     → Reached (Client n) f w.index (saved_entry y k vs r ∷ past)
 stored_reach y past n k id vs r f w e g h = subst (λ (o : Option Version). Reached (Client n) f (index_in o) (saved_entry y k vs r ∷ past)) e (own_reached y past n k id vs r f g h)
 
--- the reply of a change fits its call
-pub set_fits : (y : Way) (s : Script) (c : Cell) (past : List Entry) (n : ℕ) (head : Head) (user : List ℕ) (f : Fid) (st : AfsStoreStatus) (p w l : ℤ) (b : List ℕ) (id time : ℕ) (v : Volume) (es : List Edit) (shown : ℕ) (k : Key) (x : Spot) → Holds s c past → Change' c past user (calls.StoreData f st p w l b) id v es shown → IsStored x (saved_reply c head time user (calls.StoreData f st p w l b) id v es shown)
-    → FitsSet n x (saved_reply c head time user (calls.StoreData f st p w l b) id v es shown) (saved_entry y k (versions_by id es v) (saved_reply c head time user (calls.StoreData f st p w l b) id v es shown) ∷ past) (status_at id (the_user user) (stamped time (versions_by id es v) c.server.times) (counted (edited_all id es v)) f.vnode) (calls.StoreData f st p w l b)
-set_fits y s c past n head user f st p w l b id time v es shown k x H q is =
-    let call : FsCall = calls.StoreData f st p w l b in
+-- where only the status or the rights change, the body stays
+body_stays_by : (d : Kind) (a : Amend) (m : ℕ) (x : Vnode) → a.contents ≡ None → a.names ≡ None → body_by d (amended m a x) ≡ body_by d x
+body_stays_by a_file a m x e n = ap (λ (o : Option (List ℕ)). bodies.File (or_old o x.contents)) e
+body_stays_by a_directory a m x e n = ap (λ (o : Option (List Name)). bodies.Dir (or_old o x.names)) n
+body_stays_by a_link a m x e n = ap (λ (o : Option (List ℕ)). bodies.Link (or_old o x.contents)) e
+
+status_kind : (o : Option AfsStoreStatus) (x : Vnode) → (with_status o x).kind ≡ x.kind
+status_kind None x = refl
+status_kind (Some st) x = refl
+
+body_stays : (a : Amend) (m : ℕ) (x : Vnode) → a.contents ≡ None → a.names ≡ None → body_of (amended m a x) ≡ body_of x
+body_stays a m x e n = ap (λ (d : Kind). body_by d (amended m a x)) (status_kind a.status x) ∙ body_stays_by x.kind a m x e n
+
+-- what a store leaves: the stored bytes, or the body of the version before
+pub leaves : (call : FsCall) (f : Fid) (id m : ℕ) (user : List ℕ) (v : Volume) (es : List Edit) (shown : ℕ) (x : Vnode) (ls : List Line) → stored_fid call ≡ Some f → op id (the_user user) call v ≡ changes es shown → get f.vnode v.vnodes ≡ Some x
+    → HasVersion f x.index (body_of x) ls → HasVersion f (x.index + 1) (body_of (amended m (amend_of call) x)) ls → Leaves call f (x.index + 1) ls
+leaves (calls.StoreData g st p w l b) f id m user v es shown x ls is e at old new =
+    let same : g ≡ f = cc in
+    let kind : x.kind ≡ a_file = stored_kind id (the_user user) g st p w l b v es shown e x (ap (λ (h : Fid). get h.vnode v.vnodes) same ∙ at) in
+    let body : body_of (amended m (amend_of (calls.StoreData g st p w l b)) x) ≡ bodies.File b = ap (λ (d : Kind). body_by d (amended m (amend_of (calls.StoreData g st p w l b)) x)) kind in
+    subst (λ (d : Body). HasVersion f (x.index + 1) d ls) body new
+leaves (calls.StoreAcl g acl) f id m user v es shown x ls is e at old new =
+    record { before = x.index; next = refl; body = body_of x; old = old; new = subst (λ (d : Body). HasVersion f (x.index + 1) d ls) (body_stays (amend_of (calls.StoreAcl g acl)) m x refl refl) new }
+leaves (calls.StoreStatus g st) f id m user v es shown x ls is e at old new =
+    record { before = x.index; next = refl; body = body_of x; old = old; new = subst (λ (d : Body). HasVersion f (x.index + 1) d ls) (body_stays (amend_of (calls.StoreStatus g st)) m x refl refl) new }
+leaves call f id m user v es shown x ls is e at old new = absurd cc
+
+-- the reply of a store fits its call
+pub store_fits : (call : FsCall) (f : Fid) (y : Way) (s : Script) (c : Cell) (past : List Entry) (n : ℕ) (head : Head) (user : List ℕ) (id time : ℕ) (v : Volume) (es : List Edit) (shown : ℕ) (k : Key) (x : Spot) (i : ℕ) → Holds s c past → Change' c past user call id v es shown → stored_fid call ≡ Some f → f.volume ≡ id
+    → stored_index (change_carried time user call id c.server.times v es shown) ≡ Some i
+    → Leaves call f i (lines_of (saved_entry y k (versions_by id es v) (saved_reply c head time user call id v es shown) ∷ past)) × Reached (Client n) f i (saved_entry y k (versions_by id es v) (saved_reply c head time user call id v es shown) ∷ past)
+store_fits call f y s c past n head user id time v es shown k x i H q is at told =
     let r : Message = saved_reply c head time user call id v es shown in
-    let at : f.volume ≡ id = some_of f.volume id q.of_volume in
-    let z : Storing f st b v es shown = storing id (the_user user) f st p w l b v es shown q.result in
-    let a : Vnode = stored_by_call v b st z.vnode in
-    let last = store_last y s c past user call f st b id v es shown k r H q at z in
-    let index : (status_at id (the_user user) (stamped time (versions_by id es v) c.server.times) (counted (edited_all id es v)) f.vnode).sync_counter ≡ z.vnode.index + 1 = some_of _ _ (store_told id time user c.server.times f st p w l b v es shown z) in
-    let body : body_of a ≡ bodies.File b = ap (λ (d : Kind). body_by d a) z.kind in
+    let z : Storing f (amend_of call) v es shown = storing id (the_user user) call f v es shown is q.result in
+    let a : Vnode = amended (v.counter + 1) (amend_of call) z.vnode in
+    let L : List Line = lines_of (saved_entry y k (versions_by id es v) r ∷ past) in
+    let last : last_version f L ≡ Some (version_at id f.vnode a) = store_last y s c past user call f (amend_of call) id v es shown k r H q at z in
+    let before = store_before s c past user call f (amend_of call) id v es shown H q at z in
+    let index : z.vnode.index + 1 ≡ i = some_of _ _ (sym (store_told call id time user c.server.times f v es shown is z) ∙ told) in
     let t = told_at y s c past user call id v es shown k H q in
-    (subst (λ (i : ℕ). HasVersion f i (bodies.File b) (lines_of (saved_entry y k (versions_by id es v) r ∷ past))) (sym index) (subst (λ (d : Body). HasVersion f (z.vnode.index + 1) d (lines_of (saved_entry y k (versions_by id es v) r ∷ past))) body (last_has f (lines_of (saved_entry y k (versions_by id es v) r ∷ past)) (version_at id f.vnode a) last)),
-    (is, subst (λ (i : ℕ). Reached (Client n) f i (saved_entry y k (versions_by id es v) r ∷ past)) (sym index) (stored_reach y past n k id (versions_by id es v) r f (version_at id f.vnode a) last t.grow ((H.clients n).reached f))))
+    (subst (λ (j : ℕ). Leaves call f j L) index (leaves call f id (v.counter + 1) user v es shown z.vnode L is q.result z.found
+        ((saves_grant y n k (versions_by id es v) r past f).version z.vnode.index (body_of z.vnode) (lines_of past) (last_has f (lines_of past) (version_at id f.vnode z.vnode) before))
+        (last_has f L (version_at id f.vnode a) last)),
+    subst (λ (j : ℕ). Reached (Client n) f j (saved_entry y k (versions_by id es v) r ∷ past)) index (stored_reach y past n k id (versions_by id es v) r f (version_at id f.vnode a) last t.grow ((H.clients n).reached f)))
 
 pub change_fits : (sp : Bool) (call : FsCall) (y : Way) (s : Script) (c : Cell) (past : List Entry) (n : ℕ) (head : Head) (user : List ℕ) (id time : ℕ) (v : Volume) (es : List Edit) (shown : ℕ) (k : Key) (x : Spot) → (volume_changed call ≡ None → ⊥) → Holds s c past → Change' c past user call id v es shown → IsStored x (saved_reply c head time user call id v es shown)
     → Fits sp n call x c.server.boot (saved_reply c head time user call id v es shown) (change_carried time user call id c.server.times v es shown) (saved_entry y k (versions_by id es v) (saved_reply c head time user call id v es shown) ∷ past)
-change_fits sp (calls.StoreData f st p w l b) y s c past n head user id time v es shown k x some H q is = set_fits y s c past n head user f st p w l b id time v es shown k x H q is
-change_fits sp (calls.StoreAcl f acl) y s c past n head user id time v es shown k x some H q is = λ i e. is
-change_fits sp (calls.StoreStatus f st) y s c past n head user id time v es shown k x some H q is = λ i e. is
+change_fits sp (calls.StoreData f st p w l b) y s c past n head user id time v es shown k x some H q is =
+    let z = store_fits (calls.StoreData f st p w l b) f y s c past n head user id time v es shown k x _ H q refl (some_of f.volume id q.of_volume) refl in (z.0, (is, z.1))
+change_fits sp (calls.StoreAcl f acl) y s c past n head user id time v es shown k x some H q is =
+    let z = store_fits (calls.StoreAcl f acl) f y s c past n head user id time v es shown k x _ H q refl (some_of f.volume id q.of_volume) refl in (z.0, (is, z.1))
+change_fits sp (calls.StoreStatus f st) y s c past n head user id time v es shown k x some H q is =
+    let z = store_fits (calls.StoreStatus f st) f y s c past n head user id time v es shown k x _ H q refl (some_of f.volume id q.of_volume) refl in (z.0, (is, z.1))
 change_fits sp (calls.RemoveFile d name) y s c past n head user id time v es shown k x some H q is = λ i e. is
 change_fits sp (calls.CreateFile d name st) y s c past n head user id time v es shown k x some H q is = λ i e. is
 change_fits sp (calls.Rename d old d' new) y s c past n head user id time v es shown k x some H q is = λ i e. is
@@ -574,11 +629,15 @@ data_again sp call n x z m past newer contents status callback some none h = pla
 
 pub set_again : (call : FsCall) (n : ℕ) (x z : Spot) (m : Message) (past newer : List Entry) (status : AfsFetchStatus) → (volume_changed call ≡ None → ⊥) → (LastStored x → ⊥) → FitsSet n x m past status call → FitsSet n z m newer status call
 set_again (calls.StoreData f st p w l b) n x z m past newer status some none h = absurd (none h.1.0.ran)
+set_again (calls.StoreAcl f acl) n x z m past newer status some none h = absurd (none h.1.0.ran)
+set_again (calls.StoreStatus f st) n x z m past newer status some none h = absurd (none h.1.0.ran)
 set_again call n x z m past newer status some none h = plain_again call x z m some none (volume_changed call) refl h
 
 pub reply_again : (sp : Bool) (reply : FsReply) (n : ℕ) (call : FsCall) (x z : Spot) (m : Message) (past newer : List Entry) → (volume_changed call ≡ None → ⊥) → (LastStored x → ⊥) → FitsReply sp n call x m past reply → FitsReply sp n call z m newer reply
 reply_again sp (replies.FetchData contents status callback sync) n call x z m past newer some none h = data_again sp call n x z m past newer contents status callback some none h
 reply_again sp (replies.StoreData status sync) n call x z m past newer some none h = set_again call n x z m past newer status some none h
+reply_again sp (replies.StoreAcl status sync) n call x z m past newer some none h = set_again call n x z m past newer status some none h
+reply_again sp (replies.StoreStatus status sync) n call x z m past newer some none h = set_again call n x z m past newer status some none h
 reply_again sp reply n call x z m past newer some none h = plain_again call x z m some none (volume_changed call) refl h
 
 pub saved_again : (sp : Bool) (n : ℕ) (call : FsCall) (x z : Spot) (boot : ℕ) (m : Message) (c : Carried) (past newer : List Entry) → (volume_changed call ≡ None → ⊥) → (LastStored x → ⊥) → m.head.boot < boot → Fits sp n call x boot m c past → Fits sp n call z boot m c newer
@@ -738,6 +797,7 @@ saves_holds y s now c past after armed d n h user call time id v es shown H w q 
       reached = λ f. own_reached y past n k id vs r f grow ((H.clients n).reached f);
       clock = saves_clock y k vs r past ∙ H.clock;
       top = saves_tops y id k vs r past grow H.top;
+      one = saves_ones y id k vs r past grow (versions_by_next id es v (base y k (length vs) (lines_of past)) (sound_same id (Some v) (lines_of past) (base y k (length vs) (lines_of past)) (λ a u. base_last y k (length vs) (lines_of past) (fid_at id a u)) (subst (λ (o : Option Volume). SoundIn id o (lines_of past)) q.at (H.sound id)))) H.top H.one;
     })
     boots heard fallen gives backs
 

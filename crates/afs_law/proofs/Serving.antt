@@ -8,7 +8,7 @@ use Rattle.afs_ideal.specs.Tables.{Table, get, set}
 use Rattle.afs_ideal.specs.Volumes.{type_of, bytes_by, Volume, Vnode, Kind, a_file, a_directory, a_link, body_by, body_of, vnode_of, if_unique, version_at, Edit, versions_by, edited_all, counted, amended}
 use Rattle.afs_law.proofs.Backing.{Plain, all_lines, is_up, is_still, is_oweless, is_unchanging, backed_fall, granted_over, change_back, no_owe, promised_over}
 use Rattle.afs_law.proofs.Basics.{Below, UpTo, Above, Each, IfCall, IfReply, IfNotice, if_notice, OfReply, OfNotice, above_up, up_to_by, by_server, IfBack, IfDone, ByClient, OfClient, client_any, by_client, both, same_fid-true, same_fid-refl, apart, same_node-true, client_number, up_to_below, below_up_to, below_not, up_to_same, LastSeat, own_seat, at_seat, OfCall, each_map, each_at, if_call, if_reply, raised_up_to, some_of, yes_no}
-use Rattle.afs_law.proofs.Edits.{index_in, fid_at, Sound, SoundIn, sound_same, Tops, live, live_index, get-set, on_top, Grow, Told, edits_told, counted_sound, Rises, rises, tops, touches, untouched, touched_volume, not_touched, there}
+use Rattle.afs_law.proofs.Edits.{Ones, index_in, fid_at, Sound, SoundIn, sound_same, Tops, live, live_index, get-set, on_top, Grow, Told, edits_told, counted_sound, Rises, rises, tops, touches, untouched, touched_volume, not_touched, there}
 use Rattle.afs_law.proofs.Facts.{IsKnown, IsReadable, AreFine, HeldIn, ToClient, Ghost, Seen, HoldsAt, server_boot, up_boot, risen, LastStored, IsStored, IsActs, IsLastCall, IsAged, IsUntrusted, View, view_of, view, Spot, spot, LastRan, ReplyFact, IsBehind, AreKept, MayRun, HasFallen, IsCut, Reached, Stands, IsCurrent, HasCurrent, Fits, Answers, IsReply, KeptReply, ClientFacts, CallFact, CallIn, ReplyIn, Origin, AreHome, AreNew, AreUnheard, stored_index, Holds, Goes, IsNoticed, IsOne, InScope, IsFetched, FitsReply, FitsData, FitsSet, FitsPlain, WasChanged, AreIdeal, AreSound, WasStored}
 use Rattle.afs_law.proofs.Loading.{all_promised, all_granted, granted_all, down_later, none_loaded, still_backed, known_backed, resent, change_loaded, rise_loaded, owes_unchanging, all_new, number_front, number_second, run_loaded, key_held, no_change, all_waited, NewReply, settles_good, settles_backed, quits_good, quits_backed, retries_backed}
 use Rattle.afs_law.proofs.Notes.{granted_notes, AreNotes, Skips, skips, told_entry, told_rests, risen_entry, risen_rests, noted_entry, noted_rests, owe_notes, settle_notes, quit_notes, no_versions}
@@ -127,6 +127,7 @@ noted s now c past armed d e b h boots p clock heard fallen gives backs =
       down = fallen;
       clock = clock ∙ h.clock;
       top = λ f i b x. subst (λ (o : Option Version). i ≤ index_in o) (sym (p.last f (lines_of past))) (h.top f i b (p.back f i b (lines_of past) x));
+      one = λ f i a b x y. h.one f i a b (p.back f i a (lines_of past) x) (p.back f i b (lines_of past) y);
       backs = backs;
     }
 
@@ -456,6 +457,7 @@ pub record Serves (good : Bool) (s : Script) (c : Cell) (fl : ℕ → Ghost) (pa
   pub made : (a : Going) → (c.clients n).running ≡ Some a → (f : Fid) → (InScope (asked a) f → ⊥) → IsKnown a c.clock f (c.clients n).cache → (reach (Client n) f (e ∷ past)).made ≡ 0
   pub clock : clock_of (lines_of (e ∷ past)) ≡ c.clock
   pub top : Tops (lines_of (e ∷ past))
+  pub one : Ones (lines_of (e ∷ past))
 
 pub own_reply : (good : Bool) (s : Script) (c : Cell) (fl : ℕ → Ghost) (past : List Entry) (n : ℕ) (h : Head) (user : List ℕ) (call : FsCall) (x : Carried) (e : Entry) (st : Stock) → Now c fl past n h user call → Serves good s c fl past n h user call x e st
     → (m : Message) → ReplyFact n (view fl c n) past m → ReplyFact n (caller_view good fl c n h (replied c.server.boot (client_head n h) x)) (e ∷ past) m
@@ -547,6 +549,7 @@ serves good s b c past n h user call x e st after d armed H w v boots heard fall
       down = fallen;
       clock = v.clock;
       top = v.top;
+      one = v.one;
       backs = backs;
     }
 
@@ -563,19 +566,6 @@ has_in f (Some v) o w S h e = has_by (same_fid v.fid f) f v w o S refl h e
 pub last_has : (f : Fid) (ls : List Line) (w : Version) → last_version f ls ≡ Some w → HasVersion f w.index w.body ls
 last_has f [] w e = absurd cc
 last_has f (l ∷ ls) w e = has_in f (version_in l) (last_version f ls) w (HasVersion f w.index w.body ls) (last_has f ls w) e
-
-pub none_by : (t : Bool) (f : Fid) (i : ℕ) (b : Body) (v : Version) (o : Option Version) (S : Type 0) → same_fid v.fid f ≡ t → (o ≡ None → S → ⊥) → cond t (Some v) o ≡ None → ((v.fid ≡ f) × ((v.index ≡ i) × (v.body ≡ b))) ⊎ S → ⊥
-none_by true f i b v o S t h e s = absurd cc
-none_by false f i b v o S t h e (inl x) = let yes : same_fid v.fid f ≡ true = ap (λ (y : Fid). same_fid y f) x.0 ∙ same_fid-refl f in absurd cc
-none_by false f i b v o S t h e (inr s) = h e s
-
-pub none_in : (f : Fid) (i : ℕ) (b : Body) (l o : Option Version) (S : Type 0) → (o ≡ None → S → ⊥) → latest f l o ≡ None → IsThat f i b l S → ⊥
-none_in f i b None o S h e x = h e x
-none_in f i b (Some v) o S h e x = none_by (same_fid v.fid f) f i b v o S refl h e x
-
-pub none_has : (f : Fid) (i : ℕ) (b : Body) (ls : List Line) → last_version f ls ≡ None → HasVersion f i b ls → ⊥
-none_has f i b [] e x = x
-none_has f i b (l ∷ ls) e x = none_in f i b (version_in l) (last_version f ls) (HasVersion f i b ls) (none_has f i b ls) e x
 
 -- ---- the caller's entries where its call changed nothing: none is overtaken by a store of its own
 
@@ -601,9 +591,9 @@ not_stored o e k a ran =
 -- over an entry that changes no file
 pub serves_still : (s : Script) (c : Cell) (past : List Entry) (n : ℕ) (h : Head) (user : List ℕ) (call : FsCall) (x : Carried) (e : Entry) → (H : Holds s c past) → Now c H.floors past n h user call
     → ((j : ℕ) (f : Fid) → PassesFile j f e past) → ((j : ℕ) (f : Fid) → PassesReach j f e past) → ((j : ℕ) → PassesAct j e past) → ((f : Fid) → last_version f (lines_of (e ∷ past)) ≡ last_version f (lines_of past))
-    → AreIdeal c.server.volumes (e ∷ past) → AreHome s c.server.volumes (lines_of (e ∷ past)) → AreNew c.server.durable (lines_of (e ∷ past)) → clock_of (lines_of (e ∷ past)) ≡ c.clock → Tops (lines_of (e ∷ past)) → IsReply x
+    → AreIdeal c.server.volumes (e ∷ past) → AreHome s c.server.volumes (lines_of (e ∷ past)) → AreNew c.server.durable (lines_of (e ∷ past)) → clock_of (lines_of (e ∷ past)) ≡ c.clock → Tops (lines_of (e ∷ past)) → Ones (lines_of (e ∷ past)) → IsReply x
     → Answers (c.clients n).spoiled n call (record { durable = call_seat (Client n) c.server.durable; epoch = h.epoch; last = h.number }) c.server.boot (replied c.server.boot (client_head n h) x) (e ∷ past) → Serves false s c H.floors past n h user call x e (stock c.server)
-serves_still s c past n h user call x e H w pf pr pa l ideal home new clock top is a =
+serves_still s c past n h user call x e H w pf pr pa l ideal home new clock top one is a =
     let r : Message = replied c.server.boot (client_head n h) x in
     record {
       ideal = ideal;
@@ -622,6 +612,7 @@ serves_still s c past n h user call x e H w pf pr pa l ideal home new clock top 
       reached = reached_still s c past n e H (λ f. (pr n f).both) l;
       clock = clock;
       top = top;
+      one = one;
     }
 
 -- the call runs now
@@ -655,7 +646,7 @@ refuses_goes s c past armed p n h user call code H up at w nz result =
     record {
       good = (tt, tt);
       holds = serves false s (Some c.server.boot) c past n h user call x e (stock c.server) (pumped the_server c.server.boot t).backs None armed H w
-          (serves_still s c past n h user call x e H w (λ j f. told_file j p f (actors.Node the_server) ms past) (λ j f. told_reach j p f (actors.Node the_server) ms past) (λ j. told_act j p (actors.Node the_server) ms past) (λ f. refl) H.ideal H.home H.new H.clock H.top (λ y. y)
+          (serves_still s c past n h user call x e H w (λ j f. told_file j p f (actors.Node the_server) ms past) (λ j f. told_reach j p f (actors.Node the_server) ms past) (λ j. told_act j p (actors.Node the_server) ms past) (λ f. refl) H.ideal H.home H.new H.clock H.top H.one (λ y. y)
           (record {
             fits = refusal_fits (c.clients n).spoiled n call (spot_at (call_seat (Client n) c.server.durable) h.epoch h.number) c.server.boot r (record { 0 = code }) (e ∷ past) nz (not_stored (call_seat (Client n) c.server.durable) h.epoch h.number w.above_durable);
             code = code;
@@ -767,7 +758,7 @@ shows_goes s c past armed p n h user call r H up at w of there is result =
       good = (tt, granted_good s past (lines.Given p ∷ []) (Client n) t fs);
       holds = serves false s (Some c.server.boot) c past n h user call z e (stock c.server) (pumped the_server c.server.boot turn).backs None armed H w
           (serves_still s c past n h user call z e H w rest.file rest.reach rest.act (λ g. rest.last g (lines_of past)) (λ id. H.ideal id ∙ sym (rest.ideal id)) (λ id v found. rest.home id (lines_of past) (H.home id v found)) (λ key above. rest.new key (lines_of past) (H.new key above)) (k.clock (lines.Given p ∷ lines_of past) ∙ H.clock)
-          (λ f i b x. subst (λ (o : Option Version). i ≤ index_in o) (sym (rest.last f (lines_of past))) (H.top f i b (rest.back f i b (lines_of past) x))) (λ y. y)
+          (λ f i b x. subst (λ (o : Option Version). i ≤ index_in o) (sym (rest.last f (lines_of past))) (H.top f i b (rest.back f i b (lines_of past) x))) (λ f i a b x y. H.one f i a b (rest.back f i a (lines_of past) x) (rest.back f i b (lines_of past) y)) (λ y. y)
           (record {
             fits = shown_fits (c.clients n).spoiled n call _ m (e ∷ past) c.server.times t r r.shown is (λ f yes.
                 let q = fid_in call r.id r.volume r.shown f of is yes in

@@ -155,6 +155,7 @@ away_again s c past a h = record {
   down = h.down;
   clock = h.clock;
   top = h.top;
+  one = h.one;
   backs = h.backs;
 }
 

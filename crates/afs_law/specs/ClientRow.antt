@@ -52,11 +52,16 @@ used_first entry cache = entry ∷ filter (λ e. not (same_fid e.fid entry.fid))
 abbrev pub is_trusted : ℕ → CacheEntry → Bool
 is_trusted clock entry = nat_lt clock entry.expiry
 
--- after the client's own store, a trusted entry of the fid holds the stored bytes under the reply's index, and keeps
--- its expiry; an entry that isn't trusted stays
-abbrev pub refreshed : ℕ → Fid → ℕ → List ℕ → CacheEntry → CacheEntry
-refreshed clock fid index contents entry =
-    if (same_fid entry.fid fid && is_trusted clock entry) then record entry { index = index; body = bodies.File contents } else entry
+-- after the client's own store, a trusted entry of the fid holds what the store made of its body, under the reply's index,
+-- and keeps its expiry; an entry that isn't trusted stays
+abbrev pub refreshed : ℕ → Fid → ℕ → (Body → Body) → CacheEntry → CacheEntry
+refreshed clock fid index made entry =
+    if (same_fid entry.fid fid && is_trusted clock entry) then record entry { index = index; body = made entry.body } else entry
+
+-- an entry that is trusted stands just below this index
+abbrev pub is_below : ℕ → ℕ → Option CacheEntry → Bool
+is_below clock index None = true
+is_below clock index (Some entry) = if is_trusted clock entry then nat_eq (entry.index + 1) index else true
 
 -- ---- calls
 
@@ -165,9 +170,9 @@ abbrev pub takes_fetched : Node → ClientState → ℕ → ℕ → Going → Ca
 takes_fetched me c clock place act entry =
     if is_trusted clock entry then used_on me c place act entry (next act) (next (with_read entry.fid entry.body act)) else calls_step me c act (lines.Given place)
 
-abbrev pub takes_stored : Node → ClientState → ℕ → ℕ → Fid → ℕ → List ℕ → Step ClientState
-takes_stored me c clock place fid index contents = record {
-  state = ended c (map (refreshed clock fid index contents) c.cache);
+abbrev pub takes_stored : Node → ClientState → ℕ → ℕ → Fid → ℕ → (Body → Body) → Step ClientState
+takes_stored me c clock place fid index made = record {
+  state = ended c (map (refreshed clock fid index made) c.cache);
   lines = lines.Given place ∷ lines.Answer me zero_code ∷ [];
   sent = [];
 }
@@ -215,15 +220,24 @@ takes_data me c clock place act contents status callback (calls.FetchData fid po
     takes_fetched me c clock place act (record { fid = fid; index = status.sync_counter; expiry = callback.expiration_time; body = body_told status.file_type contents })
 takes_data me c clock place act contents status callback call = takes_plain me c place call
 
+-- the body under a status or rights that were stored is that of the version before: a trusted entry of another is given up
+abbrev pub takes_status : Node → ClientState → ℕ → ℕ → Fid → ℕ → FsCall → Step ClientState
+takes_status me c clock place fid index call =
+    if (not c.spoiled && is_below clock index (find_cached fid c.cache)) then takes_stored me c clock place fid index (λ body. body) else takes_plain me c place call
+
 -- of a reply that a break overtook nothing is cached
 abbrev pub takes_set : Node → ClientState → ℕ → ℕ → AfsFetchStatus → FsCall → Step ClientState
 takes_set me c clock place status (calls.StoreData fid set position wanted file_length contents) =
-    if c.spoiled then takes_plain me c place (calls.StoreData fid set position wanted file_length contents) else takes_stored me c clock place fid status.sync_counter contents
+    if c.spoiled then takes_plain me c place (calls.StoreData fid set position wanted file_length contents) else takes_stored me c clock place fid status.sync_counter (λ body. bodies.File contents)
+takes_set me c clock place status (calls.StoreAcl fid acl) = takes_status me c clock place fid status.sync_counter (calls.StoreAcl fid acl)
+takes_set me c clock place status (calls.StoreStatus fid set) = takes_status me c clock place fid status.sync_counter (calls.StoreStatus fid set)
 takes_set me c clock place status call = takes_plain me c place call
 
 abbrev pub takes : Node → ClientState → ℕ → ℕ → Going → FsCall → FsReply → Step ClientState
 takes me c clock place act call (replies.FetchData contents status callback sync) = takes_data me c clock place act contents status callback call
 takes me c clock place act call (replies.StoreData status sync) = takes_set me c clock place status call
+takes me c clock place act call (replies.StoreAcl status sync) = takes_set me c clock place status call
+takes me c clock place act call (replies.StoreStatus status sync) = takes_set me c clock place status call
 takes me c clock place act call reply = takes_plain me c place call
 
 -- a reading reply that a break overtook isn't used
