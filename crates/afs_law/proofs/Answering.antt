@@ -1,3 +1,31 @@
+use Rattle.afs_ideal.specs.Operations.{volume_changed}
+use Rattle.afs_law.proofs.Asking.{used_found, same_entry, own_read, safe_over, client_kept, call_known, reply_still, step_entry, view_after, moves, nothing_new, Heard, told_passes, shown_lines, shown_file, shown_reach, shown_seen, answered_seen, own_zero, shown_passes, answered_lines, answered_file, answered_reach, answered_passes, used_lines, used_grant, used_file, used_reach, used_passes, quiet, safe_cache, own_call, asks, own_begun, idle_asks, no_scope, same_one, call_is, heard_dull, Passes, not_client, reads_by_other, new_one}
+use Rattle.afs_law.proofs.Basics.{UpTo, Above, IfCall, IfReply, IfNotice, OfReply, OfNotice, up_to_by, yes_no, both, same_fid-true, same_fid-refl, same_node-refl, client_number, up_to_both, found-cached-fid, found-first, none-first, found-refreshed, OfCall, each_at, some_of, ByServer, OfClient, by_client, IfBack, up_to_next, next_not, same_node-true, raised_up_to}
+use Rattle.afs_law.proofs.Dropping.{left_out, called_goes}
+use Rattle.afs_law.proofs.Edits.{index_in}
+use Rattle.afs_law.proofs.Facts.{IsPlain, IsKeptBody, IsTrusted, Ghost, Seen, IsAged, Spot, spot, LastStored, IsStored, IsUntrusted, IsSafe, Fits, View, view, last_key, LastRan, Reached, IsNewest, Overtaken, Stands, IsCurrent, HasCurrent, Answers, stored_index, ClientFacts, CallFact, CallIn, ReplyFact, ReplyIn, Holds, Goes, IsFetched, FitsPlain, FitsData, FitsSet, FitsReply, WasStored, WasChanged, InScope, IsNoticed}
+use Rattle.afs_law.proofs.Owing.{BackIn}
+use Rattle.afs_law.proofs.Passing.{PassesSeen, PassesGrant, PassesFile, PassesAct, PassesReach, StaysNewest, stays, held_over, fetch_reply_by, current_over, kept_over, cause_behind}
+use Rattle.afs_law.proofs.Quiet.{quiet_more, quiet_passes}
+use Rattle.afs_law.proofs.Resting.{voids}
+use Rattle.afs_law.proofs.Saving.{old_withdrawn}
+use Rattle.afs_law.proofs.Serving.{told_file, told_reach, told_act, not_ran, stale_none, reached_still}
+use Rattle.afs_law.proofs.Skipping.{none_where, own_ended, skips, drop_lines, was_given, drop_file, drop_reach, drop_seen, drop_passes, ended_running, left_found, left_scope, left_none, scope_is, drops_good}
+use Rattle.afs_law.proofs.Walking.{onto_last, looked_more, walk_made, walk_reached, walk_current, walk_answered, walked_found, tail_given, tail_fetched, tail_quiet, ends_answered, ends_here, EndsReach, AreTail, walks_on, Ready, Walks}
+use Rattle.afs_law.specs.Acts.{Act, Open, Close, WalkTo, Ask}
+use Rattle.afs_law.specs.ClientRow.{asking, is_trusted, goes_on, goes_by, look_at, looked, most_reads, walked, Walked, is_below, dropped_after, left_after, the_server, find_cached, guest, used_first, refreshed, call_message, calls_step, zero_code, begin_row, ignores, ended, answers_step, takes_stored, takes, resends_step, counts, is_awaited, awaits, client_row, is_spent, hears_in, takes_plain, takes_data, takes_set, left_in, given_up_in, body_told, call_of, is_reading}
+use Rattle.afs_law.specs.Going.{asked, Going, Need, next, answers, began, with_read, read_on, ClientState, shown_code, Shown, Goal, shows, calls_on, calls_in, at_end, steps, step_to, is_last_name, looked_up, fid_of, plan_of, call_for, reads, asks_for}
+use Rattle.afs_law.specs.Grants.{has_fetched, fetch_reply, since}
+use Rattle.afs_law.specs.Ideal.{raised, is_zero_code, reach, last_version, HasVersion}
+use Rattle.afs_law.specs.Legal.{Cause, code_told, GoodCode, IsDone}
+use Rattle.afs_law.specs.Lines.{Line}
+use Rattle.afs_law.specs.Past.{IsCallUnder, onto, lines_of, sent_of, given_message, answered_key, running, has_begun, CalledSince, IsCall}
+use Rattle.afs_law.specs.Runs.{Moved, Entry, Cell, message_at, client_moves, begun_by, voided}
+use Rattle.afs_law.specs.Scopes.{is_in_scope}
+use Rattle.afs_law.specs.ServerRow.{shows_step}
+use Rattle.afs_law.specs.States.{CacheEntry, Seat}
+use Rattle.afs_law.specs.Steps.{Step}
+use Rattle.afs_model.specs.Calls.{call_seat}
 use Rattle.afs_num.specs.declared.directories.Name.{Name}
 use Rattle.std.proofs.Common.{◌+◌, nat_eq, ◌++◌, ◌≡◌, ℕ, ◌<◌, ◌≤◌, inl, inr, Bool, true, false, cond, nat_lt, not, List, [], ◌∷◌, map, Option, Some, None, ℤ, refl, sym, ap, subst, ◌∙◌, eqb-true, ltb-true, lt-ltb, le_of_eq, append-nil, arith}
 use Rattle.std.specs.Prelude.{◌&&◌, filter, pos, ◌⊎◌, ℤ, ⊤}
@@ -18,31 +46,7 @@ use Rattle.afs_num.specs.declared.calls.FsReply.{FsReply}
 use Rattle.afs_num.specs.declared.messages.Carried.{Carried}
 use Rattle.afs_num.specs.declared.messages.Message.{Message}
 use Rattle.afs_num.specs.declared.messages.Received.TheVariants.{Whole}
-use Rattle.afs_ideal.specs.Operations.{volume_changed}
-use Rattle.afs_law.proofs.Asking.{client_kept, call_known, reply_still, step_entry, view_after, moves, nothing_new, Heard, told_passes, shown_lines, shown_file, shown_reach, shown_seen, answered_seen, own_zero, shown_passes, answered_lines, answered_file, answered_reach, answered_passes, used_lines, used_grant, used_file, used_reach, used_passes, quiet, safe_cache, own_call, asks, own_begun, idle_asks, no_scope, same_one, call_is, heard_dull, used_by, Passes, not_client, reads_by_other, new_one}
-use Rattle.afs_law.proofs.Basics.{UpTo, Above, IfCall, IfReply, IfNotice, OfReply, OfNotice, up_to_by, yes_no, both, same_fid-true, same_fid-refl, same_node-refl, client_number, up_to_both, found-cached-fid, found-first, none-first, found-refreshed, OfCall, each_at, some_of, ByServer, OfClient, by_client, IfBack, up_to_next, next_not, same_node-true, raised_up_to}
-use Rattle.afs_law.proofs.Dropping.{left_out, called_goes}
-use Rattle.afs_law.proofs.Edits.{index_in}
-use Rattle.afs_law.proofs.Facts.{IsKeptBody, IsTrusted, Ghost, Seen, IsAged, Spot, spot, LastStored, IsStored, IsUntrusted, IsSafe, Fits, View, view, last_key, LastRan, Reached, IsNewest, Overtaken, Stands, IsCurrent, HasCurrent, Answers, stored_index, ClientFacts, CallFact, CallIn, ReplyFact, ReplyIn, Holds, Goes, IsFetched, FitsPlain, FitsData, FitsSet, FitsReply, WasStored, WasChanged, InScope, IsNoticed}
-use Rattle.afs_law.proofs.Owing.{BackIn}
-use Rattle.afs_law.proofs.Passing.{PassesSeen, PassesGrant, PassesFile, PassesAct, PassesReach, StaysNewest, stays, held_over, fetch_reply_by, current_over, kept_over, cause_behind}
-use Rattle.afs_law.proofs.Resting.{voids}
-use Rattle.afs_law.proofs.Saving.{old_withdrawn}
-use Rattle.afs_law.proofs.Serving.{told_file, told_reach, told_act, not_ran, stale_none, reached_still}
-use Rattle.afs_law.proofs.Skipping.{none_where, own_ended, skips, drop_lines, was_given, drop_file, drop_reach, drop_seen, drop_passes, ended_running, left_found, left_scope, left_none, scope_is, drops_good}
-use Rattle.afs_law.specs.Acts.{Act, Open, Close, WalkTo, Ask}
-use Rattle.afs_law.specs.ClientRow.{is_below, dropped_after, left_after, the_server, find_cached, guest, used_first, refreshed, call_message, calls_step, zero_code, shows_step, opens, begin_row, ignores, ended, answers_step, uses_step, takes_stored, takes, resends_step, counts, is_awaited, awaits, client_row, is_spent, hears_in, takes_plain, takes_data, takes_set, left_in, given_up_in, body_told, call_of, used_on, reads_on_step, asking, code_by, is_reading}
-use Rattle.afs_law.specs.Going.{asked, Going, Need, next, answers, began, with_read, read_on, ClientState, shown_code, Shown, Goal, shows, calls_on, calls_in, at_end, steps, step_to, is_last_name, looked_up, fid_of, plan_of, call_for, reads, asks_for}
-use Rattle.afs_law.specs.Grants.{has_fetched, fetch_reply, since}
-use Rattle.afs_law.specs.Ideal.{is_zero_code, reach, last_version, HasVersion}
-use Rattle.afs_law.specs.Legal.{Cause, code_told, GoodCode, IsDone}
-use Rattle.afs_law.specs.Lines.{Line}
-use Rattle.afs_law.specs.Past.{onto, lines_of, sent_of, given_message, answered_key, running, has_begun, CalledSince, IsCall}
-use Rattle.afs_law.specs.Runs.{Entry, Cell, message_at, client_moves, begun_by, voided}
-use Rattle.afs_law.specs.Scopes.{is_in_scope}
-use Rattle.afs_law.specs.States.{CacheEntry, Seat}
-use Rattle.afs_law.specs.Steps.{Step}
-use Rattle.afs_model.specs.Calls.{call_seat}
+use Rattle.afs_law.specs.ClientRow as ClientRow
 use Rattle.afs_num.specs.declared.scripts.Script.{Script}
 use Rattle.afs_num.specs.declared.histories.Actor.TheVariants as actors
 use Rattle.afs_num.specs.declared.histories.ReadSource.TheVariants.{Fetched}
@@ -67,17 +71,7 @@ idle_reply j v w past newer m a b c d e g none f = record {
   answers = λ act y. absurd cc;
 }
 
--- ---- an entry is shown
-
-pub same_entry : (a b : CacheEntry) (o : Option CacheEntry) → o ≡ Some a → o ≡ Some b → a ≡ b
-same_entry a b o x y = some_of a b (sym x ∙ y)
-
--- what is found where an entry was used was found before
-used_found : (g : Fid) (u : CacheEntry) (cache : List CacheEntry) (v : CacheEntry) → find_cached u.fid cache ≡ Some u → find_cached g (used_first u cache) ≡ Some v → find_cached g cache ≡ Some v
-used_found g u cache v at found = elim (found-first g u cache v found) [
-  | inl q ↦ subst (λ (x : Fid). find_cached x cache ≡ Some v) q.0 (subst (λ (x : CacheEntry). find_cached u.fid cache ≡ Some x) q.1 at)
-  | inr q ↦ q.1
-]
+-- ---- an act begins
 
 pub not_waiting : (j : ℕ) (f : Fid) (i : ℕ) (server : Node) (newer : List Line) (v : View) (past : List Entry) → v.running ≡ None → Overtaken j f i server newer v past → ⊥
 not_waiting j f i server newer v past none o = let runs = o.runs in absurd cc
@@ -90,99 +84,150 @@ pub idle_newest : (j : ℕ) (f : Fid) (i : ℕ) (server : Node) (newer : List Li
 idle_newest j f i server newer v past none (inl a) = a.newest
 idle_newest j f i server newer v past none (inr o) = absurd (not_waiting j f i server newer v past none o)
 
--- an open that has read needs no more
-pub open_by : (f : Fid) (b : Body) → next (with_read f b (began (Open f))) ≡ answers (shown_code b)
-open_by f b = refl
+-- how far an act that begins comes
+abbrev pub begun_walk : ClientState → ℕ → Act → Walked
+begun_walk x clock act = walked (most_reads (began act)) clock (began act) x.cache
 
-pub open_done : (f : Fid) (b : Body) → IsDone (with_read f b (began (Open f))) (code_by (next (with_read f b (began (Open f))))).0
-open_done f b = record { number = shown_code b; is = refl; by = refl }
+pub begun_walks : (s : Script) (c : Cell) (past : List Entry) (n : ℕ) (act : Act) → (h : Holds s c past) → (c.clients n).running ≡ None → Walks s c past n (h.floors n).held (lines.Begin (Client n) act ∷ []) (began act) (c.clients n).cache
+begun_walks s c past n act h none = record {
+  good = λ tail g. (refl, g);
+  quiet = (refl, tt);
+  runs = own_begun n (began act) (running (Client n) (lines_of past));
+  ready = λ g u found lasts. let cur = (h.clients n).current g u found lasts in record {
+    reply = cur.reply;
+    boot = cur.boot;
+    held = cur.held;
+    newest = idle_newest n g u.index _ _ (view h.floors c n) past none cur.state;
+    low = idle_reached n g u.index _ _ (view h.floors c n) past none cur.state;
+    by = cur.by;
+    later = λ tail t. ap (λ (b : Bool). cond b (given_message tail (sent_of past)) (fetch_reply (Client n) g past)) (tail_fetched n (Client n) g tail t) ∙ cur.by;
+  };
+  up = λ g. ((h.clients n).reached g).seen;
+  made = λ g. own_zero n (reach (Client n) g past).made;
+  dull = λ tail t k boot y. subst (IsCallUnder the_server k boot) (tail_given n tail (sent_of past) t) y;
+}
 
-pub own_read : (n : ℕ) (f : Fid) (b : Body) (g : Going) (o : Option Going) → o ≡ Some g → read_on (same_node (Client n) (Client n)) f b o ≡ Some (with_read f b g)
-own_read n f b g o e = rw (same_node-refl (Client n), e) refl
+pub begun_on : (s : Script) (c : Cell) (past : List Entry) (n : ℕ) (act : Act) → (h : Holds s c past) → (c.clients n).running ≡ None
+    → Walks s c past n (h.floors n).held (lines.Begin (Client n) act ∷ looked (Client n) (begun_walk (c.clients n) c.clock act).looks []) (begun_walk (c.clients n) c.clock act).act (begun_walk (c.clients n) c.clock act).cache
+begun_on s c past n act h none = walks_on (most_reads (began act)) s c past n (h.floors n).held (lines.Begin (Client n) act ∷ []) (began act) (c.clients n).cache h (begun_walks s c past n act h none)
 
-pub shown_now : (s : Script) (c : Cell) (past : List Entry) (n : ℕ) (f : Fid) (u : CacheEntry) → Holds s c past → (c.clients n).running ≡ None → find_cached f (c.clients n).cache ≡ Some u → nat_lt c.clock u.expiry ≡ true
-    → Goes s past (client_moves c n (shows_step (Client n) (c.clients n) f u))
-shown_now s c past n f u h none found lasts =
+abbrev pub with_lines : Cell → ℕ → ClientState → List Message → List Line → Moved
+with_lines c n x ms ls = client_moves c n (record { state = x; lines = ls; sent = ms })
+
+-- all that the act needed was in the cache
+pub begun_answered : (s : Script) (c : Cell) (past : List Entry) (n : ℕ) (act : Act) (k : ℕ) → Holds s c past → (c.clients n).running ≡ None → next (begun_walk (c.clients n) c.clock act).act ≡ answers k
+    → Goes s past (client_moves c n (goes_by (Client n) (c.clients n) (lines.Begin (Client n) act) (begun_walk (c.clients n) c.clock act) (answers k)))
+begun_answered s c past n act k h none is =
+    let x : ClientState = c.clients n in
     let d = h.clients n in
-    let st : Step ClientState = shows_step (Client n) (c.clients n) f u in
-    let a : Act = Open f in
-    let k : Code = code_by (next (with_read f u.body (began a))) in
-    let e : Entry = step_entry n (shown_lines n a f u.index u.body k) [] in
-    let lt : c.clock < u.expiry = ltb-true _ _ lasts in
-    let cur = d.current f u found lt in
-    let own : u.fid ≡ f = same_fid-true u.fid f (found-cached-fid f (c.clients n).cache u found) in
-    let first : find_cached u.fid (c.clients n).cache ≡ Some u = ap (λ (x : Fid). find_cached x (c.clients n).cache) own ∙ found in
-    let old : Seen n f u.index past = idle_reached n f u.index _ _ (view h.floors c n) past none cur.state in
-    let over : (m : Message) → ReplyFact n (view h.floors c n) past m → ReplyFact n (view_after c n (h.floors n) st.state) (e ∷ past) m = λ m f. idle_reply n (view h.floors c n) (view_after c n (h.floors n) st.state) past (e ∷ past) m refl refl refl refl refl refl none f in
-    moves s c past n (h.floors n) st h (
-      refl,
-      (
-        (
-          refl,
-          record {
-            whole = cur.held.whole;
-            not_older = old;
-            reply = cur.reply;
-            by = cur.by;
-            expiry = u.expiry;
-            grant = cur.held.grant;
-            lasts = subst (λ (t : ℕ). t < u.expiry) (sym h.clock) lt;
-            kept = cur.held.kept refl;
-            newest = idle_newest n f u.index _ _ (view h.floors c n) past none cur.state;
-          },
-        ),
-        ((refl, record { act = with_read f u.body (began a); runs = own_read n f u.body (began a) _ (own_begun n (began a) (running (Client n) (lines_of past))); cause = inr (inl (open_done f u.body)) }), tt),
-      ),
-    )
-    (shown_passes s n u.index a f u.body k past)
+    let w : Walked = begun_walk x c.clock act in
+    let ls : List Line = lines.Begin (Client n) act ∷ looked (Client n) w.looks [] in
+    let tail : List Line = lines.Answer (Client n) (record { 0 = pos k }) ∷ [] in
+    let W : Walks s c past n (h.floors n).held ls w.act w.cache = begun_on s c past n act h none in
+    let y : ClientState = record x { running = None; cache = w.cache } in
+    let e : Entry = step_entry n (ls ++ tail) [] in
+    let t : AreTail n tail = (refl, tt) in
+    let ends : EndsReach n tail = ends_answered n (record { 0 = pos k }) in
+    let v : View = view_after c n (h.floors n) y in
+    let over : (m : Message) → ReplyFact n (view h.floors c n) past m → ReplyFact n v (e ∷ past) m = λ m f. idle_reply n (view h.floors c n) v past (e ∷ past) m refl refl refl refl refl refl refl f in
+    subst (λ (os : List Line). Goes s past (with_lines c n y [] (lines.Begin (Client n) act ∷ os))) (sym (looked_more (Client n) w.looks tail))
+    (moves s c past n (h.floors n) (record { state = y; lines = ls ++ tail; sent = [] }) h
+    (walk_answered s c past n (h.floors n).held ls w.act w.cache k W is)
+    (quiet_passes s n (ls ++ tail) [] past (quiet_more n ls tail W.quiet (tail_quiet n tail t)) (W.dull tail t))
     (record {
       behind = d.behind;
       behind_durable = d.behind_durable;
       lower = d.lower;
-      kept = kept_over n _ (view h.floors c n) (view_after c n (h.floors n) st.state) past (e ∷ past) over d.kept;
-      stored = kept_over n _ (view h.floors c n) (view_after c n (h.floors n) st.state) past (e ∷ past) over d.stored;
+      kept = kept_over n _ (view h.floors c n) v past (e ∷ past) over d.kept;
+      stored = kept_over n _ (view h.floors c n) v past (e ∷ past) over d.stored;
       known = d.known;
       floored = d.floored;
       holds = d.holds;
-      waits = λ b y. absurd cc;
-      idle = λ y. rw (same_node-refl (Client n)) refl;
-      made = λ b y. absurd cc;
-      current = λ g w at lasts'.
-          let before : find_cached g (c.clients n).cache ≡ Some w = used_found g u (c.clients n).cache w first at in
-          current_over n g w (view h.floors c n) (view_after c n (h.floors n) st.state) e past (le_refl _) (shown_file n n u.index a f g u.body k past)
-          (λ server newer q stands. inl (record {
-            reached = shown_seen n n u.index a f g u.body k past w.index (λ t y. le_of_eq (ap (λ (x : CacheEntry). x.index) (same_entry u w (find_cached g (c.clients n).cache) (ap (λ (x : Fid). find_cached x (c.clients n).cache) (sym (same_fid-true f g y)) ∙ found) before))) (inl (le_trans (le_of_eq (own_zero n (reach (Client n) g past).made)) (omega arith))) (idle_reached n g w.index server newer (view h.floors c n) past none stands);
-            newest = idle_newest n g w.index server newer (view h.floors c n) past none stands;
-            before = λ y is sc ran. absurd cc;
-          })) (d.current g w before lasts');
-      runs = λ b y. absurd cc;
-      asked = λ b y. absurd cc;
-      reached = λ g. shown_reach n n u.index a f g u.body k past (index_in (last_version g (lines_of past))) (λ t y. subst (λ (x : Fid). u.index ≤ index_in (last_version x (lines_of past))) (same_fid-true f g y) (h.top f u.index (u.body) cur.held.whole)) (d.reached g);
+      waits = λ b z. absurd cc;
+      idle = λ z. ap (running (Client n)) (onto_last (lines_of past) ls (lines.Answer (Client n) (record { 0 = pos k }))) ∙ own_ended n (running (Client n) (onto (lines_of past) ls));
+      made = λ b z. absurd cc;
+      current = λ g u found lasts. walk_current s c past n (h.floors n).held ls w.act w.cache tail [] v g u W t ends (le_refl _) (inr refl) found lasts;
+      runs = λ b z. absurd cc;
+      asked = λ b z. absurd cc;
+      reached = walk_reached s c past n (h.floors n).held ls w.act w.cache tail [] W t ends;
     })
-    (λ head call w. record {
-      behind = w.behind;
-      booted = w.booted;
-      stale = w.stale;
-      own = w.own;
-      safe = λ q above. safe_cache call c.clock (c.clients n).epoch (c.clients n).last (c.clients n).running (c.clients n).cache (used_first u (c.clients n).cache) (IsAged (view h.floors c n) head) head (λ g y v at lasts'. y v (used_found g u (c.clients n).cache v first at) lasts') (w.safe q above);
+    (λ head call f. record {
+      behind = f.behind;
+      booted = f.booted;
+      stale = f.stale;
+      own = λ b z. absurd cc;
+      safe = λ q above. safe_over call c.clock x.epoch x.last x.epoch x.last x.running None w.cache (IsAged (view h.floors c n) head) (IsAged v head) head (λ b z. let no_ : Some b ≡ None = sym z ∙ none in absurd cc) (λ z. (z.0, λ b r. absurd cc))
+          (safe_cache call c.clock x.epoch x.last x.running x.cache w.cache (IsAged (view h.floors c n) head) head (λ g z u at lasts. z u (walked_found (most_reads (began act)) c.clock (began act) x.cache g u at) lasts) (f.safe q above));
     })
-    over (nothing_new _ _) (λ a x z. absurd cc) refl
+    over (nothing_new _ _) (λ a z r. absurd cc) refl)
 
-pub trusted_goes : (s : Script) (c : Cell) (past : List Entry) (n : ℕ) (f : Fid) (u : CacheEntry) (t : Bool) → Holds s c past → (c.clients n).running ≡ None → find_cached f (c.clients n).cache ≡ Some u → nat_lt c.clock u.expiry ≡ t
-    → Goes s past (client_moves c n (cond t (shows_step (Client n) (c.clients n) f u) (calls_step (Client n) (c.clients n) (began (Open f)) (lines.Begin (Client n) (Open f)))))
-trusted_goes s c past n f u true h none found lasts = shown_now s c past n f u h none found lasts
-trusted_goes s c past n f u false h none found lasts = idle_asks s c past n (Open f) h none
+begun_not : (n : ℕ) (rest : Bool) (S : Type 0) → cond (same_node (Client n) (Client n)) true rest ≡ false → S
+begun_not n rest S e = let yes : same_node (Client n) (Client n) ≡ true = same_node-refl (Client n) in absurd cc
 
-pub opens_goes : (s : Script) (c : Cell) (past : List Entry) (n : ℕ) (f : Fid) (o : Option CacheEntry) → Holds s c past → (c.clients n).running ≡ None → find_cached f (c.clients n).cache ≡ o → Goes s past (client_moves c n (opens (Client n) (c.clients n) c.clock f o))
-opens_goes s c past n f None h none e = idle_asks s c past n (Open f) h none
-opens_goes s c past n f (Some u) h none e = trusted_goes s c past n f u (nat_lt c.clock u.expiry) h none e refl
+-- it calls for what is missing
+pub begun_calls : (s : Script) (c : Cell) (past : List Entry) (n : ℕ) (act : Act) → Holds s c past → (c.clients n).running ≡ None
+    → Goes s past (client_moves c n (goes_by (Client n) (c.clients n) (lines.Begin (Client n) act) (begun_walk (c.clients n) c.clock act) (asks_for calls.GetTime)))
+begun_calls s c past n act h none =
+    let x : ClientState = c.clients n in
+    let d = h.clients n in
+    let w : Walked = begun_walk x c.clock act in
+    let ls : List Line = lines.Begin (Client n) act ∷ looked (Client n) w.looks [] in
+    let W : Walks s c past n (h.floors n).held ls w.act w.cache = begun_on s c past n act h none in
+    let y : ClientState = record x { last = x.last + 1; tries = 0; running = Some w.act; spoiled = false; cache = w.cache } in
+    let ms : List Message = call_message (Client n) (asking x w.act) w.act ∷ [] in
+    let e : Entry = step_entry n (ls ++ []) ms in
+    let g : Ghost = record { floor = c.server.boot; held = (h.floors n).held } in
+    let v : View = view_after c n g y in
+    let not : LastRan v → ⊥ = λ ran. next_not _ _ _ _ (d.behind_durable ran.seat ran.at) ran.epoch ran.number in
+    let at : running (Client n) (onto (lines_of past) (ls ++ [])) ≡ Some w.act = ap (λ (os : List Line). running (Client n) (onto (lines_of past) os)) (append-nil ls) ∙ W.runs in
+    let idle : (a : Going) → x.running ≡ Some a → volume_changed (asked a) ≡ None = λ a z. let no_ : Some a ≡ None = sym z ∙ none in absurd cc in
+    let over : (m : Message) → ReplyFact n (view h.floors c n) past m → ReplyFact n v (e ∷ past) m = λ m f. record {
+      behind = up_to_next _ _ _ _ f.behind;
+      booted = f.booted;
+      recent = λ z k. absurd (next_not _ _ _ _ f.behind z k);
+      tied = f.tied;
+      answers = λ b runs z k. absurd (next_not _ _ _ _ f.behind z k);
+    } in
+    subst (λ (os : List Line). Goes s past (with_lines c n y ms os)) (append-nil ls)
+    (moves s c past n g (record { state = y; lines = ls ++ []; sent = ms }) h
+    (W.good [] tt)
+    (quiet_passes s n (ls ++ []) ms past (quiet_more n ls [] W.quiet tt) (W.dull [] tt))
+    (record {
+      behind = λ seat z. up_to_next _ _ _ _ (d.behind seat z);
+      behind_durable = λ seat z. up_to_next _ _ _ _ (d.behind_durable seat z);
+      lower = d.lower;
+      kept = kept_over n _ (view h.floors c n) v past (e ∷ past) over d.kept;
+      stored = kept_over n _ (view h.floors c n) v past (e ∷ past) over d.stored;
+      known = d.known;
+      floored = le_refl _;
+      holds = d.holds;
+      waits = λ b z. d.holds;
+      idle = λ z. absurd cc;
+      made = λ b z f o k. walk_made s c past n (h.floors n).held ls w.act w.cache [] ms f W (ends_here n);
+      current = λ f u found lasts. walk_current s c past n (h.floors n).held ls w.act w.cache [] ms v f u W tt (ends_here n) (le_refl _) (inl not) found lasts;
+      runs = λ b z. at ∙ z;
+      asked = λ b z. subst (λ (a : Going). CalledSince (last_key n v) guest (asked a) (e ∷ past)) (some_of w.act b z) (inl (refl, inl (refl, ap (λ (k : FsCall). carried.Call guest k) (call_is w.act))));
+      reached = walk_reached s c past n (h.floors n).held ls w.act w.cache [] ms W tt (ends_here n);
+    })
+    (λ head call f. record {
+      behind = up_to_next _ _ _ _ f.behind;
+      booted = f.booted;
+      stale = λ z. f.booted;
+      own = λ b z k u. absurd (next_not _ _ _ _ f.behind k u);
+      safe = λ q above. safe_over call c.clock x.epoch x.last x.epoch (x.last + 1) x.running (Some w.act) w.cache (IsAged (view h.floors c n) head) (IsAged v head) head idle (λ z. (z.0, λ b k u r. next_not _ _ _ _ f.behind u r))
+          (safe_cache call c.clock x.epoch x.last x.running x.cache w.cache (IsAged (view h.floors c n) head) head (λ f z u found lasts. z u (walked_found (most_reads (began act)) c.clock (began act) x.cache f u found) lasts) (f.safe q above));
+    })
+    over (own_call h.floors c past n g y w.act (ls ++ []) d.known refl at (new_one s c past n w.act h)) (λ a z k. begun_not n _ _ k) refl)
+
+begins_by : (need : Need) (s : Script) (c : Cell) (past : List Entry) (n : ℕ) (act : Act) → Holds s c past → (c.clients n).running ≡ None → next (begun_walk (c.clients n) c.clock act).act ≡ need
+    → Goes s past (client_moves c n (goes_by (Client n) (c.clients n) (lines.Begin (Client n) act) (begun_walk (c.clients n) c.clock act) need))
+begins_by (answers k) s c past n act h none e = begun_answered s c past n act k h none e
+begins_by (reads f) s c past n act h none e = begun_calls s c past n act h none
+begins_by (asks_for call) s c past n act h none e = begun_calls s c past n act h none
 
 pub begins_goes : (s : Script) (c : Cell) (past : List Entry) (n : ℕ) (act : Act) → Holds s c past → (c.clients n).running ≡ None → Goes s past (client_moves c n (begin_row (Client n) (c.clients n) c.clock act))
 unfolding begin_row
-begins_goes s c past n (Open f) h none = opens_goes s c past n f (find_cached f (c.clients n).cache) h none refl
-begins_goes s c past n (Close f contents) h none = idle_asks s c past n (Close f contents) h none
-begins_goes s c past n (Ask call) h none = idle_asks s c past n (Ask call) h none
-begins_goes s c past n (WalkTo volume path) h none = idle_asks s c past n (WalkTo volume path) h none
+begins_goes s c past n act h none = begins_by (next (begun_walk (c.clients n) c.clock act).act) s c past n act h none refl
 
 -- ---- the reply to the running act
 
@@ -346,179 +391,123 @@ takes_refused s c past n p act head code h d =
     (reached_still s c past n e h (answered_reach n n p code past) (λ f. refl)))
     (ended_calls s c past n p act m (c.clients n).cache held h d (λ k is. refl)) (ended_reply s c past n (c.clients n).cache held e h) (nothing_new _ _) (λ a x z. absurd cc) refl
 
--- ---- a fetched file
+-- the client calls again
+pub again_goes : (s : Script) (c : Cell) (past : List Entry) (n p : ℕ) (act : Going) (m : Message) → (h : Holds s c past) → Due c h.floors past n p act m → volume_changed (asked act) ≡ None → Goes s past (client_moves c n (calls_step (Client n) (c.clients n) act (lines.Given p)))
+again_goes s c past n p act m h d shut =
+    asks s c past n act (lines.Given p) h (tt, tt) (told_passes s c past n p _ _ h d.heard) (λ g. told_file n p g (actors.Node (Client n)) _ past) (λ g. told_reach n p g (actors.Node (Client n)) _ past) (λ g o. (h.clients n).made act d.running g o (inl shut)) (λ b y. ap (λ (z : Going). volume_changed (asked z)) (some_of b act (sym y ∙ d.running)) ∙ shut) ((h.clients n).runs act d.running) (λ z. d.running)
 
-used_reply : (n : ℕ) (f : Fid) (o u : Option Message) → cond (cond (same_node (Client n) (Client n) && same_fid f f) true false) o u ≡ o
-used_reply n f o u = rw (same_node-refl (Client n), same_fid-refl f) refl
+-- ---- what was fetched is read, and the act goes on
 
--- what needs no read needs the same behind one more
-abbrev pub IsFinal : Need → Type 0
-IsFinal (reads f) = ⊥
-IsFinal need = ⊤
+abbrev pub read_now : ℕ → ℕ → CacheEntry → List Line
+read_now n p u = lines.Given p ∷ lines.Read (Client n) u.fid u.index Fetched u.body ∷ []
 
-pub end_stable : (goal : Goal) (f : Fid) (rs : List Shown) (r : Shown) → IsFinal (at_end goal f rs) → at_end goal f (rs ++ r ∷ []) ≡ at_end goal f rs
-end_stable shows f [] r h = absurd h
-end_stable shows f (x ∷ rs) r h = refl
-end_stable (calls_on c) f rs r h = refl
-end_stable (calls_in c) f [] r h = absurd h
-end_stable (calls_in c) f (x ∷ rs) r h = refl
+abbrev pub fetched_walk : ClientState → ℕ → Going → CacheEntry → Walked
+fetched_walk x clock act u = walked (most_reads act) clock (with_read u.fid u.body act) (used_first u x.cache)
 
-pub test_stable : (t : Bool) (a b : Need) → (IsFinal b → a ≡ b) → IsFinal (cond t (answers 20) b) → cond t (answers 20) a ≡ cond t (answers 20) b
-test_stable true a b w h = refl
-test_stable false a b w h = w h
+pub both_not : (a b : Bool) → (a ≡ true → b ≡ true → ⊥) → (a && b) ≡ false
+both_not true true h = absurd (h refl refl)
+both_not true false h = refl
+both_not false b h = refl
 
-pub step_stable : (last : Bool) (more less : Fid → Need) (volume : ℕ) (o : Option (Option Name)) → ((f : Fid) → IsFinal (less f) → more f ≡ less f) → IsFinal (step_to last less volume o) → step_to last more volume o ≡ step_to last less volume o
-step_stable last more less volume None w h = refl
-step_stable last more less volume (Some None) w h = refl
-step_stable last more less volume (Some (Some n)) w h = test_stable _ _ _ (w (fid_of volume n)) h
+used_reply : (n : ℕ) (f : Fid) (rest : Bool) (o u : Option Message) → cond (cond (same_node (Client n) (Client n) && same_fid f f) true rest) o u ≡ o
+used_reply n f rest o u = rw (same_node-refl (Client n), same_fid-refl f) refl
 
-pub stable : (goal : Goal) (names : List (List ℕ)) (rs : List Shown) (r : Shown) (f : Fid) → IsFinal (steps goal names rs f) → steps goal names (rs ++ r ∷ []) f ≡ steps goal names rs f
-stable goal [] rs r f h = end_stable goal f rs r h
-stable goal (name ∷ names) [] r f h = absurd h
-stable goal (name ∷ names) (x ∷ rs) r f h = step_stable (is_last_name names) (steps goal names (rs ++ r ∷ [])) (steps goal names rs) f.volume (looked_up name x.body) (λ g y. stable goal names rs r g y) h
-
-pub next_stable : (f : Fid) (b : Body) (g : Going) (need : Need) → next g ≡ need → IsFinal need → next (with_read f b g) ≡ need
-next_stable f b g need e h = stable (plan_of g.act).goal (plan_of g.act).path g.reads _ (plan_of g.act).start (subst IsFinal (sym e) h) ∙ e
-
-abbrev pub UsedCode : Fid → Body → Going → Type 0
-UsedCode f b g = IsDone (with_read f b g) (code_by (next (with_read f b g))).0 ⊎ ((asked (with_read f b g) ≡ asked g) × (code_by (next (with_read f b g)) ≡ zero_code))
-
-pub answers_code : (f : Fid) (b : Body) (g : Going) (n : ℕ) → next (with_read f b g) ≡ answers n → UsedCode f b g
-answers_code f b g n e = inl (record { number = n; is = ap (λ (x : Need). (code_by x).0) e; by = e })
-
-pub asks_code : (f : Fid) (b : Body) (g : Going) (c : FsCall) → next g ≡ asks_for c → UsedCode f b g
-asks_code f b g c e = let more = next_stable f b g (asks_for c) e tt in inr (ap call_for (more ∙ sym e), ap code_by more)
-
-used_good : (s : Script) (c : Cell) (past : List Entry) (n p : ℕ) (act : Going) (m : Message) (f : Fid) (i : ℕ) (b : Body) → (h : Holds s c past) → Due c h.floors past n p act m → code_told m.carried ≡ Some (pos 0) → IsDone (with_read f b act) (code_by (next (with_read f b act))).0 ⊎ ((asked (with_read f b act) ≡ asked act) × (code_by (next (with_read f b act)) ≡ zero_code))
-    → GoodCode (Client n) (code_by (next (with_read f b act))) past (lines.Read (Client n) f i Fetched b ∷ lines.Given p ∷ [])
-used_good s c past n p act m f i b h d told (inl x) = record { act = with_read f b act; runs = own_read n f b act (running (Client n) (lines_of past)) ((h.clients n).runs act d.running); cause = inr (inl x) }
-used_good s c past n p act m f i b h d told (inr x) =
-    subst (λ (k : Code). GoodCode (Client n) k past (lines.Read (Client n) f i Fetched b ∷ lines.Given p ∷ [])) (sym x.1)
-    (let g : GoodCode (Client n) zero_code past (lines.Given p ∷ []) = good_code s c past n p act m zero_code (lines.Given p ∷ []) h d told refl refl refl in
-    let cause : Cause m (pos 0) (asked act) past [] = subst (λ (z : ℤ). Cause m z (asked act) past []) (some_of _ _ (sym d.answers.cause.told ∙ told)) d.answers.cause in
-    let cause' : Cause m (pos 0) (asked (with_read f b act)) past [] = subst (λ (z : FsCall). Cause m (pos 0) z past []) (sym x.0) cause in
-    let asked_now : CalledSince (answered_key m.head) guest (asked (with_read f b act)) past = subst (λ (z : FsCall). CalledSince (answered_key m.head) guest z past) (sym x.0) (subst (λ (k : Key). CalledSince k guest (asked act) past) (sym d.key) ((h.clients n).asked act d.running)) in
-    record {
-      act = with_read f b act;
-      runs = own_read n f b act (running (Client n) (lines_of past)) ((h.clients n).runs act d.running);
-      cause = inl (record {
-        reply = m;
-        by = d.at;
-        to = ap (λ (k : Key). k.node) d.key;
-        cause = cause_behind m (pos 0) (asked (with_read f b act)) past (lines.Read (Client n) f i Fetched b ∷ lines.Given p ∷ []) cause';
-        before = refl;
-        called = subst (λ (u : List ℕ). CalledSince (answered_key m.head) u cause'.call past) (sym cause'.own_user) (subst (λ (y : FsCall). CalledSince (answered_key m.head) guest y past) (sym cause'.asks) asked_now);
-      });
-    })
-
-pub takes_used : (s : Script) (c : Cell) (past : List Entry) (n p : ℕ) (act : Going) (f : Fid) (head : Head) (contents : List ℕ) (status : AfsFetchStatus) (callback : AfsCallBack) (sync : AfsVolSync) → (h : Holds s c past)
-    → Due c h.floors past n p act (record { head = head; carried = carried.Reply (replies.FetchData contents status callback sync) }) → volume_changed (asked act) ≡ None → IsFetched false n f status.sync_counter (body_told status.file_type contents) callback.expiration_time (record { head = head; carried = carried.Reply (replies.FetchData contents status callback sync) }) past → UsedCode f (body_told status.file_type contents) act → nat_lt c.clock callback.expiration_time ≡ true
-    → Goes s past (client_moves c n (uses_step (Client n) (c.clients n) p act (record { fid = f; index = status.sync_counter; expiry = callback.expiration_time; body = body_told status.file_type contents })))
-takes_used s c past n p act f head contents status callback sync h d shut a used lasts =
-    let m : Message = record { head = head; carried = carried.Reply (replies.FetchData contents status callback sync) } in
-    let i : ℕ = status.sync_counter in
-    let body : Body = body_told status.file_type contents in
-    let code : Code = code_by (next (with_read f body act)) in
-    let x : ℕ = callback.expiration_time in
-    let new : CacheEntry = record { fid = f; index = i; expiry = x; body = body } in
-    let cache : List CacheEntry = used_first new (c.clients n).cache in
-    let e : Entry = step_entry n (used_lines n p f i body code) [] in
-    let lt : c.clock < x = ltb-true _ _ lasts in
-    let held : ℕ = c.server.boot in
+pub fetched_walks : (s : Script) (c : Cell) (past : List Entry) (n p : ℕ) (act : Going) (m : Message) (u : CacheEntry) → (h : Holds s c past) → Due c h.floors past n p act m → volume_changed (asked act) ≡ None → IsFetched false n u.fid u.index u.body u.expiry m past → c.clock < u.expiry
+    → Walks s c past n c.server.boot (read_now n p u) (with_read u.fid u.body act) (used_first u (c.clients n).cache)
+fetched_walks s c past n p act m u h d shut a lt =
     let none : (g : Fid) → (reach (Client n) g past).made ≡ 0 = λ g. (h.clients n).made act d.running g (no_scope (asked act) g shut) (inl shut) in
-    let up : (g : Fid) (k : ℕ) → Seen n g k past → Reached (Client n) g k past = λ g k y. record { made = le_trans (le_of_eq (none g)) (omega arith); seen = y } in
-    moves s c past n (holding h.floors n held) (uses_step (Client n) (c.clients n) p act new) h (
-      tt,
-      (
-        (
-          refl,
-          record {
-            whole = a.held.whole;
-            not_older = a.reached;
-            reply = m;
-            by = d.at;
-            expiry = x;
-            grant = a.held.grant;
-            lasts = subst (λ (t : ℕ). t < x) (sym h.clock) lt;
-            kept = a.held.kept refl;
-            newest = a.newest;
-          },
-        ),
-        ((refl, used_good s c past n p act m f i body h d refl used), tt),
-      ),
-    )
-    (used_passes s c past n p i f body code m h d.heard)
-    (ended_facts s c past n cache held e h (le_refl _) (own_ended n _)
-    (λ g u found lasts'. elim (found-first g new (c.clients n).cache u found) [
-      | inl q ↦ subst (λ (y : CacheEntry). IsCurrent n g y (view_after c n (holding h.floors n held) (ended (c.clients n) cache)) (e ∷ past)) q.1 (subst (λ (y : Fid). IsCurrent n y new (view_after c n (holding h.floors n held) (ended (c.clients n) cache)) (e ∷ past)) q.0 (record {
-        reply = m;
-        boot = d.fact.booted;
-        by = used_reply n f (given_message e.lines (sent_of past)) (fetch_reply (Client n) f past) ∙ d.at;
-        held = held_over n f i body x m e past (used_grant n n p i f f body code past) a.held;
-        state = inl (record {
-          reached = (used_reach n n p i f f body code past i (λ t y. le_of_eq refl) (up f i a.reached)).seen;
+    let raised_by : (g : Fid) (k : ℕ) → (same_fid u.fid g ≡ true → u.index ≤ k) → (reach (Client n) g past).seen ≤ k → raised (same_node (Client n) (Client n) && same_fid u.fid g) u.index (reach (Client n) g past).seen ≤ k = λ g k le h. raised_up_to (same_node (Client n) (Client n) && same_fid u.fid g) u.index (reach (Client n) g past).seen k (λ t. le (both (same_node (Client n) (Client n)) (same_fid u.fid g) t).1) h in
+    let mine : Ready n c.server.boot u.fid u (read_now n p u) past = record {
+      reply = m;
+      boot = d.fact.booted;
+      held = a.held;
+      newest = a.newest;
+      low = raised_by u.fid u.index (λ t. le_refl _) a.reached;
+      by = used_reply n u.fid false (message_at (sent_of past) p) (fetch_reply (Client n) u.fid past) ∙ d.at;
+      later = λ tail t. used_reply n u.fid (has_fetched (Client n) u.fid tail) (message_at (sent_of past) p) (fetch_reply (Client n) u.fid past) ∙ d.at;
+    } in
+    record {
+      good = λ tail g. (tt, ((
+        refl,
+        record {
+          whole = a.held.whole;
+          not_older = a.reached;
+          reply = m;
+          by = d.at;
+          expiry = u.expiry;
+          grant = a.held.grant;
+          lasts = subst (λ (t : ℕ). t < u.expiry) (sym h.clock) lt;
+          kept = a.held.kept refl;
           newest = a.newest;
-          before = λ y is sc ran. absurd cc;
-        });
-      }))
-      | inr q ↦ current_over n g u (view h.floors c n) (view_after c n (holding h.floors n held) (ended (c.clients n) cache)) e past (h.clients n).holds (used_file n n p i f g body code past (λ y z. q.0 z))
-          (ended_stands h.floors c past n cache (holding h.floors n held) e g u.index (λ y. (used_reach n n p i f g body code past u.index (λ t z. absurd (q.0 (same_fid-true f g z))) (up g u.index y)).seen) (stays n g e past (used_grant n n p i f g body code past) refl)
-          (λ b runs sc ran. no_scope (asked act) g shut (subst (λ (z : Going). InScope (asked z) g) (sym (some_of act b (sym d.running ∙ runs))) sc))) ((h.clients n).current g u q.1 lasts')
-    ])
-    (λ g. used_reach n n p i f g body code past (index_in (last_version g (lines_of past))) (λ t y. subst (λ (z : Fid). i ≤ index_in (last_version z (lines_of past))) (same_fid-true f g y) (h.top f i body a.held.whole)) ((h.clients n).reached g)))
-    (ended_calls s c past n p act m cache held h d (λ code is. absurd cc)) (ended_reply s c past n cache held e h) (nothing_new _ _) (λ a x z. absurd cc) refl
+        },
+      ), g));
+      quiet = (tt, (refl, tt));
+      runs = own_read n u.fid u.body act (running (Client n) (lines_of past)) ((h.clients n).runs act d.running);
+      ready = λ g w found lasts. elim (found-first g u (c.clients n).cache w found) [
+        | inl q ↦ subst (λ (y : CacheEntry). Ready n c.server.boot g y (read_now n p u) past) q.1 (subst (λ (y : Fid). Ready n c.server.boot y u (read_now n p u) past) q.0 mine)
+        | inr q ↦
+          let cur = (h.clients n).current g w q.1 lasts in
+          let not : (same_node (Client n) (Client n) && same_fid u.fid g) ≡ false = both_not (same_node (Client n) (Client n)) (same_fid u.fid g) (λ y z. q.0 (same_fid-true u.fid g z)) in
+          let plain : IsPlain n g w.index cur.held.grant.server (since (Client n) g w.expiry cur.reply past cur.held.grant) (c.clients n).running (spot (view h.floors c n)) past = elim cur.state [
+            | inl o ↦ o
+            | inr o ↦ absurd (no_scope (asked o.act) g (ap (λ (y : Going). volume_changed (asked y)) (some_of o.act act (sym o.runs ∙ d.running)) ∙ shut) o.scope)
+          ] in
+          record {
+            reply = cur.reply;
+            boot = le_trans cur.boot (h.clients n).holds;
+            held = cur.held;
+            newest = plain.newest;
+            low = raised_by g w.index (λ t. absurd (q.0 (same_fid-true u.fid g t))) plain.reached;
+            by = ap (λ (b : Bool). cond (cond b true false) (message_at (sent_of past) p) (fetch_reply (Client n) g past)) not ∙ cur.by;
+            later = λ tail t. ap (λ (b : Bool). cond (cond b true (has_fetched (Client n) g tail)) (message_at (sent_of past) p) (fetch_reply (Client n) g past)) not ∙ (ap (λ (b : Bool). cond b (message_at (sent_of past) p) (fetch_reply (Client n) g past)) (tail_fetched n (Client n) g tail t) ∙ cur.by);
+          }
+      ];
+      up = λ g. raised_by g (index_in (last_version g (lines_of past))) (λ t. subst (λ (z : Fid). u.index ≤ index_in (last_version z (lines_of past))) (same_fid-true u.fid g t) (h.top u.fid u.index u.body a.held.whole)) ((h.clients n).reached g).seen;
+      made = none;
+      dull = λ tail t k boot y. heard_dull s c past p m h d.heard k boot y;
+    }
 
--- ---- the act has read, and calls on
+pub fetched_on : (s : Script) (c : Cell) (past : List Entry) (n p : ℕ) (act : Going) (m : Message) (u : CacheEntry) → (h : Holds s c past) → Due c h.floors past n p act m → volume_changed (asked act) ≡ None → IsFetched false n u.fid u.index u.body u.expiry m past → c.clock < u.expiry
+    → Walks s c past n c.server.boot (lines.Given p ∷ lines.Read (Client n) u.fid u.index Fetched u.body ∷ looked (Client n) (fetched_walk (c.clients n) c.clock act u).looks []) (fetched_walk (c.clients n) c.clock act u).act (fetched_walk (c.clients n) c.clock act u).cache
+fetched_on s c past n p act m u h d shut a lt = walks_on (most_reads act) s c past n c.server.boot (read_now n p u) (with_read u.fid u.body act) (used_first u (c.clients n).cache) h (fetched_walks s c past n p act m u h d shut a lt)
 
-abbrev pub read_lines : ℕ → ℕ → Fid → ℕ → Body → List Line
-read_lines n p f i b = lines.Given p ∷ lines.Read (Client n) f i Fetched b ∷ []
+pub fetched_answered : (s : Script) (c : Cell) (past : List Entry) (n p : ℕ) (act : Going) (m : Message) (u : CacheEntry) (k : ℕ) → (h : Holds s c past) → Due c h.floors past n p act m → ((code : Code) → m.carried ≡ carried.Refusal code → ⊥) → volume_changed (asked act) ≡ None → IsFetched false n u.fid u.index u.body u.expiry m past → c.clock < u.expiry
+    → next (fetched_walk (c.clients n) c.clock act u).act ≡ answers k → Goes s past (client_moves c n (goes_by (Client n) (c.clients n) (lines.Given p) (ClientRow.behind (look_at Fetched u) (fetched_walk (c.clients n) c.clock act u)) (answers k)))
+fetched_answered s c past n p act m u k h d not shut a lt is =
+    let x : ClientState = c.clients n in
+    let w : Walked = fetched_walk x c.clock act u in
+    let ls : List Line = lines.Given p ∷ lines.Read (Client n) u.fid u.index Fetched u.body ∷ looked (Client n) w.looks [] in
+    let tail : List Line = lines.Answer (Client n) (record { 0 = pos k }) ∷ [] in
+    let W : Walks s c past n c.server.boot ls w.act w.cache = fetched_on s c past n p act m u h d shut a lt in
+    let e : Entry = step_entry n (ls ++ tail) [] in
+    let t : AreTail n tail = (refl, tt) in
+    let ends : EndsReach n tail = ends_answered n (record { 0 = pos k }) in
+    let held : ℕ = c.server.boot in
+    let g : Ghost = holding h.floors n held in
+    subst (λ (os : List Line). Goes s past (with_lines c n (ended x w.cache) [] (lines.Given p ∷ lines.Read (Client n) u.fid u.index Fetched u.body ∷ os))) (sym (looked_more (Client n) w.looks tail))
+    (moves s c past n g (record { state = ended x w.cache; lines = ls ++ tail; sent = [] }) h
+    (walk_answered s c past n c.server.boot ls w.act w.cache k W is)
+    (quiet_passes s n (ls ++ tail) [] past (quiet_more n ls tail W.quiet (tail_quiet n tail t)) (W.dull tail t))
+    (ended_facts s c past n w.cache held e h (le_refl _) (ap (running (Client n)) (onto_last (lines_of past) ls (lines.Answer (Client n) (record { 0 = pos k }))) ∙ own_ended n (running (Client n) (onto (lines_of past) ls)))
+    (λ f v found lasts. walk_current s c past n c.server.boot ls w.act w.cache tail [] (view_after c n g (ended x w.cache)) f v W t ends (le_refl _) (inr refl) found lasts)
+    (walk_reached s c past n c.server.boot ls w.act w.cache tail [] W t ends))
+    (ended_calls s c past n p act m w.cache held h d (λ code z. absurd (not code z))) (ended_reply s c past n w.cache held e h) (nothing_new _ _) (λ b y z. absurd cc) refl)
 
-pub read_grant : (n j p i : ℕ) (f g : Fid) (b : Body) (ms : List Message) (past : List Entry) → PassesGrant j g (step_entry n (read_lines n p f i b) ms) past
-read_grant n j p i f g b ms past = record { version = λ k x l y. y; dropped = λ q l d. d; withdrawn = λ q l w. w }
-
-pub read_file : (n j p i : ℕ) (f g : Fid) (b : Body) (ms : List Message) (past : List Entry) → (n ≡ j → f ≡ g → ⊥) → PassesFile j g (step_entry n (read_lines n p f i b) ms) past
-read_file n j p i f g b ms past ne = record { grant = read_grant n j p i f g b ms past; fetched = used_by (same_node (Client n) (Client j)) (same_fid f g) (λ x y. ne (client_number n j (same_node-true (Client n) (Client j) x)) (same_fid-true f g y)) }
-
-pub read_seen : (n j p i : ℕ) (f g : Fid) (b : Body) (ms : List Message) (past : List Entry) (k : ℕ) → (same_node (Client n) (Client j) ≡ true → same_fid f g ≡ true → i ≤ k) → Seen j g k past → Seen j g k (step_entry n (read_lines n p f i b) ms ∷ past)
-read_seen n j p i f g b ms past k le h = raised_up_to (same_node (Client n) (Client j) && same_fid f g) i (reach (Client j) g past).seen k (λ t. let q = both (same_node (Client n) (Client j)) (same_fid f g) t in le q.0 q.1) h
-
-pub read_both : (n j p i : ℕ) (f g : Fid) (b : Body) (ms : List Message) (past : List Entry) (k : ℕ) → (same_node (Client n) (Client j) ≡ true → same_fid f g ≡ true → i ≤ k) → Reached (Client j) g k past → Reached (Client j) g k (step_entry n (read_lines n p f i b) ms ∷ past)
-read_both n j p i f g b ms past k le h = record { made = h.made; seen = read_seen n j p i f g b ms past k le h.seen }
-
-pub read_passes : (s : Script) (c : Cell) (past : List Entry) (n p i : ℕ) (f : Fid) (b : Body) (m : Message) (ms : List Message) → Holds s c past → Heard c p m → Passes s n (read_lines n p f i b) ms past
-read_passes s c past n p i f b m ms h d = record {
-  file = λ j ne g. read_file n j p i f g b ms past (λ q x. ne q);
-  reach = λ j ne g. record { both = λ k x. read_both n j p i f g b ms past k (λ t u. absurd (not_client n j ne t)) x; seen = λ k x. read_seen n j p i f g b ms past k (λ t u. absurd (not_client n j ne t)) x; made = λ x. x };
-  act = λ j ne. record { runs = λ l. reads_by_other n j f b (running (Client j) l) ne; begins = refl };
-  last = λ g o. refl;
-  back = λ g k x o y. y;
-  new = λ k o x. x;
-  clock = λ o. refl;
-  home = λ id o x. x;
-  boot = λ o. refl;
-  plain = record { up = refl; still = refl; oweless = refl; unchanging = refl };
-  ideal = λ id. refl;
-  dull = heard_dull s c past p m h d;
-}
-
-pub reads_on_goes : (s : Script) (c : Cell) (past : List Entry) (n p : ℕ) (act : Going) (f : Fid) (head : Head) (contents : List ℕ) (status : AfsFetchStatus) (callback : AfsCallBack) (sync : AfsVolSync) → (h : Holds s c past)
-    → Due c h.floors past n p act (record { head = head; carried = carried.Reply (replies.FetchData contents status callback sync) }) → volume_changed (asked act) ≡ None → IsFetched false n f status.sync_counter (body_told status.file_type contents) callback.expiration_time (record { head = head; carried = carried.Reply (replies.FetchData contents status callback sync) }) past → nat_lt c.clock callback.expiration_time ≡ true
-    → Goes s past (client_moves c n (reads_on_step (Client n) (c.clients n) p (with_read f (body_told status.file_type contents) act) (record { fid = f; index = status.sync_counter; expiry = callback.expiration_time; body = body_told status.file_type contents })))
-reads_on_goes s c past n p act f head contents status callback sync h d shut a lasts =
-    let m : Message = record { head = head; carried = carried.Reply (replies.FetchData contents status callback sync) } in
-    let i : ℕ = status.sync_counter in
-    let body : Body = body_told status.file_type contents in
-    let t : ℕ = callback.expiration_time in
-    let new : CacheEntry = record { fid = f; index = i; expiry = t; body = body } in
-    let act' : Going = with_read f body act in
+pub fetched_calls : (s : Script) (c : Cell) (past : List Entry) (n p : ℕ) (act : Going) (m : Message) (u : CacheEntry) → (h : Holds s c past) → Due c h.floors past n p act m → volume_changed (asked act) ≡ None → IsFetched false n u.fid u.index u.body u.expiry m past → c.clock < u.expiry
+    → Goes s past (client_moves c n (goes_by (Client n) (c.clients n) (lines.Given p) (ClientRow.behind (look_at Fetched u) (fetched_walk (c.clients n) c.clock act u)) (asks_for calls.GetTime)))
+fetched_calls s c past n p act m u h d shut a lt =
+    let x : ClientState = c.clients n in
+    let w : Walked = fetched_walk x c.clock act u in
+    let ls : List Line = lines.Given p ∷ lines.Read (Client n) u.fid u.index Fetched u.body ∷ looked (Client n) w.looks [] in
+    let W : Walks s c past n c.server.boot ls w.act w.cache = fetched_on s c past n p act m u h d shut a lt in
     let k = h.clients n in
-    let st : Step ClientState = reads_on_step (Client n) (c.clients n) p act' new in
-    let ms : List Message = call_message (Client n) (asking (c.clients n) act') act' ∷ [] in
-    let e : Entry = step_entry n (read_lines n p f i body) ms in
+    let y : ClientState = record x { last = x.last + 1; tries = 0; running = Some w.act; spoiled = false; cache = w.cache } in
+    let ms : List Message = call_message (Client n) (asking x w.act) w.act ∷ [] in
+    let e : Entry = step_entry n (ls ++ []) ms in
     let g : Ghost = record { floor = c.server.boot; held = c.server.boot } in
-    let v : View = view_after c n g st.state in
-    let lt : c.clock < t = ltb-true _ _ lasts in
+    let v : View = view_after c n g y in
     let never : LastRan v → ⊥ = λ ran. next_not _ _ _ _ (k.behind_durable ran.seat ran.at) ran.epoch ran.number in
+    let at : running (Client n) (onto (lines_of past) (ls ++ [])) ≡ Some w.act = ap (λ (os : List Line). running (Client n) (onto (lines_of past) os)) (append-nil ls) ∙ W.runs in
     let over : (q : Message) → ReplyFact n (view h.floors c n) past q → ReplyFact n v (e ∷ past) q = λ q r. record {
       behind = up_to_next _ _ _ _ r.behind;
       booted = r.booted;
@@ -526,28 +515,10 @@ reads_on_goes s c past n p act f head contents status callback sync h d shut a l
       tied = r.tied;
       answers = λ b runs y z. absurd (next_not _ _ _ _ r.behind y z);
     } in
-    let now : running (Client n) (lines_of (e ∷ past)) ≡ Some act' = own_read n f body act (running (Client n) (lines_of past)) (k.runs act d.running) in
-    moves s c past n g st h (
-      tt,
-      (
-        (
-          refl,
-          record {
-            whole = a.held.whole;
-            not_older = a.reached;
-            reply = m;
-            by = d.at;
-            expiry = t;
-            grant = a.held.grant;
-            lasts = subst (λ (x : ℕ). x < t) (sym h.clock) lt;
-            kept = a.held.kept refl;
-            newest = a.newest;
-          },
-        ),
-        tt,
-      ),
-    )
-    (read_passes s c past n p i f body m ms h d.heard)
+    subst (λ (os : List Line). Goes s past (with_lines c n y ms os)) (append-nil ls)
+    (moves s c past n g (record { state = y; lines = ls ++ []; sent = ms }) h
+    (W.good [] tt)
+    (quiet_passes s n (ls ++ []) ms past (quiet_more n ls [] W.quiet tt) (W.dull [] tt))
     (record {
       behind = λ seat y. up_to_next _ _ _ _ (k.behind seat y);
       behind_durable = λ seat y. up_to_next _ _ _ _ (k.behind_durable seat y);
@@ -559,24 +530,11 @@ reads_on_goes s c past n p act f head contents status callback sync h d shut a l
       holds = le_refl _;
       waits = λ b y. le_refl _;
       idle = λ y. absurd cc;
-      made = λ b y x o z. k.made act d.running x (no_scope (asked act) x shut) (inl shut);
-      current = λ x u found lasts'. elim (found-first x new (c.clients n).cache u found) [
-        | inl q ↦ subst (λ (y : CacheEntry). IsCurrent n x y v (e ∷ past)) q.1 (subst (λ (y : Fid). IsCurrent n y new v (e ∷ past)) q.0 (record {
-          reply = m;
-          boot = d.fact.booted;
-          by = used_reply n f (given_message e.lines (sent_of past)) (fetch_reply (Client n) f past) ∙ d.at;
-          held = held_over n f i body t m e past (read_grant n n p i f f body ms past) a.held;
-          state = inl (record { reached = read_seen n n p i f f body ms past i (λ t y. le_of_eq refl) a.reached; newest = a.newest; before = λ y z sc ran. never ran });
-        }))
-        | inr q ↦ current_over n x u (view h.floors c n) v e past k.holds (read_file n n p i f x body ms past (λ y z. q.0 z))
-            (λ server newer z stands. elim stands [
-              | inl o ↦ inl (record { reached = read_seen n n p i f x body ms past u.index (λ t z. absurd (q.0 (same_fid-true f x z))) o.reached; newest = stays n x e past (read_grant n n p i f x body ms past) refl server u.index newer z o.newest; before = λ y w sc ran. never ran })
-              | inr o ↦ absurd (no_scope (asked o.act) x (ap (λ (y : Going). volume_changed (asked y)) (some_of o.act act (sym o.runs ∙ d.running)) ∙ shut) o.scope)
-            ]) (k.current x u q.1 lasts')
-      ];
-      runs = λ b y. now ∙ y;
-      asked = λ b y. subst (λ (x : Going). CalledSince (last_key n v) guest (asked x) (e ∷ past)) (some_of act' b y) (inl (refl, inl (refl, refl)));
-      reached = λ x. read_both n n p i f x body ms past (index_in (last_version x (lines_of past))) (λ t y. subst (λ (z : Fid). i ≤ index_in (last_version z (lines_of past))) (same_fid-true f x y) (h.top f i body a.held.whole)) (k.reached x);
+      made = λ b y f o z. walk_made s c past n c.server.boot ls w.act w.cache [] ms f W (ends_here n);
+      current = λ f q found lasts. walk_current s c past n c.server.boot ls w.act w.cache [] ms v f q W tt (ends_here n) (le_refl _) (inl never) found lasts;
+      runs = λ b y. at ∙ y;
+      asked = λ b y. subst (λ (x : Going). CalledSince (last_key n v) guest (asked x) (e ∷ past)) (some_of w.act b y) (inl (refl, inl (refl, refl)));
+      reached = walk_reached s c past n c.server.boot ls w.act w.cache [] ms W tt (ends_here n);
     })
     (λ head' call r. record {
       behind = up_to_next _ _ _ _ r.behind;
@@ -588,29 +546,18 @@ reads_on_goes s c past n p act f head contents status callback sync h d shut a l
         | inr same ↦ inl (ap volume_changed (r.own act d.running same.0 same.1) ∙ shut)
       ];
     })
-    over (own_call h.floors c past n g st.state act' (read_lines n p f i body) k.known refl now (new_one s c past n act' h)) (λ b x z. inr (record { act = act; runs = d.running; read = shut })) refl
+    over (own_call h.floors c past n g y w.act (ls ++ []) k.known refl at (new_one s c past n w.act h)) (λ b x z. inr (record { act = act; runs = d.running; read = shut })) refl)
 
-used_on_goes : (x y : Need) (s : Script) (c : Cell) (past : List Entry) (n p : ℕ) (act : Going) (f : Fid) (head : Head) (contents : List ℕ) (status : AfsFetchStatus) (callback : AfsCallBack) (sync : AfsVolSync) → (h : Holds s c past)
-    → Due c h.floors past n p act (record { head = head; carried = carried.Reply (replies.FetchData contents status callback sync) }) → volume_changed (asked act) ≡ None → IsFetched false n f status.sync_counter (body_told status.file_type contents) callback.expiration_time (record { head = head; carried = carried.Reply (replies.FetchData contents status callback sync) }) past → nat_lt c.clock callback.expiration_time ≡ true
-    → next act ≡ x → next (with_read f (body_told status.file_type contents) act) ≡ y
-    → Goes s past (client_moves c n (used_on (Client n) (c.clients n) p act (record { fid = f; index = status.sync_counter; expiry = callback.expiration_time; body = body_told status.file_type contents }) x y))
-used_on_goes (reads g) (answers k) s c past n p act f head contents status callback sync h d shut a lasts ex ey = takes_used s c past n p act f head contents status callback sync h d shut a (answers_code f (body_told status.file_type contents) act k ey) lasts
-used_on_goes (reads g) (reads g') s c past n p act f head contents status callback sync h d shut a lasts ex ey = reads_on_goes s c past n p act f head contents status callback sync h d shut a lasts
-used_on_goes (reads g) (asks_for call) s c past n p act f head contents status callback sync h d shut a lasts ex ey = reads_on_goes s c past n p act f head contents status callback sync h d shut a lasts
-used_on_goes (asks_for call) y s c past n p act f head contents status callback sync h d shut a lasts ex ey = takes_used s c past n p act f head contents status callback sync h d shut a (asks_code f (body_told status.file_type contents) act call ex) lasts
-used_on_goes (answers k) y s c past n p act f head contents status callback sync h d shut a lasts ex ey = takes_used s c past n p act f head contents status callback sync h d shut a (answers_code f (body_told status.file_type contents) act k (next_stable f (body_told status.file_type contents) act (answers k) ex tt)) lasts
+fetched_by : (need : Need) (s : Script) (c : Cell) (past : List Entry) (n p : ℕ) (act : Going) (m : Message) (u : CacheEntry) → (h : Holds s c past) → Due c h.floors past n p act m → ((code : Code) → m.carried ≡ carried.Refusal code → ⊥) → volume_changed (asked act) ≡ None → IsFetched false n u.fid u.index u.body u.expiry m past → c.clock < u.expiry
+    → next (fetched_walk (c.clients n) c.clock act u).act ≡ need → Goes s past (client_moves c n (goes_by (Client n) (c.clients n) (lines.Given p) (ClientRow.behind (look_at Fetched u) (fetched_walk (c.clients n) c.clock act u)) need))
+fetched_by (answers k) s c past n p act m u h d not shut a lt e = fetched_answered s c past n p act m u k h d not shut a lt e
+fetched_by (reads f) s c past n p act m u h d not shut a lt e = fetched_calls s c past n p act m u h d shut a lt
+fetched_by (asks_for call) s c past n p act m u h d not shut a lt e = fetched_calls s c past n p act m u h d shut a lt
 
--- the client calls again
-pub again_goes : (s : Script) (c : Cell) (past : List Entry) (n p : ℕ) (act : Going) (m : Message) → (h : Holds s c past) → Due c h.floors past n p act m → volume_changed (asked act) ≡ None → Goes s past (client_moves c n (calls_step (Client n) (c.clients n) act (lines.Given p)))
-again_goes s c past n p act m h d shut =
-    asks s c past n act (lines.Given p) h (tt, tt) (told_passes s c past n p _ _ h d.heard) (λ g. told_file n p g (actors.Node (Client n)) _ past) (λ g. told_reach n p g (actors.Node (Client n)) _ past) (λ g o. (h.clients n).made act d.running g o (inl shut)) (λ b y. ap (λ (z : Going). volume_changed (asked z)) (some_of b act (sym y ∙ d.running)) ∙ shut) ((h.clients n).runs act d.running) (λ z. d.running)
-
-pub fetched_goes : (s : Script) (c : Cell) (past : List Entry) (n p : ℕ) (act : Going) (f : Fid) (head : Head) (contents : List ℕ) (status : AfsFetchStatus) (callback : AfsCallBack) (sync : AfsVolSync) (t : Bool) → (h : Holds s c past)
-    → Due c h.floors past n p act (record { head = head; carried = carried.Reply (replies.FetchData contents status callback sync) }) → volume_changed (asked act) ≡ None → IsFetched false n f status.sync_counter (body_told status.file_type contents) callback.expiration_time (record { head = head; carried = carried.Reply (replies.FetchData contents status callback sync) }) past → nat_lt c.clock callback.expiration_time ≡ t
-    → Goes s past (client_moves c n (cond t (used_on (Client n) (c.clients n) p act (record { fid = f; index = status.sync_counter; expiry = callback.expiration_time; body = body_told status.file_type contents }) (next act) (next (with_read f (body_told status.file_type contents) act))) (calls_step (Client n) (c.clients n) act (lines.Given p))))
-fetched_goes s c past n p act f head contents status callback sync true h d shut a lasts = used_on_goes _ _ s c past n p act f head contents status callback sync h d shut a lasts refl refl
-fetched_goes s c past n p act f head contents status callback sync false h d shut a lasts =
-    asks s c past n act (lines.Given p) h (tt, tt) (told_passes s c past n p _ _ h d.heard) (λ g. told_file n p g (actors.Node (Client n)) _ past) (λ g. told_reach n p g (actors.Node (Client n)) _ past) (λ g o. (h.clients n).made act d.running g o (inl shut)) (λ b y. ap (λ (z : Going). volume_changed (asked z)) (some_of b act (sym y ∙ d.running)) ∙ shut) ((h.clients n).runs act d.running) (λ z. d.running)
+pub fetched_goes : (s : Script) (c : Cell) (past : List Entry) (n p : ℕ) (act : Going) (u : CacheEntry) (m : Message) (t : Bool) → (h : Holds s c past) → Due c h.floors past n p act m → ((code : Code) → m.carried ≡ carried.Refusal code → ⊥) → volume_changed (asked act) ≡ None → IsFetched false n u.fid u.index u.body u.expiry m past → nat_lt c.clock u.expiry ≡ t
+    → Goes s past (client_moves c n (cond t (goes_on (Client n) (c.clients n) (lines.Given p) (ClientRow.behind (look_at Fetched u) (fetched_walk (c.clients n) c.clock act u))) (calls_step (Client n) (c.clients n) act (lines.Given p))))
+fetched_goes s c past n p act u m true h d not shut a lasts = fetched_by (next (fetched_walk (c.clients n) c.clock act u).act) s c past n p act m u h d not shut a (ltb-true _ _ lasts) refl
+fetched_goes s c past n p act u m false h d not shut a lasts = again_goes s c past n p act m h d shut
 
 -- ---- an answered store
 
@@ -758,7 +705,7 @@ pub data_goes : (s : Script) (c : Cell) (past : List Entry) (n p : ℕ) (act : G
     → is_spent (c.clients n) act ≡ false → asked act ≡ call → FitsData (c.clients n).spoiled n (spot (view h.floors c n)) (record { head = head; carried = carried.Reply (replies.FetchData contents status callback sync) }) past contents status callback call → Goes s past (client_moves c n (takes_data (Client n) (c.clients n) c.clock p act contents status callback call))
 data_goes s c past n p act (calls.FetchData f pp w) head contents status callback sync h d fresh same fits =
     let shut : volume_changed (asked act) ≡ None = ap volume_changed same in
-    fetched_goes s c past n p act f head contents status callback sync (nat_lt c.clock callback.expiration_time) h d shut
+    fetched_goes s c past n p act (record { fid = f; index = status.sync_counter; expiry = callback.expiration_time; body = body_told status.file_type contents }) _ (nat_lt c.clock callback.expiration_time) h d (λ code z. reply_not (replies.FetchData contents status callback sync) code z) shut
     (subst (λ (sp : Bool). IsFetched sp n f status.sync_counter (body_told status.file_type contents) callback.expiration_time (record { head = head; carried = carried.Reply (replies.FetchData contents status callback sync) }) past) (fresh_of (c.clients n).spoiled (volume_changed (asked act)) fresh shut) fits) refl
 data_goes s c past n p act call head contents status callback sync h d fresh same fits = plain_goes s c past n p act call _ (replies.FetchData contents status callback sync) h d refl same
 

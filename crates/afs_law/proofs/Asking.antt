@@ -11,7 +11,7 @@ use Rattle.afs_num.specs.declared.calls.FsCall.{FsCall}
 use Rattle.afs_num.specs.declared.messages.Message.{Message}
 use Rattle.afs_ideal.specs.Operations.{volume_changed}
 use Rattle.afs_law.proofs.Backing.{Plain, backed_plain, seated_over, plain_step}
-use Rattle.afs_law.proofs.Basics.{Each, IfCall, IfReply, ByClient, OfClient, client_any, by_client, both, same_fid-true, same_node-true, same_node-refl, node_apart, client_number, up_to_same, up_to_next, next_not, below_not, at_puts, each_map, if_call, raised_up_to, some_of, IfBack, IfDone, same_key-refl, OfCall, UpTo}
+use Rattle.afs_law.proofs.Basics.{found-first, Each, IfCall, IfReply, ByClient, OfClient, client_any, by_client, both, same_fid-true, same_node-true, same_node-refl, node_apart, client_number, up_to_same, up_to_next, next_not, below_not, at_puts, each_map, if_call, raised_up_to, some_of, IfBack, IfDone, same_key-refl, OfCall, UpTo}
 use Rattle.afs_law.proofs.Edits.{index_in, fid_at, sound_same}
 use Rattle.afs_law.proofs.Facts.{Ghost, Seen, IsAged, server_boot, View, view_of, view, desk, last_key, LastRan, Reached, ReplyFact, ClientFacts, IsUntrusted, IsSafe, CallFact, CallIn, Holds, Goes, Reading, InScope, IsOwn, IsOne}
 use Rattle.afs_law.proofs.Owing.{BackIn, DoneIn, SeatedIn}
@@ -20,7 +20,7 @@ use Rattle.afs_law.proofs.Serving.{told_file, told_reach, told_act, reached_stil
 use Rattle.afs_law.proofs.Turning.{call_good}
 use Rattle.afs_law.specs.Acts.{Act, Open}
 use Rattle.afs_law.specs.Callbacks.{put, Held, replies_of}
-use Rattle.afs_law.specs.ClientRow.{the_server, find_cached, guest, call_of, call_head, call_message, asking, calls_step, zero_code, ignores}
+use Rattle.afs_law.specs.ClientRow.{used_first, the_server, find_cached, guest, call_of, call_head, call_message, asking, calls_step, zero_code, ignores}
 use Rattle.afs_law.specs.Going.{asked, Going, Need, next, answers, began, with_read, read_on, ClientState}
 use Rattle.afs_law.specs.Ideal.{last_version, HasVersion, Accepts, clock_of, reach, raised, is_zero_code, volume_after, call_in, call_under}
 use Rattle.afs_law.specs.Legal.{IsNew, AreGood, AreGoodReplies}
@@ -563,3 +563,18 @@ begins_now n S e = let yes : same_node (Client n) (Client n) ≡ true = same_nod
 
 pub idle_asks : (s : Script) (c : Cell) (past : List Entry) (n : ℕ) (act : Act) → Holds s c past → (c.clients n).running ≡ None → Goes s past (client_moves c n (calls_step (Client n) (c.clients n) (began act) (lines.Begin (Client n) act)))
 idle_asks s c past n act h none = asks s c past n (began act) (lines.Begin (Client n) act) h (refl, tt) (begin_passes s n act _ past) (begin_file n n act _ past) (begin_reach n n act _ past) (λ f o. own_zero n (reach (Client n) f past).made) (λ a e. absurd cc) (own_begun n (began act) (running (Client n) (lines_of past))) (λ z. begins_now n _ z)
+
+-- ---- entries that are used
+
+pub same_entry : (a b : CacheEntry) (o : Option CacheEntry) → o ≡ Some a → o ≡ Some b → a ≡ b
+same_entry a b o x y = some_of a b (sym x ∙ y)
+
+-- what is found where an entry was used was found before
+pub used_found : (g : Fid) (u : CacheEntry) (cache : List CacheEntry) (v : CacheEntry) → find_cached u.fid cache ≡ Some u → find_cached g (used_first u cache) ≡ Some v → find_cached g cache ≡ Some v
+used_found g u cache v at found = elim (found-first g u cache v found) [
+  | inl q ↦ subst (λ (x : Fid). find_cached x cache ≡ Some v) q.0 (subst (λ (x : CacheEntry). find_cached u.fid cache ≡ Some x) q.1 at)
+  | inr q ↦ q.1
+]
+
+pub own_read : (n : ℕ) (f : Fid) (b : Body) (g : Going) (o : Option Going) → o ≡ Some g → read_on (same_node (Client n) (Client n)) f b o ≡ Some (with_read f b g)
+own_read n f b g o e = rw (same_node-refl (Client n), e) refl

@@ -15,6 +15,8 @@ pub mod Naming
 pub mod Saving
 pub mod Deciding
 pub mod Asking
+pub mod Quiet
+pub mod Walking
 pub mod Skipping
 pub mod Dropping
 pub mod Answering

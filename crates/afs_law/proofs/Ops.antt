@@ -1,6 +1,6 @@
 -- What the single operations are: each law by the calls.
-use Rattle.afs_ideal.specs.AccessLists.{acl_at}
 use Rattle.afs_ideal.proofs.Scopes.{stays_in_scope}
+use Rattle.afs_ideal.specs.AccessLists.{acl_at}
 use Rattle.afs_ideal.specs.Operations.{acl_read, Caller, Found, Shown, shows_body, shows_status, shows_acl, shows_statuses, shows_volume, reads, no_amend, Result, refused, changes, no_operation, by_tests, limited, limits, first_failing, tests, effect, read_by, one_more, statuses, op, volume_called, volume_changed, kind_is, is_kind, kinds_agree, vnode_in, name_in, removes, creates}
 use Rattle.afs_ideal.specs.Tables.{Table, get, set}
 use Rattle.afs_ideal.specs.Volumes.{Kind, a_file, a_directory, a_link, Vnode, Volume, Edit, amends, makes, frees, Amend, vnode_of, if_unique, versions_by, edited_all, amends_at, amended, version_at, ascending}

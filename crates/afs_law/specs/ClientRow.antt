@@ -1,8 +1,9 @@
+use Rattle.afs_num.specs.declared.histories.ReadSource.{ReadSource}
 use Rattle.std.specs.List.{list_any}
 use Rattle.afs_ideal.specs.Directories.{directory_of}
 use Rattle.afs_ideal.specs.Operations.{volume_changed}
 use Rattle.afs_law.specs.Acts.{Act, Open}
-use Rattle.afs_law.specs.Going.{ClientState, Going, Need, reads, asks_for, answers, next, asked, began, with_read}
+use Rattle.afs_law.specs.Going.{plan_of, ClientState, Going, Need, reads, asks_for, answers, next, asked, began, with_read}
 use Rattle.afs_law.specs.Lines.{Line}
 use Rattle.afs_law.specs.Scopes.{is_in_scope}
 use Rattle.afs_law.specs.ServerRow.{replied, boot_told}
@@ -12,7 +13,7 @@ use Rattle.afs_model.specs.Calls.{Admitted, paired}
 use Rattle.afs_model.specs.FsRows.{call_number}
 use Rattle.afs_model.specs.Calls as pairs
 use Rattle.afs_num.specs.declared.directories.Name.{Name}
-use Rattle.std.specs.Prelude.{◌||◌, Result, Ok, Err, ℕ, ◌+◌, List, [], ◌∷◌, Bool, true, false, not, ◌&&◌, Option, Some, None, pos, negsuc, nat_eq, nat_lt, map, filter, find, codes, length, if◌then◌else◌}
+use Rattle.std.specs.Prelude.{suc, zero, ◌||◌, Result, Ok, Err, ℕ, ◌+◌, List, [], ◌∷◌, Bool, true, false, not, ◌&&◌, Option, Some, None, pos, negsuc, nat_eq, nat_lt, map, filter, find, codes, length, if◌then◌else◌}
 use Rattle.afs_num.specs.Fids.{same_fid}
 use Rattle.afs_num.specs.Nodes.{same_node}
 use Rattle.afs_num.specs.declared.types.Code.{Code}
@@ -111,27 +112,73 @@ calls_step me c act line = record {
 abbrev pub zero_code : Code
 zero_code = record { 0 = pos 0 }
 
--- the code of an act that needs no more
-abbrev pub code_by : Need → Code
-code_by (answers n) = record { 0 = pos n }
-code_by need = zero_code
+-- ---- what an act reads. It goes as far as it comes without a message
 
-abbrev pub shows_step : Node → ClientState → Fid → CacheEntry → Step ClientState
-shows_step me c fid entry = record {
-  state = record c { cache = used_first entry c.cache };
-  lines = lines.Begin me (Open fid) ∷ lines.Read me fid entry.index Cached entry.body ∷ lines.Answer me (code_by (next (with_read fid entry.body (began (Open fid))))) ∷ [];
+-- a read: what it shows, and whether a reply brought it
+pub record Look : Type 0 where
+  pub fid : Fid
+  pub index : ℕ
+  pub source : ReadSource
+  pub body : Body
+
+abbrev pub look_at : ReadSource → CacheEntry → Look
+look_at source entry = record { fid = entry.fid; index = entry.index; source = source; body = entry.body }
+
+-- the act that has read so far, the cache, and its reads
+pub record Walked : Type 0 where
+  pub act : Going
+  pub cache : List CacheEntry
+  pub looks : List Look
+
+abbrev pub stays : Going → List CacheEntry → Walked
+stays act cache = record { act = act; cache = cache; looks = [] }
+
+-- this read, and then those
+abbrev pub behind : Look → Walked → Walked
+behind l w = record { act = w.act; cache = w.cache; looks = l ∷ w.looks }
+
+abbrev pub walked_at : (Going → List CacheEntry → Walked) → ℕ → Going → List CacheEntry → Option CacheEntry → Walked
+walked_at more clock act cache None = stays act cache
+walked_at more clock act cache (Some entry) =
+    if is_trusted clock entry then behind (look_at Cached entry) (more (with_read entry.fid entry.body act) (used_first entry cache)) else stays act cache
+
+abbrev pub walked_by : (Going → List CacheEntry → Walked) → ℕ → Going → List CacheEntry → Need → Walked
+walked_by more clock act cache (reads f) = walked_at more clock act cache (find_cached f cache)
+walked_by more clock act cache need = stays act cache
+
+-- what the act needs is read from the cache while it is trusted, at most so often
+abbrev pub walked : ℕ → ℕ → Going → List CacheEntry → Walked
+walked zero clock act cache = stays act cache
+walked (suc n) clock act cache = walked_by (walked n clock) clock act cache (next act)
+
+-- an act reads each directory of its path, and its object
+abbrev pub most_reads : Going → ℕ
+most_reads act = length (plan_of act.act).path + 1
+
+-- the lines of reads, before these
+abbrev pub looked : Node → List Look → List Line → List Line
+looked me [] ls = ls
+looked me (l ∷ looks) ls = lines.Read me l.fid l.index l.source l.body ∷ looked me looks ls
+
+-- behind this line the act has come so far: it is answered, or calls
+abbrev pub goes_by : Node → ClientState → Line → Walked → Need → Step ClientState
+goes_by me c front w (answers n) = record {
+  state = record c { running = None; cache = w.cache };
+  lines = front ∷ looked me w.looks (lines.Answer me (record { 0 = pos n }) ∷ []);
   sent = [];
 }
+goes_by me c front w need = record {
+  state = record c { last = c.last + 1; tries = 0; running = Some w.act; spoiled = false; cache = w.cache };
+  lines = front ∷ looked me w.looks [];
+  sent = call_message me (asking c w.act) w.act ∷ [];
+}
 
-abbrev pub opens : Node → ClientState → ℕ → Fid → Option CacheEntry → Step ClientState
-opens me c clock fid None = calls_step me c (began (Open fid)) (lines.Begin me (Open fid))
-opens me c clock fid (Some entry) =
-    if is_trusted clock entry then shows_step me c fid entry else calls_step me c (began (Open fid)) (lines.Begin me (Open fid))
+abbrev pub goes_on : Node → ClientState → Line → Walked → Step ClientState
+goes_on me c front w = goes_by me c front w (next w.act)
 
 -- the client `me`, which is idle, begins an act
 unfoldable pub begin_row : Node → ClientState → ℕ → Act → Step ClientState
-begin_row me c clock (Open fid) = opens me c clock fid (find_cached fid c.cache)
-begin_row me c clock act = calls_step me c (began act) (lines.Begin me act)
+begin_row me c clock act = goes_on me c (lines.Begin me act) (walked (most_reads (began act)) clock (began act) c.cache)
 
 -- ---- a message comes
 
@@ -144,31 +191,11 @@ ended c cache = record c { running = None; cache = cache }
 abbrev pub answers_step : Node → ClientState → ℕ → Code → Step ClientState
 answers_step me c place code = record { state = ended c c.cache; lines = lines.Given place ∷ lines.Answer me code ∷ []; sent = [] }
 
-abbrev pub uses_step : Node → ClientState → ℕ → Going → CacheEntry → Step ClientState
-uses_step me c place act entry = record {
-  state = ended c (used_first entry c.cache);
-  lines = lines.Given place ∷ lines.Read me entry.fid entry.index Fetched entry.body ∷ lines.Answer me (code_by (next (with_read entry.fid entry.body act))) ∷ [];
-  sent = [];
-}
-
--- the act has read, and calls on
-abbrev pub reads_on_step : Node → ClientState → ℕ → Going → CacheEntry → Step ClientState
-reads_on_step me c place act entry = record {
-  state = record c { last = c.last + 1; tries = 0; running = Some act; spoiled = false; cache = used_first entry c.cache };
-  lines = lines.Given place ∷ lines.Read me entry.fid entry.index Fetched entry.body ∷ [];
-  sent = call_message me (asking c act) act ∷ [];
-}
-
--- by what the act needed, and what it needs behind the read
-abbrev pub used_on : Node → ClientState → ℕ → Going → CacheEntry → Need → Need → Step ClientState
-used_on me c place act entry (reads f) (answers n) = uses_step me c place act entry
-used_on me c place act entry (reads f) need = reads_on_step me c place (with_read entry.fid entry.body act) entry
-used_on me c place act entry before need = uses_step me c place act entry
-
 -- a promise that has ended by now can't be used: the client calls again
 abbrev pub takes_fetched : Node → ClientState → ℕ → ℕ → Going → CacheEntry → Step ClientState
 takes_fetched me c clock place act entry =
-    if is_trusted clock entry then used_on me c place act entry (next act) (next (with_read entry.fid entry.body act)) else calls_step me c act (lines.Given place)
+    if is_trusted clock entry then goes_on me c (lines.Given place) (behind (look_at Fetched entry) (walked (most_reads act) clock (with_read entry.fid entry.body act) (used_first entry c.cache)))
+    else calls_step me c act (lines.Given place)
 
 abbrev pub takes_stored : Node → ClientState → ℕ → ℕ → Fid → ℕ → (Body → Body) → Step ClientState
 takes_stored me c clock place fid index made = record {
