@@ -18,7 +18,7 @@ use Rattle.afs_law.proofs.Owing.{BackIn, DoneIn, SeatedIn}
 use Rattle.afs_law.proofs.Passing.{PassesGrant, PassesFile, PassesAct, PassesReach, stays, PassesBoth, PassesSeen, current_over, reply_over, kept_over, client_still, News, more_sent, replies_over, fallen_over, one_more}
 use Rattle.afs_law.proofs.Serving.{told_file, told_reach, told_act, reached_still}
 use Rattle.afs_law.proofs.Turning.{call_good}
-use Rattle.afs_law.specs.Acts.{Act, Open}
+use Rattle.afs_law.specs.Acts.{Act, Open, at_fid}
 use Rattle.afs_law.specs.Callbacks.{put, Held, replies_of}
 use Rattle.afs_law.specs.ClientRow.{used_first, the_server, find_cached, guest, call_of, call_head, call_message, asking, calls_step, zero_code, ignores}
 use Rattle.afs_law.specs.Going.{asked, Going, Need, next, answers, began, with_read, read_on, ClientState}
@@ -558,7 +558,7 @@ own_begun n act o = rw (same_node-refl (Client n)) refl
 pub own_zero : (n m : ℕ) → cond (same_node (Client n) (Client n)) 0 m ≡ 0
 own_zero n m = rw (same_node-refl (Client n)) refl
 
-pub begins_now : (n : ℕ) (S : Type 0) → has_begun (Client n) (lines.Begin (Client n) (Open (record { volume = 0; vnode = 0; unique = 0 })) ∷ []) ≡ false → S
+pub begins_now : (n : ℕ) (S : Type 0) → has_begun (Client n) (lines.Begin (Client n) (Open (at_fid (record { volume = 0; vnode = 0; unique = 0 }))) ∷ []) ≡ false → S
 begins_now n S e = let yes : same_node (Client n) (Client n) ≡ true = same_node-refl (Client n) in absurd cc
 
 pub idle_asks : (s : Script) (c : Cell) (past : List Entry) (n : ℕ) (act : Act) → Holds s c past → (c.clients n).running ≡ None → Goes s past (client_moves c n (calls_step (Client n) (c.clients n) (began act) (lines.Begin (Client n) act)))

@@ -13,7 +13,7 @@ use Rattle.afs_law.proofs.Facts.{Ghost, IsAged, server_boot, View, view, last_ke
 use Rattle.afs_law.proofs.Passing.{PassesBoth, PassesFile, PassesAct, PassesReach, stays, current_over, kept_over, PassesGrant, PassesSeen}
 use Rattle.afs_law.proofs.Resting.{voids}
 use Rattle.afs_law.proofs.Serving.{reached_still}
-use Rattle.afs_law.specs.Acts.{Act, Open}
+use Rattle.afs_law.specs.Acts.{Act}
 use Rattle.afs_law.specs.ClientRow.{the_server, find_cached, dead_code, tries_again, left_in, given_up_in, dropped, gives_up, timeout_row, call_message, ended, reborn, zero_code}
 use Rattle.afs_law.specs.Going.{asked, Going, Need, next, answers, began, with_read, read_on, ClientState}
 use Rattle.afs_law.specs.Grants.{has_fetched, IsWithdrawn, IsDropped}

@@ -15,7 +15,7 @@ use Rattle.afs_law.proofs.Passing.{PassesBoth, PassesFile, PassesAct, PassesReac
 use Rattle.afs_law.proofs.Resting.{voids}
 use Rattle.afs_law.proofs.Serving.{reached_still}
 use Rattle.afs_law.proofs.Skipping.{own_ended, last_line, skips, timed, drop_lines, drop_file, drop_reach, drop_still, drop_passes, ended_running, left_found, left_scope, left_none, scope_is}
-use Rattle.afs_law.specs.Acts.{Act, Open}
+use Rattle.afs_law.specs.Acts.{Act}
 use Rattle.afs_law.specs.ClientRow.{the_server, find_cached, dead_code, tries_again, dropped, gives_up, timeout_row, call_message, ended, reborn, left_in, given_up_in, zero_code, gives_up', call_of}
 use Rattle.afs_law.specs.Going.{asked, Going, Need, next, answers, began, with_read, read_on, ClientState}
 use Rattle.afs_law.specs.Grants.{has_fetched, IsWithdrawn, IsDropped}

@@ -9,7 +9,7 @@ use Rattle.afs_ideal.specs.Directories.{directory_bytes, name_bytes, directory_o
 use Rattle.afs_ideal.specs.SetUp.{laid_at, led}
 use Rattle.afs_ideal.specs.VnodeImage.{image}
 use Rattle.afs_law.proofs.Law.{legal}
-use Rattle.afs_law.specs.Acts.{Open, Close, Ask, WalkTo}
+use Rattle.afs_law.specs.Acts.{Open, Close, Remove, SetMode, at_fid, at_path}
 use Rattle.afs_law.specs.ClientRow.{begin_row, client_row}
 use Rattle.afs_law.specs.Legal.{Legal}
 use Rattle.afs_law.specs.Lines.{Line}
@@ -52,17 +52,17 @@ abbrev answer : ℕ → Line
 answer n = lines.Answer (Client n) (record { 0 = pos 0 })
 
 abbrev begun : ℕ → Line
-begun n = lines.Begin (Client n) (Open file)
+begun n = lines.Begin (Client n) (Open (at_fid file))
 
 abbrev stores : ℕ → Line
-stores n = lines.Begin (Client n) (Close file (codes "def"))
+stores n = lines.Begin (Client n) (Close (at_fid file) (codes "def"))
 
 abbrev change : ℕ → List Line
 change n = lines.Change (Server 1) (record { node = Client n; epoch = 1; number = 1 }) 1 ∷ lines.Version (record { fid = file; index = 2; data_version = 2; body = bodies.File (codes "def") }) ∷ []
 
 -- a break before the fetch reply
 abbrev six : List Input
-six = begins 1 (Open file) ∷ gives 1 steady ∷ begins 2 (Close file (codes "def")) ∷ gives 3 steady ∷ gives 4 steady ∷ gives 5 steady ∷ gives 2 steady ∷ gives 6 steady ∷ gives 7 steady ∷ gives 8 steady ∷ []
+six = begins 1 (Open (at_fid file)) ∷ gives 1 steady ∷ begins 2 (Close (at_fid file) (codes "def")) ∷ gives 3 steady ∷ gives 4 steady ∷ gives 5 steady ∷ gives 2 steady ∷ gives 6 steady ∷ gives 7 steady ∷ gives 8 steady ∷ []
 
 row_six : told (start (script 2)) six ≡
     begun 1 ∷ lines.Given 1 ∷ lines.Grant (Server 1) (Client 1) file 1 7200 ∷ stores 2 ∷ lines.Given 3 ∷ (change 2 ++ lines.Owe (Server 1) (Client 1) (Some file) 1 ∷ lines.Given 4 ∷ lines.Drop (Client 1) file ∷ lines.Given 5 ∷ lines.Settle (Server 1) (Client 1) 1
@@ -72,7 +72,7 @@ row_six = refl
 
 -- a holder that never answers
 abbrev seven : List Input
-seven = begins 1 (Open file) ∷ gives 1 steady ∷ gives 2 steady ∷ begins 2 (Close file (codes "def")) ∷ gives 3 steady ∷ server_waits 1 ∷ server_waits 1 ∷ server_waits 1 ∷ gives 7 steady ∷ ticks 7199 ∷ begins 1 (Open file) ∷ ticks 1 ∷ begins 1 (Open file) ∷ gives 8 steady ∷ gives 9 steady ∷ []
+seven = begins 1 (Open (at_fid file)) ∷ gives 1 steady ∷ gives 2 steady ∷ begins 2 (Close (at_fid file) (codes "def")) ∷ gives 3 steady ∷ server_waits 1 ∷ server_waits 1 ∷ server_waits 1 ∷ gives 7 steady ∷ ticks 7199 ∷ begins 1 (Open (at_fid file)) ∷ ticks 1 ∷ begins 1 (Open (at_fid file)) ∷ gives 8 steady ∷ gives 9 steady ∷ []
 
 row_seven : told (start (script 2)) seven ≡
     begun 1 ∷ lines.Given 1 ∷ lines.Grant (Server 1) (Client 1) file 1 7200 ∷ lines.Given 2 ∷ lines.Read (Client 1) file 1 Fetched (bodies.File (codes "abc")) ∷ answer 1 ∷ stores 2 ∷ lines.Given 3 ∷ (change 2 ++ lines.Owe (Server 1) (Client 1) (Some file) 1
@@ -83,7 +83,7 @@ row_seven = refl
 
 -- a stop after the gate was written: the kept reply waits for the break on all
 abbrev eight : List Input
-eight = begins 1 (Close file (codes "def")) ∷ sets_stop 3 1 ∷ gives 1 steady ∷ starts_again true comes_up ∷ waits 1 ∷ gives 3 steady ∷ gives 4 steady ∷ gives 5 steady ∷ gives 2 steady ∷ gives 6 steady ∷ gives 7 steady ∷ []
+eight = begins 1 (Close (at_fid file) (codes "def")) ∷ sets_stop 3 1 ∷ gives 1 steady ∷ starts_again true comes_up ∷ waits 1 ∷ gives 3 steady ∷ gives 4 steady ∷ gives 5 steady ∷ gives 2 steady ∷ gives 6 steady ∷ gives 7 steady ∷ []
 
 row_eight : told (start (script 1)) eight ≡
     stores 1 ∷ lines.Stop (Server 1) 3 1 ∷ lines.Given 1 ∷ lines.Crash (Server 1) ∷ (change 1 ++ lines.Restart (Server 1) 2 ∷ lines.Owe (Server 1) (Client 1) None 1 ∷ lines.Timeout (Client 1) (Server 1) 1 1 1 ∷ lines.Given 3 ∷ lines.Given 4 ∷ lines.Given 5
@@ -104,12 +104,12 @@ abbrev code : ℕ → ℕ → Line
 code n k = lines.Answer (Client n) (record { 0 = pos k })
 
 abbrev nine : List Input
-nine = begins 1 (Open root) ∷ gives 1 steady ∷ begins 2 (Open file) ∷ gives 3 steady ∷ gives 2 steady ∷ begins 1 (Open file) ∷ gives 5 steady ∷ begins 3 (Ask (calls.RemoveFile root (codes "a"))) ∷ gives 7 steady
-    ∷ gives 8 steady ∷ gives 9 steady ∷ gives 10 steady ∷ gives 11 steady ∷ gives 12 steady ∷ gives 6 steady ∷ gives 13 steady ∷ gives 14 steady ∷ []
+nine = begins 1 (Open (at_fid root)) ∷ gives 1 steady ∷ begins 2 (Open (at_fid file)) ∷ gives 3 steady ∷ gives 2 steady ∷ begins 1 (Open (at_fid file)) ∷ gives 5 steady ∷ begins 3 (Remove (record { volume = home; names = codes "a" ∷ [] })) ∷ gives 7 steady ∷ gives 8 steady ∷ gives 9 steady
+    ∷ gives 10 steady ∷ gives 11 steady ∷ gives 12 steady ∷ gives 13 steady ∷ gives 14 steady ∷ gives 6 steady ∷ gives 15 steady ∷ gives 16 steady ∷ []
 
 row_nine : filter is_told (told (start (script 3)) nine) ≡
     code 1 21 ∷ lines.Owe (Server 1) (Client 1) (Some root) 1 ∷ lines.Owe (Server 1) (Client 2) (Some file) 2 ∷ lines.Owe (Server 1) (Client 1) (Some file) 3
-    ∷ lines.Drop (Client 1) root ∷ lines.Drop (Client 1) file ∷ lines.Drop (Client 2) file ∷ lines.Settle (Server 1) (Client 1) 1 ∷ lines.Settle (Server 1) (Client 1) 3 ∷ lines.Settle (Server 1) (Client 2) 2 ∷ code 3 0 ∷ code 1 102 ∷ []
+    ∷ lines.Drop (Client 1) root ∷ lines.Drop (Client 1) file ∷ lines.Drop (Client 2) file ∷ lines.Settle (Server 1) (Client 1) 1 ∷ lines.Settle (Server 1) (Client 1) 3 ∷ lines.Settle (Server 1) (Client 2) 2 ∷ lines.Drop (Client 3) root ∷ code 3 0 ∷ code 1 102 ∷ []
 unfolding moved begin_row client_row change_record boot_record spelled opaque pad word laid_at led name_ok directory_bytes name_bytes rights_of first_record volume_bytes image acl_text digits entry_text
 row_nine = refl
 
@@ -127,7 +127,7 @@ abbrev without : Entry → Entry
 without e = record e { lines = filter (λ l. not (is_owe l)) e.lines }
 
 abbrev six_front : List Input
-six_front = begins 1 (Open file) ∷ gives 1 steady ∷ begins 2 (Close file (codes "def")) ∷ gives 3 steady ∷ []
+six_front = begins 1 (Open (at_fid file)) ∷ gives 1 steady ∷ begins 2 (Close (at_fid file) (codes "def")) ∷ gives 3 steady ∷ []
 
 -- with them it is: so far they are told
 owed_is_legal : (c : Cell) → Leads (start (script 2)) six_front (entries (start (script 2)) six_front) c → Legal (entries (start (script 2)) six_front) (script 2)
@@ -138,7 +138,7 @@ unfolding moved begin_row client_row change_record boot_record spelled opaque pa
 not_owed h = h.1.1.1.0.0.0.1.0.1.owed 1 file 7200 (λ e. absurd cc) (inl refl) refl (omega arith)
 
 abbrev eight_front : List Input
-eight_front = begins 1 (Close file (codes "def")) ∷ sets_stop 3 1 ∷ gives 1 steady ∷ starts_again true comes_up ∷ []
+eight_front = begins 1 (Close (at_fid file) (codes "def")) ∷ sets_stop 3 1 ∷ gives 1 steady ∷ starts_again true comes_up ∷ []
 
 not_all_owed : Legal (map without (entries (start (script 1)) eight_front)) (script 1) → ⊥
 unfolding moved begin_row client_row change_record boot_record spelled opaque pad word laid_at led name_ok directory_bytes name_bytes rights_of first_record volume_bytes image acl_text digits entry_text
@@ -147,7 +147,7 @@ not_all_owed h = h.1.1.1.0.0.0.1.1.0.1 1 (omega arith) (omega arith)
 -- ---- a walk, the last read of which a break overtakes: it is fetched again, and the act ends in one answer
 
 abbrev walked : List Input
-walked = begins 1 (WalkTo home (codes "a" ∷ [])) ∷ gives 1 steady ∷ gives 2 steady ∷ gives 3 steady ∷ begins 2 (Close file (codes "def")) ∷ gives 5 steady ∷ gives 6 steady ∷ gives 4 steady ∷ gives 7 steady ∷ gives 8 steady ∷ gives 10 steady ∷ []
+walked = begins 1 (Open (at_path (record { volume = home; names = codes "a" ∷ [] }))) ∷ gives 1 steady ∷ gives 2 steady ∷ gives 3 steady ∷ begins 2 (Close (at_fid file) (codes "def")) ∷ gives 5 steady ∷ gives 6 steady ∷ gives 4 steady ∷ gives 7 steady ∷ gives 8 steady ∷ gives 10 steady ∷ []
 
 abbrev is_walked : Line → Bool
 is_walked (lines.Given p) = false
@@ -155,7 +155,7 @@ is_walked (lines.Version v) = false
 is_walked l = true
 
 row_walked : filter is_walked (told (start (script 2)) walked) ≡
-    lines.Begin (Client 1) (WalkTo home (codes "a" ∷ [])) ∷ lines.Grant (Server 1) (Client 1) root 1 7200 ∷ lines.Read (Client 1) root 1 Fetched (bodies.Dir (record { name = codes "a"; vnode = 2; unique = 2 } ∷ []))
+    lines.Begin (Client 1) (Open (at_path (record { volume = home; names = codes "a" ∷ [] }))) ∷ lines.Grant (Server 1) (Client 1) root 1 7200 ∷ lines.Read (Client 1) root 1 Fetched (bodies.Dir (record { name = codes "a"; vnode = 2; unique = 2 } ∷ []))
     ∷ lines.Grant (Server 1) (Client 1) file 1 7200 ∷ stores 2 ∷ lines.Change (Server 1) (record { node = Client 2; epoch = 1; number = 1 }) 1 ∷ lines.Owe (Server 1) (Client 1) (Some file) 1 ∷ lines.Drop (Client 1) file
     ∷ lines.Settle (Server 1) (Client 1) 1 ∷ lines.Grant (Server 1) (Client 1) file 2 7200 ∷ lines.Read (Client 1) file 2 Fetched (bodies.File (codes "def")) ∷ code 1 0 ∷ []
 unfolding moved begin_row client_row change_record boot_record spelled opaque pad word laid_at led name_ok directory_bytes name_bytes rights_of first_record volume_bytes image acl_text digits entry_text directory_of names_at opaque_at word_at counted_at whole_at count_at name_at spelled_at bytes_below

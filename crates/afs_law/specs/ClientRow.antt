@@ -2,8 +2,8 @@ use Rattle.afs_num.specs.declared.histories.ReadSource.{ReadSource}
 use Rattle.std.specs.List.{list_any}
 use Rattle.afs_ideal.specs.Directories.{directory_of}
 use Rattle.afs_ideal.specs.Operations.{volume_changed}
-use Rattle.afs_law.specs.Acts.{Act, Open}
-use Rattle.afs_law.specs.Going.{plan_of, ClientState, Going, Need, reads, asks_for, answers, next, asked, began, with_read}
+use Rattle.afs_law.specs.Acts.{Act}
+use Rattle.afs_law.specs.Going.{reads_of, ClientState, Going, Need, reads, asks_for, answers, next, asked, began, with_read}
 use Rattle.afs_law.specs.Lines.{Line}
 use Rattle.afs_law.specs.Scopes.{is_in_scope}
 use Rattle.afs_law.specs.ServerRow.{replied, boot_told}
@@ -151,9 +151,8 @@ abbrev pub walked : ℕ → ℕ → Going → List CacheEntry → Walked
 walked zero clock act cache = stays act cache
 walked (suc n) clock act cache = walked_by (walked n clock) clock act cache (next act)
 
--- an act reads each directory of its path, and its object
 abbrev pub most_reads : Going → ℕ
-most_reads act = length (plan_of act.act).path + 1
+most_reads act = reads_of act.act
 
 -- the lines of reads, before these
 abbrev pub looked : Node → List Look → List Line → List Line

@@ -1,7 +1,7 @@
 use Rattle.afs_ideal.specs.Operations.{the_user, volume_called, changed, op, is_number}
 use Rattle.afs_ideal.specs.Tables.{Table, get}
 use Rattle.afs_ideal.specs.Volumes.{Vnode, version_at, Volume, Edit, versions_by}
-use Rattle.afs_law.specs.Acts.{Act, Open, Close, Ask}
+use Rattle.afs_law.specs.Acts.{Act}
 use Rattle.afs_law.specs.Lines.{Line}
 use Rattle.afs_law.specs.Past.{onto, is_of_act, sent_of, is_called}
 use Rattle.afs_law.specs.Runs.{Entry, first_volume, first_volumes}

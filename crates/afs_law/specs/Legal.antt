@@ -10,7 +10,7 @@ use Rattle.afs_num.specs.declared.messages.Carried.{Carried}
 use Rattle.afs_num.specs.declared.messages.Message.{Message}
 use Rattle.afs_ideal.specs.Operations.{Caller, the_user, Result, refused, changes, op, code_of, volume_called}
 use Rattle.afs_ideal.specs.Volumes.{Volume, Edit, versions_by}
-use Rattle.afs_law.specs.Acts.{Act, Open}
+use Rattle.afs_law.specs.Acts.{Act}
 use Rattle.afs_law.specs.Breaks.{AllOwes, EndedOf, EndedAll, GoodSettle, GoodQuit, live_grant, HasOwe, last_number}
 use Rattle.afs_law.specs.Going.{Going, answers, next, asked}
 use Rattle.afs_law.specs.Grants.{read_reply, GrantOf, since, IsWithdrawn, IsDropped}
