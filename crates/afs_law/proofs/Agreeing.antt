@@ -1,20 +1,31 @@
-use Rattle.std.proofs.Common.{◌≡◌, ℕ, Bool, true, false, cond, List, [], ◌∷◌, Option, Some, None, refl, sym, ap, subst, ◌∙◌}
+use Rattle.afs_num.specs.declared.messages.Carried.TheVariants as carried
+use Rattle.afs_ideal.specs.Told.{last_told, fid_at, live, Agrees}
+use Rattle.afs_ideal.specs.Volumes.{Volume}
+use Rattle.afs_law.proofs.Answering.{idle_newest, idle_reached}
+use Rattle.afs_law.proofs.Basics.{ByClient, OfReply, OfCall, IfReply, IfCall, each_at, client_number, by_client}
+use Rattle.afs_law.proofs.Edits.{agrees_of, SoundIn}
+use Rattle.afs_law.proofs.Facts.{ReplyIn, CallIn, view, Ghost, Holds}
+use Rattle.afs_law.proofs.Law.{goes, starts}
+use Rattle.afs_law.specs.ClientRow.{find_cached}
+use Rattle.afs_law.specs.Ideal.{last_version, latest, version_in, versions_in, told_by, set_up, volume_after}
+use Rattle.afs_law.specs.Laws.{ArePairsKnown, IsKnownTo, IsHeld}
+use Rattle.afs_law.specs.Legal.{GoodRead}
+use Rattle.afs_law.specs.Lines.{Line}
+use Rattle.afs_law.specs.Once.{past_of}
+use Rattle.afs_law.specs.OneServer.{IsOneServer}
+use Rattle.afs_law.specs.Past.{HasCode, IsCall, lines_of}
+use Rattle.afs_law.specs.Runs.{Entry, Cell, Input, moved, Leads, start, RunsTo}
+use Rattle.afs_law.specs.States.{CacheEntry}
+use Rattle.afs_num.specs.declared.histories.ReadSource.TheVariants.{Cached}
+use Rattle.afs_num.specs.declared.messages.Carried.{Carried}
+use Rattle.afs_num.specs.declared.messages.Message.{Message}
+use Rattle.afs_num.specs.declared.types.Node.TheVariants.{Client}
+use Rattle.afs_num.specs.declared.types.Head.{Head}
+use Rattle.std.proofs.Common.{◌<◌, ◌≡◌, ℕ, Bool, true, false, cond, List, [], ◌∷◌, Option, Some, None, refl, sym, ap, subst, ◌∙◌}
 use Rattle.afs_num.specs.Fids.{same_fid}
 use Rattle.afs_num.specs.declared.types.Fid.{Fid}
 use Rattle.afs_num.specs.declared.histories.Version.{Version}
 use Rattle.afs_num.specs.declared.scripts.Script.{Script}
-use Rattle.afs_ideal.specs.Told.{last_told, fid_at, live, Agrees}
-use Rattle.afs_ideal.specs.Volumes.{Volume}
-use Rattle.afs_law.proofs.Edits.{agrees_of, SoundIn}
-use Rattle.afs_law.proofs.Facts.{Holds}
-use Rattle.afs_law.proofs.Law.{goes, starts}
-use Rattle.afs_law.specs.Ideal.{last_version, latest, version_in, versions_in, told_by, set_up, volume_after}
-use Rattle.afs_law.specs.Laws.{IsHeld}
-use Rattle.afs_law.specs.Lines.{Line}
-use Rattle.afs_law.specs.Once.{past_of}
-use Rattle.afs_law.specs.OneServer.{IsOneServer}
-use Rattle.afs_law.specs.Past.{lines_of}
-use Rattle.afs_law.specs.Runs.{Entry, Cell, Input, moved, Leads, start, RunsTo}
 
 -- The same inputs make one run; and after every run the versions that were told agree with the volumes.
 
@@ -54,4 +65,51 @@ held s h end one r id =
     record {
       ideal = k.ideal id;
       told = λ v e. agrees_by id v _ _ (k.ideal id ∙ e) (k.sound id);
+    }
+
+-- ---- pairs
+
+call_known : (end : Cell) (fl : ℕ → Ghost) (j : ℕ) (head : Head) (c : Carried) → IsCall c → head.from ≡ Client j → OfCall (ByClient (CallIn (view fl end))) head c → IsKnownTo end j head
+call_known end fl j head (carried.Call user call) is from h =
+    let f : CallIn (view fl end) head user call = by_client j head.from (CallIn (view fl end) head user call) from h in
+    let one : f.client ≡ j = client_number f.client j (sym f.from ∙ from) in
+    subst (λ (i : ℕ). IsKnownTo end i head) one f.fact.behind
+call_known end fl j head (carried.Refusal code) is from h = absurd is
+call_known end fl j head (carried.Reply reply) is from h = absurd is
+call_known end fl j head carried.Notice is from h = absurd is
+
+reply_of : (c : Carried) (X : Type 0) → HasCode c → OfReply X c → X
+reply_of (carried.Call user call) X is h = absurd is
+reply_of (carried.Refusal code) X is h = h
+reply_of (carried.Reply reply) X is h = h
+reply_of carried.Notice X is h = absurd is
+
+pub pairs_known : (s : Script) (h : List Entry) (end : Cell) → IsOneServer s → RunsTo h s end → ArePairsKnown end
+pairs_known s h end one r =
+    let k : Holds s end (past_of (set_up s ∷ []) h) = at_end s h end one r in
+    record {
+      calls = λ j place m at is from. call_known end k.floors j m.head m.carried is from (each_at (IfCall (CallIn (view k.floors end))) end.sent place m at k.sent.calls);
+      replies = λ j place m at is to.
+          let f : ReplyIn (view k.floors end) (past_of (set_up s ∷ []) h) m = by_client j m.head.to (ReplyIn (view k.floors end) (past_of (set_up s ∷ []) h) m) to (reply_of m.carried _ is (each_at (IfReply (ReplyIn (view k.floors end) (past_of (set_up s ∷ []) h))) end.sent place m at k.sent.replies)) in
+          subst (λ (i : ℕ). IsKnownTo end i m.head) (client_number f.client j (sym f.to ∙ to)) f.fact.behind;
+    }
+
+-- ---- what a client trusts
+
+pub trusted_good : (s : Script) (h : List Entry) (end : Cell) → IsOneServer s → RunsTo h s end → (j : ℕ) → (end.clients j).running ≡ None → (f : Fid) (e : CacheEntry) → find_cached f (end.clients j).cache ≡ Some e → end.clock < e.expiry
+    → GoodRead (Client j) f e.index Cached e.body (past_of (set_up s ∷ []) h) []
+trusted_good s h end one r j none f e found lasts =
+    let k : Holds s end (past_of (set_up s ∷ []) h) = at_end s h end one r in
+    let past : List Entry = past_of (set_up s ∷ []) h in
+    let cur = (k.clients j).current f e found lasts in
+    record {
+      whole = cur.held.whole;
+      not_older = idle_reached j f e.index _ _ (view k.floors end j) past none cur.state;
+      reply = cur.reply;
+      by = cur.by;
+      expiry = e.expiry;
+      grant = cur.held.grant;
+      lasts = subst (λ (t : ℕ). t < e.expiry) (sym k.clock) lasts;
+      kept = cur.held.kept refl;
+      newest = idle_newest j f e.index _ _ (view k.floors end j) past none cur.state;
     }

@@ -1,4 +1,8 @@
 -- Laws about the runs of a script.
+use Rattle.afs_num.specs.declared.histories.ReadSource.TheVariants.{Cached}
+use Rattle.afs_law.specs.ClientRow.{find_cached}
+use Rattle.afs_num.specs.declared.messages.Message.{Message}
+use Rattle.afs_num.specs.declared.types.Node.TheVariants.{Client}
 use Rattle.afs_ideal.specs.Tables.{get}
 use Rattle.afs_ideal.specs.Told.{Agrees}
 use Rattle.afs_ideal.specs.Volumes.{Volume}
@@ -8,13 +12,13 @@ use Rattle.afs_law.specs.Legal.{GoodRead, Legal}
 use Rattle.afs_law.specs.Lines.{Line}
 use Rattle.afs_law.specs.Once.{past_of, ChangesOnce}
 use Rattle.afs_law.specs.OneServer.{IsOneServer}
-use Rattle.afs_law.specs.Past.{lines_of}
-use Rattle.afs_law.specs.Runs.{Leads, start, Input, Entry, Cell, RunsTo}
+use Rattle.afs_law.specs.Past.{HasCode, IsCall, lines_of}
+use Rattle.afs_law.specs.Runs.{message_at, Leads, start, Input, Entry, Cell, RunsTo}
 use Rattle.afs_law.specs.ServerRow.{serves, runs, refuses, not_served, whole}
-use Rattle.afs_law.specs.States.{ServerState}
+use Rattle.afs_law.specs.States.{CacheEntry, ServerState}
 use Rattle.afs_model.specs.FsRows.{call_number}
 use Rattle.afs_num.specs.declared.messages.Carried.TheVariants as carried
-use Rattle.std.specs.Prelude.{None, Some, Option, ◌∷◌, [], ◌≡◌, ◌↔◌, ℕ, List, ◌++◌, false}
+use Rattle.std.specs.Prelude.{◌⊎◌, ◌≤◌, ◌<◌, None, Some, Option, ◌∷◌, [], ◌≡◌, ◌↔◌, ℕ, List, ◌++◌, false}
 use Rattle.afs_num.specs.declared.types.Fid.{Fid}
 use Rattle.afs_num.specs.declared.types.Node.{Node}
 use Rattle.afs_num.specs.declared.scripts.Script.{Script}
@@ -42,6 +46,27 @@ pub record IsHeld (id : ℕ) (end : Cell) (past : List Entry) : Type 0 where
 
 abbrev pub VolumesAreTold : Type 0
 VolumesAreTold = (s : Script) (history : List Entry) (end : Cell) → IsOneServer s → RunsTo history s end → (id : ℕ) → IsHeld id end (past_of (set_up s ∷ []) history)
+
+-- a pair of epoch and number is not above another
+abbrev pub IsUpTo : ℕ → ℕ → ℕ → ℕ → Type 0
+IsUpTo epoch number d m = (epoch < d) ⊎ ((epoch ≡ d) × (number ≤ m))
+
+abbrev pub IsKnownTo : Cell → ℕ → Head → Type 0
+IsKnownTo end j head = IsUpTo head.epoch head.number (end.clients j).epoch (end.clients j).last
+
+-- no call of a client, and no reply to one, has a pair above the client's last call
+pub record ArePairsKnown (end : Cell) : Type 0 where
+  pub calls : (j place : ℕ) (m : Message) → message_at end.sent place ≡ Some m → IsCall m.carried → m.head.from ≡ Client j → IsKnownTo end j m.head
+  pub replies : (j place : ℕ) (m : Message) → message_at end.sent place ≡ Some m → HasCode m.carried → m.head.to ≡ Client j → IsKnownTo end j m.head
+
+abbrev pub PairsAreKnown : Type 0
+PairsAreKnown = (s : Script) (history : List Entry) (end : Cell) → IsOneServer s → RunsTo history s end → ArePairsKnown end
+
+-- what an idle client trusts can be shown: a read of it from the cache would be good
+abbrev pub TrustedIsGood : Type 0
+TrustedIsGood =
+    (s : Script) (history : List Entry) (end : Cell) → IsOneServer s → RunsTo history s end → (j : ℕ) → (end.clients j).running ≡ None → (f : Fid) (e : CacheEntry) → find_cached f (end.clients j).cache ≡ Some e → end.clock < e.expiry
+    → GoodRead (Client j) f e.index Cached e.body (past_of (set_up s ∷ []) history) []
 
 -- a good read shows the newest version where no break of its grant is outstanding
 abbrev pub ReadsAreNewest : Type 0

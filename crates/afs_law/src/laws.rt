@@ -1,6 +1,6 @@
 //! Laws about the runs of a script. Each is the contract of a function that does nothing.
 
-ghost use Rattle.afs_law.specs.Laws.{KeysRunOnce, ReadsAreNewest, RunsAreLegal, RunsAreOne, VolumesAreTold};
+ghost use Rattle.afs_law.specs.Laws.{KeysRunOnce, ReadsAreNewest, RunsAreLegal, RunsAreOne, VolumesAreTold, PairsAreKnown, TrustedIsGood};
 
 /// Every run of a script for one server is legal.
 pub fn runs_are_legal()
@@ -25,4 +25,14 @@ pub fn runs_are_one()
 /// What the server holds of its volumes is what the versions told.
 pub fn volumes_are_told()
     ensures { VolumesAreTold }
+{}
+
+/// No call of a client, and no reply to one, has a pair above its last.
+pub fn pairs_are_known()
+    ensures { PairsAreKnown }
+{}
+
+/// What an idle client trusts can be shown from its cache.
+pub fn trusted_is_good()
+    ensures { TrustedIsGood }
 {}
