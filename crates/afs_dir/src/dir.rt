@@ -1,4 +1,4 @@
-ghost use Rattle.std.specs.Prelude.{◌≡◌, [], IfOk, OnOk, OnErr};
+ghost use Rattle.std.specs.Prelude.{◌≡◌, ◌==◌, [], length, IfOk, Ok, OnOk, OnErr};
 ghost use Rattle.std.specs.Option.{option_map};
 ghost use Rattle.afs_ideal.specs.Directories.{named, with_name, without_name, add_refused, directory_bytes, directory_of};
 ghost use Rattle.afs_dir.specs.Dirs.{Answers, Reads, removal, vnode_named};
@@ -45,6 +45,20 @@ impl Dir {
             alloc,
             names: Vec::new(alloc),
         })
+    }
+
+    /// How many names there are.
+    pub fn len(&self) -> usize
+        ensures { result ≡ length self.now }
+    {
+        self.names.len()
+    }
+
+    /// Whether there are no names.
+    pub fn is_empty(&self) -> bool
+        ensures { result ≡ (length self.now == 0) }
+    {
+        self.names.is_empty()
     }
 
     /// The number and the unique number of the vnode that a name names. It takes no memory.
@@ -111,7 +125,8 @@ impl Dir {
     /// The bytes that spell the directory.
     #[tactic(auto, unfolding(afs_ideal::specs::Directories::directory_bytes))]
     pub fn to_bytes(&self) -> Mem<Octets>
-        ensures { IfOk result (λ bytes. bytes ≡ directory_bytes self.now) }
+        ensures spelled { IfOk result (λ bytes. bytes ≡ directory_bytes self.now) }
+        ensures read { IfOk result (λ bytes. directory_of bytes ≡ Ok self.now) }
     {
         let mut bytes = Writer::new(self.alloc);
         bytes.word(self.names.len() as u32)?;
@@ -122,7 +137,8 @@ impl Dir {
     /// The directory that the bytes spell. Memory is taken once the count is known to be within its limit.
     #[tactic(auto, unfolding(afs_ideal::specs::Directories::directory_of))]
     pub fn from_bytes(alloc: Global, bytes: &[u8]) -> Result<Dir, DirFault>
-        ensures { Reads (directory_of bytes.now) result }
+        ensures read { Reads (directory_of bytes.now) result }
+        ensures spelled { IfOk result (λ d. directory_bytes d ≡ bytes.now) }
     {
         let mut reader = Reader::new(bytes);
         match read_whole(alloc, &mut reader) {

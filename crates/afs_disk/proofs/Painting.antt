@@ -1,7 +1,7 @@
 -- Bytes that are painted over, and what a crash in a write or a cut makes of each image.
 use Rattle.std.proofs.Common.{◌≡◌, ◌≤◌, ◌⊎◌, inl, inr, ⊎_elim, ℕ, zero, suc, ◌+◌, ◌-◌, max, List, [], ◌∷◌, ◌++◌, length, take, drop, replicate, refl, sym, ◌∙◌, ap, arith, length-append, length-drop}
 use Rattle.std.proofs.lemmas.List.{length-take, take_all, take_at, drop_at, drop-drop, length-take-le, take_min, length-replicate}
-use Rattle.afs_model.specs.Disk.{overwritten, Torn, CutShort}
+use Rattle.afs_disk.specs.Disk.{overwritten, Torn, CutShort}
 use Rattle.afs_disk.specs.Images.{paint, painted}
 
 pub length-paint : (v a n : ℕ) (xs : List ℕ) → length (paint v a n xs) ≡ length xs

@@ -1,6 +1,6 @@
 -- How what a crash may leave of a disk in memory goes on.
 use Rattle.std.proofs.Common.{◌≡◌, ◌≤◌, ◌⊎◌, inl, inr, ⊎_elim, ℕ, zero, suc, ◌==◌, Bool, true, false, if◌then◌else◌, List, [], ◌∷◌, ◌++◌, length, take, drop, replicate, refl, sym, ◌∙◌, ap, subst, arith, length-append}
-use Rattle.afs_model.specs.Disk.{overwritten, written_by, cut_by, Torn, CutShort, ComesBy, LeavesJust, Passes}
+use Rattle.afs_disk.specs.Disk.{overwritten, written_by, cut_by, Torn, CutShort, ComesBy, LeavesJust, Passes}
 use Rattle.afs_disk.specs.Images.{Held, MayLeave, image, paint, painted}
 use Rattle.afs_disk.specs.Past.{HadLeft, Since}
 use Rattle.afs_disk.proofs.Painting.{torn_painted, torn_here, torn_same, torn_written, painted-push, painted-take, painted-overwritten, cut_same, cut_front}

@@ -4,7 +4,7 @@ use Rattle.std.proofs.lemmas.List.{length-take, length-take-le, take_all, drop_a
 use Rattle.std.proofs.lemmas.Bool.{cases_lt}
 use Rattle.afs_disk.specs.declared.medium.Span.{Span}
 use Rattle.afs_disk.specs.Spans.{Fit, unwound}
-use Rattle.afs_model.specs.Disk.{overwritten}
+use Rattle.afs_disk.specs.Disk.{overwritten}
 use Rattle.afs_disk.proofs.Painting.{length-overwritten}
 
 -- one write more, and what it wrote over

@@ -1,6 +1,6 @@
 -- A disk over a file, which tells nothing but lengths and counts.
 use Rattle.std.specs.Prelude.{◌≡◌, ℕ, ◌-◌, List, None, Some}
-use Rattle.afs_model.specs.Disk.{Room}
+use Rattle.afs_disk.specs.Disk.{Room}
 use Rattle.afs_disk.specs.Fuses.{last_count}
 
 pub record Filed : Type 0 where

@@ -1,6 +1,6 @@
 -- A disk behind a fuse.
 use Rattle.std.specs.Prelude.{ℕ, ◌+◌, ◌-◌, ◌^◌, min, Option, Some}
-use Rattle.afs_model.specs.Disk.{Room}
+use Rattle.afs_disk.specs.Disk.{Room}
 
 -- A disk, how many device calls came to it, where they stop and fail, and how often they were stopped or failed by that.
 pub record Fused (D : Type 0) : Type 0 where

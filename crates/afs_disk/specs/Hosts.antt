@@ -1,7 +1,7 @@
 -- A disk in memory or in a file.
 use Rattle.std.specs.Prelude.{◌≡◌, ◌≤◌, ℕ, List, length, Option, Some, None}
 use Rattle.std.proofs.Common.{inl, refl}
-use Rattle.afs_model.specs.Disk.{Room, Setting}
+use Rattle.afs_disk.specs.Disk.{Room, Setting}
 use Rattle.afs_disk.specs.declared.host.HostDisk.{HostDisk}
 use Rattle.afs_disk.specs.declared.host.HostDisk.TheVariants.{Memory, File}
 use Rattle.afs_disk.specs.Files.{filed_room, untold}

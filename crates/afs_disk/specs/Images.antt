@@ -1,6 +1,6 @@
 -- What a crash may leave of bytes in memory: four images.
 use Rattle.std.specs.Prelude.{◌≡◌, ℕ, zero, suc, ◌==◌, if◌then◌else◌, List, [], ◌∷◌}
-use Rattle.afs_model.specs.Disk.{Room}
+use Rattle.afs_disk.specs.Disk.{Room}
 
 -- Bytes in memory: those of the last sync, those that a read gives, the place and number of bytes of each write since, and
 -- the room.

@@ -1,4 +1,5 @@
 pub mod Banks
+pub mod Disk
 pub mod Files
 pub mod Fuses
 pub mod Hosts

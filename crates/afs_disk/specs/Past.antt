@@ -1,7 +1,7 @@
 -- A disk in memory, with all that a crash might have left of it since it was made.
 use Rattle.std.specs.Prelude.{◌≡◌, ◌≤◌, ◌⊎◌, ◌↔◌, ℕ, ◌+◌, ◌-◌, min, Some, List, [], ◌∷◌, length, drop, slice_get, Result, IsErr, OnOk, OnErr}
 use Rattle.std.proofs.Common.{inl, inr, ap}
-use Rattle.afs_model.specs.Disk.{Room}
+use Rattle.afs_disk.specs.Disk.{Room}
 use Rattle.afs_disk.specs.Fuses.{last_count}
 use Rattle.afs_disk.specs.Images.{Held, MayLeave, image}
 

@@ -1,7 +1,7 @@
 -- How what was written over since the last sync is put back.
 use Rattle.std.specs.Prelude.{◌≡◌, ◌≤◌, ℕ, ◌+◌, ◌-◌, List, [], ◌∷◌, take, drop, map}
 use Rattle.afs_disk.specs.declared.medium.Span.{Span}
-use Rattle.afs_model.specs.Disk.{overwritten}
+use Rattle.afs_disk.specs.Disk.{overwritten}
 
 -- the bytes as they were before these writes, the oldest first: what each wrote over stands in the saved bytes
 abbrev pub unwound : List Span → List ℕ → List ℕ → List ℕ

@@ -3,7 +3,7 @@ ghost use Rattle.std.specs.Prelude.{◌≡◌, ◌≤◌, ◌<◌, ◌++◌, ◌
 ghost use Rattle.afs_disk.specs.Banks.{GivesBack};
 ghost use Rattle.afs_disk.specs.declared.bank.Lend.{Lend};
 ghost use Rattle.afs_disk.specs.declared.bank.LendFault.TheVariants.{Failed as LendFailed, OutOfMemory};
-ghost use Rattle.afs_model.specs.Disk.{Rose};
+ghost use Rattle.afs_disk.specs.Disk.{Rose};
 
 use crate::disk::Disk;
 use afs_num::devices::Failed;

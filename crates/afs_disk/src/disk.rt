@@ -1,6 +1,6 @@
 // A disk as the journals see it: what a read gives, what a crash may leave, and what room it has.
 ghost use Rattle.std.specs.Prelude.{◌≡◌, ◌≤◌, ◌+◌, ◌-◌, List, ℕ, Option, Some, length, take, drop, min, max, IfOk, OnOk, IfSome, IsSome, IsOk, option_map, ◌↔◌};
-ghost use Rattle.afs_model.specs.Disk.{overwritten, written_by, cut_by, Torn, CutShort, ComesBy, LeavesJust, Passes, Ran, Trips, Setting, Room, Holds, Takes, NoSmaller, GivesBytes, SameDisk, Untouched};
+ghost use Rattle.afs_disk.specs.Disk.{overwritten, written_by, cut_by, Torn, CutShort, ComesBy, LeavesJust, Passes, Ran, Trips, Setting, Room, Holds, Takes, NoSmaller, GivesBytes, SameDisk, Untouched};
 
 use afs_num::devices::Failed;
 use afs_num::types::Mem;

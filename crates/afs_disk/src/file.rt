@@ -3,7 +3,7 @@ ghost use Rattle.std.specs.Prelude.{◌≡◌, ◌<◌, ◌≤◌, ◌+◌, ◌-
 ghost use Rattle.std.proofs.Common.{refl};
 ghost use Rattle.afs_disk.specs.Files.{filed_room, untold};
 ghost use Rattle.afs_disk.specs.Fuses.{last_count};
-ghost use Rattle.afs_model.specs.Disk.{Rose};
+ghost use Rattle.afs_disk.specs.Disk.{Rose};
 
 use crate::disk::Disk;
 use afs_num::devices::Failed;

@@ -1,7 +1,7 @@
 // A disk that can be set to stop or to fail at a device call.
 ghost use Rattle.std.specs.Prelude.{◌≡◌, ◌<◌, ◌+◌, ◌-◌, ◌↔◌, None, min, IsTrue, OnOk, OnErr};
 ghost use Rattle.afs_disk.specs.Fuses.{armed, failing, fused_room, last_count};
-ghost use Rattle.afs_model.specs.Disk.{IsBeyond, Trips};
+ghost use Rattle.afs_disk.specs.Disk.{IsBeyond, Trips};
 
 use crate::disk::Disk;
 use afs_num::devices::Failed;

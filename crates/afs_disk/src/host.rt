@@ -1,6 +1,6 @@
 // The program's disks: in memory, or files of a folder.
 ghost use Rattle.std.specs.Prelude.{◌≡◌, ◌≤◌, None, IfOk};
-ghost use Rattle.afs_model.specs.Disk.{Rose};
+ghost use Rattle.afs_disk.specs.Disk.{Rose};
 ghost use Rattle.afs_disk.specs.Hosts.{host_calls, host_counts, host_faults, host_just, host_leaves, host_left_by, host_limit, host_measures, host_moment, host_picked, host_seen, host_setting, host_shows, host_since, host_size, host_space};
 
 use crate::bank::{Bank, LendFault, Place};

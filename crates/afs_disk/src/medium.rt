@@ -1,7 +1,7 @@
 // Bytes in memory, which keep what they wrote over until the next sync.
 ghost use Rattle.std.specs.Prelude.{◌≡◌, ◌≤◌, ◌<◌, ◌+◌, ◌-◌, ◌++◌, [], ◌∷◌, length, take, OnOk, IsOk};
 ghost use Rattle.std.specs.Vec.{vec_capacity};
-ghost use Rattle.afs_model.specs.Disk.{overwritten, Holds, NoSmaller, Takes};
+ghost use Rattle.afs_disk.specs.Disk.{overwritten, Holds, NoSmaller, Takes};
 ghost use Rattle.afs_disk.specs.Images.{image, paint, painted};
 ghost use Rattle.afs_disk.specs.Spans.{Fit, ranges, unwound};
 

@@ -4,7 +4,7 @@ ghost use Rattle.afs_disk.specs.Fuses.{last_count};
 ghost use Rattle.afs_disk.specs.Images.{MayLeave, image};
 ghost use Rattle.afs_disk.specs.Past.{Planned, Since, measured, memory_room, only_now, picked_leaves};
 ghost use Rattle.std.proofs.Common.{inl, refl};
-ghost use Rattle.afs_model.specs.Disk.{overwritten, written_by, cut_by, ComesBy, CutShort, Holds, NoSmaller, Passes, Ran, Rose, Takes, Torn};
+ghost use Rattle.afs_disk.specs.Disk.{overwritten, written_by, cut_by, ComesBy, CutShort, Holds, NoSmaller, Passes, Ran, Rose, Takes, Torn};
 
 use crate::disk::Disk;
 use crate::medium::Medium;

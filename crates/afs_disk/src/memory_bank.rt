@@ -1,7 +1,7 @@
 // A bank in memory.
 ghost use Rattle.std.specs.Prelude.{◌≡◌, ◌<◌, ◌≤◌, ◌+◌, ◌++◌, ◌∷◌, [], Some, length, map, min, slice_get, get_or, IsErr, IsErrOf, IfOk, OnOk, OnErr, ◌↔◌};
 ghost use Rattle.afs_disk.specs.Fuses.{last_count};
-ghost use Rattle.afs_model.specs.Disk.{Rose};
+ghost use Rattle.afs_disk.specs.Disk.{Rose};
 
 use crate::bank::{Bank, Lend, LendFault, Place};
 use crate::memory::MemDisk;

@@ -1,3 +1,4 @@
+use crate::tearing::Tearing;
 use afs_disk::{Disk, Fuse, MemDisk};
 use afs_journal::Journal;
 use afs_num::faults::JournalFault;
@@ -91,6 +92,52 @@ fn a_stop_at_each_call_of_an_append(rt: HostRuntime) -> Result<(), Fail> {
     Ok(())
 }
 
+// What a crash leaves where the record `a` wasn't synced: behind a gate, the whole record `b`, and a gate.
+const OTHER: [u8; 10] = [0, 0, 0, 1, 0, 0, 0, 1, 98, 0];
+
+#[test]
+fn a_crash_leaves_no_record_that_nobody_appended(rt: HostRuntime) -> Result<(), Fail> {
+    let alloc = rt.alloc();
+    for passes in 0..5 {
+        let disk = Tearing::new(disk_of(alloc, &[0])?, Octets::from_slice(alloc, &OTHER)?);
+        let mut journal = attach(alloc, Fuse::new(disk)).map_err(|e| e.0)?;
+        journal.arm(passes);
+        let answer = journal.append(b"a");
+        assert_eq!(rt; answer.is_ok(), passes == 4);
+        let disk = journal.into_disk().into_inner().left()?;
+        // The gate is written by the third call.
+        if passes < 3 {
+            holds(&rt, alloc, disk, &[])?;
+        } else {
+            holds(&rt, alloc, disk, &[b"a"])?;
+        }
+    }
+    Ok(())
+}
+
+#[test]
+fn a_new_journal_is_a_closed_gate(rt: HostRuntime) -> Result<(), Fail> {
+    let alloc = rt.alloc();
+    let journal = attach(alloc, empty(alloc, 100)).map_err(|e| e.0)?;
+    assert_eq!(rt; journal.into_disk().bytes(), [0].as_slice());
+    Ok(())
+}
+
+#[test]
+fn a_journal_at_rest_is_synced_and_read(rt: HostRuntime) -> Result<(), Fail> {
+    let alloc = rt.alloc();
+    let at_rest: [&[u8]; 2] = [&[0], &ONE];
+    for bytes in at_rest {
+        // Two calls made the disk.
+        let disk = disk_of(alloc, bytes)?;
+        assert_eq!(rt; disk.calls(), 2);
+        let disk = attach(alloc, disk).map_err(|e| e.0)?.into_disk();
+        assert_eq!(rt; disk.calls(), 4);
+        assert_eq!(rt; disk.bytes(), bytes);
+    }
+    Ok(())
+}
+
 // The first record, and behind it what a torn write may have left: an open gate, and a record cut short.
 const TORN: [u8; 16] = [1, 0, 0, 0, 2, 0, 0, 0, 1, 97, 98, 1, 0, 0, 0, 9];
 
@@ -102,6 +149,15 @@ fn refused(
         Ok(_journal) => Err("it takes six device calls".into()),
         Err(refusal) => Ok(refusal),
     }
+}
+
+#[test]
+fn what_lies_behind_the_last_gate_is_cut_off(rt: HostRuntime) -> Result<(), Fail> {
+    let alloc = rt.alloc();
+    let journal = attach(alloc, disk_of(alloc, &TORN)?).map_err(|e| e.0)?;
+    assert_eq!(rt; journal.len(), 12);
+    assert_eq!(rt; journal.into_disk().bytes(), ONE.as_slice());
+    Ok(())
 }
 
 #[test]

@@ -7,3 +7,5 @@ mod disks;
 mod files;
 #[cfg(test)]
 mod journals;
+#[cfg(test)]
+mod tearing;

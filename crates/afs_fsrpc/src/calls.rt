@@ -6,7 +6,8 @@ ghost use Rattle.afs_num.specs.declared.types.Head.{Head};
 ghost use Rattle.afs_num.specs.declared.calls.FsCall.{FsCall};
 ghost use Rattle.afs_model.specs.Heads.{user_limit};
 ghost use Rattle.afs_model.specs.Rpc.{spelled_call, SpellsCall, ReadsCall, IsValueOrNoMemory, IsHeadFor};
-ghost use Rattle.afs_model.specs.FsRows.{fs_calls, call_rows, call_number, call_fields, HasRow};
+ghost use Rattle.afs_model.specs.FsRows.{fs_calls, call_number};
+ghost use Rattle.afs_shape.specs.Rows.{IsWithin};
 
 use crate::tables::FsCalls;
 use afs_num::calls::FsCall;
@@ -32,7 +33,7 @@ pub fn decode_call(alloc: Global, bytes: &[u8]) -> Result<(Head, Octets, FsCall)
 /// The one spelling of a call.
 pub fn encode_call(alloc: Global, head: &Head, user: &[u8], call: &FsCall) -> Mem<Octets>
     requires user { length user.now ≤ user_limit }
-    requires row { HasRow call_rows (call_number call.now) (call_fields call.now) }
+    requires row { IsWithin fs_calls call.now }
     ensures spelled { IfOk result (λ bytes. bytes ≡ spelled_call fs_calls head.now user.now call.now) }
     // Under a header of its own it is the call, and `decode_call` gives it back.
     ensures spells { IsHeadFor halves.Call (call_number call.now) head.now → IfOk result (SpellsCall fs_calls head.now user.now call.now) }

@@ -6,6 +6,5 @@
 pub mod calls;
 pub mod heads;
 pub mod laws;
-pub mod messages;
 pub mod replies;
 pub mod tables;

@@ -110,8 +110,7 @@ impl Messages for FsCalls {
         Ok(Shape { kinds: shape.kinds })
     }
 
-    #[tactic(auto, unfolding(afs_shape::specs::Rows::made_behind, afs_shape::specs::Rows::made_at_end))]
-    fn from_fields(opcode: u32, mut fields: Taking) -> Option<FsCall> {
+    fn from_fields(opcode: u32, fields: Taking) -> Option<FsCall> {
         with_calls!(message_from(opcode, fields, FsCall))
     }
 
@@ -136,8 +135,7 @@ impl Messages for FsReplies {
         Ok(Shape { kinds: shape.kinds })
     }
 
-    #[tactic(auto, unfolding(afs_shape::specs::Rows::made_behind, afs_shape::specs::Rows::made_at_end))]
-    fn from_fields(opcode: u32, mut fields: Taking) -> Option<FsReply> {
+    fn from_fields(opcode: u32, fields: Taking) -> Option<FsReply> {
         with_replies!(message_from(opcode, fields, FsReply))
     }
 

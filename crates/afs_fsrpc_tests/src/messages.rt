@@ -1,6 +1,6 @@
-//! Messages as words, with where their fields end, their pads and their counts stand; the samples and vectors were
-//! made by another program.
+//! Messages of the file servers and clients as words; the samples and vectors were made by another program.
 
+use crate::samples::{Interface, Sample, bytes_of, changed, fault_of, refuses_all};
 use afs_fsrpc::calls::{decode_call, encode_call};
 use afs_fsrpc::heads::read_head;
 use afs_fsrpc::replies::{decode_reply, encode_reply};
@@ -10,17 +10,7 @@ use afs_num::types::{Code, Fid, Half, Head, Node};
 use afs_shape::faults::ShapeFault;
 use afs_xdr::faults::XdrFault;
 use std::alloc::Global;
-use std::process::Abort;
 use std::test::Fail;
-
-/// A message: its words, the byte behind each field from place 0 on, its pad bytes with their fields, and its counts
-/// (the word, the field, the limit).
-struct Sample {
-    words: &'static [u32],
-    ends: &'static [usize],
-    pads: &'static [(usize, u32)],
-    counts: &'static [(usize, u32, u32)],
-}
 
 const CALL_SAMPLES: &[Sample] = &[
     Sample {
@@ -369,108 +359,6 @@ const REPLY_SAMPLES: &[Sample] = &[
     },
 ];
 
-fn bytes_of(alloc: Global, words: &[u32]) -> Result<Vec<u8>, Fail> {
-    let mut bytes = Vec::new(alloc);
-    for word in words {
-        bytes.extend_from_slice(&word.to_be_bytes())?;
-    }
-    Ok(bytes)
-}
-
-fn fault_of(alloc: Global, half: Half, bytes: &[u8]) -> Option<ShapeFault> {
-    match half {
-        Half::Call => decode_call(alloc, bytes).err(),
-        _ => decode_reply(alloc, bytes).err(),
-    }
-}
-
-/// The field that a message is cut in, where it keeps so many bytes.
-fn place_of(ends: &[usize], kept: usize) -> u32 {
-    let mut place = 0u32;
-    for end in ends {
-        if *end <= kept {
-            place = place.saturating_add(1);
-        }
-    }
-    place
-}
-
-/// The words, with one of them changed.
-fn changed(alloc: Global, words: &[u32], at: usize, word: u32) -> Result<Vec<u32>, Fail> {
-    let mut all = Vec::from_slice(alloc, words)?;
-    if at < all.len() {
-        all[at] = word;
-    }
-    Ok(all)
-}
-
-fn refuses_each_cut(
-    rt: &impl Abort,
-    alloc: Global,
-    half: Half,
-    sample: &Sample,
-) -> Result<(), Fail> {
-    let bytes = bytes_of(alloc, sample.words)?;
-    for kept in 0..bytes.len() {
-        let fault = fault_of(alloc, half, &bytes[..kept]);
-        if kept < 32 {
-            assert_eq!(rt; fault, Some(ShapeFault::Head(XdrFault::Short)));
-        } else {
-            let place = place_of(sample.ends, kept);
-            assert_eq!(rt; fault, Some(ShapeFault::Field(place, XdrFault::Short)));
-        }
-    }
-    Ok(())
-}
-
-fn refuses_each_pad(
-    rt: &impl Abort,
-    alloc: Global,
-    half: Half,
-    sample: &Sample,
-) -> Result<(), Fail> {
-    for (at, place) in sample.pads {
-        let mut bytes = bytes_of(alloc, sample.words)?;
-        if *at < bytes.len() {
-            bytes[*at] = 1;
-        }
-        let fault = fault_of(alloc, half, &bytes);
-        assert_eq!(rt; fault, Some(ShapeFault::Field(*place, XdrFault::BadPad)));
-    }
-    Ok(())
-}
-
-fn refuses_each_count(
-    rt: &impl Abort,
-    alloc: Global,
-    half: Half,
-    sample: &Sample,
-) -> Result<(), Fail> {
-    for (at, place, limit) in sample.counts {
-        let words = changed(alloc, sample.words, *at, limit.saturating_add(1))?;
-        let bytes = bytes_of(alloc, &words)?;
-        let fault = fault_of(alloc, half, &bytes);
-        assert_eq!(rt; fault, Some(ShapeFault::Field(*place, XdrFault::TooLong)));
-    }
-    Ok(())
-}
-
-fn refuses_more(rt: &impl Abort, alloc: Global, half: Half, sample: &Sample) -> Result<(), Fail> {
-    let mut bytes = bytes_of(alloc, sample.words)?;
-    let place = place_of(sample.ends, bytes.len());
-    bytes.extend_from_slice(&[0, 0, 0, 0])?;
-    let fault = fault_of(alloc, half, &bytes);
-    assert_eq!(rt; fault, Some(ShapeFault::Field(place, XdrFault::Extra)));
-    Ok(())
-}
-
-fn refuses_all(rt: &impl Abort, alloc: Global, half: Half, sample: &Sample) -> Result<(), Fail> {
-    refuses_each_cut(rt, alloc, half, sample)?;
-    refuses_each_pad(rt, alloc, half, sample)?;
-    refuses_each_count(rt, alloc, half, sample)?;
-    refuses_more(rt, alloc, half, sample)
-}
-
 fn call_again(alloc: Global, bytes: &[u8]) -> Result<Octets, Fail> {
     let (head, user, call) = decode_call(alloc, bytes)?;
     let again = encode_call(alloc, &head, user.as_slice(), &call)?;
@@ -506,7 +394,7 @@ fn each_reply_is_read_and_written_again(rt: HostRuntime) -> Result<(), Fail> {
 #[test]
 fn a_changed_call_is_refused_with_its_fault(rt: HostRuntime) -> Result<(), Fail> {
     for sample in CALL_SAMPLES {
-        refuses_all(&rt, rt.alloc(), Half::Call, sample)?;
+        refuses_all(&rt, rt.alloc(), Interface::Files, Half::Call, sample)?;
     }
     Ok(())
 }
@@ -514,7 +402,7 @@ fn a_changed_call_is_refused_with_its_fault(rt: HostRuntime) -> Result<(), Fail>
 #[test]
 fn a_changed_reply_is_refused_with_its_fault(rt: HostRuntime) -> Result<(), Fail> {
     for sample in REPLY_SAMPLES {
-        refuses_all(&rt, rt.alloc(), Half::Reply, sample)?;
+        refuses_all(&rt, rt.alloc(), Interface::Files, Half::Reply, sample)?;
     }
     Ok(())
 }
@@ -557,23 +445,23 @@ fn an_open_is_refused_with_its_fault(rt: HostRuntime) -> Result<(), Fail> {
     let bytes = bytes_of(rt.alloc(), OPEN)?;
     let short = bytes.len().saturating_sub(1);
     if short <= bytes.len() {
-        let fault = fault_of(rt.alloc(), Half::Call, &bytes[..short]);
+        let fault = fault_of(rt.alloc(), Interface::Files, Half::Call, &bytes[..short]);
         assert_eq!(rt; fault, Some(ShapeFault::Field(3, XdrFault::Short)));
     }
     let unknown = bytes_of(rt.alloc(), &changed(rt.alloc(), OPEN, 7, 161)?)?;
-    let fault = fault_of(rt.alloc(), Half::Call, &unknown);
+    let fault = fault_of(rt.alloc(), Interface::Files, Half::Call, &unknown);
     assert_eq!(rt; fault, Some(ShapeFault::NoRow(161)));
     let padded = bytes_of(rt.alloc(), &changed(rt.alloc(), OPEN, 10, 0x74000001)?)?;
-    let fault = fault_of(rt.alloc(), Half::Call, &padded);
+    let fault = fault_of(rt.alloc(), Interface::Files, Half::Call, &padded);
     assert_eq!(rt; fault, Some(ShapeFault::Field(0, XdrFault::BadPad)));
     let half = bytes_of(rt.alloc(), &changed(rt.alloc(), OPEN, 0, 9)?)?;
     assert_eq!(rt; read_head(&half), Err(XdrFault::BadHead));
     let node = bytes_of(rt.alloc(), &changed(rt.alloc(), OPEN, 1, 117)?)?;
     assert_eq!(rt; read_head(&node), Err(XdrFault::BadHead));
-    let fault = fault_of(rt.alloc(), Half::Reply, &bytes);
+    let fault = fault_of(rt.alloc(), Interface::Files, Half::Reply, &bytes);
     assert_eq!(rt; fault, Some(ShapeFault::Head(XdrFault::BadHead)));
     let lock = bytes_of(rt.alloc(), &changed(rt.alloc(), OPEN, 7, 143)?)?;
-    let fault = fault_of(rt.alloc(), Half::Call, &lock);
+    let fault = fault_of(rt.alloc(), Interface::Files, Half::Call, &lock);
     assert_eq!(rt; fault, Some(ShapeFault::NoRow(143)));
     Ok(())
 }
@@ -636,7 +524,7 @@ fn a_refusal_has_no_fields(rt: HostRuntime) -> Result<(), Fail> {
     assert_eq!(rt; code, Code(-1));
     assert!(rt; reply.is_none());
     let more = bytes_of(rt.alloc(), &[2, 1, 101, 1, 1, 1, 0, 133, 0xffffffff, 0])?;
-    let fault = fault_of(rt.alloc(), Half::Reply, &more);
+    let fault = fault_of(rt.alloc(), Interface::Files, Half::Reply, &more);
     assert_eq!(rt; fault, Some(ShapeFault::Field(1, XdrFault::Extra)));
     Ok(())
 }
@@ -654,19 +542,19 @@ const STORE: &[u32] = &[
 #[test]
 fn hostile_counts_are_refused(rt: HostRuntime) -> Result<(), Fail> {
     let many = bytes_of(rt.alloc(), BREAK)?;
-    let fault = fault_of(rt.alloc(), Half::Call, &many);
+    let fault = fault_of(rt.alloc(), Interface::Files, Half::Call, &many);
     assert_eq!(rt; fault, Some(ShapeFault::Field(1, XdrFault::TooLong)));
     let most = bytes_of(rt.alloc(), &changed(rt.alloc(), BREAK, 9, u32::MAX)?)?;
-    let fault = fault_of(rt.alloc(), Half::Call, &most);
+    let fault = fault_of(rt.alloc(), Interface::Files, Half::Call, &most);
     assert_eq!(rt; fault, Some(ShapeFault::Field(1, XdrFault::TooLong)));
     let fifty = bytes_of(rt.alloc(), &changed(rt.alloc(), BREAK, 9, 50)?)?;
-    let fault = fault_of(rt.alloc(), Half::Call, &fifty);
+    let fault = fault_of(rt.alloc(), Interface::Files, Half::Call, &fifty);
     assert_eq!(rt; fault, Some(ShapeFault::Field(1, XdrFault::Short)));
     let long = bytes_of(rt.alloc(), LONG_ACL)?;
-    let fault = fault_of(rt.alloc(), Half::Reply, &long);
+    let fault = fault_of(rt.alloc(), Interface::Files, Half::Reply, &long);
     assert_eq!(rt; fault, Some(ShapeFault::Field(1, XdrFault::TooLong)));
     let large = bytes_of(rt.alloc(), STORE)?;
-    let fault = fault_of(rt.alloc(), Half::Call, &large);
+    let fault = fault_of(rt.alloc(), Interface::Files, Half::Call, &large);
     assert_eq!(rt; fault, Some(ShapeFault::Field(6, XdrFault::Short)));
     Ok(())
 }

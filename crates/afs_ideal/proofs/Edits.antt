@@ -1,6 +1,6 @@
 -- Edits: what a list of edits tells is what it makes.
-use Rattle.std.proofs.Common.{◌≡◌, ℕ, ◌+◌, ◌<◌, ◌≤◌, ◌⊎◌, inl, inr, Bool, true, false, cond, eqb, ltb, not, List, [], ◌∷◌, ◌++◌, Option, Some, None, refl, sym, ap, subst, ◌∙◌, arith, eq-eqb, eqb-true, ltb-true, ltb-false}
-use Rattle.std.specs.Prelude.{filter, ◌&&◌, ⊤}
+use Rattle.std.proofs.Common.{◌≡◌, ℕ, ◌+◌, ◌<◌, ◌≤◌, ◌⊎◌, inl, inr, Bool, true, false, cond, eqb, List, [], ◌∷◌, ◌++◌, Option, Some, None, refl, sym, ap, subst, ◌∙◌, arith, eq-eqb, eqb-true}
+use Rattle.std.specs.Prelude.{◌&&◌}
 use Rattle.std.specs.Option.{option_map}
 use Rattle.afs_num.specs.Fids.{same_fid}
 use Rattle.afs_num.specs.declared.types.Fid.{Fid}
@@ -8,13 +8,13 @@ use Rattle.afs_num.specs.declared.directories.Name.{Name}
 use Rattle.afs_num.specs.declared.histories.Body.{Body}
 use Rattle.afs_num.specs.declared.histories.Body.TheVariants as bodies
 use Rattle.afs_num.specs.declared.histories.Version.{Version}
-use Rattle.afs_ideal.specs.Tables.{Table, get, set, unset, AscendsFrom}
+use Rattle.afs_ideal.specs.Tables.{Table, get, AscendsFrom}
 use Rattle.afs_ideal.specs.SetUp.{first_versions}
-use Rattle.afs_ideal.specs.Volumes.{Kind, a_file, a_directory, a_link, Vnode, Volume, Edit, amends, makes, frees, Amend, amended, fresh, version_at, gone_at, if_unique, Edited, amends_at, makes_at, frees_at, edited, edited_all, versions_by, body_by, counted}
+use Rattle.afs_ideal.specs.Volumes.{Kind, a_file, a_directory, a_link, Vnode, Volume, Edit, amends, makes, frees, Amend, amended, fresh, version_at, gone_at, if_unique, amends_at, makes_at, frees_at, edited, edited_all, versions_by, body_by, counted}
 use Rattle.afs_ideal.specs.ChangeLaws.{IsUnseen}
 use Rattle.afs_ideal.specs.Told.{last_told, IsTold, on_top, touches, fid_at, live_by, live, Agrees, RaisesData, Follows, AreNext}
 use Rattle.afs_ideal.proofs.Tables.{get_below, get_set, get_unset}
-use Rattle.afs_ideal.proofs.Basics.{yes_no, same_fid-true, same_fid-refl, apart, some_of}
+use Rattle.afs_ideal.proofs.Basics.{same_fid-true, apart}
 
 -- ---- versions on older ones
 

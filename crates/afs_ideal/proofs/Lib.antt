@@ -11,4 +11,15 @@ pub mod Maps
 pub mod Ranks
 pub mod Steps
 pub mod Looks
+pub mod Kept
+pub mod Comes
+pub mod Goes
+pub mod Moves
+pub mod Preserved
+pub mod Laid
+pub mod Images
 pub mod Operated
+pub mod Limits
+pub mod Made
+pub mod Unsound
+pub mod LaidRows

@@ -1,9 +1,9 @@
 -- What a volume holds after edits of different vnodes: at each number what its one edit makes there.
-use Rattle.std.proofs.Common.{◌≡◌, ℕ, ◌+◌, ◌<◌, ◌≤◌, Bool, true, false, cond, eqb, ltb, not, List, [], ◌∷◌, Option, Some, None, refl, sym, ap, subst, ◌∙◌, arith, eq-eqb, eqb-true, ltb-true, ltb-false}
-use Rattle.std.specs.Prelude.{nat_lt, nat_eq, ⊤, if◌then◌else◌}
+use Rattle.std.proofs.Common.{◌≡◌, ℕ, ◌+◌, ◌<◌, ◌≤◌, Bool, true, false, cond, eqb, ltb, List, [], ◌∷◌, Option, Some, None, refl, sym, ap, subst, ◌∙◌, arith, eqb-true, ltb-true, ltb-false}
+use Rattle.std.specs.Prelude.{nat_lt, ⊤, if◌then◌else◌}
 use Rattle.std.specs.List.{AllByRecursion}
 use Rattle.std.specs.Option.{option_map}
-use Rattle.afs_ideal.specs.Tables.{Table, get, set, unset, AscendsFrom}
+use Rattle.afs_ideal.specs.Tables.{Table, get, AscendsFrom}
 use Rattle.afs_ideal.specs.Volumes.{Vnode, Volume, Amend, Edit, amends, makes, frees, amended, fresh, amends_at, makes_at, frees_at, edited, edited_all, edit_number, placed, ascending}
 use Rattle.afs_ideal.proofs.Tables.{get_set, get_unset, get_below, ascends_set, ascends_unset}
 
@@ -23,9 +23,9 @@ same_at : (b : Bool) (n m : ℕ) (v : Volume) (o : Option Vnode) → eqb n m ≡
 same_at true n m v o e is = sym is ∙ ap (λ (k : ℕ). get k v.vnodes) (eqb-true n m e)
 same_at false n m v o e is = refl
 
-amends_look : (id n m c : ℕ) (a : Amend) (v : Volume) (o : Option Vnode) → get n v.vnodes ≡ o → get m (amends_at id n a v o).volume.vnodes ≡ cond (eqb n m) (option_map (amended (v.counter + 1) a) o) (get m v.vnodes)
-amends_look id n m c a v None e = sym (same_at (eqb n m) n m v None refl e)
-amends_look id n m c a v (Some x) e = get_set m n (amended (v.counter + 1) a x) v.vnodes
+amends_look : (id n m : ℕ) (a : Amend) (v : Volume) (o : Option Vnode) → get n v.vnodes ≡ o → get m (amends_at id n a v o).volume.vnodes ≡ cond (eqb n m) (option_map (amended (v.counter + 1) a) o) (get m v.vnodes)
+amends_look id n m a v None e = sym (same_at (eqb n m) n m v None refl e)
+amends_look id n m a v (Some x) e = get_set m n (amended (v.counter + 1) a x) v.vnodes
 
 makes_look : (id n m : ℕ) (x : Vnode) (v : Volume) (o : Option Vnode) → get n v.vnodes ≡ o → get m (makes_at id n x v o).volume.vnodes ≡ cond (eqb n m) (one_edit (v.counter + 1) v.next (makes n x) o) (get m v.vnodes)
 makes_look id n m x v None e = get_set m n (fresh (v.counter + 1) v.next x) v.vnodes
@@ -41,7 +41,7 @@ at_number true n m f v e = ap (λ (k : ℕ). f (get k v.vnodes)) (eqb-true n m e
 at_number false n m f v e = refl
 
 edit_look : (id m : ℕ) (e : Edit) (v : Volume) → get m (edited id e v).volume.vnodes ≡ cond (eqb (edit_number e) m) (one_edit (v.counter + 1) v.next e (get m v.vnodes)) (get m v.vnodes)
-edit_look id m (amends n a) v = amends_look id n m 0 a v (get n v.vnodes) refl ∙ at_number (eqb n m) n m (option_map (amended (v.counter + 1) a)) v refl
+edit_look id m (amends n a) v = amends_look id n m a v (get n v.vnodes) refl ∙ at_number (eqb n m) n m (option_map (amended (v.counter + 1) a)) v refl
 edit_look id m (makes n x) v = makes_look id n m x v (get n v.vnodes) refl ∙ at_number (eqb n m) n m (one_edit (v.counter + 1) v.next (makes n x)) v refl
 edit_look id m (frees n) v = frees_look id n m v (get n v.vnodes) refl
 

@@ -1,15 +1,14 @@
 -- Sound volumes, step by step: a volume is seen as a map from numbers, and while one vnode is taken out of a directory or put in
 -- one, everything else stays sound.
-use Rattle.std.proofs.Common.{◌≡◌, ℕ, zero, suc, ◌+◌, ◌<◌, ◌≤◌, ◌⊎◌, inl, inr, Bool, true, false, cond, eqb, not, List, [], ◌∷◌, length, Option, Some, None, refl, sym, ap, subst, ◌∙◌, arith, eq-eqb, eqb-true}
-use Rattle.std.specs.Prelude.{filter, ◌&&◌, ◌↔◌, ◌%◌, ⊤}
+use Rattle.std.proofs.Common.{◌≡◌, ℕ, ◌+◌, ◌<◌, ◌≤◌, ◌⊎◌, inl, inr, Bool, true, false, cond, eqb, List, [], ◌∷◌, Option, Some, None, refl, sym, ap, subst, ◌∙◌, arith, eq-eqb, eqb-true}
+use Rattle.std.specs.Prelude.{⊤}
 use Rattle.std.specs.List.{AllByRecursion}
 use Rattle.afs_num.specs.declared.directories.Name.{Name}
 use Rattle.afs_ideal.specs.Volumes.{Kind, a_file, a_directory, a_link, Vnode}
-use Rattle.afs_num.specs.declared.acls.AccessList.{AccessList}
 use Rattle.afs_ideal.specs.AccessLists.{IsAccessList}
 use Rattle.afs_ideal.specs.Directories.{IsDirectory}
-use Rattle.afs_ideal.specs.Soundness.{subdirectories, names_it, names_of, IsHeldBy, GivesHeld, KindFits, HasNames, IsNamedIn, HasByKind, IsRoot}
-use Rattle.afs_ideal.proofs.Basics.{some_of, both}
+use Rattle.afs_ideal.specs.Soundness.{subdirectories, names_it, names_of, GivesHeld, KindFits, HasNames, IsNamedIn, HasByKind, IsRoot}
+use Rattle.afs_ideal.proofs.Basics.{some_of}
 use Rattle.afs_ideal.proofs.Counts.{each_map, none_pass}
 
 abbrev pub Map : Type 0
@@ -207,7 +206,7 @@ pub changes : (t p u next : ℕ) (x y : Vnode) (g : Map) → g t ≡ Some x → 
 changes t p u next x y g e ne same_unique same_kind same_names own h =
     puts t p u next (Some y) g ne
     (λ w is. subst (λ (z : Vnode). Own next t z × AllByRecursion (GivesBut t p u g t z.unique) z.names) (some_of y w is)
-      (own, subst (λ (n : ℕ). AllByRecursion (GivesBut t p u g t n) y.names) (sym same_unique) (subst (AllByRecursion (GivesBut t p u g t x.unique)) (sym same_names) (h.given t x e))))
+    (own, subst (λ (n : ℕ). AllByRecursion (GivesBut t p u g t n) y.names) (sym same_unique) (subst (AllByRecursion (GivesBut t p u g t x.unique)) (sym same_names) (h.given t x e))))
     (subst (λ (o : Option Vnode). SeenBelow o (Some y)) (sym e) (seen_changed x y same_unique same_kind same_names)) h
 
 -- made: without names
@@ -218,7 +217,7 @@ pub makes : (t p u next : ℕ) (y : Vnode) (g : Map) → g t ≡ None → (t ≡
 makes t p u next y g e ne none own h =
     puts t p u next (Some y) g ne
     (λ w is. subst (λ (z : Vnode). Own next t z × AllByRecursion (GivesBut t p u g t z.unique) z.names) (some_of y w is)
-      (own, subst (AllByRecursion (GivesBut t p u g t y.unique)) (sym none) tt))
+    (own, subst (AllByRecursion (GivesBut t p u g t y.unique)) (sym none) tt))
     (subst (λ (o : Option Vnode). SeenBelow o (Some y)) (sym e) (seen_new (Some y))) h
 
 -- freed: it had no names
@@ -334,10 +333,10 @@ as_seen next g k l own h = record {
   root = root_seen (g 1) (k 1) (l 1) h.root;
   own = own;
   given = λ d y is. (let o = seen_of (g d) y (subst (AreSeen (g d)) is (l d)) in
-    subst (λ (u : ℕ). AllByRecursion (Gives k d u) y.names) (sym o.1.1.unique) (subst (AllByRecursion (Gives k d o.0.unique)) (sym o.1.1.names)
-    (each_map (Gives g d o.0.unique) (Gives k d o.0.unique) o.0.names (λ m. gives_seen d o.0.unique m.vnode (g m.vnode) (k m.vnode) m (l m.vnode)) (h.given d o.0 o.1.0))));
+      subst (λ (u : ℕ). AllByRecursion (Gives k d u) y.names) (sym o.1.1.unique) (subst (AllByRecursion (Gives k d o.0.unique)) (sym o.1.1.names)
+      (each_map (Gives g d o.0.unique) (Gives k d o.0.unique) o.0.names (λ m. gives_seen d o.0.unique m.vnode (g m.vnode) (k m.vnode) m (l m.vnode)) (h.given d o.0 o.1.0))));
   named = λ n y is ne. (let o = seen_of (g n) y (subst (AreSeen (g n)) is (l n)) in
-    subst (λ (q : ℕ). IsNamedIn (k q) n y) (sym o.1.1.parent) (named_seen (g o.0.parent) (k o.0.parent) n o.0 y (l o.0.parent) o.1.1 (h.named n o.0 o.1.0 ne)));
+      subst (λ (q : ℕ). IsNamedIn (k q) n y) (sym o.1.1.parent) (named_seen (g o.0.parent) (k o.0.parent) n o.0 y (l o.0.parent) o.1.1 (h.named n o.0 o.1.0 ne)));
 }
 
 -- ---- and have the same contents and access lists
@@ -356,7 +355,7 @@ pub like_itself : (o : Option Vnode) → AreLike o o
 like_itself None = tt
 like_itself (Some x) = record { seen = record { unique = refl; kind = refl; links = refl; parent = refl; parent_unique = refl; names = refl }; contents = refl; acl = refl }
 
-like_of : (o : Option Vnode) (y : Vnode) → AreLike o (Some y) → (x : Vnode) × ((o ≡ Some x) × Like x y)
+pub like_of : (o : Option Vnode) (y : Vnode) → AreLike o (Some y) → (x : Vnode) × ((o ≡ Some x) × Like x y)
 like_of None y h = absurd h
 like_of (Some x) y h = (x, (refl, h))
 

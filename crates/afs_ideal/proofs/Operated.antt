@@ -1,9 +1,8 @@
--- The ideal operation on a small volume, one row for each call and each code: the law of a cell can't judge the operation, since it is what the
--- ideal cell does.
-use Rattle.std.proofs.Common.{◌≡◌, ℕ, List, [], ◌∷◌, length, Some, refl, ℤ, pos}
+-- Rows on a small volume, for each call and each code but those at limits, which stand in Limits: the law of a cell can't judge the
+-- operation, since it is what the ideal cell does. Made has the rows on what is made and replied.
+use Rattle.std.proofs.Common.{◌≡◌, ℕ, List, [], ◌∷◌, length, Some, refl, pos}
 use Rattle.std.specs.Prelude.{codes}
 use Rattle.afs_num.specs.declared.types.Fid.{Fid}
-use Rattle.afs_num.specs.declared.acls.AccessList.{AccessList}
 use Rattle.afs_num.specs.declared.calls.AfsStoreStatus.{AfsStoreStatus}
 use Rattle.afs_num.specs.declared.calls.FsCall.{FsCall}
 use Rattle.afs_num.specs.declared.calls.FsCall.TheVariants as calls
@@ -18,14 +17,14 @@ use Rattle.afs_ideal.specs.Tables.{get, set, unset}
 use Rattle.afs_ideal.specs.Directories.{bytes_below, directory_bytes, name_bytes}
 use Rattle.afs_xdr.specs.Words.{word, opaque, pad}
 use Rattle.afs_ideal.specs.Volumes.{Kind, a_file, a_directory, a_link, Vnode, Volume, blocks_in}
-use Rattle.afs_ideal.specs.Operations.{Caller, the_user, op, code_of, made_by, changed, links_of}
+use Rattle.afs_ideal.specs.Operations.{the_user, op, code_of, made_by, changed, links_of}
 
 -- ---- the volume 5: a file `a`, a directory `d` with a file of two names and a link, an empty directory `e`
 
-abbrev name : List ℕ → ℕ → ℕ → Name
+abbrev pub name : List ℕ → ℕ → ℕ → Name
 name n vnode unique = record { name = n; vnode = vnode; unique = unique }
 
-abbrev directory : ℕ → ℕ → ℕ → ℕ → List Name → ℕ → Vnode
+abbrev pub directory : ℕ → ℕ → ℕ → ℕ → List Name → ℕ → Vnode
 directory unique links parent parent_unique names rights = record {
   unique = unique;
   kind = a_directory;
@@ -45,7 +44,7 @@ directory unique links parent parent_unique names rights = record {
   acl = record { positive = record { name = codes "system:anyuser"; rights = rights } ∷ []; negative = [] };
 }
 
-abbrev other : Kind → ℕ → ℕ → ℕ → ℕ → List ℕ → Vnode
+abbrev pub other : Kind → ℕ → ℕ → ℕ → ℕ → List ℕ → Vnode
 other kind unique links parent parent_unique contents = record {
   unique = unique;
   kind = kind;
@@ -66,7 +65,7 @@ other kind unique links parent parent_unique contents = record {
 }
 
 -- by the rights that everyone has in the root and in d
-abbrev with_rights : ℕ → ℕ → Volume
+abbrev pub with_rights : ℕ → ℕ → Volume
 with_rights root below = record {
   family = 5;
   name = codes "v";
@@ -86,20 +85,20 @@ with_rights root below = record {
       ∷ [];
 }
 
-abbrev volume : Volume
+abbrev pub volume : Volume
 volume = with_rights 127 127
 
-abbrev fid : ℕ → ℕ → Fid
+abbrev pub fid : ℕ → ℕ → Fid
 fid vnode unique = record { volume = 5; vnode = vnode; unique = unique }
 
-abbrev status : ℕ → AfsStoreStatus
+abbrev pub status : ℕ → AfsStoreStatus
 status mask = record { mask = mask; client_mod_time = 0; owner = 0; group = 0; unix_mode_bits = 384; seg_size = 0 }
 
 -- the same with another head
-abbrev read_only : Volume
+abbrev pub read_only : Volume
 read_only = record volume { kind = 1 }
 
-abbrev quota_of : ℕ → Volume
+abbrev pub quota_of : ℕ → Volume
 quota_of blocks = record volume { quota = blocks }
 
 abbrev at_last_counter : Volume
@@ -109,44 +108,44 @@ abbrev at_last_unique : Volume
 at_last_unique = record volume { next = 4294967295 }
 
 -- the file `a` with these counts
-abbrev a_counted : ℕ → ℕ → Volume
+abbrev pub a_counted : ℕ → ℕ → Volume
 a_counted index data_version = record volume { vnodes = set 2 (record (other a_file 2 1 1 1 (codes "abc")) { index = index; data_version = data_version }) volume.vnodes }
 
 -- its blocks are 6: three directories, two files and a link
 abbrev blocks : ℕ
 blocks = blocks_in volume.vnodes
 
-abbrev root : Fid
+abbrev pub root : Fid
 root = fid 1 1
 
-abbrev a : Fid
+abbrev pub a : Fid
 a = fid 2 2
 
-abbrev d : Fid
+abbrev pub d : Fid
 d = fid 3 3
 
-abbrev f : Fid
+abbrev pub f : Fid
 f = fid 4 4
 
-abbrev e : Fid
+abbrev pub e : Fid
 e = fid 5 5
 
-abbrev l : Fid
+abbrev pub l : Fid
 l = fid 6 6
 
-abbrev missing : Fid
+abbrev pub missing : Fid
 missing = fid 2 9
 
-abbrev elsewhere : Fid
+abbrev pub elsewhere : Fid
 elsewhere = record { volume = 6; vnode = 1; unique = 1 }
 
-abbrev fetch : Fid → FsCall
+abbrev pub fetch : Fid → FsCall
 fetch x = calls.FetchData x (pos 0) (pos 2147483647)
 
-abbrev store : Fid → List ℕ → FsCall
+abbrev pub store : Fid → List ℕ → FsCall
 store x contents = calls.StoreData x (status 0) (pos 0) (pos (length contents)) (pos (length contents)) contents
 
-abbrev code : FsCall → Volume → ℕ
+abbrev pub code : FsCall → Volume → ℕ
 code call v = code_of (op 5 (the_user (codes "guest")) call v)
 
 -- ---- FetchData
@@ -749,10 +748,10 @@ link_new = refl
 
 -- ---- what is told
 
-abbrev told : FsCall → Volume → List Version
+abbrev pub told : FsCall → Volume → List Version
 told call v = made_by 5 (op 5 (the_user (codes "guest")) call v) v
 
-abbrev version : Fid → ℕ → ℕ → Body → Version
+abbrev pub version : Fid → ℕ → ℕ → Body → Version
 version x index data_version body = record { fid = x; index = index; data_version = data_version; body = body }
 
 -- a directory under the lowest odd number that is free, and the next unique number

@@ -1,12 +1,11 @@
 -- That the parents lead from each vnode to the root, by a rank that falls from each vnode to its parent.
-use Rattle.std.proofs.Common.{◌≡◌, ℕ, zero, suc, ◌+◌, ◌<◌, ◌≤◌, Bool, true, false, cond, eqb, ltb, List, [], ◌∷◌, length, Option, Some, None, refl, sym, ap, subst, ◌∙◌, arith, eq-eqb, eqb-true, ltb-true, ltb-false, lt-ltb}
-use Rattle.std.specs.Prelude.{◌||◌, nat_eq, nat_lt}
+use Rattle.std.proofs.Common.{◌≡◌, ℕ, zero, suc, ◌+◌, ◌<◌, ◌≤◌, Bool, true, false, cond, eqb, ltb, [], ◌∷◌, length, Option, Some, None, refl, sym, ap, subst, ◌∙◌, arith, eq-eqb, eqb-true, ltb-true, lt-ltb}
+use Rattle.std.specs.Prelude.{◌||◌, nat_eq}
 use Rattle.afs_ideal.specs.Tables.{Table, get}
 use Rattle.afs_ideal.specs.Volumes.{Vnode, Volume}
 use Rattle.afs_ideal.specs.Operations.{leads_up, is_below}
-use Rattle.afs_ideal.proofs.Basics.{some_of}
 use Rattle.afs_ideal.proofs.Counts.{one_if}
-use Rattle.afs_ideal.proofs.Maps.{Map}
+use Rattle.afs_ideal.proofs.Maps.{Map, differ}
 
 abbrev pub Ranked : Map → (ℕ → ℕ) → Type 0
 Ranked g rank = (n : ℕ) (x : Vnode) → g n ≡ Some x → (n ≡ 1 → ⊥) → rank x.parent < rank n
@@ -121,16 +120,13 @@ reached_by : (b up : Bool) → ((b ≡ false) → up ≡ true) → (b || up) ≡
 reached_by true up h = refl
 reached_by false up h = h refl
 
-apart : (n : ℕ) → eqb n 1 ≡ false → n ≡ 1 → ⊥
-apart n b e = let yes : eqb n 1 ≡ true = eq-eqb n 1 e in absurd cc
-
 reached : (v : Volume) (rank : ℕ → ℕ) → Ranked (at v) rank → HasParents (at v) → (k n : ℕ) (x : Vnode) → get n v.vnodes ≡ Some x → lower rank (rank n) v.vnodes < k → leads_up k n 1 v (Some x) ≡ true
 reached v rank ranked parents zero n x e lt = absurd (omega arith)
 reached v rank ranked parents (suc k) n x e lt =
     reached_by (eqb n 1) (leads_up k x.parent 1 v (get x.parent v.vnodes)) (λ b.
-      let d = parents n x e (apart n b) in
-      let less = lower_less rank x.parent (rank n) v.vnodes d.0 d.1 (ranked n x e (apart n b)) in
-      subst (λ (o : Option Vnode). leads_up k x.parent 1 v o ≡ true) (sym d.1) (reached v rank ranked parents k x.parent d.0 d.1 (omega (arith, less, lt))))
+    let d = parents n x e (differ n 1 b) in
+    let less = lower_less rank x.parent (rank n) v.vnodes d.0 d.1 (ranked n x e (differ n 1 b)) in
+    subst (λ (o : Option Vnode). leads_up k x.parent 1 v o ≡ true) (sym d.1) (reached v rank ranked parents k x.parent d.0 d.1 (omega (arith, less, lt))))
 
 pub ranked_reaching : (v : Volume) (rank : ℕ → ℕ) → Ranked (at v) rank → HasParents (at v) → (n : ℕ) (x : Vnode) → get n v.vnodes ≡ Some x → is_below n 1 v ≡ true
 ranked_reaching v rank ranked parents n x e =
@@ -151,7 +147,7 @@ parent_up : (b : Bool) (v : Volume) (rank : ℕ → ℕ) (top n k j : ℕ) (x : 
 parent_up true v rank top n k j x e b root more =
     let none = root x (ap (λ (m : ℕ). get m v.vnodes) (sym (eqb-true n 1 b)) ∙ e) in
     subst (λ (o : Option Vnode). leads_up k x.parent top v o ≡ leads_up j x.parent top v o) (sym none) (nothing_up k x.parent top v ∙ sym (nothing_up j x.parent top v))
-parent_up false v rank top n k j x e b root more = more (apart n b)
+parent_up false v rank top n k j x e b root more = more (differ n 1 b)
 
 -- with enough steps their number makes no difference; the root's parent, 0, isn't there
 same_up : (v : Volume) (rank : ℕ → ℕ) (top : ℕ) → Ranked (at v) rank → HasParents (at v) → ((x : Vnode) → get 1 v.vnodes ≡ Some x → get x.parent v.vnodes ≡ None)
@@ -160,9 +156,9 @@ same_up v rank top ranked parents root zero j n x e p q = absurd (omega arith)
 same_up v rank top ranked parents root (suc k) zero n x e p q = absurd (omega arith)
 same_up v rank top ranked parents root (suc k) (suc j) n x e p q =
     ap (λ (up : Bool). nat_eq n top || up) (parent_up (eqb n 1) v rank top n k j x e refl root
-      (λ ne. (let d = parents n x e ne in
-        let less = lower_less rank x.parent (rank n) v.vnodes d.0 d.1 (ranked n x e ne) in
-        subst (λ (o : Option Vnode). leads_up k x.parent top v o ≡ leads_up j x.parent top v o) (sym d.1) (same_up v rank top ranked parents root k j x.parent d.0 d.1 (omega (arith, less, p)) (omega (arith, less, q))))))
+    (λ ne. (let d = parents n x e ne in
+    let less = lower_less rank x.parent (rank n) v.vnodes d.0 d.1 (ranked n x e ne) in
+    subst (λ (o : Option Vnode). leads_up k x.parent top v o ≡ leads_up j x.parent top v o) (sym d.1) (same_up v rank top ranked parents root k j x.parent d.0 d.1 (omega (arith, less, p)) (omega (arith, less, q))))))
 
 below_step : (v : Volume) (rank : ℕ → ℕ) (top : ℕ) → Ranked (at v) rank → HasParents (at v) → ((x : Vnode) → get 1 v.vnodes ≡ Some x → get x.parent v.vnodes ≡ None)
     → (k n : ℕ) (x : Vnode) → get n v.vnodes ≡ Some x → (n ≡ 1 → ⊥) → lower rank (rank n) v.vnodes < k → leads_up k n top v (Some x) ≡ (nat_eq n top || leads_up k x.parent top v (get x.parent v.vnodes))
@@ -193,9 +189,6 @@ leaf_by : (b : Bool) (t p q : ℕ) (rank : ℕ → ℕ) (n : ℕ) (x : Vnode) �
 leaf_by true t p q rank n x e unheld lt = absurd (unheld (eqb-true x.parent t e))
 leaf_by false t p q rank n x e unheld lt = lt
 
-other_than : (a b : ℕ) → eqb a b ≡ false → a ≡ b → ⊥
-other_than a b e same = let yes : eqb a b ≡ true = eq-eqb a b same in absurd cc
-
 no_by : (b : Bool) (p t : ℕ) → eqb p t ≡ b → (p ≡ t → ⊥) → b ≡ false
 no_by true p t e ne = absurd (ne (eqb-true p t e))
 no_by false p t e ne = refl
@@ -210,7 +203,7 @@ ranked_leaf_by true t p n g k rank y h same mine ne unheld not_root b =
     let low : eqb p t ≡ false = no_by (eqb p t) p t refl ne in
     subst (λ (q : ℕ). leaf_rank t p rank q < rank p + 1) (sym up) (rw low (omega arith))
 ranked_leaf_by false t p n g k rank y h same mine ne unheld not_root b =
-    let o = same (other_than n t b) in
+    let o = same (differ n t b) in
     subst (λ (q : ℕ). leaf_rank t p rank q < rank n) (sym o.1.1) (leaf_by (eqb o.0.parent t) t p (rank n) rank n o.0 refl (unheld o.0 o.1.0 not_root) (h n o.0 o.1.0 not_root))
 
 pub ranked_leaf : (t p : ℕ) (g k : Map) (rank : ℕ → ℕ) → Ranked g rank → ((n : ℕ) (y : Vnode) → k n ≡ Some y → (n ≡ t → ⊥) → (x : Vnode) × ((g n ≡ Some x) × (y.parent ≡ x.parent)))
@@ -235,7 +228,7 @@ ranked_part_by true below t p n g rank y h same mine top out step not_root b =
     let high : below n ≡ true = ap below number ∙ top in
     subst (λ (q : ℕ). part_rank below p rank q < part_rank below p rank n) (sym (mine number)) (rw (high, out) (omega arith))
 ranked_part_by false below t p n g rank y h same mine top out step not_root b =
-    let o = same (other_than n t b) in
+    let o = same (differ n t b) in
     let e : below n ≡ below o.0.parent = step o.0 o.1.0 ∙ rw b refl in
     subst (λ (q : ℕ). part_rank below p rank q < part_rank below p rank n) (sym o.1.1) (part_by (below n) (below o.0.parent) (rank p) (rank o.0.parent) (rank n) e (h n o.0 o.1.0 not_root))
 

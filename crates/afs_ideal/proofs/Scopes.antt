@@ -1,22 +1,20 @@
 -- What a change may touch: the vnodes that its edits name, and new ones.
-use Rattle.std.proofs.Common.{◌≡◌, ℕ, ◌+◌, ◌-◌, ◌<◌, ◌≤◌, ◌⊎◌, inl, inr, Bool, true, false, cond, eqb, ltb, not, List, [], ◌∷◌, ◌++◌, Option, Some, None, refl, sym, ap, subst, ◌∙◌, arith, eq-eqb, eqb-true}
+use Rattle.std.proofs.Common.{◌≡◌, ℕ, ◌+◌, ◌-◌, ◌≤◌, ◌⊎◌, inl, inr, Bool, true, false, cond, eqb, List, [], ◌∷◌, ◌++◌, Option, Some, None, refl, sym, ap, subst, ◌∙◌, arith, eq-eqb, eqb-true}
 use Rattle.std.specs.Prelude.{◌&&◌, ◌||◌, nat_eq, nat_lt, is_some, if◌then◌else◌}
 use Rattle.std.specs.List.{AllByRecursion}
 use Rattle.afs_num.specs.Names.{name_ok}
 use Rattle.afs_num.specs.Fids.{same_fid}
 use Rattle.afs_num.specs.declared.types.Fid.{Fid}
-use Rattle.afs_num.specs.declared.acls.AccessList.{AccessList}
 use Rattle.afs_num.specs.declared.calls.FsCall.{FsCall}
 use Rattle.afs_num.specs.declared.calls.FsCall.TheVariants as calls
-use Rattle.afs_num.specs.declared.directories.Name.{Name}
 use Rattle.afs_num.specs.declared.histories.Version.{Version}
-use Rattle.afs_ideal.specs.Tables.{get, set, unset}
-use Rattle.afs_ideal.specs.Volumes.{a_file, a_directory, a_link, Vnode, Volume, if_unique, vnode_of, Edit, amends, makes, frees, Amend, amended, fresh, amends_at, makes_at, frees_at, edited, edited_all, versions_by, placed, ascending, edit_number}
+use Rattle.afs_ideal.specs.Tables.{get}
+use Rattle.afs_ideal.specs.Volumes.{a_file, a_directory, a_link, Vnode, Volume, if_unique, vnode_of, Edit, amends, makes, frees, Amend, amended, fresh, amends_at, makes_at, frees_at, edited, versions_by, placed, ascending, edit_number}
 use Rattle.afs_ideal.specs.Operations as ops
 use Rattle.afs_ideal.specs.Operations.{Caller, Result, changes, first_failing, tests, effect, limits, limited, by_tests, implies, may_link, Found, Shown, op, IsOn}
 use Rattle.afs_ideal.specs.Told.{touches, fid_at}
 use Rattle.afs_ideal.specs.ChangeLaws.{is_in_scope}
-use Rattle.afs_ideal.proofs.Basics.{both, both_true, same_fid-true, same_fid-refl, some_of}
+use Rattle.afs_ideal.proofs.Basics.{both, both_true, same_fid-true, some_of}
 use Rattle.afs_ideal.proofs.Tables.{get_set, get_unset}
 
 -- ---- an accepted change: its tests pass, and it is the effect
@@ -248,7 +246,7 @@ made id v es ds n m g e t =
 made_ascending : (id : ℕ) (v : Volume) (es ds : List Edit) (n m : ℕ) (g : Fid) → changes (ascending ds) m ≡ changes es n → touches g (versions_by id es v) ≡ true → IsTouched v id (edits_one g.vnode ds) g
 made_ascending id v es ds n m g e t = subst (λ (b : Bool). IsTouched v id b g) (ascending_one g.vnode ds) (made id v es (ascending ds) n m g e t)
 
-read_is_none : (show : Found → Shown) (f : Fid) (o : Option Vnode) (es : List Edit) (n : ℕ) → ops.read_by show f o ≡ changes es n → ⊥
+pub read_is_none : (show : Found → Shown) (f : Fid) (o : Option Vnode) (es : List Edit) (n : ℕ) → ops.read_by show f o ≡ changes es n → ⊥
 read_is_none show f None es n e = absurd cc
 read_is_none show f (Some x) es n e = absurd cc
 
@@ -264,7 +262,7 @@ one_more_none f None (Some x) (ops.refused code) es n h e = absurd cc
 one_more_none f None (Some x) ops.no_operation es n h e = absurd cc
 one_more_none f None (Some x) (changes ds m) es n h e = h ds m refl
 
-statuses_none : (caller : Caller) (v : Volume) (fs : List Fid) (es : List Edit) (n : ℕ) → ops.statuses caller v fs ≡ changes es n → ⊥
+pub statuses_none : (caller : Caller) (v : Volume) (fs : List Fid) (es : List Edit) (n : ℕ) → ops.statuses caller v fs ≡ changes es n → ⊥
 statuses_none caller v [] es n e = absurd cc
 statuses_none caller v (f ∷ fs) es n e = one_more_none f (first_failing (tests caller (calls.FetchStatus f) v)) (vnode_of f v) (ops.statuses caller v fs) es n (λ ds m. statuses_none caller v fs ds m) e
 

@@ -1,18 +1,15 @@
 -- What operations do to the map of a sound volume: a name and its vnode come, go, or move.
-use Rattle.std.proofs.Common.{◌≡◌, ℕ, zero, suc, ◌+◌, ◌-◌, ◌<◌, ◌≤◌, ◌⊎◌, inl, inr, Bool, true, false, cond, eqb, ltb, not, List, [], ◌∷◌, length, Option, Some, None, refl, sym, ap, subst, ◌∙◌, arith, eq-eqb, eqb-true, lt-ltb}
+use Rattle.std.proofs.Common.{◌≡◌, ℕ, ◌+◌, ◌<◌, ◌≤◌, inl, Bool, true, false, cond, eqb, List, [], length, Option, Some, None, refl, sym, ap, subst, ◌∙◌, arith, eq-eqb, eqb-true, lt-ltb}
 use Rattle.afs_num.specs.Names.{name_ok}
-use Rattle.std.specs.Prelude.{◌&&◌, ◌%◌, ◌↔◌, nat_eq}
-use Rattle.std.specs.List.{AllByRecursion}
+use Rattle.std.specs.Prelude.{◌&&◌, ◌%◌, nat_eq}
 use Rattle.afs_num.specs.declared.directories.Name.{Name}
-use Rattle.afs_ideal.specs.AccessLists.{IsAccessList}
 use Rattle.afs_ideal.specs.Directories.{most_names, IsDirectory, named, with_name, without_name, add_refused}
 use Rattle.afs_ideal.specs.Volumes.{Kind, a_file, a_directory, a_link, Vnode}
 use Rattle.afs_ideal.specs.Operations.{is_kind}
 use Rattle.afs_ideal.specs.Soundness.{names_it, names_of, names_directory, subdirectories, GivesHeld, KindFits, HasNames, IsNamedIn, HasNamesOf, HasByKind, IsRoot}
-use Rattle.afs_ideal.proofs.Basics.{some_of}
 use Rattle.afs_ideal.proofs.Directories.{added_is_directory, removed_is_directory}
 use Rattle.afs_ideal.proofs.Counts.{one_if, count, count_with, count_without, none_counted, count_all, each_map, each_with, each_without, each_named}
-use Rattle.afs_ideal.proofs.Maps.{Map, put, Own, Gives, Sound, GivesBut, But, differ, here, other, Alike, SameFor, leave, leave_new, renames, changes, makes, frees, puts_back, repoints, stays_out, AreLike, like_itself, as_like}
+use Rattle.afs_ideal.proofs.Maps.{Map, put, Own, Gives, Sound, GivesBut, But, here, other, Alike, SameFor, leave, leave_new, renames, changes, makes, frees, puts_back, repoints, stays_out, AreLike, like_itself, as_like}
 
 -- ---- a directory with other names
 
@@ -117,22 +114,24 @@ holds d next name m x g e found h =
     let gives : Gives g d x.unique m = each_named (Gives g d x.unique) name m x.names (h.given d x e) found in
     let o = held_by (g m.vnode) d x.unique m.vnode m gives in
     let y : Vnode = o.0 in
-    let held = o.1.1 in
-    (y, record {
-      there = o.1.0;
-      not_root = held.0;
-      unique = held.1.0;
-      parent = held.1.1.0;
-      parent_unique = sym held.1.1.1;
-      count = subst (λ (u : ℕ). HasNames y.kind y.links (names_of m.vnode u x.names)) held.1.0 (counted_in (g y.parent) m.vnode x y (ap g held.1.1.0 ∙ e) (h.named m.vnode y o.1.0 held.0));
-    })
+    let held = o.1.1 in (
+      y,
+      record {
+        there = o.1.0;
+        not_root = held.0;
+        unique = held.1.0;
+        parent = held.1.1.0;
+        parent_unique = sym held.1.1.1;
+        count = subst (λ (u : ℕ). HasNames y.kind y.links (names_of m.vnode u x.names)) held.1.0 (counted_in (g y.parent) m.vnode x y (ap g held.1.1.0 ∙ e) (h.named m.vnode y o.1.0 held.0));
+      },
+    )
 
 pub left_out : (d t u next : ℕ) (x y : Vnode) (g : Map) → Held d t u x y g → Sound next g → But t d u next g
 left_out d t u next x y g k h = subst (λ (p : ℕ). But t p u next g) k.parent (subst (λ (w : ℕ). But t y.parent w next g) k.unique (leave t next y g k.there h))
 
 -- ---- a name and its vnode go
 
-abbrev taken : ℕ → Vnode → List ℕ → ℕ → Map → Map
+abbrev pub taken : ℕ → Vnode → List ℕ → ℕ → Map → Map
 taken d x name links g = put d (Some (with_names x (without_name name x.names) links)) g
 
 -- how often it is named after one of its names went
@@ -161,15 +160,15 @@ goes d next links name m x y g e dir found l k ne empty single h =
 abbrev pub linked_by : ℕ → Vnode → Vnode
 linked_by links y = record y { links = links }
 
-own_linked : (k : Kind) (next t links : ℕ) (y : Vnode) → (k ≡ a_directory → ⊥) → HasByKind k y → HasByKind k (linked_by links y)
-own_linked a_file next t links y ne h = record { names = h.names; acl = h.acl }
-own_linked a_link next t links y ne h = record { names = h.names; acl = h.acl }
-own_linked a_directory next t links y ne h = absurd (ne refl)
+own_linked : (k : Kind) (links : ℕ) (y : Vnode) → (k ≡ a_directory → ⊥) → HasByKind k y → HasByKind k (linked_by links y)
+own_linked a_file links y ne h = record { names = h.names; acl = h.acl }
+own_linked a_link links y ne h = record { names = h.names; acl = h.acl }
+own_linked a_directory links y ne h = absurd (ne refl)
 
-many_names : (k : Kind) (links n m : ℕ) → (k ≡ a_directory → ⊥) → HasNames k links n → ((n ≡ links) → (1 ≤ n) → m ≡ m) → (n ≡ links) × (1 ≤ n)
-many_names a_file links n m ne h f = h
-many_names a_link links n m ne h f = h
-many_names a_directory links n m ne h f = absurd (ne refl)
+many_names : (k : Kind) (links n : ℕ) → (k ≡ a_directory → ⊥) → HasNames k links n → (n ≡ links) × (1 ≤ n)
+many_names a_file links n ne h = h
+many_names a_link links n ne h = h
+many_names a_directory links n ne h = absurd (ne refl)
 
 as_many : (k : Kind) (links n : ℕ) → (k ≡ a_directory → ⊥) → n ≡ links → 1 ≤ n → HasNames k links n
 as_many a_file links n ne e le = (e, le)
@@ -184,9 +183,9 @@ loses d next links fewer name m x y g e dir found l k ne file less one h =
     let out = takes d t u next links name m x g e dir found refl l (left_out d t u next x y g k h) in
     let there : taken d x name links g t ≡ Some y = other d (Some (with_names x (without_name name x.names) links)) g t ne ∙ k.there in
     let own = h.own t y k.there in
-    let changed = changes t d u next y (linked_by fewer y) (taken d x name links g) there k.not_root refl refl refl (record { kind = own.kind; unique = own.unique; body = own_linked y.kind next t fewer y file own.body }) out in
+    let changed = changes t d u next y (linked_by fewer y) (taken d x name links g) there k.not_root refl refl refl (record { kind = own.kind; unique = own.unique; body = own_linked y.kind fewer y file own.body }) out in
     let before = left_count d next t u name m x g e dir found refl refl h in
-    let many = many_names y.kind y.links (names_of t u x.names) 0 file k.count (λ a b. refl) in
+    let many = many_names y.kind y.links (names_of t u x.names) file k.count in
     let all : names_of t u x.names ≡ y.links = many.0 in
     puts_back t d u next (linked_by fewer y) (with_names x (without_name name x.names) links) (put t (Some (linked_by fewer y)) (taken d x name links g)) (here t (Some (linked_by fewer y)) (taken d x name links g)) k.not_root k.unique k.parent
     (other t (Some (linked_by fewer y)) (taken d x name links g) d (λ s. ne (sym s)) ∙ here d (Some (with_names x (without_name name x.names) links)) g) dir k.parent_unique
@@ -194,7 +193,7 @@ loses d next links fewer name m x y g e dir found l k ne file less one h =
 
 -- ---- a name and a new vnode come
 
-abbrev added : ℕ → Vnode → Name → ℕ → Map → Map
+abbrev pub added : ℕ → Vnode → Name → ℕ → Map → Map
 added d x m links g = put d (Some (with_names x (with_name m x.names) links)) g
 
 pub later_own : (next n : ℕ) (x : Vnode) → Own next n x → Own (next + 1) n x
@@ -210,8 +209,8 @@ unnamed_by false t u d unique g m e b h = refl
 unnamed : (t u d next : ℕ) (x : Vnode) (g : Map) → g t ≡ None → g d ≡ Some x → Sound next g → names_of t u x.names ≡ 0
 unnamed t u d next x g e is h = none_counted (names_it t u) x.names (each_map (Gives g d x.unique) (λ (m : Name). names_it t u m ≡ false) x.names (λ m gives. unnamed_by (eqb m.vnode t) t u d x.unique g m e refl gives) (h.given d x is))
 
-one_more : (d next t u : ℕ) (m : Name) (x : Vnode) → m.vnode ≡ t → m.unique ≡ u → names_of t u (with_name m x.names) ≡ 1 + names_of t u x.names
-one_more d next t u m x number unique =
+one_more : (t u : ℕ) (m : Name) (x : Vnode) → m.vnode ≡ t → m.unique ≡ u → names_of t u (with_name m x.names) ≡ 1 + names_of t u x.names
+one_more t u m x number unique =
     let a = count_with (names_it t u) m x.names in
     let b : one_if (names_it t u m) ≡ 1 = subst (λ (k : ℕ). one_if (names_it k u m) ≡ 1) number (subst (λ (k : ℕ). one_if (names_it m.vnode k m) ≡ 1) unique (is_it m)) in
     omega (arith, a, b)
@@ -231,7 +230,7 @@ comes d t next links m x y g e dir none number unique ok l own_unique parent par
     let out = adds d t next (next + 1) links m x g e dir number unique ok l (leave_new t d next (next + 1) g none (later_next next g h)) in
     let made = makes t d next (next + 1) y (added d x m links g) (other d (Some (with_names x (with_name m x.names) links)) g t ne ∙ none) not_root empty own out in
     let nothing = unnamed t next d next x g none e h in
-    let one = one_more d next t next m x number unique in
+    let one = one_more t next m x number unique in
     puts_back t d next (next + 1) y (with_names x (with_name m x.names) links) (put t (Some y) (added d x m links g)) (here t (Some y) (added d x m links g)) not_root own_unique parent
     (other t (Some y) (added d x m links g) d (λ s. ne (sym s)) ∙ here d (Some (with_names x (with_name m x.names) links)) g) dir (sym parent_unique)
     (subst (HasNames y.kind y.links) (let z : 1 ≡ names_of t next (with_name m x.names) = omega (arith, nothing, one) in z) single) made
@@ -244,10 +243,10 @@ gains d t u next m x y g e dir number unique ok l k ne file h =
     let out = adds d t u next x.links m x g e dir number unique ok l (left_out d t u next x y g k h) in
     let there : added d x m x.links g t ≡ Some y = other d (Some (with_names x (with_name m x.names) x.links)) g t ne ∙ k.there in
     let own = h.own t y k.there in
-    let changed = changes t d u next y (linked_by (y.links + 1) y) (added d x m x.links g) there k.not_root refl refl refl (record { kind = own.kind; unique = own.unique; body = own_linked y.kind next t (y.links + 1) y file own.body }) out in
-    let many = many_names y.kind y.links (names_of t u x.names) 0 file k.count (λ a b. refl) in
+    let changed = changes t d u next y (linked_by (y.links + 1) y) (added d x m x.links g) there k.not_root refl refl refl (record { kind = own.kind; unique = own.unique; body = own_linked y.kind (y.links + 1) y file own.body }) out in
+    let many = many_names y.kind y.links (names_of t u x.names) file k.count in
     let all : names_of t u x.names ≡ y.links = many.0 in
-    let one = one_more d next t u m x number unique in
+    let one = one_more t u m x number unique in
     puts_back t d u next (linked_by (y.links + 1) y) (with_names x (with_name m x.names) x.links) (put t (Some (linked_by (y.links + 1) y)) (added d x m x.links g)) (here t (Some (linked_by (y.links + 1) y)) (added d x m x.links g)) k.not_root k.unique k.parent
     (other t (Some (linked_by (y.links + 1) y)) (added d x m x.links g) d (λ s. ne (sym s)) ∙ here d (Some (with_names x (with_name m x.names) x.links)) g) dir k.parent_unique
     (as_many y.kind (y.links + 1) (names_of t u (with_name m x.names)) file (omega (arith, one, all)) (omega (arith, one))) changed
@@ -257,7 +256,7 @@ gains d t u next m x y g e dir number unique ok l k ne file h =
 abbrev pub renamed_to : List ℕ → Name → Name
 renamed_to name m = record m { name = name }
 
-shorter : (name : List ℕ) (m : Name) (names : List Name) → IsDirectory names → named name names ≡ Some m → length (without_name name names) + 1 ≡ length names
+pub shorter : (name : List ℕ) (m : Name) (names : List Name) → IsDirectory names → named name names ≡ Some m → length (without_name name names) + 1 ≡ length names
 shorter name m names is found =
     let a = count_without (λ (n : Name). true) name [] m names is.ordered found in
     let b = count_all names in
@@ -297,10 +296,10 @@ moves_within d next old new m x y g e dir found ok none k ne h =
     let in_again = adds d t u next x.links (renamed_to new m) (with_names x ns l) (put d (Some (with_names x ns l)) g) at dir refl refl (room_for new ns ok none (omega (arith, short, less))) (omega (arith, counted, mine)) out in
     let two : Map = put d (Some (with_names x (with_name (renamed_to new m) ns) x.links)) (put d (Some (with_names x ns l)) g) in
     let before = left_count d next t u old m x g e dir found refl refl h in
-    let after = one_more d next t u (renamed_to new m) (with_names x ns l) refl refl in
+    let after = one_more t u (renamed_to new m) (with_names x ns l) refl refl in
     let there : two t ≡ Some y = other d (Some (with_names x (with_name (renamed_to new m) ns) x.links)) (put d (Some (with_names x ns l)) g) t ne ∙ (other d (Some (with_names x ns l)) g t ne ∙ k.there) in
     let whole = puts_back t d u next y (with_names x (with_name (renamed_to new m) ns) x.links) two there k.not_root k.unique k.parent (here d (Some (with_names x (with_name (renamed_to new m) ns) x.links)) (put d (Some (with_names x ns l)) g)) dir k.parent_unique
-      (subst (HasNames y.kind y.links) (let z : names_of t u x.names ≡ names_of t u (with_name (renamed_to new m) ns) = omega (arith, before, after) in z) k.count) in_again in
+    (subst (HasNames y.kind y.links) (let z : names_of t u x.names ≡ names_of t u (with_name (renamed_to new m) ns) = omega (arith, before, after) in z) k.count) in_again in
     as_like next two (within d x old new m x.links g) (λ n. same_like (two n) (within d x old new m x.links g n) (put_twice d n (Some (with_names x (with_name (renamed_to new m) ns) x.links)) (Some (with_names x ns l)) g)) (whole)
 
 abbrev pub held_in : ℕ → ℕ → Vnode → Vnode
@@ -339,7 +338,7 @@ moves_across d e next less more old new m x z y g at dir at_new new_dir apart fo
     let own = h.own t y k.there in
     let moved = changes t e u next y (held_in e z.unique y) g2 there k.not_root refl refl refl (record { kind = own.kind; unique = own.unique; body = own_held y.kind e z.unique y own.body }) in_new in
     let none : names_of t u z.names ≡ 0 = none_counted (names_it t u) z.names (each_map (Gives g e z.unique) (λ (n : Name). names_it t u n ≡ false) z.names (λ n gives. elsewhere (eqb n.vnode t) t u d e z.unique y g n (k.there, k.parent) apart refl gives) (h.given e z at_new)) in
-    let one = one_more e next t u (renamed_to new m) z refl refl in
+    let one = one_more t u (renamed_to new m) z refl refl in
     puts_back t e u next (held_in e z.unique y) (with_names z (with_name (renamed_to new m) z.names) more) (put t (Some (held_in e z.unique y)) g2) (here t (Some (held_in e z.unique y)) g2) k.not_root k.unique refl
     (other t (Some (held_in e z.unique y)) g2 e (λ s. not_new (sym s)) ∙ here e (Some (with_names z (with_name (renamed_to new m) z.names) more)) g1) new_dir refl
     (subst (HasNames y.kind y.links) (let w : 1 ≡ names_of t u (with_name (renamed_to new m) z.names) = omega (arith, none, one) in w) count) moved

@@ -1,5 +1,5 @@
 -- Laws about changes, whatever makes them: lists of edits.
-use Rattle.std.specs.Prelude.{◌≡◌, ◌≤◌, ◌<◌, ◌⊎◌, ◌+◌, ℕ, List, [], ◌∷◌, Bool, true, false, ◌||◌, Option, Some, None, nat_eq}
+use Rattle.std.specs.Prelude.{◌≡◌, ◌≤◌, ◌<◌, ◌⊎◌, ◌+◌, ℕ, List, [], ◌∷◌, Bool, true, false, ◌||◌, Some, None, nat_eq}
 use Rattle.afs_num.specs.Fids.{same_fid}
 use Rattle.afs_num.specs.declared.types.Fid.{Fid}
 use Rattle.afs_num.specs.declared.calls.FsCall.{FsCall}

@@ -1,7 +1,6 @@
 -- Vnodes as values and as images: a directory's names and access list are spelled in its image, and read from it.
-use Rattle.std.specs.Prelude.{◌≡◌, ◌≤◌, ◌<◌, ◌^◌, ℕ, List, [], ◌∷◌, Option, Some, None, Result, Ok, Err, length, nat_eq, if◌then◌else◌}
+use Rattle.std.specs.Prelude.{◌≤◌, ◌<◌, ◌^◌, ℕ, List, [], ◌∷◌, Option, Some, None, Result, Ok, length, nat_eq, if◌then◌else◌}
 use Rattle.std.specs.List.{All}
-use Rattle.std.specs.Option.{option_map}
 use Rattle.afs_num.specs.declared.acls.AccessList.{AccessList}
 use Rattle.afs_num.specs.declared.directories.Name.{Name}
 use Rattle.afs_num.specs.declared.vnodes.Vnode as images

@@ -12,3 +12,4 @@ pub mod SetUp
 pub mod Soundness
 pub mod Told
 pub mod ChangeLaws
+pub mod SoundnessLaws

@@ -150,7 +150,7 @@ acl_laid id path text v = do
 abbrev pub laid : ℕ → SetupLine → Volume → Result Volume ℕ
 laid id (lines.File path contents) v = laid_at id path (a_file_of contents) v
 
--- ---- what set-up tells: the first version of each vnode, the last number first
+-- ---- what set-up tells: one version of each vnode
 
 abbrev pub first_versions : ℕ → Table Vnode → List Version
 first_versions id t = map (λ (p : ℕ × Vnode). version_at id p.0 p.1) t

@@ -1,11 +1,11 @@
 -- Sound volumes: what set-up, operations, clones and restores leave.
-use Rattle.std.specs.Prelude.{◌≡◌, ◌≤◌, ◌<◌, ◌↔◌, ◌%◌, ◌+◌, ℕ, List, [], ◌∷◌, Bool, true, ◌&&◌, filter, length, nat_eq, Option, Some, None}
+use Rattle.std.specs.Prelude.{◌≡◌, ◌≤◌, ◌<◌, ◌↔◌, ◌%◌, ◌+◌, ℕ, List, [], Bool, true, ◌&&◌, filter, length, nat_eq, Option, Some, None}
 use Rattle.std.specs.List.{All}
 use Rattle.afs_num.specs.declared.directories.Name.{Name}
-use Rattle.afs_ideal.specs.Tables.{Table, get, AscendsFrom}
+use Rattle.afs_ideal.specs.Tables.{get, AscendsFrom}
 use Rattle.afs_ideal.specs.AccessLists.{IsAccessList, no_acl}
 use Rattle.afs_ideal.specs.Directories.{IsDirectory}
-use Rattle.afs_ideal.specs.Volumes.{Kind, a_file, a_directory, a_link, Vnode, Volume}
+use Rattle.afs_ideal.specs.Volumes.{Kind, a_directory, Vnode, Volume}
 use Rattle.afs_ideal.specs.Operations.{is_kind, is_below}
 
 -- ---- names and what they name

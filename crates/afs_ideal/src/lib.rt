@@ -3,3 +3,4 @@
 
 pub mod change_laws;
 pub mod directory_laws;
+pub mod soundness_laws;

@@ -1,11 +1,11 @@
 -- What a crash leaves between the device calls of an append.
 use Rattle.std.proofs.Common.{◌≡◌, ◌<◌, inl, ℕ, suc, ◌+◌, ◌^◌, List, [], ◌∷◌, ◌++◌, length, Option, Some, sym, ◌∙◌, ap, subst, arith, length-append}
 use Rattle.std.specs.Prelude.{option_map, IfSome}
-use Rattle.afs_model.specs.Disk.{overwritten, Torn, ComesBy, LeavesJust, Passes, LeavesOnly}
-use Rattle.afs_model.specs.Journal.{place_of, blocks, journal_bytes, whole_records, IsBeforeOrAfter}
-use Rattle.afs_model.proofs.Crash.{torn_behind, torn_gate, written_behind, written_gate, whole_opened, staged}
-use Rattle.afs_model.proofs.Journal.{fit-push}
-use Rattle.afs_model.proofs.Moments.{begins, goes_on}
+use Rattle.afs_disk.specs.Disk.{overwritten, Torn, ComesBy, LeavesJust, Passes, LeavesOnly}
+use Rattle.afs_journal.specs.Records.{place_of, blocks, journal_bytes, whole_records, IsBeforeOrAfter}
+use Rattle.afs_journal.proofs.Crash.{torn_behind, torn_gate, written_behind, written_gate, whole_opened, staged}
+use Rattle.afs_journal.proofs.Records.{fit-push}
+use Rattle.afs_journal.proofs.Moments.{begins, goes_on}
 use Rattle.afs_journal.specs.Log.{IsSettled, Spells, IsJournal}
 
 module _ {D : Type 0} (seen : D → Option (List ℕ)) (may_leave : D → List ℕ → Type 0) (moment : D → ℕ) (left_since : D → ℕ → List ℕ → Type 0) (just_now : (d : D) (c : List ℕ) → left_since d (moment d) c → may_leave d c)

@@ -1,3 +1,7 @@
 mod Appended
+mod Crash
 mod Mended
+mod Moments
+mod Order
+mod Records
 mod Sound

@@ -2,11 +2,11 @@
 use Rattle.std.proofs.Common.{◌≡◌, ℕ, ◌+◌, List, [], ◌∷◌, ◌++◌, length, get_or, take, Option, Some, refl, sym, ◌∙◌, ap, subst, arith}
 use Rattle.std.specs.Prelude.{option_map, IfSome}
 use Rattle.std.proofs.lemmas.List.{length-take-le}
-use Rattle.afs_model.specs.Disk.{overwritten, Torn, CutShort, ComesBy, LeavesJust, Passes, LeavesOnly}
-use Rattle.afs_model.specs.Journal.{blocks, journal_bytes, whole_records, EndsAt}
-use Rattle.afs_model.proofs.Crash.{torn_new, cut_keeps, cut_done, torn_end, written_end, found, journal_stands}
-use Rattle.afs_model.proofs.Journal.{stands_for_nothing}
-use Rattle.afs_model.proofs.Moments.{begins, goes_on}
+use Rattle.afs_disk.specs.Disk.{overwritten, Torn, CutShort, ComesBy, LeavesJust, Passes, LeavesOnly}
+use Rattle.afs_journal.specs.Records.{blocks, journal_bytes, whole_records, EndsAt}
+use Rattle.afs_journal.proofs.Crash.{torn_new, cut_keeps, cut_done, torn_end, written_end, found, journal_stands}
+use Rattle.afs_journal.proofs.Records.{stands_for_nothing}
+use Rattle.afs_journal.proofs.Moments.{begins, goes_on}
 use Rattle.afs_journal.specs.Log.{IsJournal}
 
 module _ {D : Type 0} (seen : D → Option (List ℕ)) (may_leave : D → List ℕ → Type 0) (moment : D → ℕ) (left_since : D → ℕ → List ℕ → Type 0) (just_now : (d : D) (c : List ℕ) → left_since d (moment d) c → may_leave d c)

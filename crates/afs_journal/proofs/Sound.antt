@@ -1,10 +1,10 @@
 -- When a journal over a disk is sound, and what an append makes of that.
 use Rattle.std.proofs.Common.{◌≡◌, ◌<◌, ◌≤◌, ℕ, ◌+◌, ◌^◌, inl, List, [], ◌∷◌, ◌++◌, length, Option, Some, None, refl, sym, ◌∙◌, ap, subst, arith, length-append}
 use Rattle.std.specs.Prelude.{IsSome}
-use Rattle.afs_model.specs.Disk.{SameDisk, LeavesOnly}
-use Rattle.afs_model.specs.Journal.{place_of, journal_bytes, whole_records, IsBeforeOrAfter, Fit}
-use Rattle.afs_model.proofs.Journal.{length-place_of}
-use Rattle.afs_model.proofs.Moments.{and_on, unmoved, weaker}
+use Rattle.afs_disk.specs.Disk.{SameDisk, LeavesOnly}
+use Rattle.afs_journal.specs.Records.{place_of, journal_bytes, whole_records, IsBeforeOrAfter, Fit}
+use Rattle.afs_journal.proofs.Records.{length-place_of}
+use Rattle.afs_journal.proofs.Moments.{and_on, unmoved, weaker}
 use Rattle.afs_journal.specs.Log.{IsSettled, IsJournal, Spells, StandsAsBefore}
 
 some_is : (a b : List ℕ) → Some a ≡ Some b → a ≡ b

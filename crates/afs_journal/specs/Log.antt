@@ -2,8 +2,8 @@
 use Rattle.std.specs.Prelude.{◌≡◌, ◌<◌, ◌≤◌, ℕ, suc, ◌+◌, ◌*◌, ◌^◌, Bool, false, List, ◌++◌, [], ◌∷◌, length, Option, Some, Result, Ok, Err, IfErr, IsErrOf, OnOk, min, ◌-◌, ◌⊎◌}
 use Rattle.afs_num.specs.declared.faults.JournalFault.{JournalFault}
 use Rattle.afs_num.specs.declared.faults.JournalFault.TheVariants.{Full, Failed, Closed, OutOfMemory}
-use Rattle.afs_model.specs.Disk.{LeavesJust, Room, Holds, Rose, Setting, Trips, PassesAll, SameDisk}
-use Rattle.afs_model.specs.Journal.{place_of, journal_bytes, whole_records, Fit}
+use Rattle.afs_disk.specs.Disk.{LeavesJust, Room, Holds, Rose, Setting, Trips, PassesAll, SameDisk}
+use Rattle.afs_journal.specs.Records.{place_of, journal_bytes, whole_records, Fit}
 
 -- A journal over a disk: the records that `attach` found, how many records it has, where the gate behind the last of
 -- them stands, whether a device call failed since `attach`, and how long a place it can spell without memory.

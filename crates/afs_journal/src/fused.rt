@@ -1,7 +1,7 @@
 // A journal over a fuse: what is set passes to the fuse.
 ghost use Rattle.std.specs.Prelude.{◌≡◌, ◌↔◌, IsTrue};
 ghost use Rattle.afs_disk.specs.Fuses.{armed, failing};
-ghost use Rattle.afs_model.specs.Disk.{IsBeyond};
+ghost use Rattle.afs_disk.specs.Disk.{IsBeyond};
 
 use crate::journal::Journal;
 use afs_disk::{Disk, Fuse};

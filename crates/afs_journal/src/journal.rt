@@ -1,6 +1,6 @@
 ghost use Rattle.std.specs.Prelude.{◌≡◌, ◌≤◌, ◌<◌, ◌+◌, ◌++◌, ◌∷◌, [], ◌↔◌, ◌*◌, ◌^◌, List, ℕ, Some, true, false, length, MatchResult, IfOk, IfErr, OnOk, IsOk, IsErrOf, IsTrue, IsSome};
-ghost use Rattle.afs_model.specs.Disk.{LeavesOnly, PassesAll};
-ghost use Rattle.afs_model.specs.Journal.{whole_records, IsBeforeOrAfter};
+ghost use Rattle.afs_disk.specs.Disk.{LeavesOnly, PassesAll};
+ghost use Rattle.afs_journal.specs.Records.{whole_records, IsBeforeOrAfter};
 ghost use Rattle.afs_journal.specs.Log.{AlwaysStandsFor, Appended, HasRoom, IsCaused, IsJournal, KeepsRoom, LeavesUnchanged, Rests, SameCounts, Served, StandsAsBefore, Taken, Unchanged};
 
 use crate::mend::settle;

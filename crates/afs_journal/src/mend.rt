@@ -1,7 +1,7 @@
 // What `attach` does to a disk whose bytes are no journal at rest.
 ghost use Rattle.std.specs.Prelude.{◌≡◌, ◌≤◌, ◌<◌, ◌+◌, ◌*◌, ◌^◌, List, ℕ, [], length, max, Some, IsSome, IfOk, OnOk, IsTrue, slice_index_or, ◌↔◌};
-ghost use Rattle.afs_model.specs.Disk.{Ran, Holds, LeavesJust, LeavesOnly};
-ghost use Rattle.afs_model.specs.Journal.{whole_records, EndsAt};
+ghost use Rattle.afs_disk.specs.Disk.{Ran, Holds, LeavesJust, LeavesOnly};
+ghost use Rattle.afs_journal.specs.Records.{whole_records, EndsAt};
 ghost use Rattle.afs_journal.specs.Log.{IsJournal, Rests, Served};
 
 use crate::scan::scan;

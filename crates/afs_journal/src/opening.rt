@@ -1,6 +1,6 @@
 // What `attach` does first: it makes the disk's content durable, and reads it.
 ghost use Rattle.std.specs.Prelude.{◌≡◌, ◌<◌, ◌≤◌, ◌+◌, List, ℕ, Some, length, max, IfOk, OnOk};
-ghost use Rattle.afs_model.specs.Disk.{Ran, Holds, LeavesJust, LeavesOnly, Takes};
+ghost use Rattle.afs_disk.specs.Disk.{Ran, Holds, LeavesJust, LeavesOnly, Takes};
 ghost use Rattle.afs_journal.specs.Log.{Served};
 
 use afs_disk::Disk;

@@ -1,7 +1,7 @@
 // The four device calls of an append.
 ghost use Rattle.std.specs.Prelude.{◌≡◌, ◌≤◌, ◌<◌, ◌+◌, ◌^◌, List, ℕ, [], ◌∷◌, ◌++◌, length, Some, IsSome, OnOk};
-ghost use Rattle.afs_model.specs.Disk.{Ran, Holds, LeavesOnly};
-ghost use Rattle.afs_model.specs.Journal.{whole_records, IsBeforeOrAfter};
+ghost use Rattle.afs_disk.specs.Disk.{Ran, Holds, LeavesOnly};
+ghost use Rattle.afs_journal.specs.Records.{whole_records, IsBeforeOrAfter};
 ghost use Rattle.afs_journal.specs.Log.{IsJournal, IsSettled, Spells};
 
 use afs_disk::Disk;

@@ -1,6 +1,6 @@
 // The whole records of bytes that a crash may have left.
 ghost use Rattle.std.specs.Prelude.{◌≡◌, ◌≤◌, ◌<◌, ◌+◌, ◌*◌, IfOk, IfSome, IfNone, IsTrue, length, None};
-ghost use Rattle.afs_model.specs.Journal.{number_at, is_whole, record_at, whole_records, StartsWith, EndsAt};
+ghost use Rattle.afs_journal.specs.Records.{number_at, is_whole, record_at, whole_records, StartsWith, EndsAt};
 
 use afs_num::sequences::{Octets, Records};
 use std::alloc::{AllocError, Global};
@@ -12,7 +12,7 @@ const OPEN: u8 = 1;
 const HEAD: usize = 9;
 
 // The number that four bytes spell, the highest first.
-#[tactic(auto, unfolding(afs_model::specs::Journal::number_at))]
+#[tactic(auto, unfolding(crate::specs::Records::number_at))]
 fn word(bytes: &[u8], at: usize) -> u32
     requires { at + 4 ≤ length bytes.now }
     ensures { result ≡ number_at at bytes.now }
@@ -21,7 +21,7 @@ fn word(bytes: &[u8], at: usize) -> u32
 }
 
 // Whether the bytes begin with a whole record of this number.
-#[tactic(auto, unfolding(afs_model::specs::Journal::is_whole))]
+#[tactic(auto, unfolding(crate::specs::Records::is_whole))]
 fn is_record(number: u64, bytes: &[u8]) -> bool
     ensures is { result ≡ is_whole number bytes.now }
     ensures inside { IsTrue result → number_at 1 bytes.now + 9 < length bytes.now }

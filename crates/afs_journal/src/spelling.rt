@@ -1,8 +1,8 @@
 // The bytes of a record's place, and the room for them.
 ghost use Rattle.std.specs.Prelude.{◌≡◌, ◌≤◌, ◌<◌, ◌+◌, ◌^◌, ◌++◌, ◌∷◌, [], length, OnOk, IsOk};
 ghost use Rattle.std.specs.Vec.{vec_capacity};
-ghost use Rattle.afs_model.specs.Disk.{Holds, NoSmaller, SameDisk};
-ghost use Rattle.afs_model.specs.Journal.{place_of};
+ghost use Rattle.afs_disk.specs.Disk.{Holds, NoSmaller, SameDisk};
+ghost use Rattle.afs_journal.specs.Records.{place_of};
 
 use afs_disk::Disk;
 use afs_num::types::Mem;

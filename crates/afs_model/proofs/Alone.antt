@@ -6,7 +6,7 @@ use Rattle.afs_num.specs.declared.types.Head.{Head}
 use Rattle.afs_num.specs.declared.types.Key.{Key}
 use Rattle.afs_num.specs.declared.types.Node.{Node}
 use Rattle.afs_num.specs.declared.types.Node.TheVariants.{Server, Client}
-use Rattle.afs_num.specs.declared.calls.FsCall.{FsCall}
+use Rattle.afs_num.specs.declared.messages.Call.{Call}
 use Rattle.afs_num.specs.declared.messages.Carried.TheVariants as carried
 use Rattle.afs_num.specs.declared.messages.Message.{Message}
 use Rattle.afs_num.specs.declared.scripts.Act.{Act}
@@ -154,7 +154,7 @@ read_elsewhere = shown (Client 1) 1 Fetched abc (after (asks_open 1 1 ∷ (grant
 
 -- ---- changes
 
-abbrev changed : (server : Node) (k : Key) (count : ℕ) (past : List Entry) (own next : List Line) (c : FsCall) (act : Act) → IsNew k (own ++ lines_of past) → Called k (codes "guest") c act past → c ≡ asked act → (op (codes "guest") c (own ++ lines_of past)).code ≡ pos 0
+abbrev changed : (server : Node) (k : Key) (count : ℕ) (past : List Entry) (own next : List Line) (c : Call) (act : Act) → IsNew k (own ++ lines_of past) → Called k (codes "guest") c act past → c ≡ asked act → (op (codes "guest") c (own ++ lines_of past)).code ≡ pos 0
     → versions_first next ≡ (op (codes "guest") c (own ++ lines_of past)).versions → count ≡ length (versions_first next) → 0 < count → AcceptsAll script server (own ++ lines_of past) (versions_first next) → GoodChange script server k count past own next
 changed server k count past own next c act fresh called own_call code versions number some home = record {
   fresh = fresh;
@@ -195,7 +195,7 @@ stored_after h = changed (Server 1) (key 1 2) 1 (after (asks_close 1 1 def ∷ c
 
 -- ---- answers
 
-abbrev answered : (c : Node) (code : ℕ) (past : List Entry) (own : List Line) (act : Act) (r : Message) (x : FsCall) → running c (own ++ lines_of past) ≡ Some act → given_message own (sent_of past) ≡ Some r → r.head.to ≡ c → IsReply r → code_told r.carried ≡ Some (pos code) → (at : Ran r.head past)
+abbrev answered : (c : Node) (code : ℕ) (past : List Entry) (own : List Line) (act : Act) (r : Message) (x : Call) → running c (own ++ lines_of past) ≡ Some act → given_message own (sent_of past) ≡ Some r → r.head.to ≡ c → IsReply r → code_told r.carried ≡ Some (pos code) → (at : Ran r.head past)
     → at.message.carried ≡ carried.Call (codes "guest") x → x ≡ asked act → (op (codes "guest") x (lines_of at.older)).code ≡ pos code → IsMade (answered_key r.head) (op (codes "guest") x (lines_of at.older)).versions (own ++ lines_of past) → has_begun c own ≡ false
     → CalledSince (answered_key r.head) (codes "guest") x past → GoodCode c (record { 0 = pos code }) past own
 answered c code past own act r x runs by to is_reply told at carries asks gives made before called = record {

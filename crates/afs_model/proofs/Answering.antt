@@ -13,9 +13,10 @@ use Rattle.afs_num.specs.declared.types.Node.TheVariants.{Client}
 use Rattle.afs_num.specs.declared.calls.AfsCallBack.{AfsCallBack}
 use Rattle.afs_num.specs.declared.calls.AfsFetchStatus.{AfsFetchStatus}
 use Rattle.afs_num.specs.declared.calls.AfsVolSync.{AfsVolSync}
-use Rattle.afs_num.specs.declared.calls.FsCall.{FsCall}
-use Rattle.afs_num.specs.declared.calls.FsReply.{FsReply}
+use Rattle.afs_num.specs.declared.messages.Call.{Call}
+use Rattle.afs_num.specs.declared.messages.Reply.{Reply}
 use Rattle.afs_num.specs.declared.calls.FsReply.TheVariants as replies
+use Rattle.afs_num.specs.declared.messages.Reply.TheVariants as tell
 use Rattle.afs_num.specs.declared.messages.Carried.{Carried}
 use Rattle.afs_num.specs.declared.messages.Carried.TheVariants as carried
 use Rattle.afs_num.specs.declared.messages.Message.{Message}
@@ -165,12 +166,12 @@ good_code s c past n p act m code own h d told by none still =
         to = ap (λ (k : Key). k.node) d.key;
         cause = cause_behind m code.0 act past own cause;
         before = none;
-        called = subst (λ (u : List ℕ). CalledSince (answered_key m.head) u cause.call past) (sym cause.own_user) (subst (λ (x : FsCall). CalledSince (answered_key m.head) guest x past) (sym cause.asks) asked_now);
+        called = subst (λ (u : List ℕ). CalledSince (answered_key m.head) u cause.call past) (sym cause.own_user) (subst (λ (x : Call). CalledSince (answered_key m.head) guest x past) (sym cause.asks) asked_now);
       });
     }
 
 -- an act that ended leaves no call that may run
-ended_calls : (s : Script) (c : Cell) (past : List Entry) (n p : ℕ) (act : Act) (m : Message) (cache : List CacheEntry) → Due c past n p act m → (head : Head) (call : FsCall) → CallFact (view c n) head call → CallFact (view_after c n (ended (c.clients n) cache)) head call
+ended_calls : (s : Script) (c : Cell) (past : List Entry) (n p : ℕ) (act : Act) (m : Message) (cache : List CacheEntry) → Due c past n p act m → (head : Head) (call : Call) → CallFact (view c n) head call → CallFact (view_after c n (ended (c.clients n) cache)) head call
 ended_calls s c past n p act m cache d head call f = record {
   behind = f.behind;
   own = λ b x y z. absurd cc;
@@ -218,10 +219,10 @@ used_reply : (n : ℕ) (f : Fid) (o u : Option Message) → cond (cond (same_nod
 used_reply n f o u = rw (same_node-refl (Client n), same_fid-refl f) refl
 
 takes_used : (s : Script) (c : Cell) (past : List Entry) (n p : ℕ) (f : Fid) (head : Head) (contents : List ℕ) (status : AfsFetchStatus) (callback : AfsCallBack) (sync : AfsVolSync) → HoldsAt s c past
-    → Due c past n p (Open f) (record { head = head; carried = carried.Reply (replies.FetchData contents status callback sync) }) → nat_lt c.clock callback.expiration_time ≡ true
+    → Due c past n p (Open f) (record { head = head; carried = carried.Reply (tell.File (replies.FetchData contents status callback sync)) }) → nat_lt c.clock callback.expiration_time ≡ true
     → Goes s past (client_moves c n (shows_fetched_step (Client n) (c.clients n) p (record { fid = f; index = status.sync_counter; expiry = callback.expiration_time; contents = contents })))
 takes_used s c past n p f head contents status callback sync h d lasts =
-    let m : Message = record { head = head; carried = carried.Reply (replies.FetchData contents status callback sync) } in
+    let m : Message = record { head = head; carried = carried.Reply (tell.File (replies.FetchData contents status callback sync)) } in
     let i : ℕ = status.sync_counter in
     let x : ℕ = callback.expiration_time in
     let new : CacheEntry = record { fid = f; index = i; expiry = x; contents = contents } in
@@ -270,7 +271,7 @@ takes_used s c past n p f head contents status callback sync h d lasts =
     (ended_calls s c past n p (Open f) m cache d) (nothing_new _ _)
 
 fetched_goes : (s : Script) (c : Cell) (past : List Entry) (n p : ℕ) (f : Fid) (head : Head) (contents : List ℕ) (status : AfsFetchStatus) (callback : AfsCallBack) (sync : AfsVolSync) (t : Bool) → HoldsAt s c past
-    → Due c past n p (Open f) (record { head = head; carried = carried.Reply (replies.FetchData contents status callback sync) }) → nat_lt c.clock callback.expiration_time ≡ t
+    → Due c past n p (Open f) (record { head = head; carried = carried.Reply (tell.File (replies.FetchData contents status callback sync)) }) → nat_lt c.clock callback.expiration_time ≡ t
     → Goes s past (client_moves c n (cond t (shows_fetched_step (Client n) (c.clients n) p (record { fid = f; index = status.sync_counter; expiry = callback.expiration_time; contents = contents })) (calls_step (Client n) (c.clients n) (Open f) (lines.Given p))))
 fetched_goes s c past n p f head contents status callback sync true h d lasts = takes_used s c past n p f head contents status callback sync h d lasts
 fetched_goes s c past n p f head contents status callback sync false h d lasts =
@@ -334,10 +335,10 @@ stored_of None s c past n p f g b m index u e cache d told whole pass r stay fou
 stored_of (Some x) s c past n p f g b m index u e cache d told whole pass r stay found is lasts h =
     stored_by (same_fid x.fid f) (nat_lt c.clock x.expiry) s c past n p f g b m index x u e cache d told whole pass r stay refl refl (found-cached-fid g (c.clients n).cache x found) found (some_of _ _ is) lasts h
 
-takes_saved : (s : Script) (c : Cell) (past : List Entry) (n p : ℕ) (f : Fid) (b : List ℕ) (head : Head) (status : AfsFetchStatus) (sync : AfsVolSync) → HoldsAt s c past → Due c past n p (Close f b) (record { head = head; carried = carried.Reply (replies.StoreData status sync) })
+takes_saved : (s : Script) (c : Cell) (past : List Entry) (n p : ℕ) (f : Fid) (b : List ℕ) (head : Head) (status : AfsFetchStatus) (sync : AfsVolSync) → HoldsAt s c past → Due c past n p (Close f b) (record { head = head; carried = carried.Reply (tell.File (replies.StoreData status sync)) })
     → Goes s past (client_moves c n (takes_stored (Client n) (c.clients n) c.clock p f status.sync_counter b))
 takes_saved s c past n p f b head status sync h d =
-    let m : Message = record { head = head; carried = carried.Reply (replies.StoreData status sync) } in
+    let m : Message = record { head = head; carried = carried.Reply (tell.File (replies.StoreData status sync)) } in
     let i : ℕ = status.sync_counter in
     let cache : List CacheEntry = refreshed_cache c.clock f i b (c.clients n).cache in
     let e : Entry = step_entry n (answered_lines n p zero_code) [] in
@@ -363,9 +364,9 @@ resends_goes s c past n p act m boot h d runs =
 
 -- ---- the row, by its cases
 
-takes_goes : (s : Script) (c : Cell) (past : List Entry) (n p : ℕ) (act : Act) (head : Head) (reply : FsReply) → HoldsAt s c past → Due c past n p act (record { head = head; carried = carried.Reply reply }) → Goes s past (client_moves c n (takes (Client n) (c.clients n) c.clock p act reply))
-takes_goes s c past n p (Open f) head (replies.FetchData contents status callback sync) h d = fetched_goes s c past n p f head contents status callback sync (nat_lt c.clock callback.expiration_time) h d refl
-takes_goes s c past n p (Close f b) head (replies.StoreData status sync) h d = takes_saved s c past n p f b head status sync h d
+takes_goes : (s : Script) (c : Cell) (past : List Entry) (n p : ℕ) (act : Act) (head : Head) (reply : Reply) → HoldsAt s c past → Due c past n p act (record { head = head; carried = carried.Reply reply }) → Goes s past (client_moves c n (takes (Client n) (c.clients n) c.clock p act reply))
+takes_goes s c past n p (Open f) head (tell.File (replies.FetchData contents status callback sync)) h d = fetched_goes s c past n p f head contents status callback sync (nat_lt c.clock callback.expiration_time) h d refl
+takes_goes s c past n p (Close f b) head (tell.File (replies.StoreData status sync)) h d = takes_saved s c past n p f b head status sync h d
 takes_goes s c past n p (Open f) head reply h d = absurd d.answers.fits
 takes_goes s c past n p (Close f b) head reply h d = absurd d.answers.fits
 

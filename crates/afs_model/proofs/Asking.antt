@@ -8,8 +8,9 @@ use Rattle.afs_num.specs.declared.types.Fid.{Fid}
 use Rattle.afs_num.specs.declared.types.Head.{Head}
 use Rattle.afs_num.specs.declared.types.Key.{Key}
 use Rattle.afs_num.specs.declared.types.Node.TheVariants.{Client}
-use Rattle.afs_num.specs.declared.calls.FsCall.{FsCall}
+use Rattle.afs_num.specs.declared.messages.Call.{Call}
 use Rattle.afs_num.specs.declared.calls.FsCall.TheVariants as calls
+use Rattle.afs_num.specs.declared.messages.Call.TheVariants as ask
 use Rattle.afs_num.specs.declared.messages.Carried.TheVariants as carried
 use Rattle.afs_num.specs.declared.messages.Message.{Message}
 use Rattle.afs_num.specs.declared.scripts.Act.{Act}
@@ -63,7 +64,7 @@ view_after c n x = view_of c.clock x (call_seat (Client n) c.server.seats)
 abbrev pub views_after : Cell → ℕ → ClientState → ℕ → View
 views_after c n x j = view_of c.clock (put n x c.clients j) (call_seat (Client j) c.server.seats)
 
-calls_moved : (c : Cell) (n : ℕ) (x : ClientState) (sent : List Message) → ((head : Head) (call : FsCall) → CallFact (view c n) head call → CallFact (view_after c n x) head call) → Each (IfCall (CallIn (view c))) sent → Each (IfCall (CallIn (views_after c n x))) sent
+calls_moved : (c : Cell) (n : ℕ) (x : ClientState) (sent : List Message) → ((head : Head) (call : Call) → CallFact (view c n) head call → CallFact (view_after c n x) head call) → Each (IfCall (CallIn (view c))) sent → Each (IfCall (CallIn (views_after c n x))) sent
 calls_moved c n x sent w h = each_map (IfCall (CallIn (view c))) (IfCall (CallIn (views_after c n x))) (if_call (CallIn (view c)) (CallIn (views_after c n x)) (λ head user call f. record {
   client = f.client;
   from = f.from;
@@ -78,7 +79,7 @@ replies_moved c n x sent h = each_map (IfReply (ReplyIn (view c))) (IfReply (Rep
 
 pub moves : (s : Script) (c : Cell) (past : List Entry) (n : ℕ) (st : Step ClientState) → HoldsAt s c past → AreGood s (actors.Node (Client n)) past [] st.lines → Passes s n st.lines st.sent past
     → ClientFacts n (view_after c n st.state) ((client_moves c n st).entry ∷ past)
-    → ((head : Head) (call : FsCall) → CallFact (view c n) head call → CallFact (view_after c n st.state) head call)
+    → ((head : Head) (call : Call) → CallFact (view c n) head call → CallFact (view_after c n st.state) head call)
     → News st.sent (views_after c n st.state) ((client_moves c n st).entry ∷ past) → Goes s past (client_moves c n st)
 moves s c past n st h good p own w news =
     let e : Entry = (client_moves c n st).entry in
@@ -263,14 +264,14 @@ call_is (Open f) = refl
 call_is (Close f contents) = refl
 
 -- where no store of the client's own may run, none but of files that it doesn't hold may
-safe_over : (call : FsCall) (e l d m : ℕ) (running other : Option Act) (cache : List CacheEntry) (head : Head) → ((f : Fid) (y : List ℕ) → running ≡ Some (Close f y) → ⊥) → IsSafe e l running cache head call → IsSafe d m other cache head call
-safe_over (calls.StoreData f status position wanted file_length contents) e l d m running other cache head shut (inl x) = absurd (shut f contents x.0)
-safe_over (calls.StoreData f status position wanted file_length contents) e l d m running other cache head shut (inr x) = inr x
+safe_over : (call : Call) (e l d m : ℕ) (running other : Option Act) (cache : List CacheEntry) (head : Head) → ((f : Fid) (y : List ℕ) → running ≡ Some (Close f y) → ⊥) → IsSafe e l running cache head call → IsSafe d m other cache head call
+safe_over (ask.File (calls.StoreData f status position wanted file_length contents)) e l d m running other cache head shut (inl x) = absurd (shut f contents x.0)
+safe_over (ask.File (calls.StoreData f status position wanted file_length contents)) e l d m running other cache head shut (inr x) = inr x
 safe_over call e l d m running other cache head shut x = tt
 
-pub safe_cache : (call : FsCall) (e l : ℕ) (running : Option Act) (cache other : List CacheEntry) (head : Head) → ((f : Fid) → find_cached f cache ≡ None → find_cached f other ≡ None) → IsSafe e l running cache head call → IsSafe e l running other head call
-safe_cache (calls.StoreData f status position wanted file_length contents) e l running cache other head w (inl x) = inl x
-safe_cache (calls.StoreData f status position wanted file_length contents) e l running cache other head w (inr x) = inr (w f x)
+pub safe_cache : (call : Call) (e l : ℕ) (running : Option Act) (cache other : List CacheEntry) (head : Head) → ((f : Fid) → find_cached f cache ≡ None → find_cached f other ≡ None) → IsSafe e l running cache head call → IsSafe e l running other head call
+safe_cache (ask.File (calls.StoreData f status position wanted file_length contents)) e l running cache other head w (inl x) = inl x
+safe_cache (ask.File (calls.StoreData f status position wanted file_length contents)) e l running cache other head w (inr x) = inr (w f x)
 safe_cache call e l running cache other head w x = tt
 
 pub safe_own : (act : Act) (e l : ℕ) (running : Option Act) (cache : List CacheEntry) (head : Head) → running ≡ Some act → head.epoch ≡ e → head.number ≡ l → IsSafe e l running cache head (call_of act)
@@ -320,7 +321,7 @@ asks s c past n act l h good p q r shut at =
         | inr o ↦ absurd (shut f o.contents o.runs)
       ]) (d.current f u found lasts);
       runs = λ b y. at ∙ y;
-      asked = λ b y. subst (λ (a : Act). CalledSince (last_key n v) guest (asked a) (e ∷ past)) (some_of act b y) (inl (refl, inl (refl, ap (λ (z : FsCall). carried.Call guest z) (call_is act))));
+      asked = λ b y. subst (λ (a : Act). CalledSince (last_key n v) guest (asked a) (e ∷ past)) (some_of act b y) (inl (refl, inl (refl, ap (λ (z : Call). carried.Call guest z) (call_is act))));
       reached = reached_still s c past n e h r last;
     })
     (λ head call f. record {

@@ -16,7 +16,7 @@ use Rattle.afs_num.specs.declared.types.Head.{Head}
 use Rattle.afs_num.specs.declared.types.Key.{Key}
 use Rattle.afs_num.specs.declared.types.Node.{Node}
 use Rattle.afs_num.specs.declared.types.Node.TheVariants.{Loc, Server, Client, Admin}
-use Rattle.afs_num.specs.declared.calls.FsCall.{FsCall}
+use Rattle.afs_num.specs.declared.messages.Call.{Call}
 use Rattle.afs_num.specs.declared.messages.Carried.{Carried}
 use Rattle.afs_num.specs.declared.messages.Carried.TheVariants as carried
 use Rattle.afs_num.specs.declared.messages.Message.{Message}
@@ -352,7 +352,7 @@ found-refreshed clock f g i b (v ∷ vs) = refreshed_by clock f g i b (same_fid 
 
 -- ---- every call, every reply in a list of messages
 
-abbrev pub OfCall : (Head → List ℕ → FsCall → Type 0) → Head → Carried → Type 0
+abbrev pub OfCall : (Head → List ℕ → Call → Type 0) → Head → Carried → Type 0
 OfCall P head (carried.Call user call) = P head user call
 OfCall P head c = ⊤
 
@@ -361,7 +361,7 @@ OfReply P (carried.Refusal code) = P
 OfReply P (carried.Reply reply) = P
 OfReply P c = ⊤
 
-abbrev pub IfCall : (Head → List ℕ → FsCall → Type 0) → Message → Type 0
+abbrev pub IfCall : (Head → List ℕ → Call → Type 0) → Message → Type 0
 IfCall P m = OfCall P m.head m.carried
 
 abbrev pub IfReply : (Message → Type 0) → Message → Type 0
@@ -385,13 +385,13 @@ each_at P (x ∷ a) zero m e h = absurd cc
 each_at P (x ∷ a) (suc zero) m e h = let one : x ≡ m = cc in subst P one h.0
 each_at P (x ∷ a) (suc (suc p)) m e h = each_at P a (suc p) m e h.1
 
-of_call : (P Q : Head → List ℕ → FsCall → Type 0) → ((head : Head) (user : List ℕ) (call : FsCall) → P head user call → Q head user call) → (head : Head) (c : Carried) → OfCall P head c → OfCall Q head c
+of_call : (P Q : Head → List ℕ → Call → Type 0) → ((head : Head) (user : List ℕ) (call : Call) → P head user call → Q head user call) → (head : Head) (c : Carried) → OfCall P head c → OfCall Q head c
 of_call P Q w head (carried.Call user call) h = w head user call h
 of_call P Q w head (carried.Refusal code) h = tt
 of_call P Q w head (carried.Reply reply) h = tt
 of_call P Q w head carried.Notice h = tt
 
-pub if_call : (P Q : Head → List ℕ → FsCall → Type 0) → ((head : Head) (user : List ℕ) (call : FsCall) → P head user call → Q head user call) → (m : Message) → IfCall P m → IfCall Q m
+pub if_call : (P Q : Head → List ℕ → Call → Type 0) → ((head : Head) (user : List ℕ) (call : Call) → P head user call → Q head user call) → (m : Message) → IfCall P m → IfCall Q m
 if_call P Q w m h = of_call P Q w m.head m.carried h
 
 of_reply : (P Q : Type 0) → (P → Q) → (c : Carried) → OfReply P c → OfReply Q c

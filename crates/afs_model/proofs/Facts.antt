@@ -7,9 +7,11 @@ use Rattle.afs_num.specs.declared.types.Head.{Head}
 use Rattle.afs_num.specs.declared.types.Key.{Key}
 use Rattle.afs_num.specs.declared.types.Node.{Node}
 use Rattle.afs_num.specs.declared.types.Node.TheVariants.{Client}
-use Rattle.afs_num.specs.declared.calls.FsCall.{FsCall}
+use Rattle.afs_num.specs.declared.messages.Call.{Call}
 use Rattle.afs_num.specs.declared.calls.FsCall.TheVariants as calls
+use Rattle.afs_num.specs.declared.messages.Call.TheVariants as ask
 use Rattle.afs_num.specs.declared.calls.FsReply.TheVariants as replies
+use Rattle.afs_num.specs.declared.messages.Reply.TheVariants as tell
 use Rattle.afs_num.specs.declared.messages.Carried.{Carried}
 use Rattle.afs_num.specs.declared.messages.Carried.TheVariants as carried
 use Rattle.afs_num.specs.declared.messages.Message.{Message}
@@ -88,7 +90,7 @@ pub record Plain (j : ℕ) (f : Fid) (index : ℕ) (server : Node) (newer : List
   pub before : (y : List ℕ) → v.running ≡ Some (Close f y) → LastRan v → ⊥
 
 abbrev pub stored_index : Carried → Option ℕ
-stored_index (carried.Reply (replies.StoreData status sync)) = Some status.sync_counter
+stored_index (carried.Reply (tell.File (replies.StoreData status sync))) = Some status.sync_counter
 stored_index c = None
 
 -- an entry whose client waits for the reply to its own store, which ran
@@ -123,8 +125,8 @@ pub record IsFetched (j : ℕ) (f : Fid) (index : ℕ) (contents : List ℕ) (ex
   pub newest : IsNewest held.grant.server j f index (since (Client j) f expiry reply past held.grant) (lines_of past)
 
 abbrev pub Fits : ℕ → Act → Message → Carried → List Entry → Type 0
-Fits j (Open f) m (carried.Reply (replies.FetchData contents status callback sync)) past = IsFetched j f status.sync_counter contents callback.expiration_time m past
-Fits j (Close f contents) m (carried.Reply (replies.StoreData status sync)) past = HasVersion f status.sync_counter (bodies.File contents) (lines_of past)
+Fits j (Open f) m (carried.Reply (tell.File (replies.FetchData contents status callback sync))) past = IsFetched j f status.sync_counter contents callback.expiration_time m past
+Fits j (Close f contents) m (carried.Reply (tell.File (replies.StoreData status sync))) past = HasVersion f status.sync_counter (bodies.File contents) (lines_of past)
 Fits j act m (carried.Refusal code) past = ⊤
 Fits j act m c past = ⊥
 
@@ -159,17 +161,17 @@ pub record ClientFacts (j : ℕ) (v : View) (past : List Entry) : Type 0 where
 -- ---- messages in flight
 
 -- a store that may still run is that of the running act, or its file is not in the cache
-abbrev pub IsSafe : ℕ → ℕ → Option Act → List CacheEntry → Head → FsCall → Type 0
-IsSafe epoch last running cache head (calls.StoreData f status position wanted file_length contents) =
+abbrev pub IsSafe : ℕ → ℕ → Option Act → List CacheEntry → Head → Call → Type 0
+IsSafe epoch last running cache head (ask.File (calls.StoreData f status position wanted file_length contents)) =
     ((running ≡ Some (Close f contents)) × ((head.epoch ≡ epoch) × (head.number ≡ last))) ⊎ (find_cached f cache ≡ None)
 IsSafe epoch last running cache head call = ⊤
 
-pub record CallFact (v : View) (head : Head) (call : FsCall) : Type 0 where
+pub record CallFact (v : View) (head : Head) (call : Call) : Type 0 where
   pub behind : UpTo head.epoch head.number v.epoch v.last
   pub own : (act : Act) → v.running ≡ Some act → head.epoch ≡ v.epoch → head.number ≡ v.last → call ≡ asked act
   pub safe : Above v.seat head.epoch head.number → IsSafe v.epoch v.last v.running v.cache head call
 
-pub record CallIn (views : ℕ → View) (head : Head) (user : List ℕ) (call : FsCall) : Type 0 where
+pub record CallIn (views : ℕ → View) (head : Head) (user : List ℕ) (call : Call) : Type 0 where
   pub client : ℕ
   pub from : head.from ≡ Client client
   pub to : head.to ≡ the_server
@@ -186,7 +188,7 @@ pub record ReplyIn (views : ℕ → View) (m : Message) : Type 0 where
   pub to : m.head.to ≡ Client client
   pub fact : ReplyFact (views client).seat m
 
-pub record Origin (past : List Entry) (head : Head) (user : List ℕ) (call : FsCall) : Type 0 where
+pub record Origin (past : List Entry) (head : Head) (user : List ℕ) (call : Call) : Type 0 where
   pub act : Act
   pub called : Called (called_key head) user call act past
   pub own_user : user ≡ user_of head.from

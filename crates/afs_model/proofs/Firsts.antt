@@ -3,13 +3,14 @@ use Rattle.std.proofs.Common.{ℕ, Bool, true, false, cond, Option, Some, None, 
 use Rattle.afs_num.specs.declared.types.Fid.{Fid}
 use Rattle.afs_num.specs.declared.types.Head.{Head}
 use Rattle.afs_num.specs.declared.types.Node.{Node}
-use Rattle.afs_num.specs.declared.calls.FsReply.{FsReply}
+use Rattle.afs_num.specs.declared.messages.Reply.{Reply}
 use Rattle.afs_num.specs.declared.calls.FsReply.TheVariants as replies
+use Rattle.afs_num.specs.declared.messages.Reply.TheVariants as tell
 use Rattle.afs_num.specs.declared.messages.Carried.{Carried}
 use Rattle.afs_num.specs.declared.messages.Carried.TheVariants as carried
 use Rattle.afs_num.specs.declared.messages.Message.{Message}
 use Rattle.afs_num.specs.declared.messages.Received.{Received}
-use Rattle.afs_num.specs.declared.messages.Received.TheVariants.{Nothing, Unknown, Unreadable, Whole}
+use Rattle.afs_num.specs.declared.messages.Received.TheVariants.{Nothing, Unserved, Unreadable, Whole}
 use Rattle.afs_num.specs.declared.scripts.Act.{Act}
 use Rattle.afs_num.specs.declared.scripts.Act.TheVariants.{Open, Close}
 use Rattle.afs_num.specs.declared.histories.Line.TheVariants as lines
@@ -37,11 +38,11 @@ fetched_first : (me : Node) (c : ClientState) (place : ℕ) (entry : CacheEntry)
 fetched_first me c place entry true = refl
 fetched_first me c place entry false = refl
 
-takes_first : (me : Node) (c : ClientState) (clock place : ℕ) (act : Act) (reply : FsReply) → BeginsWith (lines.Given place) (takes me c clock place act reply).lines
-takes_first me c clock place (Open fid) (replies.FetchData contents status callback sync) =
+takes_first : (me : Node) (c : ClientState) (clock place : ℕ) (act : Act) (reply : Reply) → BeginsWith (lines.Given place) (takes me c clock place act reply).lines
+takes_first me c clock place (Open fid) (tell.File (replies.FetchData contents status callback sync)) =
     let entry : CacheEntry = record { fid = fid; index = status.sync_counter; expiry = callback.expiration_time; contents = contents } in
     fetched_first me c place entry (is_trusted clock entry)
-takes_first me c clock place (Close fid contents) (replies.StoreData status sync) = refl
+takes_first me c clock place (Close fid contents) (tell.File (replies.StoreData status sync)) = refl
 takes_first me c clock place act reply = refl
 
 counts_first : (me : Node) (c : ClientState) (clock place : ℕ) (act : Act) (head : Head) (carries : Carried) → BeginsWith (lines.Given place) (counts me c clock place act head carries).lines
@@ -60,7 +61,7 @@ awaits_first me c clock place m (Some act) = awaited_first me c clock place act 
 
 takes_in_first : (me : Node) (c : ClientState) (clock place : ℕ) (m : Received) → BeginsWith (lines.Given place) (client_hears me c clock place m).lines
 takes_in_first me c clock place Nothing = refl
-takes_in_first me c clock place (Unknown head) = refl
+takes_in_first me c clock place (Unserved head) = refl
 takes_in_first me c clock place (Unreadable head) = refl
 takes_in_first me c clock place (Whole m) = awaits_first me c clock place m c.running
 

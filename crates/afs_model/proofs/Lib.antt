@@ -27,12 +27,12 @@ pub mod Sameness
 pub mod Schedules
 pub mod Spellings
 pub mod Served
-pub mod Crash
-pub mod Journal
-pub mod Moments
 pub mod HeadLaws
 pub mod RpcLaws
 pub mod FsMade
+pub mod VolMade
+pub mod LocMade
+pub mod CellMade
 pub mod Calls
 pub mod ScriptWritten
 pub mod ScriptSaid

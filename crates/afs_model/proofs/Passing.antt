@@ -6,8 +6,9 @@ use Rattle.afs_num.specs.declared.types.Head.{Head}
 use Rattle.afs_num.specs.declared.types.Key.{Key}
 use Rattle.afs_num.specs.declared.types.Node.{Node}
 use Rattle.afs_num.specs.declared.types.Node.TheVariants.{Client}
-use Rattle.afs_num.specs.declared.calls.FsCall.{FsCall}
+use Rattle.afs_num.specs.declared.messages.Call.{Call}
 use Rattle.afs_num.specs.declared.calls.FsReply.TheVariants as replies
+use Rattle.afs_num.specs.declared.messages.Reply.TheVariants as tell
 use Rattle.afs_num.specs.declared.messages.Carried.{Carried}
 use Rattle.afs_num.specs.declared.messages.Carried.TheVariants as carried
 use Rattle.afs_num.specs.declared.messages.Message.{Message}
@@ -206,8 +207,8 @@ fetched_over j f i b x m e past p r n h = record {
 
 fits_over : (j : ℕ) (act : Act) (m : Message) (c : Carried) (e : Entry) (past : List Entry) → ((f : Fid) → PassesGrant j f e past) → ((f : Fid) → PassesReach j f e past) → ((f : Fid) → StaysNewest j f e past)
     → Fits j act m c past → Fits j act m c (e ∷ past)
-fits_over j (Open f) m (carried.Reply (replies.FetchData contents status callback sync)) e past p r n h = fetched_over j f status.sync_counter contents callback.expiration_time m e past (p f) (r f) (n f) h
-fits_over j (Close f contents) m (carried.Reply (replies.StoreData status sync)) e past p r n h = (p f).version status.sync_counter (bodies.File contents) (lines_of past) h
+fits_over j (Open f) m (carried.Reply (tell.File (replies.FetchData contents status callback sync))) e past p r n h = fetched_over j f status.sync_counter contents callback.expiration_time m e past (p f) (r f) (n f) h
+fits_over j (Close f contents) m (carried.Reply (tell.File (replies.StoreData status sync))) e past p r n h = (p f).version status.sync_counter (bodies.File contents) (lines_of past) h
 fits_over j (Open f) m (carried.Refusal code) e past p r n h = tt
 fits_over j (Close f contents) m (carried.Refusal code) e past p r n h = tt
 fits_over j (Open f) m c e past p r n h = absurd h
@@ -241,7 +242,7 @@ client_still j v e past p r q l h = client_over j v e past p r (λ f. stays j f 
 
 -- ---- messages in flight
 
-pub origin_over : (e : Entry) (past : List Entry) (head : Head) (user : List ℕ) (call : FsCall) → Origin past head user call → Origin (e ∷ past) head user call
+pub origin_over : (e : Entry) (past : List Entry) (head : Head) (user : List ℕ) (call : Call) → Origin past head user call → Origin (e ∷ past) head user call
 origin_over e past head user call o = record { act = o.act; called = inr o.called; own_user = o.own_user; own_call = o.own_call }
 
 pub older_origins : (sent : List Message) (e : Entry) (past : List Entry) → Each (IfCall (Origin past)) sent → Each (IfCall (Origin (e ∷ past))) sent

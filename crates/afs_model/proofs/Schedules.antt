@@ -9,15 +9,17 @@ use Rattle.afs_num.specs.declared.types.Fid.{Fid}
 use Rattle.afs_num.specs.declared.types.Head.{Head}
 use Rattle.afs_num.specs.declared.types.Node.{Node}
 use Rattle.afs_num.specs.declared.types.Node.TheVariants.{Loc, Server, Client, Admin}
-use Rattle.afs_num.specs.declared.calls.FsCall.{FsCall}
+use Rattle.afs_num.specs.declared.messages.Call.{Call}
 use Rattle.afs_num.specs.declared.calls.FsCall.TheVariants as calls
-use Rattle.afs_num.specs.declared.calls.FsReply.{FsReply}
+use Rattle.afs_num.specs.declared.messages.Call.TheVariants as ask
+use Rattle.afs_num.specs.declared.messages.Reply.{Reply}
 use Rattle.afs_num.specs.declared.calls.FsReply.TheVariants as replies
+use Rattle.afs_num.specs.declared.messages.Reply.TheVariants as tell
 use Rattle.afs_num.specs.declared.messages.Carried.{Carried}
 use Rattle.afs_num.specs.declared.messages.Carried.TheVariants as carried
 use Rattle.afs_num.specs.declared.messages.Message.{Message}
 use Rattle.afs_num.specs.declared.messages.Received.{Received}
-use Rattle.afs_num.specs.declared.messages.Received.TheVariants.{Nothing, Unknown, Unreadable, Whole}
+use Rattle.afs_num.specs.declared.messages.Received.TheVariants.{Nothing, Unserved, Unreadable, Whole}
 use Rattle.afs_num.specs.declared.scripts.Act.{Act}
 use Rattle.afs_num.specs.declared.scripts.Act.TheVariants.{Open, Close}
 use Rattle.afs_num.specs.declared.scripts.Event.{Event}
@@ -177,9 +179,9 @@ stores_ours : (head : Head) (contents : List ℕ) (o : Option StoredFile) → Is
 stores_ours head contents None h = h
 stores_ours head contents (Some file) h = h
 
-serves_ours : (files : List StoredFile) (head : Head) (call : FsCall) → IsOurHead head → IsOurDecision (serves_call files head call)
-serves_ours files head (calls.FetchData fid position length) h = fetches_ours head (find_file fid files) h
-serves_ours files head (calls.StoreData fid status position length file_length contents) h = stores_ours head contents (find_file fid files) h
+serves_ours : (files : List StoredFile) (head : Head) (call : Call) → IsOurHead head → IsOurDecision (serves_call files head call)
+serves_ours files head (ask.File (calls.FetchData fid position length)) h = fetches_ours head (find_file fid files) h
+serves_ours files head (ask.File (calls.StoreData fid status position length file_length contents)) h = stores_ours head contents (find_file fid files) h
 serves_ours files head call h = h
 
 carried_ours : (files : List StoredFile) (head : Head) (c : Carried) → IsOurHead head → IsOurDecision (runs_carried files head c)
@@ -190,7 +192,7 @@ carried_ours files head carried.Notice h = tt
 
 runs_ours : (files : List StoredFile) (head : Head) (r : Received) → IsOurHead head → IsOurDecision (runs files head r)
 runs_ours files head Nothing h = tt
-runs_ours files head (Unknown other) h = h
+runs_ours files head (Unserved other) h = h
 runs_ours files head (Unreadable other) h = h
 runs_ours files head (Whole m) h = carried_ours files head m.carried h
 
@@ -264,11 +266,11 @@ fetched_turns : (n : ℕ) (c : ClientState) (place : ℕ) (entry : CacheEntry) (
 fetched_turns n c place entry other true r = record { begun = refl; busy = λ b e. refl; ours = tt }
 fetched_turns n c place entry other false r = calls_turns n c place (Open entry.fid) other r
 
-takes_turns : (n : ℕ) (c : ClientState) (clock place : ℕ) (act other : Act) (reply : FsReply) → c.running ≡ Some other → Turns n c (takes (Client n) c clock place act reply)
-takes_turns n c clock place (Open fid) other (replies.FetchData contents status callback sync) r =
+takes_turns : (n : ℕ) (c : ClientState) (clock place : ℕ) (act other : Act) (reply : Reply) → c.running ≡ Some other → Turns n c (takes (Client n) c clock place act reply)
+takes_turns n c clock place (Open fid) other (tell.File (replies.FetchData contents status callback sync)) r =
     let entry : CacheEntry = record { fid = fid; index = status.sync_counter; expiry = callback.expiration_time; contents = contents } in
     fetched_turns n c place entry other (is_trusted clock entry) r
-takes_turns n c clock place (Close fid contents) other (replies.StoreData status sync) r = record { begun = refl; busy = λ b e. refl; ours = tt }
+takes_turns n c clock place (Close fid contents) other (tell.File (replies.StoreData status sync)) r = record { begun = refl; busy = λ b e. refl; ours = tt }
 takes_turns n c clock place act other reply r = ignores_turns n c place
 
 counts_turns : (n : ℕ) (c : ClientState) (clock place : ℕ) (act : Act) (head : Head) (carries : Carried) → c.running ≡ Some act → Turns n c (counts (Client n) c clock place act head carries)

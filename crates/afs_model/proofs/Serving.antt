@@ -10,8 +10,9 @@ use Rattle.afs_num.specs.declared.types.Head.{Head}
 use Rattle.afs_num.specs.declared.types.Key.{Key}
 use Rattle.afs_num.specs.declared.types.Node.{Node}
 use Rattle.afs_num.specs.declared.types.Node.TheVariants.{Client}
-use Rattle.afs_num.specs.declared.calls.FsCall.{FsCall}
+use Rattle.afs_num.specs.declared.messages.Call.{Call}
 use Rattle.afs_num.specs.declared.calls.FsCall.TheVariants as calls
+use Rattle.afs_num.specs.declared.messages.Call.TheVariants as ask
 use Rattle.afs_num.specs.declared.messages.Carried.{Carried}
 use Rattle.afs_num.specs.declared.messages.Carried.TheVariants as carried
 use Rattle.afs_num.specs.declared.messages.Message.{Message}
@@ -190,9 +191,9 @@ ran_now s c past p n h user act e H w is at = record {
 
 -- ---- acts and their calls
 
-act_of : FsCall → Act
-act_of (calls.FetchData f position wanted) = Open f
-act_of (calls.StoreData f status position wanted file_length contents) = Close f contents
+act_of : Call → Act
+act_of (ask.File (calls.FetchData f position wanted)) = Open f
+act_of (ask.File (calls.StoreData f status position wanted file_length contents)) = Close f contents
 act_of call = Open (record { volume = 0; vnode = 0; unique = 0 })
 
 act_again : (act : Act) → act_of (asked act) ≡ act
@@ -700,7 +701,7 @@ booted_just s c past p n h user act false H at boot f from = record { message = 
 is_client_head : (n : ℕ) (h : Head) → h.from ≡ Client n → h.to ≡ the_server → h ≡ client_head n h
 is_client_head n h from to = ap (λ (x : Node). record h { from = x }) from ∙ ap (λ (x : Node). record h { from = Client n; to = x }) to
 
-called_just : (s : Script) (c : Cell) (past : List Entry) (p : ℕ) (head : Head) (user : List ℕ) (call : FsCall) → HoldsAt s c past → message_at c.sent p ≡ Some (record { head = head; carried = carried.Call user call }) → CallIn (view c) head user call → Origin past head user call
+called_just : (s : Script) (c : Cell) (past : List Entry) (p : ℕ) (head : Head) (user : List ℕ) (call : Call) → HoldsAt s c past → message_at c.sent p ≡ Some (record { head = head; carried = carried.Call user call }) → CallIn (view c) head user call → Origin past head user call
     → IsJust c past p (called the_server c.server head (whole head (carried.Call user call)))
 called_just s c past p head user call H at f from =
     let n : ℕ = f.client in
@@ -708,11 +709,11 @@ called_just s c past p head user call H at f from =
     let act : Act = from.act in
     let own : call ≡ asked act = from.own_call in
     subst (λ (x : Head). IsJust c past p (called the_server c.server x (whole x (carried.Call user call)))) (sym is)
-    (subst (λ (x : FsCall). IsJust c past p (called the_server c.server (client_head n head) (whole (client_head n head) (carried.Call user x)))) (sym own)
+    (subst (λ (x : Call). IsJust c past p (called the_server c.server (client_head n head) (whole (client_head n head) (carried.Call user x)))) (sym own)
     (booted_just s c past p n head user act (nat_eq head.boot c.server.boot) H
-    (subst (λ (x : FsCall). message_at c.sent p ≡ Some (record { head = client_head n head; carried = carried.Call user x })) own (subst (λ (x : Head). message_at c.sent p ≡ Some (record { head = x; carried = carried.Call user call })) is at)) refl
-    (subst (λ (x : FsCall). CallFact (view c n) (client_head n head) x) own (subst (λ (x : Head). CallFact (view c n) x call) is f.fact))
-    (subst (λ (x : FsCall). Origin past (client_head n head) user x) own (subst (λ (x : Head). Origin past x user call) is from))))
+    (subst (λ (x : Call). message_at c.sent p ≡ Some (record { head = client_head n head; carried = carried.Call user x })) own (subst (λ (x : Head). message_at c.sent p ≡ Some (record { head = x; carried = carried.Call user call })) is at)) refl
+    (subst (λ (x : Call). CallFact (view c n) (client_head n head) x) own (subst (λ (x : Head). CallFact (view c n) x call) is f.fact))
+    (subst (λ (x : Call). Origin past (client_head n head) user x) own (subst (λ (x : Head). Origin past x user call) is from))))
 
 hears_just : (s : Script) (c : Cell) (past : List Entry) (p : ℕ) (head : Head) (x : Carried) → HoldsAt s c past → message_at c.sent p ≡ Some (record { head = head; carried = x }) → OfCall (CallIn (view c)) head x → OfCall (Origin past) head x → IsJust c past p (hears the_server c.server head x)
 hears_just s c past p head (carried.Call user call) H at f from = called_just s c past p head user call H at f from
@@ -728,7 +729,7 @@ of_reply_any P (carried.Refusal code) x = x
 of_reply_any P (carried.Reply reply) x = x
 of_reply_any P carried.Notice x = tt
 
-no_call : (P : Head → List ℕ → FsCall → Type 0) (head : Head) (c : Carried) → IsReply c → OfCall P head c
+no_call : (P : Head → List ℕ → Call → Type 0) (head : Head) (c : Carried) → IsReply c → OfCall P head c
 no_call P head (carried.Call user call) r = absurd (r tt)
 no_call P head (carried.Refusal code) r = tt
 no_call P head (carried.Reply reply) r = tt

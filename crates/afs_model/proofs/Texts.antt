@@ -17,8 +17,8 @@ use Rattle.afs_num.specs.declared.messages.Received.TheVariants.{Whole}
 use Rattle.afs_xdr.specs.declared.faults.XdrFault.{XdrFault}
 use Rattle.afs_xdr.specs.Words.{◌>>=◌, word_at}
 use Rattle.afs_num.specs.declared.messages.Received.{Received}
-use Rattle.afs_num.specs.declared.calls.FsCall.{FsCall}
-use Rattle.afs_num.specs.declared.calls.FsReply.{FsReply}
+use Rattle.afs_num.specs.declared.messages.Call.{Call}
+use Rattle.afs_num.specs.declared.messages.Reply.{Reply}
 use Rattle.afs_shape.specs.declared.faults.ShapeFault.{ShapeFault}
 use Rattle.afs_shape.specs.declared.faults.ShapeFault.TheVariants as faults
 use Rattle.afs_shape.specs.declared.kinds.Field.{Field}
@@ -26,9 +26,10 @@ use Rattle.afs_shape.specs.Reading.{in_place, signed_at, fields_to_end_at}
 use Rattle.afs_shape.proofs.FieldLaws.{bind_ok, in_place_ok, shape_ok_is}
 use Rattle.afs_model.specs.Heads.{head_at, half_at, node_at, known, half_of, is_zero}
 use Rattle.afs_model.specs.Rpc.{asked_at, answer_at, replied_at}
-use Rattle.afs_model.specs.FsRows.{fs_calls, fs_replies}
-use Rattle.afs_model.specs.Messages.{received_call, carried_reply, received_reply, received_notice, read_body, read_behind_head, received, spelled, parcels_read, messages_spelled}
-use Rattle.afs_model.proofs.Spellings.{whole_of}
+use Rattle.afs_shape.specs.Tables.{is_among}
+use Rattle.afs_model.specs.CellRows.{cell_calls, cell_replies, all_calls}
+use Rattle.afs_model.specs.Messages.{received_call, carried_reply, received_reply, received_notice, read_body, read_behind_head, received_by, received, spelled, parcels_read, messages_spelled}
+use Rattle.afs_model.proofs.Spellings.{whole_of, was_served}
 use Rattle.afs_model.specs.Telling.{code_read, code_at}
 use Rattle.std.specs.Fmt.{decimal}
 use Rattle.afs_model.specs.Text.{sent_text, head_text, code_text, tail_text, code_of, message_text}
@@ -154,51 +155,49 @@ is_pos_zero (pos n) h = ap pos (eqb-true n 0 h)
 is_pos_zero (negsuc n) h = cc
 
 -- behind a code that isn't 0 there is no reply
-replied_zero : (opcode : ℕ) (zero : Bool) (bytes : List ℕ) (reply : FsReply) → answer_at fs_replies opcode zero bytes ≡ Ok (Some reply) → zero ≡ true
+replied_zero : (opcode : ℕ) (zero : Bool) (bytes : List ℕ) (reply : Reply) → answer_at cell_replies opcode zero bytes ≡ Ok (Some reply) → zero ≡ true
 unfolding answer_at
 replied_zero opcode true bytes reply h = refl
 replied_zero opcode false bytes reply h =
     let a = bind_ok (fields_to_end_at [] bytes) (λ nothing. Ok None) (Some reply) h in
     cc
 
-carried_code : (opcode : ℕ) (code : ℤ) (bytes : List ℕ) (reply : Option FsReply) → answer_at fs_replies opcode (is_zero code) bytes ≡ Ok reply → code ≡ code_of (carried_reply code reply)
+carried_code : (opcode : ℕ) (code : ℤ) (bytes : List ℕ) (reply : Option Reply) → answer_at cell_replies opcode (is_zero code) bytes ≡ Ok reply → code ≡ code_of (carried_reply code reply)
 carried_code opcode code bytes (Some reply) h = is_pos_zero code (replied_zero opcode (is_zero code) bytes reply h)
 carried_code opcode code bytes None h = refl
 
-replied_code : (opcode : ℕ) (bytes : List ℕ) (r : ℤ × Option FsReply) → replied_at fs_replies opcode bytes ≡ Ok r → code_read (signed_at bytes) ≡ code_of (carried_reply r.0 r.1)
+replied_code : (opcode : ℕ) (bytes : List ℕ) (r : ℤ × Option Reply) → replied_at cell_replies opcode bytes ≡ Ok r → code_read (signed_at bytes) ≡ code_of (carried_reply r.0 r.1)
 unfolding replied_at
 replied_code opcode bytes r h =
     let a = bind_ok (in_place 0 (signed_at bytes)) _ r h in
-    let b = bind_ok (answer_at fs_replies opcode (is_zero a.0.0) a.0.1) _ r a.2 in
+    let b = bind_ok (answer_at cell_replies opcode (is_zero a.0.0) a.0.1) _ r a.2 in
     let same : a.0.0 ≡ code_of (carried_reply a.0.0 b.0) = carried_code opcode a.0.0 a.0.1 b.0 b.1 in
-    ap code_read (in_place_ok 0 (signed_at bytes) a.0 a.1) ∙ (same ∙ ap (λ (x : ℤ × Option FsReply). code_of (carried_reply x.0 x.1)) (shape_ok_is (a.0.0, b.0) r b.2))
+    ap code_read (in_place_ok 0 (signed_at bytes) a.0 a.1) ∙ (same ∙ ap (λ (x : ℤ × Option Reply). code_of (carried_reply x.0 x.1)) (shape_ok_is (a.0.0, b.0) r b.2))
 
-heard_code : (head : Head) (bytes : List ℕ) (read : Result (ℤ × Option FsReply) ShapeFault) (m : Message) → replied_at fs_replies head.opcode bytes ≡ read → received_reply head read ≡ Whole m → code_read (signed_at bytes) ≡ code_of m.carried
+heard_code : (head : Head) (bytes : List ℕ) (read : Result (ℤ × Option Reply) ShapeFault) (m : Message) → replied_at cell_replies head.opcode bytes ≡ read → received_reply head read ≡ Whole m → code_read (signed_at bytes) ≡ code_of m.carried
 heard_code head bytes (Ok r) m at h = replied_code head.opcode bytes r at ∙ ap (λ (n : Message). code_of n.carried) (whole_of _ m h)
 heard_code head bytes (Err f) m at h = cc
 
 -- what isn't a reply is received under its own half
-call_half : (head : Head) (read : Result (List ℕ × FsCall) ShapeFault) (m : Message) → received_call head read ≡ Whole m → head.half ≡ m.head.half
+call_half : (head : Head) (read : Result (List ℕ × Call) ShapeFault) (m : Message) → received_call head read ≡ Whole m → head.half ≡ m.head.half
 call_half head (Ok c) m h = ap (λ (n : Message). n.head.half) (whole_of _ m h)
-call_half head (Err (faults.NoRow n)) m h = cc
-call_half head (Err faults.OutOfMemory) m h = cc
-call_half head (Err (faults.Head f)) m h = cc
-call_half head (Err (faults.Field i f)) m h = cc
+call_half head (Err f) m h = cc
 
 notice_half : (head : Head) (read : Result (List Field) ShapeFault) (m : Message) → received_notice head read ≡ Whole m → head.half ≡ m.head.half
 notice_half head (Ok fs) m h = ap (λ (n : Message). n.head.half) (whole_of _ m h)
 notice_half head (Err f) m h = cc
 
-behind_code : (head : Head) (half : Half) (rest : List ℕ) (m : Message) → head.half ≡ half → m.head.half ≡ halves.Reply → read_body head half rest ≡ Whole m → code_read (signed_at rest) ≡ code_of m.carried
+behind_code : (head : Head) (half : Half) (rest : List ℕ) (m : Message) → head.half ≡ half → m.head.half ≡ halves.Reply → read_body all_calls head half rest ≡ Whole m → code_read (signed_at rest) ≡ code_of m.carried
 behind_code head halves.Call rest m is reply h =
-    let e : halves.Call ≡ halves.Reply = sym is ∙ (call_half head (asked_at fs_calls head.opcode rest) m h ∙ reply) in
+    let read = asked_at cell_calls head.opcode rest in
+    let e : halves.Call ≡ halves.Reply = sym is ∙ (call_half head read m (was_served (is_among all_calls head.opcode) (received_call head read) head m h) ∙ reply) in
     cc
-behind_code head halves.Reply rest m is reply h = heard_code head rest (replied_at fs_replies head.opcode rest) m refl h
+behind_code head halves.Reply rest m is reply h = heard_code head rest (replied_at cell_replies head.opcode rest) m refl h
 behind_code head halves.Boot rest m is reply h =
     let e : halves.Boot ≡ halves.Reply = sym is ∙ (notice_half head (fields_to_end_at [] rest) m h ∙ reply) in
     cc
 
-found_code : (bytes : List ℕ) (m : Message) (o : Result (Head × List ℕ) XdrFault) → head_at bytes ≡ o → m.head.half ≡ halves.Reply → read_behind_head o ≡ Whole m → code_at bytes ≡ code_of m.carried
+found_code : (bytes : List ℕ) (m : Message) (o : Result (Head × List ℕ) XdrFault) → head_at bytes ≡ o → m.head.half ≡ halves.Reply → read_behind_head all_calls o ≡ Whole m → code_at bytes ≡ code_of m.carried
 unfolding code_at
 found_code bytes m (Ok h) at reply w =
     ap (λ (rest : List ℕ). code_read (signed_at rest)) (sym (head_rest bytes h at)) ∙ behind_code h.0 h.0.half h.1 m refl reply w
@@ -206,7 +205,7 @@ found_code bytes m (Err e) at reply w = cc
 
 -- the code of a reply stands in its bytes
 pub reply_code : (bytes : List ℕ) (m : Message) → m.head.half ≡ halves.Reply → received bytes ≡ Whole m → code_at bytes ≡ code_of m.carried
-unfolding received
+unfolding received_by
 reply_code bytes m reply w = found_code bytes m (head_at bytes) refl reply w
 
 -- ---- messages

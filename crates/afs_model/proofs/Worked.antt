@@ -1,5 +1,5 @@
 -- The definition of a legal history, on worked histories.
-use Rattle.std.proofs.Common.{◌≡◌, ℕ, List, [], ◌∷◌, Some, None, pos, refl, length, arith, inl, inr}
+use Rattle.std.proofs.Common.{◌≡◌, ℕ, List, [], ◌∷◌, None, pos, refl, length, arith, inl, inr}
 use Rattle.std.specs.Prelude.{codes}
 use Rattle.afs_num.specs.declared.types.Fid.{Fid}
 use Rattle.afs_num.specs.declared.types.Half.{Half}
@@ -9,9 +9,11 @@ use Rattle.afs_num.specs.declared.types.Key.{Key}
 use Rattle.afs_num.specs.declared.types.Node.{Node}
 use Rattle.afs_num.specs.declared.types.Node.TheVariants.{Server, Client}
 use Rattle.afs_num.specs.declared.calls.AfsFetchStatus.{AfsFetchStatus}
-use Rattle.afs_num.specs.declared.calls.FsCall.{FsCall}
+use Rattle.afs_num.specs.declared.messages.Call.{Call}
 use Rattle.afs_num.specs.declared.calls.FsCall.TheVariants as calls
+use Rattle.afs_num.specs.declared.messages.Call.TheVariants as ask
 use Rattle.afs_num.specs.declared.calls.FsReply.TheVariants as replies
+use Rattle.afs_num.specs.declared.messages.Reply.TheVariants as tell
 use Rattle.afs_num.specs.declared.messages.Carried.{Carried}
 use Rattle.afs_num.specs.declared.messages.Carried.TheVariants as carried
 use Rattle.afs_num.specs.declared.messages.Message.{Message}
@@ -56,26 +58,26 @@ abbrev pub head : Half → Node → Node → ℕ → ℕ → Head
 head half from to number opcode = record { half = half; from = from; to = to; epoch = 1; number = number; boot = 1; stamp = 0; opcode = opcode }
 
 -- client n's call under this number, and the reply to it
-abbrev pub call : ℕ → ℕ → ℕ → FsCall → Message
+abbrev pub call : ℕ → ℕ → ℕ → Call → Message
 call n number opcode c = record { head = head halves.Call (Client n) (Server 1) number opcode; carried = carried.Call (codes "guest") c }
 
 abbrev pub reply : ℕ → ℕ → ℕ → Carried → Message
 reply n number opcode c = record { head = head halves.Reply (Server 1) (Client n) number opcode; carried = c }
 
-abbrev pub fetch : Fid → FsCall
-fetch f = calls.FetchData f (pos 0) (pos 2147483647)
+abbrev pub fetch : Fid → Call
+fetch f = ask.File (calls.FetchData f (pos 0) (pos 2147483647))
 
-abbrev pub store : Fid → List ℕ → FsCall
-store f contents = calls.StoreData f (record { mask = 0; client_mod_time = 0; owner = 0; group = 0; unix_mode_bits = 0; seg_size = 0 }) (pos 0) (pos (length contents)) (pos (length contents)) contents
+abbrev pub store : Fid → List ℕ → Call
+store f contents = ask.File (calls.StoreData f (record { mask = 0; client_mod_time = 0; owner = 0; group = 0; unix_mode_bits = 0; seg_size = 0 }) (pos 0) (pos (length contents)) (pos (length contents)) contents)
 
 abbrev status : ℕ → List ℕ → AfsFetchStatus
 status index contents = status_of (record { fid = file; index = index; data_version = index; server_time = 0; contents = contents })
 
 abbrev pub fetched : ℕ → List ℕ → Carried
-fetched index contents = carried.Reply (replies.FetchData contents (status index contents) (promise_until 7200) no_release)
+fetched index contents = carried.Reply (tell.File (replies.FetchData contents (status index contents) (promise_until 7200) no_release))
 
 abbrev pub stored : ℕ → List ℕ → Carried
-stored index contents = carried.Reply (replies.StoreData (status index contents) no_release)
+stored index contents = carried.Reply (tell.File (replies.StoreData (status index contents) no_release))
 
 abbrev pub no_such_file : Carried
 no_such_file = carried.Refusal (record { 0 = pos 102 })

@@ -9,8 +9,9 @@ use Rattle.afs_num.specs.declared.types.Head.{Head}
 use Rattle.afs_num.specs.declared.types.Key.{Key}
 use Rattle.afs_num.specs.declared.types.Node.{Node}
 use Rattle.afs_num.specs.declared.types.Node.TheVariants.{Server, Client}
-use Rattle.afs_num.specs.declared.calls.FsCall.{FsCall}
+use Rattle.afs_num.specs.declared.messages.Call.{Call}
 use Rattle.afs_num.specs.declared.calls.FsCall.TheVariants as calls
+use Rattle.afs_num.specs.declared.messages.Call.TheVariants as ask
 use Rattle.afs_num.specs.declared.messages.Carried.{Carried}
 use Rattle.afs_num.specs.declared.messages.Carried.TheVariants as carried
 use Rattle.afs_num.specs.declared.messages.Message.{Message}
@@ -379,9 +380,9 @@ stored_one whole contents None = omega arith
 stored_one false contents (Some v) = omega arith
 stored_one true contents (Some v) = omega arith
 
-at_most_one : (user : List ℕ) (c : FsCall) (older : List Line) → length (op user c older).versions ≤ 1
-at_most_one user (calls.FetchData f position wanted) older = fetched_none _ (last_version f older)
-at_most_one user (calls.StoreData f given position wanted file_length contents) older = stored_one _ contents (last_version f older)
+at_most_one : (user : List ℕ) (c : Call) (older : List Line) → length (op user c older).versions ≤ 1
+at_most_one user (ask.File (calls.FetchData f position wanted)) older = fetched_none _ (last_version f older)
+at_most_one user (ask.File (calls.StoreData f given position wanted file_length contents)) older = stored_one _ contents (last_version f older)
 at_most_one user c older = omega arith
 
 two_versions : (m : ℕ) → 2 ≡ m → m ≤ 1 → ⊥
@@ -396,13 +397,13 @@ version_alone g = g.0.0
 
 -- a change by a call with other bytes than its act's
 bytes_of : Carried → Body
-bytes_of (carried.Call user (calls.StoreData f given position wanted file_length contents)) = bodies.File contents
+bytes_of (carried.Call user (ask.File (calls.StoreData f given position wanted file_length contents))) = bodies.File contents
 bytes_of c = bodies.File []
 
-other_call : (user : List ℕ) (c : FsCall) (act : Act) → carried.Call (codes "guest") (store file (codes "def")) ≡ carried.Call user c → Some (Close file (codes "abc")) ≡ Some act → c ≡ asked act → ⊥
+other_call : (user : List ℕ) (c : Call) (act : Act) → carried.Call (codes "guest") (store file (codes "def")) ≡ carried.Call user c → Some (Close file (codes "abc")) ≡ Some act → c ≡ asked act → ⊥
 unfolding bytes_of
 other_call user c act sent began own =
-    other_bytes (ap bytes_of (sent ∙ ap (λ (x : FsCall). carried.Call user x) (own ∙ ap asked (sym (some_of _ _ began)))))
+    other_bytes (ap bytes_of (sent ∙ ap (λ (x : Call). carried.Call user x) (own ∙ ap asked (sym (some_of _ _ began)))))
 
 other_bytes_stored : Legal (client_entry 1 (lines.Begin (Client 1) (Close file (codes "abc")) ∷ []) (call 1 1 133 (store file (codes "def")) ∷ []) ∷ changes 1 1 1 2 (codes "def") ∷ []) script → ⊥
 other_bytes_stored g = let change = g.1.0.1.0.1 in elim change.called [
@@ -449,7 +450,7 @@ by_reply c (Open f) code past own none (inr x) = absurd (none x.1.0)
 by_reply c (Close f contents) code past own none (inr x) = absurd x
 
 -- the reply is this message, and no call of its key was sent since the act began
-not_since : (c : Node) (act : Act) (code : ℤ) (past : List Entry) (own : List Line) (m : Message) → given_message own (sent_of past) ≡ Some m → ((user : List ℕ) (x : FsCall) → CalledSince (answered_key m.head) user x past → ⊥) → IsCaused c act code past own → ⊥
+not_since : (c : Node) (act : Act) (code : ℤ) (past : List Entry) (own : List Line) (m : Message) → given_message own (sent_of past) ≡ Some m → ((user : List ℕ) (x : Call) → CalledSince (answered_key m.head) user x past → ⊥) → IsCaused c act code past own → ⊥
 not_since c act code past own m given none x =
     none x.cause.user x.cause.call (subst (λ (r : Message). CalledSince (answered_key r.head) x.cause.user x.cause.call past) (sym (some_of m x.reply (sym given ∙ x.by))) x.called)
 
@@ -461,7 +462,7 @@ answered_twice g = let none = g.1.1.1.0.1.0.1.runs in absurd cc
 abbrev open_again : List Entry
 open_again = asks_open 1 2 ∷ shows 1 2 1 (codes "abc") ∷ grants 1 1 1 1 (codes "abc") ∷ asks_open 1 1 ∷ set_up script ∷ []
 
-not_again : (user : List ℕ) (x : FsCall) → CalledSince (key 1 1) user x open_again → ⊥
+not_again : (user : List ℕ) (x : Call) → CalledSince (key 1 1) user x open_again → ⊥
 not_again user x (inl y) = elim y.1 [ inl z ↦ apart_keys (key 1 2) (key 1 1) refl z.0 | inr z ↦ z ]
 not_again user x (inr y) = let begun = y.0 in absurd cc
 
@@ -493,7 +494,7 @@ sends_in_name = server_entry [] (call 1 1 130 (fetch file) ∷ [])
 abbrev in_name : List Entry
 in_name = grants 1 1 1 1 (codes "abc") ∷ sends_in_name ∷ begins_alone ∷ set_up script ∷ []
 
-not_itself : (user : List ℕ) (x : FsCall) → CalledSince (key 1 1) user x in_name → ⊥
+not_itself : (user : List ℕ) (x : Call) → CalledSince (key 1 1) user x in_name → ⊥
 not_itself user x (inl y) = apart_actors (Server 1) (Client 1) refl y.0
 not_itself user x (inr (n, inl y)) = apart_actors (Server 1) (Client 1) refl y.0
 not_itself user x (inr (n, inr (m, inl y))) = y.1
@@ -524,7 +525,7 @@ outcome_of c older = record { code = pos 0; versions = [] }
 
 -- what the ideal operation makes of the call that this entry was given, if it was given one, is this
 HasOutcome : Outcome → Entry → List Entry → Type 0
-HasOutcome o at older = (m : Message) (user : List ℕ) (c : FsCall) → given_message at.lines (sent_of older) ≡ Some m → m.carried ≡ carried.Call user c → op user c (lines_of older) ≡ o
+HasOutcome o at older = (m : Message) (user : List ℕ) (c : Call) → given_message at.lines (sent_of older) ≡ Some m → m.carried ≡ carried.Call user c → op user c (lines_of older) ≡ o
 
 outcome_here : (o : Outcome) (m : Message) (at : Entry) (older : List Entry) → given_message at.lines (sent_of older) ≡ Some m → outcome_of m.carried (lines_of older) ≡ o → HasOutcome o at older
 unfolding HasOutcome outcome_of

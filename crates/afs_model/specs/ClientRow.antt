@@ -10,15 +10,17 @@ use Rattle.afs_num.specs.declared.types.Node.TheVariants.{Server}
 use Rattle.afs_num.specs.declared.types.Half.TheVariants as halves
 use Rattle.afs_num.specs.declared.types.Head.{Head}
 use Rattle.afs_num.specs.declared.calls.AfsStoreStatus.{AfsStoreStatus}
-use Rattle.afs_num.specs.declared.calls.FsCall.{FsCall}
+use Rattle.afs_num.specs.declared.messages.Call.{Call}
 use Rattle.afs_num.specs.declared.calls.FsCall.TheVariants as calls
-use Rattle.afs_num.specs.declared.calls.FsReply.{FsReply}
+use Rattle.afs_num.specs.declared.messages.Call.TheVariants as ask
+use Rattle.afs_num.specs.declared.messages.Reply.{Reply}
 use Rattle.afs_num.specs.declared.calls.FsReply.TheVariants as replies
+use Rattle.afs_num.specs.declared.messages.Reply.TheVariants as tell
 use Rattle.afs_num.specs.declared.messages.Carried.{Carried}
 use Rattle.afs_num.specs.declared.messages.Carried.TheVariants as carried
 use Rattle.afs_num.specs.declared.messages.Message.{Message}
 use Rattle.afs_num.specs.declared.messages.Received.{Received}
-use Rattle.afs_num.specs.declared.messages.Received.TheVariants.{Nothing, Unknown, Unreadable, Whole}
+use Rattle.afs_num.specs.declared.messages.Received.TheVariants.{Nothing, Unserved, Unreadable, Whole}
 use Rattle.afs_num.specs.declared.scripts.Act.{Act}
 use Rattle.afs_num.specs.declared.scripts.Act.TheVariants.{Open, Close}
 use Rattle.afs_num.specs.declared.histories.Body.TheVariants as bodies
@@ -75,9 +77,9 @@ abbrev pub nothing_set : AfsStoreStatus
 nothing_set = record { mask = 0; client_mod_time = 0; owner = 0; group = 0; unix_mode_bits = 0; seg_size = 0 }
 
 -- a whole file: from byte 0, as many as there are
-abbrev pub call_of : Act → FsCall
-call_of (Open fid) = calls.FetchData fid (pos 0) (pos 2147483647)
-call_of (Close fid contents) = calls.StoreData fid nothing_set (pos 0) (pos (length contents)) (pos (length contents)) contents
+abbrev pub call_of : Act → Call
+call_of (Open fid) = ask.File (calls.FetchData fid (pos 0) (pos 2147483647))
+call_of (Close fid contents) = ask.File (calls.StoreData fid nothing_set (pos 0) (pos (length contents)) (pos (length contents)) contents)
 
 abbrev pub call_head : Node → ClientState → Act → Head
 call_head me c act = record {
@@ -158,10 +160,10 @@ takes_stored me c clock place fid index contents = record {
   sent = [];
 }
 
-abbrev pub takes : Node → ClientState → ℕ → ℕ → Act → FsReply → Step ClientState
-takes me c clock place (Open fid) (replies.FetchData contents status callback sync) =
+abbrev pub takes : Node → ClientState → ℕ → ℕ → Act → Reply → Step ClientState
+takes me c clock place (Open fid) (tell.File (replies.FetchData contents status callback sync)) =
     takes_fetched me c clock place (record { fid = fid; index = status.sync_counter; expiry = callback.expiration_time; contents = contents })
-takes me c clock place (Close fid contents) (replies.StoreData status sync) =
+takes me c clock place (Close fid contents) (tell.File (replies.StoreData status sync)) =
     takes_stored me c clock place fid status.sync_counter contents
 takes me c clock place act reply = ignores c place
 
@@ -191,7 +193,7 @@ awaits me c clock place m (Some act) =
 
 abbrev pub client_hears : Node → ClientState → ℕ → ℕ → Received → Step ClientState
 client_hears me c clock place Nothing = ignores c place
-client_hears me c clock place (Unknown head) = ignores c place
+client_hears me c clock place (Unserved head) = ignores c place
 client_hears me c clock place (Unreadable head) = ignores c place
 client_hears me c clock place (Whole m) = awaits me c clock place m c.running
 

@@ -9,8 +9,9 @@ use Rattle.afs_num.specs.declared.types.Code.{Code}
 use Rattle.afs_num.specs.declared.types.Fid.{Fid}
 use Rattle.afs_num.specs.declared.types.Node.{Node}
 use Rattle.afs_num.specs.declared.calls.AfsStoreStatus.{AfsStoreStatus}
-use Rattle.afs_num.specs.declared.calls.FsCall.{FsCall}
+use Rattle.afs_num.specs.declared.messages.Call.{Call}
 use Rattle.afs_num.specs.declared.calls.FsCall.TheVariants as calls
+use Rattle.afs_num.specs.declared.messages.Call.TheVariants as ask
 use Rattle.afs_num.specs.declared.scripts.Act.{Act}
 use Rattle.afs_num.specs.declared.scripts.Act.TheVariants.{Open, Close}
 use Rattle.afs_num.specs.declared.scripts.Script.{Script}
@@ -89,9 +90,9 @@ abbrev pub nothing_set : AfsStoreStatus
 nothing_set = record { mask = 0; client_mod_time = 0; owner = 0; group = 0; unix_mode_bits = 0; seg_size = 0 }
 
 -- the call of an act: a fetch of all there is, or a store of the act's own bytes as the whole file
-abbrev pub asked : Act → FsCall
-asked (Open fid) = calls.FetchData fid (pos 0) (pos 2147483647)
-asked (Close fid contents) = calls.StoreData fid nothing_set (pos 0) (pos (length contents)) (pos (length contents)) contents
+abbrev pub asked : Act → Call
+asked (Open fid) = ask.File (calls.FetchData fid (pos 0) (pos 2147483647))
+asked (Close fid contents) = ask.File (calls.StoreData fid nothing_set (pos 0) (pos (length contents)) (pos (length contents)) contents)
 
 -- the code of an operation, and with code 0 the versions that it makes
 pub record Outcome : Type 0 where
@@ -121,10 +122,10 @@ stored_on false contents (Some v) = refused 22
 stored_on true contents (Some v) = record { code = pos 0; versions = next_version contents v ∷ [] }
 
 -- the ideal operation, for this user; no other call is served yet
-abbrev pub op : List ℕ → FsCall → List Line → Outcome
-op user (calls.FetchData fid position wanted) older =
+abbrev pub op : List ℕ → Call → List Line → Outcome
+op user (ask.File (calls.FetchData fid position wanted)) older =
     fetched_from (is_number position 0 && is_number wanted 2147483647) (last_version fid older)
-op user (calls.StoreData fid status position wanted file_length contents) older =
+op user (ask.File (calls.StoreData fid status position wanted file_length contents)) older =
     stored_on (is_number position 0 && (is_number wanted (length contents) && is_number file_length (length contents))) contents (last_version fid older)
 op user call older = record { code = negsuc 454; versions = [] }
 

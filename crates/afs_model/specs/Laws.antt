@@ -7,11 +7,12 @@ use Rattle.afs_num.specs.declared.histories.ReadBody.{ReadBody}
 use Rattle.afs_num.specs.declared.histories.Line.{Line}
 use Rattle.afs_num.specs.declared.histories.ReadSource.{ReadSource}
 use Rattle.afs_num.specs.declared.types.Head.{Head}
-use Rattle.afs_num.specs.declared.calls.FsCall.{FsCall}
+use Rattle.afs_num.specs.declared.messages.Call.{Call}
 use Rattle.afs_num.specs.declared.messages.Carried.TheVariants as carried
 use Rattle.afs_num.specs.declared.states.StoredFile.{StoredFile}
-use Rattle.afs_model.specs.FsRows.{call_number}
-use Rattle.afs_model.specs.ServerRow.{serves, runs, whole, refuses, not_served}
+use Rattle.afs_shape.specs.Tables.{is_among}
+use Rattle.afs_model.specs.CellRows.{call_number, file_server_calls}
+use Rattle.afs_model.specs.ServerRow.{runs, whole, refuses, not_served}
 use Rattle.afs_model.specs.Runs.{Entry, Cell, RunsTo}
 use Rattle.afs_model.specs.Past.{lines_of}
 use Rattle.afs_model.specs.Ideal.{IsLast}
@@ -37,4 +38,4 @@ ReadsAreNewest =
 -- a server tells that a call isn't served exactly where its opcode is none of those that it serves
 abbrev pub UnservedAreRefused : Type 0
 UnservedAreRefused =
-    (files : List StoredFile) (head : Head) (user : List ℕ) (call : FsCall) → (runs files head (whole head (carried.Call user call)) ≡ refuses head not_served) ↔ (serves (call_number call) ≡ false)
+    (files : List StoredFile) (head : Head) (user : List ℕ) (call : Call) → (runs files head (whole head (carried.Call user call)) ≡ refuses head not_served) ↔ (is_among file_server_calls (call_number call) ≡ false)

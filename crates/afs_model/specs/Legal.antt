@@ -6,7 +6,7 @@ use Rattle.afs_num.specs.declared.types.Code.{Code}
 use Rattle.afs_num.specs.declared.types.Fid.{Fid}
 use Rattle.afs_num.specs.declared.types.Key.{Key}
 use Rattle.afs_num.specs.declared.types.Node.{Node}
-use Rattle.afs_num.specs.declared.calls.FsCall.{FsCall}
+use Rattle.afs_num.specs.declared.messages.Call.{Call}
 use Rattle.afs_num.specs.declared.messages.Carried.{Carried}
 use Rattle.afs_num.specs.declared.messages.Carried.TheVariants as carried
 use Rattle.afs_num.specs.declared.messages.Message.{Message}
@@ -64,7 +64,7 @@ AcceptsAll s server older (v ∷ vs) = Accepts s v.fid.volume server older × Ac
 pub record GoodChange (s : Script) (server : Node) (k : Key) (count : ℕ) (past : List Entry) (own next : List Line) : Type 0 where
   pub fresh : IsNew k (own ++ lines_of past)
   pub user : List ℕ
-  pub call : FsCall
+  pub call : Call
   pub act : Act
   pub called : Called k user call act past
   pub own_user : user ≡ user_of k.node
@@ -107,7 +107,7 @@ pub record Cause (reply : Message) (code : ℤ) (act : Act) (past : List Entry) 
   pub told : code_told reply.carried ≡ Some code
   pub ran : Ran reply.head past
   pub user : List ℕ
-  pub call : FsCall
+  pub call : Call
   pub carries : ran.message.carried ≡ carried.Call user call
   pub own_user : user ≡ user_of reply.head.to
   pub asks : call ≡ asked act

@@ -1,6 +1,9 @@
 pub mod Heads
 pub mod Rpc
 pub mod FsRows
+pub mod VolRows
+pub mod LocRows
+pub mod CellRows
 pub mod Messages
 pub mod Steps
 pub mod ServerRow
@@ -26,7 +29,5 @@ pub mod ScriptLaws
 pub mod Form
 pub mod ActsLaws
 pub mod SpellingLaws
-pub mod Disk
-pub mod Journal
 pub mod Calls
 pub mod CallLaws

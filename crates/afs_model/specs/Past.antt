@@ -5,7 +5,7 @@ use Rattle.afs_num.specs.declared.types.Half.TheVariants as halves
 use Rattle.afs_num.specs.declared.types.Head.{Head}
 use Rattle.afs_num.specs.declared.types.Key.{Key}
 use Rattle.afs_num.specs.declared.types.Node.{Node}
-use Rattle.afs_num.specs.declared.calls.FsCall.{FsCall}
+use Rattle.afs_num.specs.declared.messages.Call.{Call}
 use Rattle.afs_num.specs.declared.messages.Carried.{Carried}
 use Rattle.afs_num.specs.declared.messages.Carried.TheVariants as carried
 use Rattle.afs_num.specs.declared.messages.Message.{Message}
@@ -103,18 +103,18 @@ abbrev pub is_of_act : Node → Key → List Entry → Bool
 is_of_act n k past = same_node k.node n && is_sent_since n k past
 
 -- this call was sent under this key, for this user
-abbrev pub Sends : Key → List ℕ → FsCall → List Message → Type 0
+abbrev pub Sends : Key → List ℕ → Call → List Message → Type 0
 Sends k user call [] = ⊥
 Sends k user call (m ∷ ms) = ((called_key m.head ≡ k) × (m.carried ≡ carried.Call user call)) ⊎ Sends k user call ms
 
 -- the same, by the key's node while this act ran there
-abbrev pub Called : Key → List ℕ → FsCall → Act → List Entry → Type 0
+abbrev pub Called : Key → List ℕ → Call → Act → List Entry → Type 0
 Called k user call act [] = ⊥
 Called k user call act (e ∷ past) =
     ((e.actor ≡ actors.Node k.node) × (Sends k user call e.sent × (running k.node (lines_of (e ∷ past)) ≡ Some act))) ⊎ Called k user call act past
 
 -- the same, by the key's node since it last began an act
-abbrev pub CalledSince : Key → List ℕ → FsCall → List Entry → Type 0
+abbrev pub CalledSince : Key → List ℕ → Call → List Entry → Type 0
 CalledSince k user call [] = ⊥
 CalledSince k user call (e ∷ past) =
     ((e.actor ≡ actors.Node k.node) × Sends k user call e.sent) ⊎ ((has_begun k.node e.lines ≡ false) × CalledSince k user call past)

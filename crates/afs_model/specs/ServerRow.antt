@@ -13,21 +13,22 @@ use Rattle.afs_num.specs.declared.types.Key.{Key}
 use Rattle.afs_num.specs.declared.calls.AfsFetchStatus.{AfsFetchStatus}
 use Rattle.afs_num.specs.declared.calls.AfsVolSync.{AfsVolSync}
 use Rattle.afs_num.specs.declared.calls.AfsCallBack.{AfsCallBack}
-use Rattle.afs_num.specs.declared.calls.FsCall.{FsCall}
+use Rattle.afs_num.specs.declared.messages.Call.{Call}
 use Rattle.afs_num.specs.declared.calls.FsCall.TheVariants as calls
+use Rattle.afs_num.specs.declared.messages.Call.TheVariants as ask
 use Rattle.afs_num.specs.declared.calls.FsReply.TheVariants as replies
+use Rattle.afs_num.specs.declared.messages.Reply.TheVariants as tell
 use Rattle.afs_num.specs.declared.messages.Carried.{Carried}
 use Rattle.afs_num.specs.declared.messages.Carried.TheVariants as carried
 use Rattle.afs_num.specs.declared.messages.Message.{Message}
 use Rattle.afs_num.specs.declared.messages.Received.{Received}
-use Rattle.afs_num.specs.declared.messages.Received.TheVariants.{Nothing, Unknown, Unreadable, Whole}
+use Rattle.afs_num.specs.declared.messages.Received.TheVariants.{Nothing, Unserved, Unreadable, Whole}
 use Rattle.afs_num.specs.declared.histories.Body.TheVariants as bodies
 use Rattle.afs_num.specs.declared.histories.Version.{Version}
 use Rattle.afs_num.specs.declared.histories.Line.TheVariants as lines
 use Rattle.afs_num.specs.declared.states.StoredFile.{StoredFile}
 use Rattle.afs_model.specs.Calls.{CallSeat, Admitted, admitted, call_seated}
 use Rattle.afs_model.specs.Calls as pairs
-use Rattle.afs_model.specs.FsRows.{fetch_data, store_data}
 use Rattle.afs_model.specs.Steps.{Step}
 
 -- its boot number, its files in the order of their fids, and its callers
@@ -110,21 +111,13 @@ pub data Decision : Type 0 where
 abbrev pub no_file : ℤ
 no_file = pos 102
 
--- -455: the call isn't served here
+-- -455: the call isn't served here, whatever stands behind its header
 abbrev pub not_served : ℤ
 not_served = negsuc 454
 
 -- -453: the user or the fields can't be read
 abbrev pub bad_fields : ℤ
 bad_fields = negsuc 452
-
--- the calls that a file server serves so far
-abbrev pub serves : ℕ → Bool
-serves opcode = nat_eq opcode fetch_data || nat_eq opcode store_data
-
--- where a call isn't served here, that is the answer, whatever stands behind its header
-abbrev pub code_of_unreadable : ℕ → ℤ
-code_of_unreadable opcode = if serves opcode then bad_fields else not_served
 
 abbrev pub fetches : Head → Option StoredFile → Decision
 fetches head None = refuses head no_file
@@ -134,10 +127,10 @@ abbrev pub stores : Head → List ℕ → Option StoredFile → Decision
 stores head contents None = refuses head no_file
 stores head contents (Some file) = saves head contents file
 
--- a call that can be read
-abbrev pub serves_call : List StoredFile → Head → FsCall → Decision
-serves_call files head (calls.FetchData fid position length) = fetches head (find_file fid files)
-serves_call files head (calls.StoreData fid status position length file_length contents) = stores head contents (find_file fid files)
+-- a call that can be read; those that a file server serves have a line of their own
+abbrev pub serves_call : List StoredFile → Head → Call → Decision
+serves_call files head (ask.File (calls.FetchData fid position length)) = fetches head (find_file fid files)
+serves_call files head (ask.File (calls.StoreData fid status position length file_length contents)) = stores head contents (find_file fid files)
 serves_call files head call = refuses head not_served
 
 abbrev pub runs_carried : List StoredFile → Head → Carried → Decision
@@ -147,8 +140,8 @@ runs_carried files head c = drops
 -- a call that is to run, by what was found in its bytes
 abbrev pub runs : List StoredFile → Head → Received → Decision
 runs files head Nothing = drops
-runs files head (Unknown other) = refuses head not_served
-runs files head (Unreadable other) = refuses head (code_of_unreadable head.opcode)
+runs files head (Unserved other) = refuses head not_served
+runs files head (Unreadable other) = refuses head bad_fields
 runs files head (Whole m) = runs_carried files head m.carried
 
 -- a call in progress or older than its caller's last one gets no answer
@@ -172,10 +165,11 @@ hears me s head (carried.Refusal code) = drops
 hears me s head (carried.Reply reply) = drops
 hears me s head carried.Notice = drops
 
--- a message without a readable header, one to another node, a reply and a notice are dropped
+-- a message without a readable header, one to another node, a reply and a notice are dropped. A call that isn't served
+-- runs as others do: its pair counts, and its refusal is kept
 abbrev pub decides : Node → ServerState → Received → Decision
 decides me s Nothing = drops
-decides me s (Unknown head) = called me s head (Unknown head)
+decides me s (Unserved head) = called me s head (Unserved head)
 decides me s (Unreadable head) = called me s head (Unreadable head)
 decides me s (Whole m) = hears me s m.head m.carried
 
@@ -207,10 +201,10 @@ abbrev pub refusal : ℕ → Head → ℤ → Message
 refusal boot head code = replied boot head (carried.Refusal (record { 0 = code }))
 
 abbrev pub fetched_reply : ℕ → Head → StoredFile → ℕ → Message
-fetched_reply boot head file expiry = replied boot head (carried.Reply (replies.FetchData file.contents (status_of file) (promise_until expiry) no_release))
+fetched_reply boot head file expiry = replied boot head (carried.Reply (tell.File (replies.FetchData file.contents (status_of file) (promise_until expiry) no_release)))
 
 abbrev pub stored_reply : ℕ → Head → StoredFile → Message
-stored_reply boot head file = replied boot head (carried.Reply (replies.StoreData (status_of file) no_release))
+stored_reply boot head file = replied boot head (carried.Reply (tell.File (replies.StoreData (status_of file) no_release)))
 
 -- the reply is kept beside the pair of its call
 abbrev pub keeps : Head → Message → ServerState → ServerState
@@ -247,6 +241,6 @@ does me s clock place (refuses head code) = refuses_step s place head code
 does me s clock place (grants head file) = grants_step me s place head file (clock + promise_ticks)
 does me s clock place (saves head contents file) = saves_step me s clock place head contents file
 
--- the server `me`, given the message of this place
+-- the server `me`, given the message of this place, which is what is found in its bytes by the calls of a file server
 unfoldable pub server_row : Node → ServerState → ℕ → ℕ → Received → Step ServerState
 server_row me s clock place m = does me s clock place (decides me s m)

@@ -1,6 +1,6 @@
 //! Laws about the spelling of messages. Each is the contract of a function that does nothing.
 
-ghost use Rattle.afs_model.specs.SpellingLaws.{CallsAreFound, ReadAreSpelled, RefusalsAreFound, RepliesAreFound, RowsMakeCalls, RowsMakeReplies, SpelledAreRead, SpellingsDontBegin};
+ghost use Rattle.afs_model.specs.SpellingLaws.{CallsAreFound, CallsHaveOneInterface, ReadAreSpelled, RefusalsAreFound, RepliesAreFound, RepliesAreOfTheirCalls, RepliesHaveOneInterface, RowsMakeCalls, RowsMakeReplies, SpelledAreRead, SpellingsDontBegin};
 
 /// What is spelled is read again.
 pub fn spelled_are_read()
@@ -40,4 +40,19 @@ pub fn rows_make_calls()
 /// What is read by the row of a reply makes a reply.
 pub fn rows_make_replies()
     ensures { RowsMakeReplies }
+{}
+
+/// The opcode of a call tells its interface.
+pub fn calls_have_one_interface()
+    ensures { CallsHaveOneInterface }
+{}
+
+/// The opcode of a reply tells its interface.
+pub fn replies_have_one_interface()
+    ensures { RepliesHaveOneInterface }
+{}
+
+/// A reply is of the interface of its call.
+pub fn replies_are_of_their_calls()
+    ensures { RepliesAreOfTheirCalls }
 {}

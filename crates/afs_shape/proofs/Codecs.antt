@@ -3,7 +3,7 @@ use Rattle.std.proofs.Common.{◌≡◌, ℕ, zero, suc, ◌+◌, ◌*◌, ◌^�
 use Rattle.std.specs.List.{flat_map, AllByRecursion}
 use Rattle.std.proofs.lemmas.List.Concat.{flat_map-cons}
 use Rattle.std.specs.Int.{w32, from_be_bytes, to_be_bytes, cast_signed, cast_unsigned}
-use Rattle.std.specs.Prelude.{FitsSigned, ◌&&◌}
+use Rattle.std.specs.Prelude.{FitsSigned, ◌&&◌, ◌||◌}
 use Rattle.std.proofs.lemmas.Int.{of_z-to_z, to_z-of_z, ints}
 use Rattle.std.proofs.lemmas.Bool.{cases_lt, ltb-false, le-ltb, eqb-true}
 use Rattle.std.proofs.lemmas.List.{take_at, drop_at, take-append-drop, length-append, length-take, length-drop, length-replicate, get_or-drop, get_or-take, get_or_past}
@@ -16,10 +16,10 @@ use Rattle.afs_num.specs.declared.calls.AfsVolSync.{AfsVolSync}
 use Rattle.afs_xdr.specs.declared.faults.XdrFault.{XdrFault}
 use Rattle.afs_xdr.specs.declared.faults.XdrFault.TheVariants.{Short, TooLong, BadPad, BadType}
 use Rattle.afs_xdr.specs.Words.{AreWords, ◌>>=◌, word, words, opaque, pad, pad_length, are_zero, word_at, counted_at, opaque_at}
-use Rattle.afs_shape.specs.Items.{items_at, list_at, fid_at, store_status_at, status_at, callback_at, sync_at}
+use Rattle.afs_shape.specs.Items.{items_at, list_at, fid_at, store_status_at, status_at, callback_at, sync_at, ranged_at, volume_kind_at, server_at}
 use Rattle.afs_shape.specs.Spelling.{list, fid, store_status, status, callback, sync, fid_words, store_status_words, status_words, callback_words, sync_words}
-use Rattle.afs_shape.specs.Reading.{signed_at, small_at}
-use Rattle.afs_shape.specs.Tables.{IsCount}
+use Rattle.afs_shape.specs.Reading.{signed_at}
+use Rattle.afs_shape.specs.Tables.{IsCount, IsVolumeKind, IsServer}
 
 abbrev pub IsBytes : List ℕ → Type 0
 IsBytes bytes = (i : ℕ) → get_or bytes i 0 < 256
@@ -234,42 +234,30 @@ status_codec = words_codec 21 status_of status_words status_at status_of_words s
 
 -- ---- lists
 
-pub length_words : (ns : List ℕ) → length (words ns) ≡ 4 * length ns
-unfolding word
-length_words [] = refl
-length_words (n ∷ ns) = ap length (flat_map-cons word n ns) ∙ (length-append (word n) (words ns) ∙ omega (arith, length_words ns))
-
-length_items : {T : Type 0} (spell : T → List ℕ) (size : ℕ) → ((x : T) → length (spell x) ≡ size) → (xs : List T) → length (flat_map spell xs) ≡ length xs * size
-length_items {T} spell size len [] = omega arith
-length_items {T} spell size len (x ∷ xs) = ap length (flat_map-cons spell x xs) ∙ (length-append (spell x) (flat_map spell xs) ∙ grind (arith, len x, length_items spell size len xs))
-
-list_takes : {T : Type 0} (at : List ℕ → Result (T × List ℕ) XdrFault) (spell : T → List ℕ) (Fits : T → Type 0) (size most : ℕ) → IsCodec at spell Fits → (bytes : List ℕ) (xs : List T) (rest : List ℕ)
-    → IsBytes bytes → list_at at size most bytes ≡ Ok (xs, rest) → Takes bytes (list spell xs) rest × (IsCount most (length xs) × AllByRecursion Fits xs)
+list_takes : {T : Type 0} (at : List ℕ → Result (T × List ℕ) XdrFault) (spell : T → List ℕ) (Fits : T → Type 0) (most : ℕ) → IsCodec at spell Fits → (bytes : List ℕ) (xs : List T) (rest : List ℕ)
+    → IsBytes bytes → list_at at most bytes ≡ Ok (xs, rest) → Takes bytes (list spell xs) rest × (IsCount most (length xs) × AllByRecursion Fits xs)
 unfolding list_at
-list_takes {T} at spell Fits size most codec bytes xs rest fits e =
-    let a = bind_ok (word_at bytes) (λ count. cond (ltb most count.0) (Err TooLong) (cond (ltb (length count.1) (count.0 * size)) (Err Short) (items_at at count.0 count.1))) (xs, rest) e in
+list_takes {T} at spell Fits most codec bytes xs rest fits e =
+    let a = bind_ok (word_at bytes) (λ count. cond (ltb most count.0) (Err TooLong) (items_at at count.0 count.1)) (xs, rest) e in
     let n = a.0.0 in
     let after = a.0.1 in
-    let few = guard_ok (ltb most n) TooLong (cond (ltb (length after) (n * size)) (Err Short) (items_at at n after)) (Ok (xs, rest)) a.2 (xs, rest) refl in
-    let long = guard_ok (ltb (length after) (n * size)) Short (items_at at n after) (Ok (xs, rest)) few.1 (xs, rest) refl in
+    let few = guard_ok (ltb most n) TooLong (items_at at n after) (Ok (xs, rest)) a.2 (xs, rest) refl in
     let t = word_takes bytes n after fits a.1 in
-    let u = items_takes at spell Fits codec n after xs rest t.0.rest_fits long.1 in
+    let u = items_takes at spell Fits codec n after xs rest t.0.rest_fits few.1 in
     let both = Takes-then bytes (word n) after (flat_map spell xs) rest t.0 u.0 in
     let within : n ≤ most = ltb-false _ _ few.0 in
     (subst (λ (k : ℕ). Takes bytes (word k ++ flat_map spell xs) rest) (sym u.1) both, ((omega (arith, within, u.1), omega (arith, t.1, u.1)), u.2))
 
-list_again : {T : Type 0} (at : List ℕ → Result (T × List ℕ) XdrFault) (spell : T → List ℕ) (Fits : T → Type 0) (size most : ℕ) → IsCodec at spell Fits → ((x : T) → length (spell x) ≡ size) → (xs : List T) (rest : List ℕ)
-    → IsCount most (length xs) × AllByRecursion Fits xs → list_at at size most (list spell xs ++ rest) ≡ Ok (xs, rest)
+list_again : {T : Type 0} (at : List ℕ → Result (T × List ℕ) XdrFault) (spell : T → List ℕ) (Fits : T → Type 0) (most : ℕ) → IsCodec at spell Fits → (xs : List T) (rest : List ℕ)
+    → IsCount most (length xs) × AllByRecursion Fits xs → list_at at most (list spell xs ++ rest) ≡ Ok (xs, rest)
 unfolding list_at
-list_again {T} at spell Fits size most codec len xs rest fits =
+list_again {T} at spell Fits most codec xs rest fits =
     let few : ltb most (length xs) ≡ false = le-ltb _ _ fits.0.0 in
-    let enough : length xs * size ≤ length (flat_map spell xs ++ rest) = omega (arith, length-append (flat_map spell xs) rest, length_items spell size len xs) in
-    let long : ltb (length (flat_map spell xs ++ rest)) (length xs * size) ≡ false = le-ltb _ _ enough in
-    ap (list_at at size most) (append_assoc (word (length xs)) (flat_map spell xs) rest) ∙ rw (word_again (length xs) (flat_map spell xs ++ rest) fits.0.1, few, long) (items_again at spell Fits codec xs rest fits.1)
+    ap (list_at at most) (append_assoc (word (length xs)) (flat_map spell xs) rest) ∙ rw (word_again (length xs) (flat_map spell xs ++ rest) fits.0.1, few) (items_again at spell Fits codec xs rest fits.1)
 
-pub list_codec : {T : Type 0} (at : List ℕ → Result (T × List ℕ) XdrFault) (spell : T → List ℕ) (Fits : T → Type 0) (size most : ℕ) → IsCodec at spell Fits → ((x : T) → length (spell x) ≡ size)
-    → IsCodec (list_at at size most) (list spell) (λ xs. IsCount most (length xs) × AllByRecursion Fits xs)
-list_codec {T} at spell Fits size most codec len = record { takes = list_takes at spell Fits size most codec; again = list_again at spell Fits size most codec len }
+pub list_codec : {T : Type 0} (at : List ℕ → Result (T × List ℕ) XdrFault) (spell : T → List ℕ) (Fits : T → Type 0) (most : ℕ) → IsCodec at spell Fits
+    → IsCodec (list_at at most) (list spell) (λ xs. IsCount most (length xs) × AllByRecursion Fits xs)
+list_codec {T} at spell Fits most codec = record { takes = list_takes at spell Fits most codec; again = list_again at spell Fits most codec }
 
 -- ---- opaques
 
@@ -342,7 +330,7 @@ opaque_again most text rest fits =
 pub opaque_codec : (most : ℕ) → IsCodec (opaque_at most) opaque (λ bytes. IsCount most (length bytes))
 opaque_codec most = record { takes = opaque_takes most; again = opaque_again most }
 
--- ---- signed words, and words of at most so much
+-- ---- signed words, and words between two others
 
 signed_takes : (bytes : List ℕ) (z : ℤ) (rest : List ℕ) → IsBytes bytes → signed_at bytes ≡ Ok (z, rest) → Takes bytes (word (cast_unsigned w32 z)) rest × FitsSigned w32 z
 unfolding signed_at
@@ -362,20 +350,40 @@ signed_again z rest fits =
 pub signed_codec : IsCodec signed_at (λ z. word (cast_unsigned w32 z)) (λ z. FitsSigned w32 z)
 signed_codec = record { takes = signed_takes; again = signed_again }
 
-small_takes : (most : ℕ) (bytes : List ℕ) (n : ℕ) (rest : List ℕ) → IsBytes bytes → small_at most bytes ≡ Ok (n, rest) → Takes bytes (word n) rest × ((n ≤ most) × (n < 2 ^ 32))
-unfolding small_at
-small_takes most bytes n rest fits e =
-    let a = bind_ok (word_at bytes) (λ k. cond (ltb most k.0) (Err BadType) (Ok k)) (n, rest) e in
-    let few = guard_ok (ltb most a.0.0) BadType (Ok a.0) (Ok (n, rest)) a.2 (n, rest) refl in
+neither : (x y : Bool) → (x || y) ≡ false → (x ≡ false) × (y ≡ false)
+neither false y e = (refl, e)
+neither true y e = absurd cc
+
+ranged_takes : (low high : ℕ) (bytes : List ℕ) (n : ℕ) (rest : List ℕ) → IsBytes bytes → ranged_at low high bytes ≡ Ok (n, rest) → Takes bytes (word n) rest × (((low ≤ n) × (n ≤ high)) × (n < 2 ^ 32))
+unfolding ranged_at
+ranged_takes low high bytes n rest fits e =
+    let a = bind_ok (word_at bytes) (λ k. cond (ltb k.0 low || ltb high k.0) (Err BadType) (Ok k)) (n, rest) e in
+    let g = guard_ok (ltb a.0.0 low || ltb high a.0.0) BadType (Ok a.0) (Ok (n, rest)) a.2 (n, rest) refl in
+    let both = neither (ltb a.0.0 low) (ltb high a.0.0) g.0 in
     let t = word_takes bytes a.0.0 a.0.1 fits a.1 in
-    let within : a.0.0 ≤ most = ltb-false _ _ few.0 in
-    subst (λ (y : ℕ × List ℕ). Takes bytes (word y.0) y.1 × ((y.0 ≤ most) × (y.0 < 2 ^ 32))) (ok_is a.0 (n, rest) few.1) (t.0, (within, t.1))
+    let least : low ≤ a.0.0 = ltb-false _ _ both.0 in
+    let most : a.0.0 ≤ high = ltb-false _ _ both.1 in
+    subst (λ (y : ℕ × List ℕ). Takes bytes (word y.0) y.1 × (((low ≤ y.0) × (y.0 ≤ high)) × (y.0 < 2 ^ 32))) (ok_is a.0 (n, rest) g.1) (t.0, ((least, most), t.1))
 
-small_again : (most n : ℕ) (rest : List ℕ) → (n ≤ most) × (n < 2 ^ 32) → small_at most (word n ++ rest) ≡ Ok (n, rest)
-unfolding small_at
-small_again most n rest fits =
-    let few : ltb most n ≡ false = le-ltb _ _ fits.0 in
-    rw (word_again n rest fits.1, few) refl
+ranged_again : (low high n : ℕ) (rest : List ℕ) → ((low ≤ n) × (n ≤ high)) × (n < 2 ^ 32) → ranged_at low high (word n ++ rest) ≡ Ok (n, rest)
+unfolding ranged_at
+ranged_again low high n rest fits =
+    let least : ltb n low ≡ false = le-ltb _ _ fits.0.0 in
+    let most : ltb high n ≡ false = le-ltb _ _ fits.0.1 in
+    rw (word_again n rest fits.1, least, most) refl
 
-pub small_codec : (most : ℕ) → IsCodec (small_at most) word (λ n. (n ≤ most) × (n < 2 ^ 32))
-small_codec most = record { takes = small_takes most; again = small_again most }
+pub ranged_codec : (low high : ℕ) → IsCodec (ranged_at low high) word (λ n. ((low ≤ n) × (n ≤ high)) × (n < 2 ^ 32))
+ranged_codec low high = record { takes = ranged_takes low high; again = ranged_again low high }
+
+-- what fits, said in other words
+pub fits_codec : {X : Type 0} {at : List ℕ → Result (X × List ℕ) XdrFault} {spell : X → List ℕ} {Fits : X → Type 0} (Other : X → Type 0) → IsCodec at spell Fits → ((x : X) → Fits x → Other x) → ((x : X) → Other x → Fits x) → IsCodec at spell Other
+fits_codec {X} {at} {spell} {Fits} Other codec to from = record {
+  takes = λ bytes x rest fits e. let t = codec.takes bytes x rest fits e in (t.0, to x t.1);
+  again = λ x rest other. codec.again x rest (from x other);
+}
+
+pub volume_kind_codec : IsCodec volume_kind_at word (λ n. IsVolumeKind n × (n < 2 ^ 32))
+volume_kind_codec = fits_codec (λ n. IsVolumeKind n × (n < 2 ^ 32)) (ranged_codec 0 2) (λ n h. (h.0.1, h.1)) (λ n h. ((omega arith, h.0), h.1))
+
+pub server_codec : IsCodec server_at word (λ n. IsServer n × (n < 2 ^ 32))
+server_codec = ranged_codec 1 8

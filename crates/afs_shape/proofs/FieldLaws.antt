@@ -1,18 +1,22 @@
 -- What is read is spelled so, and what is spelled is read: fields.
-use Rattle.std.proofs.Common.{◌≡◌, ℕ, ◌+◌, List, [], ◌∷◌, ◌++◌, Result, Ok, Err, refl, sym, ap, subst, ◌∙◌, append_assoc}
+use Rattle.std.proofs.Common.{◌≡◌, ℕ, ◌+◌, List, [], ◌∷◌, ◌++◌, length, Result, Ok, Err, refl, sym, ap, subst, ◌∙◌, append_assoc}
 use Rattle.std.proofs.lemmas.List.Concat.{flat_map-cons}
 use Rattle.afs_xdr.specs.declared.faults.XdrFault.{XdrFault}
 use Rattle.afs_xdr.specs.Words.{word_at, opaque_at}
-use Rattle.afs_shape.specs.Items.{list_at, fid_at, store_status_at, status_at, callback_at, sync_at}
-use Rattle.afs_shape.specs.Spelling.{fid, callback, status, fid_words, callback_words, status_words, field_spelled, fields_spelled}
-use Rattle.afs_shape.specs.Reading.{◌>>=◌, read_as, in_place, small_at, signed_at, field_at, fields_at}
-use Rattle.afs_shape.specs.Tables.{IsOf, AreOf, IsInRange, AreInRange}
+use Rattle.afs_shape.specs.Items.{list_at, fid_at, store_status_at, status_at, callback_at, sync_at, volume_kind_at, server_at, listed_volume_at, entry_at}
+use Rattle.afs_shape.specs.Spelling.{fid, callback, status, list, listed_volume, listed_volume_words, field_spelled, fields_spelled}
+use Rattle.afs_shape.specs.Reading.{◌>>=◌, read_as, in_place, signed_at, field_at, fields_at}
+use Rattle.afs_shape.specs.Tables.{IsCount, IsOf, AreOf, IsInRange, AreInRange, IsListedVolume}
+use Rattle.std.specs.List.{AllByRecursion}
+use Rattle.afs_num.specs.declared.volume_calls.ListedVolume.{ListedVolume}
+use Rattle.afs_xdr.specs.Words.{AreWords}
 use Rattle.afs_shape.specs.declared.faults.ShapeFault.{ShapeFault}
 use Rattle.afs_shape.specs.declared.kinds.Kind.{Kind}
 use Rattle.afs_shape.specs.declared.kinds.Kind.TheVariants as kinds
 use Rattle.afs_shape.specs.declared.kinds.Field.{Field}
 use Rattle.afs_shape.specs.declared.kinds.Field.TheVariants as fields
-use Rattle.afs_shape.proofs.Codecs.{IsBytes, Takes, Takes-then, IsCodec, ok_is, length_words, word_codec, signed_codec, small_codec, opaque_codec, list_codec, fid_codec, store_status_codec, status_codec, callback_codec, sync_codec}
+use Rattle.afs_shape.proofs.Codecs.{IsBytes, Takes, Takes-then, IsCodec, ok_is, word_codec, signed_codec, volume_kind_codec, server_codec, opaque_codec, list_codec, fid_codec, store_status_codec, status_codec, callback_codec, sync_codec}
+use Rattle.afs_shape.proofs.Entries.{listed_volume_codec, entry_codec, each_apart, each_together}
 
 -- a field that was taken from the front, of this kind
 pub record TakesField (k : Kind) (bytes : List ℕ) (f : Field) (rest : List ℕ) : Type 0 where
@@ -35,36 +39,51 @@ takes_as {X} k made at spell Fits codec spelled kept ranged bytes f rest fits e 
     let here : TakesField k bytes (made r.0) rest = record { takes = subst (λ (w : List ℕ). Takes bytes w rest) (sym (spelled r.0)) t.0; is_of = kept r.0 t.1; in_range = ranged r.0 t.1 } in
     subst (λ (g : Field). TakesField k bytes g rest) r.2 here
 
+abbrev IsListedInWords : ListedVolume → Type 0
+IsListedInWords v = IsListedVolume v × AreWords (listed_volume_words v)
+
+volumes_codec : (most : ℕ) → IsCodec (list_at listed_volume_at most) (list listed_volume) (λ xs. IsCount most (length xs) × AllByRecursion IsListedInWords xs)
+volumes_codec most = list_codec listed_volume_at listed_volume IsListedInWords most listed_volume_codec
+
+apart : (vs : List ListedVolume) → AllByRecursion IsListedInWords vs → AllByRecursion IsListedVolume vs × AllByRecursion (λ v. AreWords (listed_volume_words v)) vs
+apart vs h = each_apart IsListedVolume (λ v. AreWords (listed_volume_words v)) vs h
+
 pub field_takes : (k : Kind) (bytes : List ℕ) (f : Field) (rest : List ℕ) → IsBytes bytes → field_at k bytes ≡ Ok (f, rest) → TakesField k bytes f rest
 unfolding field_at
 field_takes kinds.Nothing bytes f rest fits e = absurd cc
 field_takes kinds.Word bytes f rest fits e = takes_as kinds.Word fields.Word word_at _ _ word_codec (λ x. refl) (λ x h. tt) (λ x h. h) bytes f rest fits e
 field_takes kinds.Signed bytes f rest fits e = takes_as kinds.Signed fields.Signed signed_at _ _ signed_codec (λ x. refl) (λ x h. tt) (λ x h. h) bytes f rest fits e
-field_takes kinds.VolumeKind bytes f rest fits e = takes_as kinds.VolumeKind fields.VolumeKind (small_at 2) _ _ (small_codec 2) (λ x. refl) (λ x h. h.0) (λ x h. h.1) bytes f rest fits e
+field_takes kinds.VolumeKind bytes f rest fits e = takes_as kinds.VolumeKind fields.VolumeKind volume_kind_at _ _ volume_kind_codec (λ x. refl) (λ x h. h.0) (λ x h. h.1) bytes f rest fits e
+field_takes kinds.Server bytes f rest fits e = takes_as kinds.Server fields.Server server_at _ _ server_codec (λ x. refl) (λ x h. h.0) (λ x h. h.1) bytes f rest fits e
+field_takes kinds.Entry bytes f rest fits e = takes_as kinds.Entry fields.Entry entry_at _ _ entry_codec (λ x. refl) (λ x h. h.0) (λ x h. h.1) bytes f rest fits e
 field_takes kinds.Fid bytes f rest fits e = takes_as kinds.Fid fields.Fid fid_at _ _ fid_codec (λ x. refl) (λ x h. tt) (λ x h. h) bytes f rest fits e
 field_takes kinds.StoreStatus bytes f rest fits e = takes_as kinds.StoreStatus fields.StoreStatus store_status_at _ _ store_status_codec (λ x. refl) (λ x h. tt) (λ x h. h) bytes f rest fits e
 field_takes kinds.FetchStatus bytes f rest fits e = takes_as kinds.FetchStatus fields.FetchStatus status_at _ _ status_codec (λ x. refl) (λ x h. tt) (λ x h. h) bytes f rest fits e
 field_takes kinds.CallBack bytes f rest fits e = takes_as kinds.CallBack fields.CallBack callback_at _ _ callback_codec (λ x. refl) (λ x h. tt) (λ x h. h) bytes f rest fits e
 field_takes kinds.VolSync bytes f rest fits e = takes_as kinds.VolSync fields.VolSync sync_at _ _ sync_codec (λ x. refl) (λ x h. tt) (λ x h. h) bytes f rest fits e
 field_takes (kinds.Opaque most) bytes f rest fits e = takes_as (kinds.Opaque most) fields.Opaque (opaque_at most) _ _ (opaque_codec most) (λ x. refl) (λ x h. h) (λ x h. tt) bytes f rest fits e
-field_takes (kinds.Fids most) bytes f rest fits e = takes_as (kinds.Fids most) fields.Fids (list_at fid_at 12 most) _ _ (list_codec fid_at fid _ 12 most fid_codec (λ x. length_words (fid_words x))) (λ x. refl) (λ x h. h.0) (λ x h. h.1) bytes f rest fits e
-field_takes (kinds.CallBacks most) bytes f rest fits e = takes_as (kinds.CallBacks most) fields.CallBacks (list_at callback_at 12 most) _ _ (list_codec callback_at callback _ 12 most callback_codec (λ x. length_words (callback_words x))) (λ x. refl) (λ x h. h.0) (λ x h. h.1) bytes f rest fits e
-field_takes (kinds.Statuses most) bytes f rest fits e = takes_as (kinds.Statuses most) fields.Statuses (list_at status_at 84 most) _ _ (list_codec status_at status _ 84 most status_codec (λ x. length_words (status_words x))) (λ x. refl) (λ x h. h.0) (λ x h. h.1) bytes f rest fits e
+field_takes (kinds.Fids most) bytes f rest fits e = takes_as (kinds.Fids most) fields.Fids (list_at fid_at most) _ _ (list_codec fid_at fid _ most fid_codec) (λ x. refl) (λ x h. h.0) (λ x h. h.1) bytes f rest fits e
+field_takes (kinds.CallBacks most) bytes f rest fits e = takes_as (kinds.CallBacks most) fields.CallBacks (list_at callback_at most) _ _ (list_codec callback_at callback _ most callback_codec) (λ x. refl) (λ x h. h.0) (λ x h. h.1) bytes f rest fits e
+field_takes (kinds.Statuses most) bytes f rest fits e = takes_as (kinds.Statuses most) fields.Statuses (list_at status_at most) _ _ (list_codec status_at status _ most status_codec) (λ x. refl) (λ x h. h.0) (λ x h. h.1) bytes f rest fits e
+field_takes (kinds.Volumes most) bytes f rest fits e = takes_as (kinds.Volumes most) fields.Volumes (list_at listed_volume_at most) _ _ (volumes_codec most) (λ x. refl) (λ x h. (h.0, (apart x h.1).0)) (λ x h. (apart x h.1).1) bytes f rest fits e
 
 pub field_again : (k : Kind) (f : Field) (rest : List ℕ) → IsOf k f → IsInRange f → field_at k (field_spelled f ++ rest) ≡ Ok (f, rest)
 unfolding field_at
 field_again kinds.Word (fields.Word n) rest h r = ap (read_as fields.Word) (word_codec.again n rest r)
 field_again kinds.Signed (fields.Signed z) rest h r = ap (read_as fields.Signed) (signed_codec.again z rest r)
-field_again kinds.VolumeKind (fields.VolumeKind n) rest h r = ap (read_as fields.VolumeKind) ((small_codec 2).again n rest (h, r))
+field_again kinds.VolumeKind (fields.VolumeKind n) rest h r = ap (read_as fields.VolumeKind) (volume_kind_codec.again n rest (h, r))
+field_again kinds.Server (fields.Server n) rest h r = ap (read_as fields.Server) (server_codec.again n rest (h, r))
+field_again kinds.Entry (fields.Entry x) rest h r = ap (read_as fields.Entry) (entry_codec.again x rest (h, r))
 field_again kinds.Fid (fields.Fid x) rest h r = ap (read_as fields.Fid) (fid_codec.again x rest r)
 field_again kinds.StoreStatus (fields.StoreStatus x) rest h r = ap (read_as fields.StoreStatus) (store_status_codec.again x rest r)
 field_again kinds.FetchStatus (fields.FetchStatus x) rest h r = ap (read_as fields.FetchStatus) (status_codec.again x rest r)
 field_again kinds.CallBack (fields.CallBack x) rest h r = ap (read_as fields.CallBack) (callback_codec.again x rest r)
 field_again kinds.VolSync (fields.VolSync x) rest h r = ap (read_as fields.VolSync) (sync_codec.again x rest r)
 field_again (kinds.Opaque most) (fields.Opaque bytes) rest h r = ap (read_as fields.Opaque) ((opaque_codec most).again bytes rest h)
-field_again (kinds.Fids most) (fields.Fids xs) rest h r = ap (read_as fields.Fids) ((list_codec fid_at fid _ 12 most fid_codec (λ x. length_words (fid_words x))).again xs rest (h, r))
-field_again (kinds.CallBacks most) (fields.CallBacks xs) rest h r = ap (read_as fields.CallBacks) ((list_codec callback_at callback _ 12 most callback_codec (λ x. length_words (callback_words x))).again xs rest (h, r))
-field_again (kinds.Statuses most) (fields.Statuses xs) rest h r = ap (read_as fields.Statuses) ((list_codec status_at status _ 84 most status_codec (λ x. length_words (status_words x))).again xs rest (h, r))
+field_again (kinds.Fids most) (fields.Fids xs) rest h r = ap (read_as fields.Fids) ((list_codec fid_at fid _ most fid_codec).again xs rest (h, r))
+field_again (kinds.CallBacks most) (fields.CallBacks xs) rest h r = ap (read_as fields.CallBacks) ((list_codec callback_at callback _ most callback_codec).again xs rest (h, r))
+field_again (kinds.Statuses most) (fields.Statuses xs) rest h r = ap (read_as fields.Statuses) ((list_codec status_at status _ most status_codec).again xs rest (h, r))
+field_again (kinds.Volumes most) (fields.Volumes xs) rest h r = ap (read_as fields.Volumes) ((volumes_codec most).again xs rest (h.0, each_together IsListedVolume (λ v. AreWords (listed_volume_words v)) xs h.1 r))
 field_again _ _ rest h r = absurd h
 
 -- ---- the fields of a shape

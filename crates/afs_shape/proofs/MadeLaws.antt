@@ -8,13 +8,14 @@ use Rattle.afs_num.specs.declared.calls.AfsStoreStatus.{AfsStoreStatus}
 use Rattle.afs_num.specs.declared.calls.AfsFetchStatus.{AfsFetchStatus}
 use Rattle.afs_num.specs.declared.calls.AfsCallBack.{AfsCallBack}
 use Rattle.afs_num.specs.declared.calls.AfsVolSync.{AfsVolSync}
+use Rattle.afs_num.specs.declared.location_calls.LocEntry.{LocEntry}
 use Rattle.afs_shape.specs.declared.kinds.Kind.{Kind}
 use Rattle.afs_shape.specs.declared.kinds.Kind.TheVariants as kinds
 use Rattle.afs_shape.specs.declared.kinds.Field.{Field}
 use Rattle.afs_shape.specs.declared.kinds.Field.TheVariants as fields
-use Rattle.afs_shape.specs.Taking.{◌>>=◌, word_first, signed_first, volume_kind_first, fid_first, store_status_first, status_first, callback_first, sync_first, octets_first, fids_first, callbacks_first, statuses_first}
+use Rattle.afs_shape.specs.Taking.{◌>>=◌, no_more, taken_behind, word_first, signed_first, volume_kind_first, server_first, fid_first, store_status_first, status_first, callback_first, sync_first, octets_first, fids_first, callbacks_first, statuses_first, volumes_first, entry_first}
 use Rattle.afs_shape.specs.Tables.{kinds_in, IsOf, AreOf}
-use Rattle.afs_shape.specs.Rows.{made_at_end, made_behind, MessageRow, MessageTable, table_rows, made_in, message_of, Made}
+use Rattle.afs_shape.specs.Rows.{MessageRow, MessageTable, table_rows, made_in, message_of, Made}
 
 -- ---- slots
 
@@ -48,6 +49,20 @@ volume_kind_taken _ fs h = absurd h
 
 pub volume_kind : IsSlot kinds.VolumeKind fields.VolumeKind volume_kind_first
 volume_kind = record { takes = volume_kind_taken }
+
+server_taken : (f : Field) (fs : List Field) → IsOf kinds.Server f → Taken fields.Server server_first f fs
+server_taken (fields.Server x) fs h = record { value = x; is = refl; taken = refl }
+server_taken _ fs h = absurd h
+
+pub server : IsSlot kinds.Server fields.Server server_first
+server = record { takes = server_taken }
+
+entry_taken : (f : Field) (fs : List Field) → IsOf kinds.Entry f → Taken fields.Entry entry_first f fs
+entry_taken (fields.Entry x) fs h = record { value = x; is = refl; taken = refl }
+entry_taken _ fs h = absurd h
+
+pub entry : IsSlot kinds.Entry fields.Entry entry_first
+entry = record { takes = entry_taken }
 
 fid_taken : (f : Field) (fs : List Field) → IsOf kinds.Fid f → Taken fields.Fid fid_first f fs
 fid_taken (fields.Fid x) fs h = record { value = x; is = refl; taken = refl }
@@ -112,33 +127,47 @@ statuses_taken most _ fs h = absurd h
 pub statuses : {most : ℕ} → IsSlot (kinds.Statuses most) fields.Statuses statuses_first
 statuses {most} = record { takes = statuses_taken most }
 
+volumes_taken : (most : ℕ) (f : Field) (fs : List Field) → IsOf (kinds.Volumes most) f → Taken fields.Volumes volumes_first f fs
+volumes_taken most (fields.Volumes x) fs h = record { value = x; is = refl; taken = refl }
+volumes_taken most _ fs h = absurd h
+
+pub volumes : {most : ℕ} → IsSlot (kinds.Volumes most) fields.Volumes volumes_first
+volumes {most} = record { takes = volumes_taken most }
+
 -- ---- rows
 
 -- behind fields in front, fields of these kinds make a message of this row
 pub record MakesBehind {X : Type 0} (table : MessageTable X) (opcode : ℕ) (front : List Field) (make : List Field → Option X) (ks : List Kind) : Type 0 where
   pub makes : (fs : List Field) → AreOf ks fs → Made table opcode (make fs) (front ++ fs)
 
-ends : {X : Type 0} (table : MessageTable X) (opcode : ℕ) (front : List Field) (x : X) → (table.row x).fields ≡ front → (table.row x).opcode ≡ opcode → (fs : List Field) → AreOf [] fs → Made table opcode (made_at_end x fs) (front ++ fs)
-unfolding made_at_end
+-- what is taken, given to this maker
+abbrev pub given : {V X : Type 0} → (V → X) → (List Field → Option V) → List Field → Option X
+given maker taken fs = option_map maker (taken fs)
+
+ends : {X : Type 0} (table : MessageTable X) (opcode : ℕ) (front : List Field) (x : X) → (table.row x).fields ≡ front → (table.row x).opcode ≡ opcode → (fs : List Field) → AreOf [] fs → Made table opcode (given (λ u. x) no_more fs) (front ++ fs)
 ends table opcode front x e n [] h = record { message = x; is = refl; fields_are = e ∙ sym (append-nil front); opcode_is = n }
 ends table opcode front x e n (f ∷ fs) h = absurd h
 
-pub at_end : {X : Type 0} {table : MessageTable X} {opcode : ℕ} {front : List Field} (x : X) → (table.row x).fields ≡ front → (table.row x).opcode ≡ opcode → MakesBehind table opcode front (made_at_end x) []
+pub at_end : {X : Type 0} {table : MessageTable X} {opcode : ℕ} {front : List Field} (x : X) → (table.row x).fields ≡ front → (table.row x).opcode ≡ opcode → MakesBehind table opcode front (given (λ u. x) no_more) []
 at_end {X} {table} {opcode} {front} x e n = record { makes = ends table opcode front x e n }
 
-goes_on : {A F X : Type 0} (table : MessageTable X) (opcode : ℕ) (front : List Field) (kind : Kind) (field : A → Field) (first : List Field → Option (A × List Field)) (make : F → List Field → Option X) (maker : A → F) (ks : List Kind)
-    → IsSlot kind field first → ((x : A) → MakesBehind table opcode (front ++ field x ∷ []) (make (maker x)) ks) → (fs : List Field) → AreOf (kind ∷ ks) fs → Made table opcode (made_behind first make maker fs) (front ++ fs)
-unfolding made_behind
-goes_on table opcode front kind field first make maker ks is next (f ∷ fs) h =
+made_of : {A V X : Type 0} (maker : A × V → X) (x : A) (o : Option V) → option_map maker (o >>= λ v. Some (x, v)) ≡ option_map (λ v. maker (x, v)) o
+made_of maker x (Some v) = refl
+made_of maker x None = refl
+
+goes_on : {A V X : Type 0} (table : MessageTable X) (opcode : ℕ) (front : List Field) (kind : Kind) (field : A → Field) (first : List Field → Option (A × List Field)) (rest : List Field → Option V) (maker : A × V → X) (ks : List Kind)
+    → IsSlot kind field first → ((x : A) → MakesBehind table opcode (front ++ field x ∷ []) (given (λ v. maker (x, v)) rest) ks) → (fs : List Field) → AreOf (kind ∷ ks) fs → Made table opcode (given maker (taken_behind first rest) fs) (front ++ fs)
+unfolding taken_behind
+goes_on table opcode front kind field first rest maker ks is next (f ∷ fs) h =
     let t = is.takes f fs h.0 in
     let m = (next t.value).makes fs h.1 in
     let all : (front ++ field t.value ∷ []) ++ fs ≡ front ++ f ∷ fs = append_assoc front (field t.value ∷ []) fs ∙ ap (λ (g : Field). front ++ g ∷ fs) t.is in
-    record { message = m.message; is = rw t.taken m.is; fields_are = m.fields_are ∙ all; opcode_is = m.opcode_is }
-goes_on table opcode front kind field first make maker ks is next [] h = absurd h
+    record { message = m.message; is = rw t.taken (made_of maker t.value (rest fs) ∙ m.is); fields_are = m.fields_are ∙ all; opcode_is = m.opcode_is }
+goes_on table opcode front kind field first rest maker ks is next [] h = absurd h
 
-pub slot : {A F X : Type 0} {table : MessageTable X} {opcode : ℕ} {front : List Field} {kind : Kind} {field : A → Field} {first : List Field → Option (A × List Field)} {ks : List Kind} {maker : A → F} (make : F → List Field → Option X)
-    → IsSlot kind field first → ((x : A) → MakesBehind table opcode (front ++ field x ∷ []) (make (maker x)) ks) → MakesBehind table opcode front (made_behind first make maker) (kind ∷ ks)
-slot {A} {F} {X} {table} {opcode} {front} {kind} {field} {first} {ks} {maker} make is next = record { makes = goes_on table opcode front kind field first make maker ks is next }
+pub slot : {A V X : Type 0} {table : MessageTable X} {opcode : ℕ} {front : List Field} {kind : Kind} {field : A → Field} {first : List Field → Option (A × List Field)} {ks : List Kind} (rest : List Field → Option V) (maker : A × V → X)
+    → IsSlot kind field first → ((x : A) → MakesBehind table opcode (front ++ field x ∷ []) (given (λ v. maker (x, v)) rest) ks) → MakesBehind table opcode front (given maker (taken_behind first rest)) (kind ∷ ks)
+slot {A} {V} {X} {table} {opcode} {front} {kind} {field} {first} {ks} rest maker is next = record { makes = goes_on table opcode front kind field first rest maker ks is next }
 
 -- ---- tables
 

@@ -1,13 +1,30 @@
 -- Reading the parts of a message that are the same number of words in each, and lists of them.
-use Rattle.std.specs.Prelude.{ℕ, zero, suc, ◌*◌, List, [], ◌∷◌, length, Result, Ok, Err, nat_lt, if◌then◌else◌}
+use Rattle.std.specs.Prelude.{ℕ, zero, suc, List, [], ◌∷◌, ◌||◌, Result, Ok, Err, nat_lt, if◌then◌else◌}
 use Rattle.afs_xdr.specs.declared.faults.XdrFault.{XdrFault}
-use Rattle.afs_xdr.specs.declared.faults.XdrFault.TheVariants.{Short, TooLong}
-use Rattle.afs_xdr.specs.Words.{◌>>=◌, word_at}
+use Rattle.afs_xdr.specs.declared.faults.XdrFault.TheVariants.{TooLong, BadType}
+use Rattle.afs_xdr.specs.Words.{◌>>=◌, word_at, opaque_at}
 use Rattle.afs_num.specs.declared.types.Fid.{Fid}
 use Rattle.afs_num.specs.declared.calls.AfsStoreStatus.{AfsStoreStatus}
 use Rattle.afs_num.specs.declared.calls.AfsFetchStatus.{AfsFetchStatus}
 use Rattle.afs_num.specs.declared.calls.AfsCallBack.{AfsCallBack}
 use Rattle.afs_num.specs.declared.calls.AfsVolSync.{AfsVolSync}
+use Rattle.afs_num.specs.declared.volume_calls.ListedVolume.{ListedVolume}
+use Rattle.afs_num.specs.declared.location_calls.LocSite.{LocSite}
+use Rattle.afs_num.specs.declared.location_calls.LocEntry.{LocEntry}
+
+-- a word from low to high
+unfoldable pub ranged_at : ℕ → ℕ → List ℕ → Result (ℕ × List ℕ) XdrFault
+ranged_at low high bytes = do
+  n ← word_at bytes
+  if nat_lt n.0 low || nat_lt high n.0 then Err BadType else Ok n
+
+-- the number of a server
+abbrev pub server_at : List ℕ → Result (ℕ × List ℕ) XdrFault
+server_at bytes = ranged_at 1 8 bytes
+
+-- the kind of a volume
+abbrev pub volume_kind_at : List ℕ → Result (ℕ × List ℕ) XdrFault
+volume_kind_at bytes = ranged_at 0 2 bytes
 
 unfoldable pub fid_at : List ℕ → Result (Fid × List ℕ) XdrFault
 fid_at bytes = do
@@ -76,8 +93,40 @@ items_at item_at (suc n) bytes = do
   others ← items_at item_at n first.1
   Ok (first.0 ∷ others.0, others.1)
 
--- a count of at most so many, and that many items of so many bytes each
-unfoldable pub list_at : {T : Type 0} → (List ℕ → Result (T × List ℕ) XdrFault) → ℕ → ℕ → List ℕ → Result (List T × List ℕ) XdrFault
-list_at item_at size most bytes = do
+-- a count of at most so many, and that many items
+unfoldable pub list_at : {T : Type 0} → (List ℕ → Result (T × List ℕ) XdrFault) → ℕ → List ℕ → Result (List T × List ℕ) XdrFault
+list_at item_at most bytes = do
   count ← word_at bytes
-  if nat_lt most count.0 then Err TooLong else (if nat_lt (length count.1) (count.0 * size) then Err Short else items_at item_at count.0 count.1)
+  if nat_lt most count.0 then Err TooLong else items_at item_at count.0 count.1
+
+unfoldable pub listed_volume_at : List ℕ → Result (ListedVolume × List ℕ) XdrFault
+listed_volume_at bytes = do
+  volume ← word_at bytes
+  kind ← volume_kind_at volume.1
+  flags ← word_at kind.1
+  release ← word_at flags.1
+  Ok (record { volume = volume.0; kind = kind.0; flags = flags.0; release = release.0 }, release.1)
+
+unfoldable pub site_at : List ℕ → Result (LocSite × List ℕ) XdrFault
+site_at bytes = do
+  server ← server_at bytes
+  flags ← word_at server.1
+  Ok (record { server = server.0; flags = flags.0 }, flags.1)
+
+-- at most so many bytes of a volume's name
+abbrev pub volume_name_limit : ℕ
+volume_name_limit = 32
+
+-- at most so many sites of a location entry
+abbrev pub site_limit : ℕ
+site_limit = 16
+
+unfoldable pub entry_at : List ℕ → Result (LocEntry × List ℕ) XdrFault
+entry_at bytes = do
+  name ← opaque_at volume_name_limit bytes
+  read_write ← word_at name.1
+  read_only ← word_at read_write.1
+  backup ← word_at read_only.1
+  flags ← word_at backup.1
+  sites ← list_at site_at site_limit flags.1
+  Ok (record { name = name.0; read_write = read_write.0; read_only = read_only.0; backup = backup.0; flags = flags.0; sites = sites.0 }, sites.1)

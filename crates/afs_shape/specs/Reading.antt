@@ -1,11 +1,11 @@
 -- Reading the fields of a message from left to right, with the first that is bad.
-use Rattle.std.specs.Prelude.{◌≡◌, ℕ, ℤ, ◌+◌, List, [], ◌∷◌, length, Result, Ok, Err, nat_lt, if◌then◌else◌}
+use Rattle.std.specs.Prelude.{◌≡◌, ℕ, ℤ, ◌+◌, List, [], ◌∷◌, length, Result, Ok, Err}
 use Rattle.std.specs.Int.{w32, cast_signed}
 use Rattle.afs_xdr.specs.declared.faults.XdrFault.{XdrFault}
 use Rattle.afs_xdr.specs.declared.faults.XdrFault.TheVariants.{BadType}
 use Rattle.afs_xdr.specs.Reading.{Reading}
 use Rattle.afs_xdr.specs.Words.{word_at, opaque_at, end_at}
-use Rattle.afs_shape.specs.Items.{fid_at, store_status_at, status_at, callback_at, sync_at, list_at}
+use Rattle.afs_shape.specs.Items.{fid_at, store_status_at, status_at, callback_at, sync_at, list_at, volume_kind_at, server_at, listed_volume_at, entry_at}
 use Rattle.afs_shape.specs.declared.faults.FieldFault.{FieldFault}
 use Rattle.afs_shape.specs.declared.faults.FieldFault.TheVariants as causes
 use Rattle.afs_shape.specs.declared.faults.ShapeFault.{ShapeFault}
@@ -34,27 +34,24 @@ signed_at bytes = do
   n ← word_at bytes
   Ok (cast_signed w32 n.0, n.1)
 
--- a word of at most so much
-unfoldable pub small_at : ℕ → List ℕ → Result (ℕ × List ℕ) XdrFault
-small_at most bytes = do
-  n ← word_at bytes
-  if nat_lt most n.0 then Err BadType else Ok n
-
 -- a field of this kind. None is of the kind Nothing
 unfoldable pub field_at : Kind → List ℕ → Result (Field × List ℕ) XdrFault
 field_at kinds.Nothing bytes = Err BadType
 field_at kinds.Word bytes = read_as fields.Word (word_at bytes)
 field_at kinds.Signed bytes = read_as fields.Signed (signed_at bytes)
-field_at kinds.VolumeKind bytes = read_as fields.VolumeKind (small_at 2 bytes)
+field_at kinds.VolumeKind bytes = read_as fields.VolumeKind (volume_kind_at bytes)
+field_at kinds.Server bytes = read_as fields.Server (server_at bytes)
 field_at kinds.Fid bytes = read_as fields.Fid (fid_at bytes)
 field_at kinds.StoreStatus bytes = read_as fields.StoreStatus (store_status_at bytes)
 field_at kinds.FetchStatus bytes = read_as fields.FetchStatus (status_at bytes)
 field_at kinds.CallBack bytes = read_as fields.CallBack (callback_at bytes)
 field_at kinds.VolSync bytes = read_as fields.VolSync (sync_at bytes)
 field_at (kinds.Opaque most) bytes = read_as fields.Opaque (opaque_at most bytes)
-field_at (kinds.Fids most) bytes = read_as fields.Fids (list_at fid_at 12 most bytes)
-field_at (kinds.CallBacks most) bytes = read_as fields.CallBacks (list_at callback_at 12 most bytes)
-field_at (kinds.Statuses most) bytes = read_as fields.Statuses (list_at status_at 84 most bytes)
+field_at (kinds.Fids most) bytes = read_as fields.Fids (list_at fid_at most bytes)
+field_at (kinds.CallBacks most) bytes = read_as fields.CallBacks (list_at callback_at most bytes)
+field_at (kinds.Statuses most) bytes = read_as fields.Statuses (list_at status_at most bytes)
+field_at (kinds.Volumes most) bytes = read_as fields.Volumes (list_at listed_volume_at most bytes)
+field_at kinds.Entry bytes = read_as fields.Entry (entry_at bytes)
 
 -- what is read is the field of this place
 abbrev pub in_place : {A : Type 0} → ℕ → Result A XdrFault → Result A ShapeFault

@@ -1,16 +1,18 @@
 -- Rows: for each message of an interface one, with its opcode, its fields of their kinds in order, and what makes the
 -- message of its fields. The rows of all calls, or of all replies, of an interface are a table.
-use Rattle.std.specs.Prelude.{◌≡◌, ℕ, ℤ, pos, List, [], ◌∷◌, Option, Some, None, nat_eq, cond, map, IsSomeAnd}
+use Rattle.std.specs.Prelude.{◌≡◌, ℕ, ℤ, List, [], ◌∷◌, Option, Some, None, nat_eq, cond, map, option_map, IsSomeAnd}
 use Rattle.afs_num.specs.declared.types.Fid.{Fid}
 use Rattle.afs_num.specs.declared.calls.AfsStoreStatus.{AfsStoreStatus}
 use Rattle.afs_num.specs.declared.calls.AfsFetchStatus.{AfsFetchStatus}
 use Rattle.afs_num.specs.declared.calls.AfsCallBack.{AfsCallBack}
 use Rattle.afs_num.specs.declared.calls.AfsVolSync.{AfsVolSync}
+use Rattle.afs_num.specs.declared.volume_calls.ListedVolume.{ListedVolume}
+use Rattle.afs_num.specs.declared.location_calls.LocEntry.{LocEntry}
 use Rattle.afs_shape.specs.declared.kinds.Kind.{Kind}
 use Rattle.afs_shape.specs.declared.kinds.Kind.TheVariants as kinds
 use Rattle.afs_shape.specs.declared.kinds.Field.{Field}
 use Rattle.afs_shape.specs.declared.kinds.Field.TheVariants as fields
-use Rattle.afs_shape.specs.Taking.{◌>>=◌, no_more, word_first, signed_first, volume_kind_first, fid_first, store_status_first, status_first, callback_first, sync_first, octets_first, fids_first, callbacks_first, statuses_first}
+use Rattle.afs_shape.specs.Taking.{no_more, taken_behind, word_first, signed_first, volume_kind_first, server_first, fid_first, store_status_first, status_first, callback_first, sync_first, octets_first, fids_first, callbacks_first, statuses_first, volumes_first, entry_first}
 use Rattle.afs_shape.specs.Tables.{kinds_in, AreOf}
 
 -- ---- a field of a row: its kind, its value, and how a value of its kind is taken from the front
@@ -28,6 +30,9 @@ signed z = record { kind = kinds.Signed; field = fields.Signed z; first = signed
 
 abbrev pub volume_kind : ℕ → Slot ℕ
 volume_kind n = record { kind = kinds.VolumeKind; field = fields.VolumeKind n; first = volume_kind_first }
+
+abbrev pub server : ℕ → Slot ℕ
+server n = record { kind = kinds.Server; field = fields.Server n; first = server_first }
 
 abbrev pub fid : Fid → Slot Fid
 fid f = record { kind = kinds.Fid; field = fields.Fid f; first = fid_first }
@@ -58,29 +63,26 @@ callbacks most cs = record { kind = kinds.CallBacks most; field = fields.CallBac
 abbrev pub statuses : ℕ → List AfsFetchStatus → Slot (List AfsFetchStatus)
 statuses most ss = record { kind = kinds.Statuses most; field = fields.Statuses ss; first = statuses_first }
 
--- ---- the fields of a row, one & the next & .. & end: they take a maker of type F to a message
+abbrev pub volumes : ℕ → List ListedVolume → Slot (List ListedVolume)
+volumes most vs = record { kind = kinds.Volumes most; field = fields.Volumes vs; first = volumes_first }
 
-pub record Slots (F X : Type 0) : Type 0 where
+abbrev pub entry : LocEntry → Slot LocEntry
+entry e = record { kind = kinds.Entry; field = fields.Entry e; first = entry_first }
+
+-- ---- the fields of a row, one & the next & .. & end: a maker of type F makes a message of their values, of type V
+
+pub record Slots (F V X : Type 0) : Type 0 where
   pub kinds : List Kind
   pub fields : List Field
-  pub make : F → List Field → Option X
+  pub taken : List Field → Option V
+  pub made : F → V → X
 
-unfoldable pub made_at_end : {X : Type 0} → X → List Field → Option X
-made_at_end x fs = do
-  nothing ← no_more fs
-  Some x
-
-unfoldable pub made_behind : {A F X : Type 0} → (List Field → Option (A × List Field)) → (F → List Field → Option X) → (A → F) → List Field → Option X
-made_behind first make maker fs = do
-  x ← first fs
-  make (maker x.0) x.1
-
-abbrev pub end : {X : Type 0} → Slots X X
-end = record { kinds = []; fields = []; make = made_at_end }
+abbrev pub end : {X : Type 0} → Slots X (Unit {0}) X
+end = record { kinds = []; fields = []; taken = no_more; made = λ x nothing. x }
 
 infixr 10 ◌&◌
-abbrev pub ◌&◌ : {A F X : Type 0} → Slot A → Slots F X → Slots (A → F) X
-s & rest = record { kinds = s.kind ∷ rest.kinds; fields = s.field ∷ rest.fields; make = made_behind s.first rest.make }
+abbrev pub ◌&◌ : {A F V X : Type 0} → Slot A → Slots F V X → Slots (A → F) (A × V) X
+s & rest = record { kinds = s.kind ∷ rest.kinds; fields = s.field ∷ rest.fields; taken = taken_behind s.first rest.taken; made = λ maker values. rest.made (maker values.0) values.1 }
 
 -- ---- rows and tables
 
@@ -90,8 +92,8 @@ pub record MessageRow (X : Type 0) : Type 0 where
   pub fields : List Field
   pub make : List Field → Option X
 
-abbrev pub numbered : {F X : Type 0} → ℕ → F → Slots F X → MessageRow X
-numbered opcode maker slots = record { opcode = opcode; kinds = slots.kinds; fields = slots.fields; make = slots.make maker }
+abbrev pub numbered : {F V X : Type 0} → ℕ → F → Slots F V X → MessageRow X
+numbered opcode maker slots = record { opcode = opcode; kinds = slots.kinds; fields = slots.fields; make = λ fs. option_map (slots.made maker) (slots.taken fs) }
 
 -- the row of each message, and one message of each row, whatever its fields hold
 pub record MessageTable (X : Type 0) : Type 0 where
@@ -109,6 +111,18 @@ made_in opcode fs (r ∷ rs) = cond (nat_eq opcode r.opcode) (r.make fs) (made_i
 -- the message of this opcode with these fields; None where they are those of no such message
 abbrev pub message_of : {X : Type 0} → MessageTable X → ℕ → List Field → Option X
 message_of table opcode fs = made_in opcode fs (map table.row table.each)
+
+-- ---- interfaces as parts of one
+
+-- the opcodes of a table
+abbrev pub opcodes : {X : Type 0} → MessageTable X → List ℕ
+opcodes table = map (λ x. (table.row x).opcode) table.each
+
+-- a row of one interface as a row of all
+abbrev pub in_interface : {X Y : Type 0} → (X → Y) → MessageRow X → MessageRow Y
+in_interface part r = record { opcode = r.opcode; kinds = r.kinds; fields = r.fields; make = λ fs. option_map part (r.make fs) }
+
+-- ---- limits
 
 -- a message within the limits of its row
 abbrev pub HasRow : List (ℕ × List Kind) → ℕ → List Field → Type 0
@@ -169,3 +183,6 @@ no_callback = record { version = 0; expiration_time = 0; kind = 0 }
 
 abbrev pub no_sync : AfsVolSync
 no_sync = record { release = 0; spare1 = 0; spare2 = 0; spare3 = 0; spare4 = 0; spare5 = 0 }
+
+abbrev pub no_entry : LocEntry
+no_entry = record { name = []; read_write = 0; read_only = 0; backup = 0; flags = 0; sites = [] }

@@ -8,6 +8,9 @@ use Rattle.afs_num.specs.declared.calls.AfsStoreStatus.{AfsStoreStatus}
 use Rattle.afs_num.specs.declared.calls.AfsFetchStatus.{AfsFetchStatus}
 use Rattle.afs_num.specs.declared.calls.AfsCallBack.{AfsCallBack}
 use Rattle.afs_num.specs.declared.calls.AfsVolSync.{AfsVolSync}
+use Rattle.afs_num.specs.declared.volume_calls.ListedVolume.{ListedVolume}
+use Rattle.afs_num.specs.declared.location_calls.LocSite.{LocSite}
+use Rattle.afs_num.specs.declared.location_calls.LocEntry.{LocEntry}
 use Rattle.afs_shape.specs.declared.kinds.Field.{Field}
 use Rattle.afs_shape.specs.declared.kinds.Field.TheVariants as fields
 
@@ -29,6 +32,16 @@ callback_words c = c.version ∷ c.expiration_time ∷ c.kind ∷ []
 abbrev pub sync_words : AfsVolSync → List ℕ
 sync_words v = v.release ∷ v.spare1 ∷ v.spare2 ∷ v.spare3 ∷ v.spare4 ∷ v.spare5 ∷ []
 
+abbrev pub listed_volume_words : ListedVolume → List ℕ
+listed_volume_words v = v.volume ∷ v.kind ∷ v.flags ∷ v.release ∷ []
+
+abbrev pub site_words : LocSite → List ℕ
+site_words s = s.server ∷ s.flags ∷ []
+
+-- between its name and its sites
+abbrev pub entry_words : LocEntry → List ℕ
+entry_words e = e.read_write ∷ e.read_only ∷ e.backup ∷ e.flags ∷ []
+
 abbrev pub fid : Fid → List ℕ
 fid f = words (fid_words f)
 
@@ -44,14 +57,24 @@ callback c = words (callback_words c)
 abbrev pub sync : AfsVolSync → List ℕ
 sync v = words (sync_words v)
 
+abbrev pub listed_volume : ListedVolume → List ℕ
+listed_volume v = words (listed_volume_words v)
+
+abbrev pub site : LocSite → List ℕ
+site s = words (site_words s)
+
 -- a count, and the items
 abbrev pub list : {T : Type 0} → (T → List ℕ) → List T → List ℕ
 list item xs = word (length xs) ++ flat_map item xs
+
+abbrev pub entry : LocEntry → List ℕ
+entry e = opaque e.name ++ (words (entry_words e) ++ list site e.sites)
 
 abbrev pub field_spelled : Field → List ℕ
 field_spelled (fields.Word n) = word n
 field_spelled (fields.Signed z) = word (cast_unsigned w32 z)
 field_spelled (fields.VolumeKind n) = word n
+field_spelled (fields.Server n) = word n
 field_spelled (fields.Fid f) = fid f
 field_spelled (fields.StoreStatus s) = store_status s
 field_spelled (fields.FetchStatus s) = status s
@@ -61,6 +84,8 @@ field_spelled (fields.Opaque bytes) = opaque bytes
 field_spelled (fields.Fids fs) = list fid fs
 field_spelled (fields.CallBacks cs) = list callback cs
 field_spelled (fields.Statuses ss) = list status ss
+field_spelled (fields.Volumes vs) = list listed_volume vs
+field_spelled (fields.Entry e) = entry e
 
 -- the fields, one after the other
 abbrev pub fields_spelled : List Field → List ℕ
@@ -70,10 +95,12 @@ fields_spelled fs = flat_map field_spelled fs
 abbrev pub Extends : List ℕ → List ℕ → Type 0
 Extends old new = (more : List ℕ) × (new ≡ old ++ more)
 
--- what has a spelling: its count is a word
+-- what has a spelling: its counts are words
 abbrev pub IsSpellable : Field → Type 0
 IsSpellable (fields.Opaque bytes) = length bytes < 2 ^ 32
 IsSpellable (fields.Fids fs) = length fs < 2 ^ 32
 IsSpellable (fields.CallBacks cs) = length cs < 2 ^ 32
 IsSpellable (fields.Statuses ss) = length ss < 2 ^ 32
+IsSpellable (fields.Volumes vs) = length vs < 2 ^ 32
+IsSpellable (fields.Entry e) = (length e.name < 2 ^ 32) × (length e.sites < 2 ^ 32)
 IsSpellable _ = Unit {0}

@@ -5,6 +5,8 @@ use Rattle.afs_num.specs.declared.calls.AfsStoreStatus.{AfsStoreStatus}
 use Rattle.afs_num.specs.declared.calls.AfsFetchStatus.{AfsFetchStatus}
 use Rattle.afs_num.specs.declared.calls.AfsCallBack.{AfsCallBack}
 use Rattle.afs_num.specs.declared.calls.AfsVolSync.{AfsVolSync}
+use Rattle.afs_num.specs.declared.volume_calls.ListedVolume.{ListedVolume}
+use Rattle.afs_num.specs.declared.location_calls.LocEntry.{LocEntry}
 use Rattle.afs_shape.specs.declared.kinds.Field.{Field}
 use Rattle.afs_shape.specs.declared.kinds.Field.TheVariants as fields
 
@@ -24,6 +26,10 @@ signed_first _ = None
 abbrev pub volume_kind_first : List Field → Option (ℕ × List Field)
 volume_kind_first (fields.VolumeKind x ∷ fs) = Some (x, fs)
 volume_kind_first _ = None
+
+abbrev pub server_first : List Field → Option (ℕ × List Field)
+server_first (fields.Server x ∷ fs) = Some (x, fs)
+server_first _ = None
 
 abbrev pub fid_first : List Field → Option (Fid × List Field)
 fid_first (fields.Fid x ∷ fs) = Some (x, fs)
@@ -61,9 +67,29 @@ abbrev pub statuses_first : List Field → Option (List AfsFetchStatus × List F
 statuses_first (fields.Statuses x ∷ fs) = Some (x, fs)
 statuses_first _ = None
 
+abbrev pub volumes_first : List Field → Option (List ListedVolume × List Field)
+volumes_first (fields.Volumes x ∷ fs) = Some (x, fs)
+volumes_first _ = None
+
+abbrev pub entry_first : List Field → Option (LocEntry × List Field)
+entry_first (fields.Entry x ∷ fs) = Some (x, fs)
+entry_first _ = None
+
 abbrev pub no_more : List Field → Option (Unit {0})
 no_more [] = Some tt
 no_more (f ∷ fs) = None
+
+-- the field in front was handed out
+abbrev pub NextIs : List Field → List Field → Option Field → Type 0
+NextIs old new (Some f) = old ≡ f ∷ new
+NextIs old new None = (old ≡ []) × (new ≡ [])
+
+-- the first field, and what is taken from those behind it
+unfoldable pub taken_behind : {A V : Type 0} → (List Field → Option (A × List Field)) → (List Field → Option V) → List Field → Option (A × V)
+taken_behind first rest fs = do
+  x ← first fs
+  v ← rest x.1
+  Some (x.0, v)
 
 -- what was taken from the old fields leaves the new; where nothing of that kind stood first, nothing is said
 abbrev pub TakesFirst : {X Y : Type 0} → (List Field → Option (Y × List Field)) → (X → Y) → List Field → List Field → Option X → Type 0

@@ -2,18 +2,21 @@
 
 ghost use Rattle.std.specs.Prelude.{◌≡◌, ◌++◌, ◌<◌, ◌^◌, length, OnOk, OnErr, FitsSigned};
 ghost use Rattle.afs_xdr.specs.Reading.{Reads, KeepsEnd};
-ghost use Rattle.afs_xdr.specs.Words.{word, opaque, opaque_at};
-ghost use Rattle.afs_shape.specs.Spelling.{field_spelled, Extends, IsSpellable};
-ghost use Rattle.afs_shape.specs.Parts.{field_of, field_size};
+ghost use Rattle.afs_xdr.specs.Words.{word, opaque, opaque_at, AreWords};
+ghost use Rattle.afs_shape.specs.Spelling.{field_spelled, entry, entry_words, site_words, Extends, IsSpellable};
+ghost use Rattle.std.specs.List.{AllByRecursion};
+ghost use Rattle.afs_shape.specs.Items.{entry_at};
+ghost use Rattle.afs_shape.specs.Parts.{field_of, field_size, opaque_size};
 ghost use Rattle.afs_shape.specs.Tables.{IsInRange};
-ghost use Rattle.afs_shape.specs.Reading.{ReadsField, small_at, signed_at, field_at};
+ghost use Rattle.afs_shape.specs.Reading.{ReadsField, signed_at, field_at};
 ghost use Rattle.std.specs.Int.{w32, cast_unsigned};
 
 use crate::faults::FieldFault;
-use crate::items::Item;
+use crate::items::{Item, read_server, read_volume_kind};
 use crate::kinds::{Field, Kind, Part};
 use crate::lists::{read_list, write_list};
 use afs_num::calls::{AfsCallBack, AfsFetchStatus, AfsStoreStatus, AfsVolSync};
+use afs_num::location_calls::LocEntry;
 use afs_num::sequences::Octets;
 use afs_num::types::{Fid, Mem};
 use afs_xdr::faults::XdrFault;
@@ -21,8 +24,14 @@ use afs_xdr::reading::Reader;
 use afs_xdr::writing::Writer;
 use std::alloc::Global;
 
-/// The kinds of fields, each with how it is read and how it is written: first those of a fixed size, then those with
-/// a limit.
+/// A volume's name in a location entry, in bytes.
+const VOLUME_NAME_LIMIT: u32 = 32;
+
+/// The sites of a location entry.
+const SITE_LIMIT: u32 = 16;
+
+/// The kinds of fields, each with how it is read and how it is written: first those of a fixed size, then those that
+/// take memory, then those with a limit of their row.
 macro_rules! with_kinds {
     ($arms:ident $value:tt) => {
         $arms! {
@@ -31,6 +40,7 @@ macro_rules! with_kinds {
                 Word(Reader::word, write_word),
                 Signed(read_signed, write_signed),
                 VolumeKind(read_volume_kind, write_word),
+                Server(read_server, write_word),
                 Fid(Fid::read, Fid::write),
                 StoreStatus(AfsStoreStatus::read, AfsStoreStatus::write),
                 FetchStatus(AfsFetchStatus::read, AfsFetchStatus::write),
@@ -38,10 +48,14 @@ macro_rules! with_kinds {
                 VolSync(AfsVolSync::read, AfsVolSync::write)
             ]
             [
+                Entry(read_entry, write_entry)
+            ]
+            [
                 Opaque(read_octets, write_octets),
                 Fids(read_list, write_list),
                 CallBacks(read_list, write_list),
-                Statuses(read_list, write_list)
+                Statuses(read_list, write_list),
+                Volumes(read_list, write_list)
             ]
         }
     };
@@ -52,6 +66,7 @@ macro_rules! reading_arms {
     (
         ($kind:expr, $alloc:expr, $r:expr)
         [$($fixed:ident($read:path, $write:path)),*]
+        [$($owned:ident($read_owned:path, $write_owned:path)),*]
         [$($limited:ident($read_most:path, $write_all:path)),*]
     ) => {
         match $kind {
@@ -59,6 +74,10 @@ macro_rules! reading_arms {
             $(Kind::$fixed => {
                 let value = $read($r)?;
                 Ok(Field::$fixed(value))
+            })*
+            $(Kind::$owned => {
+                let value = $read_owned($alloc, $r)?;
+                Ok(Field::$owned(value))
             })*
             $(Kind::$limited(most) => {
                 let value = $read_most($alloc, $r, most)?;
@@ -73,10 +92,12 @@ macro_rules! writing_arms {
     (
         ($part:expr, $w:expr)
         [$($fixed:ident($read:path, $write:path)),*]
+        [$($owned:ident($read_owned:path, $write_owned:path)),*]
         [$($limited:ident($read_most:path, $write_all:path)),*]
     ) => {
         match $part {
             $(Part::$fixed(value) => $write(value, $w),)*
+            $(Part::$owned(value) => $write_owned(value, $w),)*
             $(Part::$limited(values) => $write_all(values, $w),)*
         }
     };
@@ -92,19 +113,6 @@ fn read_signed(r: &mut Reader) -> Result<i32, XdrFault>
     Ok(n.cast_signed())
 }
 
-/// Reads the kind of a volume.
-#[tactic(auto, unfolding(crate::specs::Reading::small_at))]
-fn read_volume_kind(r: &mut Reader) -> Result<u32, XdrFault>
-    ensures value { Reads (small_at 2) (λ n. n) r.old r.new result }
-    ensures end { KeepsEnd r.old r.new }
-{
-    let kind = r.word()?;
-    if 2 < kind {
-        return Err(XdrFault::BadType);
-    }
-    Ok(kind)
-}
-
 /// Reads an opaque, and copies it.
 fn read_octets(alloc: Global, r: &mut Reader, most: u32) -> Result<Octets, FieldFault>
     ensures value { ReadsField (opaque_at most) (λ s. s) r.old r.new result }
@@ -113,6 +121,28 @@ fn read_octets(alloc: Global, r: &mut Reader, most: u32) -> Result<Octets, Field
     let bytes = r.opaque(most)?;
     let octets = Octets::from_slice(alloc, bytes)?;
     Ok(octets)
+}
+
+/// Reads a location entry.
+#[tactic(auto, unfolding(crate::specs::Items::entry_at))]
+fn read_entry(alloc: Global, r: &mut Reader) -> Result<LocEntry, FieldFault>
+    ensures value { ReadsField entry_at (λ e. e) r.old r.new result }
+    ensures end { KeepsEnd r.old r.new }
+{
+    let name = read_octets(alloc, r, VOLUME_NAME_LIMIT)?;
+    let read_write = r.word()?;
+    let read_only = r.word()?;
+    let backup = r.word()?;
+    let flags = r.word()?;
+    let sites = read_list(alloc, r, SITE_LIMIT)?;
+    Ok(LocEntry {
+        name,
+        read_write,
+        read_only,
+        backup,
+        flags,
+        sites,
+    })
 }
 
 fn write_word(n: u32, w: &mut Writer) -> Mem<()>
@@ -137,6 +167,28 @@ fn write_octets(bytes: &[u8], w: &mut Writer) -> Mem<()>
     ensures err { OnErr result (w.new ≡ w.old) }
 {
     w.opaque(bytes)
+}
+
+/// Appends a location entry. After want of memory bytes of it may stand behind those from before.
+fn write_entry(e: &LocEntry, w: &mut Writer) -> Mem<()>
+    requires name { length e.now.name < 2 ^ 32 }
+    requires sites { length e.now.sites < 2 ^ 32 }
+    ensures ok { OnOk result (w.new ≡ w.old ++ entry e.now) }
+    ensures fits { OnOk result (AreWords (entry_words e.now) × AllByRecursion (λ s. AreWords (site_words s)) e.now.sites) }
+    ensures err { OnErr result (Extends w.old w.new) }
+{
+    w.opaque(e.name.as_slice())?;
+    w.words(&[e.read_write, e.read_only, e.backup, e.flags])?;
+    write_list(e.sites.as_slice(), w)
+}
+
+/// How many bytes an opaque takes.
+fn size_of_opaque(bytes: &[u8]) -> usize
+    requires { length bytes.now < 2 ^ 32 }
+    ensures value { result ≡ opaque_size bytes.now }
+    ensures small { result < 2 ^ 33 }
+{
+    4 + (bytes.len() + (4 - bytes.len() % 4) % 4)
 }
 
 /// Reads a field of this kind.
@@ -165,13 +217,15 @@ pub fn size_of(part: Part) -> usize
     ensures small { result < 2 ^ 40 }
 {
     match part {
-        Part::Word(_) | Part::Signed(_) | Part::VolumeKind(_) => 4,
+        Part::Word(_) | Part::Signed(_) | Part::VolumeKind(_) | Part::Server(_) => 4,
         Part::Fid(_) | Part::CallBack(_) => 12,
         Part::StoreStatus(_) | Part::VolSync(_) => 24,
         Part::FetchStatus(_) => 84,
-        Part::Opaque(bytes) => 4 + (bytes.len() + (4 - bytes.len() % 4) % 4),
+        Part::Entry(e) => size_of_opaque(e.name.as_slice()) + (20 + e.sites.len() * 8),
+        Part::Opaque(bytes) => size_of_opaque(bytes),
         Part::Fids(fids) => 4 + fids.len() * 12,
         Part::CallBacks(callbacks) => 4 + callbacks.len() * 12,
         Part::Statuses(statuses) => 4 + statuses.len() * 84,
+        Part::Volumes(volumes) => 4 + volumes.len() * 16,
     }
 }

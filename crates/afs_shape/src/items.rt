@@ -3,11 +3,13 @@
 ghost use Rattle.std.specs.Prelude.{◌≡◌, ◌++◌, OnOk, OnErr};
 ghost use Rattle.afs_xdr.specs.Reading.{Reads, KeepsEnd};
 ghost use Rattle.afs_xdr.specs.Words.{AreWords};
-ghost use Rattle.afs_shape.specs.Spelling.{fid, store_status, status, callback, sync, fid_words, store_status_words, status_words, callback_words, sync_words};
-ghost use Rattle.afs_shape.specs.Items.{fid_at, store_status_at, status_at, callback_at, sync_at};
+ghost use Rattle.afs_shape.specs.Spelling.{fid, store_status, status, callback, sync, listed_volume, site, fid_words, store_status_words, status_words, callback_words, sync_words, listed_volume_words, site_words};
+ghost use Rattle.afs_shape.specs.Items.{fid_at, store_status_at, status_at, callback_at, sync_at, ranged_at, volume_kind_at, server_at, listed_volume_at, site_at};
 
 use afs_num::calls::{AfsCallBack, AfsFetchStatus, AfsStoreStatus, AfsVolSync};
+use afs_num::location_calls::LocSite;
 use afs_num::types::{Fid, Mem};
+use afs_num::volume_calls::ListedVolume;
 use afs_xdr::faults::XdrFault;
 use afs_xdr::reading::Reader;
 use afs_xdr::writing::Writer;
@@ -21,12 +23,7 @@ pub trait Item: Drop {
 
     ghost item_at: { List ℕ → Result (Self × List ℕ) XdrFault };
 
-    ghost SIZE: { ℕ };
-
     ghost InRange: { Self → Type 0 };
-
-    /// How many bytes it takes.
-    const SIZE: u32;
 
     /// Reads one.
     fn read(r: &mut Reader) -> Result<Self, XdrFault>
@@ -40,16 +37,41 @@ pub trait Item: Drop {
         ensures err { OnErr result (w.new ≡ w.old) };
 }
 
+/// Reads a word from `low` to `high`. `BadType` at any other.
+#[tactic(auto, unfolding(crate::specs::Items::ranged_at))]
+fn read_ranged(r: &mut Reader, low: u32, high: u32) -> Result<u32, XdrFault>
+    ensures value { Reads (ranged_at low high) (λ n. n) r.old r.new result }
+    ensures end { KeepsEnd r.old r.new }
+{
+    let n = r.word()?;
+    if n < low || high < n {
+        return Err(XdrFault::BadType);
+    }
+    Ok(n)
+}
+
+/// Reads the kind of a volume.
+pub(crate) fn read_volume_kind(r: &mut Reader) -> Result<u32, XdrFault>
+    ensures value { Reads volume_kind_at (λ n. n) r.old r.new result }
+    ensures end { KeepsEnd r.old r.new }
+{
+    read_ranged(r, 0, 2)
+}
+
+/// Reads the number of a server.
+pub(crate) fn read_server(r: &mut Reader) -> Result<u32, XdrFault>
+    ensures value { Reads server_at (λ n. n) r.old r.new result }
+    ensures end { KeepsEnd r.old r.new }
+{
+    read_ranged(r, 1, 8)
+}
+
 impl Item for Fid {
     ghost item = { fid };
 
     ghost item_at = { fid_at };
 
-    ghost SIZE = { 12 };
-
     ghost InRange = { λ x. AreWords (fid_words x) };
-
-    const SIZE: u32 = 12;
 
     #[tactic(auto, unfolding(crate::specs::Items::fid_at))]
     fn read(r: &mut Reader) -> Result<Fid, XdrFault> {
@@ -73,11 +95,7 @@ impl Item for AfsFetchStatus {
 
     ghost item_at = { status_at };
 
-    ghost SIZE = { 84 };
-
     ghost InRange = { λ x. AreWords (status_words x) };
-
-    const SIZE: u32 = 84;
 
     #[tactic(auto, unfolding(crate::specs::Items::status_at))]
     fn read(r: &mut Reader) -> Result<AfsFetchStatus, XdrFault> {
@@ -159,11 +177,7 @@ impl Item for AfsStoreStatus {
 
     ghost item_at = { store_status_at };
 
-    ghost SIZE = { 24 };
-
     ghost InRange = { λ x. AreWords (store_status_words x) };
-
-    const SIZE: u32 = 24;
 
     #[tactic(auto, unfolding(crate::specs::Items::store_status_at))]
     fn read(r: &mut Reader) -> Result<AfsStoreStatus, XdrFault> {
@@ -200,11 +214,7 @@ impl Item for AfsCallBack {
 
     ghost item_at = { callback_at };
 
-    ghost SIZE = { 12 };
-
     ghost InRange = { λ x. AreWords (callback_words x) };
-
-    const SIZE: u32 = 12;
 
     #[tactic(auto, unfolding(crate::specs::Items::callback_at))]
     fn read(r: &mut Reader) -> Result<AfsCallBack, XdrFault> {
@@ -228,11 +238,7 @@ impl Item for AfsVolSync {
 
     ghost item_at = { sync_at };
 
-    ghost SIZE = { 24 };
-
     ghost InRange = { λ x. AreWords (sync_words x) };
-
-    const SIZE: u32 = 24;
 
     #[tactic(auto, unfolding(crate::specs::Items::sync_at))]
     fn read(r: &mut Reader) -> Result<AfsVolSync, XdrFault> {
@@ -261,5 +267,50 @@ impl Item for AfsVolSync {
             self.spare4,
             self.spare5,
         ])
+    }
+}
+
+impl Item for ListedVolume {
+    ghost item = { listed_volume };
+
+    ghost item_at = { listed_volume_at };
+
+    ghost InRange = { λ x. AreWords (listed_volume_words x) };
+
+    #[tactic(auto, unfolding(crate::specs::Items::listed_volume_at))]
+    fn read(r: &mut Reader) -> Result<ListedVolume, XdrFault> {
+        let volume = r.word()?;
+        let kind = read_volume_kind(r)?;
+        let flags = r.word()?;
+        let release = r.word()?;
+        Ok(ListedVolume {
+            volume,
+            kind,
+            flags,
+            release,
+        })
+    }
+
+    fn write(&self, w: &mut Writer) -> Mem<()> {
+        w.words(&[self.volume, self.kind, self.flags, self.release])
+    }
+}
+
+impl Item for LocSite {
+    ghost item = { site };
+
+    ghost item_at = { site_at };
+
+    ghost InRange = { λ x. AreWords (site_words x) };
+
+    #[tactic(auto, unfolding(crate::specs::Items::site_at))]
+    fn read(r: &mut Reader) -> Result<LocSite, XdrFault> {
+        let server = read_server(r)?;
+        let flags = r.word()?;
+        Ok(LocSite { server, flags })
+    }
+
+    fn write(&self, w: &mut Writer) -> Mem<()> {
+        w.words(&[self.server, self.flags])
     }
 }

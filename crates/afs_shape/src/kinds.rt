@@ -3,8 +3,10 @@ ghost use Rattle.std.specs.Prelude.{◌≡◌};
 use afs_num::calls::{
     AfsCallBack, AfsFetchStatus, AfsStoreStatus, AfsVolSync, CallBacks, Fids, Statuses,
 };
+use afs_num::location_calls::LocEntry;
 use afs_num::sequences::{Octets, Sequence};
 use afs_num::types::Fid;
+use afs_num::volume_calls::{ListedVolume, ListedVolumes};
 
 /// What a field is. Behind a shape's last field stands `Nothing`.
 #[derive(Clone, Copy, Debug, PartialEq, Eq)]
@@ -14,17 +16,22 @@ pub enum Kind {
     Signed,
     /// A word from 0 to 2: a read-write volume, a read-only one, a backup.
     VolumeKind,
+    /// A word from 1 to 8: the number of a server.
+    Server,
     Fid,
     StoreStatus,
     FetchStatus,
     CallBack,
     VolSync,
+    /// A location entry: a name of at most 32 bytes, four words, at most 16 sites.
+    Entry,
     /// Bytes, at most so many.
     Opaque(u32),
     /// A count, and so many fids; at most the number here.
     Fids(u32),
     CallBacks(u32),
     Statuses(u32),
+    Volumes(u32),
 }
 
 impl Kind {
@@ -47,15 +54,18 @@ pub enum Field {
     Word(u32),
     Signed(i32),
     VolumeKind(u32),
+    Server(u32),
     Fid(Fid),
     StoreStatus(AfsStoreStatus),
     FetchStatus(AfsFetchStatus),
     CallBack(AfsCallBack),
     VolSync(AfsVolSync),
+    Entry(LocEntry),
     Opaque(Octets),
     Fids(Fids),
     CallBacks(CallBacks),
     Statuses(Statuses),
+    Volumes(ListedVolumes),
 }
 
 /// The values of a message's fields, in order.
@@ -67,15 +77,18 @@ pub enum Part<'a> {
     Word(u32),
     Signed(i32),
     VolumeKind(u32),
+    Server(u32),
     Fid(&'a Fid),
     StoreStatus(&'a AfsStoreStatus),
     FetchStatus(&'a AfsFetchStatus),
     CallBack(&'a AfsCallBack),
     VolSync(&'a AfsVolSync),
+    Entry(&'a LocEntry),
     Opaque(&'a [u8]),
     Fids(&'a [Fid]),
     CallBacks(&'a [AfsCallBack]),
     Statuses(&'a [AfsFetchStatus]),
+    Volumes(&'a [ListedVolume]),
 }
 
 impl Field {
@@ -89,15 +102,18 @@ impl Field {
             Field::Word(n) => Part::Word(*n),
             Field::Signed(z) => Part::Signed(*z),
             Field::VolumeKind(n) => Part::VolumeKind(*n),
+            Field::Server(n) => Part::Server(*n),
             Field::Fid(fid) => Part::Fid(fid),
             Field::StoreStatus(status) => Part::StoreStatus(status),
             Field::FetchStatus(status) => Part::FetchStatus(status),
             Field::CallBack(callback) => Part::CallBack(callback),
             Field::VolSync(sync) => Part::VolSync(sync),
+            Field::Entry(entry) => Part::Entry(entry),
             Field::Opaque(octets) => Part::Opaque(octets.as_slice()),
             Field::Fids(fids) => Part::Fids(fids.as_slice()),
             Field::CallBacks(callbacks) => Part::CallBacks(callbacks.as_slice()),
             Field::Statuses(statuses) => Part::Statuses(statuses.as_slice()),
+            Field::Volumes(volumes) => Part::Volumes(volumes.as_slice()),
         }
     }
 }

@@ -10,5 +10,6 @@ pub mod laws;
 pub mod lists;
 pub mod macros;
 pub mod messages;
+pub mod slots;
 pub mod tables;
 pub mod taking;

@@ -30,23 +30,19 @@ fn read_items<T: Item>(alloc: Global, r: &mut Reader, count: u32) -> Result<Vec<
     Ok(items)
 }
 
-/// A list of at most `most` items. Memory is taken only once the count is known to be within `most`, and the bytes
-/// that are left to be enough for it.
+/// A list of at most `most` items. Memory is taken only once the count is known to be within `most`.
 #[tactic(auto, unfolding(crate::specs::Items::list_at))]
 pub fn read_list<T: Item>(
     alloc: Global,
     r: &mut Reader,
     most: u32,
 ) -> Result<Sequence<T>, FieldFault>
-    ensures value { ReadsField (list_at T.item_at T.SIZE most) (λ s. s) r.old r.new result }
+    ensures value { ReadsField (list_at T.item_at most) (λ s. s) r.old r.new result }
     ensures end { KeepsEnd r.old r.new }
 {
     let count = r.word()?;
     if most < count {
         return Err(FieldFault::Xdr(XdrFault::TooLong));
-    }
-    if (r.left_len() as u64) < count as u64 * T::SIZE as u64 {
-        return Err(FieldFault::Xdr(XdrFault::Short));
     }
     let items = read_items(alloc, r, count)?;
     Ok(Sequence::from_vec(items))

@@ -45,10 +45,12 @@ macro_rules! part_of {
     (Word $value:ident) => { $crate::kinds::Part::Word(*$value) };
     (Signed $value:ident) => { $crate::kinds::Part::Signed(*$value) };
     (VolumeKind $value:ident) => { $crate::kinds::Part::VolumeKind(*$value) };
+    (Server $value:ident) => { $crate::kinds::Part::Server(*$value) };
     (Opaque $value:ident) => { $crate::kinds::Part::Opaque($value.as_slice()) };
     (Fids $value:ident) => { $crate::kinds::Part::Fids($value.as_slice()) };
     (CallBacks $value:ident) => { $crate::kinds::Part::CallBacks($value.as_slice()) };
     (Statuses $value:ident) => { $crate::kinds::Part::Statuses($value.as_slice()) };
+    (Volumes $value:ident) => { $crate::kinds::Part::Volumes($value.as_slice()) };
     ($kind:ident $value:ident) => { $crate::kinds::Part::$kind($value) };
 }
 
@@ -65,21 +67,13 @@ macro_rules! parts_of {
     };
 }
 
-/// The value of the field in front.
+/// Fields of these kinds, up to the last.
 #[macro_export]
-macro_rules! taken_from {
-    (Word $fields:ident) => { $fields.word()? };
-    (Signed $fields:ident) => { $fields.signed()? };
-    (VolumeKind $fields:ident) => { $fields.volume_kind()? };
-    (Fid $fields:ident) => { $fields.fid()? };
-    (StoreStatus $fields:ident) => { $fields.store_status()? };
-    (FetchStatus $fields:ident) => { $fields.status()? };
-    (CallBack $fields:ident) => { $fields.callback()? };
-    (VolSync $fields:ident) => { $fields.sync()? };
-    (Opaque $fields:ident) => { $fields.octets()? };
-    (Fids $fields:ident) => { $fields.fids()? };
-    (CallBacks $fields:ident) => { $fields.callbacks()? };
-    (Statuses $fields:ident) => { $fields.statuses()? };
+macro_rules! slots_of {
+    () => { $crate::taking::End };
+    ($kind:ident $($more:ident)*) => {
+        $crate::taking::Then<$crate::slots::$kind, $crate::slots_of!($($more)*)>
+    };
 }
 
 /// The message of this enum and opcode with these fields.
@@ -91,8 +85,9 @@ macro_rules! message_from {
     ) => {
         match $opcode {
             $($number => {
-                $(let $field = $crate::taken_from!($kind $fields);)*
-                $fields.end()?;
+                let rest = <$crate::slots_of!($($kind)*) as $crate::taking::Slots>::take($fields)?;
+                $(let ($field, rest) = rest;)*
+                let () = rest;
                 Some($enum::$name { $($field),* })
             })*
             _ => None,

@@ -1,16 +1,11 @@
-ghost use Rattle.std.specs.Prelude.{◌≡◌, [], ◌∷◌, option_map};
-ghost use Rattle.afs_shape.specs.Taking.{TakesFirst, no_more, word_first, signed_first, volume_kind_first, fid_first, store_status_first, status_first, callback_first, sync_first, octets_first, fids_first, callbacks_first, statuses_first};
+ghost use Rattle.std.specs.Prelude.{◌≡◌};
+ghost use Rattle.afs_shape.specs.Taking.{NextIs, TakesFirst, no_more, taken_behind};
 
 use crate::kinds::{Field, Fields};
-use afs_num::calls::{
-    AfsCallBack, AfsFetchStatus, AfsStoreStatus, AfsVolSync, CallBacks, Fids, Statuses,
-};
-use afs_num::sequences::Octets;
-use afs_num::types::Fid;
-use std::marker::Model;
+use std::marker::{Model, PhantomData};
 use std::vec::IntoIter;
 
-/// Hands out fields in their order, each to who knows its kind, without a copy.
+/// Hands out fields in their order, without a copy.
 #[derive(Drop)]
 pub struct Taking {
     fields: IntoIter<Field>,
@@ -36,121 +31,73 @@ impl Taking {
         }
     }
 
-    pub fn word(&mut self) -> Option<u32>
-        ensures { TakesFirst word_first (λ x. x) self.old self.new result }
+    /// The field in front.
+    pub(crate) fn next(&mut self) -> Option<Field>
+        ensures { NextIs self.old self.new result }
     {
-        match self.fields.next() {
-            Some(Field::Word(value)) => Some(value),
-            _ => None,
-        }
+        self.fields.next()
     }
+}
 
-    pub fn signed(&mut self) -> Option<i32>
-        ensures { TakesFirst signed_first (λ x. x) self.old self.new result }
-    {
-        match self.fields.next() {
-            Some(Field::Signed(value)) => Some(value),
-            _ => None,
-        }
-    }
+/// A field of one kind: what it holds.
+pub trait Slot {
+    ghost use Rattle.std.specs.Prelude.{List, Option};
+    ghost use Rattle.afs_shape.specs.declared.kinds.Field.{Field};
 
-    pub fn volume_kind(&mut self) -> Option<u32>
-        ensures { TakesFirst volume_kind_first (λ x. x) self.old self.new result }
-    {
-        match self.fields.next() {
-            Some(Field::VolumeKind(value)) => Some(value),
-            _ => None,
-        }
-    }
+    type Value: Drop;
 
-    pub fn fid(&mut self) -> Option<Fid>
-        ensures { TakesFirst fid_first (λ x. x) self.old self.new result }
-    {
-        match self.fields.next() {
-            Some(Field::Fid(value)) => Some(value),
-            _ => None,
-        }
-    }
+    ghost first: { List Field → Option (Self.Value × List Field) };
 
-    pub fn store_status(&mut self) -> Option<AfsStoreStatus>
-        ensures { TakesFirst store_status_first (λ x. x) self.old self.new result }
-    {
-        match self.fields.next() {
-            Some(Field::StoreStatus(value)) => Some(value),
-            _ => None,
-        }
-    }
+    /// The value of the field in front, where it is of this kind.
+    fn first(fields: &mut Taking) -> Option<Self::Value>
+        ensures { TakesFirst first (λ x. x) fields.old fields.new result };
+}
 
-    pub fn status(&mut self) -> Option<AfsFetchStatus>
-        ensures { TakesFirst status_first (λ x. x) self.old self.new result }
-    {
-        match self.fields.next() {
-            Some(Field::FetchStatus(value)) => Some(value),
-            _ => None,
-        }
-    }
+/// Fields of their kinds, one after another up to the last.
+pub trait Slots {
+    ghost use Rattle.std.specs.Prelude.{List, Option};
+    ghost use Rattle.afs_shape.specs.declared.kinds.Field.{Field};
 
-    pub fn callback(&mut self) -> Option<AfsCallBack>
-        ensures { TakesFirst callback_first (λ x. x) self.old self.new result }
-    {
-        match self.fields.next() {
-            Some(Field::CallBack(value)) => Some(value),
-            _ => None,
-        }
-    }
+    type Values: Drop;
 
-    pub fn sync(&mut self) -> Option<AfsVolSync>
-        ensures { TakesFirst sync_first (λ x. x) self.old self.new result }
-    {
-        match self.fields.next() {
-            Some(Field::VolSync(value)) => Some(value),
-            _ => None,
-        }
-    }
+    ghost taken: { List Field → Option Self.Values };
 
-    pub fn octets(&mut self) -> Option<Octets>
-        ensures { TakesFirst octets_first (λ x. x) self.old self.new result }
-    {
-        match self.fields.next() {
-            Some(Field::Opaque(value)) => Some(value),
-            _ => None,
-        }
-    }
+    /// Their values, each beside those behind it; `None` where these fields are others.
+    fn take(fields: Taking) -> Option<Self::Values>
+        ensures { result ≡ taken fields };
+}
 
-    pub fn fids(&mut self) -> Option<Fids>
-        ensures { TakesFirst fids_first (λ x. x) self.old self.new result }
-    {
-        match self.fields.next() {
-            Some(Field::Fids(value)) => Some(value),
-            _ => None,
-        }
-    }
+/// No field.
+pub struct End;
 
-    pub fn callbacks(&mut self) -> Option<CallBacks>
-        ensures { TakesFirst callbacks_first (λ x. x) self.old self.new result }
-    {
-        match self.fields.next() {
-            Some(Field::CallBacks(value)) => Some(value),
-            _ => None,
-        }
-    }
+impl Slots for End {
+    type Values = ();
 
-    pub fn statuses(&mut self) -> Option<Statuses>
-        ensures { TakesFirst statuses_first (λ x. x) self.old self.new result }
-    {
-        match self.fields.next() {
-            Some(Field::Statuses(value)) => Some(value),
-            _ => None,
-        }
-    }
+    ghost taken = { no_more };
 
-    /// Whether no field is left.
-    pub fn end(&mut self) -> Option<()>
-        ensures { option_map (λ u. tt) result ≡ no_more self.old }
-    {
-        match self.fields.next() {
+    fn take(mut fields: Taking) -> Option<()> {
+        match fields.next() {
             Some(_) => None,
             None => Some(()),
         }
+    }
+}
+
+/// A field, and those behind it.
+pub struct Then<A: Slot, B: Slots> {
+    first: PhantomData<A>,
+    rest: PhantomData<B>,
+}
+
+impl<A: Slot, B: Slots> Slots for Then<A, B> {
+    type Values = (A::Value, B::Values);
+
+    ghost taken = { taken_behind A.first B.taken };
+
+    #[tactic(auto, unfolding(crate::specs::Taking::taken_behind))]
+    fn take(mut fields: Taking) -> Option<(A::Value, B::Values)> {
+        let first = A::first(&mut fields)?;
+        let rest = B::take(fields)?;
+        Some((first, rest))
     }
 }

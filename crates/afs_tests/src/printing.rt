@@ -3,7 +3,7 @@
 ghost use Rattle.std.specs.Prelude.{◌≡◌, ◌∷◌, [], IfOk};
 ghost use Rattle.afs_model.specs.Telling.{AreRead};
 
-use afs_fsrpc::messages::encode_message;
+use afs_message::messages::encode_message;
 use afs_num::histories::{Actor, Body, Entry, Line, Lines, ReadBody, ReadSource, Version};
 use afs_num::messages::{Carried, Message};
 use afs_num::scripts::{Script, SetupLine, SetupLines, Tasks, VolumeLine, VolumeLines};

@@ -9,11 +9,11 @@ use Rattle.afs_num.specs.declared.types.Parcel.{Parcel}
 use Rattle.afs_num.specs.declared.histories.Entry as kept
 use Rattle.afs_num.specs.declared.messages.Message.{Message}
 use Rattle.afs_num.specs.declared.messages.Received.{Received}
-use Rattle.afs_num.specs.declared.messages.Received.TheVariants.{Nothing, Unknown, Unreadable, Whole}
+use Rattle.afs_num.specs.declared.messages.Received.TheVariants.{Nothing, Unserved, Unreadable, Whole}
 use Rattle.afs_model.specs.Messages.{received, spelled, parcels_read, messages_spelled}
 use Rattle.afs_model.specs.Telling.{with_received, messages_of, AreRead, told, sent_by, code_at}
 use Rattle.afs_model.specs.LineText.{hex_byte, hex_text}
-use Rattle.afs_model.specs.Text.{sent_text, message_text, messages_text, entry_text, entries_text}
+use Rattle.afs_model.specs.Text.{sent_text, messages_text, entry_text, entries_text}
 use Rattle.afs_model.specs.Runs.{Entry}
 use Rattle.afs_model.proofs.Texts.{parcel_same, parcels_length}
 use Rattle.afs_outside.proofs.Puts.{Completes}
@@ -57,7 +57,7 @@ pub record ReadNext (p : Parcel) (ps : List Parcel) : Type 0 where
 few_received : (r : Received) (ms : List Message) → length (with_received r ms) ≤ length ms + 1
 few_received (Whole m) ms = omega (arith)
 few_received Nothing ms = omega (arith)
-few_received (Unknown h) ms = omega (arith)
+few_received (Unserved h) ms = omega (arith)
 few_received (Unreadable h) ms = omega (arith)
 
 few : (ps : List Parcel) → length (messages_of ps) ≤ length ps
@@ -78,7 +78,7 @@ next p ps (Whole m) is e =
       others = tail_is _ _ _ _ e;
     }
 next p ps Nothing is e = absurd (too_few p ps e)
-next p ps (Unknown h) is e = absurd (too_few p ps e)
+next p ps (Unserved h) is e = absurd (too_few p ps e)
 next p ps (Unreadable h) is e = absurd (too_few p ps e)
 
 pub read_next : (p : Parcel) (ps : List Parcel) → AreRead (p ∷ ps) → ReadNext p ps

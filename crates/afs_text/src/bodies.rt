@@ -1,7 +1,5 @@
 //! What the lines of a history show: acts, bodies and statuses.
 
-ghost use Rattle.std.specs.Prelude.{◌≡◌, ◌++◌};
-ghost use Rattle.std.specs.List.{flat_map};
 ghost use Rattle.afs_outside.specs.Outside.{Puts};
 ghost use Rattle.afs_model.specs.LineText.{act_text, entry_name_text, more_names_text, directory_text, body_text, status_text, read_body_text, source_text, owed_text};
 

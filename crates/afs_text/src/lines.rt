@@ -1,6 +1,5 @@
 //! The lines of a history.
 
-ghost use Rattle.std.specs.Prelude.{◌≡◌, ◌++◌};
 ghost use Rattle.afs_outside.specs.Outside.{Puts};
 ghost use Rattle.afs_model.specs.LineText.{answer_text, begin_text, change_text, crash_text, drop_all_text, drop_text, fail_text, fault_text, full_text, given_text, grant_text, line_text, owe_text, quit_text, read_text, restart_text, settle_text, stop_text, tick_text, timeout_text, version_text};
 

@@ -136,6 +136,18 @@ pub fn free_number(vnodes: &[Vnode], from: u32) -> u32
     number
 }
 
+/// The lowest number that no directory, or no file or link, has, where none below the hint is free.
+pub fn lowest_free(vnodes: &[Vnode], dir: bool, hint: u32) -> u32
+    requires ascends { AscendsFrom 0 (table_of vnodes.now) }
+    requires few { length vnodes.now ≤ most_vnodes }
+    requires hint { IsHint (first_number dir) hint (table_of vnodes.now) }
+    ensures value { result ≡ lowest_free (first_number dir) (table_of vnodes.now) }
+    ensures free { get result (table_of vnodes.now) ≡ None }
+    ensures lowest { (k : ℕ) → first_number dir ≤ k → k < result → k % 2 ≡ first_number dir % 2 → is_some (get k (table_of vnodes.now)) ≡ true }
+{
+    free_number(vnodes, hint)
+}
+
 /// The lowest number that a new directory, or a new file or link, may have, where none below the hint is free.
 pub fn allocate(vnodes: &[Vnode], dir: bool, hint: u32) -> Option<u32>
     requires ascends { AscendsFrom 0 (table_of vnodes.now) }
@@ -148,7 +160,7 @@ pub fn allocate(vnodes: &[Vnode], dir: bool, hint: u32) -> Option<u32>
     if vnodes.len() == MOST_VNODES {
         return None;
     }
-    Some(free_number(vnodes, hint))
+    Some(lowest_free(vnodes, dir, hint))
 }
 
 /// The numbers of the vnodes that were changed after the counter stood so.

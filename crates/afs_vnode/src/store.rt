@@ -2,7 +2,7 @@
 
 ghost use Rattle.std.specs.Prelude.{◌≡◌, ◌≤◌, ◌<◌, ◌%◌, ◌↔◌, ℕ, true, [], Err, None, is_some, length, slice_get, IfOk, IfSome, IsOk, OnOk, OnErr};
 ghost use Rattle.std.specs.Option.{option_copied, option_map};
-ghost use Rattle.afs_ideal.specs.Tables.{get, set, unset, AscendsFrom};
+ghost use Rattle.afs_ideal.specs.Tables.{get, set, unset, AscendsFrom, lowest_free};
 ghost use Rattle.afs_ideal.specs.VnodeImage.{FitsImage};
 ghost use Rattle.afs_ideal.specs.VnodeMaps.{most_vnodes, is_full_for, first_number, allocated, changed_since};
 ghost use Rattle.afs_vnode.specs.Stores.{raised, lowered};
@@ -118,6 +118,15 @@ impl VnodeStore {
         self.even = lowered(2, self.even, vnode);
         self.odd = lowered(3, self.odd, vnode);
         was
+    }
+
+    /// The lowest number that no directory, or no file or link, has, from 3 or 2 on. It takes no memory.
+    pub fn lowest_free(&self, dir: bool) -> u32
+        ensures value { result ≡ lowest_free (first_number dir) self.now }
+        ensures free { get result self.now ≡ None }
+    {
+        let hint = if dir { self.odd } else { self.even };
+        sorted::lowest_free(&self.vnodes, dir, hint)
     }
 
     /// The lowest number that a new directory, or a new file or link, may have; none where there are 4,096 vnodes.

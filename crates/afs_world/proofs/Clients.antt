@@ -3,13 +3,14 @@ use Rattle.std.proofs.Common.{ℕ, ◌+◌, ◌≤◌, Bool, true, false, cond, 
 use Rattle.afs_num.specs.declared.types.Fid.{Fid}
 use Rattle.afs_num.specs.declared.types.Node.{Node}
 use Rattle.afs_num.specs.declared.types.Head.{Head}
-use Rattle.afs_num.specs.declared.calls.FsReply.{FsReply}
+use Rattle.afs_num.specs.declared.messages.Reply.{Reply}
 use Rattle.afs_num.specs.declared.calls.FsReply.TheVariants as replies
+use Rattle.afs_num.specs.declared.messages.Reply.TheVariants as tell
 use Rattle.afs_num.specs.declared.messages.Carried.{Carried}
 use Rattle.afs_num.specs.declared.messages.Carried.TheVariants as carried
 use Rattle.afs_num.specs.declared.messages.Message.{Message}
 use Rattle.afs_num.specs.declared.messages.Received.{Received}
-use Rattle.afs_num.specs.declared.messages.Received.TheVariants.{Nothing, Unknown, Unreadable, Whole}
+use Rattle.afs_num.specs.declared.messages.Received.TheVariants.{Nothing, Unserved, Unreadable, Whole}
 use Rattle.afs_num.specs.declared.scripts.Act.{Act}
 use Rattle.afs_num.specs.declared.scripts.Act.TheVariants.{Open, Close}
 use Rattle.afs_num.specs.declared.states.CacheEntry.{CacheEntry}
@@ -45,11 +46,11 @@ begins_next me c clock (Close fid contents) h short = asks_next c (Close fid con
 abbrev stays : (c : ClientState) → IsShortRunning c.running → IsNext c c
 stays c h = record { last = omega arith; running = h }
 
-takes_next : (me : Node) (c : ClientState) (clock place : ℕ) (act : Act) (r : FsReply) → IsShortRunning c.running → IsNext c (takes me c clock place act r).state
-takes_next me c clock place (Open fid) (replies.FetchData contents status callback sync) h =
+takes_next : (me : Node) (c : ClientState) (clock place : ℕ) (act : Act) (r : Reply) → IsShortRunning c.running → IsNext c (takes me c clock place act r).state
+takes_next me c clock place (Open fid) (tell.File (replies.FetchData contents status callback sync)) h =
     let entry : CacheEntry = record { fid = fid; index = status.sync_counter; expiry = callback.expiration_time; contents = contents } in
     either_next c (is_trusted clock entry) (shows_fetched_step me c place entry) (calls_step me c (Open fid) (lines.Given place)) (record { last = omega arith; running = tt }) (asks_next c (Open fid) tt)
-takes_next me c clock place (Close fid contents) (replies.StoreData status sync) h = record { last = omega arith; running = tt }
+takes_next me c clock place (Close fid contents) (tell.File (replies.StoreData status sync)) h = record { last = omega arith; running = tt }
 takes_next me c clock place act r h = stays c h
 
 counts_next : (me : Node) (c : ClientState) (clock place : ℕ) (act : Act) (head : Head) (x : Carried) → IsShortRunning c.running → IsNext c (counts me c clock place act head x).state
@@ -65,7 +66,7 @@ awaits_next me c clock place m (Some act) h =
 
 takes_in_next : (me : Node) (c : ClientState) (clock place : ℕ) (r : Received) → IsShortRunning c.running → IsNext c (client_hears me c clock place r).state
 takes_in_next me c clock place Nothing h = stays c h
-takes_in_next me c clock place (Unknown head) h = stays c h
+takes_in_next me c clock place (Unserved head) h = stays c h
 takes_in_next me c clock place (Unreadable head) h = stays c h
 takes_in_next me c clock place (Whole m) h = awaits_next me c clock place m c.running h
 

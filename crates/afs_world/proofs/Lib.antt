@@ -10,3 +10,4 @@ pub mod Within
 pub mod Clients
 pub mod Telling
 pub mod Starting
+pub mod Hearing

@@ -7,7 +7,7 @@ use Rattle.afs_num.specs.declared.types.Head.{Head}
 use Rattle.afs_num.specs.declared.types.Parcel.{Parcel}
 use Rattle.afs_num.specs.declared.messages.Message.{Message}
 use Rattle.afs_num.specs.declared.messages.Received.{Received}
-use Rattle.afs_num.specs.declared.messages.Received.TheVariants.{Nothing, Unknown, Unreadable, Whole}
+use Rattle.afs_num.specs.declared.messages.Received.TheVariants.{Nothing, Unserved, Unreadable, Whole}
 use Rattle.afs_model.specs.Messages.{received, spelled, parcels_read, messages_spelled}
 use Rattle.afs_model.specs.Runs.{Entry}
 use Rattle.afs_model.specs.Telling.{with_received, messages_of, AreRead, told, sent_by}
@@ -35,7 +35,7 @@ are_read ps ms e = subst (λ (t : List Message). parcels_read ps ≡ messages_sp
 
 with_received-append : (r : Received) (ms ns : List Message) → with_received r (ms ++ ns) ≡ with_received r ms ++ ns
 with_received-append Nothing ms ns = refl
-with_received-append (Unknown h) ms ns = refl
+with_received-append (Unserved h) ms ns = refl
 with_received-append (Unreadable h) ms ns = refl
 with_received-append (Whole m) ms ns = refl
 

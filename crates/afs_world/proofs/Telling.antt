@@ -23,7 +23,9 @@ use Rattle.afs_num.specs.declared.scripts.Act.{Act}
 use Rattle.afs_num.specs.declared.scripts.Event.{Event}
 use Rattle.afs_num.specs.declared.states.ClientState.{ClientState}
 use Rattle.afs_model.specs.Form.{IsShortAct}
-use Rattle.afs_model.specs.Messages.{received, IsSoundReceived}
+use Rattle.afs_model.specs.Messages.{received_by, received, IsSoundReceived, FindsMessages}
+use Rattle.afs_model.specs.CellRows.{file_server_calls, client_calls}
+use Rattle.afs_model.proofs.Served.{server_finds, client_finds}
 use Rattle.afs_model.specs.Steps.{NodeState, Step, Makes}
 use Rattle.afs_model.specs.ServerRow.{ServerState, server_row}
 use Rattle.afs_model.specs.ClientRow.{the_server, begin_row, client_row, client_hears, ignores}
@@ -240,15 +242,17 @@ gives_parcel w place p h e = gives_by w place p (sent_at w place) (agrees w plac
 gives_to : (w : WorldState) (place : ℕ) (p : Parcel) (n : Node) (g : Gives w place p) → p.head.to ≡ n → moved (cell_of w) (gives place) ≡ given_to (cell_of w) place g.message n
 gives_to w place p n g to = g.is ∙ ap (given_to (cell_of w) place g.message) (ap (λ h. h.to) (sym g.carries.head) ∙ to)
 
-pub serves : (w : WorldState) (place : ℕ) (p : Parcel) → IsPlayable w → at_place w.wire place ≡ Some p → p.head.to ≡ Server 1 → moved (cell_of w) (gives place) ≡ server_moves (cell_of w) (server_row the_server w.server.state 0 place (received p.bytes))
-serves w place p h e to =
+pub serves : (w : WorldState) (place : ℕ) (p : Parcel) → IsPlayable w → at_place w.wire place ≡ Some p → p.head.to ≡ Server 1 → FindsMessages file_server_calls p.bytes → moved (cell_of w) (gives place) ≡ server_moves (cell_of w) (server_row the_server w.server.state 0 place (received_by file_server_calls p.bytes))
+serves w place p h e to finds =
     let g = gives_parcel w place p h e in
-    gives_to w place p (Server 1) g to ∙ ap (λ (r : Received). server_moves (cell_of w) (server_row the_server w.server.state 0 place r)) (sym g.carries.bytes)
+    gives_to w place p (Server 1) g to
+    ∙ ap (server_moves (cell_of w)) (sym (server_finds the_server w.server.state 0 place g.message (received_by file_server_calls p.bytes) (finds g.message g.carries.bytes)))
 
-pub hears : (w : WorldState) (place : ℕ) (p : Parcel) → IsPlayable w → at_place w.wire place ≡ Some p → p.head.to ≡ Client 1 → moved (cell_of w) (gives place) ≡ client_moves (cell_of w) 1 (client_row (Client 1) w.client.state 0 place (received p.bytes))
-hears w place p h e to =
+pub hears : (w : WorldState) (place : ℕ) (p : Parcel) → IsPlayable w → at_place w.wire place ≡ Some p → p.head.to ≡ Client 1 → FindsMessages client_calls p.bytes → moved (cell_of w) (gives place) ≡ client_moves (cell_of w) 1 (client_row (Client 1) w.client.state 0 place (received_by client_calls p.bytes))
+hears w place p h e to finds =
     let g = gives_parcel w place p h e in
-    gives_to w place p (Client 1) g to ∙ ap (λ (r : Received). client_moves (cell_of w) 1 (client_row (Client 1) w.client.state 0 place r)) (sym g.carries.bytes)
+    gives_to w place p (Client 1) g to
+    ∙ ap (client_moves (cell_of w) 1) (sym (client_finds (Client 1) w.client.state 0 place g.message (received_by client_calls p.bytes) (finds g.message g.carries.bytes)))
 
 -- a client that isn't there ignores what it is given, and stays as it was
 absent_clients : (w : WorldState) (n : ℕ) → (1 ≡ n → ⊥) → with_clients w.server.state (messages_of w.wire ++ []) (put n first_client (others w.client.state)) ≡ cell_of w
@@ -308,25 +312,25 @@ strays w place r h is stray = strays_at w place (at_place w.wire place) r h refl
 
 -- ---- what the nodes do
 
-pub serve_follows : (old new : WorldState) (place : ℕ) (p : Parcel) (outs : Outs) → IsPlayable old → at_place old.wire place ≡ Some p → p.head.to ≡ Server 1 → IsSoundReceived (received p.bytes)
-    → Makes (server_row old.server.node old.server.state 0 place (received p.bytes)) new.server.state outs → new.server.node ≡ old.server.node → new.client ≡ old.client → new.acts ≡ old.acts → Tells old new (Server 1) outs
+pub serve_follows : (old new : WorldState) (place : ℕ) (p : Parcel) (outs : Outs) → IsPlayable old → at_place old.wire place ≡ Some p → p.head.to ≡ Server 1 → FindsMessages file_server_calls p.bytes → IsSoundReceived (received_by file_server_calls p.bytes)
+    → Makes (server_row old.server.node old.server.state 0 place (received_by file_server_calls p.bytes)) new.server.state outs → new.server.node ≡ old.server.node → new.client ≡ old.client → new.acts ≡ old.acts → Tells old new (Server 1) outs
     → Follows old (as_played old.acts (moved (cell_of old) (gives place))) new
-serve_follows old new place p outs h at to sound made node client acts t =
-    subst (λ m. Follows old (as_played old.acts m) new) (sym (serves old place p h at to))
-    (server_follows old new (server_row the_server old.server.state 0 place (received p.bytes)) outs h
+serve_follows old new place p outs h at to finds sound made node client acts t =
+    subst (λ m. Follows old (as_played old.acts m) new) (sym (serves old place p h at to finds))
+    (server_follows old new (server_row the_server old.server.state 0 place (received_by file_server_calls p.bytes)) outs h
     (within_more (length old.history + 1 + 1) (length old.history + 2) _ (omega arith)
-    (row_within the_server (length old.history + 1) old.server.state 0 place (received p.bytes) h.within sound))
-    (subst (λ n. Makes (server_row n old.server.state 0 place (received p.bytes)) new.server.state outs) h.server made)
+    (row_within the_server (length old.history + 1) old.server.state 0 place (received_by file_server_calls p.bytes) h.within sound))
+    (subst (λ n. Makes (server_row n old.server.state 0 place (received_by file_server_calls p.bytes)) new.server.state outs) h.server made)
     node client acts t)
 
-pub hear_follows : (old new : WorldState) (place : ℕ) (p : Parcel) (outs : Outs) → IsPlayable old → at_place old.wire place ≡ Some p → p.head.to ≡ Client 1
-    → Makes (client_row old.client.node old.client.state 0 place (received p.bytes)) new.client.state outs → new.client.node ≡ old.client.node → new.server ≡ old.server → new.acts ≡ old.acts → Tells old new (Client 1) outs
+pub hear_follows : (old new : WorldState) (place : ℕ) (p : Parcel) (outs : Outs) → IsPlayable old → at_place old.wire place ≡ Some p → p.head.to ≡ Client 1 → FindsMessages client_calls p.bytes
+    → Makes (client_row old.client.node old.client.state 0 place (received_by client_calls p.bytes)) new.client.state outs → new.client.node ≡ old.client.node → new.server ≡ old.server → new.acts ≡ old.acts → Tells old new (Client 1) outs
     → Follows old (as_played old.acts (moved (cell_of old) (gives place))) new
-hear_follows old new place p outs h at to made node server acts t =
-    subst (λ m. Follows old (as_played old.acts m) new) (sym (hears old place p h at to))
-    (client_follows old new (client_row (Client 1) old.client.state 0 place (received p.bytes)) outs old.acts h
-    (row_next (Client 1) old.client.state 0 place (received p.bytes) h.running)
-    (subst (λ n. Makes (client_row n old.client.state 0 place (received p.bytes)) new.client.state outs) h.client made)
+hear_follows old new place p outs h at to finds made node server acts t =
+    subst (λ m. Follows old (as_played old.acts m) new) (sym (hears old place p h at to finds))
+    (client_follows old new (client_row (Client 1) old.client.state 0 place (received_by client_calls p.bytes)) outs old.acts h
+    (row_next (Client 1) old.client.state 0 place (received_by client_calls p.bytes) h.running)
+    (subst (λ n. Makes (client_row n old.client.state 0 place (received_by client_calls p.bytes)) new.client.state outs) h.client made)
     node server acts h.acts t)
 
 -- ---- an act begins

@@ -10,20 +10,22 @@ use Rattle.afs_num.specs.Nodes.{same_node}
 use Rattle.afs_num.specs.declared.types.Fid.{Fid}
 use Rattle.afs_num.specs.declared.types.Node.{Node}
 use Rattle.afs_num.specs.declared.types.Head.{Head}
-use Rattle.afs_num.specs.declared.calls.FsCall.{FsCall}
+use Rattle.afs_num.specs.declared.messages.Call.{Call}
 use Rattle.afs_num.specs.declared.calls.FsCall.TheVariants as calls
+use Rattle.afs_num.specs.declared.messages.Call.TheVariants as ask
 use Rattle.afs_num.specs.declared.messages.Carried.{Carried}
 use Rattle.afs_num.specs.declared.messages.Carried.TheVariants as carried
 use Rattle.afs_num.specs.declared.messages.Message.{Message}
 use Rattle.afs_num.specs.declared.messages.Received.{Received}
-use Rattle.afs_num.specs.declared.messages.Received.TheVariants.{Nothing, Unknown, Unreadable, Whole}
+use Rattle.afs_num.specs.declared.messages.Received.TheVariants.{Nothing, Unserved, Unreadable, Whole}
 use Rattle.afs_num.specs.declared.states.StoredFile.{StoredFile}
 use Rattle.afs_model.specs.Heads.{contents_limit}
-use Rattle.afs_model.specs.FsRows.{call_rows, call_number, call_fields, HasRow}
+use Rattle.afs_model.specs.FsRows.{HasRow}
+use Rattle.afs_model.specs.CellRows.{call_rows, call_number, call_fields}
 use Rattle.afs_model.specs.Messages.{IsSoundReceived, IsSoundCarried}
 use Rattle.afs_model.specs.Calls.{Admitted, admitted}
 use Rattle.afs_model.specs.Calls as pairs
-use Rattle.afs_model.specs.ServerRow.{ServerState, serves, not_served, bad_fields, find_file, with_file, stored, Decision, drops, tells_boot, repeats, refuses, grants, saves, fetches, stores, serves_call, runs_carried, runs, whole, admits, called, hears, decides, saved, does, server_row}
+use Rattle.afs_model.specs.ServerRow.{ServerState, not_served, bad_fields, find_file, with_file, stored, Decision, drops, tells_boot, repeats, refuses, grants, saves, fetches, stores, serves_call, runs_carried, runs, whole, admits, called, hears, decides, saved, does, server_row}
 use Rattle.afs_world.specs.Serving.{IsKept, IsWithin, IsSoundCall, CarriesSound, AsksSound}
 use Rattle.afs_world.proofs.Limits.{All-find}
 
@@ -85,9 +87,9 @@ stores_fine : (n : ℕ) (files : List StoredFile) (head : Head) (fid : Fid) (con
 stores_fine n files head fid contents None e h short = tt
 stores_fine n files head fid contents (Some file) e h short = (short, All-find (IsKept n) (λ v. same_fid v.fid fid) files file h e)
 
-serves_fine : (n : ℕ) (files : List StoredFile) (head : Head) (call : FsCall) → All (IsKept n) files → IsSoundCall head.opcode call → IsFine n (serves_call files head call)
-serves_fine n files head (calls.FetchData fid position count) h sound = fetches_fine n head (find_file fid files)
-serves_fine n files head (calls.StoreData fid status position count file_length contents) h sound = stores_fine n files head fid contents (find_file fid files) refl h sound.1
+serves_fine : (n : ℕ) (files : List StoredFile) (head : Head) (call : Call) → All (IsKept n) files → IsSoundCall head.opcode call → IsFine n (serves_call files head call)
+serves_fine n files head (ask.File (calls.FetchData fid position count)) h sound = fetches_fine n head (find_file fid files)
+serves_fine n files head (ask.File (calls.StoreData fid status position count file_length contents)) h sound = stores_fine n files head fid contents (find_file fid files) refl h sound.1
 serves_fine n files head call h sound = tt
 
 carried_fine : (n : ℕ) (files : List StoredFile) (head : Head) (c : Carried) → All (IsKept n) files → CarriesSound head.opcode c → IsFine n (runs_carried files head c)
@@ -98,7 +100,7 @@ carried_fine n files head carried.Notice h sound = tt
 
 runs_fine : (n : ℕ) (files : List StoredFile) (head : Head) (r : Received) → All (IsKept n) files → AsksSound head.opcode r → IsFine n (runs files head r)
 runs_fine n files head Nothing h sound = tt
-runs_fine n files head (Unknown other) h sound = tt
+runs_fine n files head (Unserved other) h sound = tt
 runs_fine n files head (Unreadable other) h sound = tt
 runs_fine n files head (Whole m) h sound = carried_fine n files head m.carried h sound
 
@@ -117,9 +119,9 @@ called_fine : (me : Node) (n : ℕ) (s : ServerState) (head : Head) (r : Receive
 called_fine me n s head r h sound = either_fine n (same_node head.to me) _ drops (admits_fine n s.files head r (admitted s.boot s.seats head) h.files sound) tt
 
 -- what is read is sound, by its row
-pub call_sound : (opcode : ℕ) (call : FsCall) → opcode ≡ call_number call → HasRow call_rows (call_number call) (call_fields call) → IsSoundCall opcode call
-call_sound opcode (calls.FetchData fid position count) is row = is
-call_sound opcode (calls.StoreData fid status position count file_length contents) is row = (is, row.1.1.1.1.1.0.0)
+pub call_sound : (opcode : ℕ) (call : Call) → opcode ≡ call_number call → HasRow call_rows (call_number call) (call_fields call) → IsSoundCall opcode call
+call_sound opcode (ask.File (calls.FetchData fid position count)) is row = is
+call_sound opcode (ask.File (calls.StoreData fid status position count file_length contents)) is row = (is, row.1.1.1.1.1.0.0)
 call_sound opcode call is row = tt
 
 hears_fine : (me : Node) (n : ℕ) (s : ServerState) (head : Head) (c : Carried) → IsWithin n s → IsSoundCarried head.half head.opcode c → IsFine n (hears me s head c)
@@ -130,7 +132,7 @@ hears_fine me n s head carried.Notice h c = tt
 
 decides_fine : (me : Node) (n : ℕ) (s : ServerState) (r : Received) → IsWithin n s → IsSoundReceived r → IsFine n (decides me s r)
 decides_fine me n s Nothing h sound = tt
-decides_fine me n s (Unknown head) h sound = called_fine me n s head (Unknown head) h tt
+decides_fine me n s (Unserved head) h sound = called_fine me n s head (Unserved head) h tt
 decides_fine me n s (Unreadable head) h sound = called_fine me n s head (Unreadable head) h tt
 decides_fine me n s (Whole m) h sound = hears_fine me n s m.head m.carried h sound.1
 

@@ -2,7 +2,7 @@
 use Rattle.std.specs.Prelude.{ℕ, List, Bool, false, Option, Some, None}
 use Rattle.afs_num.specs.declared.types.Node.{Node}
 use Rattle.afs_num.specs.declared.types.Head.{Head}
-use Rattle.afs_num.specs.declared.calls.FsReply.{FsReply}
+use Rattle.afs_num.specs.declared.messages.Reply.{Reply}
 use Rattle.afs_num.specs.declared.messages.Carried.{Carried}
 use Rattle.afs_num.specs.declared.scripts.Act.{Act}
 use Rattle.afs_num.specs.declared.scripts.Act.TheVariants.{Open, Close}
@@ -33,7 +33,7 @@ stored_step me c clock place (Some (Open fid)) index = ignores c place
 stored_step me c clock place (Some (Close fid contents)) index = takes_stored me c clock place fid index contents
 stored_step me c clock place None index = ignores c place
 
-abbrev pub taken_step : Node → ClientState → ℕ → ℕ → Option Act → FsReply → Step ClientState
+abbrev pub taken_step : Node → ClientState → ℕ → ℕ → Option Act → Reply → Step ClientState
 taken_step me c clock place None reply = ignores c place
 taken_step me c clock place (Some act) reply = takes me c clock place act reply
 

@@ -8,20 +8,22 @@ use Rattle.afs_num.specs.declared.types.Node.{Node}
 use Rattle.afs_num.specs.declared.types.Head.{Head}
 use Rattle.afs_num.specs.declared.states.StoredFile.{StoredFile}
 use Rattle.afs_num.specs.declared.histories.Line.TheVariants as lines
-use Rattle.afs_num.specs.declared.calls.FsCall.{FsCall}
+use Rattle.afs_num.specs.declared.messages.Call.{Call}
 use Rattle.afs_num.specs.declared.calls.FsCall.TheVariants as calls
+use Rattle.afs_num.specs.declared.messages.Call.TheVariants as ask
 use Rattle.afs_num.specs.declared.messages.Carried.{Carried}
 use Rattle.afs_num.specs.declared.messages.Carried.TheVariants as carried
 use Rattle.afs_num.specs.declared.messages.Message.{Message}
 use Rattle.afs_num.specs.declared.messages.Received.{Received}
 use Rattle.afs_num.specs.declared.messages.Received.TheVariants.{Whole}
-use Rattle.afs_model.specs.Calls.{CallSeat, Admitted, runs, kept, in_progress, older, wrong_boot}
+use Rattle.afs_model.specs.Calls.{CallSeat, Admitted, admitted, runs, kept, in_progress, older, wrong_boot}
 use Rattle.afs_model.specs.Heads.{contents_limit}
 use Rattle.afs_model.specs.FsRows.{fetch_data, store_data}
 use Rattle.afs_model.specs.Messages as messages
 use Rattle.afs_model.specs.Messages.{received}
-use Rattle.afs_model.specs.Steps.{Step}
-use Rattle.afs_model.specs.ServerRow.{ServerState, no_file, refuses_step, grants_step, saves_step, keeps, saved, stored_reply, key_of, version_of}
+use Rattle.afs_num.specs.declared.histories.Outs.{Outs}
+use Rattle.afs_model.specs.Steps.{Step, Makes}
+use Rattle.afs_model.specs.ServerRow.{ServerState, admits, does, no_file, refuses_step, grants_step, saves_step, keeps, saved, stored_reply, key_of, version_of}
 use Rattle.afs_call.specs.declared.seat.Admit.{Admit}
 use Rattle.afs_call.specs.declared.seat.Admit.TheVariants.{Run, Kept, InProgress, Old, WrongBoot}
 
@@ -92,12 +94,19 @@ saved_step me s place head file = record {
   sent = stored_reply s.boot head file ∷ [];
 }
 
+-- what is known of a call without running it: nothing where it is to run, else what is given out, whatever is found in
+-- its bytes
+abbrev pub IsKnown : Node → ServerState → ℕ → ℕ → Head → Option Outs → Type 0
+IsKnown me s clock place head None = admitted s.boot s.seats head ≡ runs
+IsKnown me s clock place head (Some outs) =
+    ((found : Received) → Makes (does me s clock place (admits s.files head found (admitted s.boot s.seats head))) s outs) × (length outs.parcels ≤ 1)
+
 -- ---- limits
 
 -- a call that is served stands under its opcode, and contents are within their limit
-abbrev pub IsSoundCall : ℕ → FsCall → Type 0
-IsSoundCall opcode (calls.FetchData fid position count) = opcode ≡ fetch_data
-IsSoundCall opcode (calls.StoreData fid status position count file_length contents) = (opcode ≡ store_data) × (length contents ≤ contents_limit)
+abbrev pub IsSoundCall : ℕ → Call → Type 0
+IsSoundCall opcode (ask.File (calls.FetchData fid position count)) = opcode ≡ fetch_data
+IsSoundCall opcode (ask.File (calls.StoreData fid status position count file_length contents)) = (opcode ≡ store_data) × (length contents ≤ contents_limit)
 IsSoundCall opcode call = Unit {0}
 
 abbrev pub CarriesSound : ℕ → Carried → Type 0

@@ -3,7 +3,7 @@
 ghost use Rattle.std.specs.Prelude.{◌≡◌, ◌≤◌, [], ◌∷◌, length, IfOk};
 ghost use Rattle.afs_model.specs.Messages.{parcels_read, messages_spelled, HasSpelling};
 
-use afs_fsrpc::messages::encode_message;
+use afs_message::messages::encode_message;
 use afs_num::histories::{Line, Lines, Outs};
 use afs_num::messages::Message;
 use afs_num::sequences::{Octets, Sequence};

@@ -1,22 +1,23 @@
 //! What a client does: how an act begins, and one message.
 
-ghost use Rattle.std.specs.Prelude.{◌≡◌, ◌≤◌, ◌<◌, ◌+◌, ◌↔◌, [], ◌∷◌, length, None, IfOk, IsSome, IsTrue};
+ghost use Rattle.std.specs.Prelude.{◌≡◌, ◌≤◌, ◌<◌, ◌+◌, ◌↔◌, [], ◌∷◌, length, None, IfOk, IsSome, IsTrue, OnOk};
 ghost use Rattle.std.specs.Option.{option_copied};
 ghost use Rattle.afs_num.specs.Nodes.{IsNode};
-ghost use Rattle.afs_model.specs.Messages.{parcels_read, messages_spelled, received};
+ghost use Rattle.afs_model.specs.Messages.{parcels_read, messages_spelled, received_by, FindsMessages};
+ghost use Rattle.afs_model.specs.CellRows.{client_calls};
 ghost use Rattle.afs_model.specs.Steps.{Answers, Makes};
 ghost use Rattle.afs_model.specs.ClientRow.{answers_step, begin_row, call_head, call_message, calls_step, client_row, ignores, shows_fetched_step, shows_step, takes_fetched};
 ghost use Rattle.afs_model.specs.Form.{IsShortAct};
 ghost use Rattle.afs_world.specs.Asking.{counted_step, fetched_step, IsShortRunning, is_awaited_by, resent_step, stored_step, taken_step};
 
 use super::cache::{cached_in, is_live, refresh, use_first};
-use super::calls::{call, opcode, user};
+use super::calls::{CLIENT_CALLS, call, opcode, user};
 use crate::giving::{Moment, given, outs_with, quiet};
 use afs_fsrpc::heads::read_head;
-use afs_fsrpc::messages::read_message;
+use afs_message::messages::read_message;
 use afs_num::calls::FsReply;
 use afs_num::histories::{Body, Line, Lines, Outs, ReadBody, ReadSource};
-use afs_num::messages::{Carried, Message, Received};
+use afs_num::messages::{Carried, Message, Received, Reply};
 use afs_num::scripts::Act;
 use afs_num::sequences::{Octets, Sequence};
 use afs_num::states::{CacheEntry, ClientState};
@@ -336,26 +337,28 @@ impl CacheManager {
     }
 
     /// Takes a reply to the call of its act.
-    fn take(&mut self, alloc: Global, moment: Moment, reply: FsReply) -> Mem<Outs>
+    fn take(&mut self, alloc: Global, moment: Moment, reply: Reply) -> Mem<Outs>
         requires node { IsNode self.old.node }
         requires last { self.old.state.last < 4000000000 }
         ensures step { Answers (taken_step self.old.node self.old.state moment.now moment.place self.old.state.running reply) self.old self.new result }
         ensures few { IfOk result (λ o. length o.parcels ≤ 1) }
     {
         match reply {
-            FsReply::FetchData {
-                contents,
-                status,
-                callback,
-                ..
-            } => self.take_data(
+            Reply::File(
+                FsReply::FetchData {
+                    contents,
+                    status,
+                    callback,
+                    ..
+                },
+            ) => self.take_data(
                 alloc,
                 moment,
                 status.sync_counter,
                 callback.expiration_time,
                 contents,
             ),
-            FsReply::StoreData { status, .. } => self.take_stored(
+            Reply::File(FsReply::StoreData { status, .. }) => self.take_stored(
                 alloc,
                 moment,
                 status.sync_counter,
@@ -422,14 +425,13 @@ impl CacheManager {
         }
     }
 
-    /// One message, at this time: at most one is sent. What isn't awaited is told by its header, and no more of it is
-    /// read.
+    /// Takes one message. What isn't awaited is told by its header, and no more of it is read.
     #[tactic(auto, unfolding(afs_model::specs::ClientRow::client_row))]
-    pub fn receive(&mut self, alloc: Global, moment: Moment, bytes: &[u8]) -> Mem<Outs>
+    fn take_message(&mut self, alloc: Global, moment: Moment, bytes: &[u8]) -> Mem<Outs>
         requires node { IsNode self.old.node }
         requires last { self.old.state.last < 4000000000 }
         requires short { IsShortRunning self.old.state.running }
-        ensures step { Answers (client_row self.old.node self.old.state moment.now moment.place (received bytes.now)) self.old self.new result }
+        ensures step { Answers (client_row self.old.node self.old.state moment.now moment.place (received_by client_calls bytes.now)) self.old self.new result }
         ensures few { IfOk result (λ o. length o.parcels ≤ 1) }
     {
         let Ok(head) = read_head(bytes) else {
@@ -438,12 +440,24 @@ impl CacheManager {
         if !self.awaits(&head) {
             return self.ignore(alloc, moment.place);
         }
-        match read_message(alloc, bytes)? {
+        match read_message(alloc, &CLIENT_CALLS, bytes)? {
             Received::Whole { message } => {
                 let Message { head, carried } = message;
                 self.count(alloc, moment, &head, carried)
             }
             _ => self.ignore(alloc, moment.place),
         }
+    }
+
+    /// One message, at this time: at most one is sent.
+    pub fn receive(&mut self, alloc: Global, moment: Moment, bytes: &[u8]) -> Mem<Outs>
+        requires node { IsNode self.old.node }
+        requires last { self.old.state.last < 4000000000 }
+        requires short { IsShortRunning self.old.state.running }
+        ensures step { Answers (client_row self.old.node self.old.state moment.now moment.place (received_by client_calls bytes.now)) self.old self.new result }
+        ensures few { IfOk result (λ o. length o.parcels ≤ 1) }
+        ensures found { FindsMessages client_calls bytes.now }
+    {
+        self.take_message(alloc, moment, bytes)
     }
 }

@@ -1,14 +1,17 @@
 //! What a server's replies say.
 
-ghost use Rattle.std.specs.Prelude.{◌≡◌, ◌≤◌, false, length};
-ghost use Rattle.afs_model.specs.Heads.{contents_limit, is_zero};
-ghost use Rattle.afs_model.specs.ServerRow.{boot_told, code_of_unreadable, key_of, no_release, promise_until, refusal, reply_head, serves, status_of, stored_reply};
+ghost use Rattle.std.specs.Prelude.{◌≡◌, ◌≤◌, length};
+ghost use Rattle.afs_model.specs.Heads.{contents_limit};
+ghost use Rattle.afs_model.specs.ServerRow.{boot_told, key_of, no_release, promise_until, refusal, reply_head, status_of, stored_reply};
 
 use afs_num::calls::{AfsCallBack, AfsFetchStatus, AfsVolSync, FsReply};
-use afs_num::codes::{FETCH_DATA, RXGEN_OPCODE, RXGEN_SS_UNMARSHAL, STORE_DATA};
-use afs_num::messages::{Carried, Message};
+use afs_num::codes::{FETCH_DATA, STORE_DATA};
+use afs_num::messages::{Carried, Message, Reply};
 use afs_num::states::StoredFile;
 use afs_num::types::{Code, Half, Head, Key};
+
+/// The calls that a file server serves.
+pub const FILE_SERVER_CALLS: [u32; 2] = [FETCH_DATA, STORE_DATA];
 
 /// The header of the reply to a call.
 pub fn head_of_reply(boot: u32, head: &Head) -> Head
@@ -33,25 +36,6 @@ pub fn key(head: &Head) -> Key
         node: head.from,
         epoch: head.epoch,
         number: head.number,
-    }
-}
-
-/// Whether a file server serves calls of this opcode.
-fn serves(opcode: u32) -> bool
-    ensures { result ≡ serves opcode }
-{
-    opcode == FETCH_DATA || opcode == STORE_DATA
-}
-
-/// The answer to a call that can't be read: where it isn't served here, that is the answer.
-pub fn code_of_unreadable(opcode: u32) -> i32
-    ensures code { result ≡ code_of_unreadable opcode }
-    ensures some { is_zero result ≡ false }
-{
-    if serves(opcode) {
-        RXGEN_SS_UNMARSHAL
-    } else {
-        RXGEN_OPCODE
     }
 }
 
@@ -139,10 +123,10 @@ pub fn stored_reply(boot: u32, head: &Head, file: &StoredFile) -> Message
     Message {
         head: head_of_reply(boot, head),
         carried: Carried::Reply {
-            reply: FsReply::StoreData {
+            reply: Reply::File(FsReply::StoreData {
                 status: status(file),
                 sync: sync(),
-            },
+            }),
         },
     }
 }

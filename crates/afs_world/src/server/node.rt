@@ -5,25 +5,26 @@ ghost use Rattle.std.specs.List.{All};
 ghost use Rattle.afs_model.specs.Calls.{admitted, call_seat, paired, runs};
 ghost use Rattle.afs_model.specs.Heads.{contents_limit, is_zero, IsSoundHead};
 ghost use Rattle.afs_model.specs.FsRows.{fetch_data, store_data};
-ghost use Rattle.afs_model.specs.Messages.{parcels_read, messages_spelled, received, HasSpelling, IsSoundReceived};
+ghost use Rattle.afs_model.specs.Messages.{parcels_read, messages_spelled, received_by, FindsMessages, HasSpelling, IsSoundReceived};
+ghost use Rattle.afs_model.specs.CellRows.{file_server_calls};
 ghost use Rattle.afs_model.specs.Steps.{Answers, Makes};
 ghost use Rattle.afs_model.specs.ServerRow.{AreOrdered, admits, called, does, find_file, hears, keeps, refuses_step, sends_step, serves_call, server_row};
 ghost use Rattle.afs_model.specs.ServerRow as row;
-ghost use Rattle.afs_world.specs.Serving.{AsksSound, CarriesSound, IsKept, IsSoundCall, IsWithin, Spells, count_limit, fetches_step, saved_step, stores_step};
+ghost use Rattle.afs_world.specs.Serving.{AsksSound, CarriesSound, IsKept, IsKnown, IsSoundCall, IsWithin, Spells, count_limit, fetches_step, saved_step, stores_step};
 
 use super::callers::Callers;
 use super::files::{Files, find_stored};
 use super::headers::{
-    code_of_unreadable, head_of_reply, key, notice, promise, refusal, status, stored_reply, sync,
+    FILE_SERVER_CALLS, head_of_reply, key, notice, promise, refusal, status, stored_reply, sync,
 };
 use crate::giving::{Moment, given, outs_of, outs_with, quiet};
 use afs_call::Admit;
 use afs_fsrpc::heads::read_head;
-use afs_fsrpc::messages::{encode_message, read_message};
+use afs_message::messages::{encode_message, read_message};
 use afs_num::calls::{FsCall, FsReply};
-use afs_num::codes::{PROMISE_TICKS, RXGEN_OPCODE, VNOVNODE};
+use afs_num::codes::{PROMISE_TICKS, RXGEN_OPCODE, RXGEN_SS_UNMARSHAL, VNOVNODE};
 use afs_num::histories::{Body, Line, Lines, Outs, Version};
-use afs_num::messages::{Carried, Message, Received};
+use afs_num::messages::{Call, Carried, Message, Received, Reply};
 use afs_num::sequences::Octets;
 use afs_num::states::{StoredFile, StoredFiles};
 use afs_num::types::{Fid, Head, Mem, Node};
@@ -155,12 +156,12 @@ impl FileServer {
         Ok(Message {
             head: head_of_reply(self.callers.boot(), head),
             carried: Carried::Reply {
-                reply: FsReply::FetchData {
+                reply: Reply::File(FsReply::FetchData {
                     contents: file.contents.copy(alloc)?,
                     status: status(file),
                     callback: promise(expiry),
                     sync: sync(),
-                },
+                }),
             },
         })
     }
@@ -243,14 +244,14 @@ impl FileServer {
         self.save(alloc, call, file)
     }
 
-    /// Runs a call that can be read.
-    fn run_call(&mut self, alloc: Global, call: &Incoming, asked: FsCall) -> Mem<Outs>
+    /// Runs a call of its interface that can be read.
+    fn run_file_call(&mut self, alloc: Global, call: &Incoming, asked: FsCall) -> Mem<Outs>
         requires head { IsSoundHead call.now.head }
-        requires asked { IsSoundCall call.now.head.opcode asked }
+        requires asked { IsSoundCall call.now.head.opcode (Call.File asked) }
         requires limits { IsWithin count_limit self.old.state }
         requires now { call.now.moment.now ≤ 1000000000 }
         requires runs { paired call.now.head.epoch call.now.head.number (call_seat call.now.head.from self.old.state.seats) ≡ runs }
-        ensures step { Answers (does self.old.node self.old.state call.now.moment.now call.now.moment.place (serves_call self.old.state.files call.now.head asked)) self.old self.new result }
+        ensures step { Answers (does self.old.node self.old.state call.now.moment.now call.now.moment.place (serves_call self.old.state.files call.now.head (Call.File asked))) self.old self.new result }
         ensures few { IfOk result (λ o. length o.parcels ≤ 1) }
     {
         match asked {
@@ -261,6 +262,22 @@ impl FileServer {
                 call.moment.now + PROMISE_TICKS,
             ),
             FsCall::StoreData { fid, contents, .. } => self.store(alloc, call, &fid, contents),
+            _ => self.refuse(alloc, call, RXGEN_OPCODE),
+        }
+    }
+
+    /// Runs a call that can be read.
+    fn run_call(&mut self, alloc: Global, call: &Incoming, asked: Call) -> Mem<Outs>
+        requires head { IsSoundHead call.now.head }
+        requires asked { IsSoundCall call.now.head.opcode asked }
+        requires limits { IsWithin count_limit self.old.state }
+        requires now { call.now.moment.now ≤ 1000000000 }
+        requires runs { paired call.now.head.epoch call.now.head.number (call_seat call.now.head.from self.old.state.seats) ≡ runs }
+        ensures step { Answers (does self.old.node self.old.state call.now.moment.now call.now.moment.place (serves_call self.old.state.files call.now.head asked)) self.old self.new result }
+        ensures few { IfOk result (λ o. length o.parcels ≤ 1) }
+    {
+        match asked {
+            Call::File(asked) => self.run_file_call(alloc, call, asked),
             _ => self.refuse(alloc, call, RXGEN_OPCODE),
         }
     }
@@ -285,12 +302,8 @@ impl FileServer {
     {
         match found {
             Received::Nothing => self.drop_call(alloc, call),
-            Received::Unknown { .. } => self.refuse(alloc, call, RXGEN_OPCODE),
-            Received::Unreadable { .. } => self.refuse(
-                alloc,
-                call,
-                code_of_unreadable(call.head.opcode),
-            ),
+            Received::Unserved { .. } => self.refuse(alloc, call, RXGEN_OPCODE),
+            Received::Unreadable { .. } => self.refuse(alloc, call, RXGEN_SS_UNMARSHAL),
             Received::Whole { message } => match message.carried {
                 Carried::Call { call: asked, .. } => self.run_call(alloc, call, asked),
                 _ => self.drop_call(alloc, call),
@@ -308,6 +321,28 @@ impl FileServer {
         outs_with(alloc, lines, &notice(self.callers.boot(), &call.head))
     }
 
+    /// What is given out for a call that isn't to run, by its boot number and its pair; `None` for one that is.
+    fn answer_known(&self, alloc: Global, call: &Incoming) -> Mem<Option<Outs>>
+        requires head { IsSoundHead call.now.head }
+        ensures { IfOk result (λ o. IsKnown self.now.node self.now.state call.now.moment.now call.now.moment.place call.now.head o) }
+    {
+        match self.callers.admit(&call.head) {
+            Admit::Run => Ok(None),
+            Admit::Kept(reply) => {
+                let outs = repeat(alloc, call, reply)?;
+                Ok(Some(outs))
+            }
+            Admit::InProgress | Admit::Old => {
+                let outs = self.drop_call(alloc, call)?;
+                Ok(Some(outs))
+            }
+            Admit::WrongBoot(_) => {
+                let outs = self.tell_boot(alloc, call)?;
+                Ok(Some(outs))
+            }
+        }
+    }
+
     /// Compares the call's boot number, and its pair with the last one of its caller.
     fn admit(&mut self, alloc: Global, call: &Incoming, found: Received) -> Mem<Outs>
         requires head { IsSoundHead call.now.head }
@@ -317,11 +352,9 @@ impl FileServer {
         ensures step { Answers (does self.old.node self.old.state call.now.moment.now call.now.moment.place (admits self.old.state.files call.now.head found (admitted self.old.state.boot self.old.state.seats call.now.head))) self.old self.new result }
         ensures few { IfOk result (λ o. length o.parcels ≤ 1) }
     {
-        match self.callers.admit(&call.head) {
-            Admit::Run => self.run(alloc, call, found),
-            Admit::Kept(reply) => repeat(alloc, call, reply),
-            Admit::InProgress | Admit::Old => self.drop_call(alloc, call),
-            Admit::WrongBoot(_) => self.tell_boot(alloc, call),
+        match self.answer_known(alloc, call)? {
+            None => self.run(alloc, call, found),
+            Some(outs) => Ok(outs),
         }
     }
 
@@ -364,16 +397,17 @@ impl FileServer {
     pub fn handle(&mut self, alloc: Global, moment: Moment, bytes: &[u8]) -> Mem<Outs>
         requires limits { IsWithin count_limit self.old.state }
         requires now { moment.now ≤ 1000000000 }
-        ensures step { Answers (server_row self.old.node self.old.state moment.now moment.place (received bytes.now)) self.old self.new result }
+        ensures step { Answers (server_row self.old.node self.old.state moment.now moment.place (received_by file_server_calls bytes.now)) self.old self.new result }
         ensures few { IfOk result (λ o. length o.parcels ≤ 1) }
-        ensures sound { OnOk result (IsSoundReceived (received bytes.now)) }
+        ensures sound { OnOk result (IsSoundReceived (received_by file_server_calls bytes.now)) }
+        ensures found { FindsMessages file_server_calls bytes.now }
     {
-        match read_message(alloc, bytes)? {
+        match read_message(alloc, &FILE_SERVER_CALLS, bytes)? {
             Received::Nothing => Ok(quiet(alloc, given(alloc, moment.place)?)),
-            Received::Unknown { head } => self.serve(
+            Received::Unserved { head } => self.serve(
                 alloc,
                 &Incoming { moment, head },
-                Received::Unknown { head },
+                Received::Unserved { head },
             ),
             Received::Unreadable { head } => self.serve(
                 alloc,

@@ -1,6 +1,6 @@
 use Rattle.std.proofs.Common.{◌≡◌, ◌≤◌, ◌+◌, ◌-◌, ℕ, List, [], ◌∷◌, ◌++◌, length, take, drop, arith, refl, sym, ◌∙◌, ap, subst, take-append-drop, length-drop}
 use Rattle.std.proofs.lemmas.List.{length-take-le}
-use Rattle.afs_model.specs.Disk.{overwritten}
+use Rattle.afs_disk.specs.Disk.{overwritten}
 use Rattle.afs_disk.specs.declared.medium.Span.{Span}
 use Rattle.afs_disk.specs.Spans.{Fit, unwound}
 use Rattle.afs_disk.proofs.Painting.{length-overwritten}

@@ -1,5 +1,5 @@
 use Rattle.std.proofs.Common.{◌≡◌, List, ℕ, Some, sym, ◌∙◌, ap}
-use Rattle.afs_model.specs.Journal.{whole_records}
+use Rattle.afs_journal.specs.Records.{whole_records}
 use Rattle.afs_journal.proofs.Sound.{taken_up, stands_now}
 use Rattle.afs_journal.proofs.journal.take_up.Goals as goal
 

@@ -1,7 +1,7 @@
 use Rattle.std.proofs.Common.{◌≡◌, List, ℕ, [], Some, length, rules, sym, ◌∙◌, ap, subst}
-use Rattle.afs_model.specs.Journal.{whole_records}
-use Rattle.afs_model.proofs.Crash.{no_bytes, nothing_whole}
-use Rattle.afs_model.proofs.Moments.{weaker}
+use Rattle.afs_journal.specs.Records.{whole_records}
+use Rattle.afs_journal.proofs.Crash.{no_bytes, nothing_whole}
+use Rattle.afs_journal.proofs.Moments.{weaker}
 use Rattle.afs_journal.specs.Log.{IsJournal}
 use Rattle.afs_journal.proofs.mend.settle.Goals as goal
 

@@ -1,6 +1,6 @@
 use Rattle.std.proofs.Common.{◌≡◌, true, rules, arith}
-use Rattle.afs_model.specs.Journal.{is_whole}
-use Rattle.afs_model.proofs.Journal.{starts}
+use Rattle.afs_journal.specs.Records.{is_whole}
+use Rattle.afs_journal.proofs.Records.{starts}
 use Rattle.afs_journal.proofs.scan.first.Goals as goal
 
 pub returns-clause-some : goal.returns-clause-some

@@ -1,7 +1,7 @@
 use Rattle.std.proofs.Common.{◌≡◌, ◌<◌, ◌≤◌, ◌-◌, ◌*◌, ℕ, suc, List, ◌++◌, [], ◌∷◌, length, None, arith, refl, sym, ◌∙◌, ap, subst, length-append}
-use Rattle.afs_model.specs.Journal.{blocks, record_at, whole_records, Fit, StartsWith, EndsAt}
-use Rattle.afs_model.proofs.Crash.{ends_whole, ends_counts}
-use Rattle.afs_model.proofs.Journal.{one_found, all_found, fit-push}
+use Rattle.afs_journal.specs.Records.{blocks, record_at, whole_records, Fit, StartsWith, EndsAt}
+use Rattle.afs_journal.proofs.Crash.{ends_whole, ends_counts}
+use Rattle.afs_journal.proofs.Records.{one_found, all_found, fit-push}
 use Rattle.afs_journal.proofs.scan.scan.Goals as goal
 
 pub loop-body-preserved : goal.loop-body-preserved

@@ -1,5 +1,5 @@
 use Rattle.std.proofs.Common.{◌≡◌, ◌<◌, suc, ◌++◌, length}
-use Rattle.afs_model.specs.Journal.{blocks, Fit}
+use Rattle.afs_journal.specs.Records.{blocks, Fit}
 use Rattle.afs_journal.proofs.scan.scan.Given as goal
 
 -- the bytes are the records found so far, and the rest

@@ -1,4 +1,3 @@
-use Rattle.std.proofs.Common.{◌++◌, append_assoc}
 use Rattle.afs_outside.proofs.Puts.{puts_then, puts_stop}
 use Rattle.afs_model.specs.Text.{entry_text}
 use Rattle.afs_text.proofs.printing.print_entry.Goals as goal

@@ -1,6 +1,5 @@
 -- The text of each entry goes on behind those before it.
-use Rattle.std.proofs.Common.{◌+◌, arith, rules, length}
-use Rattle.std.proofs.lemmas.List.{length-take-le}
+use Rattle.std.proofs.Common.{arith}
 use Rattle.afs_model.specs.Text.{history_text}
 use Rattle.afs_outside.proofs.Puts.{completes_more, completes_stop, completes_end}
 use Rattle.afs_text.proofs.Sent.{entries_left, entries_end, enough_left, others_left, own_read, others_read}

@@ -1,6 +1,6 @@
 use Rattle.std.proofs.Common.{◌≡◌, ◌≤◌, ◌+◌, ◌-◌, ℕ, List, [], ◌∷◌, ◌++◌, length, take, drop, min, max, arith, sym, ◌∙◌, ap, subst, length-drop}
 use Rattle.std.proofs.lemmas.List.{length-take, length-take-le}
-use Rattle.afs_model.specs.Disk.{overwritten}
+use Rattle.afs_disk.specs.Disk.{overwritten}
 use Rattle.afs_disk.specs.declared.medium.Span.{Span}
 use Rattle.afs_disk.specs.Images.{Held}
 use Rattle.afs_disk.specs.Spans.{Fit, unwound}

@@ -1,5 +1,5 @@
 use Rattle.std.proofs.Common.{◌≤◌, ◌++◌, ◌∷◌, [], length, arith, ◌∙◌, ap, subst}
-use Rattle.afs_model.specs.Disk.{ComesBy, Torn, written_by}
+use Rattle.afs_disk.specs.Disk.{ComesBy, Torn, written_by}
 use Rattle.afs_disk.specs.Images.{Held, MayLeave, image}
 use Rattle.afs_disk.specs.Past.{Memory}
 use Rattle.afs_disk.proofs.Painting.{torn_same}

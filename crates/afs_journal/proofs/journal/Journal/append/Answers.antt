@@ -1,6 +1,6 @@
 use Rattle.std.proofs.Common.{◌≡◌, ◌≤◌, ◌+◌, Some, [], ◌∷◌, ◌++◌, length, rules, arith, sym, ◌∙◌, ap, subst, length-append}
-use Rattle.afs_model.specs.Disk.{LeavesOnly}
-use Rattle.afs_model.specs.Journal.{whole_records, IsBeforeOrAfter}
+use Rattle.afs_disk.specs.Disk.{LeavesOnly}
+use Rattle.afs_journal.specs.Records.{whole_records, IsBeforeOrAfter}
 use Rattle.afs_journal.specs.Log.{Log}
 use Rattle.afs_journal.proofs.Sound.{settled_now, told_is, told_from, length-spelled, spells_next, still_settled, with_room}
 use Rattle.afs_journal.proofs.journal.Journal.append.Goals as goal

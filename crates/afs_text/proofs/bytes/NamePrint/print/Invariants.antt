@@ -1,4 +1,4 @@
-use Rattle.std.proofs.Common.{drop, ◌+◌}
+use Rattle.std.proofs.Common.{drop}
 use Rattle.std.specs.List.{flat_map}
 use Rattle.afs_model.specs.LineText.{name_byte}
 use Rattle.afs_outside.proofs.Puts.{Completes}

@@ -1,4 +1,4 @@
-use Rattle.std.proofs.Common.{drop, ◌+◌}
+use Rattle.std.proofs.Common.{drop}
 use Rattle.std.specs.List.{flat_map}
 use Rattle.afs_model.specs.Text.{file_text_in}
 use Rattle.afs_outside.proofs.Puts.{Completes}

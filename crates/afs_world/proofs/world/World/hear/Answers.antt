@@ -3,7 +3,8 @@ use Rattle.afs_num.specs.Places.{at_place}
 use Rattle.afs_num.specs.declared.types.Node.TheVariants.{Client}
 use Rattle.afs_num.specs.declared.types.Parcel.{Parcel}
 use Rattle.afs_num.specs.declared.histories.Entry as kept
-use Rattle.afs_model.specs.Messages.{received}
+use Rattle.afs_model.specs.Messages.{received_by, FindsMessages}
+use Rattle.afs_model.specs.CellRows.{client_calls}
 use Rattle.afs_model.specs.Runs.{moved, gives}
 use Rattle.afs_model.specs.Playing.{as_played}
 use Rattle.afs_model.specs.Steps.{Makes}
@@ -26,7 +27,8 @@ returns c =
     subst (λ (w : WorldState). Follows w (as_played w.acts (moved (cell_of w) (gives place))) new) was
     (hear_follows old new place p outs (subst IsPlayable (sym was) c.requires.holds) at
     (sent_to old.wire place p (Client 1) at (subst (λ (w : WorldState). receiver_at w.wire place ≡ Some (Client 1)) (sym was) c.requires.to))
-    (subst (λ b. Makes (client_row inside.client.node inside.client.state 0 place (received b)) c.receive.new.self.state outs) c.as_slice.ensures gave.step.1)
+    (subst (λ b. FindsMessages client_calls b) c.as_slice.ensures gave.found)
+    (subst (λ b. Makes (client_row inside.client.node inside.client.state 0 place (received_by client_calls b)) c.receive.new.self.state outs) c.as_slice.ensures gave.step.1)
     gave.step.0 refl refl
     (record {
       wire = c.tell.ensures.sent ∙ ap (λ (ps : List Parcel). ps ++ outs.parcels) c.make_room.ensures.wire;

@@ -3,7 +3,8 @@ use Rattle.afs_num.specs.Places.{at_place}
 use Rattle.afs_num.specs.declared.types.Node.TheVariants.{Server}
 use Rattle.afs_num.specs.declared.types.Parcel.{Parcel}
 use Rattle.afs_num.specs.declared.histories.Entry as kept
-use Rattle.afs_model.specs.Messages.{received, IsSoundReceived}
+use Rattle.afs_model.specs.Messages.{received_by, IsSoundReceived, FindsMessages}
+use Rattle.afs_model.specs.CellRows.{file_server_calls}
 use Rattle.afs_model.specs.Runs.{moved, gives}
 use Rattle.afs_model.specs.Playing.{as_played}
 use Rattle.afs_model.specs.Steps.{Makes}
@@ -26,8 +27,9 @@ returns c =
     subst (λ (w : WorldState). Follows w (as_played w.acts (moved (cell_of w) (gives place))) new) was
     (serve_follows old new place p outs (subst IsPlayable (sym was) c.requires.holds) at
     (sent_to old.wire place p (Server 1) at (subst (λ (w : WorldState). receiver_at w.wire place ≡ Some (Server 1)) (sym was) c.requires.to))
-    (subst (λ b. IsSoundReceived (received b)) c.as_slice.ensures gave.sound)
-    (subst (λ b. Makes (server_row inside.server.node inside.server.state 0 place (received b)) c.handle.new.self.state outs) c.as_slice.ensures gave.step.1)
+    (subst (λ b. FindsMessages file_server_calls b) c.as_slice.ensures gave.found)
+    (subst (λ b. IsSoundReceived (received_by file_server_calls b)) c.as_slice.ensures gave.sound)
+    (subst (λ b. Makes (server_row inside.server.node inside.server.state 0 place (received_by file_server_calls b)) c.handle.new.self.state outs) c.as_slice.ensures gave.step.1)
     gave.step.0 refl refl
     (record {
       wire = c.tell.ensures.sent ∙ ap (λ (ps : List Parcel). ps ++ outs.parcels) c.make_room.ensures.wire;

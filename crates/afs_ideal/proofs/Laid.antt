@@ -1,0 +1,137 @@
+-- Set-up: a new volume is sound, and what its lines lay leaves it so.
+use Rattle.std.proofs.Common.{◌≡◌, ℕ, Bool, true, false, cond, eqb, List, [], ◌∷◌, Option, Some, None, refl, sym, ap, subst, ◌∙◌, arith, eqb-true}
+use Rattle.std.specs.Prelude.{Result, Ok, Err}
+use Rattle.afs_shape.specs.Reading.{◌>>=◌}
+use Rattle.afs_num.specs.declared.calls.FsCall.{FsCall}
+use Rattle.std.specs.Option.{ok_or}
+use Rattle.afs_num.specs.declared.calls.FsCall.TheVariants as calls
+use Rattle.afs_num.specs.declared.types.Fid.{Fid}
+use Rattle.afs_ideal.specs.Tables.{Table, get, AscendsFrom}
+use Rattle.afs_ideal.specs.AccessLists.{IsAccessList}
+use Rattle.afs_ideal.specs.Volumes.{Vnode, Volume, Edit, edit_number, edited_all, counted}
+use Rattle.afs_ideal.specs.Operations as ops
+use Rattle.afs_ideal.specs.Operations.{all_rights, Found, op}
+use Rattle.afs_ideal.specs.SetUp.{new_root, new_volume, at_first, one_at_first, all_at_first, laid_by, called, nothing_set, new_fid, stores_all, parted, led, Laid, a_dir, a_file_of, a_link_to, laid_in, laid_at, acl_laid}
+use Rattle.afs_ideal.specs.Soundness.{IsSoundVnode, IsSound}
+use Rattle.afs_ideal.proofs.Basics.{some_of}
+use Rattle.afs_ideal.proofs.Tables.{get_set, ascends_set}
+use Rattle.afs_ideal.proofs.Maps.{Sound, AreLike, like_itself, like_of, as_like}
+use Rattle.afs_ideal.proofs.Ranks.{at, steps, ranked_same}
+use Rattle.afs_ideal.proofs.Kept.{as_map, as_ranked, as_volume, above_root}
+use Rattle.afs_ideal.proofs.Preserved.{operations_leave_sound}
+
+-- ---- a new volume
+
+new_list : IsAccessList new_root.acl
+new_list = record { few = omega arith; positive = (record { name = refl; single = refl; rights = omega arith }, tt); negative = tt }
+
+root_by : (b : Bool) (family : ℕ) (name : List ℕ) (kind flags quota n : ℕ) (x : Vnode) → eqb 1 n ≡ b → cond b (Some new_root) None ≡ Some x → IsSoundVnode (new_volume family name kind flags quota) n x
+root_by false family name kind flags quota n x b e = absurd cc
+root_by true family name kind flags quota n x b e =
+    subst (λ (m : ℕ). IsSoundVnode (new_volume family name kind flags quota) m x) (eqb-true 1 n b)
+    (subst (IsSoundVnode (new_volume family name kind flags quota) 1) (some_of new_root x e) (record {
+      kind = (λ t. refl, λ t. refl);
+      unique = omega arith;
+      body = record { names = record { ordered = refl; few = omega arith }; acl = new_list; contents = refl; links = refl };
+      given = λ k d lt. absurd (omega (arith, lt));
+      placed = λ ne. absurd (ne refl);
+    }))
+
+pub new_is_sound : (family : ℕ) (name : List ℕ) (kind flags quota : ℕ) → IsSound (new_volume family name kind flags quota)
+new_is_sound family name kind flags quota = record {
+  root = (refl, (refl, (refl, refl)));
+  ascending = (omega arith, tt);
+  vnodes = λ n x e. root_by (eqb 1 n) family name kind flags quota n x refl e;
+}
+
+-- ---- indexes and counters as at first
+
+like_trans : (a b c : Option Vnode) → AreLike a b → AreLike b c → AreLike a c
+like_trans None None c p q = q
+like_trans None (Some y) c p q = absurd p
+like_trans (Some x) None c p q = absurd p
+like_trans (Some x) (Some y) None p q = absurd q
+like_trans (Some x) (Some y) (Some z) p q = record {
+  seen = record {
+    unique = q.seen.unique ∙ p.seen.unique;
+    kind = q.seen.kind ∙ p.seen.kind;
+    links = q.seen.links ∙ p.seen.links;
+    parent = q.seen.parent ∙ p.seen.parent;
+    parent_unique = q.seen.parent_unique ∙ p.seen.parent_unique;
+    names = q.seen.names ∙ p.seen.names;
+  };
+  contents = q.contents ∙ p.contents;
+  acl = q.acl ∙ p.acl;
+}
+
+first_like : (b : Bool) (n m : ℕ) (x : Vnode) (t : Table Vnode) → eqb n m ≡ b → get n t ≡ Some x → AreLike (get m t) (cond b (Some (at_first x)) (get m t))
+first_like true n m x t b e = subst (λ (o : Option Vnode). AreLike o (Some (at_first x))) (sym (ap (λ (k : ℕ). get k t) (sym (eqb-true n m b)) ∙ e)) (record { seen = record { unique = refl; kind = refl; links = refl; parent = refl; parent_unique = refl; names = refl }; contents = refl; acl = refl })
+first_like false n m x t b e = like_itself (get m t)
+
+one_like : (n m : ℕ) (o : Option Vnode) (t : Table Vnode) → get n t ≡ o → AreLike (get m t) (get m (one_at_first n o t))
+one_like n m None t e = like_itself (get m t)
+one_like n m (Some x) t e = subst (AreLike (get m t)) (sym (get_set m n (at_first x) t)) (first_like (eqb n m) n m x t refl e)
+
+all_like : (es : List Edit) (m : ℕ) (t : Table Vnode) → AreLike (get m t) (get m (all_at_first es t))
+all_like [] m t = like_itself (get m t)
+all_like (e ∷ es) m t =
+    let u : Table Vnode = one_at_first (edit_number e) (get (edit_number e) t) t in
+    like_trans (get m t) (get m u) (get m (all_at_first es u)) (one_like (edit_number e) m (get (edit_number e) t) t refl) (all_like es m u)
+
+one_up : (n : ℕ) (o : Option Vnode) (t : Table Vnode) → get n t ≡ o → AscendsFrom 1 t → AscendsFrom 1 (one_at_first n o t)
+one_up n None t e up = up
+one_up n (Some x) t e up = ascends_set 1 n (at_first x) t (above_root n t x up e) up
+
+all_up : (es : List Edit) (t : Table Vnode) → AscendsFrom 1 t → AscendsFrom 1 (all_at_first es t)
+all_up [] t up = up
+all_up (e ∷ es) t up = all_up es (one_at_first (edit_number e) (get (edit_number e) t) t) (one_up (edit_number e) (get (edit_number e) t) t refl up)
+
+first_sound : (es : List Edit) (v w : Volume) → IsSound v → w.next ≡ v.next → w.vnodes ≡ all_at_first es v.vnodes → IsSound w
+first_sound es v w h next vnodes =
+    let like : (n : ℕ) → AreLike (at v n) (at w n) = λ n. subst (λ (t : Table Vnode). AreLike (get n v.vnodes) (get n t)) (sym vnodes) (all_like es n v.vnodes) in
+    as_volume w (steps v) (subst (AscendsFrom 1) (sym vnodes) (all_up es v.vnodes h.ascending))
+    (subst (λ (k : ℕ). Sound k (at w)) (sym next) (as_like v.next (at v) (at w) like (as_map v h)))
+    (ranked_same (at v) (at w) (steps v) (as_ranked v h) (λ n y e. let o = like_of (at v n) y (subst (AreLike (at v n)) e (like n)) in (o.0, (o.1.0, o.1.1.seen.parent))))
+
+-- ---- lines
+
+ok_is : {A : Type 0} (a b : A) → ◌≡◌ {A = Result A ℕ} (Ok a) (Ok b) → a ≡ b
+ok_is {A} a b e = cc
+
+laid_sound : (id : ℕ) (call : FsCall) (v w : Volume) (r : ops.Result) → op id all_rights call v ≡ r → IsSound v → laid_by id r v ≡ Ok w → IsSound w
+laid_sound id call v w (ops.refused code) is h e = absurd cc
+laid_sound id call v w (ops.reads shown) is h e = absurd cc
+laid_sound id call v w ops.no_operation is h e = absurd cc
+laid_sound id call v w (ops.changes es n) is h e =
+    let after : Volume = counted (edited_all id es v) in
+    let one : record after { counter = 1; vnodes = all_at_first es after.vnodes } ≡ w = ok_is (record after { counter = 1; vnodes = all_at_first es after.vnodes }) w e in
+    subst IsSound one (first_sound es after (record after { counter = 1; vnodes = all_at_first es after.vnodes }) (operations_leave_sound id all_rights call v es n h is).sound refl refl)
+
+called_sound : (id : ℕ) (call : FsCall) (v w : Volume) → IsSound v → called id call v ≡ Ok w → IsSound w
+called_sound id call v w h e = laid_sound id call v w (op id all_rights call v) refl h e
+
+both_ok : {A B : Type 0} (r : Result A ℕ) (f : A → Result B ℕ) (y : B) → (r >>= f) ≡ Ok y → (x : A) × ((r ≡ Ok x) × (f x ≡ Ok y))
+both_ok {A} {B} (Ok x) f y e = (x, (refl, e))
+both_ok {A} {B} (Err code) f y e = absurd cc
+
+in_sound : (id : ℕ) (v w : Volume) (d : Fid) (name : List ℕ) (x : Laid) → IsSound v → laid_in id v d name x ≡ Ok w → IsSound w
+in_sound id v w d name a_dir h e = called_sound id (calls.MakeDir d name nothing_set) v w h e
+in_sound id v w d name (a_link_to target) h e = called_sound id (calls.Symlink d name target nothing_set) v w h e
+in_sound id v w d name (a_file_of bytes) h e =
+    let creates : FsCall = calls.CreateFile d name nothing_set in
+    let stores : FsCall = stores_all (new_fid id v) bytes in
+    let r = both_ok (called id creates v) (called id stores) w e in
+    called_sound id stores r.0 w (called_sound id creates v r.0 h r.1.0) r.1.1
+
+pub names_sound : (id : ℕ) (path : List (List ℕ)) (x : Laid) (v w : Volume) → IsSound v → laid_at id path x v ≡ Ok w → IsSound w
+unfolding laid_at
+names_sound id path x v w h e =
+    let p = both_ok (ok_or (parted path) 22) (λ (parts : List (List ℕ) × List ℕ). led id v parts.0 >>= (λ (at : Found). laid_in id v at.fid parts.1 x)) w e in
+    let q = both_ok (led id v p.0.0) (λ (at : Found). laid_in id v at.fid p.0.1 x) w p.1.1 in
+    in_sound id v w q.0.fid p.0.1 x h q.1.1
+
+pub lists_sound : (id : ℕ) (path : List (List ℕ)) (text : List ℕ) (v w : Volume) → IsSound v → acl_laid id path text v ≡ Ok w → IsSound w
+unfolding acl_laid
+lists_sound id path text v w h e =
+    let q = both_ok (led id v path) (λ (at : Found). called id (calls.StoreAcl at.fid text) v) w e in
+    called_sound id (calls.StoreAcl q.0.fid text) v w h q.1.1

@@ -1,0 +1,36 @@
+-- Laws about sound volumes: what set-up and operations leave is sound.
+use Rattle.std.specs.Prelude.{◌≡◌, ◌<◌, ℕ, List, length, true, Ok, Some}
+use Rattle.afs_num.specs.declared.calls.FsCall.{FsCall}
+use Rattle.afs_ideal.specs.Tables.{get}
+use Rattle.afs_ideal.specs.VnodeImage.{kind_fits, FitsImage}
+use Rattle.afs_ideal.specs.Volumes.{type_of, Vnode, Volume, Edit, edited_all, counted}
+use Rattle.afs_ideal.specs.Images.{HasImage, image_of, value_of}
+use Rattle.afs_ideal.specs.Operations.{Caller, changes, op}
+use Rattle.afs_ideal.specs.SetUp.{Laid, new_volume, laid_at, acl_laid}
+use Rattle.afs_ideal.specs.Soundness.{IsSound}
+
+-- an accepted operation changes something, and leaves a sound volume
+pub record LeavesSound (id : ℕ) (es : List Edit) (v : Volume) : Type 0 where
+  pub sound : IsSound (counted (edited_all id es v))
+  pub some_edit : 0 < length es
+
+abbrev pub OperationsLeaveSound : Type 0
+OperationsLeaveSound = (id : ℕ) (caller : Caller) (call : FsCall) (v : Volume) (es : List Edit) (n : ℕ) → IsSound v → op id caller call v ≡ changes es n → LeavesSound id es v
+
+abbrev pub NewVolumesAreSound : Type 0
+NewVolumesAreSound = (family : ℕ) (name : List ℕ) (kind flags quota : ℕ) → IsSound (new_volume family name kind flags quota)
+
+-- and so is what set-up lays in a sound volume
+pub record SetUpLeavesSound : Type 0 where
+  pub names : (id : ℕ) (path : List (List ℕ)) (x : Laid) (v w : Volume) → IsSound v → laid_at id path x v ≡ Ok w → IsSound w
+  pub lists : (id : ℕ) (path : List (List ℕ)) (text : List ℕ) (v w : Volume) → IsSound v → acl_laid id path text v ≡ Ok w → IsSound w
+
+-- A vnode has an image within its limits, whose value it is.
+pub record IsReadAgain (n time : ℕ) (x : Vnode) : Type 0 where
+  pub fits : FitsImage (image_of n time x)
+  pub kind : kind_fits n (type_of x.kind) ≡ true
+  pub value : value_of (image_of n time x) ≡ Some x
+
+-- so has each vnode of a sound volume whose words and lengths are within an image's
+abbrev pub SoundAreReadAgain : Type 0
+SoundAreReadAgain = (v : Volume) (n time : ℕ) (x : Vnode) → IsSound v → get n v.vnodes ≡ Some x → HasImage x → IsReadAgain n time x

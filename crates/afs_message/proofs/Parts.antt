@@ -1,0 +1,135 @@
+-- The rows of a table that is made of parts, and what they make.
+use Rattle.std.proofs.Common.{◌≡◌, ℕ, Bool, true, false, cond, eqb, List, [], ◌∷◌, ◌++◌, Option, Some, None, Result, Ok, Err, refl, sym, ap, ◌∙◌, append-nil}
+use Rattle.std.specs.Prelude.{nat_eq, ◌==◌, find, map}
+use Rattle.std.specs.Option.{option_map}
+use Rattle.std.proofs.lemmas.Bool.{eqb-true, eqb-false, eq-eqb, ne_eqb}
+use Rattle.afs_shape.specs.declared.faults.ShapeFault.{ShapeFault}
+use Rattle.afs_shape.specs.declared.kinds.Kind.{Kind}
+use Rattle.afs_shape.specs.declared.kinds.Field.{Field}
+use Rattle.afs_shape.specs.Tables.{kinds_in}
+use Rattle.afs_shape.specs.Rows.{MessageTable, table_rows, made_in, message_of, in_interface}
+use Rattle.afs_shape.specs.Bodies.{found_row, row_at}
+use Rattle.afs_shape.proofs.BodyLaws.{row_ok, row_again}
+
+abbrev Rows : Type 0
+Rows = List (ℕ × List Kind)
+
+abbrev second : Option (ℕ × List Kind) → Option (List Kind)
+second o = option_map (λ x. x.1) o
+
+-- ---- kinds
+
+found_front : (b : Bool) (r : ℕ × List Kind) (o p : Option (ℕ × List Kind)) (ks : List Kind) → (second o ≡ Some ks → second p ≡ Some ks) → second (cond b (Some r) o) ≡ Some ks → second (cond b (Some r) p) ≡ Some ks
+found_front true r o p ks further e = e
+found_front false r o p ks further e = further e
+
+kinds_front : (n : ℕ) (a b : Rows) (ks : List Kind) → kinds_in n a ≡ Some ks → kinds_in n (a ++ b) ≡ Some ks
+kinds_front n [] b ks e = absurd cc
+kinds_front n (r ∷ a) b ks e = found_front (r.0 == n) r (find (λ p. p.0 == n) a) (find (λ p. p.0 == n) (a ++ b)) ks (kinds_front n a b ks) e
+
+found_past : (b : Bool) (r : ℕ × List Kind) (o p : Option (ℕ × List Kind)) (q : Option (List Kind)) → (second o ≡ None → second p ≡ q) → second (cond b (Some r) o) ≡ None → second (cond b (Some r) p) ≡ q
+found_past true r o p q further e = absurd cc
+found_past false r o p q further e = further e
+
+kinds_past : (n : ℕ) (a b : Rows) → kinds_in n a ≡ None → kinds_in n (a ++ b) ≡ kinds_in n b
+kinds_past n [] b e = refl
+kinds_past n (r ∷ a) b e = found_past (r.0 == n) r (find (λ p. p.0 == n) a) (find (λ p. p.0 == n) (a ++ b)) (kinds_in n b) (kinds_past n a b) e
+
+pub row_none : (opcode : ℕ) (o : Option (List Kind)) (e : ShapeFault) → found_row opcode o ≡ Err e → o ≡ None
+row_none opcode (Some k) e h = absurd cc
+row_none opcode None e h = refl
+
+-- ---- messages
+
+eqb_swap : (a b : ℕ) (t : Bool) → eqb a b ≡ t → nat_eq b a ≡ t
+eqb_swap a b true e = eq-eqb b a (sym (eqb-true a b e))
+eqb_swap a b false e = ne_eqb b a (λ same. eqb-false a b e (sym same))
+
+either_made : {X Y : Type 0} (part : X → Y) (b : Bool) (o p : Option X) (q : Option Y) → q ≡ option_map part p → cond b (option_map part o) q ≡ option_map part (cond b o p)
+either_made part true o p q e = refl
+either_made part false o p q e = e
+
+abbrev rows_each : {X : Type 0} → MessageTable X → List X → Rows
+rows_each table each = map (λ x. let r = table.row x in (r.opcode, r.kinds)) each
+
+-- a part that stands last makes what it makes alone
+pub made_last : {X Y : Type 0} (table : MessageTable X) (whole : MessageTable Y) (part : X → Y) → ((x : X) → whole.row (part x) ≡ in_interface part (table.row x))
+    → (n : ℕ) (fs : List Field) (xs : List X) → made_in n fs (map whole.row (map part xs)) ≡ option_map part (made_in n fs (map table.row xs))
+made_last table whole part same n fs [] = refl
+made_last table whole part same n fs (y ∷ ys) =
+    rw (same y) (either_made part (nat_eq n (table.row y).opcode) ((table.row y).make fs) (made_in n fs (map table.row ys)) (made_in n fs (map whole.row (map part ys))) (made_last table whole part same n fs ys))
+
+front_made : {X Y : Type 0} (part : X → Y) (b c : Bool) (r : ℕ × List Kind) (rest : Option (ℕ × List Kind)) (o p : Option X) (q : Option Y) (ks : List Kind) → c ≡ b → (second rest ≡ Some ks → q ≡ option_map part p) → second (cond b (Some r) rest) ≡ Some ks
+    → cond c (option_map part o) q ≡ option_map part (cond c o p)
+front_made part true true r rest o p q ks same further e = refl
+front_made part false false r rest o p q ks same further e = further e
+front_made part true false r rest o p q ks same further e = absurd cc
+front_made part false true r rest o p q ks same further e = absurd cc
+
+-- a part that has the opcode makes what it makes alone
+pub made_front : {X Y : Type 0} (table : MessageTable X) (whole : MessageTable Y) (part : X → Y) → ((x : X) → whole.row (part x) ≡ in_interface part (table.row x))
+    → (n : ℕ) (fs : List Field) (xs : List X) (behind : List Y) (ks : List Kind) → kinds_in n (rows_each table xs) ≡ Some ks → made_in n fs (map whole.row (map part xs ++ behind)) ≡ option_map part (made_in n fs (map table.row xs))
+made_front table whole part same n fs [] behind ks e = absurd cc
+made_front table whole part same n fs (y ∷ ys) behind ks e =
+    let r = table.row y in
+    rw (same y) (front_made part (r.opcode == n) (nat_eq n r.opcode) (r.opcode, r.kinds) (find (λ p. p.0 == n) (rows_each table ys)) (r.make fs) (made_in n fs (map table.row ys)) (made_in n fs (map whole.row (map part ys ++ behind))) ks
+    (eqb_swap r.opcode n (r.opcode == n) refl) (made_front table whole part same n fs ys behind ks) e)
+
+past_made : {Y : Type 0} (b c : Bool) (r : ℕ × List Kind) (rest : Option (ℕ × List Kind)) (o q s : Option Y) → c ≡ b → (second rest ≡ None → q ≡ s) → second (cond b (Some r) rest) ≡ None → cond c o q ≡ s
+past_made true c r rest o q s same further e = absurd cc
+past_made false false r rest o q s same further e = further e
+past_made false true r rest o q s same further e = absurd cc
+
+-- a part that hasn't the opcode is passed over
+pub made_past : {X Y : Type 0} (table : MessageTable X) (whole : MessageTable Y) (part : X → Y) → ((x : X) → whole.row (part x) ≡ in_interface part (table.row x))
+    → (n : ℕ) (fs : List Field) (xs : List X) (behind : List Y) → kinds_in n (rows_each table xs) ≡ None → made_in n fs (map whole.row (map part xs ++ behind)) ≡ made_in n fs (map whole.row behind)
+made_past table whole part same n fs [] behind e = refl
+made_past table whole part same n fs (y ∷ ys) behind e =
+    let r = table.row y in
+    rw (same y) (past_made (r.opcode == n) (nat_eq n r.opcode) (r.opcode, r.kinds) (find (λ p. p.0 == n) (rows_each table ys)) (option_map part (r.make fs)) (made_in n fs (map whole.row (map part ys ++ behind))) (made_in n fs (map whole.row behind))
+    (eqb_swap r.opcode n (r.opcode == n) refl) (made_past table whole part same n fs ys behind) e)
+
+-- ---- three parts as one table
+
+-- a table whose messages are those of three others, one behind the other
+pub record IsOfThree {X Y Z W : Type 0} (first : MessageTable X) (second : MessageTable Y) (third : MessageTable Z) (whole : MessageTable W) (a : X → W) (b : Y → W) (c : Z → W) : Type 0 where
+  pub rows : table_rows whole ≡ table_rows first ++ (table_rows second ++ table_rows third)
+  pub each : whole.each ≡ map a first.each ++ (map b second.each ++ map c third.each)
+  pub in_first : (x : X) → whole.row (a x) ≡ in_interface a (first.row x)
+  pub in_second : (y : Y) → whole.row (b y) ≡ in_interface b (second.row y)
+  pub in_third : (z : Z) → whole.row (c z) ≡ in_interface c (third.row z)
+
+pub first_row : {X Y Z W : Type 0} {first : MessageTable X} {second : MessageTable Y} {third : MessageTable Z} {whole : MessageTable W} {a : X → W} {b : Y → W} {c : Z → W} → IsOfThree first second third whole a b c
+    → (n : ℕ) (ks : List Kind) → row_at first n ≡ Ok ks → row_at whole n ≡ Ok ks
+first_row {X} {Y} {Z} {W} {first} {second} {third} {whole} {a} {b} {c} is n ks e =
+    row_again whole n ks (ap (kinds_in n) is.rows ∙ kinds_front n (table_rows first) _ ks (row_ok n (kinds_in n (table_rows first)) ks e))
+
+pub second_row : {X Y Z W : Type 0} {first : MessageTable X} {second : MessageTable Y} {third : MessageTable Z} {whole : MessageTable W} {a : X → W} {b : Y → W} {c : Z → W} → IsOfThree first second third whole a b c
+    → (n : ℕ) (ks : List Kind) (f : ShapeFault) → row_at first n ≡ Err f → row_at second n ≡ Ok ks → row_at whole n ≡ Ok ks
+second_row {X} {Y} {Z} {W} {first} {second} {third} {whole} {a} {b} {c} is n ks f none e =
+    row_again whole n ks
+    (ap (kinds_in n) is.rows ∙ (kinds_past n (table_rows first) _ (row_none n (kinds_in n (table_rows first)) f none) ∙ kinds_front n (table_rows second) _ ks (row_ok n (kinds_in n (table_rows second)) ks e)))
+
+pub third_row : {X Y Z W : Type 0} {first : MessageTable X} {second : MessageTable Y} {third : MessageTable Z} {whole : MessageTable W} {a : X → W} {b : Y → W} {c : Z → W} → IsOfThree first second third whole a b c
+    → (n : ℕ) (f g : ShapeFault) → row_at first n ≡ Err f → row_at second n ≡ Err g → row_at whole n ≡ row_at third n
+third_row {X} {Y} {Z} {W} {first} {second} {third} {whole} {a} {b} {c} is n f g none no_more =
+    ap (found_row n)
+    (ap (kinds_in n) is.rows ∙ (kinds_past n (table_rows first) _ (row_none n (kinds_in n (table_rows first)) f none) ∙ kinds_past n (table_rows second) _ (row_none n (kinds_in n (table_rows second)) g no_more)))
+
+pub first_made : {X Y Z W : Type 0} {first : MessageTable X} {second : MessageTable Y} {third : MessageTable Z} {whole : MessageTable W} {a : X → W} {b : Y → W} {c : Z → W} → IsOfThree first second third whole a b c
+    → (n : ℕ) (fs : List Field) (ks : List Kind) → row_at first n ≡ Ok ks → message_of whole n fs ≡ option_map a (message_of first n fs)
+first_made {X} {Y} {Z} {W} {first} {second} {third} {whole} {a} {b} {c} is n fs ks e =
+    ap (λ (ws : List W). made_in n fs (map whole.row ws)) is.each ∙ made_front first whole a is.in_first n fs first.each _ ks (row_ok n (kinds_in n (table_rows first)) ks e)
+
+pub second_made : {X Y Z W : Type 0} {first : MessageTable X} {second : MessageTable Y} {third : MessageTable Z} {whole : MessageTable W} {a : X → W} {b : Y → W} {c : Z → W} → IsOfThree first second third whole a b c
+    → (n : ℕ) (fs : List Field) (ks : List Kind) (f : ShapeFault) → row_at first n ≡ Err f → row_at second n ≡ Ok ks → message_of whole n fs ≡ option_map b (message_of second n fs)
+second_made {X} {Y} {Z} {W} {first} {second} {third} {whole} {a} {b} {c} is n fs ks f none e =
+    ap (λ (ws : List W). made_in n fs (map whole.row ws)) is.each
+    ∙ (made_past first whole a is.in_first n fs first.each _ (row_none n (kinds_in n (table_rows first)) f none) ∙ made_front second whole b is.in_second n fs second.each _ ks (row_ok n (kinds_in n (table_rows second)) ks e))
+
+pub third_made : {X Y Z W : Type 0} {first : MessageTable X} {second : MessageTable Y} {third : MessageTable Z} {whole : MessageTable W} {a : X → W} {b : Y → W} {c : Z → W} → IsOfThree first second third whole a b c
+    → (n : ℕ) (fs : List Field) (f g : ShapeFault) → row_at first n ≡ Err f → row_at second n ≡ Err g → message_of whole n fs ≡ option_map c (message_of third n fs)
+third_made {X} {Y} {Z} {W} {first} {second} {third} {whole} {a} {b} {c} is n fs f g none no_more =
+    ap (λ (ws : List W). made_in n fs (map whole.row ws)) is.each
+    ∙ (made_past first whole a is.in_first n fs first.each _ (row_none n (kinds_in n (table_rows first)) f none)
+    ∙ (made_past second whole b is.in_second n fs second.each _ (row_none n (kinds_in n (table_rows second)) g no_more) ∙ made_last third whole c is.in_third n fs third.each))

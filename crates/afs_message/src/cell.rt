@@ -1,0 +1,112 @@
+//! The calls and the replies of all three interfaces, each by the table of its own. No two interfaces share an opcode.
+
+ghost use Rattle.afs_model.specs.CellRows.{cell_calls, cell_replies};
+ghost use Rattle.afs_model.proofs.CellMade.{calls_sound, replies_sound};
+
+use afs_fsrpc::tables::{FsCalls, FsReplies};
+use afs_num::messages::{Call, Reply};
+use afs_num::types::Mem;
+use afs_shape::faults::ShapeFault;
+use afs_shape::kinds::Part;
+use afs_shape::messages::Messages;
+use afs_shape::tables::Shape;
+use afs_shape::taking::Taking;
+use afs_vlrpc::tables::{LocCalls, LocReplies};
+use afs_volrpc::tables::{VolCalls, VolReplies};
+use std::alloc::Global;
+
+/// The calls of the cell.
+pub struct CellCalls;
+
+impl Messages for CellCalls {
+    type Message = Call;
+
+    ghost table = { cell_calls };
+
+    ghost is_sound = { calls_sound };
+
+    fn shape(opcode: u32) -> Result<Shape<8>, ShapeFault> {
+        match FsCalls::shape(opcode) {
+            Ok(shape) => Ok(shape),
+            Err(_) => match VolCalls::shape(opcode) {
+                Ok(shape) => Ok(shape),
+                Err(_) => LocCalls::shape(opcode),
+            },
+        }
+    }
+
+    fn from_fields(opcode: u32, fields: Taking) -> Option<Call> {
+        match FsCalls::shape(opcode) {
+            Ok(_) => {
+                let call = FsCalls::from_fields(opcode, fields)?;
+                Some(Call::File(call))
+            }
+            Err(_) => match VolCalls::shape(opcode) {
+                Ok(_) => {
+                    let call = VolCalls::from_fields(opcode, fields)?;
+                    Some(Call::Volume(call))
+                }
+                Err(_) => {
+                    let call = LocCalls::from_fields(opcode, fields)?;
+                    Some(Call::Location(call))
+                }
+            },
+        }
+    }
+
+    fn parts<'a>(alloc: Global, call: &'a Call) -> Mem<Vec<Part<'a>>> {
+        match call {
+            Call::File(call) => FsCalls::parts(alloc, call),
+            Call::Volume(call) => VolCalls::parts(alloc, call),
+            Call::Location(call) => LocCalls::parts(alloc, call),
+        }
+    }
+}
+
+/// Its replies.
+pub struct CellReplies;
+
+impl Messages for CellReplies {
+    type Message = Reply;
+
+    ghost table = { cell_replies };
+
+    ghost is_sound = { replies_sound };
+
+    fn shape(opcode: u32) -> Result<Shape<8>, ShapeFault> {
+        match FsReplies::shape(opcode) {
+            Ok(shape) => Ok(shape),
+            Err(_) => match VolReplies::shape(opcode) {
+                Ok(shape) => Ok(shape),
+                Err(_) => LocReplies::shape(opcode),
+            },
+        }
+    }
+
+    fn from_fields(opcode: u32, fields: Taking) -> Option<Reply> {
+        match FsReplies::shape(opcode) {
+            Ok(_) => {
+                let reply = FsReplies::from_fields(opcode, fields)?;
+                Some(Reply::File(reply))
+            }
+            Err(_) => match VolReplies::shape(opcode) {
+                Ok(_) => {
+                    let reply = VolReplies::from_fields(opcode, fields)?;
+                    Some(Reply::Volume(reply))
+                }
+                Err(_) => {
+                    let reply = LocReplies::from_fields(opcode, fields)?;
+                    Some(Reply::Location(reply))
+                }
+            },
+        }
+    }
+
+    fn parts<'a>(alloc: Global, reply: &'a Reply) -> Mem<Vec<Part<'a>>> {
+        match reply {
+            Reply::File(reply) => FsReplies::parts(alloc, reply),
+            Reply::Volume(reply) => VolReplies::parts(alloc, reply),
+            Reply::Location(reply) => LocReplies::parts(alloc, reply),
+        }
+    }
+}

@@ -1,0 +1,9 @@
+pub mod Forms
+pub mod Images
+pub mod Spelled
+pub mod Tested
+pub mod Kept
+pub mod Lengths
+pub mod Fitting
+pub mod Grows
+pub mod Worked

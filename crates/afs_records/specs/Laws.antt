@@ -1,0 +1,86 @@
+-- Laws about records: bytes and records are one for one, and the fold of a server's own records is what its steps do.
+use Rattle.std.specs.Prelude.{◌≡◌, ◌≤◌, ◌<◌, ◌+◌, ◌^◌, ℕ, List, [], ◌∷◌, ◌++◌, length, true, Some, filter, not}
+use Rattle.afs_ideal.specs.Tables.{get, set, AscendsFrom}
+use Rattle.afs_ideal.specs.DirectoryLaws.{IsBytes}
+use Rattle.afs_ideal.specs.Images.{HasImage}
+use Rattle.afs_ideal.specs.VnodeMaps.{most_vnodes}
+use Rattle.afs_ideal.specs.AccessLists.{IsAccessList}
+use Rattle.afs_ideal.specs.Directories.{IsDirectory}
+use Rattle.afs_ideal.specs.Volumes.{a_directory, Vnode, Volume, Edit, edited_all, counted}
+use Rattle.afs_ideal.specs.Soundness.{IsSound}
+use Rattle.afs_num.specs.declared.records.RecordHead.{RecordHead}
+use Rattle.afs_num.specs.declared.records.StoreRecord.{StoreRecord}
+use Rattle.afs_records.specs.Records.{head_form, record_bytes, record_at, FitsRecord}
+use Rattle.afs_records.specs.Sound.{is_sound}
+use Rattle.afs_records.specs.Durable.{Stored, Durable, place_length, folded, StandFor, noted, longer, is_flagged}
+use Rattle.afs_records.specs.Changes.{change_record, stored_after, boot_record}
+
+-- a record within the limits is read again from its bytes
+abbrev pub RecordsAreReadAgain : Type 0
+RecordsAreReadAgain = (r : StoreRecord) → FitsRecord r → record_at (record_bytes r) ≡ Some r
+
+-- bytes that are read as a record are its one spelling
+abbrev pub ReadRecordsAreSpelled : Type 0
+ReadRecordsAreSpelled = (bytes : List ℕ) (r : StoreRecord) → IsBytes bytes → record_at bytes ≡ Some r → FitsRecord r × (record_bytes r ≡ bytes)
+
+-- a sound volume passes the test
+abbrev pub SoundVolumesPass : Type 0
+SoundVolumesPass = (v : Volume) → IsSound v → is_sound v ≡ true
+
+-- a directory's names and access list are those of one, as they are where they were read from an image
+abbrev pub IsRead : Vnode → Type 0
+IsRead x = x.kind ≡ a_directory → IsDirectory x.names × IsAccessList x.acl
+
+-- a volume that passes is sound, where its vnodes were read
+abbrev pub PassingVolumesAreSound : Type 0
+PassingVolumesAreSound = (v : Volume) → ((n : ℕ) (x : Vnode) → get n v.vnodes ≡ Some x → IsRead x) → is_sound v ≡ true → IsSound v
+
+-- edits of the volume of this number that leave a volume which a disk may hold
+pub record CanBeStored (id : ℕ) (es : List Edit) (v : Volume) : Type 0 where
+  pub before : AscendsFrom 1 v.vnodes
+  pub sound : IsSound (counted (edited_all id es v))
+  pub few : length (edited_all id es v).vnodes ≤ most_vnodes
+  pub images : (n : ℕ) (x : Vnode) → get n (edited_all id es v).vnodes ≡ Some x → HasImage x
+
+-- what a change's record says fits in words
+pub record IsInWords (id time : ℕ) (es : List Edit) (before after : Volume) : Type 0 where
+  pub volume : id < 2 ^ 32
+  pub clock : time < 2 ^ 32
+  pub counter : after.counter < 2 ^ 32
+  pub unique : after.next < 2 ^ 32
+  pub edits : length es < 2 ^ 32
+  pub left : (n : ℕ) (x : Vnode) → get n after.vnodes ≡ Some x → n < 2 ^ 32
+  pub gone : (n : ℕ) (x : Vnode) → get n before.vnodes ≡ Some x → n < 2 ^ 32
+
+-- the record of such a change is within the limits
+abbrev pub ChangesFit : Type 0
+ChangesFit = (head : RecordHead) (id time : ℕ) (es : List Edit) (v : Volume) → head_form.Fits head → CanBeStored id es v → IsInWords id time es v (counted (edited_all id es v)) → FitsRecord (change_record head id time es v)
+
+abbrev pub volume_put : ℕ → Stored → Durable → Durable
+volume_put id s d = record d { volumes = set id s d.volumes }
+
+-- The fold of a change's record puts the volume that the edits make in the place of the old one, and keeps the reply; so what
+-- is on the disk is the state.
+abbrev pub ChangesAreKept : Type 0
+ChangesAreKept = (head : RecordHead) (id time : ℕ) (es : List Edit) (s : Stored) (d : Durable) → get id d.volumes ≡ Some s → CanBeStored id es s.volume →
+    folded (change_record head id time es s.volume) d
+    ≡ Some (longer (place_length (change_record head id time es s.volume)) (noted head (volume_put id (stored_after id time es s) d)))
+
+-- what a start leaves
+abbrev pub started : Durable → Durable
+started d = longer (place_length (boot_record (d.boot + 1))) (record d {
+  boot = d.boot + 1;
+  volumes = filter (λ (p : ℕ × Stored). not (is_flagged p.1)) d.volumes;
+})
+
+abbrev pub StartsAreKept : Type 0
+StartsAreKept = (d : Durable) → folded (boot_record (d.boot + 1)) d ≡ Some (started d)
+
+-- How long the record of a change is doesn't depend on its time, nor on what the reply says, but on how long that is.
+abbrev pub LengthHasNoTime : Type 0
+LengthHasNoTime = (head other : RecordHead) (id time later : ℕ) (es : List Edit) (v : Volume) → length head.reply ≡ length other.reply →
+    length (record_bytes (change_record head id time es v)) ≡ length (record_bytes (change_record other id later es v))
+
+-- One more record, that can be taken, stands for what the fold makes of it.
+abbrev pub OneMoreStands : Type 0
+OneMoreStands = (records : List (List ℕ)) (r : StoreRecord) (d e : Durable) → StandFor records d → FitsRecord r → folded r d ≡ Some e → StandFor (records ++ record_bytes r ∷ []) e

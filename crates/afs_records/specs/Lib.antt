@@ -1,0 +1,7 @@
+pub mod Forms
+pub mod Records
+pub mod Sound
+pub mod Durable
+pub mod Changes
+pub mod Stands
+pub mod Laws

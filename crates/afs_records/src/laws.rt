@@ -1,0 +1,48 @@
+//! Laws about records. Each is the contract of a function that does nothing.
+
+ghost use Rattle.afs_records.specs.Laws.{ChangesAreKept, ChangesFit, LengthHasNoTime, OneMoreStands, PassingVolumesAreSound, ReadRecordsAreSpelled, RecordsAreReadAgain, SoundVolumesPass, StartsAreKept};
+
+/// A record within its limits is read again from its bytes.
+pub fn records_are_read_again()
+    ensures { RecordsAreReadAgain }
+{}
+
+/// Bytes that are read as a record are its one spelling.
+pub fn read_records_are_spelled()
+    ensures { ReadRecordsAreSpelled }
+{}
+
+/// A sound volume passes the test of the fold.
+pub fn sound_volumes_pass()
+    ensures { SoundVolumesPass }
+{}
+
+/// A volume that passes the test is sound, where its directories were read from images.
+pub fn passing_volumes_are_sound()
+    ensures { PassingVolumesAreSound }
+{}
+
+/// The record of a change has a spelling.
+pub fn changes_fit()
+    ensures { ChangesFit }
+{}
+
+/// The fold of a change's record puts the volume that its edits make, and keeps the reply.
+pub fn changes_are_kept()
+    ensures { ChangesAreKept }
+{}
+
+/// The fold of a start's record raises the boot number and deletes the flagged volumes; all else stays.
+pub fn starts_are_kept()
+    ensures { StartsAreKept }
+{}
+
+/// How long the record of a change is doesn't depend on its time.
+pub fn length_has_no_time()
+    ensures { LengthHasNoTime }
+{}
+
+/// One more record, that can be taken, stands for what the fold makes of it.
+pub fn one_more_stands()
+    ensures { OneMoreStands }
+{}

@@ -1,0 +1,12 @@
+use Rattle.std.proofs.Common.{ℤ, Option, ap}
+use Rattle.afs_num.specs.declared.types.Head.{Head}
+use Rattle.afs_num.specs.declared.location_calls.LocReply.{LocReply}
+use Rattle.afs_model.specs.LocRows.{loc_replies}
+use Rattle.afs_model.proofs.RpcLaws.{no_reply_begins}
+use Rattle.afs_model.proofs.LocMade.{replies_sound}
+use Rattle.afs_vlrpc.proofs.laws.no_reply_begins_another.Goals as goal
+
+pub returns : goal.returns
+returns c = λ head other_head code other_code reply other_reply bytes more one two.
+    let r = no_reply_begins loc_replies replies_sound head other_head code other_code reply other_reply bytes more one two in
+    (r.0, ap (λ (p : Head × ℤ × Option LocReply). p.0) r.1, ap (λ (p : Head × ℤ × Option LocReply). p.1) r.1, ap (λ (p : Head × ℤ × Option LocReply). p.2) r.1)

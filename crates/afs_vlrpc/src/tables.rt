@@ -1,0 +1,111 @@
+//! The two tables: a row for each opcode, with the message's name and its fields in order, each of its kind.
+
+ghost use Rattle.afs_model.specs.LocRows.{loc_calls, loc_replies};
+ghost use Rattle.afs_model.proofs.LocMade.{calls_sound, replies_sound};
+
+use afs_num::location_calls::{LocCall, LocReply};
+use afs_num::types::Mem;
+use afs_shape::faults::ShapeFault;
+use afs_shape::kinds::Part;
+use afs_shape::messages::Messages;
+use afs_shape::tables::{Shape, Table};
+use afs_shape::taking::Taking;
+use afs_shape::{message_from, parts_of, table_of};
+use std::alloc::Global;
+
+/// The name of a volume, in bytes.
+pub const NAME_LIMIT: u32 = 32;
+
+/// The calls, with the fields behind the user.
+macro_rules! with_calls {
+    ($arms:ident $value:tt) => {
+        $arms! {
+            $value
+            [
+                501 CreateEntry { entry: Entry },
+                502 DeleteEntry { volume: Word },
+                503 GetEntryById { volume: Word },
+                504 GetEntryByName { name: Opaque[NAME_LIMIT] },
+                505 GetNewVolumeId {},
+                506 ReplaceEntry { volume: Word, entry: Entry },
+                508 SetLock { volume: Word, operation: Word, force: Word },
+                509 ReleaseLock { volume: Word },
+                510 ListEntry { index: Word }
+            ]
+        }
+    };
+}
+
+/// The replies, with the fields behind a code of 0.
+macro_rules! with_replies {
+    ($arms:ident $value:tt) => {
+        $arms! {
+            $value
+            [
+                501 CreateEntry { stamp: Word },
+                502 DeleteEntry {},
+                503 GetEntryById { entry: Entry },
+                504 GetEntryByName { entry: Entry },
+                505 GetNewVolumeId { volume: Word },
+                506 ReplaceEntry {},
+                508 SetLock { stamp: Word, entry: Entry },
+                509 ReleaseLock {},
+                510 ListEntry { next_index: Word, entry: Entry }
+            ]
+        }
+    };
+}
+
+pub const CALLS: Table<9, 8> = with_calls!(table_of());
+
+pub const REPLIES: Table<9, 8> = with_replies!(table_of());
+
+/// The calls of the interface.
+pub struct LocCalls;
+
+impl Messages for LocCalls {
+    type Message = LocCall;
+
+    ghost table = { loc_calls };
+
+    ghost is_sound = { calls_sound };
+
+    fn shape(opcode: u32) -> Result<Shape<8>, ShapeFault> {
+        let table = CALLS;
+        let shape = table.shape(opcode)?;
+        Ok(Shape { kinds: shape.kinds })
+    }
+
+    fn from_fields(opcode: u32, fields: Taking) -> Option<LocCall> {
+        with_calls!(message_from(opcode, fields, LocCall))
+    }
+
+    fn parts<'a>(alloc: Global, call: &'a LocCall) -> Mem<Vec<Part<'a>>> {
+        with_calls!(parts_of(call, alloc, LocCall))
+    }
+}
+
+/// Its replies.
+pub struct LocReplies;
+
+impl Messages for LocReplies {
+    type Message = LocReply;
+
+    ghost table = { loc_replies };
+
+    ghost is_sound = { replies_sound };
+
+    fn shape(opcode: u32) -> Result<Shape<8>, ShapeFault> {
+        let table = REPLIES;
+        let shape = table.shape(opcode)?;
+        Ok(Shape { kinds: shape.kinds })
+    }
+
+    fn from_fields(opcode: u32, fields: Taking) -> Option<LocReply> {
+        with_replies!(message_from(opcode, fields, LocReply))
+    }
+
+    fn parts<'a>(alloc: Global, reply: &'a LocReply) -> Mem<Vec<Part<'a>>> {
+        with_replies!(parts_of(reply, alloc, LocReply))
+    }
+}

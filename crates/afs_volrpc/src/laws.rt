@@ -1,0 +1,33 @@
+//! What holds of all messages.
+
+ghost use Rattle.std.specs.Prelude.{◌≡◌, ◌++◌, List, [], ℕ, ℤ, Option};
+ghost use Rattle.afs_num.specs.declared.types.Head.{Head};
+ghost use Rattle.afs_num.specs.declared.volume_calls.VolCall.{VolCall};
+ghost use Rattle.afs_num.specs.declared.volume_calls.VolReply.{VolReply};
+ghost use Rattle.afs_shape.specs.Tables.{rows_of};
+ghost use Rattle.afs_shape.specs.Rows.{table_rows};
+ghost use Rattle.afs_model.specs.Rpc.{SpellsCall, SpellsReply};
+ghost use Rattle.afs_model.specs.VolRows.{vol_calls, vol_replies};
+
+use crate::tables::{CALLS, REPLIES};
+
+/// The tables are the rows of the Volume Server Interface, each with its opcode and the kinds of its
+/// fields, in order.
+pub fn tables_are_the_rows()
+    ensures calls { rows_of CALLS.rows ≡ table_rows vol_calls }
+    ensures replies { rows_of REPLIES.rows ≡ table_rows vol_replies }
+{}
+
+/// No spelling of a call begins another, and none spells two calls.
+pub fn no_call_begins_another()
+    ensures { (head other_head : Head) (user other_user : List ℕ) (call other_call : VolCall) (bytes more : List ℕ) →
+        SpellsCall vol_calls head user call bytes → SpellsCall vol_calls other_head other_user other_call (bytes ++ more) →
+        (more ≡ []) × (head ≡ other_head) × (user ≡ other_user) × (call ≡ other_call) }
+{}
+
+/// No spelling of a reply begins another, and none spells two replies.
+pub fn no_reply_begins_another()
+    ensures { (head other_head : Head) (code other_code : ℤ) (reply other_reply : Option VolReply) (bytes more : List ℕ) →
+        SpellsReply vol_replies head code reply bytes → SpellsReply vol_replies other_head other_code other_reply (bytes ++ more) →
+        (more ≡ []) × (head ≡ other_head) × (code ≡ other_code) × (reply ≡ other_reply) }
+{}

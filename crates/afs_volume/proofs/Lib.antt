@@ -1,0 +1,4 @@
+pub mod Placed
+pub mod Statuses
+pub mod Tables
+pub mod Texts

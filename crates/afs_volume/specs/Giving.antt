@@ -1,0 +1,170 @@
+-- What the calls on a volume give.
+use Rattle.std.specs.Prelude.{◌≡◌, ℕ, pos, List, [], ◌∷◌, Option, Some, None, Result, Ok, Err, map, Bool, true, false}
+use Rattle.std.specs.Option.{option_map}
+use Rattle.afs_num.specs.declared.acls.AccessList.{AccessList}
+use Rattle.afs_ideal.specs.AccessLists.{acl_at}
+use Rattle.afs_ideal.specs.Operations as op
+use Rattle.afs_ideal.specs.Operations.{Caller, the_user, all_rights, acl_read, refused, reads, changes}
+use Rattle.afs_ideal.specs.Volumes as ideal
+use Rattle.afs_volume.specs.Seen.{seen, names_spelled, volume_seen}
+use Rattle.afs_num.specs.declared.calls.FsCall.{FsCall}
+use Rattle.afs_num.specs.declared.calls.FsCall.TheVariants as calls
+use Rattle.afs_num.specs.declared.calls.FsReply.{FsReply}
+use Rattle.afs_num.specs.declared.calls.AfsFetchStatus.{AfsFetchStatus}
+use Rattle.afs_num.specs.declared.types.Fid.{Fid}
+use Rattle.afs_ideal.specs.Replies.{reading_reply}
+use Rattle.afs_ideal.specs.Tables.{get}
+use Rattle.afs_num.specs.declared.vnodes.Vnode as image
+use Rattle.afs_volume.specs.declared.volume.Volume.{Volume}
+use Rattle.afs_volume.specs.declared.callers.Caller as callers
+use Rattle.afs_volume.specs.declared.callers.Caller.TheVariants as caller_kinds
+use Rattle.afs_volume.specs.declared.edits.Amend.{Amend}
+use Rattle.afs_volume.specs.declared.edits.Edit.{Edit}
+use Rattle.afs_volume.specs.declared.edits.Edit.TheVariants.{Amends, Makes, Frees}
+use Rattle.afs_volume.specs.declared.edits.Plan.{Plan}
+use Rattle.afs_volume.specs.declared.faults.OpFault.{OpFault}
+use Rattle.afs_volume.specs.declared.faults.OpFault.TheVariants as faults
+
+abbrev pub caller_seen : callers.Caller → Caller
+caller_seen (caller_kinds.User user) = the_user user.now
+caller_seen caller_kinds.AllRights = all_rights
+
+-- ---- refusals
+
+-- what is refused with this code, or isn't refused; memory may be wanting either way
+abbrev pub Passes : {A : Type 0} → Option ℕ → Result A OpFault → Type 0
+Passes {A} refusal (Ok x) = refusal ≡ None
+Passes {A} refusal (Err (faults.Code code)) = option_map pos refusal ≡ Some code.0
+Passes {A} refusal (Err faults.OutOfMemory) = Unit {0}
+
+-- ---- edits
+
+-- an access list by its text
+abbrev pub list_given : Option (List ℕ) → Option AccessList
+list_given None = None
+list_given (Some text) = acl_read (acl_at text)
+
+abbrev pub amend_seen : Amend → ideal.Amend
+amend_seen a = record {
+  contents = a.contents;
+  names = option_map names_spelled a.names;
+  links = a.links;
+  parent = a.parent;
+  status = a.status;
+  acl = list_given a.acl;
+}
+
+abbrev pub edit_seen : Edit → ideal.Edit
+edit_seen (Amends n a) = ideal.amends n (amend_seen a)
+edit_seen (Makes n x) = ideal.makes n (seen x)
+edit_seen (Frees n) = ideal.frees n
+
+abbrev pub edits_seen : List Edit → List ideal.Edit
+edits_seen es = map edit_seen es
+
+-- the code of a refusal
+abbrev pub refusal_of : op.Result → Option ℕ
+refusal_of (refused code) = Some code
+refusal_of (reads shown) = None
+refusal_of (changes es n) = None
+refusal_of op.no_operation = None
+
+-- these edits are to be made, or the operation is refused
+abbrev pub Plans : op.Result → Result Plan OpFault → Type 0
+Plans r (Ok plan) = r ≡ changes (edits_seen plan.edits) plan.shown
+Plans r (Err (faults.Code code)) = option_map pos (refusal_of r) ≡ Some code.0
+Plans r (Err faults.OutOfMemory) = Unit {0}
+
+-- ---- volumes
+
+abbrev pub volume_of : Volume → ideal.Volume
+volume_of v = volume_seen v.head v.vnodes
+
+-- what an operation is to do, before its limits
+abbrev pub planned : Caller → FsCall → ideal.Volume → op.Result
+planned caller call v = op.by_tests (op.first_failing (op.tests caller call v)) (op.effect caller call v)
+
+-- a test that fails gives its code
+abbrev pub checked : Bool → ℕ → Result (Unit {0}) OpFault
+checked true code = Ok tt
+checked false code = Err (faults.Code (record { 0 = pos code }))
+
+-- the vnode that is found is this one, or there is none: 102
+abbrev pub Finds : {X : Type 0} → (X → image.Vnode) → Option ideal.Vnode → Result X OpFault → Type 0
+Finds {X} view found (Ok x) = found ≡ Some (seen (view x))
+Finds {X} view found (Err e) = (found ≡ None) × (e ≡ faults.Code (record { 0 = pos 102 }))
+
+-- the parts of a vnode that its status doesn't have stay
+pub record KeepsBody (old new : image.Vnode) : Type 0 where
+  pub vnode : new.vnode ≡ old.vnode
+  pub unique : new.unique ≡ old.unique
+  pub kind : new.kind ≡ old.kind
+  pub contents : new.contents ≡ old.contents
+  pub acl : new.acl ≡ old.acl
+
+-- a refusal with this code
+abbrev pub IsRefused : ℕ → OpFault → Type 0
+IsRefused code e = e ≡ faults.Code (record { 0 = pos code })
+
+-- these edits put in their place among others, the last one first
+abbrev pub placed_among : List ideal.Edit → List ideal.Edit → List ideal.Edit
+placed_among [] ps = ps
+placed_among (e ∷ es) ps = ideal.placed e (placed_among es ps)
+
+-- ---- replies
+
+-- the status of a vnode, to a caller with these rights where everyone has the others
+pub record IsStatus (caller anonymous : ℕ) (x : image.Vnode) (s : AfsFetchStatus) : Type 0 where
+  pub same : s ≡ record {
+    interface_version = 1;
+    file_type = ideal.type_of (seen x).kind;
+    link_count = (seen x).links;
+    length = ideal.size_of (seen x);
+    data_version = (seen x).data_version;
+    author = 0;
+    owner = (seen x).owner;
+    caller_access = caller;
+    anonymous_access = anonymous;
+    unix_mode_bits = (seen x).mode;
+    parent_vnode = (seen x).parent;
+    parent_unique = (seen x).parent_unique;
+    seg_size = (seen x).segment_size;
+    client_mod_time = (seen x).client_time;
+    server_mod_time = x.server_time;
+    group = (seen x).group;
+    sync_counter = (seen x).index;
+    spare1 = 0;
+    spare2 = 0;
+    spare3 = 0;
+    spare4 = 0;
+  }
+
+-- the server's time of the vnode of a fid stands in its image
+abbrev pub time_in : Option image.Vnode → ℕ
+time_in None = 0
+time_in (Some x) = x.server_time
+
+abbrev pub times_of : Volume → Fid → ℕ
+times_of v f = time_in (get f.vnode v.vnodes)
+
+-- what a reading call is answered
+abbrev pub reply_of : Caller → Volume → op.Result → Option FsReply
+reply_of caller v (refused code) = None
+reply_of caller v (reads shown) = Some (reading_reply v.head.id caller (times_of v) (volume_of v) shown)
+reply_of caller v (changes es n) = None
+reply_of caller v op.no_operation = None
+
+-- the reply to this result, or its refusal
+abbrev pub Replies : Caller → Volume → op.Result → Result FsReply OpFault → Type 0
+Replies caller v r (Ok reply) = reply_of caller v r ≡ Some reply
+Replies caller v r (Err (faults.Code code)) = option_map pos (refusal_of r) ≡ Some code.0
+Replies caller v r (Err faults.OutOfMemory) = Unit {0}
+
+-- the call reads a volume
+abbrev pub is_reading : FsCall → Bool
+is_reading (calls.FetchData f position wanted) = true
+is_reading (calls.FetchAcl f) = true
+is_reading (calls.FetchStatus f) = true
+is_reading (calls.GetVolumeStatus id) = true
+is_reading (calls.BulkStatus fids) = true
+is_reading call = false

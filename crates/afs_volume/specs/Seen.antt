@@ -1,0 +1,94 @@
+-- How a volume in memory is seen as a volume of the definitions: the contents of a directory as its names, an access list by its
+-- text. The times of the server stay in the images of the vnodes.
+use Rattle.std.specs.Prelude.{◌≡◌, ℕ, List, [], true, Some, Result, Ok, Err, map, nat_eq, is_ok, if◌then◌else◌}
+use Rattle.afs_num.specs.declared.acls.AccessList.{AccessList}
+use Rattle.afs_num.specs.declared.directories.Name.{Name}
+use Rattle.afs_num.specs.declared.vnodes.Vnode as image
+use Rattle.afs_num.specs.declared.volumes.VolumeHead.{VolumeHead}
+use Rattle.afs_ideal.specs.AccessLists.{acl_at, no_acl}
+use Rattle.afs_ideal.specs.Directories.{directory_of, directory_bytes}
+use Rattle.afs_ideal.specs.Tables.{Table, get}
+use Rattle.afs_ideal.specs.Volumes.{Kind, a_file, a_directory, a_link, type_of, Vnode, Volume}
+
+-- ---- vnodes
+
+abbrev pub kind_seen : ℕ → Kind
+kind_seen k = if nat_eq k 2 then a_directory else (if nat_eq k 3 then a_link else a_file)
+
+-- what is read, or nothing
+abbrev pub names_read : {E : Type 0} → Result (List Name) E → List Name
+names_read {E} (Ok names) = names
+names_read {E} (Err e) = []
+
+abbrev pub list_read : {E : Type 0} → Result AccessList E → AccessList
+list_read {E} (Ok a) = a
+list_read {E} (Err e) = no_acl
+
+-- the names that bytes spell
+unfoldable pub names_spelled : List ℕ → List Name
+names_spelled bytes = names_read (directory_of bytes)
+
+-- the list of a text
+unfoldable pub list_spelled : List ℕ → AccessList
+list_spelled text = list_read (acl_at text)
+
+abbrev pub contents_seen : Kind → List ℕ → List ℕ
+contents_seen a_directory bytes = []
+contents_seen kind bytes = bytes
+
+abbrev pub names_seen : Kind → List ℕ → List Name
+names_seen a_directory bytes = names_spelled bytes
+names_seen kind bytes = []
+
+abbrev pub list_seen : Kind → List ℕ → AccessList
+list_seen a_directory text = list_spelled text
+list_seen kind text = no_acl
+
+unfoldable pub seen : image.Vnode → Vnode
+seen x = record {
+  unique = x.unique;
+  kind = kind_seen x.kind;
+  index = x.index;
+  data_version = x.data_version;
+  links = x.link_count;
+  owner = x.owner;
+  group = x.group;
+  mode = x.mode;
+  segment_size = x.segment_size;
+  client_time = x.client_time;
+  parent = x.parent_vnode;
+  parent_unique = x.parent_unique;
+  changed = x.change_counter;
+  contents = contents_seen (kind_seen x.kind) x.contents;
+  names = names_seen (kind_seen x.kind) x.contents;
+  acl = list_seen (kind_seen x.kind) x.acl;
+}
+
+unfoldable pub all_seen : Table image.Vnode → Table Vnode
+all_seen t = map (λ (p : ℕ × image.Vnode). (p.0, seen p.1)) t
+
+-- ---- volumes
+
+abbrev pub volume_seen : VolumeHead → Table image.Vnode → Volume
+volume_seen head t = record {
+  family = head.family;
+  name = head.name;
+  kind = head.kind;
+  flags = head.flags;
+  quota = head.quota;
+  next = head.unique;
+  counter = head.counter;
+  release = head.release;
+  vnodes = all_seen t;
+}
+
+-- ---- what every vnode of a volume keeps
+
+-- its kind is one; the contents of a directory spell its names, and its access list has a text
+abbrev pub IsReadable : image.Vnode → Type 0
+IsReadable x =
+    (type_of (kind_seen x.kind) ≡ x.kind)
+    × ((kind_seen x.kind ≡ a_directory → directory_bytes (names_spelled x.contents) ≡ x.contents) × (kind_seen x.kind ≡ a_directory → is_ok (acl_at x.acl) ≡ true))
+
+abbrev pub AreReadable : Table image.Vnode → Type 0
+AreReadable t = (n : ℕ) (x : image.Vnode) → get n t ≡ Some x → IsReadable x

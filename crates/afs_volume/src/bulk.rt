@@ -1,0 +1,81 @@
+//! Several statuses in one reply.
+
+ghost use Rattle.std.specs.Prelude.{◌≡◌, map, IfErr, IfOk, OnOk};
+ghost use Rattle.afs_num.specs.declared.calls.FsCall.TheVariants as calls;
+ghost use Rattle.afs_num.specs.declared.types.Fid.{Fid};
+ghost use Rattle.afs_shape.specs.Rows.{no_callback};
+ghost use Rattle.afs_ideal.specs.Operations.{op, reads, shows_statuses, statuses};
+ghost use Rattle.afs_volume.specs.Bulk.{found_of, refusal_at, status_seen, sync_beside, IsRefusal, IsShown};
+ghost use Rattle.afs_volume.specs.Giving.{caller_seen, refusal_of, volume_of, Replies};
+
+use crate::Volume;
+use crate::callers::Caller;
+use crate::checks::check;
+use crate::faults::OpFault;
+use crate::replies::{no_callback, no_sync};
+use afs_num::calls::{AfsFetchStatus, AfsVolSync, CallBacks, FsReply, Statuses};
+use afs_num::types::{Fid, Mem};
+use std::alloc::Global;
+
+/// As many empty promises as there are fids.
+fn no_callbacks(alloc: Global, fids: &[Fid]) -> Mem<CallBacks>
+    ensures { IfOk result (λ cs. cs ≡ map (λ (f : Fid). no_callback) fids.now) }
+{
+    let mut callbacks = CallBacks::new(alloc);
+    for _fid in fids {
+        callbacks.push(no_callback())?;
+    }
+    Ok(callbacks)
+}
+
+impl Volume {
+    /// The status of one fid.
+    fn status_of(&self, caller: &Caller, fid: &Fid) -> Result<AfsFetchStatus, OpFault>
+        ensures shown { OnOk result (IsShown (caller_seen caller.now) (volume_of self.now) fid.now) }
+        ensures value { IfOk result (λ s. s ≡ status_seen (caller_seen caller.now) self.now fid.now) }
+        ensures refused { IfErr result (IsRefusal (refusal_at (caller_seen caller.now) (volume_of self.now) fid.now)) }
+    {
+        let x = self.found(fid)?;
+        check(self.may(caller, 8, x)?, 13)?;
+        Ok(self.status(caller, x)?)
+    }
+
+    /// The statuses of the fids.
+    fn statuses(&self, caller: &Caller, fids: &[Fid]) -> Result<Statuses, OpFault>
+        ensures shown { OnOk result (statuses (caller_seen caller.now) (volume_of self.now) fids.now ≡ reads (shows_statuses (map (λ (f : Fid). found_of (volume_of self.now) f) fids.now))) }
+        ensures value { IfOk result (λ ss. ss ≡ map (λ (f : Fid). status_seen (caller_seen caller.now) self.now f) fids.now) }
+        ensures refused { IfErr result (IsRefusal (refusal_of (statuses (caller_seen caller.now) (volume_of self.now) fids.now))) }
+    {
+        let mut told = Statuses::new(self.alloc);
+        for fid in fids {
+            match self.status_of(caller, fid) {
+                Ok(status) => told.push(status)?,
+                Err(fault) => return Err(fault),
+            }
+        }
+        Ok(told)
+    }
+
+    /// The volume's words beside these statuses: none beside none.
+    fn sync_beside(&self, fids: &[Fid]) -> AfsVolSync
+        ensures { result ≡ sync_beside (volume_of self.now) fids.now }
+    {
+        if fids.is_empty() {
+            no_sync()
+        } else {
+            self.sync()
+        }
+    }
+
+    /// BulkStatus: all statuses, or the refusal of the first fid that is refused.
+    pub(crate) fn bulk_status(&self, caller: &Caller, fids: &[Fid]) -> Result<FsReply, OpFault>
+        ensures { Replies (caller_seen caller.now) self.now (op self.now.head.id (caller_seen caller.now) (calls.BulkStatus fids.now) (volume_of self.now)) result }
+    {
+        let statuses = self.statuses(caller, fids)?;
+        Ok(FsReply::BulkStatus {
+            statuses,
+            callbacks: no_callbacks(self.alloc, fids)?,
+            sync: self.sync_beside(fids),
+        })
+    }
+}

@@ -1,0 +1,149 @@
+//! Operations that make a vnode or a further name: CreateFile, Symlink, MakeDir, Link.
+
+ghost use Rattle.std.specs.Prelude.{◌≡◌, ◌+◌, ◌∷◌, [], Some, None, true};
+ghost use Rattle.afs_num.specs.declared.calls.FsCall.TheVariants as calls;
+ghost use Rattle.afs_ideal.specs.Operations.{adds_name, by_tests, creates, first_failing, is_kind, is_mask, names_in};
+ghost use Rattle.afs_ideal.specs.Volumes.{a_directory, vnode_of};
+ghost use Rattle.afs_volume.specs.Giving.{caller_seen, planned, volume_of, Plans};
+ghost use Rattle.afs_volume.specs.Seen.{seen};
+
+use crate::Volume;
+use crate::callers::Caller;
+use crate::checks::check;
+use crate::edits::{Amend, Edit, Edits, Plan};
+use crate::faults::OpFault;
+use crate::finding::{is_directory, links_of, links_there, list_of, may_link, names_of};
+use crate::making::{new_directory, new_file, new_link, set_status};
+use crate::naming::{add_name, ascending, push_names};
+use crate::operations::is_mask;
+use afs_num::calls::AfsStoreStatus;
+use afs_num::sequences::Octets;
+use afs_num::types::Fid;
+use afs_num::vnodes::Vnode;
+
+impl Volume {
+    /// A new vnode and its name, in a directory that the caller may change: 22, 17, 27.
+    fn creates(
+        &self,
+        fid: &Fid,
+        d: &Vnode,
+        name: &[u8],
+        status: &AfsStoreStatus,
+        links: Option<u64>,
+        made: Vnode,
+    ) -> Result<Plan, OpFault>
+        requires found { vnode_of fid.now (volume_of self.now) ≡ Some (seen d.now) }
+        requires directory { is_kind (seen d.now).kind a_directory ≡ true }
+        ensures { Plans (by_tests (first_failing (adds_name name.now (names_in (Some (seen d.now))) (is_mask status.now))) (creates fid.now name.now status.now links (seen made) (volume_of self.now))) result }
+    {
+        let number = self.free_number(&made);
+        let mut names = names_of(self.alloc, d)?;
+        add_name(&mut names, name, number, self.head.unique, is_mask(status))?;
+        let mut made = made;
+        set_status(&mut made, status);
+        let mut edits = Edits::new(self.alloc);
+        push_names(&mut edits, fid.vnode, &names, links)?;
+        edits.push(Edit::Makes(number, made))?;
+        Ok(Plan {
+            edits: ascending(self.alloc, edits)?,
+            shown: number,
+        })
+    }
+
+    /// CreateFile: a file of mode 644, in octal, and its name.
+    pub(crate) fn create_file(
+        &self,
+        caller: &Caller,
+        fid: &Fid,
+        name: &Octets,
+        status: &AfsStoreStatus,
+    ) -> Result<Plan, OpFault>
+        ensures { Plans (planned (caller_seen caller.now) (calls.CreateFile fid.now name.now status.now) (volume_of self.now)) result }
+    {
+        let d = self.found(fid)?;
+        check(is_directory(d), 20)?;
+        check(self.is_writable(), 30)?;
+        check(self.may(caller, 4, d)?, 13)?;
+        self.creates(
+            fid,
+            d,
+            name.as_slice(),
+            status,
+            None,
+            new_file(self.alloc, fid),
+        )
+    }
+
+    /// Symlink: a link of mode 777 with this text, and its name.
+    pub(crate) fn symlink(
+        &self,
+        caller: &Caller,
+        fid: &Fid,
+        name: &Octets,
+        target: &Octets,
+        status: &AfsStoreStatus,
+    ) -> Result<Plan, OpFault>
+        ensures { Plans (planned (caller_seen caller.now) (calls.Symlink fid.now name.now target.now status.now) (volume_of self.now)) result }
+    {
+        let d = self.found(fid)?;
+        check(is_directory(d), 20)?;
+        check(self.is_writable(), 30)?;
+        check(self.may(caller, 4, d)?, 13)?;
+        let made = new_link(self.alloc, fid, target)?;
+        self.creates(fid, d, name.as_slice(), status, None, made)
+    }
+
+    /// MakeDir: a directory of mode 755 with its parent's access list, and its name.
+    pub(crate) fn make_dir(
+        &self,
+        caller: &Caller,
+        fid: &Fid,
+        name: &Octets,
+        status: &AfsStoreStatus,
+    ) -> Result<Plan, OpFault>
+        ensures { Plans (planned (caller_seen caller.now) (calls.MakeDir fid.now name.now status.now) (volume_of self.now)) result }
+    {
+        let d = self.found(fid)?;
+        check(is_directory(d), 20)?;
+        check(self.is_writable(), 30)?;
+        check(self.may(caller, 4, d)?, 13)?;
+        let made = new_directory(self.alloc, fid, list_of(d))?;
+        self.creates(fid, d, name.as_slice(), status, Some(links_of(d) + 1), made)
+    }
+
+    /// Link: a further name of a file.
+    pub(crate) fn link(
+        &self,
+        caller: &Caller,
+        fid: &Fid,
+        name: &Octets,
+        existing: &Fid,
+    ) -> Result<Plan, OpFault>
+        ensures { Plans (planned (caller_seen caller.now) (calls.Link fid.now name.now existing.now) (volume_of self.now)) result }
+    {
+        let d = self.found(fid)?;
+        let is_here = existing.volume == fid.volume;
+        let x = self.vnode(existing);
+        check(!is_here || x.is_some(), 102)?;
+        check(is_directory(d), 20)?;
+        check(self.is_writable(), 30)?;
+        check(self.may(caller, 4, d)?, 13)?;
+        let mut names = names_of(self.alloc, d)?;
+        let good = is_here && may_link(fid, x);
+        add_name(
+            &mut names,
+            name.as_slice(),
+            existing.vnode,
+            existing.unique,
+            good,
+        )?;
+        let links = links_there(x) + 1;
+        let mut edits = Edits::new(self.alloc);
+        push_names(&mut edits, fid.vnode, &names, None)?;
+        edits.push(Edit::Amends(existing.vnode, Amend::with_links(links)))?;
+        Ok(Plan {
+            edits: ascending(self.alloc, edits)?,
+            shown: existing.vnode,
+        })
+    }
+}

@@ -1,0 +1,263 @@
+//! What is found in a volume.
+
+ghost use Rattle.std.specs.Prelude.{◌≡◌, ◌==◌, length, pos, true, ◌<◌, ◌^◌, None, Some, IfOk, IfSome, is_some};
+ghost use Rattle.std.specs.Option.{option_copied, option_map};
+ghost use Rattle.afs_ideal.specs.AccessLists.{rights_of};
+ghost use Rattle.afs_ideal.specs.Directories.{named};
+ghost use Rattle.afs_ideal.specs.Operations.{acl_of, is_below, is_directory, is_kind, is_empty, list_for, may, free_number, links_of, may_link, named_vnode, number_named, rights_by};
+ghost use Rattle.afs_ideal.specs.Tables.{get};
+ghost use Rattle.afs_ideal.specs.VnodeImage.{FitsImage};
+ghost use Rattle.afs_ideal.specs.Volumes.{a_directory, a_file, if_unique, vnode_of};
+ghost use Rattle.afs_volume.specs.Giving.{caller_seen, volume_of, Finds};
+ghost use Rattle.afs_volume.specs.Seen.{seen, names_spelled, list_spelled, kind_seen, IsReadable};
+
+use crate::Volume;
+use crate::callers::Caller;
+use crate::faults::OpFault;
+use afs_acl::acl::Acl;
+use afs_acl::faults::AclFault;
+use afs_dir::{Dir, DirFault};
+use afs_num::sequences::Octets;
+use afs_num::types::{Code, Fid, Mem};
+use afs_num::vnodes::Vnode;
+use std::alloc::{AllocError, Global};
+
+pub const FILE: u32 = 1;
+
+pub const DIRECTORY: u32 = 2;
+
+pub const LINK: u32 = 3;
+
+/// The names of a directory; contents that spell none have none.
+#[tactic(auto, unfolding(crate::specs::Seen::seen, crate::specs::Seen::names_spelled))]
+pub fn names_of(alloc: Global, d: &Vnode) -> Mem<Dir>
+    requires { is_kind (seen d.now).kind a_directory ≡ true }
+    ensures { IfOk result (λ names. names ≡ (seen d.now).names) }
+{
+    match Dir::from_bytes(alloc, d.contents.as_slice()) {
+        Ok(names) => Ok(names),
+        Err(DirFault::OutOfMemory) => Err(AllocError),
+        Err(_) => Dir::new(alloc),
+    }
+}
+
+/// The rights of a user by the access list of this text; a text that is no list gives none.
+#[tactic(auto, unfolding(crate::specs::Seen::list_spelled, afs_ideal::specs::AccessLists::rights_of))]
+pub fn rights_by(alloc: Global, text: &[u8], user: &[u8]) -> Mem<u32>
+    ensures { IfOk result (λ r. r ≡ rights_of user.now (list_spelled text.now)) }
+{
+    match Acl::parse(alloc, text) {
+        Ok(acl) => Ok(acl.rights(user)),
+        Err(AclFault::OutOfMemory) => Err(AllocError),
+        Err(_) => Ok(0),
+    }
+}
+
+/// A vnode is a directory.
+#[tactic(auto, unfolding(crate::specs::Seen::seen))]
+pub fn is_directory(x: &Vnode) -> bool
+    ensures seen { result ≡ is_kind (seen x.now).kind a_directory }
+    ensures kind { result ≡ is_kind (kind_seen x.now.kind) a_directory }
+{
+    x.kind == DIRECTORY
+}
+
+/// A vnode is a file.
+#[tactic(auto, unfolding(crate::specs::Seen::seen))]
+pub fn is_file(x: &Vnode) -> bool
+    ensures { result ≡ is_kind (seen x.now).kind a_file }
+{
+    x.kind != DIRECTORY && x.kind != LINK
+}
+
+/// A vnode is there, and is a directory.
+pub fn is_directory_there(x: Option<&Vnode>) -> bool
+    ensures { result ≡ is_directory (option_map seen (option_copied x.entry)) }
+{
+    match x {
+        Some(x) => is_directory(x),
+        None => false,
+    }
+}
+
+/// The rights of a caller by the list of this directory.
+#[tactic(auto, unfolding(crate::specs::Seen::seen, afs_ideal::specs::AccessLists::rights_of))]
+pub fn rights_in(alloc: Global, caller: &Caller, holder: Option<&Vnode>) -> Mem<u32>
+    ensures { IfOk result (λ r. r ≡ rights_by (caller_seen caller.now) (acl_of (option_map seen (option_copied holder.entry)))) }
+{
+    match (caller, holder) {
+        (Caller::AllRights, _) => Ok(127),
+        (Caller::User(user), Some(x)) if is_directory(x) => {
+            rights_by(alloc, x.acl.as_slice(), user)
+        }
+        _ => Ok(0),
+    }
+}
+
+/// How many links a vnode has.
+#[tactic(auto, unfolding(crate::specs::Seen::seen))]
+pub fn links_of(x: &Vnode) -> u64
+    ensures value { result ≡ (seen x.now).links }
+    ensures small { result < 2 ^ 32 }
+{
+    u64::from(x.link_count)
+}
+
+/// How many links a vnode has that may not be there.
+pub fn links_there(x: Option<&Vnode>) -> u64
+    ensures value { result ≡ links_of (option_map seen (option_copied x.entry)) }
+    ensures small { result < 2 ^ 32 }
+{
+    match x {
+        Some(x) => links_of(x),
+        None => 0,
+    }
+}
+
+/// The text of a directory's access list.
+#[tactic(auto, unfolding(crate::specs::Seen::seen))]
+pub fn list_of(d: &Vnode) -> &Octets
+    requires { is_kind (seen d.now).kind a_directory ≡ true }
+    ensures { list_spelled result.now ≡ (seen d.now).acl }
+{
+    &d.acl
+}
+
+/// A further name is given to a file alone, and in its own directory.
+#[tactic(auto, unfolding(crate::specs::Seen::seen))]
+pub fn may_link(d: &Fid, x: Option<&Vnode>) -> bool
+    ensures { result ≡ may_link d.now (option_map seen (option_copied x.entry)) }
+{
+    match x {
+        Some(x) => is_file(x) && x.parent_vnode == d.vnode && x.parent_unique == d.unique,
+        None => false,
+    }
+}
+
+/// A name is there.
+pub fn has_name(names: &Dir, name: &[u8]) -> bool
+    ensures { result ≡ is_some (named name.now names.now) }
+{
+    names.find(name).is_some()
+}
+
+/// The number of the vnode that a name names, 0 where it isn't there.
+pub fn number_named(names: &Dir, name: &[u8]) -> u32
+    ensures { result ≡ number_named (named name.now names.now) }
+{
+    match names.find(name) {
+        Some((number, _)) => number,
+        None => 0,
+    }
+}
+
+impl Volume {
+    /// The vnode of a number.
+    #[tactic(auto, using(crate::proofs::Tables::got))]
+    pub(crate) fn get(&self, number: u32) -> Option<&Vnode>
+        ensures value { option_copied result ≡ get number self.now.vnodes }
+        ensures seen { option_map seen (option_copied result) ≡ get number (volume_of self.now).vnodes }
+        ensures number { IfSome result (λ x. x.now.vnode ≡ number) }
+        ensures fits { IfSome result (λ x. FitsImage x.now) }
+        ensures readable { IfSome result (λ x. IsReadable x.now) }
+    {
+        self.vnodes.get(number)
+    }
+
+    /// The vnode of a number, where it has this unique number.
+    #[tactic(auto, unfolding(crate::specs::Seen::seen))]
+    pub(crate) fn at(&self, number: u32, unique: u32) -> Option<&Vnode>
+        ensures seen { option_map seen (option_copied result) ≡ if_unique unique (get number (volume_of self.now).vnodes) }
+        ensures number { IfSome result (λ x. x.now.vnode ≡ number) }
+        ensures value { IfSome result (λ x. get number self.now.vnodes ≡ Some x.now) }
+        ensures fits { IfSome result (λ x. FitsImage x.now) }
+        ensures readable { IfSome result (λ x. IsReadable x.now) }
+    {
+        match self.get(number) {
+            Some(x) if x.unique == unique => Some(x),
+            _ => None,
+        }
+    }
+
+    /// The vnode that a name of a directory names.
+    pub(crate) fn named(&self, names: &Dir, name: &[u8]) -> Option<&Vnode>
+        ensures seen { option_map seen (option_copied result) ≡ named_vnode (volume_of self.now) (named name.now names.now) }
+        ensures readable { IfSome result (λ x. IsReadable x.now) }
+    {
+        let (number, unique) = names.find(name)?;
+        self.at(number, unique)
+    }
+
+    /// The vnode of a fid.
+    pub(crate) fn vnode(&self, fid: &Fid) -> Option<&Vnode>
+        ensures seen { option_map seen (option_copied result) ≡ vnode_of fid.now (volume_of self.now) }
+        ensures number { IfSome result (λ x. x.now.vnode ≡ fid.now.vnode) }
+        ensures value { IfSome result (λ x. get fid.now.vnode self.now.vnodes ≡ Some x.now) }
+        ensures fits { IfSome result (λ x. FitsImage x.now) }
+        ensures readable { IfSome result (λ x. IsReadable x.now) }
+    {
+        self.at(fid.vnode, fid.unique)
+    }
+
+    /// The vnode of a fid, or 102.
+    pub(crate) fn found(&self, fid: &Fid) -> Result<&Vnode, OpFault>
+        ensures found { Finds (λ x. x.now) (vnode_of fid.now (volume_of self.now)) result }
+        ensures number { IfOk result (λ x. x.now.vnode ≡ fid.now.vnode) }
+        ensures value { IfOk result (λ x. get fid.now.vnode self.now.vnodes ≡ Some x.now) }
+        ensures fits { IfOk result (λ x. FitsImage x.now) }
+        ensures readable { IfOk result (λ x. IsReadable x.now) }
+    {
+        match self.vnode(fid) {
+            Some(x) => Ok(x),
+            None => Err(OpFault::Code(Code(102))),
+        }
+    }
+
+    /// The lowest free number for a vnode of this kind.
+    #[tactic(auto, using(crate::proofs::Tables::free_seen))]
+    pub(crate) fn free_number(&self, x: &Vnode) -> u32
+        ensures value { result ≡ free_number (seen x.now).kind (volume_of self.now) }
+        ensures free { get result self.now.vnodes ≡ None }
+    {
+        self.vnodes.lowest_free(is_directory(x))
+    }
+
+    /// Whether a directory has no names, or isn't there.
+    #[tactic(auto, unfolding(crate::specs::Seen::seen))]
+    pub(crate) fn is_empty(&self, x: Option<&Vnode>) -> Mem<bool>
+        ensures { IfOk result (λ b. b ≡ is_empty (option_map seen (option_copied x.entry))) }
+    {
+        match x {
+            Some(x) if is_directory(x) => Ok(names_of(self.alloc, x)?.is_empty()),
+            _ => Ok(true),
+        }
+    }
+
+    /// The rights of a caller on a vnode: those of a directory by its own access list, others by that of their parent.
+    #[tactic(auto, unfolding(crate::specs::Seen::seen))]
+    pub(crate) fn rights(&self, caller: &Caller, x: &Vnode) -> Mem<u32>
+        ensures { IfOk result (λ r. r ≡ rights_by (caller_seen caller.now) (list_for (seen x.now).kind (seen x.now) (volume_of self.now))) }
+    {
+        let holder = if is_directory(x) {
+            Some(x)
+        } else {
+            self.get(x.parent_vnode)
+        };
+        rights_in(self.alloc, caller, holder)
+    }
+
+    /// Whether a caller has a right on a vnode.
+    pub(crate) fn may(&self, caller: &Caller, right: u32, x: &Vnode) -> Mem<bool>
+        ensures { IfOk result (λ b. b ≡ may (caller_seen caller.now) right (volume_of self.now) (Some (seen x.now))) }
+    {
+        let rights = self.rights(caller, x)?;
+        Ok(rights & right != 0)
+    }
+
+    /// The volume is a read-write one.
+    pub(crate) fn is_writable(&self) -> bool
+        ensures { result ≡ (self.now.head.kind == 0) }
+    {
+        self.head.kind == 0
+    }
+}

@@ -1,0 +1,20 @@
+//! Volumes: every operation of a file server on one of them.
+#![tactic(auto)]
+
+mod bulk;
+mod callers;
+mod checks;
+mod creating;
+pub mod edits;
+pub mod faults;
+mod finding;
+mod making;
+mod naming;
+mod new;
+mod operations;
+mod reading;
+mod removing;
+mod replies;
+mod volume;
+
+pub use volume::Volume;

@@ -1,0 +1,144 @@
+//! Names that operations add and remove, and the order of their edits.
+
+ghost use Rattle.std.specs.Prelude.{◌≡◌, ◌∷◌, [], Some, None, true, false, is_some, IfOk, IfErr, OnOk, ◌++◌, ◌≤◌, length, nat_lt};
+ghost use Rattle.std.specs.List.{prefix_len};
+ghost use Rattle.std.specs.Option.{option_copied, option_map};
+ghost use Rattle.afs_ideal.specs.Directories.{named, with_name, without_name};
+ghost use Rattle.afs_ideal.specs.Operations.{adds_name, first_failing, name_of, no_amend, unlinks};
+ghost use Rattle.afs_ideal.specs.Volumes.{amends, ascending, edit_number, placed};
+ghost use Rattle.afs_volume.specs.declared.faults.OpFault.TheVariants.{OutOfMemory};
+ghost use Rattle.afs_volume.specs.Giving.{edit_seen, edits_seen, IsRefused, Passes};
+ghost use Rattle.afs_volume.specs.Seen.{seen};
+
+use crate::checks::check;
+use crate::edits::{Amend, Edit, Edits, Plan};
+use crate::faults::OpFault;
+use crate::finding::is_directory;
+use crate::making::spelled;
+use afs_dir::{Dir, DirFault};
+use afs_num::types::{Code, Mem};
+use afs_num::vnodes::Vnode;
+use std::alloc::Global;
+
+/// Adds a name: 22 where it is none or something else is bad, 17 where it is there, 27 where there are too many.
+#[tactic(auto, using(crate::proofs::Placed::added_by))]
+pub fn add_name(
+    names: &mut Dir,
+    name: &[u8],
+    vnode: u32,
+    unique: u32,
+    good: bool,
+) -> Result<(), OpFault>
+    ensures answer { Passes (first_failing (adds_name name.now names.old good)) result }
+    ensures ok { OnOk result (names.new ≡ with_name (name_of name.now vnode unique) names.old) }
+{
+    check(good, 22)?;
+    match names.add(name, vnode, unique) {
+        Ok(()) => Ok(()),
+        Err(DirFault::Code(code)) => Err(OpFault::Code(code)),
+        Err(_) => Err(OpFault::OutOfMemory),
+    }
+}
+
+/// Removes a name: 2 where it isn't there.
+pub fn remove_name(names: &mut Dir, name: &[u8]) -> Result<(), OpFault>
+    ensures there { OnOk result (is_some (named name.now names.old) ≡ true) }
+    ensures ok { OnOk result (names.new ≡ without_name name.now names.old) }
+    ensures absent { IfErr result (λ e. (is_some (named name.now names.old) ≡ false) × IsRefused 2 e) }
+{
+    match names.remove(name) {
+        Ok(_) => Ok(()),
+        Err(_) => Err(OpFault::Code(Code(2))),
+    }
+}
+
+fn is_before(edit: &Edit, number: u32) -> bool
+    ensures { result ≡ nat_lt (edit_number (edit_seen edit.now)) number }
+{
+    edit.number() < number
+}
+
+/// How many edits stand before those of this vnode.
+fn place_of(edits: &[Edit], number: u32) -> usize
+    ensures value { result ≡ prefix_len (λ e. nat_lt (edit_number (edit_seen e)) number) edits.now }
+    ensures bound { result ≤ length edits.now }
+{
+    edits.iter().take_while(|e| is_before(e, number)).count()
+}
+
+/// The edit in its place among those that stand by ascending vnode.
+#[tactic(auto, using(crate::proofs::Placed::placed_at))]
+fn put_in_place(edits: &mut Vec<Edit>, edit: Edit) -> Result<(), OpFault>
+    ensures ok { OnOk result (edits_seen edits.new.items ≡ placed (edit_seen edit) (edits_seen edits.old.items)) }
+    ensures err { IfErr result (λ e. e ≡ OutOfMemory) }
+{
+    let place = place_of(edits, edit.number());
+    edits.insert(place, edit)?;
+    Ok(())
+}
+
+/// The edits by ascending vnode.
+#[tactic(auto, using(crate::proofs::Placed::placed_none, crate::proofs::Placed::taken_last))]
+pub fn ascending(alloc: Global, edits: Edits) -> Result<Edits, OpFault>
+    ensures ok { IfOk result (λ es. edits_seen es ≡ ascending (edits_seen edits)) }
+    ensures err { IfErr result (λ e. e ≡ OutOfMemory) }
+{
+    let mut left = edits.into_vec();
+    let mut placed = Vec::new(alloc);
+    while let Some(edit) = left.pop() {
+        put_in_place(&mut placed, edit)?;
+    }
+    Ok(Edits::from_vec(placed))
+}
+
+/// One name of a file or link less; without its last one it goes.
+#[tactic(auto, unfolding(crate::specs::Seen::seen))]
+fn unlink(number: u32, x: &Vnode) -> Edit
+    ensures { edit_seen result ∷ [] ≡ unlinks number (Some (seen x.now)) }
+{
+    if !is_directory(x) && 1 < x.link_count {
+        Edit::Amends(number, Amend::with_links(u64::from(x.link_count) - 1))
+    } else {
+        Edit::Frees(number)
+    }
+}
+
+/// Appends what becomes of the vnode that loses a name, where there is one.
+pub fn push_unlink(edits: &mut Edits, number: u32, target: Option<&Vnode>) -> Mem<()>
+    ensures { OnOk result (edits_seen edits.new ≡ edits_seen edits.old ++ unlinks number (option_map seen (option_copied target.entry))) }
+{
+    match target {
+        Some(x) => edits.push(unlink(number, x)),
+        None => Ok(()),
+    }
+}
+
+/// Appends other names of a directory.
+pub fn push_names(edits: &mut Edits, d: u32, names: &Dir, links: Option<u64>) -> Mem<()>
+    ensures { OnOk result (edits_seen edits.new ≡ edits_seen edits.old ++ amends d (record no_amend { names = Some names.now; links = links }) ∷ []) }
+{
+    let bytes = spelled(names)?;
+    edits.push(Edit::Amends(d, Amend::with_names(bytes, links)))
+}
+
+/// A name less in a directory, and the vnode that it named without that name.
+pub fn removes(
+    alloc: Global,
+    d: u32,
+    names: &Dir,
+    links: Option<u64>,
+    number: u32,
+    target: Option<&Vnode>,
+) -> Result<Plan, OpFault>
+    ensures edits { IfOk result (λ p. edits_seen p.edits ≡ ascending (amends d (record no_amend { names = Some names.now; links = links }) ∷ unlinks number (option_map seen (option_copied target.entry)))) }
+    ensures shown { IfOk result (λ p. p.shown ≡ d) }
+    ensures err { IfErr result (λ e. e ≡ OutOfMemory) }
+{
+    let mut edits = Edits::new(alloc);
+    push_names(&mut edits, d, names, links)?;
+    push_unlink(&mut edits, number, target)?;
+    Ok(Plan {
+        edits: ascending(alloc, edits)?,
+        shown: d,
+    })
+}

@@ -1,0 +1,127 @@
+//! Operations on one vnode: StoreData, StoreACL, StoreStatus.
+
+ghost use Rattle.std.specs.Prelude.{◌≡◌, ◌∷◌, [], IfOk};
+ghost use Rattle.afs_num.specs.declared.calls.FsCall.TheVariants as calls;
+ghost use Rattle.afs_ideal.specs.Operations.{is_acl, is_mask, is_whole_store};
+ghost use Rattle.afs_ideal.specs.Volumes.{amends};
+ghost use Rattle.afs_volume.specs.Giving.{amend_seen, caller_seen, edits_seen, planned, volume_of, Plans};
+
+use crate::Volume;
+use crate::callers::Caller;
+use crate::checks::check;
+use crate::edits::{Amend, Edit, Edits, Plan};
+use crate::faults::OpFault;
+use crate::finding::{is_directory, is_file};
+use afs_acl::acl::Acl;
+use afs_acl::faults::AclFault;
+use afs_num::calls::AfsStoreStatus;
+use afs_num::sequences::Octets;
+use afs_num::types::{Fid, Mem};
+use std::alloc::{AllocError, Global};
+
+/// The most bytes of a file.
+const MOST_BYTES: usize = 65_536;
+
+/// One edit, of a vnode that the call names.
+fn plan_one(alloc: Global, number: u32, amend: Amend) -> Mem<Plan>
+    ensures edits { IfOk result (λ p. edits_seen p.edits ≡ amends number (amend_seen amend) ∷ []) }
+    ensures shown { IfOk result (λ p. p.shown ≡ number) }
+{
+    let mut edits = Edits::new(alloc);
+    edits.push(Edit::Amends(number, amend))?;
+    Ok(Plan {
+        edits,
+        shown: number,
+    })
+}
+
+/// The mask has no bit above 16.
+pub fn is_mask(status: &AfsStoreStatus) -> bool
+    ensures { result ≡ is_mask status.now }
+{
+    status.mask < 32
+}
+
+/// A file's bytes are stored whole.
+fn is_whole_store(contents: &Octets, position: i32, stored: i32, file_length: i32) -> bool
+    ensures { result ≡ is_whole_store contents.now position stored file_length }
+{
+    let length = contents.len() as i64;
+    position == 0 && i64::from(stored) == length && i64::from(file_length) == length
+}
+
+/// Whether a text is an access list.
+fn is_acl(alloc: Global, text: &[u8]) -> Mem<bool>
+    ensures { IfOk result (λ b. b ≡ is_acl text.now) }
+{
+    match Acl::parse(alloc, text) {
+        Ok(_) => Ok(true),
+        Err(AclFault::OutOfMemory) => Err(AllocError),
+        Err(_) => Ok(false),
+    }
+}
+
+impl Volume {
+    /// StoreData: a file's bytes, and the words of a status.
+    pub(crate) fn store_data(
+        &self,
+        caller: &Caller,
+        fid: &Fid,
+        status: &AfsStoreStatus,
+        position: i32,
+        length: i32,
+        file_length: i32,
+        contents: &Octets,
+    ) -> Result<Plan, OpFault>
+        ensures { Plans (planned (caller_seen caller.now) (calls.StoreData fid.now status.now position length file_length contents.now) (volume_of self.now)) result }
+    {
+        let x = self.found(fid)?;
+        check(!is_directory(x), 21)?;
+        check(self.is_writable(), 30)?;
+        check(self.may(caller, 2, x)?, 13)?;
+        let is_whole = is_whole_store(contents, position, length, file_length);
+        check(is_file(x) && is_whole && is_mask(status), 22)?;
+        check(contents.len() <= MOST_BYTES, 27)?;
+        let mut amend = Amend::nothing();
+        amend.contents = Some(contents.copy(self.alloc)?);
+        amend.status = Some(*status);
+        Ok(plan_one(self.alloc, fid.vnode, amend)?)
+    }
+
+    /// StoreACL: a directory's access list.
+    pub(crate) fn store_acl(
+        &self,
+        caller: &Caller,
+        fid: &Fid,
+        acl: &Octets,
+    ) -> Result<Plan, OpFault>
+        ensures { Plans (planned (caller_seen caller.now) (calls.StoreAcl fid.now acl.now) (volume_of self.now)) result }
+    {
+        let d = self.found(fid)?;
+        check(is_directory(d), 20)?;
+        check(self.is_writable(), 30)?;
+        check(self.may(caller, 64, d)?, 13)?;
+        check(is_acl(self.alloc, acl.as_slice())?, 22)?;
+        let mut amend = Amend::nothing();
+        amend.acl = Some(acl.copy(self.alloc)?);
+        Ok(plan_one(self.alloc, fid.vnode, amend)?)
+    }
+
+    /// StoreStatus: the words of a status, also where they are what was there.
+    pub(crate) fn store_status(
+        &self,
+        caller: &Caller,
+        fid: &Fid,
+        status: &AfsStoreStatus,
+    ) -> Result<Plan, OpFault>
+        ensures { Plans (planned (caller_seen caller.now) (calls.StoreStatus fid.now status.now) (volume_of self.now)) result }
+    {
+        let x = self.found(fid)?;
+        check(self.is_writable(), 30)?;
+        check(self.may(caller, 2, x)?, 13)?;
+        check(is_mask(status), 22)?;
+        let mut amend = Amend::nothing();
+        amend.status = Some(*status);
+        Ok(plan_one(self.alloc, fid.vnode, amend)?)
+    }
+}

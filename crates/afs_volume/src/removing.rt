@@ -1,0 +1,68 @@
+//! Operations that take a name away: RemoveFile, RemoveDir.
+
+ghost use Rattle.std.specs.Prelude.{◌≡◌};
+ghost use Rattle.afs_num.specs.declared.calls.FsCall.TheVariants as calls;
+ghost use Rattle.afs_volume.specs.Giving.{caller_seen, planned, volume_of, Plans};
+
+use crate::Volume;
+use crate::callers::Caller;
+use crate::checks::check;
+use crate::edits::Plan;
+use crate::faults::OpFault;
+use crate::finding::{
+    has_name, is_directory, is_directory_there, links_of, names_of, number_named,
+};
+use crate::naming::{remove_name, removes};
+use afs_num::sequences::Octets;
+use afs_num::types::Fid;
+
+impl Volume {
+    /// RemoveFile: a name of a file or link less.
+    pub(crate) fn remove_file(
+        &self,
+        caller: &Caller,
+        fid: &Fid,
+        name: &Octets,
+    ) -> Result<Plan, OpFault>
+        ensures { Plans (planned (caller_seen caller.now) (calls.RemoveFile fid.now name.now) (volume_of self.now)) result }
+    {
+        let d = self.found(fid)?;
+        check(is_directory(d), 20)?;
+        let mut names = names_of(self.alloc, d)?;
+        let number = number_named(&names, name.as_slice());
+        let target = self.named(&names, name.as_slice());
+        check(!is_directory_there(target), 21)?;
+        check(self.is_writable(), 30)?;
+        check(self.may(caller, 16, d)?, 13)?;
+        remove_name(&mut names, name.as_slice())?;
+        let plan = removes(self.alloc, fid.vnode, &names, None, number, target)?;
+        Ok(plan)
+    }
+
+    /// RemoveDir: an empty directory and its name.
+    pub(crate) fn remove_dir(
+        &self,
+        caller: &Caller,
+        fid: &Fid,
+        name: &Octets,
+    ) -> Result<Plan, OpFault>
+        ensures { Plans (planned (caller_seen caller.now) (calls.RemoveDir fid.now name.now) (volume_of self.now)) result }
+    {
+        let d = self.found(fid)?;
+        check(is_directory(d), 20)?;
+        let mut names = names_of(self.alloc, d)?;
+        let number = number_named(&names, name.as_slice());
+        let target = self.named(&names, name.as_slice());
+        check(
+            !has_name(&names, name.as_slice()) || is_directory_there(target),
+            20,
+        )?;
+        check(self.is_writable(), 30)?;
+        check(self.may(caller, 16, d)?, 13)?;
+        remove_name(&mut names, name.as_slice())?;
+        check(self.is_empty(target)?, 39)?;
+        let links = links_of(d).saturating_sub(1);
+        let plan = removes(self.alloc, fid.vnode, &names, Some(links), number, target)?;
+        Ok(plan)
+    }
+}

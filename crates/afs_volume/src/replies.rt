@@ -1,0 +1,115 @@
+//! Statuses, and the words of a volume beside them.
+
+ghost use Rattle.std.specs.Prelude.{◌≡◌, Some, IfOk};
+ghost use Rattle.afs_shape.specs.Rows.{no_callback, no_sync};
+ghost use Rattle.afs_ideal.specs.AccessLists.{acl_text, anyuser, rights_of};
+ghost use Rattle.afs_ideal.specs.Operations.{list_for, rights_by, the_user};
+ghost use Rattle.afs_ideal.specs.Replies.{status_of, sync_of};
+ghost use Rattle.afs_ideal.specs.VnodeImage.{FitsImage};
+ghost use Rattle.afs_ideal.specs.Volumes.{bytes_by};
+ghost use Rattle.afs_volume.specs.Giving.{caller_seen, volume_of, IsStatus};
+ghost use Rattle.afs_volume.specs.Seen.{seen, IsReadable};
+
+use crate::Volume;
+use crate::callers::Caller;
+use afs_num::calls::{AfsCallBack, AfsFetchStatus, AfsVolSync};
+use afs_num::sequences::Octets;
+use afs_num::types::Mem;
+use afs_num::vnodes::Vnode;
+
+/// No promise; the server fills it in.
+pub fn no_callback() -> AfsCallBack
+    ensures { result ≡ no_callback }
+{
+    AfsCallBack {
+        version: 0,
+        expiration_time: 0,
+        kind: 0,
+    }
+}
+
+fn sync_with(release: u32) -> AfsVolSync
+    ensures { result ≡ record no_sync { release = release } }
+{
+    AfsVolSync {
+        release,
+        spare1: 0,
+        spare2: 0,
+        spare3: 0,
+        spare4: 0,
+        spare5: 0,
+    }
+}
+
+/// No release, beside no status.
+pub fn no_sync() -> AfsVolSync
+    ensures { result ≡ no_sync }
+{
+    sync_with(0)
+}
+
+/// The bytes of a vnode; a directory's spell its names.
+#[tactic(auto, unfolding(crate::specs::Seen::seen))]
+pub fn bytes_of(x: &Vnode) -> &Octets
+    requires { IsReadable x.now }
+    ensures { result.now ≡ bytes_by (seen x.now).kind (seen x.now) }
+{
+    &x.contents
+}
+
+/// The status of a vnode, to a caller with these rights.
+#[tactic(auto, unfolding(crate::specs::Seen::seen))]
+fn status_with(x: &Vnode, caller: u32, anonymous: u32) -> AfsFetchStatus
+    requires readable { IsReadable x.now }
+    requires fits { FitsImage x.now }
+    ensures { IsStatus caller anonymous x.now result }
+{
+    AfsFetchStatus {
+        interface_version: 1,
+        file_type: x.kind,
+        link_count: x.link_count,
+        length: bytes_of(x).len() as u32,
+        data_version: x.data_version,
+        author: 0,
+        owner: x.owner,
+        caller_access: caller,
+        anonymous_access: anonymous,
+        unix_mode_bits: x.mode,
+        parent_vnode: x.parent_vnode,
+        parent_unique: x.parent_unique,
+        seg_size: x.segment_size,
+        client_mod_time: x.client_time,
+        server_mod_time: x.server_time,
+        group: x.group,
+        sync_counter: x.index,
+        spare1: 0,
+        spare2: 0,
+        spare3: 0,
+        spare4: 0,
+    }
+}
+
+impl Volume {
+    /// The status of a vnode for a caller.
+    pub(crate) fn status(&self, caller: &Caller, x: &Vnode) -> Mem<AfsFetchStatus>
+        requires readable { IsReadable x.now }
+        requires fits { FitsImage x.now }
+        ensures { IfOk result (λ s. s ≡ status_of (caller_seen caller.now) (volume_of self.now) x.now.server_time (seen x.now)) }
+    {
+        let anyuser = Caller::User(b"system:anyuser");
+        let rights = self.rights(caller, x)?;
+        let anonymous = self.rights(&anyuser, x)?;
+        Ok(status_with(x, rights, anonymous))
+    }
+
+    /// The release is that of a read-only or backup volume; a read-write volume has none.
+    pub(crate) fn sync(&self) -> AfsVolSync
+        ensures { result ≡ sync_of (volume_of self.now) }
+    {
+        sync_with(if self.head.kind == 0 {
+            0
+        } else {
+            self.head.release
+        })
+    }
+}

@@ -1,0 +1,18 @@
+ghost use Rattle.std.specs.Prelude.{◌≡◌};
+ghost use Rattle.afs_ideal.specs.Volumes.{blocks_in};
+ghost use Rattle.afs_volume.specs.Seen.{all_seen, AreReadable};
+
+use afs_num::volumes::VolumeHead;
+use afs_vnode::store::VnodeStore;
+use std::alloc::Global;
+
+/// A volume: its head, its vnodes, and how many blocks they take. The names of a directory stand in its contents.
+#[derive(Drop)]
+pub struct Volume {
+    pub(crate) alloc: Global,
+    pub(crate) head: VolumeHead,
+    pub(crate) vnodes: VnodeStore,
+    pub(crate) blocks: u32,
+    ghost readable: { AreReadable vnodes },
+    ghost counted: { blocks ≡ blocks_in (all_seen vnodes) },
+}

@@ -1,0 +1,118 @@
+#!/bin/sh
+# Tries wrong operations: the ideal operation can't be judged by a law of the cell, since it is what the cell does, so rows by
+# computation judge it. Each tests/wrong_operations/NAME.edit changes one definition of crate afs_ideal, and the row that it
+# names has to be refused; laws on all operations may be refused as well, and are counted.
+# Run it when the definitions or the rows have changed. It takes some 15 s an edit, so it is no part of the gate. With NAMEs it
+# tries these alone. All is done in a copy: the repository stays as it is.
+#
+# An edit tells in its lines '# ' what is wrong, and then has
+#   file: specs/FILE.antt   what is changed
+#   old: TEXT               stands there once
+#   new: TEXT               comes instead
+#   breaks: FILE ROW        a row of proofs/FILE.antt that is refused
+set -eu
+
+cd "$(dirname "$0")/.."
+
+work=$(mktemp -d)
+trap 'rm -rf "$work"' EXIT
+trap 'exit 130' INT
+trap 'exit 143' TERM
+
+passed=0
+failed=0
+
+pass() {
+    passed=$((passed + 1))
+    printf 'ok: %s\n' "$1"
+}
+
+fail() {
+    failed=$((failed + 1))
+    printf 'failed: %s\n' "$1"
+}
+
+# The lines of the edit that begin with this word, without it.
+told() {
+    sed -n "s/^$2: //p" "$1"
+}
+
+# The crate and those below it, by crates.txt: a name without a folder is a library of the toolchain.
+needed() {
+    [ -d "crates/$1" ] || return 0
+    echo "$1"
+    for below in $(sed -n "s/^$1://p" crates.txt); do needed "$below"; done
+}
+
+mkdir "$work/crates"
+if [ -f HANDLES ]; then cp HANDLES "$work"; fi
+for crate in $(needed afs_ideal | sort -u); do
+    cp -R "crates/$crate" "$work/crates"
+    grep "^$crate:" crates.txt >> "$work/crates.txt"
+done
+ideal=$work/crates/afs_ideal
+
+# Proves the crate in the copy; its errors in refused, one 'FILE LEMMA' a line.
+check() {
+    (cd "$ideal" && rt check) > "$work/log" 2>&1 || true
+    sed -nE 's/^(\.\/)?proofs\/([^:]*)\.antt:[0-9:]* error: `([^`]*)`.*/\2 \3/p' "$work/log" | sort -u > "$work/refused"
+}
+
+# Prints the file of the second name, changed by the edit of the first; fails where the old text doesn't stand there once.
+changed() {
+    LC_ALL=C awk '
+        NR == FNR {
+            if (sub(/^old: /, "")) old = $0
+            else if (sub(/^new: /, "")) new = $0
+            next
+        }
+        {
+            line = ""
+            while ((at = index($0, old)) > 0) {
+                found++
+                line = line substr($0, 1, at - 1) new
+                $0 = substr($0, at + length(old))
+            }
+            print line $0
+        }
+        END { exit found != 1 }
+    ' "$1" "$2"
+}
+
+# The edit is tried in the copy, and taken back.
+try() {
+    name=${1##*/}
+    name=${name%.edit}
+    file=$ideal/$(told "$1" file)
+    row=$(told "$1" breaks)
+    cp "$file" "$work/right"
+    if ! changed "$1" "$work/right" > "$file"; then
+        cp "$work/right" "$file"
+        fail "$name: the old text does not stand there once"
+        return
+    fi
+    check
+    cp "$work/right" "$file"
+    if grep -qx "$row" "$work/refused"; then
+        pass "$name: refused at $row, and $(($(wc -l < "$work/refused") - 1)) others"
+    else
+        fail "$name: $row was not refused"
+        head -n 5 "$work/refused"
+    fi
+}
+
+# The definitions as they are keep the rows, or nothing below would tell anything.
+check
+if [ -s "$work/refused" ] || ! grep -q 'operations_leave_sound: proved' "$work/log"; then
+    tail -n 5 "$work/log"
+    echo 'the definitions as they are were not proved'
+    exit 1
+fi
+
+if [ "$#" -eq 0 ]; then
+    for edit in tests/wrong_operations/*.edit; do try "$edit"; done
+else
+    for name in "$@"; do try "tests/wrong_operations/$name.edit"; done
+fi
+echo "$passed passed, $failed failed"
+[ "$failed" -eq 0 ]
