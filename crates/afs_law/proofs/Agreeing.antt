@@ -1,3 +1,5 @@
+use Rattle.afs_num.specs.declared.messages.Reply.TheVariants as tell
+use Rattle.afs_num.specs.declared.messages.Call.TheVariants as ask
 use Rattle.afs_num.specs.declared.messages.Carried.TheVariants as carried
 use Rattle.afs_ideal.specs.Told.{last_told, fid_at, live, Agrees}
 use Rattle.afs_ideal.specs.Volumes.{Volume}
@@ -70,10 +72,12 @@ held s h end one r id =
 -- ---- pairs
 
 call_known : (end : Cell) (fl : ℕ → Ghost) (j : ℕ) (head : Head) (c : Carried) → IsCall c → head.from ≡ Client j → OfCall (ByClient (CallIn (view fl end))) head c → IsKnownTo end j head
-call_known end fl j head (carried.Call user call) is from h =
+call_known end fl j head (carried.Call user (ask.File call)) is from h =
     let f : CallIn (view fl end) head user call = by_client j head.from (CallIn (view fl end) head user call) from h in
     let one : f.client ≡ j = client_number f.client j (sym f.from ∙ from) in
     subst (λ (i : ℕ). IsKnownTo end i head) one f.fact.behind
+call_known end fl j head (carried.Call user (ask.Volume call)) is from h = absurd h
+call_known end fl j head (carried.Call user (ask.Location call)) is from h = absurd h
 call_known end fl j head (carried.Refusal code) is from h = absurd is
 call_known end fl j head (carried.Reply reply) is from h = absurd is
 call_known end fl j head carried.Notice is from h = absurd is

@@ -55,6 +55,8 @@ use Rattle.afs_num.specs.declared.histories.Body.{Body}
 use Rattle.afs_num.specs.declared.calls.AfsStoreStatus.{AfsStoreStatus}
 use Rattle.afs_num.specs.declared.calls.FsReply.TheVariants as replies
 use Rattle.afs_num.specs.declared.messages.Carried.TheVariants as carried
+use Rattle.afs_num.specs.declared.messages.Reply.TheVariants as tell
+use Rattle.afs_num.specs.declared.messages.Call.TheVariants as ask
 use Rattle.afs_num.specs.declared.histories.Body.TheVariants as bodies
 use Rattle.afs_law.specs.Lines as lines
 use Rattle.afs_num.specs.declared.calls.FsCall.TheVariants as calls
@@ -206,7 +208,7 @@ begun_calls s c past n act h none =
       made = λ b z f o k. walk_made s c past n (h.floors n).held ls w.act w.cache [] ms f W (ends_here n);
       current = λ f u found lasts. walk_current s c past n (h.floors n).held ls w.act w.cache [] ms v f u W tt (ends_here n) (le_refl _) (inl not) found lasts;
       runs = λ b z. at ∙ z;
-      asked = λ b z. subst (λ (a : Going). CalledSince (last_key n v) guest (asked a) (e ∷ past)) (some_of w.act b z) (inl (refl, inl (refl, ap (λ (k : FsCall). carried.Call guest k) (call_is w.act))));
+      asked = λ b z. subst (λ (a : Going). CalledSince (last_key n v) guest (asked a) (e ∷ past)) (some_of w.act b z) (inl (refl, inl (refl, ap (λ (k : FsCall). carried.Call guest (ask.File k)) (call_is w.act))));
       reached = walk_reached s c past n (h.floors n).held ls w.act w.cache [] ms W tt (ends_here n);
     })
     (λ head call f. record {
@@ -285,7 +287,7 @@ reply_safe sp reply n call x m past t e l cache aged head fits none = plain_safe
 
 pub ended_safe : (sp : Bool) (n : ℕ) (call : FsCall) (x : Spot) (boot : ℕ) (m : Message) (c : Carried) (past : List Entry) (t e l : ℕ) (cache : List CacheEntry) (aged : Type 0) (head : Head) → Fits sp n call x boot m c past → (LastStored x → ⊥)
     → ((code : Code) → c ≡ carried.Refusal code → aged) → IsSafe t e l None cache aged head call
-ended_safe sp n call x boot m (carried.Reply reply) past t e l cache aged head fits none w = reply_safe sp reply n call x m past t e l cache aged head fits none
+ended_safe sp n call x boot m (carried.Reply (tell.File reply)) past t e l cache aged head fits none w = reply_safe sp reply n call x m past t e l cache aged head fits none
 ended_safe sp n call x boot m (carried.Refusal code) past t e l cache aged head fits none w = inr (inr (inr (w code refl)))
 ended_safe sp n call x boot m c past t e l cache aged head fits none w = absurd fits
 
@@ -645,10 +647,10 @@ takes_saved s c past n p act call f b i m h d zero not same told kept up left =
 
 -- ---- any other answered call: the entries of the volume that it may have changed are given up
 
-reply_not : (reply : FsReply) (code : Code) → carried.Reply reply ≡ carried.Refusal code → ⊥
+reply_not : (reply : FsReply) (code : Code) → carried.Reply (tell.File reply) ≡ carried.Refusal code → ⊥
 reply_not reply code e = absurd cc
 
-pub takes_other : (s : Script) (c : Cell) (past : List Entry) (n p : ℕ) (act : Going) (m : Message) (reply : FsReply) → (h : Holds s c past) → Due c h.floors past n p act m → m.carried ≡ carried.Reply reply → Goes s past (client_moves c n (takes_plain (Client n) (c.clients n) p (asked act)))
+pub takes_other : (s : Script) (c : Cell) (past : List Entry) (n p : ℕ) (act : Going) (m : Message) (reply : FsReply) → (h : Holds s c past) → Due c h.floors past n p act m → m.carried ≡ carried.Reply (tell.File reply) → Goes s past (client_moves c n (takes_plain (Client n) (c.clients n) p (asked act)))
 takes_other s c past n p act m reply h d is =
     let x : ClientState = c.clients n in
     let call : FsCall = asked act in
@@ -687,7 +689,7 @@ resends_goes s c past n p act m boot h d le runs =
 
 -- ---- the row, by its cases
 
-pub plain_goes : (s : Script) (c : Cell) (past : List Entry) (n p : ℕ) (act : Going) (call : FsCall) (m : Message) (reply : FsReply) → (h : Holds s c past) → Due c h.floors past n p act m → m.carried ≡ carried.Reply reply → asked act ≡ call → Goes s past (client_moves c n (takes_plain (Client n) (c.clients n) p call))
+pub plain_goes : (s : Script) (c : Cell) (past : List Entry) (n p : ℕ) (act : Going) (call : FsCall) (m : Message) (reply : FsReply) → (h : Holds s c past) → Due c h.floors past n p act m → m.carried ≡ carried.Reply (tell.File reply) → asked act ≡ call → Goes s past (client_moves c n (takes_plain (Client n) (c.clients n) p call))
 plain_goes s c past n p act call m reply h d is same = subst (λ (x : FsCall). Goes s past (client_moves c n (takes_plain (Client n) (c.clients n) p x))) same (takes_other s c past n p act m reply h d is)
 
 -- a reply to a reading call that isn't spent isn't spoiled
@@ -701,15 +703,15 @@ fresh_of true None e q = absurd cc
 fresh_of true (Some id) e q = absurd cc
 fresh_of false o e q = refl
 
-pub data_goes : (s : Script) (c : Cell) (past : List Entry) (n p : ℕ) (act : Going) (call : FsCall) (head : Head) (contents : List ℕ) (status : AfsFetchStatus) (callback : AfsCallBack) (sync : AfsVolSync) → (h : Holds s c past) → Due c h.floors past n p act (record { head = head; carried = carried.Reply (replies.FetchData contents status callback sync) })
-    → is_spent (c.clients n) act ≡ false → asked act ≡ call → FitsData (c.clients n).spoiled n (spot (view h.floors c n)) (record { head = head; carried = carried.Reply (replies.FetchData contents status callback sync) }) past contents status callback call → Goes s past (client_moves c n (takes_data (Client n) (c.clients n) c.clock p act contents status callback call))
+pub data_goes : (s : Script) (c : Cell) (past : List Entry) (n p : ℕ) (act : Going) (call : FsCall) (head : Head) (contents : List ℕ) (status : AfsFetchStatus) (callback : AfsCallBack) (sync : AfsVolSync) → (h : Holds s c past) → Due c h.floors past n p act (record { head = head; carried = carried.Reply (tell.File (replies.FetchData contents status callback sync)) })
+    → is_spent (c.clients n) act ≡ false → asked act ≡ call → FitsData (c.clients n).spoiled n (spot (view h.floors c n)) (record { head = head; carried = carried.Reply (tell.File (replies.FetchData contents status callback sync)) }) past contents status callback call → Goes s past (client_moves c n (takes_data (Client n) (c.clients n) c.clock p act contents status callback call))
 data_goes s c past n p act (calls.FetchData f pp w) head contents status callback sync h d fresh same fits =
     let shut : volume_changed (asked act) ≡ None = ap volume_changed same in
     fetched_goes s c past n p act (record { fid = f; index = status.sync_counter; expiry = callback.expiration_time; body = body_told status.file_type contents }) _ (nat_lt c.clock callback.expiration_time) h d (λ code z. reply_not (replies.FetchData contents status callback sync) code z) shut
-    (subst (λ (sp : Bool). IsFetched sp n f status.sync_counter (body_told status.file_type contents) callback.expiration_time (record { head = head; carried = carried.Reply (replies.FetchData contents status callback sync) }) past) (fresh_of (c.clients n).spoiled (volume_changed (asked act)) fresh shut) fits) refl
+    (subst (λ (sp : Bool). IsFetched sp n f status.sync_counter (body_told status.file_type contents) callback.expiration_time (record { head = head; carried = carried.Reply (tell.File (replies.FetchData contents status callback sync)) }) past) (fresh_of (c.clients n).spoiled (volume_changed (asked act)) fresh shut) fits) refl
 data_goes s c past n p act call head contents status callback sync h d fresh same fits = plain_goes s c past n p act call _ (replies.FetchData contents status callback sync) h d refl same
 
-pub data_stored : (t : Bool) (s : Script) (c : Cell) (past : List Entry) (n p : ℕ) (act : Going) (st : AfsStoreStatus) (pp ww ll : ℤ) (f : Fid) (b : List ℕ) (status : AfsFetchStatus) (m : Message) (reply : FsReply) → (h : Holds s c past) → Due c h.floors past n p act m → m.carried ≡ carried.Reply reply → stored_index m.carried ≡ Some status.sync_counter
+pub data_stored : (t : Bool) (s : Script) (c : Cell) (past : List Entry) (n p : ℕ) (act : Going) (st : AfsStoreStatus) (pp ww ll : ℤ) (f : Fid) (b : List ℕ) (status : AfsFetchStatus) (m : Message) (reply : FsReply) → (h : Holds s c past) → Due c h.floors past n p act m → m.carried ≡ carried.Reply (tell.File reply) → stored_index m.carried ≡ Some status.sync_counter
     → asked act ≡ calls.StoreData f st pp ww ll b → FitsSet n (spot (view h.floors c n)) m past status (calls.StoreData f st pp ww ll b)
     → Goes s past (client_moves c n (cond t (takes_plain (Client n) (c.clients n) p (calls.StoreData f st pp ww ll b)) (takes_stored (Client n) (c.clients n) c.clock p f status.sync_counter (λ body. bodies.File b))))
 data_stored true s c past n p act st pp ww ll f b status m reply h d is told same fits = plain_goes s c past n p act (calls.StoreData f st pp ww ll b) m reply h d is same
@@ -729,7 +731,7 @@ left_body s c past n f index h kept t x found lasts =
     let had : HasVersion f kept.before x.body (lines_of past) = subst (λ (i : ℕ). HasVersion f i x.body (lines_of past)) (sym same) ((h.clients n).current f x found lasts).held.whole in
     subst (λ (b : Body). HasVersion f index b (lines_of past)) (h.one f kept.before kept.body x.body kept.old had) kept.new
 
-pub status_by : (t u : Bool) (s : Script) (c : Cell) (past : List Entry) (n p : ℕ) (act : Going) (call : FsCall) (f : Fid) (index : ℕ) (m : Message) (reply : FsReply) → (h : Holds s c past) → Due c h.floors past n p act m → m.carried ≡ carried.Reply reply → stored_index m.carried ≡ Some index
+pub status_by : (t u : Bool) (s : Script) (c : Cell) (past : List Entry) (n p : ℕ) (act : Going) (call : FsCall) (f : Fid) (index : ℕ) (m : Message) (reply : FsReply) → (h : Holds s c past) → Due c h.floors past n p act m → m.carried ≡ carried.Reply (tell.File reply) → stored_index m.carried ≡ Some index
     → IsStoreBy act call f → IsStored (spot (view h.floors c n)) m → Reached (Client n) f index past → IsKeptBody f index (lines_of past) → is_below c.clock index (find_cached f (c.clients n).cache) ≡ u
     → Goes s past (client_moves c n (cond (not t && u) (takes_stored (Client n) (c.clients n) c.clock p f index (λ body. body)) (takes_plain (Client n) (c.clients n) p call)))
 status_by true u s c past n p act call f index m reply h d is told same stored up kept below = plain_goes s c past n p act call m reply h d is same.asks
@@ -737,7 +739,7 @@ status_by false false s c past n p act call f index m reply h d is told same sto
 status_by false true s c past n p act call f index m reply h d is told same stored up kept below =
     takes_saved s c past n p act call f (λ body. body) index m h d (ap code_told is) (λ code x. absurd (reply_not reply code (sym is ∙ x))) same told stored up (left_body s c past n f index h kept below)
 
-pub set_goes : (s : Script) (c : Cell) (past : List Entry) (n p : ℕ) (act : Going) (call : FsCall) (status : AfsFetchStatus) (m : Message) (reply : FsReply) → (h : Holds s c past) → Due c h.floors past n p act m → m.carried ≡ carried.Reply reply → stored_index m.carried ≡ Some status.sync_counter
+pub set_goes : (s : Script) (c : Cell) (past : List Entry) (n p : ℕ) (act : Going) (call : FsCall) (status : AfsFetchStatus) (m : Message) (reply : FsReply) → (h : Holds s c past) → Due c h.floors past n p act m → m.carried ≡ carried.Reply (tell.File reply) → stored_index m.carried ≡ Some status.sync_counter
     → asked act ≡ call → FitsSet n (spot (view h.floors c n)) m past status call → Goes s past (client_moves c n (takes_set (Client n) (c.clients n) c.clock p status call))
 set_goes s c past n p act (calls.StoreData f st pp ww ll b) status m reply h d is told same fits = data_stored (c.clients n).spoiled s c past n p act st pp ww ll f b status m reply h d is told same fits
 set_goes s c past n p act (calls.StoreAcl f acl) status m reply h d is told same fits =
@@ -746,11 +748,11 @@ set_goes s c past n p act (calls.StoreStatus f st) status m reply h d is told sa
     status_by (c.clients n).spoiled (is_below c.clock status.sync_counter (find_cached f (c.clients n).cache)) s c past n p act (calls.StoreStatus f st) f status.sync_counter m reply h d is told (record { asks = same; scope = λ g. refl; changed = λ k g server newer o older w. w }) fits.1.0 fits.1.1 fits.0 refl
 set_goes s c past n p act call status m reply h d is told same fits = plain_goes s c past n p act call m reply h d is same
 
-pub takes_goes : (s : Script) (c : Cell) (past : List Entry) (n p : ℕ) (act : Going) (call : FsCall) (head : Head) (reply : FsReply) → (h : Holds s c past) → Due c h.floors past n p act (record { head = head; carried = carried.Reply reply }) → is_spent (c.clients n) act ≡ false → asked act ≡ call → Goes s past (client_moves c n (takes (Client n) (c.clients n) c.clock p act call reply))
-takes_goes s c past n p act call head (replies.FetchData contents status callback sync) h d fresh same = data_goes s c past n p act call head contents status callback sync h d fresh same (subst (λ (x : FsCall). FitsData (c.clients n).spoiled n (spot (view h.floors c n)) (record { head = head; carried = carried.Reply (replies.FetchData contents status callback sync) }) past contents status callback x) same d.answers.fits)
-takes_goes s c past n p act call head (replies.StoreData status sync) h d fresh same = set_goes s c past n p act call status _ (replies.StoreData status sync) h d refl refl same (subst (λ (x : FsCall). FitsSet n (spot (view h.floors c n)) (record { head = head; carried = carried.Reply (replies.StoreData status sync) }) past status x) same d.answers.fits)
-takes_goes s c past n p act call head (replies.StoreAcl status sync) h d fresh same = set_goes s c past n p act call status _ (replies.StoreAcl status sync) h d refl refl same (subst (λ (x : FsCall). FitsSet n (spot (view h.floors c n)) (record { head = head; carried = carried.Reply (replies.StoreAcl status sync) }) past status x) same d.answers.fits)
-takes_goes s c past n p act call head (replies.StoreStatus status sync) h d fresh same = set_goes s c past n p act call status _ (replies.StoreStatus status sync) h d refl refl same (subst (λ (x : FsCall). FitsSet n (spot (view h.floors c n)) (record { head = head; carried = carried.Reply (replies.StoreStatus status sync) }) past status x) same d.answers.fits)
+pub takes_goes : (s : Script) (c : Cell) (past : List Entry) (n p : ℕ) (act : Going) (call : FsCall) (head : Head) (reply : FsReply) → (h : Holds s c past) → Due c h.floors past n p act (record { head = head; carried = carried.Reply (tell.File reply) }) → is_spent (c.clients n) act ≡ false → asked act ≡ call → Goes s past (client_moves c n (takes (Client n) (c.clients n) c.clock p act call reply))
+takes_goes s c past n p act call head (replies.FetchData contents status callback sync) h d fresh same = data_goes s c past n p act call head contents status callback sync h d fresh same (subst (λ (x : FsCall). FitsData (c.clients n).spoiled n (spot (view h.floors c n)) (record { head = head; carried = carried.Reply (tell.File (replies.FetchData contents status callback sync)) }) past contents status callback x) same d.answers.fits)
+takes_goes s c past n p act call head (replies.StoreData status sync) h d fresh same = set_goes s c past n p act call status _ (replies.StoreData status sync) h d refl refl same (subst (λ (x : FsCall). FitsSet n (spot (view h.floors c n)) (record { head = head; carried = carried.Reply (tell.File (replies.StoreData status sync)) }) past status x) same d.answers.fits)
+takes_goes s c past n p act call head (replies.StoreAcl status sync) h d fresh same = set_goes s c past n p act call status _ (replies.StoreAcl status sync) h d refl refl same (subst (λ (x : FsCall). FitsSet n (spot (view h.floors c n)) (record { head = head; carried = carried.Reply (tell.File (replies.StoreAcl status sync)) }) past status x) same d.answers.fits)
+takes_goes s c past n p act call head (replies.StoreStatus status sync) h d fresh same = set_goes s c past n p act call status _ (replies.StoreStatus status sync) h d refl refl same (subst (λ (x : FsCall). FitsSet n (spot (view h.floors c n)) (record { head = head; carried = carried.Reply (tell.File (replies.StoreStatus status sync)) }) past status x) same d.answers.fits)
 takes_goes s c past n p act call head reply h d fresh same = plain_goes s c past n p act call _ reply h d refl same
 
 -- a reply that isn't used
@@ -762,7 +764,7 @@ pub refused_goes : (s : Script) (c : Cell) (past : List Entry) (n p : ℕ) (act 
 refused_goes s c past n p act head code true h d e = spent_goes s c past n p act _ h d e
 refused_goes s c past n p act head code false h d e = takes_refused s c past n p act head code h d
 
-pub replied_goes : (s : Script) (c : Cell) (past : List Entry) (n p : ℕ) (act : Going) (head : Head) (reply : FsReply) (t : Bool) → (h : Holds s c past) → Due c h.floors past n p act (record { head = head; carried = carried.Reply reply }) → is_spent (c.clients n) act ≡ t
+pub replied_goes : (s : Script) (c : Cell) (past : List Entry) (n p : ℕ) (act : Going) (head : Head) (reply : FsReply) (t : Bool) → (h : Holds s c past) → Due c h.floors past n p act (record { head = head; carried = carried.Reply (tell.File reply) }) → is_spent (c.clients n) act ≡ t
     → Goes s past (client_moves c n (cond t (calls_step (Client n) (c.clients n) act (lines.Given p)) (takes (Client n) (c.clients n) c.clock p act (call_of act) reply)))
 replied_goes s c past n p act head reply true h d e = spent_goes s c past n p act _ h d e
 replied_goes s c past n p act head reply false h d e = takes_goes s c past n p act (call_of act) head reply h d e (sym (call_is act))
@@ -805,7 +807,9 @@ pub counts_goes : (s : Script) (c : Cell) (past : List Entry) (n p : ℕ) (act :
     → OfNotice (IsNoticed c.server.boot (record { head = head; carried = x })) x → Awaited c n act (record { head = head; carried = x }) → (c.clients n).running ≡ Some act → Goes s past (client_moves c n (counts (Client n) (c.clients n) c.clock p act head x))
 counts_goes s c past n p act head (carried.Call user call) h heard to f k w runs = quiet s c past n p (record { head = head; carried = carried.Call user call }) h heard
 counts_goes s c past n p act head (carried.Refusal code) h heard to f k w runs = refused_goes s c past n p act head code (is_spent (c.clients n) act) h (is_due s c past n p act (record { head = head; carried = carried.Refusal code }) h heard to f w runs) refl
-counts_goes s c past n p act head (carried.Reply reply) h heard to f k w runs = replied_goes s c past n p act head reply (is_spent (c.clients n) act) h (is_due s c past n p act (record { head = head; carried = carried.Reply reply }) h heard to f w runs) refl
+counts_goes s c past n p act head (carried.Reply (tell.File reply)) h heard to f k w runs = replied_goes s c past n p act head reply (is_spent (c.clients n) act) h (is_due s c past n p act (record { head = head; carried = carried.Reply (tell.File reply) }) h heard to f w runs) refl
+counts_goes s c past n p act head (carried.Reply (tell.Volume reply)) h heard to f k w runs = quiet s c past n p (record { head = head; carried = carried.Reply (tell.Volume reply) }) h heard
+counts_goes s c past n p act head (carried.Reply (tell.Location reply)) h heard to f k w runs = quiet s c past n p (record { head = head; carried = carried.Reply (tell.Location reply) }) h heard
 counts_goes s c past n p act head carried.Notice h heard to f k w runs = resends_goes s c past n p act (record { head = head; carried = carried.Notice }) head.boot h heard k runs
 
 pub test_goes : (s : Script) (c : Cell) (past : List Entry) (n p : ℕ) (act : Going) (m : Message) (t : Bool) → (h : Holds s c past) → Heard c p m → m.head.to ≡ Client n → OfReply (ReplyIn (view h.floors c) past m) m.carried → OfNotice (IsNoticed c.server.boot m) m.carried → is_awaited (Client n) (c.clients n) act m.head ≡ t → (c.clients n).running ≡ Some act
@@ -831,7 +835,9 @@ to_notice n to X carried.Notice e h = by_client n to X e h
 
 pub hears_goes : (s : Script) (c : Cell) (past : List Entry) (n p : ℕ) (head : Head) (x : Carried) → (h : Holds s c past) → message_at c.sent p ≡ Some (record { head = head; carried = x }) → head.to ≡ Client n → Heard c p (record { head = head; carried = x }) → OfCall (ByServer (BackIn c.down c.backs.calls c.backs.last_call c.server.boot)) head x
     → IfReply (ReplyIn (view h.floors c) past) (record { head = head; carried = x }) → IfNotice (IsNoticed c.server.boot) (record { head = head; carried = x }) → Goes s past (client_moves c n (hears_in (Client n) (c.clients n) c.clock p head x))
-hears_goes s c past n p head (carried.Call user call) h at to heard b f k = called_goes s c past n p head user call h heard to b
+hears_goes s c past n p head (carried.Call user (ask.File call)) h at to heard b f k = called_goes s c past n p head user call h heard to b
+hears_goes s c past n p head (carried.Call user (ask.Volume call)) h at to heard b f k = absurd b
+hears_goes s c past n p head (carried.Call user (ask.Location call)) h at to heard b f k = absurd b
 hears_goes s c past n p head (carried.Refusal code) h at to heard b f k = awaits_goes s c past n p _ (c.clients n).running h heard to (by_client n head.to _ to f) tt refl
 hears_goes s c past n p head (carried.Reply reply) h at to heard b f k = awaits_goes s c past n p _ (c.clients n).running h heard to (by_client n head.to _ to f) tt refl
 hears_goes s c past n p head carried.Notice h at to heard b f k = awaits_goes s c past n p _ (c.clients n).running h heard to tt (by_client n head.to _ to k) refl

@@ -40,6 +40,8 @@ use Rattle.std.proofs.Math.Nat.{le_refl}
 use Rattle.afs_num.specs.declared.messages.Carried.{Carried}
 use Rattle.afs_num.specs.declared.calls.FsCall.TheVariants as calls
 use Rattle.afs_num.specs.declared.messages.Carried.TheVariants as carried
+use Rattle.afs_num.specs.declared.messages.Reply.TheVariants as tell
+use Rattle.afs_num.specs.declared.messages.Call.TheVariants as ask
 use Rattle.afs_num.specs.declared.histories.Body.TheVariants as bodies
 use Rattle.afs_law.specs.Lines as lines
 
@@ -405,7 +407,7 @@ safe_own act t e l running cache aged head r x y = inr (inl (record { act = act;
 -- ---- the call under the key of one that is sent now
 
 pub under_by : (t : Bool) (c : Carried) (o p : Option (List ℕ × FsCall)) (x : List ℕ × FsCall) (k : Key) (head : Head) → is_called k head c ≡ t → cond t (call_in c) o ≡ None → (o ≡ None → p ≡ Some x) → cond t (call_in c) p ≡ Some x
-under_by true (carried.Call user call) o p x k head t e h = absurd cc
+under_by true (carried.Call user (ask.File call)) o p x k head t e h = absurd cc
 under_by true (carried.Refusal code) o p x k head t e h = absurd cc
 under_by true (carried.Reply reply) o p x k head t e h = absurd cc
 under_by true carried.Notice o p x k head t e h = absurd cc
@@ -427,7 +429,9 @@ not_called v n views k head user call true e a b d g =
     absurd (next_not head.epoch head.number (views n).epoch (views n).last old (eqb-true _ _ q.0 ∙ b) (eqb-true _ _ q.1 ∙ d))
 
 pub none_by : (views : ℕ → View) (n : ℕ) (k : Key) (head : Head) (c : Carried) (o : Option (List ℕ × FsCall)) → k.node ≡ Client n → k.epoch ≡ (views n).epoch → k.number ≡ (views n).last + 1 → OfCall (ByClient (CallIn views)) head c → o ≡ None → cond (is_called k head c) (call_in c) o ≡ None
-none_by views n k head (carried.Call user call) o a b d f e = rw (not_called (views n) n views k head user call (same_key (called_key head) k) refl a b d f) e
+none_by views n k head (carried.Call user (ask.File call)) o a b d f e = rw (not_called (views n) n views k head user call (same_key (called_key head) k) refl a b d f) e
+none_by views n k head (carried.Call user (ask.Volume call)) o a b d f e = absurd f
+none_by views n k head (carried.Call user (ask.Location call)) o a b d f e = absurd f
 none_by views n k head (carried.Refusal code) o a b d f e = e
 none_by views n k head (carried.Reply reply) o a b d f e = e
 none_by views n k head carried.Notice o a b d f e = e
@@ -437,7 +441,7 @@ none_under views n k [] a b d h = refl
 none_under views n k (m ∷ sent) a b d h = none_by views n k m.head m.carried (call_under k sent) a b d h.0 (none_under views n k sent a b d h.1)
 
 -- a call that was sent is the one under its key
-pub sends_by : (n : ℕ) (k : Key) (user : List ℕ) (call : FsCall) (S : List Message) (head : Head) (c : Carried) → k.node ≡ Client n → called_key head ≡ k → c ≡ carried.Call user call → OfCall (ByClient (IsOne S)) head c → call_under k S ≡ Some (user, call)
+pub sends_by : (n : ℕ) (k : Key) (user : List ℕ) (call : FsCall) (S : List Message) (head : Head) (c : Carried) → k.node ≡ Client n → called_key head ≡ k → c ≡ carried.Call user (ask.File call) → OfCall (ByClient (IsOne S)) head c → call_under k S ≡ Some (user, call)
 sends_by n k user call S head c node key is h = subst (λ (l : Key). call_under l S ≡ Some (user, call)) key (by_client n head.from (IsOne S head user call) (ap (λ (l : Key). l.node) key ∙ node) (subst (λ (x : Carried). OfCall (ByClient (IsOne S)) head x) is h))
 
 pub sends_one : (n : ℕ) (k : Key) (user : List ℕ) (call : FsCall) (S ms : List Message) → k.node ≡ Client n → Sends k user call ms → Each (IfCall (IsOne S)) ms → call_under k S ≡ Some (user, call)
@@ -540,7 +544,7 @@ asks s c past n act l h good p q r none shut at went =
         | inr o ↦ absurd (no_scope (asked o.act) f (shut o.act o.runs) o.scope)
       ]) (d.current f u found lasts);
       runs = λ b y. at ∙ y;
-      asked = λ b y. subst (λ (a : Going). CalledSince (last_key n v) guest (asked a) (e ∷ past)) (some_of act b y) (inl (refl, inl (refl, ap (λ (z : FsCall). carried.Call guest z) (call_is act))));
+      asked = λ b y. subst (λ (a : Going). CalledSince (last_key n v) guest (asked a) (e ∷ past)) (some_of act b y) (inl (refl, inl (refl, ap (λ (z : FsCall). carried.Call guest (ask.File z)) (call_is act))));
       reached = reached_still s c past n e h (λ f. (r f).both) last;
     })
     (λ head call f. record {

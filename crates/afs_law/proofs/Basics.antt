@@ -22,6 +22,8 @@ use Rattle.afs_num.specs.declared.calls.FsCall.{FsCall}
 use Rattle.afs_num.specs.declared.messages.Carried.{Carried}
 use Rattle.afs_num.specs.declared.messages.Message.{Message}
 use Rattle.afs_num.specs.declared.messages.Carried.TheVariants as carried
+use Rattle.afs_num.specs.declared.messages.Reply.TheVariants as tell
+use Rattle.afs_num.specs.declared.messages.Call.TheVariants as ask
 use Rattle.afs_num.specs.declared.histories.Body.TheVariants as bodies
 
 -- Small laws: fids, nodes and keys; pairs of epoch and number; seats; what is found; lists of messages.
@@ -307,7 +309,8 @@ found-refreshed clock f g i b (v ∷ vs) = rw (refreshed_fid_by (same_fid v.fid 
 -- ---- every call, every reply in a list of messages
 
 abbrev pub OfCall : (Head → List ℕ → FsCall → Type 0) → Head → Carried → Type 0
-OfCall P head (carried.Call user call) = P head user call
+OfCall P head (carried.Call user (ask.File call)) = P head user call
+OfCall P head (carried.Call user call) = ⊥
 OfCall P head c = ⊤
 
 abbrev pub OfReply : Type 0 → Carried → Type 0
@@ -400,7 +403,9 @@ each_at P (x ∷ a) (suc zero) m e h = let one : x ≡ m = cc in subst P one h.0
 each_at P (x ∷ a) (suc (suc p)) m e h = each_at P a (suc p) m e h.1
 
 of_call : (P Q : Head → List ℕ → FsCall → Type 0) → ((head : Head) (user : List ℕ) (call : FsCall) → P head user call → Q head user call) → (head : Head) (c : Carried) → OfCall P head c → OfCall Q head c
-of_call P Q w head (carried.Call user call) h = w head user call h
+of_call P Q w head (carried.Call user (ask.File call)) h = w head user call h
+of_call P Q w head (carried.Call user (ask.Volume call)) h = absurd h
+of_call P Q w head (carried.Call user (ask.Location call)) h = absurd h
 of_call P Q w head (carried.Refusal code) h = tt
 of_call P Q w head (carried.Reply reply) h = tt
 of_call P Q w head carried.Notice h = tt

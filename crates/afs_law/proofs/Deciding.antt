@@ -59,6 +59,8 @@ use Rattle.afs_num.specs.declared.calls.AfsFetchStatus.{AfsFetchStatus}
 use Rattle.afs_num.specs.declared.calls.AfsCallBack.{AfsCallBack}
 use Rattle.afs_num.specs.declared.calls.FsCall.TheVariants as calls
 use Rattle.afs_num.specs.declared.messages.Carried.TheVariants as carried
+use Rattle.afs_num.specs.declared.messages.Reply.TheVariants as tell
+use Rattle.afs_num.specs.declared.messages.Call.TheVariants as ask
 use Rattle.afs_num.specs.declared.histories.Body.TheVariants as bodies
 use Rattle.afs_law.specs.Lines as lines
 use Rattle.afs_num.specs.declared.calls.FsReply.TheVariants as replies
@@ -111,7 +113,7 @@ pub record JustSave (c : Cell) (fl : ℕ → Ghost) (past : List Entry) (msg : M
 
 -- the message is a call that runs nothing
 abbrev pub called_at : Head → List ℕ → FsCall → Message
-called_at head user call = record { head = head; carried = carried.Call user call }
+called_at head user call = record { head = head; carried = carried.Call user (ask.File call) }
 
 pub record IdleCall (c : Cell) (msg : Message) : Type 0 where
   pub idle : Idle c msg
@@ -168,7 +170,7 @@ with_just s c past n h user call (Some id) H w of = in_just s c past n h user ca
 
 -- a message that can be read
 abbrev pub read_call : Head → List ℕ → FsCall → Received
-read_call head user call = Whole (record { head = head; carried = carried.Call user call })
+read_call head user call = Whole (record { head = head; carried = carried.Call user (ask.File call) })
 
 pub runs_just : (s : Script) (c : Cell) (past : List Entry) (n : ℕ) (h : Head) (user : List ℕ) (call : FsCall) → (H : Holds s c past) → Now c H.floors past n h user call → IsJust c H.floors past (call_at n h user call) (serves_call c.server (client_head n h) user call)
 runs_just s c past n h user call H w = with_just s c past n h user call (volume_called call) H w refl
@@ -208,11 +210,11 @@ pub is_client_head : (n : ℕ) (h : Head) → h.from ≡ Client n → h.to ≡ t
 is_client_head n h from to = ap (λ (x : Node). record h { from = x }) from ∙ ap (λ (x : Node). record h { from = Client n; to = x }) to
 
 pub called_just : (s : Script) (c : Cell) (past : List Entry) (head : Head) (user : List ℕ) (call : FsCall) → (H : Holds s c past) → CallIn (view H.floors c) head user call → Origin past head user call → IsActs past head user call → IsOne (sent_of past) head user call
-    → IsJust c H.floors past (record { head = head; carried = carried.Call user call }) (called the_server c.server head (read_call head user call))
+    → IsJust c H.floors past (record { head = head; carried = carried.Call user (ask.File call) }) (called the_server c.server head (read_call head user call))
 called_just s c past head user call H f from acts one =
     let n : ℕ = f.client in
     let is : head ≡ client_head n head = is_client_head n head f.from f.to in
-    subst (λ (x : Head). IsJust c H.floors past (record { head = x; carried = carried.Call user call }) (called the_server c.server x (read_call x user call))) (sym is)
+    subst (λ (x : Head). IsJust c H.floors past (record { head = x; carried = carried.Call user (ask.File call) }) (called the_server c.server x (read_call x user call))) (sym is)
     (booted_just s c past n head user call (nat_eq head.boot c.server.boot) H refl
     (subst (λ (x : Head). CallFact (view H.floors c n) x call) is f.fact)
     (subst (λ (x : Head). Origin past x user call) is from)
@@ -233,7 +235,9 @@ called_by s c past head user call (Admin n) H e f from acts one away = called_ap
 called_by s c past head user call Loc H e f from acts one away = called_apart s c past head user call (same_node head.to the_server) H refl (away (λ j x. absurd cc))
 
 pub hears_just : (s : Script) (c : Cell) (past : List Entry) (head : Head) (x : Carried) → (H : Holds s c past) → OfCall (ByClient (CallIn (view H.floors c))) head x → OfCall (ByClient (Origin past)) head x → OfCall (ByClient (IsActs past)) head x → OfCall (ByClient (IsOne (sent_of past))) head x → OfCall (ToClient) head x → IsJust c H.floors past (record { head = head; carried = x }) (hears the_server c.server head x)
-hears_just s c past head (carried.Call user call) H f from acts one away = called_by s c past head user call head.from H refl f from acts one away
+hears_just s c past head (carried.Call user (ask.File call)) H f from acts one away = called_by s c past head user call head.from H refl f from acts one away
+hears_just s c past head (carried.Call user (ask.Volume call)) H f from acts one away = absurd f
+hears_just s c past head (carried.Call user (ask.Location call)) H f from acts one away = absurd f
 hears_just s c past head (carried.Refusal code) H f from acts one away = λ k b y may. y.0.0
 hears_just s c past head (carried.Reply reply) H f from acts one away = λ k b y may. y.0.0
 hears_just s c past head carried.Notice H f from acts one away = λ k b y may. y.0.0
@@ -357,7 +361,7 @@ abbrev pub revived_cell : Cell → Cell
 revived_cell c = record c { server = revived c.server; down = None; armed = unarmed }
 
 pub fits_later : (sp : Bool) (j : ℕ) (call : FsCall) (x : Spot) (boot : ℕ) (m : Message) (c : Carried) (past : List Entry) → Fits sp j call x boot m c past → Fits sp j call x (boot + 1) m c past
-fits_later sp j call x boot m (carried.Reply reply) past h = h
+fits_later sp j call x boot m (carried.Reply (tell.File reply)) past h = h
 fits_later sp j call x boot m (carried.Refusal code) past h = (h.0, λ z. let l : m.head.boot < boot = h.1 z in omega arith)
 fits_later sp j call x boot m c past h = absurd h
 

@@ -40,6 +40,8 @@ use Rattle.afs_num.specs.declared.calls.FsReply.{FsReply}
 use Rattle.afs_num.specs.declared.calls.FsReply.TheVariants as replies
 use Rattle.afs_num.specs.declared.messages.Carried.{Carried}
 use Rattle.afs_num.specs.declared.messages.Carried.TheVariants as carried
+use Rattle.afs_num.specs.declared.messages.Reply.TheVariants as tell
+use Rattle.afs_num.specs.declared.messages.Call.TheVariants as ask
 use Rattle.afs_num.specs.declared.messages.Message.{Message}
 use Rattle.afs_num.specs.declared.scripts.Script.{Script}
 use Rattle.afs_num.specs.declared.histories.Actor.TheVariants as actors
@@ -315,11 +317,11 @@ broken_reply sp n p call x m reply fs ms past last h = h
 
 pub broken_fits : (sp : Bool) (n p : ℕ) (call : FsCall) (x : Spot) (boot : ℕ) (m : Message) (c : Carried) (fs : List Fid) (ms : List Message) (past : List Entry) → ((f : Fid) → last_version f (lines_of (step_entry n (broken_lines n p fs) ms ∷ past)) ≡ last_version f (lines_of past))
     → Fits sp n call x boot m c past → Fits (cond (names_call fs call) true sp) n call x boot m c (step_entry n (broken_lines n p fs) ms ∷ past)
-broken_fits sp n p call x boot m (carried.Reply reply) fs ms past last h = broken_reply sp n p call x m reply fs ms past last h
+broken_fits sp n p call x boot m (carried.Reply (tell.File reply)) fs ms past last h = broken_reply sp n p call x m reply fs ms past last h
 broken_fits sp n p call x boot m (carried.Refusal code) fs ms past last h = h
 broken_fits sp n p call x boot m c fs ms past last h = absurd h
 
-pub drops_goes : (s : Script) (c : Cell) (past : List Entry) (n p : ℕ) (head : Head) (user : List ℕ) (fs : List Fid) (cbs : List AfsCallBack) → (h : Holds s c past) → Heard c p (record { head = head; carried = carried.Call user (calls.CallBack fs cbs) }) → head.to ≡ Client n → head.from ≡ the_server
+pub drops_goes : (s : Script) (c : Cell) (past : List Entry) (n p : ℕ) (head : Head) (user : List ℕ) (fs : List Fid) (cbs : List AfsCallBack) → (h : Holds s c past) → Heard c p (record { head = head; carried = carried.Call user (ask.File (calls.CallBack fs cbs)) }) → head.to ≡ Client n → head.from ≡ the_server
     → BackIn c.down c.backs.calls c.backs.last_call c.server.boot head user (calls.CallBack fs cbs) → Goes s past (client_moves c n (drops_fids (Client n) (c.clients n) p head fs))
 drops_goes s c past n p head user fs cbs h heard to from b =
     let d = h.clients n in
@@ -417,11 +419,11 @@ all_reply sp n call x m reply e past v r w last h = h
 
 pub all_fits : (sp : Bool) (n p : ℕ) (call : FsCall) (x : Spot) (boot : ℕ) (m : Message) (c : Carried) (e : Entry) (past : List Entry) → ((f : Fid) (i : ℕ) (b : Body) → HasVersion f i b (lines_of past) → HasVersion f i b (lines_of (e ∷ past))) → ((f : Fid) → PassesReach n f e past) → ((f : Fid) (i : ℕ) (q : Node) (o : List Line) → IsWithdrawn q (Client n) f o → IsWithdrawn q (Client n) f (onto o e.lines))
     → ((f : Fid) → last_version f (lines_of (e ∷ past)) ≡ last_version f (lines_of past)) → Fits sp n call x boot m c past → Fits true n call x boot m c (e ∷ past)
-all_fits sp n p call x boot m (carried.Reply reply) e past v r w last h = all_reply sp n call x m reply e past v r w last h
+all_fits sp n p call x boot m (carried.Reply (tell.File reply)) e past v r w last h = all_reply sp n call x m reply e past v r w last h
 all_fits sp n p call x boot m (carried.Refusal code) e past v r w last h = h
 all_fits sp n p call x boot m c e past v r w last h = absurd h
 
-pub drops_all_goes : (s : Script) (c : Cell) (past : List Entry) (n p : ℕ) (head : Head) (user : List ℕ) → (h : Holds s c past) → Heard c p (record { head = head; carried = carried.Call user calls.InitCallBackState }) → head.to ≡ Client n → head.from ≡ the_server
+pub drops_all_goes : (s : Script) (c : Cell) (past : List Entry) (n p : ℕ) (head : Head) (user : List ℕ) → (h : Holds s c past) → Heard c p (record { head = head; carried = carried.Call user (ask.File call)s.InitCallBackState }) → head.to ≡ Client n → head.from ≡ the_server
     → BackIn c.down c.backs.calls c.backs.last_call c.server.boot head user calls.InitCallBackState → Goes s past (client_moves c n (drops_all (Client n) (c.clients n) p head))
 drops_all_goes s c past n p head user h heard to from b =
     let d = h.clients n in
@@ -465,7 +467,7 @@ drops_all_goes s c past n p head user h heard to from b =
 
 -- ---- the row, by its cases
 
-pub breaks_goes : (s : Script) (c : Cell) (past : List Entry) (n p : ℕ) (head : Head) (user : List ℕ) (call : FsCall) → (h : Holds s c past) → Heard c p (record { head = head; carried = carried.Call user call }) → head.to ≡ Client n → head.from ≡ the_server
+pub breaks_goes : (s : Script) (c : Cell) (past : List Entry) (n p : ℕ) (head : Head) (user : List ℕ) (call : FsCall) → (h : Holds s c past) → Heard c p (record { head = head; carried = carried.Call user (ask.File call) }) → head.to ≡ Client n → head.from ≡ the_server
     → BackIn c.down c.backs.calls c.backs.last_call c.server.boot head user call → Goes s past (client_moves c n (breaks (Client n) (c.clients n) p head call))
 breaks_goes s c past n p head user (calls.CallBack fs cbs) h heard to from b = drops_goes s c past n p head user fs cbs h heard to from b
 breaks_goes s c past n p head user calls.InitCallBackState h heard to from b = drops_all_goes s c past n p head user h heard to from b
@@ -474,7 +476,7 @@ breaks_goes s c past n p head user call h heard to from b = quiet s c past n p _
 pub again_goes : (s : Script) (c : Cell) (past : List Entry) (n p : ℕ) (m r : Message) → (h : Holds s c past) → Heard c p m → LastSeat m.head.epoch m.head.number (c.clients n).seat r → Goes s past (client_moves c n (told_step (c.clients n) p (r ∷ [])))
 again_goes s c past n p m r h heard l = tells_goes s c past n p m (r ∷ []) h heard (λ e plain. reply_fresh c n _ (e ∷ past) r (old_seat s c past n e plain h l.seat r l.at l.reply))
 
-pub admits_goes : (s : Script) (c : Cell) (past : List Entry) (n p : ℕ) (head : Head) (user : List ℕ) (call : FsCall) (o : Admitted Message) → (h : Holds s c past) → Heard c p (record { head = head; carried = carried.Call user call }) → head.to ≡ Client n → head.from ≡ the_server
+pub admits_goes : (s : Script) (c : Cell) (past : List Entry) (n p : ℕ) (head : Head) (user : List ℕ) (call : FsCall) (o : Admitted Message) → (h : Holds s c past) → Heard c p (record { head = head; carried = carried.Call user (ask.File call) }) → head.to ≡ Client n → head.from ≡ the_server
     → BackIn c.down c.backs.calls c.backs.last_call c.server.boot head user call → pairs.paired head.epoch head.number (c.clients n).seat ≡ o → Goes s past (client_moves c n (admits_back (Client n) (c.clients n) p head call o))
 admits_goes s c past n p head user call pairs.runs h heard to from b e = breaks_goes s c past n p head user call h heard to from b
 admits_goes s c past n p head user call (pairs.kept r) h heard to from b e = again_goes s c past n p _ r h heard (kept_last head.epoch head.number (c.clients n).seat r e)
@@ -482,18 +484,18 @@ admits_goes s c past n p head user call pairs.in_progress h heard to from b e = 
 admits_goes s c past n p head user call pairs.older h heard to from b e = quiet s c past n p _ h heard
 admits_goes s c past n p head user call (pairs.wrong_boot boot) h heard to from b e = tells_goes s c past n p _ _ h heard (λ e plain. notice_fresh c n _ (e ∷ past) (c.clients n).epoch head from)
 
-pub booted_goes : (s : Script) (c : Cell) (past : List Entry) (n p : ℕ) (head : Head) (user : List ℕ) (call : FsCall) (t : Bool) → (h : Holds s c past) → Heard c p (record { head = head; carried = carried.Call user call }) → head.to ≡ Client n → head.from ≡ the_server
+pub booted_goes : (s : Script) (c : Cell) (past : List Entry) (n p : ℕ) (head : Head) (user : List ℕ) (call : FsCall) (t : Bool) → (h : Holds s c past) → Heard c p (record { head = head; carried = carried.Call user (ask.File call) }) → head.to ≡ Client n → head.from ≡ the_server
     → BackIn c.down c.backs.calls c.backs.last_call c.server.boot head user call → Goes s past (client_moves c n (cond t (admits_back (Client n) (c.clients n) p head call (pairs.paired head.epoch head.number (c.clients n).seat)) (told_step (c.clients n) p (boot_told (c.clients n).epoch head ∷ []))))
 booted_goes s c past n p head user call true h heard to from b = admits_goes s c past n p head user call (pairs.paired head.epoch head.number (c.clients n).seat) h heard to from b refl
 booted_goes s c past n p head user call false h heard to from b = tells_goes s c past n p _ _ h heard (λ e plain. notice_fresh c n _ (e ∷ past) (c.clients n).epoch head from)
 
-pub from_goes : (s : Script) (c : Cell) (past : List Entry) (n p : ℕ) (head : Head) (user : List ℕ) (call : FsCall) (t : Bool) → (h : Holds s c past) → Heard c p (record { head = head; carried = carried.Call user call }) → head.to ≡ Client n → same_node head.from the_server ≡ t
+pub from_goes : (s : Script) (c : Cell) (past : List Entry) (n p : ℕ) (head : Head) (user : List ℕ) (call : FsCall) (t : Bool) → (h : Holds s c past) → Heard c p (record { head = head; carried = carried.Call user (ask.File call) }) → head.to ≡ Client n → same_node head.from the_server ≡ t
     → OfServer head.from (BackIn c.down c.backs.calls c.backs.last_call c.server.boot head user call) → Goes s past (client_moves c n (cond t (cond (nat_eq head.boot (c.clients n).epoch) (admits_back (Client n) (c.clients n) p head call (pairs.paired head.epoch head.number (c.clients n).seat)) (told_step (c.clients n) p (boot_told (c.clients n).epoch head ∷ []))) (ignores (c.clients n) p)))
 from_goes s c past n p head user call true h heard to e b =
     let from : head.from ≡ the_server = same_node-true head.from the_server e in
     booted_goes s c past n p head user call (nat_eq head.boot (c.clients n).epoch) h heard to from (by_server 1 head.from _ from b)
 from_goes s c past n p head user call false h heard to e b = quiet s c past n p _ h heard
 
-pub called_goes : (s : Script) (c : Cell) (past : List Entry) (n p : ℕ) (head : Head) (user : List ℕ) (call : FsCall) → (h : Holds s c past) → Heard c p (record { head = head; carried = carried.Call user call }) → head.to ≡ Client n
+pub called_goes : (s : Script) (c : Cell) (past : List Entry) (n p : ℕ) (head : Head) (user : List ℕ) (call : FsCall) → (h : Holds s c past) → Heard c p (record { head = head; carried = carried.Call user (ask.File call) }) → head.to ≡ Client n
     → OfServer head.from (BackIn c.down c.backs.calls c.backs.last_call c.server.boot head user call) → Goes s past (client_moves c n (called_back (Client n) (c.clients n) p head call))
 called_goes s c past n p head user call h heard to b = from_goes s c past n p head user call (same_node head.from the_server) h heard to refl b

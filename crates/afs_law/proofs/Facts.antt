@@ -42,6 +42,7 @@ use Rattle.afs_law.specs.Lines as lines
 use Rattle.afs_num.specs.declared.calls.FsCall.TheVariants as calls
 use Rattle.afs_num.specs.declared.calls.FsReply.TheVariants as replies
 use Rattle.afs_num.specs.declared.messages.Carried.TheVariants as carried
+use Rattle.afs_num.specs.declared.messages.Reply.TheVariants as tell
 use Rattle.afs_num.specs.declared.histories.Body.TheVariants as bodies
 use Rattle.afs_num.specs.declared.types.Half.TheVariants as halves
 
@@ -176,9 +177,9 @@ abbrev pub Plain : ℕ → Fid → ℕ → Node → List Line → View → List 
 Plain j f index server newer v past = IsPlain j f index server newer v.running (spot v) past
 
 abbrev pub stored_index : Carried → Option ℕ
-stored_index (carried.Reply (replies.StoreData status sync)) = Some status.sync_counter
-stored_index (carried.Reply (replies.StoreAcl status sync)) = Some status.sync_counter
-stored_index (carried.Reply (replies.StoreStatus status sync)) = Some status.sync_counter
+stored_index (carried.Reply (tell.File (replies.StoreData status sync))) = Some status.sync_counter
+stored_index (carried.Reply (tell.File (replies.StoreAcl status sync))) = Some status.sync_counter
+stored_index (carried.Reply (tell.File (replies.StoreStatus status sync))) = Some status.sync_counter
 stored_index c = None
 
 pub record WasStored (j : ℕ) (f : Fid) (server : Node) (newer : List Line) (kept_reply : Option Message) (past : List Entry) : Type 0 where
@@ -275,7 +276,7 @@ FitsReply sp j call v m past reply = FitsPlain v m call
 
 -- A refusal has a code. A refused call may have changed something since, but in a later boot
 abbrev pub Fits : Bool → ℕ → FsCall → Spot → ℕ → Message → Carried → List Entry → Type 0
-Fits sp j call v boot m (carried.Reply reply) past = FitsReply sp j call v m past reply
+Fits sp j call v boot m (carried.Reply (tell.File reply)) past = FitsReply sp j call v m past reply
 Fits sp j call v boot m (carried.Refusal code) past = (is_zero_code code ≡ false) × (LastStored v → m.head.boot < boot)
 Fits sp j call v boot m c past = ⊥
 

@@ -32,6 +32,8 @@ use Rattle.afs_num.specs.declared.calls.AfsFetchStatus.{AfsFetchStatus}
 use Rattle.afs_num.specs.declared.calls.AfsCallBack.{AfsCallBack}
 use Rattle.afs_num.specs.declared.calls.FsReply.TheVariants as replies
 use Rattle.afs_num.specs.declared.messages.Carried.TheVariants as carried
+use Rattle.afs_num.specs.declared.messages.Reply.TheVariants as tell
+use Rattle.afs_num.specs.declared.messages.Call.TheVariants as ask
 use Rattle.afs_num.specs.declared.histories.Body.TheVariants as bodies
 use Rattle.afs_law.specs.Lines as lines
 use Rattle.afs_num.specs.declared.calls.FsCall.TheVariants as calls
@@ -254,7 +256,7 @@ reply_fits sp j call v m e past reply p r n h = h
 
 fits_over : (sp : Bool) (j : ℕ) (call : FsCall) (v : Spot) (boot : ℕ) (m : Message) (c : Carried) (e : Entry) (past : List Entry) → ((f : Fid) → PassesGrant j f e past) → ((f : Fid) → PassesReach j f e past) → ((f : Fid) → StaysNewest j f e past)
     → Fits sp j call v boot m c past → Fits sp j call v boot m c (e ∷ past)
-fits_over sp j call v boot m (carried.Reply reply) e past p r n h = reply_fits sp j call v m e past reply p r n h
+fits_over sp j call v boot m (carried.Reply (tell.File reply)) e past p r n h = reply_fits sp j call v m e past reply p r n h
 fits_over sp j call v boot m (carried.Refusal code) e past p r n h = h
 fits_over sp j call v boot m c e past p r n h = absurd h
 
@@ -327,7 +329,9 @@ among_key k P head user call rest true t e h w = record { head = head; user = us
 among_key k P head user call rest false t e h w = w e
 
 among_by : (k : Key) (P : Head → List ℕ → FsCall → Type 0) (head : Head) (c : Carried) (rest : Bool) → cond (is_called k head c) true rest ≡ true → OfCall P head c → (rest ≡ true → IsAmong k P) → IsAmong k P
-among_by k P head (carried.Call user call) rest e h w = among_key k P head user call rest (same_key (called_key head) k) refl e h w
+among_by k P head (carried.Call user (ask.File call)) rest e h w = among_key k P head user call rest (same_key (called_key head) k) refl e h w
+among_by k P head (carried.Call user (ask.Volume call)) rest e h w = absurd h
+among_by k P head (carried.Call user (ask.Location call)) rest e h w = absurd h
 among_by k P head (carried.Refusal code) rest e h w = w e
 among_by k P head (carried.Reply reply) rest e h w = w e
 among_by k P head carried.Notice rest e h w = w e
@@ -372,7 +376,9 @@ both_client (Admin n) X Y Z w x y = tt
 both_client Loc X Y Z w x y = tt
 
 acts_one : (c : Carried) (head : Head) (e : Entry) (past : List Entry) (w : ℕ → View) → Each (IfCall (IsLastCall w)) e.sent → ((j : ℕ) → ClientFacts j (w j) (e ∷ past)) → ((j : ℕ) (a : Going) → (w j).running ≡ Some a → has_begun (Client j) e.lines ≡ false → ((running (Client j) (lines_of past) ≡ Some a) ⊎ Reading (running (Client j) (lines_of past)))) → OfCall (ByClient (CallIn w)) head c → OfCall (ByClient (IsActs past)) head c → OfCall (ByClient (IsActs (e ∷ past))) head c
-acts_one (carried.Call user call) head e past w lasts now k f h = both_client head.from _ _ _ (act_over e past w head user call lasts now k) f h
+acts_one (carried.Call user (ask.File call)) head e past w lasts now k f h = both_client head.from _ _ _ (act_over e past w head user call lasts now k) f h
+acts_one (carried.Call user (ask.Volume call)) head e past w lasts now k f h = absurd f
+acts_one (carried.Call user (ask.Location call)) head e past w lasts now k f h = absurd f
 acts_one (carried.Refusal code) head e past w lasts now k f h = tt
 acts_one (carried.Reply reply) head e past w lasts now k f h = tt
 acts_one carried.Notice head e past w lasts now k f h = tt

@@ -4,6 +4,8 @@ use Rattle.std.specs.Prelude.{⊤, map, filter, not}
 use Rattle.afs_num.specs.declared.messages.Message.{Message}
 use Rattle.afs_num.specs.declared.messages.Carried.{Carried}
 use Rattle.afs_num.specs.declared.messages.Carried.TheVariants as carried
+use Rattle.afs_num.specs.declared.messages.Reply.TheVariants as tell
+use Rattle.afs_num.specs.declared.messages.Call.TheVariants as ask
 use Rattle.afs_num.specs.declared.types.Head.{Head}
 use Rattle.afs_num.specs.declared.calls.FsCall.{FsCall}
 use Rattle.afs_law.proofs.Basics.{Each, each_more, OfCall, OfReply, OfNotice, ByClient, client_any}

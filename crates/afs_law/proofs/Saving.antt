@@ -61,6 +61,7 @@ use Rattle.afs_num.specs.declared.calls.AfsFetchStatus.{AfsFetchStatus}
 use Rattle.afs_num.specs.declared.calls.AfsCallBack.{AfsCallBack}
 use Rattle.afs_num.specs.declared.calls.FsCall.TheVariants as calls
 use Rattle.afs_num.specs.declared.messages.Carried.TheVariants as carried
+use Rattle.afs_num.specs.declared.messages.Reply.TheVariants as tell
 use Rattle.afs_num.specs.declared.histories.Body.TheVariants as bodies
 use Rattle.afs_law.specs.Lines as lines
 use Rattle.afs_num.specs.declared.calls.FsReply.TheVariants as replies
@@ -641,7 +642,7 @@ reply_again sp (replies.StoreStatus status sync) n call x z m past newer some no
 reply_again sp reply n call x z m past newer some none h = plain_again call x z m some none (volume_changed call) refl h
 
 pub saved_again : (sp : Bool) (n : ℕ) (call : FsCall) (x z : Spot) (boot : ℕ) (m : Message) (c : Carried) (past newer : List Entry) → (volume_changed call ≡ None → ⊥) → (LastStored x → ⊥) → m.head.boot < boot → Fits sp n call x boot m c past → Fits sp n call z boot m c newer
-saved_again sp n call x z boot m (carried.Reply reply) past newer some none lt h = reply_again sp reply n call x z m past newer some none h
+saved_again sp n call x z boot m (carried.Reply (tell.File reply)) past newer some none lt h = reply_again sp reply n call x z m past newer some none h
 saved_again sp n call x z boot m (carried.Refusal code) past newer some none lt h = (h.0, λ y. lt)
 saved_again sp n call x z boot m c past newer some none lt h = absurd h
 

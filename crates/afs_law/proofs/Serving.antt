@@ -59,6 +59,8 @@ use Rattle.afs_num.specs.declared.calls.AfsFetchStatus.{AfsFetchStatus}
 use Rattle.afs_num.specs.declared.calls.AfsCallBack.{AfsCallBack}
 use Rattle.afs_num.specs.declared.calls.FsCall.TheVariants as calls
 use Rattle.afs_num.specs.declared.messages.Carried.TheVariants as carried
+use Rattle.afs_num.specs.declared.messages.Reply.TheVariants as tell
+use Rattle.afs_num.specs.declared.messages.Call.TheVariants as ask
 use Rattle.afs_num.specs.declared.histories.Body.TheVariants as bodies
 use Rattle.afs_law.specs.Lines as lines
 use Rattle.afs_num.specs.declared.calls.FsReply.TheVariants as replies
@@ -269,7 +271,7 @@ pub record Now (c : Cell) (fl : ℕ → Ghost) (past : List Entry) (n : ℕ) (h 
   pub one : call_under (called_key (client_head n h)) (sent_of past) ≡ Some (user, call)
 
 abbrev pub call_at : ℕ → Head → List ℕ → FsCall → Message
-call_at n h user call = record { head = client_head n h; carried = carried.Call user call }
+call_at n h user call = record { head = client_head n h; carried = carried.Call user (ask.File call) }
 
 abbrev pub taken : ℕ → Head → Message → Seat
 taken n h r = record { caller = Client n; epoch = h.epoch; number = h.number; reply = Some r }
@@ -740,7 +742,7 @@ pub shows_goes : (s : Script) (c : Cell) (past : List Entry) (armed : Armed) (p 
 shows_goes s c past armed p n h user call r H up at w of there is result =
     let t : ℕ = c.clock + promise_ticks in
     let fs : List Found = granted_by r.shown in
-    let z : Carried = carried.Reply (read_reply_of c.server.times t r) in
+    let z : Carried = carried.Reply (tell.File (read_reply_of c.server.times t r)) in
     let m : Message = replied c.server.boot (client_head n h) z in
     let turn : Turn = turn_for the_server c.server c.clock (expired c.clock c.backs) (shows (client_head n h) r) in
     let ms : List Message = (pumped the_server c.server.boot turn).sent in

@@ -13,6 +13,8 @@ use Rattle.afs_num.specs.declared.calls.FsCall.{FsCall}
 use Rattle.afs_num.specs.declared.calls.FsCall.TheVariants as calls
 use Rattle.afs_num.specs.declared.messages.Carried.{Carried}
 use Rattle.afs_num.specs.declared.messages.Carried.TheVariants as carried
+use Rattle.afs_num.specs.declared.messages.Reply.TheVariants as tell
+use Rattle.afs_num.specs.declared.messages.Call.TheVariants as ask
 use Rattle.afs_num.specs.declared.messages.Message.{Message}
 use Rattle.afs_law.proofs.Backing.{back_pass, done_pass, CallsPass, calls_same}
 use Rattle.afs_law.proofs.Basics.{both, same_node-true, same_node-refl, Above, Each, IfBack, IfDone, OfCall, OfReply, OfServer, ByServer, each_more, each_map, if_back, if_done, some_of, at_put}
@@ -197,7 +199,7 @@ good_more past [] b h k = k
 good_more past (m ∷ a) b h k = (h.0, good_more past a b h.1 k)
 
 -- a call is no reply
-pub call_good : (past : List Entry) (head : Head) (user : List ℕ) (call : FsCall) → GoodReply past (record { head = head; carried = carried.Call user call })
+pub call_good : (past : List Entry) (head : Head) (user : List ℕ) (call : FsCall) → GoodReply past (record { head = head; carried = carried.Call user (ask.File call) })
 call_good past head user call is nought i from = absurd is.1
 
 -- ---- calls for what is owed

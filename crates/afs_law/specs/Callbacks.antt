@@ -13,6 +13,8 @@ use Rattle.afs_num.specs.declared.calls.FsCall.{FsCall}
 use Rattle.afs_num.specs.declared.calls.FsCall.TheVariants as calls
 use Rattle.afs_num.specs.declared.messages.Carried.{Carried}
 use Rattle.afs_num.specs.declared.messages.Carried.TheVariants as carried
+use Rattle.afs_num.specs.declared.messages.Reply.TheVariants as tell
+use Rattle.afs_num.specs.declared.messages.Call.TheVariants as ask
 use Rattle.afs_num.specs.declared.messages.Message.{Message}
 use Rattle.afs_ideal.specs.Operations.{Found}
 use Rattle.afs_law.specs.Lines.{Line}
@@ -228,7 +230,7 @@ breaks_opcode (o ∷ os) = opcode_for o.what
 abbrev pub break_message : Node → ℕ → ℕ → ℕ → BackCall → Message
 break_message me boot n known c = record {
   head = record { half = halves.Call; from = me; to = Client n; epoch = boot; number = c.number; boot = known; stamp = 0; opcode = breaks_opcode c.breaks };
-  carried = carried.Call [] (breaks_call c.breaks);
+  carried = carried.Call [] (ask.File (breaks_call c.breaks));
 }
 
 -- so many breaks in one call at most

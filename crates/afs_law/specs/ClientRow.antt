@@ -27,7 +27,7 @@ use Rattle.afs_num.specs.declared.calls.FsReply.{FsReply}
 use Rattle.afs_num.specs.declared.messages.Carried.{Carried}
 use Rattle.afs_num.specs.declared.messages.Message.{Message}
 use Rattle.afs_num.specs.declared.messages.Received.{Received}
-use Rattle.afs_num.specs.declared.messages.Received.TheVariants.{Nothing, Unknown, Unreadable, Whole}
+use Rattle.afs_num.specs.declared.messages.Received.TheVariants.{Nothing, Unserved, Unreadable, Whole}
 use Rattle.afs_num.specs.declared.histories.ReadSource.TheVariants.{Cached, Fetched}
 use Rattle.afs_num.specs.declared.calls.AfsFetchStatus.{AfsFetchStatus}
 use Rattle.afs_num.specs.declared.calls.AfsCallBack.{AfsCallBack}
@@ -36,6 +36,8 @@ use Rattle.afs_num.specs.declared.types.Half.TheVariants as halves
 use Rattle.afs_num.specs.declared.calls.FsCall.TheVariants as calls
 use Rattle.afs_num.specs.declared.calls.FsReply.TheVariants as replies
 use Rattle.afs_num.specs.declared.messages.Carried.TheVariants as carried
+use Rattle.afs_num.specs.declared.messages.Reply.TheVariants as tell
+use Rattle.afs_num.specs.declared.messages.Call.TheVariants as ask
 use Rattle.afs_num.specs.declared.histories.Body.TheVariants as bodies
 use Rattle.afs_law.specs.Lines as lines
 
@@ -94,7 +96,7 @@ call_head me c act = record {
 
 -- the client's unanswered call
 abbrev pub call_message : Node → ClientState → Going → Message
-call_message me c act = record { head = call_head me c act; carried = carried.Call guest (call_of act) }
+call_message me c act = record { head = call_head me c act; carried = carried.Call guest (ask.File (call_of act)) }
 
 abbrev pub asking : ClientState → Going → ClientState
 asking c act = record c { last = c.last + 1; tries = 0; running = Some act; spoiled = false }
@@ -285,7 +287,8 @@ resends_step me c place act boot = record {
 abbrev pub counts : Node → ClientState → ℕ → ℕ → Going → Head → Carried → Step ClientState
 counts me c clock place act head (carried.Call user call) = ignores c place
 counts me c clock place act head (carried.Refusal code) = if is_spent c act then calls_step me c act (lines.Given place) else answers_step me c place code
-counts me c clock place act head (carried.Reply reply) = if is_spent c act then calls_step me c act (lines.Given place) else takes me c clock place act (call_of act) reply
+counts me c clock place act head (carried.Reply (tell.File reply)) = if is_spent c act then calls_step me c act (lines.Given place) else takes me c clock place act (call_of act) reply
+counts me c clock place act head (carried.Reply reply) = ignores c place
 counts me c clock place act head carried.Notice = resends_step me c place act head.boot
 
 -- whether a reply or notice is that to the unanswered call: it comes from its callee, and has its key and its opcode
@@ -335,7 +338,7 @@ drop_line me f = lines.Drop me f
 
 -- the reply to a server's call
 abbrev pub done_reply : ClientState → Head → FsReply → Message
-done_reply c head reply = replied c.epoch head (carried.Reply reply)
+done_reply c head reply = replied c.epoch head (carried.Reply (tell.File reply))
 
 abbrev pub back_seat : Head → Message → Seat
 back_seat head reply = record { caller = head.from; epoch = head.epoch; number = head.number; reply = Some reply }
@@ -386,12 +389,12 @@ called_back me c place head call =
     else ignores c place
 
 abbrev pub hears_in : Node → ClientState → ℕ → ℕ → Head → Carried → Step ClientState
-hears_in me c clock place head (carried.Call user call) = called_back me c place head call
+hears_in me c clock place head (carried.Call user (ask.File call)) = called_back me c place head call
 hears_in me c clock place head x = awaits me c clock place (record { head = head; carried = x }) c.running
 
 abbrev pub takes_in : Node → ClientState → ℕ → ℕ → Received → Step ClientState
 takes_in me c clock place Nothing = ignores c place
-takes_in me c clock place (Unknown head) = ignores c place
+takes_in me c clock place (Unserved head) = ignores c place
 takes_in me c clock place (Unreadable head) = ignores c place
 takes_in me c clock place (Whole m) = hears_in me c clock place m.head m.carried
 

@@ -28,6 +28,7 @@ use Rattle.afs_num.specs.declared.calls.FsCall.TheVariants as calls
 use Rattle.afs_num.specs.declared.histories.Body.TheVariants as bodies
 use Rattle.afs_law.specs.Lines as lines
 use Rattle.afs_num.specs.declared.messages.Carried.TheVariants as carried
+use Rattle.afs_num.specs.declared.messages.Call.TheVariants as ask
 
 -- The ideal cell: what all that was told before a moment makes of it. It has no caches, no tables of calls and no bytes
 -- of messages: each fid has its versions, each volume the servers that accept its stores, each client what it has seen.
@@ -55,7 +56,7 @@ set_up s = record { actor = actors.Nobody; lines = first_lines s.volumes; sent =
 -- ---- volumes. The call that a message carries under a key
 
 abbrev pub call_in : Carried → Option (List ℕ × FsCall)
-call_in (carried.Call user call) = Some (user, call)
+call_in (carried.Call user (ask.File call)) = Some (user, call)
 call_in c = None
 
 abbrev pub call_under : Key → List Message → Option (List ℕ × FsCall)

@@ -18,6 +18,7 @@ use Rattle.afs_law.specs.ServerRow.{serves, runs, refuses, not_served, whole}
 use Rattle.afs_law.specs.States.{CacheEntry, ServerState}
 use Rattle.afs_model.specs.FsRows.{call_number}
 use Rattle.afs_num.specs.declared.messages.Carried.TheVariants as carried
+use Rattle.afs_num.specs.declared.messages.Call.TheVariants as ask
 use Rattle.std.specs.Prelude.{◌⊎◌, ◌≤◌, ◌<◌, None, Some, Option, ◌∷◌, [], ◌≡◌, ◌↔◌, ℕ, List, ◌++◌, false}
 use Rattle.afs_num.specs.declared.types.Fid.{Fid}
 use Rattle.afs_num.specs.declared.types.Node.{Node}
@@ -77,4 +78,4 @@ ReadsAreNewest =
 -- a server tells that a call isn't served exactly where its opcode is none of those that it serves
 abbrev pub UnservedAreRefused : Type 0
 UnservedAreRefused =
-    (s : ServerState) (head : Head) (user : List ℕ) (call : FsCall) → (runs s head (whole head (carried.Call user call)) ≡ refuses head not_served) ↔ (serves (call_number call) ≡ false)
+    (s : ServerState) (head : Head) (user : List ℕ) (call : FsCall) → (runs s head (whole head (carried.Call user (ask.File call))) ≡ refuses head not_served) ↔ (serves (call_number call) ≡ false)

@@ -26,6 +26,8 @@ use Rattle.afs_num.specs.declared.histories.ReadSource.{ReadSource}
 use Rattle.afs_num.specs.declared.histories.ReadSource.TheVariants.{Cached}
 use Rattle.afs_num.specs.declared.histories.Version.{Version}
 use Rattle.afs_num.specs.declared.messages.Carried.TheVariants as carried
+use Rattle.afs_num.specs.declared.messages.Reply.TheVariants as tell
+use Rattle.afs_num.specs.declared.messages.Call.TheVariants as ask
 use Rattle.afs_law.specs.Lines as lines
 
 -- Which histories are legal: those of which each line is good after all that stands before it.
@@ -156,7 +158,7 @@ pub record Cause (reply : Message) (code : ℤ) (asks_for : FsCall) (past : List
   pub ran : Ran reply.head past
   pub user : List ℕ
   pub call : FsCall
-  pub carries : ran.message.carried ≡ carried.Call user call
+  pub carries : ran.message.carried ≡ carried.Call user (ask.File call)
   pub own_user : user ≡ user_of reply.head.to
   pub asks : call ≡ asks_for
   pub result : IsResult code (answer_at user call ran.older) (answered_key reply.head) (own ++ lines_of past)

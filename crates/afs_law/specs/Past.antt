@@ -12,6 +12,8 @@ use Rattle.afs_law.specs.Lines.{Line}
 use Rattle.afs_law.specs.Runs.{Entry, message_at}
 use Rattle.afs_num.specs.declared.types.Half.TheVariants as halves
 use Rattle.afs_num.specs.declared.messages.Carried.TheVariants as carried
+use Rattle.afs_num.specs.declared.messages.Reply.TheVariants as tell
+use Rattle.afs_num.specs.declared.messages.Call.TheVariants as ask
 use Rattle.afs_law.specs.Lines as lines
 use Rattle.afs_num.specs.declared.histories.Actor.TheVariants as actors
 
@@ -109,7 +111,7 @@ is_of_act n k past = same_node k.node n && is_sent_since n k past
 -- this call was sent under this key, for this user
 abbrev pub Sends : Key → List ℕ → FsCall → List Message → Type 0
 Sends k user call [] = ⊥
-Sends k user call (m ∷ ms) = ((called_key m.head ≡ k) × (m.carried ≡ carried.Call user call)) ⊎ Sends k user call ms
+Sends k user call (m ∷ ms) = ((called_key m.head ≡ k) × (m.carried ≡ carried.Call user (ask.File call))) ⊎ Sends k user call ms
 
 -- the same, by the key's node while this act ran there
 abbrev pub Called : Key → List ℕ → FsCall → Going → List Entry → Type 0

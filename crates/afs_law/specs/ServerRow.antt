@@ -14,9 +14,11 @@ use Rattle.afs_num.specs.declared.calls.FsReply.{FsReply}
 use Rattle.afs_num.specs.declared.calls.FsReply.TheVariants as replies
 use Rattle.afs_num.specs.declared.messages.Carried.{Carried}
 use Rattle.afs_num.specs.declared.messages.Carried.TheVariants as carried
+use Rattle.afs_num.specs.declared.messages.Reply.TheVariants as tell
+use Rattle.afs_num.specs.declared.messages.Call.TheVariants as ask
 use Rattle.afs_num.specs.declared.messages.Message.{Message}
 use Rattle.afs_num.specs.declared.messages.Received.{Received}
-use Rattle.afs_num.specs.declared.messages.Received.TheVariants.{Nothing, Unknown, Unreadable, Whole}
+use Rattle.afs_num.specs.declared.messages.Received.TheVariants.{Nothing, Unserved, Unreadable, Whole}
 use Rattle.afs_num.specs.declared.histories.Version.{Version}
 use Rattle.afs_ideal.specs.Operations.{Caller, the_user, Found, Shown, shows_body, shows_status, shows_acl, shows_statuses, shows_volume, Result, refused, reads, changes, no_operation, op, volume_called}
 use Rattle.afs_ideal.specs.Replies.{reading_reply, change_reply, stamped, vnode_at}
@@ -93,7 +95,7 @@ abbrev pub read_reply_of : (Fid → ℕ) → ℕ → Reading → FsReply
 read_reply_of times expiry r = promised_in expiry (reading_reply r.id r.caller times r.volume r.shown)
 
 abbrev pub read_reply_to : ℕ → Head → (Fid → ℕ) → ℕ → Reading → Message
-read_reply_to boot head times expiry r = replied boot head (carried.Reply (read_reply_of times expiry r))
+read_reply_to boot head times expiry r = replied boot head (carried.Reply (tell.File (read_reply_of times expiry r)))
 
 -- a change: of which volume, by whose call, the volume before, the edits, and the vnode that the reply shows beside those that
 -- the call names
@@ -131,7 +133,7 @@ not_served = negsuc 454
 -- every change has a reply
 abbrev pub carried_by : ℕ → Option FsReply → Carried
 carried_by expiry None = carried.Refusal (record { 0 = not_served })
-carried_by expiry (Some reply) = carried.Reply (promised_in expiry reply)
+carried_by expiry (Some reply) = carried.Reply (tell.File (promised_in expiry reply))
 
 abbrev pub change_reply_to : ℕ → Head → ℕ → (Fid → ℕ) → Change → Message
 change_reply_to boot head clock times c = replied boot head (carried_by (clock + promise_ticks) (change_reply c.id c.caller (stamped clock (made c) times) (result c) c.shown c.call))
@@ -198,13 +200,14 @@ abbrev pub serves_call : ServerState → Head → List ℕ → FsCall → Decisi
 serves_call s head user call = with_volume s head (the_user user) call (volume_called call)
 
 abbrev pub runs_carried : ServerState → Head → Carried → Decision
-runs_carried s head (carried.Call user call) = serves_call s head user call
+runs_carried s head (carried.Call user (ask.File call)) = serves_call s head user call
+runs_carried s head (carried.Call user call) = refuses head not_served
 runs_carried s head c = drops
 
 -- a call that is to run, by what was found in its bytes
 abbrev pub runs : ServerState → Head → Received → Decision
 runs s head Nothing = drops
-runs s head (Unknown other) = refuses head not_served
+runs s head (Unserved other) = refuses head not_served
 runs s head (Unreadable other) = refuses head (code_of_unreadable head.opcode)
 runs s head (Whole m) = runs_carried s head m.carried
 
@@ -232,7 +235,7 @@ hears me s head carried.Notice = drops
 -- a message without a readable header, one to another node, a reply and a notice run nothing
 abbrev pub decides : Node → ServerState → Received → Decision
 decides me s Nothing = drops
-decides me s (Unknown head) = called me s head (Unknown head)
+decides me s (Unserved head) = called me s head (Unserved head)
 decides me s (Unreadable head) = called me s head (Unreadable head)
 decides me s (Whole m) = hears me s m.head m.carried
 
