@@ -22,6 +22,7 @@ pub mod Dropping
 pub mod Answering
 pub mod Waiting
 pub mod Law
+pub mod Unserved
 pub mod Agreeing
 pub mod KeysOnce
 pub mod Worked

@@ -1,6 +1,6 @@
 //! Laws about the runs of a script. Each is the contract of a function that does nothing.
 
-ghost use Rattle.afs_law.specs.Laws.{KeysRunOnce, ReadsAreNewest, RunsAreLegal, RunsAreOne, VolumesAreTold, PairsAreKnown, TrustedIsGood};
+ghost use Rattle.afs_law.specs.Laws.{KeysRunOnce, ReadsAreNewest, RunsAreLegal, RunsAreOne, VolumesAreTold, PairsAreKnown, TrustedIsGood, UnservedAreRefused};
 
 /// Every run of a script for one server is legal.
 pub fn runs_are_legal()
@@ -35,4 +35,9 @@ pub fn pairs_are_known()
 /// What an idle client trusts can be shown from its cache.
 pub fn trusted_is_good()
     ensures { TrustedIsGood }
+{}
+
+/// A server tells that a call isn't served exactly where its opcode is none of those that it serves.
+pub fn unserved_are_refused()
+    ensures { UnservedAreRefused }
 {}
