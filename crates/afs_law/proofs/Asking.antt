@@ -408,6 +408,8 @@ safe_own act t e l running cache aged head r x y = inr (inl (record { act = act;
 
 pub under_by : (t : Bool) (c : Carried) (o p : Option (List ℕ × FsCall)) (x : List ℕ × FsCall) (k : Key) (head : Head) → is_called k head c ≡ t → cond t (call_in c) o ≡ None → (o ≡ None → p ≡ Some x) → cond t (call_in c) p ≡ Some x
 under_by true (carried.Call user (ask.File call)) o p x k head t e h = absurd cc
+under_by true (carried.Call user (ask.Volume call)) o p x k head t e h = absurd cc
+under_by true (carried.Call user (ask.Location call)) o p x k head t e h = absurd cc
 under_by true (carried.Refusal code) o p x k head t e h = absurd cc
 under_by true (carried.Reply reply) o p x k head t e h = absurd cc
 under_by true carried.Notice o p x k head t e h = absurd cc

@@ -423,7 +423,7 @@ all_fits sp n p call x boot m (carried.Reply (tell.File reply)) e past v r w las
 all_fits sp n p call x boot m (carried.Refusal code) e past v r w last h = h
 all_fits sp n p call x boot m c e past v r w last h = absurd h
 
-pub drops_all_goes : (s : Script) (c : Cell) (past : List Entry) (n p : ℕ) (head : Head) (user : List ℕ) → (h : Holds s c past) → Heard c p (record { head = head; carried = carried.Call user (ask.File call)s.InitCallBackState }) → head.to ≡ Client n → head.from ≡ the_server
+pub drops_all_goes : (s : Script) (c : Cell) (past : List Entry) (n p : ℕ) (head : Head) (user : List ℕ) → (h : Holds s c past) → Heard c p (record { head = head; carried = carried.Call user (ask.File calls.InitCallBackState) }) → head.to ≡ Client n → head.from ≡ the_server
     → BackIn c.down c.backs.calls c.backs.last_call c.server.boot head user calls.InitCallBackState → Goes s past (client_moves c n (drops_all (Client n) (c.clients n) p head))
 drops_all_goes s c past n p head user h heard to from b =
     let d = h.clients n in

@@ -4,6 +4,7 @@ use Rattle.afs_num.specs.declared.types.Head.{Head}
 use Rattle.afs_num.specs.declared.calls.FsCall.{FsCall}
 use Rattle.afs_num.specs.declared.calls.FsCall.TheVariants as calls
 use Rattle.afs_num.specs.declared.messages.Carried.TheVariants as carried
+use Rattle.afs_num.specs.declared.messages.Call.TheVariants as ask
 use Rattle.afs_ideal.specs.Operations.{Caller, the_user, Result, refused, reads, changes, no_operation, op, volume_called}
 use Rattle.afs_ideal.specs.Tables.{get}
 use Rattle.afs_ideal.specs.Volumes.{Volume}
@@ -39,7 +40,7 @@ served : (s : ServerState) (head : Head) (caller : Caller) (call : FsCall) (id :
 served s head caller call id of None e = absurd cc
 served s head caller call id of (Some v) e = undecided s head caller call id v (op id caller call v) (op_is id caller call v of) e
 
-pub unserved : (s : ServerState) (head : Head) (user : List ℕ) (call : FsCall) → (runs s head (whole head (carried.Call user call)) ≡ refuses head not_served) ↔ (serves (call_number call) ≡ false)
+pub unserved : (s : ServerState) (head : Head) (user : List ℕ) (call : FsCall) → (runs s head (whole head (carried.Call user (ask.File call))) ≡ refuses head not_served) ↔ (serves (call_number call) ≡ false)
 unserved s head user (calls.FetchData a b c) = ((λ z. absurd (served s head (the_user user) (calls.FetchData a b c) _ refl _ z)), (λ z. absurd cc))
 unserved s head user (calls.FetchAcl a) = ((λ z. absurd (served s head (the_user user) (calls.FetchAcl a) _ refl _ z)), (λ z. absurd cc))
 unserved s head user (calls.FetchStatus a) = ((λ z. absurd (served s head (the_user user) (calls.FetchStatus a) _ refl _ z)), (λ z. absurd cc))

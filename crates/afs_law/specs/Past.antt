@@ -92,7 +92,7 @@ has_begun n (l ∷ ls) = has_begun n ls
 
 -- whether a call of this key is among the messages
 abbrev pub is_called : Key → Head → Carried → Bool
-is_called k head (carried.Call user call) = same_key (called_key head) k
+is_called k head (carried.Call user (ask.File call)) = same_key (called_key head) k
 is_called k head c = false
 
 abbrev pub has_sent : Key → List Message → Bool
