@@ -1,7 +1,6 @@
-use Rattle.afs_num.specs.declared.messages.Reply.TheVariants as tell
 use Rattle.afs_num.specs.declared.messages.Call.TheVariants as ask
 use Rattle.afs_num.specs.declared.messages.Carried.TheVariants as carried
-use Rattle.afs_ideal.specs.Told.{last_told, fid_at, live, Agrees}
+use Rattle.afs_ideal.specs.Told.{Agrees}
 use Rattle.afs_ideal.specs.Volumes.{Volume}
 use Rattle.afs_law.proofs.Answering.{idle_newest, idle_reached}
 use Rattle.afs_law.proofs.Basics.{ByClient, OfReply, OfCall, IfReply, IfCall, each_at, client_number, by_client}
@@ -9,24 +8,21 @@ use Rattle.afs_law.proofs.Edits.{agrees_of, SoundIn}
 use Rattle.afs_law.proofs.Facts.{ReplyIn, CallIn, view, Ghost, Holds}
 use Rattle.afs_law.proofs.Law.{goes, starts}
 use Rattle.afs_law.specs.ClientRow.{find_cached}
-use Rattle.afs_law.specs.Ideal.{last_version, latest, version_in, versions_in, told_by, set_up, volume_after}
+use Rattle.afs_law.specs.Ideal.{versions_in, set_up}
 use Rattle.afs_law.specs.Laws.{ArePairsKnown, IsKnownTo, IsHeld}
 use Rattle.afs_law.specs.Legal.{GoodRead}
 use Rattle.afs_law.specs.Lines.{Line}
 use Rattle.afs_law.specs.Once.{past_of}
 use Rattle.afs_law.specs.OneServer.{IsOneServer}
-use Rattle.afs_law.specs.Past.{HasCode, IsCall, lines_of}
+use Rattle.afs_law.specs.Past.{HasCode, IsCall}
 use Rattle.afs_law.specs.Runs.{Entry, Cell, Input, moved, Leads, start, RunsTo}
 use Rattle.afs_law.specs.States.{CacheEntry}
 use Rattle.afs_num.specs.declared.histories.ReadSource.TheVariants.{Cached}
 use Rattle.afs_num.specs.declared.messages.Carried.{Carried}
-use Rattle.afs_num.specs.declared.messages.Message.{Message}
 use Rattle.afs_num.specs.declared.types.Node.TheVariants.{Client}
 use Rattle.afs_num.specs.declared.types.Head.{Head}
-use Rattle.std.proofs.Common.{◌<◌, ◌≡◌, ℕ, Bool, true, false, cond, List, [], ◌∷◌, Option, Some, None, refl, sym, ap, subst, ◌∙◌}
-use Rattle.afs_num.specs.Fids.{same_fid}
+use Rattle.std.proofs.Common.{◌<◌, ◌≡◌, ℕ, List, [], ◌∷◌, Option, Some, None, refl, sym, ap, subst, ◌∙◌}
 use Rattle.afs_num.specs.declared.types.Fid.{Fid}
-use Rattle.afs_num.specs.declared.histories.Version.{Version}
 use Rattle.afs_num.specs.declared.scripts.Script.{Script}
 
 -- The same inputs make one run; and after every run the versions that were told agree with the volumes.

@@ -1,34 +1,31 @@
 use Rattle.afs_ideal.specs.Operations.{volume_changed}
-use Rattle.afs_law.proofs.Asking.{used_found, same_entry, own_read, safe_over, client_kept, call_known, reply_still, step_entry, view_after, moves, nothing_new, Heard, told_passes, shown_lines, shown_file, shown_reach, shown_seen, answered_seen, own_zero, shown_passes, answered_lines, answered_file, answered_reach, answered_passes, used_lines, used_grant, used_file, used_reach, used_passes, quiet, safe_cache, own_call, asks, own_begun, idle_asks, no_scope, same_one, call_is, heard_dull, Passes, not_client, reads_by_other, new_one}
-use Rattle.afs_law.proofs.Basics.{UpTo, Above, IfCall, IfReply, IfNotice, OfReply, OfNotice, up_to_by, yes_no, both, same_fid-true, same_fid-refl, same_node-refl, client_number, up_to_both, found-cached-fid, found-first, none-first, found-refreshed, OfCall, each_at, some_of, ByServer, OfClient, by_client, IfBack, up_to_next, next_not, same_node-true, raised_up_to}
+use Rattle.afs_law.proofs.Asking.{own_read, safe_over, client_kept, call_known, reply_still, step_entry, view_after, moves, nothing_new, Heard, told_passes, answered_seen, own_zero, answered_lines, answered_file, answered_reach, answered_passes, quiet, safe_cache, own_call, asks, own_begun, no_scope, same_one, call_is, heard_dull, new_one}
+use Rattle.afs_law.proofs.Basics.{UpTo, Above, IfReply, IfNotice, OfReply, OfNotice, up_to_by, yes_no, both, same_fid-true, same_fid-refl, same_node-refl, client_number, found-cached-fid, found-first, found-refreshed, OfCall, each_at, some_of, ByServer, OfClient, by_client, IfBack, up_to_next, next_not, raised_up_to}
 use Rattle.afs_law.proofs.Dropping.{left_out, called_goes}
 use Rattle.afs_law.proofs.Edits.{index_in}
-use Rattle.afs_law.proofs.Facts.{IsPlain, IsKeptBody, IsTrusted, Ghost, Seen, IsAged, Spot, spot, LastStored, IsStored, IsUntrusted, IsSafe, Fits, View, view, last_key, LastRan, Reached, IsNewest, Overtaken, Stands, IsCurrent, HasCurrent, Answers, stored_index, ClientFacts, CallFact, CallIn, ReplyFact, ReplyIn, Holds, Goes, IsFetched, FitsPlain, FitsData, FitsSet, FitsReply, WasStored, WasChanged, InScope, IsNoticed}
+use Rattle.afs_law.proofs.Facts.{IsPlain, IsKeptBody, IsTrusted, Ghost, Seen, IsAged, Spot, spot, LastStored, IsStored, IsSafe, Fits, View, view, last_key, LastRan, Reached, IsNewest, Overtaken, Stands, IsCurrent, HasCurrent, Answers, stored_index, ClientFacts, CallFact, ReplyFact, ReplyIn, Holds, Goes, IsFetched, FitsPlain, FitsData, FitsSet, FitsReply, WasStored, WasChanged, InScope, IsNoticed}
 use Rattle.afs_law.proofs.Owing.{BackIn}
-use Rattle.afs_law.proofs.Passing.{PassesSeen, PassesGrant, PassesFile, PassesAct, PassesReach, StaysNewest, stays, held_over, fetch_reply_by, current_over, kept_over, cause_behind}
+use Rattle.afs_law.proofs.Passing.{PassesSeen, PassesGrant, PassesFile, StaysNewest, stays, held_over, fetch_reply_by, current_over, kept_over, cause_behind}
 use Rattle.afs_law.proofs.Quiet.{quiet_more, quiet_passes}
 use Rattle.afs_law.proofs.Resting.{voids}
 use Rattle.afs_law.proofs.Saving.{old_withdrawn}
 use Rattle.afs_law.proofs.Serving.{told_file, told_reach, told_act, not_ran, stale_none, reached_still}
-use Rattle.afs_law.proofs.Skipping.{none_where, own_ended, skips, drop_lines, was_given, drop_file, drop_reach, drop_seen, drop_passes, ended_running, left_found, left_scope, left_none, scope_is, drops_good}
+use Rattle.afs_law.proofs.Skipping.{none_where, own_ended, skips, drop_lines, was_given, drop_file, drop_reach, drop_seen, drop_passes, ended_running, drops_good}
 use Rattle.afs_law.proofs.Walking.{onto_last, looked_more, walk_made, walk_reached, walk_current, walk_answered, walked_found, tail_given, tail_fetched, tail_quiet, ends_answered, ends_here, EndsReach, AreTail, walks_on, Ready, Walks}
 use Rattle.afs_law.specs.Acts.{Act}
 use Rattle.afs_law.specs.ClientRow.{asking, is_trusted, goes_on, goes_by, look_at, looked, most_reads, walked, Walked, is_below, dropped_after, left_after, the_server, find_cached, guest, used_first, refreshed, call_message, calls_step, zero_code, begin_row, ignores, ended, answers_step, takes_stored, takes, resends_step, counts, is_awaited, awaits, client_row, is_spent, hears_in, takes_plain, takes_data, takes_set, left_in, given_up_in, body_told, call_of, is_reading}
-use Rattle.afs_law.specs.Going.{asked, Going, Need, next, answers, began, with_read, read_on, ClientState, Shown, shows, step_to, is_last_name, looked_up, fid_of, call_for, reads, asks_for}
+use Rattle.afs_law.specs.Going.{asked, Going, Need, next, answers, began, with_read, ClientState, reads, asks_for}
 use Rattle.afs_law.specs.Grants.{has_fetched, fetch_reply, since}
 use Rattle.afs_law.specs.Ideal.{raised, is_zero_code, reach, last_version, HasVersion}
-use Rattle.afs_law.specs.Legal.{Cause, code_told, GoodCode, IsDone}
+use Rattle.afs_law.specs.Legal.{Cause, code_told, GoodCode}
 use Rattle.afs_law.specs.Lines.{Line}
-use Rattle.afs_law.specs.Past.{IsCallUnder, onto, lines_of, sent_of, given_message, answered_key, running, has_begun, CalledSince, IsCall}
-use Rattle.afs_law.specs.Runs.{Moved, Entry, Cell, message_at, client_moves, begun_by, voided}
+use Rattle.afs_law.specs.Past.{IsCallUnder, onto, lines_of, sent_of, given_message, answered_key, running, has_begun, CalledSince}
+use Rattle.afs_law.specs.Runs.{Moved, Entry, Cell, message_at, client_moves, begun_by}
 use Rattle.afs_law.specs.Scopes.{is_in_scope}
-use Rattle.afs_law.specs.ServerRow.{shows_step}
 use Rattle.afs_law.specs.States.{CacheEntry, Seat}
-use Rattle.afs_law.specs.Steps.{Step}
 use Rattle.afs_model.specs.Calls.{call_seat}
-use Rattle.afs_num.specs.declared.directories.Name.{Name}
 use Rattle.std.proofs.Common.{◌+◌, nat_eq, ◌++◌, ◌≡◌, ℕ, ◌<◌, ◌≤◌, inl, inr, Bool, true, false, cond, nat_lt, not, List, [], ◌∷◌, map, Option, Some, None, ℤ, refl, sym, ap, subst, ◌∙◌, eqb-true, ltb-true, lt-ltb, le_of_eq, append-nil, arith}
-use Rattle.std.specs.Prelude.{◌&&◌, filter, pos, ◌⊎◌, ℤ, ⊤}
+use Rattle.std.specs.Prelude.{◌&&◌, pos, ℤ}
 use Rattle.std.specs.Option.{option_map}
 use Rattle.afs_num.specs.Fids.{same_fid}
 use Rattle.afs_num.specs.Nodes.{same_node}
@@ -60,8 +57,8 @@ use Rattle.afs_num.specs.declared.messages.Call.TheVariants as ask
 use Rattle.afs_num.specs.declared.histories.Body.TheVariants as bodies
 use Rattle.afs_law.specs.Lines as lines
 use Rattle.afs_num.specs.declared.calls.FsCall.TheVariants as calls
--- The clients' steps that answer an act.
 
+-- The clients' steps that answer an act.
 
 -- a reply to a client that waits for none
 pub idle_reply : (j : ℕ) (v w : View) (past newer : List Entry) (m : Message) → v.epoch ≡ w.epoch → v.last ≡ w.last → v.floor ≡ w.floor → v.boot ≡ w.boot → v.seat ≡ w.seat → v.durable ≡ w.durable → w.running ≡ None → ReplyFact j v past m → ReplyFact j w newer m
@@ -429,40 +426,46 @@ fetched_walks s c past n p act m u h d shut a lt =
       later = λ tail t. used_reply n u.fid (has_fetched (Client n) u.fid tail) (message_at (sent_of past) p) (fetch_reply (Client n) u.fid past) ∙ d.at;
     } in
     record {
-      good = λ tail g. (tt, ((
-        refl,
-        record {
-          whole = a.held.whole;
-          not_older = a.reached;
-          reply = m;
-          by = d.at;
-          expiry = u.expiry;
-          grant = a.held.grant;
-          lasts = subst (λ (t : ℕ). t < u.expiry) (sym h.clock) lt;
-          kept = a.held.kept refl;
-          newest = a.newest;
-        },
-      ), g));
+      good = λ tail g. (
+        tt,
+        (
+          (
+            refl,
+            record {
+              whole = a.held.whole;
+              not_older = a.reached;
+              reply = m;
+              by = d.at;
+              expiry = u.expiry;
+              grant = a.held.grant;
+              lasts = subst (λ (t : ℕ). t < u.expiry) (sym h.clock) lt;
+              kept = a.held.kept refl;
+              newest = a.newest;
+            },
+          ),
+          g,
+        ),
+      );
       quiet = (tt, (refl, tt));
       runs = own_read n u.fid u.body act (running (Client n) (lines_of past)) ((h.clients n).runs act d.running);
       ready = λ g w found lasts. elim (found-first g u (c.clients n).cache w found) [
         | inl q ↦ subst (λ (y : CacheEntry). Ready n c.server.boot g y (read_now n p u) past) q.1 (subst (λ (y : Fid). Ready n c.server.boot y u (read_now n p u) past) q.0 mine)
         | inr q ↦
-          let cur = (h.clients n).current g w q.1 lasts in
-          let not : (same_node (Client n) (Client n) && same_fid u.fid g) ≡ false = both_not (same_node (Client n) (Client n)) (same_fid u.fid g) (λ y z. q.0 (same_fid-true u.fid g z)) in
-          let plain : IsPlain n g w.index cur.held.grant.server (since (Client n) g w.expiry cur.reply past cur.held.grant) (c.clients n).running (spot (view h.floors c n)) past = elim cur.state [
-            | inl o ↦ o
-            | inr o ↦ absurd (no_scope (asked o.act) g (ap (λ (y : Going). volume_changed (asked y)) (some_of o.act act (sym o.runs ∙ d.running)) ∙ shut) o.scope)
-          ] in
-          record {
-            reply = cur.reply;
-            boot = le_trans cur.boot (h.clients n).holds;
-            held = cur.held;
-            newest = plain.newest;
-            low = raised_by g w.index (λ t. absurd (q.0 (same_fid-true u.fid g t))) plain.reached;
-            by = ap (λ (b : Bool). cond (cond b true false) (message_at (sent_of past) p) (fetch_reply (Client n) g past)) not ∙ cur.by;
-            later = λ tail t. ap (λ (b : Bool). cond (cond b true (has_fetched (Client n) g tail)) (message_at (sent_of past) p) (fetch_reply (Client n) g past)) not ∙ (ap (λ (b : Bool). cond b (message_at (sent_of past) p) (fetch_reply (Client n) g past)) (tail_fetched n (Client n) g tail t) ∙ cur.by);
-          }
+            let cur = (h.clients n).current g w q.1 lasts in
+            let not : (same_node (Client n) (Client n) && same_fid u.fid g) ≡ false = both_not (same_node (Client n) (Client n)) (same_fid u.fid g) (λ y z. q.0 (same_fid-true u.fid g z)) in
+            let plain : IsPlain n g w.index cur.held.grant.server (since (Client n) g w.expiry cur.reply past cur.held.grant) (c.clients n).running (spot (view h.floors c n)) past = elim cur.state [
+              | inl o ↦ o
+              | inr o ↦ absurd (no_scope (asked o.act) g (ap (λ (y : Going). volume_changed (asked y)) (some_of o.act act (sym o.runs ∙ d.running)) ∙ shut) o.scope)
+            ] in
+            record {
+              reply = cur.reply;
+              boot = le_trans cur.boot (h.clients n).holds;
+              held = cur.held;
+              newest = plain.newest;
+              low = raised_by g w.index (λ t. absurd (q.0 (same_fid-true u.fid g t))) plain.reached;
+              by = ap (λ (b : Bool). cond (cond b true false) (message_at (sent_of past) p) (fetch_reply (Client n) g past)) not ∙ cur.by;
+              later = λ tail t. ap (λ (b : Bool). cond (cond b true (has_fetched (Client n) g tail)) (message_at (sent_of past) p) (fetch_reply (Client n) g past)) not ∙ (ap (λ (b : Bool). cond b (message_at (sent_of past) p) (fetch_reply (Client n) g past)) (tail_fetched n (Client n) g tail t) ∙ cur.by);
+            }
       ];
       up = λ g. raised_by g (index_in (last_version g (lines_of past))) (λ t. subst (λ (z : Fid). u.index ≤ index_in (last_version z (lines_of past))) (same_fid-true u.fid g t) (h.top u.fid u.index u.body a.held.whole)) ((h.clients n).reached g).seen;
       made = none;

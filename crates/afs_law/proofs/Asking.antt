@@ -11,26 +11,25 @@ use Rattle.afs_num.specs.declared.calls.FsCall.{FsCall}
 use Rattle.afs_num.specs.declared.messages.Message.{Message}
 use Rattle.afs_ideal.specs.Operations.{volume_changed}
 use Rattle.afs_law.proofs.Backing.{Plain, backed_plain, seated_over, plain_step}
-use Rattle.afs_law.proofs.Basics.{found-first, Each, IfCall, IfReply, ByClient, OfClient, client_any, by_client, both, same_fid-true, same_node-true, same_node-refl, node_apart, client_number, up_to_same, up_to_next, next_not, below_not, at_puts, each_map, if_call, raised_up_to, some_of, IfBack, IfDone, same_key-refl, OfCall, UpTo}
+use Rattle.afs_law.proofs.Basics.{found-first, Each, IfCall, ByClient, OfClient, by_client, both, same_fid-true, same_node-true, same_node-refl, node_apart, client_number, up_to_same, up_to_next, next_not, below_not, at_puts, each_map, if_call, raised_up_to, some_of, IfBack, IfDone, same_key-refl, OfCall, UpTo}
 use Rattle.afs_law.proofs.Edits.{index_in, fid_at, sound_same}
-use Rattle.afs_law.proofs.Facts.{Ghost, Seen, IsAged, server_boot, View, view_of, view, desk, last_key, LastRan, Reached, ReplyFact, ClientFacts, IsUntrusted, IsSafe, CallFact, CallIn, Holds, Goes, Reading, InScope, IsOwn, IsOne}
+use Rattle.afs_law.proofs.Facts.{Ghost, Seen, IsAged, server_boot, View, view_of, view, desk, last_key, LastRan, Reached, ReplyFact, ClientFacts, IsUntrusted, IsSafe, CallFact, CallIn, Holds, Goes, Reading, InScope, IsOne}
 use Rattle.afs_law.proofs.Owing.{BackIn, DoneIn, SeatedIn}
-use Rattle.afs_law.proofs.Passing.{PassesGrant, PassesFile, PassesAct, PassesReach, stays, PassesBoth, PassesSeen, current_over, reply_over, kept_over, client_still, News, more_sent, replies_over, fallen_over, one_more}
+use Rattle.afs_law.proofs.Passing.{PassesGrant, PassesFile, PassesAct, PassesReach, stays, PassesBoth, PassesSeen, current_over, reply_over, kept_over, client_still, News, more_sent, fallen_over, one_more}
 use Rattle.afs_law.proofs.Serving.{told_file, told_reach, told_act, reached_still}
 use Rattle.afs_law.proofs.Turning.{call_good}
 use Rattle.afs_law.specs.Acts.{Act, Open, at_fid}
-use Rattle.afs_law.specs.Callbacks.{put, Held, replies_of}
-use Rattle.afs_law.specs.ClientRow.{used_first, the_server, find_cached, guest, call_of, call_head, call_message, asking, calls_step, zero_code, ignores}
-use Rattle.afs_law.specs.Going.{asked, Going, Need, next, answers, began, with_read, read_on, ClientState}
+use Rattle.afs_law.specs.Callbacks.{put, replies_of}
+use Rattle.afs_law.specs.ClientRow.{used_first, the_server, find_cached, guest, call_of, call_head, call_message, asking, calls_step, ignores}
+use Rattle.afs_law.specs.Going.{asked, Going, began, with_read, read_on, ClientState}
 use Rattle.afs_law.specs.Ideal.{last_version, HasVersion, Accepts, clock_of, reach, raised, is_zero_code, volume_after, call_in, call_under}
 use Rattle.afs_law.specs.Legal.{IsNew, AreGood, AreGoodReplies}
 use Rattle.afs_law.specs.Lines.{Line}
-use Rattle.afs_law.specs.Past.{onto, lines_of, sent_of, given_message, running, CalledSince, IsCall, IsCallUnder, has_begun, called_key, is_called, same_key, Sends}
+use Rattle.afs_law.specs.Past.{onto, lines_of, sent_of, given_message, running, CalledSince, IsCallUnder, has_begun, called_key, is_called, same_key, Sends}
 use Rattle.afs_law.specs.Runs.{Entry, Cell, message_at, client_moves}
-use Rattle.afs_law.specs.Scopes.{is_in_scope, is_volume}
+use Rattle.afs_law.specs.Scopes.{is_volume}
 use Rattle.afs_law.specs.States.{CacheEntry, Seat}
 use Rattle.afs_law.specs.Steps.{Step}
-use Rattle.afs_model.specs.Calls.{call_seat}
 use Rattle.afs_num.specs.declared.scripts.Script.{Script}
 use Rattle.afs_num.specs.declared.histories.Actor.TheVariants as actors
 use Rattle.afs_num.specs.declared.histories.Body.{Body}
@@ -40,9 +39,7 @@ use Rattle.std.proofs.Math.Nat.{le_refl}
 use Rattle.afs_num.specs.declared.messages.Carried.{Carried}
 use Rattle.afs_num.specs.declared.calls.FsCall.TheVariants as calls
 use Rattle.afs_num.specs.declared.messages.Carried.TheVariants as carried
-use Rattle.afs_num.specs.declared.messages.Reply.TheVariants as tell
 use Rattle.afs_num.specs.declared.messages.Call.TheVariants as ask
-use Rattle.afs_num.specs.declared.histories.Body.TheVariants as bodies
 use Rattle.afs_law.specs.Lines as lines
 
 -- The clients' steps.
@@ -125,7 +122,7 @@ moves_back s c past n floor st h good p own w q fresh went keeps =
         booted = h.booted;
         boots = p.boot (lines_of past) ∙ h.boots;
         clients = now;
-        sent = more_sent c.sent (replies_of c.backs.held) (replies_of c.backs.held) (view h.floors c) (views_after h.floors c n floor st.state) c.server.boot c.server.boot e past h.sent (le_refl _) now (λ j a. at_mover h.floors c n floor st.state j (λ i v. v.running ≡ Some a → has_begun (Client i) e.lines ≡ false → (running (Client i) (lines_of past) ≡ Some a) ⊎ Reading (running (Client i) (lines_of past))) (λ x z. elim (went a x z) [ | inl y ↦ inl ((h.clients n).runs a y) | inr y ↦ inr (record { act = y.act; runs = (h.clients n).runs y.act y.runs; read = y.read }) ]) (λ ne x z. inl ((h.clients j).runs a x))) (calls_moved h.floors c n floor st.state c.sent w h.sent.calls)
+        sent = more_sent c.sent (replies_of c.backs.held) (replies_of c.backs.held) (view h.floors c) (views_after h.floors c n floor st.state) c.server.boot c.server.boot e past h.sent (le_refl _) now (λ j a. at_mover h.floors c n floor st.state j (λ i v. v.running ≡ Some a → has_begun (Client i) e.lines ≡ false → (running (Client i) (lines_of past) ≡ Some a) ⊎ Reading (running (Client i) (lines_of past))) (λ x z. elim (went a x z) [ inl y ↦ inl ((h.clients n).runs a y) | inr y ↦ inr (record { act = y.act; runs = (h.clients n).runs y.act y.runs; read = y.read }) ]) (λ ne x z. inl ((h.clients j).runs a x))) (calls_moved h.floors c n floor st.state c.sent w h.sent.calls)
             (λ j m. at_mover h.floors c n floor st.state j (λ i v. ReplyFact i (view h.floors c i) past m → ReplyFact i v (e ∷ past) m) (q m)
             (λ ne. reply_over j (view h.floors c j) m e past (λ f. (p.file j ne f).grant) (p.reach j ne) (λ f. stays j f e past (p.file j ne f).grant (last f)))) (λ held. (fresh.news, held));
         down = fallen_over c.down c.server c.sent st.sent e past h.down;
@@ -463,37 +460,45 @@ called_one n k user call S (e ∷ past) node (inr x) h = called_one n k user cal
 -- the message of a call that the client sends now
 pub own_call : (fl : ℕ → Ghost) (c : Cell) (past : List Entry) (n : ℕ) (floor : Ghost) (x : ClientState) (act : Going) (ls : List Line) → x.boot ≤ c.server.boot → x.running ≡ Some act → running (Client n) (onto (lines_of past) ls) ≡ Some act → call_under (called_key (call_head (Client n) x act)) (sent_of past ++ call_message (Client n) x act ∷ []) ≡ Some (guest, call_of act)
     → Fresh c n (views_after fl c n floor x) (step_entry n ls (call_message (Client n) x act ∷ []) ∷ past) (call_message (Client n) x act ∷ [])
-own_call fl c past n floor x act ls le runs at one = record { good = (call_good _ (call_head (Client n) x act) guest (call_of act), tt); calls = (tt, tt); dones = (tt, tt); news = record {
-  calls = (
-    record {
-      client = n;
-      from = refl;
-      to = refl;
-      fact = at_mover fl c n floor x n (λ i v. CallFact v (call_head (Client n) x act) (call_of act))
-          (record {
-            behind = up_to_same _ _ _ _ refl refl;
-            booted = le;
-            stale = λ l. absurd (below_not _ _ _ _ l (up_to_same _ _ _ _ refl refl));
-            own = λ b y e k. call_is act ∙ ap asked (some_of act b (sym runs ∙ y));
-            safe = λ q above. safe_own act c.clock x.epoch x.last x.running x.cache _ (call_head (Client n) x act) runs refl refl;
-          })
-          (λ ne. absurd (ne refl));
-    },
-    tt,
-  );
-  replies = (tt, tt);
-  notices = (tt, tt);
-  origins = (record { act = act; called = inl (refl, (inl (refl, refl), at)); own_user = refl; own_call = call_is act }, tt);
-  acts = ((λ t a r. inr (call_is act ∙ ap asked (some_of act a (sym at ∙ r)))), tt);
-  lasts = (record {
-    client = n;
-    from = refl;
-    epoch = at_mover fl c n floor x n (λ i v. x.epoch ≡ v.epoch) refl (λ ne. absurd (ne refl));
-    number = at_mover fl c n floor x n (λ i v. x.last ≡ v.last) refl (λ ne. absurd (ne refl));
-  }, tt);
-  to_clients = ((λ ne y. ne n refl), tt);
-  ones = (one, tt);
-} }
+own_call fl c past n floor x act ls le runs at one = record {
+  good = (call_good _ (call_head (Client n) x act) guest (call_of act), tt);
+  calls = (tt, tt);
+  dones = (tt, tt);
+  news = record {
+    calls = (
+      record {
+        client = n;
+        from = refl;
+        to = refl;
+        fact = at_mover fl c n floor x n (λ i v. CallFact v (call_head (Client n) x act) (call_of act))
+            (record {
+              behind = up_to_same _ _ _ _ refl refl;
+              booted = le;
+              stale = λ l. absurd (below_not _ _ _ _ l (up_to_same _ _ _ _ refl refl));
+              own = λ b y e k. call_is act ∙ ap asked (some_of act b (sym runs ∙ y));
+              safe = λ q above. safe_own act c.clock x.epoch x.last x.running x.cache _ (call_head (Client n) x act) runs refl refl;
+            })
+            (λ ne. absurd (ne refl));
+      },
+      tt,
+    );
+    replies = (tt, tt);
+    notices = (tt, tt);
+    origins = (record { act = act; called = inl (refl, (inl (refl, refl), at)); own_user = refl; own_call = call_is act }, tt);
+    acts = ((λ t a r. inr (call_is act ∙ ap asked (some_of act a (sym at ∙ r)))), tt);
+    lasts = (
+      record {
+        client = n;
+        from = refl;
+        epoch = at_mover fl c n floor x n (λ i v. x.epoch ≡ v.epoch) refl (λ ne. absurd (ne refl));
+        number = at_mover fl c n floor x n (λ i v. x.last ≡ v.last) refl (λ ne. absurd (ne refl));
+      },
+      tt,
+    );
+    to_clients = ((λ ne y. ne n refl), tt);
+    ones = (one, tt);
+  };
+}
 
 -- a call under the next number is the first with its key
 pub new_one : (s : Script) (c : Cell) (past : List Entry) (n : ℕ) (act : Going) → Holds s c past → call_under (called_key (call_head (Client n) (asking (c.clients n) act) act)) (sent_of past ++ call_message (Client n) (asking (c.clients n) act) act ∷ []) ≡ Some (guest, call_of act)

@@ -1,6 +1,6 @@
 -- How the facts on breaks pass over an entry.
-use Rattle.std.proofs.Common.{◌≡◌, ℕ, ◌+◌, ◌<◌, ◌≤◌, ◌⊎◌, inl, inr, Bool, true, false, cond, nat_eq, nat_lt, List, [], ◌∷◌, ◌++◌, Option, Some, None, refl, sym, ap, subst, ◌∙◌, arith, eqb-true, eq-eqb, append-nil}
-use Rattle.std.specs.Prelude.{⊤, map, filter, not, ◌&&◌, length}
+use Rattle.std.proofs.Common.{◌≡◌, ℕ, ◌<◌, ◌≤◌, ◌⊎◌, inl, inr, Bool, true, false, cond, List, [], ◌∷◌, ◌++◌, Option, Some, None, refl, sym, ap, subst, ◌∙◌, arith}
+use Rattle.std.specs.Prelude.{not, ◌&&◌}
 use Rattle.std.proofs.Math.Nat.{le_refl, le_trans}
 use Rattle.afs_num.specs.Fids.{same_fid}
 use Rattle.afs_num.specs.Nodes.{same_node}
@@ -8,18 +8,17 @@ use Rattle.afs_num.specs.declared.types.Fid.{Fid}
 use Rattle.afs_num.specs.declared.types.Head.{Head}
 use Rattle.afs_num.specs.declared.types.Key.{Key}
 use Rattle.afs_num.specs.declared.types.Node.{Node}
-use Rattle.afs_num.specs.declared.types.Node.TheVariants.{Loc, Server, Client, Admin}
+use Rattle.afs_num.specs.declared.types.Node.TheVariants.{Client}
 use Rattle.afs_num.specs.declared.calls.FsCall.{FsCall}
 use Rattle.afs_num.specs.declared.messages.Message.{Message}
-use Rattle.afs_law.proofs.Basics.{both, same_node-refl, Above, Each, IfBack, IfDone, each_more, each_map, if_back, if_done, some_of}
-use Rattle.afs_law.proofs.Owing.{AllOf, all_map, all_both, all_filter, IsGranted, IsIn, IsNumberIn, IsOpen, AccountedBy, WaitedBy, AllWaitedBy, HeldWaits, IsOwed, CallOut, BackIn, DroppedOwe, IsDone, DoneIn, SeatedIn, BackedIn, Promised, IsPromised, promise_to, Numbered}
-use Rattle.afs_law.specs.Breaks.{HasStopped, HasSettled, HasDrop, HasTimeout, last_grant, expiry_of, HasCome, IsEnded, Owes, AllOwes, EndedBy, OweAt, CarriesBreak, WasSent, live_grant, is_on, last_number}
+use Rattle.afs_law.proofs.Basics.{both, same_node-refl, Above, Each, IfBack, IfDone, each_more, each_map, if_back, if_done}
+use Rattle.afs_law.proofs.Owing.{AllOf, all_map, IsGranted, IsIn, IsNumberIn, AccountedBy, WaitedBy, AllWaitedBy, HeldWaits, IsOwed, CallOut, BackIn, DroppedOwe, IsDone, DoneIn, SeatedIn, BackedIn, Promised, Numbered}
+use Rattle.afs_law.specs.Breaks.{HasStopped, HasSettled, HasDrop, HasTimeout, last_grant, HasCome, Owes, AllOwes, EndedBy, OweAt, live_grant, is_on, last_number}
 use Rattle.afs_law.specs.Callbacks.{Promise, Owed, BackCall, Held, Backs, is_held, key_answered, breaks_call}
 use Rattle.afs_law.specs.ClientRow.{the_server}
-use Rattle.afs_law.specs.Ideal.{change_in}
-use Rattle.afs_law.specs.Legal.{HasChange, IsKey}
+use Rattle.afs_law.specs.Legal.{HasChange}
 use Rattle.afs_law.specs.Lines.{Line}
-use Rattle.afs_law.specs.Past.{onto, lines_on, lines_of, sent_of, given_message, IsCallUnder, Sends}
+use Rattle.afs_law.specs.Past.{onto, lines_on, lines_of}
 use Rattle.afs_law.specs.Runs.{Entry, Fall}
 use Rattle.afs_law.specs.States.{Seat}
 use Rattle.afs_model.specs.Calls.{call_seat}
@@ -372,7 +371,7 @@ open_over : (d u : Option Fall) (b now : Backs) (clock then : ℕ) (e : Entry) (
 open_over d u b now clock then e past s newer at older before after c what n (inl x) = inl (ended_over e clock then newer at older before after c what n s.later x)
 open_over d u b now clock then e past s newer at older before after c what n (inr x) = elim (s.or_stopped x.0) [
   | inl up ↦ elim (s.gone x.1.o x.1.is_in) [
-    | inl is ↦ inr (up, record { o = x.1.o; is_in = is; number = x.1.number; client = x.1.client; on = x.1.on; expiry = x.1.expiry; waits = λ k boot y. elim (x.1.waits k boot y) [ | inl z ↦ inl (ended_over e clock then newer at older before after c what n s.later z) | inr z ↦ inr (s.held k z) ] })
+    | inl is ↦ inr (up, record { o = x.1.o; is_in = is; number = x.1.number; client = x.1.client; on = x.1.on; expiry = x.1.expiry; waits = λ k boot y. elim (x.1.waits k boot y) [ inl z ↦ inl (ended_over e clock then newer at older before after c what n s.later z) | inr z ↦ inr (s.held k z) ] })
     | inr gone ↦ inl (inl (subst (λ (m : Node). HasSettled the_server m n (onto (lines_on (onto [] after) newer) e.lines)) x.1.client (subst (λ (k : ℕ). HasSettled the_server (Client x.1.o.client) k (onto (lines_on (onto [] after) newer) e.lines)) x.1.number (gone _))))
   ]
   | inr stop ↦ inl (inr (inl (stop _)))

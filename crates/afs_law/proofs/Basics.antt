@@ -4,8 +4,8 @@ use Rattle.afs_law.specs.ClientRow.{find_cached, used_first, is_trusted, refresh
 use Rattle.afs_law.specs.Ideal.{raised}
 use Rattle.afs_law.specs.Past.{same_key}
 use Rattle.afs_law.specs.Runs.{message_at}
-use Rattle.afs_law.specs.States.{Seat, CacheEntry}
-use Rattle.afs_model.proofs.Keyed.{IsExact, found_key, found_left, found_own, at_last}
+use Rattle.afs_law.specs.States.{CacheEntry}
+use Rattle.afs_model.proofs.Keyed.{IsExact, found_own, at_last}
 use Rattle.afs_model.specs.Calls.{CallSeat, Admitted, runs, kept, older, pair_below, caller_of, call_seat, call_seated, repeated, paired}
 use Rattle.std.proofs.Common.{◌≡◌, ℕ, zero, suc, ◌+◌, ◌<◌, ◌≤◌, ◌⊎◌, inl, inr, Bool, true, false, cond, eqb, ltb, not, List, [], ◌∷◌, ◌++◌, map, Option, Some, None, refl, sym, ap, subst, ◌∙◌, arith, eq-eqb, eqb-true, ltb-true, ltb-false}
 use Rattle.std.specs.Prelude.{filter, ◌&&◌, ⊤}
@@ -22,9 +22,7 @@ use Rattle.afs_num.specs.declared.calls.FsCall.{FsCall}
 use Rattle.afs_num.specs.declared.messages.Carried.{Carried}
 use Rattle.afs_num.specs.declared.messages.Message.{Message}
 use Rattle.afs_num.specs.declared.messages.Carried.TheVariants as carried
-use Rattle.afs_num.specs.declared.messages.Reply.TheVariants as tell
 use Rattle.afs_num.specs.declared.messages.Call.TheVariants as ask
-use Rattle.afs_num.specs.declared.histories.Body.TheVariants as bodies
 
 -- Small laws: fids, nodes and keys; pairs of epoch and number; seats; what is found; lists of messages.
 
@@ -163,7 +161,7 @@ below_next e n d m (inr x) = let q : n ≤ m = x.1 in inr (x.0, omega arith)
 
 pub up_to_by : (e n d m : ℕ) → UpTo e n d m → Below e n d m ⊎ ((e ≡ d) × (n ≡ m))
 up_to_by e n d m (inl x) = inl (inl x)
-up_to_by e n d m (inr x) = elim (eq-or-lt_of_le x.1) [ | inl q ↦ inr (x.0, q) | inr l ↦ inl (inr (x.0, l)) ]
+up_to_by e n d m (inr x) = elim (eq-or-lt_of_le x.1) [ inl q ↦ inr (x.0, q) | inr l ↦ inl (inr (x.0, l)) ]
 
 -- what is not above stays behind the next number
 pub next_not : (e n d m : ℕ) → UpTo e n d m → e ≡ d → n ≡ m + 1 → ⊥

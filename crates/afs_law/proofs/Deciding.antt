@@ -1,46 +1,37 @@
-use Rattle.std.proofs.Common.{◌≡◌, ℕ, ◌+◌, ◌<◌, ◌≤◌, ◌⊎◌, inl, inr, Bool, true, false, cond, nat_eq, length, List, [], ◌∷◌, ◌++◌, Option, Some, None, ℤ, pos, refl, sym, ap, subst, ◌∙◌, arith, eq-eqb, eqb-true, le_of_eq, append-nil, nat_lt, ltb-true, ltb-false, eqb}
-use Rattle.afs_ideal.specs.Operations.{the_user, reads, Shown, Result, refused, changes, no_operation, code_of, op, shows_acl, no_amend, volume_called, volume_changed, changed}
-use Rattle.afs_ideal.specs.Replies.{status_of, change_reply, stamped}
-use Rattle.afs_ideal.specs.Tables.{Table, get, set}
-use Rattle.afs_ideal.specs.Volumes.{type_of, bytes_by, Volume, Vnode, Kind, a_file, a_directory, a_link, body_by, body_of, vnode_of, if_unique, version_at, Edit, versions_by, edited_all, counted, amended}
-use Rattle.afs_law.proofs.Backing.{Plain, all_lines, is_up, is_still, is_oweless, is_unchanging, backed_fall, granted_over, change_back, no_owe, promised_over}
-use Rattle.afs_law.proofs.Basics.{kept_last, not_above, runs_above, Below, UpTo, Above, Each, IfCall, IfReply, IfNotice, if_notice, OfReply, OfNotice, above_up, up_to_by, by_server, IfBack, IfDone, ByClient, OfClient, client_any, by_client, both, same_fid-true, same_fid-refl, apart, same_node-true, client_number, up_to_below, below_up_to, below_not, up_to_same, LastSeat, own_seat, at_seat, OfCall, each_map, each_at, if_call, if_reply, raised_up_to, some_of, yes_no}
-use Rattle.afs_law.proofs.Edits.{index_in, fid_at, Sound, SoundIn, sound_same, Tops, live, live_index, get-set, on_top, Grow, Told, edits_told, counted_sound, Rises, rises, tops, touches, untouched, touched_volume, not_touched, there}
-use Rattle.afs_law.proofs.Facts.{HeldIn, ToClient, Ghost, Seen, HoldsAt, server_boot, up_boot, risen, LastStored, IsStored, IsActs, IsLastCall, IsAged, IsUntrusted, View, view_of, view, Spot, spot, LastRan, ReplyFact, IsBehind, AreKept, MayRun, HasFallen, IsCut, Reached, Stands, IsCurrent, HasCurrent, Fits, Answers, IsReply, KeptReply, ClientFacts, CallFact, CallIn, ReplyIn, Origin, AreHome, AreNew, AreUnheard, stored_index, Holds, Goes, IsNoticed, IsOne, InScope, IsFetched, FitsReply, FitsData, FitsSet, FitsPlain, WasChanged, AreIdeal, AreSound, WasStored}
-use Rattle.afs_law.proofs.Loading.{is_tickless, down_later, none_loaded, still_backed, known_backed, resent, change_loaded, rise_loaded, owes_unchanging, all_new, number_front, number_second, run_loaded, key_held, no_change, all_waited, NewReply, settles_good, settles_backed, quits_good, quits_backed, retries_backed, all_owed, alls_good}
-use Rattle.afs_law.proofs.Notes.{AreNotes, Skips, skips, told_entry, told_rests, risen_entry, risen_rests, noted_entry, noted_rests, owe_notes, settle_notes, quit_notes, no_versions}
+use Rattle.std.proofs.Common.{◌≡◌, ℕ, ◌+◌, ◌<◌, ◌≤◌, ◌⊎◌, inl, inr, Bool, true, false, cond, nat_eq, length, List, [], ◌∷◌, ◌++◌, Option, Some, None, ℤ, pos, refl, sym, ap, subst, ◌∙◌, arith, eq-eqb, eqb-true, le_of_eq, append-nil, nat_lt, ltb-true, ltb-false}
+use Rattle.afs_ideal.specs.Operations.{the_user, reads, Result, refused, changes, no_operation, op, volume_called}
+use Rattle.afs_ideal.specs.Tables.{get}
+use Rattle.afs_ideal.specs.Volumes.{Volume, Edit, versions_by}
+use Rattle.afs_law.proofs.Backing.{Plain, all_lines, is_still, is_oweless, backed_fall, granted_over, change_back, no_owe, promised_over}
+use Rattle.afs_law.proofs.Basics.{kept_last, not_above, runs_above, Below, Above, Each, IfCall, IfNotice, if_notice, by_server, IfDone, ByClient, OfClient, client_any, same_node-true, below_not, up_to_same, OfCall, each_map, each_at, if_call, some_of}
+use Rattle.afs_law.proofs.Edits.{on_top}
+use Rattle.afs_law.proofs.Facts.{HeldIn, ToClient, Ghost, HoldsAt, server_boot, up_boot, risen, IsActs, View, view, Spot, spot, ReplyFact, AreKept, HasFallen, IsCut, Fits, Answers, KeptReply, ClientFacts, CallFact, CallIn, Origin, AreUnheard, Holds, Goes, IsNoticed, IsOne}
+use Rattle.afs_law.proofs.Loading.{is_tickless, down_later, resent, rise_loaded, run_loaded, no_change, all_waited, quits_good, quits_backed, retries_backed, all_owed, alls_good}
+use Rattle.afs_law.proofs.Notes.{AreNotes, Skips, skips, told_entry, risen_entry, risen_rests, owe_notes, quit_notes}
 use Rattle.afs_law.proofs.Ops.{IsShown, reads_is, op_code, op_is}
-use Rattle.afs_law.proofs.Owing.{AllOf, HeldWaits, BackedIn, IsDone, DroppedOwe, IsGranted, IsNumberIn, all_filter, DoneIn}
-use Rattle.afs_law.proofs.Passing.{ran_over, stands_over, answers_over, reply_over, kept_over, replies_over, waiting_over, fallen_over, replies_still, PassesBoth, PassesSeen, held_over, fetch_reply_by, cause_over, PassesFile, PassesAct, PassesReach, StaysNewest, stays, current_over, reached_more, client_over, client_still, News, more_sent, PassesGrant}
-use Rattle.afs_law.proofs.Pumping.{of_reply_any, no_call, no_notice, no_news, news_more, news_held, pumped_news, starts_held, news_break}
-use Rattle.afs_law.proofs.Resting.{rest_backed, fall_backed, Rests, fault_rests, full_rests, alone, rests, still, voids, unheard_still, fallen_still, restart_rests, server_crash_rests, cut_entry, cut_rests}
+use Rattle.afs_law.proofs.Owing.{BackedIn, IsNumberIn, DoneIn}
+use Rattle.afs_law.proofs.Passing.{ran_over, kept_over, replies_over, waiting_over, fallen_over}
+use Rattle.afs_law.proofs.Pumping.{no_news, pumped_news, starts_held, news_break}
+use Rattle.afs_law.proofs.Resting.{fall_backed, Rests, fault_rests, full_rests, alone, rests, still, voids, unheard_still, fallen_still, server_crash_rests, cut_entry, cut_rests}
 use Rattle.afs_law.proofs.Saving.{versions_lines, versioned_front, saves_clock, Way, rises_to, faults, fills, saved_lines, saved_sent, saved_entry, given_on, Change', change_at, stock_after, NewEntry, saved_reply, saves_change_good, saves_holds, versions_good, saves_boot, saves_goes, top_number}
-use Rattle.afs_law.proofs.Serving.{shows_goes, answered_goes, noticed_goes, nothing_done, quiet, acts_alone, still_loads, given_plain, Loads, Turns, up_backed, seats_of, Gives, up_boots, noted, Dull, unheard_over, at_told, unheard_up, client_head, Now, call_at, taken, seats_after, durable_after, Stock, stock, server_after, own_durable, seated_view, caller_view, views_after, above_more, above_before, not_ran, dull_after, unheard_after, ran_now, HasRun, cause_now, running_act, stale_none, Serves, served_cell, serves, last_has, has_run, reached_at, spot_at, not_stored, unheard_later, refuses_goes, told_file, told_reach, told_act}
-use Rattle.afs_law.proofs.Turning.{loaded, TurnSends, Pumps, pumps, expired_backed, call_good, good_more, put_call, break_good}
-use Rattle.afs_law.specs.Acts.{Act}
-use Rattle.afs_law.specs.Breaks.{HasStopped, GoodSettle, GoodQuit, last_number}
-use Rattle.afs_law.specs.Callbacks.{retries, quits, Backs, Held, Owed, Turn, Started, BackCall, replies_of, pumped, expired, turn_for, turned_by, no_turn, repeats_by, new_owes, owe_line, is_held, key_answered, is_seat_of, risen_turn, revived_backs, owes_all, timed, first_backs, numbers, is_hit, alls, Promise, put, settles, settles_by, is_back_awaited, answered_by, renews, renews_by, noticed_by}
-use Rattle.afs_law.specs.ClientRow.{the_server, find_cached, body_told}
-use Rattle.afs_law.specs.Going.{asked, Going, Need, next, answers, began, with_read, read_on}
-use Rattle.afs_law.specs.Grants.{IsWithdrawn, has_fetched, fetch_reply, since, change_below, IsByOther, IsDropped}
-use Rattle.afs_law.specs.Ideal.{Reach, is_zero_code, raised, IsLast, version_in, latest, IsThat, user_of, clock_of, last_version, HasVersion, Accepts, reach, volume_after, change_key, call_under, reach_over, applied, applied_by}
-use Rattle.afs_law.specs.Legal.{IsChanging, code_given, IsResult, AreGood, IsGood, code_told, Cause, IsNew, HasChange, GoodChange, versions_first, AreGoodReplies, IsTold, answer_at, answer_on, IsUnderChange, GoodRestart, op_on}
+use Rattle.afs_law.proofs.Serving.{shows_goes, answered_goes, noticed_goes, nothing_done, quiet, acts_alone, still_loads, given_plain, Loads, up_backed, seats_of, Gives, noted, Dull, at_told, client_head, Now, call_at, taken, seats_after, views_after, ran_now, served_cell, unheard_later, refuses_goes}
+use Rattle.afs_law.proofs.Turning.{Pumps, pumps, put_call, break_good}
+use Rattle.afs_law.specs.Breaks.{HasStopped, last_number}
+use Rattle.afs_law.specs.Callbacks.{retries, quits, Backs, Held, Turn, BackCall, replies_of, pumped, expired, turn_for, no_turn, repeats_by, is_held, key_answered, is_seat_of, risen_turn, owes_all, alls, put}
+use Rattle.afs_law.specs.ClientRow.{the_server}
+use Rattle.afs_law.specs.Going.{asked}
+use Rattle.afs_law.specs.Ideal.{is_zero_code, clock_of}
+use Rattle.afs_law.specs.Legal.{IsChanging, code_given, AreGood, IsNew, HasChange, versions_first, IsTold, answer_at, answer_on, GoodRestart, op_on}
 use Rattle.afs_law.specs.Lines.{Line}
-use Rattle.afs_law.specs.Past.{IsUnheard, onto, lines_of, sent_of, given_message, called_key, HasCode, is_of_act, IsCallUnder, Ran, running, has_begun}
-use Rattle.afs_law.specs.Records.{change_record}
+use Rattle.afs_law.specs.Past.{onto, lines_of, sent_of, given_message, called_key, IsCallUnder}
 use Rattle.afs_law.specs.Runs.{begun_by_disk, Entry, Cell, message_at, Armed, unarmed, Luck, Blow, struck, lowered, Fall, at_rest, in_step, in_boot, settled, Outcome, comes_up, fails_early, fails_midway, is_full, server_rises, server_ends, server_falls, blow_line, server_stopped, server_restarted, server_served, server_given, server_adds, server_does, back_timed, server_timed, server_wakes}
-use Rattle.afs_law.specs.Scopes.{is_in_scope, is_volume}
-use Rattle.afs_law.specs.ServerRow.{begun_after, begun_before, not_served, serves_call, shows, Reading, no_room, has_room, longer, revived, device_calls, promise_until, promise_ticks, decides, Decision, drops, tells_boot, repeats, refuses, saves, runs, admits, called, hears, reply_head, replied, boot_told, refusal, told, does, versioned, Change, made, result, saved, decided, in_volume, with_volume}
-use Rattle.afs_law.specs.States.{CacheEntry, Seat, ServerState}
+use Rattle.afs_law.specs.ServerRow.{begun_after, begun_before, not_served, serves_call, shows, Reading, no_room, revived, device_calls, promise_ticks, decides, Decision, drops, tells_boot, repeats, refuses, saves, admits, called, hears, boot_told, versioned, Change, decided, in_volume, with_volume}
+use Rattle.afs_law.specs.States.{Seat, ServerState}
 use Rattle.afs_model.specs.Calls.{Admitted, call_seat, call_seated}
 use Rattle.afs_model.specs.Calls as pairs
 use Rattle.afs_num.specs.declared.messages.Received.{Received}
-use Rattle.std.specs.Prelude.{◌&&◌, ⊤, map, filter, not}
-use Rattle.std.specs.Option.{option_map}
-use Rattle.afs_num.specs.Fids.{same_fid}
+use Rattle.std.specs.Prelude.{◌&&◌, ⊤}
 use Rattle.afs_num.specs.Nodes.{same_node}
-use Rattle.afs_num.specs.declared.types.Code.{Code}
-use Rattle.afs_num.specs.declared.types.Fid.{Fid}
 use Rattle.afs_num.specs.declared.types.Head.{Head}
 use Rattle.afs_num.specs.declared.types.Key.{Key}
 use Rattle.afs_num.specs.declared.types.Node.{Node}
@@ -51,24 +42,14 @@ use Rattle.afs_num.specs.declared.messages.Message.{Message}
 use Rattle.afs_num.specs.declared.messages.Received.TheVariants.{Whole}
 use Rattle.afs_num.specs.declared.scripts.Script.{Script}
 use Rattle.afs_num.specs.declared.histories.Actor.TheVariants as actors
-use Rattle.afs_num.specs.declared.histories.Body.{Body}
 use Rattle.afs_num.specs.declared.histories.Version.{Version}
-use Rattle.std.proofs.Math.Nat.{le_refl, le_trans, eq-or-lt_of_le}
-use Rattle.afs_num.specs.declared.calls.FsReply.{FsReply}
-use Rattle.afs_num.specs.declared.calls.AfsFetchStatus.{AfsFetchStatus}
-use Rattle.afs_num.specs.declared.calls.AfsCallBack.{AfsCallBack}
-use Rattle.afs_num.specs.declared.calls.FsCall.TheVariants as calls
+use Rattle.std.proofs.Math.Nat.{le_refl, le_trans}
 use Rattle.afs_num.specs.declared.messages.Carried.TheVariants as carried
 use Rattle.afs_num.specs.declared.messages.Reply.TheVariants as tell
 use Rattle.afs_num.specs.declared.messages.Call.TheVariants as ask
-use Rattle.afs_num.specs.declared.histories.Body.TheVariants as bodies
 use Rattle.afs_law.specs.Lines as lines
-use Rattle.afs_num.specs.declared.calls.FsReply.TheVariants as replies
-use Rattle.afs_num.specs.declared.types.Half.TheVariants as halves
 
 -- What the server decides; it stops, and begins again.
-
-
 
 -- ---- each decision has its reason
 
@@ -515,7 +496,7 @@ rises_goes s c past fall h e =
     let sk : Skips t.lines = skips t.lines (rising_notes c) in
     let x : Entry = risen_entry b t.lines (pumped the_server b t).sent in
     let pump : Pumps b c.server.durable (seats_of c) c.clock c.sent (x ∷ past) t = pumps b c.server.durable (seats_of c) c.clock c.sent x past t refl (sk.clock _ ∙ h.clock)
-        (rise_loaded c.count c.down c.backs c.server.boot c.server.seats c.server.durable (seats_of c) c.clock c.sent x past (lines.Restart the_server b ∷ []) (λ z. absurd cc) (h.backs refl) h.clock refl refl refl refl (sk.given (sent_of past))) (record { good = tt; calls = tt; dones = tt }) in
+    (rise_loaded c.count c.down c.backs c.server.boot c.server.seats c.server.durable (seats_of c) c.clock c.sent x past (lines.Restart the_server b ∷ []) (λ z. absurd cc) (h.backs refl) h.clock refl refl refl refl (sk.given (sent_of past))) (record { good = tt; calls = tt; dones = tt }) in
     record {
       replies = pump.good;
       volumes = refl;
@@ -585,8 +566,8 @@ ends_saved s c past fall comes_up n h user call time id v es shown H e w q is_cu
     let k : Entry = saved_entry y key vs r in
     let given : given_message k.lines (sent_of past) ≡ None = given_on vs (lines.Restart the_server x ∷ t.lines) (sent_of past) ∙ sk.given (sent_of past) in
     let pump : Pumps x (call_seated (taken n h r) c.server.durable) (seats_of c) c.clock c.sent (k ∷ past) t = pumps x (call_seated (taken n h r) c.server.durable) (seats_of c) c.clock c.sent k past t refl (saves_clock y key vs r past ∙ H.clock)
-        (rise_loaded c.count c.down c.backs c.server.boot c.server.seats (call_seated (taken n h r) c.server.durable) (seats_of c) c.clock c.sent k past (lines.Change the_server key (length vs) ∷ versioned vs (lines.Restart the_server x ∷ [])) (λ z. absurd cc) (H.backs refl) H.clock
-        (ap (λ (ls : List Line). lines.Change the_server key (length vs) ∷ ls) (versioned_front vs (lines.Restart the_server x ∷ []) t.lines)) (versions_lines is_oweless vs (lines.Restart the_server x ∷ []) (λ z. refl) refl) (versions_lines is_tickless vs (lines.Restart the_server x ∷ []) (λ z. refl) refl) (versions_lines is_still vs (lines.Restart the_server x ∷ []) (λ z. refl) refl) given) (record { good = tt; calls = tt; dones = tt }) in
+    (rise_loaded c.count c.down c.backs c.server.boot c.server.seats (call_seated (taken n h r) c.server.durable) (seats_of c) c.clock c.sent k past (lines.Change the_server key (length vs) ∷ versioned vs (lines.Restart the_server x ∷ [])) (λ z. absurd cc) (H.backs refl) H.clock
+    (ap (λ (ls : List Line). lines.Change the_server key (length vs) ∷ ls) (versioned_front vs (lines.Restart the_server x ∷ []) t.lines)) (versions_lines is_oweless vs (lines.Restart the_server x ∷ []) (λ z. refl) refl) (versions_lines is_tickless vs (lines.Restart the_server x ∷ []) (λ z. refl) refl) (versions_lines is_still vs (lines.Restart the_server x ∷ []) (λ z. refl) refl) given) (record { good = tt; calls = tt; dones = tt }) in
     record {
       replies = pump.good;
       volumes = refl;
@@ -599,14 +580,14 @@ ends_saved s c past fall fails_midway n h user call time id v es shown H e w q i
   holds = nothing_less s None _ _ (after_holds faults s None c past c.backs in_boot n h user call time id v es shown H w q is_cut (given_on (versions_by id es v) _ (sent_of past)) (λ x y z. tt) (saves_boot faults _ (versions_by id es v) (saved_reply c (client_head n h) time user call id v es shown) past)
       (λ own held. (no_news _ _ _, held)) (λ z. backed_fall c.down in_boot c.backs c.server.boot c.server.seats _ (seats_of c) c.clock c.sent _ past (versions_lines is_oweless (versions_by id es v) (lines.Fault the_server ∷ []) (λ y. refl) refl) (versions_lines is_still (versions_by id es v) (lines.Fault the_server ∷ []) (λ y. refl) refl) (λ u. absurd cc) (H.backs refl)));
   replies = tt;
-      volumes = refl;
+  volumes = refl;
 }
 ends_saved s c past fall is_full n h user call time id v es shown H e w q is_cut = record {
   good = after_good s c past n h user call id v es shown (lines.Full the_server ∷ []) H w q e refl (refl, tt);
   holds = nothing_less s None _ _ (after_holds fills s None c past c.backs at_rest n h user call time id v es shown H w q is_cut (given_on (versions_by id es v) _ (sent_of past)) (λ x y z. tt) (saves_boot fills _ (versions_by id es v) (saved_reply c (client_head n h) time user call id v es shown) past ∙ (H.boots ∙ ap (λ (d : Option Fall). up_boot d c.server.boot) e))
       (λ own held. (no_news _ _ _, held)) (λ z. backed_fall c.down at_rest c.backs c.server.boot c.server.seats _ (seats_of c) c.clock c.sent _ past (versions_lines is_oweless (versions_by id es v) (lines.Full the_server ∷ []) (λ y. refl) refl) (versions_lines is_still (versions_by id es v) (lines.Full the_server ∷ []) (λ y. refl) refl) (λ u. absurd cc) (H.backs refl)));
   replies = tt;
-      volumes = refl;
+  volumes = refl;
 }
 
 pub ends_after : (s : Script) (c : Cell) (past : List Entry) (fall : Fall) (o : Outcome) (m : Message) (time : ℕ) (d : Decision) → (H : Holds s c past) → c.down ≡ Some fall → IsJust c H.floors past m d → IsCut c.server c.sent m past → Goes s past (server_ends c (begun_after the_server c.server time d) fall o)

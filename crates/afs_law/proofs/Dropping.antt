@@ -1,31 +1,30 @@
 use Rattle.afs_num.specs.declared.calls.AfsFetchStatus.{AfsFetchStatus}
-use Rattle.afs_law.proofs.Asking.{Passes, Fresh, KeepsSeat, moves_back, moves, old_seat, step_entry, view_after, views_after, Heard, heard_dull, told_passes, quiet, client_kept, call_known, reply_still, safe_cache, nothing_new}
+use Rattle.afs_law.proofs.Asking.{Passes, Fresh, KeepsSeat, moves_back, moves, old_seat, step_entry, view_after, views_after, Heard, heard_dull, told_passes, quiet, reply_still, safe_cache}
 use Rattle.afs_law.proofs.Backing.{Plain, all_lines, is_up, is_still, is_oweless, is_unchanging, drop_onto, owe_over}
-use Rattle.afs_law.proofs.Basics.{both, same_fid-true, same_fid-refl, same_node-true, client_number, Each, IfBack, IfDone, OfCall, OfReply, OfNotice, OfClient, OfServer, ByClient, ByServer, by_server, server_any, LastSeat, some_of, kept_last}
-use Rattle.afs_law.proofs.Facts.{IsKnown, Ghost, View, view, Spot, spot, Held, IsFetched, Fits, Answers, ReplyFact, ClientFacts, IsAged, IsLastCall, CallIn, ReplyIn, Origin, IsActs, ToClient, server_boot, Holds, Goes, Reached, FitsData, FitsSet, FitsReply, IsOne}
-use Rattle.afs_law.proofs.Owing.{AllOf, all_map, IsOwed, CallOut, BackIn, DroppedOwe, IsDone, DoneIn, SeatedIn, BackedIn}
-use Rattle.afs_law.proofs.Passing.{body_kept, News, PassesGrant, PassesFile, PassesAct, PassesReach, current_over, stands_over, stays, kept_over, grant_over, cause_over, onto_front, client_still}
+use Rattle.afs_law.proofs.Basics.{same_fid-true, same_fid-refl, same_node-true, client_number, OfClient, OfServer, ByClient, ByServer, by_server, server_any, LastSeat, some_of, kept_last}
+use Rattle.afs_law.proofs.Facts.{IsKnown, View, view, Spot, spot, Fits, ReplyFact, IsAged, IsLastCall, CallIn, Origin, IsActs, ToClient, server_boot, Holds, Goes, FitsData, FitsSet, FitsReply, IsOne}
+use Rattle.afs_law.proofs.Owing.{AllOf, IsOwed, CallOut, BackIn, DroppedOwe, IsDone, SeatedIn}
+use Rattle.afs_law.proofs.Passing.{body_kept, PassesGrant, PassesFile, PassesReach, current_over, stands_over, stays, kept_over, grant_over, cause_over, onto_front, client_still}
 use Rattle.afs_law.proofs.Pumping.{no_call, no_notice, of_reply_any}
 use Rattle.afs_law.proofs.Serving.{told_file, told_reach, told_act, reached_still}
-use Rattle.afs_law.specs.Acts.{Act}
-use Rattle.afs_law.specs.Breaks.{HasDrop, OweAt, CarriesBreak, NamesIn, IsNamedIn}
-use Rattle.afs_law.specs.Callbacks.{Owed, BackCall, breaks_call}
+use Rattle.afs_law.specs.Breaks.{HasDrop, OweAt, CarriesBreak, NamesIn}
+use Rattle.afs_law.specs.Callbacks.{Owed, breaks_call}
 use Rattle.afs_law.specs.ClientRow.{the_server, find_cached, ignores, is_named, names_act, is_waiting, drop_line, done_reply, back_seat, drops_fids, drops_all, told_step, breaks, admits_back, called_back, names_call, body_told}
 use Rattle.afs_law.specs.Going.{Going, asked, ClientState}
 use Rattle.afs_law.specs.Grants.{has_fetched, IsWithdrawn, IsDropped, since}
 use Rattle.afs_law.specs.Ideal.{last_version, HasVersion, Accepts, clock_of, reach, Reach, reach_over, change_key, changed_under, volume_after}
-use Rattle.afs_law.specs.Legal.{IsNew, AreGood, AreGoodReplies, GoodReply}
+use Rattle.afs_law.specs.Legal.{IsNew, AreGood, GoodReply}
 use Rattle.afs_law.specs.Lines.{Line}
-use Rattle.afs_law.specs.Past.{onto, lines_of, sent_of, given_message, running, has_begun}
-use Rattle.afs_law.specs.Runs.{Entry, Cell, Fall, client_moves}
+use Rattle.afs_law.specs.Past.{onto, lines_of, sent_of, running, has_begun}
+use Rattle.afs_law.specs.Runs.{Entry, Cell, client_moves}
 use Rattle.afs_law.specs.ServerRow.{boot_told}
 use Rattle.afs_law.specs.States.{CacheEntry, Seat}
 use Rattle.afs_law.specs.Steps.{Step}
 use Rattle.afs_model.specs.Calls.{Admitted}
 -- A client is called by its server: it drops what it has cached of the broken promises.
-use Rattle.std.proofs.Common.{◌≡◌, ℕ, ◌+◌, ◌<◌, ◌≤◌, ◌⊎◌, inl, inr, Bool, true, false, cond, nat_eq, not, List, [], ◌∷◌, ◌++◌, map, Option, Some, None, refl, sym, ap, subst, ◌∙◌, eqb-true, arith}
+use Rattle.std.proofs.Common.{◌≡◌, ℕ, ◌≤◌, ◌⊎◌, inl, inr, Bool, true, false, cond, nat_eq, not, List, [], ◌∷◌, map, Option, Some, None, refl, sym, ap, subst, ◌∙◌}
 use Rattle.afs_model.specs.Calls as pairs
-use Rattle.std.specs.Prelude.{⊤, filter, ◌&&◌}
+use Rattle.std.specs.Prelude.{filter}
 use Rattle.std.proofs.Math.Nat.{le_refl}
 use Rattle.afs_num.specs.Fids.{same_fid}
 use Rattle.afs_num.specs.Nodes.{same_node}
@@ -33,7 +32,7 @@ use Rattle.afs_num.specs.declared.types.Fid.{Fid}
 use Rattle.afs_num.specs.declared.types.Head.{Head}
 use Rattle.afs_num.specs.declared.types.Key.{Key}
 use Rattle.afs_num.specs.declared.types.Node.{Node}
-use Rattle.afs_num.specs.declared.types.Node.TheVariants.{Loc, Server, Client, Admin}
+use Rattle.afs_num.specs.declared.types.Node.TheVariants.{Server, Client}
 use Rattle.afs_num.specs.declared.calls.FsCall.{FsCall}
 use Rattle.afs_num.specs.declared.calls.FsCall.TheVariants as calls
 use Rattle.afs_num.specs.declared.calls.FsReply.{FsReply}
@@ -165,7 +164,7 @@ skips n (g ∷ fs) =
       unchangings = ih.unchangings;
       reach = ih.reach;
       good = λ s past own. (refl, ih.good s past (lines.Drop (Client n) g ∷ own));
-      drop = λ w o h. elim (is_name w g fs h) [ | inl e ↦ drop_onto the_server (Client n) w (drops_of n fs) (lines.Drop (Client n) g ∷ o) (inl (refl, e)) | inr y ↦ ih.drop w (lines.Drop (Client n) g ∷ o) y ];
+      drop = λ w o h. elim (is_name w g fs h) [ inl e ↦ drop_onto the_server (Client n) w (drops_of n fs) (lines.Drop (Client n) g ∷ o) (inl (refl, e)) | inr y ↦ ih.drop w (lines.Drop (Client n) g ∷ o) y ];
     }
 
 -- ---- the reply to a server
@@ -297,7 +296,7 @@ broken_data sp n p x m contents status callback (calls.FetchData f position want
         begun = h.held.begun;
       };
       reached = (broken_reach n n p fs ms past f).seen status.sync_counter h.reached;
-      newest = elim h.newest [ | inl w ↦ inl ((skips n fs).withdrawn h.held.grant.server (Client n) f (lines.Given p ∷ new) w) | inr at ↦ inr (ap (option_map (λ (v : Version). v.index)) (last f) ∙ at) ];
+      newest = elim h.newest [ inl w ↦ inl ((skips n fs).withdrawn h.held.grant.server (Client n) f (lines.Given p ∷ new) w) | inr at ↦ inr (ap (option_map (λ (v : Version). v.index)) (last f) ∙ at) ];
     }
 broken_data sp n p x m contents status callback call fs ms past last h = h
 
@@ -370,7 +369,7 @@ drops_goes s c past n p head user fs cbs h heard to from b =
 
 pub all_passes : (s : Script) (c : Cell) (past : List Entry) (n p : ℕ) (m : Message) (q : Node) (ms : List Message) → Holds s c past → Heard c p m → Passes s n (lines.Given p ∷ lines.DropAll (Client n) q ∷ []) ms past
 all_passes s c past n p m q ms h d = record {
-  file = λ j ne f. record { grant = record { version = λ i b o x. x; dropped = λ z o x. elim x [ | inl y ↦ absurd (ne (client_number n j y.0)) | inr y ↦ y ]; withdrawn = λ z o x. x }; fetched = refl };
+  file = λ j ne f. record { grant = record { version = λ i b o x. x; dropped = λ z o x. elim x [ inl y ↦ absurd (ne (client_number n j y.0)) | inr y ↦ y ]; withdrawn = λ z o x. x }; fetched = refl };
   reach = λ j ne f. record { both = λ i x. record { made = x.made; seen = x.seen }; seen = λ i x. x; made = λ x. x };
   act = λ j ne. record { runs = λ o. refl; begins = refl };
   last = λ f o. refl;
@@ -399,7 +398,7 @@ all_data sp n x m contents status callback (calls.FetchData f position wanted) e
         begun = h.held.begun;
       };
       reached = (r f).seen status.sync_counter h.reached;
-      newest = elim h.newest [ | inl y ↦ inl (w f 0 h.held.grant.server new y) | inr at ↦ inr (ap (option_map (λ (v : Version). v.index)) (last f) ∙ at) ];
+      newest = elim h.newest [ inl y ↦ inl (w f 0 h.held.grant.server new y) | inr at ↦ inr (ap (option_map (λ (v : Version). v.index)) (last f) ∙ at) ];
     }
 all_data sp n x m contents status callback call e past v r w last h = h
 

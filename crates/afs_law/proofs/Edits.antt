@@ -1,12 +1,12 @@
 -- Edits: tables, and what a list of edits tells is what it makes.
 use Rattle.afs_ideal.specs.Tables.{Table, get, set, unset}
 use Rattle.afs_ideal.specs.Told.{last_told, Agrees, AreNext, Follows}
-use Rattle.afs_ideal.specs.Volumes.{Kind, a_file, a_directory, a_link, Vnode, Volume, Edit, amends, makes, frees, Amend, amended, fresh, version_at, gone_at, if_unique, Edited, amends_at, makes_at, frees_at, edited, edited_all, versions_by, body_by, counted}
-use Rattle.afs_law.proofs.Basics.{yes_no, same_fid-true, same_fid-refl, apart, some_of}
+use Rattle.afs_ideal.specs.Volumes.{Kind, a_file, a_directory, a_link, Vnode, Volume, Edit, amends, makes, frees, Amend, amended, fresh, version_at, gone_at, if_unique, amends_at, makes_at, frees_at, edited, edited_all, versions_by, body_by, counted}
+use Rattle.afs_law.proofs.Basics.{same_fid-true, same_fid-refl, apart}
 use Rattle.afs_law.specs.Ideal.{IsThat, told_by, versions_in, version_in, latest, last_version, HasVersion}
 use Rattle.afs_law.specs.Lines.{Line}
-use Rattle.std.proofs.Common.{◌≡◌, ℕ, ◌+◌, ◌<◌, ◌≤◌, ◌⊎◌, inl, inr, Bool, true, false, cond, eqb, ltb, not, List, [], ◌∷◌, ◌++◌, Option, Some, None, refl, sym, ap, subst, ◌∙◌, arith, eq-eqb, eqb-true, ltb-true, ltb-false}
-use Rattle.std.specs.Prelude.{filter, ◌&&◌, ⊤}
+use Rattle.std.proofs.Common.{◌≡◌, ℕ, ◌+◌, ◌<◌, ◌≤◌, ◌⊎◌, inl, inr, Bool, true, false, cond, eqb, ltb, not, List, [], ◌∷◌, ◌++◌, Option, Some, None, refl, sym, ap, subst, ◌∙◌, arith, eq-eqb, eqb-true}
+use Rattle.std.specs.Prelude.{◌&&◌, ⊤}
 use Rattle.std.specs.Option.{option_map}
 use Rattle.afs_num.specs.Fids.{same_fid}
 use Rattle.afs_num.specs.declared.types.Fid.{Fid}

@@ -1,28 +1,26 @@
 use Rattle.afs_ideal.specs.Directories.{IsDirectory, FitNames}
 use Rattle.afs_ideal.specs.Operations.{volume_changed}
 use Rattle.afs_ideal.specs.Tables.{AscendsFrom, Table, get}
-use Rattle.afs_ideal.specs.Volumes.{Kind, a_directory, Vnode, Volume}
+use Rattle.afs_ideal.specs.Volumes.{Vnode, Volume}
 use Rattle.afs_law.proofs.Basics.{Below, UpTo, Above, Each, IfCall, IfReply, IfNotice, OfCall, OfReply}
 use Rattle.afs_law.proofs.Edits.{Ones, index_in, SoundIn, Tops}
 use Rattle.afs_law.proofs.Owing.{BackedIn}
-use Rattle.afs_law.specs.Acts.{Act}
 use Rattle.afs_law.specs.Callbacks.{replies_of}
-use Rattle.afs_law.specs.ClientRow.{the_server, find_cached, body_told, names_told}
-use Rattle.afs_law.specs.Going.{asked, Going, Need, next, answers, began, with_read, read_on, ClientState}
+use Rattle.afs_law.specs.ClientRow.{the_server, find_cached, body_told}
+use Rattle.afs_law.specs.Going.{asked, Going, ClientState}
 use Rattle.afs_law.specs.Grants.{fetch_reply, GrantOf, since, IsWithdrawn, IsDropped}
 use Rattle.afs_law.specs.Ideal.{is_zero_code, last_version, IsLast, HasVersion, Accepts, clock_of, user_of, reach, call_under, volume_after}
 use Rattle.afs_law.specs.Legal.{IsNew, Cause, AreGood, AreGoodReplies}
 use Rattle.afs_law.specs.Lines.{Line}
 use Rattle.afs_law.specs.Past.{is_of_act, lines_of, sent_of, called_key, running, Called, CalledSince, IsUnheard, Ran}
 use Rattle.afs_law.specs.Runs.{Entry, Cell, Moved, Fall, at_rest, in_step, in_boot, message_at}
-use Rattle.afs_law.specs.Scopes.{is_in_scope, is_volume}
+use Rattle.afs_law.specs.Scopes.{is_in_scope}
 use Rattle.afs_law.specs.ServerRow.{reply_head}
 use Rattle.afs_law.specs.States.{CacheEntry, Seat, ServerState}
 use Rattle.afs_model.specs.Calls.{call_seat}
 use Rattle.std.specs.Prelude.{Bool, true, false, ◌++◌, if◌then◌else◌, ⊤}
 use Rattle.afs_num.specs.Nodes.{same_node}
 use Rattle.std.proofs.Common.{◌+◌, ◌≡◌, ℕ, ◌<◌, ◌≤◌, ◌^◌, ◌⊎◌, List, [], ◌∷◌, Option, Some, None, ℤ}
-use Rattle.std.specs.Option.{option_map}
 use Rattle.afs_num.specs.declared.types.Fid.{Fid}
 use Rattle.afs_num.specs.declared.types.Head.{Head}
 use Rattle.afs_num.specs.declared.types.Key.{Key}
@@ -33,8 +31,6 @@ use Rattle.afs_num.specs.declared.messages.Carried.{Carried}
 use Rattle.afs_num.specs.declared.messages.Message.{Message}
 use Rattle.afs_num.specs.declared.scripts.Script.{Script}
 use Rattle.afs_num.specs.declared.histories.Body.{Body}
-use Rattle.afs_num.specs.declared.histories.Version.{Version}
-use Rattle.afs_num.specs.Fids.{same_fid}
 use Rattle.afs_num.specs.declared.calls.FsReply.{FsReply}
 use Rattle.afs_num.specs.declared.calls.AfsFetchStatus.{AfsFetchStatus}
 use Rattle.afs_num.specs.declared.calls.AfsCallBack.{AfsCallBack}

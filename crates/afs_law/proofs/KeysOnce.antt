@@ -1,13 +1,12 @@
 use Rattle.std.proofs.Common.{◌≡◌, Option, List, [], ◌∷◌, ◌++◌, map, refl, sym, ap, subst, ◌∙◌}
 use Rattle.afs_num.specs.declared.types.Key.{Key}
-use Rattle.afs_num.specs.declared.types.Node.{Node}
 use Rattle.afs_num.specs.declared.scripts.Script.{Script}
 use Rattle.afs_ideal.specs.Tables.{Table, get}
 use Rattle.afs_ideal.specs.Volumes.{Volume}
 use Rattle.afs_law.proofs.Law.{legal, first_passed}
 use Rattle.afs_law.specs.Callbacks.{first_backs}
 use Rattle.afs_law.specs.ClientRow.{the_server}
-use Rattle.afs_law.specs.Ideal.{first_lines, set_up, change_in}
+use Rattle.afs_law.specs.Ideal.{set_up, change_in}
 use Rattle.afs_law.specs.Legal.{IsNot, IsNew, IsGood, AreGood, LegalAfter, Legal}
 use Rattle.afs_law.specs.Lines.{Line}
 use Rattle.afs_law.specs.Once.{IsFirst, AreOnce, past_of, ChangesOnce}
@@ -88,6 +87,15 @@ all_at (v ∷ vs) = (refl, all_at vs)
 pub once : (s : Script) (h : List Entry) (end : Cell) → RunsTo h s end → ChangesOnce h
 once s h end r =
     let one : Script = record s { servers = 1; volumes = map at_server s.volumes } in
-    let same : start s ≡ start one = ap (λ (volumes : Table Volume). record { server = first_server volumes; backs = first_backs; count = s.clients;
-  down = None; armed = unarmed; clients = λ n. first_client; away = λ n. false; sent = []; clock = 0 }) (sym (same_volumes s.volumes)) in
+    let same : start s ≡ start one = ap (λ (volumes : Table Volume). record {
+      server = first_server volumes;
+      backs = first_backs;
+      count = s.clients;
+      down = None;
+      armed = unarmed;
+      clients = λ n. first_client;
+      away = λ n. false;
+      sent = [];
+      clock = 0;
+    }) (sym (same_volumes s.volumes)) in
     legal_once one h (legal one h end (refl, all_at s.volumes) (record { inputs = r.inputs; leads = subst (λ (c : Cell). Leads c r.inputs h end) same r.leads }))

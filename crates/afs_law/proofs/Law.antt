@@ -2,12 +2,12 @@ use Rattle.afs_ideal.proofs.Edits.{first_agrees}
 use Rattle.afs_ideal.specs.SetUp.{first_versions}
 use Rattle.afs_ideal.specs.Tables.{AscendsFrom, Table, get, set}
 use Rattle.afs_ideal.specs.Told.{last_told}
-use Rattle.afs_ideal.specs.Volumes.{version_at, Vnode, Volume, versions_by, edited_all}
+use Rattle.afs_ideal.specs.Volumes.{version_at, Vnode, Volume}
 use Rattle.afs_law.proofs.Answering.{client_goes, begun_goes}
 use Rattle.afs_law.proofs.Backing.{all_lines, is_oweless, no_owe, is_still, live_back, zero_back}
-use Rattle.afs_law.proofs.Basics.{same_fid-refl, same_fid-true, apart, some_of, both}
+use Rattle.afs_law.proofs.Basics.{same_fid-refl, same_fid-true, some_of, both}
 use Rattle.afs_law.proofs.Deciding.{server_times, server_wakes_goes, given_goes, stops_goes, restarts_goes}
-use Rattle.afs_law.proofs.Edits.{one_more, Ones, index_in, fid_at, live, Sound, SoundIn, sound_same, Tops, tops, Told, Grow, on_top, edits_told, untouched, not_touched, get-set, none_has}
+use Rattle.afs_law.proofs.Edits.{one_more, Ones, index_in, fid_at, live, SoundIn, sound_same, Tops, get-set, none_has}
 use Rattle.afs_law.proofs.Facts.{IsFine, AreFine, server_boot, Reached, Holds, Goes, AreSound}
 use Rattle.afs_law.proofs.Naming.{first_fine}
 use Rattle.afs_law.proofs.Resting.{voids, ticks_goes, stop_set, fail_set}
@@ -19,28 +19,21 @@ use Rattle.afs_law.specs.Legal.{IsNew, LegalAfter, Legal}
 use Rattle.afs_law.specs.Lines.{Line}
 use Rattle.afs_law.specs.OneServer.{AreAtServer, IsOneServer}
 use Rattle.afs_law.specs.Past.{running, onto, lines_of, given_message, IsCallUnder}
-use Rattle.afs_law.specs.Runs.{Entry, Cell, message_at, Moved, Armed, Fall, Luck, waits, ticks, client_stops, client_starts, stops, starts_again, sets_stop, sets_fail, server_armed, Input, begins, gives, nothing, moved, voided, given_to, given_at, Leads, start, RunsTo, server_waits, wakes, first_volume, first_volumes, unless_there}
-use Rattle.afs_law.specs.ServerRow.{versioned}
-use Rattle.std.proofs.Common.{◌≡◌, ℕ, ◌+◌, ◌≤◌, ◌⊎◌, inl, inr, Bool, true, false, cond, nat_eq, List, [], ◌∷◌, ◌++◌, Option, Some, None, refl, sym, ap, subst, ◌∙◌, arith, eqb-true, append-nil, eqb, eq-eqb, le_of_eq}
+use Rattle.afs_law.specs.Runs.{Entry, Cell, message_at, Moved, Armed, Fall, Luck, waits, ticks, client_stops, client_starts, stops, starts_again, sets_stop, sets_fail, server_armed, Input, begins, gives, nothing, moved, given_to, given_at, Leads, start, RunsTo, server_waits, wakes, first_volume, first_volumes, unless_there}
+use Rattle.std.proofs.Common.{◌≡◌, ℕ, ◌+◌, ◌≤◌, ◌⊎◌, inl, inr, Bool, true, false, cond, nat_eq, List, [], ◌∷◌, ◌++◌, Option, Some, None, refl, sym, ap, subst, ◌∙◌, arith, eqb-true, eqb, eq-eqb, le_of_eq}
 use Rattle.std.specs.Prelude.{is_some, ⊤}
-use Rattle.std.specs.Option.{option_map}
 use Rattle.afs_num.specs.Fids.{same_fid}
 use Rattle.afs_num.specs.declared.types.Fid.{Fid}
 use Rattle.afs_num.specs.declared.types.Key.{Key}
 use Rattle.afs_num.specs.declared.types.Node.{Node}
 use Rattle.afs_num.specs.declared.types.Node.TheVariants.{Loc, Server, Client, Admin}
 use Rattle.afs_num.specs.declared.messages.Message.{Message}
-use Rattle.afs_num.specs.declared.messages.Received.TheVariants.{Whole}
 use Rattle.afs_num.specs.declared.scripts.Script.{Script}
 use Rattle.afs_num.specs.declared.histories.Body.{Body}
 use Rattle.afs_num.specs.declared.histories.Version.{Version}
-use Rattle.std.specs.List.{flat_map}
-use Rattle.afs_num.specs.declared.scripts.SetupLine.{SetupLine}
 use Rattle.afs_num.specs.declared.scripts.VolumeLine.{VolumeLine}
 use Rattle.std.proofs.Math.Nat.{le_refl}
-use Rattle.afs_num.specs.declared.histories.Body.TheVariants as bodies
 use Rattle.afs_law.specs.Lines as lines
-use Rattle.afs_num.specs.declared.scripts.SetupLine.TheVariants as setup
 
 -- Every run of a script is legal.
 

@@ -1,30 +1,27 @@
 -- What each step of the server makes of promises, breaks, calls and replies that wait.
-use Rattle.std.proofs.Common.{◌≡◌, ◌+◌, ◌<◌, ◌≤◌, ◌⊎◌, inl, inr, Bool, true, false, cond, nat_eq, nat_lt, ℕ, zero, suc, List, [], ◌∷◌, ◌++◌, Option, Some, None, ℤ, pos, refl, sym, ap, subst, ◌∙◌, arith, eqb-true, eq-eqb, ltb-false, append-nil, le_of_eq}
-use Rattle.std.specs.Prelude.{⊤, map, filter, not, ◌&&◌, length}
+use Rattle.std.proofs.Common.{◌≡◌, ◌+◌, ◌≤◌, ◌⊎◌, inl, inr, Bool, true, false, cond, nat_eq, nat_lt, ℕ, zero, suc, List, [], ◌∷◌, ◌++◌, Option, Some, None, refl, sym, ap, subst, ◌∙◌, arith, eqb-true, eq-eqb, ltb-false, append-nil, le_of_eq}
+use Rattle.std.specs.Prelude.{map, filter, not, ◌&&◌, length}
 use Rattle.std.proofs.Math.Nat.{le_refl, le_trans, eq-or-lt_of_le}
 use Rattle.afs_num.specs.Fids.{same_fid}
 use Rattle.afs_num.specs.Nodes.{same_node}
 use Rattle.afs_num.specs.declared.types.Fid.{Fid}
-use Rattle.afs_num.specs.declared.types.Head.{Head}
 use Rattle.afs_num.specs.declared.types.Key.{Key}
 use Rattle.afs_num.specs.declared.types.Node.{Node}
-use Rattle.afs_num.specs.declared.types.Node.TheVariants.{Loc, Server, Client, Admin}
+use Rattle.afs_num.specs.declared.types.Node.TheVariants.{Client}
 use Rattle.afs_num.specs.declared.calls.FsCall.{FsCall}
-use Rattle.afs_num.specs.declared.messages.Carried.{Carried}
-use Rattle.afs_num.specs.declared.messages.Carried.TheVariants as carried
 use Rattle.afs_num.specs.declared.messages.Message.{Message}
 use Rattle.afs_ideal.specs.Operations.{Found}
-use Rattle.afs_law.proofs.Backing.{Plain, Stepping, all_lines, is_up, is_still, is_oweless, is_unchanging, is_still_to, grant_back_to, settled_onto, stopped_back, grant_back, front_onto, change_back, no_owe, owes_over, ended_over, back_pass, done_pass, CallsPass, calls_same, backed_step, seated_over, plain_step, plain_waits, waits_over, granted_over, owed_over, call_over, dropped_over, backed_plain, promised_over, live_back, numbered_over, number_back, zero_back}
-use Rattle.afs_law.proofs.Basics.{both, same_node-true, same_node-refl, same_fid-refl, same_fid-true, client_number, Above, Each, IfBack, IfDone, OfCall, OfReply, OfServer, ByServer, each_more, each_map, if_back, if_done, some_of}
-use Rattle.afs_law.proofs.Owing.{AllOf, all_map, all_both, all_filter, IsGranted, IsIn, IsNumberIn, IsOpen, AccountedBy, WaitedBy, AllWaitedBy, HeldWaits, IsOwed, CallOut, BackIn, DroppedOwe, IsDone, DoneIn, SeatedIn, BackedIn, Promised, IsPromised, promise_to, Numbered}
-use Rattle.afs_law.proofs.Turning.{loaded, TurnSends, in_filter, put_call, call_good, kept_in}
-use Rattle.afs_law.specs.Breaks.{HasStopped, HasSettled, HasDrop, HasTimeout, last_grant, expiry_of, HasCome, IsEnded, Owes, AllOwes, EndedBy, OweAt, CarriesBreak, WasSent, GoodSettle, GoodQuit, live_grant, HasOwe, last_number}
-use Rattle.afs_law.specs.Callbacks.{put, Promise, Owed, BackCall, Held, Backs, Turn, Started, expired, is_all, alls, numbers, has_number, is_ready, is_reply_to, is_held, key_answered, breaks_call, break_message, no_turn, owe_line, settle_line, quit_line, is_among, ends_call, settles, quits, retries, renews, timed, is_promise, withdraws, new_owes, owes_from, is_hit, hits, left, owes_all, revived_backs, risen_turn, with_promise, with_promises}
+use Rattle.afs_law.proofs.Backing.{Plain, Stepping, all_lines, is_up, is_still, is_oweless, is_unchanging, is_still_to, grant_back_to, settled_onto, stopped_back, grant_back, front_onto, change_back, no_owe, owes_over, ended_over, calls_same, backed_step, seated_over, plain_step, plain_waits, waits_over, granted_over, owed_over, call_over, backed_plain, promised_over, live_back, numbered_over, zero_back}
+use Rattle.afs_law.proofs.Basics.{both, same_node-true, same_node-refl, same_fid-refl, same_fid-true, client_number, Above, Each, IfBack, IfDone, OfReply, each_map, if_back, if_done, some_of}
+use Rattle.afs_law.proofs.Owing.{AllOf, all_map, all_both, all_filter, IsGranted, IsIn, IsNumberIn, AccountedBy, WaitedBy, AllWaitedBy, HeldWaits, IsOwed, CallOut, BackIn, DroppedOwe, DoneIn, BackedIn, Promised, IsPromised, promise_to, Numbered}
+use Rattle.afs_law.proofs.Turning.{loaded, in_filter, put_call, kept_in}
+use Rattle.afs_law.specs.Breaks.{HasSettled, HasTimeout, last_grant, expiry_of, AllOwes, CarriesBreak, GoodSettle, GoodQuit, live_grant, HasOwe, last_number}
+use Rattle.afs_law.specs.Callbacks.{Promise, Owed, BackCall, Held, Backs, is_all, alls, numbers, has_number, is_reply_to, is_held, key_answered, breaks_call, break_message, owe_line, settle_line, quit_line, is_among, ends_call, settles, quits, retries, is_promise, owes_from, is_hit, hits, left, owes_all, risen_turn, with_promise, with_promises}
 use Rattle.afs_law.specs.ClientRow.{the_server}
 use Rattle.afs_law.specs.Ideal.{clock_of, change_in}
-use Rattle.afs_law.specs.Legal.{IsNew, IsNot, IsKey, HasChange, GoodReply, AreGoodReplies, AreGood, IsChanged}
+use Rattle.afs_law.specs.Legal.{IsNew, IsNot, IsKey, HasChange, AreGood, IsChanged}
 use Rattle.afs_law.specs.Lines.{Line}
-use Rattle.afs_law.specs.Past.{onto, lines_on, lines_of, sent_of, given_message, answered_key, called_key, IsCallUnder, Sends}
+use Rattle.afs_law.specs.Past.{onto, lines_of, sent_of, given_message, called_key, IsCallUnder}
 use Rattle.afs_law.specs.Runs.{Entry, Fall}
 use Rattle.afs_law.specs.ServerRow.{granted, promise_ticks}
 use Rattle.afs_law.specs.States.{Seat}
@@ -44,7 +41,7 @@ down_later d b boot seats now cs clock sent past fall ne h = record {
   granted = λ x. absurd cc;
   promised = λ j f x l t. absurd (ne (h.promised j f x l t).0);
   numbered = down_zero d b.last_owed (lines_of past) ne h.numbered;
-  accounted = λ newer at older before after c what n split line. elim (h.accounted newer at older before after c what n split line) [ | inl x ↦ inl x | inr x ↦ absurd (ne x.0) ];
+  accounted = λ newer at older before after c what n split line. elim (h.accounted newer at older before after c what n split line) [ inl x ↦ inl x | inr x ↦ absurd (ne x.0) ];
   owed = λ x. absurd cc;
   waiting = λ x. absurd cc;
   outs = λ x. absurd cc;
@@ -71,13 +68,16 @@ known_backed b known boot seats cs clock sent past h = record { granted = h.gran
 -- the unanswered call is sent again
 pub resent : (b : Backs) (boot : ℕ) (seats : List Seat) (cs : ℕ → Option Seat) (clock : ℕ) (sent : List Message) (past newer : List Entry) (n known : ℕ) (c : BackCall) (calls : ℕ → Option BackCall) → BackedIn None b boot seats cs clock sent past → b.calls n ≡ Some c → ((x : BackCall) → calls n ≡ Some x → x.breaks ≡ c.breaks)
     → Each (IfBack (BackIn None calls b.last_call boot)) (break_message the_server boot n known c ∷ [])
-resent b boot seats cs clock sent past newer n known c calls h at same = (record {
-  client = n;
-  to = refl;
-  booted = le_refl _;
-  below = λ x y. (h.outs refl n c at).number;
-  is = λ x y z e q. ap breaks_call (sym (same x e));
-}, tt)
+resent b boot seats cs clock sent past newer n known c calls h at same = (
+  record {
+    client = n;
+    to = refl;
+    booted = le_refl _;
+    below = λ x y. (h.outs refl n c at).number;
+    is = λ x y z e q. ap breaks_call (sym (same x e));
+  },
+  tt,
+)
 
 -- ---- a call is answered, or given up
 
@@ -285,7 +285,7 @@ old_waits b boot seats now cs clock sent e past h oweless unchanging seat = all_
 own_past : (b : Backs) (boot : ℕ) (seats : List Seat) (cs : ℕ → Option Seat) (clock : ℕ) (sent : List Message) (e : Entry) (past : List Entry) (hd : Held) (newer : List Entry) (at : Entry) (older : List Entry) (before after : List Line) (c : Node) (what : Option Fid) (n : ℕ) → BackedIn None b boot seats cs clock sent past → (is_held (key_answered hd.reply) b.held ≡ true → ⊥)
     → AccountedBy None b.owed b.held clock newer at older before after c what n → WaitedBy hd clock (e ∷ newer) at older before after c what n
 own_past b boot seats cs clock sent e past hd newer at older before after c what n h none (inl x) k y = inl (ended_over e clock clock newer at older before after c what n (le_refl _) x)
-own_past b boot seats cs clock sent e past hd newer at older before after c what n h none (inr x) k y = elim (x.1.waits (key_answered hd.reply) k y) [ | inl z ↦ inl (ended_over e clock clock newer at older before after c what n (le_refl _) z) | inr z ↦ absurd (none z) ]
+own_past b boot seats cs clock sent e past hd newer at older before after c what n h none (inr x) k y = elim (x.1.waits (key_answered hd.reply) k y) [ inl z ↦ inl (ended_over e clock clock newer at older before after c what n (le_refl _) z) | inr z ↦ absurd (none z) ]
 
 -- what is known of a new reply
 pub record NewReply (seats : List Seat) (past : List Entry) (hd : Held) : Type 0 where
@@ -314,15 +314,18 @@ run_loaded b ps boot seats now cs clock sent e past hd h up oweless unchanging g
     } in
     subst (λ (ms : List Message). BackedIn None after boot now cs clock ms (e ∷ past)) (append-nil sent)
     (backed_step None None b after boot seats now cs cs clock clock sent [] e past s h (λ x. granted) promised (numbered_over None b.last_owed e past up oweless h.numbered) (λ x. owed_over e past b.owed up (h.owed x))
-    (λ x. all_both (HeldWaits now clock (e ∷ past)) b.held (hd ∷ []) (old_waits b boot seats now cs clock sent e past h oweless unchanging seat) (record {
-      client = new.client;
-      to = new.to;
-      from = new.from;
-      is_reply = new.is_reply;
-      under = new.under;
-      own = owes_over the_server (AccountedBy None b.owed b.held clock) (WaitedBy hd clock) e past (λ y z c what n line. absurd (no_owe e.lines y z the_server c what n oweless line)) (λ newer at older y z c what n w. own_past b boot seats cs clock sent e past hd newer at older y z c what n h none w) h.accounted;
-      all = all;
-    }, tt))
+    (λ x. all_both (HeldWaits now clock (e ∷ past)) b.held (hd ∷ []) (old_waits b boot seats now cs clock sent e past h oweless unchanging seat) (
+      record {
+        client = new.client;
+        to = new.to;
+        from = new.from;
+        is_reply = new.is_reply;
+        under = new.under;
+        own = owes_over the_server (AccountedBy None b.owed b.held clock) (WaitedBy hd clock) e past (λ y z c what n line. absurd (no_owe e.lines y z the_server c what n oweless line)) (λ newer at older y z c what n w. own_past b boot seats cs clock sent e past hd newer at older y z c what n h none w) h.accounted;
+        all = all;
+      },
+      tt,
+    ))
     (λ x j c at. call_over j c b.last_call b.last_call boot e past (le_refl _) up (h.outs x j c at)) tt tt
     (λ j seat m x y. seated_over None None b after boot clock clock e past s j m (h.seated j seat m x y)))
 
@@ -386,7 +389,7 @@ in_alls o (x ∷ os) n (inr q) w e = all_next_by (is_all x.what) x.number n (all
 pub all_waited : (b : Backs) (boot : ℕ) (seats : List Seat) (cs : ℕ → Option Seat) (clock : ℕ) (sent : List Message) (e : Entry) (past : List Entry) (hd : Held) → BackedIn None b boot seats cs clock sent past → ((n : ℕ) → IsNumberIn n (alls b.owed) → IsNumberIn n hd.waits)
     → ((before after : List Line) (c : Node) (what : Option Fid) (n : ℕ) → e.lines ≡ before ++ lines.Owe the_server c what n ∷ after → what ≡ None → ⊥) → AllOwes the_server (AllWaitedBy hd clock) (e ∷ past)
 all_waited b boot seats cs clock sent e past hd h more none = owes_over the_server (AccountedBy None b.owed b.held clock) (AllWaitedBy hd clock) e past (λ y z c what n line w. absurd (none y z c what n line w))
-    (λ newer at older y z c what n x w. elim x [ | inl k ↦ inl (ended_over e clock clock newer at older y z c what n (le_refl _) k) | inr k ↦ inr (more n (in_alls k.1.o b.owed n k.1.is_in (k.1.on ∙ w) k.1.number)) ]) h.accounted
+    (λ newer at older y z c what n x w. elim x [ inl k ↦ inl (ended_over e clock clock newer at older y z c what n (le_refl _) k) | inr k ↦ inr (more n (in_alls k.1.o b.owed n k.1.is_in (k.1.on ∙ w) k.1.number)) ]) h.accounted
 
 new_by : (k : Key) (o : Option Key) (A B : Type 0) → (A → B → ⊥) → IsNot k o A → IsKey k o B → ⊥
 new_by k None A B w x y = w x y
@@ -582,7 +585,7 @@ hit_or_left : (n : ℕ) (vs : List Version) (ps : List Promise) (p : Promise) �
 hit_or_left n [] ps p h = inr h
 hit_or_left n (v ∷ vs) ps p h = elim (filter_by (is_hit n v.fid p) (is_hit n v.fid) p ps refl h) [
   | inl x ↦ inl (in_first p (filter (is_hit n v.fid) ps) (hits n vs (filter (λ z. not (is_hit n v.fid z)) ps)) x)
-  | inr x ↦ elim (hit_or_left n vs (filter (λ z. not (is_hit n v.fid z)) ps) p x) [ | inl y ↦ inl (in_last p (filter (is_hit n v.fid) ps) (hits n vs (filter (λ z. not (is_hit n v.fid z)) ps)) y) | inr y ↦ inr y ]
+  | inr x ↦ elim (hit_or_left n vs (filter (λ z. not (is_hit n v.fid z)) ps) p x) [ inl y ↦ inl (in_last p (filter (is_hit n v.fid) ps) (hits n vs (filter (λ z. not (is_hit n v.fid z)) ps)) y) | inr y ↦ inr y ]
 ]
 
 hit_test : (a b : Bool) → a ≡ true → (b ≡ true → ⊥) → (a && not b) ≡ true
@@ -645,7 +648,7 @@ onto_granted n x (f ∷ fs) tail o = onto_granted n x fs tail (lines.Grant the_s
 in_either : (p : Promise) (a b : List Promise) → IsPromised p (a ++ b) → IsPromised p a ⊎ IsPromised p b
 in_either p [] b h = inr h
 in_either p (q ∷ a) b (inl e) = inl (inl e)
-in_either p (q ∷ a) b (inr h) = elim (in_either p a b h) [ | inl x ↦ inl (inr x) | inr x ↦ inr x ]
+in_either p (q ∷ a) b (inr h) = elim (in_either p a b h) [ inl x ↦ inl (inr x) | inr x ↦ inr x ]
 
 kept_by : (t : Bool) (q : Promise → Bool) (p x : Promise) (rest all : List Promise) → q x ≡ t → (IsPromised p rest → IsPromised p all × (q p ≡ true)) → IsPromised p (cond t (x ∷ rest) rest) → IsPromised p (x ∷ all) × (q p ≡ true)
 kept_by true q p x rest all e w (inl z) = (inl z, subst (λ (y : Promise). q y ≡ true) z e)
@@ -732,16 +735,19 @@ change_loaded who b ps more boot seats now cs clock sent e past pre os hd m h gr
       up = λ x. up;
       or_stopped = λ x. inl x;
       later = le_refl _;
-      new = λ before rest c what n line. let f = found before rest c what n line in let x = in_all (NewOwe who (lines_of past)) f.o os f.is_in w.owes in inr (refl, record {
-        o = f.o;
-        is_in = in_second f.o b.owed os f.is_in;
-        number = f.number;
-        client = f.client;
-        on = f.on;
-        expiry = subst (λ (z : Option Fid). expiry_of the_server c z (onto (lines_of past) before) ≡ Some f.o.expiry) (sym x.on ∙ f.on) (subst (λ (z : Node). last_grant the_server z x.fid (onto (lines_of past) before) ≡ Some f.o.expiry) f.client
-            (grant_back_to (Client f.o.client) x.fid before (lines_of past) (lines_front (is_still_to (Client f.o.client)) before _ (subst (λ (ls : List Line). all_lines (is_still_to (Client f.o.client)) ls ≡ true) line (still f.o.client x.other))) ∙ x.granted));
-        waits = λ k t y. inr (held_last k b.held hd (w.key ∙ under k t y));
-      });
+      new = λ before rest c what n line. let f = found before rest c what n line in let x = in_all (NewOwe who (lines_of past)) f.o os f.is_in w.owes in inr (
+        refl,
+        record {
+          o = f.o;
+          is_in = in_second f.o b.owed os f.is_in;
+          number = f.number;
+          client = f.client;
+          on = f.on;
+          expiry = subst (λ (z : Option Fid). expiry_of the_server c z (onto (lines_of past) before) ≡ Some f.o.expiry) (sym x.on ∙ f.on) (subst (λ (z : Node). last_grant the_server z x.fid (onto (lines_of past) before) ≡ Some f.o.expiry) f.client
+              (grant_back_to (Client f.o.client) x.fid before (lines_of past) (lines_front (is_still_to (Client f.o.client)) before _ (subst (λ (ls : List Line). all_lines (is_still_to (Client f.o.client)) ls ≡ true) line (still f.o.client x.other))) ∙ x.granted));
+          waits = λ k t y. inr (held_last k b.held hd (w.key ∙ under k t y));
+        },
+      );
       gone = λ o x. inl (in_front o b.owed os x);
       held = λ k x. more_held k b.held (hd ∷ []) x;
       last = le_refl _;
@@ -750,20 +756,22 @@ change_loaded who b ps more boot seats now cs clock sent e past pre os hd m h gr
     subst (λ (ms : List Message). BackedIn None after boot now cs clock ms (e ∷ past)) (append-nil sent)
     (backed_step None None b after boot seats now cs cs clock clock sent [] e past s h (λ x. granted) promised numbered
     (λ x. all_both (λ (o : Owed). IsOwed o.client (lines_of (e ∷ past)) o) b.owed os (owed_over e past b.owed up (h.owed x))
-        (subst (λ (ls : List Line). AllOf (λ (o : Owed). IsOwed o.client ls o) os) (sym (ap (onto (lines_of past)) w.are ∙ onto_both (lines_of past) pre (map (owe_line the_server) os))) (owes_at os (onto (lines_of past) pre))))
+    (subst (λ (ls : List Line). AllOf (λ (o : Owed). IsOwed o.client ls o) os) (sym (ap (onto (lines_of past)) w.are ∙ onto_both (lines_of past) pre (map (owe_line the_server) os))) (owes_at os (onto (lines_of past) pre))))
     (λ x. all_both (HeldWaits now clock (e ∷ past)) b.held (hd ∷ [])
-        (all_map (HeldWaits seats clock past) (HeldWaits now clock (e ∷ past)) (λ q y. waits_over seats now clock clock e past q (le_refl _) w.changed
-        (λ before rest c what n line. ((λ t z. absurd (y.under (subst (λ (k : Key). Above (call_seat k.node seats) k.epoch k.number) (under (key_answered q.reply) t z) w.above))), not_all before rest c what n line)) w.seat y) b.held (h.waiting refl))
-        (record {
-          client = w.reply.client;
-          to = w.reply.to;
-          from = w.reply.from;
-          is_reply = w.reply.is_reply;
-          under = w.reply.under;
-          own = owes_over the_server (AccountedBy None b.owed b.held clock) (WaitedBy hd clock) e past (λ y z c what n line t k. let f = found y z c what n line in inr (w.own n (number_of f.o os n f.is_in f.number)))
-              (λ newer at older y z c what n u. own_past b boot seats cs clock sent e past hd newer at older y z c what n h none u) h.accounted;
-          all = λ y. all_waited b boot seats cs clock sent e past hd h w.all not_all;
-        }, tt))
+    (all_map (HeldWaits seats clock past) (HeldWaits now clock (e ∷ past)) (λ q y. waits_over seats now clock clock e past q (le_refl _) w.changed
+    (λ before rest c what n line. ((λ t z. absurd (y.under (subst (λ (k : Key). Above (call_seat k.node seats) k.epoch k.number) (under (key_answered q.reply) t z) w.above))), not_all before rest c what n line)) w.seat y) b.held (h.waiting refl)) (
+      record {
+        client = w.reply.client;
+        to = w.reply.to;
+        from = w.reply.from;
+        is_reply = w.reply.is_reply;
+        under = w.reply.under;
+        own = owes_over the_server (AccountedBy None b.owed b.held clock) (WaitedBy hd clock) e past (λ y z c what n line t k. let f = found y z c what n line in inr (w.own n (number_of f.o os n f.is_in f.number)))
+            (λ newer at older y z c what n u. own_past b boot seats cs clock sent e past hd newer at older y z c what n h none u) h.accounted;
+        all = λ y. all_waited b boot seats cs clock sent e past hd h w.all not_all;
+      },
+      tt,
+    ))
     (λ x j c at. call_over j c b.last_call b.last_call boot e past (le_refl _) up (h.outs x j c at)) tt tt
     (λ j seat k x y. seated_over None None b after boot clock clock e past s j k (h.seated j seat k x y)))
 
@@ -819,17 +827,20 @@ rise_loaded count d b boot seats now cs clock sent e past pre ne h time are owel
           (let y : last_number the_server (onto (onto (lines_of past) pre) (map (owe_line the_server) os)) ≤ 0 + count = alls_rise (clock + promise_ticks) 0 count (onto (lines_of past) pre) (le_of_eq zero) in omega arith);
       promised = λ j f x l t. absurd (ne (h.promised j f x (live_back (Client j) f x e.lines (lines_of past) (subst (λ (ls : List Line). all_lines is_still ls ≡ true) (sym are) (lines_both is_still pre _ still (owes_still os))) l) t).0);
       accounted = owes_over the_server (AccountedBy d b.owed b.held clock) (AccountedBy None os [] clock) e past
-          (λ before rest c what n line. let f = owes_found pre os before rest c what n oweless (sym are ∙ line) in let x = in_all (OnAll (clock + promise_ticks)) f.o os f.is_in all in inr (refl, record {
-            o = f.o;
-            is_in = f.is_in;
-            number = f.number;
-            client = f.client;
-            on = f.on;
-            expiry = subst (λ (z : Option Fid). expiry_of the_server c z (onto (lines_of past) before) ≡ Some f.o.expiry) (sym x.on ∙ f.on)
-                (ap Some (ap (λ (t : ℕ). t + 7200) (clock_back before (lines_of past) (lines_front is_tickless before _ (subst (λ (ls : List Line). all_lines is_tickless ls ≡ true) line ticks)) ∙ time) ∙ sym x.expires));
-            waits = λ k t y. absurd (subst (λ (o : Option Message). IsCallUnder the_server k t o) given y);
-          }))
-          (λ newer at older before rest c what n x. elim x [ | inl y ↦ inl (ended_over e clock clock newer at older before rest c what n (le_refl _) y) | inr y ↦ absurd (ne y.0) ]) h.accounted;
+          (λ before rest c what n line. let f = owes_found pre os before rest c what n oweless (sym are ∙ line) in let x = in_all (OnAll (clock + promise_ticks)) f.o os f.is_in all in inr (
+            refl,
+            record {
+              o = f.o;
+              is_in = f.is_in;
+              number = f.number;
+              client = f.client;
+              on = f.on;
+              expiry = subst (λ (z : Option Fid). expiry_of the_server c z (onto (lines_of past) before) ≡ Some f.o.expiry) (sym x.on ∙ f.on)
+                  (ap Some (ap (λ (t : ℕ). t + 7200) (clock_back before (lines_of past) (lines_front is_tickless before _ (subst (λ (ls : List Line). all_lines is_tickless ls ≡ true) line ticks)) ∙ time) ∙ sym x.expires));
+              waits = λ k t y. absurd (subst (λ (o : Option Message). IsCallUnder the_server k t o) given y);
+            },
+          ))
+          (λ newer at older before rest c what n x. elim x [ inl y ↦ inl (ended_over e clock clock newer at older before rest c what n (le_refl _) y) | inr y ↦ absurd (ne y.0) ]) h.accounted;
       owed = λ x. subst (λ (ls : List Line). AllOf (λ (o : Owed). IsOwed o.client ls o) os) (sym (ap (onto (lines_of past)) are ∙ onto_both (lines_of past) pre (map (owe_line the_server) os))) (owes_at os (onto (lines_of past) pre));
       waiting = λ x. tt;
       outs = λ x j c at. absurd cc;

@@ -1,5 +1,5 @@
 -- The names of directories: what set-up and operations leave is read again from its bytes, and stands by its numbers.
-use Rattle.std.proofs.Common.{◌-◌, ◌≡◌, ℕ, zero, suc, ◌+◌, ◌*◌, ◌<◌, ◌≤◌, ◌^◌, ◌⊎◌, inl, inr, Bool, true, false, cond, eqb, ltb, nat_eq, nat_lt, not, List, [], ◌∷◌, ◌++◌, Option, Some, None, refl, sym, ap, subst, ◌∙◌, arith, eq-eqb, eqb-true, ltb-true, ltb-false}
+use Rattle.std.proofs.Common.{◌-◌, ◌≡◌, ℕ, ◌+◌, ◌*◌, ◌<◌, ◌≤◌, ◌^◌, Bool, true, false, cond, eqb, ltb, nat_eq, nat_lt, not, List, [], ◌∷◌, ◌++◌, Option, Some, None, refl, sym, subst, ◌∙◌, arith, eq-eqb, eqb-true, ltb-true, ltb-false}
 use Rattle.std.specs.Prelude as std_result
 use Rattle.std.specs.Str.{bytes_eq}
 use Rattle.std.specs.Prelude.{◌||◌, ◌&&◌, ⊤, Ok, Err, is_some, length}
@@ -14,16 +14,16 @@ use Rattle.afs_num.specs.declared.calls.FsCall.TheVariants as calls
 use Rattle.afs_num.specs.declared.scripts.SetupLine.{SetupLine}
 use Rattle.afs_num.specs.declared.scripts.SetupLine.TheVariants as setup
 use Rattle.afs_ideal.proofs.Counts.{each_with, each_without, each_named}
-use Rattle.afs_ideal.proofs.Directories.{added_is_directory, removed_is_directory, named-without_name, same_is, shorter-without_name}
+use Rattle.afs_ideal.proofs.Directories.{added_is_directory, removed_is_directory, named-without_name, shorter-without_name}
 use Rattle.afs_ideal.proofs.Looks.{each_ascending}
-use Rattle.afs_ideal.proofs.Scopes.{Accepted, accepted, all_pass, found_by}
+use Rattle.afs_ideal.proofs.Scopes.{Accepted, accepted}
 use Rattle.afs_ideal.proofs.Steps.{room_for}
 use Rattle.afs_ideal.proofs.Tables.{ascends_set, ascends_unset, get_below, free_bound, free_from}
-use Rattle.afs_ideal.specs.Directories.{IsDirectory, FitNames, FitsName, most_names, named, with_name, without_name, add_refused}
+use Rattle.afs_ideal.specs.Directories.{IsDirectory, FitNames, FitsName, most_names, named, with_name, without_name}
 use Rattle.afs_ideal.specs.Operations.{number_named, Caller, all_rights, Result, op, changes, volume_called, tests, effect, first_failing, limits, edit_fits, is_last_count, last_count, no_amend, name_in, names_in, named_vnode, creates, removes, unlinks, renaming, renames_within, renames_across, renamed, creating, removing, linking, may_link, free_number, name_of, new_file, new_directory, new_link, is_directory, links_of, linked}
 use Rattle.afs_ideal.specs.SetUp.{new_volume, new_root, called, laid_by, laid_in, laid_at, laid, led, parted, at_first, one_at_first, all_at_first, a_file_of, nothing_set, stores_all, new_fid}
 use Rattle.afs_ideal.specs.Tables.{Table, get, set, unset, AscendsFrom, lowest_free}
-use Rattle.afs_ideal.specs.Volumes.{Kind, a_file, a_link, a_directory, Vnode, Volume, Edit, Amend, amends, makes, frees, amended, fresh, amends_at, makes_at, frees_at, edited, edited_all, edit_number, counted, vnode_of, if_unique, with_status, or_old, ascending, placed}
+use Rattle.afs_ideal.specs.Volumes.{Kind, a_file, a_link, a_directory, Vnode, Volume, Edit, Amend, amends, makes, frees, amended, fresh, amends_at, makes_at, frees_at, edited, edited_all, edit_number, counted, vnode_of, with_status, or_old, ascending}
 use Rattle.afs_law.proofs.Basics.{some_of, both}
 use Rattle.afs_law.proofs.Edits.{get-set, get-unset}
 use Rattle.afs_law.proofs.Facts.{IsReadable, IsFine, AreFine}
@@ -175,7 +175,6 @@ small_free k t le short = let b : lowest_free k t ≤ k + 2 * length t = free_bo
   where
     eight : 8196 ≤ 2 ^ 32
     eight = omega arith
-
 
 -- the names of a directory that is there
 dir_by : (n : ℕ) (d : Fid) (v : Volume) (o : Option Vnode) → vnode_of d v ≡ o → is_some o ≡ true → IsFine v → IsDirectory (names_in o) × FitNames (names_in o)
@@ -370,9 +369,10 @@ one_first : (n : ℕ) (o : Option Vnode) (t : Table Vnode) (next : ℕ) → get 
     → AscendsFrom 1 (one_at_first n o t) × (((m : ℕ) (x : Vnode) → get m (one_at_first n o t) ≡ Some x → x.unique < next) × ((m : ℕ) (x : Vnode) → get m (one_at_first n o t) ≡ Some x → IsReadable m x))
 one_first n None t next e a b r = (a, (b, r))
 one_first n (Some x) t next e a b r =
-    let w : IsReadable n x = r n x e in
-    (ascends_set 1 n (at_first x) t (low_by n t x (ltb n 1) refl a e) a,
-    (at_set (λ m y. y.unique < next) n (at_first x) t (b n x e) b, at_set IsReadable n (at_first x) t (record { number = w.number; unique = w.unique; names = w.names; fit = w.fit }) r))
+    let w : IsReadable n x = r n x e in (
+      ascends_set 1 n (at_first x) t (low_by n t x (ltb n 1) refl a e) a,
+      (at_set (λ m y. y.unique < next) n (at_first x) t (b n x e) b, at_set IsReadable n (at_first x) t (record { number = w.number; unique = w.unique; names = w.names; fit = w.fit }) r),
+    )
 
 all_first : (es : List Edit) (t : Table Vnode) (next : ℕ) → AscendsFrom 1 t → ((m : ℕ) (x : Vnode) → get m t ≡ Some x → x.unique < next) → ((m : ℕ) (x : Vnode) → get m t ≡ Some x → IsReadable m x)
     → AscendsFrom 1 (all_at_first es t) × (((m : ℕ) (x : Vnode) → get m (all_at_first es t) ≡ Some x → x.unique < next) × ((m : ℕ) (x : Vnode) → get m (all_at_first es t) ≡ Some x → IsReadable m x))

@@ -1,6 +1,6 @@
 -- Lines of a server that tell of its breaks and of its own calls.
-use Rattle.std.proofs.Common.{◌≡◌, ℕ, ◌≤◌, inl, inr, Bool, true, false, List, [], ◌∷◌, ◌++◌, Option, Some, None, refl, sym, ap, subst, ◌∙◌}
-use Rattle.std.specs.Prelude.{⊤, cond, map, filter}
+use Rattle.std.proofs.Common.{◌≡◌, ℕ, ◌≤◌, Bool, false, List, [], ◌∷◌, Option, None, refl, sym, ap, subst, ◌∙◌}
+use Rattle.std.specs.Prelude.{⊤, map}
 use Rattle.afs_num.specs.declared.types.Fid.{Fid}
 use Rattle.afs_num.specs.declared.types.Key.{Key}
 use Rattle.afs_num.specs.declared.types.Node.{Node}
@@ -10,17 +10,15 @@ use Rattle.afs_num.specs.declared.scripts.Script.{Script}
 use Rattle.afs_num.specs.declared.histories.Actor.TheVariants as actors
 use Rattle.afs_num.specs.declared.histories.Body.{Body}
 use Rattle.afs_ideal.specs.Operations.{Found}
-use Rattle.afs_law.proofs.Basics.{Each}
-use Rattle.afs_law.proofs.Facts.{View, server_boot, HeldIn}
-use Rattle.afs_law.proofs.Passing.{PassesFile, PassesAct, PassesReach, News}
+use Rattle.afs_law.proofs.Facts.{server_boot}
 use Rattle.afs_law.proofs.Resting.{Rests}
-use Rattle.afs_law.specs.Callbacks.{Owed, Held, Turn, Started, BackCall, is_ready, owe_line, settle_line, quit_line, replies_of, starts, starts_by, pumped}
+use Rattle.afs_law.specs.Callbacks.{Owed, owe_line, settle_line, quit_line}
 use Rattle.afs_law.specs.ClientRow.{the_server}
 use Rattle.afs_law.specs.Grants.{has_fetched, IsWithdrawn, IsDropped}
 use Rattle.afs_law.specs.Ideal.{last_version, HasVersion, Accepts, clock_of, reach, Reach, reach_over, change_key, changed_under, volume_after}
 use Rattle.afs_law.specs.Legal.{IsNew, HasChange, versions_first}
 use Rattle.afs_law.specs.Lines.{Line}
-use Rattle.afs_law.specs.Past.{onto, lines_of, sent_of, given_message, running, has_begun}
+use Rattle.afs_law.specs.Past.{onto, sent_of, given_message, running, has_begun}
 use Rattle.afs_law.specs.Runs.{Entry}
 use Rattle.afs_law.specs.ServerRow.{granted}
 use Rattle.afs_law.specs.Lines as lines
@@ -246,7 +244,6 @@ risen_rests s boot ls ms past k = record {
 pub granted_notes : (c : Node) (x : ℕ) (fs : List Found) (tail : List Line) → AreNotes tail → AreNotes (granted the_server c x fs tail)
 granted_notes c x [] tail h = h
 granted_notes c x (f ∷ fs) tail h = (tt, granted_notes c x fs tail h)
-
 
 pub owe_notes : (os : List Owed) → AreNotes (map (owe_line the_server) os)
 owe_notes [] = tt

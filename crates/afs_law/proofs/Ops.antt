@@ -1,25 +1,21 @@
 -- What the single operations are: each law by the calls.
 use Rattle.afs_ideal.proofs.Scopes.{stays_in_scope}
 use Rattle.afs_ideal.specs.AccessLists.{acl_at}
-use Rattle.afs_ideal.specs.Operations.{acl_read, Caller, Found, Shown, shows_body, shows_status, shows_acl, shows_statuses, shows_volume, reads, no_amend, Result, refused, changes, no_operation, by_tests, limited, limits, first_failing, tests, effect, read_by, one_more, statuses, op, volume_called, volume_changed, kind_is, is_kind, kinds_agree, vnode_in, name_in, removes, creates}
-use Rattle.afs_ideal.specs.Tables.{Table, get, set}
-use Rattle.afs_ideal.specs.Volumes.{Kind, a_file, a_directory, a_link, Vnode, Volume, Edit, amends, makes, frees, Amend, vnode_of, if_unique, versions_by, edited_all, amends_at, amended, version_at, ascending}
-use Rattle.afs_law.proofs.Basics.{both, some_of, same_fid-true, same_fid-refl}
-use Rattle.afs_law.proofs.Edits.{get-set, fid_at, Grow, touches, touched_volume}
+use Rattle.afs_ideal.specs.Operations.{acl_read, Caller, Found, Shown, shows_body, shows_status, shows_acl, shows_statuses, shows_volume, reads, no_amend, Result, refused, changes, no_operation, by_tests, limited, limits, first_failing, tests, effect, read_by, one_more, statuses, op, volume_called, volume_changed, kind_is, is_kind, kinds_agree, vnode_in}
+use Rattle.afs_ideal.specs.Tables.{get}
+use Rattle.afs_ideal.specs.Volumes.{Kind, a_file, a_directory, a_link, Vnode, Volume, Edit, amends, Amend, vnode_of, if_unique, versions_by, edited_all, amends_at, amended}
+use Rattle.afs_law.proofs.Basics.{both, some_of}
+use Rattle.afs_law.proofs.Edits.{get-set, Grow, touches, touched_volume}
 use Rattle.afs_law.proofs.Facts.{InScope}
 use Rattle.afs_law.specs.Ideal.{is_zero_code}
 use Rattle.afs_law.specs.Lines.{Line}
 use Rattle.afs_law.specs.Scopes.{is_volume}
-use Rattle.std.proofs.Common.{◌≤◌, ◌≡◌, ℕ, ◌+◌, ◌⊎◌, inl, inr, Bool, true, false, cond, eqb, nat_eq, not, List, [], ◌∷◌, ◌++◌, Option, Some, None, ℤ, pos, negsuc, refl, sym, ap, subst, ◌∙◌, eq-eqb, eqb-true}
-use Rattle.std.specs.Prelude.{◌&&◌, ⊤, is_some}
-use Rattle.afs_num.specs.Fids.{same_fid}
+use Rattle.std.proofs.Common.{◌≤◌, ◌≡◌, ℕ, ◌+◌, ◌⊎◌, inl, Bool, true, false, cond, eqb, nat_eq, List, [], ◌∷◌, ◌++◌, Option, Some, None, ℤ, pos, refl, sym, ap, subst, ◌∙◌, eq-eqb, eqb-true}
+use Rattle.std.specs.Prelude.{⊤, is_some}
 use Rattle.afs_num.specs.declared.types.Fid.{Fid}
-use Rattle.afs_num.specs.declared.types.Code.{Code}
 use Rattle.afs_num.specs.declared.calls.AfsStoreStatus.{AfsStoreStatus}
 use Rattle.afs_num.specs.declared.calls.FsCall.{FsCall}
 use Rattle.afs_num.specs.declared.calls.FsCall.TheVariants as calls
-use Rattle.afs_num.specs.declared.directories.Name.{Name}
-use Rattle.afs_num.specs.declared.histories.Version.{Version}
 
 -- ---- reading calls
 

@@ -1,29 +1,23 @@
 -- What holds of promises, breaks, the server's own calls, and replies that wait.
-use Rattle.std.proofs.Common.{◌≡◌, ℕ, ◌+◌, ◌<◌, ◌≤◌, ◌⊎◌, inl, inr, Bool, true, false, cond, nat_eq, nat_lt, List, [], ◌∷◌, ◌++◌, Option, Some, None, refl, sym, ap, subst, ◌∙◌, arith, eqb-true, eq-eqb, append-nil}
-use Rattle.std.specs.Prelude.{⊤, map, filter, not, ◌&&◌, length}
-use Rattle.std.proofs.Math.Nat.{le_refl, le_trans}
-use Rattle.afs_num.specs.Fids.{same_fid}
-use Rattle.afs_num.specs.Nodes.{same_node}
+use Rattle.std.proofs.Common.{◌≡◌, ℕ, ◌<◌, ◌≤◌, ◌⊎◌, Bool, true, false, cond, List, [], ◌∷◌, ◌++◌, Option, Some, None}
+use Rattle.std.specs.Prelude.{⊤, filter}
 use Rattle.afs_num.specs.declared.types.Fid.{Fid}
 use Rattle.afs_num.specs.declared.types.Head.{Head}
 use Rattle.afs_num.specs.declared.types.Key.{Key}
 use Rattle.afs_num.specs.declared.types.Node.{Node}
-use Rattle.afs_num.specs.declared.types.Node.TheVariants.{Loc, Server, Client, Admin}
+use Rattle.afs_num.specs.declared.types.Node.TheVariants.{Client}
 use Rattle.afs_num.specs.declared.calls.FsCall.{FsCall}
-use Rattle.afs_num.specs.declared.messages.Carried.{Carried}
-use Rattle.afs_num.specs.declared.messages.Carried.TheVariants as carried
 use Rattle.afs_num.specs.declared.messages.Message.{Message}
 use Rattle.afs_law.proofs.Basics.{Above, Each, IfBack, IfDone, OfReply}
-use Rattle.afs_law.specs.Breaks.{HasStopped, HasSettled, HasDrop, HasTimeout, last_grant, expiry_of, HasCome, IsEnded, Owes, AllOwes, EndedBy, OweAt, CarriesBreak, WasSent, live_grant, last_number}
-use Rattle.afs_law.specs.Callbacks.{Promise, Owed, BackCall, Held, Backs, is_held, key_answered, is_reply_to, breaks_call}
+use Rattle.afs_law.specs.Breaks.{HasDrop, HasTimeout, last_grant, expiry_of, Owes, AllOwes, EndedBy, OweAt, CarriesBreak, WasSent, live_grant, last_number}
+use Rattle.afs_law.specs.Callbacks.{Promise, Owed, BackCall, Held, Backs, is_held, key_answered, breaks_call}
 use Rattle.afs_law.specs.ClientRow.{the_server}
 use Rattle.afs_law.specs.Legal.{HasChange}
 use Rattle.afs_law.specs.Lines.{Line}
-use Rattle.afs_law.specs.Past.{onto, lines_on, lines_of, sent_of, given_message, IsCallUnder}
-use Rattle.afs_law.specs.Runs.{Entry, Fall, at_rest, in_step, in_boot}
+use Rattle.afs_law.specs.Past.{onto, lines_of, sent_of, given_message, IsCallUnder}
+use Rattle.afs_law.specs.Runs.{Entry, Fall}
 use Rattle.afs_law.specs.States.{Seat}
 use Rattle.afs_model.specs.Calls.{call_seat}
-use Rattle.afs_law.specs.Lines as lines
 
 abbrev pub AllOf : {A : Type 0} → (A → Type 0) → List A → Type 0
 AllOf P [] = ⊤

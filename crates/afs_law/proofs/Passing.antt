@@ -8,13 +8,12 @@ use Rattle.afs_num.specs.declared.types.Node.TheVariants.{Loc, Server, Client, A
 use Rattle.afs_num.specs.declared.calls.FsCall.{FsCall}
 use Rattle.afs_num.specs.declared.messages.Carried.{Carried}
 use Rattle.afs_num.specs.declared.messages.Message.{Message}
-use Rattle.afs_ideal.specs.Operations.{reads, volume_changed, Result, refused, changes}
+use Rattle.afs_ideal.specs.Operations.{volume_changed, Result, changes}
 use Rattle.afs_law.proofs.Basics.{Each, IfCall, IfReply, IfNotice, each_more, each_map, if_call, if_reply, if_notice, at_more, ByClient, OfClient, by_client, both, same_node-true, same_node-refl, client_number, OfCall}
 use Rattle.afs_law.proofs.Edits.{index_in}
 use Rattle.afs_law.proofs.Facts.{IsKeptBody, Seen, IsActs, IsLastCall, View, Spot, spot, Reached, Held, IsNewest, Stands, IsCurrent, IsFetched, Fits, Answers, ReplyFact, AreKept, ClientFacts, CallIn, ReplyIn, Origin, HeldIn, ToClient, SentFacts, HasFallen, Reading, FitsReply, FitsData, FitsSet, WasChanged, WasStored, IsOne, IsNoticed}
-use Rattle.afs_law.specs.Acts.{Act}
 use Rattle.afs_law.specs.ClientRow.{the_server, body_told}
-use Rattle.afs_law.specs.Going.{asked, Going, Need, next, answers, began, with_read, read_on}
+use Rattle.afs_law.specs.Going.{asked, Going}
 use Rattle.afs_law.specs.Grants.{has_fetched, fetch_reply, GrantOf, since, IsWithdrawn, IsDropped}
 use Rattle.afs_law.specs.Ideal.{last_version, HasVersion, reach, change_in, call_in, call_under}
 use Rattle.afs_law.specs.Legal.{IsResult, IsKey, HasChange, Cause, answer_at, IsTold}
@@ -35,7 +34,6 @@ use Rattle.afs_num.specs.declared.messages.Carried.TheVariants as carried
 use Rattle.afs_num.specs.declared.messages.Reply.TheVariants as tell
 use Rattle.afs_num.specs.declared.messages.Call.TheVariants as ask
 use Rattle.afs_num.specs.declared.histories.Body.TheVariants as bodies
-use Rattle.afs_law.specs.Lines as lines
 use Rattle.afs_num.specs.declared.calls.FsCall.TheVariants as calls
 
 -- How the facts pass over an entry.
@@ -266,7 +264,7 @@ answers_over j call v boot m e past p r n h = record { fits = fits_over _ j call
 
 -- ---- a reply, under way or kept
 
-pub reply_over : (j : ℕ) (v : View) (m : Message) (e : Entry) (past : List Entry) → ((f : Fid) → PassesGrant j f e past) → ((f : Fid) → PassesReach j f e past) → ((f : Fid) → StaysNewest j f e past) 
+pub reply_over : (j : ℕ) (v : View) (m : Message) (e : Entry) (past : List Entry) → ((f : Fid) → PassesGrant j f e past) → ((f : Fid) → PassesReach j f e past) → ((f : Fid) → StaysNewest j f e past)
     → ReplyFact j v past m → ReplyFact j v (e ∷ past) m
 reply_over j v m e past p r n h = record { behind = h.behind; booted = h.booted; recent = h.recent; tied = h.tied; answers = λ act x y k. answers_over j (asked act) (spot v) v.boot m e past p r n (h.answers act x y k) }
 
@@ -366,7 +364,7 @@ act_over e past w head user call lasts now k f h of_act act r =
     inr (f.fact.own act runs epoch number))
     (λ none old. elim (k f.client act runs (subst (λ (n : Node). has_begun n e.lines ≡ false) f.from none)) [
       | inl x ↦ h (rw (same_node-refl head.from) old) act (subst (λ (n : Node). running n (lines_of past) ≡ Some act) (sym f.from) x)
-      | inr x ↦ elim (h (rw (same_node-refl head.from) old) x.act (subst (λ (n : Node). running n (lines_of past) ≡ Some x.act) (sym f.from) x.runs)) [ | inl y ↦ inl y | inr y ↦ inl (ap volume_changed y ∙ x.read) ]
+      | inr x ↦ elim (h (rw (same_node-refl head.from) old) x.act (subst (λ (n : Node). running n (lines_of past) ≡ Some x.act) (sym f.from) x.runs)) [ inl y ↦ inl y | inr y ↦ inl (ap volume_changed y ∙ x.read) ]
     ])
 
 both_client : (n : Node) (X Y Z : Type 0) → (X → Y → Z) → OfClient n X → OfClient n Y → OfClient n Z

@@ -1,17 +1,15 @@
 -- What a server's step sends: replies whose breaks have ended, and calls for what it owes.
-use Rattle.std.proofs.Common.{◌≡◌, ℕ, ◌≤◌, inl, inr, Bool, true, false, cond, List, [], ◌∷◌, ◌++◌, Option, Some, None, refl, sym, ap, subst, ◌∙◌}
-use Rattle.std.specs.Prelude.{⊤, map, filter, not}
+use Rattle.std.proofs.Common.{◌≡◌, ℕ, Bool, true, false, cond, List, [], ◌∷◌, ◌++◌, Option, Some, None, refl, sym, subst, ◌∙◌}
+use Rattle.std.specs.Prelude.{filter, not}
 use Rattle.afs_num.specs.declared.messages.Message.{Message}
 use Rattle.afs_num.specs.declared.messages.Carried.{Carried}
 use Rattle.afs_num.specs.declared.messages.Carried.TheVariants as carried
-use Rattle.afs_num.specs.declared.messages.Reply.TheVariants as tell
-use Rattle.afs_num.specs.declared.messages.Call.TheVariants as ask
 use Rattle.afs_num.specs.declared.types.Head.{Head}
 use Rattle.afs_num.specs.declared.calls.FsCall.{FsCall}
 use Rattle.afs_law.proofs.Basics.{Each, each_more, OfCall, OfReply, OfNotice, ByClient, client_any}
-use Rattle.afs_law.proofs.Facts.{View, HeldIn, IsReply, CallIn, ReplyIn, Origin, IsOne, IsActs, IsLastCall, ToClient}
+use Rattle.afs_law.proofs.Facts.{View, HeldIn, IsReply, CallIn, Origin, IsOne, IsActs, IsLastCall, ToClient}
 use Rattle.afs_law.proofs.Passing.{News}
-use Rattle.afs_law.specs.Callbacks.{Owed, Held, Turn, Started, Backs, BackCall, is_ready, replies_of, starts, starts_by, pumped, held_after, given_out, break_message, started_call}
+use Rattle.afs_law.specs.Callbacks.{Owed, Held, Turn, Started, BackCall, is_ready, replies_of, starts, starts_by, pumped, break_message, started_call}
 use Rattle.afs_law.specs.ClientRow.{the_server}
 use Rattle.afs_law.specs.Past.{sent_of}
 use Rattle.afs_law.specs.Runs.{Entry}
@@ -102,8 +100,7 @@ each_both P (x ∷ a) b h k = (h.0, each_both P a b h.1 k)
 pub pumped_news : (views : ℕ → View) (b : ℕ) (past : List Entry) (boot : ℕ) (t : Turn) → News t.sent views b past → Each (HeldIn views past) (replies_of t.outs) → Each (HeldIn views past) (replies_of t.backs.held)
     → News (pumped the_server boot t).sent views b past × Each (HeldIn views past) (replies_of (pumped the_server boot t).backs.held)
 pumped_news views b past boot t n outs held =
-    let P : Message → Type 0 = HeldIn views past in
-    (
+    let P : Message → Type 0 = HeldIn views past in (
       started_news views b past boot t.backs.owed _ (news_more views b past t.sent _ n (news_held views b past _ (each_filter P (is_ready t.backs.owed) (t.outs ++ t.backs.held) (each_both P t.outs t.backs.held outs held)))),
       subst (λ (hs : List Held). Each P (replies_of hs)) (sym (starts_held boot t.backs.owed _)) (each_filter P (λ h. not (is_ready t.backs.owed h)) (t.backs.held ++ t.outs) (each_both P t.backs.held t.outs held outs)),
     )

@@ -20,7 +20,7 @@ use Rattle.afs_law.specs.Grants.{has_fetched, IsWithdrawn, IsDropped}
 use Rattle.afs_law.specs.Ideal.{last_version, HasVersion, Accepts, clock_of, Reach, raised, reach_over, reach, is_zero_code, change_key, changed_under, volume_after}
 use Rattle.afs_law.specs.Legal.{IsNew}
 use Rattle.afs_law.specs.Lines.{Line}
-use Rattle.afs_law.specs.Past.{onto, lines_of, sent_of, given_message, has_begun, running, IsCallUnder}
+use Rattle.afs_law.specs.Past.{onto, sent_of, given_message, has_begun, running, IsCallUnder}
 use Rattle.afs_law.specs.Runs.{Entry}
 use Rattle.afs_law.specs.Lines as lines
 

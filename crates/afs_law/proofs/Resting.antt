@@ -1,36 +1,32 @@
 use Rattle.std.proofs.Common.{◌≡◌, ℕ, ◌+◌, ◌<◌, ◌≤◌, inl, inr, Bool, true, false, List, [], ◌∷◌, ◌++◌, Option, Some, None, refl, sym, ap, subst, ◌∙◌, arith, append-nil}
-use Rattle.std.proofs.Math.Nat.{le_refl}
 use Rattle.afs_num.specs.declared.types.Fid.{Fid}
 use Rattle.afs_num.specs.declared.types.Head.{Head}
 use Rattle.afs_num.specs.declared.types.Key.{Key}
 use Rattle.afs_num.specs.declared.types.Node.{Node}
 use Rattle.afs_num.specs.declared.calls.FsCall.{FsCall}
-use Rattle.afs_num.specs.declared.messages.Carried.{Carried}
 use Rattle.afs_num.specs.declared.messages.Message.{Message}
 use Rattle.afs_num.specs.declared.scripts.Script.{Script}
 use Rattle.afs_num.specs.declared.histories.Actor.{Actor}
 use Rattle.afs_num.specs.declared.histories.Actor.TheVariants as actors
 use Rattle.afs_num.specs.declared.histories.Body.{Body}
 use Rattle.afs_law.proofs.Backing.{Plain, all_lines, is_up, is_still, is_oweless, is_unchanging, backed_plain, backed_fall, plain_step, seated_over}
-use Rattle.afs_law.proofs.Basics.{Each, IfCall, IfReply, each_map, if_call}
+use Rattle.afs_law.proofs.Basics.{Each, IfCall, each_map, if_call}
 use Rattle.afs_law.proofs.Edits.{index_in, fid_at, sound_same}
-use Rattle.afs_law.proofs.Facts.{IsKnown, HoldsAt, server_boot, up_boot, IsLastCall, View, view, ReplyFact, ClientFacts, IsSafe, IsUntrusted, CallFact, CallIn, HasFallen, AreUnheard, Holds, Goes}
+use Rattle.afs_law.proofs.Facts.{IsKnown, HoldsAt, server_boot, up_boot, IsLastCall, View, view, ClientFacts, IsSafe, CallIn, HasFallen, AreUnheard, Holds, Goes}
 use Rattle.afs_law.proofs.Owing.{BackedIn}
-use Rattle.afs_law.proofs.Passing.{waiting_over, PassesFile, PassesAct, PassesReach, client_still, News, more_sent, replies_over, reply_over, stays, acts_over, fallen_over, older_origins}
-use Rattle.afs_law.specs.Acts.{Act}
+use Rattle.afs_law.proofs.Passing.{waiting_over, PassesFile, PassesAct, PassesReach, client_still, replies_over, reply_over, stays, acts_over, fallen_over, older_origins}
 use Rattle.afs_law.specs.Breaks.{HasStopped}
 use Rattle.afs_law.specs.Callbacks.{replies_of}
 use Rattle.afs_law.specs.ClientRow.{the_server}
-use Rattle.afs_law.specs.Going.{Going, Need, next, answers, began, with_read, read_on}
+use Rattle.afs_law.specs.Going.{Going}
 use Rattle.afs_law.specs.Ideal.{last_version, HasVersion, Accepts, clock_of, volume_after}
-use Rattle.afs_law.specs.Legal.{IsNew, AreGood}
+use Rattle.afs_law.specs.Legal.{IsNew}
 use Rattle.afs_law.specs.Lines.{Line}
 use Rattle.afs_law.specs.Past.{onto, lines_of, sent_of, given_message, IsCallUnder}
-use Rattle.afs_law.specs.Runs.{Entry, Cell, Moved, Armed, Fall, at_rest, in_step, voided, ticked, server_set, blow_line}
+use Rattle.afs_law.specs.Runs.{Entry, Cell, Armed, Fall, voided, ticked, server_set, blow_line}
 use Rattle.afs_law.specs.States.{CacheEntry}
 use Rattle.afs_num.specs.declared.histories.Version.{Version}
 use Rattle.afs_law.specs.Lines as lines
-use Rattle.afs_num.specs.declared.calls.FsCall.TheVariants as calls
 
 -- Entries that leave the server, the clients and what was sent as they were: nothing happens, the clock rises, a disk is set,
 -- a node begins again with nothing done, the server stops.
@@ -85,47 +81,47 @@ rested c n d armed = record c { down = d; armed = armed; clock = c.clock + n }
 
 calls_rested : (s : Script) (c : Cell) (n : ℕ) (d : Option Fall) (armed : Armed) (past : List Entry) → (h : Holds s c past) → Each (IfCall (CallIn (view h.floors (rested c n d armed)))) c.sent
 calls_rested s c n d armed past h = each_map (IfCall (CallIn (view h.floors c))) (IfCall (CallIn (view h.floors (rested c n d armed)))) (if_call (CallIn (view h.floors c)) (CallIn (view h.floors (rested c n d armed))) (λ head user call f. record {
-      client = f.client;
-      from = f.from;
-      to = f.to;
-      fact = record { behind = f.fact.behind; booted = f.fact.booted; stale = f.fact.stale; own = f.fact.own; safe = λ q above. later_safe n call _ _ _ _ _ _ head (f.fact.safe q above) };
-    })) c.sent h.sent.calls
+  client = f.client;
+  from = f.from;
+  to = f.to;
+  fact = record { behind = f.fact.behind; booted = f.fact.booted; stale = f.fact.stale; own = f.fact.own; safe = λ q above. later_safe n call _ _ _ _ _ _ head (f.fact.safe q above) };
+})) c.sent h.sent.calls
 
 pub rests : (s : Script) (b : Option ℕ) (c : Cell) (past : List Entry) (e : Entry) (n : ℕ) (d : Option Fall) (armed : Armed) → (h : Holds s c past) → server_boot the_server (lines_of (e ∷ past)) ≡ b → e.sent ≡ [] → Rests s e past → clock_of (lines_of (e ∷ past)) ≡ clock_of (lines_of past) + n
     → AreUnheard d c.server.seats c.server.boot (e ∷ past) → HasFallen d c.server c.sent (e ∷ past) → (b ≡ up_boot d c.server.boot → BackedIn d c.backs c.server.boot c.server.seats (λ j. (c.clients j).seat) (c.clock + n) c.sent (e ∷ past)) → HoldsAt s b (rested c n d armed) (e ∷ past)
 rests s b c past e n d armed h boots none p clock heard fallen backs =
-  let now : (j : ℕ) → ClientFacts j (view h.floors (rested c n d armed) j) (e ∷ past) = λ j. later_client n j (view h.floors c j) (e ∷ past) (client_still j (view h.floors c j) e past (p.file j) (p.reach j) (p.act j) (λ f. p.last f (lines_of past)) (h.clients j)) in
-  record {
-  floors = h.floors;
-  count = h.count;
-  ideal = λ id. h.ideal id ∙ sym (p.ideal id);
-  fine = h.fine;
-  sound = λ id. sound_same id _ (lines_of past) (lines_of (e ∷ past)) (λ m u. p.last (fid_at id m u) (lines_of past)) (h.sound id);
-  home = λ id v found. p.home id (lines_of past) (h.home id v found);
-  new = λ k above. p.new k (lines_of past) (h.new k above);
-  unheard = heard;
-  booted = h.booted;
-  boots = boots;
-  clients = now;
-  sent = record {
-    calls = calls_rested s c n d armed past h;
-    replies = replies_over c.sent (view h.floors c) (view h.floors (rested c n d armed)) past (e ∷ past)
-        (λ j m. reply_over j (view h.floors c j) m e past (λ f. (p.file j f).grant) (p.reach j) (λ f. stays j f e past (p.file j f).grant (p.last f (lines_of past)))) h.sent.replies;
-    notices = h.sent.notices;
-    origins = older_origins c.sent e past h.sent.origins;
-    acts = acts_over c.sent e past (view h.floors (rested c n d armed)) (subst (λ (ms : List Message). Each (IfCall (IsLastCall (view h.floors (rested c n d armed)))) ms) (sym none) tt) now (λ j a x z. inl ((h.clients j).runs a x)) (calls_rested s c n d armed past h) h.sent.acts;
-    ones = h.sent.ones;
-    told = ap (λ (ms : List Message). sent_of past ++ ms) none ∙ (append-nil _ ∙ h.sent.told);
-    waiting = waiting_over (replies_of c.backs.held) (view h.floors c) (view h.floors (rested c n d armed)) past (e ∷ past)
-        (λ j m. reply_over j (view h.floors c j) m e past (λ f. (p.file j f).grant) (p.reach j) (λ f. stays j f e past (p.file j f).grant (p.last f (lines_of past)))) h.sent.waiting;
-    to_clients = h.sent.to_clients;
-  };
-  down = fallen;
-  clock = clock ∙ ap (λ (t : ℕ). t + n) h.clock;
-  top = λ f i b x. subst (λ (o : Option Version). i ≤ index_in o) (sym (p.last f (lines_of past))) (h.top f i b (p.back f i b (lines_of past) x));
-  one = λ f i a b x y. h.one f i a b (p.back f i a (lines_of past) x) (p.back f i b (lines_of past) y);
-  backs = backs;
-}
+    let now : (j : ℕ) → ClientFacts j (view h.floors (rested c n d armed) j) (e ∷ past) = λ j. later_client n j (view h.floors c j) (e ∷ past) (client_still j (view h.floors c j) e past (p.file j) (p.reach j) (p.act j) (λ f. p.last f (lines_of past)) (h.clients j)) in
+    record {
+      floors = h.floors;
+      count = h.count;
+      ideal = λ id. h.ideal id ∙ sym (p.ideal id);
+      fine = h.fine;
+      sound = λ id. sound_same id _ (lines_of past) (lines_of (e ∷ past)) (λ m u. p.last (fid_at id m u) (lines_of past)) (h.sound id);
+      home = λ id v found. p.home id (lines_of past) (h.home id v found);
+      new = λ k above. p.new k (lines_of past) (h.new k above);
+      unheard = heard;
+      booted = h.booted;
+      boots = boots;
+      clients = now;
+      sent = record {
+        calls = calls_rested s c n d armed past h;
+        replies = replies_over c.sent (view h.floors c) (view h.floors (rested c n d armed)) past (e ∷ past)
+            (λ j m. reply_over j (view h.floors c j) m e past (λ f. (p.file j f).grant) (p.reach j) (λ f. stays j f e past (p.file j f).grant (p.last f (lines_of past)))) h.sent.replies;
+        notices = h.sent.notices;
+        origins = older_origins c.sent e past h.sent.origins;
+        acts = acts_over c.sent e past (view h.floors (rested c n d armed)) (subst (λ (ms : List Message). Each (IfCall (IsLastCall (view h.floors (rested c n d armed)))) ms) (sym none) tt) now (λ j a x z. inl ((h.clients j).runs a x)) (calls_rested s c n d armed past h) h.sent.acts;
+        ones = h.sent.ones;
+        told = ap (λ (ms : List Message). sent_of past ++ ms) none ∙ (append-nil _ ∙ h.sent.told);
+        waiting = waiting_over (replies_of c.backs.held) (view h.floors c) (view h.floors (rested c n d armed)) past (e ∷ past)
+            (λ j m. reply_over j (view h.floors c j) m e past (λ f. (p.file j f).grant) (p.reach j) (λ f. stays j f e past (p.file j f).grant (p.last f (lines_of past)))) h.sent.waiting;
+        to_clients = h.sent.to_clients;
+      };
+      down = fallen;
+      clock = clock ∙ ap (λ (t : ℕ). t + n) h.clock;
+      top = λ f i b x. subst (λ (o : Option Version). i ≤ index_in o) (sym (p.last f (lines_of past))) (h.top f i b (p.back f i b (lines_of past) x));
+      one = λ f i a b x y. h.one f i a b (p.back f i a (lines_of past) x) (p.back f i b (lines_of past) y);
+      backs = backs;
+    }
 
 -- what the server has in memory passes over such an entry: the clock rose, or the server went down
 pub rest_backed : (s : Script) (c : Cell) (past : List Entry) (e : Entry) (n : ℕ) → Plain e.lines → Holds s c past → BackedIn c.down c.backs c.server.boot c.server.seats (λ j. (c.clients j).seat) (c.clock + n) c.sent (e ∷ past)
@@ -288,14 +284,16 @@ pub voids : (s : Script) (c : Cell) (past : List Entry) → Holds s c past → G
 voids s c past h = record {
   good = (refl, tt);
   holds = still s _ c _ (rests s (up_boot c.down c.server.boot) c past (alone actors.Nobody lines.Void) 0 c.down c.armed h h.boots refl (void_rests s past) (omega arith) (unheard_still c.down c (alone actors.Nobody lines.Void) past refl h.unheard) (fallen_still c.down c (alone actors.Nobody lines.Void) past h.down) (λ z. rest_backed s c past (alone actors.Nobody lines.Void) 0 (plain_refl lines.Void refl refl refl refl) h));
-  replies = tt; volumes = refl;
+  replies = tt;
+  volumes = refl;
 }
 
 pub ticks_goes : (s : Script) (c : Cell) (past : List Entry) (n : ℕ) → Holds s c past → Goes s past (ticked c n)
 ticks_goes s c past n h = record {
   good = (refl, tt);
   holds = rests s (up_boot c.down c.server.boot) c past (alone actors.Clock (lines.Tick n)) n c.down c.armed h h.boots refl (tick_rests s n past) refl (unheard_still c.down c (alone actors.Clock (lines.Tick n)) past refl h.unheard) (fallen_still c.down c (alone actors.Clock (lines.Tick n)) past h.down) (λ z. rest_backed s c past (alone actors.Clock (lines.Tick n)) n (plain_refl (lines.Tick n) refl refl refl refl) h);
-  replies = tt; volumes = refl;
+  replies = tt;
+  volumes = refl;
 }
 
 pub stop_set : (s : Script) (c : Cell) (past : List Entry) (n pick : ℕ) (armed : Armed) → Holds s c past → Goes s past (server_set c (lines.Stop the_server n pick) armed)

@@ -1,61 +1,56 @@
 use Rattle.afs_num.specs.declared.directories.Name.{Name}
-use Rattle.afs_ideal.specs.Operations.{Found, Caller, the_user, reads, Shown, Result, refused, changes, code_of, op, shows_acl, no_amend, volume_called, volume_changed, changed}
-use Rattle.afs_ideal.specs.Replies.{vnode_or_none, status_at, status_of, change_reply, stamped}
+use Rattle.afs_ideal.specs.Operations.{Found, the_user, Result, changes, op, volume_called, volume_changed, changed}
+use Rattle.afs_ideal.specs.Replies.{vnode_or_none, change_reply, stamped}
 use Rattle.afs_ideal.specs.Tables.{Table, get, set}
 use Rattle.afs_ideal.specs.Told.{AreNext}
-use Rattle.afs_ideal.specs.Volumes.{or_old, with_status, Amend, type_of, bytes_by, Volume, Vnode, Kind, a_file, a_directory, a_link, body_by, body_of, vnode_of, if_unique, version_at, Edit, versions_by, edited_all, counted, amended}
-use Rattle.afs_law.proofs.Backing.{is_still_to, Plain, all_lines, is_up, is_still, is_oweless, is_unchanging, backed_fall, granted_over, change_back, no_owe}
-use Rattle.afs_law.proofs.Basics.{node_apart, Below, UpTo, Above, Each, IfCall, IfReply, IfNotice, if_notice, OfReply, OfNotice, above_up, up_to_by, by_server, IfBack, IfDone, ByClient, OfClient, client_any, by_client, both, same_fid-true, same_fid-refl, apart, same_node-true, client_number, up_to_below, below_up_to, below_not, up_to_same, LastSeat, own_seat, at_seat, OfCall, each_map, each_at, if_call, if_reply, raised_up_to, some_of, yes_no}
-use Rattle.afs_law.proofs.Edits.{agrees_of, last_of, ones, Ones, index_in, fid_at, Sound, SoundIn, sound_same, Tops, live, live_index, get-set, on_top, Grow, Told, edits_told, counted_sound, Rises, rises, tops, touches, untouched, touched_volume, not_touched, there, none_has}
-use Rattle.afs_law.proofs.Facts.{IsKeptBody, Leaves, HeldIn, ToClient, Ghost, Seen, HoldsAt, server_boot, up_boot, risen, LastStored, IsStored, IsActs, IsLastCall, IsAged, IsUntrusted, View, view_of, view, Spot, spot, LastRan, ReplyFact, IsBehind, AreKept, MayRun, HasFallen, IsCut, Reached, Stands, IsCurrent, HasCurrent, Fits, Answers, IsReply, KeptReply, ClientFacts, CallFact, CallIn, ReplyIn, Origin, AreHome, AreNew, AreUnheard, stored_index, Holds, Goes, IsNoticed, IsOne, InScope, IsFetched, FitsReply, FitsData, FitsSet, FitsPlain, WasChanged, AreIdeal, AreSound, WasStored}
-use Rattle.afs_law.proofs.Loading.{hits_other, granted_all, onto_granted, left_granted, all_hits, all_left, down_later, none_loaded, still_backed, known_backed, resent, change_loaded, rise_loaded, owes_unchanging, all_new, number_front, number_second, run_loaded, key_held, no_change, all_waited, NewReply, settles_good, settles_backed, quits_good, quits_backed, retries_backed, left_promised, has_owe, touched_hit, numbers_good, numbers_rise}
+use Rattle.afs_ideal.specs.Volumes.{or_old, with_status, Amend, Volume, Vnode, Kind, a_file, a_directory, a_link, body_by, body_of, version_at, Edit, versions_by, edited_all, counted, amended}
+use Rattle.afs_law.proofs.Backing.{is_still_to, all_lines, is_up, is_still, is_oweless, is_unchanging, change_back}
+use Rattle.afs_law.proofs.Basics.{node_apart, Above, up_to_by, same_fid-true, same_node-true, client_number, below_not, up_to_same, own_seat, raised_up_to, some_of, yes_no}
+use Rattle.afs_law.proofs.Edits.{agrees_of, last_of, ones, Ones, index_in, fid_at, Sound, SoundIn, sound_same, Tops, get-set, on_top, Grow, Told, edits_told, counted_sound, rises, tops, touches, untouched, touched_volume, not_touched, there, none_has}
+use Rattle.afs_law.proofs.Facts.{Leaves, HeldIn, Ghost, HoldsAt, server_boot, up_boot, risen, LastStored, IsStored, IsUntrusted, view, Spot, spot, ReplyFact, HasFallen, Reached, Stands, IsCurrent, Fits, Answers, IsReply, AreUnheard, stored_index, Holds, Goes, FitsReply, FitsData, FitsSet, FitsPlain, WasChanged, AreIdeal, AreSound, WasStored}
+use Rattle.afs_law.proofs.Loading.{hits_other, granted_all, onto_granted, left_granted, all_hits, change_loaded, owes_unchanging, all_new, number_front, number_second, left_promised, has_owe, touched_hit, numbers_good, numbers_rise}
 use Rattle.afs_law.proofs.Naming.{fine_after}
-use Rattle.afs_law.proofs.Notes.{granted_notes, AreNotes, Skips, skips, told_entry, told_rests, risen_entry, risen_rests, noted_entry, noted_rests, owe_notes, settle_notes, quit_notes, no_versions}
+use Rattle.afs_law.proofs.Notes.{granted_notes, AreNotes, Skips, skips, owe_notes, no_versions}
 use Rattle.afs_law.proofs.Ops.{stored_kind, stored_fid, amend_of, in_scope, changes_is, Storing, storing, stored_vnode}
-use Rattle.afs_law.proofs.Owing.{AllOf, HeldWaits, BackedIn, IsDone, DroppedOwe, IsGranted, IsNumberIn, all_filter, DoneIn}
-use Rattle.afs_law.proofs.Passing.{ran_over, stands_over, answers_over, reply_over, kept_over, replies_over, waiting_over, fallen_over, replies_still, PassesBoth, PassesSeen, held_over, fetch_reply_by, cause_over, PassesFile, PassesAct, PassesReach, StaysNewest, stays, current_over, reached_more, client_over, client_still, News, more_sent, PassesGrant}
-use Rattle.afs_law.proofs.Pumping.{of_reply_any, no_call, no_notice, no_news, news_more, news_held, pumped_news, starts_held, news_break}
-use Rattle.afs_law.proofs.Resting.{rest_backed, fall_backed, Rests, fault_rests, full_rests, alone, rests, still, voids, unheard_still, fallen_still, restart_rests, server_crash_rests, cut_entry, cut_rests}
-use Rattle.afs_law.proofs.Serving.{up_backed, seats_of, Gives, taken_not, up_boots, reached_at, Dull, unheard_over, at_told, unheard_up, client_head, Now, call_at, taken, seats_after, durable_after, Stock, stock, server_after, own_durable, seated_view, caller_view, views_after, above_more, above_before, not_ran, dull_after, unheard_after, ran_now, HasRun, cause_now, running_act, stale_none, Serves, served_cell, serves, last_has, has_run, spot_at, not_stored, unheard_later, quiet, refuses_goes, told_file, told_reach, told_act}
-use Rattle.afs_law.proofs.Turning.{loaded, TurnSends, Pumps, pumps, expired_backed, call_good, good_more, put_call, break_good}
-use Rattle.afs_law.specs.Acts.{Act}
-use Rattle.afs_law.specs.Breaks.{HasStopped, GoodSettle, GoodQuit, live_grant, HasOwe, last_number}
-use Rattle.afs_law.specs.Callbacks.{hits, left, retries, quits, Backs, Held, Owed, Turn, Started, BackCall, replies_of, pumped, expired, turn_for, turned_by, no_turn, repeats_by, new_owes, owe_line, is_held, key_answered, is_seat_of, risen_turn, revived_backs, owes_all, timed, first_backs, numbers, is_hit, alls, Promise, put, settles, settles_by, is_back_awaited, answered_by, renews, renews_by, noticed_by}
-use Rattle.afs_law.specs.ClientRow.{the_server, find_cached, body_told}
-use Rattle.afs_law.specs.Going.{asked, Going, Need, next, answers, began, with_read, read_on}
+use Rattle.afs_law.proofs.Owing.{BackedIn, IsGranted}
+use Rattle.afs_law.proofs.Passing.{reply_over, PassesBoth, PassesSeen, held_over, fetch_reply_by, cause_over, PassesFile, PassesAct, PassesReach, StaysNewest, client_over, PassesGrant}
+use Rattle.afs_law.proofs.Pumping.{no_news, pumped_news}
+use Rattle.afs_law.proofs.Serving.{up_backed, seats_of, Gives, taken_not, up_boots, reached_at, at_told, client_head, Now, call_at, taken, seats_after, Stock, server_after, caller_view, views_after, above_before, not_ran, unheard_after, HasRun, cause_now, running_act, stale_none, served_cell, serves, last_has, has_run}
+use Rattle.afs_law.proofs.Turning.{loaded, Pumps, pumps}
+use Rattle.afs_law.specs.Breaks.{live_grant, HasOwe, last_number}
+use Rattle.afs_law.specs.Callbacks.{hits, Backs, Held, Owed, Turn, pumped, expired, turn_for, new_owes, numbers, alls}
+use Rattle.afs_law.specs.ClientRow.{the_server}
+use Rattle.afs_law.specs.Going.{asked, Going, next}
 use Rattle.afs_law.specs.Grants.{IsWithdrawn, has_fetched, fetch_reply, since, change_below, IsByOther, IsDropped}
-use Rattle.afs_law.specs.Ideal.{versions_in, Reach, is_zero_code, raised, IsLast, version_in, latest, IsThat, user_of, clock_of, last_version, HasVersion, Accepts, reach, volume_after, change_key, call_under, reach_over, applied, applied_by}
-use Rattle.afs_law.specs.Legal.{code_given, IsResult, AreGood, IsGood, code_told, Cause, IsNew, HasChange, GoodChange, versions_first, AreGoodReplies, IsTold, answer_at, answer_on, IsUnderChange, IsChanged, op_on}
+use Rattle.afs_law.specs.Ideal.{versions_in, Reach, raised, IsLast, clock_of, last_version, HasVersion, Accepts, reach, volume_after, change_key, call_under, reach_over, applied, applied_by}
+use Rattle.afs_law.specs.Legal.{code_given, AreGood, code_told, IsNew, HasChange, GoodChange, versions_first, IsTold, answer_at, answer_on, IsUnderChange, IsChanged, op_on}
 use Rattle.afs_law.specs.Lines.{Line}
-use Rattle.afs_law.specs.Past.{IsUnheard, onto, lines_of, sent_of, given_message, called_key, HasCode, is_of_act, IsCallUnder, Ran, running, has_begun}
-use Rattle.afs_law.specs.Records.{change_record}
-use Rattle.afs_law.specs.Runs.{Entry, Cell, message_at, Armed, unarmed, Luck, Blow, struck, lowered, Fall, at_rest, in_step, in_boot, settled, Outcome, comes_up, fails_early, fails_midway, is_full, server_rises, server_ends, server_falls, blow_line, server_stopped, server_restarted, server_served, server_given, server_moves, server_does, back_timed, server_timed, server_wakes}
+use Rattle.afs_law.specs.Past.{onto, lines_of, sent_of, given_message, called_key, HasCode, is_of_act, running, has_begun}
+use Rattle.afs_law.specs.Runs.{Entry, Cell, message_at, Armed, Fall, server_does}
 use Rattle.afs_law.specs.Scopes.{is_in_scope, is_volume}
-use Rattle.afs_law.specs.ServerRow.{granted, granted_in, record_of, carried_by, change_reply_to, no_room, has_room, longer, revived, device_calls, promise_until, promise_ticks, decides, Decision, drops, tells_boot, repeats, refuses, saves, runs, admits, called, hears, reply_head, replied, boot_told, refusal, told, does, versioned, Change, made, result, saved, decided, in_volume, with_volume}
-use Rattle.afs_law.specs.States.{CacheEntry, Seat, ServerState}
+use Rattle.afs_law.specs.ServerRow.{granted, granted_in, record_of, carried_by, change_reply_to, longer, promise_ticks, saves, runs, told, versioned, Change, made, result}
+use Rattle.afs_law.specs.States.{CacheEntry, Seat}
 use Rattle.afs_model.specs.Calls.{call_seated, call_seat}
 use Rattle.afs_num.specs.declared.calls.AfsStoreStatus.{AfsStoreStatus}
 use Rattle.afs_ideal.proofs.Edits as ideal_edits
-use Rattle.std.proofs.Common.{◌≡◌, ℕ, ◌+◌, ◌<◌, ◌≤◌, ◌⊎◌, inl, inr, Bool, true, false, cond, nat_eq, length, List, [], ◌∷◌, ◌++◌, Option, Some, None, ℤ, pos, refl, sym, ap, subst, ◌∙◌, arith, eq-eqb, eqb-true, le_of_eq, append-nil, nat_lt, ltb-true, ltb-false, eqb}
-use Rattle.std.specs.Prelude.{◌&&◌, ⊤, map, filter, not}
+use Rattle.std.proofs.Common.{◌≡◌, ℕ, ◌+◌, ◌<◌, ◌≤◌, ◌⊎◌, inl, inr, Bool, true, false, cond, length, List, [], ◌∷◌, ◌++◌, Option, Some, None, pos, refl, sym, ap, subst, ◌∙◌, arith, eq-eqb, eqb-true, eqb}
+use Rattle.std.specs.Prelude.{◌&&◌, not}
 use Rattle.std.specs.Option.{option_map}
 use Rattle.afs_num.specs.Fids.{same_fid}
 use Rattle.afs_num.specs.Nodes.{same_node}
-use Rattle.afs_num.specs.declared.types.Code.{Code}
 use Rattle.afs_num.specs.declared.types.Fid.{Fid}
 use Rattle.afs_num.specs.declared.types.Head.{Head}
 use Rattle.afs_num.specs.declared.types.Key.{Key}
 use Rattle.afs_num.specs.declared.types.Node.{Node}
-use Rattle.afs_num.specs.declared.types.Node.TheVariants.{Client, Loc, Server, Admin}
+use Rattle.afs_num.specs.declared.types.Node.TheVariants.{Client}
 use Rattle.afs_num.specs.declared.calls.FsCall.{FsCall}
 use Rattle.afs_num.specs.declared.messages.Carried.{Carried}
 use Rattle.afs_num.specs.declared.messages.Message.{Message}
-use Rattle.afs_num.specs.declared.messages.Received.TheVariants.{Whole}
 use Rattle.afs_num.specs.declared.scripts.Script.{Script}
 use Rattle.afs_num.specs.declared.histories.Actor.TheVariants as actors
 use Rattle.afs_num.specs.declared.histories.Body.{Body}
 use Rattle.afs_num.specs.declared.histories.Version.{Version}
-use Rattle.std.proofs.Math.Nat.{le_refl, le_trans, eq-or-lt_of_le}
+use Rattle.std.proofs.Math.Nat.{le_trans, eq-or-lt_of_le}
 use Rattle.afs_num.specs.declared.calls.FsReply.{FsReply}
 use Rattle.afs_num.specs.declared.calls.AfsFetchStatus.{AfsFetchStatus}
 use Rattle.afs_num.specs.declared.calls.AfsCallBack.{AfsCallBack}
@@ -65,9 +60,8 @@ use Rattle.afs_num.specs.declared.messages.Reply.TheVariants as tell
 use Rattle.afs_num.specs.declared.histories.Body.TheVariants as bodies
 use Rattle.afs_law.specs.Lines as lines
 use Rattle.afs_num.specs.declared.calls.FsReply.TheVariants as replies
-use Rattle.afs_num.specs.declared.types.Half.TheVariants as halves
--- The server's changes: of any number of versions.
 
+-- The server's changes: of any number of versions.
 
 -- a change whole, given at this place; or its effect, as a restart tells it. What the server owes then stands behind it, and
 -- these messages are sent
@@ -441,7 +435,7 @@ own_stands false y fl c past n h user call vs r g i server newer w q some scope 
     let none : touches g vs ≡ false = no_touch' (touches g vs) (λ t. let yes = scope t in yes_no _ yes q) in
     inl (record {
       reached = seen_saved y n k vs r past g i a.reached;
-      newest = elim a.newest [ | inl x ↦ inl ((saves_grant y n k vs r past g).withdrawn server newer x) | inr at ↦ inr (ap (option_map (λ (v : Version). v.index)) (last_kept y k vs r past g none) ∙ at) ];
+      newest = elim a.newest [ inl x ↦ inl ((saves_grant y n k vs r past g).withdrawn server newer x) | inr at ↦ inr (ap (option_map (λ (v : Version). v.index)) (last_kept y k vs r past g none) ∙ at) ];
       before = λ z x sc ran. let one : taken n h r ≡ ran.seat = some_of _ _ ran.at in
           let same : call ≡ asked z = w.fact.own z x (ap (λ (u : Seat). u.epoch) one ∙ ran.epoch) (ap (λ (u : Seat). u.number) one ∙ ran.number) in
           absurd (yes_no (is_in_scope call g) (ap (λ (x : FsCall). is_in_scope x g) same ∙ sc) q);
@@ -573,11 +567,12 @@ store_fits call f y s c past n head user id time v es shown k x i H q is at told
     let last : last_version f L ≡ Some (version_at id f.vnode a) = store_last y s c past user call f (amend_of call) id v es shown k r H q at z in
     let before = store_before s c past user call f (amend_of call) id v es shown H q at z in
     let index : z.vnode.index + 1 ≡ i = some_of _ _ (sym (store_told call id time user c.server.times f v es shown is z) ∙ told) in
-    let t = told_at y s c past user call id v es shown k H q in
-    (subst (λ (j : ℕ). Leaves call f j L) index (leaves call f id (v.counter + 1) user v es shown z.vnode L is q.result z.found
-        ((saves_grant y n k (versions_by id es v) r past f).version z.vnode.index (body_of z.vnode) (lines_of past) (last_has f (lines_of past) (version_at id f.vnode z.vnode) before))
-        (last_has f L (version_at id f.vnode a) last)),
-    subst (λ (j : ℕ). Reached (Client n) f j (saved_entry y k (versions_by id es v) r ∷ past)) index (stored_reach y past n k id (versions_by id es v) r f (version_at id f.vnode a) last t.grow ((H.clients n).reached f)))
+    let t = told_at y s c past user call id v es shown k H q in (
+      subst (λ (j : ℕ). Leaves call f j L) index (leaves call f id (v.counter + 1) user v es shown z.vnode L is q.result z.found
+          ((saves_grant y n k (versions_by id es v) r past f).version z.vnode.index (body_of z.vnode) (lines_of past) (last_has f (lines_of past) (version_at id f.vnode z.vnode) before))
+          (last_has f L (version_at id f.vnode a) last)),
+      subst (λ (j : ℕ). Reached (Client n) f j (saved_entry y k (versions_by id es v) r ∷ past)) index (stored_reach y past n k id (versions_by id es v) r f (version_at id f.vnode a) last t.grow ((H.clients n).reached f)),
+    )
 
 pub change_fits : (sp : Bool) (call : FsCall) (y : Way) (s : Script) (c : Cell) (past : List Entry) (n : ℕ) (head : Head) (user : List ℕ) (id time : ℕ) (v : Volume) (es : List Edit) (shown : ℕ) (k : Key) (x : Spot) → (volume_changed call ≡ None → ⊥) → Holds s c past → Change' c past user call id v es shown → IsStored x (saved_reply c head time user call id v es shown)
     → Fits sp n call x c.server.boot (saved_reply c head time user call id v es shown) (change_carried time user call id c.server.times v es shown) (saved_entry y k (versions_by id es v) (saved_reply c head time user call id v es shown) ∷ past)
@@ -758,8 +753,8 @@ saves_holds y s now c past after armed d n h user call time id v es shown H w q 
     let grow : Grow id vs (base y k (length vs) (lines_of past)) = (told_at y s c past user call id v es shown k H q).grow in
     let some : volume_changed call ≡ None → ⊥ = changes_is id (the_user user) call v es shown q.of_volume q.result in
     let scope : (g : Fid) (i : ℕ) (b : Body) → HasVersion g i b (lines_of past) → touches g vs ≡ true → is_in_scope call g ≡ true = λ g i b had t.
-        scope_of g i b id v (lines_of past) (is_in_scope call g ≡ true) (subst (λ (o : Option Volume). SoundIn id o (lines_of past)) q.at (H.sound id)) (touched_volume g id vs (base y k (length vs) (lines_of past)) grow t) had
-        (in_scope (the_user user) call id v es shown g (base y k (length vs) (lines_of past)) q.result q.of_volume grow t) in
+    scope_of g i b id v (lines_of past) (is_in_scope call g ≡ true) (subst (λ (o : Option Volume). SoundIn id o (lines_of past)) q.at (H.sound id)) (touched_volume g id vs (base y k (length vs) (lines_of past)) grow t) had
+    (in_scope (the_user user) call id v es shown g (base y k (length vs) (lines_of past)) q.result q.of_volume grow t) in
     let other : (j : ℕ) → (n ≡ j → ⊥) → Client n ≡ Client j → ⊥ = λ j ne z. ne (client_number n j z) in
     let result : answer_at user call run.ran.older ≡ Some (changes es shown) = answer_is user call id v es shown c.server.volumes run.ran.older q.of_volume q.at run.ideal q.result in
     serves true s now c past n h user call x e (stock_after c (client_head n h) time (change_at id user call v es shown)) after d armed H w
@@ -883,32 +878,40 @@ saves_goes s c past armed p n h user call id v es shown H up at w q =
     let base0 : List Line = on_top vs (base y k (length vs) (lines_of past)) in
     let hd : Held = record { reply = r; waits = numbers os ++ alls b0.owed } in
     let loads : BackedIn None (loaded t) c.server.boot (seats_after c n h r) (seats_of c) c.clock c.sent (e ∷ past) =
-        change_loaded n b0 t.backs.promises t.backs.last_owed c.server.boot c.server.seats (seats_after c n h r) (seats_of c) c.clock c.sent e past pre os hd (call_at n h user call) B
-        (left_granted n b0.last_owed x vs b0.promises fs e past front fronted (versions_lines is_still vs [] (λ z. refl) refl) (B.granted refl))
-        (left_promised n b0.last_owed x c.clock vs b0.promises fs e past front fronted (versions_lines is_still vs [] (λ z. refl) refl) B.promised)
-        (subst (λ (ls : List Line). last_number the_server ls ≤ t.backs.last_owed) (sym (saved_on y k vs (lines_of past) ∙ onto_granted n x fs t.lines base0))
-        (numbers_rise b0.last_owed (hits n vs b0.promises) (onto base0 (granted the_server (Client n) x fs [])) (subst (λ (i : ℕ). i ≤ b0.last_owed) (sym (granted_number n x fs base0 ∙ on_number vs (base y k (length vs) (lines_of past)))) B.numbered))) (record {
-          are = are;
-          up = versions_lines is_up vs (granted the_server (Client n) x fs []) (λ z. refl) (granted_all is_up (Client n) x fs (λ f i. refl));
-          still = λ j ne. versions_lines (is_still_to (Client j)) vs (granted the_server (Client n) x fs []) (λ z. refl) (granted_all (is_still_to (Client j)) (Client n) x fs (λ f i. ap not (node_apart (Client n) (Client j) (λ q. ne (sym (client_number n j q))))));
-          oweless = versions_lines is_oweless vs (granted the_server (Client n) x fs []) (λ z. refl) (granted_all is_oweless (Client n) x fs (λ f i. refl));
-          given = at_told s c past p (call_at n h user call) H at;
-          key = refl;
-          above = w.above;
-          seat = λ m x z. above_before c.server.seats n h r m x z w.above;
-          reply = record { client = n; to = refl; from = refl; is_reply = carried_reply (c.clock + promise_ticks) (change_reply id (the_user user) (stamped c.clock vs c.server.times) (counted (edited_all id es v)) shown call); under = taken_not c.server.seats n h r };
-          changed = λ l z. elim (on_changed l vs (lines.Change the_server k (length vs) ∷ lines.Given p ∷ lines_of past) (change_back l (granted the_server (Client n) x fs []) base0 (granted_all is_unchanging (Client n) x fs (λ f i. refl)) (change_back l t.lines _ (owes_unchanging os) (subst (HasChange l) (saved_on y k vs (lines_of past) ∙ onto_granted n x fs t.lines base0) z)))) [ | inl same ↦ inr (subst (λ (u : Key). Above (call_seat u.node c.server.seats) u.epoch u.number) same w.above) | inr old ↦ inl old ];
-          owes = all_new n (lines_of past) b0.last_owed (hits n vs b0.promises) (all_hits (IsGranted (lines_of past)) n vs b0.promises (B.granted refl)) (hits_other n vs b0.promises);
-          own = λ i z. number_front i (numbers os) (alls b0.owed) z;
-          all = λ i z. number_second i (numbers os) (alls b0.owed) z;
-        }) in
+    change_loaded n b0 t.backs.promises t.backs.last_owed c.server.boot c.server.seats (seats_after c n h r) (seats_of c) c.clock c.sent e past pre os hd (call_at n h user call) B
+    (left_granted n b0.last_owed x vs b0.promises fs e past front fronted (versions_lines is_still vs [] (λ z. refl) refl) (B.granted refl))
+    (left_promised n b0.last_owed x c.clock vs b0.promises fs e past front fronted (versions_lines is_still vs [] (λ z. refl) refl) B.promised)
+    (subst (λ (ls : List Line). last_number the_server ls ≤ t.backs.last_owed) (sym (saved_on y k vs (lines_of past) ∙ onto_granted n x fs t.lines base0))
+    (numbers_rise b0.last_owed (hits n vs b0.promises) (onto base0 (granted the_server (Client n) x fs [])) (subst (λ (i : ℕ). i ≤ b0.last_owed) (sym (granted_number n x fs base0 ∙ on_number vs (base y k (length vs) (lines_of past)))) B.numbered))) (record {
+      are = are;
+      up = versions_lines is_up vs (granted the_server (Client n) x fs []) (λ z. refl) (granted_all is_up (Client n) x fs (λ f i. refl));
+      still = λ j ne. versions_lines (is_still_to (Client j)) vs (granted the_server (Client n) x fs []) (λ z. refl) (granted_all (is_still_to (Client j)) (Client n) x fs (λ f i. ap not (node_apart (Client n) (Client j) (λ q. ne (sym (client_number n j q))))));
+      oweless = versions_lines is_oweless vs (granted the_server (Client n) x fs []) (λ z. refl) (granted_all is_oweless (Client n) x fs (λ f i. refl));
+      given = at_told s c past p (call_at n h user call) H at;
+      key = refl;
+      above = w.above;
+      seat = λ m x z. above_before c.server.seats n h r m x z w.above;
+      reply = record { client = n; to = refl; from = refl; is_reply = carried_reply (c.clock + promise_ticks) (change_reply id (the_user user) (stamped c.clock vs c.server.times) (counted (edited_all id es v)) shown call); under = taken_not c.server.seats n h r };
+      changed = λ l z. elim (on_changed l vs (lines.Change the_server k (length vs) ∷ lines.Given p ∷ lines_of past) (change_back l (granted the_server (Client n) x fs []) base0 (granted_all is_unchanging (Client n) x fs (λ f i. refl)) (change_back l t.lines _ (owes_unchanging os) (subst (HasChange l) (saved_on y k vs (lines_of past) ∙ onto_granted n x fs t.lines base0) z)))) [ inl same ↦ inr (subst (λ (u : Key). Above (call_seat u.node c.server.seats) u.epoch u.number) same w.above) | inr old ↦ inl old ];
+      owes = all_new n (lines_of past) b0.last_owed (hits n vs b0.promises) (all_hits (IsGranted (lines_of past)) n vs b0.promises (B.granted refl)) (hits_other n vs b0.promises);
+      own = λ i z. number_front i (numbers os) (alls b0.owed) z;
+      all = λ i z. number_second i (numbers os) (alls b0.owed) z;
+    }) in
     let pump : Pumps c.server.boot (seats_after c n h r) (seats_of c) c.clock c.sent (e ∷ past) t = pumps c.server.boot (seats_after c n h r) (seats_of c) c.clock c.sent e past t refl (saves_clock y k vs r past ∙ H.clock) loads (record { good = tt; calls = tt; dones = tt }) in
     record {
-      good = (tt, ((refl, saves_change_good s c past (lines.Given p ∷ []) tl n h user call id v es shown H w q (H.new _ w.above_durable) refl (H.home id v q.at) (no_versions tl notes)
-      (λ j f z ne d l u. owe_behind (Client j) (Some f) vs tl (owe_granted (Client j) (Some f) n x fs t.lines (has_owe j f z b0.last_owed (hits n vs b0.promises) (touched_hit n j f z vs b0.promises (λ a. ne (ap Client a)) d (B.promised j f z l (subst (λ (i : ℕ). i < z) H.clock u)).1))))),
-      versions_good s past _ tl vs tt (granted_then s past (on_top vs (lines.Change the_server k (length vs) ∷ lines.Given p ∷ [])) n x fs t.lines
-      (numbers_good s b0.last_owed (hits n vs b0.promises) past (onto (on_top vs (lines.Change the_server k (length vs) ∷ lines.Given p ∷ [])) (granted the_server (Client n) x fs []))
-      (subst (λ (i : ℕ). i ≤ b0.last_owed) (sym (granted_top n x fs (on_top vs (lines.Change the_server k (length vs) ∷ lines.Given p ∷ [])) (lines_of past) ∙ top_number vs (lines.Change the_server k (length vs) ∷ lines.Given p ∷ []) (lines_of past))) B.numbered)))));
+      good = (
+        tt,
+        (
+          (
+            refl,
+            saves_change_good s c past (lines.Given p ∷ []) tl n h user call id v es shown H w q (H.new _ w.above_durable) refl (H.home id v q.at) (no_versions tl notes)
+                (λ j f z ne d l u. owe_behind (Client j) (Some f) vs tl (owe_granted (Client j) (Some f) n x fs t.lines (has_owe j f z b0.last_owed (hits n vs b0.promises) (touched_hit n j f z vs b0.promises (λ a. ne (ap Client a)) d (B.promised j f z l (subst (λ (i : ℕ). i < z) H.clock u)).1)))),
+          ),
+          versions_good s past _ tl vs tt (granted_then s past (on_top vs (lines.Change the_server k (length vs) ∷ lines.Given p ∷ [])) n x fs t.lines
+              (numbers_good s b0.last_owed (hits n vs b0.promises) past (onto (on_top vs (lines.Change the_server k (length vs) ∷ lines.Given p ∷ [])) (granted the_server (Client n) x fs []))
+              (subst (λ (i : ℕ). i ≤ b0.last_owed) (sym (granted_top n x fs (on_top vs (lines.Change the_server k (length vs) ∷ lines.Given p ∷ [])) (lines_of past) ∙ top_number vs (lines.Change the_server k (length vs) ∷ lines.Given p ∷ []) (lines_of past))) B.numbered))),
+        ),
+      );
       holds = saves_holds y s (Some c.server.boot) c past (pumped the_server c.server.boot t).backs armed None n h user call c.clock id v es shown H w q (has_run s c past p n h user call e H up at w refl refl) (saves_boot y k vs r past ∙ (sk.boot _ ∙ up_boots s c past H up)) (unheard_after s c past p n h user call r e H up at w refl) tt
           (λ own held. pumped_news (views_after true H.floors c n h r) c.server.boot (e ∷ past) c.server.boot t (no_news _ _ _) (own, tt) held) (λ z. pump.backed);
       replies = pump.good;

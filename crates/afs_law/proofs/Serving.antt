@@ -1,43 +1,36 @@
-use Rattle.std.proofs.Common.{◌≡◌, ℕ, ◌+◌, ◌<◌, ◌≤◌, ◌⊎◌, inl, inr, Bool, true, false, cond, nat_eq, length, List, [], ◌∷◌, ◌++◌, Option, Some, None, ℤ, pos, refl, sym, ap, subst, ◌∙◌, arith, eq-eqb, eqb-true, le_of_eq, append-nil, nat_lt, ltb-true, ltb-false, eqb}
+use Rattle.std.proofs.Common.{◌≡◌, ℕ, ◌+◌, ◌<◌, ◌≤◌, ◌⊎◌, inl, inr, Bool, true, false, cond, nat_eq, List, [], ◌∷◌, ◌++◌, Option, Some, None, ℤ, pos, refl, sym, ap, subst, ◌∙◌, arith, eqb-true}
 use Rattle.std.specs.Prelude as std_result
 use Rattle.afs_num.specs.declared.directories.Name.{Name}
 use Rattle.afs_ideal.proofs.DirectoryBytes.{spelled_is_read}
-use Rattle.afs_ideal.specs.Operations.{shows_volume, shows_status, shows_body, Found, reads, Shown, Result, refused, changes, code_of, op, shows_acl, no_amend, volume_called, volume_changed, changed}
-use Rattle.afs_ideal.specs.Replies.{status_of, change_reply, stamped}
-use Rattle.afs_ideal.specs.Tables.{Table, get, set}
-use Rattle.afs_ideal.specs.Volumes.{type_of, bytes_by, Volume, Vnode, Kind, a_file, a_directory, a_link, body_by, body_of, vnode_of, if_unique, version_at, Edit, versions_by, edited_all, counted, amended}
-use Rattle.afs_law.proofs.Backing.{Plain, all_lines, is_up, is_still, is_oweless, is_unchanging, backed_fall, granted_over, change_back, no_owe, promised_over}
-use Rattle.afs_law.proofs.Basics.{Below, UpTo, Above, Each, IfCall, IfReply, IfNotice, if_notice, OfReply, OfNotice, above_up, up_to_by, by_server, IfBack, IfDone, ByClient, OfClient, client_any, by_client, both, same_fid-true, same_fid-refl, apart, same_node-true, client_number, up_to_below, below_up_to, below_not, up_to_same, LastSeat, own_seat, at_seat, OfCall, each_map, each_at, if_call, if_reply, raised_up_to, some_of, yes_no}
-use Rattle.afs_law.proofs.Edits.{Ones, index_in, fid_at, Sound, SoundIn, sound_same, Tops, live, live_index, get-set, on_top, Grow, Told, edits_told, counted_sound, Rises, rises, tops, touches, untouched, touched_volume, not_touched, there}
-use Rattle.afs_law.proofs.Facts.{IsKnown, IsReadable, AreFine, HeldIn, ToClient, Ghost, Seen, HoldsAt, server_boot, up_boot, risen, LastStored, IsStored, IsActs, IsLastCall, IsAged, IsUntrusted, View, view_of, view, Spot, spot, LastRan, ReplyFact, IsBehind, AreKept, MayRun, HasFallen, IsCut, Reached, Stands, IsCurrent, HasCurrent, Fits, Answers, IsReply, KeptReply, ClientFacts, CallFact, CallIn, ReplyIn, Origin, AreHome, AreNew, AreUnheard, stored_index, Holds, Goes, IsNoticed, IsOne, InScope, IsFetched, FitsReply, FitsData, FitsSet, FitsPlain, WasChanged, AreIdeal, AreSound, WasStored}
-use Rattle.afs_law.proofs.Loading.{all_promised, all_granted, granted_all, down_later, none_loaded, still_backed, known_backed, resent, change_loaded, rise_loaded, owes_unchanging, all_new, number_front, number_second, run_loaded, key_held, no_change, all_waited, NewReply, settles_good, settles_backed, quits_good, quits_backed, retries_backed}
-use Rattle.afs_law.proofs.Notes.{granted_notes, AreNotes, Skips, skips, told_entry, told_rests, risen_entry, risen_rests, noted_entry, noted_rests, owe_notes, settle_notes, quit_notes, no_versions}
-use Rattle.afs_law.proofs.Ops.{IsShown, in_scope, changes_is, Storing, storing, stored_vnode, reads_is, op_code}
-use Rattle.afs_law.proofs.Owing.{AllOf, HeldWaits, BackedIn, IsDone, DroppedOwe, IsGranted, IsNumberIn, all_filter, DoneIn, Promised}
-use Rattle.afs_law.proofs.Passing.{ran_over, stands_over, answers_over, reply_over, kept_over, replies_over, waiting_over, fallen_over, replies_still, PassesBoth, PassesSeen, held_over, fetch_reply_by, cause_over, PassesFile, PassesAct, PassesReach, StaysNewest, stays, current_over, reached_more, client_over, client_still, News, more_sent, PassesGrant}
-use Rattle.afs_law.proofs.Pumping.{of_reply_any, no_call, no_notice, no_news, news_more, news_held, pumped_news, starts_held, news_break}
-use Rattle.afs_law.proofs.Resting.{rest_backed, fall_backed, Rests, fault_rests, full_rests, alone, rests, still, voids, unheard_still, fallen_still, restart_rests, server_crash_rests, cut_entry, cut_rests}
-use Rattle.afs_law.proofs.Turning.{loaded, TurnSends, Pumps, pumps, expired_backed, call_good, good_more, put_call, break_good}
-use Rattle.afs_law.specs.Acts.{Act}
-use Rattle.afs_law.specs.Breaks.{HasStopped, GoodSettle, GoodQuit}
-use Rattle.afs_law.specs.Callbacks.{retries, quits, Backs, Held, Owed, Turn, Started, BackCall, replies_of, pumped, expired, turn_for, turned_by, no_turn, repeats_by, new_owes, owe_line, is_held, key_answered, is_seat_of, risen_turn, revived_backs, owes_all, timed, first_backs, numbers, is_hit, alls, Promise, put, settles, settles_by, is_back_awaited, answered_by, renews, renews_by, noticed_by}
-use Rattle.afs_law.specs.ClientRow.{names_told, the_server, find_cached, body_told}
-use Rattle.afs_law.specs.Going.{asked, Going, Need, next, answers, began, with_read, read_on}
-use Rattle.afs_law.specs.Grants.{IsWithdrawn, has_fetched, fetch_reply, since, change_below, IsByOther, IsDropped}
-use Rattle.afs_law.specs.Ideal.{Reach, is_zero_code, raised, IsLast, version_in, latest, IsThat, user_of, clock_of, last_version, HasVersion, Accepts, reach, volume_after, change_key, call_under, reach_over, applied, applied_by}
-use Rattle.afs_law.specs.Legal.{code_given, IsResult, AreGood, IsGood, code_told, Cause, IsNew, HasChange, GoodChange, versions_first, AreGoodReplies, IsTold, answer_at, answer_on, IsUnderChange, op_on}
+use Rattle.afs_ideal.specs.Operations.{shows_volume, shows_status, shows_body, Found, reads, Shown, Result, shows_acl, volume_called}
+use Rattle.afs_ideal.specs.Tables.{Table, get}
+use Rattle.afs_ideal.specs.Volumes.{type_of, bytes_by, Volume, Vnode, Kind, a_file, a_directory, a_link, body_by, body_of, vnode_of, if_unique, version_at}
+use Rattle.afs_law.proofs.Backing.{Plain, all_lines, is_up, is_oweless, is_unchanging, granted_over, change_back, promised_over}
+use Rattle.afs_law.proofs.Basics.{Below, UpTo, Above, Each, IfCall, OfReply, above_up, both, same_fid-true, client_number, below_up_to, below_not, up_to_same, own_seat, at_seat, each_map, if_call, some_of}
+use Rattle.afs_law.proofs.Edits.{Ones, index_in, fid_at, Sound, SoundIn, sound_same, Tops, live_index, there}
+use Rattle.afs_law.proofs.Facts.{IsKnown, IsReadable, AreFine, HeldIn, Ghost, HoldsAt, server_boot, up_boot, LastStored, IsActs, View, view_of, view, Spot, spot, LastRan, ReplyFact, IsBehind, AreKept, MayRun, HasFallen, Reached, HasCurrent, Fits, Answers, IsReply, KeptReply, ClientFacts, CallFact, CallIn, Origin, AreHome, AreNew, AreUnheard, Holds, Goes, InScope, IsFetched, FitsReply, AreIdeal, AreSound}
+use Rattle.afs_law.proofs.Loading.{all_promised, all_granted, granted_all, none_loaded, still_backed, known_backed, resent, run_loaded, key_held, no_change, settles_good, settles_backed}
+use Rattle.afs_law.proofs.Notes.{granted_notes, AreNotes, Skips, skips, told_entry, told_rests, noted_entry, noted_rests, settle_notes}
+use Rattle.afs_law.proofs.Ops.{IsShown}
+use Rattle.afs_law.proofs.Owing.{AllOf, BackedIn, IsDone, DroppedOwe, IsGranted, DoneIn, Promised}
+use Rattle.afs_law.proofs.Passing.{stands_over, answers_over, reply_over, kept_over, PassesBoth, PassesFile, PassesAct, PassesReach, stays, current_over, client_still, News, more_sent}
+use Rattle.afs_law.proofs.Pumping.{no_news, pumped_news, news_break}
+use Rattle.afs_law.proofs.Resting.{Rests}
+use Rattle.afs_law.proofs.Turning.{loaded, TurnSends, Pumps, pumps, expired_backed, break_good}
+use Rattle.afs_law.specs.Callbacks.{Backs, Held, Turn, BackCall, replies_of, pumped, expired, turn_for, no_turn, Promise, put, settles, settles_by, is_back_awaited, answered_by, renews, renews_by, noticed_by}
+use Rattle.afs_law.specs.ClientRow.{names_told, the_server, body_told}
+use Rattle.afs_law.specs.Going.{asked, Going}
+use Rattle.afs_law.specs.Ideal.{is_zero_code, version_in, latest, IsThat, user_of, clock_of, last_version, HasVersion, reach, call_under}
+use Rattle.afs_law.specs.Legal.{code_given, IsResult, AreGood, code_told, Cause, IsTold, answer_at}
 use Rattle.afs_law.specs.Lines.{Line}
-use Rattle.afs_law.specs.Past.{IsUnheard, onto, lines_of, sent_of, given_message, called_key, HasCode, is_of_act, IsCallUnder, Ran, running, has_begun}
-use Rattle.afs_law.specs.Records.{change_record}
-use Rattle.afs_law.specs.Runs.{Entry, Cell, message_at, Armed, unarmed, Luck, Blow, struck, lowered, Fall, at_rest, in_step, in_boot, settled, Outcome, comes_up, fails_early, fails_midway, is_full, server_rises, server_ends, server_falls, blow_line, server_stopped, server_restarted, server_served, server_given, server_adds, server_does, back_timed, server_timed, server_wakes}
-use Rattle.afs_law.specs.Scopes.{is_in_scope, is_volume}
-use Rattle.afs_law.specs.ServerRow.{shows, granted_by, read_reply_of, granted, Reading, no_room, has_room, longer, revived, device_calls, promise_until, promise_ticks, decides, Decision, drops, tells_boot, repeats, refuses, saves, runs, admits, called, hears, reply_head, replied, boot_told, refusal, told, does, versioned, Change, made, result, saved, decided, in_volume, with_volume}
-use Rattle.afs_law.specs.States.{CacheEntry, Seat, ServerState}
+use Rattle.afs_law.specs.Past.{IsUnheard, lines_of, sent_of, given_message, called_key, HasCode, IsCallUnder, Ran}
+use Rattle.afs_law.specs.Runs.{Entry, Cell, message_at, Armed, Fall, server_adds, server_does}
+use Rattle.afs_law.specs.ServerRow.{shows, granted_by, read_reply_of, granted, Reading, promise_ticks, refuses, reply_head, replied, told, result}
+use Rattle.afs_law.specs.States.{Seat, ServerState}
 use Rattle.afs_model.specs.Calls.{call_seated, call_seat}
 use Rattle.std.specs.Prelude.{◌&&◌, ⊤, map, filter, not}
 use Rattle.std.specs.Option.{option_map}
 use Rattle.afs_num.specs.Fids.{same_fid}
-use Rattle.afs_num.specs.Nodes.{same_node}
 use Rattle.afs_num.specs.declared.types.Code.{Code}
 use Rattle.afs_num.specs.declared.types.Fid.{Fid}
 use Rattle.afs_num.specs.declared.types.Head.{Head}
@@ -47,23 +40,18 @@ use Rattle.afs_num.specs.declared.types.Node.TheVariants.{Client, Loc, Server, A
 use Rattle.afs_num.specs.declared.calls.FsCall.{FsCall}
 use Rattle.afs_num.specs.declared.messages.Carried.{Carried}
 use Rattle.afs_num.specs.declared.messages.Message.{Message}
-use Rattle.afs_num.specs.declared.messages.Received.TheVariants.{Whole}
 use Rattle.afs_num.specs.declared.scripts.Script.{Script}
 use Rattle.afs_num.specs.declared.histories.Actor.{Actor}
 use Rattle.afs_num.specs.declared.histories.Actor.TheVariants as actors
 use Rattle.afs_num.specs.declared.histories.Body.{Body}
 use Rattle.afs_num.specs.declared.histories.Version.{Version}
-use Rattle.std.proofs.Math.Nat.{le_refl, le_trans, eq-or-lt_of_le}
-use Rattle.afs_num.specs.declared.calls.FsReply.{FsReply}
-use Rattle.afs_num.specs.declared.calls.AfsFetchStatus.{AfsFetchStatus}
-use Rattle.afs_num.specs.declared.calls.AfsCallBack.{AfsCallBack}
+use Rattle.std.proofs.Math.Nat.{le_refl}
 use Rattle.afs_num.specs.declared.calls.FsCall.TheVariants as calls
 use Rattle.afs_num.specs.declared.messages.Carried.TheVariants as carried
 use Rattle.afs_num.specs.declared.messages.Reply.TheVariants as tell
 use Rattle.afs_num.specs.declared.messages.Call.TheVariants as ask
 use Rattle.afs_num.specs.declared.histories.Body.TheVariants as bodies
 use Rattle.afs_law.specs.Lines as lines
-use Rattle.afs_num.specs.declared.calls.FsReply.TheVariants as replies
 use Rattle.afs_num.specs.declared.types.Half.TheVariants as halves
 
 -- The server's steps.
@@ -359,7 +347,7 @@ calls_after good s c past n h r H a = each_map (IfCall (CallIn (view H.floors c)
 pub unheard_after : (s : Script) (c : Cell) (past : List Entry) (p n : ℕ) (h : Head) (user : List ℕ) (call : FsCall) (r : Message) (e : Entry) → (H : Holds s c past) → c.down ≡ None → message_at c.sent p ≡ Some (call_at n h user call) → Now c H.floors past n h user call
     → given_message e.lines (sent_of past) ≡ message_at (sent_of past) p → AreUnheard None (seats_after c n h r) c.server.boot (e ∷ past)
 unheard_after s c past p n h user call r e H up at w is = unheard_over None (seats_after c n h r) c.server.boot e past (call_at n h user call) (is ∙ at_told s c past p _ H at) (dull_after c n h r user call w.boot)
-    (λ k b may. unheard_up c past up H.unheard k b (elim may [ | inl l ↦ inl l | inr x ↦ inr (x.0, above_before c.server.seats n h r k.node k.epoch k.number w.above x.1) ]))
+    (λ k b may. unheard_up c past up H.unheard k b (elim may [ inl l ↦ inl l | inr x ↦ inr (x.0, above_before c.server.seats n h r k.node k.epoch k.number w.above x.1) ]))
 
 -- the entry ran the call
 abbrev pub ran_now : (s : Script) (c : Cell) (past : List Entry) (p n : ℕ) (h : Head) (user : List ℕ) (call : FsCall) (e : Entry) → (H : Holds s c past) → c.down ≡ None → message_at c.sent p ≡ Some (call_at n h user call) → Now c H.floors past n h user call
@@ -378,12 +366,6 @@ ran_now s c past p n h user call e H up sent w is at = record {
   node = at;
   first = unheard_up c past up H.unheard (record { node = Client n; epoch = h.epoch; number = h.number }) c.server.boot (inr (refl, w.above));
 }
-
-
-
-
-
-
 
 -- the call ran in this entry, or in one before whose step was done by this one
 pub record HasRun (c : Cell) (n : ℕ) (h : Head) (user : List ℕ) (call : FsCall) (past : List Entry) : Type 0 where
@@ -754,8 +736,8 @@ shows_goes s c past armed p n h user call r H up at w of there is result =
     let B = up_backed s c past H up in
     let boots : server_boot the_server (lines_of (e ∷ past)) ≡ Some c.server.boot = k.boot (lines.Given p ∷ lines_of past) ∙ up_boots s c past H up in
     let pump : Pumps c.server.boot (seats_after c n h m) (seats_of c) c.clock c.sent (e ∷ past) turn = pumps c.server.boot (seats_after c n h m) (seats_of c) c.clock c.sent e past turn refl (k.clock (lines.Given p ∷ lines_of past) ∙ H.clock)
-        (run_backed s c past n h user call z e turn.backs.promises H up w (λ y. y) (granted_all is_up (Client n) t fs (λ f i. refl)) (granted_all is_oweless (Client n) t fs (λ f i. refl)) (granted_all is_unchanging (Client n) t fs (λ f i. refl))
-        (all_granted n t fs (lines.Given p ∷ lines_of past) (expired c.clock c.backs).promises (B.granted refl)) (all_promised n t c.clock fs (lines.Given p ∷ lines_of past) (expired c.clock c.backs).promises B.promised)) (record { good = tt; calls = tt; dones = tt }) in
+    (run_backed s c past n h user call z e turn.backs.promises H up w (λ y. y) (granted_all is_up (Client n) t fs (λ f i. refl)) (granted_all is_oweless (Client n) t fs (λ f i. refl)) (granted_all is_unchanging (Client n) t fs (λ f i. refl))
+    (all_granted n t fs (lines.Given p ∷ lines_of past) (expired c.clock c.backs).promises (B.granted refl)) (all_promised n t c.clock fs (lines.Given p ∷ lines_of past) (expired c.clock c.backs).promises B.promised)) (record { good = tt; calls = tt; dones = tt }) in
     record {
       good = (tt, granted_good s past (lines.Given p ∷ []) (Client n) t fs);
       holds = serves false s (Some c.server.boot) c past n h user call z e (stock c.server) (pumped the_server c.server.boot turn).backs None armed H w

@@ -1,37 +1,32 @@
-use Rattle.std.proofs.Common.{◌≡◌, ℕ, ◌+◌, ◌<◌, ◌≤◌, inl, inr, Bool, true, false, cond, nat_eq, nat_lt, not, List, [], ◌∷◌, ◌++◌, Option, Some, None, refl, sym, ap, subst, ◌∙◌, arith, eq-eqb}
+use Rattle.std.proofs.Common.{◌≡◌, ℕ, ◌≤◌, inl, inr, Bool, true, false, cond, nat_eq, not, List, [], ◌∷◌, ◌++◌, Option, Some, None, refl, sym, ap, subst, ◌∙◌, eq-eqb}
 use Rattle.std.specs.Prelude.{filter, ⊤}
 use Rattle.afs_num.specs.declared.histories.Actor.TheVariants as actors
 use Rattle.afs_num.specs.declared.histories.Body.{Body}
 use Rattle.afs_ideal.specs.Operations.{volume_changed}
 use Rattle.afs_ideal.specs.Tables.{Table}
 use Rattle.afs_ideal.specs.Volumes.{Volume}
-use Rattle.afs_law.proofs.Asking.{step_entry, view_after, Passes, moves, nothing_new, runs_by_other, client_kept, call_known, reply_still, own_call, other_client}
+use Rattle.afs_law.proofs.Asking.{step_entry, Passes, runs_by_other, other_client}
 use Rattle.afs_law.proofs.Backing.{all_lines, is_up, is_still, is_oweless, is_unchanging}
-use Rattle.afs_law.proofs.Basics.{same_fid-true, same_node-refl, client_number, raised_up_to, some_of, UpTo}
-use Rattle.afs_law.proofs.Edits.{index_in}
-use Rattle.afs_law.proofs.Facts.{Ghost, IsAged, server_boot, View, view, last_key, LastRan, IsSafe, IsUntrusted, CallFact, ReplyFact, ClientFacts, Holds, Goes, InScope, Seen, Reached}
-use Rattle.afs_law.proofs.Passing.{PassesBoth, PassesFile, PassesAct, PassesReach, stays, current_over, kept_over, PassesGrant, PassesSeen}
-use Rattle.afs_law.proofs.Resting.{voids}
-use Rattle.afs_law.proofs.Serving.{reached_still}
-use Rattle.afs_law.specs.Acts.{Act}
-use Rattle.afs_law.specs.ClientRow.{the_server, find_cached, dead_code, tries_again, left_in, given_up_in, dropped, gives_up, timeout_row, call_message, ended, reborn, zero_code}
-use Rattle.afs_law.specs.Going.{asked, Going, Need, next, answers, began, with_read, read_on, ClientState}
+use Rattle.afs_law.proofs.Basics.{same_fid-true, same_node-refl, client_number, raised_up_to}
+use Rattle.afs_law.proofs.Facts.{server_boot, InScope, Seen}
+use Rattle.afs_law.proofs.Passing.{PassesBoth, PassesFile, PassesReach, PassesGrant, PassesSeen}
+use Rattle.afs_law.specs.ClientRow.{the_server, find_cached, left_in, given_up_in, dropped, zero_code}
+use Rattle.afs_law.specs.Going.{Going}
 use Rattle.afs_law.specs.Grants.{has_fetched, IsWithdrawn, IsDropped}
-use Rattle.afs_law.specs.Ideal.{raised, last_version, HasVersion, Accepts, clock_of, user_of, Reach, reach_over, reach, is_zero_code, change_key, volume_after, changed_under, brought}
-use Rattle.afs_law.specs.Legal.{IsNew, given_up, AreGood, GoodCode, IsGood}
+use Rattle.afs_law.specs.Ideal.{raised, last_version, HasVersion, Accepts, clock_of, Reach, reach_over, reach, is_zero_code, change_key, volume_after, changed_under, brought}
+use Rattle.afs_law.specs.Legal.{IsNew, AreGood, GoodCode}
 use Rattle.afs_law.specs.Lines.{Line}
-use Rattle.afs_law.specs.Past.{onto, lines_of, sent_of, given_message, has_begun, running, CalledSince, IsCallUnder}
-use Rattle.afs_law.specs.Runs.{Entry, Cell, Moved, client_moves, turned, client_falls, client_rises, waited_by, message_at}
-use Rattle.afs_law.specs.Scopes.{is_in_scope, is_volume}
+use Rattle.afs_law.specs.Past.{onto, lines_of, sent_of, given_message, has_begun, running, IsCallUnder}
+use Rattle.afs_law.specs.Runs.{Entry, Cell, message_at}
+use Rattle.afs_law.specs.Scopes.{is_volume}
 use Rattle.afs_law.specs.States.{CacheEntry}
-use Rattle.std.proofs.Math.Nat.{le_refl, le_trans}
+use Rattle.std.proofs.Math.Nat.{le_trans}
 use Rattle.std.proofs.Common.{le_of_eq}
 use Rattle.std.specs.Prelude.{◌&&◌}
 use Rattle.afs_num.specs.Fids.{same_fid}
 use Rattle.afs_num.specs.Nodes.{same_node}
 use Rattle.afs_num.specs.declared.types.Code.{Code}
 use Rattle.afs_num.specs.declared.types.Fid.{Fid}
-use Rattle.afs_num.specs.declared.types.Head.{Head}
 use Rattle.afs_num.specs.declared.types.Key.{Key}
 use Rattle.afs_num.specs.declared.types.Node.{Node}
 use Rattle.afs_num.specs.declared.types.Node.TheVariants.{Client}
@@ -42,6 +37,7 @@ use Rattle.afs_num.specs.declared.scripts.Script.{Script}
 use Rattle.afs_law.specs.Lines as lines
 use Rattle.afs_num.specs.declared.messages.Message.{Message}
 use Rattle.std.proofs.Common.{eqb-true}
+
 -- The entries that a client gives up, and then an answer.
 
 pub own_ended : (n : ℕ) (o : Option Going) → cond (same_node (Client n) (Client n)) None o ≡ None
@@ -126,7 +122,7 @@ skips n code (u ∷ es) =
       back = λ f i b o x. ih.back f i b (lines.Drop (Client n) u.fid ∷ o) x;
       last = λ f o. ih.last f (lines.Drop (Client n) u.fid ∷ o);
       withdrawn = λ q c f o x. ih.withdrawn q c f (lines.Drop (Client n) u.fid ∷ o) x;
-      kept = λ q c f o w x. elim (ih.kept q c f (lines.Drop (Client n) u.fid ∷ o) w.1 x) [ | inl y ↦ absurd (w.0 y.0 y.1) | inr y ↦ y ];
+      kept = λ q c f o w x. elim (ih.kept q c f (lines.Drop (Client n) u.fid ∷ o) w.1 x) [ inl y ↦ absurd (w.0 y.0 y.1) | inr y ↦ y ];
       runs = λ j o ne. ih.runs j (lines.Drop (Client n) u.fid ∷ o) ne;
       new = λ k o x. ih.new k (lines.Drop (Client n) u.fid ∷ o) x;
       clock = λ o. ih.clock (lines.Drop (Client n) u.fid ∷ o);

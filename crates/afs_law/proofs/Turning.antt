@@ -1,34 +1,31 @@
 -- How a step of the server begins and ends, for the facts on breaks.
-use Rattle.std.proofs.Common.{◌≡◌, ◌+◌, ◌<◌, ◌≤◌, ◌⊎◌, inl, inr, Bool, true, false, cond, nat_eq, nat_lt, ℕ, zero, suc, List, [], ◌∷◌, ◌++◌, Option, Some, None, ℤ, pos, refl, sym, ap, subst, ◌∙◌, arith, eqb-true, eq-eqb, ltb-false, append-nil, lt-ltb}
+use Rattle.std.proofs.Common.{◌≡◌, ◌+◌, ◌<◌, ◌≤◌, ◌⊎◌, inl, inr, Bool, true, false, cond, nat_eq, nat_lt, ℕ, zero, suc, List, [], ◌∷◌, ◌++◌, Option, Some, None, refl, sym, ap, subst, ◌∙◌, arith, eqb-true, eq-eqb, ltb-false, lt-ltb}
 use Rattle.std.proofs.lemmas.List.{append_assoc}
-use Rattle.std.specs.Prelude.{⊤, map, filter, not, ◌&&◌, length}
+use Rattle.std.specs.Prelude.{filter, not}
 use Rattle.std.proofs.Math.Nat.{le_refl, le_trans}
 use Rattle.afs_num.specs.Nodes.{same_node}
 use Rattle.afs_num.specs.declared.types.Fid.{Fid}
 use Rattle.afs_num.specs.declared.types.Head.{Head}
 use Rattle.afs_num.specs.declared.types.Key.{Key}
 use Rattle.afs_num.specs.declared.types.Node.{Node}
-use Rattle.afs_num.specs.declared.types.Node.TheVariants.{Loc, Server, Client, Admin}
+use Rattle.afs_num.specs.declared.types.Node.TheVariants.{Client}
 use Rattle.afs_num.specs.declared.calls.FsCall.{FsCall}
-use Rattle.afs_num.specs.declared.calls.FsCall.TheVariants as calls
 use Rattle.afs_num.specs.declared.messages.Carried.{Carried}
 use Rattle.afs_num.specs.declared.messages.Carried.TheVariants as carried
-use Rattle.afs_num.specs.declared.messages.Reply.TheVariants as tell
 use Rattle.afs_num.specs.declared.messages.Call.TheVariants as ask
 use Rattle.afs_num.specs.declared.messages.Message.{Message}
-use Rattle.afs_law.proofs.Backing.{back_pass, done_pass, CallsPass, calls_same}
-use Rattle.afs_law.proofs.Basics.{both, same_node-true, same_node-refl, Above, Each, IfBack, IfDone, OfCall, OfReply, OfServer, ByServer, each_more, each_map, if_back, if_done, some_of, at_put}
-use Rattle.afs_law.proofs.Owing.{AllOf, all_map, all_both, all_filter, IsGranted, IsIn, IsNumberIn, IsOpen, AccountedBy, WaitedBy, AllWaitedBy, HeldWaits, IsOwed, CallOut, BackIn, DroppedOwe, IsDone, DoneIn, SeatedIn, BackedIn, Promised, IsPromised, promise_to}
-use Rattle.afs_law.specs.Breaks.{HasStopped, HasSettled, HasDrop, HasTimeout, expiry_of, HasCome, IsEnded, Owes, AllOwes, EndedBy, EndedOf, EndedAll, OweAt, CarriesBreak, NamesIn, IsNamedIn, WasSent}
+use Rattle.afs_law.proofs.Backing.{back_pass, done_pass, CallsPass}
+use Rattle.afs_law.proofs.Basics.{both, same_node-true, Each, IfBack, IfDone, OfCall, OfReply, OfServer, ByServer, each_more, each_map, if_back, if_done, some_of}
+use Rattle.afs_law.proofs.Owing.{AllOf, all_map, all_both, all_filter, IsGranted, IsIn, IsNumberIn, HeldWaits, IsOwed, CallOut, BackIn, DoneIn, BackedIn, IsPromised, promise_to}
+use Rattle.afs_law.specs.Breaks.{HasCome, AllOwes, EndedBy, EndedOf, EndedAll, CarriesBreak, NamesIn, WasSent}
 use Rattle.afs_law.specs.Callbacks.{put, Promise, Owed, BackCall, Held, Backs, Turn, Started, expired, is_all, has_number, waits_none, is_ready, is_reply_to, is_held, key_answered, fids_of, breaks_call, fid_before, call_for, break_message, first_of, is_for, most_breaks, carries_for, started_call, starts_by, starts, replies_of, held_after, given_out, pumped}
 use Rattle.afs_law.specs.ClientRow.{the_server}
 use Rattle.afs_law.specs.Ideal.{clock_of}
-use Rattle.afs_law.specs.Legal.{HasChange, code_told, GoodReply, AreGoodReplies}
+use Rattle.afs_law.specs.Legal.{HasChange, GoodReply, AreGoodReplies}
 use Rattle.afs_law.specs.Lines.{Line}
-use Rattle.afs_law.specs.Past.{onto, lines_on, lines_of, sent_of, given_message, answered_key, IsReply, IsCallUnder, Sends}
-use Rattle.afs_law.specs.Runs.{Entry, Fall}
+use Rattle.afs_law.specs.Past.{lines_of, sent_of, given_message, answered_key, IsCallUnder, Sends}
+use Rattle.afs_law.specs.Runs.{Entry}
 use Rattle.afs_law.specs.States.{Seat}
-use Rattle.afs_model.specs.Calls.{call_seat}
 use Rattle.afs_law.specs.Lines as lines
 
 -- ---- the step begins: what has expired is gone
@@ -127,8 +124,8 @@ rest_held true k h rest e = e
 rest_held false k h rest e = number_second (is_reply_to k h.reply) (is_held k rest) e
 
 kept_by : (t : Bool) (E : Type 0) (k : Key) (h : Held) (r : Bool) (hs rest : List Held) → is_reply_to k h.reply ≡ t → cond t true (is_held k hs) ≡ true → (key_answered h.reply ≡ k → E ⊎ (r ≡ false)) → (is_held k hs ≡ true → E ⊎ (is_held k rest ≡ true)) → E ⊎ (is_held k (cond (not r) (h ∷ rest) rest) ≡ true)
-kept_by true E k h r hs rest a e own more = elim (own (reply_key k h.reply a)) [ | inl x ↦ inl x | inr x ↦ inr (stays_held true r k h rest x a (inl refl)) ]
-kept_by false E k h r hs rest a e own more = elim (more e) [ | inl x ↦ inl x | inr x ↦ inr (rest_held r k h rest x) ]
+kept_by true E k h r hs rest a e own more = elim (own (reply_key k h.reply a)) [ inl x ↦ inl x | inr x ↦ inr (stays_held true r k h rest x a (inl refl)) ]
+kept_by false E k h r hs rest a e own more = elim (more e) [ inl x ↦ inl x | inr x ↦ inr (rest_held r k h rest x) ]
 
 kept_held : (seats : List Seat) (clock : ℕ) (past : List Entry) (owed : List Owed) (hs : List Held) (k : Key) (boot : ℕ) (newer : List Entry) (at : Entry) (older : List Entry) (before after : List Line) (c : Node) (what : Option Fid) (n : ℕ) → AllOf (HeldWaits seats clock past) hs
     → past ≡ newer ++ (at ∷ older) → at.lines ≡ before ++ lines.Owe the_server c what n ∷ after → has_number n owed ≡ true → IsCallUnder the_server k boot (given_message at.lines (sent_of older)) → is_held k hs ≡ true
@@ -136,7 +133,7 @@ kept_held : (seats : List Seat) (clock : ℕ) (past : List Entry) (owed : List O
 kept_held seats clock past owed [] k boot newer at older before after c what n w split line is y e = absurd cc
 kept_held seats clock past owed (h ∷ hs) k boot newer at older before after c what n w split line is y e =
     kept_by (is_reply_to k h.reply) _ k h (is_ready owed h) hs (filter (λ z. not (is_ready owed z)) hs) refl e
-    (λ q. elim (w.0.own newer at older before after c what n split line boot (subst (λ (z : Key). IsCallUnder the_server z boot (given_message at.lines (sent_of older))) (sym q) y)) [ | inl x ↦ inl x | inr x ↦ inr (not_ready n h.waits owed x is) ])
+    (λ q. elim (w.0.own newer at older before after c what n split line boot (subst (λ (z : Key). IsCallUnder the_server z boot (given_message at.lines (sent_of older))) (sym q) y)) [ inl x ↦ inl x | inr x ↦ inr (not_ready n h.waits owed x is) ])
     (kept_held seats clock past owed hs k boot newer at older before after c what n w.1 split line is y)
 
 no_back : (P : Head → List ℕ → FsCall → Type 0) (head : Head) (c : Carried) → (OfReply ⊥ c → ⊥) → OfCall P head c
@@ -178,11 +175,11 @@ reply_good b boot seats cs clock sent past h B time w ready is nought i from =
     (subst (λ (t : ℕ). AllOwes the_server (EndedOf the_server (answered_key h.reply.head) t) past × (HasChange (answered_key h.reply.head) (lines_of past) → AllOwes the_server (EndedAll the_server t) past)) (sym time) (
       (λ newer at older before after c what n split line k y. elim (B.accounted newer at older before after c what n split line) [
         | inl x ↦ x
-        | inr x ↦ elim (w.own newer at older before after c what n split line k y) [ | inl z ↦ z | inr z ↦ ready_not n x.1.o h.waits b.owed _ z x.1.is_in x.1.number ready ]
+        | inr x ↦ elim (w.own newer at older before after c what n split line k y) [ inl z ↦ z | inr z ↦ ready_not n x.1.o h.waits b.owed _ z x.1.is_in x.1.number ready ]
       ]),
       (λ changed newer at older before after c what n split line all. elim (B.accounted newer at older before after c what n split line) [
         | inl x ↦ x
-        | inr x ↦ elim (w.all changed newer at older before after c what n split line all) [ | inl z ↦ z | inr z ↦ ready_not n x.1.o h.waits b.owed _ z x.1.is_in x.1.number ready ]
+        | inr x ↦ elim (w.all changed newer at older before after c what n split line all) [ inl z ↦ z | inr z ↦ ready_not n x.1.o h.waits b.owed _ z x.1.is_in x.1.number ready ]
       ]),
     ))
 
@@ -323,14 +320,16 @@ started_backed boot seats cs clock sent past t o None h is was =
           })))
           (λ e. call_more j c last (last + 1) boot past le (h.outs y j c e));
       calls = each_more (IfBack (BackIn None calls' (last + 1) boot)) (sent ++ t.sent) (m ∷ []) (each_map (IfBack (BackIn None t.backs.calls last boot)) (IfBack (BackIn None calls' (last + 1) boot)) (if_back (BackIn None t.backs.calls last boot) (BackIn None calls' (last + 1) boot)
-          (λ head user call y. back_pass None None t.backs.calls calls' last (last + 1) boot head user call (λ z. z) le pass y)) (sent ++ t.sent) h.calls)
-          (record {
-            client = o.client;
-            to = refl;
-            booted = le_refl _;
-            below = λ y z. le_refl _;
-            is = λ c y z at q. put_call o.client o.client n c t.backs.calls _ at (λ e w. ap (λ (u : BackCall). breaks_call u.breaks) w) (λ e. let low : c.number ≤ last = (h.outs refl o.client c e).number in let q' : last + 1 ≡ c.number = q in absurd (omega arith));
-          }, tt);
+          (λ head user call y. back_pass None None t.backs.calls calls' last (last + 1) boot head user call (λ z. z) le pass y)) (sent ++ t.sent) h.calls) (
+            record {
+              client = o.client;
+              to = refl;
+              booted = le_refl _;
+              below = λ y z. le_refl _;
+              is = λ c y z at q. put_call o.client o.client n c t.backs.calls _ at (λ e w. ap (λ (u : BackCall). breaks_call u.breaks) w) (λ e. let low : c.number ≤ last = (h.outs refl o.client c e).number in let q' : last + 1 ≡ c.number = q in absurd (omega arith));
+            },
+            tt,
+          );
       dones = each_more (IfDone (DoneIn None calls' (last + 1) boot past)) (sent ++ t.sent) (m ∷ []) (each_map (IfDone (DoneIn None t.backs.calls last boot past)) (IfDone (DoneIn None calls' (last + 1) boot past)) (if_done (DoneIn None t.backs.calls last boot past) (DoneIn None calls' (last + 1) boot past)
           (λ k y. record { client = y.client; from = y.from; done = done_pass None None t.backs.calls calls' last (last + 1) boot past past y.client k.head.epoch k.head.number (λ z. z) le pass (λ z u w. w) y.done })) (sent ++ t.sent) h.dones) (tt, tt);
       seated = λ j seat k y z. let w = h.seated j seat k y z in record { to = w.to; from = w.from; is_reply = w.is_reply; done = done_pass None None t.backs.calls calls' last (last + 1) boot past past j k.head.epoch k.head.number (λ u. u) le pass (λ u v q. q) w.done };
@@ -379,11 +378,21 @@ released boot seats cs clock sent past t h s =
       numbered = h.numbered;
       accounted = λ newer at older before after c what n split line. elim (h.accounted newer at older before after c what n split line) [
         | inl x ↦ inl x
-        | inr x ↦ inr (x.0, record { o = x.1.o; is_in = x.1.is_in; number = x.1.number; client = x.1.client; on = x.1.on; expiry = x.1.expiry;
-          waits = λ k boot' y. elim (x.1.waits k boot' y) [
-            | inl z ↦ inl z
-            | inr z ↦ kept_held seats clock past t.backs.owed (t.backs.held ++ t.outs) k boot' newer at older before after c what n all split line (number_in n x.1.o t.backs.owed x.1.is_in x.1.number) y z
-          ] })
+        | inr x ↦ inr (
+          x.0,
+          record {
+            o = x.1.o;
+            is_in = x.1.is_in;
+            number = x.1.number;
+            client = x.1.client;
+            on = x.1.on;
+            expiry = x.1.expiry;
+            waits = λ k boot' y. elim (x.1.waits k boot' y) [
+              | inl z ↦ inl z
+              | inr z ↦ kept_held seats clock past t.backs.owed (t.backs.held ++ t.outs) k boot' newer at older before after c what n all split line (number_in n x.1.o t.backs.owed x.1.is_in x.1.number) y z
+            ];
+          },
+        )
       ];
       owed = h.owed;
       waiting = λ x. all_filter (HeldWaits seats clock past) (λ z. not (is_ready t.backs.owed z)) (t.backs.held ++ t.outs) all;

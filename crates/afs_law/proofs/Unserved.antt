@@ -1,4 +1,4 @@
-use Rattle.std.proofs.Common.{◌≡◌, ℕ, Bool, true, false, cond, List, Option, Some, None, pos, negsuc, refl, sym, ap, subst, ◌∙◌}
+use Rattle.std.proofs.Common.{◌≡◌, ℕ, Bool, true, false, cond, List, Option, Some, None, refl, sym, ap, ◌∙◌}
 use Rattle.std.specs.Prelude.{◌↔◌}
 use Rattle.afs_num.specs.declared.types.Head.{Head}
 use Rattle.afs_num.specs.declared.calls.FsCall.{FsCall}
@@ -10,7 +10,7 @@ use Rattle.afs_ideal.specs.Tables.{get}
 use Rattle.afs_ideal.specs.Volumes.{Volume}
 use Rattle.afs_law.proofs.Basics.{yes_no}
 use Rattle.afs_law.proofs.Ops.{op_is}
-use Rattle.afs_law.specs.ServerRow.{Decision, drops, refuses, shows, saves, not_served, no_room, decided, in_volume, roomed, has_room, record_of, serves, runs, whole}
+use Rattle.afs_law.specs.ServerRow.{Decision, refuses, shows, saves, not_served, no_room, decided, in_volume, has_room, record_of, serves, runs, whole}
 use Rattle.afs_law.specs.States.{ServerState}
 use Rattle.afs_model.specs.FsRows.{call_number}
 

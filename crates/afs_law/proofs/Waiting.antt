@@ -1,44 +1,32 @@
-use Rattle.std.proofs.Common.{◌≡◌, ℕ, ◌+◌, ◌<◌, ◌≤◌, inl, inr, Bool, true, false, cond, nat_eq, nat_lt, not, List, [], ◌∷◌, ◌++◌, Option, Some, None, refl, sym, ap, subst, ◌∙◌, arith, eq-eqb, le_of_eq, eqb-true}
-use Rattle.std.specs.Prelude.{filter, ⊤, ◌&&◌}
+use Rattle.std.proofs.Common.{◌≡◌, ℕ, ◌+◌, inl, inr, Bool, true, false, cond, nat_lt, List, [], ◌∷◌, ◌++◌, Option, Some, None, refl, sym, ap, subst, ◌∙◌, arith}
+use Rattle.std.specs.Prelude.{◌&&◌}
 use Rattle.afs_num.specs.declared.histories.Actor.TheVariants as actors
-use Rattle.afs_num.specs.declared.histories.Body.{Body}
 use Rattle.afs_ideal.specs.Operations.{volume_changed}
-use Rattle.afs_ideal.specs.Tables.{Table}
-use Rattle.afs_ideal.specs.Volumes.{Volume}
-use Rattle.afs_law.proofs.Answering.{holding, ended_facts, ended_reply, ended_stands, idle_reply}
-use Rattle.afs_law.proofs.Asking.{moves_back, step_entry, view_after, Passes, moves, nothing_new, runs_by_other, client_kept, call_known, reply_still, own_call, other_client, same_one, call_is}
-use Rattle.afs_law.proofs.Backing.{Plain, all_lines, is_up, is_still, is_oweless, is_unchanging}
-use Rattle.afs_law.proofs.Basics.{same_fid-true, same_node-refl, client_number, raised_up_to, some_of, UpTo}
-use Rattle.afs_law.proofs.Edits.{index_in}
-use Rattle.afs_law.proofs.Facts.{Ghost, IsAged, server_boot, View, view, last_key, LastRan, IsSafe, IsUntrusted, CallFact, ReplyFact, ClientFacts, Holds, Goes, InScope, Seen, Reached}
-use Rattle.afs_law.proofs.Passing.{PassesBoth, PassesFile, PassesAct, PassesReach, stays, current_over, kept_over, PassesGrant, PassesSeen}
+use Rattle.afs_law.proofs.Answering.{holding, ended_facts, ended_reply, ended_stands}
+use Rattle.afs_law.proofs.Asking.{moves_back, step_entry, view_after, Passes, moves, nothing_new, runs_by_other, client_kept, call_known, reply_still, own_call, same_one, call_is}
+use Rattle.afs_law.proofs.Basics.{same_node-refl, some_of, UpTo}
+use Rattle.afs_law.proofs.Facts.{Ghost, IsAged, View, view, last_key, IsSafe, ReplyFact, Holds, Goes, InScope}
+use Rattle.afs_law.proofs.Passing.{PassesFile, PassesAct, PassesReach, stays, current_over, kept_over}
 use Rattle.afs_law.proofs.Resting.{voids}
 use Rattle.afs_law.proofs.Serving.{reached_still}
 use Rattle.afs_law.proofs.Skipping.{own_ended, last_line, skips, timed, drop_lines, drop_file, drop_reach, drop_still, drop_passes, ended_running, left_found, left_scope, left_none, scope_is}
-use Rattle.afs_law.specs.Acts.{Act}
-use Rattle.afs_law.specs.ClientRow.{the_server, find_cached, dead_code, tries_again, dropped, gives_up, timeout_row, call_message, ended, reborn, left_in, given_up_in, zero_code, gives_up', call_of}
-use Rattle.afs_law.specs.Going.{asked, Going, Need, next, answers, began, with_read, read_on, ClientState}
-use Rattle.afs_law.specs.Grants.{has_fetched, IsWithdrawn, IsDropped}
-use Rattle.afs_law.specs.Ideal.{raised, last_version, HasVersion, Accepts, clock_of, user_of, Reach, reach_over, reach, is_zero_code, change_key, volume_after, changed_under, brought}
-use Rattle.afs_law.specs.Legal.{IsNew, given_up, AreGood, GoodCode, IsGood}
+use Rattle.afs_law.specs.ClientRow.{the_server, dead_code, tries_again, dropped, gives_up, call_message, ended, reborn, left_in, given_up_in, gives_up'}
+use Rattle.afs_law.specs.Going.{asked, Going, ClientState}
+use Rattle.afs_law.specs.Ideal.{last_version, user_of}
+use Rattle.afs_law.specs.Legal.{given_up, AreGood}
 use Rattle.afs_law.specs.Lines.{Line}
-use Rattle.afs_law.specs.Past.{onto, lines_of, sent_of, given_message, has_begun, running, CalledSince, IsCallUnder}
-use Rattle.afs_law.specs.Runs.{Entry, Cell, Moved, client_moves, turned, client_falls, client_rises, waited_by, message_at}
-use Rattle.afs_law.specs.Scopes.{is_in_scope, is_volume}
+use Rattle.afs_law.specs.Past.{lines_of, has_begun, running, CalledSince}
+use Rattle.afs_law.specs.Runs.{Entry, Cell, Moved, client_moves, turned, client_falls, client_rises, waited_by}
 use Rattle.afs_law.specs.States.{CacheEntry}
-use Rattle.std.proofs.Math.Nat.{le_refl, le_trans}
-use Rattle.afs_num.specs.Fids.{same_fid}
+use Rattle.std.proofs.Math.Nat.{le_refl}
 use Rattle.afs_num.specs.Nodes.{same_node}
-use Rattle.afs_num.specs.declared.types.Code.{Code}
 use Rattle.afs_num.specs.declared.types.Fid.{Fid}
 use Rattle.afs_num.specs.declared.types.Head.{Head}
 use Rattle.afs_num.specs.declared.types.Key.{Key}
-use Rattle.afs_num.specs.declared.types.Node.{Node}
 use Rattle.afs_num.specs.declared.types.Node.TheVariants.{Client}
 use Rattle.afs_num.specs.declared.calls.FsCall.{FsCall}
 use Rattle.afs_num.specs.declared.messages.Message.{Message}
 use Rattle.afs_num.specs.declared.scripts.Script.{Script}
-use Rattle.afs_num.specs.declared.calls.FsCall.TheVariants as calls
 use Rattle.afs_law.specs.Lines as lines
 
 -- ---- a timeout line alone
@@ -80,7 +68,6 @@ tries_goes s c past n act h runs =
     (own_call h.floors c past n (h.floors n) (record x { tries = x.tries + 1 }) act (lines.Timeout (Client n) the_server x.epoch x.last (x.tries + 1) ∷ []) (h.clients n).known runs ((h.clients n).runs act runs) (same_one s c past n act ms h runs)) (λ a x z. inl x) refl
 
 -- The clients' timeouts, and how a client stops and begins again.
-
 
 pub not_raised : (t : Bool) → (t && false) ≡ false
 not_raised true = refl

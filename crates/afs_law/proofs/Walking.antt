@@ -1,4 +1,4 @@
-use Rattle.std.proofs.Common.{◌≡◌, ℕ, zero, suc, ◌+◌, ◌<◌, ◌≤◌, ◌⊎◌, inl, inr, Bool, true, false, cond, nat_lt, List, [], ◌∷◌, ◌++◌, Option, Some, None, pos, refl, sym, ap, subst, ◌∙◌, arith, append-nil, ltb-true}
+use Rattle.std.proofs.Common.{◌≡◌, ℕ, zero, suc, ◌<◌, ◌≤◌, ◌⊎◌, inl, inr, Bool, true, false, cond, nat_lt, List, [], ◌∷◌, ◌++◌, Option, Some, None, pos, refl, sym, ap, subst, ◌∙◌, arith, append-nil, ltb-true}
 use Rattle.std.specs.Prelude.{⊤, ◌&&◌}
 use Rattle.std.specs.Option.{option_map}
 use Rattle.std.proofs.Math.Nat.{le_refl, le_trans}
@@ -13,20 +13,19 @@ use Rattle.afs_num.specs.declared.types.Node.TheVariants.{Client}
 use Rattle.afs_num.specs.declared.messages.Message.{Message}
 use Rattle.afs_num.specs.declared.scripts.Script.{Script}
 use Rattle.afs_num.specs.declared.histories.Actor.TheVariants as actors
-use Rattle.afs_num.specs.declared.histories.Body.{Body}
 use Rattle.afs_num.specs.declared.histories.Version.{Version}
 use Rattle.afs_num.specs.declared.histories.ReadSource.TheVariants.{Cached, Fetched}
 use Rattle.afs_law.proofs.Asking.{same_entry, own_read, used_found, step_entry}
 use Rattle.afs_law.proofs.Basics.{same_fid-true, found-cached-fid, raised_up_to, both}
 use Rattle.afs_law.proofs.Edits.{index_in}
-use Rattle.afs_law.proofs.Facts.{Held, IsNewest, IsCurrent, View, Seen, Reached, InScope, LastRan, Holds}
+use Rattle.afs_law.proofs.Facts.{Held, IsNewest, IsCurrent, View, Reached, LastRan, Holds}
 use Rattle.afs_law.proofs.Passing.{PassesGrant, held_over, onto_front, stays}
-use Rattle.afs_law.proofs.Quiet.{IsQuiet, AreQuiet, quiet_more, quiet_grant, quiet_last, quiet_clock, reach_more}
+use Rattle.afs_law.proofs.Quiet.{AreQuiet, quiet_more, quiet_grant, quiet_last, quiet_clock, reach_more}
 use Rattle.afs_law.specs.ClientRow.{the_server, find_cached, used_first, Look, Walked, walked, walked_by, walked_at, look_at, looked, is_trusted}
-use Rattle.afs_law.specs.Going.{Going, Need, reads, asks_for, answers, next, asked, with_read}
+use Rattle.afs_law.specs.Going.{Going, Need, reads, asks_for, answers, next, with_read}
 use Rattle.afs_law.specs.Grants.{has_fetched, fetch_reply, read_reply, since, IsWithdrawn, IsDropped}
-use Rattle.afs_law.specs.Ideal.{last_version, HasVersion, IsLast, clock_of, Reach, raised, reach_over, reach, seen, is_zero_code}
-use Rattle.afs_law.specs.Legal.{AreGood, GoodRead, GoodCode, IsGood}
+use Rattle.afs_law.specs.Ideal.{last_version, HasVersion, IsLast, clock_of, Reach, reach_over, reach, is_zero_code}
+use Rattle.afs_law.specs.Legal.{AreGood, GoodRead}
 use Rattle.afs_law.specs.Lines.{Line}
 use Rattle.afs_law.specs.Past.{onto, lines_of, sent_of, given_message, running, IsCallUnder}
 use Rattle.afs_law.specs.Runs.{Entry, Cell}
@@ -261,7 +260,7 @@ walk_current s c past n most ls a cache tail ms v g u w t ends le free found las
       state = inl (record {
         reached = (walk_reach s c past n most ls a cache tail ms g u.index w ends r.low).seen;
         newest = stays n g e past p (quiet_last n g (ls ++ tail) q (lines_of past)) r.held.grant.server u.index (since (Client n) g u.expiry r.reply past r.held.grant) r.held.server r.newest;
-        before = λ b runs sc ran. elim free [ | inl none ↦ none ran | inr none ↦ let no_ : v.running ≡ None = none in absurd cc ];
+        before = λ b runs sc ran. elim free [ inl none ↦ none ran | inr none ↦ let no_ : v.running ≡ None = none in absurd cc ];
       });
     }
 

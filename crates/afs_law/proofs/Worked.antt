@@ -6,10 +6,9 @@ use Rattle.afs_num.specs.declared.histories.Body.{Body}
 use Rattle.afs_num.specs.declared.histories.Actor.{Actor}
 use Rattle.afs_law.proofs.Basics.{yes_no}
 use Rattle.std.specs.Option.{option_map}
-use Rattle.std.proofs.Common.{Option, negsuc, suc, zero, sym, eq-eqb, ap, nat_eq, ◌<◌, ◌⊎◌, inl, inr, arith, ◌≡◌, ℕ, List, [], ◌∷◌, ◌++◌, Some, None, pos, refl}
-use Rattle.std.specs.Prelude.{codes, true, false, Bool, filter, map, not, ⊤}
+use Rattle.std.proofs.Common.{Option, negsuc, suc, zero, eq-eqb, ap, nat_eq, ◌<◌, inl, inr, arith, ◌≡◌, ℕ, List, [], ◌∷◌, ◌++◌, Some, None, pos, refl}
+use Rattle.std.specs.Prelude.{codes, true, false, Bool, filter, map, not}
 use Rattle.afs_num.specs.declared.types.Fid.{Fid}
-use Rattle.afs_num.specs.declared.types.Key.{Key}
 use Rattle.afs_num.specs.declared.types.Node.TheVariants.{Server, Client}
 use Rattle.afs_ideal.specs.AccessLists.{rights_of, acl_text, entry_text}
 use Rattle.afs_ideal.specs.Directories.{directory_bytes, name_bytes, directory_of, names_at, whole_at, count_at, name_at, spelled_at, bytes_below}
@@ -25,7 +24,6 @@ use Rattle.afs_law.specs.Runs.{first_volume, comes_up, steady, waits, starts_aga
 use Rattle.afs_model.specs.Messages.{spelled}
 use Rattle.afs_num.specs.Names.{name_ok}
 use Rattle.std.specs.Fmt.{digits}
-use Rattle.afs_num.specs.declared.calls.FsCall.TheVariants as calls
 use Rattle.afs_num.specs.declared.scripts.Script.{Script}
 use Rattle.afs_num.specs.declared.scripts.SetupLine.TheVariants as setup
 use Rattle.afs_num.specs.declared.histories.Body.TheVariants as bodies

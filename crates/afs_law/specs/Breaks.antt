@@ -1,17 +1,15 @@
 -- What becomes of the breaks that a server owes.
-use Rattle.std.specs.Prelude.{◌≡◌, ℕ, ◌+◌, ◌≤◌, List, [], ◌∷◌, ◌++◌, Bool, cond, ◌&&◌, Option, Some, None, ℤ, pos, ⊤, ◌⊎◌, true}
+use Rattle.std.specs.Prelude.{◌≡◌, ℕ, ◌+◌, ◌≤◌, List, [], ◌∷◌, ◌++◌, Bool, cond, ◌&&◌, Option, Some, None, ◌⊎◌, true}
 use Rattle.afs_num.specs.Fids.{same_fid}
 use Rattle.afs_num.specs.Nodes.{same_node}
 use Rattle.afs_num.specs.declared.types.Fid.{Fid}
 use Rattle.afs_num.specs.declared.types.Key.{Key}
 use Rattle.afs_num.specs.declared.types.Node.{Node}
-use Rattle.afs_num.specs.declared.types.Node.TheVariants.{Server}
 use Rattle.afs_num.specs.declared.calls.FsCall.{FsCall}
 use Rattle.afs_num.specs.declared.calls.FsCall.TheVariants as calls
-use Rattle.afs_num.specs.declared.messages.Message.{Message}
 use Rattle.afs_law.specs.Ideal.{clock_of}
 use Rattle.afs_law.specs.Lines.{Line}
-use Rattle.afs_law.specs.Past.{onto, lines_on, lines_of, sent_of, given_message, answered_key, IsReply, IsCallUnder, Sends}
+use Rattle.afs_law.specs.Past.{onto, lines_on, lines_of, sent_of, given_message, IsCallUnder, Sends}
 use Rattle.afs_law.specs.Runs.{Entry}
 use Rattle.afs_law.specs.Lines as lines
 

@@ -4,7 +4,7 @@ use Rattle.afs_num.specs.Fids.{same_fid}
 use Rattle.afs_num.specs.Nodes.{same_node}
 use Rattle.afs_num.specs.declared.types.Fid.{Fid}
 use Rattle.afs_num.specs.declared.types.Node.{Node}
-use Rattle.afs_num.specs.declared.types.Node.TheVariants.{Loc, Server, Client, Admin}
+use Rattle.afs_num.specs.declared.types.Node.TheVariants.{Client}
 use Rattle.afs_num.specs.declared.types.Half.TheVariants as halves
 use Rattle.afs_num.specs.declared.types.Head.{Head}
 use Rattle.afs_num.specs.declared.types.Key.{Key}
@@ -13,7 +13,6 @@ use Rattle.afs_num.specs.declared.calls.FsCall.{FsCall}
 use Rattle.afs_num.specs.declared.calls.FsCall.TheVariants as calls
 use Rattle.afs_num.specs.declared.messages.Carried.{Carried}
 use Rattle.afs_num.specs.declared.messages.Carried.TheVariants as carried
-use Rattle.afs_num.specs.declared.messages.Reply.TheVariants as tell
 use Rattle.afs_num.specs.declared.messages.Call.TheVariants as ask
 use Rattle.afs_num.specs.declared.messages.Message.{Message}
 use Rattle.afs_ideal.specs.Operations.{Found}

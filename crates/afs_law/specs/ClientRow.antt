@@ -3,7 +3,7 @@ use Rattle.std.specs.List.{list_any}
 use Rattle.afs_ideal.specs.Directories.{directory_of}
 use Rattle.afs_ideal.specs.Operations.{volume_changed}
 use Rattle.afs_law.specs.Acts.{Act}
-use Rattle.afs_law.specs.Going.{reads_of, ClientState, Going, Need, reads, asks_for, answers, next, asked, began, with_read}
+use Rattle.afs_law.specs.Going.{reads_of, ClientState, Going, Need, reads, answers, next, asked, began, with_read}
 use Rattle.afs_law.specs.Lines.{Line}
 use Rattle.afs_law.specs.Scopes.{is_in_scope}
 use Rattle.afs_law.specs.ServerRow.{replied, boot_told}
@@ -13,7 +13,7 @@ use Rattle.afs_model.specs.Calls.{Admitted, paired}
 use Rattle.afs_model.specs.FsRows.{call_number}
 use Rattle.afs_model.specs.Calls as pairs
 use Rattle.afs_num.specs.declared.directories.Name.{Name}
-use Rattle.std.specs.Prelude.{suc, zero, ◌||◌, Result, Ok, Err, ℕ, ◌+◌, List, [], ◌∷◌, Bool, true, false, not, ◌&&◌, Option, Some, None, pos, negsuc, nat_eq, nat_lt, map, filter, find, codes, length, if◌then◌else◌}
+use Rattle.std.specs.Prelude.{suc, zero, ◌||◌, Result, Ok, Err, ℕ, ◌+◌, List, [], ◌∷◌, Bool, true, false, not, ◌&&◌, Option, Some, None, pos, negsuc, nat_eq, nat_lt, map, filter, find, codes, if◌then◌else◌}
 use Rattle.afs_num.specs.Fids.{same_fid}
 use Rattle.afs_num.specs.Nodes.{same_node}
 use Rattle.afs_num.specs.declared.types.Code.{Code}
@@ -21,7 +21,6 @@ use Rattle.afs_num.specs.declared.types.Fid.{Fid}
 use Rattle.afs_num.specs.declared.types.Node.{Node}
 use Rattle.afs_num.specs.declared.types.Node.TheVariants.{Server}
 use Rattle.afs_num.specs.declared.types.Head.{Head}
-use Rattle.afs_num.specs.declared.calls.AfsStoreStatus.{AfsStoreStatus}
 use Rattle.afs_num.specs.declared.calls.FsCall.{FsCall}
 use Rattle.afs_num.specs.declared.calls.FsReply.{FsReply}
 use Rattle.afs_num.specs.declared.messages.Carried.{Carried}

@@ -4,7 +4,7 @@ use Rattle.afs_ideal.specs.Directories.{named}
 use Rattle.afs_law.specs.Acts.{Act, Path, Operand, at_path, at_fid, Open, ListNames, ReadLink, Close, SetMode, SetRights, Make, MakeDirectory, MakeLink, Remove, RemoveDirectory, Move}
 use Rattle.afs_law.specs.States.{CacheEntry, Seat}
 use Rattle.afs_law.specs.Acts as acts
-use Rattle.std.specs.Prelude.{◌≡◌, ℕ, zero, suc, ◌+◌, List, [], ◌∷◌, ◌++◌, Bool, true, false, not, ◌&&◌, ◌||◌, Option, Some, None, Result, Ok, Err, ℤ, pos, nat_eq, length, if◌then◌else◌}
+use Rattle.std.specs.Prelude.{ℕ, zero, suc, ◌+◌, List, [], ◌∷◌, ◌++◌, Bool, true, false, not, ◌&&◌, ◌||◌, Option, Some, None, pos, nat_eq, length, if◌then◌else◌}
 use Rattle.std.specs.Option.{option_map}
 use Rattle.afs_num.specs.Fids.{same_fid}
 use Rattle.afs_num.specs.declared.types.Fid.{Fid}

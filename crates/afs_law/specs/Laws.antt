@@ -19,7 +19,7 @@ use Rattle.afs_law.specs.States.{CacheEntry, ServerState}
 use Rattle.afs_model.specs.FsRows.{call_number}
 use Rattle.afs_num.specs.declared.messages.Carried.TheVariants as carried
 use Rattle.afs_num.specs.declared.messages.Call.TheVariants as ask
-use Rattle.std.specs.Prelude.{◌⊎◌, ◌≤◌, ◌<◌, None, Some, Option, ◌∷◌, [], ◌≡◌, ◌↔◌, ℕ, List, ◌++◌, false}
+use Rattle.std.specs.Prelude.{◌⊎◌, ◌≤◌, ◌<◌, None, Some, ◌∷◌, [], ◌≡◌, ◌↔◌, ℕ, List, ◌++◌, false}
 use Rattle.afs_num.specs.declared.types.Fid.{Fid}
 use Rattle.afs_num.specs.declared.types.Node.{Node}
 use Rattle.afs_num.specs.declared.scripts.Script.{Script}

@@ -5,7 +5,6 @@ use Rattle.afs_law.specs.Legal.{IsNew}
 use Rattle.afs_law.specs.Lines.{Line}
 use Rattle.afs_law.specs.Past.{lines_of}
 use Rattle.afs_law.specs.Runs.{Entry}
-use Rattle.afs_law.specs.Lines as lines
 use Rattle.afs_num.specs.declared.types.Key.{Key}
 
 abbrev pub IsFirst : Option Key → List Line → Type 0 → Type 0

@@ -6,13 +6,11 @@ use Rattle.afs_num.specs.declared.types.Node.{Node}
 use Rattle.afs_num.specs.declared.calls.FsCall.{FsCall}
 use Rattle.afs_num.specs.declared.messages.Carried.{Carried}
 use Rattle.afs_num.specs.declared.messages.Message.{Message}
-use Rattle.afs_law.specs.Acts.{Act}
 use Rattle.afs_law.specs.Going.{Going, began, read_on}
 use Rattle.afs_law.specs.Lines.{Line}
 use Rattle.afs_law.specs.Runs.{Entry, message_at}
 use Rattle.afs_num.specs.declared.types.Half.TheVariants as halves
 use Rattle.afs_num.specs.declared.messages.Carried.TheVariants as carried
-use Rattle.afs_num.specs.declared.messages.Reply.TheVariants as tell
 use Rattle.afs_num.specs.declared.messages.Call.TheVariants as ask
 use Rattle.afs_law.specs.Lines as lines
 use Rattle.afs_num.specs.declared.histories.Actor.TheVariants as actors

@@ -1,10 +1,9 @@
 use Rattle.afs_num.specs.Places.{at_place}
-use Rattle.afs_num.specs.declared.types.Fid.{Fid}
 use Rattle.afs_ideal.specs.SetUp.{new_volume, laid}
 use Rattle.afs_ideal.specs.Tables.{Table, get, set}
 use Rattle.afs_ideal.specs.Volumes.{Volume}
 use Rattle.afs_law.specs.Acts.{Act}
-use Rattle.afs_law.specs.Callbacks.{put, Backs, BackCall, Turn, Started, expired, turned_by, timed, pumped, no_turn, risen_turn, first_backs}
+use Rattle.afs_law.specs.Callbacks.{put, Backs, BackCall, Turn, expired, turned_by, timed, pumped, no_turn, risen_turn, first_backs}
 use Rattle.afs_law.specs.ClientRow.{the_server, begin_row, client_row, timeout_row, reborn}
 use Rattle.afs_law.specs.Going.{ClientState, Going}
 use Rattle.afs_law.specs.Lines.{Line}
@@ -12,7 +11,7 @@ use Rattle.afs_law.specs.Records.{first_record, record_length, boot_record}
 use Rattle.afs_law.specs.ServerRow.{Begun, begun_before, begun_after, Decision, decides, does, device_calls, has_room, revived}
 use Rattle.afs_law.specs.States.{ServerState}
 use Rattle.afs_law.specs.Steps.{Step}
-use Rattle.std.specs.Prelude.{Result, Ok, Err, is_some, ◌≡◌, ℕ, zero, suc, ◌+◌, ◌-◌, ◌*◌, List, [], ◌∷◌, ◌++◌, Bool, true, false, cond, nat_eq, nat_lt, Option, Some, None, if◌then◌else◌, length}
+use Rattle.std.specs.Prelude.{Result, Ok, Err, is_some, ◌≡◌, ℕ, zero, suc, ◌+◌, ◌-◌, List, [], ◌∷◌, ◌++◌, Bool, true, false, cond, nat_eq, nat_lt, Option, Some, None, if◌then◌else◌}
 use Rattle.std.specs.Option.{option_map}
 use Rattle.afs_num.specs.declared.types.Node.{Node}
 use Rattle.afs_num.specs.declared.types.Node.TheVariants.{Loc, Server, Client, Admin}

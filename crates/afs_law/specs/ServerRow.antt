@@ -1,6 +1,6 @@
 -- The row of a file server: what it decides on a message, and what it then does with its volumes and its callers. What it does
 -- with its promises stands in Callbacks.
-use Rattle.std.specs.Prelude.{ℕ, ◌+◌, List, [], ◌∷◌, ◌++◌, Bool, true, false, not, ◌&&◌, ◌||◌, Option, Some, None, ℤ, pos, negsuc, nat_eq, nat_lt, map, length, if◌then◌else◌}
+use Rattle.std.specs.Prelude.{ℕ, ◌+◌, List, [], ◌∷◌, Bool, not, Option, Some, None, ℤ, pos, negsuc, nat_eq, nat_lt, map, length, if◌then◌else◌}
 use Rattle.std.specs.List.{list_any}
 use Rattle.afs_num.specs.Nodes.{same_node}
 use Rattle.afs_num.specs.declared.types.Fid.{Fid}
