@@ -1,0 +1,115 @@
+use Rattle.afs_num.specs.declared.messages.Call.TheVariants as ask
+use Rattle.afs_num.specs.declared.messages.Carried.TheVariants as carried
+use Rattle.afs_ideal.specs.Told.{Agrees}
+use Rattle.afs_ideal.specs.Volumes.{Volume}
+use Rattle.afs_law.proofs.Answering.{idle_newest, idle_reached}
+use Rattle.afs_law.proofs.Basics.{ByClient, OfReply, OfCall, IfReply, IfCall, each_at, client_number, by_client}
+use Rattle.afs_law.proofs.Edits.{agrees_of, SoundIn}
+use Rattle.afs_law.proofs.Facts.{ReplyIn, CallIn, view, Ghost, Holds}
+use Rattle.afs_law.proofs.Law.{goes, starts}
+use Rattle.afs_law.specs.ClientRow.{find_cached}
+use Rattle.afs_law.specs.Ideal.{versions_in, set_up}
+use Rattle.afs_law.specs.Laws.{ArePairsKnown, IsKnownTo, IsHeld}
+use Rattle.afs_law.specs.Legal.{GoodRead}
+use Rattle.afs_law.specs.Lines.{Line}
+use Rattle.afs_law.specs.Once.{past_of}
+use Rattle.afs_law.specs.OneServer.{IsOneServer}
+use Rattle.afs_law.specs.Past.{HasCode, IsCall}
+use Rattle.afs_law.specs.Runs.{Entry, Cell, Input, moved, Leads, start, RunsTo}
+use Rattle.afs_law.specs.States.{CacheEntry}
+use Rattle.afs_num.specs.declared.histories.ReadSource.TheVariants.{Cached}
+use Rattle.afs_num.specs.declared.messages.Carried.{Carried}
+use Rattle.afs_num.specs.declared.types.Node.TheVariants.{Client}
+use Rattle.afs_num.specs.declared.types.Head.{Head}
+use Rattle.std.proofs.Common.{◌<◌, ◌≡◌, ℕ, List, [], ◌∷◌, Option, Some, None, refl, sym, ap, subst, ◌∙◌}
+use Rattle.afs_num.specs.declared.types.Fid.{Fid}
+use Rattle.afs_num.specs.declared.scripts.Script.{Script}
+
+-- The same inputs make one run; and after every run the versions that were told agree with the volumes.
+
+-- ---- one run
+
+pub one_run : (xs : List Input) (c : Cell) (h k : List Entry) (a b : Cell) → Leads c xs h a → Leads c xs k b → (h ≡ k) × (a ≡ b)
+one_run [] c [] [] a b r q = (refl, r ∙ sym q)
+one_run [] c [] (e ∷ k) a b r q = absurd q
+one_run [] c (e ∷ h) k a b r q = absurd r
+one_run (x ∷ xs) c [] k a b r q = absurd r
+one_run (x ∷ xs) c (e ∷ h) [] a b r q = absurd q
+one_run (x ∷ xs) c (e ∷ h) (f ∷ k) a b r q =
+    let rest = one_run xs (moved c x).cell h k a b r.1 q.1 in
+    (ap (λ (y : Entry). y ∷ h) (r.0 ∙ sym q.0) ∙ ap (λ (ys : List Entry). f ∷ ys) rest.0, rest.1)
+
+-- ---- what was told
+
+pub holds_after : (s : Script) (xs : List Input) (c : Cell) (past es : List Entry) (end : Cell) → Holds s c past → Leads c xs es end → Holds s end (past_of past es)
+holds_after s [] c past [] end h r = subst (λ (x : Cell). Holds s x past) (sym r) h
+holds_after s [] c past (e ∷ es) end h r = absurd r
+holds_after s (x ∷ xs) c past [] end h r = absurd r
+holds_after s (x ∷ xs) c past (e ∷ es) end h r =
+    holds_after s xs (moved c x).cell (e ∷ past) es end (subst (λ (y : Entry). Holds s (moved c x).cell (y ∷ past)) (sym r.0) (goes s c past x h).holds) r.1
+
+pub at_end : (s : Script) (h : List Entry) (end : Cell) → IsOneServer s → RunsTo h s end → Holds s end (past_of (set_up s ∷ []) h)
+at_end s h end one r = holds_after s r.inputs (start s) (set_up s ∷ []) h end (starts s one) r.leads
+
+agrees_by : (id : ℕ) (v : Volume) (o : Option Volume) (ls : List Line) → o ≡ Some v → SoundIn id o ls → Agrees id v (versions_in ls)
+agrees_by id v None ls e x = absurd cc
+agrees_by id v (Some u) ls e x =
+    let same : u ≡ v = cc in
+    subst (λ (w : Volume). Agrees id w (versions_in ls)) same (agrees_of id u ls x)
+
+pub held : (s : Script) (h : List Entry) (end : Cell) → IsOneServer s → RunsTo h s end → (id : ℕ) → IsHeld id end (past_of (set_up s ∷ []) h)
+held s h end one r id =
+    let k : Holds s end (past_of (set_up s ∷ []) h) = at_end s h end one r in
+    record {
+      ideal = k.ideal id;
+      told = λ v e. agrees_by id v _ _ (k.ideal id ∙ e) (k.sound id);
+    }
+
+-- ---- pairs
+
+call_known : (end : Cell) (fl : ℕ → Ghost) (j : ℕ) (head : Head) (c : Carried) → IsCall c → head.from ≡ Client j → OfCall (ByClient (CallIn (view fl end))) head c → IsKnownTo end j head
+call_known end fl j head (carried.Call user (ask.File call)) is from h =
+    let f : CallIn (view fl end) head user call = by_client j head.from (CallIn (view fl end) head user call) from h in
+    let one : f.client ≡ j = client_number f.client j (sym f.from ∙ from) in
+    subst (λ (i : ℕ). IsKnownTo end i head) one f.fact.behind
+call_known end fl j head (carried.Call user (ask.Volume call)) is from h = absurd h
+call_known end fl j head (carried.Call user (ask.Location call)) is from h = absurd h
+call_known end fl j head (carried.Refusal code) is from h = absurd is
+call_known end fl j head (carried.Reply reply) is from h = absurd is
+call_known end fl j head carried.Notice is from h = absurd is
+
+reply_of : (c : Carried) (X : Type 0) → HasCode c → OfReply X c → X
+reply_of (carried.Call user call) X is h = absurd is
+reply_of (carried.Refusal code) X is h = h
+reply_of (carried.Reply reply) X is h = h
+reply_of carried.Notice X is h = absurd is
+
+pub pairs_known : (s : Script) (h : List Entry) (end : Cell) → IsOneServer s → RunsTo h s end → ArePairsKnown end
+pairs_known s h end one r =
+    let k : Holds s end (past_of (set_up s ∷ []) h) = at_end s h end one r in
+    record {
+      calls = λ j place m at is from. call_known end k.floors j m.head m.carried is from (each_at (IfCall (CallIn (view k.floors end))) end.sent place m at k.sent.calls);
+      replies = λ j place m at is to.
+          let f : ReplyIn (view k.floors end) (past_of (set_up s ∷ []) h) m = by_client j m.head.to (ReplyIn (view k.floors end) (past_of (set_up s ∷ []) h) m) to (reply_of m.carried _ is (each_at (IfReply (ReplyIn (view k.floors end) (past_of (set_up s ∷ []) h))) end.sent place m at k.sent.replies)) in
+          subst (λ (i : ℕ). IsKnownTo end i m.head) (client_number f.client j (sym f.to ∙ to)) f.fact.behind;
+    }
+
+-- ---- what a client trusts
+
+pub trusted_good : (s : Script) (h : List Entry) (end : Cell) → IsOneServer s → RunsTo h s end → (j : ℕ) → (end.clients j).running ≡ None → (f : Fid) (e : CacheEntry) → find_cached f (end.clients j).cache ≡ Some e → end.clock < e.expiry
+    → GoodRead (Client j) f e.index Cached e.body (past_of (set_up s ∷ []) h) []
+trusted_good s h end one r j none f e found lasts =
+    let k : Holds s end (past_of (set_up s ∷ []) h) = at_end s h end one r in
+    let past : List Entry = past_of (set_up s ∷ []) h in
+    let cur = (k.clients j).current f e found lasts in
+    record {
+      whole = cur.held.whole;
+      not_older = idle_reached j f e.index _ _ (view k.floors end j) past none cur.state;
+      reply = cur.reply;
+      by = cur.by;
+      expiry = e.expiry;
+      grant = cur.held.grant;
+      lasts = subst (λ (t : ℕ). t < e.expiry) (sym k.clock) lasts;
+      kept = cur.held.kept refl;
+      newest = idle_newest j f e.index _ _ (view k.floors end j) past none cur.state;
+    }

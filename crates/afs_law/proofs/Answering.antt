@@ -1,0 +1,856 @@
+use Rattle.afs_ideal.specs.Operations.{volume_changed}
+use Rattle.afs_law.proofs.Asking.{own_read, safe_over, client_kept, call_known, reply_still, step_entry, view_after, moves, nothing_new, Heard, told_passes, answered_seen, own_zero, answered_lines, answered_file, answered_reach, answered_passes, quiet, safe_cache, own_call, asks, own_begun, no_scope, same_one, call_is, heard_dull, new_one}
+use Rattle.afs_law.proofs.Basics.{UpTo, Above, IfReply, IfNotice, OfReply, OfNotice, up_to_by, yes_no, both, same_fid-true, same_fid-refl, same_node-refl, client_number, found-cached-fid, found-first, found-refreshed, OfCall, each_at, some_of, ByServer, OfClient, by_client, IfBack, up_to_next, next_not, raised_up_to}
+use Rattle.afs_law.proofs.Dropping.{left_out, called_goes}
+use Rattle.afs_law.proofs.Edits.{index_in}
+use Rattle.afs_law.proofs.Facts.{IsPlain, IsKeptBody, IsTrusted, Ghost, Seen, IsAged, Spot, spot, LastStored, IsStored, IsSafe, Fits, View, view, last_key, LastRan, Reached, IsNewest, Overtaken, Stands, IsCurrent, HasCurrent, Answers, stored_index, ClientFacts, CallFact, ReplyFact, ReplyIn, Holds, Goes, IsFetched, FitsPlain, FitsData, FitsSet, FitsReply, WasStored, WasChanged, InScope, IsNoticed}
+use Rattle.afs_law.proofs.Owing.{BackIn}
+use Rattle.afs_law.proofs.Passing.{PassesSeen, PassesGrant, PassesFile, StaysNewest, stays, held_over, fetch_reply_by, current_over, kept_over, cause_behind}
+use Rattle.afs_law.proofs.Quiet.{quiet_more, quiet_passes}
+use Rattle.afs_law.proofs.Resting.{voids}
+use Rattle.afs_law.proofs.Saving.{old_withdrawn}
+use Rattle.afs_law.proofs.Serving.{told_file, told_reach, told_act, not_ran, stale_none, reached_still}
+use Rattle.afs_law.proofs.Skipping.{none_where, own_ended, skips, drop_lines, was_given, drop_file, drop_reach, drop_seen, drop_passes, ended_running, drops_good}
+use Rattle.afs_law.proofs.Walking.{onto_last, looked_more, walk_made, walk_reached, walk_current, walk_answered, walked_found, tail_given, tail_fetched, tail_quiet, ends_answered, ends_here, EndsReach, AreTail, walks_on, Ready, Walks}
+use Rattle.afs_law.specs.Acts.{Act}
+use Rattle.afs_law.specs.ClientRow.{asking, is_trusted, goes_on, goes_by, look_at, looked, most_reads, walked, Walked, is_below, dropped_after, left_after, the_server, find_cached, guest, used_first, refreshed, call_message, calls_step, zero_code, begin_row, ignores, ended, answers_step, takes_stored, takes, resends_step, counts, is_awaited, awaits, client_row, is_spent, hears_in, takes_plain, takes_data, takes_set, left_in, given_up_in, body_told, call_of, is_reading}
+use Rattle.afs_law.specs.Going.{asked, Going, Need, next, answers, began, with_read, ClientState, reads, asks_for}
+use Rattle.afs_law.specs.Grants.{has_fetched, fetch_reply, since}
+use Rattle.afs_law.specs.Ideal.{raised, is_zero_code, reach, last_version, HasVersion}
+use Rattle.afs_law.specs.Legal.{Cause, code_told, GoodCode}
+use Rattle.afs_law.specs.Lines.{Line}
+use Rattle.afs_law.specs.Past.{IsCallUnder, onto, lines_of, sent_of, given_message, answered_key, running, has_begun, CalledSince}
+use Rattle.afs_law.specs.Runs.{Moved, Entry, Cell, message_at, client_moves, begun_by}
+use Rattle.afs_law.specs.Scopes.{is_in_scope}
+use Rattle.afs_law.specs.States.{CacheEntry, Seat}
+use Rattle.afs_model.specs.Calls.{call_seat}
+use Rattle.std.proofs.Common.{◌+◌, nat_eq, ◌++◌, ◌≡◌, ℕ, ◌<◌, ◌≤◌, inl, inr, Bool, true, false, cond, nat_lt, not, List, [], ◌∷◌, map, Option, Some, None, ℤ, refl, sym, ap, subst, ◌∙◌, eqb-true, ltb-true, lt-ltb, le_of_eq, append-nil, arith}
+use Rattle.std.specs.Prelude.{◌&&◌, pos, ℤ}
+use Rattle.std.specs.Option.{option_map}
+use Rattle.afs_num.specs.Fids.{same_fid}
+use Rattle.afs_num.specs.Nodes.{same_node}
+use Rattle.afs_num.specs.declared.types.Code.{Code}
+use Rattle.afs_num.specs.declared.types.Fid.{Fid}
+use Rattle.afs_num.specs.declared.types.Head.{Head}
+use Rattle.afs_num.specs.declared.types.Key.{Key}
+use Rattle.afs_num.specs.declared.types.Node.{Node}
+use Rattle.afs_num.specs.declared.types.Node.TheVariants.{Client}
+use Rattle.afs_num.specs.declared.calls.AfsCallBack.{AfsCallBack}
+use Rattle.afs_num.specs.declared.calls.AfsFetchStatus.{AfsFetchStatus}
+use Rattle.afs_num.specs.declared.calls.AfsVolSync.{AfsVolSync}
+use Rattle.afs_num.specs.declared.calls.FsCall.{FsCall}
+use Rattle.afs_num.specs.declared.calls.FsReply.{FsReply}
+use Rattle.afs_num.specs.declared.messages.Carried.{Carried}
+use Rattle.afs_num.specs.declared.messages.Message.{Message}
+use Rattle.afs_num.specs.declared.messages.Received.TheVariants.{Whole}
+use Rattle.afs_law.specs.ClientRow as ClientRow
+use Rattle.afs_num.specs.declared.scripts.Script.{Script}
+use Rattle.afs_num.specs.declared.histories.Actor.TheVariants as actors
+use Rattle.afs_num.specs.declared.histories.ReadSource.TheVariants.{Fetched}
+use Rattle.std.proofs.Math.Nat.{le_refl, le_trans, eq-or-lt_of_le}
+use Rattle.afs_num.specs.declared.histories.Body.{Body}
+use Rattle.afs_num.specs.declared.calls.AfsStoreStatus.{AfsStoreStatus}
+use Rattle.afs_num.specs.declared.calls.FsReply.TheVariants as replies
+use Rattle.afs_num.specs.declared.messages.Carried.TheVariants as carried
+use Rattle.afs_num.specs.declared.messages.Reply.TheVariants as tell
+use Rattle.afs_num.specs.declared.messages.Call.TheVariants as ask
+use Rattle.afs_num.specs.declared.histories.Body.TheVariants as bodies
+use Rattle.afs_law.specs.Lines as lines
+use Rattle.afs_num.specs.declared.calls.FsCall.TheVariants as calls
+
+-- The clients' steps that answer an act.
+
+-- a reply to a client that waits for none
+pub idle_reply : (j : ℕ) (v w : View) (past newer : List Entry) (m : Message) → v.epoch ≡ w.epoch → v.last ≡ w.last → v.floor ≡ w.floor → v.boot ≡ w.boot → v.seat ≡ w.seat → v.durable ≡ w.durable → w.running ≡ None → ReplyFact j v past m → ReplyFact j w newer m
+idle_reply j v w past newer m a b c d e g none f = record {
+  behind = subst (λ (x : ℕ). UpTo m.head.epoch m.head.number x w.last) a (subst (λ (x : ℕ). UpTo m.head.epoch m.head.number v.epoch x) b f.behind);
+  booted = subst (λ (x : ℕ). m.head.boot ≤ x) d f.booted;
+  recent = λ y k. subst (λ (x : ℕ). x ≤ m.head.boot) c (f.recent (y ∙ sym a) (k ∙ sym b));
+  tied = λ q above. f.tied (q ∙ sym d) (subst (λ (o : Option Seat). Above o m.head.epoch m.head.number) (sym e) above);
+  answers = λ act y. absurd cc;
+}
+
+-- ---- an act begins
+
+pub not_waiting : (j : ℕ) (f : Fid) (i : ℕ) (server : Node) (newer : List Line) (v : View) (past : List Entry) → v.running ≡ None → Overtaken j f i server newer v past → ⊥
+not_waiting j f i server newer v past none o = let runs = o.runs in absurd cc
+
+pub idle_reached : (j : ℕ) (f : Fid) (i : ℕ) (server : Node) (newer : List Line) (v : View) (past : List Entry) → v.running ≡ None → Stands j f i server newer v past → Seen j f i past
+idle_reached j f i server newer v past none (inl a) = a.reached
+idle_reached j f i server newer v past none (inr o) = absurd (not_waiting j f i server newer v past none o)
+
+pub idle_newest : (j : ℕ) (f : Fid) (i : ℕ) (server : Node) (newer : List Line) (v : View) (past : List Entry) → v.running ≡ None → Stands j f i server newer v past → IsNewest server j f i newer (lines_of past)
+idle_newest j f i server newer v past none (inl a) = a.newest
+idle_newest j f i server newer v past none (inr o) = absurd (not_waiting j f i server newer v past none o)
+
+-- how far an act that begins comes
+abbrev pub begun_walk : ClientState → ℕ → Act → Walked
+begun_walk x clock act = walked (most_reads (began act)) clock (began act) x.cache
+
+pub begun_walks : (s : Script) (c : Cell) (past : List Entry) (n : ℕ) (act : Act) → (h : Holds s c past) → (c.clients n).running ≡ None → Walks s c past n (h.floors n).held (lines.Begin (Client n) act ∷ []) (began act) (c.clients n).cache
+begun_walks s c past n act h none = record {
+  good = λ tail g. (refl, g);
+  quiet = (refl, tt);
+  runs = own_begun n (began act) (running (Client n) (lines_of past));
+  ready = λ g u found lasts. let cur = (h.clients n).current g u found lasts in record {
+    reply = cur.reply;
+    boot = cur.boot;
+    held = cur.held;
+    newest = idle_newest n g u.index _ _ (view h.floors c n) past none cur.state;
+    low = idle_reached n g u.index _ _ (view h.floors c n) past none cur.state;
+    by = cur.by;
+    later = λ tail t. ap (λ (b : Bool). cond b (given_message tail (sent_of past)) (fetch_reply (Client n) g past)) (tail_fetched n (Client n) g tail t) ∙ cur.by;
+  };
+  up = λ g. ((h.clients n).reached g).seen;
+  made = λ g. own_zero n (reach (Client n) g past).made;
+  dull = λ tail t k boot y. subst (IsCallUnder the_server k boot) (tail_given n tail (sent_of past) t) y;
+}
+
+pub begun_on : (s : Script) (c : Cell) (past : List Entry) (n : ℕ) (act : Act) → (h : Holds s c past) → (c.clients n).running ≡ None
+    → Walks s c past n (h.floors n).held (lines.Begin (Client n) act ∷ looked (Client n) (begun_walk (c.clients n) c.clock act).looks []) (begun_walk (c.clients n) c.clock act).act (begun_walk (c.clients n) c.clock act).cache
+begun_on s c past n act h none = walks_on (most_reads (began act)) s c past n (h.floors n).held (lines.Begin (Client n) act ∷ []) (began act) (c.clients n).cache h (begun_walks s c past n act h none)
+
+abbrev pub with_lines : Cell → ℕ → ClientState → List Message → List Line → Moved
+with_lines c n x ms ls = client_moves c n (record { state = x; lines = ls; sent = ms })
+
+-- all that the act needed was in the cache
+pub begun_answered : (s : Script) (c : Cell) (past : List Entry) (n : ℕ) (act : Act) (k : ℕ) → Holds s c past → (c.clients n).running ≡ None → next (begun_walk (c.clients n) c.clock act).act ≡ answers k
+    → Goes s past (client_moves c n (goes_by (Client n) (c.clients n) (lines.Begin (Client n) act) (begun_walk (c.clients n) c.clock act) (answers k)))
+begun_answered s c past n act k h none is =
+    let x : ClientState = c.clients n in
+    let d = h.clients n in
+    let w : Walked = begun_walk x c.clock act in
+    let ls : List Line = lines.Begin (Client n) act ∷ looked (Client n) w.looks [] in
+    let tail : List Line = lines.Answer (Client n) (record { 0 = pos k }) ∷ [] in
+    let W : Walks s c past n (h.floors n).held ls w.act w.cache = begun_on s c past n act h none in
+    let y : ClientState = record x { running = None; cache = w.cache } in
+    let e : Entry = step_entry n (ls ++ tail) [] in
+    let t : AreTail n tail = (refl, tt) in
+    let ends : EndsReach n tail = ends_answered n (record { 0 = pos k }) in
+    let v : View = view_after c n (h.floors n) y in
+    let over : (m : Message) → ReplyFact n (view h.floors c n) past m → ReplyFact n v (e ∷ past) m = λ m f. idle_reply n (view h.floors c n) v past (e ∷ past) m refl refl refl refl refl refl refl f in
+    subst (λ (os : List Line). Goes s past (with_lines c n y [] (lines.Begin (Client n) act ∷ os))) (sym (looked_more (Client n) w.looks tail))
+    (moves s c past n (h.floors n) (record { state = y; lines = ls ++ tail; sent = [] }) h
+    (walk_answered s c past n (h.floors n).held ls w.act w.cache k W is)
+    (quiet_passes s n (ls ++ tail) [] past (quiet_more n ls tail W.quiet (tail_quiet n tail t)) (W.dull tail t))
+    (record {
+      behind = d.behind;
+      behind_durable = d.behind_durable;
+      lower = d.lower;
+      kept = kept_over n _ (view h.floors c n) v past (e ∷ past) over d.kept;
+      stored = kept_over n _ (view h.floors c n) v past (e ∷ past) over d.stored;
+      known = d.known;
+      floored = d.floored;
+      holds = d.holds;
+      waits = λ b z. absurd cc;
+      idle = λ z. ap (running (Client n)) (onto_last (lines_of past) ls (lines.Answer (Client n) (record { 0 = pos k }))) ∙ own_ended n (running (Client n) (onto (lines_of past) ls));
+      made = λ b z. absurd cc;
+      current = λ g u found lasts. walk_current s c past n (h.floors n).held ls w.act w.cache tail [] v g u W t ends (le_refl _) (inr refl) found lasts;
+      runs = λ b z. absurd cc;
+      asked = λ b z. absurd cc;
+      reached = walk_reached s c past n (h.floors n).held ls w.act w.cache tail [] W t ends;
+    })
+    (λ head call f. record {
+      behind = f.behind;
+      booted = f.booted;
+      stale = f.stale;
+      own = λ b z. absurd cc;
+      safe = λ q above. safe_over call c.clock x.epoch x.last x.epoch x.last x.running None w.cache (IsAged (view h.floors c n) head) (IsAged v head) head (λ b z. let no_ : Some b ≡ None = sym z ∙ none in absurd cc) (λ z. (z.0, λ b r. absurd cc))
+          (safe_cache call c.clock x.epoch x.last x.running x.cache w.cache (IsAged (view h.floors c n) head) head (λ g z u at lasts. z u (walked_found (most_reads (began act)) c.clock (began act) x.cache g u at) lasts) (f.safe q above));
+    })
+    over (nothing_new _ _) (λ a z r. absurd cc) refl)
+
+begun_not : (n : ℕ) (rest : Bool) (S : Type 0) → cond (same_node (Client n) (Client n)) true rest ≡ false → S
+begun_not n rest S e = let yes : same_node (Client n) (Client n) ≡ true = same_node-refl (Client n) in absurd cc
+
+-- it calls for what is missing
+pub begun_calls : (s : Script) (c : Cell) (past : List Entry) (n : ℕ) (act : Act) → Holds s c past → (c.clients n).running ≡ None
+    → Goes s past (client_moves c n (goes_by (Client n) (c.clients n) (lines.Begin (Client n) act) (begun_walk (c.clients n) c.clock act) (asks_for calls.GetTime)))
+begun_calls s c past n act h none =
+    let x : ClientState = c.clients n in
+    let d = h.clients n in
+    let w : Walked = begun_walk x c.clock act in
+    let ls : List Line = lines.Begin (Client n) act ∷ looked (Client n) w.looks [] in
+    let W : Walks s c past n (h.floors n).held ls w.act w.cache = begun_on s c past n act h none in
+    let y : ClientState = record x { last = x.last + 1; tries = 0; running = Some w.act; spoiled = false; cache = w.cache } in
+    let ms : List Message = call_message (Client n) (asking x w.act) w.act ∷ [] in
+    let e : Entry = step_entry n (ls ++ []) ms in
+    let g : Ghost = record { floor = c.server.boot; held = (h.floors n).held } in
+    let v : View = view_after c n g y in
+    let not : LastRan v → ⊥ = λ ran. next_not _ _ _ _ (d.behind_durable ran.seat ran.at) ran.epoch ran.number in
+    let at : running (Client n) (onto (lines_of past) (ls ++ [])) ≡ Some w.act = ap (λ (os : List Line). running (Client n) (onto (lines_of past) os)) (append-nil ls) ∙ W.runs in
+    let idle : (a : Going) → x.running ≡ Some a → volume_changed (asked a) ≡ None = λ a z. let no_ : Some a ≡ None = sym z ∙ none in absurd cc in
+    let over : (m : Message) → ReplyFact n (view h.floors c n) past m → ReplyFact n v (e ∷ past) m = λ m f. record {
+      behind = up_to_next _ _ _ _ f.behind;
+      booted = f.booted;
+      recent = λ z k. absurd (next_not _ _ _ _ f.behind z k);
+      tied = f.tied;
+      answers = λ b runs z k. absurd (next_not _ _ _ _ f.behind z k);
+    } in
+    subst (λ (os : List Line). Goes s past (with_lines c n y ms os)) (append-nil ls)
+    (moves s c past n g (record { state = y; lines = ls ++ []; sent = ms }) h
+    (W.good [] tt)
+    (quiet_passes s n (ls ++ []) ms past (quiet_more n ls [] W.quiet tt) (W.dull [] tt))
+    (record {
+      behind = λ seat z. up_to_next _ _ _ _ (d.behind seat z);
+      behind_durable = λ seat z. up_to_next _ _ _ _ (d.behind_durable seat z);
+      lower = d.lower;
+      kept = kept_over n _ (view h.floors c n) v past (e ∷ past) over d.kept;
+      stored = kept_over n _ (view h.floors c n) v past (e ∷ past) over d.stored;
+      known = d.known;
+      floored = le_refl _;
+      holds = d.holds;
+      waits = λ b z. d.holds;
+      idle = λ z. absurd cc;
+      made = λ b z f o k. walk_made s c past n (h.floors n).held ls w.act w.cache [] ms f W (ends_here n);
+      current = λ f u found lasts. walk_current s c past n (h.floors n).held ls w.act w.cache [] ms v f u W tt (ends_here n) (le_refl _) (inl not) found lasts;
+      runs = λ b z. at ∙ z;
+      asked = λ b z. subst (λ (a : Going). CalledSince (last_key n v) guest (asked a) (e ∷ past)) (some_of w.act b z) (inl (refl, inl (refl, ap (λ (k : FsCall). carried.Call guest (ask.File k)) (call_is w.act))));
+      reached = walk_reached s c past n (h.floors n).held ls w.act w.cache [] ms W tt (ends_here n);
+    })
+    (λ head call f. record {
+      behind = up_to_next _ _ _ _ f.behind;
+      booted = f.booted;
+      stale = λ z. f.booted;
+      own = λ b z k u. absurd (next_not _ _ _ _ f.behind k u);
+      safe = λ q above. safe_over call c.clock x.epoch x.last x.epoch (x.last + 1) x.running (Some w.act) w.cache (IsAged (view h.floors c n) head) (IsAged v head) head idle (λ z. (z.0, λ b k u r. next_not _ _ _ _ f.behind u r))
+          (safe_cache call c.clock x.epoch x.last x.running x.cache w.cache (IsAged (view h.floors c n) head) head (λ f z u found lasts. z u (walked_found (most_reads (began act)) c.clock (began act) x.cache f u found) lasts) (f.safe q above));
+    })
+    over (own_call h.floors c past n g y w.act (ls ++ []) d.known refl at (new_one s c past n w.act h)) (λ a z k. begun_not n _ _ k) refl)
+
+begins_by : (need : Need) (s : Script) (c : Cell) (past : List Entry) (n : ℕ) (act : Act) → Holds s c past → (c.clients n).running ≡ None → next (begun_walk (c.clients n) c.clock act).act ≡ need
+    → Goes s past (client_moves c n (goes_by (Client n) (c.clients n) (lines.Begin (Client n) act) (begun_walk (c.clients n) c.clock act) need))
+begins_by (answers k) s c past n act h none e = begun_answered s c past n act k h none e
+begins_by (reads f) s c past n act h none e = begun_calls s c past n act h none
+begins_by (asks_for call) s c past n act h none e = begun_calls s c past n act h none
+
+pub begins_goes : (s : Script) (c : Cell) (past : List Entry) (n : ℕ) (act : Act) → Holds s c past → (c.clients n).running ≡ None → Goes s past (client_moves c n (begin_row (Client n) (c.clients n) c.clock act))
+unfolding begin_row
+begins_goes s c past n act h none = begins_by (next (begun_walk (c.clients n) c.clock act).act) s c past n act h none refl
+
+-- ---- the reply to the running act
+
+pub record Due (c : Cell) (fl : ℕ → Ghost) (past : List Entry) (n p : ℕ) (act : Going) (m : Message) : Type 0 where
+  pub running : (c.clients n).running ≡ Some act
+  pub epoch : m.head.epoch ≡ (c.clients n).epoch
+  pub number : m.head.number ≡ (c.clients n).last
+  pub fact : ReplyFact n (view fl c n) past m
+  pub key : answered_key m.head ≡ last_key n (view fl c n)
+  pub answers : Answers (c.clients n).spoiled n (asked act) (spot (view fl c n)) c.server.boot m past
+  pub heard : Heard c p m
+  pub at : message_at (sent_of past) p ≡ Some m
+
+-- its act is answered with its code
+pub good_code : (s : Script) (c : Cell) (past : List Entry) (n p : ℕ) (act : Going) (m : Message) (code : Code) (own : List Line) → (h : Holds s c past) → Due c h.floors past n p act m → code_told m.carried ≡ Some code.0 → given_message own (sent_of past) ≡ message_at (sent_of past) p
+    → has_begun (Client n) own ≡ false → running (Client n) (own ++ lines_of past) ≡ running (Client n) (lines_of past) → GoodCode (Client n) code past own
+good_code s c past n p act m code own h d told by none still =
+    let cause : Cause m code.0 (asked act) past [] = subst (λ (z : ℤ). Cause m z (asked act) past []) (some_of _ _ (sym d.answers.cause.told ∙ told)) d.answers.cause in
+    let asked_now : CalledSince (answered_key m.head) guest (asked act) past = subst (λ (k : Key). CalledSince k guest (asked act) past) (sym d.key) ((h.clients n).asked act d.running) in
+    record {
+      act = act;
+      runs = still ∙ (h.clients n).runs act d.running;
+      cause = inl (record {
+        reply = m;
+        by = by ∙ d.at;
+        to = ap (λ (k : Key). k.node) d.key;
+        cause = cause_behind m code.0 (asked act) past own cause;
+        before = none;
+        called = subst (λ (u : List ℕ). CalledSince (answered_key m.head) u cause.call past) (sym cause.own_user) (subst (λ (x : FsCall). CalledSince (answered_key m.head) guest x past) (sym cause.asks) asked_now);
+      });
+    }
+
+-- An act that ended leaves no change that may run of what the client trusts, but where all that it holds is of an older
+-- boot: where a reply was made no call below its own may run; its own may only in a later boot, and if it was refused
+pub plain_safe : (call : FsCall) (x : Spot) (m : Message) (t e l : ℕ) (cache : List CacheEntry) (aged : Type 0) (head : Head) (o : Option ℕ) → volume_changed call ≡ o → FitsPlain x m call → (LastStored x → ⊥) → IsSafe t e l None cache aged head call
+plain_safe call x m t e l cache aged head None o fits none = inl o
+plain_safe call x m t e l cache aged head (Some id) o fits none = absurd (none (fits id o).ran)
+
+pub data_safe : (sp : Bool) (call : FsCall) (n : ℕ) (x : Spot) (m : Message) (past : List Entry) (contents : List ℕ) (status : AfsFetchStatus) (callback : AfsCallBack) (t e l : ℕ) (cache : List CacheEntry) (aged : Type 0) (head : Head) → FitsData sp n x m past contents status callback call → (LastStored x → ⊥) → IsSafe t e l None cache aged head call
+data_safe sp (calls.FetchData f p w) n x m past contents status callback t e l cache aged head fits none = inl refl
+data_safe sp call n x m past contents status callback t e l cache aged head fits none = plain_safe call x m t e l cache aged head (volume_changed call) refl fits none
+
+pub set_safe : (call : FsCall) (n : ℕ) (x : Spot) (m : Message) (past : List Entry) (status : AfsFetchStatus) (t e l : ℕ) (cache : List CacheEntry) (aged : Type 0) (head : Head) → FitsSet n x m past status call → (LastStored x → ⊥) → IsSafe t e l None cache aged head call
+set_safe (calls.StoreData f st p w k b) n x m past status t e l cache aged head fits none = absurd (none fits.1.0.ran)
+set_safe (calls.StoreAcl f acl) n x m past status t e l cache aged head fits none = absurd (none fits.1.0.ran)
+set_safe (calls.StoreStatus f st) n x m past status t e l cache aged head fits none = absurd (none fits.1.0.ran)
+set_safe call n x m past status t e l cache aged head fits none = plain_safe call x m t e l cache aged head (volume_changed call) refl fits none
+
+pub reply_safe : (sp : Bool) (reply : FsReply) (n : ℕ) (call : FsCall) (x : Spot) (m : Message) (past : List Entry) (t e l : ℕ) (cache : List CacheEntry) (aged : Type 0) (head : Head) → FitsReply sp n call x m past reply → (LastStored x → ⊥) → IsSafe t e l None cache aged head call
+reply_safe sp (replies.FetchData contents status callback sync) n call x m past t e l cache aged head fits none = data_safe sp call n x m past contents status callback t e l cache aged head fits none
+reply_safe sp (replies.StoreData status sync) n call x m past t e l cache aged head fits none = set_safe call n x m past status t e l cache aged head fits none
+reply_safe sp (replies.StoreAcl status sync) n call x m past t e l cache aged head fits none = set_safe call n x m past status t e l cache aged head fits none
+reply_safe sp (replies.StoreStatus status sync) n call x m past t e l cache aged head fits none = set_safe call n x m past status t e l cache aged head fits none
+reply_safe sp reply n call x m past t e l cache aged head fits none = plain_safe call x m t e l cache aged head (volume_changed call) refl fits none
+
+pub ended_safe : (sp : Bool) (n : ℕ) (call : FsCall) (x : Spot) (boot : ℕ) (m : Message) (c : Carried) (past : List Entry) (t e l : ℕ) (cache : List CacheEntry) (aged : Type 0) (head : Head) → Fits sp n call x boot m c past → (LastStored x → ⊥)
+    → ((code : Code) → c ≡ carried.Refusal code → aged) → IsSafe t e l None cache aged head call
+ended_safe sp n call x boot m (carried.Reply (tell.File reply)) past t e l cache aged head fits none w = reply_safe sp reply n call x m past t e l cache aged head fits none
+ended_safe sp n call x boot m (carried.Refusal code) past t e l cache aged head fits none w = inr (inr (inr (w code refl)))
+ended_safe sp n call x boot m c past t e l cache aged head fits none w = absurd fits
+
+abbrev pub holding : (ℕ → Ghost) → ℕ → ℕ → Ghost
+holding fl n held = record { floor = (fl n).floor; held = held }
+
+-- what a client holds that waited for a reply of an older boot
+pub old_held : (s : Script) (c : Cell) (past : List Entry) (n : ℕ) (act : Going) (m : Message) (held : ℕ) → (h : Holds s c past) → {p : ℕ} → Due c h.floors past n p act m → held ≡ (h.floors n).held → m.head.boot < c.server.boot → held < c.server.boot
+old_held s c past n act m held h {p} d same l =
+    let a : (h.floors n).held ≤ (h.floors n).floor = (h.clients n).waits act d.running in
+    let b : (h.floors n).floor ≤ m.head.boot = d.fact.recent d.epoch d.number in
+    omega arith
+
+pub below_boot : (s : Script) (c : Cell) (past : List Entry) (n : ℕ) (act : Going) (m : Message) (head : Head) → (h : Holds s c past) → {p : ℕ} → Due c h.floors past n p act m → head.epoch ≡ (c.clients n).epoch → head.number ≡ (c.clients n).last → Above (call_seat (Client n) c.server.seats) head.epoch head.number → m.head.boot < c.server.boot
+below_boot s c past n act m head h {p} d e k above = elim (eq-or-lt_of_le d.fact.booted) [
+  | inl same ↦ absurd (d.fact.tied same (subst (λ (x : ℕ). Above (call_seat (Client n) c.server.seats) x m.head.number) (e ∙ sym d.epoch) (subst (λ (x : ℕ). Above (call_seat (Client n) c.server.seats) head.epoch x) (k ∙ sym d.number) above)))
+  | inr l ↦ l
+]
+
+pub ended_calls : (s : Script) (c : Cell) (past : List Entry) (n p : ℕ) (act : Going) (m : Message) (cache : List CacheEntry) (held : ℕ) → (h : Holds s c past) → Due c h.floors past n p act m
+    → ((code : Code) → m.carried ≡ carried.Refusal code → held ≡ (h.floors n).held)
+    → (head : Head) (call : FsCall) → CallFact (view h.floors c n) head call → CallFact (view_after c n (holding h.floors n held) (ended (c.clients n) cache)) head call
+ended_calls s c past n p act m cache held h d w head call f = record {
+  behind = f.behind;
+  booted = f.booted;
+  stale = f.stale;
+  own = λ b x y z. absurd cc;
+  safe = λ q above. elim (up_to_by _ _ _ _ f.behind) [
+    | inl l ↦ absurd (stale_none h.floors c past n head call m f q above d.fact d.epoch d.number l)
+    | inr same ↦ subst (λ (x : FsCall). IsSafe c.clock (c.clients n).epoch (c.clients n).last None cache (IsAged (view_after c n (holding h.floors n held) (ended (c.clients n) cache)) head) head x) (sym (f.own act d.running same.0 same.1))
+        (ended_safe (c.clients n).spoiled n (asked act) (spot (view h.floors c n)) c.server.boot m m.carried past c.clock (c.clients n).epoch (c.clients n).last cache (IsAged (view_after c n (holding h.floors n held) (ended (c.clients n) cache)) head) head d.answers.fits (not_ran (view h.floors c n) head.epoch head.number ((h.clients n).lower head.epoch head.number above) f.behind)
+        (λ code is. (old_held s c past n act m held h d (w code is) (below_boot s c past n act m head h d same.0 same.1 above), λ a y. absurd cc)))
+  ];
+}
+
+pub ended_reply : (s : Script) (c : Cell) (past : List Entry) (n : ℕ) (cache : List CacheEntry) (held : ℕ) (e : Entry) → (h : Holds s c past) → (m : Message) → ReplyFact n (view h.floors c n) past m → ReplyFact n (view_after c n (holding h.floors n held) (ended (c.clients n) cache)) (e ∷ past) m
+ended_reply s c past n cache held e h m f = idle_reply n (view h.floors c n) (view_after c n (holding h.floors n held) (ended (c.clients n) cache)) past (e ∷ past) m refl refl refl refl refl refl refl f
+
+pub ended_facts : (s : Script) (c : Cell) (past : List Entry) (n : ℕ) (cache : List CacheEntry) (held : ℕ) (e : Entry) → (h : Holds s c past) → held ≤ c.server.boot → running (Client n) (lines_of (e ∷ past)) ≡ None → HasCurrent n (view_after c n (holding h.floors n held) (ended (c.clients n) cache)) (e ∷ past) → ((f : Fid) → Reached (Client n) f (index_in (last_version f (lines_of (e ∷ past)))) (e ∷ past))
+    → ClientFacts n (view_after c n (holding h.floors n held) (ended (c.clients n) cache)) (e ∷ past)
+ended_facts s c past n cache held e h le idle cur r =
+    let d = h.clients n in
+    let v : View = view_after c n (holding h.floors n held) (ended (c.clients n) cache) in
+    record {
+      behind = d.behind;
+      behind_durable = d.behind_durable;
+      lower = d.lower;
+      kept = kept_over n _ (view h.floors c n) v past (e ∷ past) (ended_reply s c past n cache held e h) d.kept;
+      stored = kept_over n _ (view h.floors c n) v past (e ∷ past) (ended_reply s c past n cache held e h) d.stored;
+      known = d.known;
+      floored = d.floored;
+      holds = le;
+      waits = λ b y. absurd cc;
+      idle = λ y. idle;
+      made = λ b y. absurd cc;
+      current = cur;
+      runs = λ b y. absurd cc;
+      asked = λ b y. absurd cc;
+      reached = r;
+    }
+
+-- an entry of another file
+pub ended_stands : (fl : ℕ → Ghost) (c : Cell) (past : List Entry) (n : ℕ) (cache : List CacheEntry) (g : Ghost) (e : Entry) (f : Fid) (i : ℕ) → (Seen n f i past → Seen n f i (e ∷ past)) → StaysNewest n f e past → ((a : Going) → (c.clients n).running ≡ Some a → InScope (asked a) f → LastRan (view fl c n) → ⊥)
+    → (server : Node) (newer : List Line) → server ≡ the_server → Stands n f i server newer (view fl c n) past → Stands n f i server (onto newer e.lines) (view_after c n g (ended (c.clients n) cache)) (e ∷ past)
+ended_stands fl c past n cache g e f i r stay none server newer q (inl a) = inl (record { reached = r a.reached; newest = stay server i newer q a.newest; before = λ y x sc ran. absurd cc })
+ended_stands fl c past n cache g e f i r stay none server newer q (inr o) = absurd (none o.act o.runs o.scope o.ran)
+
+-- the seat of the client's last call has one reply
+pub one_reply : (v : Spot) (a b : LastStored v) (m k : Message) → a.seat.reply ≡ Some m → b.seat.reply ≡ Some k → m ≡ k
+one_reply v a b m k x y = let same : a.seat ≡ b.seat = some_of _ _ (sym a.at ∙ b.at) in some_of m k (sym x ∙ (ap (λ (z : Seat). z.reply) same ∙ y))
+
+-- ---- a refusal
+
+-- a store that ran after it was refused left the entry of its file withdrawn
+pub refused_stands : (s : Script) (c : Cell) (past : List Entry) (n p : ℕ) (act : Going) (head : Head) (code : Code) (e : Entry) (f : Fid) (u : CacheEntry) → (h : Holds s c past) → (d : Due c h.floors past n p act (record { head = head; carried = carried.Refusal code })) → (cur : IsCurrent n f u (view h.floors c n) past) → PassesSeen n f e past → PassesGrant n f e past → StaysNewest n f e past
+    → Stands n f u.index cur.held.grant.server (since (Client n) f u.expiry cur.reply past cur.held.grant) (view h.floors c n) past
+    → Stands n f u.index cur.held.grant.server (onto (since (Client n) f u.expiry cur.reply past cur.held.grant) e.lines) (view_after c n (holding h.floors n (h.floors n).held) (ended (c.clients n) (c.clients n).cache)) (e ∷ past)
+refused_stands s c past n p act head code e f u h d cur r g stay (inl a) = inl (record { reached = r u.index a.reached; newest = stay _ u.index _ cur.held.server a.newest; before = λ y x sc ran. absurd cc })
+refused_stands s c past n p act head code e f u h d cur r g stay (inr o) =
+    let m : Message = record { head = head; carried = carried.Refusal code } in
+    let l : m.head.boot < c.server.boot = d.answers.fits.1 o.ran in
+    inl (record { reached = r u.index o.was; newest = inl (g.withdrawn _ _ (old_withdrawn s c past n f u h cur (old_held s c past n act m (h.floors n).held h d refl l))); before = λ y x sc ran. absurd cc })
+
+pub takes_refused : (s : Script) (c : Cell) (past : List Entry) (n p : ℕ) (act : Going) (head : Head) (code : Code) → (h : Holds s c past) → Due c h.floors past n p act (record { head = head; carried = carried.Refusal code }) → Goes s past (client_moves c n (answers_step (Client n) (c.clients n) p code))
+takes_refused s c past n p act head code h d =
+    let m : Message = record { head = head; carried = carried.Refusal code } in
+    let e : Entry = step_entry n (answered_lines n p code) [] in
+    let nz : is_zero_code code ≡ false = d.answers.fits.0 in
+    let held : ℕ = (h.floors n).held in
+    moves s c past n (holding h.floors n held) (answers_step (Client n) (c.clients n) p code) h
+    (tt, ((refl, good_code s c past n p act m code (lines.Given p ∷ []) h d refl refl refl refl), tt))
+    (answered_passes s c past n p m code h d.heard)
+    (ended_facts s c past n (c.clients n).cache held e h (h.clients n).holds (own_ended n (running (Client n) (lines_of past)))
+    (λ f u found lasts. let cur : IsCurrent n f u (view h.floors c n) past = (h.clients n).current f u found lasts in
+    let file : PassesFile n f e past = answered_file n n p code past f in
+    record {
+      reply = cur.reply;
+      boot = cur.boot;
+      by = fetch_reply_by (has_fetched (Client n) f e.lines) (given_message e.lines (sent_of past)) (fetch_reply (Client n) f past) file.fetched ∙ cur.by;
+      held = held_over n f u.index u.body u.expiry cur.reply e past file.grant cur.held;
+      state = refused_stands s c past n p act head code e f u h d cur (answered_seen n n p code past f (λ t z. yes_no (is_zero_code code) z nz)) file.grant (stays n f e past file.grant refl) cur.state;
+    })
+    (reached_still s c past n e h (answered_reach n n p code past) (λ f. refl)))
+    (ended_calls s c past n p act m (c.clients n).cache held h d (λ k is. refl)) (ended_reply s c past n (c.clients n).cache held e h) (nothing_new _ _) (λ a x z. absurd cc) refl
+
+-- the client calls again
+pub again_goes : (s : Script) (c : Cell) (past : List Entry) (n p : ℕ) (act : Going) (m : Message) → (h : Holds s c past) → Due c h.floors past n p act m → volume_changed (asked act) ≡ None → Goes s past (client_moves c n (calls_step (Client n) (c.clients n) act (lines.Given p)))
+again_goes s c past n p act m h d shut =
+    asks s c past n act (lines.Given p) h (tt, tt) (told_passes s c past n p _ _ h d.heard) (λ g. told_file n p g (actors.Node (Client n)) _ past) (λ g. told_reach n p g (actors.Node (Client n)) _ past) (λ g o. (h.clients n).made act d.running g o (inl shut)) (λ b y. ap (λ (z : Going). volume_changed (asked z)) (some_of b act (sym y ∙ d.running)) ∙ shut) ((h.clients n).runs act d.running) (λ z. d.running)
+
+-- ---- what was fetched is read, and the act goes on
+
+abbrev pub read_now : ℕ → ℕ → CacheEntry → List Line
+read_now n p u = lines.Given p ∷ lines.Read (Client n) u.fid u.index Fetched u.body ∷ []
+
+abbrev pub fetched_walk : ClientState → ℕ → Going → CacheEntry → Walked
+fetched_walk x clock act u = walked (most_reads act) clock (with_read u.fid u.body act) (used_first u x.cache)
+
+pub both_not : (a b : Bool) → (a ≡ true → b ≡ true → ⊥) → (a && b) ≡ false
+both_not true true h = absurd (h refl refl)
+both_not true false h = refl
+both_not false b h = refl
+
+used_reply : (n : ℕ) (f : Fid) (rest : Bool) (o u : Option Message) → cond (cond (same_node (Client n) (Client n) && same_fid f f) true rest) o u ≡ o
+used_reply n f rest o u = rw (same_node-refl (Client n), same_fid-refl f) refl
+
+pub fetched_walks : (s : Script) (c : Cell) (past : List Entry) (n p : ℕ) (act : Going) (m : Message) (u : CacheEntry) → (h : Holds s c past) → Due c h.floors past n p act m → volume_changed (asked act) ≡ None → IsFetched false n u.fid u.index u.body u.expiry m past → c.clock < u.expiry
+    → Walks s c past n c.server.boot (read_now n p u) (with_read u.fid u.body act) (used_first u (c.clients n).cache)
+fetched_walks s c past n p act m u h d shut a lt =
+    let none : (g : Fid) → (reach (Client n) g past).made ≡ 0 = λ g. (h.clients n).made act d.running g (no_scope (asked act) g shut) (inl shut) in
+    let raised_by : (g : Fid) (k : ℕ) → (same_fid u.fid g ≡ true → u.index ≤ k) → (reach (Client n) g past).seen ≤ k → raised (same_node (Client n) (Client n) && same_fid u.fid g) u.index (reach (Client n) g past).seen ≤ k = λ g k le h. raised_up_to (same_node (Client n) (Client n) && same_fid u.fid g) u.index (reach (Client n) g past).seen k (λ t. le (both (same_node (Client n) (Client n)) (same_fid u.fid g) t).1) h in
+    let mine : Ready n c.server.boot u.fid u (read_now n p u) past = record {
+      reply = m;
+      boot = d.fact.booted;
+      held = a.held;
+      newest = a.newest;
+      low = raised_by u.fid u.index (λ t. le_refl _) a.reached;
+      by = used_reply n u.fid false (message_at (sent_of past) p) (fetch_reply (Client n) u.fid past) ∙ d.at;
+      later = λ tail t. used_reply n u.fid (has_fetched (Client n) u.fid tail) (message_at (sent_of past) p) (fetch_reply (Client n) u.fid past) ∙ d.at;
+    } in
+    record {
+      good = λ tail g. (
+        tt,
+        (
+          (
+            refl,
+            record {
+              whole = a.held.whole;
+              not_older = a.reached;
+              reply = m;
+              by = d.at;
+              expiry = u.expiry;
+              grant = a.held.grant;
+              lasts = subst (λ (t : ℕ). t < u.expiry) (sym h.clock) lt;
+              kept = a.held.kept refl;
+              newest = a.newest;
+            },
+          ),
+          g,
+        ),
+      );
+      quiet = (tt, (refl, tt));
+      runs = own_read n u.fid u.body act (running (Client n) (lines_of past)) ((h.clients n).runs act d.running);
+      ready = λ g w found lasts. elim (found-first g u (c.clients n).cache w found) [
+        | inl q ↦ subst (λ (y : CacheEntry). Ready n c.server.boot g y (read_now n p u) past) q.1 (subst (λ (y : Fid). Ready n c.server.boot y u (read_now n p u) past) q.0 mine)
+        | inr q ↦
+            let cur = (h.clients n).current g w q.1 lasts in
+            let not : (same_node (Client n) (Client n) && same_fid u.fid g) ≡ false = both_not (same_node (Client n) (Client n)) (same_fid u.fid g) (λ y z. q.0 (same_fid-true u.fid g z)) in
+            let plain : IsPlain n g w.index cur.held.grant.server (since (Client n) g w.expiry cur.reply past cur.held.grant) (c.clients n).running (spot (view h.floors c n)) past = elim cur.state [
+              | inl o ↦ o
+              | inr o ↦ absurd (no_scope (asked o.act) g (ap (λ (y : Going). volume_changed (asked y)) (some_of o.act act (sym o.runs ∙ d.running)) ∙ shut) o.scope)
+            ] in
+            record {
+              reply = cur.reply;
+              boot = le_trans cur.boot (h.clients n).holds;
+              held = cur.held;
+              newest = plain.newest;
+              low = raised_by g w.index (λ t. absurd (q.0 (same_fid-true u.fid g t))) plain.reached;
+              by = ap (λ (b : Bool). cond (cond b true false) (message_at (sent_of past) p) (fetch_reply (Client n) g past)) not ∙ cur.by;
+              later = λ tail t. ap (λ (b : Bool). cond (cond b true (has_fetched (Client n) g tail)) (message_at (sent_of past) p) (fetch_reply (Client n) g past)) not ∙ (ap (λ (b : Bool). cond b (message_at (sent_of past) p) (fetch_reply (Client n) g past)) (tail_fetched n (Client n) g tail t) ∙ cur.by);
+            }
+      ];
+      up = λ g. raised_by g (index_in (last_version g (lines_of past))) (λ t. subst (λ (z : Fid). u.index ≤ index_in (last_version z (lines_of past))) (same_fid-true u.fid g t) (h.top u.fid u.index u.body a.held.whole)) ((h.clients n).reached g).seen;
+      made = none;
+      dull = λ tail t k boot y. heard_dull s c past p m h d.heard k boot y;
+    }
+
+pub fetched_on : (s : Script) (c : Cell) (past : List Entry) (n p : ℕ) (act : Going) (m : Message) (u : CacheEntry) → (h : Holds s c past) → Due c h.floors past n p act m → volume_changed (asked act) ≡ None → IsFetched false n u.fid u.index u.body u.expiry m past → c.clock < u.expiry
+    → Walks s c past n c.server.boot (lines.Given p ∷ lines.Read (Client n) u.fid u.index Fetched u.body ∷ looked (Client n) (fetched_walk (c.clients n) c.clock act u).looks []) (fetched_walk (c.clients n) c.clock act u).act (fetched_walk (c.clients n) c.clock act u).cache
+fetched_on s c past n p act m u h d shut a lt = walks_on (most_reads act) s c past n c.server.boot (read_now n p u) (with_read u.fid u.body act) (used_first u (c.clients n).cache) h (fetched_walks s c past n p act m u h d shut a lt)
+
+pub fetched_answered : (s : Script) (c : Cell) (past : List Entry) (n p : ℕ) (act : Going) (m : Message) (u : CacheEntry) (k : ℕ) → (h : Holds s c past) → Due c h.floors past n p act m → ((code : Code) → m.carried ≡ carried.Refusal code → ⊥) → volume_changed (asked act) ≡ None → IsFetched false n u.fid u.index u.body u.expiry m past → c.clock < u.expiry
+    → next (fetched_walk (c.clients n) c.clock act u).act ≡ answers k → Goes s past (client_moves c n (goes_by (Client n) (c.clients n) (lines.Given p) (ClientRow.behind (look_at Fetched u) (fetched_walk (c.clients n) c.clock act u)) (answers k)))
+fetched_answered s c past n p act m u k h d not shut a lt is =
+    let x : ClientState = c.clients n in
+    let w : Walked = fetched_walk x c.clock act u in
+    let ls : List Line = lines.Given p ∷ lines.Read (Client n) u.fid u.index Fetched u.body ∷ looked (Client n) w.looks [] in
+    let tail : List Line = lines.Answer (Client n) (record { 0 = pos k }) ∷ [] in
+    let W : Walks s c past n c.server.boot ls w.act w.cache = fetched_on s c past n p act m u h d shut a lt in
+    let e : Entry = step_entry n (ls ++ tail) [] in
+    let t : AreTail n tail = (refl, tt) in
+    let ends : EndsReach n tail = ends_answered n (record { 0 = pos k }) in
+    let held : ℕ = c.server.boot in
+    let g : Ghost = holding h.floors n held in
+    subst (λ (os : List Line). Goes s past (with_lines c n (ended x w.cache) [] (lines.Given p ∷ lines.Read (Client n) u.fid u.index Fetched u.body ∷ os))) (sym (looked_more (Client n) w.looks tail))
+    (moves s c past n g (record { state = ended x w.cache; lines = ls ++ tail; sent = [] }) h
+    (walk_answered s c past n c.server.boot ls w.act w.cache k W is)
+    (quiet_passes s n (ls ++ tail) [] past (quiet_more n ls tail W.quiet (tail_quiet n tail t)) (W.dull tail t))
+    (ended_facts s c past n w.cache held e h (le_refl _) (ap (running (Client n)) (onto_last (lines_of past) ls (lines.Answer (Client n) (record { 0 = pos k }))) ∙ own_ended n (running (Client n) (onto (lines_of past) ls)))
+    (λ f v found lasts. walk_current s c past n c.server.boot ls w.act w.cache tail [] (view_after c n g (ended x w.cache)) f v W t ends (le_refl _) (inr refl) found lasts)
+    (walk_reached s c past n c.server.boot ls w.act w.cache tail [] W t ends))
+    (ended_calls s c past n p act m w.cache held h d (λ code z. absurd (not code z))) (ended_reply s c past n w.cache held e h) (nothing_new _ _) (λ b y z. absurd cc) refl)
+
+pub fetched_calls : (s : Script) (c : Cell) (past : List Entry) (n p : ℕ) (act : Going) (m : Message) (u : CacheEntry) → (h : Holds s c past) → Due c h.floors past n p act m → volume_changed (asked act) ≡ None → IsFetched false n u.fid u.index u.body u.expiry m past → c.clock < u.expiry
+    → Goes s past (client_moves c n (goes_by (Client n) (c.clients n) (lines.Given p) (ClientRow.behind (look_at Fetched u) (fetched_walk (c.clients n) c.clock act u)) (asks_for calls.GetTime)))
+fetched_calls s c past n p act m u h d shut a lt =
+    let x : ClientState = c.clients n in
+    let w : Walked = fetched_walk x c.clock act u in
+    let ls : List Line = lines.Given p ∷ lines.Read (Client n) u.fid u.index Fetched u.body ∷ looked (Client n) w.looks [] in
+    let W : Walks s c past n c.server.boot ls w.act w.cache = fetched_on s c past n p act m u h d shut a lt in
+    let k = h.clients n in
+    let y : ClientState = record x { last = x.last + 1; tries = 0; running = Some w.act; spoiled = false; cache = w.cache } in
+    let ms : List Message = call_message (Client n) (asking x w.act) w.act ∷ [] in
+    let e : Entry = step_entry n (ls ++ []) ms in
+    let g : Ghost = record { floor = c.server.boot; held = c.server.boot } in
+    let v : View = view_after c n g y in
+    let never : LastRan v → ⊥ = λ ran. next_not _ _ _ _ (k.behind_durable ran.seat ran.at) ran.epoch ran.number in
+    let at : running (Client n) (onto (lines_of past) (ls ++ [])) ≡ Some w.act = ap (λ (os : List Line). running (Client n) (onto (lines_of past) os)) (append-nil ls) ∙ W.runs in
+    let over : (q : Message) → ReplyFact n (view h.floors c n) past q → ReplyFact n v (e ∷ past) q = λ q r. record {
+      behind = up_to_next _ _ _ _ r.behind;
+      booted = r.booted;
+      recent = λ y z. absurd (next_not _ _ _ _ r.behind y z);
+      tied = r.tied;
+      answers = λ b runs y z. absurd (next_not _ _ _ _ r.behind y z);
+    } in
+    subst (λ (os : List Line). Goes s past (with_lines c n y ms os)) (append-nil ls)
+    (moves s c past n g (record { state = y; lines = ls ++ []; sent = ms }) h
+    (W.good [] tt)
+    (quiet_passes s n (ls ++ []) ms past (quiet_more n ls [] W.quiet tt) (W.dull [] tt))
+    (record {
+      behind = λ seat y. up_to_next _ _ _ _ (k.behind seat y);
+      behind_durable = λ seat y. up_to_next _ _ _ _ (k.behind_durable seat y);
+      lower = k.lower;
+      kept = kept_over n _ (view h.floors c n) v past (e ∷ past) over k.kept;
+      stored = kept_over n _ (view h.floors c n) v past (e ∷ past) over k.stored;
+      known = k.known;
+      floored = le_refl _;
+      holds = le_refl _;
+      waits = λ b y. le_refl _;
+      idle = λ y. absurd cc;
+      made = λ b y f o z. walk_made s c past n c.server.boot ls w.act w.cache [] ms f W (ends_here n);
+      current = λ f q found lasts. walk_current s c past n c.server.boot ls w.act w.cache [] ms v f q W tt (ends_here n) (le_refl _) (inl never) found lasts;
+      runs = λ b y. at ∙ y;
+      asked = λ b y. subst (λ (x : Going). CalledSince (last_key n v) guest (asked x) (e ∷ past)) (some_of w.act b y) (inl (refl, inl (refl, refl)));
+      reached = walk_reached s c past n c.server.boot ls w.act w.cache [] ms W tt (ends_here n);
+    })
+    (λ head' call r. record {
+      behind = up_to_next _ _ _ _ r.behind;
+      booted = r.booted;
+      stale = λ y. r.booted;
+      own = λ b y z w. absurd (next_not _ _ _ _ r.behind z w);
+      safe = λ q above. elim (up_to_by _ _ _ _ r.behind) [
+        | inl l ↦ absurd (stale_none h.floors c past n head' call m r q above d.fact d.epoch d.number l)
+        | inr same ↦ inl (ap volume_changed (r.own act d.running same.0 same.1) ∙ shut)
+      ];
+    })
+    over (own_call h.floors c past n g y w.act (ls ++ []) k.known refl at (new_one s c past n w.act h)) (λ b x z. inr (record { act = act; runs = d.running; read = shut })) refl)
+
+fetched_by : (need : Need) (s : Script) (c : Cell) (past : List Entry) (n p : ℕ) (act : Going) (m : Message) (u : CacheEntry) → (h : Holds s c past) → Due c h.floors past n p act m → ((code : Code) → m.carried ≡ carried.Refusal code → ⊥) → volume_changed (asked act) ≡ None → IsFetched false n u.fid u.index u.body u.expiry m past → c.clock < u.expiry
+    → next (fetched_walk (c.clients n) c.clock act u).act ≡ need → Goes s past (client_moves c n (goes_by (Client n) (c.clients n) (lines.Given p) (ClientRow.behind (look_at Fetched u) (fetched_walk (c.clients n) c.clock act u)) need))
+fetched_by (answers k) s c past n p act m u h d not shut a lt e = fetched_answered s c past n p act m u k h d not shut a lt e
+fetched_by (reads f) s c past n p act m u h d not shut a lt e = fetched_calls s c past n p act m u h d shut a lt
+fetched_by (asks_for call) s c past n p act m u h d not shut a lt e = fetched_calls s c past n p act m u h d shut a lt
+
+pub fetched_goes : (s : Script) (c : Cell) (past : List Entry) (n p : ℕ) (act : Going) (u : CacheEntry) (m : Message) (t : Bool) → (h : Holds s c past) → Due c h.floors past n p act m → ((code : Code) → m.carried ≡ carried.Refusal code → ⊥) → volume_changed (asked act) ≡ None → IsFetched false n u.fid u.index u.body u.expiry m past → nat_lt c.clock u.expiry ≡ t
+    → Goes s past (client_moves c n (cond t (goes_on (Client n) (c.clients n) (lines.Given p) (ClientRow.behind (look_at Fetched u) (fetched_walk (c.clients n) c.clock act u))) (calls_step (Client n) (c.clients n) act (lines.Given p))))
+fetched_goes s c past n p act u m true h d not shut a lasts = fetched_by (next (fetched_walk (c.clients n) c.clock act u).act) s c past n p act m u h d not shut a (ltb-true _ _ lasts) refl
+fetched_goes s c past n p act u m false h d not shut a lasts = again_goes s c past n p act m h d shut
+
+-- ---- an answered store
+
+-- the act's call is a store of the fid: that alone is in its scope, and its reply tells the new index
+pub record IsStoreBy (act : Going) (call : FsCall) (f : Fid) : Type 0 where
+  pub asks : asked act ≡ call
+  pub scope : (g : Fid) → is_in_scope call g ≡ same_fid f g
+  pub changed : (n : ℕ) (g : Fid) (server : Node) (newer : List Line) (reply : Option Message) (past : List Entry) → WasChanged n g server newer reply past call → WasStored n g server newer reply past
+
+-- what the store made of the body of the client's entry was told
+abbrev pub IsLeft : Cell → ℕ → Fid → ℕ → (Body → Body) → List Entry → Type 0
+IsLeft c n f index made past = (x : CacheEntry) → find_cached f (c.clients n).cache ≡ Some x → c.clock < x.expiry → HasVersion f index (made x.body) (lines_of past)
+
+-- the entry of the file holds what was stored, under the reply's index
+pub stored_state : (fl : ℕ → Ghost) (c : Cell) (past : List Entry) (n p : ℕ) (act : Going) (call : FsCall) (f : Fid) (b : Body → Body) (m : Message) (index i : ℕ) (server : Node) (newer : List Line) (e : Entry) (cache : List CacheEntry) → Due c fl past n p act m → IsStored (spot (view fl c n)) m → IsStoreBy act call f → stored_index m.carried ≡ Some index
+    → Seen n f index (e ∷ past) → StaysNewest n f e past → server ≡ the_server → Stands n f i server newer (view fl c n) past
+    → Stands n f index server (onto newer e.lines) (view_after c n (holding fl n (fl n).held) (ended (c.clients n) cache)) (e ∷ past)
+stored_state fl c past n p act call f b m index i server newer e cache d is same told r stay q (inl a) = absurd (a.before act d.running (ap (λ (z : FsCall). is_in_scope z f) same.asks ∙ (same.scope f ∙ same_fid-refl f)) is.ran)
+stored_state fl c past n p act call f b m index i server newer e cache d is same told r stay q (inr o) =
+    let one : o.act ≡ act = some_of o.act act (sym o.runs ∙ d.running) in
+    let w : WasStored n f server newer o.ran.seat.reply past = same.changed n f server newer o.ran.seat.reply past (subst (λ (z : FsCall). WasChanged n f server newer o.ran.seat.reply past z) (ap asked one ∙ same.asks) o.changed) in
+    let is_reply : m ≡ w.reply = one_reply (spot (view fl c n)) is.ran o.ran m w.reply is.kept w.kept in
+    let same_index : w.index ≡ index = some_of _ _ (sym w.told ∙ (ap (λ (x : Message). stored_index x.carried) (sym is_reply) ∙ told)) in
+    inl (record {
+      reached = r;
+      newest = subst (λ (k : ℕ). IsNewest server n f k (onto newer e.lines) (lines_of (e ∷ past))) same_index (stay server w.index newer q w.newest);
+      before = λ y x sc ran. absurd cc;
+    })
+
+-- that of the file
+pub stored_own : (s : Script) (c : Cell) (past : List Entry) (n p : ℕ) (act : Going) (call : FsCall) (f : Fid) (b : Body → Body) (m : Message) (index : ℕ) (x : CacheEntry) (e : Entry) (cache : List CacheEntry) → (h : Holds s c past) → Due c h.floors past n p act m → IsStored (spot (view h.floors c n)) m → IsStoreBy act call f → stored_index m.carried ≡ Some index
+    → HasVersion f index (b x.body) (lines_of past) → PassesFile n f e past → Seen n f index (e ∷ past) → StaysNewest n f e past → IsCurrent n f x (view h.floors c n) past
+    → IsCurrent n f (record x { index = index; body = b x.body }) (view_after c n (holding h.floors n (h.floors n).held) (ended (c.clients n) cache)) (e ∷ past)
+stored_own s c past n p act call f b m index x e cache h d is same told whole pass r stay cur = record {
+  reply = cur.reply;
+  boot = cur.boot;
+  by = fetch_reply_by (has_fetched (Client n) f e.lines) (given_message e.lines (sent_of past)) (fetch_reply (Client n) f past) pass.fetched ∙ cur.by;
+  held = held_over n f index (b x.body) x.expiry cur.reply e past pass.grant (record { grant = cur.held.grant; server = cur.held.server; kept = cur.held.kept; whole = whole; base = cur.held.base; split = cur.held.split; begun = cur.held.begun });
+  state = stored_state h.floors c past n p act call f b m index x.index cur.held.grant.server (since (Client n) f x.expiry cur.reply past cur.held.grant) e cache d is same told r stay cur.held.server cur.state;
+}
+
+pub stored_by : (t live : Bool) (s : Script) (c : Cell) (past : List Entry) (n p : ℕ) (act : Going) (call : FsCall) (f g : Fid) (b : Body → Body) (m : Message) (index : ℕ) (x u : CacheEntry) (e : Entry) (cache : List CacheEntry) → (h : Holds s c past) → Due c h.floors past n p act m → IsStored (spot (view h.floors c n)) m → IsStoreBy act call f → stored_index m.carried ≡ Some index
+    → IsLeft c n f index b past → ((k : Fid) → PassesFile n k e past) → Seen n f index (e ∷ past) → ((k : Fid) (i : ℕ) → (f ≡ k → ⊥) → IsTrusted c.clock k (c.clients n).cache → Seen n k i past → Seen n k i (e ∷ past)) → ((k : Fid) → StaysNewest n k e past)
+    → same_fid x.fid f ≡ t → nat_lt c.clock x.expiry ≡ live → same_fid x.fid g ≡ true → find_cached g (c.clients n).cache ≡ Some x → cond (t && live) (record x { index = index; body = b x.body }) x ≡ u → c.clock < u.expiry
+    → IsCurrent n g u (view_after c n (holding h.floors n (h.floors n).held) (ended (c.clients n) cache)) (e ∷ past)
+stored_by true true s c past n p act call f g b m index x u e cache h d kept same told whole pass z r stay t live own found is lasts =
+    let fg : f ≡ g = sym (same_fid-true x.fid f t) ∙ same_fid-true x.fid g own in
+    subst (λ (y : CacheEntry). IsCurrent n g y (view_after c n (holding h.floors n (h.floors n).held) (ended (c.clients n) cache)) (e ∷ past)) is
+    (subst (λ (y : Fid). IsCurrent n y (record x { index = index; body = b x.body }) (view_after c n (holding h.floors n (h.floors n).held) (ended (c.clients n) cache)) (e ∷ past)) fg
+    (stored_own s c past n p act call f b m index x e cache h d kept same told (whole x (ap (λ (y : Fid). find_cached y (c.clients n).cache) fg ∙ found) (ltb-true _ _ live)) (pass f) z (stay f) ((h.clients n).current f x (ap (λ (y : Fid). find_cached y (c.clients n).cache) fg ∙ found) (ltb-true _ _ live))))
+stored_by true false s c past n p act call f g b m index x u e cache h d kept same told whole pass z r stay t live own found is lasts =
+    let lasts' : c.clock < x.expiry = subst (λ (y : CacheEntry). c.clock < y.expiry) (sym is) lasts in
+    let yes : nat_lt c.clock x.expiry ≡ true = lt-ltb _ _ lasts' in
+    absurd cc
+stored_by false live s c past n p act call f g b m index x u e cache h d kept same told whole pass z r stay t live' own found is lasts =
+    let ne : f ≡ g → ⊥ = λ q. let yes : same_fid x.fid f ≡ true = ap (same_fid x.fid) q ∙ own in absurd cc in
+    let lasts' : c.clock < x.expiry = subst (λ (y : CacheEntry). c.clock < y.expiry) (sym is) lasts in
+    subst (λ (y : CacheEntry). IsCurrent n g y (view_after c n (holding h.floors n (h.floors n).held) (ended (c.clients n) cache)) (e ∷ past)) is
+    (current_over n g x (view h.floors c n) (view_after c n (holding h.floors n (h.floors n).held) (ended (c.clients n) cache)) e past (le_refl _) (pass g) (ended_stands h.floors c past n cache (holding h.floors n (h.floors n).held) e g x.index (r g x.index ne (record { entry = x; found = found; lasts = lasts' })) (stay g)
+    (λ a runs sc ran. ne (same_fid-true f g (sym (same.scope g) ∙ (ap (λ (z : FsCall). is_in_scope z g) (sym same.asks) ∙ (ap (λ (z : Going). is_in_scope (asked z) g) (some_of act a (sym d.running ∙ runs)) ∙ sc)))))) ((h.clients n).current g x found lasts'))
+
+pub stored_of : (o : Option CacheEntry) (s : Script) (c : Cell) (past : List Entry) (n p : ℕ) (act : Going) (call : FsCall) (f g : Fid) (b : Body → Body) (m : Message) (index : ℕ) (u : CacheEntry) (e : Entry) (cache : List CacheEntry) → (h : Holds s c past) → Due c h.floors past n p act m → IsStored (spot (view h.floors c n)) m → IsStoreBy act call f → stored_index m.carried ≡ Some index
+    → IsLeft c n f index b past → ((k : Fid) → PassesFile n k e past) → Seen n f index (e ∷ past) → ((k : Fid) (i : ℕ) → (f ≡ k → ⊥) → IsTrusted c.clock k (c.clients n).cache → Seen n k i past → Seen n k i (e ∷ past)) → ((k : Fid) → StaysNewest n k e past)
+    → find_cached g (c.clients n).cache ≡ o → option_map (refreshed c.clock f index b) o ≡ Some u → c.clock < u.expiry
+    → IsCurrent n g u (view_after c n (holding h.floors n (h.floors n).held) (ended (c.clients n) cache)) (e ∷ past)
+stored_of None s c past n p act call f g b m index u e cache h d kept same told whole pass z r stay found is lasts = absurd cc
+stored_of (Some x) s c past n p act call f g b m index u e cache h d kept same told whole pass z r stay found is lasts =
+    stored_by (same_fid x.fid f) (nat_lt c.clock x.expiry) s c past n p act call f g b m index x u e cache h d kept same told whole pass z r stay refl refl (found-cached-fid g (c.clients n).cache x found) found (some_of _ _ is) lasts
+
+pub takes_saved : (s : Script) (c : Cell) (past : List Entry) (n p : ℕ) (act : Going) (call : FsCall) (f : Fid) (b : Body → Body) (i : ℕ) (m : Message) → (h : Holds s c past) → Due c h.floors past n p act m → code_told m.carried ≡ Some (pos 0) → ((code : Code) → m.carried ≡ carried.Refusal code → ⊥)
+    → IsStoreBy act call f → stored_index m.carried ≡ Some i → IsStored (spot (view h.floors c n)) m → Reached (Client n) f i past → IsLeft c n f i b past → Goes s past (client_moves c n (takes_stored (Client n) (c.clients n) c.clock p f i b))
+takes_saved s c past n p act call f b i m h d zero not same told kept up left =
+    let held : ℕ = (h.floors n).held in
+    let cache : List CacheEntry = map (refreshed c.clock f i b) (c.clients n).cache in
+    let e : Entry = step_entry n (answered_lines n p zero_code) [] in
+    moves s c past n (holding h.floors n held) (takes_stored (Client n) (c.clients n) c.clock p f i b) h
+    (tt, ((refl, good_code s c past n p act m zero_code (lines.Given p ∷ []) h d zero refl refl refl), tt))
+    (answered_passes s c past n p m zero_code h d.heard)
+    (ended_facts s c past n cache held e h (h.clients n).holds (own_ended n (running (Client n) (lines_of past)))
+    (λ g u found lasts. stored_of (find_cached g (c.clients n).cache) s c past n p act call f g b m i u e cache h d kept same told left (answered_file n n p zero_code past) (answered_reach n n p zero_code past f i up).seen
+    (λ k j ne trusted y. (answered_reach n n p zero_code past k j (record { made = le_trans (le_of_eq ((h.clients n).made act d.running k (λ z. ne (same_fid-true f k (sym (same.scope k) ∙ (ap (λ (x : FsCall). is_in_scope x k) (sym same.asks) ∙ z)))) (inr trusted))) (omega arith); seen = y })).seen) (λ k. stays n k e past (answered_file n n p zero_code past k).grant refl)
+    refl (sym (found-refreshed c.clock f g i b (c.clients n).cache) ∙ found) lasts)
+    (reached_still s c past n e h (answered_reach n n p zero_code past) (λ g. refl)))
+    (ended_calls s c past n p act m cache held h d (λ code is. absurd (not code is))) (ended_reply s c past n cache held e h) (nothing_new _ _) (λ a x z. absurd cc) refl
+
+-- ---- any other answered call: the entries of the volume that it may have changed are given up
+
+reply_not : (reply : FsReply) (code : Code) → carried.Reply (tell.File reply) ≡ carried.Refusal code → ⊥
+reply_not reply code e = absurd cc
+
+pub takes_other : (s : Script) (c : Cell) (past : List Entry) (n p : ℕ) (act : Going) (m : Message) (reply : FsReply) → (h : Holds s c past) → Due c h.floors past n p act m → m.carried ≡ carried.Reply (tell.File reply) → Goes s past (client_moves c n (takes_plain (Client n) (c.clients n) p (asked act)))
+takes_other s c past n p act m reply h d is =
+    let x : ClientState = c.clients n in
+    let call : FsCall = asked act in
+    let cache : List CacheEntry = left_after call x.cache in
+    let es : List CacheEntry = dropped_after call x.cache in
+    let e : Entry = step_entry n (drop_lines n (was_given p) zero_code es) [] in
+    let last : (f : Fid) → last_version f (lines_of (e ∷ past)) ≡ last_version f (lines_of past) = λ f. (skips n zero_code es).last f _ in
+    let held : ℕ = (h.floors n).held in
+    let g : Ghost = holding h.floors n held in
+    moves s c past n g (takes_plain (Client n) x p call) h
+    (tt, drops_good s n p act m past es (lines.Given p ∷ []) (λ own a b r. good_code s c past n p act m zero_code own h d (ap code_told is) a b r) refl refl refl)
+    (drop_passes s c past n (was_given p) zero_code es (heard_dull s c past p m h d.heard))
+    (ended_facts s c past n cache held e h (h.clients n).holds (ended_running n zero_code es (lines.Given p ∷ lines_of past))
+    (λ k u found lasts.
+    let was = left_out (is_in_scope call) k x.cache u found in
+    let out : InScope call k → ⊥ = λ z. yes_no (is_in_scope call k) z was.1 in
+    let file : PassesFile n k e past = drop_file n n (was_given p) zero_code es past k (none_where (is_in_scope call) (Client n) (Client n) k x.cache was.1) in
+    current_over n k u (view h.floors c n) (view_after c n g (ended x cache)) e past (le_refl _) file
+    (ended_stands h.floors c past n cache g e k u.index (λ y. drop_seen n n (was_given p) zero_code es past k u.index (le_trans (le_of_eq ((h.clients n).made act d.running k out (inr (record { entry = u; found = was.0; lasts = lasts })))) (omega arith)) y) (stays n k e past file.grant (last k)) (λ a is sc ran. out (subst (λ (z : Going). InScope (asked z) k) (sym (some_of act a (sym d.running ∙ is))) sc)))
+    ((h.clients n).current k u was.0 lasts))
+    (reached_still s c past n e h (drop_reach n n (was_given p) zero_code es past) last))
+    (ended_calls s c past n p act m cache held h d (λ code x. absurd (reply_not reply code (sym is ∙ x)))) (ended_reply s c past n cache held e h) (nothing_new _ _) (λ a x z. absurd cc) refl
+
+-- ---- a boot notice
+
+pub resends_goes : (s : Script) (c : Cell) (past : List Entry) (n p : ℕ) (act : Going) (m : Message) (boot : ℕ) → Holds s c past → Heard c p m → boot ≤ c.server.boot → (c.clients n).running ≡ Some act → Goes s past (client_moves c n (resends_step (Client n) (c.clients n) p act boot))
+resends_goes s c past n p act m boot h d le runs =
+    let x : ClientState = record (c.clients n) { boot = boot } in
+    let ms : List Message = call_message (Client n) x act ∷ [] in
+    let e : Entry = step_entry n (lines.Given p ∷ []) ms in
+    moves s c past n (h.floors n) (resends_step (Client n) (c.clients n) p act boot) h (tt, tt) (told_passes s c past n p m ms h d)
+    (client_kept s c past n boot e h le (λ f. told_file n p f (actors.Node (Client n)) ms past) (λ f. told_reach n p f (actors.Node (Client n)) ms past) (told_act n p (actors.Node (Client n)) ms past) (λ f. refl))
+    (λ head call f. call_known (view h.floors c n) boot head call f)
+    (reply_still n (view h.floors c n) e past (λ f. told_file n p f (actors.Node (Client n)) ms past) (λ f. told_reach n p f (actors.Node (Client n)) ms past) (λ f. refl))
+    (own_call h.floors c past n (h.floors n) x act (lines.Given p ∷ []) le runs ((h.clients n).runs act runs) (same_one s c past n act ms h runs)) (λ a x z. inl x) refl
+
+-- ---- the row, by its cases
+
+pub plain_goes : (s : Script) (c : Cell) (past : List Entry) (n p : ℕ) (act : Going) (call : FsCall) (m : Message) (reply : FsReply) → (h : Holds s c past) → Due c h.floors past n p act m → m.carried ≡ carried.Reply (tell.File reply) → asked act ≡ call → Goes s past (client_moves c n (takes_plain (Client n) (c.clients n) p call))
+plain_goes s c past n p act call m reply h d is same = subst (λ (x : FsCall). Goes s past (client_moves c n (takes_plain (Client n) (c.clients n) p x))) same (takes_other s c past n p act m reply h d is)
+
+-- a reply to a reading call that isn't spent isn't spoiled
+pub spent_shut : (sp : Bool) (o : Option ℕ) → (sp && is_reading o) ≡ true → o ≡ None
+spent_shut true None e = refl
+spent_shut true (Some id) e = absurd cc
+spent_shut false o e = absurd cc
+
+pub fresh_of : (sp : Bool) (o : Option ℕ) → (sp && is_reading o) ≡ false → o ≡ None → sp ≡ false
+fresh_of true None e q = absurd cc
+fresh_of true (Some id) e q = absurd cc
+fresh_of false o e q = refl
+
+pub data_goes : (s : Script) (c : Cell) (past : List Entry) (n p : ℕ) (act : Going) (call : FsCall) (head : Head) (contents : List ℕ) (status : AfsFetchStatus) (callback : AfsCallBack) (sync : AfsVolSync) → (h : Holds s c past) → Due c h.floors past n p act (record { head = head; carried = carried.Reply (tell.File (replies.FetchData contents status callback sync)) })
+    → is_spent (c.clients n) act ≡ false → asked act ≡ call → FitsData (c.clients n).spoiled n (spot (view h.floors c n)) (record { head = head; carried = carried.Reply (tell.File (replies.FetchData contents status callback sync)) }) past contents status callback call → Goes s past (client_moves c n (takes_data (Client n) (c.clients n) c.clock p act contents status callback call))
+data_goes s c past n p act (calls.FetchData f pp w) head contents status callback sync h d fresh same fits =
+    let shut : volume_changed (asked act) ≡ None = ap volume_changed same in
+    fetched_goes s c past n p act (record { fid = f; index = status.sync_counter; expiry = callback.expiration_time; body = body_told status.file_type contents }) _ (nat_lt c.clock callback.expiration_time) h d (λ code z. reply_not (replies.FetchData contents status callback sync) code z) shut
+    (subst (λ (sp : Bool). IsFetched sp n f status.sync_counter (body_told status.file_type contents) callback.expiration_time (record { head = head; carried = carried.Reply (tell.File (replies.FetchData contents status callback sync)) }) past) (fresh_of (c.clients n).spoiled (volume_changed (asked act)) fresh shut) fits) refl
+data_goes s c past n p act call head contents status callback sync h d fresh same fits = plain_goes s c past n p act call _ (replies.FetchData contents status callback sync) h d refl same
+
+pub data_stored : (t : Bool) (s : Script) (c : Cell) (past : List Entry) (n p : ℕ) (act : Going) (st : AfsStoreStatus) (pp ww ll : ℤ) (f : Fid) (b : List ℕ) (status : AfsFetchStatus) (m : Message) (reply : FsReply) → (h : Holds s c past) → Due c h.floors past n p act m → m.carried ≡ carried.Reply (tell.File reply) → stored_index m.carried ≡ Some status.sync_counter
+    → asked act ≡ calls.StoreData f st pp ww ll b → FitsSet n (spot (view h.floors c n)) m past status (calls.StoreData f st pp ww ll b)
+    → Goes s past (client_moves c n (cond t (takes_plain (Client n) (c.clients n) p (calls.StoreData f st pp ww ll b)) (takes_stored (Client n) (c.clients n) c.clock p f status.sync_counter (λ body. bodies.File b))))
+data_stored true s c past n p act st pp ww ll f b status m reply h d is told same fits = plain_goes s c past n p act (calls.StoreData f st pp ww ll b) m reply h d is same
+data_stored false s c past n p act st pp ww ll f b status m reply h d is told same fits =
+    takes_saved s c past n p act (calls.StoreData f st pp ww ll b) f (λ body. bodies.File b) status.sync_counter m h d (ap code_told is) (λ code x. absurd (reply_not reply code (sym is ∙ x))) (record { asks = same; scope = λ g. refl; changed = λ k g server newer o older w. w }) told fits.1.0 fits.1.1 (λ x found lasts. fits.0)
+
+-- the entry stands just below the new index, so its body is that of the version before
+pub left_body : (s : Script) (c : Cell) (past : List Entry) (n : ℕ) (f : Fid) (index : ℕ) → (h : Holds s c past) → IsKeptBody f index (lines_of past) → is_below c.clock index (find_cached f (c.clients n).cache) ≡ true → IsLeft c n f index (λ body. body) past
+left_body s c past n f index h kept t x found lasts =
+    let below : is_below c.clock index (Some x) ≡ true = subst (λ (o : Option CacheEntry). is_below c.clock index o ≡ true) found t in
+    let live : nat_lt c.clock x.expiry ≡ true = lt-ltb _ _ lasts in
+    let at : cond (nat_lt c.clock x.expiry) (nat_eq (x.index + 1) index) true ≡ true = below in
+    let here : nat_eq (x.index + 1) index ≡ true = sym (ap (λ (b : Bool). cond b (nat_eq (x.index + 1) index) true) live) ∙ at in
+    let is : x.index + 1 ≡ index = eqb-true _ _ here in
+    let next : index ≡ kept.before + 1 = kept.next in
+    let same : kept.before ≡ x.index = omega arith in
+    let had : HasVersion f kept.before x.body (lines_of past) = subst (λ (i : ℕ). HasVersion f i x.body (lines_of past)) (sym same) ((h.clients n).current f x found lasts).held.whole in
+    subst (λ (b : Body). HasVersion f index b (lines_of past)) (h.one f kept.before kept.body x.body kept.old had) kept.new
+
+pub status_by : (t u : Bool) (s : Script) (c : Cell) (past : List Entry) (n p : ℕ) (act : Going) (call : FsCall) (f : Fid) (index : ℕ) (m : Message) (reply : FsReply) → (h : Holds s c past) → Due c h.floors past n p act m → m.carried ≡ carried.Reply (tell.File reply) → stored_index m.carried ≡ Some index
+    → IsStoreBy act call f → IsStored (spot (view h.floors c n)) m → Reached (Client n) f index past → IsKeptBody f index (lines_of past) → is_below c.clock index (find_cached f (c.clients n).cache) ≡ u
+    → Goes s past (client_moves c n (cond (not t && u) (takes_stored (Client n) (c.clients n) c.clock p f index (λ body. body)) (takes_plain (Client n) (c.clients n) p call)))
+status_by true u s c past n p act call f index m reply h d is told same stored up kept below = plain_goes s c past n p act call m reply h d is same.asks
+status_by false false s c past n p act call f index m reply h d is told same stored up kept below = plain_goes s c past n p act call m reply h d is same.asks
+status_by false true s c past n p act call f index m reply h d is told same stored up kept below =
+    takes_saved s c past n p act call f (λ body. body) index m h d (ap code_told is) (λ code x. absurd (reply_not reply code (sym is ∙ x))) same told stored up (left_body s c past n f index h kept below)
+
+pub set_goes : (s : Script) (c : Cell) (past : List Entry) (n p : ℕ) (act : Going) (call : FsCall) (status : AfsFetchStatus) (m : Message) (reply : FsReply) → (h : Holds s c past) → Due c h.floors past n p act m → m.carried ≡ carried.Reply (tell.File reply) → stored_index m.carried ≡ Some status.sync_counter
+    → asked act ≡ call → FitsSet n (spot (view h.floors c n)) m past status call → Goes s past (client_moves c n (takes_set (Client n) (c.clients n) c.clock p status call))
+set_goes s c past n p act (calls.StoreData f st pp ww ll b) status m reply h d is told same fits = data_stored (c.clients n).spoiled s c past n p act st pp ww ll f b status m reply h d is told same fits
+set_goes s c past n p act (calls.StoreAcl f acl) status m reply h d is told same fits =
+    status_by (c.clients n).spoiled (is_below c.clock status.sync_counter (find_cached f (c.clients n).cache)) s c past n p act (calls.StoreAcl f acl) f status.sync_counter m reply h d is told (record { asks = same; scope = λ g. refl; changed = λ k g server newer o older w. w }) fits.1.0 fits.1.1 fits.0 refl
+set_goes s c past n p act (calls.StoreStatus f st) status m reply h d is told same fits =
+    status_by (c.clients n).spoiled (is_below c.clock status.sync_counter (find_cached f (c.clients n).cache)) s c past n p act (calls.StoreStatus f st) f status.sync_counter m reply h d is told (record { asks = same; scope = λ g. refl; changed = λ k g server newer o older w. w }) fits.1.0 fits.1.1 fits.0 refl
+set_goes s c past n p act call status m reply h d is told same fits = plain_goes s c past n p act call m reply h d is same
+
+pub takes_goes : (s : Script) (c : Cell) (past : List Entry) (n p : ℕ) (act : Going) (call : FsCall) (head : Head) (reply : FsReply) → (h : Holds s c past) → Due c h.floors past n p act (record { head = head; carried = carried.Reply (tell.File reply) }) → is_spent (c.clients n) act ≡ false → asked act ≡ call → Goes s past (client_moves c n (takes (Client n) (c.clients n) c.clock p act call reply))
+takes_goes s c past n p act call head (replies.FetchData contents status callback sync) h d fresh same = data_goes s c past n p act call head contents status callback sync h d fresh same (subst (λ (x : FsCall). FitsData (c.clients n).spoiled n (spot (view h.floors c n)) (record { head = head; carried = carried.Reply (tell.File (replies.FetchData contents status callback sync)) }) past contents status callback x) same d.answers.fits)
+takes_goes s c past n p act call head (replies.StoreData status sync) h d fresh same = set_goes s c past n p act call status _ (replies.StoreData status sync) h d refl refl same (subst (λ (x : FsCall). FitsSet n (spot (view h.floors c n)) (record { head = head; carried = carried.Reply (tell.File (replies.StoreData status sync)) }) past status x) same d.answers.fits)
+takes_goes s c past n p act call head (replies.StoreAcl status sync) h d fresh same = set_goes s c past n p act call status _ (replies.StoreAcl status sync) h d refl refl same (subst (λ (x : FsCall). FitsSet n (spot (view h.floors c n)) (record { head = head; carried = carried.Reply (tell.File (replies.StoreAcl status sync)) }) past status x) same d.answers.fits)
+takes_goes s c past n p act call head (replies.StoreStatus status sync) h d fresh same = set_goes s c past n p act call status _ (replies.StoreStatus status sync) h d refl refl same (subst (λ (x : FsCall). FitsSet n (spot (view h.floors c n)) (record { head = head; carried = carried.Reply (tell.File (replies.StoreStatus status sync)) }) past status x) same d.answers.fits)
+takes_goes s c past n p act call head reply h d fresh same = plain_goes s c past n p act call _ reply h d refl same
+
+-- a reply that isn't used
+pub spent_goes : (s : Script) (c : Cell) (past : List Entry) (n p : ℕ) (act : Going) (m : Message) → (h : Holds s c past) → Due c h.floors past n p act m → is_spent (c.clients n) act ≡ true → Goes s past (client_moves c n (calls_step (Client n) (c.clients n) act (lines.Given p)))
+spent_goes s c past n p act m h d e = again_goes s c past n p act m h d (spent_shut (c.clients n).spoiled (volume_changed (asked act)) e)
+
+pub refused_goes : (s : Script) (c : Cell) (past : List Entry) (n p : ℕ) (act : Going) (head : Head) (code : Code) (t : Bool) → (h : Holds s c past) → Due c h.floors past n p act (record { head = head; carried = carried.Refusal code }) → is_spent (c.clients n) act ≡ t
+    → Goes s past (client_moves c n (cond t (calls_step (Client n) (c.clients n) act (lines.Given p)) (answers_step (Client n) (c.clients n) p code)))
+refused_goes s c past n p act head code true h d e = spent_goes s c past n p act _ h d e
+refused_goes s c past n p act head code false h d e = takes_refused s c past n p act head code h d
+
+pub replied_goes : (s : Script) (c : Cell) (past : List Entry) (n p : ℕ) (act : Going) (head : Head) (reply : FsReply) (t : Bool) → (h : Holds s c past) → Due c h.floors past n p act (record { head = head; carried = carried.Reply (tell.File reply) }) → is_spent (c.clients n) act ≡ t
+    → Goes s past (client_moves c n (cond t (calls_step (Client n) (c.clients n) act (lines.Given p)) (takes (Client n) (c.clients n) c.clock p act (call_of act) reply)))
+replied_goes s c past n p act head reply true h d e = spent_goes s c past n p act _ h d e
+replied_goes s c past n p act head reply false h d e = takes_goes s c past n p act (call_of act) head reply h d e (sym (call_is act))
+
+-- what is known of a message to the client that may be awaited
+pub record Awaited (c : Cell) (n : ℕ) (act : Going) (m : Message) : Type 0 where
+  pub epoch : m.head.epoch ≡ (c.clients n).epoch
+  pub number : m.head.number ≡ (c.clients n).last
+
+pub awaited : (c : Cell) (n : ℕ) (act : Going) (m : Message) → is_awaited (Client n) (c.clients n) act m.head ≡ true → Awaited c n act m
+awaited c n act m t =
+    let a = both _ _ t in
+    let b = both _ _ a.1 in
+    let e = both _ _ b.1 in
+    let k = both _ _ e.1 in
+    record { epoch = eqb-true _ _ e.0; number = eqb-true _ _ k.0 }
+
+abbrev pub key_by : Node → ℕ → ℕ → Key
+key_by node epoch number = record { node = node; epoch = epoch; number = number }
+
+pub same_parts : (a b : Node) (e d n m : ℕ) → a ≡ b → e ≡ d → n ≡ m → key_by a e n ≡ key_by b d m
+same_parts a b e d n m x y z = ap (λ (q : Node). key_by q e n) x ∙ (ap (λ (q : ℕ). key_by b q n) y ∙ ap (λ (q : ℕ). key_by b d q) z)
+
+pub is_due : (s : Script) (c : Cell) (past : List Entry) (n p : ℕ) (act : Going) (m : Message) → (h : Holds s c past) → Heard c p m → m.head.to ≡ Client n → ReplyIn (view h.floors c) past m → Awaited c n act m → (c.clients n).running ≡ Some act → Due c h.floors past n p act m
+is_due s c past n p act m h heard to f w runs =
+    let one : f.client ≡ n = client_number f.client n (sym f.to ∙ to) in
+    let fact : ReplyFact n (view h.floors c n) past m = subst (λ (j : ℕ). ReplyFact j (view h.floors c j) past m) one f.fact in
+    record {
+      running = runs;
+      epoch = w.epoch;
+      number = w.number;
+      fact = fact;
+      key = same_parts m.head.to (Client n) m.head.epoch (c.clients n).epoch m.head.number (c.clients n).last to w.epoch w.number;
+      answers = fact.answers act runs w.epoch w.number;
+      heard = heard;
+      at = ap (λ (ms : List Message). message_at ms p) h.sent.told ∙ heard.at;
+    }
+
+pub counts_goes : (s : Script) (c : Cell) (past : List Entry) (n p : ℕ) (act : Going) (head : Head) (x : Carried) → (h : Holds s c past) → Heard c p (record { head = head; carried = x }) → head.to ≡ Client n → OfReply (ReplyIn (view h.floors c) past (record { head = head; carried = x })) x
+    → OfNotice (IsNoticed c.server.boot (record { head = head; carried = x })) x → Awaited c n act (record { head = head; carried = x }) → (c.clients n).running ≡ Some act → Goes s past (client_moves c n (counts (Client n) (c.clients n) c.clock p act head x))
+counts_goes s c past n p act head (carried.Call user call) h heard to f k w runs = quiet s c past n p (record { head = head; carried = carried.Call user call }) h heard
+counts_goes s c past n p act head (carried.Refusal code) h heard to f k w runs = refused_goes s c past n p act head code (is_spent (c.clients n) act) h (is_due s c past n p act (record { head = head; carried = carried.Refusal code }) h heard to f w runs) refl
+counts_goes s c past n p act head (carried.Reply (tell.File reply)) h heard to f k w runs = replied_goes s c past n p act head reply (is_spent (c.clients n) act) h (is_due s c past n p act (record { head = head; carried = carried.Reply (tell.File reply) }) h heard to f w runs) refl
+counts_goes s c past n p act head (carried.Reply (tell.Volume reply)) h heard to f k w runs = quiet s c past n p (record { head = head; carried = carried.Reply (tell.Volume reply) }) h heard
+counts_goes s c past n p act head (carried.Reply (tell.Location reply)) h heard to f k w runs = quiet s c past n p (record { head = head; carried = carried.Reply (tell.Location reply) }) h heard
+counts_goes s c past n p act head carried.Notice h heard to f k w runs = resends_goes s c past n p act (record { head = head; carried = carried.Notice }) head.boot h heard k runs
+
+pub test_goes : (s : Script) (c : Cell) (past : List Entry) (n p : ℕ) (act : Going) (m : Message) (t : Bool) → (h : Holds s c past) → Heard c p m → m.head.to ≡ Client n → OfReply (ReplyIn (view h.floors c) past m) m.carried → OfNotice (IsNoticed c.server.boot m) m.carried → is_awaited (Client n) (c.clients n) act m.head ≡ t → (c.clients n).running ≡ Some act
+    → Goes s past (client_moves c n (cond t (counts (Client n) (c.clients n) c.clock p act m.head m.carried) (ignores (c.clients n) p)))
+test_goes s c past n p act m true h heard to f k t runs = counts_goes s c past n p act m.head m.carried h heard to f k (awaited c n act m t) runs
+test_goes s c past n p act m false h heard to f k t runs = quiet s c past n p m h heard
+
+pub awaits_goes : (s : Script) (c : Cell) (past : List Entry) (n p : ℕ) (m : Message) (o : Option Going) → (h : Holds s c past) → Heard c p m → m.head.to ≡ Client n → OfReply (ReplyIn (view h.floors c) past m) m.carried → OfNotice (IsNoticed c.server.boot m) m.carried → (c.clients n).running ≡ o → Goes s past (client_moves c n (awaits (Client n) (c.clients n) c.clock p m o))
+awaits_goes s c past n p m None h heard to f k runs = quiet s c past n p m h heard
+awaits_goes s c past n p m (Some act) h heard to f k runs = test_goes s c past n p act m (is_awaited (Client n) (c.clients n) act m.head) h heard to f k refl runs
+
+pub to_reply : (n : ℕ) (to : Node) (X : Type 0) (c : Carried) → to ≡ Client n → OfReply (OfClient to X) c → OfReply X c
+to_reply n to X (carried.Call user call) e h = tt
+to_reply n to X (carried.Refusal code) e h = by_client n to X e h
+to_reply n to X (carried.Reply reply) e h = by_client n to X e h
+to_reply n to X carried.Notice e h = tt
+
+pub to_notice : (n : ℕ) (to : Node) (X : Type 0) (c : Carried) → to ≡ Client n → OfNotice (OfClient to X) c → OfNotice X c
+to_notice n to X (carried.Call user call) e h = tt
+to_notice n to X (carried.Refusal code) e h = tt
+to_notice n to X (carried.Reply reply) e h = tt
+to_notice n to X carried.Notice e h = by_client n to X e h
+
+pub hears_goes : (s : Script) (c : Cell) (past : List Entry) (n p : ℕ) (head : Head) (x : Carried) → (h : Holds s c past) → message_at c.sent p ≡ Some (record { head = head; carried = x }) → head.to ≡ Client n → Heard c p (record { head = head; carried = x }) → OfCall (ByServer (BackIn c.down c.backs.calls c.backs.last_call c.server.boot)) head x
+    → IfReply (ReplyIn (view h.floors c) past) (record { head = head; carried = x }) → IfNotice (IsNoticed c.server.boot) (record { head = head; carried = x }) → Goes s past (client_moves c n (hears_in (Client n) (c.clients n) c.clock p head x))
+hears_goes s c past n p head (carried.Call user (ask.File call)) h at to heard b f k = called_goes s c past n p head user call h heard to b
+hears_goes s c past n p head (carried.Call user (ask.Volume call)) h at to heard b f k = absurd b
+hears_goes s c past n p head (carried.Call user (ask.Location call)) h at to heard b f k = absurd b
+hears_goes s c past n p head (carried.Refusal code) h at to heard b f k = awaits_goes s c past n p _ (c.clients n).running h heard to (by_client n head.to _ to f) tt refl
+hears_goes s c past n p head (carried.Reply reply) h at to heard b f k = awaits_goes s c past n p _ (c.clients n).running h heard to (by_client n head.to _ to f) tt refl
+hears_goes s c past n p head carried.Notice h at to heard b f k = awaits_goes s c past n p _ (c.clients n).running h heard to tt (by_client n head.to _ to k) refl
+
+pub client_goes : (s : Script) (c : Cell) (past : List Entry) (n p : ℕ) (m : Message) → Holds s c past → message_at c.sent p ≡ Some m → m.head.to ≡ Client n → Goes s past (client_moves c n (client_row (Client n) (c.clients n) c.clock p (Whole m)))
+unfolding client_row
+client_goes s c past n p m h at to =
+    hears_goes s c past n p m.head m.carried h at to (record { at = at; not_to = λ x. let y : Client n ≡ the_server = sym to ∙ x in absurd cc }) (each_at (IfBack (BackIn c.down c.backs.calls c.backs.last_call c.server.boot)) c.sent p m at (h.backs refl).calls)
+    (each_at (IfReply (ReplyIn (view h.floors c) past)) c.sent p m at h.sent.replies) (each_at (IfNotice (IsNoticed c.server.boot)) c.sent p m at h.sent.notices)
+
+pub begun_goes : (s : Script) (c : Cell) (past : List Entry) (n : ℕ) (act : Act) (o : Option Going) → Holds s c past → (c.clients n).running ≡ o → Goes s past (begun_by c n act o)
+begun_goes s c past n act None h e = begins_goes s c past n act h e
+begun_goes s c past n act (Some other) h e = voids s c past h

@@ -1,0 +1,459 @@
+-- How the facts on breaks pass over an entry.
+use Rattle.std.proofs.Common.{◌≡◌, ℕ, ◌<◌, ◌≤◌, ◌⊎◌, inl, inr, Bool, true, false, cond, List, [], ◌∷◌, ◌++◌, Option, Some, None, refl, sym, ap, subst, ◌∙◌, arith}
+use Rattle.std.specs.Prelude.{not, ◌&&◌}
+use Rattle.std.proofs.Math.Nat.{le_refl, le_trans}
+use Rattle.afs_num.specs.Fids.{same_fid}
+use Rattle.afs_num.specs.Nodes.{same_node}
+use Rattle.afs_num.specs.declared.types.Fid.{Fid}
+use Rattle.afs_num.specs.declared.types.Head.{Head}
+use Rattle.afs_num.specs.declared.types.Key.{Key}
+use Rattle.afs_num.specs.declared.types.Node.{Node}
+use Rattle.afs_num.specs.declared.types.Node.TheVariants.{Client}
+use Rattle.afs_num.specs.declared.calls.FsCall.{FsCall}
+use Rattle.afs_num.specs.declared.messages.Message.{Message}
+use Rattle.afs_law.proofs.Basics.{both, same_node-refl, Above, Each, IfBack, IfDone, each_more, each_map, if_back, if_done}
+use Rattle.afs_law.proofs.Owing.{AllOf, all_map, IsGranted, IsIn, IsNumberIn, AccountedBy, WaitedBy, AllWaitedBy, HeldWaits, IsOwed, CallOut, BackIn, DroppedOwe, IsDone, DoneIn, SeatedIn, BackedIn, Promised, Numbered}
+use Rattle.afs_law.specs.Breaks.{HasStopped, HasSettled, HasDrop, HasTimeout, last_grant, HasCome, Owes, AllOwes, EndedBy, OweAt, live_grant, is_on, last_number}
+use Rattle.afs_law.specs.Callbacks.{Promise, Owed, BackCall, Held, Backs, is_held, key_answered, breaks_call}
+use Rattle.afs_law.specs.ClientRow.{the_server}
+use Rattle.afs_law.specs.Legal.{HasChange}
+use Rattle.afs_law.specs.Lines.{Line}
+use Rattle.afs_law.specs.Past.{onto, lines_on, lines_of}
+use Rattle.afs_law.specs.Runs.{Entry, Fall}
+use Rattle.afs_law.specs.States.{Seat}
+use Rattle.afs_model.specs.Calls.{call_seat}
+use Rattle.afs_law.specs.Lines as lines
+
+-- ---- lines
+
+abbrev pub all_lines : (Line → Bool) → List Line → Bool
+all_lines q [] = true
+all_lines q (l ∷ ls) = q l && all_lines q ls
+
+-- the line stops no server
+abbrev pub is_up : Line → Bool
+is_up (lines.Crash n) = not (same_node n the_server)
+is_up (lines.Fault n) = not (same_node n the_server)
+is_up l = true
+
+-- it grants nothing
+abbrev pub is_still : Line → Bool
+is_still (lines.Grant s c f index expiry) = false
+is_still l = true
+
+-- it owes nothing
+abbrev pub is_oweless : Line → Bool
+is_oweless (lines.Owe s c what n) = false
+is_oweless l = true
+
+-- it begins no change
+abbrev pub is_unchanging : Line → Bool
+is_unchanging (lines.Change s k count) = false
+is_unchanging l = true
+
+pub record Plain (ls : List Line) : Type 0 where
+  pub up : all_lines is_up ls ≡ true
+  pub still : all_lines is_still ls ≡ true
+  pub oweless : all_lines is_oweless ls ≡ true
+  pub unchanging : all_lines is_unchanging ls ≡ true
+
+settled_more : (s c : Node) (n : ℕ) (l : Line) (o : List Line) → HasSettled s c n o → HasSettled s c n (l ∷ o)
+settled_more s c n (lines.Settle q d k) o h = inr h
+settled_more s c n (lines.Quit q d k) o h = inr h
+settled_more s c n l o h = h
+
+pub settled_onto : (s c : Node) (n : ℕ) (ls o : List Line) → HasSettled s c n o → HasSettled s c n (onto o ls)
+settled_onto s c n [] o h = h
+settled_onto s c n (l ∷ ls) o h = settled_onto s c n ls (l ∷ o) (settled_more s c n l o h)
+
+stopped_more : (s : Node) (l : Line) (o : List Line) → HasStopped s o → HasStopped s (l ∷ o)
+stopped_more s (lines.Crash q) o h = inr h
+stopped_more s (lines.Fault q) o h = inr h
+stopped_more s l o h = h
+
+pub stopped_onto : (s : Node) (ls o : List Line) → HasStopped s o → HasStopped s (onto o ls)
+stopped_onto s [] o h = h
+stopped_onto s (l ∷ ls) o h = stopped_onto s ls (l ∷ o) (stopped_more s l o h)
+
+drop_more : (s c : Node) (w : Option Fid) (l : Line) (o : List Line) → HasDrop s c w o → HasDrop s c w (l ∷ o)
+drop_more s c w (lines.Drop m g) o h = inr h
+drop_more s c w (lines.DropAll m q) o h = inr h
+drop_more s c w l o h = h
+
+pub drop_onto : (s c : Node) (w : Option Fid) (ls o : List Line) → HasDrop s c w o → HasDrop s c w (onto o ls)
+drop_onto s c w [] o h = h
+drop_onto s c w (l ∷ ls) o h = drop_onto s c w ls (l ∷ o) (drop_more s c w l o h)
+
+timeout_more : (s c : Node) (e n k : ℕ) (l : Line) (o : List Line) → HasTimeout s c e n k o → HasTimeout s c e n k (l ∷ o)
+timeout_more s c e n k (lines.Timeout q d i j t) o h = inr h
+timeout_more s c e n k l o h = h
+
+pub timeout_onto : (s c : Node) (e n k : ℕ) (ls o : List Line) → HasTimeout s c e n k o → HasTimeout s c e n k (onto o ls)
+timeout_onto s c e n k [] o h = h
+timeout_onto s c e n k (l ∷ ls) o h = timeout_onto s c e n k ls (l ∷ o) (timeout_more s c e n k l o h)
+
+stop_not : (n : Node) → not (same_node n the_server) ≡ true → n ≡ the_server → ⊥
+stop_not n h e = let yes : same_node n the_server ≡ true = ap (λ (m : Node). same_node m the_server) e ∙ same_node-refl the_server in absurd cc
+
+stopped_before : (l : Line) (o : List Line) → is_up l ≡ true → HasStopped the_server (l ∷ o) → HasStopped the_server o
+stopped_before (lines.Crash n) o h (inl e) = absurd (stop_not n h e)
+stopped_before (lines.Crash n) o h (inr x) = x
+stopped_before (lines.Fault n) o h (inl e) = absurd (stop_not n h e)
+stopped_before (lines.Fault n) o h (inr x) = x
+stopped_before l o h x = x
+
+pub stopped_back : (ls o : List Line) → all_lines is_up ls ≡ true → HasStopped the_server (onto o ls) → HasStopped the_server o
+stopped_back [] o h x = x
+stopped_back (l ∷ ls) o h x = let q = both (is_up l) (all_lines is_up ls) h in stopped_before l o q.0 (stopped_back ls (l ∷ o) q.1 x)
+
+grant_before : (c : Node) (f : Fid) (l : Line) (o : List Line) → is_still l ≡ true → last_grant the_server c f (l ∷ o) ≡ last_grant the_server c f o
+grant_before c f (lines.Grant s d g index expiry) o h = absurd cc
+grant_before c f l o h = refl
+
+pub grant_back : (c : Node) (f : Fid) (ls o : List Line) → all_lines is_still ls ≡ true → last_grant the_server c f (onto o ls) ≡ last_grant the_server c f o
+grant_back c f [] o h = refl
+grant_back c f (l ∷ ls) o h = let q = both (is_still l) (all_lines is_still ls) h in grant_back c f ls (l ∷ o) q.1 ∙ grant_before c f l o q.0
+
+-- it grants this client nothing
+abbrev pub is_still_to : Node → Line → Bool
+is_still_to c (lines.Grant s d f index expiry) = not (same_node d c)
+is_still_to c l = true
+
+granted_other : (a b : Bool) (s : Bool) (x : ℕ) (o : Option ℕ) → not a ≡ true → cond (s && (a && b)) (Some x) o ≡ o
+granted_other true b s x o h = absurd cc
+granted_other false b true x o h = refl
+granted_other false b false x o h = refl
+
+grant_before_to : (c : Node) (f : Fid) (l : Line) (o : List Line) → is_still_to c l ≡ true → last_grant the_server c f (l ∷ o) ≡ last_grant the_server c f o
+grant_before_to c f (lines.Grant s d g index expiry) o h = granted_other (same_node d c) (same_fid g f) (same_node s the_server) expiry (last_grant the_server c f o) h
+grant_before_to c f l o h = refl
+
+pub grant_back_to : (c : Node) (f : Fid) (ls o : List Line) → all_lines (is_still_to c) ls ≡ true → last_grant the_server c f (onto o ls) ≡ last_grant the_server c f o
+grant_back_to c f [] o h = refl
+grant_back_to c f (l ∷ ls) o h = let q = both (is_still_to c l) (all_lines (is_still_to c) ls) h in grant_back_to c f ls (l ∷ o) q.1 ∙ grant_before_to c f l o q.0
+
+change_before : (k : Key) (l : Line) (o : List Line) → is_unchanging l ≡ true → HasChange k (l ∷ o) → HasChange k o
+change_before k (lines.Change s q count) o h x = absurd cc
+change_before k l o h x = x
+
+pub change_back : (k : Key) (ls o : List Line) → all_lines is_unchanging ls ≡ true → HasChange k (onto o ls) → HasChange k o
+change_back k [] o h x = x
+change_back k (l ∷ ls) o h x = let q = both (is_unchanging l) (all_lines is_unchanging ls) h in change_before k l o q.0 (change_back k ls (l ∷ o) q.1 x)
+
+head_same : (x y : Line) (a b : List Line) → x ∷ a ≡ y ∷ b → x ≡ y
+head_same x y a b e = cc
+
+tail_same : (x y : Line) (a b : List Line) → x ∷ a ≡ y ∷ b → a ≡ b
+tail_same x y a b e = cc
+
+owe_not : (l : Line) (s c : Node) (what : Option Fid) (n : ℕ) → is_oweless l ≡ true → l ≡ lines.Owe s c what n → ⊥
+owe_not l s c what n h e = let x : is_oweless l ≡ false = ap is_oweless e in absurd cc
+
+pub no_owe : (ls before after : List Line) (s c : Node) (what : Option Fid) (n : ℕ) → all_lines is_oweless ls ≡ true → ls ≡ before ++ lines.Owe s c what n ∷ after → ⊥
+no_owe [] [] after s c what n h e = absurd cc
+no_owe [] (x ∷ before) after s c what n h e = absurd cc
+no_owe (l ∷ ls) [] after s c what n h e = owe_not l s c what n (both (is_oweless l) (all_lines is_oweless ls) h).0 (head_same l _ ls after e)
+no_owe (l ∷ ls) (x ∷ before) after s c what n h e = no_owe ls before after s c what n (both (is_oweless l) (all_lines is_oweless ls) h).1 (tail_same l x ls _ e)
+
+-- ---- breaks that were owed
+
+entry_same : (x y : Entry) (a b : List Entry) → x ∷ a ≡ y ∷ b → x ≡ y
+entry_same x y a b e = cc
+
+entries_same : (x y : Entry) (a b : List Entry) → x ∷ a ≡ y ∷ b → a ≡ b
+entries_same x y a b e = cc
+
+pub owes_over : (s : Node) (Q R : Owes) (e : Entry) (past : List Entry) → ((before after : List Line) (c : Node) (what : Option Fid) (n : ℕ) → e.lines ≡ before ++ lines.Owe s c what n ∷ after → R [] e past before after c what n)
+    → ((newer : List Entry) (at : Entry) (older : List Entry) (before after : List Line) (c : Node) (what : Option Fid) (n : ℕ) → Q newer at older before after c what n → R (e ∷ newer) at older before after c what n) → AllOwes s Q past → AllOwes s R (e ∷ past)
+owes_over s Q R e past new old h [] at older before after c what n split line =
+    let a : e ≡ at = entry_same e at past older split in
+    let b : past ≡ older = entries_same e at past older split in
+    subst (λ (x : Entry). R [] x older before after c what n) a (subst (λ (x : List Entry). R [] e x before after c what n) b (new before after c what n (subst (λ (x : Entry). x.lines ≡ before ++ lines.Owe s c what n ∷ after) (sym a) line)))
+owes_over s Q R e past new old h (x ∷ newer) at older before after c what n split line =
+    let a : e ≡ x = entry_same e x past (newer ++ (at ∷ older)) split in
+    let b : past ≡ newer ++ (at ∷ older) = entries_same e x past (newer ++ (at ∷ older)) split in
+    subst (λ (z : Entry). R (z ∷ newer) at older before after c what n) a (old newer at older before after c what n (h newer at older before after c what n b line))
+
+come_more : (o : Option ℕ) (t u : ℕ) → t ≤ u → HasCome o t → HasCome o u
+come_more None t u le h = h
+come_more (Some x) t u le h = le_trans h le
+
+pub ended_over : (e : Entry) (t u : ℕ) (newer : List Entry) (at : Entry) (older : List Entry) (before after : List Line) (c : Node) (what : Option Fid) (n : ℕ) → t ≤ u → EndedBy the_server t newer at older before after c what n → EndedBy the_server u (e ∷ newer) at older before after c what n
+ended_over e t u newer at older before after c what n le (inl x) = inl (settled_onto the_server c n e.lines _ x)
+ended_over e t u newer at older before after c what n le (inr (inl x)) = inr (inl (stopped_onto the_server e.lines _ x))
+ended_over e t u newer at older before after c what n le (inr (inr x)) = inr (inr (come_more _ t u le x))
+
+-- a reply that waits, over an entry that owes and changes nothing
+waits_or : (h : Held) (e : Entry) (t u : ℕ) (newer : List Entry) (at : Entry) (older : List Entry) (before after : List Line) (c : Node) (what : Option Fid) (n : ℕ) → t ≤ u → EndedBy the_server t newer at older before after c what n ⊎ IsNumberIn n h.waits → EndedBy the_server u (e ∷ newer) at older before after c what n ⊎ IsNumberIn n h.waits
+waits_or h e t u newer at older before after c what n le (inl x) = inl (ended_over e t u newer at older before after c what n le x)
+waits_or h e t u newer at older before after c what n le (inr x) = inr x
+
+pub waits_over : (seats now : List Seat) (t u : ℕ) (e : Entry) (past : List Entry) (h : Held) → t ≤ u → ((k : Key) → HasChange k (lines_of (e ∷ past)) → HasChange k (lines_of past) ⊎ Above (call_seat k.node seats) k.epoch k.number)
+    → ((before after : List Line) (c : Node) (what : Option Fid) (n : ℕ) → e.lines ≡ before ++ lines.Owe the_server c what n ∷ after → WaitedBy h u [] e past before after c what n × (what ≡ None → ⊥))
+    → ((m : Node) (x y : ℕ) → Above (call_seat m now) x y → Above (call_seat m seats) x y) → HeldWaits seats t past h → HeldWaits now u (e ∷ past) h
+waits_over seats now t u e past h le change new seat w = record {
+  client = w.client;
+  to = w.to;
+  from = w.from;
+  is_reply = w.is_reply;
+  under = λ x. w.under (seat _ _ _ x);
+  own = owes_over the_server (WaitedBy h t) (WaitedBy h u) e past (λ before after c what n line. (new before after c what n line).0) (λ newer at older before after c what n x boot y. waits_or h e t u newer at older before after c what n le (x boot y)) w.own;
+  all = λ x. elim (change (key_answered h.reply) x) [
+    | inl y ↦ owes_over the_server (AllWaitedBy h t) (AllWaitedBy h u) e past (λ before after c what n line z. absurd ((new before after c what n line).1 z)) (λ newer at older before after c what n y z. waits_or h e t u newer at older before after c what n le (y z)) (w.all y)
+    | inr y ↦ absurd (w.under y)
+  ];
+}
+
+-- ---- the server's own calls
+
+-- an unanswered call was there before, or is a new one
+abbrev pub CallsPass : (ℕ → Option BackCall) → ℕ → (ℕ → Option BackCall) → Type 0
+CallsPass old last new = (j : ℕ) (c : BackCall) → new j ≡ Some c → (last < c.number) ⊎ ((x : BackCall) × ((old j ≡ Some x) × ((x.number ≡ c.number) × (x.breaks ≡ c.breaks))))
+
+pub calls_same : (calls : ℕ → Option BackCall) (last : ℕ) → CallsPass calls last calls
+calls_same calls last j c e = inr (c, (e, (refl, refl)))
+
+pub front_onto : (a b ls : List Line) → onto (a ++ b) ls ≡ onto a ls ++ b
+front_onto a b [] = refl
+front_onto a b (l ∷ ls) = front_onto (l ∷ a) b ls
+
+abbrev pub owe_over : (c : Node) (what : Option Fid) (n : ℕ) (e : Entry) (past : List Entry) → all_lines is_up e.lines ≡ true → OweAt the_server c what n (lines_of past) → OweAt the_server c what n (lines_of (e ∷ past))
+owe_over c what n e past up o = record {
+  newer = onto o.newer e.lines;
+  base = o.base;
+  split = ap (λ (ls : List Line). onto ls e.lines) o.split ∙ front_onto o.newer _ e.lines;
+  up = λ x. o.up (stopped_back e.lines o.newer up x);
+}
+
+pub dropped_over : (j : ℕ) (e : Entry) (past : List Entry) (o : Owed) → all_lines is_up e.lines ≡ true → DroppedOwe j (lines_of past) o → DroppedOwe j (lines_of (e ∷ past)) o
+dropped_over j e past o up d = record { owe = owe_over (Client j) o.what o.number e past up d.owe; dropped = drop_onto the_server (Client j) o.what e.lines d.owe.newer d.dropped }
+
+pub call_over : (j : ℕ) (c : BackCall) (last more boot : ℕ) (e : Entry) (past : List Entry) → last ≤ more → all_lines is_up e.lines ≡ true → CallOut j c last boot past → CallOut j c more boot (e ∷ past)
+call_over j c last more boot e past le up h = record {
+  number = le_trans h.number le;
+  owes = all_map (IsOwed j (lines_of past)) (IsOwed j (lines_of (e ∷ past))) (λ o x. owe_over (Client j) o.what o.number e past up x) c.breaks h.owes;
+  tries = λ t a b. timeout_onto the_server (Client j) boot c.number t e.lines (lines_of past) (h.tries t a b);
+  sent = inr h.sent;
+  carries = h.carries;
+}
+
+below_not : (n last : ℕ) (c : BackCall) → last < c.number → n ≤ last → n ≡ c.number → ⊥
+below_not n last c a b e = absurd (omega arith)
+
+pub back_pass : (d e : Option Fall) (old new : ℕ → Option BackCall) (last more boot : ℕ) (head : Head) (user : List ℕ) (call : FsCall) → (e ≡ None → d ≡ None) → last ≤ more → CallsPass old last new → BackIn d old last boot head user call → BackIn e new more boot head user call
+back_pass d e old new last more boot head user call up le pass h = record {
+  client = h.client;
+  to = h.to;
+  booted = h.booted;
+  below = λ x y. le_trans (h.below (up x) y) le;
+  is = λ c x y at q. elim (pass h.client c at) [
+    | inl l ↦ absurd (below_not head.number last c l (h.below (up x) y) q)
+    | inr z ↦ h.is z.0 (up x) y z.1.0 (q ∙ sym z.1.1.0) ∙ ap breaks_call z.1.1.1
+  ];
+}
+
+pub done_pass : (d e : Option Fall) (old new : ℕ → Option BackCall) (last more boot : ℕ) (past newer : List Entry) (j epoch number : ℕ) → (e ≡ None → d ≡ None) → last ≤ more → CallsPass old last new → (e ≡ None → (o : Owed) → DroppedOwe j (lines_of past) o → DroppedOwe j (lines_of newer) o)
+    → IsDone d old last boot past j epoch number → IsDone e new more boot newer j epoch number
+done_pass d e old new last more boot past newer j epoch number up le pass over h = record {
+  booted = h.booted;
+  below = λ x y. le_trans (h.below (up x) y) le;
+  dropped = λ c x y at q. elim (pass j c at) [
+    | inl l ↦ absurd (below_not number last c l (h.below (up x) y) q)
+    | inr z ↦ all_map (DroppedOwe j (lines_of past)) (DroppedOwe j (lines_of newer)) (over x) c.breaks (subst (λ (os : List Owed). AllOf (DroppedOwe j (lines_of past)) os) z.1.1.1 (h.dropped z.0 (up x) y z.1.0 (q ∙ sym z.1.1.0)))
+  ];
+}
+
+-- ---- a step
+
+-- a grant that lasts behind lines that grant nothing lasted before
+none_or : (t : Bool) (o : Option ℕ) (x : ℕ) → cond t None o ≡ Some x → o ≡ Some x
+none_or true o x e = absurd cc
+none_or false o x e = e
+
+live_before : (c : Node) (f : Fid) (x : ℕ) (l : Line) (o : List Line) → is_still l ≡ true → live_grant the_server c f (l ∷ o) ≡ Some x → live_grant the_server c f o ≡ Some x
+live_before c f x (lines.Grant s d g index expiry) o h e = absurd cc
+live_before c f x (lines.Crash n) o h e = none_or (same_node n the_server) _ x e
+live_before c f x (lines.Fault n) o h e = none_or (same_node n the_server) _ x e
+live_before c f x (lines.Drop m g) o h e = none_or (same_node m c && same_fid g f) _ x e
+live_before c f x (lines.DropAll m q) o h e = none_or (same_node m c && same_node q the_server) _ x e
+live_before c f x (lines.Owe q d w n) o h e = none_or (same_node q the_server && (same_node d c && is_on f w)) _ x e
+live_before c f x l o h e = e
+
+pub live_back : (c : Node) (f : Fid) (x : ℕ) (ls o : List Line) → all_lines is_still ls ≡ true → live_grant the_server c f (onto o ls) ≡ Some x → live_grant the_server c f o ≡ Some x
+live_back c f x [] o h e = e
+live_back c f x (l ∷ ls) o h e = let q = both (is_still l) (all_lines is_still ls) h in live_before c f x l o q.0 (live_back c f x ls (l ∷ o) q.1 e)
+
+pub promised_over : (d : Option Fall) (ps : List Promise) (clock then : ℕ) (e : Entry) (past : List Entry) → all_lines is_still e.lines ≡ true → clock ≤ then → Promised d ps clock (lines_of past) → Promised d ps then (lines_of (e ∷ past))
+promised_over d ps clock then e past still le h j f x l t = h j f x (live_back (Client j) f x e.lines (lines_of past) still l) (omega arith)
+
+-- none lasts where the server stopped
+stop_none : (t : Bool) (n : Node) (o : Option ℕ) (x : ℕ) → same_node n the_server ≡ t → n ≡ the_server → cond t None o ≡ Some x → ⊥
+stop_none true n o x t e l = absurd cc
+stop_none false n o x t e l = let yes : same_node n the_server ≡ true = ap (λ (m : Node). same_node m the_server) e in absurd cc
+
+stop_line : (c : Node) (f : Fid) (x : ℕ) (l : Line) (o p : List Line) → is_still l ≡ true → (HasStopped the_server p → live_grant the_server c f o ≡ Some x → ⊥) → HasStopped the_server (l ∷ p) → live_grant the_server c f (l ∷ o) ≡ Some x → ⊥
+stop_line c f x (lines.Crash n) o p h w (inl e) k = stop_none (same_node n the_server) n _ x refl e k
+stop_line c f x (lines.Crash n) o p h w (inr s) k = w s (none_or (same_node n the_server) _ x k)
+stop_line c f x (lines.Fault n) o p h w (inl e) k = stop_none (same_node n the_server) n _ x refl e k
+stop_line c f x (lines.Fault n) o p h w (inr s) k = w s (none_or (same_node n the_server) _ x k)
+stop_line c f x l o p h w s k = w s (live_before c f x l o h k)
+
+live_stop : (c : Node) (f : Fid) (x : ℕ) (ls o p : List Line) → all_lines is_still ls ≡ true → (HasStopped the_server p → live_grant the_server c f o ≡ Some x → ⊥) → HasStopped the_server (onto p ls) → live_grant the_server c f (onto o ls) ≡ Some x → ⊥
+live_stop c f x [] o p h w s k = w s k
+live_stop c f x (l ∷ ls) o p h w s k = let q = both (is_still l) (all_lines is_still ls) h in live_stop c f x ls (l ∷ o) (l ∷ p) q.1 (λ y z. stop_line c f x l o p q.0 w y z) s k
+
+-- numbers over lines that owe nothing
+up_by : (t : Bool) (n : Node) (a : ℕ) → not t ≡ true → cond t 0 a ≡ a
+up_by true n a h = absurd cc
+up_by false n a h = refl
+
+number_before : (l : Line) (o : List Line) → is_up l ≡ true → is_oweless l ≡ true → last_number the_server (l ∷ o) ≡ last_number the_server o
+number_before (lines.Owe q d w n) o u h = absurd cc
+number_before (lines.Crash n) o u h = up_by (same_node n the_server) n _ u
+number_before (lines.Fault n) o u h = up_by (same_node n the_server) n _ u
+number_before l o u h = refl
+
+pub number_back : (ls o : List Line) → all_lines is_up ls ≡ true → all_lines is_oweless ls ≡ true → last_number the_server (onto o ls) ≡ last_number the_server o
+number_back [] o u h = refl
+number_back (l ∷ ls) o u h = let p = both (is_up l) (all_lines is_up ls) u in let q = both (is_oweless l) (all_lines is_oweless ls) h in number_back ls (l ∷ o) p.1 q.1 ∙ number_before l o p.0 q.0
+
+pub numbered_over : (d : Option Fall) (last : ℕ) (e : Entry) (past : List Entry) → all_lines is_up e.lines ≡ true → all_lines is_oweless e.lines ≡ true → Numbered d last (lines_of past) → Numbered d last (lines_of (e ∷ past))
+numbered_over None last e past u h n = subst (λ (k : ℕ). k ≤ last) (sym (number_back e.lines (lines_of past) u h)) n
+numbered_over (Some fall) last e past u h n = number_back e.lines (lines_of past) u h ∙ n
+
+-- a stop ends the numbers
+zero_by : (t : Bool) (a : ℕ) → a ≡ 0 → cond t 0 a ≡ 0
+zero_by true a h = refl
+zero_by false a h = h
+
+zero_before : (l : Line) (o : List Line) → is_oweless l ≡ true → last_number the_server o ≡ 0 → last_number the_server (l ∷ o) ≡ 0
+zero_before (lines.Owe q d w n) o h z = absurd cc
+zero_before (lines.Crash n) o h z = zero_by (same_node n the_server) _ z
+zero_before (lines.Fault n) o h z = zero_by (same_node n the_server) _ z
+zero_before l o h z = z
+
+pub zero_back : (ls o : List Line) → all_lines is_oweless ls ≡ true → last_number the_server o ≡ 0 → last_number the_server (onto o ls) ≡ 0
+zero_back [] o h z = z
+zero_back (l ∷ ls) o h z = let q = both (is_oweless l) (all_lines is_oweless ls) h in zero_back ls (l ∷ o) q.1 (zero_before l o q.0 z)
+
+zero_stop : (t : Bool) (n : Node) (a : ℕ) → same_node n the_server ≡ t → n ≡ the_server → cond t 0 a ≡ 0
+zero_stop true n a t e = refl
+zero_stop false n a t e = let yes : same_node n the_server ≡ true = ap (λ (m : Node). same_node m the_server) e in absurd cc
+
+zero_line : (l : Line) (o p : List Line) → is_oweless l ≡ true → (HasStopped the_server p → last_number the_server o ≡ 0) → HasStopped the_server (l ∷ p) → last_number the_server (l ∷ o) ≡ 0
+zero_line (lines.Crash n) o p h w (inl e) = zero_stop (same_node n the_server) n _ refl e
+zero_line (lines.Crash n) o p h w (inr s) = zero_by (same_node n the_server) _ (w s)
+zero_line (lines.Fault n) o p h w (inl e) = zero_stop (same_node n the_server) n _ refl e
+zero_line (lines.Fault n) o p h w (inr s) = zero_by (same_node n the_server) _ (w s)
+zero_line l o p h w s = zero_before l o h (w s)
+
+zero_stopped : (ls o p : List Line) → all_lines is_oweless ls ≡ true → (HasStopped the_server p → last_number the_server o ≡ 0) → HasStopped the_server (onto p ls) → last_number the_server (onto o ls) ≡ 0
+zero_stopped [] o p h w s = w s
+zero_stopped (l ∷ ls) o p h w s = let q = both (is_oweless l) (all_lines is_oweless ls) h in zero_stopped ls (l ∷ o) (l ∷ p) q.1 (λ y. zero_line l o p q.0 w y) s
+
+numbered_fall : (d : Option Fall) (last : ℕ) (e : Entry) (past : List Entry) → all_lines is_oweless e.lines ≡ true → (d ≡ None → (o : List Line) → HasStopped the_server (onto o e.lines)) → Numbered d last (lines_of past) → last_number the_server (lines_of (e ∷ past)) ≡ 0
+numbered_fall None last e past h stop n = zero_stopped e.lines (lines_of past) [] h (λ y. absurd y) (stop refl [])
+numbered_fall (Some fall) last e past h stop n = zero_back e.lines (lines_of past) h n
+
+pub record Stepping (d u : Option Fall) (b now : Backs) (clock then : ℕ) (e : Entry) (past : List Entry) : Type 0 where
+  pub was_up : u ≡ None → d ≡ None
+  pub up : u ≡ None → all_lines is_up e.lines ≡ true
+  pub or_stopped : d ≡ None → (u ≡ None) ⊎ ((o : List Line) → HasStopped the_server (onto o e.lines))
+  pub later : clock ≤ then
+  pub new : (before after : List Line) (c : Node) (what : Option Fid) (n : ℕ) → e.lines ≡ before ++ lines.Owe the_server c what n ∷ after → AccountedBy u now.owed now.held then [] e past before after c what n
+  pub gone : (o : Owed) → IsIn o b.owed → IsIn o now.owed ⊎ ((l : List Line) → HasSettled the_server (Client o.client) o.number (onto l e.lines))
+  pub held : (k : Key) → is_held k b.held ≡ true → is_held k now.held ≡ true
+  pub last : b.last_call ≤ now.last_call
+  pub calls : CallsPass b.calls b.last_call now.calls
+
+open_over : (d u : Option Fall) (b now : Backs) (clock then : ℕ) (e : Entry) (past : List Entry) → Stepping d u b now clock then e past → (newer : List Entry) (at : Entry) (older : List Entry) (before after : List Line) (c : Node) (what : Option Fid) (n : ℕ)
+    → AccountedBy d b.owed b.held clock newer at older before after c what n → AccountedBy u now.owed now.held then (e ∷ newer) at older before after c what n
+open_over d u b now clock then e past s newer at older before after c what n (inl x) = inl (ended_over e clock then newer at older before after c what n s.later x)
+open_over d u b now clock then e past s newer at older before after c what n (inr x) = elim (s.or_stopped x.0) [
+  | inl up ↦ elim (s.gone x.1.o x.1.is_in) [
+    | inl is ↦ inr (up, record { o = x.1.o; is_in = is; number = x.1.number; client = x.1.client; on = x.1.on; expiry = x.1.expiry; waits = λ k boot y. elim (x.1.waits k boot y) [ inl z ↦ inl (ended_over e clock then newer at older before after c what n s.later z) | inr z ↦ inr (s.held k z) ] })
+    | inr gone ↦ inl (inl (subst (λ (m : Node). HasSettled the_server m n (onto (lines_on (onto [] after) newer) e.lines)) x.1.client (subst (λ (k : ℕ). HasSettled the_server (Client x.1.o.client) k (onto (lines_on (onto [] after) newer) e.lines)) x.1.number (gone _))))
+  ]
+  | inr stop ↦ inl (inr (inl (stop _)))
+]
+
+pub backed_step : (d u : Option Fall) (b now : Backs) (boot : ℕ) (seats after : List Seat) (cs cz : ℕ → Option Seat) (clock then : ℕ) (sent ms : List Message) (e : Entry) (past : List Entry) → Stepping d u b now clock then e past → BackedIn d b boot seats cs clock sent past
+    → (u ≡ None → AllOf (IsGranted (lines_of (e ∷ past))) now.promises) → Promised u now.promises then (lines_of (e ∷ past)) → Numbered u now.last_owed (lines_of (e ∷ past)) → (u ≡ None → AllOf (λ (o : Owed). IsOwed o.client (lines_of (e ∷ past)) o) now.owed) → (u ≡ None → AllOf (HeldWaits after then (e ∷ past)) now.held) → (u ≡ None → (j : ℕ) (c : BackCall) → now.calls j ≡ Some c → CallOut j c now.last_call boot (e ∷ past))
+    → Each (IfBack (BackIn u now.calls now.last_call boot)) ms → Each (IfDone (DoneIn u now.calls now.last_call boot (e ∷ past))) ms
+    → ((j : ℕ) (seat : Seat) (m : Message) → cz j ≡ Some seat → seat.reply ≡ Some m → SeatedIn u now.calls now.last_call boot (e ∷ past) j m)
+    → BackedIn u now boot after cz then (sent ++ ms) (e ∷ past)
+backed_step d u b now boot seats after cs cz clock then sent ms e past s h granted promised numbered owed waiting outs backs dones seated = record {
+  granted = granted;
+  promised = promised;
+  numbered = numbered;
+  owed = owed;
+  accounted = owes_over the_server (AccountedBy d b.owed b.held clock) (AccountedBy u now.owed now.held then) e past s.new (open_over d u b now clock then e past s) h.accounted;
+  waiting = waiting;
+  outs = outs;
+  calls = each_more (IfBack (BackIn u now.calls now.last_call boot)) sent ms (each_map (IfBack (BackIn d b.calls b.last_call boot)) (IfBack (BackIn u now.calls now.last_call boot)) (if_back (BackIn d b.calls b.last_call boot) (BackIn u now.calls now.last_call boot)
+      (λ head user call x. back_pass d u b.calls now.calls b.last_call now.last_call boot head user call s.was_up s.last s.calls x)) sent h.calls) backs;
+  dones = each_more (IfDone (DoneIn u now.calls now.last_call boot (e ∷ past))) sent ms (each_map (IfDone (DoneIn d b.calls b.last_call boot past)) (IfDone (DoneIn u now.calls now.last_call boot (e ∷ past))) (if_done (DoneIn d b.calls b.last_call boot past) (DoneIn u now.calls now.last_call boot (e ∷ past))
+      (λ m x. record { client = x.client; from = x.from; done = done_pass d u b.calls now.calls b.last_call now.last_call boot past (e ∷ past) x.client m.head.epoch m.head.number s.was_up s.last s.calls (λ y o z. dropped_over x.client e past o (s.up y) z) x.done })) sent h.dones) dones;
+  seated = seated;
+}
+
+-- what a client keeps for the server passes likewise
+pub seated_over : (d u : Option Fall) (b now : Backs) (boot clock then : ℕ) (e : Entry) (past : List Entry) → Stepping d u b now clock then e past → (j : ℕ) (m : Message) → SeatedIn d b.calls b.last_call boot past j m → SeatedIn u now.calls now.last_call boot (e ∷ past) j m
+seated_over d u b now boot clock then e past s j m x = record {
+  to = x.to;
+  from = x.from;
+  is_reply = x.is_reply;
+  done = done_pass d u b.calls now.calls b.last_call now.last_call boot past (e ∷ past) j m.head.epoch m.head.number s.was_up s.last s.calls (λ y o z. dropped_over j e past o (s.up y) z) x.done;
+}
+
+-- ---- a step that leaves what the server has in memory
+
+pub plain_step : (d : Option Fall) (b : Backs) (clock then : ℕ) (e : Entry) (past : List Entry) → Plain e.lines → clock ≤ then → Stepping d d b b clock then e past
+plain_step d b clock then e past p le = record {
+  was_up = λ x. x;
+  up = λ x. p.up;
+  or_stopped = λ x. inl x;
+  later = le;
+  new = λ before after c what n line. absurd (no_owe e.lines before after the_server c what n p.oweless line);
+  gone = λ o x. inl x;
+  held = λ k x. x;
+  last = le_refl _;
+  calls = calls_same b.calls b.last_call;
+}
+
+pub plain_waits : (seats now : List Seat) (t u : ℕ) (e : Entry) (past : List Entry) (h : Held) → Plain e.lines → t ≤ u → ((m : Node) (x y : ℕ) → Above (call_seat m now) x y → Above (call_seat m seats) x y) → HeldWaits seats t past h → HeldWaits now u (e ∷ past) h
+plain_waits seats now t u e past h p le seat w = waits_over seats now t u e past h le (λ k x. inl (change_back k e.lines (lines_of past) p.unchanging x)) (λ before after c what n line. absurd (no_owe e.lines before after the_server c what n p.oweless line)) seat w
+
+pub granted_over : (e : Entry) (past : List Entry) (ps : List Promise) → all_lines is_still e.lines ≡ true → AllOf (IsGranted (lines_of past)) ps → AllOf (IsGranted (lines_of (e ∷ past))) ps
+granted_over e past ps still h = all_map (IsGranted (lines_of past)) (IsGranted (lines_of (e ∷ past))) (λ p x. grant_back (Client p.client) p.fid e.lines (lines_of past) still ∙ x) ps h
+
+pub owed_over : (e : Entry) (past : List Entry) (os : List Owed) → all_lines is_up e.lines ≡ true → AllOf (λ (o : Owed). IsOwed o.client (lines_of past) o) os → AllOf (λ (o : Owed). IsOwed o.client (lines_of (e ∷ past)) o) os
+owed_over e past os up h = all_map (λ (o : Owed). IsOwed o.client (lines_of past) o) (λ (o : Owed). IsOwed o.client (lines_of (e ∷ past)) o) (λ o x. owe_over (Client o.client) o.what o.number e past up x) os h
+
+-- a client's step, or one of nobody: the clock may rise
+pub backed_plain : (d : Option Fall) (b : Backs) (boot : ℕ) (seats : List Seat) (cs cz : ℕ → Option Seat) (clock then : ℕ) (sent ms : List Message) (e : Entry) (past : List Entry) → Plain e.lines → clock ≤ then → BackedIn d b boot seats cs clock sent past
+    → Each (IfBack (BackIn d b.calls b.last_call boot)) ms → Each (IfDone (DoneIn d b.calls b.last_call boot (e ∷ past))) ms
+    → ((j : ℕ) (seat : Seat) (m : Message) → cz j ≡ Some seat → seat.reply ≡ Some m → SeatedIn d b.calls b.last_call boot (e ∷ past) j m) → BackedIn d b boot seats cz then (sent ++ ms) (e ∷ past)
+backed_plain d b boot seats cs cz clock then sent ms e past p le h backs dones seated =
+    let s : Stepping d d b b clock then e past = plain_step d b clock then e past p le in
+    backed_step d d b b boot seats seats cs cz clock then sent ms e past s h (λ x. granted_over e past b.promises p.still (h.granted x)) (promised_over d b.promises clock then e past p.still le h.promised) (numbered_over d b.last_owed e past p.up p.oweless h.numbered) (λ x. owed_over e past b.owed p.up (h.owed x))
+    (λ x. all_map (HeldWaits seats clock past) (HeldWaits seats then (e ∷ past)) (λ q y. plain_waits seats seats clock then e past q p le (λ m a c z. z) y) b.held (h.waiting x))
+    (λ x j c at. call_over j c b.last_call b.last_call boot e past (le_refl _) p.up (h.outs x j c at)) backs dones seated
+
+-- the server is down, or goes down
+pub backed_fall : (d : Option Fall) (fall : Fall) (b : Backs) (boot : ℕ) (seats after : List Seat) (cs : ℕ → Option Seat) (clock : ℕ) (sent : List Message) (e : Entry) (past : List Entry) → all_lines is_oweless e.lines ≡ true → all_lines is_still e.lines ≡ true → (d ≡ None → (o : List Line) → HasStopped the_server (onto o e.lines)) → BackedIn d b boot seats cs clock sent past
+    → BackedIn (Some fall) b boot after cs clock (sent ++ []) (e ∷ past)
+backed_fall d fall b boot seats after cs clock sent e past oweless still stop h =
+    let s : Stepping d (Some fall) b b clock clock e past = record {
+      was_up = λ x. absurd cc;
+      up = λ x. absurd cc;
+      or_stopped = λ x. inr (stop x);
+      later = le_refl _;
+      new = λ before after c what n line. absurd (no_owe e.lines before after the_server c what n oweless line);
+      gone = λ o x. inl x;
+      held = λ k x. x;
+      last = le_refl _;
+      calls = calls_same b.calls b.last_call;
+    } in
+    backed_step d (Some fall) b b boot seats after cs cs clock clock sent [] e past s h (λ x. absurd cc)
+    (λ j f x l t. absurd (live_stop (Client j) f x e.lines (lines_of past) [] still (λ y z. y) (stop (h.promised j f x (live_back (Client j) f x e.lines (lines_of past) still l) t).0 []) l)) (numbered_fall d b.last_owed e past oweless stop h.numbered) (λ x. absurd cc) (λ x. absurd cc) (λ x. absurd cc) tt tt (λ j seat m x y. seated_over d (Some fall) b b boot clock clock e past s j m (h.seated j seat m x y))

@@ -1,0 +1,382 @@
+use Rattle.afs_ideal.proofs.Edits.{first_agrees}
+use Rattle.afs_ideal.specs.SetUp.{first_versions}
+use Rattle.afs_ideal.specs.Tables.{AscendsFrom, Table, get, set}
+use Rattle.afs_ideal.specs.Told.{last_told}
+use Rattle.afs_ideal.specs.Volumes.{version_at, Vnode, Volume}
+use Rattle.afs_law.proofs.Answering.{client_goes, begun_goes}
+use Rattle.afs_law.proofs.Backing.{all_lines, is_oweless, no_owe, is_still, live_back, zero_back}
+use Rattle.afs_law.proofs.Basics.{same_fid-refl, same_fid-true, some_of, both}
+use Rattle.afs_law.proofs.Deciding.{server_times, server_wakes_goes, given_goes, stops_goes, restarts_goes}
+use Rattle.afs_law.proofs.Edits.{one_more, Ones, index_in, fid_at, live, SoundIn, sound_same, Tops, get-set, none_has}
+use Rattle.afs_law.proofs.Facts.{IsFine, AreFine, server_boot, Reached, Holds, Goes, AreSound}
+use Rattle.afs_law.proofs.Naming.{first_fine}
+use Rattle.afs_law.proofs.Resting.{voids, ticks_goes, stop_set, fail_set}
+use Rattle.afs_law.proofs.Waiting.{waits_goes, client_stops_goes, client_starts_goes}
+use Rattle.afs_law.specs.Breaks.{live_grant, last_number}
+use Rattle.afs_law.specs.ClientRow.{the_server}
+use Rattle.afs_law.specs.Ideal.{first_told, last_version, HasVersion, Accepts, clock_of, Reach, reach_over, first_lines, set_up, is_at, unless, reach, change_key, volume_after, brought, or_before, changed_under}
+use Rattle.afs_law.specs.Legal.{IsNew, LegalAfter, Legal}
+use Rattle.afs_law.specs.Lines.{Line}
+use Rattle.afs_law.specs.OneServer.{AreAtServer, IsOneServer}
+use Rattle.afs_law.specs.Past.{running, onto, lines_of, given_message, IsCallUnder}
+use Rattle.afs_law.specs.Runs.{Entry, Cell, message_at, Moved, Armed, Fall, Luck, waits, ticks, client_stops, client_starts, stops, starts_again, sets_stop, sets_fail, server_armed, Input, begins, gives, nothing, moved, given_to, given_at, Leads, start, RunsTo, server_waits, wakes, first_volume, first_volumes, unless_there}
+use Rattle.std.proofs.Common.{◌≡◌, ℕ, ◌+◌, ◌≤◌, ◌⊎◌, inl, inr, Bool, true, false, cond, nat_eq, List, [], ◌∷◌, ◌++◌, Option, Some, None, refl, sym, ap, subst, ◌∙◌, arith, eqb-true, eqb, eq-eqb, le_of_eq}
+use Rattle.std.specs.Prelude.{is_some, ⊤}
+use Rattle.afs_num.specs.Fids.{same_fid}
+use Rattle.afs_num.specs.declared.types.Fid.{Fid}
+use Rattle.afs_num.specs.declared.types.Key.{Key}
+use Rattle.afs_num.specs.declared.types.Node.{Node}
+use Rattle.afs_num.specs.declared.types.Node.TheVariants.{Loc, Server, Client, Admin}
+use Rattle.afs_num.specs.declared.messages.Message.{Message}
+use Rattle.afs_num.specs.declared.scripts.Script.{Script}
+use Rattle.afs_num.specs.declared.histories.Body.{Body}
+use Rattle.afs_num.specs.declared.histories.Version.{Version}
+use Rattle.afs_num.specs.declared.scripts.VolumeLine.{VolumeLine}
+use Rattle.std.proofs.Math.Nat.{le_refl}
+use Rattle.afs_law.specs.Lines as lines
+
+-- Every run of a script is legal.
+
+-- ---- every input
+
+pub is_server : (n : ℕ) (m : Message) → m.head.to ≡ Server n → nat_eq n 1 ≡ true → m.head.to ≡ the_server
+is_server n m to e = to ∙ ap Server (eqb-true n 1 e)
+
+pub either : (s : Script) (c : Cell) (past : List Entry) (t : Bool) (m k : Moved) → Goes s past m → Goes s past k → Goes s past (cond t m k)
+either s c past true m k a b = a
+either s c past false m k a b = b
+
+pub to_goes : (s : Script) (c : Cell) (past : List Entry) (p : ℕ) (luck : Luck) (m : Message) (to : Node) → Holds s c past → message_at c.sent p ≡ Some m → m.head.to ≡ to → Goes s past (given_to c p luck m to)
+to_goes s c past p luck m (Server n) h at to = either s c past (nat_eq n 1) _ _ (given_goes s c past p luck m c.down n h refl at to) (voids s c past h)
+to_goes s c past p luck m (Client n) h at to = either s c past (c.away n) _ _ (voids s c past h) (client_goes s c past n p m h at to)
+to_goes s c past p luck m Loc h at to = voids s c past h
+to_goes s c past p luck m (Admin n) h at to = voids s c past h
+
+pub at_goes : (s : Script) (c : Cell) (past : List Entry) (p : ℕ) (luck : Luck) (o : Option Message) → Holds s c past → message_at c.sent p ≡ o → Goes s past (given_at c p luck o)
+at_goes s c past p luck None h at = voids s c past h
+at_goes s c past p luck (Some m) h at = to_goes s c past p luck m m.head.to h at refl
+
+pub stop_goes : (s : Script) (c : Cell) (past : List Entry) (n pick : ℕ) (armed : Armed) (d : Option Fall) → Holds s c past → Goes s past (server_armed c (lines.Stop the_server n pick) armed d)
+stop_goes s c past n pick armed None h = stop_set s c past n pick armed h
+stop_goes s c past n pick armed (Some fall) h = voids s c past h
+
+pub fail_goes : (s : Script) (c : Cell) (past : List Entry) (n : ℕ) (armed : Armed) (d : Option Fall) → Holds s c past → Goes s past (server_armed c (lines.Fail the_server n) armed d)
+fail_goes s c past n armed None h = fail_set s c past n armed h
+fail_goes s c past n armed (Some fall) h = voids s c past h
+
+pub goes : (s : Script) (c : Cell) (past : List Entry) (x : Input) → Holds s c past → Goes s past (moved c x)
+unfolding moved
+goes s c past (begins n act) h = either s c past (c.away n) _ _ (voids s c past h) (begun_goes s c past n act (c.clients n).running h refl)
+goes s c past (gives p luck) h = at_goes s c past p luck (message_at c.sent p) h refl
+goes s c past (waits n) h = either s c past (c.away n) _ _ (voids s c past h) (waits_goes s c past n (c.clients n).running h refl)
+goes s c past (ticks n) h = ticks_goes s c past n h
+goes s c past (client_stops n) h = either s c past (c.away n) _ _ (voids s c past h) (client_stops_goes s c past n h)
+goes s c past (client_starts n) h = either s c past (c.away n) _ _ (client_starts_goes s c past n h) (voids s c past h)
+goes s c past stops h = stops_goes s c past c.down h refl
+goes s c past (starts_again after o) h = restarts_goes s c past after o c.down h refl
+goes s c past (sets_stop calls pick) h = stop_goes s c past calls pick _ c.down h
+goes s c past (sets_fail call) h = fail_goes s c past call _ c.down h
+goes s c past (server_waits n) h = server_times s c past n c.down h refl
+goes s c past wakes h = server_wakes_goes s c past c.down h refl
+goes s c past nothing h = voids s c past h
+
+pub legal_after : (s : Script) (xs : List Input) (c : Cell) (past es : List Entry) (end : Cell) → Holds s c past → Leads c xs es end → LegalAfter s past es
+legal_after s [] c past [] end h r = tt
+legal_after s [] c past (e ∷ es) end h r = absurd r
+legal_after s (x ∷ xs) c past [] end h r = absurd r
+legal_after s (x ∷ xs) c past (e ∷ es) end h r =
+    subst (λ (y : Entry). LegalAfter s past (y ∷ es)) (sym r.0)
+    ((((goes s c past x h).good, (goes s c past x h).replies), (goes s c past x h).volumes), legal_after s xs (moved c x).cell ((moved c x).entry ∷ past) es end (goes s c past x h).holds r.1)
+
+-- ---- the set-up
+
+pub onto_last : (o ls : List Line) (l : Line) → onto o (ls ++ l ∷ []) ≡ l ∷ onto o ls
+onto_last o [] l = refl
+onto_last o (k ∷ ls) l = onto_last (k ∷ o) ls l
+
+-- the set-up's lines, by any look-back that passes versions
+pub onto_more : (o a b : List Line) → onto o (a ++ b) ≡ onto (onto o a) b
+onto_more o [] b = refl
+onto_more o (l ∷ a) b = onto_more (l ∷ o) a b
+
+-- the lines of a set-up volume's versions, the newest first
+abbrev pub version_lines : ℕ → Table Vnode → List Line → List Line
+version_lines id [] o = o
+version_lines id (p ∷ ps) o = lines.Version (version_at id p.0 p.1) ∷ version_lines id ps o
+
+pub onto_first : (id : ℕ) (t : Table Vnode) (tail o : List Line) → onto o (first_told id t tail) ≡ onto (version_lines id t o) tail
+onto_first id [] tail o = refl
+onto_first id (p ∷ ps) tail o = onto_first id ps (lines.Version (version_at id p.0 p.1) ∷ tail) o
+
+-- what versions pass over, the set-up passes over
+pub first_by : (t : Bool) (P : List Line → Type 0) (a b : List Line) → (t ≡ true → P a) → (t ≡ false → P b) → P (unless t a b)
+first_by true P a b x y = x refl
+first_by false P a b x y = y refl
+
+pub passed : (P : List Line → Type 0) → ((v : Version) (o : List Line) → P o → P (lines.Version v ∷ o)) → (id : ℕ) (t : Table Vnode) (o : List Line) → P o → P (version_lines id t o)
+passed P w id [] o h = h
+passed P w id (p ∷ ps) o h = w (version_at id p.0 p.1) (version_lines id ps o) (passed P w id ps o h)
+
+abbrev pub lines_at : VolumeLine → List Line
+lines_at v = first_told v.id (first_volume v).vnodes []
+
+pub first_passed : (P : List Line → Type 0) → ((v : Version) (o : List Line) → P o → P (lines.Version v ∷ o)) → (vs : List VolumeLine) (o : List Line) → P o → P (onto o (first_lines vs))
+first_passed P w [] o h = h
+first_passed P w (v ∷ vs) o h = first_by (is_some (get v.id (first_volumes vs))) (λ (ls : List Line). P (onto o ls)) (first_lines vs) (first_lines vs ++ lines_at v)
+    (λ t. first_passed P w vs o h) (λ t. subst P (sym (onto_more o (first_lines vs) (lines_at v) ∙ onto_first v.id (first_volume v).vnodes [] (onto o (first_lines vs)))) (passed P w v.id (first_volume v).vnodes (onto o (first_lines vs)) (first_passed P w vs o h)))
+
+-- ---- volumes and lines of the set-up agree
+
+-- what was told last of a volume, before what others told
+abbrev pub or_told : Option Version → Option Version → Option Version
+or_told None o = o
+or_told (Some w) o = Some w
+
+last_by : (t : Bool) (w : Version) (a b : Option Version) → cond t (Some w) (or_told a b) ≡ or_told (cond t (Some w) a) b
+last_by true w a b = refl
+last_by false w a b = refl
+
+pub last_lines : (f : Fid) (id : ℕ) (t : Table Vnode) (o : List Line) → last_version f (version_lines id t o) ≡ or_told (last_told f (first_versions id t)) (last_version f o)
+last_lines f id [] o = refl
+last_lines f id (p ∷ ps) o = ap (λ (x : Option Version). cond (same_fid (version_at id p.0 p.1).fid f) (Some (version_at id p.0 p.1)) x) (last_lines f id ps o) ∙ last_by (same_fid (version_at id p.0 p.1).fid f) (version_at id p.0 p.1) (last_told f (first_versions id ps)) (last_version f o)
+
+apart_by : (t : Bool) (id other : ℕ) (f : Fid) (w : Version) (a : Option Version) → same_fid w.fid f ≡ t → w.fid.volume ≡ id → f.volume ≡ other → (other ≡ id → ⊥) → a ≡ None → cond t (Some w) a ≡ None
+apart_by true id other f w a t x y ne h = absurd (ne (sym y ∙ (ap (λ (g : Fid). g.volume) (sym (same_fid-true w.fid f t)) ∙ x)))
+apart_by false id other f w a t x y ne h = h
+
+pub other_told : (f : Fid) (id : ℕ) (t : Table Vnode) → (f.volume ≡ id → ⊥) → last_told f (first_versions id t) ≡ None
+other_told f id [] ne = refl
+other_told f id (p ∷ ps) ne = apart_by (same_fid (version_at id p.0 p.1).fid f) id f.volume f (version_at id p.0 p.1) (last_told f (first_versions id ps)) refl refl refl ne (other_told f id ps ne)
+
+pub told_alone : (a b : Option Version) → b ≡ None → or_told a b ≡ a
+told_alone None b e = e
+told_alone (Some w) b e = refl
+
+pub told_none : (a b : Option Version) → a ≡ None → or_told a b ≡ b
+told_none a b e = subst (λ (x : Option Version). or_told x b ≡ b) (sym e) refl
+
+-- what the set-up of volumes must give
+pub record FirstFacts (t : Table Volume) (ls : List Line) : Type 0 where
+  pub sound : AreSound t ls
+  pub top : Tops ls
+  pub one : Ones ls
+  pub fine : AreFine t
+
+pub not_some : (o : Option Volume) → is_some o ≡ false → o ≡ None
+not_some None e = refl
+not_some (Some v) e = absurd cc
+
+-- the versions of a table that ascends have its numbers
+numbers_from : (f : Fid) (i : ℕ) (b : Body) (id m : ℕ) (t : Table Vnode) (o : List Line) → AscendsFrom m t → HasVersion f i b (version_lines id t o) → ((m ≤ f.vnode) × (f.volume ≡ id)) ⊎ HasVersion f i b o
+numbers_from f i b id m [] o a h = inr h
+numbers_from f i b id m (p ∷ ps) o a (inl x) = let q : m ≤ p.0 = a.0 in inl (subst (λ (g : Fid). m ≤ g.vnode) x.0 q, ap (λ (g : Fid). g.volume) (sym x.0))
+numbers_from f i b id m (p ∷ ps) o a (inr x) = elim (numbers_from f i b id (p.0 + 1) ps o a.1 x) [
+  | inl y ↦ let q : m ≤ p.0 = a.0 in let l : p.0 + 1 ≤ f.vnode = y.0 in inl (omega arith, y.1)
+  | inr y ↦ inr y
+]
+
+top_by : (t : Bool) (f : Fid) (i : ℕ) (w : Version) (a : Option Version) → same_fid w.fid f ≡ t → (t ≡ true → i ≤ w.index) → (t ≡ false → i ≤ index_in a) → i ≤ index_in (cond t (Some w) a)
+top_by true f i w a t x y = x refl
+top_by false f i w a t x y = y refl
+
+pub tops_lines : (id m : ℕ) (t : Table Vnode) (o : List Line) → AscendsFrom m t → ((n u : ℕ) → last_version (fid_at id n u) o ≡ None) → Tops o → Tops (version_lines id t o)
+tops_lines id m [] o a none h f i b x = h f i b x
+tops_lines id m (p ∷ ps) o a none h f i b (inl x) =
+    top_by (same_fid (version_at id p.0 p.1).fid f) f i (version_at id p.0 p.1) (last_version f (version_lines id ps o)) refl (λ t. le_of_eq (sym x.1.0)) (λ t. let yes : same_fid (version_at id p.0 p.1).fid f ≡ true = ap (λ (g : Fid). same_fid g f) x.0 ∙ same_fid-refl f in absurd cc)
+tops_lines id m (p ∷ ps) o a none h f i b (inr x) =
+    top_by (same_fid (version_at id p.0 p.1).fid f) f i (version_at id p.0 p.1) (last_version f (version_lines id ps o)) refl
+    (λ t. let same : (version_at id p.0 p.1).fid ≡ f = same_fid-true _ f t in
+    elim (numbers_from f i b id (p.0 + 1) ps o a.1 x) [
+      | inl y ↦ let l : p.0 + 1 ≤ f.vnode = y.0 in let e : p.0 ≡ f.vnode = ap (λ (g : Fid). g.vnode) same in absurd (omega arith)
+      | inr y ↦ absurd (none_has f i b o (subst (λ (g : Fid). last_version g o ≡ None) same (none p.0 p.1.unique)) y)
+    ])
+    (λ t. tops_lines id (p.0 + 1) ps o a.1 none h f i b x)
+
+-- they are the first of their fids
+pub ones_lines : (id m : ℕ) (t : Table Vnode) (o : List Line) → AscendsFrom m t → ((n u : ℕ) → last_version (fid_at id n u) o ≡ None) → Ones o → Ones (version_lines id t o)
+ones_lines id m [] o a none h = h
+ones_lines id m (p ∷ ps) o a none h =
+    let w : Version = version_at id p.0 p.1 in
+    one_more w (version_lines id ps o) (λ i b x. elim (numbers_from w.fid i b id (p.0 + 1) ps o a.1 x) [
+      | inl y ↦ let l : p.0 + 1 ≤ p.0 = y.0 in absurd (omega arith)
+      | inr y ↦ absurd (none_has w.fid i b o (none p.0 p.1.unique) y)
+    ]) (ones_lines id (p.0 + 1) ps o a.1 none h)
+
+pub first_sound_by : (t : Bool) (id other : ℕ) (V : Volume) (o : Option Volume) (L : List Line) → eqb id other ≡ t → IsFine V → ((n u : ℕ) → last_version (fid_at id n u) L ≡ None) → SoundIn other o L → SoundIn other (cond t (Some V) o) (version_lines id V.vnodes L)
+first_sound_by true id other V o L t f none old =
+    let a = first_agrees id V f.ascends f.below in
+    subst (λ (i : ℕ). SoundIn i (Some V) (version_lines id V.vnodes L)) (eqb-true id other t) (record {
+      agree = λ n u. ap live (last_lines (fid_at id n u) id V.vnodes L ∙ told_alone (last_told (fid_at id n u) (first_versions id V.vnodes)) (last_version (fid_at id n u) L) (none n u)) ∙ a.held n u;
+      new = λ n u le. last_lines (fid_at id n u) id V.vnodes L ∙ (told_alone (last_told (fid_at id n u) (first_versions id V.vnodes)) (last_version (fid_at id n u) L) (none n u) ∙ a.unseen n u le);
+    })
+first_sound_by false id other V o L t f none old =
+    sound_same other o L (version_lines id V.vnodes L) (λ n u. last_lines (fid_at other n u) id V.vnodes L ∙ told_none (last_told (fid_at other n u) (first_versions id V.vnodes)) (last_version (fid_at other n u) L) (other_told (fid_at other n u) id V.vnodes (λ q. let yes : eqb id other ≡ true = eq-eqb id other (sym q) in absurd cc))) old
+
+fine_by : (t : Bool) (V u : Volume) (o : Option Volume) → IsFine V → (o ≡ Some u → IsFine u) → cond t (Some V) o ≡ Some u → IsFine u
+fine_by true V u o f h e = subst IsFine (some_of V u e) f
+fine_by false V u o f h e = h e
+
+pub first_new_volume : (v : VolumeLine) (t : Table Volume) (ls : List Line) → get v.id t ≡ None → FirstFacts t ls → FirstFacts (set v.id (first_volume v) t) (version_lines v.id (first_volume v).vnodes ls)
+first_new_volume v t ls none h =
+    let old : (n u : ℕ) → last_version (fid_at v.id n u) ls ≡ None = subst (λ (o : Option Volume). SoundIn v.id o ls) none (h.sound v.id) in
+    record {
+      sound = λ other. subst (λ (o : Option Volume). SoundIn other o (version_lines v.id (first_volume v).vnodes ls)) (sym (get-set v.id other (first_volume v) t)) (first_sound_by (eqb v.id other) v.id other (first_volume v) (get other t) ls refl (first_fine v) old (h.sound other));
+      top = tops_lines v.id 1 (first_volume v).vnodes ls (first_fine v).ascends old h.top;
+      one = ones_lines v.id 1 (first_volume v).vnodes ls (first_fine v).ascends old h.one;
+      fine = λ i u e. fine_by (eqb v.id i) (first_volume v) u (get i t) (first_fine v) (h.fine i u) (sym (get-set v.id i (first_volume v) t) ∙ e);
+    }
+
+pub first_facts_by : (b : Bool) (v : VolumeLine) (t : Table Volume) (ls : List Line) → is_some (get v.id t) ≡ b → FirstFacts t (onto [] ls) → FirstFacts (unless_there b v.id (first_volume v) t) (onto [] (unless b ls (ls ++ lines_at v)))
+first_facts_by true v t ls b h = h
+first_facts_by false v t ls b h = subst (FirstFacts (set v.id (first_volume v) t)) (sym (onto_more [] ls (lines_at v) ∙ onto_first v.id (first_volume v).vnodes [] (onto [] ls))) (first_new_volume v t (onto [] ls) (not_some (get v.id t) b) h)
+
+pub first_facts : (vs : List VolumeLine) → FirstFacts (first_volumes vs) (onto [] (first_lines vs))
+first_facts [] = record { sound = λ id n u. refl; top = λ f i b x. absurd x; one = λ f i a b x y. absurd x; fine = λ i u e. absurd cc }
+first_facts (v ∷ vs) = first_facts_by (is_some (get v.id (first_volumes vs))) v (first_volumes vs) (first_lines vs) refl (first_facts vs)
+
+-- ---- nothing else is told at set-up
+
+pub any_home : (s : Script) (id : ℕ) (server : Node) (ls : List Line) → is_at id server s.volumes → Accepts s id server ls
+any_home s id server [] h = h
+any_home s id server (l ∷ ls) h = any_home s id server ls h
+
+pub found_by' : (t : Bool) (id other : ℕ) (V u : Volume) (o : Option Volume) (P : Type 0) → eqb id other ≡ t → (o ≡ Some u → P) → cond t (Some V) o ≡ Some u → (id ≡ other) ⊎ P
+found_by' true id other V u o P t h e = inl (eqb-true id other t)
+found_by' false id other V u o P t h e = inr (h e)
+
+pub found_there : (b : Bool) (v : VolumeLine) (t : Table Volume) (id : ℕ) (u : Volume) (P : Type 0) → (get id t ≡ Some u → P) → get id (unless_there b v.id (first_volume v) t) ≡ Some u → (v.id ≡ id) ⊎ P
+found_there true v t id u P h e = inr (h e)
+found_there false v t id u P h e = found_by' (eqb v.id id) v.id id (first_volume v) u (get id t) P refl h (sym (get-set v.id id (first_volume v) t) ∙ e)
+
+pub found_home : (vs : List VolumeLine) → AreAtServer vs → (id : ℕ) (u : Volume) → get id (first_volumes vs) ≡ Some u → is_at id the_server vs
+found_home [] one id u x = absurd cc
+found_home (v ∷ vs) one id u x = elim (found_there (is_some (get v.id (first_volumes vs))) v (first_volumes vs) id u (is_at id the_server vs) (found_home vs one.1 id u) x) [
+  | inl y ↦ inl (y, one.0)
+  | inr y ↦ inr y
+]
+
+-- all of them are versions
+abbrev pub AreVersions : List Line → Type 0
+AreVersions [] = ⊤
+AreVersions (lines.Version v ∷ ls) = AreVersions ls
+AreVersions (l ∷ ls) = ⊥
+
+pub are_versions : (id : ℕ) (t : Table Vnode) (tail : List Line) → AreVersions tail → AreVersions (first_told id t tail)
+are_versions id [] tail h = h
+are_versions id (p ∷ ps) tail h = are_versions id ps (lines.Version (version_at id p.0 p.1) ∷ tail) h
+
+pub more_versions : (a b : List Line) → AreVersions a → AreVersions b → AreVersions (a ++ b)
+more_versions [] b h k = k
+more_versions (lines.Version v ∷ a) b h k = more_versions a b h k
+more_versions (l ∷ a) b h k = absurd h
+
+pub all_versions : (vs : List VolumeLine) → AreVersions (first_lines vs)
+all_versions [] = tt
+all_versions (v ∷ vs) = first_by (is_some (get v.id (first_volumes vs))) AreVersions (first_lines vs) (first_lines vs ++ lines_at v) (λ t. all_versions vs) (λ t. more_versions (first_lines vs) (lines_at v) (all_versions vs) (are_versions v.id (first_volume v).vnodes [] tt))
+
+pub reach_first : (c : Node) (f : Fid) (past : List Entry) (r : Reach) (ls : List Line) → AreVersions ls → reach_over c f past false r ls ≡ r
+reach_first c f past r [] h = refl
+reach_first c f past r (lines.Version v ∷ ls) h = reach_first c f past r ls h
+reach_first c f past r (l ∷ ls) h = absurd h
+
+pub key_first : (ls : List Line) → AreVersions ls → change_key ls ≡ None
+key_first [] h = refl
+key_first (lines.Version v ∷ ls) h = key_first ls h
+key_first (l ∷ ls) h = absurd h
+
+pub given_first : (ls : List Line) (sent : List Message) → AreVersions ls → given_message ls sent ≡ None
+given_first [] sent h = refl
+given_first (lines.Version v ∷ ls) sent h = given_first ls sent h
+given_first (l ∷ ls) sent h = absurd h
+
+pub reached_first : (c : Node) (f : Fid) (i : ℕ) (s : Script) → Reached c f i (set_up s ∷ [])
+reached_first c f i s =
+    let at : reach c f (set_up s ∷ []) ≡ record { made = 0; seen = 0 } = reach_first c f [] (record { made = 0; seen = 0 }) (first_lines s.volumes) (all_versions s.volumes) in
+    record { made = subst (λ (r : Reach). r.made ≤ i) (sym at) (omega arith); seen = subst (λ (r : Reach). r.seen ≤ i) (sym at) (omega arith) }
+
+pub or_none : (o : Option Volume) → o ≡ or_before o None
+or_none None = refl
+or_none (Some v) = refl
+
+pub brought_first : (id : ℕ) (t : Table Volume) → get id t ≡ brought id t None
+brought_first id [] = refl
+brought_first id (p ∷ ps) = or_none (get id (p ∷ ps))
+
+pub ideal_first : (s : Script) (id : ℕ) → get id (first_volumes s.volumes) ≡ volume_after id (set_up s ∷ [])
+ideal_first s id = brought_first id (first_volumes s.volumes) ∙ ap (λ (o : Option Key). brought id (first_volumes s.volumes) (changed_under id o [] None)) (sym (key_first (first_lines s.volumes) (all_versions s.volumes)))
+
+pub first_still : (ls : List Line) → AreVersions ls → all_lines is_still ls ≡ true
+first_still [] h = refl
+first_still (lines.Version v ∷ ls) h = first_still ls h
+first_still (l ∷ ls) h = absurd h
+
+pub first_oweless : (ls : List Line) → AreVersions ls → all_lines is_oweless ls ≡ true
+first_oweless [] h = refl
+first_oweless (lines.Version v ∷ ls) h = first_oweless ls h
+first_oweless (l ∷ ls) h = absurd h
+
+pub lines_both : (a b : List Line) → all_lines is_oweless a ≡ true → all_lines is_oweless b ≡ true → all_lines is_oweless (a ++ b) ≡ true
+lines_both [] b h k = k
+lines_both (l ∷ a) b h k = let q = both (is_oweless l) (all_lines is_oweless a) h in rw (q.0, lines_both a b q.1 k) refl
+
+pub lines_none : (newer : List Entry) (x at : Entry) (older : List Entry) → x ∷ [] ≡ newer ++ (at ∷ older) → x ≡ at
+lines_none [] x at older e = cc
+lines_none (y ∷ []) x at older e = absurd cc
+lines_none (y ∷ z ∷ newer) x at older e = absurd cc
+
+pub first_owes : {X : Type 0} → (ms : List Message) (newer : List Entry) (x at : Entry) (older : List Entry) (before after : List Line) (c : Node) (what : Option Fid) (n : ℕ) → all_lines is_oweless x.lines ≡ true → x ∷ [] ≡ newer ++ (at ∷ older) → at.lines ≡ before ++ lines.Owe the_server c what n ∷ after → X
+first_owes ms newer x at older before after c what n h split line = absurd (no_owe at.lines before after the_server c what n (subst (λ (e : Entry). all_lines is_oweless e.lines ≡ true) (lines_none newer x at older split) h) line)
+
+pub starts : (s : Script) → IsOneServer s → Holds s (start s) (set_up s ∷ [])
+starts s one =
+    let facts : FirstFacts (first_volumes s.volumes) (onto [] (first_lines s.volumes)) = first_facts s.volumes in
+    record {
+      floors = λ j. record { floor = 1; held = 1 };
+      count = refl;
+      ideal = ideal_first s;
+      sound = facts.sound;
+      fine = facts.fine;
+      home = λ id v found. any_home s id the_server (lines_of (set_up s ∷ [])) (found_home s.volumes one.1 id v found);
+      new = λ k above. first_passed (IsNew k) (λ v o h. h) s.volumes [] tt;
+      unheard = λ k b may. ((λ x. subst (λ (o : Option Message). IsCallUnder the_server k b o) (given_first (first_lines s.volumes) [] (all_versions s.volumes)) x), tt);
+      booted = le_refl 1;
+      boots = first_passed (λ (ls : List Line). server_boot the_server ls ≡ Some 1) (λ v o h. h) s.volumes [] refl;
+      down = tt;
+      clients = λ j. record {
+        behind = λ seat x. absurd cc;
+        behind_durable = λ seat x. absurd cc;
+        lower = λ e n x. x;
+        kept = λ seat m x y. absurd cc;
+        stored = λ seat m x y. absurd cc;
+        known = le_refl 1;
+        floored = le_refl 1;
+        holds = le_refl 1;
+        waits = λ act x. absurd cc;
+        idle = λ x. first_passed (λ (ls : List Line). running (Client j) ls ≡ None) (λ v o h. h) s.volumes [] refl;
+        made = λ act x. absurd cc;
+        current = λ f e x lasts. absurd cc;
+        runs = λ act x. absurd cc;
+        asked = λ act x. absurd cc;
+        reached = λ f. reached_first (Client j) f _ s;
+      };
+      sent = record { calls = tt; replies = tt; notices = tt; origins = tt; acts = tt; ones = tt; told = refl; waiting = tt; to_clients = tt };
+      clock = first_passed (λ (ls : List Line). clock_of ls ≡ 0) (λ v o h. h) s.volumes [] refl;
+      top = facts.top;
+      one = facts.one;
+      backs = λ z. record {
+        granted = λ x. tt;
+        numbered = let y : last_number the_server (onto [] (first_lines s.volumes)) ≡ 0 = zero_back (first_lines s.volumes) [] (first_oweless (first_lines s.volumes) (all_versions s.volumes)) refl in le_of_eq y;
+        promised = λ j f x l t. let none : live_grant the_server (Client j) f [] ≡ Some x = live_back (Client j) f x (first_lines s.volumes) [] (first_still (first_lines s.volumes) (all_versions s.volumes)) l in absurd cc;
+        accounted = λ newer at older before after c what n split line. first_owes (start s).sent newer (set_up s) at older before after c what n (first_oweless (first_lines s.volumes) (all_versions s.volumes)) split line;
+        owed = λ x. tt;
+        waiting = λ x. tt;
+        outs = λ x j c at. absurd cc;
+        calls = tt;
+        dones = tt;
+        seated = λ j seat m x y. absurd cc;
+      };
+    }
+
+-- Every run of a script for one server is legal, whatever is given, how often and in what order.
+pub legal : (s : Script) (h : List Entry) (end : Cell) → IsOneServer s → RunsTo h s end → Legal h s
+legal s h end one r = legal_after s r.inputs (start s) (set_up s ∷ []) h end (starts s one) r.leads

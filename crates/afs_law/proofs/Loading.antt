@@ -1,0 +1,850 @@
+-- What each step of the server makes of promises, breaks, calls and replies that wait.
+use Rattle.std.proofs.Common.{◌≡◌, ◌+◌, ◌≤◌, ◌⊎◌, inl, inr, Bool, true, false, cond, nat_eq, nat_lt, ℕ, zero, suc, List, [], ◌∷◌, ◌++◌, Option, Some, None, refl, sym, ap, subst, ◌∙◌, arith, eqb-true, eq-eqb, ltb-false, append-nil, le_of_eq}
+use Rattle.std.specs.Prelude.{map, filter, not, ◌&&◌, length}
+use Rattle.std.proofs.Math.Nat.{le_refl, le_trans, eq-or-lt_of_le}
+use Rattle.afs_num.specs.Fids.{same_fid}
+use Rattle.afs_num.specs.Nodes.{same_node}
+use Rattle.afs_num.specs.declared.types.Fid.{Fid}
+use Rattle.afs_num.specs.declared.types.Key.{Key}
+use Rattle.afs_num.specs.declared.types.Node.{Node}
+use Rattle.afs_num.specs.declared.types.Node.TheVariants.{Client}
+use Rattle.afs_num.specs.declared.calls.FsCall.{FsCall}
+use Rattle.afs_num.specs.declared.messages.Message.{Message}
+use Rattle.afs_ideal.specs.Operations.{Found}
+use Rattle.afs_law.proofs.Backing.{Plain, Stepping, all_lines, is_up, is_still, is_oweless, is_unchanging, is_still_to, grant_back_to, settled_onto, stopped_back, grant_back, front_onto, change_back, no_owe, owes_over, ended_over, calls_same, backed_step, seated_over, plain_step, plain_waits, waits_over, granted_over, owed_over, call_over, backed_plain, promised_over, live_back, numbered_over, zero_back}
+use Rattle.afs_law.proofs.Basics.{both, same_node-true, same_node-refl, same_fid-refl, same_fid-true, client_number, Above, Each, IfBack, IfDone, OfReply, each_map, if_back, if_done, some_of}
+use Rattle.afs_law.proofs.Owing.{AllOf, all_map, all_both, all_filter, IsGranted, IsIn, IsNumberIn, AccountedBy, WaitedBy, AllWaitedBy, HeldWaits, IsOwed, CallOut, BackIn, DroppedOwe, DoneIn, BackedIn, Promised, IsPromised, promise_to, Numbered}
+use Rattle.afs_law.proofs.Turning.{loaded, in_filter, put_call, kept_in}
+use Rattle.afs_law.specs.Breaks.{HasSettled, HasTimeout, last_grant, expiry_of, AllOwes, CarriesBreak, GoodSettle, GoodQuit, live_grant, HasOwe, last_number}
+use Rattle.afs_law.specs.Callbacks.{Promise, Owed, BackCall, Held, Backs, is_all, alls, numbers, has_number, is_reply_to, is_held, key_answered, breaks_call, break_message, owe_line, settle_line, quit_line, is_among, ends_call, settles, quits, retries, is_promise, owes_from, is_hit, hits, left, owes_all, risen_turn, with_promise, with_promises}
+use Rattle.afs_law.specs.ClientRow.{the_server}
+use Rattle.afs_law.specs.Ideal.{clock_of, change_in}
+use Rattle.afs_law.specs.Legal.{IsNew, IsNot, IsKey, HasChange, AreGood, IsChanged}
+use Rattle.afs_law.specs.Lines.{Line}
+use Rattle.afs_law.specs.Past.{onto, lines_of, sent_of, given_message, called_key, IsCallUnder}
+use Rattle.afs_law.specs.Runs.{Entry, Fall}
+use Rattle.afs_law.specs.ServerRow.{granted, promise_ticks}
+use Rattle.afs_law.specs.States.{Seat}
+use Rattle.afs_model.specs.Calls.{call_seat}
+use Rattle.afs_num.specs.declared.histories.Actor.TheVariants as actors
+use Rattle.afs_num.specs.declared.histories.Version.{Version}
+use Rattle.afs_law.specs.Lines as lines
+use Rattle.afs_num.specs.declared.scripts.Script.{Script}
+
+down_zero : (d : Option Fall) (last : ℕ) (ls : List Line) → (d ≡ None → ⊥) → Numbered d last ls → last_number the_server ls ≡ 0
+down_zero None last ls ne h = absurd (ne refl)
+down_zero (Some fall) last ls ne h = h
+
+-- a server that is down has a new boot number
+pub down_later : (d : Option Fall) (b : Backs) (boot : ℕ) (seats now : List Seat) (cs : ℕ → Option Seat) (clock : ℕ) (sent : List Message) (past : List Entry) (fall : Fall) → (d ≡ None → ⊥) → BackedIn d b boot seats cs clock sent past → BackedIn (Some fall) b (boot + 1) now cs clock sent past
+down_later d b boot seats now cs clock sent past fall ne h = record {
+  granted = λ x. absurd cc;
+  promised = λ j f x l t. absurd (ne (h.promised j f x l t).0);
+  numbered = down_zero d b.last_owed (lines_of past) ne h.numbered;
+  accounted = λ newer at older before after c what n split line. elim (h.accounted newer at older before after c what n split line) [ inl x ↦ inl x | inr x ↦ absurd (ne x.0) ];
+  owed = λ x. absurd cc;
+  waiting = λ x. absurd cc;
+  outs = λ x. absurd cc;
+  calls = each_map (IfBack (BackIn d b.calls b.last_call boot)) (IfBack (BackIn (Some fall) b.calls b.last_call (boot + 1))) (if_back (BackIn d b.calls b.last_call boot) (BackIn (Some fall) b.calls b.last_call (boot + 1)) (λ head user call x. record { client = x.client; to = x.to; booted = le_trans x.booted (omega arith); below = λ y. absurd cc; is = λ c y. absurd cc })) sent h.calls;
+  dones = each_map (IfDone (DoneIn d b.calls b.last_call boot past)) (IfDone (DoneIn (Some fall) b.calls b.last_call (boot + 1) past)) (if_done (DoneIn d b.calls b.last_call boot past) (DoneIn (Some fall) b.calls b.last_call (boot + 1) past) (λ m x. record { client = x.client; from = x.from; done = record { booted = le_trans x.done.booted (omega arith); below = λ y. absurd cc; dropped = λ c y. absurd cc } })) sent h.dones;
+  seated = λ j seat m x y. let z = h.seated j seat m x y in record { to = z.to; from = z.from; is_reply = z.is_reply; done = record { booted = le_trans z.done.booted (omega arith); below = λ u. absurd cc; dropped = λ c u. absurd cc } };
+}
+
+-- ---- a step that leaves what is owed
+
+-- nothing is held besides
+pub none_loaded : (d : Option Fall) (b : Backs) (boot : ℕ) (seats : List Seat) (cs : ℕ → Option Seat) (clock : ℕ) (sent : List Message) (past : List Entry) → BackedIn d b boot seats cs clock sent past → BackedIn d (record b { held = b.held ++ [] }) boot seats cs clock sent past
+none_loaded d b boot seats cs clock sent past h = subst (λ (hs : List Held). BackedIn d (record b { held = hs }) boot seats cs clock sent past) (sym (append-nil b.held)) h
+
+pub still_backed : (b : Backs) (boot : ℕ) (seats : List Seat) (cs : ℕ → Option Seat) (clock : ℕ) (sent : List Message) (e : Entry) (past : List Entry) → Plain e.lines → BackedIn None b boot seats cs clock sent past → BackedIn None b boot seats cs clock sent (e ∷ past)
+still_backed b boot seats cs clock sent e past p h =
+    subst (λ (ms : List Message). BackedIn None b boot seats cs clock ms (e ∷ past)) (append-nil sent)
+    (backed_plain None b boot seats cs cs clock clock sent [] e past p (le_refl _) h tt tt (λ j seat m x y. seated_over None None b b boot clock clock e past (plain_step None b clock clock e past p (le_refl _)) j m (h.seated j seat m x y)))
+
+-- the clients' boot numbers are read by no fact
+pub known_backed : (b : Backs) (known : ℕ → ℕ) (boot : ℕ) (seats : List Seat) (cs : ℕ → Option Seat) (clock : ℕ) (sent : List Message) (past : List Entry) → BackedIn None b boot seats cs clock sent past → BackedIn None (record b { known = known }) boot seats cs clock sent past
+known_backed b known boot seats cs clock sent past h = record { granted = h.granted; promised = h.promised; numbered = h.numbered; accounted = h.accounted; owed = h.owed; waiting = h.waiting; outs = h.outs; calls = h.calls; dones = h.dones; seated = h.seated }
+
+-- the unanswered call is sent again
+pub resent : (b : Backs) (boot : ℕ) (seats : List Seat) (cs : ℕ → Option Seat) (clock : ℕ) (sent : List Message) (past newer : List Entry) (n known : ℕ) (c : BackCall) (calls : ℕ → Option BackCall) → BackedIn None b boot seats cs clock sent past → b.calls n ≡ Some c → ((x : BackCall) → calls n ≡ Some x → x.breaks ≡ c.breaks)
+    → Each (IfBack (BackIn None calls b.last_call boot)) (break_message the_server boot n known c ∷ [])
+resent b boot seats cs clock sent past newer n known c calls h at same = (
+  record {
+    client = n;
+    to = refl;
+    booted = le_refl _;
+    below = λ x y. (h.outs refl n c at).number;
+    is = λ x y z e q. ap breaks_call (sym (same x e));
+  },
+  tt,
+)
+
+-- ---- a call is answered, or given up
+
+settles_plain : (os : List Owed) → Plain (map (settle_line the_server) os)
+settles_plain [] = record { up = refl; still = refl; oweless = refl; unchanging = refl }
+settles_plain (o ∷ os) = let h = settles_plain os in record { up = h.up; still = h.still; oweless = h.oweless; unchanging = h.unchanging }
+
+quits_plain : (os : List Owed) → Plain (map (quit_line the_server) os)
+quits_plain [] = record { up = refl; still = refl; oweless = refl; unchanging = refl }
+quits_plain (o ∷ os) = let h = quits_plain os in record { up = h.up; still = h.still; oweless = h.oweless; unchanging = h.unchanging }
+
+settled_later : (s c : Node) (n : ℕ) (os : List Owed) (l : List Line) → HasSettled s c n l → HasSettled s c n (onto l (map (settle_line the_server) os))
+settled_later s c n os l h = settled_onto s c n (map (settle_line the_server) os) l h
+
+settled_in : (o : Owed) (os : List Owed) (l : List Line) → IsIn o os → HasSettled the_server (Client o.client) o.number (onto l (map (settle_line the_server) os))
+settled_in o [] l h = absurd h
+settled_in o (x ∷ os) l (inl e) = settled_onto the_server (Client o.client) o.number (map (settle_line the_server) os) (settle_line the_server x ∷ l) (inl (refl, (ap (λ (z : Owed). Client z.client) e, ap (λ (z : Owed). z.number) e)))
+settled_in o (x ∷ os) l (inr h) = settled_in o os (settle_line the_server x ∷ l) h
+
+quit_in : (o : Owed) (os : List Owed) (l : List Line) → IsIn o os → HasSettled the_server (Client o.client) o.number (onto l (map (quit_line the_server) os))
+quit_in o [] l h = absurd h
+quit_in o (x ∷ os) l (inl e) = settled_onto the_server (Client o.client) o.number (map (quit_line the_server) os) (quit_line the_server x ∷ l) (inl (refl, (ap (λ (z : Owed). Client z.client) e, ap (λ (z : Owed). z.number) e)))
+quit_in o (x ∷ os) l (inr h) = quit_in o os (quit_line the_server x ∷ l) h
+
+none_by : (t : Bool) (o : Option BackCall) (c : BackCall) → cond t None o ≡ Some c → o ≡ Some c
+none_by true o c e = absurd cc
+none_by false o c e = e
+
+gone_by : (t : Bool) (S G : Type 0) (u : Bool) → u ≡ t → (u ≡ true → G) → (not u ≡ true → S) → S ⊎ G
+gone_by true S G u e a b = inr (a e)
+gone_by false S G u e a b = inl (b (rw e refl))
+
+held_or : (t a b : Bool) → cond t true a ≡ true → (a ≡ true → b ≡ true) → cond t true b ≡ true
+held_or true a b e w = refl
+held_or false a b e w = w e
+
+pub more_held : (k : Key) (hs ks : List Held) → is_held k hs ≡ true → is_held k (hs ++ ks) ≡ true
+more_held k [] ks e = absurd cc
+more_held k (h ∷ hs) ks e = held_or (is_reply_to k h.reply) (is_held k hs) (is_held k (hs ++ ks)) e (more_held k hs ks)
+
+pub ends_backed : (b : Backs) (boot : ℕ) (seats : List Seat) (cs : ℕ → Option Seat) (clock : ℕ) (sent : List Message) (e : Entry) (past : List Entry) (n : ℕ) (c : BackCall) → Plain e.lines → BackedIn None b boot seats cs clock sent past
+    → ((o : Owed) (l : List Line) → IsIn o (filter (is_among n c.breaks) b.owed) → HasSettled the_server (Client o.client) o.number (onto l e.lines)) → BackedIn None (record (ends_call n c b) { held = b.held ++ [] }) boot seats cs clock sent (e ∷ past)
+ends_backed b boot seats cs clock sent e past n c p h gone =
+    let now : Backs = record (ends_call n c b) { held = b.held ++ [] } in
+    let s : Stepping None None b now clock clock e past = record {
+      was_up = λ x. x;
+      up = λ x. p.up;
+      or_stopped = λ x. inl x;
+      later = le_refl _;
+      new = λ before after d what k line. absurd (no_owe e.lines before after the_server d what k p.oweless line);
+      gone = λ o x. gone_by (is_among n c.breaks o) _ _ (is_among n c.breaks o) refl (λ y l. gone o l (in_filter (is_among n c.breaks) o b.owed x y)) (λ y. in_filter (λ z. not (is_among n c.breaks z)) o b.owed x y);
+      held = λ k x. more_held k b.held [] x;
+      last = le_refl _;
+      calls = λ j k at. inr (k, (none_by (nat_eq n j) (b.calls j) k at, (refl, refl)));
+    } in
+    subst (λ (ms : List Message). BackedIn None now boot seats cs clock ms (e ∷ past)) (append-nil sent)
+    (backed_step None None b now boot seats seats cs cs clock clock sent [] e past s h (λ x. granted_over e past b.promises p.still (h.granted x)) (promised_over None b.promises clock clock e past p.still (le_refl _) h.promised) (numbered_over None b.last_owed e past p.up p.oweless h.numbered)
+    (λ x. all_filter (λ (o : Owed). IsOwed o.client (lines_of (e ∷ past)) o) (λ o. not (is_among n c.breaks o)) b.owed (owed_over e past b.owed p.up (h.owed x)))
+    (λ x. all_both (HeldWaits seats clock (e ∷ past)) b.held [] (all_map (HeldWaits seats clock past) (HeldWaits seats clock (e ∷ past)) (λ q y. plain_waits seats seats clock clock e past q p (le_refl _) (λ m a d z. z) y) b.held (h.waiting x)) tt)
+    (λ x j k at. call_over j k b.last_call b.last_call boot e past (le_refl _) p.up (h.outs x j k (none_by (nat_eq n j) (b.calls j) k at))) tt tt
+    (λ j seat m x y. seated_over None None b now boot clock clock e past s j m (h.seated j seat m x y)))
+
+-- the lines are good
+settle_by : (t : Bool) (n k : ℕ) (o : Owed) (os : List Owed) (past : List Entry) (own : List Line) → nat_eq o.number k ≡ t → cond t true (has_number k os) ≡ true → DroppedOwe n (lines_of past) o → (has_number k os ≡ true → GoodSettle the_server (Client n) k past own) → GoodSettle the_server (Client n) k past own
+settle_by true n k o os past own e x d w = subst (λ (i : ℕ). GoodSettle the_server (Client n) i past own) (eqb-true o.number k e) (record { what = o.what; owe = d.owe; dropped = d.dropped })
+settle_by false n k o os past own e x d w = w x
+
+good_settle : (n k : ℕ) (os : List Owed) (past : List Entry) (own : List Line) → has_number k os ≡ true → AllOf (DroppedOwe n (lines_of past)) os → GoodSettle the_server (Client n) k past own
+good_settle n k [] past own e h = absurd cc
+good_settle n k (o ∷ os) past own e h = settle_by (nat_eq o.number k) n k o os past own refl e h.0 (λ x. good_settle n k os past own x h.1)
+
+settles_by_good : (t : Bool) (s : Script) (n : ℕ) (c : BackCall) (o : Owed) (past : List Entry) (own : List Line) (xs : List Owed) → is_among n c.breaks o ≡ t → AllOf (DroppedOwe n (lines_of past)) c.breaks → ((own : List Line) → AreGood s (actors.Node the_server) past own (map (settle_line the_server) xs)) → AreGood s (actors.Node the_server) past own (map (settle_line the_server) (cond t (o ∷ xs) xs))
+settles_by_good true s n c o past own xs e h w =
+    let q = both (nat_eq o.client n) (has_number o.number c.breaks) e in
+    ((refl, subst (λ (j : ℕ). GoodSettle the_server (Client j) o.number past own) (sym (eqb-true o.client n q.0)) (good_settle n o.number c.breaks past own q.1 h)), w (settle_line the_server o ∷ own))
+settles_by_good false s n c o past own xs e h w = w own
+
+pub settles_good : (s : Script) (n : ℕ) (c : BackCall) (past : List Entry) (os : List Owed) (own : List Line) → AllOf (DroppedOwe n (lines_of past)) c.breaks → AreGood s (actors.Node the_server) past own (map (settle_line the_server) (filter (is_among n c.breaks) os))
+settles_good s n c past [] own h = tt
+settles_good s n c past (o ∷ os) own h = settles_by_good (is_among n c.breaks o) s n c o past own (filter (is_among n c.breaks) os) refl h (λ x. settles_good s n c past os x h)
+
+-- a break that is given up
+record MayQuit (n : ℕ) (past : List Entry) (boot number : ℕ) (call : FsCall) (o : Owed) : Type 0 where
+  owe : IsOwed n (lines_of past) o
+  carries : CarriesBreak call o.what
+
+quit_by : (t : Bool) (n k boot : ℕ) (c : BackCall) (o : Owed) (os : List Owed) (past : List Entry) (own : List Line) (last : ℕ) → nat_eq o.number k ≡ t → cond t true (has_number k os) ≡ true → CallOut n c last boot past → 2 ≤ c.tries → HasTimeout the_server (Client n) boot c.number 3 own → MayQuit n past boot c.number (breaks_call c.breaks) o
+    → (has_number k os ≡ true → GoodQuit the_server (Client n) k past own) → GoodQuit the_server (Client n) k past own
+quit_by true n k boot c o os past own last e x out le third m w = subst (λ (i : ℕ). GoodQuit the_server (Client n) i past own) (eqb-true o.number k e) (record {
+  what = o.what;
+  owe = m.owe;
+  epoch = boot;
+  number = c.number;
+  third = third;
+  first = out.tries 1 (omega arith) (omega arith);
+  second = out.tries 2 (omega arith) le;
+  user = [];
+  call = breaks_call c.breaks;
+  called = out.sent;
+  carries = m.carries;
+})
+quit_by false n k boot c o os past own last e x out le third m w = w x
+
+two_all : {A : Type 0} → (P Q R : A → Type 0) → ((x : A) → P x → Q x → R x) → (xs : List A) → AllOf P xs → AllOf Q xs → AllOf R xs
+two_all P Q R w [] h k = tt
+two_all P Q R w (x ∷ xs) h k = (w x h.0 k.0, two_all P Q R w xs h.1 k.1)
+
+good_quit : (n k boot : ℕ) (c : BackCall) (os : List Owed) (past : List Entry) (own : List Line) (last : ℕ) → has_number k os ≡ true → CallOut n c last boot past → 2 ≤ c.tries → HasTimeout the_server (Client n) boot c.number 3 own → AllOf (MayQuit n past boot c.number (breaks_call c.breaks)) os → GoodQuit the_server (Client n) k past own
+good_quit n k boot c [] past own last e out le third h = absurd cc
+good_quit n k boot c (o ∷ os) past own last e out le third h = quit_by (nat_eq o.number k) n k boot c o os past own last refl e out le third h.0 (λ x. good_quit n k boot c os past own last x out le third h.1)
+
+quits_by_good : (t : Bool) (s : Script) (n boot last : ℕ) (c : BackCall) (o : Owed) (past : List Entry) (own : List Line) (xs : List Owed) → is_among n c.breaks o ≡ t → CallOut n c last boot past → 2 ≤ c.tries → HasTimeout the_server (Client n) boot c.number 3 own → AllOf (MayQuit n past boot c.number (breaks_call c.breaks)) c.breaks
+    → ((own : List Line) → HasTimeout the_server (Client n) boot c.number 3 own → AreGood s (actors.Node the_server) past own (map (quit_line the_server) xs)) → AreGood s (actors.Node the_server) past own (map (quit_line the_server) (cond t (o ∷ xs) xs))
+quits_by_good true s n boot last c o past own xs e out le third h w =
+    let q = both (nat_eq o.client n) (has_number o.number c.breaks) e in
+    ((refl, subst (λ (j : ℕ). GoodQuit the_server (Client j) o.number past own) (sym (eqb-true o.client n q.0)) (good_quit n o.number boot c c.breaks past own last q.1 out le third h)), w (quit_line the_server o ∷ own) third)
+quits_by_good false s n boot last c o past own xs e out le third h w = w own third
+
+quits_all : (s : Script) (n boot last : ℕ) (c : BackCall) (past : List Entry) (os : List Owed) (own : List Line) → CallOut n c last boot past → 2 ≤ c.tries → HasTimeout the_server (Client n) boot c.number 3 own → AllOf (MayQuit n past boot c.number (breaks_call c.breaks)) c.breaks → AreGood s (actors.Node the_server) past own (map (quit_line the_server) (filter (is_among n c.breaks) os))
+quits_all s n boot last c past [] own out le third h = tt
+quits_all s n boot last c past (o ∷ os) own out le third h = quits_by_good (is_among n c.breaks o) s n boot last c o past own (filter (is_among n c.breaks) os) refl out le third h (λ x y. quits_all s n boot last c past os x out le y h)
+
+pub quits_good : (s : Script) (n boot last : ℕ) (c : BackCall) (past : List Entry) (os : List Owed) → CallOut n c last boot past → nat_lt c.tries 2 ≡ false → AreGood s (actors.Node the_server) past (lines.Timeout the_server (Client n) boot c.number 3 ∷ []) (map (quit_line the_server) (filter (is_among n c.breaks) os))
+quits_good s n boot last c past os out e = quits_all s n boot last c past os _ out (ltb-false _ _ e) (inl (refl, (refl, (refl, (refl, refl)))))
+    (two_all (IsOwed n (lines_of past)) (λ (o : Owed). CarriesBreak (breaks_call c.breaks) o.what) (MayQuit n past boot c.number (breaks_call c.breaks)) (λ o x y. record { owe = x; carries = y }) c.breaks out.owes out.carries)
+
+pub settles_backed : (b : Backs) (boot : ℕ) (seats : List Seat) (cs : ℕ → Option Seat) (clock : ℕ) (sent : List Message) (e : Entry) (past : List Entry) (n p : ℕ) (c : BackCall) → e.lines ≡ lines.Given p ∷ map (settle_line the_server) (filter (is_among n c.breaks) b.owed) → BackedIn None b boot seats cs clock sent past → BackedIn None (loaded (settles the_server n c b)) boot seats cs clock sent (e ∷ past)
+settles_backed b boot seats cs clock sent e past n p c is h =
+    let os : List Owed = filter (is_among n c.breaks) b.owed in
+    let q = settles_plain os in
+    ends_backed b boot seats cs clock sent e past n c (subst Plain (sym is) (record { up = q.up; still = q.still; oweless = q.oweless; unchanging = q.unchanging })) h
+    (λ o l x. subst (λ (ls : List Line). HasSettled the_server (Client o.client) o.number (onto l ls)) (sym is) (settled_in o os (lines.Given p ∷ l) x))
+
+pub quits_backed : (b : Backs) (boot : ℕ) (seats : List Seat) (cs : ℕ → Option Seat) (clock : ℕ) (sent : List Message) (e : Entry) (past : List Entry) (n : ℕ) (c : BackCall) → e.lines ≡ (quits the_server boot n c b).lines → BackedIn None b boot seats cs clock sent past → BackedIn None (loaded (quits the_server boot n c b)) boot seats cs clock sent (e ∷ past)
+quits_backed b boot seats cs clock sent e past n c is h =
+    let os : List Owed = filter (is_among n c.breaks) b.owed in
+    let q = quits_plain os in
+    ends_backed b boot seats cs clock sent e past n c (subst Plain (sym is) (record { up = q.up; still = q.still; oweless = q.oweless; unchanging = q.unchanging })) h
+    (λ o l x. subst (λ (ls : List Line). HasSettled the_server (Client o.client) o.number (onto l ls)) (sym is) (quit_in o os (lines.Timeout the_server (Client n) boot c.number 3 ∷ l) x))
+
+-- ---- a call is sent again after a timeout
+
+tried : (n boot last : ℕ) (c : BackCall) (e : Entry) (past : List Entry) → e.lines ≡ lines.Timeout the_server (Client n) boot c.number (c.tries + 1) ∷ [] → CallOut n c last boot past → CallOut n (record c { tries = c.tries + 1 }) last boot (e ∷ past)
+tried n boot last c e past is h =
+    let up : all_lines is_up e.lines ≡ true = subst (λ (ls : List Line). all_lines is_up ls ≡ true) (sym is) refl in
+    let k : CallOut n c last boot (e ∷ past) = call_over n c last last boot e past (le_refl _) up h in
+    record {
+      number = k.number;
+      owes = k.owes;
+      tries = λ t a b. elim (eq-or-lt_of_le b) [
+        | inl q ↦ subst (λ (ls : List Line). HasTimeout the_server (Client n) boot c.number t (onto (lines_of past) ls)) (sym is) (inl (refl, (refl, (refl, (refl, sym q)))))
+        | inr l ↦ k.tries t a (omega arith)
+      ];
+      sent = k.sent;
+      carries = k.carries;
+    }
+
+pub retries_backed : (b : Backs) (boot : ℕ) (seats : List Seat) (cs : ℕ → Option Seat) (clock : ℕ) (sent : List Message) (e : Entry) (past : List Entry) (n : ℕ) (c : BackCall) → b.calls n ≡ Some c → e.lines ≡ lines.Timeout the_server (Client n) boot c.number (c.tries + 1) ∷ [] → BackedIn None b boot seats cs clock sent past
+    → BackedIn None (loaded (retries the_server boot n c b)) boot seats cs clock sent (e ∷ past)
+retries_backed b boot seats cs clock sent e past n c at is h =
+    let now : Backs = loaded (retries the_server boot n c b) in
+    let p : Plain e.lines = subst Plain (sym is) (record { up = refl; still = refl; oweless = refl; unchanging = refl }) in
+    let more : BackCall = record c { tries = c.tries + 1 } in
+    let s : Stepping None None b now clock clock e past = record {
+      was_up = λ x. x;
+      up = λ x. p.up;
+      or_stopped = λ x. inl x;
+      later = le_refl _;
+      new = λ before after d what k line. absurd (no_owe e.lines before after the_server d what k p.oweless line);
+      gone = λ o x. inl x;
+      held = λ k x. more_held k b.held [] x;
+      last = le_refl _;
+      calls = λ j k y. put_call n j more k b.calls _ y (λ q z. inr (c, (ap b.calls (sym q) ∙ at, (ap (λ (u : BackCall). u.number) z, ap (λ (u : BackCall). u.breaks) z)))) (λ z. inr (k, (z, (refl, refl))));
+    } in
+    subst (λ (ms : List Message). BackedIn None now boot seats cs clock ms (e ∷ past)) (append-nil sent)
+    (backed_step None None b now boot seats seats cs cs clock clock sent [] e past s h (λ x. granted_over e past b.promises p.still (h.granted x)) (promised_over None b.promises clock clock e past p.still (le_refl _) h.promised) (numbered_over None b.last_owed e past p.up p.oweless h.numbered) (λ x. owed_over e past b.owed p.up (h.owed x))
+    (λ x. all_both (HeldWaits seats clock (e ∷ past)) b.held [] (all_map (HeldWaits seats clock past) (HeldWaits seats clock (e ∷ past)) (λ q y. plain_waits seats seats clock clock e past q p (le_refl _) (λ m a d z. z) y) b.held (h.waiting x)) tt)
+    (λ x j k y. put_call n j more k b.calls (CallOut j k b.last_call boot (e ∷ past)) y (λ q z. subst (λ (i : ℕ). CallOut i k b.last_call boot (e ∷ past)) q (subst (λ (u : BackCall). CallOut n u b.last_call boot (e ∷ past)) z (tried n boot b.last_call c e past is (h.outs x n c at)))) (λ z. call_over j k b.last_call b.last_call boot e past (le_refl _) p.up (h.outs x j k z))) tt tt
+    (λ j seat m x y. seated_over None None b now boot clock clock e past s j m (h.seated j seat m x y)))
+
+-- ---- a call runs: its reply is new
+
+reply_key : (k : Key) (m : Message) → is_reply_to k m ≡ true → key_answered m ≡ k
+reply_key k m t =
+    let a = both (same_node m.head.to k.node) _ t in
+    let b = both _ _ a.1 in
+    ap (λ (n : Node). record { node = n; epoch = m.head.epoch; number = m.head.number }) (same_node-true m.head.to k.node a.0)
+    ∙ (ap (λ (e : ℕ). record { node = k.node; epoch = e; number = m.head.number }) (eqb-true _ _ b.0) ∙ ap (λ (n : ℕ). record { node = k.node; epoch = k.epoch; number = n }) (eqb-true _ _ b.1))
+
+no_key_by : (t : Bool) (k : Key) (h : Held) (hs : List Held) (seats : List Seat) (clock : ℕ) (past : List Entry) → is_reply_to k h.reply ≡ t → HeldWaits seats clock past h → cond t true (is_held k hs) ≡ true → Above (call_seat k.node seats) k.epoch k.number → (is_held k hs ≡ true → ⊥) → ⊥
+no_key_by true k h hs seats clock past a w e above more = w.under (subst (λ (z : Key). Above (call_seat z.node seats) z.epoch z.number) (sym (reply_key k h.reply a)) above)
+no_key_by false k h hs seats clock past a w e above more = more e
+
+no_key : (k : Key) (hs : List Held) (seats : List Seat) (clock : ℕ) (past : List Entry) → AllOf (HeldWaits seats clock past) hs → is_held k hs ≡ true → Above (call_seat k.node seats) k.epoch k.number → ⊥
+no_key k [] seats clock past w e above = absurd cc
+no_key k (h ∷ hs) seats clock past w e above = no_key_by (is_reply_to k h.reply) k h hs seats clock past refl w.0 e above (λ x. no_key k hs seats clock past w.1 x above)
+
+-- the replies that waited wait on, over an entry that owes nothing
+pub old_waits : (b : Backs) (boot : ℕ) (seats now : List Seat) (cs : ℕ → Option Seat) (clock : ℕ) (sent : List Message) (e : Entry) (past : List Entry) → BackedIn None b boot seats cs clock sent past → all_lines is_oweless e.lines ≡ true → all_lines is_unchanging e.lines ≡ true → ((m : Node) (x y : ℕ) → Above (call_seat m now) x y → Above (call_seat m seats) x y)
+    → AllOf (HeldWaits now clock (e ∷ past)) b.held
+old_waits b boot seats now cs clock sent e past h oweless unchanging seat = all_map (HeldWaits seats clock past) (HeldWaits now clock (e ∷ past)) (λ q y. waits_over seats now clock clock e past q (le_refl _) (λ k x. inl (change_back k e.lines (lines_of past) unchanging x))
+    (λ before after c what n line. absurd (no_owe e.lines before after the_server c what n oweless line)) seat y) b.held (h.waiting refl)
+
+-- what the entries of a key owed before that runs now is ended
+own_past : (b : Backs) (boot : ℕ) (seats : List Seat) (cs : ℕ → Option Seat) (clock : ℕ) (sent : List Message) (e : Entry) (past : List Entry) (hd : Held) (newer : List Entry) (at : Entry) (older : List Entry) (before after : List Line) (c : Node) (what : Option Fid) (n : ℕ) → BackedIn None b boot seats cs clock sent past → (is_held (key_answered hd.reply) b.held ≡ true → ⊥)
+    → AccountedBy None b.owed b.held clock newer at older before after c what n → WaitedBy hd clock (e ∷ newer) at older before after c what n
+own_past b boot seats cs clock sent e past hd newer at older before after c what n h none (inl x) k y = inl (ended_over e clock clock newer at older before after c what n (le_refl _) x)
+own_past b boot seats cs clock sent e past hd newer at older before after c what n h none (inr x) k y = elim (x.1.waits (key_answered hd.reply) k y) [ inl z ↦ inl (ended_over e clock clock newer at older before after c what n (le_refl _) z) | inr z ↦ absurd (none z) ]
+
+-- what is known of a new reply
+pub record NewReply (seats : List Seat) (past : List Entry) (hd : Held) : Type 0 where
+  pub client : ℕ
+  pub to : hd.reply.head.to ≡ Client client
+  pub from : hd.reply.head.from ≡ the_server
+  pub is_reply : OfReply ⊥ hd.reply.carried → ⊥
+  pub under : Above (call_seat hd.reply.head.to seats) hd.reply.head.epoch hd.reply.head.number → ⊥
+
+pub run_loaded : (b : Backs) (ps : List Promise) (boot : ℕ) (seats now : List Seat) (cs : ℕ → Option Seat) (clock : ℕ) (sent : List Message) (e : Entry) (past : List Entry) (hd : Held) → BackedIn None b boot seats cs clock sent past → all_lines is_up e.lines ≡ true → all_lines is_oweless e.lines ≡ true → all_lines is_unchanging e.lines ≡ true
+    → AllOf (IsGranted (lines_of (e ∷ past))) ps → Promised None ps clock (lines_of (e ∷ past)) → ((m : Node) (x y : ℕ) → Above (call_seat m now) x y → Above (call_seat m seats) x y) → NewReply now (e ∷ past) hd → (is_held (key_answered hd.reply) b.held ≡ true → ⊥)
+    → (HasChange (key_answered hd.reply) (lines_of (e ∷ past)) → AllOwes the_server (AllWaitedBy hd clock) (e ∷ past))
+    → BackedIn None (record b { promises = ps; held = b.held ++ hd ∷ [] }) boot now cs clock sent (e ∷ past)
+run_loaded b ps boot seats now cs clock sent e past hd h up oweless unchanging granted promised seat new none all =
+    let after : Backs = record b { promises = ps; held = b.held ++ hd ∷ [] } in
+    let s : Stepping None None b after clock clock e past = record {
+      was_up = λ x. x;
+      up = λ x. up;
+      or_stopped = λ x. inl x;
+      later = le_refl _;
+      new = λ x y d what k line. absurd (no_owe e.lines x y the_server d what k oweless line);
+      gone = λ o x. inl x;
+      held = λ k x. more_held k b.held (hd ∷ []) x;
+      last = le_refl _;
+      calls = calls_same b.calls b.last_call;
+    } in
+    subst (λ (ms : List Message). BackedIn None after boot now cs clock ms (e ∷ past)) (append-nil sent)
+    (backed_step None None b after boot seats now cs cs clock clock sent [] e past s h (λ x. granted) promised (numbered_over None b.last_owed e past up oweless h.numbered) (λ x. owed_over e past b.owed up (h.owed x))
+    (λ x. all_both (HeldWaits now clock (e ∷ past)) b.held (hd ∷ []) (old_waits b boot seats now cs clock sent e past h oweless unchanging seat) (
+      record {
+        client = new.client;
+        to = new.to;
+        from = new.from;
+        is_reply = new.is_reply;
+        under = new.under;
+        own = owes_over the_server (AccountedBy None b.owed b.held clock) (WaitedBy hd clock) e past (λ y z c what n line. absurd (no_owe e.lines y z the_server c what n oweless line)) (λ newer at older y z c what n w. own_past b boot seats cs clock sent e past hd newer at older y z c what n h none w) h.accounted;
+        all = all;
+      },
+      tt,
+    ))
+    (λ x j c at. call_over j c b.last_call b.last_call boot e past (le_refl _) up (h.outs x j c at)) tt tt
+    (λ j seat m x y. seated_over None None b after boot clock clock e past s j m (h.seated j seat m x y)))
+
+pub key_held : (b : Backs) (boot : ℕ) (seats : List Seat) (cs : ℕ → Option Seat) (clock : ℕ) (sent : List Message) (past : List Entry) (k : Key) → BackedIn None b boot seats cs clock sent past → Above (call_seat k.node seats) k.epoch k.number → is_held k b.held ≡ true → ⊥
+key_held b boot seats cs clock sent past k h above e = no_key k b.held seats clock past (h.waiting refl) e above
+
+granted_false : (a b : Bool) → (a ≡ true → ⊥) ⊎ (b ≡ true → ⊥) → (same_node the_server the_server && (a && b)) ≡ false
+granted_false true true (inl h) = absurd (h refl)
+granted_false true true (inr h) = absurd (h refl)
+granted_false true false h = refl
+granted_false false b h = refl
+
+granted_if : (t : Bool) (P : Promise → Type 0) (q : Promise) (rest : List Promise) → t ≡ t → (t ≡ true → P q) → AllOf P rest → AllOf P (cond t (q ∷ rest) rest)
+granted_if true P q rest e h k = (h refl, k)
+granted_if false P q rest e h k = k
+
+grant_by : (t : Bool) (x : ℕ) (o : Option ℕ) (q : ℕ) → t ≡ false → o ≡ Some q → cond t (Some x) o ≡ Some q
+grant_by true x o q e h = absurd cc
+grant_by false x o q e h = h
+
+not_granted : (a b : Bool) (n m : ℕ) (f g : Fid) → nat_eq m n ≡ a → same_fid g f ≡ b → not (a && b) ≡ true → (same_node the_server the_server && (same_node (Client n) (Client m) && same_fid f g)) ≡ false
+not_granted true true n m f g x y e = absurd cc
+not_granted true false n m f g x y e = granted_false (same_node (Client n) (Client m)) (same_fid f g) (inr (λ z. let q : same_fid g f ≡ true = ap (same_fid g) (same_fid-true f g z) ∙ same_fid-refl g in absurd cc))
+not_granted false b n m f g x y e = granted_false (same_node (Client n) (Client m)) (same_fid f g) (inl (λ z. let q : nat_eq m n ≡ true = eq-eqb m n (sym (client_number n m (same_node-true (Client n) (Client m) z))) in absurd cc))
+
+others_granted : (n : ℕ) (f : Fid) (x index : ℕ) (base : List Line) (ps : List Promise) → AllOf (IsGranted base) ps → AllOf (IsGranted (lines.Grant the_server (Client n) f index x ∷ base)) (filter (λ q. not (is_promise n f q)) ps)
+others_granted n f x index base [] h = tt
+others_granted n f x index base (q ∷ ps) h = granted_if (not (is_promise n f q)) (IsGranted (lines.Grant the_server (Client n) f index x ∷ base)) q (filter (λ z. not (is_promise n f z)) ps) refl
+    (λ e. grant_by (same_node the_server the_server && (same_node (Client n) (Client q.client) && same_fid f q.fid)) x (last_grant the_server (Client q.client) q.fid base) q.expiry (not_granted (nat_eq q.client n) (same_fid q.fid f) n q.client f q.fid refl refl e) h.0) (others_granted n f x index base ps h.1)
+
+-- the promises behind a grant
+granted_now : (n : ℕ) (f : Fid) (x index : ℕ) (base : List Line) (ps : List Promise) → AllOf (IsGranted base) ps → AllOf (IsGranted (lines.Grant the_server (Client n) f index x ∷ base)) (with_promise n x f ps)
+granted_now n f x index base ps h =
+    all_both (IsGranted (lines.Grant the_server (Client n) f index x ∷ base)) (filter (λ q. not (is_promise n f q)) ps) _ (others_granted n f x index base ps h) (rw (same_node-refl (Client n), same_fid-refl f) refl, tt)
+
+-- behind several
+pub all_granted : (n x : ℕ) (fs : List Found) (base : List Line) (ps : List Promise) → AllOf (IsGranted base) ps → AllOf (IsGranted (onto base (granted the_server (Client n) x fs []))) (with_promises n x fs ps)
+all_granted n x [] base ps h = h
+all_granted n x (f ∷ fs) base ps h = all_granted n x fs (lines.Grant the_server (Client n) f.fid f.vnode.index x ∷ base) (with_promise n x f.fid ps) (granted_now n f.fid x f.vnode.index base ps h)
+
+-- a line of which a test holds
+pub granted_all : (q : Line → Bool) (c : Node) (x : ℕ) (fs : List Found) → ((f : Fid) (i : ℕ) → q (lines.Grant the_server c f i x) ≡ true) → all_lines q (granted the_server c x fs []) ≡ true
+granted_all q c x [] h = refl
+granted_all q c x (f ∷ fs) h = rw (h f.fid f.vnode.index) (granted_all q c x fs h)
+
+-- ---- a break on all is waited for
+
+all_first_by : (t : Bool) (k n : ℕ) (rest : List ℕ) → t ≡ true → k ≡ n → IsNumberIn n (cond t (k ∷ rest) rest)
+all_first_by true k n rest e q = inl q
+all_first_by false k n rest e q = absurd cc
+
+all_next_by : (t : Bool) (k n : ℕ) (rest : List ℕ) → IsNumberIn n rest → IsNumberIn n (cond t (k ∷ rest) rest)
+all_next_by true k n rest h = inr h
+all_next_by false k n rest h = h
+
+in_alls : (o : Owed) (os : List Owed) (n : ℕ) → IsIn o os → o.what ≡ None → o.number ≡ n → IsNumberIn n (alls os)
+in_alls o [] n h w e = absurd h
+in_alls o (x ∷ os) n (inl q) w e = all_first_by (is_all x.what) x.number n (alls os) (ap (λ (z : Owed). is_all z.what) q ∙ ap is_all w) (ap (λ (z : Owed). z.number) q ∙ e)
+in_alls o (x ∷ os) n (inr q) w e = all_next_by (is_all x.what) x.number n (alls os) (in_alls o os n q w e)
+
+pub all_waited : (b : Backs) (boot : ℕ) (seats : List Seat) (cs : ℕ → Option Seat) (clock : ℕ) (sent : List Message) (e : Entry) (past : List Entry) (hd : Held) → BackedIn None b boot seats cs clock sent past → ((n : ℕ) → IsNumberIn n (alls b.owed) → IsNumberIn n hd.waits)
+    → ((before after : List Line) (c : Node) (what : Option Fid) (n : ℕ) → e.lines ≡ before ++ lines.Owe the_server c what n ∷ after → what ≡ None → ⊥) → AllOwes the_server (AllWaitedBy hd clock) (e ∷ past)
+all_waited b boot seats cs clock sent e past hd h more none = owes_over the_server (AccountedBy None b.owed b.held clock) (AllWaitedBy hd clock) e past (λ y z c what n line w. absurd (none y z c what n line w))
+    (λ newer at older y z c what n x w. elim x [ inl k ↦ inl (ended_over e clock clock newer at older y z c what n (le_refl _) k) | inr k ↦ inr (more n (in_alls k.1.o b.owed n k.1.is_in (k.1.on ∙ w) k.1.number)) ]) h.accounted
+
+new_by : (k : Key) (o : Option Key) (A B : Type 0) → (A → B → ⊥) → IsNot k o A → IsKey k o B → ⊥
+new_by k None A B w x y = w x y
+new_by k (Some l) A B w x (inl e) = x.0 (sym e)
+new_by k (Some l) A B w x (inr y) = w x.1 y
+
+-- a new key has no change
+pub no_change : (k : Key) (ls : List Line) → IsNew k ls → HasChange k ls → ⊥
+no_change k [] x y = y
+no_change k (l ∷ ls) x y = new_by k (change_in l) _ _ (no_change k ls) x y
+
+-- ---- new breaks
+
+pub lines_both : (q : Line → Bool) (a b : List Line) → all_lines q a ≡ true → all_lines q b ≡ true → all_lines q (a ++ b) ≡ true
+lines_both q [] b h k = k
+lines_both q (l ∷ a) b h k = let x = both (q l) (all_lines q a) h in rw (x.0, lines_both q a b x.1 k) refl
+
+lines_front : (q : Line → Bool) (a b : List Line) → all_lines q (a ++ b) ≡ true → all_lines q a ≡ true
+lines_front q [] b h = refl
+lines_front q (l ∷ a) b h = let x = both (q l) (all_lines q (a ++ b)) h in rw (x.0, lines_front q a b x.1) refl
+
+pub owes_up : (os : List Owed) → all_lines is_up (map (owe_line the_server) os) ≡ true
+owes_up [] = refl
+owes_up (o ∷ os) = owes_up os
+
+pub owes_still : (os : List Owed) → all_lines is_still (map (owe_line the_server) os) ≡ true
+owes_still [] = refl
+owes_still (o ∷ os) = owes_still os
+
+pub owes_still_to : (c : Node) (os : List Owed) → all_lines (is_still_to c) (map (owe_line the_server) os) ≡ true
+owes_still_to c [] = refl
+owes_still_to c (o ∷ os) = owes_still_to c os
+
+pub owes_unchanging : (os : List Owed) → all_lines is_unchanging (map (owe_line the_server) os) ≡ true
+owes_unchanging [] = refl
+owes_unchanging (o ∷ os) = owes_unchanging os
+
+-- the clock doesn't rise
+abbrev pub is_tickless : Line → Bool
+is_tickless (lines.Tick n) = false
+is_tickless l = true
+
+pub owes_tickless : (os : List Owed) → all_lines is_tickless (map (owe_line the_server) os) ≡ true
+owes_tickless [] = refl
+owes_tickless (o ∷ os) = owes_tickless os
+
+tick_before : (l : Line) (o : List Line) → is_tickless l ≡ true → clock_of (l ∷ o) ≡ clock_of o
+tick_before (lines.Tick n) o h = absurd cc
+tick_before l o h = refl
+
+clock_back : (ls o : List Line) → all_lines is_tickless ls ≡ true → clock_of (onto o ls) ≡ clock_of o
+clock_back [] o h = refl
+clock_back (l ∷ ls) o h = let q = both (is_tickless l) (all_lines is_tickless ls) h in clock_back ls (l ∷ o) q.1 ∙ tick_before l o q.0
+
+record OweFound (os : List Owed) (c : Node) (what : Option Fid) (n : ℕ) : Type 0 where
+  o : Owed
+  is_in : IsIn o os
+  client : Client o.client ≡ c
+  on : o.what ≡ what
+  number : o.number ≡ n
+
+owe_same : (o : Owed) (c : Node) (what : Option Fid) (n : ℕ) → owe_line the_server o ≡ lines.Owe the_server c what n → (Client o.client ≡ c) × ((o.what ≡ what) × (o.number ≡ n))
+owe_same o c what n e = (cc, (cc, cc))
+
+first_same : (x y : Line) (a b : List Line) → x ∷ a ≡ y ∷ b → x ≡ y
+first_same x y a b e = cc
+
+others_same : (x y : Line) (a b : List Line) → x ∷ a ≡ y ∷ b → a ≡ b
+others_same x y a b e = cc
+
+found_in : (os : List Owed) (before after : List Line) (c : Node) (what : Option Fid) (n : ℕ) → map (owe_line the_server) os ≡ before ++ lines.Owe the_server c what n ∷ after → OweFound os c what n
+found_in [] [] after c what n e = absurd cc
+found_in [] (x ∷ before) after c what n e = absurd cc
+found_in (o ∷ os) [] after c what n e = let q = owe_same o c what n (first_same (owe_line the_server o) _ _ after e) in record { o = o; is_in = inl refl; client = q.0; on = q.1.0; number = q.1.1 }
+found_in (o ∷ os) (x ∷ before) after c what n e = let f : OweFound os c what n = found_in os before after c what n (others_same (owe_line the_server o) x _ _ e) in record { o = f.o; is_in = inr f.is_in; client = f.client; on = f.on; number = f.number }
+
+owes_found : (pre : List Line) (os : List Owed) (before after : List Line) (c : Node) (what : Option Fid) (n : ℕ) → all_lines is_oweless pre ≡ true → pre ++ map (owe_line the_server) os ≡ before ++ lines.Owe the_server c what n ∷ after → OweFound os c what n
+owes_found [] os before after c what n h e = found_in os before after c what n e
+owes_found (l ∷ pre) os [] after c what n h e = let a : is_oweless l ≡ false = ap is_oweless (first_same l _ _ after e) in let b = (both (is_oweless l) (all_lines is_oweless pre) h).0 in absurd cc
+owes_found (l ∷ pre) os (x ∷ before) after c what n h e = owes_found pre os before after c what n (both (is_oweless l) (all_lines is_oweless pre) h).1 (others_same l x _ _ e)
+
+onto_both : (o a b : List Line) → onto o (a ++ b) ≡ onto (onto o a) b
+onto_both o [] b = refl
+onto_both o (l ∷ a) b = onto_both (l ∷ o) a b
+
+-- each stands in its entry
+owes_at : (os : List Owed) (base : List Line) → AllOf (λ (o : Owed). IsOwed o.client (onto base (map (owe_line the_server) os)) o) os
+owes_at [] base = tt
+owes_at (o ∷ os) base = (
+  record { newer = onto [] (map (owe_line the_server) os); base = base; split = front_onto [] (owe_line the_server o ∷ base) (map (owe_line the_server) os); up = λ x. stopped_back (map (owe_line the_server) os) [] (owes_up os) x },
+  owes_at os (owe_line the_server o ∷ base),
+)
+
+in_second : (o : Owed) (a b : List Owed) → IsIn o b → IsIn o (a ++ b)
+in_second o [] b h = h
+in_second o (x ∷ a) b h = inr (in_second o a b h)
+
+in_front : (o : Owed) (a b : List Owed) → IsIn o a → IsIn o (a ++ b)
+in_front o [] b h = absurd h
+in_front o (x ∷ a) b (inl e) = inl e
+in_front o (x ∷ a) b (inr h) = inr (in_front o a b h)
+
+in_all : (P : Owed → Type 0) (o : Owed) (os : List Owed) → IsIn o os → AllOf P os → P o
+in_all P o [] h k = absurd h
+in_all P o (x ∷ os) (inl e) k = subst P e k.0
+in_all P o (x ∷ os) (inr h) k = in_all P o os h k.1
+
+pub number_of : (o : Owed) (os : List Owed) (n : ℕ) → IsIn o os → o.number ≡ n → IsNumberIn n (numbers os)
+number_of o [] n h e = absurd h
+number_of o (x ∷ os) n (inl q) e = inl (ap (λ (z : Owed). z.number) q ∙ e)
+number_of o (x ∷ os) n (inr h) e = inr (number_of o os n h e)
+
+pub number_front : (n : ℕ) (a b : List ℕ) → IsNumberIn n a → IsNumberIn n (a ++ b)
+number_front n [] b h = absurd h
+number_front n (k ∷ a) b (inl e) = inl e
+number_front n (k ∷ a) b (inr h) = inr (number_front n a b h)
+
+pub number_second : (n : ℕ) (a b : List ℕ) → IsNumberIn n b → IsNumberIn n (a ++ b)
+number_second n [] b h = h
+number_second n (k ∷ a) b h = inr (number_second n a b h)
+
+reply_to_key : (k : Key) (m : Message) → key_answered m ≡ k → is_reply_to k m ≡ true
+reply_to_key k m e = subst (λ (z : Key). is_reply_to z m ≡ true) e (rw (same_node-refl m.head.to, eq-eqb m.head.epoch m.head.epoch refl, eq-eqb m.head.number m.head.number refl) refl)
+
+held_here : (t rest : Bool) → t ≡ true → cond t true rest ≡ true
+held_here true rest e = refl
+held_here false rest e = absurd cc
+
+held_next : (t rest : Bool) → rest ≡ true → cond t true rest ≡ true
+held_next true rest e = refl
+held_next false rest e = e
+
+held_last : (k : Key) (hs : List Held) (hd : Held) → key_answered hd.reply ≡ k → is_held k (hs ++ hd ∷ []) ≡ true
+held_last k [] hd e = held_here (is_reply_to k hd.reply) false (reply_to_key k hd.reply e)
+held_last k (h ∷ hs) hd e = held_next (is_reply_to k h.reply) (is_held k (hs ++ hd ∷ [])) (held_last k hs hd e)
+
+-- a break on a fid that ends with the last grant
+-- a promise to another client
+abbrev pub IsOfOther : ℕ → Promise → Type 0
+IsOfOther n p = p.client ≡ n → ⊥
+
+other_by : (a b : Bool) (n : ℕ) (p : Promise) → nat_eq p.client n ≡ b → (a && not b) ≡ true → IsOfOther n p
+other_by a true n p e h = let z = both a false h in absurd cc
+other_by a false n p e h = λ q. let yes : nat_eq p.client n ≡ true = eq-eqb p.client n q in absurd cc
+
+first_other : (t : Bool) (n : ℕ) (p : Promise) (ps : List Promise) → (t ≡ true → IsOfOther n p) → AllOf (IsOfOther n) ps → AllOf (IsOfOther n) (cond t (p ∷ ps) ps)
+first_other true n p ps w h = (w refl, h)
+first_other false n p ps w h = h
+
+hit_other : (n : ℕ) (f : Fid) (ps : List Promise) → AllOf (IsOfOther n) (filter (is_hit n f) ps)
+hit_other n f [] = tt
+hit_other n f (p ∷ ps) = first_other (is_hit n f p) n p (filter (is_hit n f) ps) (λ t. other_by (same_fid p.fid f) (nat_eq p.client n) n p refl t) (hit_other n f ps)
+
+-- what a client's change withdraws are promises to others
+pub hits_other : (n : ℕ) (vs : List Version) (ps : List Promise) → AllOf (IsOfOther n) (hits n vs ps)
+hits_other n [] ps = tt
+hits_other n (v ∷ vs) ps = all_both (IsOfOther n) (filter (is_hit n v.fid) ps) (hits n vs (filter (λ p. not (is_hit n v.fid p)) ps)) (hit_other n v.fid ps) (hits_other n vs (filter (λ p. not (is_hit n v.fid p)) ps))
+
+pub record NewOwe (n : ℕ) (ls : List Line) (o : Owed) : Type 0 where
+  pub other : o.client ≡ n → ⊥
+  pub fid : Fid
+  pub on : o.what ≡ Some fid
+  pub granted : last_grant the_server (Client o.client) fid ls ≡ Some o.expiry
+
+pub all_new : (n : ℕ) (ls : List Line) (k : ℕ) (ps : List Promise) → AllOf (IsGranted ls) ps → AllOf (IsOfOther n) ps → AllOf (NewOwe n ls) (owes_from k ps)
+all_new n ls k [] h o = tt
+all_new n ls k (p ∷ ps) h o = (record { other = o.0; fid = p.fid; on = refl; granted = h.0 }, all_new n ls (k + 1) ps h.1 o.1)
+
+-- of the promises some are withdrawn, and the others stay
+pub all_hits : (P : Promise → Type 0) (n : ℕ) (vs : List Version) (ps : List Promise) → AllOf P ps → AllOf P (hits n vs ps)
+all_hits P n [] ps h = tt
+all_hits P n (v ∷ vs) ps h = all_both P (filter (is_hit n v.fid) ps) (hits n vs (filter (λ p. not (is_hit n v.fid p)) ps)) (all_filter P (is_hit n v.fid) ps h) (all_hits P n vs (filter (λ p. not (is_hit n v.fid p)) ps) (all_filter P (λ p. not (is_hit n v.fid p)) ps h))
+
+pub all_left : (P : Promise → Type 0) (n : ℕ) (vs : List Version) (ps : List Promise) → AllOf P ps → AllOf P (left n vs ps)
+all_left P n [] ps h = h
+all_left P n (v ∷ vs) ps h = all_left P n vs (filter (λ p. not (is_hit n v.fid p)) ps) (all_filter P (λ p. not (is_hit n v.fid p)) ps h)
+
+in_first : (p : Promise) (a b : List Promise) → IsPromised p a → IsPromised p (a ++ b)
+in_first p [] b h = absurd h
+in_first p (q ∷ a) b (inl e) = inl e
+in_first p (q ∷ a) b (inr h) = inr (in_first p a b h)
+
+in_last : (p : Promise) (a b : List Promise) → IsPromised p b → IsPromised p (a ++ b)
+in_last p [] b h = h
+in_last p (q ∷ a) b h = inr (in_last p a b h)
+
+filter_by : (t : Bool) (q : Promise → Bool) (p : Promise) (ps : List Promise) → q p ≡ t → IsPromised p ps → IsPromised p (filter q ps) ⊎ IsPromised p (filter (λ z. not (q z)) ps)
+filter_by true q p ps e h = inl (kept_in q p ps h e)
+filter_by false q p ps e h = inr (kept_in (λ z. not (q z)) p ps h (ap not e))
+
+-- a promise is withdrawn, or stays
+hit_or_left : (n : ℕ) (vs : List Version) (ps : List Promise) (p : Promise) → IsPromised p ps → IsPromised p (hits n vs ps) ⊎ IsPromised p (left n vs ps)
+hit_or_left n [] ps p h = inr h
+hit_or_left n (v ∷ vs) ps p h = elim (filter_by (is_hit n v.fid p) (is_hit n v.fid) p ps refl h) [
+  | inl x ↦ inl (in_first p (filter (is_hit n v.fid) ps) (hits n vs (filter (λ z. not (is_hit n v.fid z)) ps)) x)
+  | inr x ↦ elim (hit_or_left n vs (filter (λ z. not (is_hit n v.fid z)) ps) p x) [ inl y ↦ inl (in_last p (filter (is_hit n v.fid) ps) (hits n vs (filter (λ z. not (is_hit n v.fid z)) ps)) y) | inr y ↦ inr y ]
+]
+
+hit_test : (a b : Bool) → a ≡ true → (b ≡ true → ⊥) → (a && not b) ≡ true
+hit_test true true e h = absurd (h refl)
+hit_test true false e h = refl
+hit_test false b e h = absurd cc
+
+-- another's promise on a fid that changes is withdrawn
+pub touched_hit : (n j : ℕ) (f : Fid) (x : ℕ) (vs : List Version) (ps : List Promise) → (j ≡ n → ⊥) → IsChanged f vs → IsPromised (promise_to j f x) ps → IsPromised (promise_to j f x) (hits n vs ps)
+touched_hit n j f x [] ps ne c h = absurd c
+touched_hit n j f x (v ∷ vs) ps ne (inl e) h = in_first (promise_to j f x) (filter (is_hit n v.fid) ps) (hits n vs (filter (λ z. not (is_hit n v.fid z)) ps)) (kept_in (is_hit n v.fid) (promise_to j f x) ps h (hit_test (same_fid f v.fid) (nat_eq j n) (ap (same_fid f) e ∙ same_fid-refl f) (λ t. ne (eqb-true j n t))))
+touched_hit n j f x (v ∷ vs) ps ne (inr c) h = elim (filter_by (is_hit n v.fid (promise_to j f x)) (is_hit n v.fid) (promise_to j f x) ps refl h) [
+  | inl y ↦ in_first (promise_to j f x) (filter (is_hit n v.fid) ps) (hits n vs (filter (λ z. not (is_hit n v.fid z)) ps)) y
+  | inr y ↦ in_last (promise_to j f x) (filter (is_hit n v.fid) ps) (hits n vs (filter (λ z. not (is_hit n v.fid z)) ps)) (touched_hit n j f x vs (filter (λ z. not (is_hit n v.fid z)) ps) ne c y)
+]
+
+pub has_owe : (j : ℕ) (f : Fid) (x k : ℕ) (ps : List Promise) → IsPromised (promise_to j f x) ps → HasOwe the_server (Client j) (Some f) (map (owe_line the_server) (owes_from k ps))
+has_owe j f x k [] h = absurd h
+has_owe j f x k (q ∷ ps) (inl e) = inl (refl, (ap (λ (p : Promise). Client p.client) e, ap (λ (p : Promise). Some p.fid) e))
+has_owe j f x k (q ∷ ps) (inr h) = inr (has_owe j f x (k + 1) ps h)
+
+dead_by : (t : Bool) (o : Option ℕ) (y : ℕ) → t ≡ true → cond t None o ≡ Some y → ⊥
+dead_by true o y e k = absurd cc
+dead_by false o y e k = absurd cc
+
+owe_dead : (j : ℕ) (f : Fid) (x y k : ℕ) (q : Promise) (base : List Line) → q ≡ promise_to j f x → live_grant the_server (Client j) f (lines.Owe the_server (Client q.client) (Some q.fid) k ∷ base) ≡ Some y → ⊥
+owe_dead j f x y k q base e l = dead_by (same_node (Client j) (Client j) && same_fid f f) (live_grant the_server (Client j) f base) y (rw (same_node-refl (Client j), same_fid-refl f) refl)
+    (subst (λ (p : Promise). live_grant the_server (Client j) f (lines.Owe the_server (Client p.client) (Some p.fid) k ∷ base) ≡ Some y) e l)
+
+-- a grant that is owed lasts no more
+owed_dead : (j : ℕ) (f : Fid) (x y k : ℕ) (ps : List Promise) (base : List Line) → IsPromised (promise_to j f x) ps → live_grant the_server (Client j) f (onto base (map (owe_line the_server) (owes_from k ps))) ≡ Some y → ⊥
+owed_dead j f x y k [] base h l = absurd h
+owed_dead j f x y k (q ∷ ps) base (inl e) l = owe_dead j f x y (k + 1) q base e (live_back (Client j) f y (map (owe_line the_server) (owes_from (k + 1) ps)) (lines.Owe the_server (Client q.client) (Some q.fid) (k + 1) ∷ base) (owes_still (owes_from (k + 1) ps)) l)
+owed_dead j f x y k (q ∷ ps) base (inr h) l = owed_dead j f x y (k + 1) ps (lines.Owe the_server (Client q.client) (Some q.fid) (k + 1) ∷ base) h l
+
+-- behind a change
+-- behind a grant
+not_promise : (b : Bool) (n j : ℕ) (f g : Fid) → (nat_eq j n && same_fid g f) ≡ b → (same_node (Client n) (Client j) && same_fid f g) ≡ false → not (nat_eq j n && same_fid g f) ≡ true
+not_promise true n j f g e h =
+    let q = both (nat_eq j n) (same_fid g f) e in
+    let yes : (same_node (Client n) (Client j) && same_fid f g) ≡ true = subst (λ (k : ℕ). (same_node (Client n) (Client k) && same_fid f g) ≡ true) (sym (eqb-true j n q.0)) (subst (λ (z : Fid). (same_node (Client n) (Client n) && same_fid f z) ≡ true) (sym (same_fid-true g f q.1)) (rw (same_node-refl (Client n), same_fid-refl f) refl)) in
+    absurd cc
+not_promise false n j f g e h = ap not e
+
+grant_promised : (t : Bool) (n j : ℕ) (f g : Fid) (x y : ℕ) (o : Option ℕ) (ps : List Promise) → (same_node (Client n) (Client j) && same_fid f g) ≡ t → (o ≡ Some y → IsPromised (promise_to j g y) ps) → cond t (Some x) o ≡ Some y
+    → IsPromised (promise_to j g y) (filter (λ q. not (is_promise n f q)) ps ++ promise_to n f x ∷ [])
+grant_promised true n j f g x y o ps e h l =
+    let q = both (same_node (Client n) (Client j)) (same_fid f g) e in
+    in_last (promise_to j g y) (filter (λ z. not (is_promise n f z)) ps) (promise_to n f x ∷ []) (inl (subst (λ (z : ℕ). promise_to n f z ≡ promise_to j g y) (sym (some_of x y l)) (subst (λ (z : Fid). promise_to n z y ≡ promise_to j g y) (sym (same_fid-true f g q.1)) (ap (λ (z : ℕ). promise_to z g y) (client_number n j (same_node-true (Client n) (Client j) q.0))))))
+grant_promised false n j f g x y o ps e h l = in_first (promise_to j g y) (filter (λ z. not (is_promise n f z)) ps) (promise_to n f x ∷ []) (kept_in (λ z. not (is_promise n f z)) (promise_to j g y) ps (h l) (not_promise (nat_eq j n && same_fid g f) n j f g refl e))
+
+promised_now : (n : ℕ) (f : Fid) (x index clock : ℕ) (base : List Line) (ps : List Promise) → Promised None ps clock base → Promised None (with_promise n x f ps) clock (lines.Grant the_server (Client n) f index x ∷ base)
+promised_now n f x index clock base ps h j g y l t = (refl, grant_promised (same_node (Client n) (Client j) && same_fid f g) n j f g x y (live_grant the_server (Client j) g base) ps refl (λ k. (h j g y k t).1) l)
+
+-- grants, and lines behind them
+pub onto_granted : (n x : ℕ) (fs : List Found) (tail o : List Line) → onto o (granted the_server (Client n) x fs tail) ≡ onto (onto o (granted the_server (Client n) x fs [])) tail
+onto_granted n x [] tail o = refl
+onto_granted n x (f ∷ fs) tail o = onto_granted n x fs tail (lines.Grant the_server (Client n) f.fid f.vnode.index x ∷ o)
+
+in_either : (p : Promise) (a b : List Promise) → IsPromised p (a ++ b) → IsPromised p a ⊎ IsPromised p b
+in_either p [] b h = inr h
+in_either p (q ∷ a) b (inl e) = inl (inl e)
+in_either p (q ∷ a) b (inr h) = elim (in_either p a b h) [ inl x ↦ inl (inr x) | inr x ↦ inr x ]
+
+kept_by : (t : Bool) (q : Promise → Bool) (p x : Promise) (rest all : List Promise) → q x ≡ t → (IsPromised p rest → IsPromised p all × (q p ≡ true)) → IsPromised p (cond t (x ∷ rest) rest) → IsPromised p (x ∷ all) × (q p ≡ true)
+kept_by true q p x rest all e w (inl z) = (inl z, subst (λ (y : Promise). q y ≡ true) z e)
+kept_by true q p x rest all e w (inr z) = let k = w z in (inr k.0, k.1)
+kept_by false q p x rest all e w z = let k = w z in (inr k.0, k.1)
+
+in_filter_both : (q : Promise → Bool) (p : Promise) (ps : List Promise) → IsPromised p (filter q ps) → IsPromised p ps × (q p ≡ true)
+in_filter_both q p [] h = absurd h
+in_filter_both q p (x ∷ ps) h = kept_by (q x) q p x (filter q ps) ps refl (in_filter_both q p ps) h
+
+-- what is promised beside some that are withdrawn still is when more is promised
+with_left : (n x : ℕ) (f : Fid) (p : Promise) (ps qs hs : List Promise) → ((q : Promise) → IsPromised q ps → IsPromised q hs ⊎ IsPromised q qs) → IsPromised p (with_promise n x f ps) → IsPromised p hs ⊎ IsPromised p (with_promise n x f qs)
+with_left n x f p ps qs hs w h = elim (in_either p (filter (λ z. not (is_promise n f z)) ps) (promise_to n f x ∷ []) h) [
+  | inl y ↦ let k = in_filter_both (λ z. not (is_promise n f z)) p ps y in elim (w p k.0) [
+    | inl z ↦ inl z
+    | inr z ↦ inr (in_first p (filter (λ z. not (is_promise n f z)) qs) (promise_to n f x ∷ []) (kept_in (λ z. not (is_promise n f z)) p qs z k.1))
+  ]
+  | inr y ↦ inr (in_last p (filter (λ z. not (is_promise n f z)) qs) (promise_to n f x ∷ []) y)
+]
+
+all_with_left : (n x : ℕ) (fs : List Found) (ps qs hs : List Promise) → ((q : Promise) → IsPromised q ps → IsPromised q hs ⊎ IsPromised q qs) → (p : Promise) → IsPromised p (with_promises n x fs ps) → IsPromised p hs ⊎ IsPromised p (with_promises n x fs qs)
+all_with_left n x [] ps qs hs w p h = w p h
+all_with_left n x (f ∷ fs) ps qs hs w p h = all_with_left n x fs (with_promise n x f.fid ps) (with_promise n x f.fid qs) hs (λ q z. with_left n x f.fid q ps qs hs w z) p h
+
+pub all_promised : (n x clock : ℕ) (fs : List Found) (base : List Line) (ps : List Promise) → Promised None ps clock base → Promised None (with_promises n x fs ps) clock (onto base (granted the_server (Client n) x fs []))
+all_promised n x clock [] base ps h = h
+all_promised n x clock (f ∷ fs) base ps h = all_promised n x clock fs (lines.Grant the_server (Client n) f.fid f.vnode.index x ∷ base) (with_promise n x f.fid ps) (promised_now n f.fid x f.vnode.index clock base ps h)
+
+-- ---- a change, and what it owes
+
+pub left_promised : (n k x clock : ℕ) (vs : List Version) (ps : List Promise) (fs : List Found) (e : Entry) (past : List Entry) (front : List Line) → e.lines ≡ front ++ granted the_server (Client n) x fs (map (owe_line the_server) (owes_from k (hits n vs ps))) → all_lines is_still front ≡ true → Promised None ps clock (lines_of past)
+    → Promised None (with_promises n x fs (left n vs ps)) clock (lines_of (e ∷ past))
+left_promised n k x clock vs ps fs e past front are still h j f y l t =
+    let owes : List Line = map (owe_line the_server) (owes_from k (hits n vs ps)) in
+    let base : List Line = onto (lines_of past) front in
+    let mid : List Line = onto base (granted the_server (Client n) x fs []) in
+    let here : live_grant the_server (Client j) f (onto mid owes) ≡ Some y = subst (λ (ls : List Line). live_grant the_server (Client j) f ls ≡ Some y) (ap (onto (lines_of past)) are ∙ (onto_both (lines_of past) front (granted the_server (Client n) x fs owes) ∙ onto_granted n x fs owes base)) l in
+    let before = live_back (Client j) f y owes mid (owes_still (owes_from k (hits n vs ps))) here in
+    let had : IsPromised (promise_to j f y) (with_promises n x fs ps) = (all_promised n x clock fs base ps (λ i g z a b. h i g z (live_back (Client i) g z front (lines_of past) still a) b) j f y before t).1 in
+    elim (all_with_left n x fs ps (left n vs ps) (hits n vs ps) (λ q z. hit_or_left n vs ps q z) (promise_to j f y) had) [
+      | inl z ↦ absurd (owed_dead j f y y k (hits n vs ps) mid z here)
+      | inr z ↦ (refl, z)
+    ]
+
+-- the promises behind a change
+pub left_granted : (n k x : ℕ) (vs : List Version) (ps : List Promise) (fs : List Found) (e : Entry) (past : List Entry) (front : List Line) → e.lines ≡ front ++ granted the_server (Client n) x fs (map (owe_line the_server) (owes_from k (hits n vs ps))) → all_lines is_still front ≡ true → AllOf (IsGranted (lines_of past)) ps
+    → AllOf (IsGranted (lines_of (e ∷ past))) (with_promises n x fs (left n vs ps))
+left_granted n k x vs ps fs e past front are still h =
+    let owes : List Line = map (owe_line the_server) (owes_from k (hits n vs ps)) in
+    let base : List Line = onto (lines_of past) front in
+    let mid : List Line = onto base (granted the_server (Client n) x fs []) in
+    let first : AllOf (IsGranted base) (left n vs ps) = all_map (IsGranted (lines_of past)) (IsGranted base) (λ p z. grant_back (Client p.client) p.fid front (lines_of past) still ∙ z) (left n vs ps) (all_left (IsGranted (lines_of past)) n vs ps h) in
+    let second : AllOf (IsGranted mid) (with_promises n x fs (left n vs ps)) = all_granted n x fs base (left n vs ps) first in
+    subst (λ (ls : List Line). AllOf (IsGranted ls) (with_promises n x fs (left n vs ps))) (sym (ap (onto (lines_of past)) are ∙ (onto_both (lines_of past) front (granted the_server (Client n) x fs owes) ∙ onto_granted n x fs owes base)))
+    (all_map (IsGranted mid) (IsGranted (onto mid owes)) (λ p z. grant_back (Client p.client) p.fid owes mid (owes_still (owes_from k (hits n vs ps))) ∙ z) (with_promises n x fs (left n vs ps)) second)
+
+pub record Changing (n : ℕ) (b : Backs) (seats now : List Seat) (e : Entry) (past : List Entry) (pre : List Line) (os : List Owed) (hd : Held) (m : Message) : Type 0 where
+  pub are : e.lines ≡ pre ++ map (owe_line the_server) os
+  pub up : all_lines is_up pre ≡ true
+  pub still : (c : ℕ) → (c ≡ n → ⊥) → all_lines (is_still_to (Client c)) pre ≡ true
+  pub oweless : all_lines is_oweless pre ≡ true
+  pub given : given_message e.lines (sent_of past) ≡ Some m
+  pub key : key_answered hd.reply ≡ called_key m.head
+  pub above : Above (call_seat m.head.from seats) m.head.epoch m.head.number
+  pub seat : (n : Node) (x y : ℕ) → Above (call_seat n now) x y → Above (call_seat n seats) x y
+  pub reply : NewReply now (e ∷ past) hd
+  pub changed : (k : Key) → HasChange k (lines_of (e ∷ past)) → HasChange k (lines_of past) ⊎ Above (call_seat k.node seats) k.epoch k.number
+  pub owes : AllOf (NewOwe n (lines_of past)) os
+  pub own : (n : ℕ) → IsNumberIn n (numbers os) → IsNumberIn n hd.waits
+  pub all : (n : ℕ) → IsNumberIn n (alls b.owed) → IsNumberIn n hd.waits
+
+pub change_loaded : (n : ℕ) (b : Backs) (ps : List Promise) (more boot : ℕ) (seats now : List Seat) (cs : ℕ → Option Seat) (clock : ℕ) (sent : List Message) (e : Entry) (past : List Entry) (pre : List Line) (os : List Owed) (hd : Held) (m : Message) → BackedIn None b boot seats cs clock sent past → AllOf (IsGranted (lines_of (e ∷ past))) ps → Promised None ps clock (lines_of (e ∷ past)) → Numbered None more (lines_of (e ∷ past)) → Changing n b seats now e past pre os hd m
+    → BackedIn None (record b { promises = ps; owed = b.owed ++ os; last_owed = more; held = b.held ++ hd ∷ [] }) boot now cs clock sent (e ∷ past)
+change_loaded who b ps more boot seats now cs clock sent e past pre os hd m h granted promised numbered w =
+    let after : Backs = record b { promises = ps; owed = b.owed ++ os; last_owed = more; held = b.held ++ hd ∷ [] } in
+    let up : all_lines is_up e.lines ≡ true = subst (λ (ls : List Line). all_lines is_up ls ≡ true) (sym w.are) (lines_both is_up pre _ w.up (owes_up os)) in
+    let still : (c : ℕ) → (c ≡ who → ⊥) → all_lines (is_still_to (Client c)) e.lines ≡ true = λ c ne. subst (λ (ls : List Line). all_lines (is_still_to (Client c)) ls ≡ true) (sym w.are) (lines_both (is_still_to (Client c)) pre _ (w.still c ne) (owes_still_to (Client c) os)) in
+    let found : (before after : List Line) (c : Node) (what : Option Fid) (n : ℕ) → e.lines ≡ before ++ lines.Owe the_server c what n ∷ after → OweFound os c what n = λ before after c what n line. owes_found pre os before after c what n w.oweless (sym w.are ∙ line) in
+    let not_all : (before after : List Line) (c : Node) (what : Option Fid) (n : ℕ) → e.lines ≡ before ++ lines.Owe the_server c what n ∷ after → what ≡ None → ⊥ = λ before after c what n line z. let f = found before after c what n line in let x = in_all (NewOwe who (lines_of past)) f.o os f.is_in w.owes in let y : Some x.fid ≡ None = sym x.on ∙ (f.on ∙ z) in absurd cc in
+    let under : (k : Key) (t : ℕ) → IsCallUnder the_server k t (given_message e.lines (sent_of past)) → called_key m.head ≡ k = λ k t y. (subst (λ (o : Option Message). IsCallUnder the_server k t o) w.given y).1.0 in
+    let none : is_held (key_answered hd.reply) b.held ≡ true → ⊥ = λ y. key_held b boot seats cs clock sent past (called_key m.head) h w.above (subst (λ (k : Key). is_held k b.held ≡ true) w.key y) in
+    let s : Stepping None None b after clock clock e past = record {
+      was_up = λ x. x;
+      up = λ x. up;
+      or_stopped = λ x. inl x;
+      later = le_refl _;
+      new = λ before rest c what n line. let f = found before rest c what n line in let x = in_all (NewOwe who (lines_of past)) f.o os f.is_in w.owes in inr (
+        refl,
+        record {
+          o = f.o;
+          is_in = in_second f.o b.owed os f.is_in;
+          number = f.number;
+          client = f.client;
+          on = f.on;
+          expiry = subst (λ (z : Option Fid). expiry_of the_server c z (onto (lines_of past) before) ≡ Some f.o.expiry) (sym x.on ∙ f.on) (subst (λ (z : Node). last_grant the_server z x.fid (onto (lines_of past) before) ≡ Some f.o.expiry) f.client
+              (grant_back_to (Client f.o.client) x.fid before (lines_of past) (lines_front (is_still_to (Client f.o.client)) before _ (subst (λ (ls : List Line). all_lines (is_still_to (Client f.o.client)) ls ≡ true) line (still f.o.client x.other))) ∙ x.granted));
+          waits = λ k t y. inr (held_last k b.held hd (w.key ∙ under k t y));
+        },
+      );
+      gone = λ o x. inl (in_front o b.owed os x);
+      held = λ k x. more_held k b.held (hd ∷ []) x;
+      last = le_refl _;
+      calls = calls_same b.calls b.last_call;
+    } in
+    subst (λ (ms : List Message). BackedIn None after boot now cs clock ms (e ∷ past)) (append-nil sent)
+    (backed_step None None b after boot seats now cs cs clock clock sent [] e past s h (λ x. granted) promised numbered
+    (λ x. all_both (λ (o : Owed). IsOwed o.client (lines_of (e ∷ past)) o) b.owed os (owed_over e past b.owed up (h.owed x))
+    (subst (λ (ls : List Line). AllOf (λ (o : Owed). IsOwed o.client ls o) os) (sym (ap (onto (lines_of past)) w.are ∙ onto_both (lines_of past) pre (map (owe_line the_server) os))) (owes_at os (onto (lines_of past) pre))))
+    (λ x. all_both (HeldWaits now clock (e ∷ past)) b.held (hd ∷ [])
+    (all_map (HeldWaits seats clock past) (HeldWaits now clock (e ∷ past)) (λ q y. waits_over seats now clock clock e past q (le_refl _) w.changed
+    (λ before rest c what n line. ((λ t z. absurd (y.under (subst (λ (k : Key). Above (call_seat k.node seats) k.epoch k.number) (under (key_answered q.reply) t z) w.above))), not_all before rest c what n line)) w.seat y) b.held (h.waiting refl)) (
+      record {
+        client = w.reply.client;
+        to = w.reply.to;
+        from = w.reply.from;
+        is_reply = w.reply.is_reply;
+        under = w.reply.under;
+        own = owes_over the_server (AccountedBy None b.owed b.held clock) (WaitedBy hd clock) e past (λ y z c what n line t k. let f = found y z c what n line in inr (w.own n (number_of f.o os n f.is_in f.number)))
+            (λ newer at older y z c what n u. own_past b boot seats cs clock sent e past hd newer at older y z c what n h none u) h.accounted;
+        all = λ y. all_waited b boot seats cs clock sent e past hd h w.all not_all;
+      },
+      tt,
+    ))
+    (λ x j c at. call_over j c b.last_call b.last_call boot e past (le_refl _) up (h.outs x j c at)) tt tt
+    (λ j seat k x y. seated_over None None b after boot clock clock e past s j k (h.seated j seat k x y)))
+
+-- numbers of new breaks
+pub numbers_good : (s : Script) (k : ℕ) (ps : List Promise) (past : List Entry) (own : List Line) → last_number the_server (own ++ lines_of past) ≤ k → AreGood s (actors.Node the_server) past own (map (owe_line the_server) (owes_from k ps))
+numbers_good s k [] past own h = tt
+numbers_good s k (p ∷ ps) past own h = ((refl, omega arith), numbers_good s (k + 1) ps past (lines.Owe the_server (Client p.client) (Some p.fid) (k + 1) ∷ own) (le_refl _))
+
+pub numbers_rise : (k : ℕ) (ps : List Promise) (base : List Line) → last_number the_server base ≤ k → last_number the_server (onto base (map (owe_line the_server) (owes_from k ps))) ≤ k + length (owes_from k ps)
+numbers_rise k [] base h = omega arith
+numbers_rise k (p ∷ ps) base h = let x : last_number the_server (onto (lines.Owe the_server (Client p.client) (Some p.fid) (k + 1) ∷ base) (map (owe_line the_server) (owes_from (k + 1) ps))) ≤ (k + 1) + length (owes_from (k + 1) ps) = numbers_rise (k + 1) ps (lines.Owe the_server (Client p.client) (Some p.fid) (k + 1) ∷ base) (le_refl _) in omega arith
+
+pub alls_good : (s : Script) (x k m : ℕ) (past : List Entry) (own : List Line) → last_number the_server (own ++ lines_of past) ≤ k → AreGood s (actors.Node the_server) past own (map (owe_line the_server) (owes_all x k m))
+alls_good s x k zero past own h = tt
+alls_good s x k (suc m) past own h = ((refl, omega arith), alls_good s x (k + 1) m past (lines.Owe the_server (Client (k + 1)) None (k + 1) ∷ own) (le_refl _))
+
+pub alls_rise : (x k m : ℕ) (base : List Line) → last_number the_server base ≤ k → last_number the_server (onto base (map (owe_line the_server) (owes_all x k m))) ≤ k + m
+alls_rise x k zero base h = omega arith
+alls_rise x k (suc m) base h = let y : last_number the_server (onto (lines.Owe the_server (Client (k + 1)) None (k + 1) ∷ base) (map (owe_line the_server) (owes_all x (k + 1) m))) ≤ (k + 1) + m = alls_rise x (k + 1) m (lines.Owe the_server (Client (k + 1)) None (k + 1) ∷ base) (le_refl _) in omega arith
+
+-- ---- a restart
+
+pub record OnAll (expiry : ℕ) (o : Owed) : Type 0 where
+  pub on : o.what ≡ None
+  pub expires : o.expiry ≡ expiry
+
+pub on_all : (expiry k m : ℕ) → AllOf (OnAll expiry) (owes_all expiry k m)
+on_all expiry k zero = tt
+on_all expiry k (suc m) = (record { on = refl; expires = refl }, on_all expiry (k + 1) m)
+
+-- every client of the cell is owed a break on all
+pub all_owed : (x k m j : ℕ) → k + 1 ≤ j → j ≤ k + m → HasOwe the_server (Client j) None (map (owe_line the_server) (owes_all x k m))
+all_owed x k zero j a b = absurd (omega arith)
+all_owed x k (suc m) j a b = elim (eq-or-lt_of_le a) [
+  | inl e ↦ inl (refl, (ap Client e, refl))
+  | inr l ↦ inr (all_owed x (k + 1) m j (omega arith) (omega arith))
+]
+
+not_now : (e boot : ℕ) → e ≤ boot → e ≡ boot + 1 → ⊥
+not_now e boot a b = absurd (omega arith)
+
+pub rise_loaded : (count : ℕ) (d : Option Fall) (b : Backs) (boot : ℕ) (seats now : List Seat) (cs : ℕ → Option Seat) (clock : ℕ) (sent : List Message) (e : Entry) (past : List Entry) (pre : List Line) → (d ≡ None → ⊥) → BackedIn d b boot seats cs clock sent past → clock_of (lines_of past) ≡ clock
+    → e.lines ≡ pre ++ (risen_turn the_server clock count).lines → all_lines is_oweless pre ≡ true → all_lines is_tickless pre ≡ true → all_lines is_still pre ≡ true → given_message e.lines (sent_of past) ≡ None → BackedIn None (loaded (risen_turn the_server clock count)) (boot + 1) now cs clock sent (e ∷ past)
+rise_loaded count d b boot seats now cs clock sent e past pre ne h time are oweless tickless still given =
+    let os : List Owed = owes_all (clock + promise_ticks) 0 count in
+    let all : AllOf (OnAll (clock + promise_ticks)) os = on_all (clock + promise_ticks) 0 count in
+    let ticks : all_lines is_tickless e.lines ≡ true = subst (λ (ls : List Line). all_lines is_tickless ls ≡ true) (sym are) (lines_both is_tickless pre _ tickless (owes_tickless os)) in
+    record {
+      granted = λ x. tt;
+      numbered =
+          let zero : last_number the_server (onto (lines_of past) pre) ≡ 0 = zero_back pre (lines_of past) oweless (down_zero d b.last_owed (lines_of past) ne h.numbered) in
+          subst (λ (ls : List Line). last_number the_server ls ≤ count) (sym (ap (onto (lines_of past)) are ∙ onto_both (lines_of past) pre (map (owe_line the_server) os)))
+          (let y : last_number the_server (onto (onto (lines_of past) pre) (map (owe_line the_server) os)) ≤ 0 + count = alls_rise (clock + promise_ticks) 0 count (onto (lines_of past) pre) (le_of_eq zero) in omega arith);
+      promised = λ j f x l t. absurd (ne (h.promised j f x (live_back (Client j) f x e.lines (lines_of past) (subst (λ (ls : List Line). all_lines is_still ls ≡ true) (sym are) (lines_both is_still pre _ still (owes_still os))) l) t).0);
+      accounted = owes_over the_server (AccountedBy d b.owed b.held clock) (AccountedBy None os [] clock) e past
+          (λ before rest c what n line. let f = owes_found pre os before rest c what n oweless (sym are ∙ line) in let x = in_all (OnAll (clock + promise_ticks)) f.o os f.is_in all in inr (
+            refl,
+            record {
+              o = f.o;
+              is_in = f.is_in;
+              number = f.number;
+              client = f.client;
+              on = f.on;
+              expiry = subst (λ (z : Option Fid). expiry_of the_server c z (onto (lines_of past) before) ≡ Some f.o.expiry) (sym x.on ∙ f.on)
+                  (ap Some (ap (λ (t : ℕ). t + 7200) (clock_back before (lines_of past) (lines_front is_tickless before _ (subst (λ (ls : List Line). all_lines is_tickless ls ≡ true) line ticks)) ∙ time) ∙ sym x.expires));
+              waits = λ k t y. absurd (subst (λ (o : Option Message). IsCallUnder the_server k t o) given y);
+            },
+          ))
+          (λ newer at older before rest c what n x. elim x [ inl y ↦ inl (ended_over e clock clock newer at older before rest c what n (le_refl _) y) | inr y ↦ absurd (ne y.0) ]) h.accounted;
+      owed = λ x. subst (λ (ls : List Line). AllOf (λ (o : Owed). IsOwed o.client ls o) os) (sym (ap (onto (lines_of past)) are ∙ onto_both (lines_of past) pre (map (owe_line the_server) os))) (owes_at os (onto (lines_of past) pre));
+      waiting = λ x. tt;
+      outs = λ x j c at. absurd cc;
+      calls = each_map (IfBack (BackIn d b.calls b.last_call boot)) (IfBack (BackIn None (λ n. None) 0 (boot + 1))) (if_back (BackIn d b.calls b.last_call boot) (BackIn None (λ n. None) 0 (boot + 1)) (λ head user call x. record { client = x.client; to = x.to; booted = le_trans x.booted (omega arith); below = λ y z. absurd (not_now head.epoch boot x.booted z); is = λ c y z. absurd (not_now head.epoch boot x.booted z) })) sent h.calls;
+      dones = each_map (IfDone (DoneIn d b.calls b.last_call boot past)) (IfDone (DoneIn None (λ n. None) 0 (boot + 1) (e ∷ past))) (if_done (DoneIn d b.calls b.last_call boot past) (DoneIn None (λ n. None) 0 (boot + 1) (e ∷ past)) (λ m x. record { client = x.client; from = x.from; done = record { booted = le_trans x.done.booted (omega arith); below = λ y z. absurd (not_now m.head.epoch boot x.done.booted z); dropped = λ c y z. absurd (not_now m.head.epoch boot x.done.booted z) } })) sent h.dones;
+      seated = λ j seat m x y. let z = h.seated j seat m x y in record { to = z.to; from = z.from; is_reply = z.is_reply; done = record { booted = le_trans z.done.booted (omega arith); below = λ u v. absurd (not_now m.head.epoch boot z.done.booted v); dropped = λ c u v. absurd (not_now m.head.epoch boot z.done.booted v) } };
+    }

@@ -1,0 +1,154 @@
+-- What holds of promises, breaks, the server's own calls, and replies that wait.
+use Rattle.std.proofs.Common.{◌≡◌, ℕ, ◌<◌, ◌≤◌, ◌⊎◌, Bool, true, false, cond, List, [], ◌∷◌, ◌++◌, Option, Some, None}
+use Rattle.std.specs.Prelude.{⊤, filter}
+use Rattle.afs_num.specs.declared.types.Fid.{Fid}
+use Rattle.afs_num.specs.declared.types.Head.{Head}
+use Rattle.afs_num.specs.declared.types.Key.{Key}
+use Rattle.afs_num.specs.declared.types.Node.{Node}
+use Rattle.afs_num.specs.declared.types.Node.TheVariants.{Client}
+use Rattle.afs_num.specs.declared.calls.FsCall.{FsCall}
+use Rattle.afs_num.specs.declared.messages.Message.{Message}
+use Rattle.afs_law.proofs.Basics.{Above, Each, IfBack, IfDone, OfReply}
+use Rattle.afs_law.specs.Breaks.{HasDrop, HasTimeout, last_grant, expiry_of, Owes, AllOwes, EndedBy, OweAt, CarriesBreak, WasSent, live_grant, last_number}
+use Rattle.afs_law.specs.Callbacks.{Promise, Owed, BackCall, Held, Backs, is_held, key_answered, breaks_call}
+use Rattle.afs_law.specs.ClientRow.{the_server}
+use Rattle.afs_law.specs.Legal.{HasChange}
+use Rattle.afs_law.specs.Lines.{Line}
+use Rattle.afs_law.specs.Past.{onto, lines_of, sent_of, given_message, IsCallUnder}
+use Rattle.afs_law.specs.Runs.{Entry, Fall}
+use Rattle.afs_law.specs.States.{Seat}
+use Rattle.afs_model.specs.Calls.{call_seat}
+
+abbrev pub AllOf : {A : Type 0} → (A → Type 0) → List A → Type 0
+AllOf P [] = ⊤
+AllOf P (x ∷ xs) = P x × AllOf P xs
+
+pub all_map : {A : Type 0} → (P Q : A → Type 0) → ((x : A) → P x → Q x) → (xs : List A) → AllOf P xs → AllOf Q xs
+all_map P Q w [] h = tt
+all_map P Q w (x ∷ xs) h = (w x h.0, all_map P Q w xs h.1)
+
+pub all_both : {A : Type 0} → (P : A → Type 0) (xs ys : List A) → AllOf P xs → AllOf P ys → AllOf P (xs ++ ys)
+all_both P [] ys h k = k
+all_both P (x ∷ xs) ys h k = (h.0, all_both P xs ys h.1 k)
+
+all_by : {A : Type 0} → (P : A → Type 0) (t : Bool) (x : A) (xs : List A) → P x → AllOf P xs → AllOf P (cond t (x ∷ xs) xs)
+all_by P true x xs h k = (h, k)
+all_by P false x xs h k = k
+
+pub all_filter : {A : Type 0} → (P : A → Type 0) (q : A → Bool) (xs : List A) → AllOf P xs → AllOf P (filter q xs)
+all_filter P q [] h = tt
+all_filter P q (x ∷ xs) h = all_by P (q x) x (filter q xs) h.0 (all_filter P q xs h.1)
+
+-- ---- the facts
+
+-- a promise is that of the last grant
+abbrev pub IsGranted : List Line → Promise → Type 0
+IsGranted ls p = last_grant the_server (Client p.client) p.fid ls ≡ Some p.expiry
+
+abbrev pub IsIn : Owed → List Owed → Type 0
+IsIn o [] = ⊥
+IsIn o (x ∷ xs) = (x ≡ o) ⊎ IsIn o xs
+
+abbrev pub IsNumberIn : ℕ → List ℕ → Type 0
+IsNumberIn n [] = ⊥
+IsNumberIn n (k ∷ ks) = (k ≡ n) ⊎ IsNumberIn n ks
+
+-- the break is owed still; the reply to the call that its entry ran waits
+pub record IsOpen (owed : List Owed) (held : List Held) (ended : Type 0) (at : Entry) (older : List Entry) (base : List Line) (c : Node) (what : Option Fid) (n : ℕ) : Type 0 where
+  pub o : Owed
+  pub is_in : IsIn o owed
+  pub number : o.number ≡ n
+  pub client : Client o.client ≡ c
+  pub on : o.what ≡ what
+  pub expiry : expiry_of the_server c what base ≡ Some o.expiry
+  pub waits : (k : Key) (boot : ℕ) → IsCallUnder the_server k boot (given_message at.lines (sent_of older)) → ended ⊎ (is_held k held ≡ true)
+
+-- every break that was ever owed is ended, or is owed still
+abbrev pub AccountedBy : Option Fall → List Owed → List Held → ℕ → Owes
+AccountedBy d owed held clock newer at older before after c what n = EndedBy the_server clock newer at older before after c what n ⊎ ((d ≡ None) × IsOpen owed held (EndedBy the_server clock newer at older before after c what n) at older (onto (lines_of older) before) c what n)
+
+abbrev pub WaitedBy : Held → ℕ → Owes
+WaitedBy h clock newer at older before after c what n = (boot : ℕ) → IsCallUnder the_server (key_answered h.reply) boot (given_message at.lines (sent_of older)) → EndedBy the_server clock newer at older before after c what n ⊎ IsNumberIn n h.waits
+
+abbrev pub AllWaitedBy : Held → ℕ → Owes
+AllWaitedBy h clock newer at older before after c what n = what ≡ None → EndedBy the_server clock newer at older before after c what n ⊎ IsNumberIn n h.waits
+
+-- a reply that waits is to a call that ran; it waits for what the entries of its key owe, and, of a change, for all that is owed on all
+pub record HeldWaits (seats : List Seat) (clock : ℕ) (past : List Entry) (h : Held) : Type 0 where
+  pub client : ℕ
+  pub to : h.reply.head.to ≡ Client client
+  pub from : h.reply.head.from ≡ the_server
+  pub is_reply : OfReply ⊥ h.reply.carried → ⊥
+  pub under : Above (call_seat h.reply.head.to seats) h.reply.head.epoch h.reply.head.number → ⊥
+  pub own : AllOwes the_server (WaitedBy h clock) past
+  pub all : HasChange (key_answered h.reply) (lines_of past) → AllOwes the_server (AllWaitedBy h clock) past
+
+abbrev pub IsOwed : ℕ → List Line → Owed → Type 0
+IsOwed j ls o = OweAt the_server (Client j) o.what o.number ls
+
+-- an unanswered call of the server
+pub record CallOut (j : ℕ) (c : BackCall) (last boot : ℕ) (past : List Entry) : Type 0 where
+  pub number : c.number ≤ last
+  pub owes : AllOf (IsOwed j (lines_of past)) c.breaks
+  pub tries : (t : ℕ) → 1 ≤ t → t ≤ c.tries → HasTimeout the_server (Client j) boot c.number t (lines_of past)
+  pub sent : WasSent (record { node = the_server; epoch = boot; number = c.number }) [] (breaks_call c.breaks) past
+  pub carries : AllOf (λ (o : Owed). CarriesBreak (breaks_call c.breaks) o.what) c.breaks
+
+-- a call of the server under way: if it is the unanswered one, it carries its breaks
+pub record BackIn (d : Option Fall) (calls : ℕ → Option BackCall) (last boot : ℕ) (head : Head) (user : List ℕ) (call : FsCall) : Type 0 where
+  pub client : ℕ
+  pub to : head.to ≡ Client client
+  pub booted : head.epoch ≤ boot
+  pub below : d ≡ None → head.epoch ≡ boot → head.number ≤ last
+  pub is : (c : BackCall) → d ≡ None → head.epoch ≡ boot → calls client ≡ Some c → head.number ≡ c.number → call ≡ breaks_call c.breaks
+
+-- the client dropped what this break is on
+pub record DroppedOwe (j : ℕ) (ls : List Line) (o : Owed) : Type 0 where
+  pub owe : OweAt the_server (Client j) o.what o.number ls
+  pub dropped : HasDrop the_server (Client j) o.what owe.newer
+
+-- the client was given the server's call of this epoch and number: if that is the unanswered one, it dropped what its breaks are on
+pub record IsDone (d : Option Fall) (calls : ℕ → Option BackCall) (last boot : ℕ) (past : List Entry) (j epoch number : ℕ) : Type 0 where
+  pub booted : epoch ≤ boot
+  pub below : d ≡ None → epoch ≡ boot → number ≤ last
+  pub dropped : (c : BackCall) → d ≡ None → epoch ≡ boot → calls j ≡ Some c → number ≡ c.number → AllOf (DroppedOwe j (lines_of past)) c.breaks
+
+pub record DoneIn (d : Option Fall) (calls : ℕ → Option BackCall) (last boot : ℕ) (past : List Entry) (m : Message) : Type 0 where
+  pub client : ℕ
+  pub from : m.head.from ≡ Client client
+  pub done : IsDone d calls last boot past client m.head.epoch m.head.number
+
+-- a reply that a client keeps for the server
+pub record SeatedIn (d : Option Fall) (calls : ℕ → Option BackCall) (last boot : ℕ) (past : List Entry) (j : ℕ) (m : Message) : Type 0 where
+  pub to : m.head.to ≡ the_server
+  pub from : m.head.from ≡ Client j
+  pub is_reply : OfReply ⊥ m.carried → ⊥
+  pub done : IsDone d calls last boot past j m.head.epoch m.head.number
+
+abbrev pub IsPromised : Promise → List Promise → Type 0
+IsPromised p [] = ⊥
+IsPromised p (q ∷ ps) = (q ≡ p) ⊎ IsPromised p ps
+
+abbrev pub promise_to : ℕ → Fid → ℕ → Promise
+promise_to j f x = record { client = j; fid = f; expiry = x }
+
+-- each grant that lasts and isn't owed is promised
+abbrev pub Promised : Option Fall → List Promise → ℕ → List Line → Type 0
+Promised d ps clock ls = (j : ℕ) (f : Fid) (x : ℕ) → live_grant the_server (Client j) f ls ≡ Some x → clock < x → (d ≡ None) × IsPromised (promise_to j f x) ps
+
+-- the breaks of a boot are numbered upwards
+abbrev pub Numbered : Option Fall → ℕ → List Line → Type 0
+Numbered None last ls = last_number the_server ls ≤ last
+Numbered (Some fall) last ls = last_number the_server ls ≡ 0
+
+pub record BackedIn (d : Option Fall) (b : Backs) (boot : ℕ) (seats : List Seat) (cs : ℕ → Option Seat) (clock : ℕ) (sent : List Message) (past : List Entry) : Type 0 where
+  pub granted : d ≡ None → AllOf (IsGranted (lines_of past)) b.promises
+  pub promised : Promised d b.promises clock (lines_of past)
+  pub numbered : Numbered d b.last_owed (lines_of past)
+  pub accounted : AllOwes the_server (AccountedBy d b.owed b.held clock) past
+  pub owed : d ≡ None → AllOf (λ (o : Owed). IsOwed o.client (lines_of past) o) b.owed
+  pub waiting : d ≡ None → AllOf (HeldWaits seats clock past) b.held
+  pub outs : d ≡ None → (j : ℕ) (c : BackCall) → b.calls j ≡ Some c → CallOut j c b.last_call boot past
+  pub calls : Each (IfBack (BackIn d b.calls b.last_call boot)) sent
+  pub dones : Each (IfDone (DoneIn d b.calls b.last_call boot past)) sent
+  pub seated : (j : ℕ) (seat : Seat) (m : Message) → cs j ≡ Some seat → seat.reply ≡ Some m → SeatedIn d b.calls b.last_call boot past j m

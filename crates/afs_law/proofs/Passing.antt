@@ -1,0 +1,447 @@
+use Rattle.std.proofs.Common.{◌≡◌, ℕ, ◌≤◌, inl, inr, Bool, true, false, cond, List, [], ◌∷◌, ◌++◌, Option, Some, None, ℤ, refl, sym, ap, ◌∙◌, subst, arith, le_of_eq, le_trans, eqb-true}
+use Rattle.std.specs.Option.{option_map}
+use Rattle.afs_num.specs.declared.types.Fid.{Fid}
+use Rattle.afs_num.specs.declared.types.Head.{Head}
+use Rattle.afs_num.specs.declared.types.Key.{Key}
+use Rattle.afs_num.specs.declared.types.Node.{Node}
+use Rattle.afs_num.specs.declared.types.Node.TheVariants.{Loc, Server, Client, Admin}
+use Rattle.afs_num.specs.declared.calls.FsCall.{FsCall}
+use Rattle.afs_num.specs.declared.messages.Carried.{Carried}
+use Rattle.afs_num.specs.declared.messages.Message.{Message}
+use Rattle.afs_ideal.specs.Operations.{volume_changed, Result, changes}
+use Rattle.afs_law.proofs.Basics.{Each, IfCall, IfReply, IfNotice, each_more, each_map, if_call, if_reply, if_notice, at_more, ByClient, OfClient, by_client, both, same_node-true, same_node-refl, client_number, OfCall}
+use Rattle.afs_law.proofs.Edits.{index_in}
+use Rattle.afs_law.proofs.Facts.{IsKeptBody, Seen, IsActs, IsLastCall, View, Spot, spot, Reached, Held, IsNewest, Stands, IsCurrent, IsFetched, Fits, Answers, ReplyFact, AreKept, ClientFacts, CallIn, ReplyIn, Origin, HeldIn, ToClient, SentFacts, HasFallen, Reading, FitsReply, FitsData, FitsSet, WasChanged, WasStored, IsOne, IsNoticed}
+use Rattle.afs_law.specs.ClientRow.{the_server, body_told}
+use Rattle.afs_law.specs.Going.{asked, Going}
+use Rattle.afs_law.specs.Grants.{has_fetched, fetch_reply, GrantOf, since, IsWithdrawn, IsDropped}
+use Rattle.afs_law.specs.Ideal.{last_version, HasVersion, reach, change_in, call_in, call_under}
+use Rattle.afs_law.specs.Legal.{IsResult, IsKey, HasChange, Cause, answer_at, IsTold}
+use Rattle.afs_law.specs.Lines.{Line}
+use Rattle.afs_law.specs.Past.{onto, lines_of, sent_of, given_message, running, has_begun, Ran, called_key, same_key, is_called, has_sent, is_sent_since, answered_key}
+use Rattle.afs_law.specs.Runs.{Entry, Fall, at_rest, in_step, in_boot}
+use Rattle.afs_law.specs.States.{CacheEntry, Seat, ServerState}
+use Rattle.afs_num.specs.declared.histories.Body.{Body}
+use Rattle.afs_num.specs.declared.histories.Version.{Version}
+use Rattle.std.proofs.Math.Nat.{le_refl}
+use Rattle.std.specs.Prelude.{⊤, ◌⊎◌}
+use Rattle.afs_num.specs.Nodes.{same_node}
+use Rattle.afs_num.specs.declared.calls.FsReply.{FsReply}
+use Rattle.afs_num.specs.declared.calls.AfsFetchStatus.{AfsFetchStatus}
+use Rattle.afs_num.specs.declared.calls.AfsCallBack.{AfsCallBack}
+use Rattle.afs_num.specs.declared.calls.FsReply.TheVariants as replies
+use Rattle.afs_num.specs.declared.messages.Carried.TheVariants as carried
+use Rattle.afs_num.specs.declared.messages.Reply.TheVariants as tell
+use Rattle.afs_num.specs.declared.messages.Call.TheVariants as ask
+use Rattle.afs_num.specs.declared.histories.Body.TheVariants as bodies
+use Rattle.afs_num.specs.declared.calls.FsCall.TheVariants as calls
+
+-- How the facts pass over an entry.
+
+-- ---- what an entry leaves as it was, for client j and file f
+
+pub record PassesGrant (j : ℕ) (f : Fid) (e : Entry) (past : List Entry) : Type 0 where
+  pub version : (i : ℕ) (b : Body) (o : List Line) → HasVersion f i b o → HasVersion f i b (onto o e.lines)
+  pub dropped : (s : Node) (o : List Line) → IsDropped s (Client j) f (onto o e.lines) → IsDropped s (Client j) f o
+  pub withdrawn : (s : Node) (o : List Line) → IsWithdrawn s (Client j) f o → IsWithdrawn s (Client j) f (onto o e.lines)
+
+pub record PassesFile (j : ℕ) (f : Fid) (e : Entry) (past : List Entry) : Type 0 where
+  pub grant : PassesGrant j f e past
+  pub fetched : has_fetched (Client j) f e.lines ≡ false
+
+pub record PassesAct (j : ℕ) (e : Entry) (past : List Entry) : Type 0 where
+  pub runs : (o : List Line) → running (Client j) (onto o e.lines) ≡ running (Client j) o
+  pub begins : has_begun (Client j) e.lines ≡ false
+
+abbrev pub PassesBoth : ℕ → Fid → Entry → List Entry → Type 0
+PassesBoth j f e past = (i : ℕ) → Reached (Client j) f i past → Reached (Client j) f i (e ∷ past)
+
+abbrev pub PassesSeen : ℕ → Fid → Entry → List Entry → Type 0
+PassesSeen j f e past = (i : ℕ) → Seen j f i past → Seen j f i (e ∷ past)
+
+pub record PassesReach (j : ℕ) (f : Fid) (e : Entry) (past : List Entry) : Type 0 where
+  pub both : PassesBoth j f e past
+  pub seen : PassesSeen j f e past
+  pub made : (reach (Client j) f past).made ≡ 0 → (reach (Client j) f (e ∷ past)).made ≡ 0
+
+-- ---- an entry that ran a call, and its grant
+
+abbrev pub ran_over : (reply : Head) (e : Entry) (past : List Entry) → Ran reply past → Ran reply (e ∷ past)
+ran_over reply e past h = record {
+  newer = e ∷ h.newer;
+  at = h.at;
+  older = h.older;
+  split = ap (λ (es : List Entry). e ∷ es) h.split;
+  message = h.message;
+  given = h.given;
+  is_call = h.is_call;
+  key = h.key;
+  boot = h.boot;
+  callee = h.callee;
+  node = h.node;
+  first = h.first;
+}
+
+abbrev pub grant_over : (c : Node) (f : Fid) (x : ℕ) (m : Message) (e : Entry) (past : List Entry) → GrantOf c f x m past → GrantOf c f x m (e ∷ past)
+grant_over c f x m e past h = record {
+  is_reply = h.is_reply;
+  to = h.to;
+  ran = ran_over m.head e past h.ran;
+  server = h.server;
+  node = h.node;
+  index = h.index;
+  before = h.before;
+  after = h.after;
+  line = h.line;
+}
+
+pub onto_front : (a b ls : List Line) → onto (a ++ b) ls ≡ onto a ls ++ b
+onto_front a b [] = refl
+onto_front a b (l ∷ ls) = onto_front (l ∷ a) b ls
+
+abbrev pub held_over : {sp : Bool} → (j : ℕ) (f : Fid) (i : ℕ) (b : Body) (x : ℕ) (m : Message) (e : Entry) (past : List Entry) → PassesGrant j f e past → Held sp j f i b x m past → Held sp j f i b x m (e ∷ past)
+held_over j f i b x m e past p h = record {
+  grant = grant_over (Client j) f x m e past h.grant;
+  server = h.server;
+  kept = λ z d. h.kept z (p.dropped h.grant.server (since (Client j) f x m past h.grant) d);
+  whole = p.version i b (lines_of past) h.whole;
+  base = h.base;
+  split = ap (λ (o : List Line). onto o e.lines) h.split ∙ onto_front (since (Client j) f x m past h.grant) h.base e.lines;
+  begun = h.begun;
+}
+
+-- a change stays told
+key_more : (k : Key) (o : Option Key) (S : Type 0) → S → IsKey k o S
+key_more k None S h = h
+key_more k (Some l) S h = inr h
+
+change_more : (k : Key) (l : Line) (ls : List Line) → HasChange k ls → HasChange k (l ∷ ls)
+change_more k l ls h = key_more k (change_in l) (HasChange k ls) h
+
+change_onto : (k : Key) (ls o : List Line) → HasChange k o → HasChange k (onto o ls)
+change_onto k [] o h = h
+change_onto k (l ∷ ls) o h = change_onto k ls (l ∷ o) (change_more k l o h)
+
+change_behind : (k : Key) (ls o : List Line) → HasChange k o → HasChange k (ls ++ o)
+change_behind k [] o h = h
+change_behind k (l ∷ ls) o h = change_more k l (ls ++ o) (change_behind k ls o h)
+
+told_onto : (k : Key) (r : Option Result) (ls o : List Line) → IsTold k r o → IsTold k r (onto o ls)
+told_onto k (Some (changes es n)) ls o h = change_onto k ls o h
+told_onto k r ls o h = tt
+
+pub told_behind : (k : Key) (r : Option Result) (ls o : List Line) → IsTold k r o → IsTold k r (ls ++ o)
+told_behind k (Some (changes es n)) ls o h = change_behind k ls o h
+told_behind k r ls o h = tt
+
+pub result_by : (code : ℤ) (r : Option Result) (k : Key) (ls newer : List Line) → (IsTold k r ls → IsTold k r newer) → IsResult code r k ls → IsResult code r k newer
+result_by code r k ls newer w (inl x) = inl (x.0, w x.1)
+result_by code r k ls newer w (inr x) = inr x
+
+pub cause_over : (m : Message) (code : ℤ) (call : FsCall) (e : Entry) (past : List Entry) → Cause m code call past [] → Cause m code call (e ∷ past) []
+cause_over m code call e past h = record {
+  is_reply = h.is_reply;
+  told = h.told;
+  ran = ran_over m.head e past h.ran;
+  user = h.user;
+  call = h.call;
+  carries = h.carries;
+  own_user = h.own_user;
+  asks = h.asks;
+  result = result_by code (answer_at h.user h.call h.ran.older) (answered_key m.head) (lines_of past) (lines_of (e ∷ past)) (told_onto (answered_key m.head) (answer_at h.user h.call h.ran.older) e.lines (lines_of past)) h.result;
+}
+
+-- and behind an entry's own lines
+abbrev pub cause_behind : (m : Message) (code : ℤ) (call : FsCall) (past : List Entry) (own : List Line) → Cause m code call past [] → Cause m code call past own
+cause_behind m code call past own h = record {
+  is_reply = h.is_reply;
+  told = h.told;
+  ran = h.ran;
+  user = h.user;
+  call = h.call;
+  carries = h.carries;
+  own_user = h.own_user;
+  asks = h.asks;
+  result = result_by code (answer_at h.user h.call h.ran.older) (answered_key m.head) (lines_of past) (own ++ lines_of past) (told_behind (answered_key m.head) (answer_at h.user h.call h.ran.older) own (lines_of past)) h.result;
+}
+
+-- what was the newest is so still, or has its grant withdrawn
+abbrev pub StaysNewest : ℕ → Fid → Entry → List Entry → Type 0
+StaysNewest j f e past = (server : Node) (i : ℕ) (newer : List Line) → server ≡ the_server → IsNewest server j f i newer (lines_of past) → IsNewest server j f i (onto newer e.lines) (lines_of (e ∷ past))
+
+pub stays : (j : ℕ) (f : Fid) (e : Entry) (past : List Entry) → PassesGrant j f e past → last_version f (lines_of (e ∷ past)) ≡ last_version f (lines_of past) → StaysNewest j f e past
+stays j f e past p l server i newer q (inl w) = inl (p.withdrawn server newer w)
+stays j f e past p l server i newer q (inr at) = inr (ap (option_map (λ (v : Version). v.index)) l ∙ at)
+
+-- ---- a cached entry
+
+pub fetch_reply_by : (t : Bool) (o u : Option Message) → t ≡ false → cond t o u ≡ u
+fetch_reply_by true o u e = absurd cc
+fetch_reply_by false o u e = refl
+
+pub current_over : (j : ℕ) (f : Fid) (u : CacheEntry) (v w : View) (e : Entry) (past : List Entry) → v.held ≤ w.held → PassesFile j f e past
+    → ((server : Node) (newer : List Line) → server ≡ the_server → Stands j f u.index server newer v past → Stands j f u.index server (onto newer e.lines) w (e ∷ past))
+    → IsCurrent j f u v past → IsCurrent j f u w (e ∷ past)
+current_over j f u v w e past le p st h = record {
+  reply = h.reply;
+  boot = le_trans h.boot le;
+  by = fetch_reply_by (has_fetched (Client j) f e.lines) (given_message e.lines (sent_of past)) (fetch_reply (Client j) f past) p.fetched ∙ h.by;
+  held = held_over j f u.index u.body u.expiry h.reply e past p.grant h.held;
+  state = st h.held.grant.server (since (Client j) f u.expiry h.reply past h.held.grant) h.held.server h.state;
+}
+
+stored_over : (j : ℕ) (f : Fid) (server : Node) (newer : List Line) (reply : Option Message) (e : Entry) (past : List Entry) → PassesSeen j f e past → StaysNewest j f e past → server ≡ the_server → WasStored j f server newer reply past → WasStored j f server (onto newer e.lines) reply (e ∷ past)
+stored_over j f server newer reply e past r n q h = record {
+  index = h.index;
+  reply = h.reply;
+  kept = h.kept;
+  told = h.told;
+  reached = r h.index h.reached;
+  newest = n server h.index newer q h.newest;
+}
+
+was_over : (j : ℕ) (f : Fid) (server : Node) (newer : List Line) (reply : Option Message) (e : Entry) (past : List Entry) (call : FsCall) → PassesSeen j f e past → StaysNewest j f e past → server ≡ the_server
+    → WasChanged j f server newer reply past call → WasChanged j f server (onto newer e.lines) reply (e ∷ past) call
+was_over j f server newer reply e past (calls.StoreData g status position wanted file_length contents) r n q h = stored_over j f server newer reply e past r n q h
+was_over j f server newer reply e past (calls.StoreAcl g acl) r n q h = stored_over j f server newer reply e past r n q h
+was_over j f server newer reply e past (calls.StoreStatus g status) r n q h = stored_over j f server newer reply e past r n q h
+was_over j f server newer reply e past call r n q h = tt
+
+-- where the view stays
+pub stands_over : (j : ℕ) (f : Fid) (i : ℕ) (v : View) (e : Entry) (past : List Entry) → PassesSeen j f e past → StaysNewest j f e past
+    → (server : Node) (newer : List Line) → server ≡ the_server → Stands j f i server newer v past → Stands j f i server (onto newer e.lines) v (e ∷ past)
+stands_over j f i v e past r n server newer q (inl h) = inl (record { reached = r i h.reached; newest = n server i newer q h.newest; before = h.before })
+stands_over j f i v e past r n server newer q (inr h) = inr (record {
+  was = r i h.was;
+  act = h.act;
+  runs = h.runs;
+  scope = h.scope;
+  ran = h.ran;
+  changed = was_over j f server newer h.ran.seat.reply e past (asked h.act) r n q h.changed;
+})
+
+-- ---- a kept reply
+
+fetched_over : {sp : Bool} → (j : ℕ) (f : Fid) (i : ℕ) (b : Body) (x : ℕ) (m : Message) (e : Entry) (past : List Entry) → PassesGrant j f e past → PassesSeen j f e past → StaysNewest j f e past → IsFetched sp j f i b x m past → IsFetched sp j f i b x m (e ∷ past)
+fetched_over j f i b x m e past p r n h = record {
+  held = held_over j f i b x m e past p h.held;
+  reached = r i h.reached;
+  newest = n h.held.grant.server i (since (Client j) f x m past h.held.grant) h.held.server h.newest;
+}
+
+data_over : (sp : Bool) (j : ℕ) (v : Spot) (m : Message) (e : Entry) (past : List Entry) (contents : List ℕ) (status : AfsFetchStatus) (callback : AfsCallBack) (call : FsCall) → ((f : Fid) → PassesGrant j f e past) → ((f : Fid) → PassesReach j f e past) → ((f : Fid) → StaysNewest j f e past)
+    → FitsData sp j v m past contents status callback call → FitsData sp j v m (e ∷ past) contents status callback call
+data_over sp j v m e past contents status callback (calls.FetchData f position wanted) p r n h = fetched_over j f status.sync_counter (body_told status.file_type contents) callback.expiration_time m e past (p f) (r f).seen (n f) h
+data_over sp j v m e past contents status callback call p r n h = h
+
+pub body_kept : (f : Fid) (i : ℕ) (ls more : List Line) → ((k : ℕ) (b : Body) → HasVersion f k b ls → HasVersion f k b more) → IsKeptBody f i ls → IsKeptBody f i more
+body_kept f i ls more w h = record { before = h.before; next = h.next; body = h.body; old = w h.before h.body h.old; new = w i h.body h.new }
+
+set_over : (j : ℕ) (v : Spot) (m : Message) (e : Entry) (past : List Entry) (status : AfsFetchStatus) (call : FsCall) → ((f : Fid) → PassesGrant j f e past) → ((f : Fid) → PassesReach j f e past)
+    → FitsSet j v m past status call → FitsSet j v m (e ∷ past) status call
+set_over j v m e past status (calls.StoreData f set position wanted file_length contents) p r h = ((p f).version status.sync_counter (bodies.File contents) (lines_of past) h.0, (h.1.0, (r f).both status.sync_counter h.1.1))
+set_over j v m e past status (calls.StoreAcl f acl) p r h = (body_kept f status.sync_counter (lines_of past) (lines_of (e ∷ past)) (λ i b x. (p f).version i b (lines_of past) x) h.0, (h.1.0, (r f).both status.sync_counter h.1.1))
+set_over j v m e past status (calls.StoreStatus f set) p r h = (body_kept f status.sync_counter (lines_of past) (lines_of (e ∷ past)) (λ i b x. (p f).version i b (lines_of past) x) h.0, (h.1.0, (r f).both status.sync_counter h.1.1))
+set_over j v m e past status call p r h = h
+
+reply_fits : (sp : Bool) (j : ℕ) (call : FsCall) (v : Spot) (m : Message) (e : Entry) (past : List Entry) (reply : FsReply) → ((f : Fid) → PassesGrant j f e past) → ((f : Fid) → PassesReach j f e past) → ((f : Fid) → StaysNewest j f e past)
+    → FitsReply sp j call v m past reply → FitsReply sp j call v m (e ∷ past) reply
+reply_fits sp j call v m e past (replies.FetchData contents status callback sync) p r n h = data_over sp j v m e past contents status callback call p r n h
+reply_fits sp j call v m e past (replies.StoreData status sync) p r n h = set_over j v m e past status call p r h
+reply_fits sp j call v m e past (replies.StoreAcl status sync) p r n h = set_over j v m e past status call p r h
+reply_fits sp j call v m e past (replies.StoreStatus status sync) p r n h = set_over j v m e past status call p r h
+reply_fits sp j call v m e past reply p r n h = h
+
+fits_over : (sp : Bool) (j : ℕ) (call : FsCall) (v : Spot) (boot : ℕ) (m : Message) (c : Carried) (e : Entry) (past : List Entry) → ((f : Fid) → PassesGrant j f e past) → ((f : Fid) → PassesReach j f e past) → ((f : Fid) → StaysNewest j f e past)
+    → Fits sp j call v boot m c past → Fits sp j call v boot m c (e ∷ past)
+fits_over sp j call v boot m (carried.Reply (tell.File reply)) e past p r n h = reply_fits sp j call v m e past reply p r n h
+fits_over sp j call v boot m (carried.Refusal code) e past p r n h = h
+fits_over sp j call v boot m c e past p r n h = absurd h
+
+pub answers_over : {sp : Bool} → (j : ℕ) (call : FsCall) (v : Spot) (boot : ℕ) (m : Message) (e : Entry) (past : List Entry) → ((f : Fid) → PassesGrant j f e past) → ((f : Fid) → PassesReach j f e past) → ((f : Fid) → StaysNewest j f e past)
+    → Answers sp j call v boot m past → Answers sp j call v boot m (e ∷ past)
+answers_over j call v boot m e past p r n h = record { fits = fits_over _ j call v boot m m.carried e past p r n h.fits; code = h.code; cause = cause_over m h.code call e past h.cause }
+
+-- ---- a reply, under way or kept
+
+pub reply_over : (j : ℕ) (v : View) (m : Message) (e : Entry) (past : List Entry) → ((f : Fid) → PassesGrant j f e past) → ((f : Fid) → PassesReach j f e past) → ((f : Fid) → StaysNewest j f e past)
+    → ReplyFact j v past m → ReplyFact j v (e ∷ past) m
+reply_over j v m e past p r n h = record { behind = h.behind; booted = h.booted; recent = h.recent; tied = h.tied; answers = λ act x y k. answers_over j (asked act) (spot v) v.boot m e past p r n (h.answers act x y k) }
+
+-- kept replies, where all replies pass
+pub kept_over : (j : ℕ) (o : Option Seat) (v w : View) (past newer : List Entry) → ((m : Message) → ReplyFact j v past m → ReplyFact j w newer m) → AreKept j o v past → AreKept j o w newer
+kept_over j o v w past newer over h seat m x y = ((h seat m x y).0, over m (h seat m x y).1)
+
+-- ---- a client that doesn't move
+
+pub reached_more : (c : Node) (f : Fid) (i k : ℕ) (past : List Entry) → i ≤ k → Reached c f i past → Reached c f k past
+reached_more c f i k past le h = let a : (reach c f past).made ≤ i = h.made in let b : (reach c f past).seen ≤ i = h.seen in record { made = omega arith; seen = omega arith }
+
+pub client_over : (j : ℕ) (v : View) (e : Entry) (past : List Entry) → ((f : Fid) → PassesFile j f e past) → ((f : Fid) → PassesReach j f e past) → ((f : Fid) → StaysNewest j f e past) → PassesAct j e past
+    → ((f : Fid) → index_in (last_version f (lines_of past)) ≤ index_in (last_version f (lines_of (e ∷ past)))) → ClientFacts j v past → ClientFacts j v (e ∷ past)
+client_over j v e past p r n q l h =
+    let over : (m : Message) → ReplyFact j v past m → ReplyFact j v (e ∷ past) m = λ m. reply_over j v m e past (λ f. (p f).grant) r n in
+    record {
+      behind = h.behind;
+      behind_durable = h.behind_durable;
+      lower = h.lower;
+      kept = kept_over j v.seat v v past (e ∷ past) over h.kept;
+      stored = kept_over j v.durable v v past (e ∷ past) over h.stored;
+      known = h.known;
+      floored = h.floored;
+      holds = h.holds;
+      waits = h.waits;
+      idle = λ x. q.runs (lines_of past) ∙ h.idle x;
+      made = λ act x f o z. (r f).made (h.made act x f o z);
+      current = λ f u found lasts. current_over j f u v v e past (le_refl _) (p f) (stands_over j f u.index v e past (r f).seen (n f)) (h.current f u found lasts);
+      runs = λ act x. q.runs (lines_of past) ∙ h.runs act x;
+      asked = λ act x. inr (q.begins, h.asked act x);
+      reached = λ f. reached_more (Client j) f (index_in (last_version f (lines_of past))) (index_in (last_version f (lines_of (e ∷ past)))) (e ∷ past) (l f) ((r f).both (index_in (last_version f (lines_of past))) (h.reached f));
+    }
+
+-- over an entry that changes no file
+pub client_still : (j : ℕ) (v : View) (e : Entry) (past : List Entry) → ((f : Fid) → PassesFile j f e past) → ((f : Fid) → PassesReach j f e past) → PassesAct j e past
+    → ((f : Fid) → last_version f (lines_of (e ∷ past)) ≡ last_version f (lines_of past)) → ClientFacts j v past → ClientFacts j v (e ∷ past)
+client_still j v e past p r q l h = client_over j v e past p r (λ f. stays j f e past (p f).grant (l f)) q (λ f. le_of_eq (ap index_in (sym (l f)))) h
+
+-- ---- messages in flight
+
+pub origin_over : (e : Entry) (past : List Entry) (head : Head) (user : List ℕ) (call : FsCall) → Origin past head user call → Origin (e ∷ past) head user call
+origin_over e past head user call o = record { act = o.act; called = inr o.called; own_user = o.own_user; own_call = o.own_call }
+
+pub older_origins : (sent : List Message) (e : Entry) (past : List Entry) → Each (IfCall (Origin past)) sent → Each (IfCall (Origin (e ∷ past))) sent
+older_origins sent e past h = each_map (IfCall (Origin past)) (IfCall (Origin (e ∷ past))) (if_call (Origin past) (Origin (e ∷ past)) (origin_over e past)) sent h
+
+-- ---- calls of the act that began last
+
+-- a message among these has this key
+pub record IsAmong (k : Key) (P : Head → List ℕ → FsCall → Type 0) : Type 0 where
+  pub head : Head
+  pub user : List ℕ
+  pub call : FsCall
+  pub key : same_key (called_key head) k ≡ true
+  pub fact : P head user call
+
+among_key : (k : Key) (P : Head → List ℕ → FsCall → Type 0) (head : Head) (user : List ℕ) (call : FsCall) (rest t : Bool) → same_key (called_key head) k ≡ t → cond t true rest ≡ true → P head user call → (rest ≡ true → IsAmong k P) → IsAmong k P
+among_key k P head user call rest true t e h w = record { head = head; user = user; call = call; key = t; fact = h }
+among_key k P head user call rest false t e h w = w e
+
+among_by : (k : Key) (P : Head → List ℕ → FsCall → Type 0) (head : Head) (c : Carried) (rest : Bool) → cond (is_called k head c) true rest ≡ true → OfCall P head c → (rest ≡ true → IsAmong k P) → IsAmong k P
+among_by k P head (carried.Call user (ask.File call)) rest e h w = among_key k P head user call rest (same_key (called_key head) k) refl e h w
+among_by k P head (carried.Call user (ask.Volume call)) rest e h w = absurd h
+among_by k P head (carried.Call user (ask.Location call)) rest e h w = absurd h
+among_by k P head (carried.Refusal code) rest e h w = w e
+among_by k P head (carried.Reply reply) rest e h w = w e
+among_by k P head carried.Notice rest e h w = w e
+
+among : (k : Key) (P : Head → List ℕ → FsCall → Type 0) (ms : List Message) → has_sent k ms ≡ true → Each (IfCall P) ms → IsAmong k (ByClient P)
+among k P [] e h = absurd cc
+among k P (m ∷ ms) e h = among_by k (ByClient P) m.head m.carried (has_sent k ms) e h.0 (λ x. among k P ms x h.1)
+
+acts_by : (b t : Bool) (rest S : Type 0) (x : Bool) → cond b true (cond t false x) ≡ true → (b ≡ true → S) → (t ≡ false → x ≡ true → S) → S
+acts_by true t rest S x e p q = p refl
+acts_by false true rest S x e p q = absurd cc
+acts_by false false rest S x e p q = q refl e
+
+-- the act that runs by the lines is the client's
+runs_now : (j : ℕ) (v : View) (past : List Entry) (o : Option Going) (a : Going) → v.running ≡ o → ClientFacts j v past → running (Client j) (lines_of past) ≡ Some a → v.running ≡ Some a
+runs_now j v past None a e h r = let none = h.idle e in absurd cc
+runs_now j v past (Some b) a e h r = e ∙ (sym (h.runs b e) ∙ r)
+
+act_over : (e : Entry) (past : List Entry) (w : ℕ → View) (head : Head) (user : List ℕ) (call : FsCall) → Each (IfCall (IsLastCall w)) e.sent → ((j : ℕ) → ClientFacts j (w j) (e ∷ past)) → ((j : ℕ) (a : Going) → (w j).running ≡ Some a → has_begun (Client j) e.lines ≡ false → ((running (Client j) (lines_of past) ≡ Some a) ⊎ Reading (running (Client j) (lines_of past)))) → CallIn w head user call → IsActs past head user call → IsActs (e ∷ past) head user call
+act_over e past w head user call lasts now k f h of_act act r =
+    let since = (both (same_node head.from head.from) _ of_act).1 in
+    let runs : (w f.client).running ≡ Some act = runs_now f.client (w f.client) (e ∷ past) (w f.client).running act refl (now f.client) (subst (λ (n : Node). running n (lines_of (e ∷ past)) ≡ Some act) f.from r) in
+    acts_by (has_sent (called_key head) e.sent) (has_begun head.from e.lines) ⊤ ((volume_changed call ≡ None) ⊎ (call ≡ asked act)) (is_sent_since head.from (called_key head) past) since
+    (λ sent. let x : IsAmong (called_key head) (ByClient (IsLastCall w)) = among (called_key head) (IsLastCall w) e.sent sent lasts in
+    let p = both _ _ x.key in
+    let q = both _ _ p.1 in
+    let from : x.head.from ≡ head.from = same_node-true _ _ p.0 in
+    let its : IsLastCall w x.head x.user x.call = by_client f.client x.head.from (IsLastCall w x.head x.user x.call) (from ∙ f.from) x.fact in
+    let one : its.client ≡ f.client = client_number its.client f.client (sym its.from ∙ (from ∙ f.from)) in
+    let epoch : head.epoch ≡ (w f.client).epoch = sym (eqb-true _ _ q.0) ∙ (its.epoch ∙ ap (λ (j : ℕ). (w j).epoch) one) in
+    let number : head.number ≡ (w f.client).last = sym (eqb-true _ _ q.1) ∙ (its.number ∙ ap (λ (j : ℕ). (w j).last) one) in
+    inr (f.fact.own act runs epoch number))
+    (λ none old. elim (k f.client act runs (subst (λ (n : Node). has_begun n e.lines ≡ false) f.from none)) [
+      | inl x ↦ h (rw (same_node-refl head.from) old) act (subst (λ (n : Node). running n (lines_of past) ≡ Some act) (sym f.from) x)
+      | inr x ↦ elim (h (rw (same_node-refl head.from) old) x.act (subst (λ (n : Node). running n (lines_of past) ≡ Some x.act) (sym f.from) x.runs)) [ inl y ↦ inl y | inr y ↦ inl (ap volume_changed y ∙ x.read) ]
+    ])
+
+both_client : (n : Node) (X Y Z : Type 0) → (X → Y → Z) → OfClient n X → OfClient n Y → OfClient n Z
+both_client (Client n) X Y Z w x y = w x y
+both_client (Server n) X Y Z w x y = tt
+both_client (Admin n) X Y Z w x y = tt
+both_client Loc X Y Z w x y = tt
+
+acts_one : (c : Carried) (head : Head) (e : Entry) (past : List Entry) (w : ℕ → View) → Each (IfCall (IsLastCall w)) e.sent → ((j : ℕ) → ClientFacts j (w j) (e ∷ past)) → ((j : ℕ) (a : Going) → (w j).running ≡ Some a → has_begun (Client j) e.lines ≡ false → ((running (Client j) (lines_of past) ≡ Some a) ⊎ Reading (running (Client j) (lines_of past)))) → OfCall (ByClient (CallIn w)) head c → OfCall (ByClient (IsActs past)) head c → OfCall (ByClient (IsActs (e ∷ past))) head c
+acts_one (carried.Call user (ask.File call)) head e past w lasts now k f h = both_client head.from _ _ _ (act_over e past w head user call lasts now k) f h
+acts_one (carried.Call user (ask.Volume call)) head e past w lasts now k f h = absurd f
+acts_one (carried.Call user (ask.Location call)) head e past w lasts now k f h = absurd f
+acts_one (carried.Refusal code) head e past w lasts now k f h = tt
+acts_one (carried.Reply reply) head e past w lasts now k f h = tt
+acts_one carried.Notice head e past w lasts now k f h = tt
+
+pub acts_over : (sent : List Message) (e : Entry) (past : List Entry) (w : ℕ → View) → Each (IfCall (IsLastCall w)) e.sent → ((j : ℕ) → ClientFacts j (w j) (e ∷ past)) → ((j : ℕ) (a : Going) → (w j).running ≡ Some a → has_begun (Client j) e.lines ≡ false → ((running (Client j) (lines_of past) ≡ Some a) ⊎ Reading (running (Client j) (lines_of past)))) → Each (IfCall (CallIn w)) sent → Each (IfCall (IsActs past)) sent → Each (IfCall (IsActs (e ∷ past))) sent
+acts_over [] e past w lasts now k c h = tt
+acts_over (m ∷ sent) e past w lasts now k c h = (acts_one m.carried m.head e past w lasts now k c.0 h.0, acts_over sent e past w lasts now k c.1 h.1)
+
+-- ---- each key has one call
+
+one_more_by : (t : Bool) (c : Carried) (o p : Option (List ℕ × FsCall)) (x : List ℕ × FsCall) → (o ≡ Some x → p ≡ Some x) → cond t (call_in c) o ≡ Some x → cond t (call_in c) p ≡ Some x
+one_more_by true c o p x h e = e
+one_more_by false c o p x h e = h e
+
+pub one_more : (k : Key) (sent ms : List Message) (x : List ℕ × FsCall) → call_under k sent ≡ Some x → call_under k (sent ++ ms) ≡ Some x
+one_more k [] ms x e = absurd cc
+one_more k (m ∷ sent) ms x e = one_more_by (is_called k m.head m.carried) m.carried (call_under k sent) (call_under k (sent ++ ms)) x (one_more k sent ms x) e
+
+pub ones_more : (old sent ms : List Message) → Each (IfCall (IsOne sent)) old → Each (IfCall (IsOne (sent ++ ms))) old
+ones_more old sent ms h = each_map (IfCall (IsOne sent)) (IfCall (IsOne (sent ++ ms))) (if_call (IsOne sent) (IsOne (sent ++ ms)) (λ head user call o. one_more (called_key head) sent ms (user, call) o)) old h
+
+-- what is known of the messages that a step sends
+pub record News (ms : List Message) (views : ℕ → View) (boot : ℕ) (past : List Entry) : Type 0 where
+  pub calls : Each (IfCall (CallIn views)) ms
+  pub replies : Each (IfReply (ReplyIn views past)) ms
+  pub notices : Each (IfNotice (IsNoticed boot)) ms
+  pub origins : Each (IfCall (Origin past)) ms
+  pub acts : Each (IfCall (IsActs past)) ms
+  pub lasts : Each (IfCall (IsLastCall views)) ms
+  pub to_clients : Each (λ m. OfCall ToClient m.head m.carried) ms
+  pub ones : Each (IfCall (IsOne (sent_of past))) ms
+
+-- replies under way, where each client's replies pass
+pub replies_over : (sent : List Message) (v w : ℕ → View) (past newer : List Entry) → ((j : ℕ) (m : Message) → ReplyFact j (v j) past m → ReplyFact j (w j) newer m) → Each (IfReply (ReplyIn v past)) sent → Each (IfReply (ReplyIn w newer)) sent
+replies_over sent v w past newer over h = each_map (IfReply (ReplyIn v past)) (IfReply (ReplyIn w newer)) (if_reply (ReplyIn v past) (ReplyIn w newer) (λ m f. record { client = f.client; to = f.to; fact = over f.client m f.fact })) sent h
+
+-- replies that wait pass as those that are under way
+pub waiting_over : (held : List Message) (v w : ℕ → View) (past newer : List Entry) → ((j : ℕ) (m : Message) → ReplyFact j (v j) past m → ReplyFact j (w j) newer m) → Each (HeldIn v past) held → Each (HeldIn w newer) held
+waiting_over held v w past newer over h = each_map (HeldIn v past) (HeldIn w newer) (λ m f. record { client = f.client; to = f.to; from = f.from; half = f.half; is_reply = f.is_reply; fact = over f.client m f.fact }) held h
+
+pub more_sent : (sent held after : List Message) (v w : ℕ → View) (b d : ℕ) (e : Entry) (past : List Entry) → SentFacts sent held v b past → b ≤ d → ((j : ℕ) → ClientFacts j (w j) (e ∷ past)) → ((j : ℕ) (a : Going) → (w j).running ≡ Some a → has_begun (Client j) e.lines ≡ false → ((running (Client j) (lines_of past) ≡ Some a) ⊎ Reading (running (Client j) (lines_of past)))) → Each (IfCall (CallIn w)) sent → ((j : ℕ) (m : Message) → ReplyFact j (v j) past m → ReplyFact j (w j) (e ∷ past) m)
+    → (Each (HeldIn w (e ∷ past)) held → News e.sent w d (e ∷ past) × Each (HeldIn w (e ∷ past)) after) → SentFacts (sent ++ e.sent) after w d (e ∷ past)
+more_sent sent held after v w b d e past h le now k c over pass =
+    let got = pass (waiting_over held v w past (e ∷ past) over h.waiting) in
+    let n : News e.sent w d (e ∷ past) = got.0 in
+    record {
+      calls = each_more (IfCall (CallIn w)) sent e.sent c n.calls;
+      replies = each_more (IfReply (ReplyIn w (e ∷ past))) sent e.sent (replies_over sent v w past (e ∷ past) over h.replies) n.replies;
+      notices = each_more (IfNotice (IsNoticed d)) sent e.sent (each_map (IfNotice (IsNoticed b)) (IfNotice (IsNoticed d)) (if_notice (IsNoticed b) (IsNoticed d) (λ m x. le_trans x le)) sent h.notices) n.notices;
+      origins = each_more (IfCall (Origin (e ∷ past))) sent e.sent (older_origins sent e past h.origins) n.origins;
+      acts = each_more (IfCall (IsActs (e ∷ past))) sent e.sent (acts_over sent e past w n.lasts now k c h.acts) n.acts;
+      ones = each_more (IfCall (IsOne (sent ++ e.sent))) sent e.sent (ones_more sent sent e.sent h.ones) (subst (λ (x : List Message). Each (IfCall (IsOne (x ++ e.sent))) e.sent) h.told n.ones);
+      told = ap (λ (ms : List Message). ms ++ e.sent) h.told;
+      waiting = got.1;
+      to_clients = each_more (λ m. OfCall ToClient m.head m.carried) sent e.sent h.to_clients n.to_clients;
+    }
+
+-- over an entry that changes no file
+pub replies_still : (sent : List Message) (v : ℕ → View) (e : Entry) (past : List Entry) → ((j : ℕ) (f : Fid) → PassesFile j f e past) → ((j : ℕ) (f : Fid) → PassesReach j f e past) → ((f : Fid) → last_version f (lines_of (e ∷ past)) ≡ last_version f (lines_of past))
+    → Each (IfReply (ReplyIn v past)) sent → Each (IfReply (ReplyIn v (e ∷ past))) sent
+replies_still sent v e past p r l h = replies_over sent v v past (e ∷ past) (λ j m. reply_over j (v j) m e past (λ f. (p j f).grant) (r j) (λ f. stays j f e past (p j f).grant (l f))) h
+
+-- a step that was interrupted stays so
+pub fallen_over : (down : Option Fall) (server : ServerState) (sent ms : List Message) (e : Entry) (past : List Entry) → HasFallen down server sent past → HasFallen down server (sent ++ ms) (e ∷ past)
+fallen_over None server sent ms e past h = tt
+fallen_over (Some at_rest) server sent ms e past h = tt
+fallen_over (Some in_boot) server sent ms e past h = tt
+fallen_over (Some (in_step m clock)) server sent ms e past h = record { place = h.place; at = at_more sent ms h.place m h.at; ran = ran_over _ e past h.ran; is = h.is; ideal = h.ideal }

@@ -1,0 +1,238 @@
+use Rattle.std.proofs.Common.{◌≡◌, ℕ, ◌+◌, inl, inr, Bool, true, false, cond, nat_lt, List, [], ◌∷◌, ◌++◌, Option, Some, None, refl, sym, ap, subst, ◌∙◌, arith}
+use Rattle.std.specs.Prelude.{◌&&◌}
+use Rattle.afs_num.specs.declared.histories.Actor.TheVariants as actors
+use Rattle.afs_ideal.specs.Operations.{volume_changed}
+use Rattle.afs_law.proofs.Answering.{holding, ended_facts, ended_reply, ended_stands}
+use Rattle.afs_law.proofs.Asking.{moves_back, step_entry, view_after, Passes, moves, nothing_new, runs_by_other, client_kept, call_known, reply_still, own_call, same_one, call_is}
+use Rattle.afs_law.proofs.Basics.{same_node-refl, some_of, UpTo}
+use Rattle.afs_law.proofs.Facts.{Ghost, IsAged, View, view, last_key, IsSafe, ReplyFact, Holds, Goes, InScope}
+use Rattle.afs_law.proofs.Passing.{PassesFile, PassesAct, PassesReach, stays, current_over, kept_over}
+use Rattle.afs_law.proofs.Resting.{voids}
+use Rattle.afs_law.proofs.Serving.{reached_still}
+use Rattle.afs_law.proofs.Skipping.{own_ended, last_line, skips, timed, drop_lines, drop_file, drop_reach, drop_still, drop_passes, ended_running, left_found, left_scope, left_none, scope_is}
+use Rattle.afs_law.specs.ClientRow.{the_server, dead_code, tries_again, dropped, gives_up, call_message, ended, reborn, left_in, given_up_in, gives_up'}
+use Rattle.afs_law.specs.Going.{asked, Going, ClientState}
+use Rattle.afs_law.specs.Ideal.{last_version, user_of}
+use Rattle.afs_law.specs.Legal.{given_up, AreGood}
+use Rattle.afs_law.specs.Lines.{Line}
+use Rattle.afs_law.specs.Past.{lines_of, has_begun, running, CalledSince}
+use Rattle.afs_law.specs.Runs.{Entry, Cell, Moved, client_moves, turned, client_falls, client_rises, waited_by}
+use Rattle.afs_law.specs.States.{CacheEntry}
+use Rattle.std.proofs.Math.Nat.{le_refl}
+use Rattle.afs_num.specs.Nodes.{same_node}
+use Rattle.afs_num.specs.declared.types.Fid.{Fid}
+use Rattle.afs_num.specs.declared.types.Head.{Head}
+use Rattle.afs_num.specs.declared.types.Key.{Key}
+use Rattle.afs_num.specs.declared.types.Node.TheVariants.{Client}
+use Rattle.afs_num.specs.declared.calls.FsCall.{FsCall}
+use Rattle.afs_num.specs.declared.messages.Message.{Message}
+use Rattle.afs_num.specs.declared.scripts.Script.{Script}
+use Rattle.afs_law.specs.Lines as lines
+
+-- ---- a timeout line alone
+
+pub timeout_file : (n j e l k : ℕ) (ms : List Message) (past : List Entry) (f : Fid) → PassesFile j f (step_entry n (lines.Timeout (Client n) the_server e l k ∷ []) ms) past
+timeout_file n j e l k ms past f = record { grant = record { version = λ i b o s. s; dropped = λ s o d. d; withdrawn = λ s o w. w }; fetched = refl }
+
+pub timeout_reach : (n j e l k : ℕ) (ms : List Message) (past : List Entry) (f : Fid) → PassesReach j f (step_entry n (lines.Timeout (Client n) the_server e l k ∷ []) ms) past
+timeout_reach n j e l k ms past f = record { both = λ i h. record { made = h.made; seen = h.seen }; seen = λ i h. h; made = λ x. x }
+
+pub timeout_act : (n j e l k : ℕ) (ms : List Message) (past : List Entry) → PassesAct j (step_entry n (lines.Timeout (Client n) the_server e l k ∷ []) ms) past
+timeout_act n j e l k ms past = record { runs = λ o. refl; begins = refl }
+
+pub timeout_passes : (s : Script) (n e l k : ℕ) (ms : List Message) (past : List Entry) → Passes s n (lines.Timeout (Client n) the_server e l k ∷ []) ms past
+timeout_passes s n e l k ms past = record {
+  file = λ j ne f. timeout_file n j e l k ms past f;
+  reach = λ j ne f. timeout_reach n j e l k ms past f;
+  act = λ j ne. timeout_act n j e l k ms past;
+  last = λ f o. refl;
+  back = λ f i b o x. x;
+  new = λ key o x. x;
+  clock = λ o. refl;
+  home = λ id o x. x;
+  boot = λ o. refl;
+  plain = record { up = refl; still = refl; oweless = refl; unchanging = refl };
+  ideal = λ id. refl;
+  dull = λ key boot x. x;
+}
+
+pub tries_goes : (s : Script) (c : Cell) (past : List Entry) (n : ℕ) (act : Going) → Holds s c past → (c.clients n).running ≡ Some act → Goes s past (client_moves c n (tries_again (Client n) (c.clients n) act))
+tries_goes s c past n act h runs =
+    let x : ClientState = c.clients n in
+    let ms : List Message = call_message (Client n) x act ∷ [] in
+    let e : Entry = step_entry n (lines.Timeout (Client n) the_server x.epoch x.last (x.tries + 1) ∷ []) ms in
+    moves s c past n (h.floors n) (tries_again (Client n) x act) h (refl, tt) (timeout_passes s n x.epoch x.last (x.tries + 1) ms past)
+    (client_kept s c past n x.boot e h (h.clients n).known (timeout_file n n x.epoch x.last (x.tries + 1) ms past) (timeout_reach n n x.epoch x.last (x.tries + 1) ms past) (timeout_act n n x.epoch x.last (x.tries + 1) ms past) (λ f. refl))
+    (λ head call f. call_known (view h.floors c n) x.boot head call f)
+    (reply_still n (view h.floors c n) e past (timeout_file n n x.epoch x.last (x.tries + 1) ms past) (timeout_reach n n x.epoch x.last (x.tries + 1) ms past) (λ f. refl))
+    (own_call h.floors c past n (h.floors n) (record x { tries = x.tries + 1 }) act (lines.Timeout (Client n) the_server x.epoch x.last (x.tries + 1) ∷ []) (h.clients n).known runs ((h.clients n).runs act runs) (same_one s c past n act ms h runs)) (λ a x z. inl x) refl
+
+-- The clients' timeouts, and how a client stops and begins again.
+
+pub not_raised : (t : Bool) → (t && false) ≡ false
+not_raised true = refl
+not_raised false = refl
+
+-- ---- a call is given up
+
+-- the answer is good behind the drops
+pub dead_good : (s : Script) (n : ℕ) (act : Going) (key : Key) (past : List Entry) (es : List CacheEntry) (own : List Line) → running (Client n) (own ++ lines_of past) ≡ Some act → given_up (Client n) own ≡ Some key → has_begun (Client n) own ≡ false → CalledSince key (user_of (Client n)) (asked act) past
+    → AreGood s (actors.Node (Client n)) past own (dropped (Client n) es (last_line n dead_code))
+dead_good s n act key past [] own runs third before called = ((refl, record { act = act; runs = runs; cause = inr (inr (record { is = refl; key = key; third = third; before = before; called = called })) }), tt)
+dead_good s n act key past (u ∷ es) own runs third before called = (refl, dead_good s n act key past es (lines.Drop (Client n) u.fid ∷ own) runs third before called)
+
+pub dead_safe : (call : FsCall) (t e l : ℕ) (act : Going) (o : Option Going) (cache : List CacheEntry) (aged older : Type 0) (head : Head) → o ≡ Some act → (aged → older) → IsSafe t e l o cache aged head call → IsSafe t e l None (left_in (volume_changed (asked act)) cache) older head call
+dead_safe call t e l act o cache aged older head runs w (inl x) = inl x
+dead_safe call t e l act o cache aged older head runs w (inr (inl x)) = inr (inr (inl (λ f z u at lasts. left_scope (volume_changed (asked act)) f cache u at (scope_is (asked act) f (subst (λ (y : FsCall). InScope y f) (x.asks ∙ ap asked (some_of x.act act (sym x.runs ∙ runs))) z)))))
+dead_safe call t e l act o cache aged older head runs w (inr (inr (inl x))) = inr (inr (inl (λ f z u at lasts. x f z u (left_found (volume_changed (asked act)) f cache u at) lasts)))
+dead_safe call t e l act o cache aged older head runs w (inr (inr (inr x))) = inr (inr (inr (w x)))
+
+pub gives_up_by : (s : Script) (c : Cell) (past : List Entry) (n : ℕ) (act : Going) → Holds s c past → (c.clients n).running ≡ Some act → Goes s past (client_moves c n (gives_up' (Client n) (c.clients n) (asked act)))
+gives_up_by s c past n act h runs =
+    let x : ClientState = c.clients n in
+    let call : FsCall = asked act in
+    let cache : List CacheEntry = left_in (volume_changed call) x.cache in
+    let es : List CacheEntry = given_up_in (volume_changed call) x.cache in
+    let e : Entry = step_entry n (drop_lines n (timed x.epoch x.last) dead_code es) [] in
+    let last : (f : Fid) → last_version f (lines_of (e ∷ past)) ≡ last_version f (lines_of past) = λ f. (skips n dead_code es).last f _ in
+    let held : ℕ = (h.floors n).held in
+    let g : Ghost = holding h.floors n held in
+    moves s c past n g (gives_up' (Client n) x call) h
+    (refl, dead_good s n act (last_key n (view h.floors c n)) past es (lines.Timeout (Client n) the_server x.epoch x.last 3 ∷ []) ((h.clients n).runs act runs) (rw (same_node-refl (Client n)) refl) refl ((h.clients n).asked act runs))
+    (drop_passes s c past n (timed x.epoch x.last) dead_code es (λ k boot y. y))
+    (ended_facts s c past n cache held e h (h.clients n).holds (ended_running n dead_code es (lines.Timeout (Client n) the_server x.epoch x.last 3 ∷ lines_of past))
+    (λ k u found lasts.
+    let out : InScope call k → ⊥ = λ z. left_scope (volume_changed call) k x.cache u found (scope_is call k z) in
+    let file : PassesFile n k e past = drop_file n n (timed x.epoch x.last) dead_code es past k (left_none (volume_changed call) (Client n) (Client n) k x.cache u found) in
+    current_over n k u (view h.floors c n) (view_after c n g (ended x cache)) e past (le_refl _) file
+    (ended_stands h.floors c past n cache g e k u.index (drop_still n n (timed x.epoch x.last) dead_code es past k (not_raised (same_node (Client n) (Client n))) u.index) (stays n k e past file.grant (last k)) (λ a is sc ran. out (subst (λ (z : Going). InScope (asked z) k) (sym (some_of act a (sym runs ∙ is))) sc)))
+    ((h.clients n).current k u (left_found (volume_changed call) k x.cache u found) lasts))
+    (reached_still s c past n e h (drop_reach n n (timed x.epoch x.last) dead_code es past) last))
+    (λ head call' f. record { behind = f.behind; booted = f.booted; stale = f.stale; own = λ b y z w. absurd cc; safe = λ q above. dead_safe call' c.clock x.epoch x.last act x.running x.cache (IsAged (view h.floors c n) head) (IsAged (view_after c n g (ended x cache)) head) head runs (λ y. (y.0, λ b z. absurd cc)) (f.safe q above) })
+    (ended_reply s c past n cache held e h) (nothing_new _ _) (λ a x z. absurd cc) refl
+
+pub gives_up_goes : (s : Script) (c : Cell) (past : List Entry) (n : ℕ) (act : Going) → Holds s c past → (c.clients n).running ≡ Some act → Goes s past (client_moves c n (gives_up (Client n) (c.clients n) act))
+gives_up_goes s c past n act h runs = subst (λ (x : FsCall). Goes s past (client_moves c n (gives_up' (Client n) (c.clients n) x))) (sym (call_is act)) (gives_up_by s c past n act h runs)
+
+pub timeout_by : (s : Script) (c : Cell) (past : List Entry) (n : ℕ) (act : Going) (t : Bool) → Holds s c past → (c.clients n).running ≡ Some act → Goes s past (client_moves c n (cond t (tries_again (Client n) (c.clients n) act) (gives_up (Client n) (c.clients n) act)))
+timeout_by s c past n act true h runs = tries_goes s c past n act h runs
+timeout_by s c past n act false h runs = gives_up_goes s c past n act h runs
+
+pub waits_goes : (s : Script) (c : Cell) (past : List Entry) (n : ℕ) (o : Option Going) → Holds s c past → (c.clients n).running ≡ o → Goes s past (waited_by c n o)
+waits_goes s c past n None h e = voids s c past h
+waits_goes s c past n (Some act) h e = timeout_by s c past n act (nat_lt (c.clients n).tries 2) h e
+
+-- ---- a client stops, and begins again
+
+-- the facts don't read which clients are down
+pub away_again : (s : Script) (c : Cell) (past : List Entry) (a : ℕ → Bool) → Holds s c past → Holds s (record c { away = a }) past
+away_again s c past a h = record {
+  floors = h.floors;
+  count = h.count;
+  ideal = h.ideal;
+  sound = h.sound;
+  fine = h.fine;
+  home = h.home;
+  new = h.new;
+  unheard = h.unheard;
+  booted = h.booted;
+  boots = h.boots;
+  clients = h.clients;
+  sent = record { calls = h.sent.calls; replies = h.sent.replies; notices = h.sent.notices; origins = h.sent.origins; acts = h.sent.acts; ones = h.sent.ones; told = h.sent.told; waiting = h.sent.waiting; to_clients = h.sent.to_clients };
+  down = h.down;
+  clock = h.clock;
+  top = h.top;
+  one = h.one;
+  backs = h.backs;
+}
+
+pub turned_goes : (s : Script) (past : List Entry) (n : ℕ) (away : Bool) (m : Moved) → Goes s past m → Goes s past (turned n away m)
+turned_goes s past n away m g = record { good = g.good; replies = g.replies; volumes = g.volumes; holds = away_again s m.cell (m.entry ∷ past) _ g.holds }
+
+pub crash_passes : (s : Script) (n : ℕ) (past : List Entry) → Passes s n (lines.Crash (Client n) ∷ []) [] past
+crash_passes s n past = record {
+  file = λ j ne f. record { grant = record { version = λ i b o x. x; dropped = λ s o d. d; withdrawn = λ s o w. inr w }; fetched = refl };
+  reach = λ j ne f. record { both = λ i h. record { made = h.made; seen = h.seen }; seen = λ i h. h; made = λ x. x };
+  act = λ j ne. record { runs = λ o. runs_by_other n j None (running (Client j) o) ne; begins = refl };
+  last = λ f o. refl;
+  back = λ f i b o x. x;
+  new = λ key o x. x;
+  clock = λ o. refl;
+  home = λ id o x. x;
+  boot = λ o. refl;
+  plain = record { up = refl; still = refl; oweless = refl; unchanging = refl };
+  ideal = λ id. refl;
+  dull = λ key boot x. x;
+}
+
+pub restart_passes : (s : Script) (n boot : ℕ) (past : List Entry) → Passes s n (lines.Restart (Client n) boot ∷ []) [] past
+restart_passes s n boot past = record {
+  file = λ j ne f. record { grant = record { version = λ i b o x. x; dropped = λ s o d. d; withdrawn = λ s o w. w }; fetched = refl };
+  reach = λ j ne f. record { both = λ i h. record { made = h.made; seen = h.seen }; seen = λ i h. h; made = λ x. x };
+  act = λ j ne. record { runs = λ o. refl; begins = refl };
+  last = λ f o. refl;
+  back = λ f i b o x. x;
+  new = λ key o x. x;
+  clock = λ o. refl;
+  home = λ id o x. x;
+  boot = λ o. refl;
+  plain = record { up = refl; still = refl; oweless = refl; unchanging = refl };
+  ideal = λ id. refl;
+  dull = λ key x y. y;
+}
+
+pub empty_safe : (call : FsCall) (t e l : ℕ) (o : Option Going) (aged : Type 0) (head : Head) → IsSafe t e l o [] aged head call
+empty_safe call t e l o aged head = inr (inr (inl (λ f z u at lasts. absurd cc)))
+
+pub new_epoch : (e n d m : ℕ) → UpTo e n d m → UpTo e n (d + 1) 0
+new_epoch e n d m (inl x) = inl (omega arith)
+new_epoch e n d m (inr x) = let q : e ≡ d = x.0 in inl (omega arith)
+
+pub not_epoch : (e n d m : ℕ) → UpTo e n d m → e ≡ d + 1 → ⊥
+not_epoch e n d m (inl x) q = absurd (omega arith)
+not_epoch e n d m (inr x) q = let r : e ≡ d = x.0 in absurd (omega arith)
+
+pub client_stops_goes : (s : Script) (c : Cell) (past : List Entry) (n : ℕ) → Holds s c past → Goes s past (client_falls c n)
+client_stops_goes s c past n h =
+    let d = h.clients n in
+    let x : ClientState = reborn (c.clients n) in
+    let e : Entry = step_entry n (lines.Crash (Client n) ∷ []) [] in
+    let g : Ghost = record { floor = c.server.boot; held = (h.floors n).held } in
+    let v : View = view_after c n g x in
+    let over : (m : Message) → ReplyFact n (view h.floors c n) past m → ReplyFact n v (e ∷ past) m = λ m f. record {
+      behind = new_epoch _ _ _ _ f.behind;
+      booted = f.booted;
+      recent = λ y k. absurd (not_epoch _ _ _ _ f.behind y);
+      tied = f.tied;
+      answers = λ b y. absurd cc;
+    } in
+    turned_goes s past n true _ (moves_back s c past n g (record { state = x; lines = lines.Crash (Client n) ∷ []; sent = [] }) h (refl, tt) (crash_passes s n past)
+    (record {
+      behind = λ seat y. new_epoch _ _ _ _ (d.behind seat y);
+      behind_durable = λ seat y. new_epoch _ _ _ _ (d.behind_durable seat y);
+      lower = d.lower;
+      kept = kept_over n _ (view h.floors c n) v past (e ∷ past) over d.kept;
+      stored = kept_over n _ (view h.floors c n) v past (e ∷ past) over d.stored;
+      known = h.booted;
+      floored = le_refl _;
+      holds = d.holds;
+      waits = λ b y. absurd cc;
+      idle = λ y. own_ended n (running (Client n) (lines_of past));
+      made = λ b y. absurd cc;
+      current = λ f u found lasts. absurd cc;
+      runs = λ b y. absurd cc;
+      asked = λ b y. absurd cc;
+      reached = reached_still s c past n e h (λ f i r. record { made = r.made; seen = r.seen }) (λ f. refl);
+    })
+    (λ head call f. record { behind = new_epoch _ _ _ _ f.behind; booted = f.booted; stale = λ l. f.booted; own = λ b y. absurd cc; safe = λ q above. empty_safe call c.clock x.epoch x.last None _ head })
+    over (nothing_new _ _) (λ a x z. absurd cc) (λ seat m y z. absurd cc))
+
+pub client_starts_goes : (s : Script) (c : Cell) (past : List Entry) (n : ℕ) → Holds s c past → Goes s past (client_rises c n)
+client_starts_goes s c past n h =
+    let x : ClientState = c.clients n in
+    let e : Entry = step_entry n (lines.Restart (Client n) x.epoch ∷ []) [] in
+    let file : (f : Fid) → PassesFile n f e past = λ f. record { grant = record { version = λ i b o x. x; dropped = λ s o d. d; withdrawn = λ s o w. w }; fetched = refl } in
+    let reach_ : (f : Fid) → PassesReach n f e past = λ f. record { both = λ i r. record { made = r.made; seen = r.seen }; seen = λ i r. r; made = λ x. x } in
+    turned_goes s past n false _ (moves s c past n (h.floors n) (record { state = x; lines = lines.Restart (Client n) x.epoch ∷ []; sent = [] }) h ((refl, tt), tt) (restart_passes s n x.epoch past)
+    (client_kept s c past n x.boot e h (h.clients n).known file reach_ (record { runs = λ o. refl; begins = refl }) (λ f. refl))
+    (λ head call f. call_known (view h.floors c n) x.boot head call f) (reply_still n (view h.floors c n) e past file reach_ (λ f. refl)) (nothing_new _ _) (λ a x z. inl x) refl)

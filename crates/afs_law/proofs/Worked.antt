@@ -1,0 +1,336 @@
+-- Worked runs: breaks that overtake a reply, that are never answered, that wait behind a restart, and those of a change of two versions.
+use Rattle.afs_num.specs.declared.histories.Actor.TheVariants as actors
+use Rattle.afs_ideal.specs.Volumes.{Volume}
+use Rattle.afs_ideal.specs.Tables.{Table}
+use Rattle.afs_num.specs.declared.histories.Body.{Body}
+use Rattle.afs_num.specs.declared.histories.Actor.{Actor}
+use Rattle.afs_law.proofs.Basics.{yes_no}
+use Rattle.std.specs.Option.{option_map}
+use Rattle.std.proofs.Common.{Option, negsuc, suc, zero, eq-eqb, ap, nat_eq, ◌<◌, inl, inr, arith, ◌≡◌, ℕ, List, [], ◌∷◌, ◌++◌, Some, None, pos, refl}
+use Rattle.std.specs.Prelude.{codes, true, false, Bool, filter, map, not}
+use Rattle.afs_num.specs.declared.types.Fid.{Fid}
+use Rattle.afs_num.specs.declared.types.Node.TheVariants.{Server, Client}
+use Rattle.afs_ideal.specs.AccessLists.{rights_of, acl_text, entry_text}
+use Rattle.afs_ideal.specs.Directories.{directory_bytes, name_bytes, directory_of, names_at, whole_at, count_at, name_at, spelled_at, bytes_below}
+use Rattle.afs_ideal.specs.SetUp.{laid_at, led}
+use Rattle.afs_ideal.specs.VnodeImage.{image}
+use Rattle.afs_law.proofs.Law.{legal}
+use Rattle.afs_law.specs.Acts.{Open, Close, Remove, SetMode, at_fid, at_path}
+use Rattle.afs_law.specs.ClientRow.{begin_row, client_row}
+use Rattle.afs_law.specs.Legal.{Legal}
+use Rattle.afs_law.specs.Lines.{Line}
+use Rattle.afs_law.specs.Records.{change_record, boot_record, first_record, volume_bytes}
+use Rattle.afs_law.specs.Runs.{first_volume, comes_up, steady, waits, starts_again, sets_stop, ticks, server_waits, Entry, Cell, Input, begins, gives, moved, start, Leads}
+use Rattle.afs_model.specs.Messages.{spelled}
+use Rattle.afs_num.specs.Names.{name_ok}
+use Rattle.std.specs.Fmt.{digits}
+use Rattle.afs_num.specs.declared.scripts.Script.{Script}
+use Rattle.afs_num.specs.declared.scripts.SetupLine.TheVariants as setup
+use Rattle.afs_num.specs.declared.histories.Body.TheVariants as bodies
+use Rattle.afs_law.specs.Lines as lines
+use Rattle.afs_num.specs.declared.histories.ReadSource.TheVariants.{Cached, Fetched}
+use Rattle.afs_xdr.specs.Words.{opaque, pad, word, opaque_at, word_at, counted_at}
+
+abbrev home : ℕ
+home = 536870912
+
+abbrev file : Fid
+file = record { volume = home; vnode = 2; unique = 2 }
+
+abbrev root : Fid
+root = record { volume = home; vnode = 1; unique = 1 }
+
+abbrev script : ℕ → Script
+script n = record {
+  servers = 1;
+  clients = n;
+  volumes = record { id = home; name = codes "proj"; server = Server 1; quota = 1000; lines = setup.File (codes "a" ∷ []) (codes "abc") ∷ [] } ∷ [];
+  tasks = [];
+  schedule = None;
+}
+
+abbrev told : Cell → List Input → List Line
+told c [] = []
+told c (x ∷ xs) = (moved c x).entry.lines ++ told (moved c x).cell xs
+
+abbrev answer : ℕ → Line
+answer n = lines.Answer (Client n) (record { 0 = pos 0 })
+
+abbrev begun : ℕ → Line
+begun n = lines.Begin (Client n) (Open (at_fid file))
+
+abbrev stores : ℕ → Line
+stores n = lines.Begin (Client n) (Close (at_fid file) (codes "def"))
+
+abbrev change : ℕ → List Line
+change n = lines.Change (Server 1) (record { node = Client n; epoch = 1; number = 1 }) 1 ∷ lines.Version (record { fid = file; index = 2; data_version = 2; body = bodies.File (codes "def") }) ∷ []
+
+-- a break before the fetch reply
+abbrev six : List Input
+six = begins 1 (Open (at_fid file)) ∷ gives 1 steady ∷ begins 2 (Close (at_fid file) (codes "def")) ∷ gives 3 steady ∷ gives 4 steady ∷ gives 5 steady ∷ gives 2 steady ∷ gives 6 steady ∷ gives 7 steady ∷ gives 8 steady ∷ []
+
+row_six : told (start (script 2)) six ≡
+    begun 1 ∷ lines.Given 1 ∷ lines.Grant (Server 1) (Client 1) file 1 7200 ∷ stores 2 ∷ lines.Given 3 ∷ (change 2 ++ lines.Owe (Server 1) (Client 1) (Some file) 1 ∷ lines.Given 4 ∷ lines.Drop (Client 1) file ∷ lines.Given 5 ∷ lines.Settle (Server 1) (Client 1) 1
+    ∷ lines.Given 2 ∷ lines.Given 6 ∷ answer 2 ∷ lines.Given 7 ∷ lines.Grant (Server 1) (Client 1) file 2 7200 ∷ lines.Given 8 ∷ lines.Read (Client 1) file 2 Fetched (bodies.File (codes "def")) ∷ answer 1 ∷ [])
+unfolding moved begin_row client_row change_record boot_record spelled opaque pad word laid_at led name_ok directory_bytes name_bytes rights_of first_record volume_bytes image acl_text digits entry_text
+row_six = refl
+
+-- a holder that never answers
+abbrev seven : List Input
+seven = begins 1 (Open (at_fid file)) ∷ gives 1 steady ∷ gives 2 steady ∷ begins 2 (Close (at_fid file) (codes "def")) ∷ gives 3 steady ∷ server_waits 1 ∷ server_waits 1 ∷ server_waits 1 ∷ gives 7 steady ∷ ticks 7199 ∷ begins 1 (Open (at_fid file)) ∷ ticks 1 ∷ begins 1 (Open (at_fid file)) ∷ gives 8 steady ∷ gives 9 steady ∷ []
+
+row_seven : told (start (script 2)) seven ≡
+    begun 1 ∷ lines.Given 1 ∷ lines.Grant (Server 1) (Client 1) file 1 7200 ∷ lines.Given 2 ∷ lines.Read (Client 1) file 1 Fetched (bodies.File (codes "abc")) ∷ answer 1 ∷ stores 2 ∷ lines.Given 3 ∷ (change 2 ++ lines.Owe (Server 1) (Client 1) (Some file) 1
+    ∷ lines.Timeout (Server 1) (Client 1) 1 1 1 ∷ lines.Timeout (Server 1) (Client 1) 1 1 2 ∷ lines.Timeout (Server 1) (Client 1) 1 1 3 ∷ lines.Quit (Server 1) (Client 1) 1 ∷ lines.Given 7 ∷ answer 2
+    ∷ lines.Tick 7199 ∷ begun 1 ∷ lines.Read (Client 1) file 1 Cached (bodies.File (codes "abc")) ∷ answer 1 ∷ lines.Tick 1 ∷ begun 1 ∷ lines.Given 8 ∷ lines.Grant (Server 1) (Client 1) file 2 14400 ∷ lines.Given 9 ∷ lines.Read (Client 1) file 2 Fetched (bodies.File (codes "def")) ∷ answer 1 ∷ [])
+unfolding moved begin_row client_row change_record boot_record spelled opaque pad word laid_at led name_ok directory_bytes name_bytes rights_of first_record volume_bytes image acl_text digits entry_text
+row_seven = refl
+
+-- a stop after the gate was written: the kept reply waits for the break on all
+abbrev eight : List Input
+eight = begins 1 (Close (at_fid file) (codes "def")) ∷ sets_stop 3 1 ∷ gives 1 steady ∷ starts_again true comes_up ∷ waits 1 ∷ gives 3 steady ∷ gives 4 steady ∷ gives 5 steady ∷ gives 2 steady ∷ gives 6 steady ∷ gives 7 steady ∷ []
+
+row_eight : told (start (script 1)) eight ≡
+    stores 1 ∷ lines.Stop (Server 1) 3 1 ∷ lines.Given 1 ∷ lines.Crash (Server 1) ∷ (change 1 ++ lines.Restart (Server 1) 2 ∷ lines.Owe (Server 1) (Client 1) None 1 ∷ lines.Timeout (Client 1) (Server 1) 1 1 1 ∷ lines.Given 3 ∷ lines.Given 4 ∷ lines.Given 5
+    ∷ lines.Given 2 ∷ lines.DropAll (Client 1) (Server 1) ∷ lines.Given 6 ∷ lines.Settle (Server 1) (Client 1) 1 ∷ lines.Given 7 ∷ answer 1 ∷ [])
+unfolding moved begin_row client_row change_record boot_record spelled opaque pad word laid_at led name_ok directory_bytes name_bytes rights_of first_record volume_bytes image acl_text digits entry_text
+row_eight = refl
+
+-- a file that two hold is removed from a directory that one of them holds too: breaks by ascending vnode, then in the order of
+-- granting; the caller's answer waits for all three
+abbrev is_told : Line → Bool
+is_told (lines.Owe s c w n) = true
+is_told (lines.Settle s c n) = true
+is_told (lines.Drop c f) = true
+is_told (lines.Answer c code) = true
+is_told l = false
+
+abbrev code : ℕ → ℕ → Line
+code n k = lines.Answer (Client n) (record { 0 = pos k })
+
+abbrev nine : List Input
+nine = begins 1 (Open (at_fid root)) ∷ gives 1 steady ∷ begins 2 (Open (at_fid file)) ∷ gives 3 steady ∷ gives 2 steady ∷ begins 1 (Open (at_fid file)) ∷ gives 5 steady ∷ begins 3 (Remove (record { volume = home; names = codes "a" ∷ [] })) ∷ gives 7 steady ∷ gives 8 steady ∷ gives 9 steady
+    ∷ gives 10 steady ∷ gives 11 steady ∷ gives 12 steady ∷ gives 13 steady ∷ gives 14 steady ∷ gives 6 steady ∷ gives 15 steady ∷ gives 16 steady ∷ []
+
+row_nine : filter is_told (told (start (script 3)) nine) ≡
+    code 1 21 ∷ lines.Owe (Server 1) (Client 1) (Some root) 1 ∷ lines.Owe (Server 1) (Client 2) (Some file) 2 ∷ lines.Owe (Server 1) (Client 1) (Some file) 3
+    ∷ lines.Drop (Client 1) root ∷ lines.Drop (Client 1) file ∷ lines.Drop (Client 2) file ∷ lines.Settle (Server 1) (Client 1) 1 ∷ lines.Settle (Server 1) (Client 1) 3 ∷ lines.Settle (Server 1) (Client 2) 2 ∷ lines.Drop (Client 3) root ∷ code 3 0 ∷ code 1 102 ∷ []
+unfolding moved begin_row client_row change_record boot_record spelled opaque pad word laid_at led name_ok directory_bytes name_bytes rights_of first_record volume_bytes image acl_text digits entry_text
+row_nine = refl
+
+-- ---- without their breaks these runs aren't legal
+
+abbrev entries : Cell → List Input → List Entry
+entries c [] = []
+entries c (x ∷ xs) = (moved c x).entry ∷ entries (moved c x).cell xs
+
+abbrev is_owe : Line → Bool
+is_owe (lines.Owe s c w n) = true
+is_owe l = false
+
+abbrev without : Entry → Entry
+without e = record e { lines = filter (λ l. not (is_owe l)) e.lines }
+
+abbrev six_front : List Input
+six_front = begins 1 (Open (at_fid file)) ∷ gives 1 steady ∷ begins 2 (Close (at_fid file) (codes "def")) ∷ gives 3 steady ∷ []
+
+-- with them it is: so far they are told
+owed_is_legal : (c : Cell) → Leads (start (script 2)) six_front (entries (start (script 2)) six_front) c → Legal (entries (start (script 2)) six_front) (script 2)
+owed_is_legal c r = legal (script 2) (entries (start (script 2)) six_front) c (refl, (refl, tt)) (record { inputs = six_front; leads = r })
+
+not_owed : Legal (map without (entries (start (script 2)) six_front)) (script 2) → ⊥
+unfolding moved begin_row client_row change_record boot_record spelled opaque pad word laid_at led name_ok directory_bytes name_bytes rights_of first_record volume_bytes image acl_text digits entry_text
+not_owed h = h.1.1.1.0.0.0.1.0.1.owed 1 file 7200 (λ e. absurd cc) (inl refl) refl (omega arith)
+
+abbrev eight_front : List Input
+eight_front = begins 1 (Close (at_fid file) (codes "def")) ∷ sets_stop 3 1 ∷ gives 1 steady ∷ starts_again true comes_up ∷ []
+
+not_all_owed : Legal (map without (entries (start (script 1)) eight_front)) (script 1) → ⊥
+unfolding moved begin_row client_row change_record boot_record spelled opaque pad word laid_at led name_ok directory_bytes name_bytes rights_of first_record volume_bytes image acl_text digits entry_text
+not_all_owed h = h.1.1.1.0.0.0.1.1.0.1 1 (omega arith) (omega arith)
+
+-- ---- a walk, the last read of which a break overtakes: it is fetched again, and the act ends in one answer
+
+abbrev walked : List Input
+walked = begins 1 (Open (at_path (record { volume = home; names = codes "a" ∷ [] }))) ∷ gives 1 steady ∷ gives 2 steady ∷ gives 3 steady ∷ begins 2 (Close (at_fid file) (codes "def")) ∷ gives 5 steady ∷ gives 6 steady ∷ gives 4 steady ∷ gives 7 steady ∷ gives 8 steady ∷ gives 10 steady ∷ []
+
+abbrev is_walked : Line → Bool
+is_walked (lines.Given p) = false
+is_walked (lines.Version v) = false
+is_walked l = true
+
+row_walked : filter is_walked (told (start (script 2)) walked) ≡
+    lines.Begin (Client 1) (Open (at_path (record { volume = home; names = codes "a" ∷ [] }))) ∷ lines.Grant (Server 1) (Client 1) root 1 7200 ∷ lines.Read (Client 1) root 1 Fetched (bodies.Dir (record { name = codes "a"; vnode = 2; unique = 2 } ∷ []))
+    ∷ lines.Grant (Server 1) (Client 1) file 1 7200 ∷ stores 2 ∷ lines.Change (Server 1) (record { node = Client 2; epoch = 1; number = 1 }) 1 ∷ lines.Owe (Server 1) (Client 1) (Some file) 1 ∷ lines.Drop (Client 1) file
+    ∷ lines.Settle (Server 1) (Client 1) 1 ∷ lines.Grant (Server 1) (Client 1) file 2 7200 ∷ lines.Read (Client 1) file 2 Fetched (bodies.File (codes "def")) ∷ code 1 0 ∷ []
+unfolding moved begin_row client_row change_record boot_record spelled opaque pad word laid_at led name_ok directory_bytes name_bytes rights_of first_record volume_bytes image acl_text digits entry_text directory_of names_at opaque_at word_at counted_at whole_at count_at name_at spelled_at bytes_below
+row_walked = refl
+
+-- the lines of acts, grants, reads and drops alone
+abbrev is_kept : Line → Bool
+is_kept (lines.Begin c a) = true
+is_kept (lines.Grant s c f i x) = true
+is_kept (lines.Read c f i source b) = true
+is_kept (lines.Drop c f) = true
+is_kept (lines.Answer c code) = true
+is_kept l = false
+
+abbrev last_entry : Cell → List Input → Option Entry
+last_entry c [] = None
+last_entry c (x ∷ []) = Some (moved c x).entry
+last_entry c (x ∷ y ∷ xs) = last_entry (moved c x).cell (y ∷ xs)
+
+-- ---- row 9 of a stop before the gate was written, and a call that was given up
+
+-- the disk stops before the change is on it: the restart has none, and the call runs then, once
+abbrev nine_before : List Input
+nine_before = begins 1 (Close (at_fid file) (codes "def")) ∷ sets_stop 3 0 ∷ gives 1 steady ∷ starts_again false comes_up ∷ waits 1 ∷ gives 3 steady ∷ gives 4 steady ∷ gives 5 steady ∷ gives 2 steady ∷ gives 6 steady ∷ gives 7 steady ∷ []
+
+row_nine_before : told (start (script 1)) nine_before ≡
+    stores 1 ∷ lines.Stop (Server 1) 3 0 ∷ lines.Given 1 ∷ lines.Crash (Server 1) ∷ lines.Restart (Server 1) 2 ∷ lines.Owe (Server 1) (Client 1) None 1 ∷ lines.Timeout (Client 1) (Server 1) 1 1 1 ∷ lines.Given 3 ∷ lines.Given 4 ∷ lines.Given 5 ∷ (change 1 ++ lines.Given 2 ∷ lines.DropAll (Client 1) (Server 1)
+    ∷ lines.Given 6 ∷ lines.Settle (Server 1) (Client 1) 1 ∷ lines.Given 7 ∷ answer 1 ∷ [])
+unfolding moved begin_row client_row change_record boot_record spelled opaque pad word laid_at led name_ok directory_bytes name_bytes rights_of first_record volume_bytes image acl_text digits entry_text
+row_nine_before = refl
+
+-- a store whose reply is lost is given up; an open behind it reads what it left
+abbrev ten : List Input
+ten = begins 1 (Close (at_fid file) (codes "def")) ∷ gives 1 steady ∷ waits 1 ∷ waits 1 ∷ waits 1 ∷ begins 1 (Open (at_fid file)) ∷ gives 5 steady ∷ gives 6 steady ∷ []
+
+row_ten : told (start (script 1)) ten ≡
+    stores 1 ∷ lines.Given 1 ∷ (change 1 ++ lines.Timeout (Client 1) (Server 1) 1 1 1 ∷ lines.Timeout (Client 1) (Server 1) 1 1 2 ∷ lines.Timeout (Client 1) (Server 1) 1 1 3 ∷ lines.Answer (Client 1) (record { 0 = negsuc 0 })
+    ∷ begun 1 ∷ lines.Given 5 ∷ lines.Grant (Server 1) (Client 1) file 2 7200 ∷ lines.Given 6 ∷ lines.Read (Client 1) file 2 Fetched (bodies.File (codes "def")) ∷ answer 1 ∷ [])
+unfolding moved begin_row client_row change_record boot_record spelled opaque pad word laid_at led name_ok directory_bytes name_bytes rights_of first_record volume_bytes image acl_text digits entry_text
+row_ten = refl
+
+-- a store of the mode over an older body: the entry isn't just below the new index, so it is given up
+abbrev twenty_two : List Input
+twenty_two = begins 1 (Open (at_fid file)) ∷ gives 1 steady ∷ gives 2 steady ∷ begins 2 (Close (at_fid file) (codes "def")) ∷ gives 3 steady ∷ server_waits 1 ∷ server_waits 1 ∷ server_waits 1 ∷ gives 7 steady
+    ∷ begins 1 (SetMode (at_fid file) 384) ∷ gives 8 steady ∷ gives 9 steady ∷ begins 1 (Open (at_fid file)) ∷ gives 10 steady ∷ gives 11 steady ∷ []
+
+row_twenty_two : filter is_kept (told (start (script 2)) twenty_two) ≡
+    begun 1 ∷ lines.Grant (Server 1) (Client 1) file 1 7200 ∷ lines.Read (Client 1) file 1 Fetched (bodies.File (codes "abc")) ∷ answer 1 ∷ stores 2 ∷ answer 2
+    ∷ lines.Begin (Client 1) (SetMode (at_fid file) 384) ∷ lines.Drop (Client 1) file ∷ answer 1 ∷ begun 1 ∷ lines.Grant (Server 1) (Client 1) file 3 7200 ∷ lines.Read (Client 1) file 3 Fetched (bodies.File (codes "def")) ∷ answer 1 ∷ []
+unfolding moved begin_row client_row change_record boot_record spelled opaque pad word laid_at led name_ok directory_bytes name_bytes rights_of first_record volume_bytes image acl_text digits entry_text
+row_twenty_two = refl
+
+-- an entry just below it is raised, and shown without a message
+abbrev raised : List Input
+raised = begins 1 (Open (at_fid file)) ∷ gives 1 steady ∷ gives 2 steady ∷ begins 1 (SetMode (at_fid file) 384) ∷ gives 3 steady ∷ gives 4 steady ∷ begins 1 (Open (at_fid file)) ∷ []
+
+row_raised : filter is_kept (told (start (script 1)) raised) ≡
+    begun 1 ∷ lines.Grant (Server 1) (Client 1) file 1 7200 ∷ lines.Read (Client 1) file 1 Fetched (bodies.File (codes "abc")) ∷ answer 1 ∷ lines.Begin (Client 1) (SetMode (at_fid file) 384) ∷ answer 1
+    ∷ begun 1 ∷ lines.Read (Client 1) file 2 Cached (bodies.File (codes "abc")) ∷ answer 1 ∷ []
+unfolding moved begin_row client_row change_record boot_record spelled opaque pad word laid_at led name_ok directory_bytes name_bytes rights_of first_record volume_bytes image acl_text digits entry_text
+row_raised = refl
+
+-- a walk that the cache knows whole is one step
+abbrev at_once : List Input
+at_once = begins 1 (Open (at_path (record { volume = home; names = codes "a" ∷ [] }))) ∷ gives 1 steady ∷ gives 2 steady ∷ gives 3 steady ∷ gives 4 steady ∷ begins 1 (Open (at_path (record { volume = home; names = codes "a" ∷ [] }))) ∷ []
+
+row_at_once : option_map (λ (e : Entry). e.lines) (last_entry (start (script 1)) at_once) ≡
+    Some (lines.Begin (Client 1) (Open (at_path (record { volume = home; names = codes "a" ∷ [] }))) ∷ lines.Read (Client 1) root 1 Cached (bodies.Dir (record { name = codes "a"; vnode = 2; unique = 2 } ∷ [])) ∷ lines.Read (Client 1) file 1 Cached (bodies.File (codes "abc")) ∷ answer 1 ∷ [])
+unfolding moved begin_row client_row change_record boot_record spelled opaque pad word laid_at led name_ok directory_bytes name_bytes rights_of first_record volume_bytes image acl_text digits entry_text directory_of names_at opaque_at word_at counted_at whole_at count_at name_at spelled_at bytes_below
+row_at_once = refl
+
+-- ---- wrong histories. Each differs from that of a run in one line, or in whose entry it is
+
+-- the first entries of row six with one of them altered
+abbrev alters : ℕ → (Entry → Entry) → List Entry → List Entry
+alters n f [] = []
+alters zero f (e ∷ es) = f e ∷ es
+alters (suc n) f (e ∷ es) = e ∷ alters n f es
+
+abbrev by_lines : (Line → Line) → Entry → Entry
+by_lines f e = record e { lines = map f e.lines }
+
+abbrev six_by : ℕ → (Entry → Entry) → List Entry
+six_by n f = alters n f (entries (start (script 2)) six_front)
+
+apart_numbers : (m n : ℕ) → nat_eq m n ≡ false → m ≡ n → ⊥
+apart_numbers m n e q = yes_no (nat_eq m n) (eq-eqb m n q) e
+
+-- an act begins, or a grant or a change is made, in another's entry
+abbrev moved_to : Actor → Entry → Entry
+moved_to o e = record e { actor = o }
+
+begun_elsewhere : Legal (six_by 0 (moved_to (actors.Node (Client 2)))) (script 2) → ⊥
+unfolding moved begin_row client_row change_record boot_record spelled opaque pad word laid_at led name_ok directory_bytes name_bytes rights_of first_record volume_bytes image acl_text digits entry_text
+begun_elsewhere h = let e : actors.Node (Client 2) ≡ actors.Node (Client 1) = h.0.0.0.0 in absurd cc
+
+granted_elsewhere : Legal (six_by 1 (moved_to (actors.Node (Client 1)))) (script 2) → ⊥
+unfolding moved begin_row client_row change_record boot_record spelled opaque pad word laid_at led name_ok directory_bytes name_bytes rights_of first_record volume_bytes image acl_text digits entry_text
+granted_elsewhere h = let e : actors.Node (Client 1) ≡ actors.Node (Server 1) = h.1.0.0.0.1.0 in absurd cc
+
+changed_by_nobody : Legal (six_by 3 (moved_to actors.Nobody)) (script 2) → ⊥
+unfolding moved begin_row client_row change_record boot_record spelled opaque pad word laid_at led name_ok directory_bytes name_bytes rights_of first_record volume_bytes image acl_text digits entry_text
+changed_by_nobody h = let e : actors.Nobody ≡ actors.Node (Server 1) = h.1.1.1.0.0.0.1.0.0 in absurd cc
+
+-- a change that says more versions than follow
+abbrev counts_two : Line → Line
+counts_two (lines.Change s k n) = lines.Change s k 2
+counts_two l = l
+
+counted_wrong : Legal (six_by 3 (by_lines counts_two)) (script 2) → ⊥
+unfolding moved begin_row client_row change_record boot_record spelled opaque pad word laid_at led name_ok directory_bytes name_bytes rights_of first_record volume_bytes image acl_text digits entry_text
+counted_wrong h = apart_numbers 2 1 refl h.1.1.1.0.0.0.1.0.1.number
+
+-- a version under no change
+abbrev no_change : Line → Line
+no_change (lines.Change s k n) = lines.Given 3
+no_change l = l
+
+unchanged : Legal (six_by 3 (by_lines no_change)) (script 2) → ⊥
+unfolding moved begin_row client_row change_record boot_record spelled opaque pad word laid_at led name_ok directory_bytes name_bytes rights_of first_record volume_bytes image acl_text digits entry_text
+unchanged h = h.1.1.1.0.0.0.1.1.0
+
+-- a break whose number doesn't rise
+abbrev nought : Line → Line
+nought (lines.Owe s c w n) = lines.Owe s c w 0
+nought l = l
+
+owed_nought : Legal (six_by 3 (by_lines nought)) (script 2) → ⊥
+unfolding moved begin_row client_row change_record boot_record spelled opaque pad word laid_at led name_ok directory_bytes name_bytes rights_of first_record volume_bytes image acl_text digits entry_text
+owed_nought h = let e : 0 < 0 = h.1.1.1.0.0.0.1.1.1.0.1 in absurd (omega arith)
+
+-- an entry that brings a volume
+abbrev brings : Entry → Entry
+brings e = record e { volumes = (7, first_volume (record { id = 7; name = codes "x"; server = Server 1; quota = 1; lines = [] })) ∷ [] }
+
+no_table : (p : ℕ × Volume) (ps : Table Volume) → p ∷ ps ≡ [] → ⊥
+no_table p ps e = absurd cc
+
+brought_one : Legal (six_by 2 brings) (script 2) → ⊥
+unfolding moved begin_row client_row change_record boot_record spelled opaque pad word laid_at led name_ok directory_bytes name_bytes rights_of first_record volume_bytes image acl_text digits entry_text
+brought_one h = no_table _ _ h.1.1.0.1
+
+-- what is read isn't what its version holds; or it has another index
+abbrev open_front : List Input
+open_front = begins 1 (Open (at_fid file)) ∷ gives 1 steady ∷ gives 2 steady ∷ []
+
+abbrev shows_other : Line → Line
+shows_other (lines.Read c f i source b) = lines.Read c f i source (bodies.File (codes "xyz"))
+shows_other l = l
+
+abbrev later_index : Line → Line
+later_index (lines.Read c f i source b) = lines.Read c f 2 source b
+later_index l = l
+
+first_byte : Body → ℕ
+first_byte (bodies.File []) = 0
+first_byte (bodies.File (b ∷ rest)) = b
+first_byte b = 0
+
+other_bytes : bodies.File (codes "abc") ≡ bodies.File (codes "xyz") → ⊥
+unfolding first_byte
+other_bytes e = apart_numbers 97 120 refl (ap first_byte e)
+
+other_fid : root ≡ file → ⊥
+other_fid e = apart_numbers 1 2 refl (ap (λ (f : Fid). f.vnode) e)
+
+shown_wrong : Legal (alters 2 (by_lines shows_other) (entries (start (script 1)) open_front)) (script 1) → ⊥
+unfolding moved begin_row client_row change_record boot_record spelled opaque pad word laid_at led name_ok directory_bytes name_bytes rights_of first_record volume_bytes image acl_text digits entry_text
+shown_wrong h = elim h.1.1.0.0.0.1.0.1.whole [ inl x ↦ other_fid x.0 | inr y ↦ elim y [ inl x ↦ other_bytes x.1.1 | inr z ↦ z ] ]
+
+shown_later : Legal (alters 2 (by_lines later_index) (entries (start (script 1)) open_front)) (script 1) → ⊥
+unfolding moved begin_row client_row change_record boot_record spelled opaque pad word laid_at led name_ok directory_bytes name_bytes rights_of first_record volume_bytes image acl_text digits entry_text
+shown_later h = elim h.1.1.0.0.0.1.0.1.whole [ inl x ↦ other_fid x.0 | inr y ↦ elim y [ inl x ↦ apart_numbers 1 2 refl x.1.0 | inr z ↦ z ] ]

@@ -1,0 +1,160 @@
+-- What becomes of the breaks that a server owes.
+use Rattle.std.specs.Prelude.{◌≡◌, ℕ, ◌+◌, ◌≤◌, List, [], ◌∷◌, ◌++◌, Bool, cond, ◌&&◌, Option, Some, None, ◌⊎◌, true}
+use Rattle.afs_num.specs.Fids.{same_fid}
+use Rattle.afs_num.specs.Nodes.{same_node}
+use Rattle.afs_num.specs.declared.types.Fid.{Fid}
+use Rattle.afs_num.specs.declared.types.Key.{Key}
+use Rattle.afs_num.specs.declared.types.Node.{Node}
+use Rattle.afs_num.specs.declared.calls.FsCall.{FsCall}
+use Rattle.afs_num.specs.declared.calls.FsCall.TheVariants as calls
+use Rattle.afs_law.specs.Ideal.{clock_of}
+use Rattle.afs_law.specs.Lines.{Line}
+use Rattle.afs_law.specs.Past.{onto, lines_on, lines_of, sent_of, given_message, IsCallUnder, Sends}
+use Rattle.afs_law.specs.Runs.{Entry}
+use Rattle.afs_law.specs.Lines as lines
+
+-- ---- by the lines since, the newest first
+
+-- the server stopped
+abbrev pub HasStopped : Node → List Line → Type 0
+HasStopped s [] = ⊥
+HasStopped s (lines.Crash n ∷ newer) = (n ≡ s) ⊎ HasStopped s newer
+HasStopped s (lines.Fault n ∷ newer) = (n ≡ s) ⊎ HasStopped s newer
+HasStopped s (l ∷ newer) = HasStopped s newer
+
+-- the break of this number to the client was answered, or given up
+abbrev pub HasSettled : Node → Node → ℕ → List Line → Type 0
+HasSettled s c n [] = ⊥
+HasSettled s c n (lines.Settle q d k ∷ newer) = ((q ≡ s) × ((d ≡ c) × (k ≡ n))) ⊎ HasSettled s c n newer
+HasSettled s c n (lines.Quit q d k ∷ newer) = ((q ≡ s) × ((d ≡ c) × (k ≡ n))) ⊎ HasSettled s c n newer
+HasSettled s c n (l ∷ newer) = HasSettled s c n newer
+
+-- the client dropped the fid, or all that the server granted; what is owed on all is answered by the latter alone
+abbrev pub HasDrop : Node → Node → Option Fid → List Line → Type 0
+HasDrop s c what [] = ⊥
+HasDrop s c what (lines.Drop m g ∷ newer) = ((m ≡ c) × (what ≡ Some g)) ⊎ HasDrop s c what newer
+HasDrop s c what (lines.DropAll m q ∷ newer) = ((m ≡ c) × (q ≡ s)) ⊎ HasDrop s c what newer
+HasDrop s c what (l ∷ newer) = HasDrop s c what newer
+
+-- the count-th timeout of the caller's call
+abbrev pub HasTimeout : Node → Node → ℕ → ℕ → ℕ → List Line → Type 0
+HasTimeout s c epoch number count [] = ⊥
+HasTimeout s c epoch number count (lines.Timeout q d e n k ∷ ls) = ((q ≡ s) × ((d ≡ c) × ((e ≡ epoch) × ((n ≡ number) × (k ≡ count))))) ⊎ HasTimeout s c epoch number count ls
+HasTimeout s c epoch number count (l ∷ ls) = HasTimeout s c epoch number count ls
+
+-- ---- by the lines before
+
+-- when the last grant on f to the client ends
+abbrev pub last_grant : Node → Node → Fid → List Line → Option ℕ
+last_grant s c f [] = None
+last_grant s c f (lines.Grant q d g index expiry ∷ older) = cond (same_node q s && (same_node d c && same_fid g f)) (Some expiry) (last_grant s c f older)
+last_grant s c f (l ∷ older) = last_grant s c f older
+
+abbrev pub is_on : Fid → Option Fid → Bool
+is_on f None = true
+is_on f (Some g) = same_fid g f
+
+-- when the last grant on f to the client ends, unless the server stopped since, or owes that break by now, or the client dropped it
+abbrev pub live_grant : Node → Node → Fid → List Line → Option ℕ
+live_grant s c f [] = None
+live_grant s c f (lines.Grant q d g index expiry ∷ older) = cond (same_node q s && (same_node d c && same_fid g f)) (Some expiry) (live_grant s c f older)
+live_grant s c f (lines.Crash n ∷ older) = cond (same_node n s) None (live_grant s c f older)
+live_grant s c f (lines.Fault n ∷ older) = cond (same_node n s) None (live_grant s c f older)
+live_grant s c f (lines.Drop m g ∷ older) = cond (same_node m c && same_fid g f) None (live_grant s c f older)
+live_grant s c f (lines.DropAll m q ∷ older) = cond (same_node m c && same_node q s) None (live_grant s c f older)
+live_grant s c f (lines.Owe q d w n ∷ older) = cond (same_node q s && (same_node d c && is_on f w)) None (live_grant s c f older)
+live_grant s c f (l ∷ older) = live_grant s c f older
+
+-- the number of the last break that became owed in this boot
+abbrev pub last_number : Node → List Line → ℕ
+last_number s [] = 0
+last_number s (lines.Owe q d w n ∷ older) = cond (same_node q s) n (last_number s older)
+last_number s (lines.Crash n ∷ older) = cond (same_node n s) 0 (last_number s older)
+last_number s (lines.Fault n ∷ older) = cond (same_node n s) 0 (last_number s older)
+last_number s (l ∷ older) = last_number s older
+
+-- the server owes the client this break, by lines
+abbrev pub HasOwe : Node → Node → Option Fid → List Line → Type 0
+HasOwe s c what [] = ⊥
+HasOwe s c what (lines.Owe q d w n ∷ ls) = ((q ≡ s) × ((d ≡ c) × (w ≡ what))) ⊎ HasOwe s c what ls
+HasOwe s c what (l ∷ ls) = HasOwe s c what ls
+
+-- when a break ends by itself that becomes owed behind these lines: with the last grant, or so long after the restart
+abbrev pub expiry_of : Node → Node → Option Fid → List Line → Option ℕ
+expiry_of s c (Some f) older = last_grant s c f older
+expiry_of s c None older = Some (clock_of older + 7200)
+
+abbrev pub HasCome : Option ℕ → ℕ → Type 0
+HasCome None clock = ⊥
+HasCome (Some expiry) clock = expiry ≤ clock
+
+-- an owed break is ended by this clock: settled or given up, or its server stopped, or its time has come
+abbrev pub IsEnded : Node → Node → Option Fid → ℕ → List Line → List Line → ℕ → Type 0
+IsEnded s c what n older newer clock = HasSettled s c n newer ⊎ (HasStopped s newer ⊎ HasCome (expiry_of s c what older) clock)
+
+-- ---- all breaks that were owed so far: of the entry `at`, whose lines before and after the owe line these are
+
+abbrev pub Owes : Type 1
+Owes = List Entry → Entry → List Entry → List Line → List Line → Node → Option Fid → ℕ → Type 0
+
+abbrev pub AllOwes : Node → Owes → List Entry → Type 0
+AllOwes s Q past = (newer : List Entry) (at : Entry) (older : List Entry) (before after : List Line) (c : Node) (what : Option Fid) (n : ℕ) → past ≡ newer ++ (at ∷ older) → at.lines ≡ before ++ lines.Owe s c what n ∷ after
+    → Q newer at older before after c what n
+
+abbrev pub EndedBy : Node → ℕ → Owes
+EndedBy s clock newer at older before after c what n = IsEnded s c what n (onto (lines_of older) before) (lines_on (onto [] after) newer) clock
+
+-- those of an entry that was given a call of this key are ended
+abbrev pub EndedOf : Node → Key → ℕ → Owes
+EndedOf s k clock newer at older before after c what n = (boot : ℕ) → IsCallUnder s k boot (given_message at.lines (sent_of older)) → EndedBy s clock newer at older before after c what n
+
+-- those on all are ended
+abbrev pub EndedAll : Node → ℕ → Owes
+EndedAll s clock newer at older before after c what n = what ≡ None → EndedBy s clock newer at older before after c what n
+
+-- ---- settle and quit
+
+-- the lines, split at the break of this number that the server owes the client in this boot
+pub record OweAt (s c : Node) (what : Option Fid) (n : ℕ) (ls : List Line) : Type 0 where
+  pub newer : List Line
+  pub base : List Line
+  pub split : ls ≡ newer ++ (lines.Owe s c what n ∷ base)
+  pub up : HasStopped s newer → ⊥
+
+-- the client gave up what the break is on
+pub record GoodSettle (s c : Node) (n : ℕ) (past : List Entry) (own : List Line) : Type 0 where
+  pub what : Option Fid
+  pub owe : OweAt s c what n (lines_of past)
+  pub dropped : HasDrop s c what owe.newer
+
+abbrev pub IsNamedIn : Fid → List Fid → Type 0
+IsNamedIn f [] = ⊥
+IsNamedIn f (g ∷ fs) = (g ≡ f) ⊎ IsNamedIn f fs
+
+abbrev pub NamesIn : Option Fid → List Fid → Type 0
+NamesIn None fs = ⊥
+NamesIn (Some f) fs = IsNamedIn f fs
+
+abbrev pub CarriesBreak : FsCall → Option Fid → Type 0
+CarriesBreak (calls.CallBack fs callbacks) what = NamesIn what fs
+CarriesBreak calls.InitCallBackState what = what ≡ None
+CarriesBreak call what = ⊥
+
+-- this call was sent under this key
+abbrev pub WasSent : Key → List ℕ → FsCall → List Entry → Type 0
+WasSent k user call [] = ⊥
+WasSent k user call (e ∷ past) = Sends k user call e.sent ⊎ WasSent k user call past
+
+-- a call that carried the break was timed out for the third time in this entry, and twice before
+pub record GoodQuit (s c : Node) (n : ℕ) (past : List Entry) (own : List Line) : Type 0 where
+  pub what : Option Fid
+  pub owe : OweAt s c what n (lines_of past)
+  pub epoch : ℕ
+  pub number : ℕ
+  pub third : HasTimeout s c epoch number 3 own
+  pub first : HasTimeout s c epoch number 1 (lines_of past)
+  pub second : HasTimeout s c epoch number 2 (lines_of past)
+  pub user : List ℕ
+  pub call : FsCall
+  pub called : WasSent (record { node = s; epoch = epoch; number = number }) user call past
+  pub carries : CarriesBreak call what

@@ -1,0 +1,192 @@
+use Rattle.afs_ideal.specs.Operations.{the_user, volume_called, changed, op, is_number}
+use Rattle.afs_ideal.specs.Tables.{Table, get}
+use Rattle.afs_ideal.specs.Volumes.{Vnode, version_at, Volume}
+use Rattle.afs_law.specs.Lines.{Line}
+use Rattle.afs_law.specs.Past.{onto, is_of_act, sent_of, is_called}
+use Rattle.afs_law.specs.Runs.{Entry, first_volume, first_volumes}
+use Rattle.afs_law.specs.Scopes.{is_volume}
+use Rattle.std.specs.Prelude.{is_some, ◌≡◌, ℕ, ◌+◌, List, [], ◌∷◌, ◌++◌, Bool, true, false, ◌&&◌, Option, Some, None, codes, max, if◌then◌else◌, ◌⊎◌}
+use Rattle.std.specs.Option.{option_map}
+use Rattle.afs_num.specs.Fids.{same_fid}
+use Rattle.afs_num.specs.Nodes.{same_node}
+use Rattle.afs_num.specs.declared.types.Code.{Code}
+use Rattle.afs_num.specs.declared.types.Fid.{Fid}
+use Rattle.afs_num.specs.declared.types.Node.{Node}
+use Rattle.afs_num.specs.declared.calls.FsCall.{FsCall}
+use Rattle.afs_num.specs.declared.scripts.Script.{Script}
+use Rattle.afs_num.specs.declared.scripts.VolumeLine.{VolumeLine}
+use Rattle.afs_num.specs.declared.histories.Actor.TheVariants as actors
+use Rattle.afs_num.specs.declared.histories.Body.{Body}
+use Rattle.afs_num.specs.declared.histories.Version.{Version}
+use Rattle.afs_num.specs.declared.types.Key.{Key}
+use Rattle.afs_num.specs.declared.messages.Carried.{Carried}
+use Rattle.afs_num.specs.declared.messages.Message.{Message}
+use Rattle.afs_law.specs.Lines as lines
+use Rattle.afs_num.specs.declared.messages.Carried.TheVariants as carried
+use Rattle.afs_num.specs.declared.messages.Call.TheVariants as ask
+
+-- The ideal cell: what all that was told before a moment makes of it. It has no caches, no tables of calls and no bytes
+-- of messages: each fid has its versions, each volume the servers that accept its stores, each client what it has seen.
+
+-- ---- the set-up
+
+-- the first version of each vnode, the last number first, before these lines
+abbrev pub first_told : ℕ → Table Vnode → List Line → List Line
+first_told id [] tail = tail
+first_told id (p ∷ ps) tail = first_told id ps (lines.Version (version_at id p.0 p.1) ∷ tail)
+
+-- the versions that the set-up of each volume makes; of two volumes under one number the last counts
+abbrev pub unless : Bool → List Line → List Line → List Line
+unless true a b = a
+unless false a b = b
+
+abbrev pub first_lines : List VolumeLine → List Line
+first_lines [] = []
+first_lines (v ∷ vs) = unless (is_some (get v.id (first_volumes vs))) (first_lines vs) (first_lines vs ++ first_told v.id (first_volume v).vnodes [])
+
+-- the set-up, as an entry before all others
+abbrev pub set_up : Script → Entry
+set_up s = record { actor = actors.Nobody; lines = first_lines s.volumes; sent = []; volumes = first_volumes s.volumes }
+
+-- ---- volumes. The call that a message carries under a key
+
+abbrev pub call_in : Carried → Option (List ℕ × FsCall)
+call_in (carried.Call user (ask.File call)) = Some (user, call)
+call_in c = None
+
+abbrev pub call_under : Key → List Message → Option (List ℕ × FsCall)
+call_under k [] = None
+call_under k (m ∷ ms) = if is_called k m.head m.carried then call_in m.carried else call_under k ms
+
+abbrev pub applied_by : Bool → ℕ → List ℕ → FsCall → Option Volume → Option Volume
+applied_by false id user call o = o
+applied_by true id user call None = None
+applied_by true id user call (Some v) = Some (changed id (op id (the_user user) call v) v)
+
+-- a volume, after this call
+abbrev pub applied : ℕ → Option (List ℕ × FsCall) → Option Volume → Option Volume
+applied id None o = o
+applied id (Some c) o = applied_by (is_volume id (volume_called c.1)) id c.0 c.1 o
+
+-- the key of a change among lines
+abbrev pub change_in : Line → Option Key
+change_in (lines.Change s k count) = Some k
+change_in l = None
+
+abbrev pub first_key : Option Key → Option Key → Option Key
+first_key None o = o
+first_key (Some k) o = Some k
+
+abbrev pub change_key : List Line → Option Key
+change_key [] = None
+change_key (l ∷ ls) = first_key (change_in l) (change_key ls)
+
+abbrev pub changed_under : ℕ → Option Key → List Message → Option Volume → Option Volume
+changed_under id None sent o = o
+changed_under id (Some k) sent o = applied id (call_under k sent) o
+
+abbrev pub or_before : Option Volume → Option Volume → Option Volume
+or_before None o = o
+or_before (Some v) o = Some v
+
+abbrev pub brought : ℕ → Table Volume → Option Volume → Option Volume
+brought id [] o = o
+brought id (p ∷ ps) o = or_before (get id (p ∷ ps)) o
+
+-- the ideal volume: the set-up's, after the ideal operation of each change's call
+abbrev pub volume_after : ℕ → List Entry → Option Volume
+volume_after id [] = None
+volume_after id (e ∷ past) = brought id e.volumes (changed_under id (change_key e.lines) (sent_of past) (volume_after id past))
+
+-- ---- versions. Lines are read from the newest
+
+-- the version that a line tells
+abbrev pub version_in : Line → Option Version
+version_in (lines.Version v) = Some v
+version_in l = None
+
+abbrev pub latest : Fid → Option Version → Option Version → Option Version
+latest f None before = before
+latest f (Some v) before = if same_fid v.fid f then Some v else before
+
+abbrev pub last_version : Fid → List Line → Option Version
+last_version f [] = None
+last_version f (l ∷ older) = latest f (version_in l) (last_version f older)
+
+-- all versions that lines tell
+abbrev pub told_by : Option Version → List Version → List Version
+told_by None vs = vs
+told_by (Some v) vs = v ∷ vs
+
+abbrev pub versions_in : List Line → List Version
+versions_in [] = []
+versions_in (l ∷ older) = told_by (version_in l) (versions_in older)
+
+-- the last index of the fid
+abbrev pub IsLast : Fid → ℕ → List Line → Type 0
+IsLast f index older = option_map (λ v. v.index) (last_version f older) ≡ Some index
+
+-- the fid has a version of this index, with this body
+abbrev pub IsThat : Fid → ℕ → Body → Option Version → Type 0 → Type 0
+IsThat f index body None before = before
+IsThat f index body (Some v) before = ((v.fid ≡ f) × ((v.index ≡ index) × (v.body ≡ body))) ⊎ before
+
+abbrev pub HasVersion : Fid → ℕ → Body → List Line → Type 0
+HasVersion f index body [] = ⊥
+HasVersion f index body (l ∷ older) = IsThat f index body (version_in l) (HasVersion f index body older)
+
+-- ---- servers and the clock
+
+abbrev pub is_at : ℕ → Node → List VolumeLine → Type 0
+is_at id server [] = ⊥
+is_at id server (v ∷ vs) = ((v.id ≡ id) × (v.server ≡ server)) ⊎ is_at id server vs
+
+-- The server accepts stores of the volume: at first the script's server does. No line moves a volume yet.
+abbrev pub Accepts : Script → ℕ → Node → List Line → Type 0
+Accepts s id server [] = is_at id server s.volumes
+Accepts s id server (l ∷ older) = Accepts s id server older
+
+-- the clock, in ticks
+abbrev pub clock_of : List Line → ℕ
+clock_of [] = 0
+clock_of (lines.Tick n ∷ older) = clock_of older + n
+clock_of (l ∷ older) = clock_of older
+
+-- ---- what an act asks, and what the ideal cell makes of a call
+
+-- the user of every client
+abbrev pub user_of : Node → List ℕ
+user_of client = codes "guest"
+
+-- ---- what a client has seen
+
+-- of a client and a fid: the highest index that the client's act made so far, and the highest that the client has seen
+pub record Reach : Type 0 where
+  pub made : ℕ
+  pub seen : ℕ
+
+abbrev pub raised : Bool → ℕ → ℕ → ℕ
+raised true index base = max index base
+raised false index base = base
+
+abbrev pub is_zero_code : Code → Bool
+is_zero_code code = is_number code.0 0
+
+-- What lines, the oldest first, make of it. A version under a key of a call of the client's act is made by that act;
+-- `own` tells whether the versions that come are. A read shows its index, and an answer 0 all that the act made.
+abbrev pub reach_over : Node → Fid → List Entry → Bool → Reach → List Line → Reach
+reach_over c f past own r [] = r
+reach_over c f past own r (lines.Begin m act ∷ ls) = reach_over c f past own (record r { made = if same_node m c then 0 else r.made }) ls
+reach_over c f past own r (lines.Change s k count ∷ ls) = reach_over c f past (is_of_act c k past) r ls
+reach_over c f past own r (lines.Version v ∷ ls) = reach_over c f past own (record r { made = raised (own && same_fid v.fid f) v.index r.made }) ls
+reach_over c f past own r (lines.Read m g index source body ∷ ls) = reach_over c f past own (record r { seen = raised (same_node m c && same_fid g f) index r.seen }) ls
+reach_over c f past own r (lines.Answer m code ∷ ls) = reach_over c f past own (record r { seen = raised (same_node m c && is_zero_code code) r.made r.seen }) ls
+reach_over c f past own r (l ∷ ls) = reach_over c f past own r ls
+
+abbrev pub reach : Node → Fid → List Entry → Reach
+reach c f [] = record { made = 0; seen = 0 }
+reach c f (e ∷ past) = reach_over c f past false (reach c f past) e.lines
+
+-- the highest index of f that the client has seen, behind the entry's own lines, the newest first
+abbrev pub seen : Node → Fid → List Entry → List Line → ℕ
+seen c f past own = (reach_over c f past false (reach c f past) (onto [] own)).seen

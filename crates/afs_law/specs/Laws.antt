@@ -1,0 +1,81 @@
+-- Laws about the runs of a script.
+use Rattle.afs_num.specs.declared.histories.ReadSource.TheVariants.{Cached}
+use Rattle.afs_law.specs.ClientRow.{find_cached}
+use Rattle.afs_num.specs.declared.messages.Message.{Message}
+use Rattle.afs_num.specs.declared.types.Node.TheVariants.{Client}
+use Rattle.afs_ideal.specs.Tables.{get}
+use Rattle.afs_ideal.specs.Told.{Agrees}
+use Rattle.afs_ideal.specs.Volumes.{Volume}
+use Rattle.afs_law.specs.Grants.{since, IsOutstanding}
+use Rattle.afs_law.specs.Ideal.{versions_in, volume_after, set_up, IsLast}
+use Rattle.afs_law.specs.Legal.{GoodRead, Legal}
+use Rattle.afs_law.specs.Lines.{Line}
+use Rattle.afs_law.specs.Once.{past_of, ChangesOnce}
+use Rattle.afs_law.specs.OneServer.{IsOneServer}
+use Rattle.afs_law.specs.Past.{HasCode, IsCall, lines_of}
+use Rattle.afs_law.specs.Runs.{message_at, Leads, start, Input, Entry, Cell, RunsTo}
+use Rattle.afs_law.specs.ServerRow.{serves, runs, refuses, not_served, whole}
+use Rattle.afs_law.specs.States.{CacheEntry, ServerState}
+use Rattle.afs_model.specs.FsRows.{call_number}
+use Rattle.afs_num.specs.declared.messages.Carried.TheVariants as carried
+use Rattle.afs_num.specs.declared.messages.Call.TheVariants as ask
+use Rattle.std.specs.Prelude.{◌⊎◌, ◌≤◌, ◌<◌, None, Some, ◌∷◌, [], ◌≡◌, ◌↔◌, ℕ, List, ◌++◌, false}
+use Rattle.afs_num.specs.declared.types.Fid.{Fid}
+use Rattle.afs_num.specs.declared.types.Node.{Node}
+use Rattle.afs_num.specs.declared.scripts.Script.{Script}
+use Rattle.afs_num.specs.declared.histories.Body.{Body}
+use Rattle.afs_num.specs.declared.histories.ReadSource.{ReadSource}
+use Rattle.afs_num.specs.declared.types.Head.{Head}
+use Rattle.afs_num.specs.declared.calls.FsCall.{FsCall}
+
+-- every run of a script for one server is legal, whatever is given to its nodes, how often and in what order
+abbrev pub RunsAreLegal : Type 0
+RunsAreLegal = (s : Script) (history : List Entry) (end : Cell) → IsOneServer s → RunsTo history s end → Legal history s
+
+-- in every run a key changes something at most once
+abbrev pub KeysRunOnce : Type 0
+KeysRunOnce = (s : Script) (history : List Entry) (end : Cell) → RunsTo history s end → ChangesOnce history
+
+-- the same inputs make one run: its entries and its end
+abbrev pub RunsAreOne : Type 0
+RunsAreOne = (s : Script) (inputs : List Input) (history other : List Entry) (end last : Cell) → Leads (start s) inputs history end → Leads (start s) inputs other last → (history ≡ other) × (end ≡ last)
+
+-- what the server holds of a volume at the end of a run is the ideal volume, and the versions that were told agree with it
+pub record IsHeld (id : ℕ) (end : Cell) (past : List Entry) : Type 0 where
+  pub ideal : get id end.server.volumes ≡ volume_after id past
+  pub told : (v : Volume) → volume_after id past ≡ Some v → Agrees id v (versions_in (lines_of past))
+
+abbrev pub VolumesAreTold : Type 0
+VolumesAreTold = (s : Script) (history : List Entry) (end : Cell) → IsOneServer s → RunsTo history s end → (id : ℕ) → IsHeld id end (past_of (set_up s ∷ []) history)
+
+-- a pair of epoch and number is not above another
+abbrev pub IsUpTo : ℕ → ℕ → ℕ → ℕ → Type 0
+IsUpTo epoch number d m = (epoch < d) ⊎ ((epoch ≡ d) × (number ≤ m))
+
+abbrev pub IsKnownTo : Cell → ℕ → Head → Type 0
+IsKnownTo end j head = IsUpTo head.epoch head.number (end.clients j).epoch (end.clients j).last
+
+-- no call of a client, and no reply to one, has a pair above the client's last call
+pub record ArePairsKnown (end : Cell) : Type 0 where
+  pub calls : (j place : ℕ) (m : Message) → message_at end.sent place ≡ Some m → IsCall m.carried → m.head.from ≡ Client j → IsKnownTo end j m.head
+  pub replies : (j place : ℕ) (m : Message) → message_at end.sent place ≡ Some m → HasCode m.carried → m.head.to ≡ Client j → IsKnownTo end j m.head
+
+abbrev pub PairsAreKnown : Type 0
+PairsAreKnown = (s : Script) (history : List Entry) (end : Cell) → IsOneServer s → RunsTo history s end → ArePairsKnown end
+
+-- what an idle client trusts can be shown: a read of it from the cache would be good
+abbrev pub TrustedIsGood : Type 0
+TrustedIsGood =
+    (s : Script) (history : List Entry) (end : Cell) → IsOneServer s → RunsTo history s end → (j : ℕ) → (end.clients j).running ≡ None → (f : Fid) (e : CacheEntry) → find_cached f (end.clients j).cache ≡ Some e → end.clock < e.expiry
+    → GoodRead (Client j) f e.index Cached e.body (past_of (set_up s ∷ []) history) []
+
+-- a good read shows the newest version where no break of its grant is outstanding
+abbrev pub ReadsAreNewest : Type 0
+ReadsAreNewest =
+    (c : Node) (f : Fid) (index : ℕ) (source : ReadSource) (body : Body) (past : List Entry) (own : List Line) (read : GoodRead c f index source body past own)
+    → (IsOutstanding read.grant.server c f (own ++ since c f read.expiry read.reply past read.grant) → ⊥) → IsLast f index (own ++ lines_of past)
+
+-- a server tells that a call isn't served exactly where its opcode is none of those that it serves
+abbrev pub UnservedAreRefused : Type 0
+UnservedAreRefused =
+    (s : ServerState) (head : Head) (user : List ℕ) (call : FsCall) → (runs s head (whole head (carried.Call user (ask.File call))) ≡ refuses head not_served) ↔ (serves (call_number call) ≡ false)

@@ -1,0 +1,257 @@
+use Rattle.std.specs.Prelude.{◌≡◌, ℕ, ◌≤◌, ◌<◌, List, [], ◌∷◌, ◌++◌, false, ◌&&◌, Option, Some, None, ℤ, pos, negsuc, nat_eq, length, ⊤, ◌⊎◌, if◌then◌else◌}
+use Rattle.afs_num.specs.Nodes.{same_node}
+use Rattle.afs_num.specs.declared.types.Code.{Code}
+use Rattle.afs_num.specs.declared.types.Fid.{Fid}
+use Rattle.afs_num.specs.declared.types.Key.{Key}
+use Rattle.afs_num.specs.declared.types.Node.{Node}
+use Rattle.afs_num.specs.declared.types.Node.TheVariants.{Server, Client}
+use Rattle.afs_num.specs.declared.calls.FsCall.{FsCall}
+use Rattle.afs_num.specs.declared.messages.Carried.{Carried}
+use Rattle.afs_num.specs.declared.messages.Message.{Message}
+use Rattle.afs_ideal.specs.Operations.{Caller, the_user, Result, refused, changes, op, code_of, volume_called}
+use Rattle.afs_ideal.specs.Volumes.{Volume, Edit, versions_by}
+use Rattle.afs_law.specs.Breaks.{AllOwes, EndedOf, EndedAll, GoodSettle, GoodQuit, live_grant, HasOwe, last_number}
+use Rattle.afs_law.specs.Going.{Going, answers, next, asked}
+use Rattle.afs_law.specs.Grants.{read_reply, GrantOf, since, IsWithdrawn, IsDropped}
+use Rattle.afs_law.specs.Ideal.{set_up, IsLast, HasVersion, Accepts, clock_of, user_of, seen, change_in, change_key, call_under, volume_after}
+use Rattle.afs_law.specs.Lines.{Line}
+use Rattle.afs_law.specs.Past.{lines_of, sent_of, given_message, answered_key, IsReply, running, has_begun, Called, CalledSince, Ran}
+use Rattle.afs_law.specs.Runs.{Entry}
+use Rattle.afs_num.specs.declared.scripts.Script.{Script}
+use Rattle.afs_num.specs.declared.histories.Actor.{Actor}
+use Rattle.afs_num.specs.declared.histories.Actor.TheVariants as actors
+use Rattle.afs_num.specs.declared.histories.Body.{Body}
+use Rattle.afs_num.specs.declared.histories.ReadSource.{ReadSource}
+use Rattle.afs_num.specs.declared.histories.Version.{Version}
+use Rattle.afs_num.specs.declared.messages.Carried.TheVariants as carried
+use Rattle.afs_num.specs.declared.messages.Call.TheVariants as ask
+use Rattle.afs_law.specs.Lines as lines
+
+-- Which histories are legal: those of which each line is good after all that stands before it.
+-- `who` is the entry's node, `past` are the entries before, the newest first, `own` the entry's own lines before, the
+-- newest first, and `next` its lines after.
+
+-- ---- reads
+
+-- a read is whole: it shows a version; it is not older than any that the client has seen; and it is the newest unless its
+-- grant, which lasts and was not given up, was withdrawn
+pub record GoodRead (c : Node) (f : Fid) (index : ℕ) (source : ReadSource) (body : Body) (past : List Entry) (own : List Line) : Type 0 where
+  pub whole : HasVersion f index body (own ++ lines_of past)
+  pub not_older : seen c f past own ≤ index
+  pub reply : Message
+  pub by : read_reply c f source past own ≡ Some reply
+  pub expiry : ℕ
+  pub grant : GrantOf c f expiry reply past
+  pub lasts : clock_of (own ++ lines_of past) < expiry
+  pub kept : IsDropped grant.server c f (own ++ since c f expiry reply past grant) → ⊥
+  pub newest : IsWithdrawn grant.server c f (own ++ since c f expiry reply past grant) ⊎ IsLast f index (own ++ lines_of past)
+
+-- ---- changes
+
+-- no change has this key
+abbrev pub IsNot : Key → Option Key → Type 0 → Type 0
+IsNot k None before = before
+IsNot k (Some l) before = (k ≡ l → ⊥) × before
+
+abbrev pub IsNew : Key → List Line → Type 0
+IsNew k [] = ⊤
+IsNew k (l ∷ older) = IsNot k (change_in l) (IsNew k older)
+
+-- the versions that stand first
+abbrev pub versions_first : List Line → List Version
+versions_first (lines.Version v ∷ ls) = v ∷ versions_first ls
+versions_first ls = []
+
+abbrev pub IsChanged : Fid → List Version → Type 0
+IsChanged f [] = ⊥
+IsChanged f (v ∷ vs) = (v.fid ≡ f) ⊎ IsChanged f vs
+
+-- A change runs a key for the first time, at a server that accepts stores of the volume, and is the only one of its entry.
+-- The key's call was sent by its node, for its user, and is that of the act that ran there, with the act's own bytes. The
+-- versions that follow are just those of the ideal operation on the ideal volume. Each other client's last grant on one of their
+-- fids that lasts has a break behind the change
+pub record GoodChange (s : Script) (server : Node) (k : Key) (count : ℕ) (past : List Entry) (own next : List Line) : Type 0 where
+  pub fresh : IsNew k (own ++ lines_of past)
+  pub only : change_key own ≡ None
+  pub user : List ℕ
+  pub call : FsCall
+  pub act : Going
+  pub called : Called k user call act past
+  pub one : call_under k (sent_of past) ≡ Some (user, call)
+  pub own_user : user ≡ user_of k.node
+  pub own_call : call ≡ asked act
+  pub id : ℕ
+  pub of_volume : volume_called call ≡ Some id
+  pub before : Volume
+  pub at : volume_after id past ≡ Some before
+  pub edits : List Edit
+  pub shown : ℕ
+  pub result : op id (the_user user) call before ≡ changes edits shown
+  pub versions : versions_first next ≡ versions_by id edits before
+  pub number : count ≡ length (versions_first next)
+  pub owed : (j : ℕ) (f : Fid) (x : ℕ) → (Client j ≡ k.node → ⊥) → IsChanged f (versions_first next) → live_grant server (Client j) f (own ++ lines_of past) ≡ Some x → clock_of (own ++ lines_of past) < x → HasOwe server (Client j) (Some f) next
+  pub home : Accepts s id server (own ++ lines_of past)
+
+-- a version stands under its change; that these are not too many is said of the change
+abbrev pub IsUnderChange : List Line → Type 0
+IsUnderChange (lines.Change s k count ∷ own) = ⊤
+IsUnderChange (lines.Version v ∷ own) = IsUnderChange own
+IsUnderChange own = ⊥
+
+-- ---- answers
+
+-- the code of a reply
+abbrev pub code_told : Carried → Option ℤ
+code_told (carried.Refusal code) = Some code.0
+code_told (carried.Reply reply) = Some (pos 0)
+code_told c = None
+
+-- a change under this key is among the lines
+abbrev pub IsKey : Key → Option Key → Type 0 → Type 0
+IsKey k None before = before
+IsKey k (Some l) before = (l ≡ k) ⊎ before
+
+abbrev pub HasChange : Key → List Line → Type 0
+HasChange k [] = ⊥
+HasChange k (l ∷ ls) = IsKey k (change_in l) (HasChange k ls)
+
+-- the ideal operation on a volume; one that isn't there is 103
+abbrev pub op_on : ℕ → Caller → FsCall → Option Volume → Result
+op_on id caller call None = refused 103
+op_on id caller call (Some v) = op id caller call v
+
+-- what the ideal operation makes of a call by the ideal volume of a moment; none where no volume serves the call
+abbrev pub answer_on : List ℕ → FsCall → Option ℕ → List Entry → Option Result
+answer_on user call None past = None
+answer_on user call (Some id) past = Some (op_on id (the_user user) call (volume_after id past))
+
+abbrev pub answer_at : List ℕ → FsCall → List Entry → Option Result
+answer_at user call past = answer_on user call (volume_called call) past
+
+-- a call that no volume serves is -455
+abbrev pub code_given : Option Result → ℤ
+code_given None = negsuc 454
+code_given (Some r) = pos (code_of r)
+
+-- where that is a change, it was told
+abbrev pub IsTold : Key → Option Result → List Line → Type 0
+IsTold k (Some (changes es shown)) ls = HasChange k ls
+IsTold k r ls = ⊤
+
+-- the ideal operation makes versions
+abbrev pub IsChanging : Option Result → Type 0
+IsChanging (Some (changes es shown)) = ⊤
+IsChanging r = ⊥
+
+-- the code is that of the ideal operation, and what that changes was told; or the server had no room for the change
+abbrev pub IsResult : ℤ → Option Result → Key → List Line → Type 0
+IsResult code r k ls = ((code_given r ≡ code) × IsTold k r ls) ⊎ ((code ≡ pos 108) × IsChanging r)
+
+-- the reply has this code, and so has the ideal operation where the call ran; the call is the one that the act asks, for
+-- its user; and where the operation makes versions, their change stands before
+pub record Cause (reply : Message) (code : ℤ) (asks_for : FsCall) (past : List Entry) (own : List Line) : Type 0 where
+  pub is_reply : IsReply reply
+  pub told : code_told reply.carried ≡ Some code
+  pub ran : Ran reply.head past
+  pub user : List ℕ
+  pub call : FsCall
+  pub carries : ran.message.carried ≡ carried.Call user (ask.File call)
+  pub own_user : user ≡ user_of reply.head.to
+  pub asks : call ≡ asks_for
+  pub result : IsResult code (answer_at user call ran.older) (answered_key reply.head) (own ++ lines_of past)
+
+-- the reply that the answer's entry was given is the cause of the code, and its call is one of this very act: the client
+-- sent it since the act began, which was in an entry before
+pub record IsCaused (c : Node) (act : Going) (code : ℤ) (past : List Entry) (own : List Line) : Type 0 where
+  pub reply : Message
+  pub by : given_message own (sent_of past) ≡ Some reply
+  pub to : reply.head.to ≡ c
+  pub cause : Cause reply code (asked act) past own
+  pub before : has_begun c own ≡ false
+  pub called : CalledSince (answered_key reply.head) cause.user cause.call past
+
+-- the act needs no more, and answers so by its read lines
+pub record IsDone (act : Going) (code : ℤ) : Type 0 where
+  pub number : ℕ
+  pub is : code ≡ pos number
+  pub by : next act ≡ answers number
+
+-- the key of the client's call of which the entry has the third timeout
+abbrev pub given_up : Node → List Line → Option Key
+given_up c [] = None
+given_up c (lines.Timeout m callee epoch number count ∷ own) =
+    if (same_node m c && nat_eq count 3) then Some (record { node = c; epoch = epoch; number = number }) else given_up c own
+given_up c (l ∷ own) = given_up c own
+
+-- a call of this very act was given up
+pub record IsDead (c : Node) (act : Going) (code : ℤ) (past : List Entry) (own : List Line) : Type 0 where
+  pub is : code ≡ negsuc 0
+  pub key : Key
+  pub third : given_up c own ≡ Some key
+  pub before : has_begun c own ≡ false
+  pub called : CalledSince key (user_of c) (asked act) past
+
+-- an act runs, and its answer has its cause: the reply to its call, for 0 that it was done from the cache, or for -1 that
+-- its call was given up
+pub record GoodCode (c : Node) (code : Code) (past : List Entry) (own : List Line) : Type 0 where
+  pub act : Going
+  pub runs : running c (own ++ lines_of past) ≡ Some act
+  pub cause : IsCaused c act code.0 past own ⊎ (IsDone act code.0 ⊎ IsDead c act code.0 past own)
+
+-- ---- replies that are sent
+
+-- A reply with code 0 of a server: every break is ended that the server owes in an entry that ran its key; and where that key
+-- changed something, every one on all. `past` begins with the entry that sends it
+abbrev pub GoodReply : List Entry → Message → Type 0
+GoodReply past m = IsReply m → code_told m.carried ≡ Some (pos 0) → (i : ℕ) → m.head.from ≡ Server i
+    → AllOwes m.head.from (EndedOf m.head.from (answered_key m.head) (clock_of (lines_of past))) past × (HasChange (answered_key m.head) (lines_of past) → AllOwes m.head.from (EndedAll m.head.from (clock_of (lines_of past))) past)
+
+abbrev pub AreGoodReplies : List Entry → List Message → Type 0
+AreGoodReplies past [] = ⊤
+AreGoodReplies past (m ∷ ms) = GoodReply past m × AreGoodReplies past ms
+
+-- ---- restarts
+
+-- a server that begins again owes every client a break on all
+abbrev pub GoodRestart : Script → Node → List Line → Type 0
+GoodRestart s (Server i) next = (j : ℕ) → 1 ≤ j → j ≤ s.clients → HasOwe (Server i) (Client j) None next
+GoodRestart s n next = ⊤
+
+-- ---- histories
+
+-- Each line stands in an entry of its own node: a read, an answer, a drop in one of its client, a change, a grant, a break in
+-- one of its server, a tick in the clock's, and that nothing happened in nobody's
+abbrev pub IsGood : Script → Actor → Line → List Entry → List Line → List Line → Type 0
+IsGood s who (lines.Begin c act) past own next = who ≡ actors.Node c
+IsGood s who (lines.Given place) past own next = ⊤
+IsGood s who (lines.Grant server c f index expiry) past own next = who ≡ actors.Node server
+IsGood s who (lines.Change server k count) past own next = (who ≡ actors.Node server) × GoodChange s server k count past own next
+IsGood s who (lines.Version v) past own next = IsUnderChange own
+IsGood s who (lines.Read c f index source body) past own next = (who ≡ actors.Node c) × GoodRead c f index source body past own
+IsGood s who (lines.Answer c code) past own next = (who ≡ actors.Node c) × GoodCode c code past own
+IsGood s who (lines.Timeout c callee epoch number count) past own next = who ≡ actors.Node c
+IsGood s who (lines.Tick n) past own next = who ≡ actors.Clock
+IsGood s who (lines.Stop n calls pick) past own next = who ≡ actors.Node n
+IsGood s who (lines.Fail n call) past own next = who ≡ actors.Node n
+IsGood s who (lines.Crash n) past own next = who ≡ actors.Node n
+IsGood s who (lines.Fault n) past own next = who ≡ actors.Node n
+IsGood s who (lines.Restart n boot) past own next = (who ≡ actors.Node n) × GoodRestart s n next
+IsGood s who (lines.Full n) past own next = who ≡ actors.Node n
+IsGood s who (lines.Drop c f) past own next = who ≡ actors.Node c
+IsGood s who (lines.DropAll c server) past own next = who ≡ actors.Node c
+IsGood s who (lines.Owe server c what n) past own next = (who ≡ actors.Node server) × (last_number server (own ++ lines_of past) < n)
+IsGood s who (lines.Settle server c n) past own next = (who ≡ actors.Node server) × GoodSettle server c n past own
+IsGood s who (lines.Quit server c n) past own next = (who ≡ actors.Node server) × GoodQuit server c n past own
+IsGood s who lines.Void past own next = who ≡ actors.Nobody
+
+abbrev pub AreGood : Script → Actor → List Entry → List Line → List Line → Type 0
+AreGood s who past own [] = ⊤
+AreGood s who past own (l ∷ next) = IsGood s who l past own next × AreGood s who past (l ∷ own) next
+
+-- an entry lays no volumes, for the set-up alone does
+abbrev pub LegalAfter : Script → List Entry → List Entry → Type 0
+LegalAfter s past [] = ⊤
+LegalAfter s past (e ∷ es) = ((AreGood s e.actor past [] e.lines × AreGoodReplies (e ∷ past) e.sent) × (e.volumes ≡ [])) × LegalAfter s (e ∷ past) es
+
+abbrev pub Legal : List Entry → Script → Type 0
+Legal history s = LegalAfter s (set_up s ∷ []) history

@@ -1,0 +1,13 @@
+-- The scripts of a cell with one server.
+use Rattle.std.specs.Prelude.{◌≡◌, List, [], ◌∷◌, ⊤}
+use Rattle.afs_num.specs.declared.scripts.Script.{Script}
+use Rattle.afs_num.specs.declared.scripts.VolumeLine.{VolumeLine}
+use Rattle.afs_law.specs.ClientRow.{the_server}
+
+-- each volume is at the cell's server
+abbrev pub AreAtServer : List VolumeLine → Type 0
+AreAtServer [] = ⊤
+AreAtServer (v ∷ vs) = (v.server ≡ the_server) × AreAtServer vs
+
+abbrev pub IsOneServer : Script → Type 0
+IsOneServer s = (s.servers ≡ 1) × AreAtServer s.volumes

@@ -1,0 +1,151 @@
+use Rattle.std.specs.Prelude.{◌≡◌, ℕ, List, [], ◌∷◌, ◌++◌, Bool, true, false, ◌&&◌, Option, Some, None, nat_eq, if◌then◌else◌, ⊤, ◌⊎◌}
+use Rattle.afs_num.specs.Nodes.{same_node}
+use Rattle.afs_num.specs.declared.types.Head.{Head}
+use Rattle.afs_num.specs.declared.types.Key.{Key}
+use Rattle.afs_num.specs.declared.types.Node.{Node}
+use Rattle.afs_num.specs.declared.calls.FsCall.{FsCall}
+use Rattle.afs_num.specs.declared.messages.Carried.{Carried}
+use Rattle.afs_num.specs.declared.messages.Message.{Message}
+use Rattle.afs_law.specs.Going.{Going, began, read_on}
+use Rattle.afs_law.specs.Lines.{Line}
+use Rattle.afs_law.specs.Runs.{Entry, message_at}
+use Rattle.afs_num.specs.declared.types.Half.TheVariants as halves
+use Rattle.afs_num.specs.declared.messages.Carried.TheVariants as carried
+use Rattle.afs_num.specs.declared.messages.Call.TheVariants as ask
+use Rattle.afs_law.specs.Lines as lines
+use Rattle.afs_num.specs.declared.histories.Actor.TheVariants as actors
+
+-- The past of a moment: the entries before it, the newest first, and what can be looked up in them.
+
+-- ---- lines, the newest first
+
+-- further lines on older ones
+abbrev pub onto : List Line → List Line → List Line
+onto older [] = older
+onto older (l ∷ ls) = onto (l ∷ older) ls
+
+-- the lines of entries on older lines
+abbrev pub lines_on : List Line → List Entry → List Line
+lines_on older [] = older
+lines_on older (e ∷ past) = onto (lines_on older past) e.lines
+
+abbrev pub lines_of : List Entry → List Line
+lines_of past = lines_on [] past
+
+-- ---- messages
+
+-- all messages that were sent, from the first
+abbrev pub sent_of : List Entry → List Message
+sent_of [] = []
+sent_of (e ∷ past) = sent_of past ++ e.sent
+
+-- the message that an entry of these lines was given, where these messages were sent before it
+abbrev pub given_message : List Line → List Message → Option Message
+given_message [] sent = None
+given_message (lines.Given place ∷ ls) sent = message_at sent place
+given_message (l ∷ ls) sent = given_message ls sent
+
+-- the key of a call, by its header
+abbrev pub called_key : Head → Key
+called_key head = record { node = head.from; epoch = head.epoch; number = head.number }
+
+-- the key of the call that this is the reply to
+abbrev pub answered_key : Head → Key
+answered_key head = record { node = head.to; epoch = head.epoch; number = head.number }
+
+abbrev pub same_key : Key → Key → Bool
+same_key k l = same_node k.node l.node && (nat_eq k.epoch l.epoch && nat_eq k.number l.number)
+
+-- ---- calls and replies
+
+abbrev pub IsCall : Carried → Type 0
+IsCall (carried.Call user call) = ⊤
+IsCall c = ⊥
+
+-- what a reply carries: a refusal, or what was asked for
+abbrev pub HasCode : Carried → Type 0
+HasCode (carried.Refusal code) = ⊤
+HasCode (carried.Reply reply) = ⊤
+HasCode c = ⊥
+
+-- a reply, by its header and by what it carries
+abbrev pub IsReply : Message → Type 0
+IsReply m = (m.head.half ≡ halves.Reply) × HasCode m.carried
+
+-- ---- acts and their calls
+
+-- the act that runs at the node: the one that it began last, until that is answered or the node stops
+abbrev pub running : Node → List Line → Option Going
+running n [] = None
+running n (lines.Begin m act ∷ older) = if same_node m n then Some (began act) else running n older
+running n (lines.Read m f index source body ∷ older) = read_on (same_node m n) f body (running n older)
+running n (lines.Answer m code ∷ older) = if same_node m n then None else running n older
+running n (lines.Crash m ∷ older) = if same_node m n then None else running n older
+running n (l ∷ older) = running n older
+
+abbrev pub has_begun : Node → List Line → Bool
+has_begun n [] = false
+has_begun n (lines.Begin m act ∷ ls) = if same_node m n then true else has_begun n ls
+has_begun n (l ∷ ls) = has_begun n ls
+
+-- whether a call of this key is among the messages
+abbrev pub is_called : Key → Head → Carried → Bool
+is_called k head (carried.Call user (ask.File call)) = same_key (called_key head) k
+is_called k head c = false
+
+abbrev pub has_sent : Key → List Message → Bool
+has_sent k [] = false
+has_sent k (m ∷ ms) = if is_called k m.head m.carried then true else has_sent k ms
+
+-- whether a call of this key was sent since the node last began an act
+abbrev pub is_sent_since : Node → Key → List Entry → Bool
+is_sent_since n k [] = false
+is_sent_since n k (e ∷ past) = if has_sent k e.sent then true else (if has_begun n e.lines then false else is_sent_since n k past)
+
+-- whether the key is that of a call of the act that the node began last
+abbrev pub is_of_act : Node → Key → List Entry → Bool
+is_of_act n k past = same_node k.node n && is_sent_since n k past
+
+-- this call was sent under this key, for this user
+abbrev pub Sends : Key → List ℕ → FsCall → List Message → Type 0
+Sends k user call [] = ⊥
+Sends k user call (m ∷ ms) = ((called_key m.head ≡ k) × (m.carried ≡ carried.Call user (ask.File call))) ⊎ Sends k user call ms
+
+-- the same, by the key's node while this act ran there
+abbrev pub Called : Key → List ℕ → FsCall → Going → List Entry → Type 0
+Called k user call act [] = ⊥
+Called k user call act (e ∷ past) =
+    ((e.actor ≡ actors.Node k.node) × (Sends k user call e.sent × (running k.node (lines_of (e ∷ past)) ≡ Some act))) ⊎ Called k user call act past
+
+-- the same, by the key's node since it last began an act
+abbrev pub CalledSince : Key → List ℕ → FsCall → List Entry → Type 0
+CalledSince k user call [] = ⊥
+CalledSince k user call (e ∷ past) =
+    ((e.actor ≡ actors.Node k.node) × Sends k user call e.sent) ⊎ ((has_begun k.node e.lines ≡ false) × CalledSince k user call past)
+
+-- ---- the entry that ran a call
+
+-- a call to this callee under this key, to this boot
+abbrev pub IsCallUnder : Node → Key → ℕ → Option Message → Type 0
+IsCallUnder s k boot None = ⊥
+IsCallUnder s k boot (Some m) = (IsCall m.carried × (m.head.to ≡ s)) × ((called_key m.head ≡ k) × (m.head.boot ≡ boot))
+
+abbrev pub IsUnheard : Node → Key → ℕ → List Entry → Type 0
+IsUnheard s k boot [] = ⊤
+IsUnheard s k boot (e ∷ past) = (IsCallUnder s k boot (given_message e.lines (sent_of past)) → ⊥) × IsUnheard s k boot past
+
+-- The past, split at the entry that ran the call which this is the reply to: the callee's first that was given it, in
+-- the boot that the reply tells. A later one finds the kept reply, and a callee runs no call to another boot.
+pub record Ran (reply : Head) (past : List Entry) : Type 0 where
+  pub newer : List Entry
+  pub at : Entry
+  pub older : List Entry
+  pub split : past ≡ newer ++ (at ∷ older)
+  pub message : Message
+  pub given : given_message at.lines (sent_of older) ≡ Some message
+  pub is_call : IsCall message.carried
+  pub key : called_key message.head ≡ answered_key reply
+  pub boot : message.head.boot ≡ reply.boot
+  pub callee : message.head.to ≡ reply.from
+  pub node : at.actor ≡ actors.Node message.head.to
+  pub first : IsUnheard reply.from (answered_key reply) reply.boot older

@@ -1,0 +1,350 @@
+use Rattle.afs_num.specs.Places.{at_place}
+use Rattle.afs_ideal.specs.SetUp.{new_volume, laid}
+use Rattle.afs_ideal.specs.Tables.{Table, get, set}
+use Rattle.afs_ideal.specs.Volumes.{Volume}
+use Rattle.afs_law.specs.Acts.{Act}
+use Rattle.afs_law.specs.Callbacks.{put, Backs, BackCall, Turn, expired, turned_by, timed, pumped, no_turn, risen_turn, first_backs}
+use Rattle.afs_law.specs.ClientRow.{the_server, begin_row, client_row, timeout_row, reborn}
+use Rattle.afs_law.specs.Going.{ClientState, Going}
+use Rattle.afs_law.specs.Lines.{Line}
+use Rattle.afs_law.specs.Records.{first_record, record_length, boot_record}
+use Rattle.afs_law.specs.ServerRow.{Begun, begun_before, begun_after, Decision, decides, does, device_calls, has_room, revived}
+use Rattle.afs_law.specs.States.{ServerState}
+use Rattle.afs_law.specs.Steps.{Step}
+use Rattle.std.specs.Prelude.{Result, Ok, Err, is_some, ◌≡◌, ℕ, zero, suc, ◌+◌, ◌-◌, List, [], ◌∷◌, ◌++◌, Bool, true, false, cond, nat_eq, nat_lt, Option, Some, None, if◌then◌else◌}
+use Rattle.std.specs.Option.{option_map}
+use Rattle.afs_num.specs.declared.types.Node.{Node}
+use Rattle.afs_num.specs.declared.types.Node.TheVariants.{Loc, Server, Client, Admin}
+use Rattle.afs_num.specs.declared.messages.Message.{Message}
+use Rattle.afs_num.specs.declared.messages.Received.TheVariants.{Whole}
+use Rattle.afs_num.specs.declared.scripts.Script.{Script}
+use Rattle.afs_num.specs.declared.scripts.SetupLine.{SetupLine}
+use Rattle.afs_num.specs.declared.scripts.VolumeLine.{VolumeLine}
+use Rattle.afs_law.specs.Lines as lines
+use Rattle.afs_num.specs.declared.histories.Actor.{Actor}
+use Rattle.afs_num.specs.declared.histories.Actor.TheVariants as actors
+
+-- The cell, what it is given, and the runs of a script. A run knows no schedule.
+
+-- one step of a run: whose it is, its lines, the messages that it sent, and the volumes that it
+-- brought whole: the set-up all, later steps those of their `made` lines
+pub record Entry : Type 0 where
+  pub actor : Actor
+  pub lines : List Line
+  pub sent : List Message
+  pub volumes : Table Volume
+
+-- ---- the disk of the server, in numbers of its calls
+
+-- a device call that isn't made: which one of the step, whether the disk was stopped there (it failed, else), and its pick
+pub record Blow : Type 0 where
+  pub call : ℕ
+  pub stops : Bool
+  pub pick : ℕ
+
+-- where the disk is set to stop, after so many calls and with a pick, and at which call it is set to fail
+pub record Armed : Type 0 where
+  pub stop : Option (ℕ × ℕ)
+  pub fail : Option ℕ
+
+abbrev pub unarmed : Armed
+unarmed = record { stop = None; fail = None }
+
+-- in a step the disk does as it was set to, or fails by itself at this call
+pub data Luck : Type 0 where
+  steady : Luck
+  gives_out : ℕ → Luck
+
+abbrev pub stop_blow : Option (ℕ × ℕ) → Option Blow
+stop_blow None = None
+stop_blow (Some s) = Some (record { call = s.0 + 1; stops = true; pick = s.1 })
+
+abbrev pub fail_blow : Option ℕ → Option Blow
+fail_blow None = None
+fail_blow (Some k) = Some (record { call = k; stops = false; pick = 0 })
+
+abbrev pub own_blow : Luck → Option Blow
+own_blow steady = None
+own_blow (gives_out k) = Some (record { call = k; stops = false; pick = 0 })
+
+-- the earlier of two; of two at one call the first
+abbrev pub sooner : Option Blow → Option Blow → Option Blow
+sooner None b = b
+sooner (Some a) None = Some a
+sooner (Some a) (Some b) = if nat_lt b.call a.call then Some b else Some a
+
+-- a step without device calls is never hit
+abbrev pub within : ℕ → Option Blow → Option Blow
+within zero b = None
+within (suc calls) None = None
+within (suc calls) (Some b) = if nat_lt (suc calls) b.call then None else Some b
+
+-- what hits a step of so many device calls
+abbrev pub struck : Armed → Luck → ℕ → Option Blow
+struck a luck calls = within calls (sooner (sooner (stop_blow a.stop) (fail_blow a.fail)) (own_blow luck))
+
+-- what is left after so many calls were made
+abbrev pub lowered : ℕ → Armed → Armed
+lowered calls a = record { stop = option_map (λ (s : ℕ × ℕ). (s.0 - calls, s.1)) a.stop; fail = option_map (λ (k : ℕ). k - calls) a.fail }
+
+-- a server that is down: it stopped between two steps, or in the step of this message, which came at this clock, or in a
+-- restart, while its boot record was written
+pub data Fall : Type 0 where
+  at_rest : Fall
+  in_step : Message → ℕ → Fall
+  in_boot : Fall
+
+-- how a restart ends: its boot record is on the disk; the disk fails before that is begun, or while it is written; or it
+-- doesn't fit
+pub data Outcome : Type 0 where
+  comes_up : Outcome
+  fails_early : Outcome
+  fails_midway : Outcome
+  is_full : Outcome
+
+-- the server and whether it is down (its state is then that from before the interrupted step), how its disk is set, the
+-- clients by their numbers and which of them are down, all messages ever sent, and the clock
+pub record Cell : Type 0 where
+  pub server : ServerState
+  pub backs : Backs
+  pub count : ℕ
+  pub down : Option Fall
+  pub armed : Armed
+  pub clients : ℕ → ClientState
+  pub away : ℕ → Bool
+  pub sent : List Message
+  pub clock : ℕ
+
+-- what one node is given: a client an act to begin, or a node the message of a place; a client's call is timed out; the
+-- clock rises; a client or the server stops, or begins again, the server before or after the interrupted step; the server's
+-- disk is set; or nothing happens
+pub data Input : Type 0 where
+  begins : ℕ → Act → Input
+  gives : ℕ → Luck → Input
+  waits : ℕ → Input
+  ticks : ℕ → Input
+  client_stops : ℕ → Input
+  client_starts : ℕ → Input
+  stops : Input
+  starts_again : Bool → Outcome → Input
+  sets_stop : ℕ → ℕ → Input
+  sets_fail : ℕ → Input
+  server_waits : ℕ → Input
+  wakes : Input
+  nothing : Input
+
+pub record Moved : Type 0 where
+  pub entry : Entry
+  pub cell : Cell
+
+abbrev pub voided : Cell → Moved
+voided c = record { entry = record { actor = actors.Nobody; lines = lines.Void ∷ []; sent = []; volumes = [] }; cell = c }
+
+abbrev pub client_moves : Cell → ℕ → Step ClientState → Moved
+client_moves c n s = record {
+  entry = record { actor = actors.Node (Client n); lines = s.lines; sent = s.sent; volumes = [] };
+  cell = record c { clients = put n s.state c.clients; sent = c.sent ++ s.sent };
+}
+
+-- what the server does with its calls and promises comes last in its step; these are all its lines
+abbrev pub server_moves : Cell → Armed → ServerState → List Line → Turn → Moved
+server_moves c armed s ls t = record {
+  entry = record { actor = actors.Node the_server; lines = ls; sent = (pumped the_server s.boot t).sent; volumes = [] };
+  cell = record c { server = s; backs = (pumped the_server s.boot t).backs; down = None; armed = armed; sent = c.sent ++ (pumped the_server s.boot t).sent };
+}
+
+-- these lines, and then those of what it does with its calls and promises
+abbrev pub server_adds : Cell → Armed → ServerState → List Line → Turn → Moved
+server_adds c armed s ls t = server_moves c armed s (ls ++ t.lines) t
+
+-- a step of the server that leaves its state
+abbrev pub server_falls : Cell → List Line → Fall → Moved
+server_falls c ls fall = record {
+  entry = record { actor = actors.Node the_server; lines = ls; sent = []; volumes = [] };
+  cell = record c { down = Some fall; armed = unarmed };
+}
+
+abbrev pub server_set : Cell → Line → Armed → Moved
+server_set c l armed = record { entry = record { actor = actors.Node the_server; lines = l ∷ []; sent = []; volumes = [] }; cell = record c { armed = armed } }
+
+-- the message of a place; the first message sent has place 1
+abbrev pub message_at : List Message → ℕ → Option Message
+message_at ms place = at_place ms place
+
+-- the line of a step that its disk ended
+abbrev pub blow_line : Bool → Line
+blow_line true = lines.Crash the_server
+blow_line false = lines.Fault the_server
+
+abbrev pub server_does : Cell → Armed → ℕ → Message → Decision → Moved
+server_does c armed place m d =
+    server_moves c armed (does the_server c.server c.clock place d []).state (does the_server c.server c.clock place d (turned_by the_server c.server c.clock (expired c.clock c.backs) d m.head m.carried).lines).lines (turned_by the_server c.server c.clock (expired c.clock c.backs) d m.head m.carried)
+
+-- a step is done, or its disk ends it
+abbrev pub server_served : Cell → ℕ → Message → Option Blow → Moved
+server_served c place m None =
+    server_does c (lowered (device_calls (decides the_server c.server (Whole m))) c.armed) place m (decides the_server c.server (Whole m))
+server_served c place m (Some b) = server_falls c (lines.Given place ∷ blow_line b.stops ∷ []) (in_step m c.clock)
+
+abbrev pub server_given : Cell → ℕ → Luck → Message → Option Fall → Moved
+server_given c place luck m (Some fall) = voided c
+server_given c place luck m None = server_served c place m (struck c.armed luck (device_calls (decides the_server c.server (Whole m))))
+
+-- a message is given to the node that its header names
+abbrev pub given_to : Cell → ℕ → Luck → Message → Node → Moved
+given_to c place luck m (Server n) = cond (nat_eq n 1) (server_given c place luck m c.down) (voided c)
+given_to c place luck m (Client n) = cond (c.away n) (voided c) (client_moves c n (client_row (Client n) (c.clients n) c.clock place (Whole m)))
+given_to c place luck m Loc = voided c
+given_to c place luck m (Admin n) = voided c
+
+abbrev pub given_at : Cell → ℕ → Luck → Option Message → Moved
+given_at c place luck None = voided c
+given_at c place luck (Some m) = given_to c place luck m m.head.to
+
+-- an act begins where none is running
+abbrev pub begun_by : Cell → ℕ → Act → Option Going → Moved
+begun_by c n act None = client_moves c n (begin_row (Client n) (c.clients n) c.clock act)
+begun_by c n act (Some other) = voided c
+
+abbrev pub waited_by : Cell → ℕ → Option Going → Moved
+waited_by c n None = voided c
+waited_by c n (Some act) = client_moves c n (timeout_row (Client n) (c.clients n) act)
+
+abbrev pub ticked : Cell → ℕ → Moved
+ticked c n = record { entry = record { actor = actors.Clock; lines = lines.Tick n ∷ []; sent = []; volumes = [] }; cell = record c { clock = c.clock + n } }
+
+-- a client's step after which it is down, or up
+abbrev pub turned : ℕ → Bool → Moved → Moved
+turned n away m = record { entry = m.entry; cell = record m.cell { away = put n away m.cell.away } }
+
+abbrev pub client_falls : Cell → ℕ → Moved
+client_falls c n = turned n true (client_moves c n (record { state = reborn (c.clients n); lines = lines.Crash (Client n) ∷ []; sent = [] }))
+
+abbrev pub client_rises : Cell → ℕ → Moved
+client_rises c n = turned n false (client_moves c n (record { state = c.clients n; lines = lines.Restart (Client n) (c.clients n).epoch ∷ []; sent = [] }))
+
+abbrev pub server_stopped : Cell → Option Fall → Moved
+server_stopped c None = server_falls c (lines.Crash the_server ∷ []) at_rest
+server_stopped c (Some fall) = voided c
+
+-- the state in which a restart finds the disk: before the interrupted step, or after it
+abbrev pub begun_by_disk : ServerState → Bool → Fall → Begun
+begun_by_disk s after at_rest = begun_before s
+begun_by_disk s false (in_step m clock) = begun_before s
+begun_by_disk s true (in_step m clock) = begun_after the_server s clock (decides the_server s (Whole m))
+begun_by_disk s false in_boot = begun_before s
+begun_by_disk s true in_boot = begun_before (revived s)
+
+abbrev pub server_rises : Cell → Begun → Moved
+server_rises c f = server_moves c unarmed (revived f.state) (f.before (lines.Restart the_server (f.state.boot + 1) ∷ (risen_turn the_server c.clock c.count).lines)) (risen_turn the_server c.clock c.count)
+
+-- the server stays down, in the state that was found
+abbrev pub server_stays : Cell → Begun → Line → Fall → Moved
+server_stays c f l fall = record {
+  entry = record { actor = actors.Node the_server; lines = f.before (l ∷ []); sent = []; volumes = [] };
+  cell = record c { server = f.state; down = Some fall; armed = unarmed };
+}
+
+abbrev pub server_ends : Cell → Begun → Fall → Outcome → Moved
+server_ends c f fall comes_up = server_rises c f
+server_ends c f fall fails_early = server_falls c (lines.Fault the_server ∷ []) fall
+server_ends c f fall fails_midway = server_stays c f (lines.Fault the_server) in_boot
+server_ends c f fall is_full = server_stays c f (lines.Full the_server) at_rest
+
+-- a boot record that doesn't fit isn't begun
+abbrev pub settled : ServerState → Outcome → Outcome
+settled s fails_early = fails_early
+settled s fails_midway = if has_room s (boot_record (s.boot + 1)) then fails_midway else is_full
+settled s o = if has_room s (boot_record (s.boot + 1)) then comes_up else is_full
+
+abbrev pub server_restarted : Cell → Bool → Outcome → Option Fall → Moved
+server_restarted c after o None = voided c
+server_restarted c after o (Some fall) = server_ends c (begun_by_disk c.server after fall) fall (settled (begun_by_disk c.server after fall).state o)
+
+abbrev pub server_armed : Cell → Line → Armed → Option Fall → Moved
+server_armed c l armed None = server_set c l armed
+server_armed c l armed (Some fall) = voided c
+
+-- the server's call to a client is timed out
+abbrev pub back_timed : Cell → ℕ → Option BackCall → Moved
+back_timed c n None = voided c
+back_timed c n (Some b) = server_moves c c.armed c.server (timed the_server c.server.boot n b (expired c.clock c.backs)).lines (timed the_server c.server.boot n b (expired c.clock c.backs))
+
+abbrev pub server_timed : Cell → ℕ → Option Fall → Moved
+server_timed c n None = back_timed c n (c.backs.calls n)
+server_timed c n (Some fall) = voided c
+
+-- time has passed at the server
+abbrev pub server_wakes : Cell → Option Fall → Moved
+server_wakes c None = server_moves c c.armed c.server [] (no_turn (expired c.clock c.backs))
+server_wakes c (Some fall) = voided c
+
+unfoldable pub moved : Cell → Input → Moved
+moved c (begins n act) = cond (c.away n) (voided c) (begun_by c n act (c.clients n).running)
+moved c (gives place luck) = given_at c place luck (message_at c.sent place)
+moved c (waits n) = cond (c.away n) (voided c) (waited_by c n (c.clients n).running)
+moved c (ticks n) = ticked c n
+moved c (client_stops n) = cond (c.away n) (voided c) (client_falls c n)
+moved c (client_starts n) = cond (c.away n) (client_rises c n) (voided c)
+moved c stops = server_stopped c c.down
+moved c (starts_again after o) = server_restarted c after o c.down
+moved c (sets_stop calls pick) = server_armed c (lines.Stop the_server calls pick) (record c.armed { stop = Some (calls, pick) }) c.down
+moved c (sets_fail call) = server_armed c (lines.Fail the_server call) (record c.armed { fail = Some call }) c.down
+moved c (server_waits n) = server_timed c n c.down
+moved c wakes = server_wakes c c.down
+moved c nothing = voided c
+
+-- these inputs lead from the first cell to the second by these entries
+abbrev pub Leads : Cell → List Input → List Entry → Cell → Type 0
+Leads c [] [] end = end ≡ c
+Leads c (x ∷ xs) (e ∷ es) end = (e ≡ (moved c x).entry) × Leads (moved c x).cell xs es end
+Leads c [] (e ∷ es) end = ⊥
+Leads c (x ∷ xs) [] end = ⊥
+
+-- ---- the set-up of a script
+
+-- a line that can't be laid leaves the volume as it was; a script has none
+abbrev pub laid_or : Volume → Result Volume ℕ → Volume
+laid_or v (Ok w) = w
+laid_or v (Err code) = v
+
+abbrev pub all_laid : ℕ → List SetupLine → Volume → Volume
+all_laid id [] v = v
+all_laid id (l ∷ ls) v = all_laid id ls (laid_or v (laid id l v))
+
+-- the volume that a script's lines make of a new one: read-write, in service
+abbrev pub first_volume : VolumeLine → Volume
+first_volume v = all_laid v.id v.lines (new_volume v.id v.name 0 0 v.quota)
+
+abbrev pub unless_there : Bool → ℕ → Volume → Table Volume → Table Volume
+unless_there true id v vs = vs
+unless_there false id v vs = set id v vs
+
+abbrev pub first_volumes : List VolumeLine → Table Volume
+first_volumes [] = []
+first_volumes (v ∷ vs) = unless_there (is_some (get v.id (first_volumes vs))) v.id (first_volume v) (first_volumes vs)
+
+-- the lengths are the script's to give: of the capacity line, and of the first record
+abbrev pub first_server : Table Volume → ServerState
+first_server volumes = record { boot = 1; volumes = volumes; times = λ f. 0; seats = []; durable = []; journal = 1 + record_length (first_record (λ f. 0) volumes); capacity = 268435456 }
+
+abbrev pub first_client : ClientState
+first_client = record { epoch = 1; last = 0; boot = 1; tries = 0; running = None; cache = []; spoiled = false; seat = None }
+
+abbrev pub start : Script → Cell
+start s = record {
+  server = first_server (first_volumes s.volumes);
+  backs = first_backs;
+  count = s.clients;
+  down = None;
+  armed = unarmed;
+  clients = λ n. first_client;
+  away = λ n. false;
+  sent = [];
+  clock = 0;
+}
+
+-- the history is a run of the script, which ends in this cell
+pub record RunsTo (history : List Entry) (script : Script) (end : Cell) : Type 0 where
+  pub inputs : List Input
+  pub leads : Leads (start script) inputs history end
