@@ -576,7 +576,7 @@ const LISTED: &[u32] = &[
 fn the_reply_that_lists_volumes(rt: HostRuntime) -> Result<(), Fail> {
     let bytes = bytes_of(rt.alloc(), LISTED)?;
     let (_, _, reply) = afs_volrpc::replies::decode_reply(rt.alloc(), &bytes)?;
-    match reply {
+    match &reply {
         Some(VolReply::ListVols { volumes }) => {
             assert_eq!(rt; volumes.len(), 2);
             assert_eq!(rt;
