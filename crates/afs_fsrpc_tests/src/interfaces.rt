@@ -594,6 +594,7 @@ fn the_reply_that_lists_volumes(rt: HostRuntime) -> Result<(), Fail> {
     let kind = changed(rt.alloc(), LISTED, 15, 3)?;
     let fault = refused(rt.alloc(), Interface::Volumes, Half::Reply, &kind)?;
     assert_eq!(rt; fault, Some(ShapeFault::Field(1, XdrFault::BadType)));
+    assert!(rt; kind.len() > 16, "a list of two volumes");
     // The bad kind stands before the end of the bytes.
     let fault = refused(rt.alloc(), Interface::Volumes, Half::Reply, &kind[..16])?;
     assert_eq!(rt; fault, Some(ShapeFault::Field(1, XdrFault::BadType)));
