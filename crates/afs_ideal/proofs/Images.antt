@@ -62,7 +62,7 @@ kind_is_word a_link = lit< tt
 
 words_are : (n time : ℕ) (x : Vnode) → HasImage x → IsWord n → IsWord time → AreWords (image_words (image_of n time x))
 words_are n time x h small clock =
-    let w = each_word _ h.words in
+    let w = each_word (x.unique ∷ x.index ∷ x.data_version ∷ x.links ∷ x.owner ∷ x.group ∷ x.mode ∷ x.segment_size ∷ x.client_time ∷ x.parent ∷ x.parent_unique ∷ x.changed ∷ []) h.words in
     (small, (w.0, (kind_is_word x.kind, (w.1.0, (w.1.1.0, (w.1.1.1.0, (w.1.1.1.1.0, (w.1.1.1.1.1.0, (w.1.1.1.1.1.1.0, (w.1.1.1.1.1.1.1.0, (w.1.1.1.1.1.1.1.1.0, (clock, (w.1.1.1.1.1.1.1.1.1.0, (w.1.1.1.1.1.1.1.1.1.1.0, (w.1.1.1.1.1.1.1.1.1.1.1.0, tt)))))))))))))))
 
 pub read_again : (v : Volume) (n time : ℕ) (x : Vnode) → IsSound v → get n v.vnodes ≡ Some x → HasImage x → IsReadAgain n time x
@@ -105,7 +105,7 @@ imaged_by None i x k bytes e = absurd cc
 imaged_by (Some a_file) i x k bytes e = file_by (nat_eq (length i.acl) 0) i x refl (k a_file refl) e
 imaged_by (Some a_link) i x k bytes e = link_by (nat_eq (length i.acl) 0) i x refl (k a_link refl) e
 imaged_by (Some a_directory) i x k bytes e =
-    directory_by i x (directory_of i.contents) (acl_at i.acl) (k a_directory refl) (λ names r. (read_is_spelled i.contents names bytes r).1.1) (λ acl q. sym (read_is_text i.acl acl q).1) e
+    directory_by i x (directory_of i.contents) (acl_at i.acl) (k a_directory refl) (λ names r. (read_is_spelled i.contents names bytes r).2) (λ acl q. sym (read_is_text i.acl acl q).1) e
 
 kind_is : (a b c : Bool) (n : ℕ) (k : Kind) → nat_eq n file_type ≡ a → nat_eq n directory_type ≡ b → nat_eq n link_type ≡ c → (if a then Some a_file else (if b then Some a_directory else (if c then Some a_link else None))) ≡ Some k → type_of k ≡ n
 kind_is true b c n k p q r e = subst (λ (z : Kind). type_of z ≡ n) (some_of a_file k e) (sym (eqb-true n file_type p))

@@ -12,7 +12,7 @@ use Rattle.afs_ideal.specs.Operations.{Caller, changes, op}
 use Rattle.afs_ideal.specs.SetUp.{Laid, new_volume, laid_at, acl_laid, laid_all}
 use Rattle.afs_ideal.specs.Soundness.{IsSound}
 
--- an accepted operation changes something, and leaves a sound volume
+-- an accepted operation makes at least one edit, and leaves a sound volume
 pub record LeavesSound (id : ℕ) (es : List Edit) (v : Volume) : Type 0 where
   pub sound : IsSound (counted (edited_all id es v))
   pub some_edit : 0 < length es

@@ -1,7 +1,13 @@
 //! Laws about sound volumes. Each is the contract of a function that does nothing.
 
 ghost use Rattle.afs_ideal.specs.SoundnessLaws.{
-    NewVolumesAreSound, OperationsLeaveSound, SetUpIsLaidOut, SetUpLeavesSound, SetUpTellsOnce, SoundAreReadAgain, ValuesAreImagedAgain
+  NewVolumesAreSound,
+  OperationsLeaveSound,
+  SetUpIsLaidOut,
+  SetUpLeavesSound,
+  SetUpTellsOnce,
+  SoundAreReadAgain,
+  ValuesAreImagedAgain,
 };
 
 /// An accepted operation makes at least one edit, and leaves a sound volume sound.
