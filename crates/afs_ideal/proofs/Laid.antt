@@ -1,5 +1,5 @@
 -- Set-up: a new volume is sound, and what its lines lay leaves it so.
-use Rattle.std.proofs.Common.{◌≡◌, ℕ, Bool, true, false, cond, eqb, List, [], ◌∷◌, Option, Some, None, refl, sym, ap, subst, ◌∙◌, arith, eqb-true}
+use Rattle.std.proofs.Common.{◌≡◌, ℕ, ◌⊎◌, inl, inr, Bool, true, false, cond, eqb, List, [], ◌∷◌, Option, Some, None, refl, sym, ap, subst, ◌∙◌, arith, eqb-true}
 use Rattle.std.specs.Prelude.{Result, Ok, Err}
 use Rattle.afs_shape.specs.Reading.{◌>>=◌}
 use Rattle.afs_num.specs.declared.calls.FsCall.{FsCall}
@@ -8,14 +8,18 @@ use Rattle.afs_num.specs.declared.calls.FsCall.TheVariants as calls
 use Rattle.afs_num.specs.declared.types.Fid.{Fid}
 use Rattle.afs_ideal.specs.Tables.{Table, get, AscendsFrom}
 use Rattle.afs_ideal.specs.AccessLists.{IsAccessList}
-use Rattle.afs_ideal.specs.Volumes.{Vnode, Volume, Edit, edit_number, edited_all, counted}
+use Rattle.afs_ideal.specs.Volumes.{Vnode, Volume, Edit, edit_number, edited, edited_all, counted}
 use Rattle.afs_ideal.specs.Operations as ops
 use Rattle.afs_ideal.specs.Operations.{all_rights, Found, op}
-use Rattle.afs_ideal.specs.SetUp.{new_root, new_volume, at_first, one_at_first, all_at_first, laid_by, called, nothing_set, new_fid, stores_all, parted, led, Laid, a_dir, a_file_of, a_link_to, laid_in, laid_at, acl_laid}
+use Rattle.afs_ideal.specs.SetUp.{new_root, new_volume, at_first, one_at_first, all_at_first, laid_by, called, nothing_set, new_fid, stores_all, parted, led, Laid, a_dir, a_file_of, a_link_to, laid_in, laid_at, acl_laid, laid, laid_all}
+use Rattle.afs_num.specs.declared.scripts.SetupLine.{SetupLine}
+use Rattle.afs_num.specs.declared.scripts.SetupLine.TheVariants as lines
 use Rattle.afs_ideal.specs.Soundness.{IsSoundVnode, IsSound}
+use Rattle.afs_ideal.specs.SoundnessLaws.{IsAtFirst, IsSetUp, SetUpTellsOnce, SetUpIsLaidOut}
+use Rattle.afs_ideal.proofs.Looks.{edit_look}
 use Rattle.afs_ideal.proofs.Basics.{some_of}
 use Rattle.afs_ideal.proofs.Tables.{get_set, ascends_set}
-use Rattle.afs_ideal.proofs.Maps.{Sound, AreLike, like_itself, like_of, as_like}
+use Rattle.afs_ideal.proofs.Maps.{Sound, differ, AreLike, like_itself, like_of, as_like}
 use Rattle.afs_ideal.proofs.Ranks.{at, steps, ranked_same}
 use Rattle.afs_ideal.proofs.Kept.{as_map, as_ranked, as_volume, above_root}
 use Rattle.afs_ideal.proofs.Preserved.{operations_leave_sound}
@@ -114,24 +118,124 @@ both_ok : {A B : Type 0} (r : Result A ℕ) (f : A → Result B ℕ) (y : B) →
 both_ok {A} {B} (Ok x) f y e = (x, (refl, e))
 both_ok {A} {B} (Err code) f y e = absurd cc
 
-in_sound : (id : ℕ) (v w : Volume) (d : Fid) (name : List ℕ) (x : Laid) → IsSound v → laid_in id v d name x ≡ Ok w → IsSound w
-in_sound id v w d name a_dir h e = called_sound id (calls.MakeDir d name nothing_set) v w h e
-in_sound id v w d name (a_link_to target) h e = called_sound id (calls.Symlink d name target nothing_set) v w h e
-in_sound id v w d name (a_file_of bytes) h e =
+-- what each call keeps the lines keep
+abbrev pub Keeps : (Volume → Type 0) → ℕ → Type 0
+Keeps P id = (call : FsCall) (v w : Volume) → P v → called id call v ≡ Ok w → P w
+
+in_kept : (P : Volume → Type 0) (id : ℕ) (v w : Volume) (d : Fid) (name : List ℕ) (x : Laid) → Keeps P id → P v → laid_in id v d name x ≡ Ok w → P w
+in_kept P id v w d name a_dir keeps h e = keeps (calls.MakeDir d name nothing_set) v w h e
+in_kept P id v w d name (a_link_to target) keeps h e = keeps (calls.Symlink d name target nothing_set) v w h e
+in_kept P id v w d name (a_file_of bytes) keeps h e =
     let creates : FsCall = calls.CreateFile d name nothing_set in
     let stores : FsCall = stores_all (new_fid id v) bytes in
     let r = both_ok (called id creates v) (called id stores) w e in
-    called_sound id stores r.0 w (called_sound id creates v r.0 h r.1.0) r.1.1
+    keeps stores r.0 w (keeps creates v r.0 h r.1.0) r.1.1
 
-pub names_sound : (id : ℕ) (path : List (List ℕ)) (x : Laid) (v w : Volume) → IsSound v → laid_at id path x v ≡ Ok w → IsSound w
+pub names_kept : (P : Volume → Type 0) (id : ℕ) (path : List (List ℕ)) (x : Laid) (v w : Volume) → Keeps P id → P v → laid_at id path x v ≡ Ok w → P w
 unfolding laid_at
-names_sound id path x v w h e =
+names_kept P id path x v w keeps h e =
     let p = both_ok (ok_or (parted path) 22) (λ (parts : List (List ℕ) × List ℕ). led id v parts.0 >>= (λ (at : Found). laid_in id v at.fid parts.1 x)) w e in
     let q = both_ok (led id v p.0.0) (λ (at : Found). laid_in id v at.fid p.0.1 x) w p.1.1 in
-    in_sound id v w q.0.fid p.0.1 x h q.1.1
+    in_kept P id v w q.0.fid p.0.1 x keeps h q.1.1
+
+pub lists_kept : (P : Volume → Type 0) (id : ℕ) (path : List (List ℕ)) (text : List ℕ) (v w : Volume) → Keeps P id → P v → acl_laid id path text v ≡ Ok w → P w
+unfolding acl_laid
+lists_kept P id path text v w keeps h e =
+    let q = both_ok (led id v path) (λ (at : Found). called id (calls.StoreAcl at.fid text) v) w e in
+    keeps (calls.StoreAcl q.0.fid text) v w h q.1.1
+
+line_kept : (P : Volume → Type 0) (id : ℕ) (line : SetupLine) (v w : Volume) → Keeps P id → P v → laid id line v ≡ Ok w → P w
+line_kept P id (lines.File path contents) v w keeps h e = names_kept P id path (a_file_of contents) v w keeps h e
+
+pub all_kept : (P : Volume → Type 0) (id : ℕ) (ls : List SetupLine) (v w : Volume) → Keeps P id → P v → laid_all id ls v ≡ Ok w → P w
+all_kept P id [] v w keeps h e = subst P (ok_is v w e) h
+all_kept P id (line ∷ ls) v w keeps h e =
+    let r = both_ok (laid id line v) (laid_all id ls) w e in
+    all_kept P id ls r.0 w keeps (line_kept P id line v r.0 keeps h r.1.0) r.1.1
+
+pub names_sound : (id : ℕ) (path : List (List ℕ)) (x : Laid) (v w : Volume) → IsSound v → laid_at id path x v ≡ Ok w → IsSound w
+names_sound id path x v w = names_kept IsSound id path x v w (called_sound id)
 
 pub lists_sound : (id : ℕ) (path : List (List ℕ)) (text : List ℕ) (v w : Volume) → IsSound v → acl_laid id path text v ≡ Ok w → IsSound w
-unfolding acl_laid
-lists_sound id path text v w h e =
-    let q = both_ok (led id v path) (λ (at : Found). called id (calls.StoreAcl at.fid text) v) w e in
-    called_sound id (calls.StoreAcl q.0.fid text) v w h q.1.1
+lists_sound id path text v w = lists_kept IsSound id path text v w (called_sound id)
+
+-- ---- what was never changed
+
+-- the vnode is one of those that are edited
+abbrev Among : ℕ → List Edit → Type 0
+Among n [] = ⊥
+Among n (e ∷ es) = (edit_number e ≡ n) ⊎ Among n es
+
+-- all are as at first but those that are still to be set back
+abbrev FirstBut : List Edit → Table Vnode → Type 0
+FirstBut es t = (n : ℕ) (x : Vnode) → get n t ≡ Some x → IsAtFirst x ⊎ Among n es
+
+first_or : (x : Vnode) → IsAtFirst x ⊎ ⊥ → IsAtFirst x
+first_or x (inl h) = h
+first_or x (inr h) = absurd h
+
+still_by : (b : Bool) (n m : ℕ) (x y : Vnode) (o : Option Vnode) (e : Edit) (es : List Edit) → edit_number e ≡ n → eqb n m ≡ b → cond b (Some (at_first y)) o ≡ Some x → (o ≡ Some x → IsAtFirst x ⊎ Among m (e ∷ es)) → IsAtFirst x ⊎ Among m es
+still_by true n m x y o e es is t f h = inl (subst IsAtFirst (some_of (at_first y) x f) (record { index = refl; data_version = refl; changed = refl }))
+still_by false n m x y o e es is t f h = of_rest (h f)
+  where
+    of_rest : IsAtFirst x ⊎ Among m (e ∷ es) → IsAtFirst x ⊎ Among m es
+    of_rest (inl a) = inl a
+    of_rest (inr (inl s)) = absurd (differ n m t (sym is ∙ s))
+    of_rest (inr (inr a)) = inr a
+
+gone_by : (n m : ℕ) (x : Vnode) (e : Edit) (es : List Edit) (t : Table Vnode) → edit_number e ≡ n → get n t ≡ None → get m t ≡ Some x → IsAtFirst x ⊎ Among m (e ∷ es) → IsAtFirst x ⊎ Among m es
+gone_by n m x e es t is none f (inl a) = inl a
+gone_by n m x e es t is none f (inr (inl s)) = let z : None ≡ Some x = sym none ∙ (ap (λ (k : ℕ). get k t) (sym is ∙ s) ∙ f) in absurd cc
+gone_by n m x e es t is none f (inr (inr a)) = inr a
+
+one_first : (e : Edit) (es : List Edit) (t : Table Vnode) (o : Option Vnode) → get (edit_number e) t ≡ o → FirstBut (e ∷ es) t → FirstBut es (one_at_first (edit_number e) o t)
+one_first e es t None is h m x f = gone_by (edit_number e) m x e es t refl is f (h m x f)
+one_first e es t (Some y) is h m x f = still_by (eqb (edit_number e) m) (edit_number e) m x y (get m t) e es refl refl (sym (get_set m (edit_number e) (at_first y) t) ∙ f) (h m x)
+
+all_first : (es : List Edit) (t : Table Vnode) → FirstBut es t → (n : ℕ) (x : Vnode) → get n (all_at_first es t) ≡ Some x → IsAtFirst x
+all_first [] t h n x f = first_or x (h n x f)
+all_first (e ∷ es) t h n x f = all_first es (one_at_first (edit_number e) (get (edit_number e) t) t) (one_first e es t (get (edit_number e) t) refl h) n x f
+
+edited_by : (b : Bool) (all : List Edit) (n m : ℕ) (x : Vnode) (a o : Option Vnode) → eqb n m ≡ b → Among n all → (o ≡ Some x → IsAtFirst x ⊎ Among m all) → cond b a o ≡ Some x → IsAtFirst x ⊎ Among m all
+edited_by true all n m x a o t among h f = inr (subst (λ (k : ℕ). Among k all) (eqb-true n m t) among)
+edited_by false all n m x a o t among h f = h f
+
+edits_first : (id : ℕ) (all es : List Edit) (v : Volume) → ((n : ℕ) → Among n es → Among n all) → FirstBut all v.vnodes → FirstBut all (edited_all id es v).vnodes
+edits_first id all [] v among h = h
+edits_first id all (e ∷ es) v among h =
+    edits_first id all es (edited id e v).volume (λ n a. among n (inr a))
+    (λ m x f. edited_by (eqb (edit_number e) m) all (edit_number e) m x _ (get m v.vnodes) refl (among (edit_number e) (inl refl)) (h m x) (sym (edit_look id m e v) ∙ f))
+
+laid_first : (id : ℕ) (v w : Volume) (r : ops.Result) → IsSetUp v → laid_by id r v ≡ Ok w → IsSetUp w
+laid_first id v w (ops.refused code) h e = absurd cc
+laid_first id v w (ops.reads shown) h e = absurd cc
+laid_first id v w ops.no_operation h e = absurd cc
+laid_first id v w (ops.changes es n) h e =
+    let after : Volume = counted (edited_all id es v) in
+    let one : record after { counter = 1; vnodes = all_at_first es after.vnodes } ≡ w = ok_is (record after { counter = 1; vnodes = all_at_first es after.vnodes }) w e in
+    subst IsSetUp one (record { counter = refl; vnodes = all_first es after.vnodes (edits_first id es es v (λ m a. a) (λ m x f. inl (h.vnodes m x f))) })
+
+pub called_first : (id : ℕ) → Keeps IsSetUp id
+called_first id call v w h e = laid_first id v w (op id all_rights call v) h e
+
+root_first : (b : Bool) (x : Vnode) → cond b (Some new_root) None ≡ Some x → IsAtFirst x
+root_first false x e = absurd cc
+root_first true x e = subst IsAtFirst (some_of new_root x e) (record { index = refl; data_version = refl; changed = refl })
+
+pub new_first : (family : ℕ) (name : List ℕ) (kind flags quota : ℕ) → IsSetUp (new_volume family name kind flags quota)
+new_first family name kind flags quota = record { counter = refl; vnodes = λ n x e. root_first (eqb 1 n) x e }
+
+pub set_up : SetUpTellsOnce
+set_up = record {
+  new = new_first;
+  names = λ id path x v w. names_kept IsSetUp id path x v w (called_first id);
+  lists = λ id path text v w. lists_kept IsSetUp id path text v w (called_first id);
+}
+
+pub laid_out : SetUpIsLaidOut
+laid_out id family name kind flags quota ls w e =
+    let new : Volume = new_volume family name kind flags quota in
+    record {
+      sound = all_kept IsSound id ls new w (called_sound id) (new_is_sound family name kind flags quota) e;
+      set_up = all_kept IsSetUp id ls new w (called_first id) (new_first family name kind flags quota) e;
+    }

@@ -16,6 +16,8 @@ pub mod Comes
 pub mod Goes
 pub mod Moves
 pub mod Preserved
+pub mod Tellings
+pub mod Proper
 pub mod Laid
 pub mod Images
 pub mod Operated

@@ -40,7 +40,7 @@ at_number : (b : Bool) (n m : ℕ) (f : Option Vnode → Option Vnode) (v : Volu
 at_number true n m f v e = ap (λ (k : ℕ). f (get k v.vnodes)) (eqb-true n m e)
 at_number false n m f v e = refl
 
-edit_look : (id m : ℕ) (e : Edit) (v : Volume) → get m (edited id e v).volume.vnodes ≡ cond (eqb (edit_number e) m) (one_edit (v.counter + 1) v.next e (get m v.vnodes)) (get m v.vnodes)
+pub edit_look : (id m : ℕ) (e : Edit) (v : Volume) → get m (edited id e v).volume.vnodes ≡ cond (eqb (edit_number e) m) (one_edit (v.counter + 1) v.next e (get m v.vnodes)) (get m v.vnodes)
 edit_look id m (amends n a) v = amends_look id n m a v (get n v.vnodes) refl ∙ at_number (eqb n m) n m (option_map (amended (v.counter + 1) a)) v refl
 edit_look id m (makes n x) v = makes_look id n m x v (get n v.vnodes) refl ∙ at_number (eqb n m) n m (one_edit (v.counter + 1) v.next (makes n x)) v refl
 edit_look id m (frees n) v = frees_look id n m v (get n v.vnodes) refl
@@ -104,7 +104,7 @@ no_makes u next (amends n a ∷ es) h = no_makes u next es h.1
 no_makes u next (makes n x ∷ es) h = absurd h.0
 no_makes u next (frees n ∷ es) h = no_makes u next es h.1
 
-later_makes : (id u : ℕ) (e : Edit) (es : List Edit) (v : Volume) → MakesAs u v.next (e ∷ es) → MakesAs u (edited id e v).volume.next es
+pub later_makes : (id u : ℕ) (e : Edit) (es : List Edit) (v : Volume) → MakesAs u v.next (e ∷ es) → MakesAs u (edited id e v).volume.next es
 later_makes id u (amends n a) es v h = subst (λ (k : ℕ). MakesAs u k es) (sym (next_by id n a v (get n v.vnodes))) h
 later_makes id u (makes n x) es v h = no_makes u (edited id (makes n x) v).volume.next es h.1
 later_makes id u (frees n) es v h = subst (λ (k : ℕ). MakesAs u k es) (sym (freed_next id n v (get n v.vnodes))) h

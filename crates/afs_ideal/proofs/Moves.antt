@@ -289,7 +289,7 @@ across_sound id d e old new m x z y v h at_d dir at_e new_dir apart found ok non
     ranked.1
 
 -- a replaced target is none of the vnodes that move
-no_named : (old : List ℕ) (m : Name) (names : List Name) → names ≡ [] → named old names ≡ Some m → ⊥
+pub no_named : (old : List ℕ) (m : Name) (names : List Name) → names ≡ [] → named old names ≡ Some m → ⊥
 no_named old m names e f = let z : None ≡ Some m = ap (named old) (sym e) ∙ f in absurd cc
 
 held_elsewhere : (d t u : ℕ) (x y : Vnode) (g f : Map) → f t ≡ Some y → Held d t u x y g → Held d t u x y f

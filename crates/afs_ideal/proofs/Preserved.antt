@@ -47,17 +47,17 @@ placed_some e (d ∷ ds) = placed_long (nat_lt (edit_number d) (edit_number e)) 
 leaves : (id : ℕ) (ds es : List Edit) (m n : ℕ) (v : Volume) → changes ds m ≡ changes es n → 0 < length ds → IsSound (counted (edited_all id ds v)) → LeavesSound id es v
 leaves id ds es m n v e long h = subst (λ (xs : List Edit). LeavesSound id xs v) (same_edits ds es m n e) (record { sound = h; some_edit = long })
 
-ascending_some : (es : List Edit) → 0 < length es → 0 < length (ascending es)
+pub ascending_some : (es : List Edit) → 0 < length es → 0 < length (ascending es)
 ascending_some [] h = h
 ascending_some (e ∷ es) h = placed_some e (ascending es)
 
 leaves_sorted : (id : ℕ) (ds es : List Edit) (m n : ℕ) (v : Volume) → changes (ascending ds) m ≡ changes es n → 0 < length ds → IsSound (counted (edited_all id (ascending ds) v)) → LeavesSound id es v
 leaves_sorted id ds es m n v e long h = leaves id (ascending ds) es m n v e (ascending_some ds long) h
 
-abbrev Pass : List (Bool × ℕ) → Type 0
+abbrev pub Pass : List (Bool × ℕ) → Type 0
 Pass ts = AllByRecursion (λ (t : Bool × ℕ). t.0 ≡ true) ts
 
-pass_more : (front back : List (Bool × ℕ)) → Pass (front ++ back) → Pass back
+pub pass_more : (front back : List (Bool × ℕ)) → Pass (front ++ back) → Pass back
 pass_more [] back h = h
 pass_more (t ∷ front) back h = pass_more front back h.1
 
@@ -79,7 +79,7 @@ pub record Into (d : Fid) (v : Volume) (x : Vnode) : Type 0 where
   pub found : Found d v x
   pub directory : x.kind ≡ a_directory
 
-into : (d : Fid) (v : Volume) → is_some (vnode_of d v) ≡ true → is_directory (vnode_of d v) ≡ true → (x : Vnode) × Into d v x
+pub into : (d : Fid) (v : Volume) → is_some (vnode_of d v) ≡ true → is_directory (vnode_of d v) ≡ true → (x : Vnode) × Into d v x
 into d v p q = let r = finds d v p in (r.0, record { found = r.1; directory = kind_found d v r.0 a_directory r.1 q })
 
 pub named_ok : (name : List ℕ) (d : Fid) (v : Volume) (x : Vnode) (good : Bool) → Found d v x → Pass (ops.adds_name name (names_in (vnode_of d v)) good) → add_refused name x.names ≡ None
@@ -87,7 +87,7 @@ named_ok name d v x good found h = subst (λ (o : Option Vnode). add_refused nam
 
 -- ---- names that are there
 
-some_is : (o : Option Name) → is_some o ≡ true → (m : Name) × (o ≡ Some m)
+pub some_is : (o : Option Name) → is_some o ≡ true → (m : Name) × (o ≡ Some m)
 some_is None e = absurd cc
 some_is (Some m) e = (m, refl)
 
@@ -107,14 +107,14 @@ gives d name v x m h found e =
     let r = holds d.vnode v.next name m x (at v) found.there is (as_map v h) in
     (r.0, record { name_is = e; named = is; held = r.1; vnode = named_is m r.0 v r.1.there r.1.unique })
 
-in_directory : (d : Fid) (name : List ℕ) (v : Volume) (x : Vnode) (m : Name) (y : Vnode) → Given d name v x m y → vnode_in d name v ≡ Some y
+pub in_directory : (d : Fid) (name : List ℕ) (v : Volume) (x : Vnode) (m : Name) (y : Vnode) → Given d name v x m y → vnode_in d name v ≡ Some y
 in_directory d name v x m y g = ap (named_vnode v) g.name_is ∙ g.vnode
 
 -- what is removed
-abbrev removal : Fid → List ℕ → Option ℕ → Volume → Edit
+abbrev pub removal : Fid → List ℕ → Option ℕ → Volume → Edit
 removal d name links v = amends d.vnode (record ops.no_amend { names = Some (without_name name (names_in (vnode_of d v))); links = links })
 
-removal_is : (d : Fid) (name : List ℕ) (links : Option ℕ) (v : Volume) (x : Vnode) (m : Name) (y : Vnode) → Given d name v x m y → removing d name links v ≡ removal d name links v ∷ unlink_by (stays y) m.vnode y ∷ []
+pub removal_is : (d : Fid) (name : List ℕ) (links : Option ℕ) (v : Volume) (x : Vnode) (m : Name) (y : Vnode) → Given d name v x m y → removing d name links v ≡ removal d name links v ∷ unlink_by (stays y) m.vnode y ∷ []
 removal_is d name links v x m y g =
     ap (λ (es : List Edit). removal d name links v ∷ es)
     (ap (λ (o : Option Name). unlinks (number_named o) (named_vnode v o)) g.name_is ∙ (ap (unlinks m.vnode) g.vnode ∙ unlinks_is m.vnode y (stays y) refl))
@@ -126,7 +126,7 @@ kind_none : (b : Bool) → not b ≡ true → one_if b ≡ 0
 kind_none true e = absurd cc
 kind_none false e = refl
 
-no_length : (names : List Name) → nat_eq (length names) 0 ≡ true → names ≡ []
+pub no_length : (names : List Name) → nat_eq (length names) 0 ≡ true → names ≡ []
 no_length [] e = refl
 no_length (n ∷ ns) e = let z : suc (length ns) ≡ 0 = eqb-true (suc (length ns)) 0 e in absurd (omega (arith, z))
 
@@ -162,7 +162,7 @@ directory_removed id caller d name v h p =
 
 -- ---- Link
 
-file_kind : (k : Kind) → is_kind k a_file ≡ true → k ≡ a_file
+pub file_kind : (k : Kind) → is_kind k a_file ≡ true → k ≡ a_file
 file_kind a_file e = refl
 file_kind a_directory e = absurd cc
 file_kind a_link e = absurd cc
@@ -184,22 +184,22 @@ linked_file id caller d name f v h p =
 -- ---- Rename
 
 -- what the tests of a rename say, but for where the name goes
-record Renames (d e : Fid) (old new : List ℕ) (v : Volume) (x z : Vnode) (m : Name) (y : Vnode) : Type 0 where
-  from : Into d v x
-  to : Into e v z
-  source : Given d old v x m y
-  good : name_ok new ≡ true
-  other_name : is_same_name d old e new ≡ false
-  other_vnode : same_vnode (Some m) (name_in e new v) ≡ false
-  moves : (if is_kind y.kind a_directory then not (is_below e.vnode m.vnode v) else (nat_eq d.vnode e.vnode || nat_lt y.links 2)) ≡ true
-  empty : is_empty (vnode_in e new v) ≡ true
-  room : has_room_for d e new v ≡ true
+pub record Renames (d e : Fid) (old new : List ℕ) (v : Volume) (x z : Vnode) (m : Name) (y : Vnode) : Type 0 where
+  pub from : Into d v x
+  pub to : Into e v z
+  pub source : Given d old v x m y
+  pub good : name_ok new ≡ true
+  pub other_name : is_same_name d old e new ≡ false
+  pub other_vnode : same_vnode (Some m) (name_in e new v) ≡ false
+  pub moves : (if is_kind y.kind a_directory then not (is_below e.vnode m.vnode v) else (nat_eq d.vnode e.vnode || nat_lt y.links 2)) ≡ true
+  pub empty : is_empty (vnode_in e new v) ≡ true
+  pub room : has_room_for d e new v ≡ true
 
 is_false : (b : Bool) → not b ≡ true → b ≡ false
 is_false true e = absurd cc
 is_false false e = refl
 
-renames_by : (caller : Caller) (d e : Fid) (old new : List ℕ) (v : Volume) → IsSound v → Pass (rename_tests caller d old e new v) → (x : Vnode) × ((z : Vnode) × ((m : Name) × ((y : Vnode) × Renames d e old new v x z m y)))
+pub renames_by : (caller : Caller) (d e : Fid) (old new : List ℕ) (v : Volume) → IsSound v → Pass (rename_tests caller d old e new v) → (x : Vnode) × ((z : Vnode) × ((m : Name) × ((y : Vnode) × Renames d e old new v x z m y)))
 renames_by caller d e old new v h p =
     let dirs = both (is_directory (vnode_of d v)) (is_directory (vnode_of e v)) p.1.1.0 in
     let i = into d v p.0 dirs.0 in
@@ -234,7 +234,7 @@ renames_by caller d e old new v h p =
       ),
     )
 
-stands_by : (b : Bool) (d e : Fid) (m : Name) (y : Vnode) (v : Volume) → (if b then not (is_below e.vnode m.vnode v) else (nat_eq d.vnode e.vnode || nat_lt y.links 2)) ≡ true → MayStandIn e.vnode m.vnode v b
+pub stands_by : (b : Bool) (d e : Fid) (m : Name) (y : Vnode) (v : Volume) → (if b then not (is_below e.vnode m.vnode v) else (nat_eq d.vnode e.vnode || nat_lt y.links 2)) ≡ true → MayStandIn e.vnode m.vnode v b
 stands_by true d e m y v h = is_false (is_below e.vnode m.vnode v) h
 stands_by false d e m y v h = tt
 
@@ -249,14 +249,14 @@ few_by false true d e m y v k is ne h file = absurd cc
 few_by false false d e m y v k is ne h file = ltb-true y.links 2 h
 
 -- the vnode that moves isn't the directory to which it does
-not_there_by : (b : Bool) (e : Fid) (t : ℕ) (y z : Vnode) (v : Volume) → is_kind y.kind a_directory ≡ b → MayStandIn e.vnode t v b → get t v.vnodes ≡ Some y → get e.vnode v.vnodes ≡ Some z → z.kind ≡ a_directory → t ≡ e.vnode → ⊥
+pub not_there_by : (b : Bool) (e : Fid) (t : ℕ) (y z : Vnode) (v : Volume) → is_kind y.kind a_directory ≡ b → MayStandIn e.vnode t v b → get t v.vnodes ≡ Some y → get e.vnode v.vnodes ≡ Some z → z.kind ≡ a_directory → t ≡ e.vnode → ⊥
 not_there_by true e t y z v k out at_t at_e dir same = yes_no (is_below e.vnode t v) (subst (λ (n : ℕ). is_below n t v ≡ true) same (below_itself t v y at_t)) out
 not_there_by false e t y z v k out at_t at_e dir same =
     let one : Some y ≡ Some z = sym at_t ∙ (ap (at v) same ∙ at_e) in
     let kind : y.kind ≡ a_directory = ap (λ (w : Vnode). w.kind) (some_of y z one) ∙ dir in
     yes_no (is_kind y.kind a_directory) (rw kind refl) k
 
-not_same_by : (m w : Name) (y t : Vnode) (v : Volume) → get m.vnode v.vnodes ≡ Some y → y.unique ≡ m.unique → get w.vnode v.vnodes ≡ Some t → t.unique ≡ w.unique → same_vnode (Some m) (Some w) ≡ false → m.vnode ≡ w.vnode → ⊥
+pub not_same_by : (m w : Name) (y t : Vnode) (v : Volume) → get m.vnode v.vnodes ≡ Some y → y.unique ≡ m.unique → get w.vnode v.vnodes ≡ Some t → t.unique ≡ w.unique → same_vnode (Some m) (Some w) ≡ false → m.vnode ≡ w.vnode → ⊥
 not_same_by m w y t v at_m u at_w q h same =
     let one : y ≡ t = some_of y t (sym at_m ∙ (ap (at v) same ∙ at_w)) in
     let unique : m.unique ≡ w.unique = sym u ∙ (ap (λ (k : Vnode). k.unique) one ∙ q) in
@@ -303,7 +303,7 @@ moved_across id d e old new v x z m y (Some w) h r is apart =
     (ap names_in r.from.found.found) (ap links_of r.from.found.found) (ap names_in r.to.found.found) (ap links_of r.to.found.found))))
 
 -- within one directory
-same_directory : (d e : Fid) (v : Volume) (x z : Vnode) → Found d v x → Found e v z → d.vnode ≡ e.vnode → z ≡ x
+pub same_directory : (d e : Fid) (v : Volume) (x z : Vnode) → Found d v x → Found e v z → d.vnode ≡ e.vnode → z ≡ x
 same_directory d e v x z a b same = some_of z x (sym b.there ∙ (ap (at v) (sym same) ∙ a.there))
 
 moved_within : (id : ℕ) (d e : Fid) (old new : List ℕ) (v : Volume) (x z : Vnode) (m : Name) (y : Vnode) (o : Option Name) → IsSound v → Renames d e old new v x z m y → name_in e new v ≡ o → nat_eq d.vnode e.vnode ≡ true

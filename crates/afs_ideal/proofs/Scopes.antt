@@ -195,11 +195,11 @@ unique_by : (b : Bool) (n u : ℕ) (x : Vnode) → nat_eq n u ≡ b → is_some 
 unique_by true n u x e t = eqb-true n u e
 unique_by false n u x e t = absurd cc
 
-or_left : (a b : Bool) → a ≡ true → (a || b) ≡ true
+pub or_left : (a b : Bool) → a ≡ true → (a || b) ≡ true
 or_left true b e = refl
 or_left false b e = absurd cc
 
-or_right : (a b : Bool) → b ≡ true → (a || b) ≡ true
+pub or_right : (a b : Bool) → b ≡ true → (a || b) ≡ true
 or_right true b e = refl
 or_right false b e = e
 

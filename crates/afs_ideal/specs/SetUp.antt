@@ -150,6 +150,11 @@ acl_laid id path text v = do
 abbrev pub laid : ℕ → SetupLine → Volume → Result Volume ℕ
 laid id (lines.File path contents) v = laid_at id path (a_file_of contents) v
 
+-- the lines, one after the other, up to the first that is refused
+abbrev pub laid_all : ℕ → List SetupLine → Volume → Result Volume ℕ
+laid_all id [] v = Ok v
+laid_all id (line ∷ rest) v = laid id line v >>= laid_all id rest
+
 -- ---- what set-up tells: one version of each vnode
 
 abbrev pub first_versions : ℕ → Table Vnode → List Version

@@ -1,4 +1,4 @@
--- Sound volumes: what set-up, operations, clones and restores leave.
+-- Sound volumes: what set-up and operations leave, and what clones and restores are to leave.
 use Rattle.std.specs.Prelude.{◌≡◌, ◌≤◌, ◌<◌, ◌↔◌, ◌%◌, ◌+◌, ℕ, List, [], Bool, true, ◌&&◌, filter, length, nat_eq, Option, Some, None}
 use Rattle.std.specs.List.{All}
 use Rattle.afs_num.specs.declared.directories.Name.{Name}

@@ -1,6 +1,15 @@
 //! Laws about changes of a volume. Each is the contract of a function that does nothing.
 
-ghost use Rattle.afs_ideal.specs.ChangeLaws.{ChangesStayInScope, FirstIsHeld, GoneIsLast, NewIsUnseen, ToldIsHeld, VersionsFollow};
+ghost use Rattle.afs_ideal.specs.ChangeLaws.{
+  ChangesStayInScope,
+  ChangesTouchTheirOwn,
+  FirstIsHeld,
+  GoneIsLast,
+  NewIsUnseen,
+  OperationsAreChanges,
+  ToldIsHeld,
+  VersionsFollow,
+};
 
 /// What was told last of each vnode is what the volume holds, after any edits.
 pub fn told_is_held()
@@ -30,4 +39,15 @@ pub fn new_is_unseen()
 /// A call touches what is in its scope, and new fids.
 pub fn changes_stay_in_scope()
     ensures { ChangesStayInScope }
+{}
+
+/// On a sound volume a call touches no vnode but those that it names, those that its names give, and the one that it makes.
+pub fn changes_touch_their_own()
+    ensures { ChangesTouchTheirOwn }
+{}
+
+/// An accepted operation tells one or more versions of distinct fids, by ascending vnode, each the next of its vnode, and makes
+/// at most one vnode.
+pub fn operations_are_changes()
+    ensures { OperationsAreChanges }
 {}

@@ -1,6 +1,14 @@
 //! Laws about sound volumes. Each is the contract of a function that does nothing.
 
-ghost use Rattle.afs_ideal.specs.SoundnessLaws.{NewVolumesAreSound, OperationsLeaveSound, SetUpLeavesSound, SoundAreReadAgain};
+ghost use Rattle.afs_ideal.specs.SoundnessLaws.{
+  NewVolumesAreSound,
+  OperationsLeaveSound,
+  SetUpIsLaidOut,
+  SetUpLeavesSound,
+  SetUpTellsOnce,
+  SoundAreReadAgain,
+  ValuesAreImagedAgain,
+};
 
 /// An accepted operation makes at least one edit, and leaves a sound volume sound.
 pub fn operations_leave_sound()
@@ -20,4 +28,19 @@ pub fn set_up_leaves_sound()
 /// A vnode of a sound volume is what its image is read as, where its words and lengths are within an image's.
 pub fn sound_are_read_again()
     ensures { SoundAreReadAgain }
+{}
+
+/// What set-up lays has index and data version 1, and leaves the volume's counter at 1.
+pub fn set_up_tells_once()
+    ensures { SetUpTellsOnce }
+{}
+
+/// What all lines of set-up leave of a new volume is sound, with indexes, data versions and counters at 1.
+pub fn set_up_is_laid_out()
+    ensures { SetUpIsLaidOut }
+{}
+
+/// An image that is read as a vnode is the image of that vnode.
+pub fn values_are_imaged_again()
+    ensures { ValuesAreImagedAgain }
 {}
