@@ -1,6 +1,7 @@
 -- What the calls on a volume give.
-use Rattle.std.specs.Prelude.{◌≡◌, ℕ, pos, List, [], ◌∷◌, Option, Some, None, Result, Ok, Err, map, Bool, true, false}
+use Rattle.std.specs.Prelude.{◌≡◌, ℕ, pos, List, [], ◌∷◌, Option, Some, None, Result, Ok, Err, map, Bool, true, false, not, ◌&&◌, is_some}
 use Rattle.std.specs.Option.{option_map}
+use Rattle.afs_num.specs.Names.{name_ok}
 use Rattle.afs_num.specs.declared.acls.AccessList.{AccessList}
 use Rattle.afs_ideal.specs.AccessLists.{acl_at}
 use Rattle.afs_ideal.specs.Operations as op
@@ -168,3 +169,17 @@ is_reading (calls.FetchStatus f) = true
 is_reading (calls.GetVolumeStatus id) = true
 is_reading (calls.BulkStatus fids) = true
 is_reading call = false
+
+-- ---- Rename
+
+-- where both are there, what takes the place of another is no directory, or that is one too
+abbrev pub takes_place : Option ideal.Vnode → Option ideal.Vnode → Bool
+takes_place (Some x) (Some y) = op.implies (op.is_kind x.kind ideal.a_directory) (op.is_kind y.kind ideal.a_directory)
+takes_place x y = true
+
+-- the tests behind those of kinds
+abbrev pub move_tests : Caller → Fid → List ℕ → Fid → List ℕ → ideal.Volume → op.Tests
+move_tests caller d old e new v =
+    (op.rename_rights caller d e new v, 13)
+    ∷ (name_ok new && (not (op.is_same_name d old e new) && op.may_move d e (op.name_in d old v) (op.name_in e new v) v (op.vnode_in d old v)), 22)
+    ∷ (is_some (op.name_in d old v), 2) ∷ (op.is_empty (op.vnode_in e new v), 39) ∷ (op.has_room_for d e new v, 27) ∷ []

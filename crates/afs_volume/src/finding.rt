@@ -1,6 +1,6 @@
 //! What is found in a volume.
 
-ghost use Rattle.std.specs.Prelude.{◌≡◌, ◌==◌, length, pos, true, ◌<◌, ◌^◌, None, Some, IfOk, IfSome, is_some};
+ghost use Rattle.std.specs.Prelude.{◌≡◌, ◌==◌, length, pos, true, ◌<◌, ◌≤◌, ◌^◌, None, Some, IfOk, IfSome, is_some};
 ghost use Rattle.std.specs.Option.{option_copied, option_map};
 ghost use Rattle.afs_ideal.specs.AccessLists.{rights_of};
 ghost use Rattle.afs_ideal.specs.Directories.{named};
@@ -28,17 +28,27 @@ pub const DIRECTORY: u32 = 2;
 
 pub const LINK: u32 = 3;
 
-/// The names of a directory; contents that spell none have none.
-#[tactic(auto, unfolding(crate::specs::Seen::seen, crate::specs::Seen::names_spelled))]
-pub fn names_of(alloc: Global, d: &Vnode) -> Mem<Dir>
-    requires { is_kind (seen d.now).kind a_directory ≡ true }
-    ensures { IfOk result (λ names. names ≡ (seen d.now).names) }
+/// The names that bytes spell; bytes that spell no directory have none.
+#[tactic(auto, unfolding(crate::specs::Seen::names_spelled))]
+fn names_spelled(alloc: Global, bytes: &[u8]) -> Mem<Dir>
+    ensures names { IfOk result (λ names. names ≡ names_spelled bytes.now) }
+    ensures few { IfOk result (λ names. length names ≤ 1024) }
 {
-    match Dir::from_bytes(alloc, d.contents.as_slice()) {
+    match Dir::from_bytes(alloc, bytes) {
         Ok(names) => Ok(names),
         Err(DirFault::OutOfMemory) => Err(AllocError),
         Err(_) => Dir::new(alloc),
     }
+}
+
+/// The names of a directory.
+#[tactic(auto, unfolding(crate::specs::Seen::seen))]
+pub fn names_of(alloc: Global, d: &Vnode) -> Mem<Dir>
+    requires { is_kind (seen d.now).kind a_directory ≡ true }
+    ensures names { IfOk result (λ names. names ≡ (seen d.now).names) }
+    ensures few { IfOk result (λ names. length names ≤ 1024) }
+{
+    names_spelled(alloc, d.contents.as_slice())
 }
 
 /// The rights of a user by the access list of this text; a text that is no list gives none.

@@ -14,6 +14,7 @@ mod new;
 mod operations;
 mod reading;
 mod removing;
+mod renaming;
 mod replies;
 mod volume;
 
