@@ -1,10 +1,9 @@
 -- How long records are.
-use Rattle.std.proofs.Common.{◌≡◌, ℕ, ◌+◌, List, [], ◌∷◌, ◌++◌, length, replicate, suc, Option, Some, None, refl, sym, ap, ◌∙◌}
+use Rattle.std.proofs.Common.{◌≡◌, ℕ, ◌+◌, ◌*◌, List, [], ◌∷◌, ◌++◌, length, replicate, suc, Option, Some, None, refl, sym, ap, ◌∙◌, arith}
 use Rattle.std.specs.List.{flat_map}
 use Rattle.std.proofs.lemmas.List.{length-append}
 use Rattle.std.proofs.lemmas.List.Concat.{flat_map-cons}
 use Rattle.afs_xdr.specs.Words.{word, words, opaque, pad, pad_length}
-use Rattle.afs_shape.proofs.Codecs.{length_words}
 use Rattle.afs_ideal.specs.Tables.{get}
 use Rattle.afs_ideal.specs.VnodeImage.{image, image_words}
 use Rattle.afs_ideal.specs.Images.{Image, image_of}
@@ -16,6 +15,11 @@ use Rattle.afs_records.specs.Changes.{image_left, images_left, change_record}
 
 joined : (a b c d : List ℕ) → length a ≡ length c → length b ≡ length d → length (a ++ b) ≡ length (c ++ d)
 joined a b c d p q = length-append a b ∙ (ap (λ (n : ℕ). n + length b) p ∙ (ap (λ (n : ℕ). length c + n) q ∙ sym (length-append c d)))
+
+length_words : (ns : List ℕ) → length (words ns) ≡ 4 * length ns
+unfolding word
+length_words [] = refl
+length_words (n ∷ ns) = ap length (flat_map-cons word n ns) ∙ (length-append (word n) (words ns) ∙ omega (arith, length_words ns))
 
 word_long : (m n : ℕ) → length (word m) ≡ length (word n)
 unfolding word
