@@ -180,7 +180,7 @@ last_entry c [] = None
 last_entry c (x ∷ []) = Some (moved c x).entry
 last_entry c (x ∷ y ∷ xs) = last_entry (moved c x).cell (y ∷ xs)
 
--- ---- row 9 of a stop before the gate was written, and a call that was given up
+-- ---- a stop before the gate was written, and a call that was given up
 
 -- the disk stops before the change is on it: the restart has none, and the call runs then, once
 abbrev nine_before : List Input
