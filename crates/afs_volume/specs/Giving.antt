@@ -57,7 +57,7 @@ amend_seen a = record {
 
 abbrev pub edit_seen : Edit → ideal.Edit
 edit_seen (Amends n a) = ideal.amends n (amend_seen a)
-edit_seen (Makes n x) = ideal.makes n (seen x)
+edit_seen (Makes n x) = ideal.makes n (seen x.vnode)
 edit_seen (Frees n) = ideal.frees n
 
 abbrev pub edits_seen : List Edit → List ideal.Edit

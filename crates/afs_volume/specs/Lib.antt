@@ -1,3 +1,4 @@
 pub mod Bulk
+pub mod Counting
 pub mod Giving
 pub mod Seen

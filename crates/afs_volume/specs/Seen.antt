@@ -1,6 +1,6 @@
 -- How a volume in memory is seen as a volume of the definitions: the contents of a directory as its names, an access list by its
 -- text. The times of the server stay in the images of the vnodes.
-use Rattle.std.specs.Prelude.{◌≡◌, ℕ, List, [], true, Some, Result, Ok, Err, map, nat_eq, is_ok, if◌then◌else◌}
+use Rattle.std.specs.Prelude.{◌≡◌, ℕ, List, [], Bool, true, Option, Some, None, Result, Ok, Err, map, nat_eq, is_ok, if◌then◌else◌}
 use Rattle.afs_num.specs.declared.acls.AccessList.{AccessList}
 use Rattle.afs_num.specs.declared.directories.Name.{Name}
 use Rattle.afs_num.specs.declared.vnodes.Vnode as image
@@ -92,3 +92,21 @@ IsReadable x =
 
 abbrev pub AreReadable : Table image.Vnode → Type 0
 AreReadable t = (n : ℕ) (x : image.Vnode) → get n t ≡ Some x → IsReadable x
+
+-- ---- what an edit gives
+
+-- the bytes are those of the names as which they are read
+abbrev pub respelled : Option (List ℕ) → Option (List ℕ)
+respelled None = None
+respelled (Some bytes) = Some (directory_bytes (names_spelled bytes))
+
+abbrev pub SpellsNames : Option (List ℕ) → Type 0
+SpellsNames o = respelled o ≡ o
+
+-- the text is that of an access list
+abbrev pub is_list : Option (List ℕ) → Bool
+is_list None = true
+is_list (Some text) = is_ok (acl_at text)
+
+abbrev pub SpellsList : Option (List ℕ) → Type 0
+SpellsList o = is_list o ≡ true

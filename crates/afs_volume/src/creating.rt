@@ -5,12 +5,12 @@ ghost use Rattle.afs_num.specs.declared.calls.FsCall.TheVariants as calls;
 ghost use Rattle.afs_ideal.specs.Operations.{adds_name, by_tests, creates, first_failing, is_kind, is_mask, names_in};
 ghost use Rattle.afs_ideal.specs.Volumes.{a_directory, vnode_of};
 ghost use Rattle.afs_volume.specs.Giving.{caller_seen, planned, volume_of, Plans};
-ghost use Rattle.afs_volume.specs.Seen.{seen};
+ghost use Rattle.afs_volume.specs.Seen.{seen, IsReadable};
 
 use crate::Volume;
 use crate::callers::Caller;
 use crate::checks::check;
-use crate::edits::{Amend, Edit, Edits, Plan};
+use crate::edits::{Amend, Edit, Edits, New, Plan};
 use crate::faults::OpFault;
 use crate::finding::{is_directory, links_of, links_there, list_of, may_link, names_of};
 use crate::making::{new_directory, new_file, new_link, set_status};
@@ -34,6 +34,7 @@ impl Volume {
     ) -> Result<Plan, OpFault>
         requires found { vnode_of fid.now (volume_of self.now) ≡ Some (seen d.now) }
         requires directory { is_kind (seen d.now).kind a_directory ≡ true }
+        requires readable { IsReadable made }
         ensures { Plans (by_tests (first_failing (adds_name name.now (names_in (Some (seen d.now))) (is_mask status.now))) (creates fid.now name.now status.now links (seen made) (volume_of self.now))) result }
     {
         let number = self.free_number(&made);
@@ -43,7 +44,7 @@ impl Volume {
         set_status(&mut made, status);
         let mut edits = Edits::new(self.alloc);
         push_names(&mut edits, fid.vnode, &names, links)?;
-        edits.push(Edit::Makes(number, made))?;
+        edits.push(Edit::Makes(number, New { vnode: made }))?;
         Ok(Plan {
             edits: ascending(self.alloc, edits)?,
             shown: number,

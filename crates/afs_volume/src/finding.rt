@@ -1,8 +1,8 @@
 //! What is found in a volume.
 
-ghost use Rattle.std.specs.Prelude.{◌≡◌, ◌==◌, length, pos, true, ◌<◌, ◌≤◌, ◌^◌, None, Some, IfOk, IfSome, is_some};
+ghost use Rattle.std.specs.Prelude.{◌≡◌, ◌==◌, length, pos, true, ◌<◌, ◌≤◌, ◌^◌, None, Some, IfOk, IfSome, is_ok, is_some};
 ghost use Rattle.std.specs.Option.{option_copied, option_map};
-ghost use Rattle.afs_ideal.specs.AccessLists.{rights_of};
+ghost use Rattle.afs_ideal.specs.AccessLists.{acl_at, rights_of};
 ghost use Rattle.afs_ideal.specs.Directories.{named};
 ghost use Rattle.afs_ideal.specs.Operations.{acl_of, is_below, is_directory, is_kind, is_empty, list_for, may, free_number, links_of, may_link, named_vnode, number_named, rights_by};
 ghost use Rattle.afs_ideal.specs.Tables.{get};
@@ -128,7 +128,8 @@ pub fn links_there(x: Option<&Vnode>) -> u64
 #[tactic(auto, unfolding(crate::specs::Seen::seen))]
 pub fn list_of(d: &Vnode) -> &Octets
     requires { is_kind (seen d.now).kind a_directory ≡ true }
-    ensures { list_spelled result.now ≡ (seen d.now).acl }
+    ensures list { list_spelled result.now ≡ (seen d.now).acl }
+    ensures read { IsReadable d.now → is_ok (acl_at result.now) ≡ true }
 {
     &d.acl
 }

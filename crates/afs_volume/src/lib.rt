@@ -1,6 +1,7 @@
 //! Volumes: every operation of a file server on one of them.
 #![tactic(auto)]
 
+mod amending;
 mod bulk;
 mod callers;
 mod checks;
@@ -8,6 +9,7 @@ mod creating;
 pub mod edits;
 pub mod faults;
 mod finding;
+mod limits;
 mod making;
 mod naming;
 mod new;

@@ -1,11 +1,12 @@
 //! New vnodes.
 
-ghost use Rattle.std.specs.Prelude.{◌≡◌, [], Some, IfOk, if◌then◌else◌};
+ghost use Rattle.std.specs.Prelude.{◌≡◌, [], Some, true, is_ok, IfOk, if◌then◌else◌};
+ghost use Rattle.afs_ideal.specs.AccessLists.{acl_at};
 ghost use Rattle.afs_ideal.specs.Directories.{directory_bytes};
 ghost use Rattle.afs_ideal.specs.Operations.{new_in, new_file, new_directory, new_link};
 ghost use Rattle.afs_ideal.specs.Volumes.{has_bit, with_status};
 ghost use Rattle.afs_volume.specs.Giving.{KeepsBody};
-ghost use Rattle.afs_volume.specs.Seen.{seen, kind_seen, contents_seen, names_seen, list_seen, list_spelled, names_spelled};
+ghost use Rattle.afs_volume.specs.Seen.{seen, kind_seen, contents_seen, names_seen, list_seen, list_spelled, names_spelled, IsReadable};
 
 use crate::finding::{DIRECTORY, FILE, LINK};
 use afs_dir::Dir;
@@ -27,7 +28,8 @@ pub fn spelled(names: &Dir) -> Mem<Octets>
 /// A new vnode in this directory, without the numbers that every new vnode gets.
 #[tactic(auto, unfolding(crate::specs::Seen::seen))]
 fn new_in(d: &Fid, kind: u32, links: u32, mode: u32, acl: Octets, contents: Octets) -> Vnode
-    ensures { seen result ≡ record (new_in d.now (kind_seen kind) links mode (contents_seen (kind_seen kind) contents) (list_seen (kind_seen kind) acl)) { names = names_seen (kind_seen kind) contents } }
+    ensures body { (result.kind ≡ kind) × ((result.acl ≡ acl) × (result.contents ≡ contents)) }
+    ensures seen { seen result ≡ record (new_in d.now (kind_seen kind) links mode (contents_seen (kind_seen kind) contents) (list_seen (kind_seen kind) acl)) { names = names_seen (kind_seen kind) contents } }
 {
     Vnode {
         vnode: 0,
@@ -52,7 +54,8 @@ fn new_in(d: &Fid, kind: u32, links: u32, mode: u32, acl: Octets, contents: Octe
 
 /// An empty file of mode 644, in octal.
 pub fn new_file(alloc: Global, d: &Fid) -> Vnode
-    ensures { seen result ≡ new_file d.now }
+    ensures seen { seen result ≡ new_file d.now }
+    ensures readable { IsReadable result }
 {
     new_in(d, FILE, 1, 0o644, Octets::new(alloc), Octets::new(alloc))
 }
@@ -60,7 +63,9 @@ pub fn new_file(alloc: Global, d: &Fid) -> Vnode
 /// A directory of mode 755 without names, with the access list of this text.
 #[tactic(auto, unfolding(crate::specs::Seen::names_spelled))]
 pub fn new_directory(alloc: Global, d: &Fid, acl: &Octets) -> Mem<Vnode>
-    ensures { IfOk result (λ x. seen x ≡ new_directory d.now (list_spelled acl.now)) }
+    requires { is_ok (acl_at acl.now) ≡ true }
+    ensures seen { IfOk result (λ x. seen x ≡ new_directory d.now (list_spelled acl.now)) }
+    ensures readable { IfOk result (λ x. IsReadable x) }
 {
     let names = Dir::new(alloc)?;
     let contents = spelled(&names)?;
@@ -69,7 +74,8 @@ pub fn new_directory(alloc: Global, d: &Fid, acl: &Octets) -> Mem<Vnode>
 
 /// A link of mode 777 with this text.
 pub fn new_link(alloc: Global, d: &Fid, target: &Octets) -> Mem<Vnode>
-    ensures { IfOk result (λ x. seen x ≡ new_link d.now target.now) }
+    ensures seen { IfOk result (λ x. seen x ≡ new_link d.now target.now) }
+    ensures readable { IfOk result (λ x. IsReadable x) }
 {
     Ok(new_in(d, LINK, 1, 0o777, Octets::new(alloc), target.copy(alloc)?))
 }

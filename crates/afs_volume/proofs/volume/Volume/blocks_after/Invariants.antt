@@ -1,0 +1,10 @@
+use Rattle.std.proofs.Common.{◌≡◌, ◌≤◌, ◌+◌, ◌*◌, ◌^◌, drop}
+use Rattle.afs_volume.specs.Counting.{blocks_after}
+use Rattle.afs_volume.specs.Giving.{edits_seen, volume_of}
+use Rattle.afs_volume.proofs.volume.Volume.blocks_after.Given as goal
+
+abbrev pub invariant-loop-edit : goal.invariant-loop-edit
+invariant-loop-edit l = record {
+  rest : l.sum + blocks_after (edits_seen (drop l.edit-index l.edits)) (volume_of l.self) ≡ blocks_after (edits_seen l.edits) (volume_of l.self);
+  small : l.sum ≤ l.edit-index * 2 ^ 54;
+}

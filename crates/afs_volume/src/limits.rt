@@ -1,0 +1,213 @@
+//! The limits of a change, tested on what its edits make.
+
+ghost use Rattle.std.specs.Prelude.{◌≡◌, ◌≤◌, ◌<◌, ◌+◌, ◌/◌, ◌^◌, Some, not, nat_lt, length};
+ghost use Rattle.afs_ideal.specs.Operations.{amend_fits, edit_fits, first_failing, free_fits, is_last_count, limits, links_fit};
+ghost use Rattle.std.specs.List.{list_all};
+ghost use Rattle.afs_ideal.specs.Tables.{get, AscendsFrom};
+ghost use Rattle.afs_ideal.specs.VnodeMaps.{most_vnodes};
+ghost use Rattle.afs_ideal.specs.Volumes.{amended, blocks_in, blocks_of, bytes_by, edit_number, edited_all, has_body};
+ghost use Rattle.afs_ideal.proofs.Looks.{Distinct};
+ghost use Rattle.afs_volume.specs.Counting.{blocks_after, blocks_at, blocks_before, made_of};
+ghost use Rattle.afs_volume.specs.Giving.{amend_seen, edit_seen, edits_seen, volume_of, Passes};
+ghost use Rattle.afs_volume.specs.Seen.{seen, IsReadable};
+
+use crate::Volume;
+use crate::checks::check;
+use crate::edits::{Amend, Edit};
+use crate::faults::OpFault;
+use crate::finding::is_directory;
+use crate::replies::bytes_of;
+use afs_num::sequences::Octets;
+use afs_num::vnodes::Vnode;
+
+/// The most vnodes of a volume.
+const MOST_VNODES: usize = 4_096;
+
+/// How many blocks of 1,024 bytes these bytes take.
+fn blocks(bytes: &Octets) -> u64
+    ensures value { result ≡ (length bytes.now + 1023) / 1024 }
+    ensures small { result < 2 ^ 54 }
+{
+    (bytes.len() as u64 + 1023) / 1024
+}
+
+/// How many blocks a vnode takes.
+fn blocks_of(x: &Vnode) -> u64
+    requires { IsReadable x.now }
+    ensures value { result ≡ blocks_of (seen x.now) }
+    ensures small { result < 2 ^ 54 }
+{
+    blocks(bytes_of(x))
+}
+
+/// The bytes of a vnode after an edit.
+#[tactic(auto, unfolding(crate::specs::Seen::seen))]
+fn bytes_after<'a>(x: &'a Vnode, amend: &'a Amend) -> &'a Octets
+    requires { IsReadable x.now }
+    ensures { result.now ≡ bytes_by (seen x.now).kind (amended 0 (amend_seen amend.now) (seen x.now)) }
+{
+    let new = if is_directory(x) {
+        &amend.names
+    } else {
+        &amend.contents
+    };
+    match new {
+        Some(bytes) => bytes,
+        None => &x.contents,
+    }
+}
+
+/// A count that isn't the last one.
+fn is_raised(count: u32) -> bool
+    ensures { result ≡ not (is_last_count count) }
+{
+    count < 4_294_967_295
+}
+
+fn has_body(amend: &Amend) -> bool
+    ensures { result ≡ has_body (amend_seen amend.now).contents (amend_seen amend.now).names }
+{
+    amend.contents.is_some() || amend.names.is_some()
+}
+
+fn links_fit(links: Option<u64>) -> bool
+    ensures { result ≡ links_fit links }
+{
+    match links {
+        Some(links) => links <= 4_294_967_295,
+        None => true,
+    }
+}
+
+#[tactic(auto, unfolding(crate::specs::Seen::seen))]
+fn amend_fits(x: &Vnode, amend: &Amend) -> bool
+    ensures { result ≡ amend_fits (amend_seen amend.now) (Some (seen x.now)) }
+{
+    let fits = !has_body(amend) || is_raised(x.data_version);
+    is_raised(x.index) && fits && links_fit(amend.links)
+}
+
+#[tactic(auto, unfolding(crate::specs::Seen::seen))]
+fn free_fits(x: &Vnode) -> bool
+    ensures { result ≡ free_fits (Some (seen x.now)) }
+{
+    is_raised(x.index) && is_raised(x.data_version)
+}
+
+impl Volume {
+    /// How many blocks the vnode of an edit takes before it.
+    fn blocks_at(&self, edit: &Edit) -> u64
+        ensures value { result ≡ blocks_at (get (edit_number (edit_seen edit.now)) (volume_of self.now).vnodes) }
+        ensures small { result < 2 ^ 54 }
+    {
+        match self.get(edit.number()) {
+            Some(x) => blocks_of(x),
+            None => 0,
+        }
+    }
+
+    /// How many blocks the vnode of an edit takes after it.
+    fn blocks_made(&self, edit: &Edit) -> u64
+        ensures value { result ≡ blocks_at (made_of (edit_seen edit.now) (get (edit_number (edit_seen edit.now)) (volume_of self.now).vnodes)) }
+        ensures small { result < 2 ^ 54 }
+    {
+        match (edit, self.get(edit.number())) {
+            (Edit::Amends(_, amend), Some(x)) => blocks(bytes_after(x, amend)),
+            (Edit::Makes(_, made), None) => blocks_of(&made.vnode),
+            (Edit::Makes(_, _), Some(x)) => blocks_of(x),
+            _ => 0,
+        }
+    }
+
+    fn blocks_before(&self, edits: &[Edit]) -> u64
+        requires { length edits.now ≤ 4 }
+        ensures value { result ≡ blocks_before (edits_seen edits.now) (volume_of self.now) }
+        ensures small { result < 2 ^ 60 }
+    {
+        let mut sum = 0;
+        for edit in edits {
+            sum += self.blocks_at(edit);
+        }
+        sum
+    }
+
+    fn blocks_after(&self, edits: &[Edit]) -> u64
+        requires { length edits.now ≤ 4 }
+        ensures value { result ≡ blocks_after (edits_seen edits.now) (volume_of self.now) }
+        ensures small { result < 2 ^ 60 }
+    {
+        let mut sum = 0;
+        for edit in edits {
+            sum += self.blocks_made(edit);
+        }
+        sum
+    }
+
+    /// The quota, in blocks.
+    fn quota(&self) -> u64
+        ensures value { result ≡ self.now.head.quota }
+        ensures small { result < 2 ^ 32 }
+    {
+        u64::from(self.head.quota)
+    }
+
+    /// The blocks after the edits are within the quota: those before, without those of the vnodes that are edited, and
+    /// with theirs after the edits. No other vnode is looked at.
+    fn is_within_quota(&self, edits: &[Edit]) -> bool
+        requires apart { Distinct (edits_seen edits.now) }
+        requires few { length edits.now ≤ 4 }
+        requires ordered { AscendsFrom 0 (volume_of self.now).vnodes }
+        ensures { result ≡ not (nat_lt self.now.head.quota (blocks_in (edited_all self.now.head.id (edits_seen edits.now) (volume_of self.now)).vnodes)) }
+    {
+        let blocks = u64::from(self.blocks());
+        let added = blocks + self.blocks_after(edits);
+        let allowed = self.quota() + self.blocks_before(edits);
+        added <= allowed
+    }
+
+    /// There may be one more vnode.
+    #[tactic(auto, using(crate::proofs::Renamed::same_length, crate::proofs::Sums::ordered))]
+    fn has_room(&self) -> bool
+        ensures value { result ≡ nat_lt (length (volume_of self.now).vnodes) most_vnodes }
+        ensures ordered { AscendsFrom 0 (volume_of self.now).vnodes }
+    {
+        self.vnodes.len() < MOST_VNODES
+    }
+
+    /// No count that the edit raises is at its last value, and there is room for a new vnode.
+    fn edit_fits(&self, edit: &Edit, has_room: bool) -> bool
+        requires { has_room ≡ nat_lt (length (volume_of self.now).vnodes) most_vnodes }
+        ensures { result ≡ edit_fits (volume_of self.now) (edit_seen edit.now) }
+    {
+        match (edit, self.get(edit.number())) {
+            (Edit::Makes(_, _), _) => has_room && is_raised(self.head.unique),
+            (Edit::Amends(_, amend), Some(x)) => amend_fits(x, amend),
+            (Edit::Frees(_), Some(x)) => free_fits(x),
+            _ => true,
+        }
+    }
+
+    fn all_fit(&self, edits: &[Edit], has_room: bool) -> bool
+        requires { has_room ≡ nat_lt (length (volume_of self.now).vnodes) most_vnodes }
+        ensures { result ≡ list_all (edit_fits (volume_of self.now)) (edits_seen edits.now) }
+    {
+        for edit in edits {
+            if !self.edit_fits(edit, has_room) {
+                return false;
+            }
+        }
+        true
+    }
+
+    /// 109: more blocks than the quota; 108: more vnodes than there may be, or a count that can't be raised.
+    pub(crate) fn check_limits(&self, edits: &[Edit]) -> Result<(), OpFault>
+        requires apart { Distinct (edits_seen edits.now) }
+        requires few { length edits.now ≤ 4 }
+        ensures { Passes (first_failing (limits self.now.head.id (edits_seen edits.now) (volume_of self.now))) result }
+    {
+        let has_room = self.has_room();
+        check(self.is_within_quota(edits), 109)?;
+        let all_fit = self.all_fit(edits, has_room);
+        check(is_raised(self.head.counter) && all_fit, 108)
+    }
+}
