@@ -4,3 +4,4 @@ pub mod Statuses
 pub mod Sums
 pub mod Tables
 pub mod Texts
+pub mod Soundly

@@ -74,7 +74,6 @@ fn new_vnodes(alloc: Global) -> Mem<VnodeStore>
 
 impl Volume {
     /// A volume with its root alone, which gives everyone all rights.
-    #[tactic(auto, using(crate::proofs::Texts::one_block))]
     pub fn new(
         alloc: Global,
         id: u32,
