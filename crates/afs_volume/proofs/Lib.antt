@@ -5,3 +5,5 @@ pub mod Sums
 pub mod Tables
 pub mod Texts
 pub mod Soundly
+pub mod Taken
+pub mod Folded

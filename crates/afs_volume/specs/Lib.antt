@@ -2,3 +2,4 @@ pub mod Bulk
 pub mod Counting
 pub mod Giving
 pub mod Seen
+pub mod Taking

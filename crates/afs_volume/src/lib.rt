@@ -18,6 +18,7 @@ mod reading;
 mod removing;
 mod renaming;
 mod replies;
+mod taking;
 mod volume;
 
 pub use volume::Volume;
