@@ -1,4 +1,7 @@
+pub mod Amended
+pub mod Drawn
 pub mod Placed
+pub mod Planned
 pub mod Renamed
 pub mod Statuses
 pub mod Sums
