@@ -6,6 +6,7 @@ use Rattle.std.specs.Option.{option_map}
 use Rattle.afs_num.specs.declared.histories.Version.{Version}
 use Rattle.afs_ideal.specs.Images.{Image, image_of}
 use Rattle.afs_ideal.specs.Operations.{changes, changed}
+use Rattle.afs_ideal.specs.Replies.{vnode_or_none}
 use Rattle.afs_ideal.specs.Tables.{Table, get}
 use Rattle.afs_ideal.specs.Volumes.{Vnode, Volume, Amend, Edit, amends, makes, frees, amended, fresh, version_at, gone_at, amends_at, makes_at, frees_at, edited, edited_all, versions_by, edit_number, counted}
 use Rattle.afs_ideal.proofs.Looks.{one_edit, look, looks, Distinct, MakesAs, IsNoMake, later_makes, same_next, next_all}
@@ -140,6 +141,10 @@ get_by false m p s t h = h
 pub get_among : (m : ℕ) (s t : Table Vnode) → get m (s ++ t) ≡ (if is_some (get m s) then get m s else get m t)
 get_among m [] t = refl
 get_among m (p ∷ s) t = get_by (nat_eq p.0 m) m p s t (get_among m s t)
+
+-- what is found among the first ones
+pub found_first : (m : ℕ) (s t : Table Vnode) (x : Vnode) → get m s ≡ Some x → vnode_or_none (get m (s ++ t)) ≡ x
+found_first m s t x is = rw (get_among m s t, is) refl
 
 abbrev pub is_among : List ℕ → ℕ → Bool
 is_among ns m = list_any (λ (n : ℕ). nat_eq n m) ns

@@ -3,6 +3,7 @@ pub mod Drawn
 pub mod Placed
 pub mod Planned
 pub mod Renamed
+pub mod Shown
 pub mod Statuses
 pub mod Sums
 pub mod Tables

@@ -1,6 +1,6 @@
 //! Statuses and replies by the vnodes that a change leaves.
 
-ghost use Rattle.std.specs.Prelude.{◌≡◌, true, Some, IfOk, IfSome};
+ghost use Rattle.std.specs.Prelude.{◌≡◌, ◌==◌, true, Some, find, IfOk, IfSome};
 ghost use Rattle.std.specs.List.{list_any, AllByRecursion};
 ghost use Rattle.std.specs.Option.{option_copied, option_map};
 ghost use Rattle.afs_ideal.specs.Operations.{list_for, rights_by};
@@ -22,6 +22,14 @@ use afs_num::calls::{AfsFetchStatus, FsCall, FsReply};
 use afs_num::types::{Fid, Mem};
 use afs_num::vnodes::Vnode;
 
+/// The vnode of this number among these.
+fn found(vnodes: &[Vnode], number: u32) -> Option<&Vnode>
+    ensures value { option_copied result ≡ find (λ x. x.vnode == number) vnodes.now }
+    ensures number { IfSome result (λ x. x.now.vnode ≡ number) }
+{
+    vnodes.iter().find(|x| x.vnode == number)
+}
+
 /// A volume, and the draft of a change of it, by which its vnodes are as they are after the change.
 #[derive(Clone, Copy)]
 pub struct Sight<'a> {
@@ -37,7 +45,20 @@ impl<'a> Sight<'a> {
         ensures number { IfSome result (λ x. x.now.vnode ≡ number) }
         ensures left { IfSome result (λ x. IsLeft self.now.draft.now.time x.now) }
     {
-        self.draft.vnodes.as_slice().iter().find(|x| x.vnode == number)
+        found(self.draft.vnodes.as_slice(), number)
+    }
+
+    /// The vnode of this number, which the change leaves.
+    fn shown(&self, number: u32) -> &Vnode
+        requires images { AllByRecursion (IsLeft self.now.draft.now.time) self.now.draft.now.vnodes }
+        requires left { IsLeftIn (shown_by self.now.draft.now.vnodes) number }
+        ensures seen { vnode_at (volume_drafted self.now.draft.now self.now.volume.now) number ≡ seen result.now }
+        ensures left { IsLeft self.now.draft.now.time result.now }
+    {
+        match self.left(number) {
+            Some(x) => x,
+            None => unreachable!(),
+        }
     }
 
     /// The number is that of a vnode that goes.
@@ -48,6 +69,7 @@ impl<'a> Sight<'a> {
     }
 
     /// The vnode of a number, as it is after the change.
+    #[tactic(auto, using(crate::proofs::Drawn::get_among, crate::proofs::Drawn::get_without))]
     fn get(&self, number: u32) -> Option<&Vnode>
         requires { AllByRecursion (IsLeft self.now.draft.now.time) self.now.draft.now.vnodes }
         ensures { option_map seen (option_copied result) ≡ get number (volume_drafted self.now.draft.now self.now.volume.now).vnodes }
@@ -92,10 +114,7 @@ impl<'a> Sight<'a> {
         requires left { IsLeftIn (shown_by self.now.draft.now.vnodes) number }
         ensures { IfOk result (λ s. s ≡ status_at self.now.volume.now.head.id (caller_seen caller.now) (λ f. self.now.draft.now.time) (volume_drafted self.now.draft.now self.now.volume.now) number) }
     {
-        let Some(x) = self.left(number) else {
-            unreachable!()
-        };
-        self.status(caller, x)
+        self.status(caller, self.shown(number))
     }
 
     /// The fid of the vnode of a number that the change leaves.
@@ -105,13 +124,10 @@ impl<'a> Sight<'a> {
         requires left { IsLeftIn (shown_by self.now.draft.now.vnodes) number }
         ensures { let v = volume_drafted self.now.draft.now self.now.volume.now in result ≡ fid_of self.now.volume.now.head.id number (vnode_at v number) }
     {
-        let Some(x) = self.left(number) else {
-            unreachable!()
-        };
         Fid {
             volume: self.volume.head.id,
             vnode: number,
-            unique: x.unique,
+            unique: self.shown(number).unique,
         }
     }
 
