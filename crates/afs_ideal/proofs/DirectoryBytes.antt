@@ -17,14 +17,14 @@ use Rattle.afs_ideal.proofs.Directories.{both_so, good_is_short}
 
 -- ---- one step after the other
 
-abbrev fine : {A : Type 0} → A → Result A (List ℕ)
+abbrev pub fine : {A : Type 0} → A → Result A (List ℕ)
 fine x = Ok x
 
-fine_is : {A : Type 0} (x y : A) → fine x ≡ fine y → x ≡ y
+pub fine_is : {A : Type 0} (x y : A) → fine x ≡ fine y → x ≡ y
 fine_is x y e = cc
 
 -- the value of a step that wasn't refused
-then_ok : {A B : Type 0} (r : Result A (List ℕ)) (f : A → Result B (List ℕ)) (y : B) → (r >>= f) ≡ Ok y → (x : A) × (r ≡ Ok x) × (f x ≡ Ok y)
+pub then_ok : {A B : Type 0} (r : Result A (List ℕ)) (f : A → Result B (List ℕ)) (y : B) → (r >>= f) ≡ Ok y → (x : A) × (r ≡ Ok x) × (f x ≡ Ok y)
 then_ok (Ok x) f y e = (x, refl, e)
 then_ok (Err left) f y e = absurd cc
 
@@ -32,15 +32,15 @@ field_ok : {A : Type 0} (left : List ℕ) (r : Result A XdrFault) (x : A) → fi
 field_ok left (Ok y) x e = ap (λ z. Ok z) (fine_is y x e)
 field_ok left (Err fault) x e = absurd cc
 
-good_ok : {A : Type 0} (b : Bool) (left : List ℕ) (x y : A) → if_good b left x ≡ Ok y → (b ≡ true) × (x ≡ y)
+pub good_ok : {A : Type 0} (b : Bool) (left : List ℕ) (x y : A) → if_good b left x ≡ Ok y → (b ≡ true) × (x ≡ y)
 good_ok true left x y e = (refl, fine_is x y e)
 good_ok false left x y e = absurd cc
 
-offset_ok : {A : Type 0} (size : ℕ) (r : Result A (List ℕ)) (x : A) → at_offset size r ≡ Ok x → r ≡ Ok x
+pub offset_ok : {A : Type 0} (size : ℕ) (r : Result A (List ℕ)) (x : A) → at_offset size r ≡ Ok x → r ≡ Ok x
 offset_ok size (Ok y) x e = cc
 offset_ok size (Err left) x e = absurd cc
 
-not_so : (b : Bool) → not b ≡ true → b ≡ false
+pub not_so : (b : Bool) → not b ≡ true → b ≡ false
 not_so true e = absurd cc
 not_so false e = refl
 

@@ -90,7 +90,7 @@ all_up : (es : List Edit) (t : Table Vnode) → AscendsFrom 1 t → AscendsFrom 
 all_up [] t up = up
 all_up (e ∷ es) t up = all_up es (one_at_first (edit_number e) (get (edit_number e) t) t) (one_up (edit_number e) (get (edit_number e) t) t refl up)
 
-first_sound : (es : List Edit) (v w : Volume) → IsSound v → w.next ≡ v.next → w.vnodes ≡ all_at_first es v.vnodes → IsSound w
+pub first_sound : (es : List Edit) (v w : Volume) → IsSound v → w.next ≡ v.next → w.vnodes ≡ all_at_first es v.vnodes → IsSound w
 first_sound es v w h next vnodes =
     let like : (n : ℕ) → AreLike (at v n) (at w n) = λ n. subst (λ (t : Table Vnode). AreLike (get n v.vnodes) (get n t)) (sym vnodes) (all_like es n v.vnodes) in
     as_volume w (steps v) (subst (AscendsFrom 1) (sym vnodes) (all_up es v.vnodes h.ascending))
@@ -111,7 +111,7 @@ laid_sound id call v w (ops.changes es n) is h e =
     let one : record after { counter = 1; vnodes = all_at_first es after.vnodes } ≡ w = ok_is (record after { counter = 1; vnodes = all_at_first es after.vnodes }) w e in
     subst IsSound one (first_sound es after (record after { counter = 1; vnodes = all_at_first es after.vnodes }) (operations_leave_sound id all_rights call v es n h is).sound refl refl)
 
-called_sound : (id : ℕ) (call : FsCall) (v w : Volume) → IsSound v → called id call v ≡ Ok w → IsSound w
+pub called_sound : (id : ℕ) (call : FsCall) (v w : Volume) → IsSound v → called id call v ≡ Ok w → IsSound w
 called_sound id call v w h e = laid_sound id call v w (op id all_rights call v) refl h e
 
 both_ok : {A B : Type 0} (r : Result A ℕ) (f : A → Result B ℕ) (y : B) → (r >>= f) ≡ Ok y → (x : A) × ((r ≡ Ok x) × (f x ≡ Ok y))

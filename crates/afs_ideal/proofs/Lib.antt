@@ -25,3 +25,4 @@ pub mod Limits
 pub mod Made
 pub mod Unsound
 pub mod LaidRows
+pub mod ReadNames

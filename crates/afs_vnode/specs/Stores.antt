@@ -9,6 +9,11 @@ use Rattle.afs_ideal.specs.VnodeMaps.{most_vnodes, AllFit}
 abbrev pub table_of : List Vnode → Table Vnode
 table_of vs = map (λ (v : Vnode). (v.vnode, v)) vs
 
+-- the map, and for how many more vnodes memory is there
+pub record Held : Type 0 where
+  pub table : Table Vnode
+  pub room : ℕ
+
 -- where the vnode of a number stands, or would stand
 abbrev pub place_of : ℕ → List Vnode → ℕ
 place_of n vs = prefix_len (λ (v : Vnode). nat_lt v.vnode n) vs

@@ -1,7 +1,8 @@
 //! Vnodes in a vector by ascending numbers.
 
-ghost use Rattle.std.specs.Prelude.{◌≡◌, ◌≤◌, ◌<◌, ◌+◌, ◌%◌, ◌↔◌, ℕ, true, Err, None, length, is_some, slice_get, OnOk, OnErr, IfOk, IfSome, IsOk};
+ghost use Rattle.std.specs.Prelude.{◌≡◌, ◌≤◌, ◌<◌, ◌+◌, ◌%◌, ◌↔◌, ℕ, true, false, Err, None, length, is_some, slice_get, OnOk, OnErr, IfOk, IfSome, IsOk};
 ghost use Rattle.std.specs.Option.{option_copied};
+ghost use Rattle.std.specs.Vec.{vec_capacity};
 ghost use Rattle.afs_ideal.specs.Tables.{get, set, unset, AscendsFrom, lowest_free};
 ghost use Rattle.afs_ideal.specs.VnodeMaps.{most_vnodes, is_full_for, first_number, allocated, changed_since};
 ghost use Rattle.afs_vnode.specs.Stores.{table_of, place_of, has_number, IsHint};
@@ -73,6 +74,8 @@ fn put_in_place(vnodes: &mut Vec<Vnode>, v: Vnode) -> Mem<()>
     ensures grows { length vnodes.new.items ≤ length vnodes.old.items + 1 }
     ensures replaces { is_some (get v.vnode (table_of vnodes.old.items)) ≡ true → length vnodes.new.items ≡ length vnodes.old.items }
     ensures succeeds { is_some (get v.vnode (table_of vnodes.old.items)) ≡ true → IsOk result }
+    ensures in_room { length vnodes.old.items < vec_capacity vnodes.old → IsOk result }
+    ensures capacity { vec_capacity vnodes.old ≤ vec_capacity vnodes.new }
 {
     let place = place(vnodes, v.vnode);
     if is_at(vnodes, place, v.vnode) {
@@ -95,6 +98,10 @@ pub fn put(vnodes: &mut Vec<Vnode>, v: Vnode) -> Result<(), VnodeFault>
     ensures few { length vnodes.new.items ≤ most_vnodes }
     ensures many { (result ≡ Err TooMany) ↔ (is_full_for v.vnode (table_of vnodes.old.items) ≡ true) }
     ensures replaces { is_some (get v.vnode (table_of vnodes.old.items)) ≡ true → IsOk result }
+    ensures succeeds { is_full_for v.vnode (table_of vnodes.old.items) ≡ false → length vnodes.old.items < vec_capacity vnodes.old → IsOk result }
+    ensures grows { length vnodes.new.items ≤ length vnodes.old.items + 1 }
+    ensures same_length { is_some (get v.vnode (table_of vnodes.old.items)) ≡ true → length vnodes.new.items ≡ length vnodes.old.items }
+    ensures capacity { vec_capacity vnodes.old ≤ vec_capacity vnodes.new }
 {
     if is_full_for(vnodes, v.vnode) {
         return Err(VnodeFault::TooMany);
@@ -112,6 +119,7 @@ pub fn remove(vnodes: &mut Vec<Vnode>, number: u32) -> bool
     ensures was { result ≡ is_some (get number (table_of vnodes.old.items)) }
     ensures removed { table_of vnodes.new.items ≡ unset number (table_of vnodes.old.items) }
     ensures few { length vnodes.new.items ≤ length vnodes.old.items }
+    ensures capacity { vec_capacity vnodes.old ≤ vec_capacity vnodes.new }
 {
     let place = place(vnodes, number);
     if is_at(vnodes, place, number) {

@@ -1,7 +1,8 @@
 //! The vnodes of a volume by their numbers.
 
-ghost use Rattle.std.specs.Prelude.{◌≡◌, ◌≤◌, ◌<◌, ◌%◌, ◌↔◌, ℕ, true, [], Err, None, is_some, length, slice_get, IfOk, IfSome, IsOk, OnOk, OnErr};
+ghost use Rattle.std.specs.Prelude.{◌≡◌, ◌≤◌, ◌<◌, ◌%◌, ◌↔◌, ℕ, true, false, [], Err, None, is_some, length, slice_get, IfOk, IfSome, IsOk, OnOk, OnErr};
 ghost use Rattle.std.specs.Option.{option_copied, option_map};
+ghost use Rattle.afs_num.specs.Keyed.{KeepsRoom};
 ghost use Rattle.afs_ideal.specs.Tables.{get, set, unset, AscendsFrom, lowest_free};
 ghost use Rattle.afs_ideal.specs.VnodeImage.{FitsImage};
 ghost use Rattle.afs_ideal.specs.VnodeMaps.{most_vnodes, is_full_for, first_number, allocated, changed_since};
@@ -15,8 +16,9 @@ use afs_num::vnodes::{Vnode, VnodeNumbers};
 use std::alloc::Global;
 use std::marker::Model;
 
-/// The vnodes of a volume, at most 4,096, by ascending numbers. Finding, putting and removing one takes as many
-/// comparisons as the logarithm of their number; a free number is looked for from one below which none is free.
+/// The vnodes of a volume, at most 4,096, by ascending numbers, and for how many more memory is there. Finding, putting
+/// and removing one takes as many comparisons as the logarithm of their number; a free number is looked for from one below
+/// which none is free.
 #[derive(Drop)]
 pub struct VnodeStore {
     vnodes: Vec<Vnode>,
@@ -25,13 +27,13 @@ pub struct VnodeStore {
 }
 
 impl Model for VnodeStore {
-    ghost use Rattle.afs_num.specs.declared.vnodes.Vnode.{Vnode};
-    ghost use Rattle.afs_ideal.specs.Tables.{Table};
-    ghost use Rattle.afs_vnode.specs.Stores.{table_of, IsStore};
+    ghost use Rattle.std.specs.Prelude.{◌-◌, length};
+    ghost use Rattle.std.specs.Vec.{vec_capacity};
+    ghost use Rattle.afs_vnode.specs.Stores.{table_of, Held, IsStore};
 
-    ghost Value = { Table Vnode };
+    ghost Value = { Held };
 
-    ghost view = { λ s. table_of s.vnodes.items };
+    ghost view = { λ s. record { table = table_of s.vnodes.items; room = vec_capacity s.vnodes - length s.vnodes.items } };
 
     ghost invariant = { λ s. IsStore s.vnodes.items s.even s.odd };
 }
@@ -58,7 +60,7 @@ fn lowered(first: u32, hint: u32, number: u32) -> u32
 impl VnodeStore {
     /// No vnodes. It takes no memory.
     pub fn new(alloc: Global) -> VnodeStore
-        ensures { result ≡ [] }
+        ensures { result.table ≡ [] }
     {
         VnodeStore {
             vnodes: Vec::new(alloc),
@@ -69,16 +71,16 @@ impl VnodeStore {
 
     /// How many vnodes there are.
     pub fn len(&self) -> usize
-        ensures value { result ≡ length self.now }
-        ensures few { length self.now ≤ most_vnodes }
-        ensures ascends { AscendsFrom 0 self.now }
+        ensures value { result ≡ length self.now.table }
+        ensures few { length self.now.table ≤ most_vnodes }
+        ensures ascends { AscendsFrom 0 self.now.table }
     {
         self.vnodes.len()
     }
 
     /// The vnode of a number. It takes no memory.
     pub fn get(&self, vnode: u32) -> Option<&Vnode>
-        ensures value { option_copied result ≡ get vnode self.now }
+        ensures value { option_copied result ≡ get vnode self.now.table }
         ensures number { IfSome result (λ v. v.now.vnode ≡ vnode) }
         ensures fits { IfSome result (λ v. FitsImage v.now) }
     {
@@ -87,20 +89,32 @@ impl VnodeStore {
 
     /// The vnode at a place in ascending order, from 0. It takes no memory.
     pub fn at(&self, place: u32) -> Option<&Vnode>
-        ensures value { option_copied result ≡ option_map (λ p. p.1) (slice_get self.now place) }
+        ensures value { option_copied result ≡ option_map (λ p. p.1) (slice_get self.now.table place) }
         ensures fits { IfSome result (λ v. FitsImage v.now) }
     {
         sorted::nth(&self.vnodes, place as usize)
     }
 
+    /// Makes room for so many more vnodes.
+    pub fn reserve(&mut self, count: u32) -> Mem<()>
+        ensures room { OnOk result (count ≤ self.new.room) }
+        ensures table { self.new.table ≡ self.old.table }
+        ensures kept { self.old.room ≤ self.new.room }
+    {
+        self.vnodes.reserve(count as usize)?;
+        Ok(())
+    }
+
     /// Puts a vnode in the place of the one with its number, if there is one. `TooMany` where there are 4,096 others.
-    /// One that takes another's place takes no memory.
+    /// One that takes another's place takes no memory, nor does one for which there is room.
     pub fn put(&mut self, v: Vnode) -> Result<(), VnodeFault>
         requires { FitsImage v }
-        ensures ok { OnOk result (self.new ≡ set v.vnode v self.old) }
-        ensures err { OnErr result (self.new ≡ self.old) }
-        ensures many { (result ≡ Err TooMany) ↔ (is_full_for v.vnode self.old ≡ true) }
-        ensures replaces { is_some (get v.vnode self.old) ≡ true → IsOk result }
+        ensures ok { OnOk result (self.new.table ≡ set v.vnode v self.old.table) }
+        ensures err { OnErr result (self.new.table ≡ self.old.table) }
+        ensures many { (result ≡ Err TooMany) ↔ (is_full_for v.vnode self.old.table ≡ true) }
+        ensures replaces { is_some (get v.vnode self.old.table) ≡ true → IsOk result }
+        ensures succeeds { is_full_for v.vnode self.old.table ≡ false → 0 < self.old.room → IsOk result }
+        ensures room { KeepsRoom (get v.vnode self.old.table) self.old.room self.new.room }
     {
         let number = v.vnode;
         sorted::put(&mut self.vnodes, v)?;
@@ -111,8 +125,9 @@ impl VnodeStore {
 
     /// Removes the vnode of a number, and tells whether there was one. It takes no memory.
     pub fn remove(&mut self, vnode: u32) -> bool
-        ensures was { result ≡ is_some (get vnode self.old) }
-        ensures removed { self.new ≡ unset vnode self.old }
+        ensures was { result ≡ is_some (get vnode self.old.table) }
+        ensures removed { self.new.table ≡ unset vnode self.old.table }
+        ensures room { self.old.room ≤ self.new.room }
     {
         let was = sorted::remove(&mut self.vnodes, vnode);
         self.even = lowered(2, self.even, vnode);
@@ -122,8 +137,8 @@ impl VnodeStore {
 
     /// The lowest number that no directory, or no file or link, has, from 3 or 2 on. It takes no memory.
     pub fn lowest_free(&self, dir: bool) -> u32
-        ensures value { result ≡ lowest_free (first_number dir) self.now }
-        ensures free { get result self.now ≡ None }
+        ensures value { result ≡ lowest_free (first_number dir) self.now.table }
+        ensures free { get result self.now.table ≡ None }
     {
         let hint = if dir { self.odd } else { self.even };
         sorted::lowest_free(&self.vnodes, dir, hint)
@@ -132,9 +147,9 @@ impl VnodeStore {
     /// The lowest number that a new directory, or a new file or link, may have; none where there are 4,096 vnodes.
     /// It takes no memory.
     pub fn allocate(&self, dir: bool) -> Option<u32>
-        ensures value { result ≡ allocated dir self.now }
-        ensures free { IfSome result (λ n. get n self.now ≡ None) }
-        ensures lowest { IfSome result (λ n. (k : ℕ) → first_number dir ≤ k → k < n → k % 2 ≡ first_number dir % 2 → is_some (get k self.now) ≡ true) }
+        ensures value { result ≡ allocated dir self.now.table }
+        ensures free { IfSome result (λ n. get n self.now.table ≡ None) }
+        ensures lowest { IfSome result (λ n. (k : ℕ) → first_number dir ≤ k → k < n → k % 2 ≡ first_number dir % 2 → is_some (get k self.now.table) ≡ true) }
     {
         let hint = if dir { self.odd } else { self.even };
         sorted::allocate(&self.vnodes, dir, hint)
@@ -142,7 +157,7 @@ impl VnodeStore {
 
     /// The numbers of the vnodes that were changed after the volume's counter stood so, in ascending order.
     pub fn changed_since(&self, alloc: Global, counter: u32) -> Mem<VnodeNumbers>
-        ensures { IfOk result (λ ns. ns ≡ changed_since counter self.now) }
+        ensures { IfOk result (λ ns. ns ≡ changed_since counter self.now.table) }
     {
         sorted::changed_since(alloc, &self.vnodes, counter)
     }

@@ -8,3 +8,4 @@ pub mod Statuses
 pub mod Sums
 pub mod Tables
 pub mod Texts
+pub mod Soundly

@@ -80,7 +80,7 @@ Plans r (Err faults.OutOfMemory) = Unit {0}
 -- ---- volumes
 
 abbrev pub volume_of : Volume → ideal.Volume
-volume_of v = volume_seen v.head v.vnodes
+volume_of v = volume_seen v.head v.vnodes.table
 
 -- what an operation is to do, before its limits
 abbrev pub planned : Caller → FsCall → ideal.Volume → op.Result
@@ -148,7 +148,7 @@ time_in None = 0
 time_in (Some x) = x.server_time
 
 abbrev pub times_of : Volume → Fid → ℕ
-times_of v f = time_in (get f.vnode v.vnodes)
+times_of v f = time_in (get f.vnode v.vnodes.table)
 
 -- what a reading call is answered
 abbrev pub reply_of : Caller → Volume → op.Result → Option FsReply

@@ -167,7 +167,7 @@ impl Volume {
     /// The vnode of a number.
     #[tactic(auto, using(crate::proofs::Tables::got))]
     pub(crate) fn get(&self, number: u32) -> Option<&Vnode>
-        ensures value { option_copied result ≡ get number self.now.vnodes }
+        ensures value { option_copied result ≡ get number self.now.vnodes.table }
         ensures seen { option_map seen (option_copied result) ≡ get number (volume_of self.now).vnodes }
         ensures number { IfSome result (λ x. x.now.vnode ≡ number) }
         ensures fits { IfSome result (λ x. FitsImage x.now) }
@@ -181,7 +181,7 @@ impl Volume {
     pub(crate) fn at(&self, number: u32, unique: u32) -> Option<&Vnode>
         ensures seen { option_map seen (option_copied result) ≡ if_unique unique (get number (volume_of self.now).vnodes) }
         ensures number { IfSome result (λ x. x.now.vnode ≡ number) }
-        ensures value { IfSome result (λ x. get number self.now.vnodes ≡ Some x.now) }
+        ensures value { IfSome result (λ x. get number self.now.vnodes.table ≡ Some x.now) }
         ensures fits { IfSome result (λ x. FitsImage x.now) }
         ensures readable { IfSome result (λ x. IsReadable x.now) }
     {
@@ -204,7 +204,7 @@ impl Volume {
     pub(crate) fn vnode(&self, fid: &Fid) -> Option<&Vnode>
         ensures seen { option_map seen (option_copied result) ≡ vnode_of fid.now (volume_of self.now) }
         ensures number { IfSome result (λ x. x.now.vnode ≡ fid.now.vnode) }
-        ensures value { IfSome result (λ x. get fid.now.vnode self.now.vnodes ≡ Some x.now) }
+        ensures value { IfSome result (λ x. get fid.now.vnode self.now.vnodes.table ≡ Some x.now) }
         ensures fits { IfSome result (λ x. FitsImage x.now) }
         ensures readable { IfSome result (λ x. IsReadable x.now) }
     {
@@ -215,7 +215,7 @@ impl Volume {
     pub(crate) fn found(&self, fid: &Fid) -> Result<&Vnode, OpFault>
         ensures found { Finds (λ x. x.now) (vnode_of fid.now (volume_of self.now)) result }
         ensures number { IfOk result (λ x. x.now.vnode ≡ fid.now.vnode) }
-        ensures value { IfOk result (λ x. get fid.now.vnode self.now.vnodes ≡ Some x.now) }
+        ensures value { IfOk result (λ x. get fid.now.vnode self.now.vnodes.table ≡ Some x.now) }
         ensures fits { IfOk result (λ x. FitsImage x.now) }
         ensures readable { IfOk result (λ x. IsReadable x.now) }
     {
@@ -229,7 +229,7 @@ impl Volume {
     #[tactic(auto, using(crate::proofs::Tables::free_seen))]
     pub(crate) fn free_number(&self, x: &Vnode) -> u32
         ensures value { result ≡ free_number (seen x.now).kind (volume_of self.now) }
-        ensures free { get result self.now.vnodes ≡ None }
+        ensures free { get result self.now.vnodes.table ≡ None }
     {
         self.vnodes.lowest_free(is_directory(x))
     }

@@ -62,8 +62,8 @@ fn new_root(alloc: Global) -> Mem<Vnode>
 /// The vnodes of a new volume.
 #[tactic(auto, unfolding(crate::specs::Seen::all_seen))]
 fn new_vnodes(alloc: Global) -> Mem<VnodeStore>
-    ensures seen { IfOk result (λ t. all_seen t ≡ (1, new_root) ∷ []) }
-    ensures readable { IfOk result (λ t. AreReadable t) }
+    ensures seen { IfOk result (λ t. all_seen t.table ≡ (1, new_root) ∷ []) }
+    ensures readable { IfOk result (λ t. AreReadable t.table) }
 {
     let mut vnodes = VnodeStore::new(alloc);
     match vnodes.put(new_root(alloc)?) {
@@ -74,7 +74,6 @@ fn new_vnodes(alloc: Global) -> Mem<VnodeStore>
 
 impl Volume {
     /// A volume with its root alone, which gives everyone all rights.
-    #[tactic(auto, using(crate::proofs::Texts::one_block))]
     pub fn new(
         alloc: Global,
         id: u32,

@@ -10,7 +10,7 @@ use Rattle.afs_volume.proofs.volume.Volume.is_below.Goals as goal
 pub loop-init : goal.loop-init
 loop-init c =
     let v = volume_of c.args.self.now in
-    let all : length c.args.self.now.vnodes - 0 ≡ length v.vnodes = omega (arith, same_length c.args.self.now.vnodes) in
+    let all : length c.args.self.now.vnodes.table - 0 ≡ length v.vnodes = omega (arith, same_length c.args.self.now.vnodes) in
     ap (λ (k : ℕ). leads_up k c.args.number c.args.top v (get c.args.number v.vnodes)) all
 
 pub loop-preserved : goal.loop-preserved
@@ -18,8 +18,8 @@ unfolding seen
 loop-preserved c =
     let v = volume_of c.args.self.now in
     let x : Vnode = seen c.in-Some.field-0.now in
-    let k : ℕ = length c.args.self.now.vnodes - c.loop.counter in
-    let m : ℕ = length c.args.self.now.vnodes - (c.loop.counter + 1) in
+    let k : ℕ = length c.args.self.now.vnodes.table - c.loop.counter in
+    let m : ℕ = length c.args.self.now.vnodes.table - (c.loop.counter + 1) in
     let next : k ≡ suc m = omega arith in
     let is : get c.loop.at v.vnodes ≡ Some x = search rules in
     let other : nat_eq c.loop.at c.args.top ≡ false = search rules in
