@@ -1,3 +1,4 @@
+pub mod Lengths
 pub mod Finding
 pub mod Reach
 pub mod Names

@@ -1,4 +1,4 @@
-ghost use Rattle.std.specs.Prelude.{◌≡◌, ◌==◌, [], length, IfOk, Ok, OnOk, OnErr};
+ghost use Rattle.std.specs.Prelude.{◌≡◌, ◌≤◌, ◌==◌, [], length, IfOk, Ok, OnOk, OnErr};
 ghost use Rattle.std.specs.Option.{option_map};
 ghost use Rattle.afs_ideal.specs.Directories.{named, with_name, without_name, add_refused, directory_bytes, directory_of};
 ghost use Rattle.afs_dir.specs.Dirs.{Answers, Reads, removal, vnode_named};
@@ -123,10 +123,11 @@ impl Dir {
     }
 
     /// The bytes that spell the directory.
-    #[tactic(auto, unfolding(afs_ideal::specs::Directories::directory_bytes))]
+    #[tactic(auto, unfolding(afs_ideal::specs::Directories::directory_bytes), using(crate::proofs::Lengths::names_fit))]
     pub fn to_bytes(&self) -> Mem<Octets>
         ensures spelled { IfOk result (λ bytes. bytes ≡ directory_bytes self.now) }
         ensures read { IfOk result (λ bytes. directory_of bytes ≡ Ok self.now) }
+        ensures short { IfOk result (λ bytes. length bytes ≤ 276484) }
     {
         let mut bytes = Writer::new(self.alloc);
         bytes.word(self.names.len() as u32)?;

@@ -26,7 +26,7 @@ use Rattle.afs_ideal.proofs.Looks.{IsNoMake, MakesAs, no_makes, two_makes, each_
 use Rattle.afs_ideal.proofs.Comes.{not_itself}
 use Rattle.afs_ideal.proofs.Goes.{stays, unlink_by, unlink_number, unlinks_is}
 use Rattle.afs_ideal.proofs.Moves.{MayStandIn, no_named}
-use Rattle.afs_ideal.proofs.Scopes.{accepted, all_pass, implied, or_left, or_right, read_is_none, statuses_none}
+use Rattle.afs_ideal.proofs.Scopes.{accepted, none_fails, all_pass, implied, or_left, or_right, read_is_none, statuses_none}
 use Rattle.afs_ideal.proofs.Preserved.{same_edits, Pass, into, some_is, Given, gives, in_directory, removal, removal_is, file_kind, no_length, Renames, renames_by, stands_by, not_there_by, not_same_by}
 use Rattle.afs_ideal.proofs.Tellings.{unique_in, IsFit, Proper, Change, as_change}
 
@@ -68,7 +68,7 @@ none_made v ds h = no_makes v.next v.next (ascending ds) (each_ascending IsNoMak
 -- ---- the calls
 
 stored : (id : ℕ) (call : FsCall) (v : Volume) (f : Fid) (x : Vnode) (a : Amend) → f.volume ≡ id → Found f v x → Owns call v (same_fid f) → Proper id call v (amends f.vnode a ∷ [])
-stored id call v f x a is found owns = record { apart = (tt, tt); one = tt; fit = (own_edit id call v f x a is found owns, tt); some = omega arith }
+stored id call v f x a is found owns = record { apart = (tt, tt); one = tt; fit = (own_edit id call v f x a is found owns, tt); some = omega arith; few = omega arith }
 
 created : (id : ℕ) (call : FsCall) (v : Volume) (d : Fid) (x : Vnode) (name : List ℕ) (status : AfsStoreStatus) (links : Option ℕ) (new : Vnode) → d.volume ≡ id → Found d v x → get (free_number new.kind v) v.vnodes ≡ None
     → Owns call v (same_fid d) → Owns call v (is_made new.kind v) → Proper id call v (creating d name status links new v)
@@ -80,6 +80,7 @@ created id call v d x name status links new is found free owns made =
       one = two_makes v.next v.next d.vnode t _ (with_status (Some status) new) refl;
       fit = (own_edit id call v d x _ is found owns, (record { finds = free; own = made (fid_at id t v.next) (both_true (nat_eq t t) (nat_eq v.next v.next) (eq-eqb t t refl) (eq-eqb v.next v.next refl)) }, tt));
       some = omega arith;
+      few = omega arith;
     }
 
 removed : (id : ℕ) (call : FsCall) (v : Volume) (d : Fid) (name : List ℕ) (links : Option ℕ) (x : Vnode) (m : Name) (y : Vnode) → IsSound v → d.volume ≡ id → Found d v x → Given d name v x m y
@@ -91,6 +92,7 @@ removed id call v d name links x m y h is found g owns given =
       one = none_made v (removal d name links v ∷ unlink_by (stays y) m.vnode y ∷ []) (tt, (unlink_no_make (stays y) m.vnode y, tt));
       fit = (own_edit id call v d x _ is found owns, (unlink_edit (stays y) id call v d name x m y g given, tt));
       some = omega arith;
+      few = omega arith;
     })
 
 removed_name : (id : ℕ) (call : FsCall) (v : Volume) (d : Fid) (name : List ℕ) (links : Option ℕ) → IsSound v → d.volume ≡ id → is_some (vnode_of d v) ≡ true → is_directory (vnode_of d v) ≡ true → is_some (name_in d name v) ≡ true
@@ -123,6 +125,7 @@ linked id caller d name f v is p =
       one = none_made v (linking d name f v) (tt, (tt, tt));
       fit = (own_edit id call v d i.0 _ is i.1.found (λ g t. or_left (same_fid d g) (same_fid f g) t), (own_edit id call v f y _ (eqb-true f.volume d.volume same.0 ∙ is) r.1 (λ g t. or_right (same_fid d g) (same_fid f g) t), tt));
       some = omega arith;
+      few = omega arith;
     }
 
 -- ---- Rename
@@ -151,7 +154,7 @@ not_emptied d e old new v x z t m w y r g same =
 
 within_by : (id : ℕ) (d e : Fid) (old new : List ℕ) (v : Volume) (x z : Vnode) (m : Name) (y : Vnode) (o : Option Name) → IsSound v → d.volume ≡ id → Renames d e old new v x z m y → name_in e new v ≡ o
     → Renaming id d e old new v (ops.renames_within d m old new (named_vnode v o) v ++ unlinks (number_named o) (named_vnode v o))
-within_by id d e old new v x z m y None h is r named = record { apart = (tt, tt); one = tt; fit = (own_edit id (calls.Rename d old e new) v d x _ is r.from.found (owns_first d e old new v), tt); some = omega arith }
+within_by id d e old new v x z m y None h is r named = record { apart = (tt, tt); one = tt; fit = (own_edit id (calls.Rename d old e new) v d x _ is r.from.found (owns_first d e old new v), tt); some = omega arith; few = omega arith }
 within_by id d e old new v x z m y (Some w) h is r named =
     let k = gives e new v z w h r.to.found named in
     let t : Vnode = k.0 in
@@ -162,6 +165,7 @@ within_by id d e old new v x z m y (Some w) h is r named =
       one = none_made v (ops.renames_within d m old new (Some t) v ++ unlink_by (stays t) w.vnode t ∷ []) (tt, (unlink_no_make (stays t) w.vnode t, tt));
       fit = (own_edit id (calls.Rename d old e new) v d x _ is r.from.found (owns_first d e old new v), (unlink_edit (stays t) id (calls.Rename d old e new) v e new z w t k.1 (owns_replaced d e old new v), tt));
       some = omega arith;
+      few = omega arith;
     }))
 
 record Apart (id : ℕ) (d e : Fid) (old new : List ℕ) (v : Volume) (m : Name) : Type 0 where
@@ -192,6 +196,7 @@ across_by id d e old new v x z m y None moves h k r named = record {
   one = none_made v (ops.renames_across d e m old new moves None v) (tt, (tt, (tt, tt)));
   fit = (k.source _, (k.target _, (k.moved _, tt)));
   some = omega arith;
+  few = omega arith;
 }
 across_by id d e old new v x z m y (Some w) moves h k r named =
     let g = gives e new v z w h r.to.found named in
@@ -207,6 +212,7 @@ across_by id d e old new v x z m y (Some w) moves h k r named =
       one = none_made v (ops.renames_across d e m old new moves (Some t) v ++ unlink_by (stays t) w.vnode t ∷ []) (tt, (tt, (tt, (unlink_no_make (stays t) w.vnode t, tt))));
       fit = (k.source _, (k.target _, (k.moved _, (unlink_edit (stays t) id (calls.Rename d old e new) v e new z w t g.1 (owns_replaced d e old new v), tt))));
       some = omega arith;
+      few = omega arith;
     }))
 
 renamed_by : (b : Bool) (id : ℕ) (d e : Fid) (old new : List ℕ) (v : Volume) (x z : Vnode) (m : Name) (y : Vnode) → nat_eq d.vnode e.vnode ≡ b → IsSound v → d.volume ≡ id → e.volume ≡ id → Renames d e old new v x z m y
@@ -266,6 +272,12 @@ change_by id caller (calls.FetchAcl f) v es n h on p e = absurd (read_is_none op
 change_by id caller (calls.FetchStatus f) v es n h on p e = absurd (read_is_none ops.shows_status f (vnode_of f v) es n e)
 change_by id caller (calls.BulkStatus fs) v es n h on p e = absurd (statuses_none caller v fs es n e)
 change_by id caller call v es n h on p e = absurd cc
+
+-- the same before the limits are tested
+pub planned_change : (id : ℕ) (caller : Caller) (call : FsCall) (v : Volume) (es : List Edit) (n : ℕ) → IsSound v → IsOn id call → ops.by_tests (first_failing (tests caller call v)) (effect caller call v) ≡ changes es n → Change id call v es
+planned_change id caller call v es n h on e =
+    let a = none_fails (first_failing (tests caller call v)) (effect caller call v) es n e in
+    change_by id caller call v es n h on (all_pass (tests caller call v) a.0) a.1
 
 pub operations_change : (id : ℕ) (caller : Caller) (call : FsCall) (v : Volume) (es : List Edit) (n : ℕ) → IsSound v → IsOn id call → op id caller call v ≡ changes es n → Change id call v es
 operations_change id caller call v es n h on e =

@@ -19,7 +19,7 @@ use Rattle.afs_ideal.proofs.Tables.{get_set, get_unset}
 
 -- ---- an accepted change: its tests pass, and it is the effect
 
-none_fails : (o : Option ℕ) (r : Result) (es : List Edit) (n : ℕ) → by_tests o r ≡ changes es n → (o ≡ None) × (r ≡ changes es n)
+pub none_fails : (o : Option ℕ) (r : Result) (es : List Edit) (n : ℕ) → by_tests o r ≡ changes es n → (o ≡ None) × (r ≡ changes es n)
 none_fails None r es n e = (refl, e)
 none_fails (Some code) r es n e = absurd cc
 

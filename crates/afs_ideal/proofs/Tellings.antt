@@ -66,10 +66,10 @@ unchanged_by : (b : Bool) (n m : ℕ) (a o : Option Vnode) → eqb n m ≡ b →
 unchanged_by true n m a o e ne = absurd (ne (sym (eqb-true n m e)))
 unchanged_by false n m a o e ne = refl
 
-abbrev AreAs : Volume → Volume → List Edit → Type 0
+abbrev pub AreAs : Volume → Volume → List Edit → Type 0
 AreAs first v es = AllByRecursion (λ (d : Edit). get (edit_number d) v.vnodes ≡ get (edit_number d) first.vnodes) es
 
-as_before : (id : ℕ) (e : Edit) (es : List Edit) (first v : Volume) → AllByRecursion (λ (d : Edit). edit_number d ≡ edit_number e → ⊥) es → AreAs first v es → AreAs first (edited id e v).volume es
+pub as_before : (id : ℕ) (e : Edit) (es : List Edit) (first v : Volume) → AllByRecursion (λ (d : Edit). edit_number d ≡ edit_number e → ⊥) es → AreAs first v es → AreAs first (edited id e v).volume es
 as_before id e [] first v apart same = tt
 as_before id e (d ∷ ds) first v apart same =
     (edit_look id (edit_number d) e v ∙ (unchanged_by (eqb (edit_number e) (edit_number d)) (edit_number e) (edit_number d) _ (get (edit_number d) v.vnodes) refl apart.0 ∙ same.0), as_before id e ds first v apart.1 same.1)
@@ -81,7 +81,7 @@ told_each id (e ∷ es) first v apart one finds same =
     let rest = told_each id es first (edited id e v).volume apart.1 (later_makes id first.next e es v one) finds.1 (as_before id e es first v apart.0 same.1) in
     subst (λ (vs : List Version). TellsEach id first (e ∷ es) (vs ++ versions_by id es (edited id e v).volume)) (sym t.1.0) (t.1.1, rest)
 
-same_all : (v : Volume) (es : List Edit) → AreAs v v es
+pub same_all : (v : Volume) (es : List Edit) → AreAs v v es
 same_all v [] = tt
 same_all v (e ∷ es) = (refl, same_all v es)
 
@@ -149,6 +149,10 @@ touched_own Q id v (e ∷ es) (w ∷ ws) g own h t =
 
 -- ---- edits as a call makes them, in any order
 
+-- each of a vnode that is there, or a new one
+abbrev pub FindEach : Volume → List Edit → Type 0
+FindEach v es = AllByRecursion (λ (e : Edit). Finds e (get (edit_number e) v.vnodes)) es
+
 -- of a vnode that is there, or a new one, and one of the call's own
 pub record IsFit (id : ℕ) (call : FsCall) (v : Volume) (e : Edit) : Type 0 where
   pub finds : Finds e (get (edit_number e) v.vnodes)
@@ -159,20 +163,37 @@ pub record Proper (id : ℕ) (call : FsCall) (v : Volume) (ds : List Edit) : Typ
   pub one : MakesAs v.next v.next (ascending ds)
   pub fit : AllByRecursion (IsFit id call v) ds
   pub some : 0 < length ds
+  pub few : length ds ≤ 4
 
 pub record Change (id : ℕ) (call : FsCall) (v : Volume) (es : List Edit) : Type 0 where
   pub is : IsOneChange id es v
+  pub apart : Distinct es
+  pub one : MakesAs v.next v.next es
+  pub finds : FindEach v es
+  pub few : length es ≤ 4
   pub own : (g : Fid) → touches g (versions_by id es v) ≡ true → may_touch call v g ≡ true
 
 each_edit : (P Q : Edit → Type 0) (es : List Edit) → ((e : Edit) → P e → Q e) → AllByRecursion P es → AllByRecursion Q es
 each_edit P Q [] f h = tt
 each_edit P Q (e ∷ es) f h = (f e h.0, each_edit P Q es f h.1)
 
+placed_length : (b : Bool) (e d : Edit) (ds : List Edit) → length (placed e ds) ≡ 1 + length ds → length (if b then d ∷ placed e ds else e ∷ d ∷ ds) ≡ 1 + length (d ∷ ds)
+placed_length true e d ds h = omega (arith, h)
+placed_length false e d ds h = omega arith
+
+one_placed : (e : Edit) (ds : List Edit) → length (placed e ds) ≡ 1 + length ds
+one_placed e [] = refl
+one_placed e (d ∷ ds) = placed_length (nat_lt (edit_number d) (edit_number e)) e d ds (one_placed e ds)
+
+ascending_length : (es : List Edit) → length (ascending es) ≡ length es
+ascending_length [] = refl
+ascending_length (e ∷ es) = let one = one_placed e (ascending es) in let more = ascending_length es in omega (arith, one, more)
+
 pub as_change : (id : ℕ) (call : FsCall) (v : Volume) (ds : List Edit) → Proper id call v ds → Change id call v (ascending ds)
 as_change id call v ds p =
     let es : List Edit = ascending ds in
     let fit : AllByRecursion (IsFit id call v) es = each_ascending (IsFit id call v) ds p.fit in
-    let finds = each_edit (IsFit id call v) (λ (e : Edit). Finds e (get (edit_number e) v.vnodes)) es (λ e f. f.finds) fit in
+    let finds : FindEach v es = each_edit (IsFit id call v) (λ (e : Edit). Finds e (get (edit_number e) v.vnodes)) es (λ e f. f.finds) fit in
     let told : TellsEach id v es (versions_by id es v) = told_each id es v v (distinct_ascending ds p.apart) p.one finds (same_all v es) in
     record {
       is = record {
@@ -181,5 +202,9 @@ as_change id call v ds p =
         told = told;
         one_new = next_most id v.next es v p.one;
       };
+      apart = distinct_ascending ds p.apart;
+      one = p.one;
+      finds = finds;
+      few = (let long = ascending_length ds in let few = p.few in omega (arith, long, few));
       own = λ g t. touched_own (may_touch call v) id v es (versions_by id es v) g (each_edit (IsFit id call v) (λ (e : Edit). may_touch call v (edited_fid id v e) ≡ true) es (λ e f. f.own) fit) told t;
     }

@@ -1,5 +1,9 @@
+pub mod Amended
+pub mod Drawn
 pub mod Placed
+pub mod Planned
 pub mod Renamed
+pub mod Shown
 pub mod Statuses
 pub mod Sums
 pub mod Tables

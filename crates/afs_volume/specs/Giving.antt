@@ -1,11 +1,12 @@
 -- What the calls on a volume give.
-use Rattle.std.specs.Prelude.{◌≡◌, ℕ, pos, List, [], ◌∷◌, Option, Some, None, Result, Ok, Err, map, Bool, true, false, not, ◌&&◌, is_some}
+use Rattle.std.specs.Prelude.{◌≡◌, ◌≤◌, ℕ, length, pos, List, [], ◌∷◌, Option, Some, None, Result, Ok, Err, map, Bool, true, false, not, ◌&&◌, is_some}
 use Rattle.std.specs.Option.{option_map}
 use Rattle.afs_num.specs.Names.{name_ok}
 use Rattle.afs_num.specs.declared.acls.AccessList.{AccessList}
 use Rattle.afs_ideal.specs.AccessLists.{acl_at}
 use Rattle.afs_ideal.specs.Operations as op
 use Rattle.afs_ideal.specs.Operations.{Caller, the_user, all_rights, acl_read, refused, reads, changes}
+use Rattle.afs_ideal.specs.VnodeImage.{most_acl, most_contents}
 use Rattle.afs_ideal.specs.Volumes as ideal
 use Rattle.afs_volume.specs.Seen.{seen, names_spelled, volume_seen}
 use Rattle.afs_num.specs.declared.calls.FsCall.{FsCall}
@@ -102,6 +103,7 @@ pub record KeepsBody (old new : image.Vnode) : Type 0 where
   pub kind : new.kind ≡ old.kind
   pub contents : new.contents ≡ old.contents
   pub acl : new.acl ≡ old.acl
+  pub time : new.server_time ≡ old.server_time
 
 -- a refusal with this code
 abbrev pub IsRefused : ℕ → OpFault → Type 0
@@ -169,6 +171,26 @@ is_reading (calls.FetchStatus f) = true
 is_reading (calls.GetVolumeStatus id) = true
 is_reading (calls.BulkStatus fids) = true
 is_reading call = false
+
+-- the call changes a volume
+abbrev pub is_changing : FsCall → Bool
+is_changing (calls.StoreData f status position stored file_length contents) = true
+is_changing (calls.StoreAcl f acl) = true
+is_changing (calls.StoreStatus f status) = true
+is_changing (calls.RemoveFile d name) = true
+is_changing (calls.CreateFile d name status) = true
+is_changing (calls.Rename d old e new) = true
+is_changing (calls.Symlink d name target status) = true
+is_changing (calls.Link d name f) = true
+is_changing (calls.MakeDir d name status) = true
+is_changing (calls.RemoveDir d name) = true
+is_changing call = false
+
+-- what the call gives a vnode is within the limits of an image
+abbrev pub FitsCall : FsCall → Type 0
+FitsCall (calls.StoreAcl f acl) = length acl ≤ most_acl
+FitsCall (calls.Symlink d name target status) = length target ≤ most_contents
+FitsCall call = Unit {0}
 
 -- ---- Rename
 

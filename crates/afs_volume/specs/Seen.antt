@@ -1,6 +1,6 @@
 -- How a volume in memory is seen as a volume of the definitions: the contents of a directory as its names, an access list by its
 -- text. The times of the server stay in the images of the vnodes.
-use Rattle.std.specs.Prelude.{◌≡◌, ℕ, List, [], Bool, true, Option, Some, None, Result, Ok, Err, map, nat_eq, is_ok, if◌then◌else◌}
+use Rattle.std.specs.Prelude.{◌≡◌, ◌≤◌, ℕ, List, [], Bool, true, not, Option, Some, None, Result, Ok, Err, map, length, nat_eq, nat_lt, is_ok, if◌then◌else◌}
 use Rattle.afs_num.specs.declared.acls.AccessList.{AccessList}
 use Rattle.afs_num.specs.declared.directories.Name.{Name}
 use Rattle.afs_num.specs.declared.vnodes.Vnode as image
@@ -84,11 +84,16 @@ volume_seen head t = record {
 
 -- ---- what every vnode of a volume keeps
 
--- its kind is one; the contents of a directory spell its names, and its access list has a text
+-- a directory alone has the text of an access list
+abbrev pub text_by : Kind → List ℕ → List ℕ
+text_by a_directory text = text
+text_by kind text = []
+
+-- its kind is one; the contents of a directory spell its names, and its access list has a text; what is no directory has none
 abbrev pub IsReadable : image.Vnode → Type 0
 IsReadable x =
     (type_of (kind_seen x.kind) ≡ x.kind)
-    × ((kind_seen x.kind ≡ a_directory → directory_bytes (names_spelled x.contents) ≡ x.contents) × (kind_seen x.kind ≡ a_directory → is_ok (acl_at x.acl) ≡ true))
+    × ((kind_seen x.kind ≡ a_directory → directory_bytes (names_spelled x.contents) ≡ x.contents) × ((kind_seen x.kind ≡ a_directory → is_ok (acl_at x.acl) ≡ true) × (text_by (kind_seen x.kind) x.acl ≡ x.acl)))
 
 abbrev pub AreReadable : Table image.Vnode → Type 0
 AreReadable t = (n : ℕ) (x : image.Vnode) → get n t ≡ Some x → IsReadable x
@@ -110,3 +115,8 @@ is_list (Some text) = is_ok (acl_at text)
 
 abbrev pub SpellsList : Option (List ℕ) → Type 0
 SpellsList o = is_list o ≡ true
+
+-- at most so many bytes
+abbrev pub is_within : ℕ → Option (List ℕ) → Bool
+is_within most None = true
+is_within most (Some bytes) = not (nat_lt most (length bytes))

@@ -1,7 +1,8 @@
 //! Edits, made and asked.
 
-ghost use Rattle.std.specs.Prelude.{◌≡◌, Some};
+ghost use Rattle.std.specs.Prelude.{◌≡◌, ◌≤◌, Some, length};
 ghost use Rattle.afs_ideal.specs.Operations.{no_amend};
+ghost use Rattle.afs_ideal.specs.VnodeImage.{most_contents};
 ghost use Rattle.afs_ideal.specs.Volumes.{edit_number};
 ghost use Rattle.afs_volume.specs.Giving.{amend_seen, edit_seen};
 ghost use Rattle.afs_volume.specs.Seen.{names_spelled, SpellsNames};
@@ -44,7 +45,8 @@ impl Amend {
 
     /// The names of a directory, and its links where they change.
     pub fn with_names(names: Octets, links: Option<u64>) -> Amend
-        requires { SpellsNames (Some names) }
+        requires spelled { SpellsNames (Some names) }
+        requires short { length names ≤ most_contents }
         ensures { amend_seen result ≡ record no_amend { names = Some (names_spelled names); links = links } }
     {
         let mut amend = Amend::nothing();

@@ -1,8 +1,9 @@
 //! Operations that make a vnode or a further name: CreateFile, Symlink, MakeDir, Link.
 
-ghost use Rattle.std.specs.Prelude.{◌≡◌, ◌+◌, ◌∷◌, [], Some, None, true};
+ghost use Rattle.std.specs.Prelude.{◌≡◌, ◌≤◌, ◌+◌, ◌∷◌, [], Some, None, true, length};
 ghost use Rattle.afs_num.specs.declared.calls.FsCall.TheVariants as calls;
 ghost use Rattle.afs_ideal.specs.Operations.{adds_name, by_tests, creates, first_failing, is_kind, is_mask, names_in};
+ghost use Rattle.afs_ideal.specs.VnodeImage.{most_contents, FitsImage};
 ghost use Rattle.afs_ideal.specs.Volumes.{a_directory, vnode_of};
 ghost use Rattle.afs_volume.specs.Giving.{caller_seen, planned, volume_of, Plans};
 ghost use Rattle.afs_volume.specs.Seen.{seen, IsReadable};
@@ -35,6 +36,7 @@ impl Volume {
         requires found { vnode_of fid.now (volume_of self.now) ≡ Some (seen d.now) }
         requires directory { is_kind (seen d.now).kind a_directory ≡ true }
         requires readable { IsReadable made }
+        requires fits { FitsImage made }
         ensures { Plans (by_tests (first_failing (adds_name name.now (names_in (Some (seen d.now))) (is_mask status.now))) (creates fid.now name.now status.now links (seen made) (volume_of self.now))) result }
     {
         let number = self.free_number(&made);
@@ -84,6 +86,7 @@ impl Volume {
         target: &Octets,
         status: &AfsStoreStatus,
     ) -> Result<Plan, OpFault>
+        requires { length target.now ≤ most_contents }
         ensures { Plans (planned (caller_seen caller.now) (calls.Symlink fid.now name.now target.now status.now) (volume_of self.now)) result }
     {
         let d = self.found(fid)?;

@@ -1,6 +1,8 @@
 //! What an operation does to the vnodes of a volume.
 
-ghost use Rattle.afs_volume.specs.Seen.{IsReadable, SpellsList, SpellsNames};
+ghost use Rattle.std.specs.Prelude.{◌≡◌, ◌≤◌, true, length};
+ghost use Rattle.afs_ideal.specs.VnodeImage.{most_acl, most_contents};
+ghost use Rattle.afs_volume.specs.Seen.{is_within, IsReadable, SpellsList, SpellsNames};
 
 use afs_num::calls::AfsStoreStatus;
 use afs_num::sequences::{Octets, Sequence};
@@ -17,6 +19,9 @@ pub struct Amend {
     pub acl: Option<Octets>,
     ghost names_spelled: { SpellsNames names },
     ghost list_spelled: { SpellsList acl },
+    ghost contents_short: { is_within most_contents contents ≡ true },
+    ghost names_short: { is_within most_contents names ≡ true },
+    ghost list_short: { is_within most_acl acl ≡ true },
 }
 
 /// A new vnode as it is to be, but for the numbers that every new vnode gets.
@@ -24,6 +29,7 @@ pub struct Amend {
 pub struct New {
     pub vnode: Vnode,
     ghost readable: { IsReadable vnode },
+    ghost fits: { (length vnode.acl ≤ most_acl) × (length vnode.contents ≤ most_contents) },
 }
 
 /// A vnode is changed, made or freed.

@@ -6,7 +6,7 @@ ghost use Rattle.afs_ideal.specs.AccessLists.{acl_at, rights_of};
 ghost use Rattle.afs_ideal.specs.Directories.{named};
 ghost use Rattle.afs_ideal.specs.Operations.{acl_of, is_below, is_directory, is_kind, is_empty, list_for, may, free_number, links_of, may_link, named_vnode, number_named, rights_by};
 ghost use Rattle.afs_ideal.specs.Tables.{get};
-ghost use Rattle.afs_ideal.specs.VnodeImage.{FitsImage};
+ghost use Rattle.afs_ideal.specs.VnodeImage.{most_acl, FitsImage};
 ghost use Rattle.afs_ideal.specs.Volumes.{a_directory, a_file, if_unique, vnode_of};
 ghost use Rattle.afs_volume.specs.Giving.{caller_seen, volume_of, Finds};
 ghost use Rattle.afs_volume.specs.Seen.{seen, names_spelled, list_spelled, kind_seen, IsReadable};
@@ -130,6 +130,7 @@ pub fn list_of(d: &Vnode) -> &Octets
     requires { is_kind (seen d.now).kind a_directory ≡ true }
     ensures list { list_spelled result.now ≡ (seen d.now).acl }
     ensures read { IsReadable d.now → is_ok (acl_at result.now) ≡ true }
+    ensures short { FitsImage d.now → length result.now ≤ most_acl }
 {
     &d.acl
 }

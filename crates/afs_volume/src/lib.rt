@@ -2,10 +2,13 @@
 #![tactic(auto)]
 
 mod amending;
+mod applying;
 mod bulk;
 mod callers;
 mod checks;
 mod creating;
+mod drafting;
+mod drawing;
 pub mod edits;
 pub mod faults;
 mod finding;
@@ -14,11 +17,13 @@ mod making;
 mod naming;
 mod new;
 mod operations;
+mod planning;
 mod reading;
 mod removing;
 mod renaming;
 mod replies;
 mod taking;
+mod sights;
 mod volume;
 
 pub use volume::Volume;

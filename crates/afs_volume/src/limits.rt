@@ -64,7 +64,7 @@ fn is_raised(count: u32) -> bool
     count < 4_294_967_295
 }
 
-fn has_body(amend: &Amend) -> bool
+pub fn has_body(amend: &Amend) -> bool
     ensures { result ≡ has_body (amend_seen amend.now).contents (amend_seen amend.now).names }
 {
     amend.contents.is_some() || amend.names.is_some()

@@ -1,9 +1,10 @@
 //! New vnodes.
 
-ghost use Rattle.std.specs.Prelude.{◌≡◌, [], Some, true, is_ok, IfOk, if◌then◌else◌};
+ghost use Rattle.std.specs.Prelude.{◌≡◌, ◌≤◌, [], Some, true, is_ok, length, IfOk, if◌then◌else◌};
 ghost use Rattle.afs_ideal.specs.AccessLists.{acl_at};
 ghost use Rattle.afs_ideal.specs.Directories.{directory_bytes};
 ghost use Rattle.afs_ideal.specs.Operations.{new_in, new_file, new_directory, new_link};
+ghost use Rattle.afs_ideal.specs.VnodeImage.{most_acl, most_contents, FitsImage};
 ghost use Rattle.afs_ideal.specs.Volumes.{has_bit, with_status};
 ghost use Rattle.afs_volume.specs.Giving.{KeepsBody};
 ghost use Rattle.afs_volume.specs.Seen.{seen, kind_seen, contents_seen, names_seen, list_seen, list_spelled, names_spelled, IsReadable};
@@ -21,6 +22,7 @@ use std::alloc::Global;
 pub fn spelled(names: &Dir) -> Mem<Octets>
     ensures read { IfOk result (λ bytes. names_spelled bytes ≡ names.now) }
     ensures spelled { IfOk result (λ bytes. bytes ≡ directory_bytes names.now) }
+    ensures short { IfOk result (λ bytes. length bytes ≤ most_contents) }
 {
     names.to_bytes()
 }
@@ -56,6 +58,7 @@ fn new_in(d: &Fid, kind: u32, links: u32, mode: u32, acl: Octets, contents: Octe
 pub fn new_file(alloc: Global, d: &Fid) -> Vnode
     ensures seen { seen result ≡ new_file d.now }
     ensures readable { IsReadable result }
+    ensures fits { FitsImage result }
 {
     new_in(d, FILE, 1, 0o644, Octets::new(alloc), Octets::new(alloc))
 }
@@ -63,9 +66,11 @@ pub fn new_file(alloc: Global, d: &Fid) -> Vnode
 /// A directory of mode 755 without names, with the access list of this text.
 #[tactic(auto, unfolding(crate::specs::Seen::names_spelled))]
 pub fn new_directory(alloc: Global, d: &Fid, acl: &Octets) -> Mem<Vnode>
-    requires { is_ok (acl_at acl.now) ≡ true }
+    requires read { is_ok (acl_at acl.now) ≡ true }
+    requires short { length acl.now ≤ most_acl }
     ensures seen { IfOk result (λ x. seen x ≡ new_directory d.now (list_spelled acl.now)) }
     ensures readable { IfOk result (λ x. IsReadable x) }
+    ensures fits { IfOk result (λ x. FitsImage x) }
 {
     let names = Dir::new(alloc)?;
     let contents = spelled(&names)?;
@@ -74,8 +79,10 @@ pub fn new_directory(alloc: Global, d: &Fid, acl: &Octets) -> Mem<Vnode>
 
 /// A link of mode 777 with this text.
 pub fn new_link(alloc: Global, d: &Fid, target: &Octets) -> Mem<Vnode>
+    requires { length target.now ≤ most_contents }
     ensures seen { IfOk result (λ x. seen x ≡ new_link d.now target.now) }
     ensures readable { IfOk result (λ x. IsReadable x) }
+    ensures fits { IfOk result (λ x. FitsImage x) }
 {
     Ok(new_in(d, LINK, 1, 0o777, Octets::new(alloc), target.copy(alloc)?))
 }

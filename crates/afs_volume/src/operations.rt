@@ -1,8 +1,9 @@
 //! Operations on one vnode: StoreData, StoreACL, StoreStatus.
 
-ghost use Rattle.std.specs.Prelude.{◌≡◌, ◌∷◌, [], IfOk};
+ghost use Rattle.std.specs.Prelude.{◌≡◌, ◌≤◌, ◌∷◌, [], length, IfOk};
 ghost use Rattle.afs_num.specs.declared.calls.FsCall.TheVariants as calls;
 ghost use Rattle.afs_ideal.specs.Operations.{is_acl, is_mask, is_whole_store};
+ghost use Rattle.afs_ideal.specs.VnodeImage.{most_acl};
 ghost use Rattle.afs_ideal.specs.Volumes.{amends};
 ghost use Rattle.afs_volume.specs.Giving.{amend_seen, caller_seen, edits_seen, planned, volume_of, Plans};
 
@@ -95,6 +96,7 @@ impl Volume {
         fid: &Fid,
         acl: &Octets,
     ) -> Result<Plan, OpFault>
+        requires { length acl.now ≤ most_acl }
         ensures { Plans (planned (caller_seen caller.now) (calls.StoreAcl fid.now acl.now) (volume_of self.now)) result }
     {
         let d = self.found(fid)?;

@@ -59,7 +59,7 @@ pub fn bytes_of(x: &Vnode) -> &Octets
 
 /// The status of a vnode, to a caller with these rights.
 #[tactic(auto, unfolding(crate::specs::Seen::seen))]
-fn status_with(x: &Vnode, caller: u32, anonymous: u32) -> AfsFetchStatus
+pub fn status_with(x: &Vnode, caller: u32, anonymous: u32) -> AfsFetchStatus
     requires readable { IsReadable x.now }
     requires fits { FitsImage x.now }
     ensures { IsStatus caller anonymous x.now result }
