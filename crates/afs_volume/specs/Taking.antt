@@ -1,11 +1,13 @@
 -- A change that a volume takes in: what becomes of the table of its vnodes, and what it is as a disk keeps it.
-use Rattle.std.specs.Prelude.{ℕ, List, [], ◌∷◌, Bool, false, map, nat_eq, if◌then◌else◌}
-use Rattle.std.specs.List.{list_any}
+use Rattle.std.specs.Prelude.{◌≡◌, ℕ, List, [], ◌∷◌, Bool, true, false, is_some, map, nat_eq, if◌then◌else◌}
+use Rattle.std.specs.List.{list_any, AllByRecursion}
 use Rattle.afs_num.specs.declared.vnodes.Vnode as image
 use Rattle.afs_num.specs.declared.volumes.VolumeHead.{VolumeHead}
+use Rattle.afs_num.specs.declared.volumes.Change.{Change}
 use Rattle.afs_ideal.specs.Tables.{Table, set, unset}
-use Rattle.afs_records.specs.Durable.{Stored}
-use Rattle.afs_volume.specs.Seen.{volume_seen}
+use Rattle.afs_ideal.specs.VnodeImage.{FitsImage}
+use Rattle.afs_records.specs.Durable.{Stored, changed_stored}
+use Rattle.afs_volume.specs.Seen.{volume_seen, IsReadable}
 use Rattle.afs_volume.specs.declared.volume.Volume.{Volume}
 
 -- when each vnode was changed last
@@ -18,6 +20,12 @@ stored_with head t = record { volume = volume_seen head t; times = times_in t; i
 
 abbrev pub stored_of : Volume → Stored
 stored_of v = stored_with v.head v.vnodes.table
+
+-- A change that a volume can take in: a disk would take its record, and each vnode has an image that can be read.
+pub record CanTakeIn (v : Volume) (c : Change) : Type 0 where
+  pub taken : is_some (changed_stored c.counter c.unique c.vnodes c.removed (stored_of v)) ≡ true
+  pub read : AllByRecursion IsReadable c.vnodes
+  pub fits : AllByRecursion FitsImage c.vnodes
 
 abbrev pub is_among : ℕ → List ℕ → Bool
 is_among n ns = list_any (λ (m : ℕ). nat_eq m n) ns

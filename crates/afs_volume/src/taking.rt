@@ -1,6 +1,6 @@
 //! A change that a volume takes in.
 
-ghost use Rattle.std.specs.Prelude.{◌≡◌, ◌≤◌, ◌<◌, ◌+◌, true, false, length, Some, is_some, OnOk};
+ghost use Rattle.std.specs.Prelude.{◌≡◌, ◌≤◌, ◌<◌, ◌+◌, true, false, length, Some, OnOk};
 ghost use Rattle.std.specs.List.{AllByRecursion};
 ghost use Rattle.afs_ideal.specs.Tables.{get, set, unset};
 ghost use Rattle.afs_ideal.specs.VnodeImage.{FitsImage};
@@ -10,7 +10,7 @@ ghost use Rattle.afs_records.specs.Durable.{changed_stored};
 ghost use Rattle.afs_vnode.specs.Stores.{AreVnodes};
 ghost use Rattle.afs_volume.specs.Counting.{blocks_at};
 ghost use Rattle.afs_volume.specs.Seen.{all_seen, AreReadable, IsReadable};
-ghost use Rattle.afs_volume.specs.Taking.{is_among, put_but, stored_of, without_all};
+ghost use Rattle.afs_volume.specs.Taking.{is_among, put_but, stored_of, without_all, CanTakeIn};
 
 use crate::Volume;
 use crate::limits::blocks_of;
@@ -122,9 +122,7 @@ impl Volume {
 
     /// The volume after a change for which there is room. It takes no memory.
     pub fn take_in(&mut self, c: Change)
-        requires taken { is_some (changed_stored c.counter c.unique c.vnodes c.removed (stored_of self.old)) ≡ true }
-        requires read { AllByRecursion IsReadable c.vnodes }
-        requires fits { AllByRecursion FitsImage c.vnodes }
+        requires can { CanTakeIn self.old c }
         requires room { length c.vnodes ≤ self.old.vnodes.room }
         ensures head { self.new.head ≡ record self.old.head { counter = c.counter; unique = c.unique } }
         ensures stored { changed_stored c.counter c.unique c.vnodes c.removed (stored_of self.old) ≡ Some (stored_of self.new) }
