@@ -91,6 +91,7 @@ impl VnodeStore {
     /// The vnode at a place in ascending order, from 0. It takes no memory.
     pub fn at(&self, place: u32) -> Option<&Vnode>
         ensures value { option_copied result ≡ option_map (λ p. p.1) (slice_get self.now.table place) }
+        ensures pair { option_map (λ v. (v.vnode, v)) (option_copied result) ≡ slice_get self.now.table place }
         ensures fits { IfSome result (λ v. FitsImage v.now) }
     {
         sorted::nth(&self.vnodes, place as usize)

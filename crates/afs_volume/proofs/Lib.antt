@@ -11,3 +11,4 @@ pub mod Texts
 pub mod Soundly
 pub mod Taken
 pub mod Folded
+pub mod Walked

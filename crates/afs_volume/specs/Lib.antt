@@ -7,3 +7,4 @@ pub mod Giving
 pub mod Images
 pub mod Seen
 pub mod Taking
+pub mod Assembling

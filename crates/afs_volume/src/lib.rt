@@ -22,8 +22,9 @@ mod reading;
 mod removing;
 mod renaming;
 mod replies;
-mod taking;
 mod sights;
+mod soundness;
+mod taking;
 mod volume;
 
 pub use volume::Volume;
