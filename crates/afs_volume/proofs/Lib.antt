@@ -12,3 +12,4 @@ pub mod Soundly
 pub mod Taken
 pub mod Folded
 pub mod Walked
+pub mod Readable

@@ -41,12 +41,7 @@ impl Volume {
     }
 
     /// The change that a call makes for a caller.
-    pub(crate) fn change(
-        &self,
-        caller: &Caller,
-        call: &FsCall,
-        now: u32,
-    ) -> Result<Change, OpFault>
+    pub(crate) fn change(&self, caller: &Caller, call: &FsCall, now: u32) -> Result<Change, OpFault>
         requires changing { is_changing call.now ≡ true }
         requires fits { FitsCall call.now }
         requires on { IsOn self.now.head.id call.now }
