@@ -39,7 +39,7 @@ kind_by a_link bytes text good is = absurd cc
 
 pub is_read : (x : image.Vnode) → IsReadable x → IsRead (seen x)
 unfolding seen
-is_read x h is = kind_by (kind_seen x.kind) x.contents x.acl (h.1.1 is) is
+is_read x h is = kind_by (kind_seen x.kind) x.contents x.acl (h.1.1.0 is) is
 
 seen_from : (n : ℕ) (t : Table image.Vnode) (o : Option image.Vnode) (y : ideal.Vnode) → AreReadable t → get n t ≡ o → option_map seen o ≡ Some y → IsRead y
 seen_from n t None y all is e = absurd cc
