@@ -33,7 +33,7 @@ value_with_kind a_file n time x h fit = rw (h.names, h.acl) refl
 value_with_kind a_link n time x h fit = rw (h.names, h.acl) refl
 value_with_kind a_directory n time x h fit = rw (spelled_is_read x.names h.names fit, acl_again x.acl h.acl, h.contents) refl
 
-value_back : (n time : ℕ) (x : Vnode) → HasByKind x.kind x → FitNames x.names → value_of (image_of n time x) ≡ Some x
+pub value_back : (n time : ℕ) (x : Vnode) → HasByKind x.kind x → FitNames x.names → value_of (image_of n time x) ≡ Some x
 unfolding value_of image_with
 value_back n time x h fit = value_with_kind x.kind n time x h fit
 
@@ -299,7 +299,7 @@ same_rest id (e ∷ es) v = same_rest id es (edited id e v).volume ∙ ap (λ (w
 may_be_stored : (s : Stored) → length s.volume.vnodes ≤ most_vnodes → is_sound s.volume ≡ true → allowed s ≡ Some s
 may_be_stored s few sound = rw (le-ltb most_vnodes (length s.volume.vnodes) few, sound) refl
 
-changed_is : (id time : ℕ) (es : List Edit) (s : Stored) → AscendsFrom 1 s.volume.vnodes → AscendsFrom 1 (edited_all id es s.volume).vnodes →
+pub changed_is : (id time : ℕ) (es : List Edit) (s : Stored) → AscendsFrom 1 s.volume.vnodes → AscendsFrom 1 (edited_all id es s.volume).vnodes →
     ((n : ℕ) (x : Vnode) → get n (edited_all id es s.volume).vnodes ≡ Some x → value_of (image_of n time x) ≡ Some x) →
     length (edited_all id es s.volume).vnodes ≤ most_vnodes → is_sound (counted (edited_all id es s.volume)) ≡ true →
     changed_stored (counted (edited_all id es s.volume)).counter (counted (edited_all id es s.volume)).next (images_left time es (counted (edited_all id es s.volume))) (numbers_gone es s.volume (counted (edited_all id es s.volume))) s

@@ -7,7 +7,7 @@ use Rattle.afs_ideal.specs.Tables.{Table, set, unset, AscendsFrom, lowest_free}
 use Rattle.afs_ideal.specs.VnodeImage.{FitsImage}
 use Rattle.afs_ideal.specs.VnodeMaps.{most_vnodes, AllFit, first_number, allocated}
 use Rattle.afs_ideal.proofs.Tables.{ascends_set, ascends_unset}
-use Rattle.afs_vnode.specs.Stores.{table_of, IsStore, IsHint, raised, lowered}
+use Rattle.afs_vnode.specs.Stores.{table_of, AreVnodes, IsStore, IsHint, raised, lowered}
 use Rattle.afs_vnode.proofs.Hints.{hint_set, hint_unset, hint_bound}
 use Rattle.afs_vnode.proofs.Places.{fit_set, fit_unset}
 
@@ -46,3 +46,6 @@ allocated_is dir t n room e = grind (arith, nat_tests, room, e)
 pub first_low : (dir : Bool) → first_number dir ≤ 3
 first_low true = omega arith
 first_low false = omega arith
+
+pub are_vnodes : (vs : List Vnode) (e o : ℕ) → IsStore vs e o → AreVnodes (table_of vs)
+are_vnodes vs e o is = record { ascends = is.ascends; few = (let few = is.few in omega (arith, size_of vs, few)); fits = is.fits }

@@ -37,6 +37,12 @@ raised hint n = if nat_eq hint n then hint + 2 else hint
 abbrev pub lowered : ℕ → ℕ → ℕ → ℕ
 lowered first hint n = if nat_le first n && (nat_lt n hint && nat_eq (n % 2) (hint % 2)) then n else hint
 
+-- in order, not too many, each within the limits of an image
+pub record AreVnodes (t : Table Vnode) : Type 0 where
+  pub ascends : AscendsFrom 0 t
+  pub few : length t ≤ most_vnodes
+  pub fits : AllFit t
+
 pub record IsStore (vs : List Vnode) (low_even low_odd : ℕ) : Type 0 where
   pub ascends : AscendsFrom 0 (table_of vs)
   pub few : length vs ≤ most_vnodes

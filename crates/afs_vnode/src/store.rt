@@ -6,7 +6,7 @@ ghost use Rattle.afs_num.specs.Keyed.{KeepsRoom};
 ghost use Rattle.afs_ideal.specs.Tables.{get, set, unset, AscendsFrom, lowest_free};
 ghost use Rattle.afs_ideal.specs.VnodeImage.{FitsImage};
 ghost use Rattle.afs_ideal.specs.VnodeMaps.{most_vnodes, is_full_for, first_number, allocated, changed_since};
-ghost use Rattle.afs_vnode.specs.Stores.{raised, lowered};
+ghost use Rattle.afs_vnode.specs.Stores.{raised, lowered, AreVnodes};
 ghost use Rattle.afs_vnode.specs.declared.faults.VnodeFault.TheVariants.{TooMany};
 
 use crate::faults::VnodeFault;
@@ -83,6 +83,7 @@ impl VnodeStore {
         ensures value { option_copied result ≡ get vnode self.now.table }
         ensures number { IfSome result (λ v. v.now.vnode ≡ vnode) }
         ensures fits { IfSome result (λ v. FitsImage v.now) }
+        ensures vnodes { AreVnodes self.now.table }
     {
         sorted::find(&self.vnodes, vnode)
     }
@@ -90,18 +91,19 @@ impl VnodeStore {
     /// The vnode at a place in ascending order, from 0. It takes no memory.
     pub fn at(&self, place: u32) -> Option<&Vnode>
         ensures value { option_copied result ≡ option_map (λ p. p.1) (slice_get self.now.table place) }
+        ensures pair { option_map (λ v. (v.vnode, v)) (option_copied result) ≡ slice_get self.now.table place }
         ensures fits { IfSome result (λ v. FitsImage v.now) }
     {
         sorted::nth(&self.vnodes, place as usize)
     }
 
     /// Makes room for so many more vnodes.
-    pub fn reserve(&mut self, count: u32) -> Mem<()>
+    pub fn reserve(&mut self, count: usize) -> Mem<()>
         ensures room { OnOk result (count ≤ self.new.room) }
         ensures table { self.new.table ≡ self.old.table }
         ensures kept { self.old.room ≤ self.new.room }
     {
-        self.vnodes.reserve(count as usize)?;
+        self.vnodes.reserve(count)?;
         Ok(())
     }
 
@@ -114,6 +116,7 @@ impl VnodeStore {
         ensures many { (result ≡ Err TooMany) ↔ (is_full_for v.vnode self.old.table ≡ true) }
         ensures replaces { is_some (get v.vnode self.old.table) ≡ true → IsOk result }
         ensures succeeds { is_full_for v.vnode self.old.table ≡ false → 0 < self.old.room → IsOk result }
+        ensures vnodes { AreVnodes self.new.table }
         ensures room { KeepsRoom (get v.vnode self.old.table) self.old.room self.new.room }
     {
         let number = v.vnode;
@@ -127,6 +130,7 @@ impl VnodeStore {
     pub fn remove(&mut self, vnode: u32) -> bool
         ensures was { result ≡ is_some (get vnode self.old.table) }
         ensures removed { self.new.table ≡ unset vnode self.old.table }
+        ensures vnodes { AreVnodes self.new.table }
         ensures room { self.old.room ≤ self.new.room }
     {
         let was = sorted::remove(&mut self.vnodes, vnode);

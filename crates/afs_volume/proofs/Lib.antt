@@ -13,3 +13,6 @@ pub mod Sums
 pub mod Tables
 pub mod Texts
 pub mod Soundly
+pub mod Taken
+pub mod Folded
+pub mod Walked

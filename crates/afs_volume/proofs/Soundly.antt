@@ -1,5 +1,5 @@
 -- A volume that passes the test of soundness is sound.
-use Rattle.std.proofs.Common.{◌≡◌, ℕ, true, [], ◌∷◌, Bool, Option, Some, None, Result, Ok, Err, List, is_ok, refl, arith, sym, ap, subst, ◌∙◌, nat_eq}
+use Rattle.std.proofs.Common.{◌≡◌, ℕ, ◌+◌, true, [], ◌∷◌, Bool, Option, Some, None, Result, Ok, Err, List, is_ok, refl, arith, sym, ap, subst, ◌∙◌, nat_eq}
 use Rattle.std.specs.Option.{option_map}
 use Rattle.afs_num.specs.declared.acls.AccessList.{AccessList}
 use Rattle.afs_num.specs.declared.directories.Name.{Name}
@@ -9,7 +9,7 @@ use Rattle.afs_ideal.specs.AccessLists.{acl_at, Refusal, IsAccessList}
 use Rattle.afs_ideal.specs.Directories.{directory_of, IsDirectory}
 use Rattle.afs_ideal.specs.SetUp.{new_root, new_volume}
 use Rattle.afs_ideal.specs.Soundness.{IsSound}
-use Rattle.afs_ideal.specs.Tables.{Table, get}
+use Rattle.afs_ideal.specs.Tables.{Table, get, AscendsFrom}
 use Rattle.afs_ideal.specs.Volumes.{Kind, a_file, a_directory, a_link}
 use Rattle.afs_ideal.specs.Volumes as ideal
 use Rattle.afs_ideal.proofs.AccessLists.{read_is_text}
@@ -59,3 +59,12 @@ same_vnodes head other t all unique test =
 pub new_sound : (head : VolumeHead) (t : Table image.Vnode) → head.unique ≡ 2 → all_seen t ≡ (1, new_root) ∷ [] → is_sound (volume_seen head t) ≡ true
 unfolding is_sound
 new_sound head t unique is = rw (unique, is) refl
+
+unseen_up : (n : ℕ) (t : Table image.Vnode) → AscendsFrom n (all_seen t) → AscendsFrom n t
+unfolding all_seen
+unseen_up n [] up = tt
+unseen_up n (p ∷ ps) up = (up.0, unseen_up (p.0 + 1) ps up.1)
+
+-- its vnodes stand by their numbers
+pub in_order : (head : VolumeHead) (t : Table image.Vnode) → AreReadable t → is_sound (volume_seen head t) ≡ true → AscendsFrom 1 t
+in_order head t all test = unseen_up 1 t (volume_sound head t all test).ascending

@@ -6,3 +6,5 @@ pub mod Drawing
 pub mod Giving
 pub mod Images
 pub mod Seen
+pub mod Taking
+pub mod Assembling

@@ -23,6 +23,8 @@ mod removing;
 mod renaming;
 mod replies;
 mod sights;
+mod soundness;
+mod taking;
 mod volume;
 
 pub use volume::Volume;

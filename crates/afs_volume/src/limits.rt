@@ -32,7 +32,7 @@ fn blocks(bytes: &Octets) -> u64
 }
 
 /// How many blocks a vnode takes.
-fn blocks_of(x: &Vnode) -> u64
+pub fn blocks_of(x: &Vnode) -> u64
     requires { IsReadable x.now }
     ensures value { result ≡ blocks_of (seen x.now) }
     ensures small { result < 2 ^ 54 }

@@ -10,7 +10,7 @@ use Rattle.afs_volume.proofs.volume.Volume.is_below.Goals as goal
 pub loop-init : goal.loop-init
 loop-init c =
     let v = volume_of c.args.self.now in
-    let all : length c.args.self.now.vnodes.table - 0 ≡ length v.vnodes = omega (arith, same_length c.args.self.now.vnodes) in
+    let all : length c.args.self.now.vnodes.table - 0 ≡ length v.vnodes = omega (arith, same_length c.args.self.now.vnodes.table) in
     ap (λ (k : ℕ). leads_up k c.args.number c.args.top v (get c.args.number v.vnodes)) all
 
 pub loop-preserved : goal.loop-preserved

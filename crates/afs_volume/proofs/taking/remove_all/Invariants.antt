@@ -1,0 +1,13 @@
+use Rattle.std.proofs.Common.{◌≡◌, ◌≤◌, drop}
+use Rattle.afs_ideal.specs.Volumes.{blocks_in}
+use Rattle.afs_volume.specs.Seen.{all_seen, AreReadable}
+use Rattle.afs_volume.specs.Taking.{without_all}
+use Rattle.afs_volume.proofs.taking.remove_all.Given as goal
+
+abbrev pub invariant-loop-number : goal.invariant-loop-number
+invariant-loop-number l = record {
+  table : without_all (drop l.number-index l.removed) l.vnodes.table ≡ without_all l.removed l.fn.vnodes.table;
+  readable : AreReadable l.vnodes.table;
+  counted : l.blocks ≡ blocks_in (all_seen l.vnodes.table);
+  room : l.fn.vnodes.room ≤ l.vnodes.room;
+}

@@ -1,0 +1,6 @@
+use Rattle.afs_volume.proofs.volume.Volume.reserve.Goals as goal
+
+pub invariant_of-self : goal.invariant_of-self
+invariant_of-self c =
+    let v = c.args.self.now in
+    rw c.reserve.ensures.table (record { readable = v.readable; counted = v.counted; sound = v.sound })

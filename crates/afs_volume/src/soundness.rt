@@ -1,0 +1,231 @@
+//! Whether vnodes make a sound volume.
+
+ghost use Rattle.std.specs.Prelude.{◌≡◌, ◌<◌, ◌^◌, ◌==◌, ◌&&◌, ◌||◌, nat_eq, not, true, length, slice_get, is_some, IfOk};
+ghost use Rattle.std.specs.List.{list_all};
+ghost use Rattle.std.specs.Option.{option_copied, option_map};
+ghost use Rattle.afs_ideal.specs.Operations.{is_below, is_kind};
+ghost use Rattle.afs_ideal.specs.Soundness.{names_directory, names_it, names_of, subdirectories};
+ghost use Rattle.afs_ideal.specs.Tables.{get};
+ghost use Rattle.afs_ideal.specs.Volumes.{a_directory};
+ghost use Rattle.afs_records.specs.Sound.{ascends_from, gives_held, gives_one, has_by_kind, has_names, is_held_by, is_named_in, is_placed, is_root, is_sound, is_sound_vnode, kind_is_right};
+ghost use Rattle.afs_volume.specs.Assembling.{is_sound_pair, passes_at};
+ghost use Rattle.afs_volume.specs.Seen.{all_seen, kind_seen, seen, volume_seen};
+
+use crate::finding::{is_directory, names_of};
+use afs_num::directories::{Name, Names};
+use afs_num::types::Mem;
+use afs_num::vnodes::Vnode;
+use afs_num::volumes::VolumeHead;
+use afs_vnode::store::VnodeStore;
+use std::alloc::Global;
+
+/// What is to be a volume.
+#[derive(Clone, Copy)]
+pub struct Parts<'a> {
+    pub alloc: Global,
+    pub head: &'a VolumeHead,
+    pub vnodes: &'a VnodeStore,
+}
+
+/// How many names are those of directories, which have odd numbers.
+fn subdirectories(names: &[Name]) -> usize
+    ensures value { result ≡ subdirectories names.now }
+    ensures small { result < 2 ^ 63 }
+{
+    names.iter().filter(|name| name.vnode % 2 == 1).count()
+}
+
+/// How many names are the vnode's.
+fn names_of_vnode(vnode: u32, unique: u32, names: &[Name]) -> usize
+    ensures { result ≡ names_of vnode unique names.now }
+{
+    names
+        .iter()
+        .filter(|name| name.vnode == vnode && name.unique == unique)
+        .count()
+}
+
+/// The directory of this number and unique number holds the vnode.
+#[tactic(auto, unfolding(crate::specs::Seen::seen))]
+fn is_held_by(d: u32, unique: u32, x: &Vnode) -> bool
+    ensures { result ≡ is_held_by d unique (seen x.now) }
+{
+    x.parent_vnode == d && x.parent_unique == unique
+}
+
+/// A name gives a vnode that this directory holds, never the root.
+#[tactic(auto, unfolding(crate::specs::Seen::seen))]
+fn gives_held(d: u32, unique: u32, x: Option<&Vnode>, name: &Name) -> bool
+    ensures { result ≡ gives_held d unique name.now.vnode (option_map seen (option_copied x.entry)) name.now }
+{
+    match x {
+        Some(x) => {
+            name.vnode != 1 && x.unique == name.unique && is_held_by(d, unique, x)
+        }
+        None => false,
+    }
+}
+
+/// Directories have odd numbers, files and links even ones.
+#[tactic(auto, unfolding(crate::specs::Seen::seen))]
+fn kind_is_right(x: &Vnode) -> bool
+    ensures { result ≡ kind_is_right x.now.vnode (seen x.now).kind }
+{
+    is_directory(x) == (x.vnode % 2 == 1)
+}
+
+/// So many names a vnode has in its directory: a directory one, a file or link as many as it has links.
+#[tactic(auto, unfolding(crate::specs::Seen::seen))]
+fn has_names(x: &Vnode, count: usize) -> bool
+    ensures { result ≡ has_names (seen x.now).kind (seen x.now).links count }
+{
+    if is_directory(x) {
+        count == 1
+    } else {
+        count == x.link_count as usize && count != 0
+    }
+}
+
+/// A directory has two links, and one for each directory in it; what a file or link has is its contents alone.
+#[tactic(auto, unfolding(crate::specs::Seen::seen))]
+fn has_links(x: &Vnode, names: &[Name]) -> bool
+    requires { names.now ≡ (seen x.now).names }
+    ensures { result ≡ has_by_kind (seen x.now).kind (seen x.now) }
+{
+    !is_directory(x) || x.link_count as usize == 2 + subdirectories(names)
+}
+
+impl<'a> Parts<'a> {
+    /// The vnode of a number.
+    #[tactic(auto, using(crate::proofs::Tables::got))]
+    fn get(&self, number: u32) -> Option<&Vnode>
+        ensures seen { option_map seen (option_copied result) ≡ get number (volume_seen self.now.head.now self.now.vnodes.now.table).vnodes }
+    {
+        self.vnodes.get(number)
+    }
+
+    /// The names of a vnode; what is no directory has none.
+    #[tactic(auto, unfolding(crate::specs::Seen::seen))]
+    fn names(&self, x: &Vnode) -> Mem<Names>
+        ensures { IfOk result (λ names. names ≡ (seen x.now).names) }
+    {
+        if is_directory(x) {
+            names_of(self.alloc, x)?.list()
+        } else {
+            Ok(Names::new(self.alloc))
+        }
+    }
+
+    fn gives_one(&self, d: &Vnode, name: &Name) -> bool
+        ensures { result ≡ gives_one (volume_seen self.now.head.now self.now.vnodes.now.table) d.now.vnode d.now.unique name.now }
+    {
+        gives_held(d.vnode, d.unique, self.get(name.vnode), name)
+    }
+
+    fn gives_all(&self, d: &Vnode, names: &[Name]) -> bool
+        ensures { result ≡ list_all (gives_one (volume_seen self.now.head.now self.now.vnodes.now.table) d.now.vnode d.now.unique) names.now }
+    {
+        names.iter().all(|name| self.gives_one(d, name))
+    }
+
+    /// A vnode has its names in this directory.
+    #[tactic(auto, unfolding(crate::specs::Seen::seen))]
+    fn is_named_in(&self, d: Option<&Vnode>, x: &Vnode) -> Mem<bool>
+        ensures { IfOk result (λ b. b ≡ is_named_in (option_map seen (option_copied d.entry)) x.now.vnode (seen x.now)) }
+    {
+        match d {
+            Some(d) if is_directory(d) && d.unique == x.parent_unique => {
+                let names = self.names(d)?;
+                let count = names_of_vnode(x.vnode, x.unique, names.as_slice());
+                Ok(has_names(x, count))
+            }
+            _ => Ok(false),
+        }
+    }
+
+    /// The names of a vnode lead to it, and its parents to the root.
+    #[tactic(auto, unfolding(crate::specs::Seen::seen))]
+    fn is_placed(&self, x: &Vnode) -> Mem<bool>
+        ensures { IfOk result (λ b. b ≡ is_placed (volume_seen self.now.head.now self.now.vnodes.now.table) x.now.vnode (seen x.now)) }
+    {
+        Ok(self.is_named_in(self.get(x.parent_vnode), x)? && self.reaches_root(x.vnode))
+    }
+
+    /// The way up leads to the root; it has no more steps than there are vnodes.
+    #[tactic(auto, unfolding(crate::specs::Seen::seen))]
+    fn reaches_root(&self, number: u32) -> bool
+        ensures { result ≡ is_below number 1 (volume_seen self.now.head.now self.now.vnodes.now.table) }
+    {
+        let mut at = number;
+        for _ in 0..self.vnodes.len() {
+            match self.get(at) {
+                None => return false,
+                Some(_) if at == 1 => return true,
+                Some(x) => at = x.parent_vnode,
+            }
+        }
+        false
+    }
+
+    #[tactic(auto, unfolding(crate::specs::Seen::seen))]
+    fn is_sound_vnode(&self, x: &Vnode) -> Mem<bool>
+        ensures { IfOk result (λ b. b ≡ is_sound_vnode (volume_seen self.now.head.now self.now.vnodes.now.table) x.now.vnode (seen x.now)) }
+    {
+        let names = self.names(x)?;
+        let names = names.as_slice();
+        Ok(kind_is_right(x)
+            && x.unique < self.head.unique
+            && has_links(x, names)
+            && self.gives_all(x, names)
+            && (x.vnode == 1 || self.is_placed(x)?))
+    }
+
+    /// The root is a directory with the unique number 1, and nothing holds it.
+    #[tactic(auto, unfolding(crate::specs::Seen::seen))]
+    fn has_root(&self) -> bool
+        ensures { result ≡ is_root (get 1 (volume_seen self.now.head.now self.now.vnodes.now.table).vnodes) }
+    {
+        match self.get(1) {
+            Some(x) => x.unique == 1 && is_directory(x) && is_held_by(0, 0, x),
+            None => false,
+        }
+    }
+
+    /// The vnode in a place is one of a sound volume, where there is one.
+    fn is_sound_at(&self, place: u32) -> Mem<bool>
+        ensures { IfOk result (λ b. b ≡ passes_at (is_sound_pair self.now.head.now self.now.vnodes.now.table) (slice_get self.now.vnodes.now.table place)) }
+    {
+        match self.vnodes.at(place) {
+            Some(x) => self.is_sound_vnode(x),
+            None => Ok(true),
+        }
+    }
+
+    /// No vnode has the number 0.
+    #[tactic(auto, using(crate::proofs::Walked::from_one))]
+    fn starts_at_one(&self) -> bool
+        ensures { result ≡ ascends_from 1 (all_seen self.now.vnodes.now.table) }
+    {
+        self.vnodes.get(0).is_none()
+    }
+
+    /// Every vnode is one of a sound volume.
+    fn are_sound(&self) -> Mem<bool>
+        ensures { IfOk result (λ b. b ≡ list_all (is_sound_pair self.now.head.now self.now.vnodes.now.table) self.now.vnodes.now.table) }
+    {
+        for place in 0..self.vnodes.len() as u32 {
+            if !self.is_sound_at(place)? {
+                return Ok(false);
+            }
+        }
+        Ok(true)
+    }
+
+    /// They make a sound volume.
+    #[tactic(auto, unfolding(afs_records::specs::Sound::is_sound), using(crate::proofs::Walked::all_seen_pass))]
+    pub fn is_sound(&self) -> Mem<bool>
+        ensures { IfOk result (λ b. b ≡ is_sound (volume_seen self.now.head.now self.now.vnodes.now.table)) }
+    {
+        Ok(self.has_root() && self.starts_at_one() && self.are_sound()?)
+    }
+}

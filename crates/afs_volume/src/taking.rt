@@ -1,0 +1,143 @@
+//! A change that a volume takes in.
+
+ghost use Rattle.std.specs.Prelude.{◌≡◌, ◌≤◌, ◌<◌, ◌+◌, true, false, length, Some, OnOk};
+ghost use Rattle.std.specs.List.{AllByRecursion};
+ghost use Rattle.afs_ideal.specs.Tables.{get, set, unset};
+ghost use Rattle.afs_ideal.specs.VnodeImage.{FitsImage};
+ghost use Rattle.afs_ideal.specs.VnodeMaps.{most_vnodes, is_full_for};
+ghost use Rattle.afs_ideal.specs.Volumes.{blocks_in};
+ghost use Rattle.afs_records.specs.Durable.{changed_stored};
+ghost use Rattle.afs_vnode.specs.Stores.{AreVnodes};
+ghost use Rattle.afs_volume.specs.Counting.{blocks_at};
+ghost use Rattle.afs_volume.specs.Seen.{all_seen, AreReadable, IsReadable};
+ghost use Rattle.afs_volume.specs.Taking.{is_among, put_but, stored_of, without_all, CanTakeIn};
+
+use crate::Volume;
+use crate::limits::blocks_of;
+use afs_num::types::Mem;
+use afs_num::vnodes::{Vnode, Vnodes};
+use afs_num::volumes::Change;
+use afs_vnode::store::VnodeStore;
+
+fn is_among(number: u32, numbers: &[u32]) -> bool
+    ensures { result ≡ is_among number numbers.now }
+{
+    numbers.contains(&number)
+}
+
+/// How many blocks the vnode of a number takes.
+fn blocks_at(vnodes: &VnodeStore, number: u32) -> u64
+    requires { AreReadable vnodes.now.table }
+    ensures value { result ≡ blocks_at (get number (all_seen vnodes.now.table)) }
+    ensures vnodes { AreVnodes vnodes.now.table }
+{
+    match vnodes.get(number) {
+        Some(x) => blocks_of(x),
+        None => 0,
+    }
+}
+
+/// One vnode as it stands after a change, and the blocks that all then take.
+fn put(vnodes: &mut VnodeStore, blocks: u32, x: Vnode) -> u32
+    requires readable { AreReadable vnodes.old.table }
+    requires counted { blocks ≡ blocks_in (all_seen vnodes.old.table) }
+    requires read { IsReadable x }
+    requires fits { FitsImage x }
+    requires few { is_full_for x.vnode vnodes.old.table ≡ false }
+    requires room { 0 < vnodes.old.room }
+    ensures table { vnodes.new.table ≡ set x.vnode x vnodes.old.table }
+    ensures readable { AreReadable vnodes.new.table }
+    ensures counted { result ≡ blocks_in (all_seen vnodes.new.table) }
+    ensures room { vnodes.old.room ≤ vnodes.new.room + 1 }
+{
+    let before = blocks_at(vnodes, x.vnode);
+    let after = blocks_of(&x);
+    match vnodes.put(x) {
+        Ok(()) => {}
+        Err(_) => unreachable!(),
+    }
+    (u64::from(blocks) + after - before) as u32
+}
+
+/// The vnodes that a change gives, but for those that it removes.
+fn put_all(vnodes: &mut VnodeStore, before: u32, changed: Vnodes, removed: &[u32]) -> u32
+    requires readable { AreReadable vnodes.old.table }
+    requires counted { before ≡ blocks_in (all_seen vnodes.old.table) }
+    requires read { AllByRecursion IsReadable changed }
+    requires fits { AllByRecursion FitsImage changed }
+    requires few { length (put_but removed.now changed vnodes.old.table) ≤ most_vnodes }
+    requires room { length changed ≤ vnodes.old.room }
+    ensures table { vnodes.new.table ≡ put_but removed.now changed vnodes.old.table }
+    ensures readable { AreReadable vnodes.new.table }
+    ensures counted { result ≡ blocks_in (all_seen vnodes.new.table) }
+{
+    let mut blocks = before;
+    for x in changed.into_vec() {
+        if !is_among(x.vnode, removed) {
+            blocks = put(vnodes, blocks, x);
+        }
+    }
+    blocks
+}
+
+/// One vnode goes; the blocks that the others take.
+fn remove(vnodes: &mut VnodeStore, blocks: u32, number: u32) -> u32
+    requires readable { AreReadable vnodes.old.table }
+    requires counted { blocks ≡ blocks_in (all_seen vnodes.old.table) }
+    ensures table { vnodes.new.table ≡ unset number vnodes.old.table }
+    ensures readable { AreReadable vnodes.new.table }
+    ensures counted { result ≡ blocks_in (all_seen vnodes.new.table) }
+    ensures room { vnodes.old.room ≤ vnodes.new.room }
+{
+    let before = blocks_at(vnodes, number);
+    vnodes.remove(number);
+    (u64::from(blocks) - before) as u32
+}
+
+/// The vnodes that a change removes.
+fn remove_all(vnodes: &mut VnodeStore, before: u32, removed: &[u32]) -> u32
+    requires readable { AreReadable vnodes.old.table }
+    requires counted { before ≡ blocks_in (all_seen vnodes.old.table) }
+    ensures table { vnodes.new.table ≡ without_all removed.now vnodes.old.table }
+    ensures readable { AreReadable vnodes.new.table }
+    ensures counted { result ≡ blocks_in (all_seen vnodes.new.table) }
+    ensures room { vnodes.old.room ≤ vnodes.new.room }
+{
+    let mut blocks = before;
+    for number in removed {
+        blocks = remove(vnodes, blocks, *number);
+    }
+    blocks
+}
+
+impl Volume {
+    /// Makes room for one `take_in` of this change.
+    pub fn reserve(&mut self, c: &Change) -> Mem<()>
+        ensures room { OnOk result (length c.now.vnodes ≤ self.new.vnodes.room) }
+        ensures head { self.new.head ≡ self.old.head }
+        ensures vnodes { self.new.vnodes.table ≡ self.old.vnodes.table }
+    {
+        self.vnodes.reserve(c.vnodes.len())
+    }
+
+    /// The volume after a change for which there is room. It takes no memory.
+    pub fn take_in(&mut self, c: Change)
+        requires can { CanTakeIn self.old c }
+        requires room { length c.vnodes ≤ self.old.vnodes.room }
+        ensures head { self.new.head ≡ record self.old.head { counter = c.counter; unique = c.unique } }
+        ensures stored { changed_stored c.counter c.unique c.vnodes c.removed (stored_of self.old) ≡ Some (stored_of self.new) }
+    {
+        let Change {
+            versions: _,
+            vnodes,
+            removed,
+            counter,
+            unique,
+            reply: _,
+        } = c;
+        let left = remove_all(&mut self.vnodes, self.blocks, removed.as_slice());
+        self.blocks = put_all(&mut self.vnodes, left, vnodes, removed.as_slice());
+        self.head.counter = counter;
+        self.head.unique = unique;
+    }
+}
