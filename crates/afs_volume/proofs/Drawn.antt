@@ -171,3 +171,44 @@ get_without m ns (p ∷ t) = kept_by (is_among ns p.0) (nat_eq p.0 m) m p ns t r
 -- what stands at a number, by what edits leave and free
 abbrev stands : Volume → List Edit → ℕ → Option Vnode → Option Vnode
 stands v es m o = if is_some (get m (all_left v es)) then get m (all_left v es) else (if is_among (all_freed v es) m then None else o)
+
+skipped : (n m : ℕ) (o : Option Vnode) (t : Table Vnode) → nat_eq n m ≡ false → get m (left_at n o ++ t) ≡ get m t
+skipped n m None t e = refl
+skipped n m (Some x) t e = rw e refl
+
+gone_skipped : (n m : ℕ) (o p : Option Vnode) (ns : List ℕ) → nat_eq n m ≡ false → is_among (gone_between n o p ++ ns) m ≡ is_among ns m
+gone_skipped n m None p ns e = refl
+gone_skipped n m (Some x) None ns e = rw e refl
+gone_skipped n m (Some x) (Some y) ns e = refl
+
+not_at : (b : Bool) (n m : ℕ) → nat_eq n m ≡ b → (n ≡ m → ⊥) → b ≡ false
+not_at true n m e ne = absurd (ne (eqb-true n m e))
+not_at false n m e ne = refl
+
+none_left : (v : Volume) (m : ℕ) (es : List Edit) → AllByRecursion (λ (d : Edit). edit_number d ≡ m → ⊥) es → get m (all_left v es) ≡ None
+none_left v m [] apart = refl
+none_left v m (e ∷ es) apart = skipped (edit_number e) m (after_edit v e) (all_left v es) (not_at (nat_eq (edit_number e) m) (edit_number e) m refl apart.0) ∙ none_left v m es apart.1
+
+-- the edit's own number
+stands_here : (v : Volume) (e : Edit) (es : List Edit) → Finds e (before_edit v e) → get (edit_number e) (all_left v es) ≡ None → stands v (e ∷ es) (edit_number e) (before_edit v e) ≡ after_edit v e
+stands_here v (amends n a) es f none = rw (f.1, eq-eqb n n refl) refl
+stands_here v (makes n x) es f none = rw (f, eq-eqb n n refl) refl
+stands_here v (frees n) es f none = rw (f.1, none, eq-eqb n n refl) refl
+
+stands_by : (b : Bool) (v : Volume) (e : Edit) (es : List Edit) (m : ℕ) → nat_eq (edit_number e) m ≡ b → Finds e (before_edit v e) → AllByRecursion (IsOther e) es → stands v es m (get m v.vnodes) ≡ look (v.counter + 1) v.next es m (get m v.vnodes)
+    → stands v (e ∷ es) m (get m v.vnodes) ≡ cond b (one_edit (v.counter + 1) v.next e (get m v.vnodes)) (look (v.counter + 1) v.next es m (get m v.vnodes))
+stands_by true v e es m is f apart h =
+    subst (λ (k : ℕ). stands v (e ∷ es) k (get k v.vnodes) ≡ one_edit (v.counter + 1) v.next e (get k v.vnodes)) (eqb-true (edit_number e) m is) (stands_here v e es f (none_left v (edit_number e) es apart))
+stands_by false v e es m is f apart h =
+    rw (skipped (edit_number e) m (after_edit v e) (all_left v es) is, gone_skipped (edit_number e) m (before_edit v e) (after_edit v e) (all_freed v es) is) h
+
+stands_looks : (v : Volume) (es : List Edit) (m : ℕ) → Distinct es → FindEach v es → stands v es m (get m v.vnodes) ≡ look (v.counter + 1) v.next es m (get m v.vnodes)
+stands_looks v [] m apart finds = refl
+stands_looks v (e ∷ es) m apart finds = stands_by (nat_eq (edit_number e) m) v e es m refl finds.0 apart.0 (stands_looks v es m apart.1 finds.1)
+
+-- what is found by what the edits leave and free is found after them
+pub sees : (id : ℕ) (es : List Edit) (v : Volume) (m : ℕ) → Distinct es → MakesAs v.next v.next es → FindEach v es → get m (with_left (all_left v es) (all_freed v es) v).vnodes ≡ get m (edited_all id es v).vnodes
+sees id es v m apart one finds =
+    get_among m (all_left v es) (without (all_freed v es) v.vnodes)
+    ∙ (ap (λ (o : Option Vnode). if is_some (get m (all_left v es)) then get m (all_left v es) else o) (get_without m (all_freed v es) v.vnodes)
+    ∙ (stands_looks v es m apart finds ∙ sym (looks id v.next m es v apart one)))

@@ -1,8 +1,12 @@
 pub mod Amended
+pub mod Changed
 pub mod Drawn
+pub mod Imaged
+pub mod Left
 pub mod Placed
 pub mod Planned
 pub mod Renamed
+pub mod Replied
 pub mod Shown
 pub mod Statuses
 pub mod Sums

@@ -1,23 +1,23 @@
 //! The change that a call makes.
 
-ghost use Rattle.std.specs.Prelude.{◌≡◌, ◌+◌, true, if◌then◌else◌};
-ghost use Rattle.std.specs.List.{list_all, list_any};
-ghost use Rattle.afs_ideal.specs.Operations.{edit_fits, op, IsOn};
+ghost use Rattle.std.specs.Prelude.{◌≡◌, ◌+◌, ◌<◌, true, IfOk, if◌then◌else◌};
+ghost use Rattle.std.specs.List.{list_any};
+ghost use Rattle.afs_ideal.specs.Operations.{changes, last_count, op, the_user, IsOn};
 ghost use Rattle.afs_ideal.specs.Soundness.{IsSound};
-ghost use Rattle.afs_volume.specs.Changes.{Applies};
+ghost use Rattle.afs_volume.specs.Changes.{Applies, IsChangeBy, RepliesBy};
 ghost use Rattle.afs_volume.specs.Drawing.{makes_vnode};
 ghost use Rattle.afs_volume.specs.Giving.{caller_seen, edit_seen, edits_seen, is_changing, volume_of, FitsCall};
 
 use crate::Volume;
 use crate::callers::Caller;
 use crate::drafting::Draft;
-use crate::edits::Edit;
+use crate::edits::{Edit, Plan};
 use crate::faults::OpFault;
 use crate::sights::Sight;
 use afs_num::calls::FsCall;
+use afs_num::types::Mem;
 use afs_num::volumes::Change;
 
-/// Whether an edit makes a vnode.
 fn makes_vnode(edit: &Edit) -> bool
     ensures { result ≡ makes_vnode (edit_seen edit.now) }
 {
@@ -27,28 +27,36 @@ fn makes_vnode(edit: &Edit) -> bool
     }
 }
 
+/// An edit makes a vnode.
+fn is_new_among(edits: &[Edit]) -> bool
+    ensures { result ≡ list_any (λ e. makes_vnode (edit_seen e)) edits.now }
+{
+    edits.iter().any(|edit| makes_vnode(edit))
+}
+
 impl Volume {
     /// The next unique number after edits, of which one at most makes a vnode.
+    #[tactic(auto, using(crate::proofs::Changed::any_seen))]
     fn unique_left(&self, edits: &[Edit]) -> u32
-        requires { list_all (edit_fits (volume_of self.now)) (edits_seen edits.now) ≡ true }
+        requires { list_any makes_vnode (edits_seen edits.now) ≡ true → self.now.head.unique < last_count }
         ensures { result ≡ (if list_any makes_vnode (edits_seen edits.now) then self.now.head.unique + 1 else self.now.head.unique) }
     {
-        if edits.iter().any(makes_vnode) {
+        if is_new_among(edits) {
             self.head.unique + 1
         } else {
             self.head.unique
         }
     }
 
-    /// The change that a call makes for a caller.
-    pub(crate) fn change(&self, caller: &Caller, call: &FsCall, now: u32) -> Result<Change, OpFault>
+    /// The change that a plan makes at this time, with the reply to its call.
+    fn changed_by(&self, caller: &Caller, call: &FsCall, plan: &Plan, now: u32) -> Mem<Change>
         requires changing { is_changing call.now ≡ true }
-        requires fits { FitsCall call.now }
         requires on { IsOn self.now.head.id call.now }
         requires sound { IsSound (volume_of self.now) }
-        ensures { Applies self.now (caller_seen caller.now) call.now now (op self.now.head.id (caller_seen caller.now) call.now (volume_of self.now)) result }
+        requires planned { op self.now.head.id (caller_seen caller.now) call.now (volume_of self.now) ≡ changes (edits_seen plan.now.edits) plan.now.shown }
+        ensures change { IfOk result (λ c. IsChangeBy self.now now (edits_seen plan.now.edits) plan.now.shown c) }
+        ensures reply { IfOk result (λ c. RepliesBy self.now (caller_seen caller.now) call.now now (edits_seen plan.now.edits) plan.now.shown c) }
     {
-        let plan = self.plan_within(caller, call)?;
         let edits = plan.edits.as_slice();
         let draft = self.draft(edits, now)?;
         let sight = Sight {
@@ -56,7 +64,6 @@ impl Volume {
             draft: &draft,
         };
         let reply = sight.reply(caller, plan.shown, call)?;
-        let unique = self.unique_left(edits);
         let Draft {
             versions,
             vnodes,
@@ -68,8 +75,33 @@ impl Volume {
             vnodes,
             removed,
             counter: self.head.counter + 1,
-            unique,
+            unique: self.unique_left(edits),
             reply,
         })
+    }
+
+    /// The change that a call makes for a caller.
+    pub(crate) fn change(&self, caller: &Caller, call: &FsCall, now: u32) -> Result<Change, OpFault>
+        requires changing { is_changing call.now ≡ true }
+        requires fits { FitsCall call.now }
+        requires on { IsOn self.now.head.id call.now }
+        requires sound { IsSound (volume_of self.now) }
+        ensures { Applies self.now (caller_seen caller.now) call.now now (op self.now.head.id (caller_seen caller.now) call.now (volume_of self.now)) result }
+    {
+        let plan = self.plan_within(caller, call)?;
+        let change = self.changed_by(caller, call, &plan, now)?;
+        Ok(change)
+    }
+
+    /// The change that a call of a user makes at this time, 133 to 142, within the limits of a volume: what is told, the
+    /// vnodes and numbers that it leaves, and the reply, whose promise to call back is left for the server to fill. Or its
+    /// refusal, by the first of 102, 20 or 21, 30, 13, 22, 2 or 17, 39, 27, 109, 108. The volume stays as it is.
+    pub fn apply(&self, call: &FsCall, user: &[u8], now: u32) -> Result<Change, OpFault>
+        requires changing { is_changing call.now ≡ true }
+        requires fits { FitsCall call.now }
+        requires on { IsOn self.now.head.id call.now }
+        ensures { Applies self.now (the_user user.now) call.now now (op self.now.head.id (the_user user.now) call.now (volume_of self.now)) result }
+    {
+        self.change(&Caller::User(user), call, now)
     }
 }

@@ -1,0 +1,55 @@
+use Rattle.std.proofs.Common.{◌≡◌, ◌<◌, ◌+◌, ℕ, List, true, subst, sym, ap, ◌∙◌, arith, if◌then◌else◌}
+use Rattle.std.specs.List.{list_any, AllByRecursion}
+use Rattle.afs_ideal.specs.Operations.{last_count}
+use Rattle.afs_volume.specs.Drafts.{IsLeftIn}
+use Rattle.afs_volume.specs.Drawing.{all_freed, all_left, all_told, makes_vnode, CanBeDrawn}
+use Rattle.afs_volume.specs.Giving.{caller_seen, edits_seen, volume_of}
+use Rattle.afs_volume.specs.declared.edits.Edit.{Edit}
+use Rattle.afs_volume.proofs.Changed.{counter_low, drawable, is_change, replies, shown_there, unique_low, IsDrafted}
+use Rattle.afs_volume.proofs.volume.Volume.changed_by.Goals as goal
+
+pub draft-requires : goal.draft-requires
+draft-requires c =
+    let w = c.args.self.now in
+    let drawn = drawable w.head.id (caller_seen c.args.caller.now) c.args.call.now (volume_of w) (edits_seen c.args.plan.now.edits) c.args.plan.now.shown c.requires.sound c.requires.on c.requires.planned in
+    subst (λ (es : List Edit). AllByRecursion (CanBeDrawn (volume_of w)) (edits_seen es)) (sym c.as_slice-edits.ensures) drawn
+
+pub reply-requires-clause-left : goal.reply-requires-clause-left
+reply-requires-clause-left c =
+    let w = c.args.self.now in
+    shown_there w.head.id (caller_seen c.args.caller.now) c.args.call.now (volume_of w) (edits_seen c.args.plan.now.edits) c.args.plan.now.shown _ c.requires.sound c.requires.on c.requires.planned
+    (c.in_ok-draft.ensures.vnodes ∙ ap (λ (es : List Edit). all_left (volume_of w) (edits_seen es)) c.as_slice-edits.ensures)
+
+pub unique_left-requires : goal.unique_left-requires
+unique_left-requires c =
+    let w = c.args.self.now in
+    subst (λ (es : List Edit). list_any makes_vnode (edits_seen es) ≡ true → w.head.unique < last_count) (sym c.as_slice-edits.ensures)
+    (unique_low w.head.id (caller_seen c.args.caller.now) c.args.call.now (volume_of w) (edits_seen c.args.plan.now.edits) c.args.plan.now.shown c.requires.planned)
+
+pub overflow_add-result : goal.overflow_add-result
+overflow_add-result c =
+    let w = c.args.self.now in
+    let low = counter_low w.head.id (caller_seen c.args.caller.now) c.args.call.now (volume_of w) (edits_seen c.args.plan.now.edits) c.args.plan.now.shown c.requires.planned in
+    omega (arith, low)
+
+drafted : (c : goal.After-unique_left) → IsDrafted c.args.self.now c.args.now (edits_seen c.args.plan.now.edits) c.in_ok-draft.draft
+drafted c =
+    let w = c.args.self.now in
+    record {
+      time = c.in_ok-draft.ensures.time;
+      versions = c.in_ok-draft.ensures.versions ∙ ap (λ (es : List Edit). all_told w.head.id (volume_of w) (edits_seen es)) c.as_slice-edits.ensures;
+      vnodes = c.in_ok-draft.ensures.vnodes ∙ ap (λ (es : List Edit). all_left (volume_of w) (edits_seen es)) c.as_slice-edits.ensures;
+      removed = c.in_ok-draft.ensures.removed ∙ ap (λ (es : List Edit). all_freed (volume_of w) (edits_seen es)) c.as_slice-edits.ensures;
+      images = c.in_ok-draft.ensures.images;
+    }
+
+pub returns-clause-change : goal.returns-clause-change
+returns-clause-change c =
+    let w = c.args.self.now in
+    is_change w (caller_seen c.args.caller.now) c.args.call.now c.args.now (edits_seen c.args.plan.now.edits) c.args.plan.now.shown c.unique_left.result c.in_ok-draft.draft c.in_ok-reply.reply c.requires.sound c.requires.on c.requires.planned (drafted c)
+    (c.unique_left.ensures ∙ ap (λ (es : List Edit). if list_any makes_vnode (edits_seen es) then w.head.unique + 1 else w.head.unique) c.as_slice-edits.ensures)
+
+pub returns-clause-reply : goal.returns-clause-reply
+returns-clause-reply c =
+    let w = c.args.self.now in
+    replies w (caller_seen c.args.caller.now) c.args.call.now c.args.now (edits_seen c.args.plan.now.edits) c.args.plan.now.shown (w.head.counter + 1) c.unique_left.result c.in_ok-draft.draft c.in_ok-reply.reply c.requires.sound c.requires.on c.requires.planned (drafted c) c.in_ok-reply.ensures
