@@ -17,3 +17,4 @@ pub mod Taken
 pub mod Folded
 pub mod Walked
 pub mod Readable
+pub mod AtOnce
