@@ -181,7 +181,11 @@ impl<'a> Sight<'a> {
                 callback,
                 sync,
             },
-            FsCall::Link { directory, existing, .. } => FsReply::Link {
+            FsCall::Link {
+                directory,
+                existing,
+                ..
+            } => FsReply::Link {
                 status: self.status_at(caller, existing.vnode)?,
                 directory: self.status_at(caller, directory.vnode)?,
                 sync,

@@ -59,9 +59,7 @@ fn gives_held(d: u32, unique: u32, x: Option<&Vnode>, name: &Name) -> bool
     ensures { result ≡ gives_held d unique name.now.vnode (option_map seen (option_copied x.entry)) name.now }
 {
     match x {
-        Some(x) => {
-            name.vnode != 1 && x.unique == name.unique && is_held_by(d, unique, x)
-        }
+        Some(x) => { name.vnode != 1 && x.unique == name.unique && is_held_by(d, unique, x) }
         None => false,
     }
 }
@@ -173,11 +171,13 @@ impl<'a> Parts<'a> {
     {
         let names = self.names(x)?;
         let names = names.as_slice();
-        Ok(kind_is_right(x)
-            && x.unique < self.head.unique
-            && has_links(x, names)
-            && self.gives_all(x, names)
-            && (x.vnode == 1 || self.is_placed(x)?))
+        Ok(
+            kind_is_right(x)
+                && x.unique < self.head.unique
+                && has_links(x, names)
+                && self.gives_all(x, names)
+                && (x.vnode == 1 || self.is_placed(x)?),
+        )
     }
 
     /// The root is a directory with the unique number 1, and nothing holds it.
