@@ -56,11 +56,11 @@ not_last true n is h = ltb-true n last_count is
 not_last false n is h = absurd cc
 
 -- an accepted operation is within the limits
-record IsWithin (v : Volume) (es : List Edit) : Type 0 where
-  low : v.counter < last_count
-  fits : list_all (edit_fits v) es ≡ true
+pub record IsWithin (v : Volume) (es : List Edit) : Type 0 where
+  pub low : v.counter < last_count
+  pub fits : list_all (edit_fits v) es ≡ true
 
-within : (id : ℕ) (caller : Caller) (call : FsCall) (v : Volume) (es : List Edit) (n : ℕ) → op id caller call v ≡ changes es n → IsWithin v es
+pub within : (id : ℕ) (caller : Caller) (call : FsCall) (v : Volume) (es : List Edit) (n : ℕ) → op id caller call v ≡ changes es n → IsWithin v es
 within id caller call v es n e =
     let passed = all_pass (limits id es v) (accepted id caller call v es n e).fits in
     let two = both (not (is_last_count v.counter)) (list_all (edit_fits v) es) passed.1.0 in

@@ -1,6 +1,8 @@
 pub mod Amended
 pub mod Changed
 pub mod Drawn
+pub mod Few
+pub mod Fitting
 pub mod Imaged
 pub mod Left
 pub mod Placed
@@ -12,6 +14,7 @@ pub mod Statuses
 pub mod Sums
 pub mod Tables
 pub mod Texts
+pub mod Values
 pub mod Soundly
 pub mod Taken
 pub mod Folded

@@ -91,7 +91,7 @@ frees_order : (id n : ℕ) (v : Volume) (o : Option Vnode) → AscendsFrom 0 v.v
 frees_order id n v None up = up
 frees_order id n v (Some x) up = ascends_unset 0 n v.vnodes up
 
-edit_order : (id : ℕ) (e : Edit) (v : Volume) → AscendsFrom 0 v.vnodes → AscendsFrom 0 (edited id e v).volume.vnodes
+pub edit_order : (id : ℕ) (e : Edit) (v : Volume) → AscendsFrom 0 v.vnodes → AscendsFrom 0 (edited id e v).volume.vnodes
 edit_order id (amends n a) v up = amends_order id n a v (get n v.vnodes) up
 edit_order id (makes n x) v up = makes_order id n x v (get n v.vnodes) up
 edit_order id (frees n) v up = frees_order id n v (get n v.vnodes) up

@@ -1,12 +1,14 @@
 //! The change that a call makes.
 
-ghost use Rattle.std.specs.Prelude.{◌≡◌, ◌+◌, ◌<◌, true, IfOk, if◌then◌else◌};
+ghost use Rattle.std.specs.Prelude.{◌≡◌, ◌≤◌, ◌+◌, ◌<◌, true, length, IfOk, if◌then◌else◌};
 ghost use Rattle.std.specs.List.{list_any};
 ghost use Rattle.afs_ideal.specs.Operations.{changes, last_count, op, the_user, IsOn};
 ghost use Rattle.afs_ideal.specs.Soundness.{IsSound};
+ghost use Rattle.afs_ideal.specs.VnodeMaps.{most_vnodes};
 ghost use Rattle.afs_volume.specs.Changes.{Applies, IsChangeBy, RepliesBy};
 ghost use Rattle.afs_volume.specs.Drawing.{makes_vnode};
 ghost use Rattle.afs_volume.specs.Giving.{caller_seen, edit_seen, edits_seen, is_changing, volume_of, FitsCall};
+ghost use Rattle.afs_volume.specs.Taking.{CanTakeIn};
 
 use crate::Volume;
 use crate::callers::Caller;
@@ -53,9 +55,11 @@ impl Volume {
         requires changing { is_changing call.now ≡ true }
         requires on { IsOn self.now.head.id call.now }
         requires sound { IsSound (volume_of self.now) }
+        requires few { length (volume_of self.now).vnodes ≤ most_vnodes }
         requires planned { op self.now.head.id (caller_seen caller.now) call.now (volume_of self.now) ≡ changes (edits_seen plan.now.edits) plan.now.shown }
         ensures change { IfOk result (λ c. IsChangeBy self.now now (edits_seen plan.now.edits) plan.now.shown c) }
         ensures reply { IfOk result (λ c. RepliesBy self.now (caller_seen caller.now) call.now now (edits_seen plan.now.edits) plan.now.shown c) }
+        ensures fits { IfOk result (λ c. CanTakeIn self.now c) }
     {
         let edits = plan.edits.as_slice();
         let draft = self.draft(edits, now)?;
@@ -86,7 +90,8 @@ impl Volume {
         requires fits { FitsCall call.now }
         requires on { IsOn self.now.head.id call.now }
         requires sound { IsSound (volume_of self.now) }
-        ensures { Applies self.now (caller_seen caller.now) call.now now (op self.now.head.id (caller_seen caller.now) call.now (volume_of self.now)) result }
+        ensures applies { Applies self.now (caller_seen caller.now) call.now now (op self.now.head.id (caller_seen caller.now) call.now (volume_of self.now)) result }
+        ensures fits { IfOk result (λ c. CanTakeIn self.now c) }
     {
         let plan = self.plan_within(caller, call)?;
         let change = self.changed_by(caller, call, &plan, now)?;
@@ -100,7 +105,8 @@ impl Volume {
         requires changing { is_changing call.now ≡ true }
         requires fits { FitsCall call.now }
         requires on { IsOn self.now.head.id call.now }
-        ensures { Applies self.now (the_user user.now) call.now now (op self.now.head.id (the_user user.now) call.now (volume_of self.now)) result }
+        ensures applies { Applies self.now (the_user user.now) call.now now (op self.now.head.id (the_user user.now) call.now (volume_of self.now)) result }
+        ensures fits { IfOk result (λ c. CanTakeIn self.now c) }
     {
         self.change(&Caller::User(user), call, now)
     }

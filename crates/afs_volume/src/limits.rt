@@ -170,6 +170,7 @@ impl Volume {
     fn has_room(&self) -> bool
         ensures value { result ≡ nat_lt (length (volume_of self.now).vnodes) most_vnodes }
         ensures ordered { AscendsFrom 0 (volume_of self.now).vnodes }
+        ensures few { length (volume_of self.now).vnodes ≤ most_vnodes }
     {
         self.vnodes.len() < MOST_VNODES
     }
@@ -203,7 +204,8 @@ impl Volume {
     pub(crate) fn check_limits(&self, edits: &[Edit]) -> Result<(), OpFault>
         requires apart { Distinct (edits_seen edits.now) }
         requires few { length edits.now ≤ 4 }
-        ensures { Passes (first_failing (limits self.now.head.id (edits_seen edits.now) (volume_of self.now))) result }
+        ensures answer { Passes (first_failing (limits self.now.head.id (edits_seen edits.now) (volume_of self.now))) result }
+        ensures few { length (volume_of self.now).vnodes ≤ most_vnodes }
     {
         let has_room = self.has_room();
         check(self.is_within_quota(edits), 109)?;

@@ -1,8 +1,9 @@
 //! What the operation of a call is to do.
 
-ghost use Rattle.std.specs.Prelude.{◌≡◌, ◌≤◌, length, true};
+ghost use Rattle.std.specs.Prelude.{◌≡◌, ◌≤◌, length, true, IfOk};
 ghost use Rattle.afs_ideal.specs.Operations.{by_tests, changes, first_failing, limits, op, IsOn};
 ghost use Rattle.afs_ideal.proofs.Looks.{Distinct};
+ghost use Rattle.afs_ideal.specs.VnodeMaps.{most_vnodes};
 ghost use Rattle.afs_ideal.specs.Soundness.{IsSound};
 ghost use Rattle.afs_volume.specs.Giving.{caller_seen, edits_seen, is_changing, planned, volume_of, FitsCall, Plans};
 
@@ -75,7 +76,8 @@ impl Volume {
     fn within_limits(&self, plan: Plan) -> Result<Plan, OpFault>
         requires apart { Distinct (edits_seen plan.edits) }
         requires few { length plan.edits ≤ 4 }
-        ensures { Plans (by_tests (first_failing (limits self.now.head.id (edits_seen plan.edits) (volume_of self.now))) (changes (edits_seen plan.edits) plan.shown)) result }
+        ensures plan { Plans (by_tests (first_failing (limits self.now.head.id (edits_seen plan.edits) (volume_of self.now))) (changes (edits_seen plan.edits) plan.shown)) result }
+        ensures few { length (volume_of self.now).vnodes ≤ most_vnodes }
     {
         self.check_limits(plan.edits.as_slice())?;
         Ok(plan)
@@ -87,7 +89,8 @@ impl Volume {
         requires fits { FitsCall call.now }
         requires on { IsOn self.now.head.id call.now }
         requires sound { IsSound (volume_of self.now) }
-        ensures { Plans (op self.now.head.id (caller_seen caller.now) call.now (volume_of self.now)) result }
+        ensures plan { Plans (op self.now.head.id (caller_seen caller.now) call.now (volume_of self.now)) result }
+        ensures few { IfOk result (λ p. length (volume_of self.now).vnodes ≤ most_vnodes) }
     {
         let plan = self.plan(caller, call)?;
         self.within_limits(plan)

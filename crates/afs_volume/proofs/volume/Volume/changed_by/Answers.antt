@@ -1,11 +1,12 @@
-use Rattle.std.proofs.Common.{◌≡◌, ◌<◌, ◌+◌, ℕ, List, true, subst, sym, ap, ◌∙◌, arith, if◌then◌else◌}
+use Rattle.std.proofs.Common.{◌≡◌, ◌<◌, ◌+◌, ℕ, List, true, subst, refl, sym, ap, ◌∙◌, arith, if◌then◌else◌}
 use Rattle.std.specs.List.{list_any, AllByRecursion}
 use Rattle.afs_ideal.specs.Operations.{last_count}
-use Rattle.afs_volume.specs.Drafts.{IsLeftIn}
+use Rattle.afs_volume.specs.Changes.{IsChangeBy}
 use Rattle.afs_volume.specs.Drawing.{all_freed, all_left, all_told, makes_vnode, CanBeDrawn}
 use Rattle.afs_volume.specs.Giving.{caller_seen, edits_seen, volume_of}
 use Rattle.afs_volume.specs.declared.edits.Edit.{Edit}
-use Rattle.afs_volume.proofs.Changed.{counter_low, drawable, is_change, replies, shown_there, unique_low, IsDrafted}
+use Rattle.afs_volume.proofs.Changed.{change_of, counter_low, drawable, is_change, replies, shown_there, unique_low, IsDrafted}
+use Rattle.afs_volume.proofs.Fitting.{can_take}
 use Rattle.afs_volume.proofs.volume.Volume.changed_by.Goals as goal
 
 pub draft-requires : goal.draft-requires
@@ -43,11 +44,19 @@ drafted c =
       images = c.in_ok-draft.ensures.images;
     }
 
-pub returns-clause-change : goal.returns-clause-change
-returns-clause-change c =
+changed : (c : goal.After-unique_left) → IsChangeBy c.args.self.now c.args.now (edits_seen c.args.plan.now.edits) c.args.plan.now.shown (change_of c.in_ok-draft.draft (c.args.self.now.head.counter + 1) c.unique_left.result c.in_ok-reply.reply)
+changed c =
     let w = c.args.self.now in
     is_change w (caller_seen c.args.caller.now) c.args.call.now c.args.now (edits_seen c.args.plan.now.edits) c.args.plan.now.shown c.unique_left.result c.in_ok-draft.draft c.in_ok-reply.reply c.requires.sound c.requires.on c.requires.planned (drafted c)
     (c.unique_left.ensures ∙ ap (λ (es : List Edit). if list_any makes_vnode (edits_seen es) then w.head.unique + 1 else w.head.unique) c.as_slice-edits.ensures)
+
+pub returns-clause-change : goal.returns-clause-change
+returns-clause-change c = changed c
+
+pub returns-clause-fits : goal.returns-clause-fits
+returns-clause-fits c =
+    let w = c.args.self.now in
+    can_take w (caller_seen c.args.caller.now) c.args.call.now c.args.now (edits_seen c.args.plan.now.edits) c.args.plan.now.shown c.in_ok-draft.draft (change_of c.in_ok-draft.draft (w.head.counter + 1) c.unique_left.result c.in_ok-reply.reply) c.requires.sound c.requires.on c.requires.planned c.requires.few (drafted c) refl (changed c)
 
 pub returns-clause-reply : goal.returns-clause-reply
 returns-clause-reply c =

@@ -16,5 +16,5 @@ within_limits-requires-clause-few c =
     let long = length-map c.in_ok-plan.plan.edits edit_seen in
     omega (arith, few, long)
 
-pub returns : goal.returns
-returns c = subst (λ (r : ops.Result). Plans r c.within_limits.result) (sym (op_limited c.args.self.now.head.id (caller_seen c.args.caller.now) c.args.call.now (volume_of c.args.self.now) (edits_seen c.in_ok-plan.plan.edits) c.in_ok-plan.plan.shown c.in_ok-plan.ensures)) c.within_limits.ensures
+pub returns-clause-plan : goal.returns-clause-plan
+returns-clause-plan c = subst (λ (r : ops.Result). Plans r c.within_limits.result) (sym (op_limited c.args.self.now.head.id (caller_seen c.args.caller.now) c.args.call.now (volume_of c.args.self.now) (edits_seen c.in_ok-plan.plan.edits) c.in_ok-plan.plan.shown c.in_ok-plan.ensures)) c.within_limits.ensures.plan
