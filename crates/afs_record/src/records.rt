@@ -11,6 +11,7 @@ use crate::tables::{number_of, read_body, write_body};
 use afs_num::records::StoreRecord;
 use afs_num::sequences::Octets;
 use afs_num::types::Mem;
+use afs_records::laws::read_records_are_spelled;
 use afs_xdr::reading::Reader;
 use afs_xdr::writing::Writer;
 use std::alloc::Global;
@@ -29,9 +30,9 @@ pub fn encode_record(alloc: Global, rec: &StoreRecord) -> Mem<Octets>
     Ok(Octets::from_vec(bytes))
 }
 
-/// The record that these bytes are. `NoForm` where they are none.
+/// The record that these bytes are, as it is read.
 #[tactic(auto, unfolding(afs_records::specs::Records::record_at))]
-pub fn decode_record(alloc: Global, bytes: &[u8]) -> Result<StoreRecord, RecordFault>
+fn read_record(alloc: Global, bytes: &[u8]) -> Result<StoreRecord, RecordFault>
     ensures { GivesForm (record_at bytes.now) result }
 {
     let mut r = Reader::new(bytes);
@@ -39,4 +40,15 @@ pub fn decode_record(alloc: Global, bytes: &[u8]) -> Result<StoreRecord, RecordF
     let head = read_head(alloc, &mut r)?;
     let body = read_body(alloc, number, &mut r)?;
     Ok(StoreRecord { head, body })
+}
+
+/// The record that these bytes are. `NoForm` where they are none.
+pub fn decode_record(alloc: Global, bytes: &[u8]) -> Result<StoreRecord, RecordFault>
+    ensures value { GivesForm (record_at bytes.now) result }
+    ensures fits { IfOk result (λ r. FitsRecord r) }
+    ensures spelled { IfOk result (λ r. record_bytes r ≡ bytes.now) }
+{
+    read_records_are_spelled();
+    let rec = read_record(alloc, bytes)?;
+    Ok(rec)
 }
