@@ -1,6 +1,6 @@
 //! One record more: prepared, then put on the disk.
 
-ghost use Rattle.std.specs.Prelude.{◌≡◌, ◌≤◌, ◌+◌, ◌↔◌, ◌⊎◌, ℕ, List, None, Some, true, false, IfErr, IsErrOf, IsOk, IsSome, OnOk, OnErr};
+ghost use Rattle.std.specs.Prelude.{◌≡◌, ◌≤◌, ◌+◌, ◌↔◌, ◌⊎◌, ℕ, List, None, Some, true, false, IfErr, IfOk, IsErrOf, IsOk, IsSome, OnOk, OnErr};
 ghost use Rattle.afs_num.specs.declared.faults.StoreFault.TheVariants as faults;
 ghost use Rattle.afs_num.specs.declared.records.StoreRecord as records;
 ghost use Rattle.afs_disk.specs.Disk.{LeavesOnly, SameDisk};
@@ -51,7 +51,7 @@ impl<D: Disk> VolStore<D> {
         ensures kept { OnOk result (IsKept self.new.durable (D.seen self.new.disk) (D.may_leave self.new.disk)) }
 
         // A crash at any moment leaves what was kept before, or what is kept with the record.
-        ensures any_moment { self.old.closed ≡ false → (r : records.StoreRecord) → self.old.prepared ≡ Some r → IsSome (D.seen self.old.disk)
+        ensures any_moment { self.old.closed ≡ false → (r : records.StoreRecord) → self.old.prepared ≡ Some r → (bytes : List ℕ) → D.seen self.old.disk ≡ Some bytes
             → LeavesOnly D.moment D.left_since self.old.disk self.new.disk (StandsAround r self.old.durable) }
 
         ensures calls { OnOk result (D.calls self.new.disk ≡ D.calls self.old.disk + 4) }
@@ -59,6 +59,7 @@ impl<D: Disk> VolStore<D> {
         ensures served { Served (D.setting self.old.disk) (D.calls self.old.disk) (D.calls self.new.disk) (D.faults self.old.disk) (D.faults self.new.disk) (D.own_faults self.old.disk) (D.own_faults self.new.disk) result }
         ensures setting { (D.limit self.new.disk ≡ D.limit self.old.disk) × (D.setting self.new.disk ≡ D.setting self.old.disk) }
     {
+        let _ = &self.alloc;
         Err(StoreFault::Failed)
     }
 
@@ -74,13 +75,14 @@ impl<D: Disk> VolStore<D> {
         ensures failed { IsErrOf result faults.Failed → self.new ≡ record self.old { disk = self.new.disk; prepared = None; closed = true } }
         ensures never { (IsErrOf result faults.Closed → ⊥) × ((n : ℕ) → IsErrOf result (faults.BadRecord n) → ⊥) }
         ensures kept { OnOk result (IsKept self.new.durable (D.seen self.new.disk) (D.may_leave self.new.disk)) }
-        ensures any_moment { IsSome (D.seen self.old.disk)
+        ensures any_moment { (bytes : List ℕ) → D.seen self.old.disk ≡ Some bytes
             → LeavesOnly D.moment D.left_since self.old.disk self.new.disk (StandsAround (boot_record (self.old.durable.boot + 1)) self.old.durable) }
         ensures calls { OnOk result (D.calls self.new.disk ≡ D.calls self.old.disk + 4) }
         ensures most { (D.calls self.old.disk ≤ D.calls self.new.disk) × (D.calls self.new.disk ≤ D.calls self.old.disk + 4) }
         ensures served { Served (D.setting self.old.disk) (D.calls self.old.disk) (D.calls self.new.disk) (D.faults self.old.disk) (D.faults self.new.disk) (D.own_faults self.old.disk) (D.own_faults self.new.disk) result }
         ensures setting { (D.limit self.new.disk ≡ D.limit self.old.disk) × (D.setting self.new.disk ≡ D.setting self.old.disk) }
     {
+        let _ = &self.alloc;
         Err(StoreFault::OutOfMemory)
     }
 }

@@ -25,7 +25,8 @@ pub fn first_length(alloc: Global, volumes: &VolumeLines) -> Mem<u64>
     requires { CanBeSetUp volumes.now }
     ensures { IfOk result (λ n. first_length volumes.now ≡ Some n) }
 {
-    let _ = (alloc, volumes);
+    let _ = alloc;
+    let _ = volumes;
     Err(AllocError)
 }
 
@@ -54,7 +55,9 @@ impl<D: Disk> VolStore<D> {
         ensures ok { IfOk result (λ s. Moved D.faults D.own_faults D.calls D.setting D.limit disk s.disk × PassesAll (D.setting disk) (D.calls disk) (D.calls s.disk)) }
         ensures err { IfErr result (λ e. Moved D.faults D.own_faults D.calls D.setting D.limit disk e.1 × IsCaused (D.setting disk) (D.calls e.1) (D.faults disk) (D.faults e.1) (D.own_faults disk) (D.own_faults e.1) e.0) }
     {
-        let _ = (alloc, node, volumes);
+        let _ = alloc;
+        let _ = node;
+        let _ = volumes;
         Err((StoreFault::OutOfMemory, disk))
     }
 
@@ -85,7 +88,9 @@ impl<D: Disk> VolStore<D> {
         ensures rests { IfOk result (λ r. (bytes : List ℕ) → D.seen disk ≡ Some bytes → Rests bytes → D.calls r.0.disk ≡ D.calls disk + 2) }
         ensures limit { MatchResult result (λ r. D.limit r.0.disk ≡ D.limit disk) (λ e. D.limit e.1 ≡ D.limit disk) }
     {
-        let _ = (alloc, node, told);
+        let _ = alloc;
+        let _ = node;
+        let _ = told;
         Err((StoreFault::OutOfMemory, disk))
     }
 }

@@ -1,12 +1,15 @@
 //! What a server's disk keeps, in memory.
 
-ghost use Rattle.std.specs.Prelude.{◌≡◌, None, Some, IfSome, IfNone};
+ghost use Rattle.std.specs.Prelude.{◌≡◌, None, Some, IfSome, IfNone, false};
+ghost use Rattle.std.specs.Option.{option_map, option_map_or};
+ghost use Rattle.afs_num.specs.Nodes.{node_number};
 ghost use Rattle.afs_ideal.specs.Tables.{get};
 ghost use Rattle.afs_records.specs.Durable.{or_zero};
 ghost use Rattle.afs_volstore.specs.Stores.{stored, all_stored};
 ghost use Rattle.afs_volstore.specs.States.{all_kept, all_stamps, kept_seen};
 
 use afs_num::sequences::Octets;
+use afs_num::types::Node;
 use afs_volume::Volume;
 use std::marker::Model;
 
@@ -82,4 +85,22 @@ pub(crate) fn find_kept(kept: &[KeptReply], caller: u32) -> Option<&KeptReply>
         }
     }
     None
+}
+
+impl State {
+    /// The server to which calls for a volume are to go. No record that is taken forwards one.
+    pub(crate) fn forwarding(&self, _id: u32) -> Option<Node>
+        ensures { option_map node_number result ≡ get _id self.now.forwardings }
+    {
+        let _ = &self.boot;
+        None
+    }
+
+    /// Whether a volume is new. No record that is taken makes one.
+    pub(crate) fn is_new(&self, _id: u32) -> bool
+        ensures { result ≡ option_map_or (λ s. s.is_new) (get _id self.now.volumes) false }
+    {
+        let _ = &self.boot;
+        false
+    }
 }

@@ -1,6 +1,7 @@
 //! A server's store: its volumes and what stands beside them, on a disk.
 
-ghost use Rattle.std.specs.Prelude.{◌≡◌, ◌<◌, ◌≤◌, ◌+◌, ◌↔◌, ◌⊎◌, ℕ, List, None, Some, true, false, slice_get, IfSome, IfNone, IfErr, IsErrOf, IsOk, IsSome, OnOk, OnErr, option_map, option_map_or};
+ghost use Rattle.std.specs.Prelude.{◌≡◌, ◌<◌, ◌≤◌, ◌+◌, ◌↔◌, ◌⊎◌, ℕ, List, None, Some, true, false, slice_get, IfSome, IfNone, IfErr, IsErrOf, IsOk, IsSome, OnOk, OnErr};
+ghost use Rattle.std.specs.Option.{option_map, option_map_or};
 ghost use Rattle.afs_num.specs.Nodes.{node_number};
 ghost use Rattle.afs_num.specs.declared.records.StoreRecord.{StoreRecord};
 ghost use Rattle.afs_ideal.specs.Tables.{get};
@@ -35,23 +36,27 @@ pub struct VolStore<D: Disk> {
 }
 
 impl<D: Disk> Model for VolStore<D> {
-    ghost use Rattle.std.specs.Prelude.{◌+◌, ◌<◌, ◌^◌};
+    ghost use Rattle.std.specs.Prelude.{◌≡◌, ◌+◌, ◌<◌, ◌^◌, None, false};
     ghost use Rattle.afs_volstore.specs.States.{placed};
-    ghost use Rattle.afs_volstore.specs.Stores.{Store};
+    ghost use Rattle.afs_volstore.specs.Stores.{IsKept, Store};
 
     ghost Value = { Store D };
 
     ghost view = { λ s. record {
-        durable = placed (s.journal.gate + 1) (D.limit s.journal.disk) s.state;
-        disk = s.journal.disk;
-        node = s.node;
-        prepared = s.prepared;
-        closed = s.journal.closed;
-        count = s.journal.count;
-        drawn = s.drawn;
+      durable = placed (s.journal.gate + 1) (D.limit s.journal.disk) s.state;
+      disk = s.journal.disk;
+      node = s.node;
+      prepared = s.prepared;
+      closed = s.journal.closed;
+      count = s.journal.count;
+      drawn = s.drawn;
     } };
 
-    ghost invariant = { λ s. s.journal.count < 2 ^ 32 };
+    ghost invariant = { λ s. record {
+      few : s.journal.count < 2 ^ 32;
+      none : s.prepared ≡ None;
+      kept : s.journal.closed ≡ false → IsKept (placed (s.journal.gate + 1) (D.limit s.journal.disk) s.state) (D.seen s.journal.disk) (D.may_leave s.journal.disk);
+    } };
 }
 
 impl<D: Disk> VolStore<D> {
@@ -90,10 +95,10 @@ impl<D: Disk> VolStore<D> {
     }
 
     /// The server to which calls for this volume are to go. It takes no memory.
-    pub fn forwarding(&self, _id: u32) -> Option<Node>
-        ensures { option_map node_number result ≡ get _id self.now.durable.forwardings }
+    pub fn forwarding(&self, id: u32) -> Option<Node>
+        ensures { option_map node_number result ≡ get id self.now.durable.forwardings }
     {
-        None
+        self.state.forwarding(id)
     }
 
     /// The last reply to this caller that has to outlive the server, with the key of its call. It takes no memory.
@@ -116,10 +121,10 @@ impl<D: Disk> VolStore<D> {
     }
 
     /// Whether the volume is there and is new: made under no stamp, and never yet with flags 0. It takes no memory.
-    pub fn is_new(&self, _id: u32) -> bool
-        ensures { result ≡ option_map_or (λ s. s.is_new) (get _id self.now.durable.volumes) false }
+    pub fn is_new(&self, id: u32) -> bool
+        ensures { result ≡ option_map_or (λ s. s.is_new) (get id self.now.durable.volumes) false }
     {
-        false
+        self.state.is_new(id)
     }
 
     /// The boot number. It takes no memory.
