@@ -1,6 +1,4 @@
-use crate::vectors::{
-    BOOT, CHANGE, CLONE, CREATE, DELETE, FIRST, FLAGS, FORWARD, RESTORE, STAMP,
-};
+use crate::vectors::{BOOT, CHANGE, CLONE, CREATE, DELETE, FIRST, FLAGS, FORWARD, RESTORE, STAMP};
 use afs_record::faults::RecordFault;
 use afs_record::records::{decode_record, encode_record};
 use std::alloc::{AllocError, Global};
@@ -36,7 +34,10 @@ fn each_kind_is_read_and_written(rt: HostRuntime) -> Result<(), Fail> {
 fn a_record_that_is_cut_is_none(rt: HostRuntime) {
     for bytes in all() {
         for length in 0..bytes.len() {
-            assert_eq!(rt; fault(rt.alloc(), &bytes[..length]), Some(RecordFault::NoForm));
+            assert_eq!(rt;
+                fault(rt.alloc(), &bytes[..length]),
+                Some(RecordFault::NoForm)
+            );
         }
     }
 }
@@ -70,8 +71,19 @@ fn refused(alloc: Global, bytes: &[u8]) -> Result<Vec<usize>, AllocError> {
 #[test]
 fn a_raised_count_mark_or_range_is_refused(rt: HostRuntime) -> Result<(), Fail> {
     for (bytes, want) in [
-        (FIRST.as_slice(), [0, 24, 28, 32, 44, 76, 80, 84, 88, 92, 96, 100, 104, 108, 112, 116, 192, 196, 236, 240, 244, 248, 300, 308, 312, 316, 320, 324, 376, 380, 388, 396, 428, 432, 436, 440, 444, 448, 452, 528, 532].as_slice()),
-        (&CHANGE, &[0, 32, 48, 52, 60, 136, 140, 164, 172, 224, 228, 236]),
+        (
+            FIRST.as_slice(),
+            [
+                0, 24, 28, 32, 44, 76, 80, 84, 88, 92, 96, 100, 104, 108, 112, 116, 192, 196, 236,
+                240, 244, 248, 300, 308, 312, 316, 320, 324, 376, 380, 388, 396, 428, 432, 436,
+                440, 444, 448, 452, 528, 532,
+            ]
+            .as_slice(),
+        ),
+        (
+            &CHANGE,
+            &[0, 32, 48, 52, 60, 136, 140, 164, 172, 224, 228, 236],
+        ),
         (&BOOT, &[0, 24]),
         (&CREATE, &[0, 32, 44, 52, 64]),
         (&DELETE, &[0, 32]),
