@@ -6,7 +6,7 @@ use Rattle.std.specs.List.Sorted.{IsPartitionedBy, IsPartitionPoint}
 use Rattle.std.proofs.lemmas.Bool.Decides.{nat_tests}
 use Rattle.afs_ideal.specs.Tables.{Table, get, AscendsFrom}
 use Rattle.afs_ideal.specs.Tables as tables
-use Rattle.afs_ideal.proofs.Tables.{ascends_set, get_below}
+use Rattle.afs_ideal.proofs.Tables.{ascends_lower, ascends_set, get_below}
 use Rattle.afs_seats.specs.Seated.{place_of, has_number, item_of, seen_as}
 
 found_from : {A : Type 0} (m k : ℕ) (t : Table A) → AscendsFrom m t → get k t ≡ (if has_number k (slice_get t (place_of k t)) then item_of (slice_get t (place_of k t)) else None)
@@ -77,3 +77,21 @@ placed {A} {B} f false false n x p ps rest later e = ap (λ (l : Table B). (p.0,
 pub set_seen : {A B : Type 0} (f : A → B) (n : ℕ) (x : A) (t : Table A) → tables.set n (f x) (seen_as f t) ≡ seen_as f (tables.set n x t)
 set_seen {A} {B} f n x [] = refl
 set_seen {A} {B} f n x (p ∷ ps) = placed f (nat_eq p.0 n) (nat_lt n p.0) n x p ps (tables.set n x ps) (tables.set n (f x) (seen_as f ps)) (set_seen f n x ps)
+
+-- what stays of a table ascends
+kept_ascends : {A : Type 0} (m : ℕ) (b : Bool) (p : ℕ × A) (ps rest : Table A) → m ≤ p.0 → AscendsFrom (p.0 + 1) rest → AscendsFrom m (if b then p ∷ rest else rest)
+kept_ascends {A} m true p ps rest le up = (le, up)
+kept_ascends {A} m false p ps rest le up = ascends_lower m (p.0 + 1) rest (omega (arith, le)) up
+
+pub filter_ascends : {A : Type 0} (m : ℕ) (keep : ℕ × A → Bool) (t : Table A) → AscendsFrom m t → AscendsFrom m (filter keep t)
+filter_ascends {A} m keep [] up = tt
+filter_ascends {A} m keep (p ∷ ps) up = kept_ascends m (keep p) p ps (filter keep ps) up.0 (filter_ascends (p.0 + 1) keep ps up.1)
+
+-- a test of what items are seen as
+kept_seen : {A B : Type 0} (f : A → B) (b : Bool) (p : ℕ × A) (rest : Table A) (later : Table B) → later ≡ seen_as f rest → (if b then (p.0, f p.1) ∷ later else later) ≡ seen_as f (if b then p ∷ rest else rest)
+kept_seen {A} {B} f true p rest later e = ap (λ (l : Table B). (p.0, f p.1) ∷ l) e
+kept_seen {A} {B} f false p rest later e = e
+
+pub filter_seen : {A B : Type 0} (f : A → B) (keep : B → Bool) (t : Table A) → filter (λ (q : ℕ × B). keep q.1) (seen_as f t) ≡ seen_as f (filter (λ (p : ℕ × A). keep (f p.1)) t)
+filter_seen {A} {B} f keep [] = refl
+filter_seen {A} {B} f keep (p ∷ ps) = kept_seen f (keep (f p.1)) p (filter (λ (q : ℕ × A). keep (f q.1)) ps) (filter (λ (q : ℕ × B). keep q.1) (seen_as f ps)) (filter_seen f keep ps)

@@ -128,6 +128,25 @@ impl<T> Seats<T> {
     }
 }
 
+impl<T> Seats<T> {
+    /// These items, which ascend. It takes no memory.
+    pub fn from_items(items: Vec<(u32, T)>) -> Seats<T>
+        requires { AscendsFrom 0 items.items }
+        ensures { result.table ≡ items.items }
+    {
+        Seats { items }
+    }
+
+    /// The items. It takes no memory.
+    pub fn into_items(self) -> Vec<(u32, T)>
+        ensures items { result.items ≡ self.table }
+        ensures ascends { AscendsFrom 0 result.items }
+    {
+        let Seats { items } = self;
+        items
+    }
+}
+
 impl<T: Drop> Seats<T> {
     /// Makes room for one item more.
     pub fn reserve(&mut self) -> Mem<()>

@@ -34,9 +34,6 @@ times_in t = map (λ (p : ℕ × Vnode). (p.0, p.1.server_time)) t
 abbrev pub stored : Volume → Stored
 stored v = record { volume = volume_of v; times = times_in v.vnodes; is_new = false }
 
-abbrev pub all_stored : List Volume → Table Stored
-all_stored vs = map (λ (v : Volume). (v.head.id, stored v)) vs
-
 -- ---- what a crash leaves
 
 -- the disk stands for what the store keeps, and no crash leaves another

@@ -13,7 +13,7 @@ ghost use Rattle.afs_records.specs.Durable.{effect_of, folded, has_room, stamp_o
 ghost use Rattle.afs_records.specs.Laws.{started};
 ghost use Rattle.afs_volstore.specs.Stores.{stored, IsEarly, IsFull, IsKept, SameBut, Served, StandsAround};
 
-use crate::state::{State, find_kept, find_stamp, find_volume};
+use crate::state::State;
 use afs_disk::Disk;
 use afs_journal::Journal;
 use afs_num::faults::StoreFault;
@@ -43,7 +43,7 @@ impl<D: Disk> Model for VolStore<D> {
     ghost Value = { Store D };
 
     ghost view = { λ s. record {
-      durable = placed (s.journal.gate + 1) (D.limit s.journal.disk) s.state;
+      durable = placed (s.journal.gate + 1) (D.limit s.journal.disk) s.state.parts;
       disk = s.journal.disk;
       node = s.node;
       prepared = s.prepared;
@@ -55,7 +55,7 @@ impl<D: Disk> Model for VolStore<D> {
     ghost invariant = { λ s. record {
       few : s.journal.count < 2 ^ 32;
       none : s.prepared ≡ None;
-      kept : s.journal.closed ≡ false → IsKept (placed (s.journal.gate + 1) (D.limit s.journal.disk) s.state) (D.seen s.journal.disk) (D.may_leave s.journal.disk);
+      kept : s.journal.closed ≡ false → IsKept (placed (s.journal.gate + 1) (D.limit s.journal.disk) s.state.parts) (D.seen s.journal.disk) (D.may_leave s.journal.disk);
     } };
 }
 
@@ -76,7 +76,7 @@ impl<D: Disk> VolStore<D> {
         ensures none { IfNone result (get id self.now.durable.volumes ≡ None) }
         ensures id { IfSome result (λ v. v.now.head.id ≡ id) }
     {
-        find_volume(&self.state.volumes, id)
+        self.state.volume(id)
     }
 
     /// The volume at this place in order of the numbers, from 0. It takes no memory.
@@ -84,14 +84,14 @@ impl<D: Disk> VolStore<D> {
         ensures some { IfSome result (λ v. slice_get self.now.durable.volumes place ≡ Some (v.now.head.id, stored v.now)) }
         ensures none { IfNone result (slice_get self.now.durable.volumes place ≡ None) }
     {
-        self.state.volumes.get(place as usize)
+        self.state.volume_at(place)
     }
 
     /// The stamp of this family of volumes, 0 where it has none. It takes no memory.
     pub fn stamp(&self, family: u32) -> u32
         ensures { result ≡ stamp_of family self.now.durable }
     {
-        find_stamp(&self.state.stamps, family)
+        self.state.stamp(family)
     }
 
     /// The server to which calls for this volume are to go. It takes no memory.
@@ -107,7 +107,7 @@ impl<D: Disk> VolStore<D> {
         ensures none { IfNone result (get (node_number caller) self.now.durable.kept ≡ None) }
         ensures caller { IfSome result (λ k. k.0.node ≡ caller) }
     {
-        match find_kept(&self.state.kept, caller.number()) {
+        match self.state.kept(caller.number()) {
             Some(kept) => Some((
                 Key {
                     node: caller,
@@ -131,7 +131,7 @@ impl<D: Disk> VolStore<D> {
     pub fn boot_number(&self) -> u32
         ensures { result ≡ self.now.durable.boot }
     {
-        self.state.boot
+        self.state.boot()
     }
 
     /// The server whose disk it is. It takes no memory.
