@@ -30,8 +30,8 @@ numbered_nth : (i : ℕ) (t : Table Volume) (p : ℕ × Volume) → AreNumbered 
 numbered_nth i [] p are found = absurd cc
 numbered_nth zero (q ∷ qs) p are found = ap (λ (x : ℕ × Volume). x.1.head.id) (sym (same_item found)) ∙ (are.0 ∙ ap (λ (x : ℕ × Volume). x.0) (same_item found))
   where
-  same_item : Some q ≡ Some p → q ≡ p
-  same_item e = cc
+    same_item : Some q ≡ Some p → q ≡ p
+    same_item e = cc
 numbered_nth (suc i) (q ∷ qs) p are found = numbered_nth i qs p are.1 found
 
 pub nth_some : (i : ℕ) (t : Table Volume) (p : ℕ × Volume) → AreNumbered t → Some p ≡ slice_get t i → slice_get (seen_as stored t) i ≡ Some (p.1.head.id, stored p.1)
@@ -43,8 +43,8 @@ nth_none i t e = nth_seen stored i t ∙ ap (option_map (λ (q : ℕ × Volume).
 numbered_by : (b : Bool) (n : ℕ) (p : ℕ × Volume) (o : Option Volume) (v : Volume) → nat_eq p.0 n ≡ b → p.1.head.id ≡ p.0 → (o ≡ Some v → v.head.id ≡ n) → (if b then Some p.1 else o) ≡ Some v → v.head.id ≡ n
 numbered_by true n p o v same its later found = ap (λ (x : Volume). x.head.id) (sym (is_first found)) ∙ (its ∙ grind (arith, nat_tests, same))
   where
-  is_first : Some p.1 ≡ Some v → p.1 ≡ v
-  is_first e = cc
+    is_first : Some p.1 ≡ Some v → p.1 ≡ v
+    is_first e = cc
 numbered_by false n p o v same its later found = later found
 
 pub numbered : (n : ℕ) (t : Table Volume) (v : Volume) → AreNumbered t → get n t ≡ Some v → v.head.id ≡ n
