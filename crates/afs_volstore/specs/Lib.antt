@@ -1,0 +1,3 @@
+pub mod Opening
+pub mod States
+pub mod Stores

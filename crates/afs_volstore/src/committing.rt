@@ -1,0 +1,88 @@
+//! One record more: prepared, then put on the disk.
+
+ghost use Rattle.std.specs.Prelude.{◌≡◌, ◌≤◌, ◌+◌, ◌↔◌, ◌⊎◌, ℕ, List, None, Some, true, false, IfErr, IfOk, IsErrOf, IsOk, IsSome, OnOk, OnErr};
+ghost use Rattle.afs_num.specs.declared.faults.StoreFault.TheVariants as faults;
+ghost use Rattle.afs_num.specs.declared.records.StoreRecord as records;
+ghost use Rattle.afs_disk.specs.Disk.{LeavesOnly, SameDisk};
+ghost use Rattle.afs_journal.specs.Log.{SameCounts};
+ghost use Rattle.afs_records.specs.Records.{FitsRecord};
+ghost use Rattle.afs_records.specs.Changes.{boot_record, can_boot};
+ghost use Rattle.afs_records.specs.Durable.{effect_of, folded, has_room};
+ghost use Rattle.afs_records.specs.Laws.{started};
+ghost use Rattle.afs_volstore.specs.Stores.{IsEarly, IsFull, IsKept, SameBut, Served, StandsAround};
+
+use crate::store::VolStore;
+use afs_disk::Disk;
+use afs_num::faults::StoreFault;
+use afs_num::histories::Lines;
+use afs_num::records::StoreRecord;
+
+impl<D: Disk> VolStore<D> {
+    /// Takes all memory for one commit of this record. A refusal leaves everything as it was; so does `Ok`, but for what
+    /// the next `commit` puts on the disk.
+    pub fn prepare(&mut self, rec: &StoreRecord) -> Result<(), StoreFault>
+        requires fits { FitsRecord rec.now }
+        requires taken { IsSome (folded rec.now self.old.durable) }
+        ensures ok { OnOk result (self.new ≡ record self.old { prepared = Some rec.now; disk = self.new.disk }) }
+        ensures err { OnErr result (SameBut self.old self.new) }
+        ensures full { (used capacity : ℕ) → IsErrOf result (faults.Full used capacity) → (self.old.closed ≡ false) × IsFull self.old.durable rec.now used capacity }
+        ensures room { self.old.closed ≡ false → has_room self.old.durable rec.now ≡ false → OnOk result ⊥ }
+        ensures refusals { IfErr result (λ e. (e ≡ faults.OutOfMemory) ⊎ IsErrOf result (faults.Full self.old.durable.journal self.old.durable.capacity)) }
+        ensures disk { SameDisk D.seen D.left_by D.size D.may_leave D.moment D.left_since self.old.disk self.new.disk }
+        ensures counts { SameCounts D.faults D.own_faults D.calls D.setting D.limit self.old.disk self.new.disk }
+    {
+        let _ = rec;
+        Err(StoreFault::OutOfMemory)
+    }
+
+    /// Puts the prepared record on the disk, and does what it says. It takes no memory. At `Ok` every crash leaves the
+    /// record; a crash at any moment of the call leaves what was kept before, or what is kept after it. After a `Failed`
+    /// the store is closed: take the disk, and attach it again.
+    pub fn commit(&mut self) -> Result<(), StoreFault>
+        requires { IsSome self.old.prepared }
+        ensures taken { OnOk result ((r : records.StoreRecord) → self.old.prepared ≡ Some r → folded r self.old.durable ≡ Some self.new.durable) }
+        ensures done { OnOk result (self.new ≡ record self.old { durable = self.new.durable; disk = self.new.disk; prepared = None; count = self.old.count + 1 }) }
+        ensures closed { IsErrOf result faults.Closed ↔ (self.old.closed ≡ true) }
+        ensures closed_same { IsErrOf result faults.Closed → self.new ≡ self.old }
+        ensures failed { IsErrOf result faults.Failed → self.new ≡ record self.old { disk = self.new.disk; prepared = None; closed = true } }
+        ensures refusals { IfErr result (λ e. (e ≡ faults.Failed) ⊎ (e ≡ faults.Closed)) }
+
+        // Where the disk tells: every crash leaves what is kept now.
+        ensures kept { OnOk result (IsKept self.new.durable (D.seen self.new.disk) (D.may_leave self.new.disk)) }
+
+        // A crash at any moment leaves what was kept before, or what is kept with the record.
+        ensures any_moment { self.old.closed ≡ false → (r : records.StoreRecord) → self.old.prepared ≡ Some r → (bytes : List ℕ) → D.seen self.old.disk ≡ Some bytes
+            → LeavesOnly D.moment D.left_since self.old.disk self.new.disk (StandsAround r self.old.durable) }
+
+        ensures calls { OnOk result (D.calls self.new.disk ≡ D.calls self.old.disk + 4) }
+        ensures most { (D.calls self.old.disk ≤ D.calls self.new.disk) × (D.calls self.new.disk ≤ D.calls self.old.disk + 4) }
+        ensures served { Served (D.setting self.old.disk) (D.calls self.old.disk) (D.calls self.new.disk) (D.faults self.old.disk) (D.faults self.new.disk) (D.own_faults self.old.disk) (D.own_faults self.new.disk) result }
+        ensures setting { (D.limit self.new.disk ≡ D.limit self.old.disk) × (D.setting self.new.disk ≡ D.setting self.old.disk) }
+    {
+        let _ = &self.alloc;
+        Err(StoreFault::Failed)
+    }
+
+    /// The second half of a restart: one record that raises the boot number, and with which the volumes with the flag of
+    /// delete on salvage go. `Full` also where the boot number is the last. Want of memory leaves the store as it was.
+    pub fn boot(&mut self) -> Result<Lines, StoreFault>
+        requires { self.old.closed ≡ false }
+        ensures started { OnOk result (self.new ≡ record self.old { durable = started self.old.durable; disk = self.new.disk; prepared = None; count = self.old.count + 1 }) }
+        ensures lines { IfOk result (λ ls. ls ≡ (effect_of self.old.node (boot_record (self.old.durable.boot + 1)) self.old.durable).lines) }
+        ensures full { (used capacity : ℕ) → IsErrOf result (faults.Full used capacity) → (can_boot self.old.durable ≡ false) × (used ≡ self.old.durable.journal) × (capacity ≡ self.old.durable.capacity) }
+        ensures room { can_boot self.old.durable ≡ false → IfErr result (λ e. (e ≡ faults.OutOfMemory) ⊎ IsErrOf result (faults.Full self.old.durable.journal self.old.durable.capacity)) × (IsOk result → ⊥) }
+        ensures early { IsEarly result (SameBut self.old self.new) }
+        ensures failed { IsErrOf result faults.Failed → self.new ≡ record self.old { disk = self.new.disk; prepared = None; closed = true } }
+        ensures never { (IsErrOf result faults.Closed → ⊥) × ((n : ℕ) → IsErrOf result (faults.BadRecord n) → ⊥) }
+        ensures kept { OnOk result (IsKept self.new.durable (D.seen self.new.disk) (D.may_leave self.new.disk)) }
+        ensures any_moment { (bytes : List ℕ) → D.seen self.old.disk ≡ Some bytes
+            → LeavesOnly D.moment D.left_since self.old.disk self.new.disk (StandsAround (boot_record (self.old.durable.boot + 1)) self.old.durable) }
+        ensures calls { OnOk result (D.calls self.new.disk ≡ D.calls self.old.disk + 4) }
+        ensures most { (D.calls self.old.disk ≤ D.calls self.new.disk) × (D.calls self.new.disk ≤ D.calls self.old.disk + 4) }
+        ensures served { Served (D.setting self.old.disk) (D.calls self.old.disk) (D.calls self.new.disk) (D.faults self.old.disk) (D.faults self.new.disk) (D.own_faults self.old.disk) (D.own_faults self.new.disk) result }
+        ensures setting { (D.limit self.new.disk ≡ D.limit self.old.disk) × (D.setting self.new.disk ≡ D.setting self.old.disk) }
+    {
+        let _ = &self.alloc;
+        Err(StoreFault::OutOfMemory)
+    }
+}

@@ -1,0 +1,11 @@
+//! What a server keeps on its disk: its volumes, its boot number, its stamps and the replies that outlive it.
+#![tactic(auto)]
+
+mod committing;
+mod fused;
+mod opening;
+mod state;
+mod store;
+
+pub use opening::first_length;
+pub use store::VolStore;
