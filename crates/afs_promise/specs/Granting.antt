@@ -1,5 +1,5 @@
 -- How the promises are kept: grants in a log, of which those are held that are the latest of their client on their fid.
-use Rattle.std.specs.Prelude.{◌≡◌, ◌⊎◌, ℕ, ◌+◌, ◌≤◌, ◌&&◌, List, [], ◌∷◌, Bool, true, false, Option, Some, None, nat_eq, nat_lt, length, map, filter, take, if◌then◌else◌}
+use Rattle.std.specs.Prelude.{◌≡◌, ◌⊎◌, ℕ, ◌+◌, ◌≤◌, ◌&&◌, ◌||◌, List, [], ◌∷◌, Bool, true, false, Option, Some, None, nat_eq, nat_le, nat_lt, length, map, filter, take, if◌then◌else◌}
 use Rattle.std.specs.List.{list_any}
 use Rattle.afs_num.specs.Nodes.{same_node}
 use Rattle.afs_num.specs.declared.types.Fid.{Fid}
@@ -66,6 +66,10 @@ pub record IsLog (latest : Holding → Option Grant) (log : List Grant) (clients
   pub within : ended ≤ length log
   pub counted : count ≡ length (held latest log)
   pub ordered : rising ≡ true → DoNotFall 0 highest log
+
+-- they don't with this expiry behind the last
+abbrev pub goes_on : Bool → Bool → ℕ → ℕ → Bool
+goes_on empty rising highest expiry = empty || (rising && nat_le highest expiry)
 
 -- ---- the oldest promise that a change withdraws
 

@@ -1,6 +1,6 @@
 //! The promises that are held, in the order of granting.
 
-ghost use Rattle.std.specs.Prelude.{◌≡◌, ◌+◌, ◌<◌, ◌≤◌, ◌++◌, [], length, true, None, is_some, if◌then◌else◌, IsOk, OnOk, IfNone};
+ghost use Rattle.std.specs.Prelude.{◌≡◌, ◌+◌, ◌<◌, ◌≤◌, ◌++◌, [], length, true, Some, None, is_some, ◌^◌, if◌then◌else◌, IsOk, OnOk, IfNone};
 ghost use Rattle.std.specs.List.{list_any};
 ghost use Rattle.std.specs.Option.{option_to_list};
 ghost use Rattle.std.specs.Vec.{vec_capacity, vec_len};
@@ -9,7 +9,7 @@ ghost use Rattle.afs_num.specs.Nodes.{same_node};
 ghost use Rattle.afs_num.specs.declared.types.Node.{Node};
 ghost use Rattle.afs_promise.specs.declared.types.Holding.{Holding};
 ghost use Rattle.afs_promise.specs.Promises.{with_promise, without_promise, hits, left, hits_on, left_off, by_fid, lasting};
-ghost use Rattle.afs_promise.specs.Granting.{holding, same_holding, is_held, hit_of, earlier, oldest, promises_in, held_on};
+ghost use Rattle.afs_promise.specs.Granting.{holding, same_holding, is_held, goes_on, hit_of, earlier, oldest, promises_in, held_on};
 
 use crate::holding::holding;
 use crate::types::{Grant, Holding, Promise};
@@ -112,6 +112,34 @@ fn meet(clients: &mut Vec<Node>, client: Node) -> Mem<()>
         clients.push(client)?;
     }
     Ok(())
+}
+
+/// Notes what the client holds on the fid now, in the room that was made for it, and counts it where it held nothing.
+fn note(
+    latest: &mut IndexMap<Holding, Grant>,
+    count: &mut usize,
+    client: Node,
+    fid: Fid,
+    grant: Grant,
+) -> Mem<()>
+    requires room { 0 < spare latest.old }
+    requires few { count.old + 1 < 2 ^ 64 }
+    ensures ok { IsOk result }
+    ensures updates { (q : Holding) → get same_holding latest.new q ≡ (if same_holding (holding client fid) q then Some grant else get same_holding latest.old q) }
+    ensures count { count.new + (if is_some (get same_holding latest.old (holding client fid)) then 1 else 0) ≡ count.old + 1 }
+    ensures spare { spare latest.old ≤ spare latest.new + 1 }
+{
+    if latest.insert(holding(client, fid), grant)?.is_none() {
+        *count += 1;
+    }
+    Ok(())
+}
+
+/// Whether expiries don't fall, with this one behind the last.
+fn goes_on(empty: bool, rising: bool, highest: u32, expiry: u32) -> bool
+    ensures { result ≡ goes_on empty rising highest expiry }
+{
+    empty || (rising && highest <= expiry)
 }
 
 /// Removes what the client holds on the fid, if anything, and counts it off.
@@ -218,10 +246,8 @@ impl Grants {
             },
         };
         meet(&mut self.clients, client)?;
-        if self.latest.insert(holding(client, fid), grant)?.is_none() {
-            self.count += 1;
-        }
-        self.rising = self.log.is_empty() || (self.rising && self.highest <= expiry);
+        note(&mut self.latest, &mut self.count, client, fid, grant)?;
+        self.rising = goes_on(self.log.as_slice().is_empty(), self.rising, self.highest, expiry);
         self.highest = expiry;
         self.log.push(grant)?;
         self.next += 1;
