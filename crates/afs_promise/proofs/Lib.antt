@@ -1,3 +1,4 @@
 pub mod Held
+pub mod Hits
 pub mod Split
 pub mod Logs

@@ -1,6 +1,8 @@
 -- The log and the latest grants agree after each edit.
 use Rattle.std.proofs.Common.{◌≡◌, ◌⊎◌, inl, inr, ℕ, zero, suc, ◌+◌, ◌<◌, ◌≤◌, ◌&&◌, Bool, true, false, not, List, [], ◌∷◌, ◌++◌, length, filter, take, Option, Some, None, nat_eq, nat_lt, is_some, if◌then◌else◌, refl, ap, sym, subst, ◌∙◌, arith, length-append}
 use Rattle.std.specs.List.{list_any}
+use Rattle.std.specs.Map.{lookup}
+use Rattle.indexmap.specs.IndexMap.{IndexMap, get}
 use Rattle.std.proofs.lemmas.Bool.Decides.{nat_tests}
 use Rattle.std.proofs.lemmas.List.{take-append-le}
 use Rattle.afs_num.specs.Nodes.{same_node}
@@ -13,6 +15,9 @@ use Rattle.afs_promise.specs.Promises.{is_promise, without_promise}
 use Rattle.afs_promise.specs.Granting.{holding, holding_in, same_holding, has_order, is_held, held, IsIn, Rises, DoNotFall, IsLog, goes_on}
 use Rattle.afs_promise.proofs.Held.{removed, replaced, held_last}
 use Rattle.afs_promise.proofs.Split.{IsWithout, Split, split, holdings_are_one, holding_itself}
+
+pub gets_alike : {S : Type 0} (old new : IndexMap Holding Grant S) → new.entries ≡ old.entries → get same_holding new ≡ get same_holding old
+gets_alike old new e = λ i k. lookup (same_holding k) (e i)
 
 -- ---- the client's promise on a fid goes
 
@@ -126,6 +131,14 @@ tidied_log {latest} {log} {kept} {clients} {ended} {count} {next} {rising} {high
 pub tidied_held : (latest : Holding → Option Grant) (log kept : List Grant) → kept ≡ filter (is_held latest) log → held latest kept ≡ held latest log
 tidied_held latest log kept e = ap (held latest) e ∙ held_kept latest log
 
+-- ---- room is made
+
+pub alike_log : {S : Type 0} (old new : IndexMap Holding Grant S) {log log' : List Grant} {clients clients' : List Node} {ended count next : ℕ} {rising : Bool} {highest : ℕ} → new.entries ≡ old.entries → log' ≡ log → clients' ≡ clients
+    → IsLog (get same_holding old) log clients ended count next rising highest → IsLog (get same_holding new) log' clients' ended count next rising highest
+alike_log {S} old new {log} {log'} {clients} {clients'} {ended} {count} {next} {rising} {highest} e f g is =
+    subst (λ (l : List Grant). IsLog (get same_holding new) l clients' ended count next rising highest) (sym f)
+    (subst (λ (ns : List Node). IsLog (get same_holding new) log ns ended count next rising highest) (sym g) (subst (λ (at : Holding → Option Grant). IsLog at log clients ended count next rising highest) (sym (gets_alike old new e)) is))
+
 -- ---- a promise is granted
 
 held_few : (latest : Holding → Option Grant) (low high : ℕ) (log : List Grant) → Rises low high log → length (held latest log) + low ≤ high
@@ -207,15 +220,15 @@ module _ (old new : Holding → Option Grant) (c : Node) (f : Fid) (x : Grant) (
     found = λ q g h. found_by q g (new_or_old (same_holding (holding c f) q) x g (new q) (old q) (with q) h);
     known = λ q g h. known_by q g (new_or_old (same_holding (holding c f) q) x g (new q) (old q) (with q) h);
     past =
-      ap (held new) (take-append-le ended log (x ∷ []) is.within)
-      ∙ (replaced new old c f x 0 with (take ended log) (subst (λ (n : ℕ). Rises 0 n (take ended log)) (sym e) (rises_take ended 0 next log is.rises)) ∙ ap (without_promise c f) is.past);
+        ap (held new) (take-append-le ended log (x ∷ []) is.within)
+        ∙ (replaced new old c f x 0 with (take ended log) (subst (λ (n : ℕ). Rises 0 n (take ended log)) (sym e) (rises_take ended 0 next log is.rises)) ∙ ap (without_promise c f) is.past);
     within = omega (arith, is.within, length-append log (x ∷ []));
     counted =
-      let gone : held (λ q. if same_holding (holding c f) q then None else old q) log ≡ without_promise c f (held old log) = removed (λ q. if same_holding (holding c f) q then None else old q) old c f (λ q. refl) log in
-      let one : length (held (λ q. if same_holding (holding c f) q then None else old q) log) + (if is_some (old (holding c f)) then 1 else 0) ≡ length (held old log) =
+        let gone : held (λ q. if same_holding (holding c f) q then None else old q) log ≡ without_promise c f (held old log) = removed (λ q. if same_holding (holding c f) q then None else old q) old c f (λ q. refl) log in
+        let one : length (held (λ q. if same_holding (holding c f) q then None else old q) log) + (if is_some (old (holding c f)) then 1 else 0) ≡ length (held old log) =
         one_less old (λ q. if same_holding (holding c f) q then None else old q) (holding c f) next log (λ q. refl) is.rises (λ g h. is.found (holding c f) g h) (old (holding c f)) refl
-      in
-      omega (arith, sum, is.counted, one, ap (λ (ps : List Promise). length ps) gone, ap (λ (ps : List Promise). length ps) (granted_held next e is.rises), length-append (without_promise c f (held old log)) (x.promise ∷ []));
+        in
+        omega (arith, sum, is.counted, one, ap (λ (ps : List Promise). length ps) gone, ap (λ (ps : List Promise). length ps) (granted_held next e is.rises), length-append (without_promise c f (held old log)) (x.promise ∷ []));
     ordered = λ r. ordered_by (starts_anew (nat_eq (length log) 0) rising highest x.promise.expiry (sym goes ∙ r));
   }
     where

@@ -91,6 +91,8 @@ oldest latest except fid best (c ∷ cs) = oldest latest except fid (earlier bes
 abbrev pub promises_in : List Grant → List Promise
 promises_in gs = map (λ g. g.promise) gs
 
--- those that are held, of this volume
+abbrev pub is_held_on : (Holding → Option Grant) → ℕ → Grant → Bool
+is_held_on latest volume g = nat_eq g.promise.fid.volume volume && is_held latest g
+
 abbrev pub held_on : (Holding → Option Grant) → ℕ → List Grant → List Grant
-held_on latest volume gs = filter (λ g. is_held latest g && nat_eq g.promise.fid.volume volume) gs
+held_on latest volume gs = filter (is_held_on latest volume) gs

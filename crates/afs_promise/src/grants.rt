@@ -1,6 +1,6 @@
 //! The promises that are held, in the order of granting.
 
-ghost use Rattle.std.specs.Prelude.{◌≡◌, ◌+◌, ◌<◌, ◌≤◌, ◌++◌, [], length, true, Some, None, is_some, ◌^◌, if◌then◌else◌, IsOk, OnOk, IfNone};
+ghost use Rattle.std.specs.Prelude.{◌≡◌, ◌+◌, ◌<◌, ◌≤◌, ◌++◌, [], ◌∷◌, length, true, Some, None, is_some, ◌^◌, if◌then◌else◌, IsOk, OnOk, IfNone};
 ghost use Rattle.std.specs.List.{list_any};
 ghost use Rattle.std.specs.Option.{option_to_list};
 ghost use Rattle.std.specs.Vec.{vec_capacity, vec_len};
@@ -9,7 +9,7 @@ ghost use Rattle.afs_num.specs.Nodes.{same_node};
 ghost use Rattle.afs_num.specs.declared.types.Node.{Node};
 ghost use Rattle.afs_promise.specs.declared.types.Holding.{Holding};
 ghost use Rattle.afs_promise.specs.Promises.{with_promise, without_promise, hits, left, hits_on, left_off, by_fid, lasting};
-ghost use Rattle.afs_promise.specs.Granting.{holding, same_holding, is_held, goes_on, hit_of, earlier, oldest, promises_in, held_on};
+ghost use Rattle.afs_promise.specs.Granting.{holding, same_holding, is_held, is_held_on, goes_on, hit_of, earlier, oldest, promises_in, held_on};
 
 use crate::holding::holding;
 use crate::types::{Grant, Holding, Promise};
@@ -154,24 +154,33 @@ fn remove(latest: &mut IndexMap<Holding, Grant>, count: &mut usize, client: Node
     }
 }
 
-/// Puts the grants that are held on the volume behind one another.
-fn gather(
-    log: &[Grant],
-    latest: &IndexMap<Holding, Grant>,
-    volume: u32,
-    gone: &mut Vec<Grant>,
-) -> Mem<()>
+/// Whether the grant is held, and on this volume.
+fn is_held_on(latest: &IndexMap<Holding, Grant>, volume: u32, grant: &Grant) -> bool
+    ensures { result ≡ is_held_on (get same_holding latest.now) volume grant.now }
+{
+    grant.promise.fid.volume == volume && is_held(latest, grant)
+}
+
+/// Adds a grant, in the room that was made for it.
+fn add(gone: &mut Vec<Grant>, grant: Grant)
+    requires { vec_len gone.old < vec_capacity gone.old }
+    ensures items { gone.new.items ≡ gone.old.items ++ grant ∷ [] }
+    ensures capacity { vec_capacity gone.old ≤ vec_capacity gone.new }
+{
+    let _ = gone.push(grant);
+}
+
+/// Adds the grants that are held on the volume, in the room that was made for them.
+fn gather(log: &[Grant], latest: &IndexMap<Holding, Grant>, volume: u32, gone: &mut Vec<Grant>)
     requires { vec_len gone.old + length (held_on (get same_holding latest.now) volume log.now) ≤ vec_capacity gone.old }
-    ensures ok { IsOk result }
     ensures grants { gone.new.items ≡ gone.old.items ++ held_on (get same_holding latest.now) volume log.now }
-    ensures capacity { vec_capacity gone.new ≡ vec_capacity gone.old }
+    ensures capacity { vec_capacity gone.old ≤ vec_capacity gone.new }
 {
     for grant in log {
-        if is_held(latest, grant) && grant.promise.fid.volume == volume {
-            gone.push(*grant)?;
+        if is_held_on(latest, volume, grant) {
+            add(gone, *grant);
         }
     }
-    Ok(())
 }
 
 impl Grants {
@@ -219,13 +228,13 @@ impl Grants {
             return Ok(());
         }
         self.tidy();
-        self.log.reserve(additional)?;
-        self.latest.reserve(additional)?;
-        self.clients.reserve(additional)?;
         // A server that grants a billion promises a second comes here after five hundred years.
         if u64::MAX - self.next <= additional as u64 {
             return Err(AllocError);
         }
+        self.log.reserve(additional)?;
+        self.latest.reserve(additional)?;
+        self.clients.reserve(additional)?;
         self.room = additional;
         Ok(())
     }
@@ -247,7 +256,12 @@ impl Grants {
         };
         meet(&mut self.clients, client)?;
         note(&mut self.latest, &mut self.count, client, fid, grant)?;
-        self.rising = goes_on(self.log.as_slice().is_empty(), self.rising, self.highest, expiry);
+        self.rising = goes_on(
+            self.log.as_slice().is_empty(),
+            self.rising,
+            self.highest,
+            expiry,
+        );
         self.highest = expiry;
         self.log.push(grant)?;
         self.next += 1;
@@ -277,16 +291,15 @@ impl Grants {
     }
 
     /// Removes every promise on the volume, and gives them by fid, those on one fid in the order of granting.
-    pub fn take_volume(&mut self, volume: u32, gone: &mut Vec<Grant>) -> Mem<()>
+    pub fn take_volume(&mut self, volume: u32, gone: &mut Vec<Grant>)
         requires empty { gone.old.items ≡ [] }
         requires room { length self.old.promises ≤ vec_capacity gone.old }
-        ensures ok { IsOk result }
         ensures hits { promises_in gone.new.items ≡ by_fid (hits_on volume self.old.promises) }
         ensures left { self.new.promises ≡ left_off volume self.old.promises }
-        ensures capacity { vec_capacity gone.new ≡ vec_capacity gone.old }
+        ensures capacity { vec_capacity gone.old ≤ vec_capacity gone.new }
         ensures room_kept { self.new.room ≡ self.old.room }
     {
-        gather(&self.log, &self.latest, volume, gone)?;
+        gather(&self.log, &self.latest, volume, gone);
         gone.sort_unstable_by_key(|g| (g.promise.fid, g.order));
         for grant in &*gone {
             remove(
@@ -296,7 +309,6 @@ impl Grants {
                 grant.promise.fid,
             );
         }
-        Ok(())
     }
 
     /// Ends each promise whose expiry isn't above the clock. Where expiries don't fall, no other is looked at.

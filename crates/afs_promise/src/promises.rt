@@ -129,7 +129,7 @@ impl Promises {
         ensures ok { IsOk result }
         ensures lists { self.new ≡ withdraws_volume volume self.old }
     {
-        self.grants.take_volume(volume, &mut self.gone)?;
+        self.grants.take_volume(volume, &mut self.gone);
         for grant in &self.gone {
             let promise = &grant.promise;
             self.owed
