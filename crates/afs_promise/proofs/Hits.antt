@@ -220,7 +220,7 @@ module _ {latest : Holding → Option Grant} {log : List Grant} {clients : List 
       let early : filter (is_hit except fid) (held latest s.before) ≡ [] = none_held latest (is_hit except fid) s.before (λ x i h hit. let f = hit_found x h hit in let same : f.grant ≡ g = (let o : Some f.grant ≡ Some g = sym f.is ∙ e in cc) in absurd (omega (arith, f.early, ap (λ (y : Grant). y.order) same, s.earlier x i))) in
       ap (filter (is_hit except fid)) s.was
       ∙ (filter-append (is_hit except fid) (held latest s.before) (g.promise ∷ held latest s.behind)
-      ∙ (rw (early, first.hit) (ap (λ (l : List Promise). g.promise ∷ l) (sym (ap (filter (is_hit except fid)) s.is ∙ (filter-append (is_hit except fid) (held latest s.before) (held latest s.behind) ∙ ap (λ (l : List Promise). l ++ filter (is_hit except fid) (held latest s.behind)) early)))))) 
+      ∙ (rw (early, first.hit) (ap (λ (l : List Promise). g.promise ∷ l) (sym (ap (filter (is_hit except fid)) s.is ∙ (filter-append (is_hit except fid) (held latest s.before) (held latest s.behind) ∙ ap (λ (l : List Promise). l ++ filter (is_hit except fid) (held latest s.behind)) early))))))
 
   without_first : Grant → Holding → Option Grant
   without_first g q = if same_holding (holding_in g) q then None else latest q
@@ -251,6 +251,10 @@ module _ {latest : Holding → Option Grant} {log : List Grant} {clients : List 
   one_fewer g e =
       let s = parted g e in
       omega (
-          arith, ap (λ (ps : List Promise). length ps) (gone g), ap (λ (ps : List Promise). length ps) s.is, ap (λ (ps : List Promise). length ps) s.was,
-          length-append (held latest s.before) (held latest s.behind), length-append (held latest s.before) (g.promise ∷ held latest s.behind)
+        arith,
+        ap (λ (ps : List Promise). length ps) (gone g),
+        ap (λ (ps : List Promise). length ps) s.is,
+        ap (λ (ps : List Promise). length ps) s.was,
+        length-append (held latest s.before) (held latest s.behind),
+        length-append (held latest s.before) (g.promise ∷ held latest s.behind),
       )

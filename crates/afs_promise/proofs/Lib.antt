@@ -1,3 +1,4 @@
+pub mod Ends
 pub mod Held
 pub mod Hits
 pub mod Split

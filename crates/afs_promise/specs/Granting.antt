@@ -1,6 +1,6 @@
 -- How the promises are kept: grants in a log, of which those are held that are the latest of their client on their fid.
-use Rattle.std.specs.Prelude.{◌≡◌, ◌⊎◌, ℕ, ◌+◌, ◌≤◌, ◌&&◌, ◌||◌, List, [], ◌∷◌, Bool, true, false, Option, Some, None, nat_eq, nat_le, nat_lt, length, map, filter, take, if◌then◌else◌}
-use Rattle.std.specs.List.{list_any}
+use Rattle.std.specs.Prelude.{◌≡◌, ◌⊎◌, ℕ, ◌+◌, ◌≤◌, ◌&&◌, ◌||◌, List, [], ◌∷◌, Bool, true, false, Option, Some, None, nat_eq, nat_le, nat_lt, length, map, filter, take, drop, if◌then◌else◌}
+use Rattle.std.specs.List.{list_any, prefix_len}
 use Rattle.afs_num.specs.Nodes.{same_node}
 use Rattle.afs_num.specs.declared.types.Fid.{Fid}
 use Rattle.afs_num.specs.declared.types.Node.{Node}
@@ -70,6 +70,18 @@ pub record IsLog (latest : Holding → Option Grant) (log : List Grant) (clients
 -- they don't with this expiry behind the last
 abbrev pub goes_on : Bool → Bool → ℕ → ℕ → Bool
 goes_on empty rising highest expiry = empty || (rising && nat_le highest expiry)
+
+-- ---- what ends
+
+abbrev pub is_due : ℕ → Grant → Bool
+is_due now g = nat_le g.promise.expiry now
+
+abbrev pub ends : (Holding → Option Grant) → ℕ → Grant → Bool
+ends latest now g = is_due now g && is_held latest g
+
+-- the place to which those may stand that are due
+abbrev pub reach : ℕ → Bool → ℕ → List Grant → ℕ
+reach now rising ended log = if rising then ended + prefix_len (is_due now) (drop ended log) else length log
 
 -- ---- the oldest promise that a change withdraws
 

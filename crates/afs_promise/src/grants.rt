@@ -1,7 +1,7 @@
 //! The promises that are held, in the order of granting.
 
-ghost use Rattle.std.specs.Prelude.{◌≡◌, ◌+◌, ◌<◌, ◌≤◌, ◌++◌, [], ◌∷◌, length, true, Some, None, is_some, ◌^◌, if◌then◌else◌, IsOk, OnOk, IfNone};
-ghost use Rattle.std.specs.List.{list_any};
+ghost use Rattle.std.specs.Prelude.{◌≡◌, ◌+◌, ◌<◌, ◌≤◌, ◌++◌, [], ◌∷◌, length, true, Some, None, is_some, ◌^◌, ◌&&◌, if◌then◌else◌, IsOk, OnOk, IfNone};
+ghost use Rattle.std.specs.List.{list_any, prefix_len};
 ghost use Rattle.std.specs.Option.{option_to_list};
 ghost use Rattle.std.specs.Vec.{vec_capacity, vec_len};
 ghost use Rattle.indexmap.specs.IndexMap.{get, spare};
@@ -9,7 +9,7 @@ ghost use Rattle.afs_num.specs.Nodes.{same_node};
 ghost use Rattle.afs_num.specs.declared.types.Node.{Node};
 ghost use Rattle.afs_promise.specs.declared.types.Holding.{Holding};
 ghost use Rattle.afs_promise.specs.Promises.{with_promise, without_promise, hits, left, hits_on, left_off, by_fid, lasting};
-ghost use Rattle.afs_promise.specs.Granting.{holding, same_holding, is_held, is_held_on, goes_on, hit_of, earlier, oldest, promises_in, held_on};
+ghost use Rattle.afs_promise.specs.Granting.{holding, holding_in, same_holding, is_held, is_held_on, is_due, ends, reach, goes_on, hit_of, earlier, oldest, promises_in, held_on};
 
 use crate::holding::holding;
 use crate::types::{Grant, Holding, Promise};
@@ -183,6 +183,40 @@ fn gather(log: &[Grant], latest: &IndexMap<Holding, Grant>, volume: u32, gone: &
     }
 }
 
+/// How many grants at the front have an expiry that isn't above the clock.
+fn due_in_front(log: &[Grant], now: u32) -> usize
+    ensures value { result ≡ prefix_len (is_due now) log.now }
+    ensures within { result ≤ length log.now }
+{
+    log.iter().take_while(|g| g.promise.expiry <= now).count()
+}
+
+/// The place to which those may stand whose expiry isn't above the clock.
+fn reach(log: &[Grant], rising: bool, ended: usize, now: u32) -> usize
+    requires { ended ≤ length log.now }
+    ensures place { result ≡ reach now rising ended log.now }
+    ensures within { result ≤ length log.now }
+    ensures behind { ended ≤ result }
+{
+    if rising {
+        ended + due_in_front(log.split_at(ended).1, now)
+    } else {
+        log.len()
+    }
+}
+
+/// Ends a grant that is held, where its expiry isn't above the clock.
+fn end_due(latest: &mut IndexMap<Holding, Grant>, count: &mut usize, grant: &Grant, now: u32)
+    requires { is_some (get same_holding latest.old (holding_in grant.now)) ≡ true → 0 < count.old }
+    ensures updates { (q : Holding) → get same_holding latest.new q ≡ (if ends (get same_holding latest.old) now grant.now && same_holding (holding_in grant.now) q then None else get same_holding latest.old q) }
+    ensures count { count.new + (if ends (get same_holding latest.old) now grant.now then 1 else 0) ≡ count.old }
+    ensures room { spare latest.old ≤ spare latest.new }
+{
+    if grant.promise.expiry <= now && is_held(latest, grant) {
+        remove(latest, count, grant.promise.client, grant.promise.fid);
+    }
+}
+
 impl Grants {
     /// No promises. It takes no memory.
     pub fn new(alloc: Global) -> Grants
@@ -316,21 +350,12 @@ impl Grants {
         ensures promises { self.new.promises ≡ lasting now self.old.promises }
         ensures room { self.new.room ≡ self.old.room }
     {
-        let mut at = self.ended;
-        while at < self.log.len() && !(self.rising && self.log[at].promise.expiry > now) {
-            let grant = self.log[at];
-            if grant.promise.expiry <= now && is_held(&self.latest, &grant) {
-                remove(
-                    &mut self.latest,
-                    &mut self.count,
-                    grant.promise.client,
-                    grant.promise.fid,
-                );
-            }
-            at += 1;
+        let until = reach(&self.log, self.rising, self.ended, now);
+        for place in self.ended..until {
+            end_due(&mut self.latest, &mut self.count, &self.log[place], now);
         }
         if self.rising {
-            self.ended = at;
+            self.ended = until;
         }
     }
 }

@@ -1,17 +1,21 @@
-use Rattle.std.proofs.Common.{◌≡◌, ◌+◌, ◌<◌, ◌≤◌, ◌++◌, [], ◌∷◌, length, true, Some, None, is_some, ◌^◌, if◌then◌else◌, IsOk, OnOk, IfNone, ℕ, ◌-◌, ◌*◌}
-use Rattle.std.specs.List.{list_any}
-use Rattle.std.specs.Option.{option_to_list}
+use Rattle.std.proofs.Common.{◌≡◌, ◌+◌, ◌≤◌, ◌<◌, ◌^◌, length, take}
 use Rattle.std.specs.Vec.{vec_capacity, vec_len}
 use Rattle.indexmap.specs.IndexMap.{get, spare}
-use Rattle.afs_num.specs.Nodes.{same_node}
-use Rattle.afs_num.specs.declared.types.Node.{Node}
-use Rattle.afs_promise.specs.declared.types.Holding.{Holding}
-use Rattle.afs_promise.specs.Promises.{with_promise, without_promise, hits, left, hits_on, left_off, by_fid, lasting}
-use Rattle.afs_promise.specs.Granting.{holding, same_holding, is_held, is_held_on, goes_on, hit_of, earlier, oldest, promises_in, held_on}
+use Rattle.afs_promise.specs.Promises.{lasting}
+use Rattle.afs_promise.specs.Granting.{same_holding, held, reach, IsLog}
 use Rattle.afs_promise.proofs.grants.Grants.expire.Given as goal
 
-abbrev pub invariant-loop-at : goal.invariant-loop-at
-invariant-loop-at l = ?
-
-abbrev pub decreases-loop-at : goal.decreases-loop-at
-decreases-loop-at l = ?
+abbrev pub invariant-loop-place : goal.invariant-loop-place
+invariant-loop-place l = record {
+  is_log : IsLog (get same_holding l.self-inside.latest) l.self-inside.log.items l.self-inside.clients.items l.self-inside.ended l.self-inside.count l.self-inside.next l.self-inside.rising l.self-inside.highest;
+  log_room : vec_len l.self-inside.log + l.self-inside.room ≤ vec_capacity l.self-inside.log;
+  client_room : vec_len l.self-inside.clients + l.self-inside.room ≤ vec_capacity l.self-inside.clients;
+  spare : l.self-inside.room ≤ spare l.self-inside.latest;
+  orders : l.self-inside.next + l.self-inside.room < 2 ^ 64;
+  room : l.self-inside.room ≡ l.fn.self.room;
+  lasts : lasting l.now (held (get same_holding l.self-inside.latest) l.self-inside.log.items) ≡ lasting l.now l.fn.self.promises;
+  done : lasting l.now (held (get same_holding l.self-inside.latest) (take l.place l.self-inside.log.items)) ≡ held (get same_holding l.self-inside.latest) (take l.place l.self-inside.log.items);
+  until : l.until ≡ reach l.now l.self-inside.rising l.self-inside.ended l.self-inside.log.items;
+  within : l.until ≤ length l.self-inside.log.items;
+  behind : l.self-inside.ended ≤ l.until;
+}
