@@ -113,7 +113,7 @@ module _ (latest new : Holding → Option Grant) (now : ℕ) (x : Grant) (log : 
         lasts = lasting_stays latest new now x log next without (le_le x.promise.expiry now both.0) is_in both.1 is.rises is.found;
         done = λ front ok.
             let none : new (holding_in x) ≡ None = without (holding_in x) ∙ struck (same_holding (holding_in x) (holding_in x)) (latest (holding_in x)) (holding_itself (holding_in x)) in
-          let gone : is_held new x ≡ false = ap (has_order x.order) none in
+            let gone : is_held new x ≡ false = ap (has_order x.order) none in
             let all : held new (front ++ x ∷ []) ≡ without_promise x.promise.client x.promise.fid (held latest front) =
             held_parts new front (x ∷ []) ∙ (rw gone (append-nil (held new front)) ∙ removed new latest x.promise.client x.promise.fid without front)
             in
@@ -218,7 +218,7 @@ module _ {latest : Holding → Option Grant} {log : List Grant} {clients : List 
   none_due until e done =
       let at : until ≡ ended + place = e ∙ rw rises refl in
       let parts : held latest (take until log) ≡ held latest (take place (drop ended log)) =
-        ap (λ (n : ℕ). held latest (take n log)) at ∙ (ap (held latest) (take-add ended place log) ∙ (held_parts latest (take ended log) (take place (drop ended log)) ∙ ap (λ (ps : List Promise). ps ++ held latest (take place (drop ended log))) is.past))
+      ap (λ (n : ℕ). held latest (take n log)) at ∙ (ap (held latest) (take-add ended place log) ∙ (held_parts latest (take ended log) (take place (drop ended log)) ∙ ap (λ (ps : List Promise). ps ++ held latest (take place (drop ended log))) is.past))
       in
       sym done ∙ (ap (lasting now) parts ∙ due_part latest now (drop ended log))
 
@@ -228,7 +228,7 @@ module _ {latest : Holding → Option Grant} {log : List Grant} {clients : List 
   rest_lasts until e done =
       let at : until ≡ ended + place = e ∙ rw rises refl in
       let behind : held latest log ≡ held latest (drop place (drop ended log)) =
-        ap (held latest) (sym (take-append-drop until log)) ∙ (held_parts latest (take until log) (drop until log) ∙ (ap (λ (ps : List Promise). ps ++ held latest (drop until log)) (none_due until e done) ∙ (ap (λ (n : ℕ). held latest (drop n log)) at ∙ ap (held latest) (dropped ended place log))))
+      ap (held latest) (sym (take-append-drop until log)) ∙ (held_parts latest (take until log) (drop until log) ∙ (ap (λ (ps : List Promise). ps ++ held latest (drop until log)) (none_due until e done) ∙ (ap (λ (n : ℕ). held latest (drop n log)) at ∙ ap (held latest) (dropped ended place log))))
       in
       let falls = falls_drop ended 0 highest log (is.ordered rises) in
       subst (λ (ps : List Promise). lasting now ps ≡ ps) (sym behind) (behind_last latest now falls.0 highest (drop ended log) falls.1)

@@ -1,9 +1,14 @@
 //! The breaks that are owed, in the order of their numbers.
 
-ghost use Rattle.std.specs.Prelude.{◌≡◌, ◌+◌, ◌<◌, ◌≤◌, ◌++◌, [], ◌∷◌, length, IsOk, OnOk};
+ghost use Rattle.std.specs.Prelude.{◌≡◌, ◌+◌, ◌<◌, ◌≤◌, ◌++◌, [], ◌∷◌, ℕ, length, true, nat_eq, if◌then◌else◌, IsOk, OnOk, IfNone, IfSome};
 ghost use Rattle.std.specs.Iterator.{YieldsFirst, item_count};
+ghost use Rattle.std.specs.List.{AllByRecursion};
+ghost use Rattle.std.specs.List.Sorted.{IsPermutation};
+ghost use Rattle.std.specs.BinaryHeap.{heap_items, heap_len, heap_capacity, IsHeap};
+ghost use Rattle.std.specs.declared.cmp.Reverse.{Reverse};
+ghost use Rattle.indexmap.specs.IndexMap.{get, spare};
 ghost use Rattle.afs_promise.specs.Promises.{without_break, lasting_breaks};
-ghost use Rattle.afs_promise.specs.Owing.{has_break, breaks_in};
+ghost use Rattle.afs_promise.specs.Owing.{has_break, has_some, is_due, struck, due_order};
 
 use crate::types::OwedBreak;
 use afs_num::types::{Fid, Mem, Node};
@@ -32,41 +37,82 @@ impl Model for OwedList {
     ghost use Rattle.std.specs.Prelude.{◌≡◌, ◌≤◌, ◌+◌, map, length};
     ghost use Rattle.std.specs.BinaryHeap.{heap_items, heap_len, heap_capacity, IsHeap};
     ghost use Rattle.indexmap.specs.IndexMap.{spare};
-    ghost use Rattle.afs_promise.specs.Owing.{Owing, breaks_in, due_order, Ascends, AreDue};
+    ghost use Rattle.afs_promise.specs.Owing.{Owing, breaks_in, due_order, IsOwing};
 
     ghost Value = { Owing };
 
     ghost view = { λ o. record { breaks = breaks_in o.breaks.entries; last = o.last; room = o.room } };
 
-    ghost invariant = { λ o. Ascends 0 o.last o.breaks.entries × (o.count ≡ length (breaks_in o.breaks.entries)) × AreDue (map (λ d. d.0) (heap_items o.due)) (breaks_in o.breaks.entries) × IsHeap due_order (heap_items o.due) × (o.room ≤ spare o.breaks) × (heap_len o.due + o.room ≤ heap_capacity o.due) };
+    ghost invariant = { λ o. IsOwing o.breaks.entries (heap_items o.due) o.last o.count × IsHeap due_order (heap_items o.due) × (o.room ≤ spare o.breaks) × (heap_len o.due + o.room ≤ heap_capacity o.due) };
 }
 
 /// Whether a break of this number is owed.
-fn is_owed(breaks: &IndexMap<u32, Option<OwedBreak>>, number: u32) -> bool {
+fn is_owed(breaks: &IndexMap<u32, Option<OwedBreak>>, number: u32) -> bool
+    ensures { result ≡ has_some (get nat_eq breaks.now number) }
+{
     match breaks.get(&number) {
         Some(owed) => owed.is_some(),
         None => false,
     }
 }
 
-/// Strikes out the break of this number, where it is owed, and counts it off.
-fn strike(breaks: &mut IndexMap<u32, Option<OwedBreak>>, count: &mut usize, number: u32) {
-    if is_owed(breaks, number) {
-        let _ = breaks.insert(number, None);
-        *count -= 1;
-    }
-}
-
 /// Whether the break of this number is owed and its expiry isn't above the clock.
-fn is_due(breaks: &IndexMap<u32, Option<OwedBreak>>, number: u32, now: u32) -> bool {
+fn is_due(breaks: &IndexMap<u32, Option<OwedBreak>>, number: u32, now: u32) -> bool
+    ensures { result ≡ is_due now (get nat_eq breaks.now number) }
+{
     match breaks.get(&number) {
         Some(Some(owed)) => owed.expiry <= now,
         _ => false,
     }
 }
 
+/// Strikes out the break of this number. Says whether it was owed.
+fn strike(breaks: &mut IndexMap<u32, Option<OwedBreak>>, number: u32) -> bool
+    ensures was { result ≡ has_some (get nat_eq breaks.old number) }
+    ensures entries { breaks.new.entries ≡ struck number breaks.old.entries }
+    ensures spare { spare breaks.new ≡ spare breaks.old }
+{
+    match breaks.get_mut(&number) {
+        Some(owed) => owed.take().is_some(),
+        None => false,
+    }
+}
+
+/// Ends the break of this number, where it is owed, and counts it off.
+fn end(breaks: &mut IndexMap<u32, Option<OwedBreak>>, count: &mut usize, number: u32)
+    requires { has_some (get nat_eq breaks.old number) ≡ true → 0 < count.old }
+    ensures entries { breaks.new.entries ≡ struck number breaks.old.entries }
+    ensures spare { spare breaks.new ≡ spare breaks.old }
+    ensures count { count.new + (if has_some (get nat_eq breaks.old number) then 1 else 0) ≡ count.old }
+{
+    if strike(breaks, number) {
+        *count -= 1;
+    }
+}
+
+/// Ends the break of this number, where its expiry isn't above the clock.
+fn end_due(breaks: &mut IndexMap<u32, Option<OwedBreak>>, count: &mut usize, number: u32, now: u32)
+    requires { has_some (get nat_eq breaks.old number) ≡ true → 0 < count.old }
+    ensures entries { breaks.new.entries ≡ (if is_due now (get nat_eq breaks.old number) then struck number breaks.old.entries else breaks.old.entries) }
+    ensures spare { spare breaks.new ≡ spare breaks.old }
+    ensures count { count.new + (if is_due now (get nat_eq breaks.old number) then 1 else 0) ≡ count.old }
+{
+    if is_due(breaks, number, now) {
+        end(breaks, count, number);
+    }
+}
+
 /// Takes the first number off the heap, where its expiry isn't above the clock.
-fn next_due(due: &mut BinaryHeap<Reverse<(u32, u32)>>, now: u32) -> Option<u32> {
+fn next_due(due: &mut BinaryHeap<Reverse<(u32, u32)>>, now: u32) -> Option<u32>
+    requires { IsHeap due_order (heap_items due.old) }
+    ensures heap { IsHeap due_order (heap_items due.new) }
+    ensures none { IfNone result (AllByRecursion (λ d. now < d.0.0) (heap_items due.old)) }
+    ensures same { IfNone result (heap_items due.new ≡ heap_items due.old) }
+    ensures some { IfSome result (λ number. (d : Reverse (ℕ × ℕ)) × (d.0.1 ≡ number) × (d.0.0 ≤ now) × IsPermutation (heap_items due.old) (d ∷ heap_items due.new)) }
+    ensures len { heap_len due.new ≤ heap_len due.old }
+    ensures fewer { IfSome result (λ number. heap_len due.new + 1 ≡ heap_len due.old) }
+    ensures capacity { heap_capacity due.new ≡ heap_capacity due.old }
+{
     if due.peek()?.0.0 > now {
         return None;
     }
@@ -112,13 +158,19 @@ impl OwedList {
         }
     }
 
-    /// Leaves out what is struck out, once that is more than half.
-    fn tidy(&mut self)
+    /// Leaves out of the map what is struck out, once that is more than half of it.
+    fn tidy_breaks(&mut self)
         ensures { self.new ≡ self.old }
     {
         if self.breaks.len() / 2 > self.count {
             self.breaks.retain(|_, owed| owed.is_some());
         }
+    }
+
+    /// Leaves out of the heap what is owed no more, once that is more than half of it.
+    fn tidy_due(&mut self)
+        ensures { self.new ≡ self.old }
+    {
         if self.due.len() / 2 > self.count {
             let breaks = &self.breaks;
             self.due.retain(|d| is_owed(breaks, d.0.1));
@@ -135,7 +187,8 @@ impl OwedList {
         if additional <= self.room {
             return Ok(());
         }
-        self.tidy();
+        self.tidy_breaks();
+        self.tidy_due();
         self.breaks.reserve(additional)?;
         self.due.reserve(additional)?;
         self.room = additional;
@@ -172,7 +225,7 @@ impl OwedList {
         ensures last { self.new.last ≡ self.old.last }
         ensures room { self.new.room ≡ self.old.room }
     {
-        strike(&mut self.breaks, &mut self.count, number);
+        end(&mut self.breaks, &mut self.count, number);
     }
 
     /// Ends each break whose expiry isn't above the clock. No other is looked at.
@@ -182,9 +235,7 @@ impl OwedList {
         ensures room { self.new.room ≡ self.old.room }
     {
         while let Some(number) = next_due(&mut self.due, now) {
-            if is_due(&self.breaks, number, now) {
-                strike(&mut self.breaks, &mut self.count, number);
-            }
+            end_due(&mut self.breaks, &mut self.count, number, now);
         }
     }
 }
