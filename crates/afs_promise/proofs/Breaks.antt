@@ -10,6 +10,7 @@ use Rattle.std.proofs.lemmas.Bool.Decides.{nat_tests}
 use Rattle.std.proofs.lemmas.List.Sorted.{list_any-IsPermutation}
 use Rattle.indexmap.specs.IndexMap.{insert_entry}
 use Rattle.afs_promise.specs.declared.types.OwedBreak.{OwedBreak}
+use Rattle.afs_promise.proofs.Split.{and_both}
 use Rattle.afs_promise.specs.Promises.{without_break, lasting_breaks}
 use Rattle.afs_promise.specs.Owing.{has_break, break_before, breaks_in, IsNumbered, Ascends, is_at, AreDue, has_some, is_due, struck, due_order, IsOwing}
 
@@ -165,3 +166,186 @@ all_later now top (d ∷ ds) lt all = (by (nat_lt d.0.0 top.0.0) refl all.0, all
 
 pub at_own : (expiry number : ℕ) → (nat_eq expiry expiry && nat_eq number number) ≡ true
 at_own expiry number = let e : nat_eq expiry expiry ≡ true = grind (arith, nat_tests) in let n : nat_eq number number ≡ true = grind (arith, nat_tests) in rw (e, n) refl
+
+-- ---- what is struck out is left out of the map
+
+pub kept_breaks : (es : Entries) → breaks_in (filter (λ e. is_some e.1) es) ≡ breaks_in es
+kept_breaks [] = refl
+kept_breaks (e ∷ es) = by e.1 (kept_breaks es)
+  where
+    by : (o : Option OwedBreak) → breaks_in (filter (λ e. is_some e.1) es) ≡ breaks_in es → breaks_in (if is_some o then (e.0, o) ∷ filter (λ e. is_some e.1) es else filter (λ e. is_some e.1) es) ≡ break_before o (breaks_in es)
+    by None later = later
+    by (Some o) later = ap (λ (l : List OwedBreak). o ∷ l) later
+
+ascends_lower : (low more high : ℕ) (es : Entries) → low ≤ more → Ascends more high es → Ascends low high es
+ascends_lower low more high [] le up = omega (arith, le, up)
+ascends_lower low more high (e ∷ es) le up = (omega (arith, le, up.0), up.1, up.2)
+
+kept_ascends : (low high : ℕ) (es : Entries) → Ascends low high es → Ascends low high (filter (λ e. is_some e.1) es)
+kept_ascends low high [] up = up
+kept_ascends low high (e ∷ es) up = by (is_some e.1) (kept_ascends e.0 high es up.2)
+  where
+    by : (t : Bool) → Ascends e.0 high (filter (λ e. is_some e.1) es) → Ascends low high (if t then e ∷ filter (λ e. is_some e.1) es else filter (λ e. is_some e.1) es)
+    by true later = (up.0, up.1, later)
+    by false later = ascends_lower low e.0 high (filter (λ e. is_some e.1) es) (omega (arith, up.0)) later
+
+pub kept_owing : {entries kept : Entries} {due : List (Reverse (ℕ × ℕ))} {last count : ℕ} → kept ≡ filter (λ e. is_some e.1) entries → IsOwing entries due last count → IsOwing kept due last count
+kept_owing {entries} {kept} {due} {last} {count} e is = subst (λ (es : Entries). IsOwing es due last count) (sym e) (record {
+  ascends = kept_ascends 0 last entries is.ascends;
+  counted = is.counted ∙ sym (ap (λ (os : List OwedBreak). length os) (kept_breaks entries));
+  covered = subst (AreDue due) (sym (kept_breaks entries)) is.covered;
+})
+
+-- ---- each break is under its number
+
+AreUnder : Entries → List OwedBreak → Type 0
+AreUnder es [] = Unit {0}
+AreUnder es (o ∷ os) = (lookup (nat_eq o.number) es ≡ Some (Some o)) × AreUnder es os
+
+AreAbove : ℕ → List OwedBreak → Type 0
+AreAbove n [] = Unit {0}
+AreAbove n (o ∷ os) = (n < o.number) × AreAbove n os
+
+breaks_above : (n low high : ℕ) (es : Entries) → n ≤ low → Ascends low high es → AreAbove n (breaks_in es)
+unfolding AreAbove
+breaks_above n low high [] le up = tt
+breaks_above n low high (e ∷ es) le up = by e.1 up.1 (breaks_above n e.0 high es (omega (arith, le, up.0)) up.2)
+  where
+    by : (o : Option OwedBreak) → IsNumbered e.0 o → AreAbove n (breaks_in es) → AreAbove n (break_before o (breaks_in es))
+    by None own later = later
+    by (Some o) own later = (omega (arith, le, up.0, own), later)
+
+under_more : (e : ℕ × Option OwedBreak) (es : Entries) (os : List OwedBreak) → AreAbove e.0 os → AreUnder es os → AreUnder (e ∷ es) os
+unfolding AreAbove AreUnder
+under_more e es [] above under = tt
+under_more e es (o ∷ os) above under = (let differs : nat_eq o.number e.0 ≡ false = grind (arith, nat_tests, above.0) in rw differs under.0, under_more e es os above.1 under.1)
+
+under : (low high : ℕ) (es : Entries) → Ascends low high es → AreUnder es (breaks_in es)
+unfolding AreUnder
+under low high [] up = tt
+under low high ((n, x) ∷ es) up = by x up.1 (λ (o : Option OwedBreak). under_more (n, o) es (breaks_in es) (breaks_above n n high es (omega arith) up.2) (under n high es up.2))
+  where
+    by : (o : Option OwedBreak) → IsNumbered n o → ((o : Option OwedBreak) → AreUnder ((n, o) ∷ es) (breaks_in es)) → AreUnder ((n, o) ∷ es) (break_before o (breaks_in es))
+    by None own later = later None
+    by (Some o) own later = (let one : nat_eq o.number n ≡ true = grind (arith, nat_tests, own) in rw one refl, later (Some o))
+
+-- ---- what is owed no more is left out of the heap
+
+kept_any : (o : OwedBreak) (test : Reverse (ℕ × ℕ) → Bool) (due : List (Reverse (ℕ × ℕ))) → ((d : Reverse (ℕ × ℕ)) → is_at o d ≡ true → test d ≡ true) → list_any (is_at o) due ≡ true → list_any (is_at o) (filter test due) ≡ true
+kept_any o test [] all any = any
+kept_any o test (d ∷ ds) all any = by (is_at o d) (test d) refl refl any (kept_any o test ds all)
+  where
+    by : (a t : Bool) → is_at o d ≡ a → test d ≡ t → (a || list_any (is_at o) ds) ≡ true → (list_any (is_at o) ds ≡ true → list_any (is_at o) (filter test ds) ≡ true)
+        → list_any (is_at o) (if t then d ∷ filter test ds else filter test ds) ≡ true
+    by true true e f any later = rw e refl
+    by true false e f any later = absurd (let yes : test d ≡ true = all d e in cc)
+    by false true e f any later = rw e (later any)
+    by false false e f any later = later any
+
+number_at : (o : OwedBreak) (d : Reverse (ℕ × ℕ)) → is_at o d ≡ true → d.0.1 ≡ o.number
+number_at o d e = let both = and_both (nat_eq d.0.0 o.expiry) (nat_eq d.0.1 o.number) e in let n : nat_eq d.0.1 o.number ≡ true = both.1 in grind (arith, nat_tests, n)
+
+kept_due_of : (es : Entries) (due more : List (Reverse (ℕ × ℕ))) (os : List OwedBreak) → IsPermutation (filter (λ d. has_some (lookup (nat_eq d.0.1) es)) due) more → AreUnder es os → AreDue due os → AreDue more os
+unfolding AreUnder
+kept_due_of es due more [] moved under all = tt
+kept_due_of es due more (o ∷ os) moved under all = (
+    sym (list_any-IsPermutation (is_at o) (filter (λ d. has_some (lookup (nat_eq d.0.1) es)) due) more moved) ∙ kept_any o (λ d. has_some (lookup (nat_eq d.0.1) es)) due (λ d e. ap (λ (n : ℕ). has_some (lookup (nat_eq n) es)) (number_at o d e) ∙ ap has_some under.0) all.0,
+    kept_due_of es due more os moved under.1 all.1
+)
+
+pub kept_heap : {entries : Entries} {due more : List (Reverse (ℕ × ℕ))} {last count : ℕ} → IsPermutation (filter (λ d. has_some (lookup (nat_eq d.0.1) entries)) due) more → IsOwing entries due last count → IsOwing entries more last count
+kept_heap {entries} {due} {more} {last} {count} moved is = record { ascends = is.ascends; counted = is.counted; covered = kept_due_of entries due more (breaks_in entries) moved (under 0 last entries is.ascends) is.covered }
+
+-- ---- what is due ends
+
+expiry_at : (o : OwedBreak) (d : Reverse (ℕ × ℕ)) → is_at o d ≡ true → d.0.0 ≡ o.expiry
+expiry_at o d e = let both = and_both (nat_eq d.0.0 o.expiry) (nat_eq d.0.1 o.number) e in let n : nat_eq d.0.0 o.expiry ≡ true = both.0 in grind (arith, nat_tests, n)
+
+-- the break that the first in the heap stands for, if there is one, is due
+due_of : (es : Entries) (now : ℕ) (o : OwedBreak) (d : Reverse (ℕ × ℕ)) → lookup (nat_eq o.number) es ≡ Some (Some o) → is_at o d ≡ true → d.0.0 ≤ now → is_due now (lookup (nat_eq d.0.1) es) ≡ true
+due_of es now o d own e le =
+    let low : nat_le o.expiry now ≡ true = grind (arith, nat_tests, le, expiry_at o d e) in
+    ap (λ (n : ℕ). is_due now (lookup (nat_eq n) es)) (number_at o d e) ∙ (ap (is_due now) own ∙ low)
+
+still_due : (es : Entries) (now : ℕ) (d : Reverse (ℕ × ℕ)) (due more : List (Reverse (ℕ × ℕ))) (os : List OwedBreak) → IsPermutation due (d ∷ more) → d.0.0 ≤ now → is_due now (lookup (nat_eq d.0.1) es) ≡ false → AreUnder es os → AreDue due os → AreDue more os
+unfolding AreUnder
+still_due es now d due more [] moved le no_due under all = tt
+still_due es now d due more (o ∷ os) moved le no_due under all = (by (is_at o d) refl (sym (list_any-IsPermutation (is_at o) due (d ∷ more) moved) ∙ all.0), still_due es now d due more os moved le no_due under.1 all.1)
+  where
+    by : (t : Bool) → is_at o d ≡ t → (t || list_any (is_at o) more) ≡ true → list_any (is_at o) more ≡ true
+    by true e any = absurd (let yes : is_due now (lookup (nat_eq d.0.1) es) ≡ true = due_of es now o d under.0 e le in cc)
+    by false e any = any
+
+rest_due : (d : Reverse (ℕ × ℕ)) (due more : List (Reverse (ℕ × ℕ))) (os : List OwedBreak) → IsPermutation due (d ∷ more) → AreDue due os → AreDue more (without_break d.0.1 os)
+rest_due d due more [] moved all = tt
+rest_due d due more (o ∷ os) moved all = by (nat_eq o.number d.0.1) refl (rest_due d due more os moved all.1)
+  where
+    head : (t : Bool) → is_at o d ≡ t → nat_eq o.number d.0.1 ≡ false → (t || list_any (is_at o) more) ≡ true → list_any (is_at o) more ≡ true
+    head true e other any = absurd (let yes : nat_eq o.number d.0.1 ≡ true = grind (arith, nat_tests, number_at o d e) in cc)
+    head false e other any = any
+
+    by : (t : Bool) → nat_eq o.number d.0.1 ≡ t → AreDue more (without_break d.0.1 os) → AreDue more (if not t then o ∷ without_break d.0.1 os else without_break d.0.1 os)
+    by true e later = later
+    by false e later = (head (is_at o d) refl e (sym (list_any-IsPermutation (is_at o) due (d ∷ more) moved) ∙ all.0), later)
+
+lasts_without : (es : Entries) (now n : ℕ) (os : List OwedBreak) → is_due now (lookup (nat_eq n) es) ≡ true → AreUnder es os → lasting_breaks now (without_break n os) ≡ lasting_breaks now os
+unfolding AreUnder
+lasts_without es now n [] due under = refl
+lasts_without es now n (o ∷ os) due under = by (nat_eq o.number n) refl (lasts_without es now n os due under.1)
+  where
+    by : (t : Bool) → nat_eq o.number n ≡ t → lasting_breaks now (without_break n os) ≡ lasting_breaks now os → lasting_breaks now (if not t then o ∷ without_break n os else without_break n os) ≡ (if nat_lt now o.expiry then o ∷ lasting_breaks now os else lasting_breaks now os)
+    by true e later =
+        let same : o.number ≡ n = grind (arith, nat_tests, e) in
+        let own : is_due now (Some (Some o)) ≡ true = sym (ap (is_due now) under.0) ∙ (ap (λ (m : ℕ). is_due now (lookup (nat_eq m) es)) same ∙ due) in
+        let ended : nat_lt now o.expiry ≡ false = grind (arith, nat_tests, own) in
+        rw ended later
+    by false e later = over (nat_lt now o.expiry) later
+      where
+        over : (t : Bool) → lasting_breaks now (without_break n os) ≡ lasting_breaks now os → (if t then o ∷ lasting_breaks now (without_break n os) else lasting_breaks now (without_break n os)) ≡ (if t then o ∷ lasting_breaks now os else lasting_breaks now os)
+        over true later = ap (λ (l : List OwedBreak). o ∷ l) later
+        over false later = later
+
+module _ (entries ended : Entries) (due more : List (Reverse (ℕ × ℕ))) (now last count left : ℕ) (d : Reverse (ℕ × ℕ)) (moved : IsPermutation due (d ∷ more)) (le : d.0.0 ≤ now) (e : ended ≡ (if is_due now (lookup (nat_eq d.0.1) entries) then struck d.0.1 entries else entries))
+    (sum : left + (if is_due now (lookup (nat_eq d.0.1) entries) then 1 else 0) ≡ count) (is : IsOwing entries due last count) where
+  pub record Ends : Type 0 where
+    pub owing : IsOwing ended more last left
+    pub lasts : lasting_breaks now (breaks_in ended) ≡ lasting_breaks now (breaks_in entries)
+
+  some_due : (o : Option (Option OwedBreak)) → is_due now o ≡ true → has_some o ≡ true
+  some_due None e = absurd cc
+  some_due (Some None) e = absurd cc
+  some_due (Some (Some o)) e = refl
+
+  ends_by : (t : Bool) → is_due now (lookup (nat_eq d.0.1) entries) ≡ t → Ends
+  ends_by true f =
+      let was : ended ≡ struck d.0.1 entries = e ∙ rw f refl in
+      let off : left + (if has_some (lookup (nat_eq d.0.1) entries) then 1 else 0) ≡ count = ap (λ (t : Bool). left + (if t then 1 else 0)) (some_due (lookup (nat_eq d.0.1) entries) f) ∙ (ap (λ (t : Bool). left + (if t then 1 else 0)) (sym f) ∙ sum) in
+      let struck_is = struck_owing {due = due} d.0.1 off is in
+      let breaks = struck_breaks 0 last d.0.1 entries is.ascends in
+      record {
+        owing = subst (λ (es : Entries). IsOwing es more last left) (sym was) (record { ascends = struck_is.ascends; counted = struck_is.counted; covered = subst (AreDue more) (sym breaks) (rest_due d due more (breaks_in entries) moved is.covered) });
+        lasts = ap (λ (es : Entries). lasting_breaks now (breaks_in es)) was ∙ (ap (lasting_breaks now) breaks ∙ lasts_without entries now d.0.1 (breaks_in entries) f (under 0 last entries is.ascends));
+      }
+  ends_by false f =
+      let was : ended ≡ entries = e ∙ rw f refl in
+      let same : left ≡ count = (let z : left + 0 ≡ count = ap (λ (t : Bool). left + (if t then 1 else 0)) (sym f) ∙ sum in omega (arith, z)) in
+      record {
+        owing = subst (λ (es : Entries). IsOwing es more last left) (sym was) (record { ascends = is.ascends; counted = same ∙ is.counted; covered = still_due entries now d due more (breaks_in entries) moved le f (under 0 last entries is.ascends) is.covered });
+        lasts = ap (λ (es : Entries). lasting_breaks now (breaks_in es)) was;
+      }
+
+  pub ends : Ends
+  ends = ends_by (is_due now (lookup (nat_eq d.0.1) entries)) refl
+
+late : (now : ℕ) (o : OwedBreak) (due : List (Reverse (ℕ × ℕ))) → AllByRecursion (λ (d : Reverse (ℕ × ℕ)). now < d.0.0) due → list_any (is_at o) due ≡ true → now < o.expiry
+late now o [] all any = absurd cc
+late now o (d ∷ ds) all any = by (is_at o d) refl any (late now o ds all.1)
+  where
+    by : (t : Bool) → is_at o d ≡ t → (t || list_any (is_at o) ds) ≡ true → (list_any (is_at o) ds ≡ true → now < o.expiry) → now < o.expiry
+    by true e any rest = omega (arith, all.0, expiry_at o d e)
+    by false e any rest = rest any
+
+-- where none in the heap is due, none is at all
+pub all_last : (now : ℕ) (due : List (Reverse (ℕ × ℕ))) (os : List OwedBreak) → AllByRecursion (λ (d : Reverse (ℕ × ℕ)). now < d.0.0) due → AreDue due os → lasting_breaks now os ≡ os
+all_last now due [] later all = refl
+all_last now due (o ∷ os) later all = let lasts : nat_lt now o.expiry ≡ true = (let lt = late now o due later all.0 in grind (arith, nat_tests, lt)) in rw lasts (ap (λ (l : List OwedBreak). o ∷ l) (all_last now due os later all.1))
