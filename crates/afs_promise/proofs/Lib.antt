@@ -1,0 +1,6 @@
+pub mod Breaks
+pub mod Ends
+pub mod Held
+pub mod Hits
+pub mod Split
+pub mod Logs
