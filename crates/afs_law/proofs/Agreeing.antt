@@ -1,3 +1,4 @@
+use Rattle.afs_num.specs.declared.histories.ReadBody.TheVariants as seen
 use Rattle.afs_num.specs.declared.messages.Call.TheVariants as ask
 use Rattle.afs_num.specs.declared.messages.Carried.TheVariants as carried
 use Rattle.afs_ideal.specs.Told.{Agrees}
@@ -7,16 +8,16 @@ use Rattle.afs_law.proofs.Basics.{ByClient, OfReply, OfCall, IfReply, IfCall, ea
 use Rattle.afs_law.proofs.Edits.{agrees_of, SoundIn}
 use Rattle.afs_law.proofs.Facts.{ReplyIn, CallIn, view, Ghost, Holds}
 use Rattle.afs_law.proofs.Law.{goes, starts}
-use Rattle.afs_law.specs.ClientRow.{find_cached}
+use Rattle.afs_rows.specs.ClientRow.{find_cached}
 use Rattle.afs_law.specs.Ideal.{versions_in, set_up}
 use Rattle.afs_law.specs.Laws.{ArePairsKnown, IsKnownTo, IsHeld}
 use Rattle.afs_law.specs.Legal.{GoodRead}
-use Rattle.afs_law.specs.Lines.{Line}
+use Rattle.afs_history.specs.declared.lines.Line.{Line}
 use Rattle.afs_law.specs.Once.{past_of}
 use Rattle.afs_law.specs.OneServer.{IsOneServer}
 use Rattle.afs_law.specs.Past.{HasCode, IsCall}
-use Rattle.afs_law.specs.Runs.{Entry, Cell, Input, moved, Leads, start, RunsTo}
-use Rattle.afs_law.specs.States.{CacheEntry}
+use Rattle.afs_rows.specs.Runs.{Entry, Cell, Input, moved, Leads, start, RunsTo}
+use Rattle.afs_rows.specs.States.{CacheEntry}
 use Rattle.afs_num.specs.declared.histories.ReadSource.TheVariants.{Cached}
 use Rattle.afs_num.specs.declared.messages.Carried.{Carried}
 use Rattle.afs_num.specs.declared.types.Node.TheVariants.{Client}
@@ -97,7 +98,7 @@ pairs_known s h end one r =
 -- ---- what a client trusts
 
 pub trusted_good : (s : Script) (h : List Entry) (end : Cell) → IsOneServer s → RunsTo h s end → (j : ℕ) → (end.clients j).running ≡ None → (f : Fid) (e : CacheEntry) → find_cached f (end.clients j).cache ≡ Some e → end.clock < e.expiry
-    → GoodRead (Client j) f e.index Cached e.body (past_of (set_up s ∷ []) h) []
+    → GoodRead (Client j) f e.index Cached (seen.Contents e.body) (past_of (set_up s ∷ []) h) []
 trusted_good s h end one r j none f e found lasts =
     let k : Holds s end (past_of (set_up s ∷ []) h) = at_end s h end one r in
     let past : List Entry = past_of (set_up s ∷ []) h in

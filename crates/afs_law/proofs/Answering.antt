@@ -1,3 +1,4 @@
+use Rattle.afs_num.specs.declared.histories.ReadBody.TheVariants as seen
 use Rattle.afs_ideal.specs.Operations.{volume_changed}
 use Rattle.afs_law.proofs.Asking.{own_read, safe_over, client_kept, call_known, reply_still, step_entry, view_after, moves, nothing_new, Heard, told_passes, answered_seen, own_zero, answered_lines, answered_file, answered_reach, answered_passes, quiet, safe_cache, own_call, asks, own_begun, no_scope, same_one, call_is, heard_dull, new_one}
 use Rattle.afs_law.proofs.Basics.{UpTo, Above, IfReply, IfNotice, OfReply, OfNotice, up_to_by, yes_no, both, same_fid-true, same_fid-refl, same_node-refl, client_number, found-cached-fid, found-first, found-refreshed, OfCall, each_at, some_of, ByServer, OfClient, by_client, IfBack, up_to_next, next_not, raised_up_to}
@@ -12,17 +13,17 @@ use Rattle.afs_law.proofs.Saving.{old_withdrawn}
 use Rattle.afs_law.proofs.Serving.{told_file, told_reach, told_act, not_ran, stale_none, reached_still}
 use Rattle.afs_law.proofs.Skipping.{none_where, own_ended, skips, drop_lines, was_given, drop_file, drop_reach, drop_seen, drop_passes, ended_running, drops_good}
 use Rattle.afs_law.proofs.Walking.{onto_last, looked_more, walk_made, walk_reached, walk_current, walk_answered, walked_found, tail_given, tail_fetched, tail_quiet, ends_answered, ends_here, EndsReach, AreTail, walks_on, Ready, Walks}
-use Rattle.afs_law.specs.Acts.{Act}
-use Rattle.afs_law.specs.ClientRow.{asking, is_trusted, goes_on, goes_by, look_at, looked, most_reads, walked, Walked, is_below, dropped_after, left_after, the_server, find_cached, guest, used_first, refreshed, call_message, calls_step, zero_code, begin_row, ignores, ended, answers_step, takes_stored, takes, resends_step, counts, is_awaited, awaits, client_row, is_spent, hears_in, takes_plain, takes_data, takes_set, left_in, given_up_in, body_told, call_of, is_reading}
-use Rattle.afs_law.specs.Going.{asked, Going, Need, next, answers, began, with_read, ClientState, reads, asks_for}
+use Rattle.afs_history.specs.declared.acts.Act.{Act}
+use Rattle.afs_rows.specs.ClientRow.{asking, is_trusted, goes_on, goes_by, look_at, looked, most_reads, walked, Walked, is_below, dropped_after, left_after, the_server, find_cached, guest, used_first, refreshed, call_message, calls_step, zero_code, begin_row, ignores, ended, answers_step, takes_stored, takes, resends_step, counts, is_awaited, awaits, client_row, is_spent, hears_in, takes_plain, takes_data, takes_set, left_in, given_up_in, body_told, call_of, is_reading}
+use Rattle.afs_rows.specs.Going.{asked, Going, Need, next, answers, began, with_read, ClientState, reads, asks_for}
 use Rattle.afs_law.specs.Grants.{has_fetched, fetch_reply, since}
 use Rattle.afs_law.specs.Ideal.{raised, is_zero_code, reach, last_version, HasVersion}
 use Rattle.afs_law.specs.Legal.{Cause, code_told, GoodCode}
-use Rattle.afs_law.specs.Lines.{Line}
+use Rattle.afs_history.specs.declared.lines.Line.{Line}
 use Rattle.afs_law.specs.Past.{IsCallUnder, onto, lines_of, sent_of, given_message, answered_key, running, has_begun, CalledSince}
-use Rattle.afs_law.specs.Runs.{Moved, Entry, Cell, message_at, client_moves, begun_by}
-use Rattle.afs_law.specs.Scopes.{is_in_scope}
-use Rattle.afs_law.specs.States.{CacheEntry, Seat}
+use Rattle.afs_rows.specs.Runs.{locations, Moved, Entry, Cell, message_at, client_moves, begun_by}
+use Rattle.afs_rows.specs.Scopes.{is_in_scope}
+use Rattle.afs_rows.specs.States.{CacheEntry, Location, Seat}
 use Rattle.afs_model.specs.Calls.{call_seat}
 use Rattle.std.proofs.Common.{◌+◌, nat_eq, ◌++◌, ◌≡◌, ℕ, ◌<◌, ◌≤◌, inl, inr, Bool, true, false, cond, nat_lt, not, List, [], ◌∷◌, map, Option, Some, None, ℤ, refl, sym, ap, subst, ◌∙◌, eqb-true, ltb-true, lt-ltb, le_of_eq, append-nil, arith}
 use Rattle.std.specs.Prelude.{◌&&◌, pos, ℤ}
@@ -43,7 +44,7 @@ use Rattle.afs_num.specs.declared.calls.FsReply.{FsReply}
 use Rattle.afs_num.specs.declared.messages.Carried.{Carried}
 use Rattle.afs_num.specs.declared.messages.Message.{Message}
 use Rattle.afs_num.specs.declared.messages.Received.TheVariants.{Whole}
-use Rattle.afs_law.specs.ClientRow as ClientRow
+use Rattle.afs_rows.specs.ClientRow as ClientRow
 use Rattle.afs_num.specs.declared.scripts.Script.{Script}
 use Rattle.afs_num.specs.declared.histories.Actor.TheVariants as actors
 use Rattle.afs_num.specs.declared.histories.ReadSource.TheVariants.{Fetched}
@@ -55,7 +56,7 @@ use Rattle.afs_num.specs.declared.messages.Carried.TheVariants as carried
 use Rattle.afs_num.specs.declared.messages.Reply.TheVariants as tell
 use Rattle.afs_num.specs.declared.messages.Call.TheVariants as ask
 use Rattle.afs_num.specs.declared.histories.Body.TheVariants as bodies
-use Rattle.afs_law.specs.Lines as lines
+use Rattle.afs_history.specs.declared.lines.Line.TheVariants as lines
 use Rattle.afs_num.specs.declared.calls.FsCall.TheVariants as calls
 
 -- The clients' steps that answer an act.
@@ -84,14 +85,14 @@ idle_newest j f i server newer v past none (inl a) = a.newest
 idle_newest j f i server newer v past none (inr o) = absurd (not_waiting j f i server newer v past none o)
 
 -- how far an act that begins comes
-abbrev pub begun_walk : ClientState → ℕ → Act → Walked
-begun_walk x clock act = walked (most_reads (began act)) clock (began act) x.cache
+abbrev pub begun_walk : Script → ClientState → ℕ → Act → Walked
+begun_walk s x clock act = walked (most_reads (began (locations s) act)) clock (began (locations s) act) x.cache
 
-pub begun_walks : (s : Script) (c : Cell) (past : List Entry) (n : ℕ) (act : Act) → (h : Holds s c past) → (c.clients n).running ≡ None → Walks s c past n (h.floors n).held (lines.Begin (Client n) act ∷ []) (began act) (c.clients n).cache
+pub begun_walks : (s : Script) (c : Cell) (past : List Entry) (n : ℕ) (act : Act) → (h : Holds s c past) → (c.clients n).running ≡ None → Walks s c past n (h.floors n).held (lines.Begin (Client n) act ∷ []) (began (locations s) act) (c.clients n).cache
 begun_walks s c past n act h none = record {
   good = λ tail g. (refl, g);
   quiet = (refl, tt);
-  runs = own_begun n (began act) (running (Client n) (lines_of past));
+  runs = own_begun n (began (locations s) act) (running s (Client n) (lines_of past));
   ready = λ g u found lasts. let cur = (h.clients n).current g u found lasts in record {
     reply = cur.reply;
     boot = cur.boot;
@@ -107,19 +108,19 @@ begun_walks s c past n act h none = record {
 }
 
 pub begun_on : (s : Script) (c : Cell) (past : List Entry) (n : ℕ) (act : Act) → (h : Holds s c past) → (c.clients n).running ≡ None
-    → Walks s c past n (h.floors n).held (lines.Begin (Client n) act ∷ looked (Client n) (begun_walk (c.clients n) c.clock act).looks []) (begun_walk (c.clients n) c.clock act).act (begun_walk (c.clients n) c.clock act).cache
-begun_on s c past n act h none = walks_on (most_reads (began act)) s c past n (h.floors n).held (lines.Begin (Client n) act ∷ []) (began act) (c.clients n).cache h (begun_walks s c past n act h none)
+    → Walks s c past n (h.floors n).held (lines.Begin (Client n) act ∷ looked (Client n) (begun_walk s (c.clients n) c.clock act).looks []) (begun_walk s (c.clients n) c.clock act).act (begun_walk s (c.clients n) c.clock act).cache
+begun_on s c past n act h none = walks_on (most_reads (began (locations s) act)) s c past n (h.floors n).held (lines.Begin (Client n) act ∷ []) (began (locations s) act) (c.clients n).cache h (begun_walks s c past n act h none)
 
 abbrev pub with_lines : Cell → ℕ → ClientState → List Message → List Line → Moved
 with_lines c n x ms ls = client_moves c n (record { state = x; lines = ls; sent = ms })
 
 -- all that the act needed was in the cache
-pub begun_answered : (s : Script) (c : Cell) (past : List Entry) (n : ℕ) (act : Act) (k : ℕ) → Holds s c past → (c.clients n).running ≡ None → next (begun_walk (c.clients n) c.clock act).act ≡ answers k
-    → Goes s past (client_moves c n (goes_by (Client n) (c.clients n) (lines.Begin (Client n) act) (begun_walk (c.clients n) c.clock act) (answers k)))
+pub begun_answered : (s : Script) (c : Cell) (past : List Entry) (n : ℕ) (act : Act) (k : ℕ) → Holds s c past → (c.clients n).running ≡ None → next (begun_walk s (c.clients n) c.clock act).act ≡ answers k
+    → Goes s past (client_moves c n (goes_by (Client n) (c.clients n) (lines.Begin (Client n) act) (begun_walk s (c.clients n) c.clock act) (answers k)))
 begun_answered s c past n act k h none is =
     let x : ClientState = c.clients n in
     let d = h.clients n in
-    let w : Walked = begun_walk x c.clock act in
+    let w : Walked = begun_walk s x c.clock act in
     let ls : List Line = lines.Begin (Client n) act ∷ looked (Client n) w.looks [] in
     let tail : List Line = lines.Answer (Client n) (record { 0 = pos k }) ∷ [] in
     let W : Walks s c past n (h.floors n).held ls w.act w.cache = begun_on s c past n act h none in
@@ -130,7 +131,7 @@ begun_answered s c past n act k h none is =
     let v : View = view_after c n (h.floors n) y in
     let over : (m : Message) → ReplyFact n (view h.floors c n) past m → ReplyFact n v (e ∷ past) m = λ m f. idle_reply n (view h.floors c n) v past (e ∷ past) m refl refl refl refl refl refl refl f in
     subst (λ (os : List Line). Goes s past (with_lines c n y [] (lines.Begin (Client n) act ∷ os))) (sym (looked_more (Client n) w.looks tail))
-    (moves s c past n (h.floors n) (record { state = y; lines = ls ++ tail; sent = [] }) h
+    (moves s c past n (h.floors n) (record { state = y; lines = ls ++ tail; sent = [] }) h refl
     (walk_answered s c past n (h.floors n).held ls w.act w.cache k W is)
     (quiet_passes s n (ls ++ tail) [] past (quiet_more n ls tail W.quiet (tail_quiet n tail t)) (W.dull tail t))
     (record {
@@ -143,7 +144,7 @@ begun_answered s c past n act k h none is =
       floored = d.floored;
       holds = d.holds;
       waits = λ b z. absurd cc;
-      idle = λ z. ap (running (Client n)) (onto_last (lines_of past) ls (lines.Answer (Client n) (record { 0 = pos k }))) ∙ own_ended n (running (Client n) (onto (lines_of past) ls));
+      idle = λ z. ap (running s (Client n)) (onto_last (lines_of past) ls (lines.Answer (Client n) (record { 0 = pos k }))) ∙ own_ended n (running s (Client n) (onto (lines_of past) ls));
       made = λ b z. absurd cc;
       current = λ g u found lasts. walk_current s c past n (h.floors n).held ls w.act w.cache tail [] v g u W t ends (le_refl _) (inr refl) found lasts;
       runs = λ b z. absurd cc;
@@ -156,7 +157,7 @@ begun_answered s c past n act k h none is =
       stale = f.stale;
       own = λ b z. absurd cc;
       safe = λ q above. safe_over call c.clock x.epoch x.last x.epoch x.last x.running None w.cache (IsAged (view h.floors c n) head) (IsAged v head) head (λ b z. let no_ : Some b ≡ None = sym z ∙ none in absurd cc) (λ z. (z.0, λ b r. absurd cc))
-          (safe_cache call c.clock x.epoch x.last x.running x.cache w.cache (IsAged (view h.floors c n) head) head (λ g z u at lasts. z u (walked_found (most_reads (began act)) c.clock (began act) x.cache g u at) lasts) (f.safe q above));
+          (safe_cache call c.clock x.epoch x.last x.running x.cache w.cache (IsAged (view h.floors c n) head) head (λ g z u at lasts. z u (walked_found (most_reads (began (locations s) act)) c.clock (began (locations s) act) x.cache g u at) lasts) (f.safe q above));
     })
     over (nothing_new _ _) (λ a z r. absurd cc) refl)
 
@@ -165,11 +166,11 @@ begun_not n rest S e = let yes : same_node (Client n) (Client n) ≡ true = same
 
 -- it calls for what is missing
 pub begun_calls : (s : Script) (c : Cell) (past : List Entry) (n : ℕ) (act : Act) → Holds s c past → (c.clients n).running ≡ None
-    → Goes s past (client_moves c n (goes_by (Client n) (c.clients n) (lines.Begin (Client n) act) (begun_walk (c.clients n) c.clock act) (asks_for calls.GetTime)))
+    → Goes s past (client_moves c n (goes_by (Client n) (c.clients n) (lines.Begin (Client n) act) (begun_walk s (c.clients n) c.clock act) (asks_for calls.GetTime)))
 begun_calls s c past n act h none =
     let x : ClientState = c.clients n in
     let d = h.clients n in
-    let w : Walked = begun_walk x c.clock act in
+    let w : Walked = begun_walk s x c.clock act in
     let ls : List Line = lines.Begin (Client n) act ∷ looked (Client n) w.looks [] in
     let W : Walks s c past n (h.floors n).held ls w.act w.cache = begun_on s c past n act h none in
     let y : ClientState = record x { last = x.last + 1; tries = 0; running = Some w.act; spoiled = false; cache = w.cache } in
@@ -178,7 +179,7 @@ begun_calls s c past n act h none =
     let g : Ghost = record { floor = c.server.boot; held = (h.floors n).held } in
     let v : View = view_after c n g y in
     let not : LastRan v → ⊥ = λ ran. next_not _ _ _ _ (d.behind_durable ran.seat ran.at) ran.epoch ran.number in
-    let at : running (Client n) (onto (lines_of past) (ls ++ [])) ≡ Some w.act = ap (λ (os : List Line). running (Client n) (onto (lines_of past) os)) (append-nil ls) ∙ W.runs in
+    let at : running s (Client n) (onto (lines_of past) (ls ++ [])) ≡ Some w.act = ap (λ (os : List Line). running s (Client n) (onto (lines_of past) os)) (append-nil ls) ∙ W.runs in
     let idle : (a : Going) → x.running ≡ Some a → volume_changed (asked a) ≡ None = λ a z. let no_ : Some a ≡ None = sym z ∙ none in absurd cc in
     let over : (m : Message) → ReplyFact n (view h.floors c n) past m → ReplyFact n v (e ∷ past) m = λ m f. record {
       behind = up_to_next _ _ _ _ f.behind;
@@ -188,7 +189,7 @@ begun_calls s c past n act h none =
       answers = λ b runs z k. absurd (next_not _ _ _ _ f.behind z k);
     } in
     subst (λ (os : List Line). Goes s past (with_lines c n y ms os)) (append-nil ls)
-    (moves s c past n g (record { state = y; lines = ls ++ []; sent = ms }) h
+    (moves s c past n g (record { state = y; lines = ls ++ []; sent = ms }) h refl
     (W.good [] tt)
     (quiet_passes s n (ls ++ []) ms past (quiet_more n ls [] W.quiet tt) (W.dull [] tt))
     (record {
@@ -214,19 +215,22 @@ begun_calls s c past n act h none =
       stale = λ z. f.booted;
       own = λ b z k u. absurd (next_not _ _ _ _ f.behind k u);
       safe = λ q above. safe_over call c.clock x.epoch x.last x.epoch (x.last + 1) x.running (Some w.act) w.cache (IsAged (view h.floors c n) head) (IsAged v head) head idle (λ z. (z.0, λ b k u r. next_not _ _ _ _ f.behind u r))
-          (safe_cache call c.clock x.epoch x.last x.running x.cache w.cache (IsAged (view h.floors c n) head) head (λ f z u found lasts. z u (walked_found (most_reads (began act)) c.clock (began act) x.cache f u found) lasts) (f.safe q above));
+          (safe_cache call c.clock x.epoch x.last x.running x.cache w.cache (IsAged (view h.floors c n) head) head (λ f z u found lasts. z u (walked_found (most_reads (began (locations s) act)) c.clock (began (locations s) act) x.cache f u found) lasts) (f.safe q above));
     })
     over (own_call h.floors c past n g y w.act (ls ++ []) d.known refl at (new_one s c past n w.act h)) (λ a z k. begun_not n _ _ k) refl)
 
-begins_by : (need : Need) (s : Script) (c : Cell) (past : List Entry) (n : ℕ) (act : Act) → Holds s c past → (c.clients n).running ≡ None → next (begun_walk (c.clients n) c.clock act).act ≡ need
-    → Goes s past (client_moves c n (goes_by (Client n) (c.clients n) (lines.Begin (Client n) act) (begun_walk (c.clients n) c.clock act) need))
+begins_by : (need : Need) (s : Script) (c : Cell) (past : List Entry) (n : ℕ) (act : Act) → Holds s c past → (c.clients n).running ≡ None → next (begun_walk s (c.clients n) c.clock act).act ≡ need
+    → Goes s past (client_moves c n (goes_by (Client n) (c.clients n) (lines.Begin (Client n) act) (begun_walk s (c.clients n) c.clock act) need))
 begins_by (answers k) s c past n act h none e = begun_answered s c past n act k h none e
 begins_by (reads f) s c past n act h none e = begun_calls s c past n act h none
 begins_by (asks_for call) s c past n act h none e = begun_calls s c past n act h none
 
 pub begins_goes : (s : Script) (c : Cell) (past : List Entry) (n : ℕ) (act : Act) → Holds s c past → (c.clients n).running ≡ None → Goes s past (client_moves c n (begin_row (Client n) (c.clients n) c.clock act))
 unfolding begin_row
-begins_goes s c past n act h none = begins_by (next (begun_walk (c.clients n) c.clock act).act) s c past n act h none refl
+begins_goes s c past n act h none =
+    let x : ClientState = c.clients n in
+    subst (λ (t : List Location). Goes s past (client_moves c n (goes_on (Client n) x (lines.Begin (Client n) act) (walked (most_reads (began t act)) c.clock (began t act) x.cache)))) (sym (h.tables n))
+    (begins_by (next (begun_walk s x c.clock act).act) s c past n act h none refl)
 
 -- ---- the reply to the running act
 
@@ -242,7 +246,7 @@ pub record Due (c : Cell) (fl : ℕ → Ghost) (past : List Entry) (n p : ℕ) (
 
 -- its act is answered with its code
 pub good_code : (s : Script) (c : Cell) (past : List Entry) (n p : ℕ) (act : Going) (m : Message) (code : Code) (own : List Line) → (h : Holds s c past) → Due c h.floors past n p act m → code_told m.carried ≡ Some code.0 → given_message own (sent_of past) ≡ message_at (sent_of past) p
-    → has_begun (Client n) own ≡ false → running (Client n) (own ++ lines_of past) ≡ running (Client n) (lines_of past) → GoodCode (Client n) code past own
+    → has_begun (Client n) own ≡ false → running s (Client n) (own ++ lines_of past) ≡ running s (Client n) (lines_of past) → GoodCode s (Client n) code past own
 good_code s c past n p act m code own h d told by none still =
     let cause : Cause m code.0 (asked act) past [] = subst (λ (z : ℤ). Cause m z (asked act) past []) (some_of _ _ (sym d.answers.cause.told ∙ told)) d.answers.cause in
     let asked_now : CalledSince (answered_key m.head) guest (asked act) past = subst (λ (k : Key). CalledSince k guest (asked act) past) (sym d.key) ((h.clients n).asked act d.running) in
@@ -323,8 +327,8 @@ ended_calls s c past n p act m cache held h d w head call f = record {
 pub ended_reply : (s : Script) (c : Cell) (past : List Entry) (n : ℕ) (cache : List CacheEntry) (held : ℕ) (e : Entry) → (h : Holds s c past) → (m : Message) → ReplyFact n (view h.floors c n) past m → ReplyFact n (view_after c n (holding h.floors n held) (ended (c.clients n) cache)) (e ∷ past) m
 ended_reply s c past n cache held e h m f = idle_reply n (view h.floors c n) (view_after c n (holding h.floors n held) (ended (c.clients n) cache)) past (e ∷ past) m refl refl refl refl refl refl refl f
 
-pub ended_facts : (s : Script) (c : Cell) (past : List Entry) (n : ℕ) (cache : List CacheEntry) (held : ℕ) (e : Entry) → (h : Holds s c past) → held ≤ c.server.boot → running (Client n) (lines_of (e ∷ past)) ≡ None → HasCurrent n (view_after c n (holding h.floors n held) (ended (c.clients n) cache)) (e ∷ past) → ((f : Fid) → Reached (Client n) f (index_in (last_version f (lines_of (e ∷ past)))) (e ∷ past))
-    → ClientFacts n (view_after c n (holding h.floors n held) (ended (c.clients n) cache)) (e ∷ past)
+pub ended_facts : (s : Script) (c : Cell) (past : List Entry) (n : ℕ) (cache : List CacheEntry) (held : ℕ) (e : Entry) → (h : Holds s c past) → held ≤ c.server.boot → running s (Client n) (lines_of (e ∷ past)) ≡ None → HasCurrent n (view_after c n (holding h.floors n held) (ended (c.clients n) cache)) (e ∷ past) → ((f : Fid) → Reached (Client n) f (index_in (last_version f (lines_of (e ∷ past)))) (e ∷ past))
+    → ClientFacts s n (view_after c n (holding h.floors n held) (ended (c.clients n) cache)) (e ∷ past)
 ended_facts s c past n cache held e h le idle cur r =
     let d = h.clients n in
     let v : View = view_after c n (holding h.floors n held) (ended (c.clients n) cache) in
@@ -374,10 +378,10 @@ takes_refused s c past n p act head code h d =
     let e : Entry = step_entry n (answered_lines n p code) [] in
     let nz : is_zero_code code ≡ false = d.answers.fits.0 in
     let held : ℕ = (h.floors n).held in
-    moves s c past n (holding h.floors n held) (answers_step (Client n) (c.clients n) p code) h
+    moves s c past n (holding h.floors n held) (answers_step (Client n) (c.clients n) p code) h refl
     (tt, ((refl, good_code s c past n p act m code (lines.Given p ∷ []) h d refl refl refl refl), tt))
     (answered_passes s c past n p m code h d.heard)
-    (ended_facts s c past n (c.clients n).cache held e h (h.clients n).holds (own_ended n (running (Client n) (lines_of past)))
+    (ended_facts s c past n (c.clients n).cache held e h (h.clients n).holds (own_ended n (running s (Client n) (lines_of past)))
     (λ f u found lasts. let cur : IsCurrent n f u (view h.floors c n) past = (h.clients n).current f u found lasts in
     let file : PassesFile n f e past = answered_file n n p code past f in
     record {
@@ -398,10 +402,10 @@ again_goes s c past n p act m h d shut =
 -- ---- what was fetched is read, and the act goes on
 
 abbrev pub read_now : ℕ → ℕ → CacheEntry → List Line
-read_now n p u = lines.Given p ∷ lines.Read (Client n) u.fid u.index Fetched u.body ∷ []
+read_now n p u = lines.Given p ∷ lines.Read (Client n) u.fid u.index Fetched (seen.Contents u.body) ∷ []
 
 abbrev pub fetched_walk : ClientState → ℕ → Going → CacheEntry → Walked
-fetched_walk x clock act u = walked (most_reads act) clock (with_read u.fid u.body act) (used_first u x.cache)
+fetched_walk x clock act u = walked (most_reads act) clock (with_read u.fid (seen.Contents u.body) act) (used_first u x.cache)
 
 pub both_not : (a b : Bool) → (a ≡ true → b ≡ true → ⊥) → (a && b) ≡ false
 both_not true true h = absurd (h refl refl)
@@ -412,7 +416,7 @@ used_reply : (n : ℕ) (f : Fid) (rest : Bool) (o u : Option Message) → cond (
 used_reply n f rest o u = rw (same_node-refl (Client n), same_fid-refl f) refl
 
 pub fetched_walks : (s : Script) (c : Cell) (past : List Entry) (n p : ℕ) (act : Going) (m : Message) (u : CacheEntry) → (h : Holds s c past) → Due c h.floors past n p act m → volume_changed (asked act) ≡ None → IsFetched false n u.fid u.index u.body u.expiry m past → c.clock < u.expiry
-    → Walks s c past n c.server.boot (read_now n p u) (with_read u.fid u.body act) (used_first u (c.clients n).cache)
+    → Walks s c past n c.server.boot (read_now n p u) (with_read u.fid (seen.Contents u.body) act) (used_first u (c.clients n).cache)
 fetched_walks s c past n p act m u h d shut a lt =
     let none : (g : Fid) → (reach (Client n) g past).made ≡ 0 = λ g. (h.clients n).made act d.running g (no_scope (asked act) g shut) (inl shut) in
     let raised_by : (g : Fid) (k : ℕ) → (same_fid u.fid g ≡ true → u.index ≤ k) → (reach (Client n) g past).seen ≤ k → raised (same_node (Client n) (Client n) && same_fid u.fid g) u.index (reach (Client n) g past).seen ≤ k = λ g k le h. raised_up_to (same_node (Client n) (Client n) && same_fid u.fid g) u.index (reach (Client n) g past).seen k (λ t. le (both (same_node (Client n) (Client n)) (same_fid u.fid g) t).1) h in
@@ -447,7 +451,7 @@ fetched_walks s c past n p act m u h d shut a lt =
         ),
       );
       quiet = (tt, (refl, tt));
-      runs = own_read n u.fid u.body act (running (Client n) (lines_of past)) ((h.clients n).runs act d.running);
+      runs = own_read n u.fid (seen.Contents u.body) act (running s (Client n) (lines_of past)) ((h.clients n).runs act d.running);
       ready = λ g w found lasts. elim (found-first g u (c.clients n).cache w found) [
         | inl q ↦ subst (λ (y : CacheEntry). Ready n c.server.boot g y (read_now n p u) past) q.1 (subst (λ (y : Fid). Ready n c.server.boot y u (read_now n p u) past) q.0 mine)
         | inr q ↦
@@ -473,15 +477,15 @@ fetched_walks s c past n p act m u h d shut a lt =
     }
 
 pub fetched_on : (s : Script) (c : Cell) (past : List Entry) (n p : ℕ) (act : Going) (m : Message) (u : CacheEntry) → (h : Holds s c past) → Due c h.floors past n p act m → volume_changed (asked act) ≡ None → IsFetched false n u.fid u.index u.body u.expiry m past → c.clock < u.expiry
-    → Walks s c past n c.server.boot (lines.Given p ∷ lines.Read (Client n) u.fid u.index Fetched u.body ∷ looked (Client n) (fetched_walk (c.clients n) c.clock act u).looks []) (fetched_walk (c.clients n) c.clock act u).act (fetched_walk (c.clients n) c.clock act u).cache
-fetched_on s c past n p act m u h d shut a lt = walks_on (most_reads act) s c past n c.server.boot (read_now n p u) (with_read u.fid u.body act) (used_first u (c.clients n).cache) h (fetched_walks s c past n p act m u h d shut a lt)
+    → Walks s c past n c.server.boot (lines.Given p ∷ lines.Read (Client n) u.fid u.index Fetched (seen.Contents u.body) ∷ looked (Client n) (fetched_walk (c.clients n) c.clock act u).looks []) (fetched_walk (c.clients n) c.clock act u).act (fetched_walk (c.clients n) c.clock act u).cache
+fetched_on s c past n p act m u h d shut a lt = walks_on (most_reads act) s c past n c.server.boot (read_now n p u) (with_read u.fid (seen.Contents u.body) act) (used_first u (c.clients n).cache) h (fetched_walks s c past n p act m u h d shut a lt)
 
 pub fetched_answered : (s : Script) (c : Cell) (past : List Entry) (n p : ℕ) (act : Going) (m : Message) (u : CacheEntry) (k : ℕ) → (h : Holds s c past) → Due c h.floors past n p act m → ((code : Code) → m.carried ≡ carried.Refusal code → ⊥) → volume_changed (asked act) ≡ None → IsFetched false n u.fid u.index u.body u.expiry m past → c.clock < u.expiry
     → next (fetched_walk (c.clients n) c.clock act u).act ≡ answers k → Goes s past (client_moves c n (goes_by (Client n) (c.clients n) (lines.Given p) (ClientRow.behind (look_at Fetched u) (fetched_walk (c.clients n) c.clock act u)) (answers k)))
 fetched_answered s c past n p act m u k h d not shut a lt is =
     let x : ClientState = c.clients n in
     let w : Walked = fetched_walk x c.clock act u in
-    let ls : List Line = lines.Given p ∷ lines.Read (Client n) u.fid u.index Fetched u.body ∷ looked (Client n) w.looks [] in
+    let ls : List Line = lines.Given p ∷ lines.Read (Client n) u.fid u.index Fetched (seen.Contents u.body) ∷ looked (Client n) w.looks [] in
     let tail : List Line = lines.Answer (Client n) (record { 0 = pos k }) ∷ [] in
     let W : Walks s c past n c.server.boot ls w.act w.cache = fetched_on s c past n p act m u h d shut a lt in
     let e : Entry = step_entry n (ls ++ tail) [] in
@@ -489,11 +493,11 @@ fetched_answered s c past n p act m u k h d not shut a lt is =
     let ends : EndsReach n tail = ends_answered n (record { 0 = pos k }) in
     let held : ℕ = c.server.boot in
     let g : Ghost = holding h.floors n held in
-    subst (λ (os : List Line). Goes s past (with_lines c n (ended x w.cache) [] (lines.Given p ∷ lines.Read (Client n) u.fid u.index Fetched u.body ∷ os))) (sym (looked_more (Client n) w.looks tail))
-    (moves s c past n g (record { state = ended x w.cache; lines = ls ++ tail; sent = [] }) h
+    subst (λ (os : List Line). Goes s past (with_lines c n (ended x w.cache) [] (lines.Given p ∷ lines.Read (Client n) u.fid u.index Fetched (seen.Contents u.body) ∷ os))) (sym (looked_more (Client n) w.looks tail))
+    (moves s c past n g (record { state = ended x w.cache; lines = ls ++ tail; sent = [] }) h refl
     (walk_answered s c past n c.server.boot ls w.act w.cache k W is)
     (quiet_passes s n (ls ++ tail) [] past (quiet_more n ls tail W.quiet (tail_quiet n tail t)) (W.dull tail t))
-    (ended_facts s c past n w.cache held e h (le_refl _) (ap (running (Client n)) (onto_last (lines_of past) ls (lines.Answer (Client n) (record { 0 = pos k }))) ∙ own_ended n (running (Client n) (onto (lines_of past) ls)))
+    (ended_facts s c past n w.cache held e h (le_refl _) (ap (running s (Client n)) (onto_last (lines_of past) ls (lines.Answer (Client n) (record { 0 = pos k }))) ∙ own_ended n (running s (Client n) (onto (lines_of past) ls)))
     (λ f v found lasts. walk_current s c past n c.server.boot ls w.act w.cache tail [] (view_after c n g (ended x w.cache)) f v W t ends (le_refl _) (inr refl) found lasts)
     (walk_reached s c past n c.server.boot ls w.act w.cache tail [] W t ends))
     (ended_calls s c past n p act m w.cache held h d (λ code z. absurd (not code z))) (ended_reply s c past n w.cache held e h) (nothing_new _ _) (λ b y z. absurd cc) refl)
@@ -503,7 +507,7 @@ pub fetched_calls : (s : Script) (c : Cell) (past : List Entry) (n p : ℕ) (act
 fetched_calls s c past n p act m u h d shut a lt =
     let x : ClientState = c.clients n in
     let w : Walked = fetched_walk x c.clock act u in
-    let ls : List Line = lines.Given p ∷ lines.Read (Client n) u.fid u.index Fetched u.body ∷ looked (Client n) w.looks [] in
+    let ls : List Line = lines.Given p ∷ lines.Read (Client n) u.fid u.index Fetched (seen.Contents u.body) ∷ looked (Client n) w.looks [] in
     let W : Walks s c past n c.server.boot ls w.act w.cache = fetched_on s c past n p act m u h d shut a lt in
     let k = h.clients n in
     let y : ClientState = record x { last = x.last + 1; tries = 0; running = Some w.act; spoiled = false; cache = w.cache } in
@@ -512,7 +516,7 @@ fetched_calls s c past n p act m u h d shut a lt =
     let g : Ghost = record { floor = c.server.boot; held = c.server.boot } in
     let v : View = view_after c n g y in
     let never : LastRan v → ⊥ = λ ran. next_not _ _ _ _ (k.behind_durable ran.seat ran.at) ran.epoch ran.number in
-    let at : running (Client n) (onto (lines_of past) (ls ++ [])) ≡ Some w.act = ap (λ (os : List Line). running (Client n) (onto (lines_of past) os)) (append-nil ls) ∙ W.runs in
+    let at : running s (Client n) (onto (lines_of past) (ls ++ [])) ≡ Some w.act = ap (λ (os : List Line). running s (Client n) (onto (lines_of past) os)) (append-nil ls) ∙ W.runs in
     let over : (q : Message) → ReplyFact n (view h.floors c n) past q → ReplyFact n v (e ∷ past) q = λ q r. record {
       behind = up_to_next _ _ _ _ r.behind;
       booted = r.booted;
@@ -521,7 +525,7 @@ fetched_calls s c past n p act m u h d shut a lt =
       answers = λ b runs y z. absurd (next_not _ _ _ _ r.behind y z);
     } in
     subst (λ (os : List Line). Goes s past (with_lines c n y ms os)) (append-nil ls)
-    (moves s c past n g (record { state = y; lines = ls ++ []; sent = ms }) h
+    (moves s c past n g (record { state = y; lines = ls ++ []; sent = ms }) h refl
     (W.good [] tt)
     (quiet_passes s n (ls ++ []) ms past (quiet_more n ls [] W.quiet tt) (W.dull [] tt))
     (record {
@@ -638,10 +642,10 @@ takes_saved s c past n p act call f b i m h d zero not same told kept up left =
     let held : ℕ = (h.floors n).held in
     let cache : List CacheEntry = map (refreshed c.clock f i b) (c.clients n).cache in
     let e : Entry = step_entry n (answered_lines n p zero_code) [] in
-    moves s c past n (holding h.floors n held) (takes_stored (Client n) (c.clients n) c.clock p f i b) h
+    moves s c past n (holding h.floors n held) (takes_stored (Client n) (c.clients n) c.clock p f i b) h refl
     (tt, ((refl, good_code s c past n p act m zero_code (lines.Given p ∷ []) h d zero refl refl refl), tt))
     (answered_passes s c past n p m zero_code h d.heard)
-    (ended_facts s c past n cache held e h (h.clients n).holds (own_ended n (running (Client n) (lines_of past)))
+    (ended_facts s c past n cache held e h (h.clients n).holds (own_ended n (running s (Client n) (lines_of past)))
     (λ g u found lasts. stored_of (find_cached g (c.clients n).cache) s c past n p act call f g b m i u e cache h d kept same told left (answered_file n n p zero_code past) (answered_reach n n p zero_code past f i up).seen
     (λ k j ne trusted y. (answered_reach n n p zero_code past k j (record { made = le_trans (le_of_eq ((h.clients n).made act d.running k (λ z. ne (same_fid-true f k (sym (same.scope k) ∙ (ap (λ (x : FsCall). is_in_scope x k) (sym same.asks) ∙ z)))) (inr trusted))) (omega arith); seen = y })).seen) (λ k. stays n k e past (answered_file n n p zero_code past k).grant refl)
     refl (sym (found-refreshed c.clock f g i b (c.clients n).cache) ∙ found) lasts)
@@ -663,10 +667,10 @@ takes_other s c past n p act m reply h d is =
     let last : (f : Fid) → last_version f (lines_of (e ∷ past)) ≡ last_version f (lines_of past) = λ f. (skips n zero_code es).last f _ in
     let held : ℕ = (h.floors n).held in
     let g : Ghost = holding h.floors n held in
-    moves s c past n g (takes_plain (Client n) x p call) h
+    moves s c past n g (takes_plain (Client n) x p call) h refl
     (tt, drops_good s n p act m past es (lines.Given p ∷ []) (λ own a b r. good_code s c past n p act m zero_code own h d (ap code_told is) a b r) refl refl refl)
     (drop_passes s c past n (was_given p) zero_code es (heard_dull s c past p m h d.heard))
-    (ended_facts s c past n cache held e h (h.clients n).holds (ended_running n zero_code es (lines.Given p ∷ lines_of past))
+    (ended_facts s c past n cache held e h (h.clients n).holds (ended_running s n zero_code es (lines.Given p ∷ lines_of past))
     (λ k u found lasts.
     let was = left_out (is_in_scope call) k x.cache u found in
     let out : InScope call k → ⊥ = λ z. yes_no (is_in_scope call k) z was.1 in
@@ -684,7 +688,7 @@ resends_goes s c past n p act m boot h d le runs =
     let x : ClientState = record (c.clients n) { boot = boot } in
     let ms : List Message = call_message (Client n) x act ∷ [] in
     let e : Entry = step_entry n (lines.Given p ∷ []) ms in
-    moves s c past n (h.floors n) (resends_step (Client n) (c.clients n) p act boot) h (tt, tt) (told_passes s c past n p m ms h d)
+    moves s c past n (h.floors n) (resends_step (Client n) (c.clients n) p act boot) h refl (tt, tt) (told_passes s c past n p m ms h d)
     (client_kept s c past n boot e h le (λ f. told_file n p f (actors.Node (Client n)) ms past) (λ f. told_reach n p f (actors.Node (Client n)) ms past) (told_act n p (actors.Node (Client n)) ms past) (λ f. refl))
     (λ head call f. call_known (view h.floors c n) boot head call f)
     (reply_still n (view h.floors c n) e past (λ f. told_file n p f (actors.Node (Client n)) ms past) (λ f. told_reach n p f (actors.Node (Client n)) ms past) (λ f. refl))

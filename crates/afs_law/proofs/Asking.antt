@@ -1,3 +1,4 @@
+use Rattle.afs_history.specs.declared.acts.Act.{Act}
 use Rattle.std.proofs.Common.{◌≡◌, ℕ, ◌+◌, ◌≤◌, ◌⊎◌, inl, inr, Bool, true, false, cond, List, [], ◌∷◌, Option, Some, None, refl, sym, ap, subst, ◌∙◌, arith, nat_eq, eqb-true, ◌++◌}
 use Rattle.std.specs.Prelude.{◌&&◌}
 use Rattle.afs_num.specs.Fids.{same_fid}
@@ -11,28 +12,29 @@ use Rattle.afs_num.specs.declared.calls.FsCall.{FsCall}
 use Rattle.afs_num.specs.declared.messages.Message.{Message}
 use Rattle.afs_ideal.specs.Operations.{volume_changed}
 use Rattle.afs_law.proofs.Backing.{Plain, backed_plain, seated_over, plain_step}
-use Rattle.afs_law.proofs.Basics.{found-first, Each, IfCall, ByClient, OfClient, by_client, both, same_fid-true, same_node-true, same_node-refl, node_apart, client_number, up_to_same, up_to_next, next_not, below_not, at_puts, each_map, if_call, raised_up_to, some_of, IfBack, IfDone, same_key-refl, OfCall, UpTo}
+use Rattle.afs_law.proofs.Basics.{at_put, found-first, Each, IfCall, ByClient, OfClient, by_client, both, same_fid-true, same_node-true, same_node-refl, node_apart, client_number, up_to_same, up_to_next, next_not, below_not, at_puts, each_map, if_call, raised_up_to, some_of, IfBack, IfDone, same_key-refl, OfCall, UpTo}
 use Rattle.afs_law.proofs.Edits.{index_in, fid_at, sound_same}
 use Rattle.afs_law.proofs.Facts.{Ghost, Seen, IsAged, server_boot, View, view_of, view, desk, last_key, LastRan, Reached, ReplyFact, ClientFacts, IsUntrusted, IsSafe, CallFact, CallIn, Holds, Goes, Reading, InScope, IsOne}
 use Rattle.afs_law.proofs.Owing.{BackIn, DoneIn, SeatedIn}
 use Rattle.afs_law.proofs.Passing.{PassesGrant, PassesFile, PassesAct, PassesReach, stays, PassesBoth, PassesSeen, current_over, reply_over, kept_over, client_still, News, more_sent, fallen_over, one_more}
 use Rattle.afs_law.proofs.Serving.{told_file, told_reach, told_act, reached_still}
 use Rattle.afs_law.proofs.Turning.{call_good}
-use Rattle.afs_law.specs.Acts.{Act, Open, at_fid}
-use Rattle.afs_law.specs.Callbacks.{put, replies_of}
-use Rattle.afs_law.specs.ClientRow.{used_first, the_server, find_cached, guest, call_of, call_head, call_message, asking, calls_step, ignores}
-use Rattle.afs_law.specs.Going.{asked, Going, began, with_read, read_on, ClientState}
+use Rattle.afs_rows.specs.Callbacks.{put, replies_of}
+use Rattle.afs_rows.specs.ClientRow.{used_first, the_server, find_cached, guest, call_of, call_head, call_message, asking, calls_step, ignores}
+use Rattle.afs_rows.specs.Going.{asked, Going, began, with_read, read_on, ClientState}
 use Rattle.afs_law.specs.Ideal.{last_version, HasVersion, Accepts, clock_of, reach, raised, is_zero_code, volume_after, call_in, call_under}
 use Rattle.afs_law.specs.Legal.{IsNew, AreGood, AreGoodReplies}
-use Rattle.afs_law.specs.Lines.{Line}
+use Rattle.afs_history.specs.declared.lines.Line.{Line}
 use Rattle.afs_law.specs.Past.{onto, lines_of, sent_of, given_message, running, CalledSince, IsCallUnder, has_begun, called_key, is_called, same_key, Sends}
-use Rattle.afs_law.specs.Runs.{Entry, Cell, message_at, client_moves}
-use Rattle.afs_law.specs.Scopes.{is_volume}
-use Rattle.afs_law.specs.States.{CacheEntry, Seat}
-use Rattle.afs_law.specs.Steps.{Step}
+use Rattle.afs_rows.specs.Runs.{locations, Entry, Cell, message_at, client_moves}
+use Rattle.afs_rows.specs.Scopes.{is_volume}
+use Rattle.afs_rows.specs.States.{CacheEntry, Seat}
+use Rattle.afs_rows.specs.Steps.{Step}
 use Rattle.afs_num.specs.declared.scripts.Script.{Script}
 use Rattle.afs_num.specs.declared.histories.Actor.TheVariants as actors
 use Rattle.afs_num.specs.declared.histories.Body.{Body}
+use Rattle.afs_num.specs.declared.histories.ReadBody.{ReadBody}
+use Rattle.afs_history.specs.declared.acts.Act.TheVariants as acts
 use Rattle.afs_num.specs.declared.histories.ReadSource.TheVariants.{Cached, Fetched}
 use Rattle.afs_num.specs.declared.histories.Version.{Version}
 use Rattle.std.proofs.Math.Nat.{le_refl}
@@ -40,7 +42,7 @@ use Rattle.afs_num.specs.declared.messages.Carried.{Carried}
 use Rattle.afs_num.specs.declared.calls.FsCall.TheVariants as calls
 use Rattle.afs_num.specs.declared.messages.Carried.TheVariants as carried
 use Rattle.afs_num.specs.declared.messages.Call.TheVariants as ask
-use Rattle.afs_law.specs.Lines as lines
+use Rattle.afs_history.specs.declared.lines.Line.TheVariants as lines
 
 -- The clients' steps.
 
@@ -83,8 +85,8 @@ calls_moved fl c n floor x sent w h = each_map (IfCall (CallIn (view fl c))) (If
 })) sent h
 
 -- what is known of what a client sends, and of what it keeps for the server
-pub record Fresh (c : Cell) (n : ℕ) (views : ℕ → View) (past : List Entry) (ms : List Message) : Type 0 where
-  pub news : News ms views c.server.boot past
+pub record Fresh (s : Script) (c : Cell) (n : ℕ) (views : ℕ → View) (past : List Entry) (ms : List Message) : Type 0 where
+  pub news : News s ms views c.server.boot past
   pub good : AreGoodReplies past ms
   pub calls : Each (IfBack (BackIn c.down c.backs.calls c.backs.last_call c.server.boot)) ms
   pub dones : Each (IfDone (DoneIn c.down c.backs.calls c.backs.last_call c.server.boot past)) ms
@@ -96,15 +98,15 @@ pub seat_put : (t : Bool) (c : Cell) (n j : ℕ) (x y : ClientState) (seat : Sea
 seat_put true c n j x y seat m past e at is a b = subst (λ (k : ℕ). SeatedIn c.down c.backs.calls c.backs.last_call c.server.boot past k m) (eqb-true n j e) (a seat m at is)
 seat_put false c n j x y seat m past e at is a b = b at
 
-pub moves_back : (s : Script) (c : Cell) (past : List Entry) (n : ℕ) (floor : Ghost) (st : Step ClientState) → (h : Holds s c past) → AreGood s (actors.Node (Client n)) past [] st.lines → Passes s n st.lines st.sent past
-    → ClientFacts n (view_after c n floor st.state) ((client_moves c n st).entry ∷ past)
+pub moves_back : (s : Script) (c : Cell) (past : List Entry) (n : ℕ) (floor : Ghost) (st : Step ClientState) → (h : Holds s c past) → st.state.table ≡ (c.clients n).table → AreGood s (actors.Node (Client n)) past [] st.lines → Passes s n st.lines st.sent past
+    → ClientFacts s n (view_after c n floor st.state) ((client_moves c n st).entry ∷ past)
     → ((head : Head) (call : FsCall) → CallFact (view h.floors c n) head call → CallFact (view_after c n floor st.state) head call)
     → ((m : Message) → ReplyFact n (view h.floors c n) past m → ReplyFact n (view_after c n floor st.state) ((client_moves c n st).entry ∷ past) m)
-    → Fresh c n (views_after h.floors c n floor st.state) ((client_moves c n st).entry ∷ past) st.sent → ((a : Going) → st.state.running ≡ Some a → has_begun (Client n) st.lines ≡ false → ((c.clients n).running ≡ Some a) ⊎ Reading (c.clients n).running) → KeepsSeat c n st.state.seat ((client_moves c n st).entry ∷ past) → Goes s past (client_moves c n st)
-moves_back s c past n floor st h good p own w q fresh went keeps =
+    → Fresh s c n (views_after h.floors c n floor st.state) ((client_moves c n st).entry ∷ past) st.sent → ((a : Going) → st.state.running ≡ Some a → has_begun (Client n) st.lines ≡ false → ((c.clients n).running ≡ Some a) ⊎ Reading (c.clients n).running) → KeepsSeat c n st.state.seat ((client_moves c n st).entry ∷ past) → Goes s past (client_moves c n st)
+moves_back s c past n floor st h table good p own w q fresh went keeps =
     let e : Entry = (client_moves c n st).entry in
     let last : (f : Fid) → last_version f (lines_of (e ∷ past)) ≡ last_version f (lines_of past) = λ f. p.last f (lines_of past) in
-    let now : (j : ℕ) → ClientFacts j (views_after h.floors c n floor st.state j) (e ∷ past) = λ j. at_mover h.floors c n floor st.state j (λ i v. ClientFacts i v (e ∷ past)) own (λ ne. client_still j (view h.floors c j) e past (p.file j ne) (p.reach j ne) (p.act j ne) last (h.clients j)) in
+    let now : (j : ℕ) → ClientFacts s j (views_after h.floors c n floor st.state j) (e ∷ past) = λ j. at_mover h.floors c n floor st.state j (λ i v. ClientFacts s i v (e ∷ past)) own (λ ne. client_still j (view h.floors c j) e past (p.file j ne) (p.reach j ne) (p.act j ne) last (h.clients j)) in
     let b = h.backs refl in
     record {
       good = good;
@@ -113,6 +115,7 @@ moves_back s c past n floor st h good p own w q fresh went keeps =
       holds = record {
         floors = put n floor h.floors;
         count = h.count;
+        tables = λ j. at_put n j (λ (x : ClientState). x.table ≡ locations s) st.state c.clients (λ e. table ∙ h.tables n) (λ ne. h.tables j);
         ideal = λ id. h.ideal id ∙ sym (p.ideal id);
         fine = h.fine;
         sound = λ id. sound_same id _ (lines_of past) (lines_of (e ∷ past)) (λ a u. last (fid_at id a u)) (h.sound id);
@@ -122,7 +125,7 @@ moves_back s c past n floor st h good p own w q fresh went keeps =
         booted = h.booted;
         boots = p.boot (lines_of past) ∙ h.boots;
         clients = now;
-        sent = more_sent c.sent (replies_of c.backs.held) (replies_of c.backs.held) (view h.floors c) (views_after h.floors c n floor st.state) c.server.boot c.server.boot e past h.sent (le_refl _) now (λ j a. at_mover h.floors c n floor st.state j (λ i v. v.running ≡ Some a → has_begun (Client i) e.lines ≡ false → (running (Client i) (lines_of past) ≡ Some a) ⊎ Reading (running (Client i) (lines_of past))) (λ x z. elim (went a x z) [ inl y ↦ inl ((h.clients n).runs a y) | inr y ↦ inr (record { act = y.act; runs = (h.clients n).runs y.act y.runs; read = y.read }) ]) (λ ne x z. inl ((h.clients j).runs a x))) (calls_moved h.floors c n floor st.state c.sent w h.sent.calls)
+        sent = more_sent c.sent (replies_of c.backs.held) (replies_of c.backs.held) (view h.floors c) (views_after h.floors c n floor st.state) c.server.boot c.server.boot e past h.sent (le_refl _) now (λ j a. at_mover h.floors c n floor st.state j (λ i v. v.running ≡ Some a → has_begun (Client i) e.lines ≡ false → (running s (Client i) (lines_of past) ≡ Some a) ⊎ Reading (running s (Client i) (lines_of past))) (λ x z. elim (went a x z) [ inl y ↦ inl ((h.clients n).runs a y) | inr y ↦ inr (record { act = y.act; runs = (h.clients n).runs y.act y.runs; read = y.read }) ]) (λ ne x z. inl ((h.clients j).runs a x))) (calls_moved h.floors c n floor st.state c.sent w h.sent.calls)
             (λ j m. at_mover h.floors c n floor st.state j (λ i v. ReplyFact i (view h.floors c i) past m → ReplyFact i v (e ∷ past) m) (q m)
             (λ ne. reply_over j (view h.floors c j) m e past (λ f. (p.file j ne f).grant) (p.reach j ne) (λ f. stays j f e past (p.file j ne f).grant (last f)))) (λ held. (fresh.news, held));
         down = fallen_over c.down c.server c.sent st.sent e past h.down;
@@ -138,15 +141,15 @@ pub old_seat : (s : Script) (c : Cell) (past : List Entry) (n : ℕ) (e : Entry)
 old_seat s c past n e p h seat m x y = seated_over c.down c.down c.backs c.backs c.server.boot c.clock c.clock e past (plain_step c.down c.backs c.clock c.clock e past p (le_refl _)) n m ((h.backs refl).seated n seat m x y)
 
 -- the client keeps what it kept for the server
-pub moves : (s : Script) (c : Cell) (past : List Entry) (n : ℕ) (floor : Ghost) (st : Step ClientState) → (h : Holds s c past) → AreGood s (actors.Node (Client n)) past [] st.lines → Passes s n st.lines st.sent past
-    → ClientFacts n (view_after c n floor st.state) ((client_moves c n st).entry ∷ past)
+pub moves : (s : Script) (c : Cell) (past : List Entry) (n : ℕ) (floor : Ghost) (st : Step ClientState) → (h : Holds s c past) → st.state.table ≡ (c.clients n).table → AreGood s (actors.Node (Client n)) past [] st.lines → Passes s n st.lines st.sent past
+    → ClientFacts s n (view_after c n floor st.state) ((client_moves c n st).entry ∷ past)
     → ((head : Head) (call : FsCall) → CallFact (view h.floors c n) head call → CallFact (view_after c n floor st.state) head call)
     → ((m : Message) → ReplyFact n (view h.floors c n) past m → ReplyFact n (view_after c n floor st.state) ((client_moves c n st).entry ∷ past) m)
-    → Fresh c n (views_after h.floors c n floor st.state) ((client_moves c n st).entry ∷ past) st.sent → ((a : Going) → st.state.running ≡ Some a → has_begun (Client n) st.lines ≡ false → ((c.clients n).running ≡ Some a) ⊎ Reading (c.clients n).running) → st.state.seat ≡ (c.clients n).seat → Goes s past (client_moves c n st)
-moves s c past n floor st h good p own w q fresh went same = moves_back s c past n floor st h good p own w q fresh went (λ seat m x y. old_seat s c past n (client_moves c n st).entry p.plain h seat m (sym same ∙ x) y)
+    → Fresh s c n (views_after h.floors c n floor st.state) ((client_moves c n st).entry ∷ past) st.sent → ((a : Going) → st.state.running ≡ Some a → has_begun (Client n) st.lines ≡ false → ((c.clients n).running ≡ Some a) ⊎ Reading (c.clients n).running) → st.state.seat ≡ (c.clients n).seat → Goes s past (client_moves c n st)
+moves s c past n floor st h table good p own w q fresh went same = moves_back s c past n floor st h table good p own w q fresh went (λ seat m x y. old_seat s c past n (client_moves c n st).entry p.plain h seat m (sym same ∙ x) y)
 
-pub nothing_new : {c : Cell} → {n : ℕ} → (views : ℕ → View) (past : List Entry) → Fresh c n views past []
-nothing_new views past = record { good = tt; calls = tt; dones = tt; news = record { calls = tt; replies = tt; notices = tt; origins = tt; acts = tt; lasts = tt; ones = tt; to_clients = tt } }
+pub nothing_new : {s : Script} → {c : Cell} → {n : ℕ} → (views : ℕ → View) (past : List Entry) → Fresh s c n views past []
+nothing_new {s} views past = record { good = tt; calls = tt; dones = tt; news = record { calls = tt; replies = tt; notices = tt; origins = tt; acts = tt; lasts = tt; ones = tt; to_clients = tt } }
 
 -- ---- the message that a client is given
 
@@ -182,7 +185,7 @@ other_client n j ne = node_apart (Client n) (Client j) (λ q. ne (client_number 
 pub runs_by_other : (n j : ℕ) (a o : Option Going) → (n ≡ j → ⊥) → cond (same_node (Client n) (Client j)) a o ≡ o
 runs_by_other n j a o ne = rw (other_client n j ne) refl
 
-pub reads_by_other : (n j : ℕ) (f : Fid) (b : Body) (o : Option Going) → (n ≡ j → ⊥) → read_on (same_node (Client n) (Client j)) f b o ≡ o
+pub reads_by_other : (n j : ℕ) (f : Fid) (b : ReadBody) (o : Option Going) → (n ≡ j → ⊥) → read_on (same_node (Client n) (Client j)) f b o ≡ o
 reads_by_other n j f b o ne = rw (other_client n j ne) refl
 
 pub has_not_begun : (n j : ℕ) → (n ≡ j → ⊥) → cond (same_node (Client n) (Client j)) true false ≡ false
@@ -214,7 +217,7 @@ pub begin_passes : (s : Script) (n : ℕ) (a : Act) (ms : List Message) (past : 
 begin_passes s n a ms past = record {
   file = λ j ne f. begin_file n j a ms past f;
   reach = λ j ne f. begin_reach n j a ms past f;
-  act = λ j ne. record { runs = λ l. runs_by_other n j (Some (began a)) (running (Client j) l) ne; begins = has_not_begun n j ne };
+  act = λ j ne. record { runs = λ s l. runs_by_other n j (Some (began (locations s) a)) (running s (Client j) l) ne; begins = has_not_begun n j ne };
   last = λ f o. refl;
   back = λ f i b o x. x;
   new = λ k o x. x;
@@ -226,14 +229,14 @@ begin_passes s n a ms past = record {
   dull = λ k boot x. x;
 }
 
-abbrev pub shown_lines : ℕ → Act → Fid → ℕ → Body → Code → List Line
+abbrev pub shown_lines : ℕ → Act → Fid → ℕ → ReadBody → Code → List Line
 shown_lines n a f i b code = lines.Begin (Client n) a ∷ lines.Read (Client n) f i Cached b ∷ lines.Answer (Client n) code ∷ []
 
-pub shown_file : (n j i : ℕ) (a : Act) (f g : Fid) (b : Body) (code : Code) (past : List Entry) → PassesFile j g (step_entry n (shown_lines n a f i b code) []) past
+pub shown_file : (n j i : ℕ) (a : Act) (f g : Fid) (b : ReadBody) (code : Code) (past : List Entry) → PassesFile j g (step_entry n (shown_lines n a f i b code) []) past
 shown_file n j i a f g b code past = record { grant = record { version = λ k x l y. y; dropped = λ q l d. d; withdrawn = λ q l w. w }; fetched = refl }
 
 -- a read raises what its client has seen of its fid
-pub shown_reach : (n j i : ℕ) (a : Act) (f g : Fid) (b : Body) (code : Code) (past : List Entry) (k : ℕ) → (same_node (Client n) (Client j) ≡ true → same_fid f g ≡ true → i ≤ k) → Reached (Client j) g k past → Reached (Client j) g k (step_entry n (shown_lines n a f i b code) [] ∷ past)
+pub shown_reach : (n j i : ℕ) (a : Act) (f g : Fid) (b : ReadBody) (code : Code) (past : List Entry) (k : ℕ) → (same_node (Client n) (Client j) ≡ true → same_fid f g ≡ true → i ≤ k) → Reached (Client j) g k past → Reached (Client j) g k (step_entry n (shown_lines n a f i b code) [] ∷ past)
 shown_reach n j i a f g b code past k le h =
     let r = reach (Client j) g past in
     record {
@@ -247,18 +250,18 @@ pub not_client : (n j : ℕ) → (n ≡ j → ⊥) → same_node (Client n) (Cli
 not_client n j ne t = ne (client_number n j (same_node-true (Client n) (Client j) t))
 
 -- what is seen, where the read shows no fid that counts above its index
-pub shown_seen : (n j i : ℕ) (a : Act) (f g : Fid) (b : Body) (code : Code) (past : List Entry) (k : ℕ) → (same_node (Client n) (Client j) ≡ true → same_fid f g ≡ true → i ≤ k) → cond (same_node (Client n) (Client j)) 0 (reach (Client j) g past).made ≤ k ⊎ (same_node (Client n) (Client j) ≡ true → ⊥) → Seen j g k past → Seen j g k (step_entry n (shown_lines n a f i b code) [] ∷ past)
+pub shown_seen : (n j i : ℕ) (a : Act) (f g : Fid) (b : ReadBody) (code : Code) (past : List Entry) (k : ℕ) → (same_node (Client n) (Client j) ≡ true → same_fid f g ≡ true → i ≤ k) → cond (same_node (Client n) (Client j)) 0 (reach (Client j) g past).made ≤ k ⊎ (same_node (Client n) (Client j) ≡ true → ⊥) → Seen j g k past → Seen j g k (step_entry n (shown_lines n a f i b code) [] ∷ past)
 shown_seen n j i a f g b code past k le m h =
     let r = reach (Client j) g past in
     raised_up_to (same_node (Client n) (Client j) && is_zero_code code) (cond (same_node (Client n) (Client j)) 0 r.made) (raised (same_node (Client n) (Client j) && same_fid f g) i r.seen) k
     (λ t. either_le _ k _ m (both (same_node (Client n) (Client j)) (is_zero_code code) t).0)
     (raised_up_to (same_node (Client n) (Client j) && same_fid f g) i r.seen k (λ t. let q = both (same_node (Client n) (Client j)) (same_fid f g) t in le q.0 q.1) h)
 
-pub shown_passes : (s : Script) (n i : ℕ) (a : Act) (f : Fid) (b : Body) (code : Code) (past : List Entry) → Passes s n (shown_lines n a f i b code) [] past
+pub shown_passes : (s : Script) (n i : ℕ) (a : Act) (f : Fid) (b : ReadBody) (code : Code) (past : List Entry) → Passes s n (shown_lines n a f i b code) [] past
 shown_passes s n i a f b code past = record {
   file = λ j ne g. shown_file n j i a f g b code past;
   reach = λ j ne g. record { both = λ k h. shown_reach n j i a f g b code past k (λ t u. absurd (not_client n j ne t)) h; seen = λ k h. shown_seen n j i a f g b code past k (λ t u. absurd (not_client n j ne t)) (inr (not_client n j ne)) h; made = λ h. reset_none (same_node (Client n) (Client j)) (reach (Client j) g past).made h };
-  act = λ j ne. record { runs = λ l. runs_by_other n j None _ ne ∙ (reads_by_other n j f b _ ne ∙ runs_by_other n j (Some (began a)) (running (Client j) l) ne); begins = has_not_begun n j ne };
+  act = λ j ne. record { runs = λ s l. runs_by_other n j None _ ne ∙ (reads_by_other n j f b _ ne ∙ runs_by_other n j (Some (began (locations s) a)) (running s (Client j) l) ne); begins = has_not_begun n j ne };
   last = λ g o. refl;
   back = λ g k x o y. y;
   new = λ k o x. x;
@@ -287,7 +290,7 @@ pub answered_passes : (s : Script) (c : Cell) (past : List Entry) (n p : ℕ) (m
 answered_passes s c past n p m code h d = record {
   file = λ j ne f. answered_file n j p code past f;
   reach = λ j ne f. record { both = answered_reach n j p code past f; seen = answered_seen n j p code past f (λ t z. not_client n j ne t); made = λ x. x };
-  act = λ j ne. record { runs = λ l. runs_by_other n j None (running (Client j) l) ne; begins = refl };
+  act = λ j ne. record { runs = λ s l. runs_by_other n j None (running s (Client j) l) ne; begins = refl };
   last = λ f o. refl;
   back = λ f i b o x. x;
   new = λ k o x. x;
@@ -299,7 +302,7 @@ answered_passes s c past n p m code h d = record {
   dull = heard_dull s c past p m h d;
 }
 
-abbrev pub used_lines : ℕ → ℕ → Fid → ℕ → Body → Code → List Line
+abbrev pub used_lines : ℕ → ℕ → Fid → ℕ → ReadBody → Code → List Line
 used_lines n p f i b code = lines.Given p ∷ lines.Read (Client n) f i Fetched b ∷ lines.Answer (Client n) code ∷ []
 
 pub used_by : (a b : Bool) → (a ≡ true → b ≡ true → ⊥) → cond (a && b) true false ≡ false
@@ -307,13 +310,13 @@ used_by true true h = absurd (h refl refl)
 used_by true false h = refl
 used_by false b h = refl
 
-pub used_grant : (n j p i : ℕ) (f g : Fid) (b : Body) (code : Code) (past : List Entry) → PassesGrant j g (step_entry n (used_lines n p f i b code) []) past
+pub used_grant : (n j p i : ℕ) (f g : Fid) (b : ReadBody) (code : Code) (past : List Entry) → PassesGrant j g (step_entry n (used_lines n p f i b code) []) past
 used_grant n j p i f g b code past = record { version = λ k x l y. y; dropped = λ q l d. d; withdrawn = λ q l w. w }
 
-pub used_file : (n j p i : ℕ) (f g : Fid) (b : Body) (code : Code) (past : List Entry) → (n ≡ j → f ≡ g → ⊥) → PassesFile j g (step_entry n (used_lines n p f i b code) []) past
+pub used_file : (n j p i : ℕ) (f g : Fid) (b : ReadBody) (code : Code) (past : List Entry) → (n ≡ j → f ≡ g → ⊥) → PassesFile j g (step_entry n (used_lines n p f i b code) []) past
 used_file n j p i f g b code past ne = record { grant = used_grant n j p i f g b code past; fetched = used_by (same_node (Client n) (Client j)) (same_fid f g) (λ x y. ne (client_number n j (same_node-true (Client n) (Client j) x)) (same_fid-true f g y)) }
 
-pub used_reach : (n j p i : ℕ) (f g : Fid) (b : Body) (code : Code) (past : List Entry) (k : ℕ) → (same_node (Client n) (Client j) ≡ true → same_fid f g ≡ true → i ≤ k) → Reached (Client j) g k past → Reached (Client j) g k (step_entry n (used_lines n p f i b code) [] ∷ past)
+pub used_reach : (n j p i : ℕ) (f g : Fid) (b : ReadBody) (code : Code) (past : List Entry) (k : ℕ) → (same_node (Client n) (Client j) ≡ true → same_fid f g ≡ true → i ≤ k) → Reached (Client j) g k past → Reached (Client j) g k (step_entry n (used_lines n p f i b code) [] ∷ past)
 used_reach n j p i f g b code past k le h =
     let r = reach (Client j) g past in
     record {
@@ -322,17 +325,17 @@ used_reach n j p i f g b code past k le h =
           (raised_up_to (same_node (Client n) (Client j) && same_fid f g) i r.seen k (λ t. let q = both (same_node (Client n) (Client j)) (same_fid f g) t in le q.0 q.1) h.seen);
     }
 
-used_seen : (n j p i : ℕ) (f g : Fid) (b : Body) (code : Code) (past : List Entry) → (same_node (Client n) (Client j) ≡ true → ⊥) → PassesSeen j g (step_entry n (used_lines n p f i b code) []) past
+used_seen : (n j p i : ℕ) (f g : Fid) (b : ReadBody) (code : Code) (past : List Entry) → (same_node (Client n) (Client j) ≡ true → ⊥) → PassesSeen j g (step_entry n (used_lines n p f i b code) []) past
 used_seen n j p i f g b code past ne k h =
     let r = reach (Client j) g past in
     raised_up_to (same_node (Client n) (Client j) && is_zero_code code) r.made (raised (same_node (Client n) (Client j) && same_fid f g) i r.seen) k (λ t. absurd (ne (both (same_node (Client n) (Client j)) (is_zero_code code) t).0))
     (raised_up_to (same_node (Client n) (Client j) && same_fid f g) i r.seen k (λ t. absurd (ne (both (same_node (Client n) (Client j)) (same_fid f g) t).0)) h)
 
-pub used_passes : (s : Script) (c : Cell) (past : List Entry) (n p i : ℕ) (f : Fid) (b : Body) (code : Code) (m : Message) → Holds s c past → Heard c p m → Passes s n (used_lines n p f i b code) [] past
+pub used_passes : (s : Script) (c : Cell) (past : List Entry) (n p i : ℕ) (f : Fid) (b : ReadBody) (code : Code) (m : Message) → Holds s c past → Heard c p m → Passes s n (used_lines n p f i b code) [] past
 used_passes s c past n p i f b code m h d = record {
   file = λ j ne g. used_file n j p i f g b code past (λ q x. ne q);
   reach = λ j ne g. record { both = λ k x. used_reach n j p i f g b code past k (λ t u. absurd (not_client n j ne t)) x; seen = used_seen n j p i f g b code past (not_client n j ne); made = λ x. x };
-  act = λ j ne. record { runs = λ l. runs_by_other n j None _ ne ∙ reads_by_other n j f b (running (Client j) l) ne; begins = refl };
+  act = λ j ne. record { runs = λ s l. runs_by_other n j None _ ne ∙ reads_by_other n j f b (running s (Client j) l) ne; begins = refl };
   last = λ g o. refl;
   back = λ g k x o y. y;
   new = λ k o x. x;
@@ -348,9 +351,9 @@ used_passes s c past n p i f b code m h d = record {
 
 -- the client keeps its call and its act, over lines that change nothing of it
 pub client_kept : (s : Script) (c : Cell) (past : List Entry) (n boot : ℕ) (e : Entry) → (h : Holds s c past) → boot ≤ c.server.boot → ((f : Fid) → PassesFile n f e past) → ((f : Fid) → PassesReach n f e past) → PassesAct n e past → ((f : Fid) → last_version f (lines_of (e ∷ past)) ≡ last_version f (lines_of past))
-    → ClientFacts n (record (view h.floors c n) { known = boot }) (e ∷ past)
+    → ClientFacts s n (record (view h.floors c n) { known = boot }) (e ∷ past)
 client_kept s c past n boot e h le p q t l =
-    let d : ClientFacts n (view h.floors c n) (e ∷ past) = client_still n (view h.floors c n) e past p q t l (h.clients n) in
+    let d : ClientFacts s n (view h.floors c n) (e ∷ past) = client_still n (view h.floors c n) e past p q t l (h.clients n) in
     record { behind = d.behind; behind_durable = d.behind_durable; lower = d.lower; kept = d.kept; stored = d.stored; known = le; floored = d.floored; holds = d.holds; waits = d.waits; idle = d.idle; made = d.made; current = d.current; runs = d.runs; asked = d.asked; reached = d.reached }
 
 pub reply_still : (j : ℕ) (v : View) (e : Entry) (past : List Entry) → ((f : Fid) → PassesFile j f e past) → ((f : Fid) → PassesReach j f e past) → ((f : Fid) → last_version f (lines_of (e ∷ past)) ≡ last_version f (lines_of past)) → (m : Message) → ReplyFact j v past m → ReplyFact j v (e ∷ past) m
@@ -362,7 +365,7 @@ call_known v boot head call f = record { behind = f.behind; booted = f.booted; s
 pub quiet : (s : Script) (c : Cell) (past : List Entry) (n p : ℕ) (m : Message) → Holds s c past → Heard c p m → Goes s past (client_moves c n (ignores (c.clients n) p))
 quiet s c past n p m h d =
     let e : Entry = step_entry n (lines.Given p ∷ []) [] in
-    moves s c past n (h.floors n) (ignores (c.clients n) p) h (tt, tt) (told_passes s c past n p m [] h d)
+    moves s c past n (h.floors n) (ignores (c.clients n) p) h refl (tt, tt) (told_passes s c past n p m [] h d)
     (client_still n (view h.floors c n) e past (λ f. told_file n p f (actors.Node (Client n)) [] past) (λ f. told_reach n p f (actors.Node (Client n)) [] past) (told_act n p (actors.Node (Client n)) [] past) (λ f. refl) (h.clients n))
     (λ head call f. f) (reply_still n (view h.floors c n) e past (λ f. told_file n p f (actors.Node (Client n)) [] past) (λ f. told_reach n p f (actors.Node (Client n)) [] past) (λ f. refl)) (nothing_new _ _) (λ a x z. inl x) refl
 
@@ -458,9 +461,9 @@ called_one n k user call S (e ∷ past) node (inl x) h = sends_one n k user call
 called_one n k user call S (e ∷ past) node (inr x) h = called_one n k user call S past node x.1 (each_front (IfCall (IsOne S)) (sent_of past) e.sent h).0
 
 -- the message of a call that the client sends now
-pub own_call : (fl : ℕ → Ghost) (c : Cell) (past : List Entry) (n : ℕ) (floor : Ghost) (x : ClientState) (act : Going) (ls : List Line) → x.boot ≤ c.server.boot → x.running ≡ Some act → running (Client n) (onto (lines_of past) ls) ≡ Some act → call_under (called_key (call_head (Client n) x act)) (sent_of past ++ call_message (Client n) x act ∷ []) ≡ Some (guest, call_of act)
-    → Fresh c n (views_after fl c n floor x) (step_entry n ls (call_message (Client n) x act ∷ []) ∷ past) (call_message (Client n) x act ∷ [])
-own_call fl c past n floor x act ls le runs at one = record {
+pub own_call : {s : Script} → (fl : ℕ → Ghost) (c : Cell) (past : List Entry) (n : ℕ) (floor : Ghost) (x : ClientState) (act : Going) (ls : List Line) → x.boot ≤ c.server.boot → x.running ≡ Some act → running s (Client n) (onto (lines_of past) ls) ≡ Some act → call_under (called_key (call_head (Client n) x act)) (sent_of past ++ call_message (Client n) x act ∷ []) ≡ Some (guest, call_of act)
+    → Fresh s c n (views_after fl c n floor x) (step_entry n ls (call_message (Client n) x act ∷ []) ∷ past) (call_message (Client n) x act ∷ [])
+own_call {s} fl c past n floor x act ls le runs at one = record {
   good = (call_good _ (call_head (Client n) x act) guest (call_of act), tt);
   calls = (tt, tt);
   dones = (tt, tt);
@@ -517,7 +520,7 @@ same_one s c past n act ms h runs =
 
 pub asks : (s : Script) (c : Cell) (past : List Entry) (n : ℕ) (act : Going) (l : Line) → Holds s c past → AreGood s (actors.Node (Client n)) past [] (l ∷ []) → Passes s n (l ∷ []) (call_message (Client n) (asking (c.clients n) act) act ∷ []) past
     → ((f : Fid) → PassesFile n f (step_entry n (l ∷ []) (call_message (Client n) (asking (c.clients n) act) act ∷ [])) past) → ((f : Fid) → PassesReach n f (step_entry n (l ∷ []) (call_message (Client n) (asking (c.clients n) act) act ∷ [])) past)
-    → ((f : Fid) → (InScope (asked act) f → ⊥) → (reach (Client n) f (step_entry n (l ∷ []) (call_message (Client n) (asking (c.clients n) act) act ∷ []) ∷ past)).made ≡ 0) → ((a : Going) → (c.clients n).running ≡ Some a → volume_changed (asked a) ≡ None) → running (Client n) (l ∷ lines_of past) ≡ Some act → (has_begun (Client n) (l ∷ []) ≡ false → (c.clients n).running ≡ Some act) → Goes s past (client_moves c n (calls_step (Client n) (c.clients n) act l))
+    → ((f : Fid) → (InScope (asked act) f → ⊥) → (reach (Client n) f (step_entry n (l ∷ []) (call_message (Client n) (asking (c.clients n) act) act ∷ []) ∷ past)).made ≡ 0) → ((a : Going) → (c.clients n).running ≡ Some a → volume_changed (asked a) ≡ None) → running s (Client n) (l ∷ lines_of past) ≡ Some act → (has_begun (Client n) (l ∷ []) ≡ false → (c.clients n).running ≡ Some act) → Goes s past (client_moves c n (calls_step (Client n) (c.clients n) act l))
 asks s c past n act l h good p q r none shut at went =
     let d = h.clients n in
     let x : ClientState = asking (c.clients n) act in
@@ -533,7 +536,7 @@ asks s c past n act l h good p q r none shut at went =
       tied = f.tied;
       answers = λ b runs y k. absurd (next_not _ _ _ _ f.behind y k);
     } in
-    moves s c past n g (calls_step (Client n) (c.clients n) act l) h good p
+    moves s c past n g (calls_step (Client n) (c.clients n) act l) h refl good p
     (record {
       behind = λ seat y. up_to_next _ _ _ _ (d.behind seat y);
       behind_durable = λ seat y. up_to_next _ _ _ _ (d.behind_durable seat y);
@@ -569,11 +572,11 @@ own_begun n act o = rw (same_node-refl (Client n)) refl
 pub own_zero : (n m : ℕ) → cond (same_node (Client n) (Client n)) 0 m ≡ 0
 own_zero n m = rw (same_node-refl (Client n)) refl
 
-pub begins_now : (n : ℕ) (S : Type 0) → has_begun (Client n) (lines.Begin (Client n) (Open (at_fid (record { volume = 0; vnode = 0; unique = 0 }))) ∷ []) ≡ false → S
+pub begins_now : (n : ℕ) (S : Type 0) → has_begun (Client n) (lines.Begin (Client n) acts.GiveUp ∷ []) ≡ false → S
 begins_now n S e = let yes : same_node (Client n) (Client n) ≡ true = same_node-refl (Client n) in absurd cc
 
-pub idle_asks : (s : Script) (c : Cell) (past : List Entry) (n : ℕ) (act : Act) → Holds s c past → (c.clients n).running ≡ None → Goes s past (client_moves c n (calls_step (Client n) (c.clients n) (began act) (lines.Begin (Client n) act)))
-idle_asks s c past n act h none = asks s c past n (began act) (lines.Begin (Client n) act) h (refl, tt) (begin_passes s n act _ past) (begin_file n n act _ past) (begin_reach n n act _ past) (λ f o. own_zero n (reach (Client n) f past).made) (λ a e. absurd cc) (own_begun n (began act) (running (Client n) (lines_of past))) (λ z. begins_now n _ z)
+pub idle_asks : (s : Script) (c : Cell) (past : List Entry) (n : ℕ) (act : Act) → Holds s c past → (c.clients n).running ≡ None → Goes s past (client_moves c n (calls_step (Client n) (c.clients n) (began (locations s) act) (lines.Begin (Client n) act)))
+idle_asks s c past n act h none = asks s c past n (began (locations s) act) (lines.Begin (Client n) act) h (refl, tt) (begin_passes s n act _ past) (begin_file n n act _ past) (begin_reach n n act _ past) (λ f o. own_zero n (reach (Client n) f past).made) (λ a e. absurd cc) (own_begun n (began (locations s) act) (running s (Client n) (lines_of past))) (λ z. begins_now n _ z)
 
 -- ---- entries that are used
 
@@ -587,5 +590,5 @@ used_found g u cache v at found = elim (found-first g u cache v found) [
   | inr q ↦ q.1
 ]
 
-pub own_read : (n : ℕ) (f : Fid) (b : Body) (g : Going) (o : Option Going) → o ≡ Some g → read_on (same_node (Client n) (Client n)) f b o ≡ Some (with_read f b g)
+pub own_read : (n : ℕ) (f : Fid) (b : ReadBody) (g : Going) (o : Option Going) → o ≡ Some g → read_on (same_node (Client n) (Client n)) f b o ≡ Some (with_read f b g)
 own_read n f b g o e = rw (same_node-refl (Client n), e) refl

@@ -14,15 +14,15 @@ use Rattle.afs_num.specs.declared.messages.Message.{Message}
 use Rattle.afs_law.proofs.Basics.{both, same_node-refl, Above, Each, IfBack, IfDone, each_more, each_map, if_back, if_done}
 use Rattle.afs_law.proofs.Owing.{AllOf, all_map, IsGranted, IsIn, IsNumberIn, AccountedBy, WaitedBy, AllWaitedBy, HeldWaits, IsOwed, CallOut, BackIn, DroppedOwe, IsDone, DoneIn, SeatedIn, BackedIn, Promised, Numbered}
 use Rattle.afs_law.specs.Breaks.{HasStopped, HasSettled, HasDrop, HasTimeout, last_grant, HasCome, Owes, AllOwes, EndedBy, OweAt, live_grant, is_on, last_number}
-use Rattle.afs_law.specs.Callbacks.{Promise, Owed, BackCall, Held, Backs, is_held, key_answered, breaks_call}
-use Rattle.afs_law.specs.ClientRow.{the_server}
+use Rattle.afs_rows.specs.Callbacks.{Promise, Owed, BackCall, Held, Backs, is_held, key_answered, breaks_call}
+use Rattle.afs_rows.specs.ClientRow.{the_server}
 use Rattle.afs_law.specs.Legal.{HasChange}
-use Rattle.afs_law.specs.Lines.{Line}
+use Rattle.afs_history.specs.declared.lines.Line.{Line}
 use Rattle.afs_law.specs.Past.{onto, lines_on, lines_of}
-use Rattle.afs_law.specs.Runs.{Entry, Fall}
-use Rattle.afs_law.specs.States.{Seat}
+use Rattle.afs_rows.specs.Runs.{Entry, Fall}
+use Rattle.afs_rows.specs.States.{Seat}
 use Rattle.afs_model.specs.Calls.{call_seat}
-use Rattle.afs_law.specs.Lines as lines
+use Rattle.afs_history.specs.declared.lines.Line.TheVariants as lines
 
 -- ---- lines
 

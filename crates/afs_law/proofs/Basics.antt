@@ -1,10 +1,10 @@
 use Rattle.afs_num.specs.declared.histories.Body.{Body}
-use Rattle.afs_law.specs.Callbacks.{put}
-use Rattle.afs_law.specs.ClientRow.{find_cached, used_first, is_trusted, refreshed}
+use Rattle.afs_rows.specs.Callbacks.{put}
+use Rattle.afs_rows.specs.ClientRow.{find_cached, used_first, is_trusted, refreshed}
 use Rattle.afs_law.specs.Ideal.{raised}
 use Rattle.afs_law.specs.Past.{same_key}
-use Rattle.afs_law.specs.Runs.{message_at}
-use Rattle.afs_law.specs.States.{CacheEntry}
+use Rattle.afs_rows.specs.Runs.{message_at}
+use Rattle.afs_rows.specs.States.{CacheEntry}
 use Rattle.afs_model.proofs.Keyed.{IsExact, found_own, at_last}
 use Rattle.afs_model.specs.Calls.{CallSeat, Admitted, runs, kept, older, pair_below, caller_of, call_seat, call_seated, repeated, paired}
 use Rattle.std.proofs.Common.{◌≡◌, ℕ, zero, suc, ◌+◌, ◌<◌, ◌≤◌, ◌⊎◌, inl, inr, Bool, true, false, cond, eqb, ltb, not, List, [], ◌∷◌, ◌++◌, map, Option, Some, None, refl, sym, ap, subst, ◌∙◌, arith, eq-eqb, eqb-true, ltb-true, ltb-false}

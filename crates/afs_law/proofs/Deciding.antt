@@ -17,16 +17,16 @@ use Rattle.afs_law.proofs.Saving.{versions_lines, versioned_front, saves_clock, 
 use Rattle.afs_law.proofs.Serving.{shows_goes, answered_goes, noticed_goes, nothing_done, quiet, acts_alone, still_loads, given_plain, Loads, up_backed, seats_of, Gives, noted, Dull, at_told, client_head, Now, call_at, taken, seats_after, views_after, ran_now, served_cell, unheard_later, refuses_goes}
 use Rattle.afs_law.proofs.Turning.{Pumps, pumps, put_call, break_good}
 use Rattle.afs_law.specs.Breaks.{HasStopped, last_number}
-use Rattle.afs_law.specs.Callbacks.{retries, quits, Backs, Held, Turn, BackCall, replies_of, pumped, expired, turn_for, no_turn, repeats_by, is_held, key_answered, is_seat_of, risen_turn, owes_all, alls, put}
-use Rattle.afs_law.specs.ClientRow.{the_server}
-use Rattle.afs_law.specs.Going.{asked}
+use Rattle.afs_rows.specs.Callbacks.{retries, quits, Backs, Held, Turn, BackCall, replies_of, pumped, expired, turn_for, no_turn, repeats_by, is_held, key_answered, is_seat_of, risen_turn, owes_all, alls, put}
+use Rattle.afs_rows.specs.ClientRow.{the_server}
+use Rattle.afs_rows.specs.Going.{asked}
 use Rattle.afs_law.specs.Ideal.{is_zero_code, clock_of}
 use Rattle.afs_law.specs.Legal.{IsChanging, code_given, AreGood, IsNew, HasChange, versions_first, IsTold, answer_at, answer_on, GoodRestart, op_on}
-use Rattle.afs_law.specs.Lines.{Line}
+use Rattle.afs_history.specs.declared.lines.Line.{Line}
 use Rattle.afs_law.specs.Past.{onto, lines_of, sent_of, given_message, called_key, IsCallUnder}
-use Rattle.afs_law.specs.Runs.{begun_by_disk, Entry, Cell, message_at, Armed, unarmed, Luck, Blow, struck, lowered, Fall, at_rest, in_step, in_boot, settled, Outcome, comes_up, fails_early, fails_midway, is_full, server_rises, server_ends, server_falls, blow_line, server_stopped, server_restarted, server_served, server_given, server_adds, server_does, back_timed, server_timed, server_wakes}
-use Rattle.afs_law.specs.ServerRow.{begun_after, begun_before, not_served, serves_call, shows, Reading, no_room, revived, device_calls, promise_ticks, decides, Decision, drops, tells_boot, repeats, refuses, saves, admits, called, hears, boot_told, versioned, Change, decided, in_volume, with_volume}
-use Rattle.afs_law.specs.States.{Seat, ServerState}
+use Rattle.afs_rows.specs.Runs.{begun_by_disk, Entry, Cell, message_at, Armed, unarmed, Luck, Blow, struck, lowered, Fall, at_rest, in_step, in_boot, settled, Outcome, comes_up, fails_early, fails_midway, is_full, server_rises, server_ends, server_falls, blow_line, server_stopped, server_restarted, server_served, server_given, server_adds, server_does, back_timed, server_timed, server_wakes}
+use Rattle.afs_rows.specs.ServerRow.{begun_after, begun_before, not_served, serves_call, shows, Reading, no_room, revived, device_calls, promise_ticks, decides, Decision, drops, tells_boot, repeats, refuses, saves, admits, called, hears, boot_told, versioned, Change, decided, in_volume, with_volume}
+use Rattle.afs_rows.specs.States.{Seat, ServerState}
 use Rattle.afs_model.specs.Calls.{Admitted, call_seat, call_seated}
 use Rattle.afs_model.specs.Calls as pairs
 use Rattle.afs_num.specs.declared.messages.Received.{Received}
@@ -47,19 +47,19 @@ use Rattle.std.proofs.Math.Nat.{le_refl, le_trans}
 use Rattle.afs_num.specs.declared.messages.Carried.TheVariants as carried
 use Rattle.afs_num.specs.declared.messages.Reply.TheVariants as tell
 use Rattle.afs_num.specs.declared.messages.Call.TheVariants as ask
-use Rattle.afs_law.specs.Lines as lines
+use Rattle.afs_history.specs.declared.lines.Line.TheVariants as lines
 
 -- What the server decides; it stops, and begins again.
 
 -- ---- each decision has its reason
 
 -- a decision on a call that is new
-pub record Due (c : Cell) (fl : ℕ → Ghost) (past : List Entry) (msg : Message) (head : Head) (call : FsCall) : Type 0 where
+pub record Due (s : Script) (c : Cell) (fl : ℕ → Ghost) (past : List Entry) (msg : Message) (head : Head) (call : FsCall) : Type 0 where
   pub client : ℕ
   pub from : head ≡ client_head client head
   pub user : List ℕ
   pub is : msg ≡ call_at client head user call
-  pub now : Now c fl past client head user call
+  pub now : Now s c fl past client head user call
 
 -- the message runs nothing
 abbrev pub Idle : Cell → Message → Type 0
@@ -72,23 +72,23 @@ pub record IsKept (c : Cell) (reply : Message) : Type 0 where
   pub at : call_seat (Client client) c.server.seats ≡ Some seat
   pub kept : seat.reply ≡ Some reply
 
-pub record JustRefusal (c : Cell) (fl : ℕ → Ghost) (past : List Entry) (msg : Message) (head : Head) (code : ℤ) : Type 0 where
+pub record JustRefusal (s : Script) (c : Cell) (fl : ℕ → Ghost) (past : List Entry) (msg : Message) (head : Head) (code : ℤ) : Type 0 where
   pub call : FsCall
-  pub due : Due c fl past msg head call
+  pub due : Due s c fl past msg head call
   pub some : is_zero_code (record { 0 = code }) ≡ false
   pub why : ((code_given (answer_at due.user call past) ≡ code) × IsTold (called_key (client_head due.client head)) (answer_at due.user call past) []) ⊎ ((code ≡ no_room) × IsChanging (answer_at due.user call past))
 
-pub record JustReading (c : Cell) (fl : ℕ → Ghost) (past : List Entry) (msg : Message) (head : Head) (r : Reading) : Type 0 where
+pub record JustReading (s : Script) (c : Cell) (fl : ℕ → Ghost) (past : List Entry) (msg : Message) (head : Head) (r : Reading) : Type 0 where
   pub call : FsCall
-  pub due : Due c fl past msg head call
+  pub due : Due s c fl past msg head call
   pub of_volume : volume_called call ≡ Some r.id
   pub at : get r.id c.server.volumes ≡ Some r.volume
   pub is : IsShown call r.volume r.shown
   pub result : answer_at due.user call past ≡ Some (reads r.shown)
 
-pub record JustSave (c : Cell) (fl : ℕ → Ghost) (past : List Entry) (msg : Message) (head : Head) (ch : Change) : Type 0 where
+pub record JustSave (s : Script) (c : Cell) (fl : ℕ → Ghost) (past : List Entry) (msg : Message) (head : Head) (ch : Change) : Type 0 where
   pub call : FsCall
-  pub due : Due c fl past msg head call
+  pub due : Due s c fl past msg head call
   pub own : ch ≡ change_at ch.id due.user call ch.before ch.edits ch.shown
   pub change : Change' c past due.user call ch.id ch.before ch.edits ch.shown
 
@@ -106,18 +106,18 @@ pub record JustRepeat (c : Cell) (msg reply : Message) : Type 0 where
   pub call : IdleCall c msg
   pub kept : IsKept c reply
 
-abbrev pub IsJust : Cell → (ℕ → Ghost) → List Entry → Message → Decision → Type 0
-IsJust c fl past msg drops = Idle c msg
-IsJust c fl past msg (tells_boot head) = IdleCall c msg
-IsJust c fl past msg (repeats reply) = JustRepeat c msg reply
-IsJust c fl past msg (refuses head code) = JustRefusal c fl past msg head code
-IsJust c fl past msg (shows head r) = JustReading c fl past msg head r
-IsJust c fl past msg (saves head ch) = JustSave c fl past msg head ch
+abbrev pub IsJust : Script → Cell → (ℕ → Ghost) → List Entry → Message → Decision → Type 0
+IsJust s c fl past msg drops = Idle c msg
+IsJust s c fl past msg (tells_boot head) = IdleCall c msg
+IsJust s c fl past msg (repeats reply) = JustRepeat c msg reply
+IsJust s c fl past msg (refuses head code) = JustRefusal s c fl past msg head code
+IsJust s c fl past msg (shows head r) = JustReading s c fl past msg head r
+IsJust s c fl past msg (saves head ch) = JustSave s c fl past msg head ch
 
 -- ---- what is decided is just
 
-abbrev pub due : (c : Cell) (fl : ℕ → Ghost) (past : List Entry) (n : ℕ) (h : Head) (user : List ℕ) (call : FsCall) → Now c fl past n h user call → Due c fl past (call_at n h user call) (client_head n h) call
-due c fl past n h user call w = record { client = n; from = refl; user = user; is = refl; now = record { boot = w.boot; above = w.above; above_durable = w.above_durable; fact = w.fact; origin = w.origin; acts = w.acts; one = w.one } }
+abbrev pub due : {s : Script} → (c : Cell) (fl : ℕ → Ghost) (past : List Entry) (n : ℕ) (h : Head) (user : List ℕ) (call : FsCall) → Now s c fl past n h user call → Due s c fl past (call_at n h user call) (client_head n h) call
+due {s} c fl past n h user call w = record { client = n; from = refl; user = user; is = refl; now = record { boot = w.boot; above = w.above; above_durable = w.above_durable; fact = w.fact; origin = w.origin; acts = w.acts; one = w.one } }
 
 pub answer_of : (s : Script) (c : Cell) (past : List Entry) (user : List ℕ) (call : FsCall) (id : ℕ) (o : Option Volume) → Holds s c past → volume_called call ≡ Some id → get id c.server.volumes ≡ o → answer_at user call past ≡ Some (op_on id (the_user user) call o)
 answer_of s c past user call id o H of at = ap (λ (i : Option ℕ). answer_on user call i past) of ∙ ap (λ (v : Option Volume). Some (op_on id (the_user user) call v)) (sym (H.ideal id) ∙ at)
@@ -129,23 +129,23 @@ why_refused head o code e = subst (λ (x : Option Result). (code_given x ≡ pos
 pub why_unserved : (head : Head) (o : Option Result) → o ≡ None → (code_given o ≡ not_served) × IsTold (called_key head) o []
 why_unserved head o e = subst (λ (x : Option Result). (code_given x ≡ not_served) × IsTold (called_key head) x []) (sym e) (refl, tt)
 
-pub roomed_just : (s : Script) (c : Cell) (past : List Entry) (n : ℕ) (h : Head) (user : List ℕ) (call : FsCall) (id : ℕ) (v : Volume) (es : List Edit) (shown : ℕ) (t : Bool) → (H : Holds s c past) → Now c H.floors past n h user call → Change' c past user call id v es shown
-    → IsJust c H.floors past (call_at n h user call) (cond t (saves (client_head n h) (change_at id user call v es shown)) (refuses (client_head n h) no_room))
+pub roomed_just : (s : Script) (c : Cell) (past : List Entry) (n : ℕ) (h : Head) (user : List ℕ) (call : FsCall) (id : ℕ) (v : Volume) (es : List Edit) (shown : ℕ) (t : Bool) → (H : Holds s c past) → Now s c H.floors past n h user call → Change' c past user call id v es shown
+    → IsJust s c H.floors past (call_at n h user call) (cond t (saves (client_head n h) (change_at id user call v es shown)) (refuses (client_head n h) no_room))
 roomed_just s c past n h user call id v es shown true H w q = record { call = call; due = due c H.floors past n h user call w; own = refl; change = q }
 roomed_just s c past n h user call id v es shown false H w q = record { call = call; due = due c H.floors past n h user call w; some = refl; why = inr (refl, subst IsChanging (sym (answer_of s c past user call id (Some v) H q.of_volume q.at ∙ ap Some q.result)) tt) }
 
-pub decided_just : (s : Script) (c : Cell) (past : List Entry) (n : ℕ) (h : Head) (user : List ℕ) (call : FsCall) (id : ℕ) (v : Volume) (r : Result) → (H : Holds s c past) → Now c H.floors past n h user call → volume_called call ≡ Some id → get id c.server.volumes ≡ Some v → op id (the_user user) call v ≡ r
-    → IsJust c H.floors past (call_at n h user call) (decided c.server (client_head n h) (the_user user) call id v r)
+pub decided_just : (s : Script) (c : Cell) (past : List Entry) (n : ℕ) (h : Head) (user : List ℕ) (call : FsCall) (id : ℕ) (v : Volume) (r : Result) → (H : Holds s c past) → Now s c H.floors past n h user call → volume_called call ≡ Some id → get id c.server.volumes ≡ Some v → op id (the_user user) call v ≡ r
+    → IsJust s c H.floors past (call_at n h user call) (decided c.server (client_head n h) (the_user user) call id v r)
 decided_just s c past n h user call id v (refused code) H w of at e = record { call = call; due = due c H.floors past n h user call w; some = op_code id (the_user user) call v code of e; why = inl (why_refused (client_head n h) (answer_at user call past) code (answer_of s c past user call id (Some v) H of at ∙ ap Some e)) }
 decided_just s c past n h user call id v (reads shown) H w of at e = record { call = call; due = due c H.floors past n h user call w; of_volume = of; at = at; is = reads_is id (the_user user) call v shown of e; result = answer_of s c past user call id (Some v) H of at ∙ ap Some e }
 decided_just s c past n h user call id v no_operation H w of at e = absurd (op_is id (the_user user) call v of e)
 decided_just s c past n h user call id v (changes es shown) H w of at e = roomed_just s c past n h user call id v es shown _ H w (record { at = at; of_volume = of; result = e })
 
-pub in_just : (s : Script) (c : Cell) (past : List Entry) (n : ℕ) (h : Head) (user : List ℕ) (call : FsCall) (id : ℕ) (o : Option Volume) → (H : Holds s c past) → Now c H.floors past n h user call → volume_called call ≡ Some id → get id c.server.volumes ≡ o → IsJust c H.floors past (call_at n h user call) (in_volume c.server (client_head n h) (the_user user) call id o)
+pub in_just : (s : Script) (c : Cell) (past : List Entry) (n : ℕ) (h : Head) (user : List ℕ) (call : FsCall) (id : ℕ) (o : Option Volume) → (H : Holds s c past) → Now s c H.floors past n h user call → volume_called call ≡ Some id → get id c.server.volumes ≡ o → IsJust s c H.floors past (call_at n h user call) (in_volume c.server (client_head n h) (the_user user) call id o)
 in_just s c past n h user call id None H w of at = record { call = call; due = due c H.floors past n h user call w; some = refl; why = inl (why_refused (client_head n h) (answer_at user call past) 103 (answer_of s c past user call id None H of at)) }
 in_just s c past n h user call id (Some v) H w of at = decided_just s c past n h user call id v (op id (the_user user) call v) H w of at refl
 
-pub with_just : (s : Script) (c : Cell) (past : List Entry) (n : ℕ) (h : Head) (user : List ℕ) (call : FsCall) (o : Option ℕ) → (H : Holds s c past) → Now c H.floors past n h user call → volume_called call ≡ o → IsJust c H.floors past (call_at n h user call) (with_volume c.server (client_head n h) (the_user user) call o)
+pub with_just : (s : Script) (c : Cell) (past : List Entry) (n : ℕ) (h : Head) (user : List ℕ) (call : FsCall) (o : Option ℕ) → (H : Holds s c past) → Now s c H.floors past n h user call → volume_called call ≡ o → IsJust s c H.floors past (call_at n h user call) (with_volume c.server (client_head n h) (the_user user) call o)
 with_just s c past n h user call None H w of = record { call = call; due = due c H.floors past n h user call w; some = refl; why = inl (why_unserved (client_head n h) (answer_at user call past) (ap (λ (i : Option ℕ). answer_on user call i past) of)) }
 with_just s c past n h user call (Some id) H w of = in_just s c past n h user call id (get id c.server.volumes) H w of refl
 
@@ -153,7 +153,7 @@ with_just s c past n h user call (Some id) H w of = in_just s c past n h user ca
 abbrev pub read_call : Head → List ℕ → FsCall → Received
 read_call head user call = Whole (record { head = head; carried = carried.Call user (ask.File call) })
 
-pub runs_just : (s : Script) (c : Cell) (past : List Entry) (n : ℕ) (h : Head) (user : List ℕ) (call : FsCall) → (H : Holds s c past) → Now c H.floors past n h user call → IsJust c H.floors past (call_at n h user call) (serves_call c.server (client_head n h) user call)
+pub runs_just : (s : Script) (c : Cell) (past : List Entry) (n : ℕ) (h : Head) (user : List ℕ) (call : FsCall) → (H : Holds s c past) → Now s c H.floors past n h user call → IsJust s c H.floors past (call_at n h user call) (serves_call c.server (client_head n h) user call)
 runs_just s c past n h user call H w = with_just s c past n h user call (volume_called call) H w refl
 
 -- a call to this boot that is not new
@@ -165,7 +165,7 @@ pub not_runs : {R : Type 0} (a b : Admitted R) → a ≡ b → (b ≡ pairs.runs
 not_runs a b e ne r = ne (sym e ∙ r)
 
 pub admits_just : (s : Script) (c : Cell) (past : List Entry) (n : ℕ) (h : Head) (user : List ℕ) (call : FsCall) (o : Admitted Message) → (H : Holds s c past) → h.boot ≡ c.server.boot
-    → CallFact (view H.floors c n) (client_head n h) call → Origin past (client_head n h) user call → IsActs past (client_head n h) user call → IsOne (sent_of past) (client_head n h) user call → pairs.paired h.epoch h.number (call_seat (Client n) c.server.seats) ≡ o → IsJust c H.floors past (call_at n h user call) (admits c.server (client_head n h) (read_call (client_head n h) user call) o)
+    → CallFact (view H.floors c n) (client_head n h) call → Origin s past (client_head n h) user call → IsActs s past (client_head n h) user call → IsOne (sent_of past) (client_head n h) user call → pairs.paired h.epoch h.number (call_seat (Client n) c.server.seats) ≡ o → IsJust s c H.floors past (call_at n h user call) (admits c.server (client_head n h) (read_call (client_head n h) user call) o)
 admits_just s c past n h user call pairs.runs H boot f from acts one e =
     let above : Above (call_seat (Client n) c.server.seats) h.epoch h.number = runs_above h.epoch h.number (call_seat (Client n) c.server.seats) e in
     runs_just s c past n h user call H (record { boot = boot; above = above; above_durable = (H.clients n).lower h.epoch h.number above; fact = f; origin = from; acts = acts; one = one })
@@ -181,8 +181,8 @@ dull_away c n h user call le ne k b x (inl l) = let is : h.boot ≡ b = x.1.1 in
 dull_away c n h user call le ne k b x (inr above) = let yes : nat_eq h.boot c.server.boot ≡ true = eq-eqb h.boot c.server.boot (x.1.1 ∙ above.0) in absurd cc
 
 pub booted_just : (s : Script) (c : Cell) (past : List Entry) (n : ℕ) (h : Head) (user : List ℕ) (call : FsCall) (b : Bool) → (H : Holds s c past) → nat_eq h.boot c.server.boot ≡ b
-    → CallFact (view H.floors c n) (client_head n h) call → Origin past (client_head n h) user call → IsActs past (client_head n h) user call → IsOne (sent_of past) (client_head n h) user call
-    → IsJust c H.floors past (call_at n h user call) (admits c.server (client_head n h) (read_call (client_head n h) user call) (cond b (pairs.paired h.epoch h.number (call_seat (Client n) c.server.seats)) (pairs.wrong_boot c.server.boot)))
+    → CallFact (view H.floors c n) (client_head n h) call → Origin s past (client_head n h) user call → IsActs s past (client_head n h) user call → IsOne (sent_of past) (client_head n h) user call
+    → IsJust s c H.floors past (call_at n h user call) (admits c.server (client_head n h) (read_call (client_head n h) user call) (cond b (pairs.paired h.epoch h.number (call_seat (Client n) c.server.seats)) (pairs.wrong_boot c.server.boot)))
 booted_just s c past n h user call true H boot f from acts one = admits_just s c past n h user call (pairs.paired h.epoch h.number (call_seat (Client n) c.server.seats)) H (eqb-true h.boot c.server.boot boot) f from acts one refl
 booted_just s c past n h user call false H boot f from acts one = record { idle = dull_away c n h user call f.booted boot; user = user; call = call; is = refl }
 
@@ -190,32 +190,32 @@ booted_just s c past n h user call false H boot f from acts one = record { idle 
 pub is_client_head : (n : ℕ) (h : Head) → h.from ≡ Client n → h.to ≡ the_server → h ≡ client_head n h
 is_client_head n h from to = ap (λ (x : Node). record h { from = x }) from ∙ ap (λ (x : Node). record h { from = Client n; to = x }) to
 
-pub called_just : (s : Script) (c : Cell) (past : List Entry) (head : Head) (user : List ℕ) (call : FsCall) → (H : Holds s c past) → CallIn (view H.floors c) head user call → Origin past head user call → IsActs past head user call → IsOne (sent_of past) head user call
-    → IsJust c H.floors past (record { head = head; carried = carried.Call user (ask.File call) }) (called the_server c.server head (read_call head user call))
+pub called_just : (s : Script) (c : Cell) (past : List Entry) (head : Head) (user : List ℕ) (call : FsCall) → (H : Holds s c past) → CallIn (view H.floors c) head user call → Origin s past head user call → IsActs s past head user call → IsOne (sent_of past) head user call
+    → IsJust s c H.floors past (record { head = head; carried = carried.Call user (ask.File call) }) (called the_server c.server head (read_call head user call))
 called_just s c past head user call H f from acts one =
     let n : ℕ = f.client in
     let is : head ≡ client_head n head = is_client_head n head f.from f.to in
-    subst (λ (x : Head). IsJust c H.floors past (record { head = x; carried = carried.Call user (ask.File call) }) (called the_server c.server x (read_call x user call))) (sym is)
+    subst (λ (x : Head). IsJust s c H.floors past (record { head = x; carried = carried.Call user (ask.File call) }) (called the_server c.server x (read_call x user call))) (sym is)
     (booted_just s c past n head user call (nat_eq head.boot c.server.boot) H refl
     (subst (λ (x : Head). CallFact (view H.floors c n) x call) is f.fact)
-    (subst (λ (x : Head). Origin past x user call) is from)
-    (subst (λ (x : Head). IsActs past x user call) is acts)
+    (subst (λ (x : Head). Origin s past x user call) is from)
+    (subst (λ (x : Head). IsActs s past x user call) is acts)
     (subst (λ (x : Head). IsOne (sent_of past) x user call) is one))
 
 -- a call that isn't a client's is none to the server
 pub called_apart : (s : Script) (c : Cell) (past : List Entry) (head : Head) (user : List ℕ) (call : FsCall) (t : Bool) → (H : Holds s c past) → same_node head.to the_server ≡ t → (head.to ≡ the_server → ⊥)
-    → IsJust c H.floors past (called_at head user call) (cond t (admits c.server head (read_call head user call) (pairs.admitted c.server.boot c.server.seats head)) drops)
+    → IsJust s c H.floors past (called_at head user call) (cond t (admits c.server head (read_call head user call) (pairs.admitted c.server.boot c.server.seats head)) drops)
 called_apart s c past head user call true H t ne = absurd (ne (same_node-true head.to the_server t))
 called_apart s c past head user call false H t ne = λ k b y may. ne y.0.1
 
-pub called_by : (s : Script) (c : Cell) (past : List Entry) (head : Head) (user : List ℕ) (call : FsCall) (n : Node) → (H : Holds s c past) → head.from ≡ n → OfClient n (CallIn (view H.floors c) head user call) → OfClient n (Origin past head user call) → OfClient n (IsActs past head user call) → OfClient n (IsOne (sent_of past) head user call)
-    → ToClient head user call → IsJust c H.floors past (called_at head user call) (called the_server c.server head (read_call head user call))
+pub called_by : (s : Script) (c : Cell) (past : List Entry) (head : Head) (user : List ℕ) (call : FsCall) (n : Node) → (H : Holds s c past) → head.from ≡ n → OfClient n (CallIn (view H.floors c) head user call) → OfClient n (Origin s past head user call) → OfClient n (IsActs s past head user call) → OfClient n (IsOne (sent_of past) head user call)
+    → ToClient head user call → IsJust s c H.floors past (called_at head user call) (called the_server c.server head (read_call head user call))
 called_by s c past head user call (Client n) H e f from acts one away = called_just s c past head user call H f from acts one
 called_by s c past head user call (Server n) H e f from acts one away = called_apart s c past head user call (same_node head.to the_server) H refl (away (λ j x. absurd cc))
 called_by s c past head user call (Admin n) H e f from acts one away = called_apart s c past head user call (same_node head.to the_server) H refl (away (λ j x. absurd cc))
 called_by s c past head user call Loc H e f from acts one away = called_apart s c past head user call (same_node head.to the_server) H refl (away (λ j x. absurd cc))
 
-pub hears_just : (s : Script) (c : Cell) (past : List Entry) (head : Head) (x : Carried) → (H : Holds s c past) → OfCall (ByClient (CallIn (view H.floors c))) head x → OfCall (ByClient (Origin past)) head x → OfCall (ByClient (IsActs past)) head x → OfCall (ByClient (IsOne (sent_of past))) head x → OfCall (ToClient) head x → IsJust c H.floors past (record { head = head; carried = x }) (hears the_server c.server head x)
+pub hears_just : (s : Script) (c : Cell) (past : List Entry) (head : Head) (x : Carried) → (H : Holds s c past) → OfCall (ByClient (CallIn (view H.floors c))) head x → OfCall (ByClient (Origin s past)) head x → OfCall (ByClient (IsActs s past)) head x → OfCall (ByClient (IsOne (sent_of past))) head x → OfCall (ToClient) head x → IsJust s c H.floors past (record { head = head; carried = x }) (hears the_server c.server head x)
 hears_just s c past head (carried.Call user (ask.File call)) H f from acts one away = called_by s c past head user call head.from H refl f from acts one away
 hears_just s c past head (carried.Call user (ask.Volume call)) H f from acts one away = absurd f
 hears_just s c past head (carried.Call user (ask.Location call)) H f from acts one away = absurd f
@@ -226,8 +226,8 @@ hears_just s c past head carried.Notice H f from acts one away = λ k b y may. y
 pub ones_told : (s : Script) (c : Cell) (past : List Entry) → Holds s c past → Each (IfCall (IsOne (sent_of past))) c.sent
 ones_told s c past H = subst (λ (ms : List Message). Each (IfCall (IsOne ms)) c.sent) (sym H.sent.told) H.sent.ones
 
-pub sent_just : (s : Script) (c : Cell) (past : List Entry) (p : ℕ) (m : Message) → (H : Holds s c past) → message_at c.sent p ≡ Some m → IsJust c H.floors past m (decides the_server c.server (Whole m))
-sent_just s c past p m H at = hears_just s c past m.head m.carried H (each_at (IfCall (CallIn (view H.floors c))) c.sent p m at H.sent.calls) (each_at (IfCall (Origin past)) c.sent p m at H.sent.origins) (each_at (IfCall (IsActs past)) c.sent p m at H.sent.acts) (each_at (IfCall (IsOne (sent_of past))) c.sent p m at (ones_told s c past H)) (each_at (λ z. OfCall ToClient z.head z.carried) c.sent p m at H.sent.to_clients)
+pub sent_just : (s : Script) (c : Cell) (past : List Entry) (p : ℕ) (m : Message) → (H : Holds s c past) → message_at c.sent p ≡ Some m → IsJust s c H.floors past m (decides the_server c.server (Whole m))
+sent_just s c past p m H at = hears_just s c past m.head m.carried H (each_at (IfCall (CallIn (view H.floors c))) c.sent p m at H.sent.calls) (each_at (IfCall (Origin s past)) c.sent p m at H.sent.origins) (each_at (IfCall (IsActs s past)) c.sent p m at H.sent.acts) (each_at (IfCall (IsOne (sent_of past))) c.sent p m at (ones_told s c past H)) (each_at (λ z. OfCall ToClient z.head z.carried) c.sent p m at H.sent.to_clients)
 
 -- ---- what is just goes
 
@@ -240,7 +240,7 @@ pub told_more : (k : Key) (o : Option Result) (ls : List Line) → IsTold k o []
 told_more k (Some (changes es n)) ls h = absurd h
 told_more k o ls h = tt
 
-pub refuses_by : (s : Script) (c : Cell) (past : List Entry) (armed : Armed) (p n : ℕ) (head : Head) (user : List ℕ) (call : FsCall) (code : ℤ) → (H : Holds s c past) → c.down ≡ None → message_at c.sent p ≡ Some (call_at n head user call) → Now c H.floors past n head user call → is_zero_code (record { 0 = code }) ≡ false
+pub refuses_by : (s : Script) (c : Cell) (past : List Entry) (armed : Armed) (p n : ℕ) (head : Head) (user : List ℕ) (call : FsCall) (code : ℤ) → (H : Holds s c past) → c.down ≡ None → message_at c.sent p ≡ Some (call_at n head user call) → Now s c H.floors past n head user call → is_zero_code (record { 0 = code }) ≡ false
     → ((code_given (answer_at user call past) ≡ code) × IsTold (called_key (client_head n head)) (answer_at user call past) []) ⊎ ((code ≡ no_room) × IsChanging (answer_at user call past))
     → Goes s past (server_does c armed p (call_at n head user call) (refuses (client_head n head) code))
 refuses_by s c past armed p n head user call code H up at w nz (inl x) = refuses_goes s c past armed p n head user call code H up at w nz (inl (x.0, told_more (called_key (client_head n head)) (answer_at user call past) (lines.Given p ∷ lines_of past) x.1))
@@ -309,7 +309,7 @@ repeats_goes s c past armed p m reply false true H up at j k a b = quiet s c pas
 repeats_goes s c past armed p m reply false false H up at j k a b = quiet s c past armed p m (repeats_by (expired c.clock c.backs) reply false false) H up at j tt tt (λ e over held. record { notes = tt; sent = no_news _ _ _; outs = (repeated s c past e reply H over k, tt); held = held })
     (λ e q. repeat_loads s c past e p reply [] H up k (q ∙ ap (λ (ms : List Message). told_entry p [] ms) (sym (ap (λ (z : Entry). z.sent) q))) a (λ y. absurd (no_change (key_answered reply) (lines_of past) (kept_new s c past reply k.client k.seat H k.at ((H.clients k.client).kept k.seat reply k.at k.kept).0 b) y)))
 
-pub does_goes : (s : Script) (c : Cell) (past : List Entry) (armed : Armed) (p : ℕ) (m : Message) (d : Decision) (i : ℕ) → (H : Holds s c past) → c.down ≡ None → message_at c.sent p ≡ Some m → m.head.to ≡ Server i → IsJust c H.floors past m d → Goes s past (server_does c armed p m d)
+pub does_goes : (s : Script) (c : Cell) (past : List Entry) (armed : Armed) (p : ℕ) (m : Message) (d : Decision) (i : ℕ) → (H : Holds s c past) → c.down ≡ None → message_at c.sent p ≡ Some m → m.head.to ≡ Server i → IsJust s c H.floors past m d → Goes s past (server_does c armed p m d)
 does_goes s c past armed p m drops i H up at to j = turned_goes s c past armed p m.head m.carried i H up at to j
 does_goes s c past armed p m (tells_boot head) i H up at to j =
     subst (λ (x : Message). Goes s past (server_does c armed p x (tells_boot head))) (sym j.is)
@@ -359,8 +359,8 @@ revived_call fl c j head call f =
     let le : head.boot ≤ c.server.boot = f.booted in
     record { behind = f.behind; booted = omega arith; stale = f.stale; own = f.own; safe = λ q above. absurd (omega arith) }
 
-pub revived_client : (fl : ℕ → Ghost) (c : Cell) (past : List Entry) (j : ℕ) → ClientFacts j (view fl c j) past → ClientFacts j (view fl (revived_cell c) j) past
-revived_client fl c past j h =
+pub revived_client : {s : Script} → (fl : ℕ → Ghost) (c : Cell) (past : List Entry) (j : ℕ) → ClientFacts s j (view fl c j) past → ClientFacts s j (view fl (revived_cell c) j) past
+revived_client {s} fl c past j h =
     let known : (c.clients j).boot ≤ c.server.boot = h.known in
     let floored : (fl j).floor ≤ c.server.boot = h.floored in
     let holds : (fl j).held ≤ c.server.boot = h.holds in
@@ -393,6 +393,7 @@ revives s b c past x h held backs =
     record {
       floors = fl;
       count = h.count;
+      tables = h.tables;
       ideal = h.ideal;
       sound = h.sound;
       fine = h.fine;
@@ -446,6 +447,7 @@ revives_down s c past fall h e =
     record {
       floors = r.floors;
       count = r.count;
+      tables = r.tables;
       ideal = r.ideal;
       sound = r.sound;
       fine = r.fine;
@@ -482,8 +484,8 @@ pub rises_owed : (s : Script) (c : Cell) → {past : List Entry} → Holds s c p
 rises_owed s c h j a b = all_owed (c.clock + promise_ticks) 0 c.count j (omega arith) (let le : j ≤ c.count = subst (λ (k : ℕ). j ≤ k) (sym h.count) b in omega arith)
 
 -- what a restart sends
-pub rising_gives : (views : ℕ → View) (boot b : ℕ) (past : List Entry) (c : Cell) (held : List Held) → Gives views b past held (pumped the_server boot (rising c)).sent held
-rising_gives views boot b past c held h = ((pumped_news views b past boot (rising c) (no_news _ _ _) tt tt).0, h)
+pub rising_gives : {s : Script} → (views : ℕ → View) (boot b : ℕ) (past : List Entry) (c : Cell) (held : List Held) → Gives s views b past held (pumped the_server boot (rising c)).sent held
+rising_gives {s} views boot b past c held h = ((pumped_news views b past boot (rising c) (no_news _ _ _) tt tt).0, h)
 
 pub nothing_held : (boot : ℕ) (c : Cell) (views : ℕ → View) (past : List Entry) → Each (HeldIn views past) (replies_of (pumped the_server boot (rising c)).backs.held)
 nothing_held boot c views past = subst (λ (hs : List Held). Each (HeldIn views past) (replies_of hs)) (sym (starts_held boot (rising c).backs.owed _)) tt
@@ -536,23 +538,23 @@ ends_booted s c past is_full h e =
 pub down_not : (c : Cell) → {fall : Fall} → c.down ≡ Some fall → c.down ≡ None → ⊥
 down_not c e z = absurd cc
 
-pub after_good : (s : Script) (c : Cell) (past : List Entry) (n : ℕ) (h : Head) (user : List ℕ) (call : FsCall) (id : ℕ) (v : Volume) (es : List Edit) (shown : ℕ) (ls : List Line) → (H : Holds s c past) → Now c H.floors past n h user call → Change' c past user call id v es shown → {fall : Fall} → c.down ≡ Some fall → versions_first ls ≡ []
+pub after_good : (s : Script) (c : Cell) (past : List Entry) (n : ℕ) (h : Head) (user : List ℕ) (call : FsCall) (id : ℕ) (v : Volume) (es : List Edit) (shown : ℕ) (ls : List Line) → (H : Holds s c past) → Now s c H.floors past n h user call → Change' c past user call id v es shown → {fall : Fall} → c.down ≡ Some fall → versions_first ls ≡ []
     → AreGood s (actors.Node the_server) past (on_top (versions_by id es v) (lines.Change the_server (called_key (client_head n h)) (length (versions_by id es v)) ∷ [])) ls → AreGood s (actors.Node the_server) past [] (lines.Change the_server (called_key (client_head n h)) (length (versions_by id es v)) ∷ versioned (versions_by id es v) ls)
 after_good s c past n h user call id v es shown ls H w q down none good =
     ((refl, saves_change_good s c past [] ls n h user call id v es shown H w q (H.new _ w.above_durable) refl (H.home id v q.at) none (λ j f x ne y l t. absurd (down_not c down ((H.backs refl).promised j f x l (subst (λ (z : ℕ). z < x) H.clock t)).0))), versions_good s past _ ls (versions_by id es v) tt good)
 
-pub after_holds : (y : Way) (s : Script) (now : Option ℕ) (c : Cell) (past : List Entry) (after : Backs) (fall : Fall) (n : ℕ) (h : Head) (user : List ℕ) (call : FsCall) (time id : ℕ) (v : Volume) (es : List Edit) (shown : ℕ) → (H : Holds s c past) → Now c H.floors past n h user call → Change' c past user call id v es shown
+pub after_holds : (y : Way) (s : Script) (now : Option ℕ) (c : Cell) (past : List Entry) (after : Backs) (fall : Fall) (n : ℕ) (h : Head) (user : List ℕ) (call : FsCall) (time id : ℕ) (v : Volume) (es : List Edit) (shown : ℕ) → (H : Holds s c past) → Now s c H.floors past n h user call → Change' c past user call id v es shown
     → IsCut c.server c.sent (call_at n h user call) past → given_message (saved_lines y (called_key (client_head n h)) (versions_by id es v)) (sent_of past) ≡ None
     → ((server : ServerState) (sent : List Message) (newer : List Entry) → HasFallen (Some fall) server sent newer)
     → server_boot the_server (lines_of (NewEntry y n h (versions_by id es v) (saved_reply c (client_head n h) time user call id v es shown) ∷ past)) ≡ now
-    → (HeldIn (views_after true H.floors c n h (saved_reply c (client_head n h) time user call id v es shown)) (NewEntry y n h (versions_by id es v) (saved_reply c (client_head n h) time user call id v es shown) ∷ past) (saved_reply c (client_head n h) time user call id v es shown) → Gives (views_after true H.floors c n h (saved_reply c (client_head n h) time user call id v es shown)) c.server.boot (NewEntry y n h (versions_by id es v) (saved_reply c (client_head n h) time user call id v es shown) ∷ past) c.backs.held (saved_sent y (saved_reply c (client_head n h) time user call id v es shown)) after.held)
+    → (HeldIn (views_after true H.floors c n h (saved_reply c (client_head n h) time user call id v es shown)) (NewEntry y n h (versions_by id es v) (saved_reply c (client_head n h) time user call id v es shown) ∷ past) (saved_reply c (client_head n h) time user call id v es shown) → Gives s (views_after true H.floors c n h (saved_reply c (client_head n h) time user call id v es shown)) c.server.boot (NewEntry y n h (versions_by id es v) (saved_reply c (client_head n h) time user call id v es shown) ∷ past) c.backs.held (saved_sent y (saved_reply c (client_head n h) time user call id v es shown)) after.held)
     → (now ≡ None → BackedIn (Some fall) after c.server.boot (seats_after c n h (saved_reply c (client_head n h) time user call id v es shown)) (seats_of c) c.clock (c.sent ++ saved_sent y (saved_reply c (client_head n h) time user call id v es shown)) (NewEntry y n h (versions_by id es v) (saved_reply c (client_head n h) time user call id v es shown) ∷ past))
     → HoldsAt s now (served_cell true c n h (saved_reply c (client_head n h) time user call id v es shown) (stock_after c (client_head n h) time (change_at id user call v es shown)) after (Some fall) unarmed (saved_sent y (saved_reply c (client_head n h) time user call id v es shown))) (NewEntry y n h (versions_by id es v) (saved_reply c (client_head n h) time user call id v es shown) ∷ past)
 after_holds y s now c past after fall n h user call time id v es shown H w q is_cut none fallen boots gives backs =
     saves_holds y s now c past after unarmed (Some fall) n h user call time id v es shown H w q (record { ran = ran_over _ _ past is_cut.ran; is = is_cut.is; ideal = is_cut.ideal }) boots
     (λ k x l. (λ z. subst (λ (o : Option Message). IsCallUnder the_server k x o) none z, unheard_later c.down c.server.seats c.server.boot past H.unheard k x l)) (fallen _ _ _) gives backs
 
-pub ends_saved : (s : Script) (c : Cell) (past : List Entry) (fall : Fall) (o : Outcome) (n : ℕ) (h : Head) (user : List ℕ) (call : FsCall) (time id : ℕ) (v : Volume) (es : List Edit) (shown : ℕ) → (H : Holds s c past) → c.down ≡ Some fall → Now c H.floors past n h user call → Change' c past user call id v es shown
+pub ends_saved : (s : Script) (c : Cell) (past : List Entry) (fall : Fall) (o : Outcome) (n : ℕ) (h : Head) (user : List ℕ) (call : FsCall) (time id : ℕ) (v : Volume) (es : List Edit) (shown : ℕ) → (H : Holds s c past) → c.down ≡ Some fall → Now s c H.floors past n h user call → Change' c past user call id v es shown
     → IsCut c.server c.sent (call_at n h user call) past → Goes s past (server_ends c (begun_after the_server c.server time (saves (client_head n h) (change_at id user call v es shown))) fall o)
 ends_saved s c past fall comes_up n h user call time id v es shown H e w q is_cut =
     let x : ℕ = c.server.boot + 1 in
@@ -590,7 +592,7 @@ ends_saved s c past fall is_full n h user call time id v es shown H e w q is_cut
   volumes = refl;
 }
 
-pub ends_after : (s : Script) (c : Cell) (past : List Entry) (fall : Fall) (o : Outcome) (m : Message) (time : ℕ) (d : Decision) → (H : Holds s c past) → c.down ≡ Some fall → IsJust c H.floors past m d → IsCut c.server c.sent m past → Goes s past (server_ends c (begun_after the_server c.server time d) fall o)
+pub ends_after : (s : Script) (c : Cell) (past : List Entry) (fall : Fall) (o : Outcome) (m : Message) (time : ℕ) (d : Decision) → (H : Holds s c past) → c.down ≡ Some fall → IsJust s c H.floors past m d → IsCut c.server c.sent m past → Goes s past (server_ends c (begun_after the_server c.server time d) fall o)
 ends_after s c past fall o m time (saves head ch) H e j is_cut =
     subst (λ (x : Head). Goes s past (server_ends c (begun_after the_server c.server time (saves x ch)) fall o)) (sym j.due.from)
     (subst (λ (z : Change). Goes s past (server_ends c (begun_after the_server c.server time (saves (client_head j.due.client head) z)) fall o)) (sym j.own)
@@ -651,7 +653,7 @@ pub cut_boot : (p : ℕ) (stops : Bool) (o : List Line) → server_boot the_serv
 cut_boot p true o = refl
 cut_boot p false o = refl
 
-pub cuts_saved : (s : Script) (c : Cell) (past : List Entry) (p n : ℕ) (h : Head) (user : List ℕ) (call : FsCall) (stops : Bool) → (H : Holds s c past) → c.down ≡ None → message_at c.sent p ≡ Some (call_at n h user call) → Now c H.floors past n h user call
+pub cuts_saved : (s : Script) (c : Cell) (past : List Entry) (p n : ℕ) (h : Head) (user : List ℕ) (call : FsCall) (stops : Bool) → (H : Holds s c past) → c.down ≡ None → message_at c.sent p ≡ Some (call_at n h user call) → Now s c H.floors past n h user call
     → Goes s past (server_falls c (lines.Given p ∷ blow_line stops ∷ []) (in_step (call_at n h user call) c.clock))
 cuts_saved s c past p n h user call stops H up at w =
     let m : Message = call_at n h user call in
@@ -670,7 +672,7 @@ abbrev pub IsSave : Decision → Type 0
 IsSave (saves head ch) = ⊤
 IsSave d = ⊥
 
-pub cuts_by : (s : Script) (c : Cell) (past : List Entry) (p : ℕ) (m : Message) (stops : Bool) (d : Decision) → (H : Holds s c past) → c.down ≡ None → message_at c.sent p ≡ Some m → IsJust c H.floors past m d → IsSave d → Goes s past (server_falls c (lines.Given p ∷ blow_line stops ∷ []) (in_step m c.clock))
+pub cuts_by : (s : Script) (c : Cell) (past : List Entry) (p : ℕ) (m : Message) (stops : Bool) (d : Decision) → (H : Holds s c past) → c.down ≡ None → message_at c.sent p ≡ Some m → IsJust s c H.floors past m d → IsSave d → Goes s past (server_falls c (lines.Given p ∷ blow_line stops ∷ []) (in_step m c.clock))
 cuts_by s c past p m stops (saves head ch) H up at j is =
     subst (λ (x : Message). Goes s past (server_falls c (lines.Given p ∷ blow_line stops ∷ []) (in_step x c.clock))) (sym j.due.is)
     (cuts_saved s c past p j.due.client head j.due.user j.call stops H up (at ∙ ap Some j.due.is) j.due.now)

@@ -8,18 +8,18 @@ use Rattle.afs_law.proofs.Passing.{body_kept, PassesGrant, PassesFile, PassesRea
 use Rattle.afs_law.proofs.Pumping.{no_call, no_notice, of_reply_any}
 use Rattle.afs_law.proofs.Serving.{told_file, told_reach, told_act, reached_still}
 use Rattle.afs_law.specs.Breaks.{HasDrop, OweAt, CarriesBreak, NamesIn}
-use Rattle.afs_law.specs.Callbacks.{Owed, breaks_call}
-use Rattle.afs_law.specs.ClientRow.{the_server, find_cached, ignores, is_named, names_act, is_waiting, drop_line, done_reply, back_seat, drops_fids, drops_all, told_step, breaks, admits_back, called_back, names_call, body_told}
-use Rattle.afs_law.specs.Going.{Going, asked, ClientState}
+use Rattle.afs_rows.specs.Callbacks.{Owed, breaks_call}
+use Rattle.afs_rows.specs.ClientRow.{the_server, find_cached, ignores, is_named, names_act, is_waiting, drop_line, done_reply, back_seat, drops_fids, drops_all, told_step, breaks, admits_back, called_back, names_call, body_told}
+use Rattle.afs_rows.specs.Going.{Going, asked, ClientState}
 use Rattle.afs_law.specs.Grants.{has_fetched, IsWithdrawn, IsDropped, since}
 use Rattle.afs_law.specs.Ideal.{last_version, HasVersion, Accepts, clock_of, reach, Reach, reach_over, change_key, changed_under, volume_after}
 use Rattle.afs_law.specs.Legal.{IsNew, AreGood, GoodReply}
-use Rattle.afs_law.specs.Lines.{Line}
+use Rattle.afs_history.specs.declared.lines.Line.{Line}
 use Rattle.afs_law.specs.Past.{onto, lines_of, sent_of, running, has_begun}
-use Rattle.afs_law.specs.Runs.{Entry, Cell, client_moves}
-use Rattle.afs_law.specs.ServerRow.{boot_told}
-use Rattle.afs_law.specs.States.{CacheEntry, Seat}
-use Rattle.afs_law.specs.Steps.{Step}
+use Rattle.afs_rows.specs.Runs.{Entry, Cell, client_moves}
+use Rattle.afs_rows.specs.ServerRow.{boot_told}
+use Rattle.afs_rows.specs.States.{CacheEntry, Seat}
+use Rattle.afs_rows.specs.Steps.{Step}
 use Rattle.afs_model.specs.Calls.{Admitted}
 -- A client is called by its server: it drops what it has cached of the broken promises.
 use Rattle.std.proofs.Common.{◌≡◌, ℕ, ◌≤◌, ◌⊎◌, inl, inr, Bool, true, false, cond, nat_eq, not, List, [], ◌∷◌, map, Option, Some, None, refl, sym, ap, subst, ◌∙◌}
@@ -46,7 +46,7 @@ use Rattle.afs_num.specs.declared.scripts.Script.{Script}
 use Rattle.afs_num.specs.declared.histories.Actor.TheVariants as actors
 use Rattle.afs_num.specs.declared.histories.Body.{Body}
 use Rattle.afs_num.specs.declared.histories.Body.TheVariants as bodies
-use Rattle.afs_law.specs.Lines as lines
+use Rattle.afs_history.specs.declared.lines.Line.TheVariants as lines
 use Rattle.std.specs.Option.{option_map}
 use Rattle.afs_num.specs.declared.histories.Version.{Version}
 use Rattle.afs_num.specs.declared.calls.AfsCallBack.{AfsCallBack}
@@ -91,7 +91,7 @@ pub record Skips (n : ℕ) (fs : List Fid) : Type 0 where
   pub last : (f : Fid) (o : List Line) → last_version f (onto o (drops_of n fs)) ≡ last_version f o
   pub withdrawn : (q c : Node) (f : Fid) (o : List Line) → IsWithdrawn q c f o → IsWithdrawn q c f (onto o (drops_of n fs))
   pub kept : (q c : Node) (f : Fid) (o : List Line) → (Client n ≡ c → is_named f fs ≡ false) → IsDropped q c f (onto o (drops_of n fs)) → IsDropped q c f o
-  pub runs : (c : Node) (o : List Line) → running c (onto o (drops_of n fs)) ≡ running c o
+  pub runs : (s : Script) (c : Node) (o : List Line) → running s c (onto o (drops_of n fs)) ≡ running s c o
   pub new : (k : Key) (o : List Line) → IsNew k o → IsNew k (onto o (drops_of n fs))
   pub clock : (o : List Line) → clock_of (onto o (drops_of n fs)) ≡ clock_of o
   pub home : (s : Script) (id : ℕ) (o : List Line) → Accepts s id the_server o → Accepts s id the_server (onto o (drops_of n fs))
@@ -123,7 +123,7 @@ skips n [] = record {
   last = λ f o. refl;
   withdrawn = λ q c f o x. x;
   kept = λ q c f o w x. x;
-  runs = λ c o. refl;
+  runs = λ s c o. refl;
   new = λ k o x. x;
   clock = λ o. refl;
   home = λ s id o x. x;
@@ -150,7 +150,7 @@ skips n (g ∷ fs) =
         | inl y ↦ let a : same_fid g f ≡ false = (named_not (same_fid g f) (is_named f fs) (w y.0)).0 in let b : same_fid g f ≡ true = ap (same_fid g) (sym y.1) ∙ same_fid-refl g in absurd cc
         | inr y ↦ y
       ];
-      runs = λ c o. ih.runs c (lines.Drop (Client n) g ∷ o);
+      runs = λ s c o. ih.runs s c (lines.Drop (Client n) g ∷ o);
       new = λ k o x. ih.new k (lines.Drop (Client n) g ∷ o) x;
       clock = λ o. ih.clock (lines.Drop (Client n) g ∷ o);
       home = λ s id o x. ih.home s id (lines.Drop (Client n) g ∷ o) x;
@@ -175,14 +175,14 @@ client_none n j X e = subst (λ (m : Node). OfClient m X) (sym e) tt
 pub not_good : (past : List Entry) (m : Message) (n : ℕ) → m.head.from ≡ Client n → GoodReply past m
 not_good past m n e is nought i from = absurd cc
 
-pub reply_fresh : (c : Cell) (n : ℕ) (views : ℕ → View) (past : List Entry) (m : Message) → SeatedIn c.down c.backs.calls c.backs.last_call c.server.boot past n m → Fresh c n views past (m ∷ [])
-reply_fresh c n views past m x = record {
+pub reply_fresh : {s : Script} → (c : Cell) (n : ℕ) (views : ℕ → View) (past : List Entry) (m : Message) → SeatedIn c.down c.backs.calls c.backs.last_call c.server.boot past n m → Fresh s c n views past (m ∷ [])
+reply_fresh {s} c n views past m x = record {
   news = record {
     calls = (no_call (ByClient (CallIn views)) m.head m.carried x.is_reply, tt);
     replies = (of_reply_any _ m.carried (client_none m.head.to 1 _ x.to), tt);
     notices = (no_notice _ m.carried x.is_reply, tt);
-    origins = (no_call (ByClient (Origin past)) m.head m.carried x.is_reply, tt);
-    acts = (no_call (ByClient (IsActs past)) m.head m.carried x.is_reply, tt);
+    origins = (no_call (ByClient (Origin s past)) m.head m.carried x.is_reply, tt);
+    acts = (no_call (ByClient (IsActs s past)) m.head m.carried x.is_reply, tt);
     lasts = (no_call (ByClient (IsLastCall views)) m.head m.carried x.is_reply, tt);
     ones = (no_call (ByClient (IsOne (sent_of past))) m.head m.carried x.is_reply, tt);
     to_clients = (no_call ToClient m.head m.carried x.is_reply, tt);
@@ -192,8 +192,8 @@ reply_fresh c n views past m x = record {
   dones = (of_reply_any _ m.carried (server_any m.head.to _ (record { client = n; from = x.from; done = x.done })), tt);
 }
 
-pub notice_fresh : (c : Cell) (n : ℕ) (views : ℕ → View) (past : List Entry) (boot : ℕ) (head : Head) → head.from ≡ the_server → Fresh c n views past (boot_told boot head ∷ [])
-notice_fresh c n views past boot head e = record {
+pub notice_fresh : {s : Script} → (c : Cell) (n : ℕ) (views : ℕ → View) (past : List Entry) (boot : ℕ) (head : Head) → head.from ≡ the_server → Fresh s c n views past (boot_told boot head ∷ [])
+notice_fresh {s} c n views past boot head e = record {
   news = record { calls = (tt, tt); replies = (tt, tt); notices = (client_none head.from 1 _ e, tt); origins = (tt, tt); acts = (tt, tt); lasts = (tt, tt); ones = (tt, tt); to_clients = (tt, tt) };
   good = ((λ is nought i from. absurd is.1), tt);
   calls = (tt, tt);
@@ -201,10 +201,10 @@ notice_fresh c n views past boot head e = record {
 }
 
 -- the client tells the server something, and that is all
-pub tells_goes : (s : Script) (c : Cell) (past : List Entry) (n p : ℕ) (m : Message) (ms : List Message) → (h : Holds s c past) → Heard c p m → ((e : Entry) → Plain e.lines → Fresh c n (views_after h.floors c n (h.floors n) (c.clients n)) (e ∷ past) ms) → Goes s past (client_moves c n (told_step (c.clients n) p ms))
+pub tells_goes : (s : Script) (c : Cell) (past : List Entry) (n p : ℕ) (m : Message) (ms : List Message) → (h : Holds s c past) → Heard c p m → ((e : Entry) → Plain e.lines → Fresh s c n (views_after h.floors c n (h.floors n) (c.clients n)) (e ∷ past) ms) → Goes s past (client_moves c n (told_step (c.clients n) p ms))
 tells_goes s c past n p m ms h heard fresh =
     let e : Entry = step_entry n (lines.Given p ∷ []) ms in
-    moves s c past n (h.floors n) (told_step (c.clients n) p ms) h (tt, tt) (told_passes s c past n p m ms h heard)
+    moves s c past n (h.floors n) (told_step (c.clients n) p ms) h refl (tt, tt) (told_passes s c past n p m ms h heard)
     (client_still n (view h.floors c n) e past (λ f. told_file n p f (actors.Node (Client n)) ms past) (λ f. told_reach n p f (actors.Node (Client n)) ms past) (told_act n p (actors.Node (Client n)) ms past) (λ f. refl) (h.clients n))
     (λ head call f. f) (reply_still n (view h.floors c n) e past (λ f. told_file n p f (actors.Node (Client n)) ms past) (λ f. told_reach n p f (actors.Node (Client n)) ms past) (λ f. refl)) (fresh e (record { up = refl; still = refl; oweless = refl; unchanging = refl })) (λ a x z. inl x) refl
 
@@ -263,7 +263,7 @@ pub broken_passes : (s : Script) (c : Cell) (past : List Entry) (n p : ℕ) (m :
 broken_passes s c past n p m fs ms h d = record {
   file = λ j ne f. broken_file n j p fs ms past f (λ e. absurd (ne (client_number n j e)));
   reach = λ j ne f. broken_reach n j p fs ms past f;
-  act = λ j ne. record { runs = λ o. (skips n fs).runs (Client j) (lines.Given p ∷ o); begins = (skips n fs).begins (Client j) };
+  act = λ j ne. record { runs = λ s o. (skips n fs).runs s (Client j) (lines.Given p ∷ o); begins = (skips n fs).begins (Client j) };
   last = λ f o. (skips n fs).last f (lines.Given p ∷ o);
   back = λ f i b o x. (skips n fs).back f i b (lines.Given p ∷ o) x;
   new = λ k o x. (skips n fs).new k (lines.Given p ∷ o) x;
@@ -341,7 +341,7 @@ drops_goes s c past n p head user fs cbs h heard to from b =
       };
     } in
     let done : SeatedIn c.down c.backs.calls c.backs.last_call c.server.boot (e ∷ past) n reply = done_seated c n (e ∷ past) (c.clients n) head replies.CallBack from to (handled s c past n head user (calls.CallBack fs cbs) e h b to (skips n fs).ups (λ w o z. (skips n fs).drop w (lines.Given p ∷ o) z)) in
-    moves_back s c past n (h.floors n) st h (tt, (skips n fs).good s past (lines.Given p ∷ [])) (broken_passes s c past n p _ fs (reply ∷ []) h heard)
+    moves_back s c past n (h.floors n) st h refl (tt, (skips n fs).good s past (lines.Given p ∷ [])) (broken_passes s c past n p _ fs (reply ∷ []) h heard)
     (record {
       behind = d.behind;
       behind_durable = d.behind_durable;
@@ -352,13 +352,13 @@ drops_goes s c past n p head user fs cbs h heard to from b =
       floored = d.floored;
       holds = d.holds;
       waits = d.waits;
-      idle = λ y. (skips n fs).runs (Client n) (lines.Given p ∷ lines_of past) ∙ d.idle y;
+      idle = λ y. (skips n fs).runs s (Client n) (lines.Given p ∷ lines_of past) ∙ d.idle y;
       made = λ act y f o z. (broken_reach n n p fs (reply ∷ []) past f).made (d.made act y f o (left_known (λ x. is_named x fs) act c.clock f (c.clients n).cache z));
       current = λ f u found lasts.
           let was = left_out (λ x. is_named x fs) f (c.clients n).cache u found in
           let pass : PassesFile n f e past = broken_file n n p fs (reply ∷ []) past f (λ z. was.1) in
           current_over n f u (view h.floors c n) v e past (le_refl _) pass (stands_over n f u.index (view h.floors c n) e past (broken_reach n n p fs (reply ∷ []) past f).seen (stays n f e past pass.grant (last f))) (d.current f u was.0 lasts);
-      runs = λ act y. (skips n fs).runs (Client n) (lines.Given p ∷ lines_of past) ∙ d.runs act y;
+      runs = λ act y. (skips n fs).runs s (Client n) (lines.Given p ∷ lines_of past) ∙ d.runs act y;
       asked = λ act y. inr ((skips n fs).begins (Client n), d.asked act y);
       reached = reached_still s c past n e h (λ f. (broken_reach n n p fs (reply ∷ []) past f).both) last;
     })
@@ -371,7 +371,7 @@ pub all_passes : (s : Script) (c : Cell) (past : List Entry) (n p : ℕ) (m : Me
 all_passes s c past n p m q ms h d = record {
   file = λ j ne f. record { grant = record { version = λ i b o x. x; dropped = λ z o x. elim x [ inl y ↦ absurd (ne (client_number n j y.0)) | inr y ↦ y ]; withdrawn = λ z o x. x }; fetched = refl };
   reach = λ j ne f. record { both = λ i x. record { made = x.made; seen = x.seen }; seen = λ i x. x; made = λ x. x };
-  act = λ j ne. record { runs = λ o. refl; begins = refl };
+  act = λ j ne. record { runs = λ s o. refl; begins = refl };
   last = λ f o. refl;
   back = λ f i b o x. x;
   new = λ k o x. x;
@@ -443,7 +443,7 @@ drops_all_goes s c past n p head user h heard to from b =
       };
     } in
     let done : SeatedIn c.down c.backs.calls c.backs.last_call c.server.boot (e ∷ past) n reply = done_seated c n (e ∷ past) (c.clients n) head replies.InitCallBackState from to (handled s c past n head user calls.InitCallBackState e h b to refl (λ w o z. inl (refl, from))) in
-    moves_back s c past n (h.floors n) st h (tt, (refl, tt)) (all_passes s c past n p _ head.from (reply ∷ []) h heard)
+    moves_back s c past n (h.floors n) st h refl (tt, (refl, tt)) (all_passes s c past n p _ head.from (reply ∷ []) h heard)
     (record {
       behind = d.behind;
       behind_durable = d.behind_durable;

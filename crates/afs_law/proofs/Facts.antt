@@ -5,18 +5,18 @@ use Rattle.afs_ideal.specs.Volumes.{Vnode, Volume}
 use Rattle.afs_law.proofs.Basics.{Below, UpTo, Above, Each, IfCall, IfReply, IfNotice, OfCall, OfReply}
 use Rattle.afs_law.proofs.Edits.{Ones, index_in, SoundIn, Tops}
 use Rattle.afs_law.proofs.Owing.{BackedIn}
-use Rattle.afs_law.specs.Callbacks.{replies_of}
-use Rattle.afs_law.specs.ClientRow.{the_server, find_cached, body_told}
-use Rattle.afs_law.specs.Going.{asked, Going, ClientState}
+use Rattle.afs_rows.specs.Callbacks.{replies_of}
+use Rattle.afs_rows.specs.ClientRow.{the_server, find_cached, body_told}
+use Rattle.afs_rows.specs.Going.{asked, Going, ClientState}
 use Rattle.afs_law.specs.Grants.{fetch_reply, GrantOf, since, IsWithdrawn, IsDropped}
 use Rattle.afs_law.specs.Ideal.{is_zero_code, last_version, IsLast, HasVersion, Accepts, clock_of, user_of, reach, call_under, volume_after}
 use Rattle.afs_law.specs.Legal.{IsNew, Cause, AreGood, AreGoodReplies}
-use Rattle.afs_law.specs.Lines.{Line}
+use Rattle.afs_history.specs.declared.lines.Line.{Line}
 use Rattle.afs_law.specs.Past.{is_of_act, lines_of, sent_of, called_key, running, Called, CalledSince, IsUnheard, Ran}
-use Rattle.afs_law.specs.Runs.{Entry, Cell, Moved, Fall, at_rest, in_step, in_boot, message_at}
-use Rattle.afs_law.specs.Scopes.{is_in_scope}
-use Rattle.afs_law.specs.ServerRow.{reply_head}
-use Rattle.afs_law.specs.States.{CacheEntry, Seat, ServerState}
+use Rattle.afs_rows.specs.Runs.{locations, Entry, Cell, Moved, Fall, at_rest, in_step, in_boot, message_at}
+use Rattle.afs_rows.specs.Scopes.{is_in_scope}
+use Rattle.afs_rows.specs.ServerRow.{reply_head}
+use Rattle.afs_rows.specs.States.{CacheEntry, Seat, ServerState}
 use Rattle.afs_model.specs.Calls.{call_seat}
 use Rattle.std.specs.Prelude.{Bool, true, false, ◌++◌, if◌then◌else◌, ⊤}
 use Rattle.afs_num.specs.Nodes.{same_node}
@@ -34,7 +34,7 @@ use Rattle.afs_num.specs.declared.histories.Body.{Body}
 use Rattle.afs_num.specs.declared.calls.FsReply.{FsReply}
 use Rattle.afs_num.specs.declared.calls.AfsFetchStatus.{AfsFetchStatus}
 use Rattle.afs_num.specs.declared.calls.AfsCallBack.{AfsCallBack}
-use Rattle.afs_law.specs.Lines as lines
+use Rattle.afs_history.specs.declared.lines.Line.TheVariants as lines
 use Rattle.afs_num.specs.declared.calls.FsCall.TheVariants as calls
 use Rattle.afs_num.specs.declared.calls.FsReply.TheVariants as replies
 use Rattle.afs_num.specs.declared.messages.Carried.TheVariants as carried
@@ -336,7 +336,7 @@ pub record IsTrusted (clock : ℕ) (f : Fid) (cache : List CacheEntry) : Type 0 
 abbrev pub IsKnown : Going → ℕ → Fid → List CacheEntry → Type 0
 IsKnown act clock f cache = (volume_changed (asked act) ≡ None) ⊎ IsTrusted clock f cache
 
-pub record ClientFacts (j : ℕ) (v : View) (past : List Entry) : Type 0 where
+pub record ClientFacts (s : Script) (j : ℕ) (v : View) (past : List Entry) : Type 0 where
   pub behind : IsBehind v.seat v
   pub behind_durable : IsBehind v.durable v
   pub lower : (e n : ℕ) → Above v.seat e n → Above v.durable e n
@@ -346,10 +346,10 @@ pub record ClientFacts (j : ℕ) (v : View) (past : List Entry) : Type 0 where
   pub floored : v.floor ≤ v.boot
   pub holds : v.held ≤ v.boot
   pub waits : (act : Going) → v.running ≡ Some act → v.held ≤ v.floor
-  pub idle : v.running ≡ None → running (Client j) (lines_of past) ≡ None
+  pub idle : v.running ≡ None → running s (Client j) (lines_of past) ≡ None
   pub made : (act : Going) → v.running ≡ Some act → (f : Fid) → (InScope (asked act) f → ⊥) → IsKnown act v.clock f v.cache → (reach (Client j) f past).made ≡ 0
   pub current : HasCurrent j v past
-  pub runs : (act : Going) → v.running ≡ Some act → running (Client j) (lines_of past) ≡ Some act
+  pub runs : (act : Going) → v.running ≡ Some act → running s (Client j) (lines_of past) ≡ Some act
   pub asked : (act : Going) → v.running ≡ Some act → CalledSince (last_key j v) (user_of (Client j)) (asked act) past
   pub reached : (f : Fid) → Reached (Client j) f (index_in (last_version f (lines_of past))) past
 
@@ -405,8 +405,8 @@ pub record HeldIn (views : ℕ → View) (past : List Entry) (m : Message) : Typ
   pub fact : ReplyFact client (views client) past m
 
 -- a changing call of the act that the client began last is what the running act asks
-abbrev pub IsActs : List Entry → Head → List ℕ → FsCall → Type 0
-IsActs past head user call = is_of_act head.from (called_key head) past ≡ true → (act : Going) → running head.from (lines_of past) ≡ Some act → (volume_changed call ≡ None) ⊎ (call ≡ asked act)
+abbrev pub IsActs : Script → List Entry → Head → List ℕ → FsCall → Type 0
+IsActs s past head user call = is_of_act head.from (called_key head) past ≡ true → (act : Going) → running s head.from (lines_of past) ≡ Some act → (volume_changed call ≡ None) ⊎ (call ≡ asked act)
 
 -- an act ran that asked to read
 pub record Reading (o : Option Going) : Type 0 where
@@ -421,9 +421,9 @@ pub record IsLastCall (views : ℕ → View) (head : Head) (user : List ℕ) (ca
   pub epoch : head.epoch ≡ (views client).epoch
   pub number : head.number ≡ (views client).last
 
-pub record Origin (past : List Entry) (head : Head) (user : List ℕ) (call : FsCall) : Type 0 where
+pub record Origin (s : Script) (past : List Entry) (head : Head) (user : List ℕ) (call : FsCall) : Type 0 where
   pub act : Going
-  pub called : Called (called_key head) user call act past
+  pub called : Called s (called_key head) user call act past
   pub own_user : user ≡ user_of head.from
   pub own_call : call ≡ asked act
 
@@ -439,12 +439,12 @@ IsNoticed boot m = m.head.boot ≤ boot
 abbrev pub ToClient : Head → List ℕ → FsCall → Type 0
 ToClient head user call = ((j : ℕ) → head.from ≡ Client j → ⊥) → head.to ≡ the_server → ⊥
 
-pub record SentFacts (sent held : List Message) (views : ℕ → View) (boot : ℕ) (past : List Entry) : Type 0 where
+pub record SentFacts (s : Script) (sent held : List Message) (views : ℕ → View) (boot : ℕ) (past : List Entry) : Type 0 where
   pub calls : Each (IfCall (CallIn views)) sent
   pub replies : Each (IfReply (ReplyIn views past)) sent
   pub notices : Each (IfNotice (IsNoticed boot)) sent
-  pub origins : Each (IfCall (Origin past)) sent
-  pub acts : Each (IfCall (IsActs past)) sent
+  pub origins : Each (IfCall (Origin s past)) sent
+  pub acts : Each (IfCall (IsActs s past)) sent
   pub ones : Each (IfCall (IsOne sent)) sent
   pub told : sent_of past ≡ sent
   pub waiting : Each (HeldIn views past) held
@@ -517,10 +517,11 @@ pub record HoldsAt (s : Script) (now : Option ℕ) (c : Cell) (past : List Entry
   pub new : AreNew c.server.durable (lines_of past)
   pub unheard : AreUnheard c.down c.server.seats c.server.boot past
   pub count : c.count ≡ s.clients
+  pub tables : (j : ℕ) → (c.clients j).table ≡ locations s
   pub booted : 1 ≤ c.server.boot
   pub boots : server_boot the_server (lines_of past) ≡ now
-  pub clients : (j : ℕ) → ClientFacts j (view floors c j) past
-  pub sent : SentFacts c.sent (replies_of c.backs.held) (view floors c) c.server.boot past
+  pub clients : (j : ℕ) → ClientFacts s j (view floors c j) past
+  pub sent : SentFacts s c.sent (replies_of c.backs.held) (view floors c) c.server.boot past
   pub down : HasFallen c.down c.server c.sent past
   pub clock : clock_of (lines_of past) ≡ c.clock
   pub top : Tops (lines_of past)

@@ -1,21 +1,22 @@
-use Rattle.std.proofs.Common.{◌≡◌, Option, List, [], ◌∷◌, ◌++◌, map, refl, sym, ap, subst, ◌∙◌}
+use Rattle.std.proofs.Common.{◌≡◌, ℕ, Option, List, [], ◌∷◌, ◌++◌, map, refl, sym, ap, subst, ◌∙◌}
 use Rattle.afs_num.specs.declared.types.Key.{Key}
 use Rattle.afs_num.specs.declared.scripts.Script.{Script}
 use Rattle.afs_ideal.specs.Tables.{Table, get}
 use Rattle.afs_ideal.specs.Volumes.{Volume}
 use Rattle.afs_law.proofs.Law.{legal, first_passed}
-use Rattle.afs_law.specs.Callbacks.{first_backs}
-use Rattle.afs_law.specs.ClientRow.{the_server}
+use Rattle.afs_rows.specs.Callbacks.{first_backs}
+use Rattle.afs_rows.specs.ClientRow.{the_server}
 use Rattle.afs_law.specs.Ideal.{set_up, change_in}
 use Rattle.afs_law.specs.Legal.{IsNot, IsNew, IsGood, AreGood, LegalAfter, Legal}
-use Rattle.afs_law.specs.Lines.{Line}
+use Rattle.afs_history.specs.declared.lines.Line.{Line}
 use Rattle.afs_law.specs.Once.{IsFirst, AreOnce, past_of, ChangesOnce}
 use Rattle.afs_law.specs.OneServer.{AreAtServer}
 use Rattle.afs_law.specs.Past.{onto, lines_on, lines_of}
-use Rattle.afs_law.specs.Runs.{Entry, Cell, unarmed, start, first_client, first_server, RunsTo, Leads, first_volume, first_volumes, unless_there}
+use Rattle.afs_rows.specs.States.{Location}
+use Rattle.afs_rows.specs.Runs.{locations, location_of, Entry, Cell, unarmed, start, first_client, first_server, RunsTo, Leads, first_volume, first_volumes, unless_there}
 use Rattle.afs_num.specs.declared.scripts.VolumeLine.{VolumeLine}
 use Rattle.std.specs.Prelude.{is_some, Some, None, false}
-use Rattle.afs_law.specs.Lines as lines
+use Rattle.afs_history.specs.declared.lines.Line.TheVariants as lines
 use Rattle.afs_num.specs.declared.histories.Actor.{Actor}
 
 -- A key changes something at most once in a run.
@@ -84,18 +85,28 @@ pub all_at : (vs : List VolumeLine) → AreAtServer (map at_server vs)
 all_at [] = tt
 all_at (v ∷ vs) = (refl, all_at vs)
 
+same_locations : (vs : List VolumeLine) → map location_of (map at_server vs) ≡ map location_of vs
+same_locations [] = refl
+same_locations (v ∷ vs) = ap (λ (t : List Location). location_of v ∷ t) (same_locations vs)
+
+-- a cell that starts with these volumes, and clients that know these
+abbrev starting : ℕ → Table Volume → List Location → Cell
+starting count volumes table = record {
+  server = first_server volumes;
+  backs = first_backs;
+  count = count;
+  down = None;
+  armed = unarmed;
+  clients = λ n. first_client table;
+  away = λ n. false;
+  sent = [];
+  clock = 0;
+}
+
 pub once : (s : Script) (h : List Entry) (end : Cell) → RunsTo h s end → ChangesOnce h
 once s h end r =
     let one : Script = record s { servers = 1; volumes = map at_server s.volumes } in
-    let same : start s ≡ start one = ap (λ (volumes : Table Volume). record {
-      server = first_server volumes;
-      backs = first_backs;
-      count = s.clients;
-      down = None;
-      armed = unarmed;
-      clients = λ n. first_client;
-      away = λ n. false;
-      sent = [];
-      clock = 0;
-    }) (sym (same_volumes s.volumes)) in
+    let same : start s ≡ start one =
+    ap (λ (volumes : Table Volume). starting s.clients volumes (locations s)) (sym (same_volumes s.volumes))
+    ∙ ap (starting s.clients (first_volumes one.volumes)) (sym (same_locations s.volumes)) in
     legal_once one h (legal one h end (refl, all_at s.volumes) (record { inputs = r.inputs; leads = subst (λ (c : Cell). Leads c r.inputs h end) same r.leads }))

@@ -29,7 +29,7 @@ use Rattle.afs_law.proofs.Edits.{get-set, get-unset}
 use Rattle.afs_law.proofs.Facts.{IsReadable, IsFine, AreFine}
 use Rattle.afs_law.proofs.Ops.{AllHold, all_hold}
 use Rattle.afs_law.proofs.Serving.{own_found, own_unique}
-use Rattle.afs_law.specs.Runs.{laid_or, all_laid, first_volume}
+use Rattle.afs_rows.specs.Runs.{laid_or, all_laid, first_volume}
 use Rattle.afs_ideal.specs.Operations as ops
 use Rattle.std.specs.Option.{ok_or}
 use Rattle.afs_shape.specs.Reading.{◌>>=◌}

@@ -1,3 +1,4 @@
+use Rattle.afs_num.specs.declared.scripts.Script.{Script}
 use Rattle.std.proofs.Common.{◌≡◌, ℕ, ◌≤◌, inl, inr, Bool, true, false, cond, List, [], ◌∷◌, ◌++◌, Option, Some, None, ℤ, refl, sym, ap, ◌∙◌, subst, arith, le_of_eq, le_trans, eqb-true}
 use Rattle.std.specs.Option.{option_map}
 use Rattle.afs_num.specs.declared.types.Fid.{Fid}
@@ -12,15 +13,15 @@ use Rattle.afs_ideal.specs.Operations.{volume_changed, Result, changes}
 use Rattle.afs_law.proofs.Basics.{Each, IfCall, IfReply, IfNotice, each_more, each_map, if_call, if_reply, if_notice, at_more, ByClient, OfClient, by_client, both, same_node-true, same_node-refl, client_number, OfCall}
 use Rattle.afs_law.proofs.Edits.{index_in}
 use Rattle.afs_law.proofs.Facts.{IsKeptBody, Seen, IsActs, IsLastCall, View, Spot, spot, Reached, Held, IsNewest, Stands, IsCurrent, IsFetched, Fits, Answers, ReplyFact, AreKept, ClientFacts, CallIn, ReplyIn, Origin, HeldIn, ToClient, SentFacts, HasFallen, Reading, FitsReply, FitsData, FitsSet, WasChanged, WasStored, IsOne, IsNoticed}
-use Rattle.afs_law.specs.ClientRow.{the_server, body_told}
-use Rattle.afs_law.specs.Going.{asked, Going}
+use Rattle.afs_rows.specs.ClientRow.{the_server, body_told}
+use Rattle.afs_rows.specs.Going.{asked, Going}
 use Rattle.afs_law.specs.Grants.{has_fetched, fetch_reply, GrantOf, since, IsWithdrawn, IsDropped}
 use Rattle.afs_law.specs.Ideal.{last_version, HasVersion, reach, change_in, call_in, call_under}
 use Rattle.afs_law.specs.Legal.{IsResult, IsKey, HasChange, Cause, answer_at, IsTold}
-use Rattle.afs_law.specs.Lines.{Line}
+use Rattle.afs_history.specs.declared.lines.Line.{Line}
 use Rattle.afs_law.specs.Past.{onto, lines_of, sent_of, given_message, running, has_begun, Ran, called_key, same_key, is_called, has_sent, is_sent_since, answered_key}
-use Rattle.afs_law.specs.Runs.{Entry, Fall, at_rest, in_step, in_boot}
-use Rattle.afs_law.specs.States.{CacheEntry, Seat, ServerState}
+use Rattle.afs_rows.specs.Runs.{Entry, Fall, at_rest, in_step, in_boot}
+use Rattle.afs_rows.specs.States.{CacheEntry, Seat, ServerState}
 use Rattle.afs_num.specs.declared.histories.Body.{Body}
 use Rattle.afs_num.specs.declared.histories.Version.{Version}
 use Rattle.std.proofs.Math.Nat.{le_refl}
@@ -50,7 +51,7 @@ pub record PassesFile (j : ℕ) (f : Fid) (e : Entry) (past : List Entry) : Type
   pub fetched : has_fetched (Client j) f e.lines ≡ false
 
 pub record PassesAct (j : ℕ) (e : Entry) (past : List Entry) : Type 0 where
-  pub runs : (o : List Line) → running (Client j) (onto o e.lines) ≡ running (Client j) o
+  pub runs : (s : Script) (o : List Line) → running s (Client j) (onto o e.lines) ≡ running s (Client j) o
   pub begins : has_begun (Client j) e.lines ≡ false
 
 abbrev pub PassesBoth : ℕ → Fid → Entry → List Entry → Type 0
@@ -277,9 +278,9 @@ kept_over j o v w past newer over h seat m x y = ((h seat m x y).0, over m (h se
 pub reached_more : (c : Node) (f : Fid) (i k : ℕ) (past : List Entry) → i ≤ k → Reached c f i past → Reached c f k past
 reached_more c f i k past le h = let a : (reach c f past).made ≤ i = h.made in let b : (reach c f past).seen ≤ i = h.seen in record { made = omega arith; seen = omega arith }
 
-pub client_over : (j : ℕ) (v : View) (e : Entry) (past : List Entry) → ((f : Fid) → PassesFile j f e past) → ((f : Fid) → PassesReach j f e past) → ((f : Fid) → StaysNewest j f e past) → PassesAct j e past
-    → ((f : Fid) → index_in (last_version f (lines_of past)) ≤ index_in (last_version f (lines_of (e ∷ past)))) → ClientFacts j v past → ClientFacts j v (e ∷ past)
-client_over j v e past p r n q l h =
+pub client_over : {s : Script} → (j : ℕ) (v : View) (e : Entry) (past : List Entry) → ((f : Fid) → PassesFile j f e past) → ((f : Fid) → PassesReach j f e past) → ((f : Fid) → StaysNewest j f e past) → PassesAct j e past
+    → ((f : Fid) → index_in (last_version f (lines_of past)) ≤ index_in (last_version f (lines_of (e ∷ past)))) → ClientFacts s j v past → ClientFacts s j v (e ∷ past)
+client_over {s} j v e past p r n q l h =
     let over : (m : Message) → ReplyFact j v past m → ReplyFact j v (e ∷ past) m = λ m. reply_over j v m e past (λ f. (p f).grant) r n in
     record {
       behind = h.behind;
@@ -291,26 +292,26 @@ client_over j v e past p r n q l h =
       floored = h.floored;
       holds = h.holds;
       waits = h.waits;
-      idle = λ x. q.runs (lines_of past) ∙ h.idle x;
+      idle = λ x. q.runs s (lines_of past) ∙ h.idle x;
       made = λ act x f o z. (r f).made (h.made act x f o z);
       current = λ f u found lasts. current_over j f u v v e past (le_refl _) (p f) (stands_over j f u.index v e past (r f).seen (n f)) (h.current f u found lasts);
-      runs = λ act x. q.runs (lines_of past) ∙ h.runs act x;
+      runs = λ act x. q.runs s (lines_of past) ∙ h.runs act x;
       asked = λ act x. inr (q.begins, h.asked act x);
       reached = λ f. reached_more (Client j) f (index_in (last_version f (lines_of past))) (index_in (last_version f (lines_of (e ∷ past)))) (e ∷ past) (l f) ((r f).both (index_in (last_version f (lines_of past))) (h.reached f));
     }
 
 -- over an entry that changes no file
-pub client_still : (j : ℕ) (v : View) (e : Entry) (past : List Entry) → ((f : Fid) → PassesFile j f e past) → ((f : Fid) → PassesReach j f e past) → PassesAct j e past
-    → ((f : Fid) → last_version f (lines_of (e ∷ past)) ≡ last_version f (lines_of past)) → ClientFacts j v past → ClientFacts j v (e ∷ past)
-client_still j v e past p r q l h = client_over j v e past p r (λ f. stays j f e past (p f).grant (l f)) q (λ f. le_of_eq (ap index_in (sym (l f)))) h
+pub client_still : {s : Script} → (j : ℕ) (v : View) (e : Entry) (past : List Entry) → ((f : Fid) → PassesFile j f e past) → ((f : Fid) → PassesReach j f e past) → PassesAct j e past
+    → ((f : Fid) → last_version f (lines_of (e ∷ past)) ≡ last_version f (lines_of past)) → ClientFacts s j v past → ClientFacts s j v (e ∷ past)
+client_still {s} j v e past p r q l h = client_over j v e past p r (λ f. stays j f e past (p f).grant (l f)) q (λ f. le_of_eq (ap index_in (sym (l f)))) h
 
 -- ---- messages in flight
 
-pub origin_over : (e : Entry) (past : List Entry) (head : Head) (user : List ℕ) (call : FsCall) → Origin past head user call → Origin (e ∷ past) head user call
-origin_over e past head user call o = record { act = o.act; called = inr o.called; own_user = o.own_user; own_call = o.own_call }
+pub origin_over : {s : Script} → (e : Entry) (past : List Entry) (head : Head) (user : List ℕ) (call : FsCall) → Origin s past head user call → Origin s (e ∷ past) head user call
+origin_over {s} e past head user call o = record { act = o.act; called = inr o.called; own_user = o.own_user; own_call = o.own_call }
 
-pub older_origins : (sent : List Message) (e : Entry) (past : List Entry) → Each (IfCall (Origin past)) sent → Each (IfCall (Origin (e ∷ past))) sent
-older_origins sent e past h = each_map (IfCall (Origin past)) (IfCall (Origin (e ∷ past))) (if_call (Origin past) (Origin (e ∷ past)) (origin_over e past)) sent h
+pub older_origins : (s : Script) (sent : List Message) (e : Entry) (past : List Entry) → Each (IfCall (Origin s past)) sent → Each (IfCall (Origin s (e ∷ past))) sent
+older_origins s sent e past h = each_map (IfCall (Origin s past)) (IfCall (Origin s (e ∷ past))) (if_call (Origin s past) (Origin s (e ∷ past)) (origin_over e past)) sent h
 
 -- ---- calls of the act that began last
 
@@ -344,14 +345,14 @@ acts_by false true rest S x e p q = absurd cc
 acts_by false false rest S x e p q = q refl e
 
 -- the act that runs by the lines is the client's
-runs_now : (j : ℕ) (v : View) (past : List Entry) (o : Option Going) (a : Going) → v.running ≡ o → ClientFacts j v past → running (Client j) (lines_of past) ≡ Some a → v.running ≡ Some a
-runs_now j v past None a e h r = let none = h.idle e in absurd cc
-runs_now j v past (Some b) a e h r = e ∙ (sym (h.runs b e) ∙ r)
+runs_now : {s : Script} → (j : ℕ) (v : View) (past : List Entry) (o : Option Going) (a : Going) → v.running ≡ o → ClientFacts s j v past → running s (Client j) (lines_of past) ≡ Some a → v.running ≡ Some a
+runs_now {s} j v past None a e h r = let none = h.idle e in absurd cc
+runs_now {s} j v past (Some b) a e h r = e ∙ (sym (h.runs b e) ∙ r)
 
-act_over : (e : Entry) (past : List Entry) (w : ℕ → View) (head : Head) (user : List ℕ) (call : FsCall) → Each (IfCall (IsLastCall w)) e.sent → ((j : ℕ) → ClientFacts j (w j) (e ∷ past)) → ((j : ℕ) (a : Going) → (w j).running ≡ Some a → has_begun (Client j) e.lines ≡ false → ((running (Client j) (lines_of past) ≡ Some a) ⊎ Reading (running (Client j) (lines_of past)))) → CallIn w head user call → IsActs past head user call → IsActs (e ∷ past) head user call
-act_over e past w head user call lasts now k f h of_act act r =
+act_over : {s : Script} → (e : Entry) (past : List Entry) (w : ℕ → View) (head : Head) (user : List ℕ) (call : FsCall) → Each (IfCall (IsLastCall w)) e.sent → ((j : ℕ) → ClientFacts s j (w j) (e ∷ past)) → ((j : ℕ) (a : Going) → (w j).running ≡ Some a → has_begun (Client j) e.lines ≡ false → ((running s (Client j) (lines_of past) ≡ Some a) ⊎ Reading (running s (Client j) (lines_of past)))) → CallIn w head user call → IsActs s past head user call → IsActs s (e ∷ past) head user call
+act_over {s} e past w head user call lasts now k f h of_act act r =
     let since = (both (same_node head.from head.from) _ of_act).1 in
-    let runs : (w f.client).running ≡ Some act = runs_now f.client (w f.client) (e ∷ past) (w f.client).running act refl (now f.client) (subst (λ (n : Node). running n (lines_of (e ∷ past)) ≡ Some act) f.from r) in
+    let runs : (w f.client).running ≡ Some act = runs_now f.client (w f.client) (e ∷ past) (w f.client).running act refl (now f.client) (subst (λ (n : Node). running s n (lines_of (e ∷ past)) ≡ Some act) f.from r) in
     acts_by (has_sent (called_key head) e.sent) (has_begun head.from e.lines) ⊤ ((volume_changed call ≡ None) ⊎ (call ≡ asked act)) (is_sent_since head.from (called_key head) past) since
     (λ sent. let x : IsAmong (called_key head) (ByClient (IsLastCall w)) = among (called_key head) (IsLastCall w) e.sent sent lasts in
     let p = both _ _ x.key in
@@ -363,8 +364,8 @@ act_over e past w head user call lasts now k f h of_act act r =
     let number : head.number ≡ (w f.client).last = sym (eqb-true _ _ q.1) ∙ (its.number ∙ ap (λ (j : ℕ). (w j).last) one) in
     inr (f.fact.own act runs epoch number))
     (λ none old. elim (k f.client act runs (subst (λ (n : Node). has_begun n e.lines ≡ false) f.from none)) [
-      | inl x ↦ h (rw (same_node-refl head.from) old) act (subst (λ (n : Node). running n (lines_of past) ≡ Some act) (sym f.from) x)
-      | inr x ↦ elim (h (rw (same_node-refl head.from) old) x.act (subst (λ (n : Node). running n (lines_of past) ≡ Some x.act) (sym f.from) x.runs)) [ inl y ↦ inl y | inr y ↦ inl (ap volume_changed y ∙ x.read) ]
+      | inl x ↦ h (rw (same_node-refl head.from) old) act (subst (λ (n : Node). running s n (lines_of past) ≡ Some act) (sym f.from) x)
+      | inr x ↦ elim (h (rw (same_node-refl head.from) old) x.act (subst (λ (n : Node). running s n (lines_of past) ≡ Some x.act) (sym f.from) x.runs)) [ inl y ↦ inl y | inr y ↦ inl (ap volume_changed y ∙ x.read) ]
     ])
 
 both_client : (n : Node) (X Y Z : Type 0) → (X → Y → Z) → OfClient n X → OfClient n Y → OfClient n Z
@@ -373,17 +374,17 @@ both_client (Server n) X Y Z w x y = tt
 both_client (Admin n) X Y Z w x y = tt
 both_client Loc X Y Z w x y = tt
 
-acts_one : (c : Carried) (head : Head) (e : Entry) (past : List Entry) (w : ℕ → View) → Each (IfCall (IsLastCall w)) e.sent → ((j : ℕ) → ClientFacts j (w j) (e ∷ past)) → ((j : ℕ) (a : Going) → (w j).running ≡ Some a → has_begun (Client j) e.lines ≡ false → ((running (Client j) (lines_of past) ≡ Some a) ⊎ Reading (running (Client j) (lines_of past)))) → OfCall (ByClient (CallIn w)) head c → OfCall (ByClient (IsActs past)) head c → OfCall (ByClient (IsActs (e ∷ past))) head c
-acts_one (carried.Call user (ask.File call)) head e past w lasts now k f h = both_client head.from _ _ _ (act_over e past w head user call lasts now k) f h
-acts_one (carried.Call user (ask.Volume call)) head e past w lasts now k f h = absurd f
-acts_one (carried.Call user (ask.Location call)) head e past w lasts now k f h = absurd f
-acts_one (carried.Refusal code) head e past w lasts now k f h = tt
-acts_one (carried.Reply reply) head e past w lasts now k f h = tt
-acts_one carried.Notice head e past w lasts now k f h = tt
+acts_one : {s : Script} → (c : Carried) (head : Head) (e : Entry) (past : List Entry) (w : ℕ → View) → Each (IfCall (IsLastCall w)) e.sent → ((j : ℕ) → ClientFacts s j (w j) (e ∷ past)) → ((j : ℕ) (a : Going) → (w j).running ≡ Some a → has_begun (Client j) e.lines ≡ false → ((running s (Client j) (lines_of past) ≡ Some a) ⊎ Reading (running s (Client j) (lines_of past)))) → OfCall (ByClient (CallIn w)) head c → OfCall (ByClient (IsActs s past)) head c → OfCall (ByClient (IsActs s (e ∷ past))) head c
+acts_one {s} (carried.Call user (ask.File call)) head e past w lasts now k f h = both_client head.from _ _ _ (act_over e past w head user call lasts now k) f h
+acts_one {s} (carried.Call user (ask.Volume call)) head e past w lasts now k f h = absurd f
+acts_one {s} (carried.Call user (ask.Location call)) head e past w lasts now k f h = absurd f
+acts_one {s} (carried.Refusal code) head e past w lasts now k f h = tt
+acts_one {s} (carried.Reply reply) head e past w lasts now k f h = tt
+acts_one {s} carried.Notice head e past w lasts now k f h = tt
 
-pub acts_over : (sent : List Message) (e : Entry) (past : List Entry) (w : ℕ → View) → Each (IfCall (IsLastCall w)) e.sent → ((j : ℕ) → ClientFacts j (w j) (e ∷ past)) → ((j : ℕ) (a : Going) → (w j).running ≡ Some a → has_begun (Client j) e.lines ≡ false → ((running (Client j) (lines_of past) ≡ Some a) ⊎ Reading (running (Client j) (lines_of past)))) → Each (IfCall (CallIn w)) sent → Each (IfCall (IsActs past)) sent → Each (IfCall (IsActs (e ∷ past))) sent
-acts_over [] e past w lasts now k c h = tt
-acts_over (m ∷ sent) e past w lasts now k c h = (acts_one m.carried m.head e past w lasts now k c.0 h.0, acts_over sent e past w lasts now k c.1 h.1)
+pub acts_over : {s : Script} → (sent : List Message) (e : Entry) (past : List Entry) (w : ℕ → View) → Each (IfCall (IsLastCall w)) e.sent → ((j : ℕ) → ClientFacts s j (w j) (e ∷ past)) → ((j : ℕ) (a : Going) → (w j).running ≡ Some a → has_begun (Client j) e.lines ≡ false → ((running s (Client j) (lines_of past) ≡ Some a) ⊎ Reading (running s (Client j) (lines_of past)))) → Each (IfCall (CallIn w)) sent → Each (IfCall (IsActs s past)) sent → Each (IfCall (IsActs s (e ∷ past))) sent
+acts_over {s} [] e past w lasts now k c h = tt
+acts_over {s} (m ∷ sent) e past w lasts now k c h = (acts_one m.carried m.head e past w lasts now k c.0 h.0, acts_over sent e past w lasts now k c.1 h.1)
 
 -- ---- each key has one call
 
@@ -399,12 +400,12 @@ pub ones_more : (old sent ms : List Message) → Each (IfCall (IsOne sent)) old 
 ones_more old sent ms h = each_map (IfCall (IsOne sent)) (IfCall (IsOne (sent ++ ms))) (if_call (IsOne sent) (IsOne (sent ++ ms)) (λ head user call o. one_more (called_key head) sent ms (user, call) o)) old h
 
 -- what is known of the messages that a step sends
-pub record News (ms : List Message) (views : ℕ → View) (boot : ℕ) (past : List Entry) : Type 0 where
+pub record News (s : Script) (ms : List Message) (views : ℕ → View) (boot : ℕ) (past : List Entry) : Type 0 where
   pub calls : Each (IfCall (CallIn views)) ms
   pub replies : Each (IfReply (ReplyIn views past)) ms
   pub notices : Each (IfNotice (IsNoticed boot)) ms
-  pub origins : Each (IfCall (Origin past)) ms
-  pub acts : Each (IfCall (IsActs past)) ms
+  pub origins : Each (IfCall (Origin s past)) ms
+  pub acts : Each (IfCall (IsActs s past)) ms
   pub lasts : Each (IfCall (IsLastCall views)) ms
   pub to_clients : Each (λ m. OfCall ToClient m.head m.carried) ms
   pub ones : Each (IfCall (IsOne (sent_of past))) ms
@@ -417,17 +418,17 @@ replies_over sent v w past newer over h = each_map (IfReply (ReplyIn v past)) (I
 pub waiting_over : (held : List Message) (v w : ℕ → View) (past newer : List Entry) → ((j : ℕ) (m : Message) → ReplyFact j (v j) past m → ReplyFact j (w j) newer m) → Each (HeldIn v past) held → Each (HeldIn w newer) held
 waiting_over held v w past newer over h = each_map (HeldIn v past) (HeldIn w newer) (λ m f. record { client = f.client; to = f.to; from = f.from; half = f.half; is_reply = f.is_reply; fact = over f.client m f.fact }) held h
 
-pub more_sent : (sent held after : List Message) (v w : ℕ → View) (b d : ℕ) (e : Entry) (past : List Entry) → SentFacts sent held v b past → b ≤ d → ((j : ℕ) → ClientFacts j (w j) (e ∷ past)) → ((j : ℕ) (a : Going) → (w j).running ≡ Some a → has_begun (Client j) e.lines ≡ false → ((running (Client j) (lines_of past) ≡ Some a) ⊎ Reading (running (Client j) (lines_of past)))) → Each (IfCall (CallIn w)) sent → ((j : ℕ) (m : Message) → ReplyFact j (v j) past m → ReplyFact j (w j) (e ∷ past) m)
-    → (Each (HeldIn w (e ∷ past)) held → News e.sent w d (e ∷ past) × Each (HeldIn w (e ∷ past)) after) → SentFacts (sent ++ e.sent) after w d (e ∷ past)
-more_sent sent held after v w b d e past h le now k c over pass =
+pub more_sent : {s : Script} → (sent held after : List Message) (v w : ℕ → View) (b d : ℕ) (e : Entry) (past : List Entry) → SentFacts s sent held v b past → b ≤ d → ((j : ℕ) → ClientFacts s j (w j) (e ∷ past)) → ((j : ℕ) (a : Going) → (w j).running ≡ Some a → has_begun (Client j) e.lines ≡ false → ((running s (Client j) (lines_of past) ≡ Some a) ⊎ Reading (running s (Client j) (lines_of past)))) → Each (IfCall (CallIn w)) sent → ((j : ℕ) (m : Message) → ReplyFact j (v j) past m → ReplyFact j (w j) (e ∷ past) m)
+    → (Each (HeldIn w (e ∷ past)) held → News s e.sent w d (e ∷ past) × Each (HeldIn w (e ∷ past)) after) → SentFacts s (sent ++ e.sent) after w d (e ∷ past)
+more_sent {s} sent held after v w b d e past h le now k c over pass =
     let got = pass (waiting_over held v w past (e ∷ past) over h.waiting) in
-    let n : News e.sent w d (e ∷ past) = got.0 in
+    let n : News s e.sent w d (e ∷ past) = got.0 in
     record {
       calls = each_more (IfCall (CallIn w)) sent e.sent c n.calls;
       replies = each_more (IfReply (ReplyIn w (e ∷ past))) sent e.sent (replies_over sent v w past (e ∷ past) over h.replies) n.replies;
       notices = each_more (IfNotice (IsNoticed d)) sent e.sent (each_map (IfNotice (IsNoticed b)) (IfNotice (IsNoticed d)) (if_notice (IsNoticed b) (IsNoticed d) (λ m x. le_trans x le)) sent h.notices) n.notices;
-      origins = each_more (IfCall (Origin (e ∷ past))) sent e.sent (older_origins sent e past h.origins) n.origins;
-      acts = each_more (IfCall (IsActs (e ∷ past))) sent e.sent (acts_over sent e past w n.lasts now k c h.acts) n.acts;
+      origins = each_more (IfCall (Origin s (e ∷ past))) sent e.sent (older_origins s sent e past h.origins) n.origins;
+      acts = each_more (IfCall (IsActs s (e ∷ past))) sent e.sent (acts_over sent e past w n.lasts now k c h.acts) n.acts;
       ones = each_more (IfCall (IsOne (sent ++ e.sent))) sent e.sent (ones_more sent sent e.sent h.ones) (subst (λ (x : List Message). Each (IfCall (IsOne (x ++ e.sent))) e.sent) h.told n.ones);
       told = ap (λ (ms : List Message). ms ++ e.sent) h.told;
       waiting = got.1;

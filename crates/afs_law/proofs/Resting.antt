@@ -16,17 +16,17 @@ use Rattle.afs_law.proofs.Facts.{IsKnown, HoldsAt, server_boot, up_boot, IsLastC
 use Rattle.afs_law.proofs.Owing.{BackedIn}
 use Rattle.afs_law.proofs.Passing.{waiting_over, PassesFile, PassesAct, PassesReach, client_still, replies_over, reply_over, stays, acts_over, fallen_over, older_origins}
 use Rattle.afs_law.specs.Breaks.{HasStopped}
-use Rattle.afs_law.specs.Callbacks.{replies_of}
-use Rattle.afs_law.specs.ClientRow.{the_server}
-use Rattle.afs_law.specs.Going.{Going}
+use Rattle.afs_rows.specs.Callbacks.{replies_of}
+use Rattle.afs_rows.specs.ClientRow.{the_server}
+use Rattle.afs_rows.specs.Going.{Going}
 use Rattle.afs_law.specs.Ideal.{last_version, HasVersion, Accepts, clock_of, volume_after}
 use Rattle.afs_law.specs.Legal.{IsNew}
-use Rattle.afs_law.specs.Lines.{Line}
+use Rattle.afs_history.specs.declared.lines.Line.{Line}
 use Rattle.afs_law.specs.Past.{onto, lines_of, sent_of, given_message, IsCallUnder}
-use Rattle.afs_law.specs.Runs.{Entry, Cell, Armed, Fall, voided, ticked, server_set, blow_line}
-use Rattle.afs_law.specs.States.{CacheEntry}
+use Rattle.afs_rows.specs.Runs.{Entry, Cell, Armed, Fall, voided, ticked, server_set, blow_line}
+use Rattle.afs_rows.specs.States.{CacheEntry}
 use Rattle.afs_num.specs.declared.histories.Version.{Version}
-use Rattle.afs_law.specs.Lines as lines
+use Rattle.afs_history.specs.declared.lines.Line.TheVariants as lines
 
 -- Entries that leave the server, the clients and what was sent as they were: nothing happens, the clock rises, a disk is set,
 -- a node begins again with nothing done, the server stops.
@@ -56,8 +56,8 @@ later_known : (n : ℕ) (act : Going) (clock : ℕ) (f : Fid) (cache : List Cach
 later_known n act clock f cache (inl x) = inl x
 later_known n act clock f cache (inr x) = let l : clock + n < x.entry.expiry = x.lasts in inr (record { entry = x.entry; found = x.found; lasts = omega arith })
 
-later_client : (n j : ℕ) (v : View) (past : List Entry) → ClientFacts j v past → ClientFacts j (later_view n v) past
-later_client n j v past h = record {
+later_client : {s : Script} → (n j : ℕ) (v : View) (past : List Entry) → ClientFacts s j v past → ClientFacts s j (later_view n v) past
+later_client {s} n j v past h = record {
   behind = h.behind;
   behind_durable = h.behind_durable;
   lower = h.lower;
@@ -90,10 +90,11 @@ calls_rested s c n d armed past h = each_map (IfCall (CallIn (view h.floors c)))
 pub rests : (s : Script) (b : Option ℕ) (c : Cell) (past : List Entry) (e : Entry) (n : ℕ) (d : Option Fall) (armed : Armed) → (h : Holds s c past) → server_boot the_server (lines_of (e ∷ past)) ≡ b → e.sent ≡ [] → Rests s e past → clock_of (lines_of (e ∷ past)) ≡ clock_of (lines_of past) + n
     → AreUnheard d c.server.seats c.server.boot (e ∷ past) → HasFallen d c.server c.sent (e ∷ past) → (b ≡ up_boot d c.server.boot → BackedIn d c.backs c.server.boot c.server.seats (λ j. (c.clients j).seat) (c.clock + n) c.sent (e ∷ past)) → HoldsAt s b (rested c n d armed) (e ∷ past)
 rests s b c past e n d armed h boots none p clock heard fallen backs =
-    let now : (j : ℕ) → ClientFacts j (view h.floors (rested c n d armed) j) (e ∷ past) = λ j. later_client n j (view h.floors c j) (e ∷ past) (client_still j (view h.floors c j) e past (p.file j) (p.reach j) (p.act j) (λ f. p.last f (lines_of past)) (h.clients j)) in
+    let now : (j : ℕ) → ClientFacts s j (view h.floors (rested c n d armed) j) (e ∷ past) = λ j. later_client n j (view h.floors c j) (e ∷ past) (client_still j (view h.floors c j) e past (p.file j) (p.reach j) (p.act j) (λ f. p.last f (lines_of past)) (h.clients j)) in
     record {
       floors = h.floors;
       count = h.count;
+      tables = h.tables;
       ideal = λ id. h.ideal id ∙ sym (p.ideal id);
       fine = h.fine;
       sound = λ id. sound_same id _ (lines_of past) (lines_of (e ∷ past)) (λ m u. p.last (fid_at id m u) (lines_of past)) (h.sound id);
@@ -108,7 +109,7 @@ rests s b c past e n d armed h boots none p clock heard fallen backs =
         replies = replies_over c.sent (view h.floors c) (view h.floors (rested c n d armed)) past (e ∷ past)
             (λ j m. reply_over j (view h.floors c j) m e past (λ f. (p.file j f).grant) (p.reach j) (λ f. stays j f e past (p.file j f).grant (p.last f (lines_of past)))) h.sent.replies;
         notices = h.sent.notices;
-        origins = older_origins c.sent e past h.sent.origins;
+        origins = older_origins s c.sent e past h.sent.origins;
         acts = acts_over c.sent e past (view h.floors (rested c n d armed)) (subst (λ (ms : List Message). Each (IfCall (IsLastCall (view h.floors (rested c n d armed)))) ms) (sym none) tt) now (λ j a x z. inl ((h.clients j).runs a x)) (calls_rested s c n d armed past h) h.sent.acts;
         ones = h.sent.ones;
         told = ap (λ (ms : List Message). sent_of past ++ ms) none ∙ (append-nil _ ∙ h.sent.told);
@@ -156,7 +157,7 @@ void_rests : (s : Script) (past : List Entry) → Rests s (alone actors.Nobody l
 void_rests s past = record {
   file = λ j f. record { grant = record { version = λ i b l x. x; dropped = λ q l d. d; withdrawn = λ q l w. w }; fetched = refl };
   reach = λ j f. record { both = λ i x. record { made = x.made; seen = x.seen }; seen = λ i x. x; made = λ x. x };
-  act = λ j. record { runs = λ l. refl; begins = refl };
+  act = λ j. record { runs = λ s l. refl; begins = refl };
   last = λ f o. refl;
   back = λ f i b o x. x;
   new = λ k o x. x;
@@ -168,7 +169,7 @@ tick_rests : (s : Script) (n : ℕ) (past : List Entry) → Rests s (alone actor
 tick_rests s n past = record {
   file = λ j f. record { grant = record { version = λ i b l x. x; dropped = λ q l d. d; withdrawn = λ q l w. w }; fetched = refl };
   reach = λ j f. record { both = λ i x. record { made = x.made; seen = x.seen }; seen = λ i x. x; made = λ x. x };
-  act = λ j. record { runs = λ l. refl; begins = refl };
+  act = λ j. record { runs = λ s l. refl; begins = refl };
   last = λ f o. refl;
   back = λ f i b o x. x;
   new = λ k o x. x;
@@ -180,7 +181,7 @@ stop_rests : (s : Script) (o : Actor) (node : Node) (n pick : ℕ) (past : List 
 stop_rests s o node n pick past = record {
   file = λ j f. record { grant = record { version = λ i b l x. x; dropped = λ q l d. d; withdrawn = λ q l w. w }; fetched = refl };
   reach = λ j f. record { both = λ i x. record { made = x.made; seen = x.seen }; seen = λ i x. x; made = λ x. x };
-  act = λ j. record { runs = λ l. refl; begins = refl };
+  act = λ j. record { runs = λ s l. refl; begins = refl };
   last = λ f l. refl;
   back = λ f i b l x. x;
   new = λ k l x. x;
@@ -192,7 +193,7 @@ fail_rests : (s : Script) (o : Actor) (node : Node) (n : ℕ) (past : List Entry
 fail_rests s o node n past = record {
   file = λ j f. record { grant = record { version = λ i b l x. x; dropped = λ q l d. d; withdrawn = λ q l w. w }; fetched = refl };
   reach = λ j f. record { both = λ i x. record { made = x.made; seen = x.seen }; seen = λ i x. x; made = λ x. x };
-  act = λ j. record { runs = λ l. refl; begins = refl };
+  act = λ j. record { runs = λ s l. refl; begins = refl };
   last = λ f l. refl;
   back = λ f i b l x. x;
   new = λ k l x. x;
@@ -204,7 +205,7 @@ pub restart_rests : (s : Script) (o : Actor) (node : Node) (n : ℕ) (past : Lis
 restart_rests s o node n past = record {
   file = λ j f. record { grant = record { version = λ i b l x. x; dropped = λ q l d. d; withdrawn = λ q l w. w }; fetched = refl };
   reach = λ j f. record { both = λ i x. record { made = x.made; seen = x.seen }; seen = λ i x. x; made = λ x. x };
-  act = λ j. record { runs = λ l. refl; begins = refl };
+  act = λ j. record { runs = λ s l. refl; begins = refl };
   last = λ f l. refl;
   back = λ f i b l x. x;
   new = λ k l x. x;
@@ -216,7 +217,7 @@ pub fault_rests : (s : Script) (past : List Entry) → Rests s (alone (actors.No
 fault_rests s past = record {
   file = λ j f. record { grant = record { version = λ i b l x. x; dropped = λ q l d. d; withdrawn = λ q l w. inr w }; fetched = refl };
   reach = λ j f. record { both = λ i x. record { made = x.made; seen = x.seen }; seen = λ i x. x; made = λ x. x };
-  act = λ j. record { runs = λ l. refl; begins = refl };
+  act = λ j. record { runs = λ s l. refl; begins = refl };
   last = λ f l. refl;
   back = λ f i b l x. x;
   new = λ k l x. x;
@@ -228,7 +229,7 @@ pub full_rests : (s : Script) (past : List Entry) → Rests s (alone (actors.Nod
 full_rests s past = record {
   file = λ j f. record { grant = record { version = λ i b l x. x; dropped = λ q l d. d; withdrawn = λ q l w. w }; fetched = refl };
   reach = λ j f. record { both = λ i x. record { made = x.made; seen = x.seen }; seen = λ i x. x; made = λ x. x };
-  act = λ j. record { runs = λ l. refl; begins = refl };
+  act = λ j. record { runs = λ s l. refl; begins = refl };
   last = λ f l. refl;
   back = λ f i b l x. x;
   new = λ k l x. x;
@@ -240,7 +241,7 @@ pub server_crash_rests : (s : Script) (past : List Entry) → Rests s (alone (ac
 server_crash_rests s past = record {
   file = λ j f. record { grant = record { version = λ i b l x. x; dropped = λ q l d. d; withdrawn = λ q l w. inr w }; fetched = refl };
   reach = λ j f. record { both = λ i x. record { made = x.made; seen = x.seen }; seen = λ i x. x; made = λ x. x };
-  act = λ j. record { runs = λ l. refl; begins = refl };
+  act = λ j. record { runs = λ s l. refl; begins = refl };
   last = λ f l. refl;
   back = λ f i b l x. x;
   new = λ k l x. x;
@@ -256,7 +257,7 @@ pub cut_rests : (s : Script) (p : ℕ) (stops : Bool) (past : List Entry) → Re
 cut_rests s p true past = record {
   file = λ j f. record { grant = record { version = λ i b l x. x; dropped = λ q l d. d; withdrawn = λ q l w. inr w }; fetched = refl };
   reach = λ j f. record { both = λ i x. record { made = x.made; seen = x.seen }; seen = λ i x. x; made = λ x. x };
-  act = λ j. record { runs = λ l. refl; begins = refl };
+  act = λ j. record { runs = λ s l. refl; begins = refl };
   last = λ f l. refl;
   back = λ f i b l x. x;
   new = λ k l x. x;
@@ -266,7 +267,7 @@ cut_rests s p true past = record {
 cut_rests s p false past = record {
   file = λ j f. record { grant = record { version = λ i b l x. x; dropped = λ q l d. d; withdrawn = λ q l w. inr w }; fetched = refl };
   reach = λ j f. record { both = λ i x. record { made = x.made; seen = x.seen }; seen = λ i x. x; made = λ x. x };
-  act = λ j. record { runs = λ l. refl; begins = refl };
+  act = λ j. record { runs = λ s l. refl; begins = refl };
   last = λ f l. refl;
   back = λ f i b l x. x;
   new = λ k l x. x;

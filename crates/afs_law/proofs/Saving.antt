@@ -18,18 +18,18 @@ use Rattle.afs_law.proofs.Pumping.{no_news, pumped_news}
 use Rattle.afs_law.proofs.Serving.{up_backed, seats_of, Gives, taken_not, up_boots, reached_at, at_told, client_head, Now, call_at, taken, seats_after, Stock, server_after, caller_view, views_after, above_before, not_ran, unheard_after, HasRun, cause_now, running_act, stale_none, served_cell, serves, last_has, has_run}
 use Rattle.afs_law.proofs.Turning.{loaded, Pumps, pumps}
 use Rattle.afs_law.specs.Breaks.{live_grant, HasOwe, last_number}
-use Rattle.afs_law.specs.Callbacks.{hits, Backs, Held, Owed, Turn, pumped, expired, turn_for, new_owes, numbers, alls}
-use Rattle.afs_law.specs.ClientRow.{the_server}
-use Rattle.afs_law.specs.Going.{asked, Going, next}
+use Rattle.afs_rows.specs.Callbacks.{hits, Backs, Held, Owed, Turn, pumped, expired, turn_for, new_owes, numbers, alls}
+use Rattle.afs_rows.specs.ClientRow.{the_server}
+use Rattle.afs_rows.specs.Going.{asked, Going, next}
 use Rattle.afs_law.specs.Grants.{IsWithdrawn, has_fetched, fetch_reply, since, change_below, IsByOther, IsDropped}
 use Rattle.afs_law.specs.Ideal.{versions_in, Reach, raised, IsLast, clock_of, last_version, HasVersion, Accepts, reach, volume_after, change_key, call_under, reach_over, applied, applied_by}
 use Rattle.afs_law.specs.Legal.{code_given, AreGood, code_told, IsNew, HasChange, GoodChange, versions_first, IsTold, answer_at, answer_on, IsUnderChange, IsChanged, op_on}
-use Rattle.afs_law.specs.Lines.{Line}
+use Rattle.afs_history.specs.declared.lines.Line.{Line}
 use Rattle.afs_law.specs.Past.{onto, lines_of, sent_of, given_message, called_key, HasCode, is_of_act, running, has_begun}
-use Rattle.afs_law.specs.Runs.{Entry, Cell, message_at, Armed, Fall, server_does}
-use Rattle.afs_law.specs.Scopes.{is_in_scope, is_volume}
-use Rattle.afs_law.specs.ServerRow.{granted, granted_in, record_of, carried_by, change_reply_to, longer, promise_ticks, saves, runs, told, versioned, Change, made, result}
-use Rattle.afs_law.specs.States.{CacheEntry, Seat}
+use Rattle.afs_rows.specs.Runs.{Entry, Cell, message_at, Armed, Fall, server_does}
+use Rattle.afs_rows.specs.Scopes.{is_in_scope, is_volume}
+use Rattle.afs_rows.specs.ServerRow.{granted, granted_in, record_of, carried_by, change_reply_to, longer, promise_ticks, saves, runs, told, versioned, Change, made, result}
+use Rattle.afs_rows.specs.States.{CacheEntry, Seat}
 use Rattle.afs_model.specs.Calls.{call_seated, call_seat}
 use Rattle.afs_num.specs.declared.calls.AfsStoreStatus.{AfsStoreStatus}
 use Rattle.afs_ideal.proofs.Edits as ideal_edits
@@ -58,7 +58,7 @@ use Rattle.afs_num.specs.declared.calls.FsCall.TheVariants as calls
 use Rattle.afs_num.specs.declared.messages.Carried.TheVariants as carried
 use Rattle.afs_num.specs.declared.messages.Reply.TheVariants as tell
 use Rattle.afs_num.specs.declared.histories.Body.TheVariants as bodies
-use Rattle.afs_law.specs.Lines as lines
+use Rattle.afs_history.specs.declared.lines.Line.TheVariants as lines
 use Rattle.afs_num.specs.declared.calls.FsReply.TheVariants as replies
 
 -- The server's changes: of any number of versions.
@@ -131,9 +131,9 @@ pub on_breaks : (s c : Node) (f : Fid) (vs : List Version) (o : List Line) → I
 on_breaks s c f [] o by e = absurd cc
 on_breaks s c f (v ∷ vs) o by e = breaks_by (same_fid v.fid f) s c f v vs o refl by e (λ t. on_breaks s c f vs (lines.Version v ∷ o) by t)
 
-pub on_running : (n : Node) (vs : List Version) (o : List Line) → running n (on_top vs o) ≡ running n o
-on_running n [] o = refl
-on_running n (v ∷ vs) o = on_running n vs (lines.Version v ∷ o)
+pub on_running : (s : Script) (n : Node) (vs : List Version) (o : List Line) → running s n (on_top vs o) ≡ running s n o
+on_running s n [] o = refl
+on_running s n (v ∷ vs) o = on_running s n vs (lines.Version v ∷ o)
 
 pub on_clock : (vs : List Version) (o : List Line) → clock_of (on_top vs o) ≡ clock_of o
 on_clock [] o = refl
@@ -224,10 +224,10 @@ saves_file faults j k vs r past f = record { grant = saves_grant faults j k vs r
 saves_file fills j k vs r past f = record { grant = saves_grant fills j k vs r past f; fetched = fetched_on (Client j) f vs _ }
 
 pub saves_act : (y : Way) (j : ℕ) (k : Key) (vs : List Version) (r : Message) (past : List Entry) → PassesAct j (saved_entry y k vs r) past
-saves_act (whole p tl a ms) j k vs r past = record { runs = λ l. ap (running (Client j)) (saved_on (whole p tl a ms) k vs l) ∙ ((skips tl a).runs (Client j) _ ∙ on_running (Client j) vs _); begins = begun_on (Client j) vs _ ∙ (skips tl a).begins (Client j) }
-saves_act (rises_to b tl a ms) j k vs r past = record { runs = λ l. ap (running (Client j)) (saved_on (rises_to b tl a ms) k vs l) ∙ ((skips tl a).runs (Client j) _ ∙ on_running (Client j) vs _); begins = begun_on (Client j) vs _ ∙ (skips tl a).begins (Client j) }
-saves_act faults j k vs r past = record { runs = λ l. ap (running (Client j)) (saved_on faults k vs l) ∙ on_running (Client j) vs _; begins = begun_on (Client j) vs _ }
-saves_act fills j k vs r past = record { runs = λ l. ap (running (Client j)) (saved_on fills k vs l) ∙ on_running (Client j) vs _; begins = begun_on (Client j) vs _ }
+saves_act (whole p tl a ms) j k vs r past = record { runs = λ s l. ap (running s (Client j)) (saved_on (whole p tl a ms) k vs l) ∙ ((skips tl a).runs s (Client j) _ ∙ on_running s (Client j) vs _); begins = begun_on (Client j) vs _ ∙ (skips tl a).begins (Client j) }
+saves_act (rises_to b tl a ms) j k vs r past = record { runs = λ s l. ap (running s (Client j)) (saved_on (rises_to b tl a ms) k vs l) ∙ ((skips tl a).runs s (Client j) _ ∙ on_running s (Client j) vs _); begins = begun_on (Client j) vs _ ∙ (skips tl a).begins (Client j) }
+saves_act faults j k vs r past = record { runs = λ s l. ap (running s (Client j)) (saved_on faults k vs l) ∙ on_running s (Client j) vs _; begins = begun_on (Client j) vs _ }
+saves_act fills j k vs r past = record { runs = λ s l. ap (running s (Client j)) (saved_on fills k vs l) ∙ on_running s (Client j) vs _; begins = begun_on (Client j) vs _ }
 
 pub saves_last : (y : Way) (k : Key) (vs : List Version) (r : Message) (past : List Entry) (f : Fid) → last_version f (lines_of (saved_entry y k vs r ∷ past)) ≡ last_version f (on_top vs (base y k (length vs) (lines_of past)))
 saves_last (whole p tl a ms) k vs r past f = ap (last_version f) (saved_on (whole p tl a ms) k vs (lines_of past)) ∙ (skips tl a).last f _
@@ -402,12 +402,12 @@ other_newest y j n k vs r past f own ne server i newer q (inr at) = newest_by (t
 abbrev pub NewEntry : Way → ℕ → Head → List Version → Message → Entry
 NewEntry y n h vs r = saved_entry y (called_key (client_head n h)) vs r
 
-pub own_stands : (t : Bool) (y : Way) (fl : ℕ → Ghost) (c : Cell) (past : List Entry) (n : ℕ) (h : Head) (user : List ℕ) (call : FsCall) (vs : List Version) (r : Message) (g : Fid) (i : ℕ) (server : Node) (newer : List Line)
-    → Now c fl past n h user call → is_in_scope call g ≡ t → (volume_changed call ≡ None → ⊥) → (touches g vs ≡ true → is_in_scope call g ≡ true) → (is_in_scope call g ≡ true → WasChanged n g server (onto newer (NewEntry y n h vs r).lines) (Some r) (NewEntry y n h vs r ∷ past) call)
+pub own_stands : {s : Script} → (t : Bool) (y : Way) (fl : ℕ → Ghost) (c : Cell) (past : List Entry) (n : ℕ) (h : Head) (user : List ℕ) (call : FsCall) (vs : List Version) (r : Message) (g : Fid) (i : ℕ) (server : Node) (newer : List Line)
+    → Now s c fl past n h user call → is_in_scope call g ≡ t → (volume_changed call ≡ None → ⊥) → (touches g vs ≡ true → is_in_scope call g ≡ true) → (is_in_scope call g ≡ true → WasChanged n g server (onto newer (NewEntry y n h vs r).lines) (Some r) (NewEntry y n h vs r ∷ past) call)
     → (IsUntrusted c.clock g (c.clients n).cache → ⊥) → ((fl n).held < c.server.boot → IsWithdrawn server (Client n) g newer) → Stands n g i server newer (view fl c n) past
     → Stands n g i server (onto newer (NewEntry y n h vs r).lines) (caller_view true fl c n h r) (NewEntry y n h vs r ∷ past)
-own_stands t y fl c past n h user call vs r g i server newer w q some scope changed there aged (inr o) = absurd (not_ran (view fl c n) h.epoch h.number w.above_durable w.fact.behind o.ran)
-own_stands true y fl c past n h user call vs r g i server newer w q some scope changed there aged (inl a) =
+own_stands {s} t y fl c past n h user call vs r g i server newer w q some scope changed there aged (inr o) = absurd (not_ran (view fl c n) h.epoch h.number w.above_durable w.fact.behind o.ran)
+own_stands {s} true y fl c past n h user call vs r g i server newer w q some scope changed there aged (inl a) =
     let k : Key = called_key (client_head n h) in
     elim (w.fact.safe w.boot w.above) [
       | inl none ↦ absurd (some none)
@@ -430,7 +430,7 @@ own_stands true y fl c past n h user call vs r g i server newer w q some scope c
         ]
       ]
     ]
-own_stands false y fl c past n h user call vs r g i server newer w q some scope changed there aged (inl a) =
+own_stands {s} false y fl c past n h user call vs r g i server newer w q some scope changed there aged (inl a) =
     let k : Key = called_key (client_head n h) in
     let none : touches g vs ≡ false = no_touch' (touches g vs) (λ t. let yes = scope t in yes_no _ yes q) in
     inl (record {
@@ -641,15 +641,15 @@ saved_again sp n call x z boot m (carried.Reply (tell.File reply)) past newer so
 saved_again sp n call x z boot m (carried.Refusal code) past newer some none lt h = (h.0, λ y. lt)
 saved_again sp n call x z boot m c past newer some none lt h = absurd h
 
-pub earlier : (fl : ℕ → Ghost) (c : Cell) (past : List Entry) (n : ℕ) (h : Head) (user : List ℕ) (call : FsCall) (m : Message) → Now c fl past n h user call → ReplyFact n (view fl c n) past m → h.epoch ≡ m.head.epoch → h.number ≡ m.head.number → m.head.boot < c.server.boot
-earlier fl c past n h user call m w f e k = elim (eq-or-lt_of_le f.booted) [
+pub earlier : {s : Script} → (fl : ℕ → Ghost) (c : Cell) (past : List Entry) (n : ℕ) (h : Head) (user : List ℕ) (call : FsCall) (m : Message) → Now s c fl past n h user call → ReplyFact n (view fl c n) past m → h.epoch ≡ m.head.epoch → h.number ≡ m.head.number → m.head.boot < c.server.boot
+earlier {s} fl c past n h user call m w f e k = elim (eq-or-lt_of_le f.booted) [
   | inl same ↦ absurd (f.tied same (subst (λ (d : ℕ). Above (call_seat (Client n) c.server.seats) d m.head.number) e (subst (λ (d : ℕ). Above (call_seat (Client n) c.server.seats) h.epoch d) k w.above)))
   | inr lt ↦ lt
 ]
 
-pub saved_answers : (fl : ℕ → Ghost) (c : Cell) (past : List Entry) (e : Entry) (n : ℕ) (h : Head) (user : List ℕ) (call : FsCall) (z : Spot) → Now c fl past n h user call → (volume_changed call ≡ None → ⊥) → (a : Going) (m : Message) → ReplyFact n (view fl c n) past m → (c.clients n).running ≡ Some a
+pub saved_answers : {s : Script} → (fl : ℕ → Ghost) (c : Cell) (past : List Entry) (e : Entry) (n : ℕ) (h : Head) (user : List ℕ) (call : FsCall) (z : Spot) → Now s c fl past n h user call → (volume_changed call ≡ None → ⊥) → (a : Going) (m : Message) → ReplyFact n (view fl c n) past m → (c.clients n).running ≡ Some a
     → m.head.epoch ≡ (c.clients n).epoch → m.head.number ≡ (c.clients n).last → Answers (c.clients n).spoiled n (asked a) z c.server.boot m (e ∷ past)
-saved_answers fl c past e n h user call z w some a m fact runs y k = elim (up_to_by _ _ _ _ w.fact.behind) [
+saved_answers {s} fl c past e n h user call z w some a m fact runs y k = elim (up_to_by _ _ _ _ w.fact.behind) [
   | inl l ↦ absurd (stale_none fl c past n (client_head n h) call m w.fact w.boot w.above fact y k l)
   | inr q ↦ let same : call ≡ asked a = running_act true fl c past n h user call w a runs q.0 q.1 in
       let old : Answers (c.clients n).spoiled n (asked a) (spot (view fl c n)) c.server.boot m past = fact.answers a runs y k in
@@ -698,7 +698,7 @@ new_not c n h r l same above =
     let own : Above (call_seat (Client n) (call_seated (taken n h r) c.server.durable)) h.epoch h.number = subst (λ (x : Key). Above (call_seat x.node (call_seated (taken n h r) c.server.durable)) x.epoch x.number) same above in
     below_not h.epoch h.number h.epoch h.number (subst (λ (o : Option Seat). Above o h.epoch h.number) (own_seat (taken n h r) c.server.durable) own) (up_to_same h.epoch h.number h.epoch h.number refl refl)
 
-pub saves_change_good : (s : Script) (c : Cell) (past : List Entry) (own tail : List Line) (n : ℕ) (h : Head) (user : List ℕ) (call : FsCall) (id : ℕ) (v : Volume) (es : List Edit) (shown : ℕ) → (H : Holds s c past) → Now c H.floors past n h user call → Change' c past user call id v es shown
+pub saves_change_good : (s : Script) (c : Cell) (past : List Entry) (own tail : List Line) (n : ℕ) (h : Head) (user : List ℕ) (call : FsCall) (id : ℕ) (v : Volume) (es : List Edit) (shown : ℕ) → (H : Holds s c past) → Now s c H.floors past n h user call → Change' c past user call id v es shown
     → IsNew (called_key (client_head n h)) (own ++ lines_of past) → change_key own ≡ None → Accepts s id the_server (own ++ lines_of past) → versions_first tail ≡ [] → ((j : ℕ) (f : Fid) (x : ℕ) → (Client j ≡ Client n → ⊥) → IsChanged f (versions_by id es v) → live_grant the_server (Client j) f (own ++ lines_of past) ≡ Some x → clock_of (own ++ lines_of past) < x → HasOwe the_server (Client j) (Some f) (versioned (versions_by id es v) tail))
     → GoodChange s the_server (called_key (client_head n h)) (length (versions_by id es v)) past own (versioned (versions_by id es v) tail)
 saves_change_good s c past own tail n h user call id v es shown H w q new only home none owed = record {
@@ -734,12 +734,12 @@ pub scope_of : (g : Fid) (i : ℕ) (b : Body) (id : ℕ) (v : Volume) (ls : List
 scope_of g i b id v ls S sound at had (inl s) = s
 scope_of g i b id v ls S sound at had (inr new) = absurd (none_has g i b ls (ap (λ (x : ℕ). last_version (fid_at x g.vnode g.unique) ls) at ∙ sound.new g.vnode g.unique new) had)
 
-pub saves_holds : (y : Way) (s : Script) (now : Option ℕ) (c : Cell) (past : List Entry) (after : Backs) (armed : Armed) (d : Option Fall) (n : ℕ) (h : Head) (user : List ℕ) (call : FsCall) (time id : ℕ) (v : Volume) (es : List Edit) (shown : ℕ) → (H : Holds s c past) → Now c H.floors past n h user call → Change' c past user call id v es shown
+pub saves_holds : (y : Way) (s : Script) (now : Option ℕ) (c : Cell) (past : List Entry) (after : Backs) (armed : Armed) (d : Option Fall) (n : ℕ) (h : Head) (user : List ℕ) (call : FsCall) (time id : ℕ) (v : Volume) (es : List Edit) (shown : ℕ) → (H : Holds s c past) → Now s c H.floors past n h user call → Change' c past user call id v es shown
     → HasRun c n h user call (NewEntry y n h (versions_by id es v) (saved_reply c (client_head n h) time user call id v es shown) ∷ past)
     → server_boot the_server (lines_of (NewEntry y n h (versions_by id es v) (saved_reply c (client_head n h) time user call id v es shown) ∷ past)) ≡ now
     → AreUnheard d (seats_after c n h (saved_reply c (client_head n h) time user call id v es shown)) c.server.boot (NewEntry y n h (versions_by id es v) (saved_reply c (client_head n h) time user call id v es shown) ∷ past)
     → HasFallen d (server_after true c n h (saved_reply c (client_head n h) time user call id v es shown) (stock_after c (client_head n h) time (change_at id user call v es shown))) (c.sent ++ saved_sent y (saved_reply c (client_head n h) time user call id v es shown)) (NewEntry y n h (versions_by id es v) (saved_reply c (client_head n h) time user call id v es shown) ∷ past)
-    → (HeldIn (views_after true H.floors c n h (saved_reply c (client_head n h) time user call id v es shown)) (NewEntry y n h (versions_by id es v) (saved_reply c (client_head n h) time user call id v es shown) ∷ past) (saved_reply c (client_head n h) time user call id v es shown) → Gives (views_after true H.floors c n h (saved_reply c (client_head n h) time user call id v es shown)) c.server.boot (NewEntry y n h (versions_by id es v) (saved_reply c (client_head n h) time user call id v es shown) ∷ past) c.backs.held (saved_sent y (saved_reply c (client_head n h) time user call id v es shown)) after.held)
+    → (HeldIn (views_after true H.floors c n h (saved_reply c (client_head n h) time user call id v es shown)) (NewEntry y n h (versions_by id es v) (saved_reply c (client_head n h) time user call id v es shown) ∷ past) (saved_reply c (client_head n h) time user call id v es shown) → Gives s (views_after true H.floors c n h (saved_reply c (client_head n h) time user call id v es shown)) c.server.boot (NewEntry y n h (versions_by id es v) (saved_reply c (client_head n h) time user call id v es shown) ∷ past) c.backs.held (saved_sent y (saved_reply c (client_head n h) time user call id v es shown)) after.held)
     → (now ≡ up_boot d c.server.boot → BackedIn d after c.server.boot (seats_after c n h (saved_reply c (client_head n h) time user call id v es shown)) (seats_of c) c.clock (c.sent ++ saved_sent y (saved_reply c (client_head n h) time user call id v es shown)) (NewEntry y n h (versions_by id es v) (saved_reply c (client_head n h) time user call id v es shown) ∷ past))
     → HoldsAt s now (served_cell true c n h (saved_reply c (client_head n h) time user call id v es shown) (stock_after c (client_head n h) time (change_at id user call v es shown)) after d armed (saved_sent y (saved_reply c (client_head n h) time user call id v es shown)))
     (NewEntry y n h (versions_by id es v) (saved_reply c (client_head n h) time user call id v es shown) ∷ past)
@@ -854,7 +854,7 @@ pub granted_then : (s : Script) (past : List Entry) (own : List Line) (n x : ℕ
 granted_then s past own n x [] tail h = h
 granted_then s past own n x (f ∷ fs) tail h = (refl, granted_then s past (lines.Grant the_server (Client n) f.fid f.vnode.index x ∷ own) n x fs tail h)
 
-pub saves_goes : (s : Script) (c : Cell) (past : List Entry) (armed : Armed) (p n : ℕ) (h : Head) (user : List ℕ) (call : FsCall) (id : ℕ) (v : Volume) (es : List Edit) (shown : ℕ) → (H : Holds s c past) → c.down ≡ None → message_at c.sent p ≡ Some (call_at n h user call) → Now c H.floors past n h user call → Change' c past user call id v es shown
+pub saves_goes : (s : Script) (c : Cell) (past : List Entry) (armed : Armed) (p n : ℕ) (h : Head) (user : List ℕ) (call : FsCall) (id : ℕ) (v : Volume) (es : List Edit) (shown : ℕ) → (H : Holds s c past) → c.down ≡ None → message_at c.sent p ≡ Some (call_at n h user call) → Now s c H.floors past n h user call → Change' c past user call id v es shown
     → Goes s past (server_does c armed p (call_at n h user call) (saves (client_head n h) (change_at id user call v es shown)))
 saves_goes s c past armed p n h user call id v es shown H up at w q =
     let r : Message = saved_reply c (client_head n h) c.clock user call id v es shown in

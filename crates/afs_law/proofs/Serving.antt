@@ -17,16 +17,16 @@ use Rattle.afs_law.proofs.Passing.{stands_over, answers_over, reply_over, kept_o
 use Rattle.afs_law.proofs.Pumping.{no_news, pumped_news, news_break}
 use Rattle.afs_law.proofs.Resting.{Rests}
 use Rattle.afs_law.proofs.Turning.{loaded, TurnSends, Pumps, pumps, expired_backed, break_good}
-use Rattle.afs_law.specs.Callbacks.{Backs, Held, Turn, BackCall, replies_of, pumped, expired, turn_for, no_turn, Promise, put, settles, settles_by, is_back_awaited, answered_by, renews, renews_by, noticed_by}
-use Rattle.afs_law.specs.ClientRow.{names_told, the_server, body_told}
-use Rattle.afs_law.specs.Going.{asked, Going}
+use Rattle.afs_rows.specs.Callbacks.{Backs, Held, Turn, BackCall, replies_of, pumped, expired, turn_for, no_turn, Promise, put, settles, settles_by, is_back_awaited, answered_by, renews, renews_by, noticed_by}
+use Rattle.afs_rows.specs.ClientRow.{names_told, the_server, body_told}
+use Rattle.afs_rows.specs.Going.{asked, Going}
 use Rattle.afs_law.specs.Ideal.{is_zero_code, version_in, latest, IsThat, user_of, clock_of, last_version, HasVersion, reach, call_under}
 use Rattle.afs_law.specs.Legal.{code_given, IsResult, AreGood, code_told, Cause, IsTold, answer_at}
-use Rattle.afs_law.specs.Lines.{Line}
+use Rattle.afs_history.specs.declared.lines.Line.{Line}
 use Rattle.afs_law.specs.Past.{IsUnheard, lines_of, sent_of, given_message, called_key, HasCode, IsCallUnder, Ran}
-use Rattle.afs_law.specs.Runs.{Entry, Cell, message_at, Armed, Fall, server_adds, server_does}
-use Rattle.afs_law.specs.ServerRow.{shows, granted_by, read_reply_of, granted, Reading, promise_ticks, refuses, reply_head, replied, told, result}
-use Rattle.afs_law.specs.States.{Seat, ServerState}
+use Rattle.afs_rows.specs.Runs.{Entry, Cell, message_at, Armed, Fall, server_adds, server_does}
+use Rattle.afs_rows.specs.ServerRow.{shows, granted_by, read_reply_of, granted, Reading, promise_ticks, refuses, reply_head, replied, told, result}
+use Rattle.afs_rows.specs.States.{Seat, ServerState}
 use Rattle.afs_model.specs.Calls.{call_seated, call_seat}
 use Rattle.std.specs.Prelude.{◌&&◌, ⊤, map, filter, not}
 use Rattle.std.specs.Option.{option_map}
@@ -51,7 +51,7 @@ use Rattle.afs_num.specs.declared.messages.Carried.TheVariants as carried
 use Rattle.afs_num.specs.declared.messages.Reply.TheVariants as tell
 use Rattle.afs_num.specs.declared.messages.Call.TheVariants as ask
 use Rattle.afs_num.specs.declared.histories.Body.TheVariants as bodies
-use Rattle.afs_law.specs.Lines as lines
+use Rattle.afs_history.specs.declared.lines.Line.TheVariants as lines
 use Rattle.afs_num.specs.declared.types.Half.TheVariants as halves
 
 -- The server's steps.
@@ -85,24 +85,25 @@ pub told_reach : (j p : ℕ) (f : Fid) (o : Actor) (ms : List Message) (past : L
 told_reach j p f o ms past = record { both = λ i h. record { made = h.made; seen = h.seen }; seen = λ i h. h; made = λ x. x }
 
 pub told_act : (j p : ℕ) (o : Actor) (ms : List Message) (past : List Entry) → PassesAct j (record { actor = o; lines = lines.Given p ∷ []; sent = ms; volumes = [] }) past
-told_act j p o ms past = record { runs = λ l. refl; begins = refl }
+told_act j p o ms past = record { runs = λ s l. refl; begins = refl }
 
 -- a step that runs no call, where the server is then down or not
 abbrev pub noted_cell : Cell → Armed → Option Fall → Backs → List Message → Cell
 noted_cell c armed d b ms = record c { backs = b; down = d; armed = armed; sent = c.sent ++ ms }
 
 -- what is known of the replies that wait makes known what is sent, and what waits then
-abbrev pub Gives : (ℕ → View) → ℕ → List Entry → List Held → List Message → List Held → Type 0
-Gives views boot past held sent after = Each (HeldIn views past) (replies_of held) → News sent views boot past × Each (HeldIn views past) (replies_of after)
+abbrev pub Gives : Script → (ℕ → View) → ℕ → List Entry → List Held → List Message → List Held → Type 0
+Gives s views boot past held sent after = Each (HeldIn views past) (replies_of held) → News s sent views boot past × Each (HeldIn views past) (replies_of after)
 
 pub noted : (s : Script) (now : Option ℕ) (c : Cell) (past : List Entry) (armed : Armed) (d : Option Fall) (e : Entry) (b : Backs) → (h : Holds s c past) → server_boot the_server (lines_of (e ∷ past)) ≡ now → Rests s e past → clock_of (lines_of (e ∷ past)) ≡ clock_of (lines_of past)
-    → AreUnheard d c.server.seats c.server.boot (e ∷ past) → HasFallen d c.server (c.sent ++ e.sent) (e ∷ past) → Gives (view h.floors c) c.server.boot (e ∷ past) c.backs.held e.sent b.held
+    → AreUnheard d c.server.seats c.server.boot (e ∷ past) → HasFallen d c.server (c.sent ++ e.sent) (e ∷ past) → Gives s (view h.floors c) c.server.boot (e ∷ past) c.backs.held e.sent b.held
     → (now ≡ up_boot d c.server.boot → BackedIn d b c.server.boot c.server.seats (λ j. (c.clients j).seat) c.clock (c.sent ++ e.sent) (e ∷ past)) → HoldsAt s now (noted_cell c armed d b e.sent) (e ∷ past)
 noted s now c past armed d e b h boots p clock heard fallen gives backs =
-    let still_ : (j : ℕ) → ClientFacts j (view h.floors c j) (e ∷ past) = λ j. client_still j (view h.floors c j) e past (p.file j) (p.reach j) (p.act j) (λ f. p.last f (lines_of past)) (h.clients j) in
+    let still_ : (j : ℕ) → ClientFacts s j (view h.floors c j) (e ∷ past) = λ j. client_still j (view h.floors c j) e past (p.file j) (p.reach j) (p.act j) (λ f. p.last f (lines_of past)) (h.clients j) in
     record {
       floors = h.floors;
       count = h.count;
+      tables = h.tables;
       ideal = λ id. h.ideal id ∙ sym (p.ideal id);
       fine = h.fine;
       sound = λ id. sound_same id _ (lines_of past) (lines_of (e ∷ past)) (λ m u. p.last (fid_at id m u) (lines_of past)) (h.sound id);
@@ -122,9 +123,9 @@ noted s now c past armed d e b h boots p clock heard fallen gives backs =
     }
 
 -- what is known of a step's end
-pub record Turns (views : ℕ → View) (boot : ℕ) (past : List Entry) (t : Turn) : Type 0 where
+pub record Turns (s : Script) (views : ℕ → View) (boot : ℕ) (past : List Entry) (t : Turn) : Type 0 where
   pub notes : AreNotes t.lines
-  pub sent : News t.sent views boot past
+  pub sent : News s t.sent views boot past
   pub outs : Each (HeldIn views past) (replies_of t.outs)
   pub held : Each (HeldIn views past) (replies_of t.backs.held)
 
@@ -142,7 +143,7 @@ up_boots s c past h up = h.boots ∙ ap (λ (d : Option Fall). up_boot d c.serve
 -- the server is given a message that runs nothing
 pub quiet : (s : Script) (c : Cell) (past : List Entry) (armed : Armed) (p : ℕ) (m : Message) (t : Turn) → (h : Holds s c past) → c.down ≡ None → message_at c.sent p ≡ Some m → Dull c.server.seats c.server.boot m → AreNotes t.lines
     → AreGood s (actors.Node the_server) past (lines.Given p ∷ []) t.lines
-    → ((e : Entry) → ((j : ℕ) (r : Message) → ReplyFact j (view h.floors c j) past r → ReplyFact j (view h.floors c j) (e ∷ past) r) → Each (HeldIn (view h.floors c) (e ∷ past)) (replies_of c.backs.held) → Turns (view h.floors c) c.server.boot (e ∷ past) t)
+    → ((e : Entry) → ((j : ℕ) (r : Message) → ReplyFact j (view h.floors c j) past r → ReplyFact j (view h.floors c j) (e ∷ past) r) → Each (HeldIn (view h.floors c) (e ∷ past)) (replies_of c.backs.held) → Turns s (view h.floors c) c.server.boot (e ∷ past) t)
     → ((e : Entry) → e ≡ told_entry p t.lines (pumped the_server c.server.boot t).sent → Loads c (e ∷ past) t)
     → Goes s past (server_adds c armed c.server (lines.Given p ∷ []) t)
 quiet s c past armed p m t h up at dull notes good turns loads =
@@ -163,7 +164,7 @@ quiet s c past armed p m t h up at dull notes good turns loads =
 
 -- the server does something by itself
 pub acts_alone : (s : Script) (c : Cell) (past : List Entry) (armed : Armed) (t : Turn) → (h : Holds s c past) → c.down ≡ None → AreNotes t.lines → AreGood s (actors.Node the_server) past [] t.lines
-    → ((e : Entry) → Each (HeldIn (view h.floors c) (e ∷ past)) (replies_of c.backs.held) → Turns (view h.floors c) c.server.boot (e ∷ past) t)
+    → ((e : Entry) → Each (HeldIn (view h.floors c) (e ∷ past)) (replies_of c.backs.held) → Turns s (view h.floors c) c.server.boot (e ∷ past) t)
     → ((e : Entry) → e ≡ noted_entry t.lines (pumped the_server c.server.boot t).sent → Loads c (e ∷ past) t) → Goes s past (server_adds c armed c.server [] t)
 acts_alone s c past armed t h up notes good turns loads =
     let ms : List Message = (pumped the_server c.server.boot t).sent in
@@ -249,13 +250,13 @@ abbrev pub client_head : ℕ → Head → Head
 client_head n h = record h { from = Client n; to = the_server }
 
 -- what is known where a call of client n is new, to the server as it stands
-pub record Now (c : Cell) (fl : ℕ → Ghost) (past : List Entry) (n : ℕ) (h : Head) (user : List ℕ) (call : FsCall) : Type 0 where
+pub record Now (s : Script) (c : Cell) (fl : ℕ → Ghost) (past : List Entry) (n : ℕ) (h : Head) (user : List ℕ) (call : FsCall) : Type 0 where
   pub boot : h.boot ≡ c.server.boot
   pub above : Above (call_seat (Client n) c.server.seats) h.epoch h.number
   pub above_durable : Above (call_seat (Client n) c.server.durable) h.epoch h.number
   pub fact : CallFact (view fl c n) (client_head n h) call
-  pub origin : Origin past (client_head n h) user call
-  pub acts : IsActs past (client_head n h) user call
+  pub origin : Origin s past (client_head n h) user call
+  pub acts : IsActs s past (client_head n h) user call
   pub one : call_under (called_key (client_head n h)) (sent_of past) ≡ Some (user, call)
 
 abbrev pub call_at : ℕ → Head → List ℕ → FsCall → Message
@@ -344,13 +345,13 @@ calls_after good s c past n h r H a = each_map (IfCall (CallIn (view H.floors c)
       fact = record { behind = f.fact.behind; booted = f.fact.booted; stale = f.fact.stale; own = f.fact.own; safe = λ q b. f.fact.safe q (above_before c.server.seats n h r (Client f.client) head.epoch head.number a b) };
     })) c.sent H.sent.calls
 
-pub unheard_after : (s : Script) (c : Cell) (past : List Entry) (p n : ℕ) (h : Head) (user : List ℕ) (call : FsCall) (r : Message) (e : Entry) → (H : Holds s c past) → c.down ≡ None → message_at c.sent p ≡ Some (call_at n h user call) → Now c H.floors past n h user call
+pub unheard_after : (s : Script) (c : Cell) (past : List Entry) (p n : ℕ) (h : Head) (user : List ℕ) (call : FsCall) (r : Message) (e : Entry) → (H : Holds s c past) → c.down ≡ None → message_at c.sent p ≡ Some (call_at n h user call) → Now s c H.floors past n h user call
     → given_message e.lines (sent_of past) ≡ message_at (sent_of past) p → AreUnheard None (seats_after c n h r) c.server.boot (e ∷ past)
 unheard_after s c past p n h user call r e H up at w is = unheard_over None (seats_after c n h r) c.server.boot e past (call_at n h user call) (is ∙ at_told s c past p _ H at) (dull_after c n h r user call w.boot)
     (λ k b may. unheard_up c past up H.unheard k b (elim may [ inl l ↦ inl l | inr x ↦ inr (x.0, above_before c.server.seats n h r k.node k.epoch k.number w.above x.1) ]))
 
 -- the entry ran the call
-abbrev pub ran_now : (s : Script) (c : Cell) (past : List Entry) (p n : ℕ) (h : Head) (user : List ℕ) (call : FsCall) (e : Entry) → (H : Holds s c past) → c.down ≡ None → message_at c.sent p ≡ Some (call_at n h user call) → Now c H.floors past n h user call
+abbrev pub ran_now : (s : Script) (c : Cell) (past : List Entry) (p n : ℕ) (h : Head) (user : List ℕ) (call : FsCall) (e : Entry) → (H : Holds s c past) → c.down ≡ None → message_at c.sent p ≡ Some (call_at n h user call) → Now s c H.floors past n h user call
     → given_message e.lines (sent_of past) ≡ message_at (sent_of past) p → e.actor ≡ actors.Node the_server → Ran (reply_head c.server.boot (client_head n h)) (e ∷ past)
 ran_now s c past p n h user call e H up sent w is at = record {
   newer = [];
@@ -390,8 +391,8 @@ cause_now c n h user call x code past g own has told result = record {
 }
 
 -- the call whose call ran is the running one, where the client waits for it
-pub running_act : (good : Bool) (fl : ℕ → Ghost) (c : Cell) (past : List Entry) (n : ℕ) (h : Head) (user : List ℕ) (call : FsCall) → Now c fl past n h user call → (b : Going) → (c.clients n).running ≡ Some b → h.epoch ≡ (c.clients n).epoch → h.number ≡ (c.clients n).last → call ≡ asked b
-running_act good fl c past n h user call w b x y k = w.fact.own b x y k
+pub running_act : {s : Script} → (good : Bool) (fl : ℕ → Ghost) (c : Cell) (past : List Entry) (n : ℕ) (h : Head) (user : List ℕ) (call : FsCall) → Now s c fl past n h user call → (b : Going) → (c.clients n).running ≡ Some b → h.epoch ≡ (c.clients n).epoch → h.number ≡ (c.clients n).last → call ≡ asked b
+running_act {s} good fl c past n h user call w b x y k = w.fact.own b x y k
 
 -- no reply to the client's last call was made where a call below it runs
 pub stale_none : (fl : ℕ → Ghost) (c : Cell) (past : List Entry) (n : ℕ) (h : Head) (call : FsCall) (m : Message) → CallFact (view fl c n) h call → h.boot ≡ c.server.boot → Above (call_seat (Client n) c.server.seats) h.epoch h.number
@@ -409,10 +410,10 @@ pub answers_at : (sp : Bool) (n : ℕ) (call : FsCall) (o : Option Seat) (e d k 
 answers_at sp n call o e d k l boot m past p q a = subst (λ (z : ℕ). Answers sp n call (spot_at o z l) boot m past) p (subst (λ (z : ℕ). Answers sp n call (spot_at o e z) boot m past) q a)
 
 -- the new reply
-pub reply_now : (good : Bool) (fl : ℕ → Ghost) (c : Cell) (past newer : List Entry) (n : ℕ) (h : Head) (user : List ℕ) (call : FsCall) (x : Carried) → Now c fl past n h user call → (fl n).floor ≤ c.server.boot
+pub reply_now : {s : Script} → (good : Bool) (fl : ℕ → Ghost) (c : Cell) (past newer : List Entry) (n : ℕ) (h : Head) (user : List ℕ) (call : FsCall) (x : Carried) → Now s c fl past n h user call → (fl n).floor ≤ c.server.boot
     → Answers (c.clients n).spoiled n call (record { durable = own_durable good (taken n h (replied c.server.boot (client_head n h) x)) (call_seat (Client n) c.server.durable); epoch = h.epoch; last = h.number }) c.server.boot (replied c.server.boot (client_head n h) x) newer
     → ReplyFact n (caller_view good fl c n h (replied c.server.boot (client_head n h) x)) newer (replied c.server.boot (client_head n h) x)
-reply_now good fl c past newer n h user call x w le a = record {
+reply_now {s} good fl c past newer n h user call x w le a = record {
   behind = w.fact.behind;
   booted = le_refl _;
   recent = λ y k. le;
@@ -429,7 +430,7 @@ pub record Serves (good : Bool) (s : Script) (c : Cell) (fl : ℕ → Ghost) (pa
   pub fine : AreFine st.volumes
   pub home : AreHome s st.volumes (lines_of (e ∷ past))
   pub new : AreNew (durable_after good c n h (replied c.server.boot (client_head n h) x)) (lines_of (e ∷ past))
-  pub other : (j : ℕ) → (n ≡ j → ⊥) → ClientFacts j (view fl c j) past → ClientFacts j (view fl c j) (e ∷ past)
+  pub other : (j : ℕ) → (n ≡ j → ⊥) → ClientFacts s j (view fl c j) past → ClientFacts s j (view fl c j) (e ∷ past)
   pub other_reply : (j : ℕ) (m : Message) → (n ≡ j → ⊥) → ReplyFact j (view fl c j) past m → ReplyFact j (view fl c j) (e ∷ past) m
   pub own_answers : (b : Going) (m : Message) → ReplyFact n (view fl c n) past m → (c.clients n).running ≡ Some b → m.head.epoch ≡ (c.clients n).epoch → m.head.number ≡ (c.clients n).last
       → Answers (c.clients n).spoiled n (asked b) (spot (caller_view good fl c n h (replied c.server.boot (client_head n h) x))) c.server.boot m (e ∷ past)
@@ -443,7 +444,7 @@ pub record Serves (good : Bool) (s : Script) (c : Cell) (fl : ℕ → Ghost) (pa
   pub top : Tops (lines_of (e ∷ past))
   pub one : Ones (lines_of (e ∷ past))
 
-pub own_reply : (good : Bool) (s : Script) (c : Cell) (fl : ℕ → Ghost) (past : List Entry) (n : ℕ) (h : Head) (user : List ℕ) (call : FsCall) (x : Carried) (e : Entry) (st : Stock) → Now c fl past n h user call → Serves good s c fl past n h user call x e st
+pub own_reply : (good : Bool) (s : Script) (c : Cell) (fl : ℕ → Ghost) (past : List Entry) (n : ℕ) (h : Head) (user : List ℕ) (call : FsCall) (x : Carried) (e : Entry) (st : Stock) → Now s c fl past n h user call → Serves good s c fl past n h user call x e st
     → (m : Message) → ReplyFact n (view fl c n) past m → ReplyFact n (caller_view good fl c n h (replied c.server.boot (client_head n h) x)) (e ∷ past) m
 own_reply good s c fl past n h user call x e st w v m f = record {
   behind = f.behind;
@@ -472,8 +473,8 @@ stored_by true n x o r v past is k f h seat m one y = own_kept n x seat r m v pa
 stored_by false n x o r v past is k f h seat m one y = h seat m one y
 
 -- the caller, after its call ran
-pub caller_after : (good : Bool) (s : Script) (c : Cell) (past : List Entry) (n : ℕ) (h : Head) (user : List ℕ) (call : FsCall) (x : Carried) (e : Entry) (st : Stock) → (H : Holds s c past) → Now c H.floors past n h user call → Serves good s c H.floors past n h user call x e st
-    → ClientFacts n (caller_view good H.floors c n h (replied c.server.boot (client_head n h) x)) (e ∷ past)
+pub caller_after : (good : Bool) (s : Script) (c : Cell) (past : List Entry) (n : ℕ) (h : Head) (user : List ℕ) (call : FsCall) (x : Carried) (e : Entry) (st : Stock) → (H : Holds s c past) → Now s c H.floors past n h user call → Serves good s c H.floors past n h user call x e st
+    → ClientFacts s n (caller_view good H.floors c n h (replied c.server.boot (client_head n h) x)) (e ∷ past)
 caller_after good s c past n h user call x e st H w v =
     let d = H.clients n in
     let r : Message = replied c.server.boot (client_head n h) x in
@@ -490,10 +491,10 @@ caller_after good s c past n h user call x e st H w v =
       floored = d.floored;
       holds = d.holds;
       waits = d.waits;
-      idle = λ y. v.acts.runs (lines_of past) ∙ d.idle y;
+      idle = λ y. v.acts.runs s (lines_of past) ∙ d.idle y;
       made = v.made;
       current = v.current;
-      runs = λ b y. v.acts.runs (lines_of past) ∙ d.runs b y;
+      runs = λ b y. v.acts.runs s (lines_of past) ∙ d.runs b y;
       asked = λ b y. inr (v.acts.begins, d.asked b y);
       reached = v.reached;
     }
@@ -505,19 +506,20 @@ served_cell good c n h r st b d armed ms = record c { server = server_after good
 pub own_held : (good : Bool) (fl : ℕ → Ghost) (c : Cell) (n : ℕ) (h : Head) (r : Message) (past : List Entry) → r.head.to ≡ Client n → r.head.from ≡ the_server → r.head.half ≡ halves.Reply → IsReply r.carried → ReplyFact n (caller_view good fl c n h r) past r → HeldIn (views_after good fl c n h r) past r
 own_held good fl c n h r past to from half is f = record { client = n; to = to; from = from; half = half; is_reply = is; fact = at_views good fl c n h r n (λ i u. ReplyFact i u past r) f (λ ne. absurd (ne refl)) }
 
-pub serves : (good : Bool) (s : Script) (b : Option ℕ) (c : Cell) (past : List Entry) (n : ℕ) (h : Head) (user : List ℕ) (call : FsCall) (x : Carried) (e : Entry) (st : Stock) (after : Backs) (d : Option Fall) (armed : Armed) → (H : Holds s c past) → Now c H.floors past n h user call → Serves good s c H.floors past n h user call x e st
+pub serves : (good : Bool) (s : Script) (b : Option ℕ) (c : Cell) (past : List Entry) (n : ℕ) (h : Head) (user : List ℕ) (call : FsCall) (x : Carried) (e : Entry) (st : Stock) (after : Backs) (d : Option Fall) (armed : Armed) → (H : Holds s c past) → Now s c H.floors past n h user call → Serves good s c H.floors past n h user call x e st
     → server_boot the_server (lines_of (e ∷ past)) ≡ b
     → AreUnheard d (seats_after c n h (replied c.server.boot (client_head n h) x)) c.server.boot (e ∷ past)
     → HasFallen d (server_after good c n h (replied c.server.boot (client_head n h) x) st) (c.sent ++ e.sent) (e ∷ past)
-    → (HeldIn (views_after good H.floors c n h (replied c.server.boot (client_head n h) x)) (e ∷ past) (replied c.server.boot (client_head n h) x) → Gives (views_after good H.floors c n h (replied c.server.boot (client_head n h) x)) c.server.boot (e ∷ past) c.backs.held e.sent after.held)
+    → (HeldIn (views_after good H.floors c n h (replied c.server.boot (client_head n h) x)) (e ∷ past) (replied c.server.boot (client_head n h) x) → Gives s (views_after good H.floors c n h (replied c.server.boot (client_head n h) x)) c.server.boot (e ∷ past) c.backs.held e.sent after.held)
     → (b ≡ up_boot d c.server.boot → BackedIn d after c.server.boot (seats_after c n h (replied c.server.boot (client_head n h) x)) (seats_of c) c.clock (c.sent ++ e.sent) (e ∷ past))
     → HoldsAt s b (served_cell good c n h (replied c.server.boot (client_head n h) x) st after d armed e.sent) (e ∷ past)
 serves good s b c past n h user call x e st after d armed H w v boots heard fallen news backs =
     let r : Message = replied c.server.boot (client_head n h) x in
-    let now : (j : ℕ) → ClientFacts j (views_after good H.floors c n h r j) (e ∷ past) = λ j. at_views good H.floors c n h r j (λ i u. ClientFacts i u (e ∷ past)) (caller_after good s c past n h user call x e st H w v) (λ ne. v.other j ne (H.clients j)) in
+    let now : (j : ℕ) → ClientFacts s j (views_after good H.floors c n h r j) (e ∷ past) = λ j. at_views good H.floors c n h r j (λ i u. ClientFacts s i u (e ∷ past)) (caller_after good s c past n h user call x e st H w v) (λ ne. v.other j ne (H.clients j)) in
     record {
       floors = H.floors;
       count = H.count;
+      tables = H.tables;
       ideal = v.ideal;
       fine = v.fine;
       sound = v.sound;
@@ -573,7 +575,7 @@ not_stored o e k a ran =
     below_not _ _ _ _ l (up_to_same _ _ _ _ (sym ran.epoch) (sym ran.number))
 
 -- over an entry that changes no file
-pub serves_still : (s : Script) (c : Cell) (past : List Entry) (n : ℕ) (h : Head) (user : List ℕ) (call : FsCall) (x : Carried) (e : Entry) → (H : Holds s c past) → Now c H.floors past n h user call
+pub serves_still : (s : Script) (c : Cell) (past : List Entry) (n : ℕ) (h : Head) (user : List ℕ) (call : FsCall) (x : Carried) (e : Entry) → (H : Holds s c past) → Now s c H.floors past n h user call
     → ((j : ℕ) (f : Fid) → PassesFile j f e past) → ((j : ℕ) (f : Fid) → PassesReach j f e past) → ((j : ℕ) → PassesAct j e past) → ((f : Fid) → last_version f (lines_of (e ∷ past)) ≡ last_version f (lines_of past))
     → AreIdeal c.server.volumes (e ∷ past) → AreHome s c.server.volumes (lines_of (e ∷ past)) → AreNew c.server.durable (lines_of (e ∷ past)) → clock_of (lines_of (e ∷ past)) ≡ c.clock → Tops (lines_of (e ∷ past)) → Ones (lines_of (e ∷ past)) → IsReply x
     → Answers (c.clients n).spoiled n call (record { durable = call_seat (Client n) c.server.durable; epoch = h.epoch; last = h.number }) c.server.boot (replied c.server.boot (client_head n h) x) (e ∷ past) → Serves false s c H.floors past n h user call x e (stock c.server)
@@ -600,7 +602,7 @@ serves_still s c past n h user call x e H w pf pr pa l ideal home new clock top 
     }
 
 -- the call runs now
-abbrev pub has_run : (s : Script) (c : Cell) (past : List Entry) (p n : ℕ) (h : Head) (user : List ℕ) (call : FsCall) (e : Entry) → (H : Holds s c past) → c.down ≡ None → message_at c.sent p ≡ Some (call_at n h user call) → Now c H.floors past n h user call
+abbrev pub has_run : (s : Script) (c : Cell) (past : List Entry) (p n : ℕ) (h : Head) (user : List ℕ) (call : FsCall) (e : Entry) → (H : Holds s c past) → c.down ≡ None → message_at c.sent p ≡ Some (call_at n h user call) → Now s c H.floors past n h user call
     → given_message e.lines (sent_of past) ≡ message_at (sent_of past) p → e.actor ≡ actors.Node the_server → HasRun c n h user call (e ∷ past)
 has_run s c past p n h user call e H up at w is by = record { ran = ran_now s c past p n h user call e H up at w is by; is = refl; ideal = H.ideal }
 
@@ -608,7 +610,7 @@ has_run s c past p n h user call e H up at w is by = record { ran = ran_now s c 
 pub taken_not : (seats : List Seat) (n : ℕ) (h : Head) (r : Message) → Above (call_seat (Client n) (call_seated (taken n h r) seats)) h.epoch h.number → ⊥
 taken_not seats n h r above = below_not h.epoch h.number h.epoch h.number (subst (λ (o : Option Seat). Above o h.epoch h.number) (own_seat (taken n h r) seats) above) (up_to_same h.epoch h.number h.epoch h.number refl refl)
 
-pub run_backed : (s : Script) (c : Cell) (past : List Entry) (n : ℕ) (h : Head) (user : List ℕ) (call : FsCall) (x : Carried) (e : Entry) (ps : List Promise) → (H : Holds s c past) → c.down ≡ None → Now c H.floors past n h user call → (OfReply ⊥ x → ⊥) → all_lines is_up e.lines ≡ true → all_lines is_oweless e.lines ≡ true → all_lines is_unchanging e.lines ≡ true → AllOf (IsGranted (lines_of (e ∷ past))) ps → Promised None ps c.clock (lines_of (e ∷ past))
+pub run_backed : (s : Script) (c : Cell) (past : List Entry) (n : ℕ) (h : Head) (user : List ℕ) (call : FsCall) (x : Carried) (e : Entry) (ps : List Promise) → (H : Holds s c past) → c.down ≡ None → Now s c H.floors past n h user call → (OfReply ⊥ x → ⊥) → all_lines is_up e.lines ≡ true → all_lines is_oweless e.lines ≡ true → all_lines is_unchanging e.lines ≡ true → AllOf (IsGranted (lines_of (e ∷ past))) ps → Promised None ps c.clock (lines_of (e ∷ past))
     → BackedIn None (record (expired c.clock c.backs) { promises = ps; held = c.backs.held ++ record { reply = replied c.server.boot (client_head n h) x; waits = [] } ∷ [] }) c.server.boot (seats_after c n h (replied c.server.boot (client_head n h) x)) (seats_of c) c.clock c.sent (e ∷ past)
 run_backed s c past n h user call x e ps H up w is a b d granted promised =
     let r : Message = replied c.server.boot (client_head n h) x in
@@ -618,7 +620,7 @@ run_backed s c past n h user call x e ps H up w is a b d granted promised =
     (record { client = n; to = refl; from = refl; is_reply = is; under = taken_not c.server.seats n h r }) (λ y. key_held (expired c.clock c.backs) c.server.boot c.server.seats (seats_of c) c.clock c.sent past k B w.above y)
     (λ y. absurd (no_change k (lines_of past) (H.new k w.above_durable) (change_back k e.lines (lines_of past) d y)))
 
-pub refuses_goes : (s : Script) (c : Cell) (past : List Entry) (armed : Armed) (p n : ℕ) (h : Head) (user : List ℕ) (call : FsCall) (code : ℤ) → (H : Holds s c past) → c.down ≡ None → message_at c.sent p ≡ Some (call_at n h user call) → Now c H.floors past n h user call → is_zero_code (record { 0 = code }) ≡ false
+pub refuses_goes : (s : Script) (c : Cell) (past : List Entry) (armed : Armed) (p n : ℕ) (h : Head) (user : List ℕ) (call : FsCall) (code : ℤ) → (H : Holds s c past) → c.down ≡ None → message_at c.sent p ≡ Some (call_at n h user call) → Now s c H.floors past n h user call → is_zero_code (record { 0 = code }) ≡ false
     → IsResult code (answer_at user call past) (called_key (client_head n h)) (lines.Given p ∷ lines_of past) → Goes s past (server_does c armed p (call_at n h user call) (refuses (client_head n h) code))
 refuses_goes s c past armed p n h user call code H up at w nz result =
     let x : Carried = carried.Refusal (record { 0 = code }) in
@@ -719,7 +721,7 @@ grant_at c x p shown f e = record {
   line = ap (λ (z : Shown). lines.Given p ∷ granted the_server c x (granted_by z) []) e;
 }
 
-pub shows_goes : (s : Script) (c : Cell) (past : List Entry) (armed : Armed) (p n : ℕ) (h : Head) (user : List ℕ) (call : FsCall) (r : Reading) → (H : Holds s c past) → c.down ≡ None → message_at c.sent p ≡ Some (call_at n h user call) → Now c H.floors past n h user call
+pub shows_goes : (s : Script) (c : Cell) (past : List Entry) (armed : Armed) (p n : ℕ) (h : Head) (user : List ℕ) (call : FsCall) (r : Reading) → (H : Holds s c past) → c.down ≡ None → message_at c.sent p ≡ Some (call_at n h user call) → Now s c H.floors past n h user call
     → volume_called call ≡ Some r.id → get r.id c.server.volumes ≡ Some r.volume → IsShown call r.volume r.shown → answer_at user call past ≡ Some (reads r.shown) → Goes s past (server_does c armed p (call_at n h user call) (shows (client_head n h) r))
 shows_goes s c past armed p n h user call r H up at w of there is result =
     let t : ℕ = c.clock + promise_ticks in

@@ -10,8 +10,8 @@ use Rattle.afs_ideal.specs.Tables.{get}
 use Rattle.afs_ideal.specs.Volumes.{Volume}
 use Rattle.afs_law.proofs.Basics.{yes_no}
 use Rattle.afs_law.proofs.Ops.{op_is}
-use Rattle.afs_law.specs.ServerRow.{Decision, refuses, shows, saves, not_served, no_room, decided, in_volume, has_room, record_of, serves, runs, whole}
-use Rattle.afs_law.specs.States.{ServerState}
+use Rattle.afs_rows.specs.ServerRow.{Decision, refuses, shows, saves, not_served, no_room, decided, in_volume, has_room, record_of, serves, runs, whole}
+use Rattle.afs_rows.specs.States.{ServerState}
 use Rattle.afs_model.specs.FsRows.{call_number}
 
 -- A server tells that a call isn't served exactly where its opcode is none of those that it serves.

@@ -10,14 +10,14 @@ use Rattle.afs_law.proofs.Passing.{PassesFile, PassesAct, PassesReach, stays, cu
 use Rattle.afs_law.proofs.Resting.{voids}
 use Rattle.afs_law.proofs.Serving.{reached_still}
 use Rattle.afs_law.proofs.Skipping.{own_ended, last_line, skips, timed, drop_lines, drop_file, drop_reach, drop_still, drop_passes, ended_running, left_found, left_scope, left_none, scope_is}
-use Rattle.afs_law.specs.ClientRow.{the_server, dead_code, tries_again, dropped, gives_up, call_message, ended, reborn, left_in, given_up_in, gives_up'}
-use Rattle.afs_law.specs.Going.{asked, Going, ClientState}
+use Rattle.afs_rows.specs.ClientRow.{the_server, dead_code, tries_again, dropped, gives_up, call_message, ended, reborn, left_in, given_up_in, gives_up'}
+use Rattle.afs_rows.specs.Going.{asked, Going, ClientState}
 use Rattle.afs_law.specs.Ideal.{last_version, user_of}
 use Rattle.afs_law.specs.Legal.{given_up, AreGood}
-use Rattle.afs_law.specs.Lines.{Line}
+use Rattle.afs_history.specs.declared.lines.Line.{Line}
 use Rattle.afs_law.specs.Past.{lines_of, has_begun, running, CalledSince}
-use Rattle.afs_law.specs.Runs.{Entry, Cell, Moved, client_moves, turned, client_falls, client_rises, waited_by}
-use Rattle.afs_law.specs.States.{CacheEntry}
+use Rattle.afs_rows.specs.Runs.{Entry, Cell, Moved, client_moves, turned, client_falls, client_rises, waited_by}
+use Rattle.afs_rows.specs.States.{CacheEntry}
 use Rattle.std.proofs.Math.Nat.{le_refl}
 use Rattle.afs_num.specs.Nodes.{same_node}
 use Rattle.afs_num.specs.declared.types.Fid.{Fid}
@@ -27,7 +27,7 @@ use Rattle.afs_num.specs.declared.types.Node.TheVariants.{Client}
 use Rattle.afs_num.specs.declared.calls.FsCall.{FsCall}
 use Rattle.afs_num.specs.declared.messages.Message.{Message}
 use Rattle.afs_num.specs.declared.scripts.Script.{Script}
-use Rattle.afs_law.specs.Lines as lines
+use Rattle.afs_history.specs.declared.lines.Line.TheVariants as lines
 
 -- ---- a timeout line alone
 
@@ -38,7 +38,7 @@ pub timeout_reach : (n j e l k : ℕ) (ms : List Message) (past : List Entry) (f
 timeout_reach n j e l k ms past f = record { both = λ i h. record { made = h.made; seen = h.seen }; seen = λ i h. h; made = λ x. x }
 
 pub timeout_act : (n j e l k : ℕ) (ms : List Message) (past : List Entry) → PassesAct j (step_entry n (lines.Timeout (Client n) the_server e l k ∷ []) ms) past
-timeout_act n j e l k ms past = record { runs = λ o. refl; begins = refl }
+timeout_act n j e l k ms past = record { runs = λ s o. refl; begins = refl }
 
 pub timeout_passes : (s : Script) (n e l k : ℕ) (ms : List Message) (past : List Entry) → Passes s n (lines.Timeout (Client n) the_server e l k ∷ []) ms past
 timeout_passes s n e l k ms past = record {
@@ -61,7 +61,7 @@ tries_goes s c past n act h runs =
     let x : ClientState = c.clients n in
     let ms : List Message = call_message (Client n) x act ∷ [] in
     let e : Entry = step_entry n (lines.Timeout (Client n) the_server x.epoch x.last (x.tries + 1) ∷ []) ms in
-    moves s c past n (h.floors n) (tries_again (Client n) x act) h (refl, tt) (timeout_passes s n x.epoch x.last (x.tries + 1) ms past)
+    moves s c past n (h.floors n) (tries_again (Client n) x act) h refl (refl, tt) (timeout_passes s n x.epoch x.last (x.tries + 1) ms past)
     (client_kept s c past n x.boot e h (h.clients n).known (timeout_file n n x.epoch x.last (x.tries + 1) ms past) (timeout_reach n n x.epoch x.last (x.tries + 1) ms past) (timeout_act n n x.epoch x.last (x.tries + 1) ms past) (λ f. refl))
     (λ head call f. call_known (view h.floors c n) x.boot head call f)
     (reply_still n (view h.floors c n) e past (timeout_file n n x.epoch x.last (x.tries + 1) ms past) (timeout_reach n n x.epoch x.last (x.tries + 1) ms past) (λ f. refl))
@@ -76,7 +76,7 @@ not_raised false = refl
 -- ---- a call is given up
 
 -- the answer is good behind the drops
-pub dead_good : (s : Script) (n : ℕ) (act : Going) (key : Key) (past : List Entry) (es : List CacheEntry) (own : List Line) → running (Client n) (own ++ lines_of past) ≡ Some act → given_up (Client n) own ≡ Some key → has_begun (Client n) own ≡ false → CalledSince key (user_of (Client n)) (asked act) past
+pub dead_good : (s : Script) (n : ℕ) (act : Going) (key : Key) (past : List Entry) (es : List CacheEntry) (own : List Line) → running s (Client n) (own ++ lines_of past) ≡ Some act → given_up (Client n) own ≡ Some key → has_begun (Client n) own ≡ false → CalledSince key (user_of (Client n)) (asked act) past
     → AreGood s (actors.Node (Client n)) past own (dropped (Client n) es (last_line n dead_code))
 dead_good s n act key past [] own runs third before called = ((refl, record { act = act; runs = runs; cause = inr (inr (record { is = refl; key = key; third = third; before = before; called = called })) }), tt)
 dead_good s n act key past (u ∷ es) own runs third before called = (refl, dead_good s n act key past es (lines.Drop (Client n) u.fid ∷ own) runs third before called)
@@ -97,10 +97,10 @@ gives_up_by s c past n act h runs =
     let last : (f : Fid) → last_version f (lines_of (e ∷ past)) ≡ last_version f (lines_of past) = λ f. (skips n dead_code es).last f _ in
     let held : ℕ = (h.floors n).held in
     let g : Ghost = holding h.floors n held in
-    moves s c past n g (gives_up' (Client n) x call) h
+    moves s c past n g (gives_up' (Client n) x call) h refl
     (refl, dead_good s n act (last_key n (view h.floors c n)) past es (lines.Timeout (Client n) the_server x.epoch x.last 3 ∷ []) ((h.clients n).runs act runs) (rw (same_node-refl (Client n)) refl) refl ((h.clients n).asked act runs))
     (drop_passes s c past n (timed x.epoch x.last) dead_code es (λ k boot y. y))
-    (ended_facts s c past n cache held e h (h.clients n).holds (ended_running n dead_code es (lines.Timeout (Client n) the_server x.epoch x.last 3 ∷ lines_of past))
+    (ended_facts s c past n cache held e h (h.clients n).holds (ended_running s n dead_code es (lines.Timeout (Client n) the_server x.epoch x.last 3 ∷ lines_of past))
     (λ k u found lasts.
     let out : InScope call k → ⊥ = λ z. left_scope (volume_changed call) k x.cache u found (scope_is call k z) in
     let file : PassesFile n k e past = drop_file n n (timed x.epoch x.last) dead_code es past k (left_none (volume_changed call) (Client n) (Client n) k x.cache u found) in
@@ -129,6 +129,7 @@ pub away_again : (s : Script) (c : Cell) (past : List Entry) (a : ℕ → Bool) 
 away_again s c past a h = record {
   floors = h.floors;
   count = h.count;
+  tables = h.tables;
   ideal = h.ideal;
   sound = h.sound;
   fine = h.fine;
@@ -153,7 +154,7 @@ pub crash_passes : (s : Script) (n : ℕ) (past : List Entry) → Passes s n (li
 crash_passes s n past = record {
   file = λ j ne f. record { grant = record { version = λ i b o x. x; dropped = λ s o d. d; withdrawn = λ s o w. inr w }; fetched = refl };
   reach = λ j ne f. record { both = λ i h. record { made = h.made; seen = h.seen }; seen = λ i h. h; made = λ x. x };
-  act = λ j ne. record { runs = λ o. runs_by_other n j None (running (Client j) o) ne; begins = refl };
+  act = λ j ne. record { runs = λ s o. runs_by_other n j None (running s (Client j) o) ne; begins = refl };
   last = λ f o. refl;
   back = λ f i b o x. x;
   new = λ key o x. x;
@@ -169,7 +170,7 @@ pub restart_passes : (s : Script) (n boot : ℕ) (past : List Entry) → Passes 
 restart_passes s n boot past = record {
   file = λ j ne f. record { grant = record { version = λ i b o x. x; dropped = λ s o d. d; withdrawn = λ s o w. w }; fetched = refl };
   reach = λ j ne f. record { both = λ i h. record { made = h.made; seen = h.seen }; seen = λ i h. h; made = λ x. x };
-  act = λ j ne. record { runs = λ o. refl; begins = refl };
+  act = λ j ne. record { runs = λ s o. refl; begins = refl };
   last = λ f o. refl;
   back = λ f i b o x. x;
   new = λ key o x. x;
@@ -206,7 +207,7 @@ client_stops_goes s c past n h =
       tied = f.tied;
       answers = λ b y. absurd cc;
     } in
-    turned_goes s past n true _ (moves_back s c past n g (record { state = x; lines = lines.Crash (Client n) ∷ []; sent = [] }) h (refl, tt) (crash_passes s n past)
+    turned_goes s past n true _ (moves_back s c past n g (record { state = x; lines = lines.Crash (Client n) ∷ []; sent = [] }) h refl (refl, tt) (crash_passes s n past)
     (record {
       behind = λ seat y. new_epoch _ _ _ _ (d.behind seat y);
       behind_durable = λ seat y. new_epoch _ _ _ _ (d.behind_durable seat y);
@@ -217,7 +218,7 @@ client_stops_goes s c past n h =
       floored = le_refl _;
       holds = d.holds;
       waits = λ b y. absurd cc;
-      idle = λ y. own_ended n (running (Client n) (lines_of past));
+      idle = λ y. own_ended n (running s (Client n) (lines_of past));
       made = λ b y. absurd cc;
       current = λ f u found lasts. absurd cc;
       runs = λ b y. absurd cc;
@@ -233,6 +234,6 @@ client_starts_goes s c past n h =
     let e : Entry = step_entry n (lines.Restart (Client n) x.epoch ∷ []) [] in
     let file : (f : Fid) → PassesFile n f e past = λ f. record { grant = record { version = λ i b o x. x; dropped = λ s o d. d; withdrawn = λ s o w. w }; fetched = refl } in
     let reach_ : (f : Fid) → PassesReach n f e past = λ f. record { both = λ i r. record { made = r.made; seen = r.seen }; seen = λ i r. r; made = λ x. x } in
-    turned_goes s past n false _ (moves s c past n (h.floors n) (record { state = x; lines = lines.Restart (Client n) x.epoch ∷ []; sent = [] }) h ((refl, tt), tt) (restart_passes s n x.epoch past)
-    (client_kept s c past n x.boot e h (h.clients n).known file reach_ (record { runs = λ o. refl; begins = refl }) (λ f. refl))
+    turned_goes s past n false _ (moves s c past n (h.floors n) (record { state = x; lines = lines.Restart (Client n) x.epoch ∷ []; sent = [] }) h refl ((refl, tt), tt) (restart_passes s n x.epoch past)
+    (client_kept s c past n x.boot e h (h.clients n).known file reach_ (record { runs = λ s o. refl; begins = refl }) (λ f. refl))
     (λ head call f. call_known (view h.floors c n) x.boot head call f) (reply_still n (view h.floors c n) e past file reach_ (λ f. refl)) (nothing_new _ _) (λ a x z. inl x) refl)

@@ -1,3 +1,4 @@
+use Rattle.afs_num.specs.declared.histories.ReadBody.TheVariants as seen
 use Rattle.std.proofs.Common.{◌≡◌, ℕ, zero, suc, ◌<◌, ◌≤◌, ◌⊎◌, inl, inr, Bool, true, false, cond, nat_lt, List, [], ◌∷◌, ◌++◌, Option, Some, None, pos, refl, sym, ap, subst, ◌∙◌, arith, append-nil, ltb-true}
 use Rattle.std.specs.Prelude.{⊤, ◌&&◌}
 use Rattle.std.specs.Option.{option_map}
@@ -21,17 +22,17 @@ use Rattle.afs_law.proofs.Edits.{index_in}
 use Rattle.afs_law.proofs.Facts.{Held, IsNewest, IsCurrent, View, Reached, LastRan, Holds}
 use Rattle.afs_law.proofs.Passing.{PassesGrant, held_over, onto_front, stays}
 use Rattle.afs_law.proofs.Quiet.{AreQuiet, quiet_more, quiet_grant, quiet_last, quiet_clock, reach_more}
-use Rattle.afs_law.specs.ClientRow.{the_server, find_cached, used_first, Look, Walked, walked, walked_by, walked_at, look_at, looked, is_trusted}
-use Rattle.afs_law.specs.Going.{Going, Need, reads, asks_for, answers, next, with_read}
+use Rattle.afs_rows.specs.ClientRow.{the_server, find_cached, used_first, Look, Walked, walked, walked_by, walked_at, look_at, looked, is_trusted}
+use Rattle.afs_rows.specs.Going.{Going, Need, reads, asks_for, answers, next, with_read}
 use Rattle.afs_law.specs.Grants.{has_fetched, fetch_reply, read_reply, since, IsWithdrawn, IsDropped}
 use Rattle.afs_law.specs.Ideal.{last_version, HasVersion, IsLast, clock_of, Reach, reach_over, reach, is_zero_code}
 use Rattle.afs_law.specs.Legal.{AreGood, GoodRead}
-use Rattle.afs_law.specs.Lines.{Line}
+use Rattle.afs_history.specs.declared.lines.Line.{Line}
 use Rattle.afs_law.specs.Past.{onto, lines_of, sent_of, given_message, running, IsCallUnder}
-use Rattle.afs_law.specs.Runs.{Entry, Cell}
-use Rattle.afs_law.specs.States.{CacheEntry}
-use Rattle.afs_law.specs.ClientRow as ClientRow
-use Rattle.afs_law.specs.Lines as lines
+use Rattle.afs_rows.specs.Runs.{Entry, Cell}
+use Rattle.afs_rows.specs.States.{CacheEntry}
+use Rattle.afs_rows.specs.ClientRow as ClientRow
+use Rattle.afs_history.specs.declared.lines.Line.TheVariants as lines
 
 -- An act that reads from its client's cache.
 
@@ -57,7 +58,7 @@ lines_assoc (k ∷ ls) tail l = ap (λ (o : List Line). k ∷ o) (lines_assoc ls
 
 pub looked_more : (m : Node) (looks : List Look) (tail : List Line) → looked m looks tail ≡ looked m looks [] ++ tail
 looked_more m [] tail = refl
-looked_more m (l ∷ looks) tail = ap (λ (o : List Line). lines.Read m l.fid l.index l.source l.body ∷ o) (looked_more m looks tail)
+looked_more m (l ∷ looks) tail = ap (λ (o : List Line). lines.Read m l.fid l.index l.source (seen.Contents l.body) ∷ o) (looked_more m looks tail)
 
 -- ---- cached reads and an answer
 
@@ -106,14 +107,14 @@ pub record Ready (n most : ℕ) (g : Fid) (u : CacheEntry) (ls : List Line) (pas
 pub record Walks (s : Script) (c : Cell) (past : List Entry) (n most : ℕ) (ls : List Line) (a : Going) (cache : List CacheEntry) : Type 0 where
   pub good : (tail : List Line) → AreGood s (actors.Node (Client n)) past (onto [] ls) tail → AreGood s (actors.Node (Client n)) past [] (ls ++ tail)
   pub quiet : AreQuiet n ls
-  pub runs : running (Client n) (onto (lines_of past) ls) ≡ Some a
+  pub runs : running s (Client n) (onto (lines_of past) ls) ≡ Some a
   pub ready : (g : Fid) (u : CacheEntry) → find_cached g cache ≡ Some u → c.clock < u.expiry → Ready n most g u ls past
   pub up : (g : Fid) → (reach_over (Client n) g past false (reach (Client n) g past) ls).seen ≤ index_in (last_version g (lines_of past))
   pub made : (g : Fid) → (reach_over (Client n) g past false (reach (Client n) g past) ls).made ≡ 0
   pub dull : (tail : List Line) → AreTail n tail → (k : Key) (boot : ℕ) → IsCallUnder the_server k boot (given_message (ls ++ tail) (sent_of past)) → ⊥
 
 -- what can be read is read well
-pub ready_good : (s : Script) (c : Cell) (past : List Entry) (n most : ℕ) (ls : List Line) (u : CacheEntry) → Holds s c past → AreQuiet n ls → c.clock < u.expiry → Ready n most u.fid u ls past → GoodRead (Client n) u.fid u.index Cached u.body past (onto [] ls)
+pub ready_good : (s : Script) (c : Cell) (past : List Entry) (n most : ℕ) (ls : List Line) (u : CacheEntry) → Holds s c past → AreQuiet n ls → c.clock < u.expiry → Ready n most u.fid u ls past → GoodRead (Client n) u.fid u.index Cached (seen.Contents u.body) past (onto [] ls)
 ready_good s c past n most ls u h q lasts r =
     let p : PassesGrant n u.fid (step_entry n ls []) past = quiet_grant n n u.fid ls [] past q in
     let new : List Line = since (Client n) u.fid u.expiry r.reply past r.held.grant in
@@ -134,15 +135,15 @@ ready_good s c past n most ls u h q lasts r =
 
 -- the act reads an entry
 pub walks_read : (s : Script) (c : Cell) (past : List Entry) (n most : ℕ) (ls : List Line) (a : Going) (cache : List CacheEntry) (u : CacheEntry) → Holds s c past → Walks s c past n most ls a cache → find_cached u.fid cache ≡ Some u → c.clock < u.expiry
-    → Walks s c past n most (ls ++ lines.Read (Client n) u.fid u.index Cached u.body ∷ []) (with_read u.fid u.body a) (used_first u cache)
+    → Walks s c past n most (ls ++ lines.Read (Client n) u.fid u.index Cached (seen.Contents u.body) ∷ []) (with_read u.fid (seen.Contents u.body) a) (used_first u cache)
 walks_read s c past n most ls a cache u h w found lasts =
-    let x : Line = lines.Read (Client n) u.fid u.index Cached u.body in
+    let x : Line = lines.Read (Client n) u.fid u.index Cached (seen.Contents u.body) in
     let r : Ready n most u.fid u ls past = w.ready u.fid u found lasts in
     let more : (g : Fid) → reach_over (Client n) g past false (reach (Client n) g past) (ls ++ x ∷ []) ≡ reach_over (Client n) g past false (reach_over (Client n) g past false (reach (Client n) g past) ls) (x ∷ []) = λ g. reach_more n (Client n) g past (reach (Client n) g past) ls (x ∷ []) w.quiet in
     record {
       good = λ tail g. subst (AreGood s (actors.Node (Client n)) past []) (sym (lines_assoc ls tail x)) (w.good (x ∷ tail) ((refl, ready_good s c past n most ls u h w.quiet lasts r), subst (λ (o : List Line). AreGood s (actors.Node (Client n)) past o tail) (onto_last [] ls x) g));
       quiet = quiet_more n ls (x ∷ []) w.quiet (refl, tt);
-      runs = ap (running (Client n)) (onto_last (lines_of past) ls x) ∙ own_read n u.fid u.body a (running (Client n) (onto (lines_of past) ls)) w.runs;
+      runs = ap (running s (Client n)) (onto_last (lines_of past) ls x) ∙ own_read n u.fid (seen.Contents u.body) a (running s (Client n) (onto (lines_of past) ls)) w.runs;
       ready = λ g v at lasts'.
           let before : find_cached g cache ≡ Some v = used_found g u cache v found at in
           let q : Ready n most g v ls past = w.ready g v before lasts' in
@@ -165,14 +166,14 @@ walks_read s c past n most ls a cache u h w found lasts =
 -- as far as it comes
 pub walks_if : (t : Bool) (k : ℕ) (s : Script) (c : Cell) (past : List Entry) (n most : ℕ) (ls : List Line) (a : Going) (cache : List CacheEntry) (f : Fid) (u : CacheEntry) → Holds s c past → Walks s c past n most ls a cache → find_cached f cache ≡ Some u → nat_lt c.clock u.expiry ≡ t
     → ((a : Going) (cache : List CacheEntry) (ls : List Line) → Walks s c past n most ls a cache → Walks s c past n most (ls ++ looked (Client n) (walked k c.clock a cache).looks []) (walked k c.clock a cache).act (walked k c.clock a cache).cache)
-    → Walks s c past n most (ls ++ looked (Client n) (cond t (ClientRow.behind (look_at Cached u) (walked k c.clock (with_read u.fid u.body a) (used_first u cache))) (ClientRow.stays a cache)).looks []) (cond t (ClientRow.behind (look_at Cached u) (walked k c.clock (with_read u.fid u.body a) (used_first u cache))) (ClientRow.stays a cache)).act (cond t (ClientRow.behind (look_at Cached u) (walked k c.clock (with_read u.fid u.body a) (used_first u cache))) (ClientRow.stays a cache)).cache
+    → Walks s c past n most (ls ++ looked (Client n) (cond t (ClientRow.behind (look_at Cached u) (walked k c.clock (with_read u.fid (seen.Contents u.body) a) (used_first u cache))) (ClientRow.stays a cache)).looks []) (cond t (ClientRow.behind (look_at Cached u) (walked k c.clock (with_read u.fid (seen.Contents u.body) a) (used_first u cache))) (ClientRow.stays a cache)).act (cond t (ClientRow.behind (look_at Cached u) (walked k c.clock (with_read u.fid (seen.Contents u.body) a) (used_first u cache))) (ClientRow.stays a cache)).cache
 walks_if true k s c past n most ls a cache f u h w found lasts ih =
     let own : u.fid ≡ f = same_fid-true u.fid f (found-cached-fid f cache u found) in
     let there : find_cached u.fid cache ≡ Some u = ap (λ (x : Fid). find_cached x cache) own ∙ found in
-    let x : Line = lines.Read (Client n) u.fid u.index Cached u.body in
-    let next : Walked = walked k c.clock (with_read u.fid u.body a) (used_first u cache) in
+    let x : Line = lines.Read (Client n) u.fid u.index Cached (seen.Contents u.body) in
+    let next : Walked = walked k c.clock (with_read u.fid (seen.Contents u.body) a) (used_first u cache) in
     subst (λ (o : List Line). Walks s c past n most o next.act next.cache) (lines_assoc ls (looked (Client n) next.looks []) x)
-    (ih (with_read u.fid u.body a) (used_first u cache) (ls ++ x ∷ []) (walks_read s c past n most ls a cache u h w there (ltb-true _ _ lasts)))
+    (ih (with_read u.fid (seen.Contents u.body) a) (used_first u cache) (ls ++ x ∷ []) (walks_read s c past n most ls a cache u h w there (ltb-true _ _ lasts)))
 walks_if false k s c past n most ls a cache f u h w found lasts ih = subst (λ (o : List Line). Walks s c past n most o a cache) (sym (append-nil ls)) w
 
 pub walks_at : (o : Option CacheEntry) (k : ℕ) (s : Script) (c : Cell) (past : List Entry) (n most : ℕ) (ls : List Line) (a : Going) (cache : List CacheEntry) (f : Fid) → Holds s c past → Walks s c past n most ls a cache → find_cached f cache ≡ o
@@ -195,10 +196,10 @@ walks_on (suc k) s c past n most ls a cache h w = walks_by (next a) k s c past n
 
 -- what is in the cache then was in it before
 found_if : (t : Bool) (k clock : ℕ) (a : Going) (cache : List CacheEntry) (f g : Fid) (u v : CacheEntry) → find_cached f cache ≡ Some u → ((b : Going) (cs : List CacheEntry) → find_cached g (walked k clock b cs).cache ≡ Some v → find_cached g cs ≡ Some v)
-    → find_cached g (cond t (ClientRow.behind (look_at Cached u) (walked k clock (with_read u.fid u.body a) (used_first u cache))) (ClientRow.stays a cache)).cache ≡ Some v → find_cached g cache ≡ Some v
+    → find_cached g (cond t (ClientRow.behind (look_at Cached u) (walked k clock (with_read u.fid (seen.Contents u.body) a) (used_first u cache))) (ClientRow.stays a cache)).cache ≡ Some v → find_cached g cache ≡ Some v
 found_if true k clock a cache f g u v found ih at =
     let own : u.fid ≡ f = same_fid-true u.fid f (found-cached-fid f cache u found) in
-    used_found g u cache v (ap (λ (x : Fid). find_cached x cache) own ∙ found) (ih (with_read u.fid u.body a) (used_first u cache) at)
+    used_found g u cache v (ap (λ (x : Fid). find_cached x cache) own ∙ found) (ih (with_read u.fid (seen.Contents u.body) a) (used_first u cache) at)
 found_if false k clock a cache f g u v found ih at = at
 
 found_at : (o : Option CacheEntry) (k clock : ℕ) (a : Going) (cache : List CacheEntry) (f g : Fid) (v : CacheEntry) → find_cached f cache ≡ o → ((b : Going) (cs : List CacheEntry) → find_cached g (walked k clock b cs).cache ≡ Some v → find_cached g cs ≡ Some v)
@@ -267,4 +268,4 @@ walk_current s c past n most ls a cache tail ms v g u w t ends le free found las
 -- an act that needs no more is answered
 pub walk_answered : (s : Script) (c : Cell) (past : List Entry) (n most : ℕ) (ls : List Line) (a : Going) (cache : List CacheEntry) (k : ℕ) → Walks s c past n most ls a cache → next a ≡ answers k → AreGood s (actors.Node (Client n)) past [] (ls ++ lines.Answer (Client n) (record { 0 = pos k }) ∷ [])
 walk_answered s c past n most ls a cache k w e =
-    w.good (lines.Answer (Client n) (record { 0 = pos k }) ∷ []) ((refl, record { act = a; runs = ap (running (Client n)) (sym (own_lines ls (lines_of past))) ∙ w.runs; cause = inr (inl (record { number = k; is = refl; by = e })) }), tt)
+    w.good (lines.Answer (Client n) (record { 0 = pos k }) ∷ []) ((refl, record { act = a; runs = ap (running s (Client n)) (sym (own_lines ls (lines_of past))) ∙ w.runs; cause = inr (inl (record { number = k; is = refl; by = e })) }), tt)

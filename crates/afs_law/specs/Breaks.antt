@@ -8,10 +8,10 @@ use Rattle.afs_num.specs.declared.types.Node.{Node}
 use Rattle.afs_num.specs.declared.calls.FsCall.{FsCall}
 use Rattle.afs_num.specs.declared.calls.FsCall.TheVariants as calls
 use Rattle.afs_law.specs.Ideal.{clock_of}
-use Rattle.afs_law.specs.Lines.{Line}
+use Rattle.afs_history.specs.declared.lines.Line.{Line}
 use Rattle.afs_law.specs.Past.{onto, lines_on, lines_of, sent_of, given_message, IsCallUnder, Sends}
-use Rattle.afs_law.specs.Runs.{Entry}
-use Rattle.afs_law.specs.Lines as lines
+use Rattle.afs_rows.specs.Runs.{Entry}
+use Rattle.afs_history.specs.declared.lines.Line.TheVariants as lines
 
 -- ---- by the lines since, the newest first
 

@@ -1,10 +1,10 @@
 use Rattle.afs_ideal.specs.Operations.{the_user, volume_called, changed, op, is_number}
 use Rattle.afs_ideal.specs.Tables.{Table, get}
 use Rattle.afs_ideal.specs.Volumes.{Vnode, version_at, Volume}
-use Rattle.afs_law.specs.Lines.{Line}
+use Rattle.afs_history.specs.declared.lines.Line.{Line}
 use Rattle.afs_law.specs.Past.{onto, is_of_act, sent_of, is_called}
-use Rattle.afs_law.specs.Runs.{Entry, first_volume, first_volumes}
-use Rattle.afs_law.specs.Scopes.{is_volume}
+use Rattle.afs_rows.specs.Runs.{Entry, first_volume, first_volumes}
+use Rattle.afs_rows.specs.Scopes.{is_volume}
 use Rattle.std.specs.Prelude.{is_some, ◌≡◌, ℕ, ◌+◌, List, [], ◌∷◌, ◌++◌, Bool, true, false, ◌&&◌, Option, Some, None, codes, max, if◌then◌else◌, ◌⊎◌}
 use Rattle.std.specs.Option.{option_map}
 use Rattle.afs_num.specs.Fids.{same_fid}
@@ -21,7 +21,7 @@ use Rattle.afs_num.specs.declared.histories.Version.{Version}
 use Rattle.afs_num.specs.declared.types.Key.{Key}
 use Rattle.afs_num.specs.declared.messages.Carried.{Carried}
 use Rattle.afs_num.specs.declared.messages.Message.{Message}
-use Rattle.afs_law.specs.Lines as lines
+use Rattle.afs_history.specs.declared.lines.Line.TheVariants as lines
 use Rattle.afs_num.specs.declared.messages.Carried.TheVariants as carried
 use Rattle.afs_num.specs.declared.messages.Call.TheVariants as ask
 

@@ -1,6 +1,6 @@
 -- Laws about the runs of a script.
 use Rattle.afs_num.specs.declared.histories.ReadSource.TheVariants.{Cached}
-use Rattle.afs_law.specs.ClientRow.{find_cached}
+use Rattle.afs_rows.specs.ClientRow.{find_cached}
 use Rattle.afs_num.specs.declared.messages.Message.{Message}
 use Rattle.afs_num.specs.declared.types.Node.TheVariants.{Client}
 use Rattle.afs_ideal.specs.Tables.{get}
@@ -9,13 +9,13 @@ use Rattle.afs_ideal.specs.Volumes.{Volume}
 use Rattle.afs_law.specs.Grants.{since, IsOutstanding}
 use Rattle.afs_law.specs.Ideal.{versions_in, volume_after, set_up, IsLast}
 use Rattle.afs_law.specs.Legal.{GoodRead, Legal}
-use Rattle.afs_law.specs.Lines.{Line}
+use Rattle.afs_history.specs.declared.lines.Line.{Line}
 use Rattle.afs_law.specs.Once.{past_of, ChangesOnce}
 use Rattle.afs_law.specs.OneServer.{IsOneServer}
 use Rattle.afs_law.specs.Past.{HasCode, IsCall, lines_of}
-use Rattle.afs_law.specs.Runs.{message_at, Leads, start, Input, Entry, Cell, RunsTo}
-use Rattle.afs_law.specs.ServerRow.{serves, runs, refuses, not_served, whole}
-use Rattle.afs_law.specs.States.{CacheEntry, ServerState}
+use Rattle.afs_rows.specs.Runs.{message_at, Leads, start, Input, Entry, Cell, RunsTo}
+use Rattle.afs_rows.specs.ServerRow.{serves, runs, refuses, not_served, whole}
+use Rattle.afs_rows.specs.States.{CacheEntry, ServerState}
 use Rattle.afs_model.specs.FsRows.{call_number}
 use Rattle.afs_num.specs.declared.messages.Carried.TheVariants as carried
 use Rattle.afs_num.specs.declared.messages.Call.TheVariants as ask
@@ -23,7 +23,8 @@ use Rattle.std.specs.Prelude.{◌⊎◌, ◌≤◌, ◌<◌, None, Some, ◌∷�
 use Rattle.afs_num.specs.declared.types.Fid.{Fid}
 use Rattle.afs_num.specs.declared.types.Node.{Node}
 use Rattle.afs_num.specs.declared.scripts.Script.{Script}
-use Rattle.afs_num.specs.declared.histories.Body.{Body}
+use Rattle.afs_num.specs.declared.histories.ReadBody.{ReadBody}
+use Rattle.afs_num.specs.declared.histories.ReadBody.TheVariants as seen
 use Rattle.afs_num.specs.declared.histories.ReadSource.{ReadSource}
 use Rattle.afs_num.specs.declared.types.Head.{Head}
 use Rattle.afs_num.specs.declared.calls.FsCall.{FsCall}
@@ -67,12 +68,12 @@ PairsAreKnown = (s : Script) (history : List Entry) (end : Cell) → IsOneServer
 abbrev pub TrustedIsGood : Type 0
 TrustedIsGood =
     (s : Script) (history : List Entry) (end : Cell) → IsOneServer s → RunsTo history s end → (j : ℕ) → (end.clients j).running ≡ None → (f : Fid) (e : CacheEntry) → find_cached f (end.clients j).cache ≡ Some e → end.clock < e.expiry
-    → GoodRead (Client j) f e.index Cached e.body (past_of (set_up s ∷ []) history) []
+    → GoodRead (Client j) f e.index Cached (seen.Contents e.body) (past_of (set_up s ∷ []) history) []
 
 -- a good read shows the newest version where no break of its grant is outstanding
 abbrev pub ReadsAreNewest : Type 0
 ReadsAreNewest =
-    (c : Node) (f : Fid) (index : ℕ) (source : ReadSource) (body : Body) (past : List Entry) (own : List Line) (read : GoodRead c f index source body past own)
+    (c : Node) (f : Fid) (index : ℕ) (source : ReadSource) (body : ReadBody) (past : List Entry) (own : List Line) (read : GoodRead c f index source body past own)
     → (IsOutstanding read.grant.server c f (own ++ since c f read.expiry read.reply past read.grant) → ⊥) → IsLast f index (own ++ lines_of past)
 
 -- a server tells that a call isn't served exactly where its opcode is none of those that it serves

@@ -11,21 +11,22 @@ use Rattle.afs_num.specs.declared.messages.Message.{Message}
 use Rattle.afs_ideal.specs.Operations.{Caller, the_user, Result, refused, changes, op, code_of, volume_called}
 use Rattle.afs_ideal.specs.Volumes.{Volume, Edit, versions_by}
 use Rattle.afs_law.specs.Breaks.{AllOwes, EndedOf, EndedAll, GoodSettle, GoodQuit, live_grant, HasOwe, last_number}
-use Rattle.afs_law.specs.Going.{Going, answers, next, asked}
+use Rattle.afs_rows.specs.Going.{Going, answers, next, asked}
 use Rattle.afs_law.specs.Grants.{read_reply, GrantOf, since, IsWithdrawn, IsDropped}
 use Rattle.afs_law.specs.Ideal.{set_up, IsLast, HasVersion, Accepts, clock_of, user_of, seen, change_in, change_key, call_under, volume_after}
-use Rattle.afs_law.specs.Lines.{Line}
+use Rattle.afs_history.specs.declared.lines.Line.{Line}
 use Rattle.afs_law.specs.Past.{lines_of, sent_of, given_message, answered_key, IsReply, running, has_begun, Called, CalledSince, Ran}
-use Rattle.afs_law.specs.Runs.{Entry}
+use Rattle.afs_rows.specs.Runs.{Entry}
 use Rattle.afs_num.specs.declared.scripts.Script.{Script}
 use Rattle.afs_num.specs.declared.histories.Actor.{Actor}
 use Rattle.afs_num.specs.declared.histories.Actor.TheVariants as actors
-use Rattle.afs_num.specs.declared.histories.Body.{Body}
+use Rattle.afs_num.specs.declared.histories.ReadBody.{ReadBody}
+use Rattle.afs_num.specs.declared.histories.ReadBody.TheVariants as shows
 use Rattle.afs_num.specs.declared.histories.ReadSource.{ReadSource}
 use Rattle.afs_num.specs.declared.histories.Version.{Version}
 use Rattle.afs_num.specs.declared.messages.Carried.TheVariants as carried
 use Rattle.afs_num.specs.declared.messages.Call.TheVariants as ask
-use Rattle.afs_law.specs.Lines as lines
+use Rattle.afs_history.specs.declared.lines.Line.TheVariants as lines
 
 -- Which histories are legal: those of which each line is good after all that stands before it.
 -- `who` is the entry's node, `past` are the entries before, the newest first, `own` the entry's own lines before, the
@@ -33,10 +34,15 @@ use Rattle.afs_law.specs.Lines as lines
 
 -- ---- reads
 
+-- what a read shows is a version of this index. No client reads a status or rights yet
+abbrev pub Shows : Fid → ℕ → ReadBody → List Line → Type 0
+Shows f index (shows.Contents body) ls = HasVersion f index body ls
+Shows f index body ls = ⊥
+
 -- a read is whole: it shows a version; it is not older than any that the client has seen; and it is the newest unless its
 -- grant, which lasts and was not given up, was withdrawn
-pub record GoodRead (c : Node) (f : Fid) (index : ℕ) (source : ReadSource) (body : Body) (past : List Entry) (own : List Line) : Type 0 where
-  pub whole : HasVersion f index body (own ++ lines_of past)
+pub record GoodRead (c : Node) (f : Fid) (index : ℕ) (source : ReadSource) (body : ReadBody) (past : List Entry) (own : List Line) : Type 0 where
+  pub whole : Shows f index body (own ++ lines_of past)
   pub not_older : seen c f past own ≤ index
   pub reply : Message
   pub by : read_reply c f source past own ≡ Some reply
@@ -76,7 +82,7 @@ pub record GoodChange (s : Script) (server : Node) (k : Key) (count : ℕ) (past
   pub user : List ℕ
   pub call : FsCall
   pub act : Going
-  pub called : Called k user call act past
+  pub called : Called s k user call act past
   pub one : call_under k (sent_of past) ≡ Some (user, call)
   pub own_user : user ≡ user_of k.node
   pub own_call : call ≡ asked act
@@ -193,9 +199,9 @@ pub record IsDead (c : Node) (act : Going) (code : ℤ) (past : List Entry) (own
 
 -- an act runs, and its answer has its cause: the reply to its call, for 0 that it was done from the cache, or for -1 that
 -- its call was given up
-pub record GoodCode (c : Node) (code : Code) (past : List Entry) (own : List Line) : Type 0 where
+pub record GoodCode (s : Script) (c : Node) (code : Code) (past : List Entry) (own : List Line) : Type 0 where
   pub act : Going
-  pub runs : running c (own ++ lines_of past) ≡ Some act
+  pub runs : running s c (own ++ lines_of past) ≡ Some act
   pub cause : IsCaused c act code.0 past own ⊎ (IsDone act code.0 ⊎ IsDead c act code.0 past own)
 
 -- ---- replies that are sent
@@ -228,7 +234,7 @@ IsGood s who (lines.Grant server c f index expiry) past own next = who ≡ actor
 IsGood s who (lines.Change server k count) past own next = (who ≡ actors.Node server) × GoodChange s server k count past own next
 IsGood s who (lines.Version v) past own next = IsUnderChange own
 IsGood s who (lines.Read c f index source body) past own next = (who ≡ actors.Node c) × GoodRead c f index source body past own
-IsGood s who (lines.Answer c code) past own next = (who ≡ actors.Node c) × GoodCode c code past own
+IsGood s who (lines.Answer c code) past own next = (who ≡ actors.Node c) × GoodCode s c code past own
 IsGood s who (lines.Timeout c callee epoch number count) past own next = who ≡ actors.Node c
 IsGood s who (lines.Tick n) past own next = who ≡ actors.Clock
 IsGood s who (lines.Stop n calls pick) past own next = who ≡ actors.Node n

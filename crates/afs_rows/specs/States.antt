@@ -11,6 +11,11 @@ use Rattle.afs_model.specs.Calls.{CallSeat}
 abbrev pub Seat : Type 0
 Seat = CallSeat Message
 
+-- what a client knows of a volume: its name and its number
+pub record Location : Type 0 where
+  pub name : List ℕ
+  pub id : ℕ
+
 -- What a client has cached of a fid. It is trusted until the clock reaches the expiry.
 pub record CacheEntry : Type 0 where
   pub fid : Fid

@@ -2,13 +2,13 @@ use Rattle.afs_num.specs.declared.histories.ReadSource.{ReadSource}
 use Rattle.std.specs.List.{list_any}
 use Rattle.afs_ideal.specs.Directories.{directory_of}
 use Rattle.afs_ideal.specs.Operations.{volume_changed}
-use Rattle.afs_law.specs.Acts.{Act}
-use Rattle.afs_law.specs.Going.{reads_of, ClientState, Going, Need, reads, answers, next, asked, began, with_read}
-use Rattle.afs_law.specs.Lines.{Line}
-use Rattle.afs_law.specs.Scopes.{is_in_scope}
-use Rattle.afs_law.specs.ServerRow.{replied, boot_told}
-use Rattle.afs_law.specs.States.{CacheEntry, Seat}
-use Rattle.afs_law.specs.Steps.{Step}
+use Rattle.afs_history.specs.declared.acts.Act.{Act}
+use Rattle.afs_rows.specs.Going.{reads_of, ClientState, Going, Need, reads, answers, next, asked, began, with_read}
+use Rattle.afs_history.specs.declared.lines.Line.{Line}
+use Rattle.afs_rows.specs.Scopes.{is_in_scope}
+use Rattle.afs_rows.specs.ServerRow.{replied, boot_told}
+use Rattle.afs_rows.specs.States.{CacheEntry, Seat}
+use Rattle.afs_rows.specs.Steps.{Step}
 use Rattle.afs_model.specs.Calls.{Admitted, paired}
 use Rattle.afs_model.specs.FsRows.{call_number}
 use Rattle.afs_model.specs.Calls as pairs
@@ -38,7 +38,8 @@ use Rattle.afs_num.specs.declared.messages.Carried.TheVariants as carried
 use Rattle.afs_num.specs.declared.messages.Reply.TheVariants as tell
 use Rattle.afs_num.specs.declared.messages.Call.TheVariants as ask
 use Rattle.afs_num.specs.declared.histories.Body.TheVariants as bodies
-use Rattle.afs_law.specs.Lines as lines
+use Rattle.afs_num.specs.declared.histories.ReadBody.TheVariants as seen
+use Rattle.afs_history.specs.declared.lines.Line.TheVariants as lines
 
 -- The row of a client, a cache manager: how an act begins, and what it does with a message.
 
@@ -141,7 +142,7 @@ behind l w = record { act = w.act; cache = w.cache; looks = l ∷ w.looks }
 abbrev pub walked_at : (Going → List CacheEntry → Walked) → ℕ → Going → List CacheEntry → Option CacheEntry → Walked
 walked_at more clock act cache None = stays act cache
 walked_at more clock act cache (Some entry) =
-    if is_trusted clock entry then behind (look_at Cached entry) (more (with_read entry.fid entry.body act) (used_first entry cache)) else stays act cache
+    if is_trusted clock entry then behind (look_at Cached entry) (more (with_read entry.fid (seen.Contents entry.body) act) (used_first entry cache)) else stays act cache
 
 abbrev pub walked_by : (Going → List CacheEntry → Walked) → ℕ → Going → List CacheEntry → Need → Walked
 walked_by more clock act cache (reads f) = walked_at more clock act cache (find_cached f cache)
@@ -158,7 +159,7 @@ most_reads act = reads_of act.act
 -- the lines of reads, before these
 abbrev pub looked : Node → List Look → List Line → List Line
 looked me [] ls = ls
-looked me (l ∷ looks) ls = lines.Read me l.fid l.index l.source l.body ∷ looked me looks ls
+looked me (l ∷ looks) ls = lines.Read me l.fid l.index l.source (seen.Contents l.body) ∷ looked me looks ls
 
 -- behind this line the act has come so far: it is answered, or calls
 abbrev pub goes_by : Node → ClientState → Line → Walked → Need → Step ClientState
@@ -178,7 +179,7 @@ goes_on me c front w = goes_by me c front w (next w.act)
 
 -- the client `me`, which is idle, begins an act
 unfoldable pub begin_row : Node → ClientState → ℕ → Act → Step ClientState
-begin_row me c clock act = goes_on me c (lines.Begin me act) (walked (most_reads (began act)) clock (began act) c.cache)
+begin_row me c clock act = goes_on me c (lines.Begin me act) (walked (most_reads (began c.table act)) clock (began c.table act) c.cache)
 
 -- ---- a message comes
 
@@ -194,7 +195,7 @@ answers_step me c place code = record { state = ended c c.cache; lines = lines.G
 -- a promise that has ended by now can't be used: the client calls again
 abbrev pub takes_fetched : Node → ClientState → ℕ → ℕ → Going → CacheEntry → Step ClientState
 takes_fetched me c clock place act entry =
-    if is_trusted clock entry then goes_on me c (lines.Given place) (behind (look_at Fetched entry) (walked (most_reads act) clock (with_read entry.fid entry.body act) (used_first entry c.cache)))
+    if is_trusted clock entry then goes_on me c (lines.Given place) (behind (look_at Fetched entry) (walked (most_reads act) clock (with_read entry.fid (seen.Contents entry.body) act) (used_first entry c.cache)))
     else calls_step me c act (lines.Given place)
 
 abbrev pub takes_stored : Node → ClientState → ℕ → ℕ → Fid → ℕ → (Body → Body) → Step ClientState
@@ -432,4 +433,4 @@ timeout_row me c act = if nat_lt c.tries 2 then tries_again me c act else gives_
 -- ---- a client stops: it keeps nothing, and begins again with the next epoch
 
 abbrev pub reborn : ClientState → ClientState
-reborn c = record { epoch = c.epoch + 1; last = 0; boot = 1; tries = 0; running = None; cache = []; spoiled = false; seat = None }
+reborn c = record { epoch = c.epoch + 1; last = 0; boot = 1; tries = 0; table = c.table; running = None; cache = []; spoiled = false; seat = None }

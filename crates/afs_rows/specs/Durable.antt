@@ -3,8 +3,8 @@
 use Rattle.std.specs.Prelude.{◌≡◌, ℕ, ◌⊎◌, List, Bool, true, not, ◌&&◌, ◌||◌, nat_eq, Option, Some, None}
 use Rattle.afs_ideal.specs.Tables.{Table}
 use Rattle.afs_ideal.specs.Volumes.{Volume}
-use Rattle.afs_law.specs.Runs.{Blow, Fall, Cell, begun_by_disk}
-use Rattle.afs_law.specs.States.{Seat, ServerState}
+use Rattle.afs_rows.specs.Runs.{Blow, Fall, Cell, begun_by_disk}
+use Rattle.afs_rows.specs.States.{Seat, ServerState}
 use Rattle.afs_num.specs.declared.types.Fid.{Fid}
 
 pub record Durable : Type 0 where

@@ -24,14 +24,14 @@ use Rattle.afs_ideal.specs.Operations.{Caller, the_user, Found, Shown, shows_bod
 use Rattle.afs_ideal.specs.Replies.{reading_reply, change_reply, stamped, vnode_at}
 use Rattle.afs_ideal.specs.Tables.{get, set}
 use Rattle.afs_ideal.specs.Volumes.{fid_of, Volume, Edit, versions_by, edited_all, counted}
-use Rattle.afs_law.specs.Lines.{Line}
-use Rattle.afs_law.specs.Records.{change_record, boot_record, record_length}
-use Rattle.afs_law.specs.States.{Seat, ServerState}
-use Rattle.afs_law.specs.Steps.{Step}
+use Rattle.afs_history.specs.declared.lines.Line.{Line}
+use Rattle.afs_rows.specs.Records.{change_record, boot_record, record_length}
+use Rattle.afs_rows.specs.States.{Seat, ServerState}
+use Rattle.afs_rows.specs.Steps.{Step}
 use Rattle.afs_model.specs.Calls.{CallSeat, Admitted, admitted, call_seated}
 use Rattle.afs_num.specs.declared.calls.FsCall.TheVariants as calls
 use Rattle.afs_model.specs.Calls as pairs
-use Rattle.afs_law.specs.Lines as lines
+use Rattle.afs_history.specs.declared.lines.Line.TheVariants as lines
 
 -- ---- promises in replies
 

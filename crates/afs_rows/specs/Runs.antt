@@ -2,16 +2,16 @@ use Rattle.afs_num.specs.Places.{at_place}
 use Rattle.afs_ideal.specs.SetUp.{new_volume, laid}
 use Rattle.afs_ideal.specs.Tables.{Table, get, set}
 use Rattle.afs_ideal.specs.Volumes.{Volume}
-use Rattle.afs_law.specs.Acts.{Act}
-use Rattle.afs_law.specs.Callbacks.{put, Backs, BackCall, Turn, expired, turned_by, timed, pumped, no_turn, risen_turn, first_backs}
-use Rattle.afs_law.specs.ClientRow.{the_server, begin_row, client_row, timeout_row, reborn}
-use Rattle.afs_law.specs.Going.{ClientState, Going}
-use Rattle.afs_law.specs.Lines.{Line}
-use Rattle.afs_law.specs.Records.{first_record, record_length, boot_record}
-use Rattle.afs_law.specs.ServerRow.{Begun, begun_before, begun_after, Decision, decides, does, device_calls, has_room, revived}
-use Rattle.afs_law.specs.States.{ServerState}
-use Rattle.afs_law.specs.Steps.{Step}
-use Rattle.std.specs.Prelude.{Result, Ok, Err, is_some, ◌≡◌, ℕ, zero, suc, ◌+◌, ◌-◌, List, [], ◌∷◌, ◌++◌, Bool, true, false, cond, nat_eq, nat_lt, Option, Some, None, if◌then◌else◌}
+use Rattle.afs_history.specs.declared.acts.Act.{Act}
+use Rattle.afs_rows.specs.Callbacks.{put, Backs, BackCall, Turn, expired, turned_by, timed, pumped, no_turn, risen_turn, first_backs}
+use Rattle.afs_rows.specs.ClientRow.{the_server, begin_row, client_row, timeout_row, reborn}
+use Rattle.afs_rows.specs.Going.{ClientState, Going}
+use Rattle.afs_history.specs.declared.lines.Line.{Line}
+use Rattle.afs_rows.specs.Records.{first_record, record_length, boot_record}
+use Rattle.afs_rows.specs.ServerRow.{Begun, begun_before, begun_after, Decision, decides, does, device_calls, has_room, revived}
+use Rattle.afs_rows.specs.States.{Location, ServerState}
+use Rattle.afs_rows.specs.Steps.{Step}
+use Rattle.std.specs.Prelude.{Result, Ok, Err, is_some, ◌≡◌, ℕ, zero, suc, ◌+◌, ◌-◌, List, [], ◌∷◌, ◌++◌, Bool, true, false, cond, nat_eq, nat_lt, map, Option, Some, None, if◌then◌else◌}
 use Rattle.std.specs.Option.{option_map}
 use Rattle.afs_num.specs.declared.types.Node.{Node}
 use Rattle.afs_num.specs.declared.types.Node.TheVariants.{Loc, Server, Client, Admin}
@@ -20,7 +20,7 @@ use Rattle.afs_num.specs.declared.messages.Received.TheVariants.{Whole}
 use Rattle.afs_num.specs.declared.scripts.Script.{Script}
 use Rattle.afs_num.specs.declared.scripts.SetupLine.{SetupLine}
 use Rattle.afs_num.specs.declared.scripts.VolumeLine.{VolumeLine}
-use Rattle.afs_law.specs.Lines as lines
+use Rattle.afs_history.specs.declared.lines.Line.TheVariants as lines
 use Rattle.afs_num.specs.declared.histories.Actor.{Actor}
 use Rattle.afs_num.specs.declared.histories.Actor.TheVariants as actors
 
@@ -328,8 +328,15 @@ first_volumes (v ∷ vs) = unless_there (is_some (get v.id (first_volumes vs))) 
 abbrev pub first_server : Table Volume → ServerState
 first_server volumes = record { boot = 1; volumes = volumes; times = λ f. 0; seats = []; durable = []; journal = 1 + record_length (first_record (λ f. 0) volumes); capacity = 268435456 }
 
-abbrev pub first_client : ClientState
-first_client = record { epoch = 1; last = 0; boot = 1; tries = 0; running = None; cache = []; spoiled = false; seat = None }
+abbrev pub location_of : VolumeLine → Location
+location_of v = record { name = v.name; id = v.id }
+
+-- what clients know of the script's volumes
+abbrev pub locations : Script → List Location
+locations s = map location_of s.volumes
+
+abbrev pub first_client : List Location → ClientState
+first_client table = record { epoch = 1; last = 0; boot = 1; tries = 0; table = table; running = None; cache = []; spoiled = false; seat = None }
 
 abbrev pub start : Script → Cell
 start s = record {
@@ -338,7 +345,7 @@ start s = record {
   count = s.clients;
   down = None;
   armed = unarmed;
-  clients = λ n. first_client;
+  clients = λ n. first_client (locations s);
   away = λ n. false;
   sent = [];
   clock = 0;

@@ -16,11 +16,11 @@ use Rattle.afs_num.specs.declared.messages.Carried.TheVariants as carried
 use Rattle.afs_num.specs.declared.messages.Call.TheVariants as ask
 use Rattle.afs_num.specs.declared.messages.Message.{Message}
 use Rattle.afs_ideal.specs.Operations.{Found}
-use Rattle.afs_law.specs.Lines.{Line}
-use Rattle.afs_law.specs.ServerRow.{Decision, drops, tells_boot, repeats, refuses, shows, saves, made, granted_by, granted_in, change_reply_to, read_reply_to, refusal, boot_told, promise_ticks}
-use Rattle.afs_law.specs.States.{Seat, ServerState}
+use Rattle.afs_history.specs.declared.lines.Line.{Line}
+use Rattle.afs_rows.specs.ServerRow.{Decision, drops, tells_boot, repeats, refuses, shows, saves, made, granted_by, granted_in, change_reply_to, read_reply_to, refusal, boot_told, promise_ticks}
+use Rattle.afs_rows.specs.States.{Seat, ServerState}
 use Rattle.afs_model.specs.Calls.{call_seat}
-use Rattle.afs_law.specs.Lines as lines
+use Rattle.afs_history.specs.declared.lines.Line.TheVariants as lines
 use Rattle.afs_num.specs.declared.histories.Version.{Version}
 
 -- a map from numbers, changed at one
