@@ -15,11 +15,10 @@ use Rattle.afs_law.proofs.Basics.{both, same_node-refl, Above, Each, IfBack, IfD
 use Rattle.afs_law.proofs.Owing.{AllOf, all_map, IsGranted, IsIn, IsNumberIn, AccountedBy, WaitedBy, AllWaitedBy, HeldWaits, IsOwed, CallOut, BackIn, DroppedOwe, IsDone, DoneIn, SeatedIn, BackedIn, Promised, Numbered}
 use Rattle.afs_law.specs.Breaks.{HasStopped, HasSettled, HasDrop, HasTimeout, last_grant, HasCome, Owes, AllOwes, EndedBy, OweAt, live_grant, is_on, last_number}
 use Rattle.afs_rows.specs.Callbacks.{Promise, Owed, BackCall, Held, Backs, is_held, key_answered, breaks_call}
-use Rattle.afs_rows.specs.ClientRow.{the_server}
 use Rattle.afs_law.specs.Legal.{HasChange}
 use Rattle.afs_history.specs.declared.lines.Line.{Line}
 use Rattle.afs_law.specs.Past.{onto, lines_on, lines_of}
-use Rattle.afs_rows.specs.Runs.{Entry, Fall}
+use Rattle.afs_rows.specs.Runs.{the_server, Entry, Fall}
 use Rattle.afs_rows.specs.States.{Seat}
 use Rattle.afs_model.specs.Calls.{call_seat}
 use Rattle.afs_history.specs.declared.lines.Line.TheVariants as lines

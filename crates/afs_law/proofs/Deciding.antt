@@ -1,3 +1,4 @@
+use Rattle.afs_rows.specs.ClientRow.{boot_of}
 use Rattle.std.proofs.Common.{◌≡◌, ℕ, ◌+◌, ◌<◌, ◌≤◌, ◌⊎◌, inl, inr, Bool, true, false, cond, nat_eq, length, List, [], ◌∷◌, ◌++◌, Option, Some, None, ℤ, pos, refl, sym, ap, subst, ◌∙◌, arith, eq-eqb, eqb-true, le_of_eq, append-nil, nat_lt, ltb-true, ltb-false}
 use Rattle.afs_ideal.specs.Operations.{the_user, reads, Result, refused, changes, no_operation, op, volume_called}
 use Rattle.afs_ideal.specs.Tables.{get}
@@ -18,13 +19,12 @@ use Rattle.afs_law.proofs.Serving.{shows_goes, answered_goes, noticed_goes, noth
 use Rattle.afs_law.proofs.Turning.{Pumps, pumps, put_call, break_good}
 use Rattle.afs_law.specs.Breaks.{HasStopped, last_number}
 use Rattle.afs_rows.specs.Callbacks.{retries, quits, Backs, Held, Turn, BackCall, replies_of, pumped, expired, turn_for, no_turn, repeats_by, is_held, key_answered, is_seat_of, risen_turn, owes_all, alls, put}
-use Rattle.afs_rows.specs.ClientRow.{the_server}
 use Rattle.afs_rows.specs.Going.{asked}
 use Rattle.afs_law.specs.Ideal.{is_zero_code, clock_of}
 use Rattle.afs_law.specs.Legal.{IsChanging, code_given, AreGood, IsNew, HasChange, versions_first, IsTold, answer_at, answer_on, GoodRestart, op_on}
 use Rattle.afs_history.specs.declared.lines.Line.{Line}
 use Rattle.afs_law.specs.Past.{onto, lines_of, sent_of, given_message, called_key, IsCallUnder}
-use Rattle.afs_rows.specs.Runs.{begun_by_disk, Entry, Cell, message_at, Armed, unarmed, Luck, Blow, struck, lowered, Fall, at_rest, in_step, in_boot, settled, Outcome, comes_up, fails_early, fails_midway, is_full, server_rises, server_ends, server_falls, blow_line, server_stopped, server_restarted, server_served, server_given, server_adds, server_does, back_timed, server_timed, server_wakes}
+use Rattle.afs_rows.specs.Runs.{the_server, begun_by_disk, Entry, Cell, message_at, Armed, unarmed, Luck, Blow, struck, lowered, Fall, at_rest, in_step, in_boot, settled, Outcome, comes_up, fails_early, fails_midway, is_full, server_rises, server_ends, server_falls, blow_line, server_stopped, server_restarted, server_served, server_given, server_adds, server_does, back_timed, server_timed, server_wakes}
 use Rattle.afs_rows.specs.ServerRow.{begun_after, begun_before, not_served, serves_call, shows, Reading, no_room, revived, device_calls, promise_ticks, decides, Decision, drops, tells_boot, repeats, refuses, saves, admits, called, hears, boot_told, versioned, Change, decided, in_volume, with_volume}
 use Rattle.afs_rows.specs.States.{Seat, ServerState}
 use Rattle.afs_model.specs.Calls.{Admitted, call_seat, call_seated}
@@ -211,9 +211,9 @@ called_apart s c past head user call false H t ne = λ k b y may. ne y.0.1
 pub called_by : (s : Script) (c : Cell) (past : List Entry) (head : Head) (user : List ℕ) (call : FsCall) (n : Node) → (H : Holds s c past) → head.from ≡ n → OfClient n (CallIn (view H.floors c) head user call) → OfClient n (Origin s past head user call) → OfClient n (IsActs s past head user call) → OfClient n (IsOne (sent_of past) head user call)
     → ToClient head user call → IsJust s c H.floors past (called_at head user call) (called the_server c.server head (read_call head user call))
 called_by s c past head user call (Client n) H e f from acts one away = called_just s c past head user call H f from acts one
-called_by s c past head user call (Server n) H e f from acts one away = called_apart s c past head user call (same_node head.to the_server) H refl (away (λ j x. absurd cc))
-called_by s c past head user call (Admin n) H e f from acts one away = called_apart s c past head user call (same_node head.to the_server) H refl (away (λ j x. absurd cc))
-called_by s c past head user call Loc H e f from acts one away = called_apart s c past head user call (same_node head.to the_server) H refl (away (λ j x. absurd cc))
+called_by s c past head user call (Server n) H e f from acts one away = called_apart s c past head user call (same_node head.to the_server) H refl (away (λ j x. absurd cc)).0
+called_by s c past head user call (Admin n) H e f from acts one away = called_apart s c past head user call (same_node head.to the_server) H refl (away (λ j x. absurd cc)).0
+called_by s c past head user call Loc H e f from acts one away = called_apart s c past head user call (same_node head.to the_server) H refl (away (λ j x. absurd cc)).0
 
 pub hears_just : (s : Script) (c : Cell) (past : List Entry) (head : Head) (x : Carried) → (H : Holds s c past) → OfCall (ByClient (CallIn (view H.floors c))) head x → OfCall (ByClient (Origin s past)) head x → OfCall (ByClient (IsActs s past)) head x → OfCall (ByClient (IsOne (sent_of past))) head x → OfCall (ToClient) head x → IsJust s c H.floors past (record { head = head; carried = x }) (hears the_server c.server head x)
 hears_just s c past head (carried.Call user (ask.File call)) H f from acts one away = called_by s c past head user call head.from H refl f from acts one away
@@ -361,7 +361,7 @@ revived_call fl c j head call f =
 
 pub revived_client : {s : Script} → (fl : ℕ → Ghost) (c : Cell) (past : List Entry) (j : ℕ) → ClientFacts s j (view fl c j) past → ClientFacts s j (view fl (revived_cell c) j) past
 revived_client {s} fl c past j h =
-    let known : (c.clients j).boot ≤ c.server.boot = h.known in
+    let known : boot_of the_server (c.clients j).boots ≤ c.server.boot = h.known in
     let floored : (fl j).floor ≤ c.server.boot = h.floored in
     let holds : (fl j).held ≤ c.server.boot = h.holds in
     let kept : AreKept j (call_seat (Client j) c.server.durable) (view fl (revived_cell c) j) past = kept_over j _ (view fl c j) (view fl (revived_cell c) j) past past (revived_reply fl c past j) h.stored in
@@ -378,6 +378,7 @@ revived_client {s} fl c past j h =
       idle = h.idle;
       made = h.made;
       current = h.current;
+      old = h.old;
       runs = h.runs;
       asked = h.asked;
       reached = h.reached;
@@ -393,7 +394,8 @@ revives s b c past x h held backs =
     record {
       floors = fl;
       count = h.count;
-      tables = h.tables;
+      own = h.own;
+      servers = h.servers;
       ideal = h.ideal;
       sound = h.sound;
       fine = h.fine;
@@ -447,7 +449,8 @@ revives_down s c past fall h e =
     record {
       floors = r.floors;
       count = r.count;
-      tables = r.tables;
+      own = r.own;
+      servers = r.servers;
       ideal = r.ideal;
       sound = r.sound;
       fine = r.fine;

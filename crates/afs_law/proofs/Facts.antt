@@ -6,14 +6,14 @@ use Rattle.afs_law.proofs.Basics.{Below, UpTo, Above, Each, IfCall, IfReply, IfN
 use Rattle.afs_law.proofs.Edits.{Ones, index_in, SoundIn, Tops}
 use Rattle.afs_law.proofs.Owing.{BackedIn}
 use Rattle.afs_rows.specs.Callbacks.{replies_of}
-use Rattle.afs_rows.specs.ClientRow.{the_server, find_cached, body_told}
+use Rattle.afs_rows.specs.ClientRow.{boot_of, find_cached, body_told, server_at, status_told}
 use Rattle.afs_rows.specs.Going.{asked, Going, ClientState}
 use Rattle.afs_law.specs.Grants.{fetch_reply, GrantOf, since, IsWithdrawn, IsDropped}
-use Rattle.afs_law.specs.Ideal.{is_zero_code, last_version, IsLast, HasVersion, Accepts, clock_of, user_of, reach, call_under, volume_after}
+use Rattle.afs_law.specs.Ideal.{is_zero_code, last_version, IsLast, HasBeen, HasVersion, Accepts, clock_of, user_of, reach, call_under, volume_after}
 use Rattle.afs_law.specs.Legal.{IsNew, Cause, AreGood, AreGoodReplies}
 use Rattle.afs_history.specs.declared.lines.Line.{Line}
 use Rattle.afs_law.specs.Past.{is_of_act, lines_of, sent_of, called_key, running, Called, CalledSince, IsUnheard, Ran}
-use Rattle.afs_rows.specs.Runs.{locations, Entry, Cell, Moved, Fall, at_rest, in_step, in_boot, message_at}
+use Rattle.afs_rows.specs.Runs.{the_server, locations, Entry, Cell, Moved, Fall, at_rest, in_step, in_boot, message_at}
 use Rattle.afs_rows.specs.Scopes.{is_in_scope}
 use Rattle.afs_rows.specs.ServerRow.{reply_head}
 use Rattle.afs_rows.specs.States.{CacheEntry, Seat, ServerState}
@@ -31,6 +31,9 @@ use Rattle.afs_num.specs.declared.messages.Carried.{Carried}
 use Rattle.afs_num.specs.declared.messages.Message.{Message}
 use Rattle.afs_num.specs.declared.scripts.Script.{Script}
 use Rattle.afs_num.specs.declared.histories.Body.{Body}
+use Rattle.afs_num.specs.declared.histories.ReadBody.TheVariants as seen
+use Rattle.afs_num.specs.declared.histories.ReadStatus.{ReadStatus}
+use Rattle.afs_law.proofs.Basics.{guest}
 use Rattle.afs_num.specs.declared.calls.FsReply.{FsReply}
 use Rattle.afs_num.specs.declared.calls.AfsFetchStatus.{AfsFetchStatus}
 use Rattle.afs_num.specs.declared.calls.AfsCallBack.{AfsCallBack}
@@ -79,7 +82,7 @@ view_of clock g c d = record {
   held = g.held;
   epoch = c.epoch;
   last = c.last;
-  known = c.boot;
+  known = boot_of the_server c.boots;
   running = c.running;
   cache = c.cache;
   spoiled = c.spoiled;
@@ -87,6 +90,22 @@ view_of clock g c d = record {
   seat = d.seat;
   durable = d.durable;
 }
+
+-- what the client keeps of the server's last call
+abbrev pub back_seat : ClientState → Option Seat
+back_seat c = call_seat the_server c.seats
+
+-- a fid has one entry
+abbrev pub AreApart : List CacheEntry → Type 0
+AreApart [] = ⊤
+AreApart (e ∷ cache) = (find_cached e.fid cache ≡ None) × AreApart cache
+
+-- a client of the script; what it asks, it asks of the server
+pub record IsClient (s : Script) (c : ClientState) : Type 0 where
+  pub table : c.table ≡ locations s
+  pub user : c.user ≡ guest
+  pub callee : (act : Going) → c.running ≡ Some act → c.callee ≡ the_server
+  pub apart : AreApart c.cache
 
 abbrev pub desk : ServerState → ℕ → Desk
 desk s j = record { boot = s.boot; seat = call_seat (Client j) s.seats; durable = call_seat (Client j) s.durable }
@@ -151,11 +170,23 @@ InScope call f = is_in_scope call f ≡ true
 
 -- ---- what was fetched is whole and was not given up, and is the newest unless its grant is withdrawn
 
-pub record Held (sp : Bool) (j : ℕ) (f : Fid) (index : ℕ) (body : Body) (expiry : ℕ) (reply : Message) (past : List Entry) : Type 0 where
+-- what is held of a body is this one
+abbrev pub IsBody : Option Body → Body → Type 0
+IsBody None body = ⊤
+IsBody (Some b) body = b ≡ body
+
+-- the status is one that the fid had under this index, and the body, if one is held, that of its version
+pub record IsWhole (f : Fid) (index : ℕ) (status : ReadStatus) (body : Option Body) (past : List Entry) : Type 0 where
+  pub is : Body
+  pub told : HasVersion f index is (lines_of past)
+  pub holds : IsBody body is
+  pub been : HasBeen f index (seen.Status status) past
+
+pub record Held (sp : Bool) (j : ℕ) (f : Fid) (index : ℕ) (status : ReadStatus) (body : Option Body) (expiry : ℕ) (reply : Message) (past : List Entry) : Type 0 where
   pub grant : GrantOf (Client j) f expiry reply past
   pub server : grant.server ≡ the_server
   pub kept : sp ≡ false → IsDropped grant.server (Client j) f (since (Client j) f expiry reply past grant) → ⊥
-  pub whole : HasVersion f index body (lines_of past)
+  pub whole : IsWhole f index status body past
   pub base : List Line
   pub split : lines_of past ≡ since (Client j) f expiry reply past grant ++ base
   pub begun : server_boot the_server base ≡ Some reply.head.boot
@@ -212,7 +243,8 @@ pub record IsCurrentIn (j : ℕ) (f : Fid) (e : CacheEntry) (running : Option Go
   pub reply : Message
   pub boot : reply.head.boot ≤ most
   pub by : fetch_reply (Client j) f past ≡ Some reply
-  pub held : Held false j f e.index e.body e.expiry reply past
+  pub from : e.server ≡ the_server
+  pub held : Held false j f e.index e.status e.body e.expiry reply past
   pub state : IsPlain j f e.index held.grant.server (since (Client j) f e.expiry reply past held.grant) running x past
       ⊎ IsOvertaken j f e.index held.grant.server (since (Client j) f e.expiry reply past held.grant) running x past
 
@@ -222,10 +254,18 @@ IsCurrent j f e v past = IsCurrentIn j f e v.running (spot v) v.held past
 abbrev pub HasCurrent : ℕ → View → List Entry → Type 0
 HasCurrent j v past = (f : Fid) (e : CacheEntry) → find_cached f v.cache ≡ Some e → v.clock < e.expiry → IsCurrent j f e v past
 
+-- what a client holds of a body, trusted or not, is that of a version
+abbrev pub IsOld : Fid → ℕ → Option Body → List Line → Type 0
+IsOld f index None ls = ⊤
+IsOld f index (Some body) ls = HasVersion f index body ls
+
+abbrev pub HasOld : List CacheEntry → List Line → Type 0
+HasOld cache ls = (f : Fid) (e : CacheEntry) → find_cached f cache ≡ Some e → IsOld f e.index e.body ls
+
 -- ---- the kept reply answers the running act
 
-pub record IsFetched (sp : Bool) (j : ℕ) (f : Fid) (index : ℕ) (body : Body) (expiry : ℕ) (reply : Message) (past : List Entry) : Type 0 where
-  pub held : Held sp j f index body expiry reply past
+pub record IsFetched (sp : Bool) (j : ℕ) (f : Fid) (index : ℕ) (status : ReadStatus) (body : Option Body) (expiry : ℕ) (reply : Message) (past : List Entry) : Type 0 where
+  pub held : Held sp j f index status body expiry reply past
   pub reached : Seen j f index past
   pub newest : IsNewest held.grant.server j f index (since (Client j) f expiry reply past held.grant) (lines_of past)
 
@@ -238,8 +278,12 @@ abbrev pub FitsPlain : Spot → Message → FsCall → Type 0
 FitsPlain v m call = (id : ℕ) → volume_changed call ≡ Some id → IsStored v m
 
 abbrev pub FitsData : Bool → ℕ → Spot → Message → List Entry → List ℕ → AfsFetchStatus → AfsCallBack → FsCall → Type 0
-FitsData sp j v m past contents status callback (calls.FetchData f position wanted) = IsFetched sp j f status.sync_counter (body_told status.file_type contents) callback.expiration_time m past
+FitsData sp j v m past contents status callback (calls.FetchData f position wanted) = IsFetched sp j f status.sync_counter (status_told status) (Some (body_told status.file_type contents)) callback.expiration_time m past
 FitsData sp j v m past contents status callback call = FitsPlain v m call
+
+abbrev pub FitsShown : Bool → ℕ → Spot → Message → List Entry → AfsFetchStatus → AfsCallBack → FsCall → Type 0
+FitsShown sp j v m past status callback (calls.FetchStatus f) = IsFetched sp j f status.sync_counter (status_told status) None callback.expiration_time m past
+FitsShown sp j v m past status callback call = FitsPlain v m call
 
 -- the version has the body of the one before
 pub record IsKeptBody (f : Fid) (index : ℕ) (ls : List Line) : Type 0 where
@@ -255,7 +299,7 @@ Leaves (calls.StoreData g set position wanted file_length contents) f index ls =
 Leaves call f index ls = IsKeptBody f index ls
 
 abbrev pub FitsStore : ℕ → Fid → Spot → Message → List Entry → AfsFetchStatus → FsCall → Type 0
-FitsStore j f v m past status call = Leaves call f status.sync_counter (lines_of past) × (IsStored v m × Reached (Client j) f status.sync_counter past)
+FitsStore j f v m past status call = (Leaves call f status.sync_counter (lines_of past) × HasBeen f status.sync_counter (seen.Status (status_told status)) past) × (IsStored v m × Reached (Client j) f status.sync_counter past)
 
 abbrev pub FitsSet : ℕ → Spot → Message → List Entry → AfsFetchStatus → FsCall → Type 0
 FitsSet j v m past status (calls.StoreData f set position wanted file_length contents) = FitsStore j f v m past status (calls.StoreData f set position wanted file_length contents)
@@ -265,6 +309,7 @@ FitsSet j v m past status call = FitsPlain v m call
 
 abbrev pub FitsReply : Bool → ℕ → FsCall → Spot → Message → List Entry → FsReply → Type 0
 FitsReply sp j call v m past (replies.FetchData contents status callback sync) = FitsData sp j v m past contents status callback call
+FitsReply sp j call v m past (replies.FetchStatus status callback sync) = FitsShown sp j v m past status callback call
 FitsReply sp j call v m past (replies.StoreData status sync) = FitsSet j v m past status call
 FitsReply sp j call v m past (replies.StoreAcl status sync) = FitsSet j v m past status call
 FitsReply sp j call v m past (replies.StoreStatus status sync) = FitsSet j v m past status call
@@ -349,6 +394,7 @@ pub record ClientFacts (s : Script) (j : ℕ) (v : View) (past : List Entry) : T
   pub idle : v.running ≡ None → running s (Client j) (lines_of past) ≡ None
   pub made : (act : Going) → v.running ≡ Some act → (f : Fid) → (InScope (asked act) f → ⊥) → IsKnown act v.clock f v.cache → (reach (Client j) f past).made ≡ 0
   pub current : HasCurrent j v past
+  pub old : HasOld v.cache (lines_of past)
   pub runs : (act : Going) → v.running ≡ Some act → running s (Client j) (lines_of past) ≡ Some act
   pub asked : (act : Going) → v.running ≡ Some act → CalledSince (last_key j v) (user_of (Client j)) (asked act) past
   pub reached : (f : Fid) → Reached (Client j) f (index_in (last_version f (lines_of past))) past
@@ -435,9 +481,9 @@ IsOne sent head user call = call_under (called_key head) sent ≡ Some (user, ca
 abbrev pub IsNoticed : ℕ → Message → Type 0
 IsNoticed boot m = m.head.boot ≤ boot
 
--- a call that isn't a client's is not to the server
+-- a call that isn't a client's is the server's, and to another
 abbrev pub ToClient : Head → List ℕ → FsCall → Type 0
-ToClient head user call = ((j : ℕ) → head.from ≡ Client j → ⊥) → head.to ≡ the_server → ⊥
+ToClient head user call = ((j : ℕ) → head.from ≡ Client j → ⊥) → (head.to ≡ the_server → ⊥) × (head.from ≡ the_server)
 
 pub record SentFacts (s : Script) (sent held : List Message) (views : ℕ → View) (boot : ℕ) (past : List Entry) : Type 0 where
   pub calls : Each (IfCall (CallIn views)) sent
@@ -517,7 +563,8 @@ pub record HoldsAt (s : Script) (now : Option ℕ) (c : Cell) (past : List Entry
   pub new : AreNew c.server.durable (lines_of past)
   pub unheard : AreUnheard c.down c.server.seats c.server.boot past
   pub count : c.count ≡ s.clients
-  pub tables : (j : ℕ) → (c.clients j).table ≡ locations s
+  pub own : (j : ℕ) → IsClient s (c.clients j)
+  pub servers : (id : ℕ) → server_at (locations s) id ≡ 1
   pub booted : 1 ≤ c.server.boot
   pub boots : server_boot the_server (lines_of past) ≡ now
   pub clients : (j : ℕ) → ClientFacts s j (view floors c j) past
@@ -527,7 +574,7 @@ pub record HoldsAt (s : Script) (now : Option ℕ) (c : Cell) (past : List Entry
   pub top : Tops (lines_of past)
   pub one : Ones (lines_of past)
   -- of the server's memory, but in the midst of a restart
-  pub backs : now ≡ up_boot c.down c.server.boot → BackedIn c.down c.backs c.server.boot c.server.seats (λ j. (c.clients j).seat) c.clock c.sent past
+  pub backs : now ≡ up_boot c.down c.server.boot → BackedIn c.down c.backs c.server.boot c.server.seats (λ j. back_seat (c.clients j)) c.clock c.sent past
 
 abbrev pub Holds : Script → Cell → List Entry → Type 0
 Holds s c past = HoldsAt s (up_boot c.down c.server.boot) c past

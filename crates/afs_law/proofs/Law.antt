@@ -1,3 +1,5 @@
+use Rattle.afs_rows.specs.States.{Location}
+use Rattle.afs_rows.specs.ClientRow.{server_at, server_or_first}
 use Rattle.afs_ideal.proofs.Edits.{first_agrees}
 use Rattle.afs_ideal.specs.SetUp.{first_versions}
 use Rattle.afs_ideal.specs.Tables.{AscendsFrom, Table, get, set}
@@ -13,14 +15,13 @@ use Rattle.afs_law.proofs.Naming.{first_fine}
 use Rattle.afs_law.proofs.Resting.{voids, ticks_goes, stop_set, fail_set}
 use Rattle.afs_law.proofs.Waiting.{waits_goes, client_stops_goes, client_starts_goes}
 use Rattle.afs_law.specs.Breaks.{live_grant, last_number}
-use Rattle.afs_rows.specs.ClientRow.{the_server}
 use Rattle.afs_law.specs.Ideal.{first_told, last_version, HasVersion, Accepts, clock_of, Reach, reach_over, first_lines, set_up, is_at, unless, reach, change_key, volume_after, brought, or_before, changed_under}
 use Rattle.afs_law.specs.Legal.{IsNew, LegalAfter, Legal}
 use Rattle.afs_history.specs.declared.lines.Line.{Line}
 use Rattle.afs_law.specs.OneServer.{AreAtServer, IsOneServer}
 use Rattle.afs_law.specs.Past.{running, onto, lines_of, given_message, IsCallUnder}
-use Rattle.afs_rows.specs.Runs.{Entry, Cell, message_at, Moved, Armed, Fall, Luck, waits, ticks, client_stops, client_starts, stops, starts_again, sets_stop, sets_fail, server_armed, Input, begins, gives, nothing, moved, given_to, given_at, Leads, start, RunsTo, server_waits, wakes, first_volume, first_volumes, unless_there}
-use Rattle.std.proofs.Common.{◌≡◌, ℕ, ◌+◌, ◌≤◌, ◌⊎◌, inl, inr, Bool, true, false, cond, nat_eq, List, [], ◌∷◌, ◌++◌, Option, Some, None, refl, sym, ap, subst, ◌∙◌, arith, eqb-true, eqb, eq-eqb, le_of_eq}
+use Rattle.afs_rows.specs.Runs.{locations_in, location_by, the_server, Entry, Cell, message_at, Moved, Armed, Fall, Luck, waits, ticks, client_stops, client_starts, stops, starts_again, sets_stop, sets_fail, server_armed, Input, begins, gives, nothing, moved, given_to, given_at, Leads, start, RunsTo, server_waits, wakes, first_volume, first_volumes, unless_there}
+use Rattle.std.proofs.Common.{find, ◌≡◌, ℕ, ◌+◌, ◌≤◌, ◌⊎◌, inl, inr, Bool, true, false, cond, nat_eq, List, [], ◌∷◌, ◌++◌, Option, Some, None, refl, sym, ap, subst, ◌∙◌, arith, eqb-true, eqb, eq-eqb, le_of_eq}
 use Rattle.std.specs.Prelude.{is_some, ⊤}
 use Rattle.afs_num.specs.Fids.{same_fid}
 use Rattle.afs_num.specs.declared.types.Fid.{Fid}
@@ -327,13 +328,32 @@ lines_none (y ∷ z ∷ newer) x at older e = absurd cc
 pub first_owes : {X : Type 0} → (ms : List Message) (newer : List Entry) (x at : Entry) (older : List Entry) (before after : List Line) (c : Node) (what : Option Fid) (n : ℕ) → all_lines is_oweless x.lines ≡ true → x ∷ [] ≡ newer ++ (at ∷ older) → at.lines ≡ before ++ lines.Owe the_server c what n ∷ after → X
 first_owes ms newer x at older before after c what n h split line = absurd (no_owe at.lines before after the_server c what n (subst (λ (e : Entry). all_lines is_oweless e.lines ≡ true) (lines_none newer x at older split) h) line)
 
+server_number : (n m : ℕ) → Server n ≡ Server m → n ≡ m
+server_number n m e = cc
+
+server_by : (t : Bool) (l : Location) (o : Option Location) → l.server ≡ 1 → server_or_first o ≡ 1 → server_or_first (cond t (Some l) o) ≡ 1
+server_by true l o e h = e
+server_by false l o e h = h
+
+located_by : (v : VolumeLine) (q : Node) (ls : List Location) (id : ℕ) → q ≡ the_server → server_at ls id ≡ 1 → server_at (location_by v q ls) id ≡ 1
+located_by v (Server n) ls id e h = server_by (nat_eq v.id id) (record { name = v.name; id = v.id; server = n }) (find (λ l. nat_eq l.id id) ls) (server_number n 1 e) h
+located_by v (Client n) ls id e h = h
+located_by v (Admin n) ls id e h = h
+located_by v Loc ls id e h = h
+
+-- every volume is at the server
+found_server : (vs : List VolumeLine) → AreAtServer vs → (id : ℕ) → server_at (locations_in vs) id ≡ 1
+found_server [] a id = refl
+found_server (v ∷ vs) a id = located_by v v.server (locations_in vs) id a.0 (found_server vs a.1 id)
+
 pub starts : (s : Script) → IsOneServer s → Holds s (start s) (set_up s ∷ [])
 starts s one =
     let facts : FirstFacts (first_volumes s.volumes) (onto [] (first_lines s.volumes)) = first_facts s.volumes in
     record {
       floors = λ j. record { floor = 1; held = 1 };
       count = refl;
-      tables = λ j. refl;
+      own = λ j. record { table = refl; user = refl; callee = λ a z. absurd cc; apart = tt };
+      servers = λ id. found_server s.volumes one.1 id;
       ideal = ideal_first s;
       sound = facts.sound;
       fine = facts.fine;
@@ -355,6 +375,7 @@ starts s one =
         waits = λ act x. absurd cc;
         idle = λ x. first_passed (λ (ls : List Line). running s (Client j) ls ≡ None) (λ v o h. h) s.volumes [] refl;
         made = λ act x. absurd cc;
+        old = λ f u found. absurd cc;
         current = λ f e x lasts. absurd cc;
         runs = λ act x. absurd cc;
         asked = λ act x. absurd cc;

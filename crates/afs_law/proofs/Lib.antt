@@ -6,6 +6,7 @@ pub mod Turning
 pub mod Facts
 pub mod Loading
 pub mod Ops
+pub mod Apart
 pub mod Passing
 pub mod Resting
 pub mod Notes

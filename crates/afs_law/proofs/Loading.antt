@@ -17,12 +17,11 @@ use Rattle.afs_law.proofs.Owing.{AllOf, all_map, all_both, all_filter, IsGranted
 use Rattle.afs_law.proofs.Turning.{loaded, in_filter, put_call, kept_in}
 use Rattle.afs_law.specs.Breaks.{HasSettled, HasTimeout, last_grant, expiry_of, AllOwes, CarriesBreak, GoodSettle, GoodQuit, live_grant, HasOwe, last_number}
 use Rattle.afs_rows.specs.Callbacks.{Promise, Owed, BackCall, Held, Backs, is_all, alls, numbers, has_number, is_reply_to, is_held, key_answered, breaks_call, break_message, owe_line, settle_line, quit_line, is_among, ends_call, settles, quits, retries, is_promise, owes_from, is_hit, hits, left, owes_all, risen_turn, with_promise, with_promises}
-use Rattle.afs_rows.specs.ClientRow.{the_server}
 use Rattle.afs_law.specs.Ideal.{clock_of, change_in}
 use Rattle.afs_law.specs.Legal.{IsNew, IsNot, IsKey, HasChange, AreGood, IsChanged}
 use Rattle.afs_history.specs.declared.lines.Line.{Line}
 use Rattle.afs_law.specs.Past.{onto, lines_of, sent_of, given_message, called_key, IsCallUnder}
-use Rattle.afs_rows.specs.Runs.{Entry, Fall}
+use Rattle.afs_rows.specs.Runs.{the_server, Entry, Fall}
 use Rattle.afs_rows.specs.ServerRow.{granted, promise_ticks}
 use Rattle.afs_rows.specs.States.{Seat}
 use Rattle.afs_model.specs.Calls.{call_seat}

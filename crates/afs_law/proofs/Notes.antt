@@ -13,13 +13,12 @@ use Rattle.afs_ideal.specs.Operations.{Found}
 use Rattle.afs_law.proofs.Facts.{server_boot}
 use Rattle.afs_law.proofs.Resting.{Rests}
 use Rattle.afs_rows.specs.Callbacks.{Owed, owe_line, settle_line, quit_line}
-use Rattle.afs_rows.specs.ClientRow.{the_server}
 use Rattle.afs_law.specs.Grants.{has_fetched, IsWithdrawn, IsDropped}
 use Rattle.afs_law.specs.Ideal.{last_version, HasVersion, Accepts, clock_of, reach, Reach, reach_over, change_key, changed_under, volume_after}
 use Rattle.afs_law.specs.Legal.{IsNew, HasChange, versions_first}
 use Rattle.afs_history.specs.declared.lines.Line.{Line}
 use Rattle.afs_law.specs.Past.{onto, sent_of, given_message, running, has_begun}
-use Rattle.afs_rows.specs.Runs.{Entry}
+use Rattle.afs_rows.specs.Runs.{the_server, Entry}
 use Rattle.afs_rows.specs.ServerRow.{granted}
 use Rattle.afs_history.specs.declared.lines.Line.TheVariants as lines
 

@@ -11,11 +11,10 @@ use Rattle.afs_num.specs.declared.messages.Message.{Message}
 use Rattle.afs_law.proofs.Basics.{Above, Each, IfBack, IfDone, OfReply}
 use Rattle.afs_law.specs.Breaks.{HasDrop, HasTimeout, last_grant, expiry_of, Owes, AllOwes, EndedBy, OweAt, CarriesBreak, WasSent, live_grant, last_number}
 use Rattle.afs_rows.specs.Callbacks.{Promise, Owed, BackCall, Held, Backs, is_held, key_answered, breaks_call}
-use Rattle.afs_rows.specs.ClientRow.{the_server}
 use Rattle.afs_law.specs.Legal.{HasChange}
 use Rattle.afs_history.specs.declared.lines.Line.{Line}
 use Rattle.afs_law.specs.Past.{onto, lines_of, sent_of, given_message, IsCallUnder}
-use Rattle.afs_rows.specs.Runs.{Entry, Fall}
+use Rattle.afs_rows.specs.Runs.{the_server, Entry, Fall}
 use Rattle.afs_rows.specs.States.{Seat}
 use Rattle.afs_model.specs.Calls.{call_seat}
 

@@ -1,3 +1,4 @@
+use Rattle.afs_num.specs.declared.histories.ReadStatus.{ReadStatus}
 use Rattle.afs_num.specs.declared.scripts.Script.{Script}
 use Rattle.std.proofs.Common.{◌≡◌, ℕ, ◌≤◌, inl, inr, Bool, true, false, cond, List, [], ◌∷◌, ◌++◌, Option, Some, None, ℤ, refl, sym, ap, ◌∙◌, subst, arith, le_of_eq, le_trans, eqb-true}
 use Rattle.std.specs.Option.{option_map}
@@ -12,15 +13,15 @@ use Rattle.afs_num.specs.declared.messages.Message.{Message}
 use Rattle.afs_ideal.specs.Operations.{volume_changed, Result, changes}
 use Rattle.afs_law.proofs.Basics.{Each, IfCall, IfReply, IfNotice, each_more, each_map, if_call, if_reply, if_notice, at_more, ByClient, OfClient, by_client, both, same_node-true, same_node-refl, client_number, OfCall}
 use Rattle.afs_law.proofs.Edits.{index_in}
-use Rattle.afs_law.proofs.Facts.{IsKeptBody, Seen, IsActs, IsLastCall, View, Spot, spot, Reached, Held, IsNewest, Stands, IsCurrent, IsFetched, Fits, Answers, ReplyFact, AreKept, ClientFacts, CallIn, ReplyIn, Origin, HeldIn, ToClient, SentFacts, HasFallen, Reading, FitsReply, FitsData, FitsSet, WasChanged, WasStored, IsOne, IsNoticed}
-use Rattle.afs_rows.specs.ClientRow.{the_server, body_told}
+use Rattle.afs_law.proofs.Facts.{IsWhole, IsOld, HasOld, FitsShown, IsKeptBody, Seen, IsActs, IsLastCall, View, Spot, spot, Reached, Held, IsNewest, Stands, IsCurrent, IsFetched, Fits, Answers, ReplyFact, AreKept, ClientFacts, CallIn, ReplyIn, Origin, HeldIn, ToClient, SentFacts, HasFallen, Reading, FitsReply, FitsData, FitsSet, WasChanged, WasStored, IsOne, IsNoticed}
+use Rattle.afs_rows.specs.ClientRow.{body_told, find_cached, status_told}
 use Rattle.afs_rows.specs.Going.{asked, Going}
 use Rattle.afs_law.specs.Grants.{has_fetched, fetch_reply, GrantOf, since, IsWithdrawn, IsDropped}
 use Rattle.afs_law.specs.Ideal.{last_version, HasVersion, reach, change_in, call_in, call_under}
 use Rattle.afs_law.specs.Legal.{IsResult, IsKey, HasChange, Cause, answer_at, IsTold}
 use Rattle.afs_history.specs.declared.lines.Line.{Line}
 use Rattle.afs_law.specs.Past.{onto, lines_of, sent_of, given_message, running, has_begun, Ran, called_key, same_key, is_called, has_sent, is_sent_since, answered_key}
-use Rattle.afs_rows.specs.Runs.{Entry, Fall, at_rest, in_step, in_boot}
+use Rattle.afs_rows.specs.Runs.{the_server, Entry, Fall, at_rest, in_step, in_boot}
 use Rattle.afs_rows.specs.States.{CacheEntry, Seat, ServerState}
 use Rattle.afs_num.specs.declared.histories.Body.{Body}
 use Rattle.afs_num.specs.declared.histories.Version.{Version}
@@ -100,12 +101,15 @@ pub onto_front : (a b ls : List Line) → onto (a ++ b) ls ≡ onto a ls ++ b
 onto_front a b [] = refl
 onto_front a b (l ∷ ls) = onto_front (l ∷ a) b ls
 
-abbrev pub held_over : {sp : Bool} → (j : ℕ) (f : Fid) (i : ℕ) (b : Body) (x : ℕ) (m : Message) (e : Entry) (past : List Entry) → PassesGrant j f e past → Held sp j f i b x m past → Held sp j f i b x m (e ∷ past)
-held_over j f i b x m e past p h = record {
+pub whole_over : (f : Fid) (i : ℕ) (t : ReadStatus) (b : Option Body) (e : Entry) (past : List Entry) → ((k : Body) → HasVersion f i k (lines_of past) → HasVersion f i k (lines_of (e ∷ past))) → IsWhole f i t b past → IsWhole f i t b (e ∷ past)
+whole_over f i t b e past w h = record { is = h.is; told = w h.is h.told; holds = h.holds; been = inr h.been }
+
+abbrev pub held_over : {sp : Bool} → (j : ℕ) (f : Fid) (i : ℕ) (t : ReadStatus) (b : Option Body) (x : ℕ) (m : Message) (e : Entry) (past : List Entry) → PassesGrant j f e past → Held sp j f i t b x m past → Held sp j f i t b x m (e ∷ past)
+held_over j f i t b x m e past p h = record {
   grant = grant_over (Client j) f x m e past h.grant;
   server = h.server;
   kept = λ z d. h.kept z (p.dropped h.grant.server (since (Client j) f x m past h.grant) d);
-  whole = p.version i b (lines_of past) h.whole;
+  whole = whole_over f i t b e past (λ k. p.version i k (lines_of past)) h.whole;
   base = h.base;
   split = ap (λ (o : List Line). onto o e.lines) h.split ∙ onto_front (since (Client j) f x m past h.grant) h.base e.lines;
   begun = h.begun;
@@ -187,7 +191,8 @@ current_over j f u v w e past le p st h = record {
   reply = h.reply;
   boot = le_trans h.boot le;
   by = fetch_reply_by (has_fetched (Client j) f e.lines) (given_message e.lines (sent_of past)) (fetch_reply (Client j) f past) p.fetched ∙ h.by;
-  held = held_over j f u.index u.body u.expiry h.reply e past p.grant h.held;
+  from = h.from;
+  held = held_over j f u.index u.status u.body u.expiry h.reply e past p.grant h.held;
   state = st h.held.grant.server (since (Client j) f u.expiry h.reply past h.held.grant) h.held.server h.state;
 }
 
@@ -221,33 +226,51 @@ stands_over j f i v e past r n server newer q (inr h) = inr (record {
   changed = was_over j f server newer h.ran.seat.reply e past (asked h.act) r n q h.changed;
 })
 
+old_by : (f : Fid) (i : ℕ) (b : Option Body) (ls more : List Line) → ((k : Body) → HasVersion f i k ls → HasVersion f i k more) → IsOld f i b ls → IsOld f i b more
+old_by f i None ls more w h = tt
+old_by f i (Some b) ls more w h = w b h
+
+-- what is held of bodies stays so
+pub old_over : (cache : List CacheEntry) (ls more : List Line) → ((f : Fid) (i : ℕ) (k : Body) → HasVersion f i k ls → HasVersion f i k more) → HasOld cache ls → HasOld cache more
+old_over cache ls more w h f u found = old_by f u.index u.body ls more (w f u.index) (h f u found)
+
+-- where others were found before
+pub old_within : (cache less : List CacheEntry) (ls : List Line) → ((f : Fid) (u : CacheEntry) → find_cached f less ≡ Some u → find_cached f cache ≡ Some u) → HasOld cache ls → HasOld less ls
+old_within cache less ls w h f u found = h f u (w f u found)
+
 -- ---- a kept reply
 
-fetched_over : {sp : Bool} → (j : ℕ) (f : Fid) (i : ℕ) (b : Body) (x : ℕ) (m : Message) (e : Entry) (past : List Entry) → PassesGrant j f e past → PassesSeen j f e past → StaysNewest j f e past → IsFetched sp j f i b x m past → IsFetched sp j f i b x m (e ∷ past)
-fetched_over j f i b x m e past p r n h = record {
-  held = held_over j f i b x m e past p h.held;
+fetched_over : {sp : Bool} → (j : ℕ) (f : Fid) (i : ℕ) (t : ReadStatus) (b : Option Body) (x : ℕ) (m : Message) (e : Entry) (past : List Entry) → PassesGrant j f e past → PassesSeen j f e past → StaysNewest j f e past → IsFetched sp j f i t b x m past → IsFetched sp j f i t b x m (e ∷ past)
+fetched_over j f i t b x m e past p r n h = record {
+  held = held_over j f i t b x m e past p h.held;
   reached = r i h.reached;
   newest = n h.held.grant.server i (since (Client j) f x m past h.held.grant) h.held.server h.newest;
 }
 
 data_over : (sp : Bool) (j : ℕ) (v : Spot) (m : Message) (e : Entry) (past : List Entry) (contents : List ℕ) (status : AfsFetchStatus) (callback : AfsCallBack) (call : FsCall) → ((f : Fid) → PassesGrant j f e past) → ((f : Fid) → PassesReach j f e past) → ((f : Fid) → StaysNewest j f e past)
     → FitsData sp j v m past contents status callback call → FitsData sp j v m (e ∷ past) contents status callback call
-data_over sp j v m e past contents status callback (calls.FetchData f position wanted) p r n h = fetched_over j f status.sync_counter (body_told status.file_type contents) callback.expiration_time m e past (p f) (r f).seen (n f) h
+data_over sp j v m e past contents status callback (calls.FetchData f position wanted) p r n h = fetched_over j f status.sync_counter (status_told status) (Some (body_told status.file_type contents)) callback.expiration_time m e past (p f) (r f).seen (n f) h
 data_over sp j v m e past contents status callback call p r n h = h
+
+shown_over : (sp : Bool) (j : ℕ) (v : Spot) (m : Message) (e : Entry) (past : List Entry) (status : AfsFetchStatus) (callback : AfsCallBack) (call : FsCall) → ((f : Fid) → PassesGrant j f e past) → ((f : Fid) → PassesReach j f e past) → ((f : Fid) → StaysNewest j f e past)
+    → FitsShown sp j v m past status callback call → FitsShown sp j v m (e ∷ past) status callback call
+shown_over sp j v m e past status callback (calls.FetchStatus f) p r n h = fetched_over j f status.sync_counter (status_told status) None callback.expiration_time m e past (p f) (r f).seen (n f) h
+shown_over sp j v m e past status callback call p r n h = h
 
 pub body_kept : (f : Fid) (i : ℕ) (ls more : List Line) → ((k : ℕ) (b : Body) → HasVersion f k b ls → HasVersion f k b more) → IsKeptBody f i ls → IsKeptBody f i more
 body_kept f i ls more w h = record { before = h.before; next = h.next; body = h.body; old = w h.before h.body h.old; new = w i h.body h.new }
 
 set_over : (j : ℕ) (v : Spot) (m : Message) (e : Entry) (past : List Entry) (status : AfsFetchStatus) (call : FsCall) → ((f : Fid) → PassesGrant j f e past) → ((f : Fid) → PassesReach j f e past)
     → FitsSet j v m past status call → FitsSet j v m (e ∷ past) status call
-set_over j v m e past status (calls.StoreData f set position wanted file_length contents) p r h = ((p f).version status.sync_counter (bodies.File contents) (lines_of past) h.0, (h.1.0, (r f).both status.sync_counter h.1.1))
-set_over j v m e past status (calls.StoreAcl f acl) p r h = (body_kept f status.sync_counter (lines_of past) (lines_of (e ∷ past)) (λ i b x. (p f).version i b (lines_of past) x) h.0, (h.1.0, (r f).both status.sync_counter h.1.1))
-set_over j v m e past status (calls.StoreStatus f set) p r h = (body_kept f status.sync_counter (lines_of past) (lines_of (e ∷ past)) (λ i b x. (p f).version i b (lines_of past) x) h.0, (h.1.0, (r f).both status.sync_counter h.1.1))
+set_over j v m e past status (calls.StoreData f set position wanted file_length contents) p r h = (((p f).version status.sync_counter (bodies.File contents) (lines_of past) h.0.0, inr h.0.1), (h.1.0, (r f).both status.sync_counter h.1.1))
+set_over j v m e past status (calls.StoreAcl f acl) p r h = ((body_kept f status.sync_counter (lines_of past) (lines_of (e ∷ past)) (λ i b x. (p f).version i b (lines_of past) x) h.0.0, inr h.0.1), (h.1.0, (r f).both status.sync_counter h.1.1))
+set_over j v m e past status (calls.StoreStatus f set) p r h = ((body_kept f status.sync_counter (lines_of past) (lines_of (e ∷ past)) (λ i b x. (p f).version i b (lines_of past) x) h.0.0, inr h.0.1), (h.1.0, (r f).both status.sync_counter h.1.1))
 set_over j v m e past status call p r h = h
 
 reply_fits : (sp : Bool) (j : ℕ) (call : FsCall) (v : Spot) (m : Message) (e : Entry) (past : List Entry) (reply : FsReply) → ((f : Fid) → PassesGrant j f e past) → ((f : Fid) → PassesReach j f e past) → ((f : Fid) → StaysNewest j f e past)
     → FitsReply sp j call v m past reply → FitsReply sp j call v m (e ∷ past) reply
 reply_fits sp j call v m e past (replies.FetchData contents status callback sync) p r n h = data_over sp j v m e past contents status callback call p r n h
+reply_fits sp j call v m e past (replies.FetchStatus status callback sync) p r n h = shown_over sp j v m e past status callback call p r n h
 reply_fits sp j call v m e past (replies.StoreData status sync) p r n h = set_over j v m e past status call p r h
 reply_fits sp j call v m e past (replies.StoreAcl status sync) p r n h = set_over j v m e past status call p r h
 reply_fits sp j call v m e past (replies.StoreStatus status sync) p r n h = set_over j v m e past status call p r h
@@ -295,6 +318,7 @@ client_over {s} j v e past p r n q l h =
       idle = λ x. q.runs s (lines_of past) ∙ h.idle x;
       made = λ act x f o z. (r f).made (h.made act x f o z);
       current = λ f u found lasts. current_over j f u v v e past (le_refl _) (p f) (stands_over j f u.index v e past (r f).seen (n f)) (h.current f u found lasts);
+      old = old_over v.cache (lines_of past) (lines_of (e ∷ past)) (λ f i k x. (p f).grant.version i k (lines_of past) x) h.old;
       runs = λ act x. q.runs s (lines_of past) ∙ h.runs act x;
       asked = λ act x. inr (q.begins, h.asked act x);
       reached = λ f. reached_more (Client j) f (index_in (last_version f (lines_of past))) (index_in (last_version f (lines_of (e ∷ past)))) (e ∷ past) (l f) ((r f).both (index_in (last_version f (lines_of past))) (h.reached f));

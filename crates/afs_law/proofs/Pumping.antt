@@ -11,9 +11,8 @@ use Rattle.afs_law.proofs.Basics.{Each, each_more, OfCall, OfReply, OfNotice, By
 use Rattle.afs_law.proofs.Facts.{View, HeldIn, IsReply, CallIn, Origin, IsOne, IsActs, IsLastCall, ToClient}
 use Rattle.afs_law.proofs.Passing.{News}
 use Rattle.afs_rows.specs.Callbacks.{Owed, Held, Turn, Started, BackCall, is_ready, replies_of, starts, starts_by, pumped, break_message, started_call}
-use Rattle.afs_rows.specs.ClientRow.{the_server}
 use Rattle.afs_law.specs.Past.{sent_of}
-use Rattle.afs_rows.specs.Runs.{Entry}
+use Rattle.afs_rows.specs.Runs.{the_server, Entry}
 
 pub of_reply_any : (P : Type 0) (c : Carried) → P → OfReply P c
 of_reply_any P (carried.Call user call) x = tt
@@ -67,7 +66,7 @@ news_held {s} views b past (m ∷ ms) h =
 
 -- a server's own call
 pub news_break : {s : Script} → (views : ℕ → View) (b : ℕ) (past : List Entry) (boot n known : ℕ) (c : BackCall) → News s (break_message the_server boot n known c ∷ []) views b past
-news_break {s} views b past boot n known c = record { calls = (tt, tt); replies = (tt, tt); notices = (tt, tt); origins = (tt, tt); acts = (tt, tt); lasts = (tt, tt); ones = (tt, tt); to_clients = ((λ ne x. absurd cc), tt) }
+news_break {s} views b past boot n known c = record { calls = (tt, tt); replies = (tt, tt); notices = (tt, tt); origins = (tt, tt); acts = (tt, tt); lasts = (tt, tt); ones = (tt, tt); to_clients = ((λ ne. ((λ x. absurd cc), refl)), tt) }
 
 started_by_news : {s : Script} → (views : ℕ → View) (b : ℕ) (past : List Entry) (boot : ℕ) (t : Started) (o : Owed) (x : Option BackCall) → News s t.sent views b past → News s (starts_by the_server boot t o x).sent views b past
 started_by_news {s} views b past boot t o None h = news_more views b past t.sent _ h (news_break views b past boot o.client (t.backs.known o.client) (started_call t.backs o))

@@ -12,18 +12,17 @@ use Rattle.afs_num.specs.declared.histories.Body.{Body}
 use Rattle.afs_law.proofs.Backing.{Plain, all_lines, is_up, is_still, is_oweless, is_unchanging, backed_plain, backed_fall, plain_step, seated_over}
 use Rattle.afs_law.proofs.Basics.{Each, IfCall, each_map, if_call}
 use Rattle.afs_law.proofs.Edits.{index_in, fid_at, sound_same}
-use Rattle.afs_law.proofs.Facts.{IsKnown, HoldsAt, server_boot, up_boot, IsLastCall, View, view, ClientFacts, IsSafe, CallIn, HasFallen, AreUnheard, Holds, Goes}
+use Rattle.afs_law.proofs.Facts.{back_seat, IsKnown, HoldsAt, server_boot, up_boot, IsLastCall, View, view, ClientFacts, IsSafe, CallIn, HasFallen, AreUnheard, Holds, Goes}
 use Rattle.afs_law.proofs.Owing.{BackedIn}
 use Rattle.afs_law.proofs.Passing.{waiting_over, PassesFile, PassesAct, PassesReach, client_still, replies_over, reply_over, stays, acts_over, fallen_over, older_origins}
 use Rattle.afs_law.specs.Breaks.{HasStopped}
 use Rattle.afs_rows.specs.Callbacks.{replies_of}
-use Rattle.afs_rows.specs.ClientRow.{the_server}
 use Rattle.afs_rows.specs.Going.{Going}
 use Rattle.afs_law.specs.Ideal.{last_version, HasVersion, Accepts, clock_of, volume_after}
 use Rattle.afs_law.specs.Legal.{IsNew}
 use Rattle.afs_history.specs.declared.lines.Line.{Line}
 use Rattle.afs_law.specs.Past.{onto, lines_of, sent_of, given_message, IsCallUnder}
-use Rattle.afs_rows.specs.Runs.{Entry, Cell, Armed, Fall, voided, ticked, server_set, blow_line}
+use Rattle.afs_rows.specs.Runs.{the_server, Entry, Cell, Armed, Fall, voided, ticked, server_set, blow_line}
 use Rattle.afs_rows.specs.States.{CacheEntry}
 use Rattle.afs_num.specs.declared.histories.Version.{Version}
 use Rattle.afs_history.specs.declared.lines.Line.TheVariants as lines
@@ -70,6 +69,7 @@ later_client {s} n j v past h = record {
   idle = h.idle;
   made = λ act x f o z. h.made act x f o (later_known n act v.clock f v.cache z);
   current = λ f e at lasts. h.current f e at (omega arith);
+  old = h.old;
   runs = h.runs;
   asked = h.asked;
   reached = h.reached;
@@ -88,13 +88,14 @@ calls_rested s c n d armed past h = each_map (IfCall (CallIn (view h.floors c)))
 })) c.sent h.sent.calls
 
 pub rests : (s : Script) (b : Option ℕ) (c : Cell) (past : List Entry) (e : Entry) (n : ℕ) (d : Option Fall) (armed : Armed) → (h : Holds s c past) → server_boot the_server (lines_of (e ∷ past)) ≡ b → e.sent ≡ [] → Rests s e past → clock_of (lines_of (e ∷ past)) ≡ clock_of (lines_of past) + n
-    → AreUnheard d c.server.seats c.server.boot (e ∷ past) → HasFallen d c.server c.sent (e ∷ past) → (b ≡ up_boot d c.server.boot → BackedIn d c.backs c.server.boot c.server.seats (λ j. (c.clients j).seat) (c.clock + n) c.sent (e ∷ past)) → HoldsAt s b (rested c n d armed) (e ∷ past)
+    → AreUnheard d c.server.seats c.server.boot (e ∷ past) → HasFallen d c.server c.sent (e ∷ past) → (b ≡ up_boot d c.server.boot → BackedIn d c.backs c.server.boot c.server.seats (λ j. back_seat (c.clients j)) (c.clock + n) c.sent (e ∷ past)) → HoldsAt s b (rested c n d armed) (e ∷ past)
 rests s b c past e n d armed h boots none p clock heard fallen backs =
     let now : (j : ℕ) → ClientFacts s j (view h.floors (rested c n d armed) j) (e ∷ past) = λ j. later_client n j (view h.floors c j) (e ∷ past) (client_still j (view h.floors c j) e past (p.file j) (p.reach j) (p.act j) (λ f. p.last f (lines_of past)) (h.clients j)) in
     record {
       floors = h.floors;
       count = h.count;
-      tables = h.tables;
+      own = h.own;
+      servers = h.servers;
       ideal = λ id. h.ideal id ∙ sym (p.ideal id);
       fine = h.fine;
       sound = λ id. sound_same id _ (lines_of past) (lines_of (e ∷ past)) (λ m u. p.last (fid_at id m u) (lines_of past)) (h.sound id);
@@ -125,20 +126,20 @@ rests s b c past e n d armed h boots none p clock heard fallen backs =
     }
 
 -- what the server has in memory passes over such an entry: the clock rose, or the server went down
-pub rest_backed : (s : Script) (c : Cell) (past : List Entry) (e : Entry) (n : ℕ) → Plain e.lines → Holds s c past → BackedIn c.down c.backs c.server.boot c.server.seats (λ j. (c.clients j).seat) (c.clock + n) c.sent (e ∷ past)
+pub rest_backed : (s : Script) (c : Cell) (past : List Entry) (e : Entry) (n : ℕ) → Plain e.lines → Holds s c past → BackedIn c.down c.backs c.server.boot c.server.seats (λ j. back_seat (c.clients j)) (c.clock + n) c.sent (e ∷ past)
 rest_backed s c past e n p h =
     let b = h.backs refl in
     let le : c.clock ≤ c.clock + n = omega arith in
-    subst (λ (ms : List Message). BackedIn c.down c.backs c.server.boot c.server.seats (λ j. (c.clients j).seat) (c.clock + n) ms (e ∷ past)) (append-nil c.sent)
-    (backed_plain c.down c.backs c.server.boot c.server.seats (λ j. (c.clients j).seat) (λ j. (c.clients j).seat) c.clock (c.clock + n) c.sent [] e past p le b tt tt
+    subst (λ (ms : List Message). BackedIn c.down c.backs c.server.boot c.server.seats (λ j. back_seat (c.clients j)) (c.clock + n) ms (e ∷ past)) (append-nil c.sent)
+    (backed_plain c.down c.backs c.server.boot c.server.seats (λ j. back_seat (c.clients j)) (λ j. back_seat (c.clients j)) c.clock (c.clock + n) c.sent [] e past p le b tt tt
     (λ j seat m x y. seated_over c.down c.down c.backs c.backs c.server.boot c.clock (c.clock + n) e past (plain_step c.down c.backs c.clock (c.clock + n) e past p le) j m (b.seated j seat m x y)))
 
-pub fall_backed : (s : Script) (c : Cell) (past : List Entry) (e : Entry) (fall : Fall) → all_lines is_oweless e.lines ≡ true → all_lines is_still e.lines ≡ true → (c.down ≡ None → (o : List Line) → HasStopped the_server (onto o e.lines)) → Holds s c past → BackedIn (Some fall) c.backs c.server.boot c.server.seats (λ j. (c.clients j).seat) (c.clock + 0) c.sent (e ∷ past)
+pub fall_backed : (s : Script) (c : Cell) (past : List Entry) (e : Entry) (fall : Fall) → all_lines is_oweless e.lines ≡ true → all_lines is_still e.lines ≡ true → (c.down ≡ None → (o : List Line) → HasStopped the_server (onto o e.lines)) → Holds s c past → BackedIn (Some fall) c.backs c.server.boot c.server.seats (λ j. back_seat (c.clients j)) (c.clock + 0) c.sent (e ∷ past)
 fall_backed s c past e fall p still stop h =
     let zero_more : c.clock ≡ c.clock + 0 = omega arith in
-    subst (λ (t : ℕ). BackedIn (Some fall) c.backs c.server.boot c.server.seats (λ j. (c.clients j).seat) t c.sent (e ∷ past)) zero_more
-    (subst (λ (ms : List Message). BackedIn (Some fall) c.backs c.server.boot c.server.seats (λ j. (c.clients j).seat) c.clock ms (e ∷ past)) (append-nil c.sent)
-    (backed_fall c.down fall c.backs c.server.boot c.server.seats c.server.seats (λ j. (c.clients j).seat) c.clock c.sent e past p still stop (h.backs refl)))
+    subst (λ (t : ℕ). BackedIn (Some fall) c.backs c.server.boot c.server.seats (λ j. back_seat (c.clients j)) t c.sent (e ∷ past)) zero_more
+    (subst (λ (ms : List Message). BackedIn (Some fall) c.backs c.server.boot c.server.seats (λ j. back_seat (c.clients j)) c.clock ms (e ∷ past)) (append-nil c.sent)
+    (backed_fall c.down fall c.backs c.server.boot c.server.seats c.server.seats (λ j. back_seat (c.clients j)) c.clock c.sent e past p still stop (h.backs refl)))
 
 pub plain_refl : (l : Line) → is_up l ≡ true → is_still l ≡ true → is_oweless l ≡ true → is_unchanging l ≡ true → Plain (l ∷ [])
 plain_refl l a b c d = record { up = rw a refl; still = rw b refl; oweless = rw c refl; unchanging = rw d refl }

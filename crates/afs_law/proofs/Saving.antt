@@ -1,13 +1,18 @@
+use Rattle.afs_ideal.specs.Volumes as volumes
+use Rattle.afs_rows.specs.ClientRow.{status_told}
+use Rattle.afs_num.specs.declared.histories.ReadBody.TheVariants as seen
+use Rattle.afs_num.specs.declared.calls.AfsFetchStatus.{AfsFetchStatus}
+use Rattle.afs_num.specs.declared.calls.AfsCallBack.{AfsCallBack}
 use Rattle.afs_num.specs.declared.directories.Name.{Name}
 use Rattle.afs_ideal.specs.Operations.{Found, the_user, Result, changes, op, volume_called, volume_changed, changed}
-use Rattle.afs_ideal.specs.Replies.{vnode_or_none, change_reply, stamped}
+use Rattle.afs_ideal.specs.Replies.{status_at, status_of, vnode_or_none, change_reply, stamped}
 use Rattle.afs_ideal.specs.Tables.{Table, get, set}
 use Rattle.afs_ideal.specs.Told.{AreNext}
-use Rattle.afs_ideal.specs.Volumes.{or_old, with_status, Amend, Volume, Vnode, Kind, a_file, a_directory, a_link, body_by, body_of, version_at, Edit, versions_by, edited_all, counted, amended}
+use Rattle.afs_ideal.specs.Volumes.{vnode_of, if_unique, or_old, with_status, Amend, Volume, Vnode, Kind, a_file, a_directory, a_link, body_by, body_of, version_at, Edit, versions_by, edited_all, counted, amended}
 use Rattle.afs_law.proofs.Backing.{is_still_to, all_lines, is_up, is_still, is_oweless, is_unchanging, change_back}
 use Rattle.afs_law.proofs.Basics.{node_apart, Above, up_to_by, same_fid-true, same_node-true, client_number, below_not, up_to_same, own_seat, raised_up_to, some_of, yes_no}
-use Rattle.afs_law.proofs.Edits.{agrees_of, last_of, ones, Ones, index_in, fid_at, Sound, SoundIn, sound_same, Tops, get-set, on_top, Grow, Told, edits_told, counted_sound, rises, tops, touches, untouched, touched_volume, not_touched, there, none_has}
-use Rattle.afs_law.proofs.Facts.{Leaves, HeldIn, Ghost, HoldsAt, server_boot, up_boot, risen, LastStored, IsStored, IsUntrusted, view, Spot, spot, ReplyFact, HasFallen, Reached, Stands, IsCurrent, Fits, Answers, IsReply, AreUnheard, stored_index, Holds, Goes, FitsReply, FitsData, FitsSet, FitsPlain, WasChanged, AreIdeal, AreSound, WasStored}
+use Rattle.afs_law.proofs.Edits.{live, live_is, agrees_of, last_of, ones, Ones, index_in, fid_at, Sound, SoundIn, sound_same, Tops, get-set, on_top, Grow, Told, edits_told, counted_sound, rises, tops, touches, untouched, touched_volume, not_touched, there, none_has}
+use Rattle.afs_law.proofs.Facts.{FitsShown, Leaves, HeldIn, Ghost, HoldsAt, server_boot, up_boot, risen, LastStored, IsStored, IsUntrusted, view, Spot, spot, ReplyFact, HasFallen, Reached, Stands, IsCurrent, Fits, Answers, IsReply, AreUnheard, stored_index, Holds, Goes, FitsReply, FitsData, FitsSet, FitsPlain, WasChanged, AreIdeal, AreSound, WasStored}
 use Rattle.afs_law.proofs.Loading.{hits_other, granted_all, onto_granted, left_granted, all_hits, change_loaded, owes_unchanging, all_new, number_front, number_second, left_promised, has_owe, touched_hit, numbers_good, numbers_rise}
 use Rattle.afs_law.proofs.Naming.{fine_after}
 use Rattle.afs_law.proofs.Notes.{granted_notes, AreNotes, Skips, skips, owe_notes, no_versions}
@@ -19,14 +24,13 @@ use Rattle.afs_law.proofs.Serving.{up_backed, seats_of, Gives, taken_not, up_boo
 use Rattle.afs_law.proofs.Turning.{loaded, Pumps, pumps}
 use Rattle.afs_law.specs.Breaks.{live_grant, HasOwe, last_number}
 use Rattle.afs_rows.specs.Callbacks.{hits, Backs, Held, Owed, Turn, pumped, expired, turn_for, new_owes, numbers, alls}
-use Rattle.afs_rows.specs.ClientRow.{the_server}
 use Rattle.afs_rows.specs.Going.{asked, Going, next}
 use Rattle.afs_law.specs.Grants.{IsWithdrawn, has_fetched, fetch_reply, since, change_below, IsByOther, IsDropped}
-use Rattle.afs_law.specs.Ideal.{versions_in, Reach, raised, IsLast, clock_of, last_version, HasVersion, Accepts, reach, volume_after, change_key, call_under, reach_over, applied, applied_by}
+use Rattle.afs_law.specs.Ideal.{HasBeen, TellsIn, TellsOf, shown_status, versions_in, Reach, raised, IsLast, clock_of, last_version, HasVersion, Accepts, reach, volume_after, change_key, call_under, reach_over, applied, applied_by}
 use Rattle.afs_law.specs.Legal.{code_given, AreGood, code_told, IsNew, HasChange, GoodChange, versions_first, IsTold, answer_at, answer_on, IsUnderChange, IsChanged, op_on}
 use Rattle.afs_history.specs.declared.lines.Line.{Line}
 use Rattle.afs_law.specs.Past.{onto, lines_of, sent_of, given_message, called_key, HasCode, is_of_act, running, has_begun}
-use Rattle.afs_rows.specs.Runs.{Entry, Cell, message_at, Armed, Fall, server_does}
+use Rattle.afs_rows.specs.Runs.{the_server, Entry, Cell, message_at, Armed, Fall, server_does}
 use Rattle.afs_rows.specs.Scopes.{is_in_scope, is_volume}
 use Rattle.afs_rows.specs.ServerRow.{granted, granted_in, record_of, carried_by, change_reply_to, longer, promise_ticks, saves, runs, told, versioned, Change, made, result}
 use Rattle.afs_rows.specs.States.{CacheEntry, Seat}
@@ -34,7 +38,7 @@ use Rattle.afs_model.specs.Calls.{call_seated, call_seat}
 use Rattle.afs_num.specs.declared.calls.AfsStoreStatus.{AfsStoreStatus}
 use Rattle.afs_ideal.proofs.Edits as ideal_edits
 use Rattle.std.proofs.Common.{◌≡◌, ℕ, ◌+◌, ◌<◌, ◌≤◌, ◌⊎◌, inl, inr, Bool, true, false, cond, length, List, [], ◌∷◌, ◌++◌, Option, Some, None, pos, refl, sym, ap, subst, ◌∙◌, arith, eq-eqb, eqb-true, eqb}
-use Rattle.std.specs.Prelude.{◌&&◌, not}
+use Rattle.std.specs.Prelude.{◌&&◌, not, is_some}
 use Rattle.std.specs.Option.{option_map}
 use Rattle.afs_num.specs.Fids.{same_fid}
 use Rattle.afs_num.specs.Nodes.{same_node}
@@ -555,6 +559,33 @@ leaves (calls.StoreStatus g st) f id m user v es shown x ls is e at old new =
     record { before = x.index; next = refl; body = body_of x; old = old; new = subst (λ (d : Body). HasVersion f (x.index + 1) d ls) (body_stays (amend_of (calls.StoreStatus g st)) m x refl refl) new }
 leaves call f id m user v es shown x ls is e at old new = absurd cc
 
+-- the status that a reply tells is that of its vnode
+told_in_by : (t : Bool) (y : Vnode) (F : Vnode → AfsFetchStatus) → ((x : Vnode) → (x.index ≡ (F x).sync_counter) × (shown_status x ≡ status_told (F x))) → is_some (cond t (Some y) None) ≡ true → TellsIn (F y).sync_counter (seen.Status (status_told (F y))) (cond t (Some y) None)
+told_in_by true y F w e = w y
+told_in_by false y F w e = absurd cc
+
+told_in : (u : ℕ) (g : Option Vnode) (F : Vnode → AfsFetchStatus) → ((x : Vnode) → (x.index ≡ (F x).sync_counter) × (shown_status x ≡ status_told (F x))) → is_some (if_unique u g) ≡ true → TellsIn (F (vnode_or_none g)).sync_counter (seen.Status (status_told (F (vnode_or_none g)))) (if_unique u g)
+told_in u None F w e = absurd cc
+told_in u (Some y) F w e = told_in_by (eqb y.unique u) y F w e
+
+some_mapped : {A B : Type 0} (g : A → B) (o : Option A) (y : B) → option_map g o ≡ Some y → is_some o ≡ true
+some_mapped g None y e = absurd cc
+some_mapped g (Some x) y e = refl
+
+-- that of a store's reply has been the fid's
+pub store_been : (call : FsCall) (f : Fid) (y : Way) (s : Script) (c : Cell) (past : List Entry) (user : List ℕ) (id time : ℕ) (v : Volume) (es : List Edit) (shown : ℕ) (k : Key) (r : Message) → Holds s c past → Change' c past user call id v es shown → call_under k (sent_of past) ≡ Some (user, call) → stored_fid call ≡ Some f → f.volume ≡ id
+    → (times : Fid → ℕ) → HasBeen f (status_at id (the_user user) times (counted (edited_all id es v)) f.vnode).sync_counter (seen.Status (status_told (status_at id (the_user user) times (counted (edited_all id es v)) f.vnode))) (saved_entry y k (versions_by id es v) r ∷ past)
+store_been call f y s c past user id time v es shown k r H q one is at times =
+    let e : Entry = saved_entry y k (versions_by id es v) r in
+    let W : Volume = counted (edited_all id es v) in
+    let z : Storing f (amend_of call) v es shown = storing id (the_user user) call f v es shown is q.result in
+    let last = store_last y s c past user call f (amend_of call) id v es shown k r H q at z in
+    let here : Some W ≡ volume_after id (e ∷ past) = sym (get-set id id W c.server.volumes ∙ ap (λ (t : Bool). cond t (Some W) (get id c.server.volumes)) (eq-eqb id id refl)) ∙ ideal_after y s c past user call id v es shown k r H q one id in
+    let sound : Sound id W (lines_of (e ∷ past)) = subst (λ (o : Option Volume). SoundIn id o (lines_of (e ∷ past))) (get-set id id W c.server.volumes ∙ ap (λ (t : Bool). cond t (Some W) (get id c.server.volumes)) (eq-eqb id id refl)) (sound_after y s c past user call id v es shown k r H q id) in
+    let there : is_some (vnode_of f W) ≡ true = some_mapped (version_at id f.vnode) (vnode_of f W) _ (sym (sound.agree f.vnode f.unique) ∙ (ap (λ (i : ℕ). live (last_version (fid_at i f.vnode f.unique) (lines_of (e ∷ past)))) (sym at) ∙ (ap live last ∙ live_is id f.vnode (amended (v.counter + 1) (amend_of call) z.vnode)))) in
+    inl (subst (λ (o : Option Volume). TellsOf f (status_at id (the_user user) times W f.vnode).sync_counter (seen.Status (status_told (status_at id (the_user user) times W f.vnode))) o) (here ∙ ap (λ (i : ℕ). volume_after i (e ∷ past)) (sym at))
+    (told_in f.unique (get f.vnode W.vnodes) (λ x. status_of (the_user user) W (times (volumes.fid_of id f.vnode x)) x) (λ x. (refl, refl)) there))
+
 -- the reply of a store fits its call
 pub store_fits : (call : FsCall) (f : Fid) (y : Way) (s : Script) (c : Cell) (past : List Entry) (n : ℕ) (head : Head) (user : List ℕ) (id time : ℕ) (v : Volume) (es : List Edit) (shown : ℕ) (k : Key) (x : Spot) (i : ℕ) → Holds s c past → Change' c past user call id v es shown → stored_fid call ≡ Some f → f.volume ≡ id
     → stored_index (change_carried time user call id c.server.times v es shown) ≡ Some i
@@ -574,22 +605,25 @@ store_fits call f y s c past n head user id time v es shown k x i H q is at told
       subst (λ (j : ℕ). Reached (Client n) f j (saved_entry y k (versions_by id es v) r ∷ past)) index (stored_reach y past n k id (versions_by id es v) r f (version_at id f.vnode a) last t.grow ((H.clients n).reached f)),
     )
 
-pub change_fits : (sp : Bool) (call : FsCall) (y : Way) (s : Script) (c : Cell) (past : List Entry) (n : ℕ) (head : Head) (user : List ℕ) (id time : ℕ) (v : Volume) (es : List Edit) (shown : ℕ) (k : Key) (x : Spot) → (volume_changed call ≡ None → ⊥) → Holds s c past → Change' c past user call id v es shown → IsStored x (saved_reply c head time user call id v es shown)
+pub change_fits : (sp : Bool) (call : FsCall) (y : Way) (s : Script) (c : Cell) (past : List Entry) (n : ℕ) (head : Head) (user : List ℕ) (id time : ℕ) (v : Volume) (es : List Edit) (shown : ℕ) (k : Key) (x : Spot) → (volume_changed call ≡ None → ⊥) → Holds s c past → Change' c past user call id v es shown → call_under k (sent_of past) ≡ Some (user, call) → IsStored x (saved_reply c head time user call id v es shown)
     → Fits sp n call x c.server.boot (saved_reply c head time user call id v es shown) (change_carried time user call id c.server.times v es shown) (saved_entry y k (versions_by id es v) (saved_reply c head time user call id v es shown) ∷ past)
-change_fits sp (calls.StoreData f st p w l b) y s c past n head user id time v es shown k x some H q is =
-    let z = store_fits (calls.StoreData f st p w l b) f y s c past n head user id time v es shown k x _ H q refl (some_of f.volume id q.of_volume) refl in (z.0, (is, z.1))
-change_fits sp (calls.StoreAcl f acl) y s c past n head user id time v es shown k x some H q is =
-    let z = store_fits (calls.StoreAcl f acl) f y s c past n head user id time v es shown k x _ H q refl (some_of f.volume id q.of_volume) refl in (z.0, (is, z.1))
-change_fits sp (calls.StoreStatus f st) y s c past n head user id time v es shown k x some H q is =
-    let z = store_fits (calls.StoreStatus f st) f y s c past n head user id time v es shown k x _ H q refl (some_of f.volume id q.of_volume) refl in (z.0, (is, z.1))
-change_fits sp (calls.RemoveFile d name) y s c past n head user id time v es shown k x some H q is = λ i e. is
-change_fits sp (calls.CreateFile d name st) y s c past n head user id time v es shown k x some H q is = λ i e. is
-change_fits sp (calls.Rename d old d' new) y s c past n head user id time v es shown k x some H q is = λ i e. is
-change_fits sp (calls.Symlink d name target st) y s c past n head user id time v es shown k x some H q is = λ i e. is
-change_fits sp (calls.Link d name f) y s c past n head user id time v es shown k x some H q is = λ i e. is
-change_fits sp (calls.MakeDir d name st) y s c past n head user id time v es shown k x some H q is = λ i e. is
-change_fits sp (calls.RemoveDir d name) y s c past n head user id time v es shown k x some H q is = λ i e. is
-change_fits sp call y s c past n head user id time v es shown k x some H q is = absurd (some refl)
+change_fits sp (calls.StoreData f st p w l b) y s c past n head user id time v es shown k x some H q one is =
+    let z = store_fits (calls.StoreData f st p w l b) f y s c past n head user id time v es shown k x _ H q refl (some_of f.volume id q.of_volume) refl in
+    ((z.0, store_been (calls.StoreData f st p w l b) f y s c past user id time v es shown k (saved_reply c head time user (calls.StoreData f st p w l b) id v es shown) H q one refl (some_of f.volume id q.of_volume) (stamped time (versions_by id es v) c.server.times)), (is, z.1))
+change_fits sp (calls.StoreAcl f acl) y s c past n head user id time v es shown k x some H q one is =
+    let z = store_fits (calls.StoreAcl f acl) f y s c past n head user id time v es shown k x _ H q refl (some_of f.volume id q.of_volume) refl in
+    ((z.0, store_been (calls.StoreAcl f acl) f y s c past user id time v es shown k (saved_reply c head time user (calls.StoreAcl f acl) id v es shown) H q one refl (some_of f.volume id q.of_volume) (stamped time (versions_by id es v) c.server.times)), (is, z.1))
+change_fits sp (calls.StoreStatus f st) y s c past n head user id time v es shown k x some H q one is =
+    let z = store_fits (calls.StoreStatus f st) f y s c past n head user id time v es shown k x _ H q refl (some_of f.volume id q.of_volume) refl in
+    ((z.0, store_been (calls.StoreStatus f st) f y s c past user id time v es shown k (saved_reply c head time user (calls.StoreStatus f st) id v es shown) H q one refl (some_of f.volume id q.of_volume) (stamped time (versions_by id es v) c.server.times)), (is, z.1))
+change_fits sp (calls.RemoveFile d name) y s c past n head user id time v es shown k x some H q one is = λ i e. is
+change_fits sp (calls.CreateFile d name st) y s c past n head user id time v es shown k x some H q one is = λ i e. is
+change_fits sp (calls.Rename d old d' new) y s c past n head user id time v es shown k x some H q one is = λ i e. is
+change_fits sp (calls.Symlink d name target st) y s c past n head user id time v es shown k x some H q one is = λ i e. is
+change_fits sp (calls.Link d name f) y s c past n head user id time v es shown k x some H q one is = λ i e. is
+change_fits sp (calls.MakeDir d name st) y s c past n head user id time v es shown k x some H q one is = λ i e. is
+change_fits sp (calls.RemoveDir d name) y s c past n head user id time v es shown k x some H q one is = λ i e. is
+change_fits sp call y s c past n head user id time v es shown k x some H q one is = absurd (some refl)
 
 -- what a change is answered is a reply with code 0
 pub carried_reply : (x : ℕ) (o : Option FsReply) → IsReply (carried_by x o)
@@ -629,8 +663,13 @@ set_again (calls.StoreAcl f acl) n x z m past newer status some none h = absurd 
 set_again (calls.StoreStatus f st) n x z m past newer status some none h = absurd (none h.1.0.ran)
 set_again call n x z m past newer status some none h = plain_again call x z m some none (volume_changed call) refl h
 
+pub shown_again : (call : FsCall) (sp : Bool) (n : ℕ) (x z : Spot) (m : Message) (past newer : List Entry) (status : AfsFetchStatus) (callback : AfsCallBack) → (volume_changed call ≡ None → ⊥) → (LastStored x → ⊥) → FitsShown sp n x m past status callback call → FitsShown sp n z m newer status callback call
+shown_again (calls.FetchStatus f) sp n x z m past newer status callback some none h = absurd (some refl)
+shown_again call sp n x z m past newer status callback some none h = plain_again call x z m some none (volume_changed call) refl h
+
 pub reply_again : (sp : Bool) (reply : FsReply) (n : ℕ) (call : FsCall) (x z : Spot) (m : Message) (past newer : List Entry) → (volume_changed call ≡ None → ⊥) → (LastStored x → ⊥) → FitsReply sp n call x m past reply → FitsReply sp n call z m newer reply
 reply_again sp (replies.FetchData contents status callback sync) n call x z m past newer some none h = data_again sp call n x z m past newer contents status callback some none h
+reply_again sp (replies.FetchStatus status callback sync) n call x z m past newer some none h = shown_again call sp n x z m past newer status callback some none h
 reply_again sp (replies.StoreData status sync) n call x z m past newer some none h = set_again call n x z m past newer status some none h
 reply_again sp (replies.StoreAcl status sync) n call x z m past newer some none h = set_again call n x z m past newer status some none h
 reply_again sp (replies.StoreStatus status sync) n call x z m past newer some none h = set_again call n x z m past newer status some none h
@@ -769,25 +808,27 @@ saves_holds y s now c past after armed d n h user call time id v es shown H w q 
       own_answers = λ a m f runs z i. saved_answers fl c past e n h user call (spot (caller_view true fl c n h r)) w some a m f runs z i;
       is_reply = carried_reply (time + promise_ticks) (change_reply id (the_user user) (stamped time vs c.server.times) (counted (edited_all id es v)) shown call);
       answer = record {
-        fits = change_fits (c.clients n).spoiled call y s c past n (client_head n h) user id time v es shown k (record { durable = Some (taken n h r); epoch = h.epoch; last = h.number }) some H q (record { ran = record { seat = taken n h r; at = refl; epoch = refl; number = refl }; kept = refl });
+        fits = change_fits (c.clients n).spoiled call y s c past n (client_head n h) user id time v es shown k (record { durable = Some (taken n h r); epoch = h.epoch; last = h.number }) some H q w.one (record { ran = record { seat = taken n h r; at = refl; epoch = refl; number = refl }; kept = refl });
         code = pos 0;
         cause = cause_now c n h user call x (pos 0) (e ∷ past) run w.origin.own_user (carried_code (time + promise_ticks) (change_reply id (the_user user) (stamped time vs c.server.times) (counted (edited_all id es v)) shown call)) (carried_zero call time id user c.server.times v es shown some) (inl (ap code_given result, subst (λ (z : Option Result). IsTold k z (lines_of (e ∷ past))) (sym result) (saves_change y k vs r past)));
       };
       acts = saves_act y n k vs r past;
+      grows = λ f i b z. (saves_grant y n k vs r past f).version i b (lines_of past) z;
       current = λ f u found lasts. let cur : IsCurrent n f u (view fl c n) past = (H.clients n).current f u found lasts in
           record {
             reply = cur.reply;
             boot = cur.boot;
             by = fetch_reply_by (has_fetched (Client n) f e.lines) (given_message e.lines (sent_of past)) (fetch_reply (Client n) f past) (saves_file y n k vs r past f).fetched ∙ cur.by;
-            held = held_over n f u.index u.body u.expiry cur.reply e past (saves_grant y n k vs r past f) cur.held;
-            state = own_stands (is_in_scope call f) y fl c past n h user call vs r f u.index cur.held.grant.server (since (Client n) f u.expiry cur.reply past cur.held.grant) w refl some (scope f u.index u.body cur.held.whole)
+            from = cur.from;
+            held = held_over n f u.index u.status u.body u.expiry cur.reply e past (saves_grant y n k vs r past f) cur.held;
+            state = own_stands (is_in_scope call f) y fl c past n h user call vs r f u.index cur.held.grant.server (since (Client n) f u.expiry cur.reply past cur.held.grant) w refl some (scope f u.index cur.held.whole.is cur.held.whole.told)
                 (λ t. was_changed call y s c past n (client_head n h) user id time v es shown k f cur.held.grant.server (onto (since (Client n) f u.expiry cur.reply past cur.held.grant) e.lines) H q t) (λ z. z u found lasts) (old_withdrawn s c past n f u H cur) cur.state;
           };
       made = λ a runs f o known. made_saved y n k vs r past f (λ z. no_touch' (touches f vs) (λ t. elim (w.acts z a ((H.clients n).runs a runs)) [
         | inl none ↦ some none
         | inr same ↦ elim known [
           | inl reading ↦ some (ap volume_changed same ∙ reading)
-          | inr trusted ↦ o (ap (λ (b : FsCall). is_in_scope b f) (sym same) ∙ scope f trusted.entry.index trusted.entry.body ((H.clients n).current f trusted.entry trusted.found trusted.lasts).held.whole t)
+          | inr trusted ↦ o (ap (λ (b : FsCall). is_in_scope b f) (sym same) ∙ (let whole = ((H.clients n).current f trusted.entry trusted.found trusted.lasts).held.whole in scope f trusted.entry.index whole.is whole.told t))
         ]
       ])) ∙ (H.clients n).made a runs f o known;
       reached = λ f. own_reached y past n k id vs r f grow ((H.clients n).reached f);

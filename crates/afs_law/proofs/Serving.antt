@@ -1,3 +1,5 @@
+use Rattle.afs_num.specs.declared.histories.ReadBody.{ReadBody}
+use Rattle.afs_num.specs.declared.histories.ReadBody.TheVariants as seen
 use Rattle.std.proofs.Common.{◌≡◌, ℕ, ◌+◌, ◌<◌, ◌≤◌, ◌⊎◌, inl, inr, Bool, true, false, cond, nat_eq, List, [], ◌∷◌, ◌++◌, Option, Some, None, ℤ, pos, refl, sym, ap, subst, ◌∙◌, arith, eqb-true}
 use Rattle.std.specs.Prelude as std_result
 use Rattle.afs_num.specs.declared.directories.Name.{Name}
@@ -8,23 +10,23 @@ use Rattle.afs_ideal.specs.Volumes.{type_of, bytes_by, Volume, Vnode, Kind, a_fi
 use Rattle.afs_law.proofs.Backing.{Plain, all_lines, is_up, is_oweless, is_unchanging, granted_over, change_back, promised_over}
 use Rattle.afs_law.proofs.Basics.{Below, UpTo, Above, Each, IfCall, OfReply, above_up, both, same_fid-true, client_number, below_up_to, below_not, up_to_same, own_seat, at_seat, each_map, if_call, some_of}
 use Rattle.afs_law.proofs.Edits.{Ones, index_in, fid_at, Sound, SoundIn, sound_same, Tops, live_index, there}
-use Rattle.afs_law.proofs.Facts.{IsKnown, IsReadable, AreFine, HeldIn, Ghost, HoldsAt, server_boot, up_boot, LastStored, IsActs, View, view_of, view, Spot, spot, LastRan, ReplyFact, IsBehind, AreKept, MayRun, HasFallen, Reached, HasCurrent, Fits, Answers, IsReply, KeptReply, ClientFacts, CallFact, CallIn, Origin, AreHome, AreNew, AreUnheard, Holds, Goes, InScope, IsFetched, FitsReply, AreIdeal, AreSound}
+use Rattle.afs_law.proofs.Facts.{IsBody, back_seat, IsKnown, IsReadable, AreFine, HeldIn, Ghost, HoldsAt, server_boot, up_boot, LastStored, IsActs, View, view_of, view, Spot, spot, LastRan, ReplyFact, IsBehind, AreKept, MayRun, HasFallen, Reached, HasCurrent, Fits, Answers, IsReply, KeptReply, ClientFacts, CallFact, CallIn, Origin, AreHome, AreNew, AreUnheard, Holds, Goes, InScope, IsFetched, FitsReply, AreIdeal, AreSound}
 use Rattle.afs_law.proofs.Loading.{all_promised, all_granted, granted_all, none_loaded, still_backed, known_backed, resent, run_loaded, key_held, no_change, settles_good, settles_backed}
 use Rattle.afs_law.proofs.Notes.{granted_notes, AreNotes, Skips, skips, told_entry, told_rests, noted_entry, noted_rests, settle_notes}
 use Rattle.afs_law.proofs.Ops.{IsShown}
 use Rattle.afs_law.proofs.Owing.{AllOf, BackedIn, IsDone, DroppedOwe, IsGranted, DoneIn, Promised}
-use Rattle.afs_law.proofs.Passing.{stands_over, answers_over, reply_over, kept_over, PassesBoth, PassesFile, PassesAct, PassesReach, stays, current_over, client_still, News, more_sent}
+use Rattle.afs_law.proofs.Passing.{old_over, stands_over, answers_over, reply_over, kept_over, PassesBoth, PassesFile, PassesAct, PassesReach, stays, current_over, client_still, News, more_sent}
 use Rattle.afs_law.proofs.Pumping.{no_news, pumped_news, news_break}
 use Rattle.afs_law.proofs.Resting.{Rests}
 use Rattle.afs_law.proofs.Turning.{loaded, TurnSends, Pumps, pumps, expired_backed, break_good}
 use Rattle.afs_rows.specs.Callbacks.{Backs, Held, Turn, BackCall, replies_of, pumped, expired, turn_for, no_turn, Promise, put, settles, settles_by, is_back_awaited, answered_by, renews, renews_by, noticed_by}
-use Rattle.afs_rows.specs.ClientRow.{names_told, the_server, body_told}
+use Rattle.afs_rows.specs.ClientRow.{names_told, body_told}
 use Rattle.afs_rows.specs.Going.{asked, Going}
-use Rattle.afs_law.specs.Ideal.{is_zero_code, version_in, latest, IsThat, user_of, clock_of, last_version, HasVersion, reach, call_under}
+use Rattle.afs_law.specs.Ideal.{shown_status, Tells, TellsIn, TellsOf, volume_after, is_zero_code, version_in, latest, IsThat, user_of, clock_of, last_version, HasVersion, reach, call_under}
 use Rattle.afs_law.specs.Legal.{code_given, IsResult, AreGood, code_told, Cause, IsTold, answer_at}
 use Rattle.afs_history.specs.declared.lines.Line.{Line}
 use Rattle.afs_law.specs.Past.{IsUnheard, lines_of, sent_of, given_message, called_key, HasCode, IsCallUnder, Ran}
-use Rattle.afs_rows.specs.Runs.{Entry, Cell, message_at, Armed, Fall, server_adds, server_does}
+use Rattle.afs_rows.specs.Runs.{the_server, Entry, Cell, message_at, Armed, Fall, server_adds, server_does}
 use Rattle.afs_rows.specs.ServerRow.{shows, granted_by, read_reply_of, granted, Reading, promise_ticks, refuses, reply_head, replied, told, result}
 use Rattle.afs_rows.specs.States.{Seat, ServerState}
 use Rattle.afs_model.specs.Calls.{call_seated, call_seat}
@@ -97,13 +99,14 @@ Gives s views boot past held sent after = Each (HeldIn views past) (replies_of h
 
 pub noted : (s : Script) (now : Option ℕ) (c : Cell) (past : List Entry) (armed : Armed) (d : Option Fall) (e : Entry) (b : Backs) → (h : Holds s c past) → server_boot the_server (lines_of (e ∷ past)) ≡ now → Rests s e past → clock_of (lines_of (e ∷ past)) ≡ clock_of (lines_of past)
     → AreUnheard d c.server.seats c.server.boot (e ∷ past) → HasFallen d c.server (c.sent ++ e.sent) (e ∷ past) → Gives s (view h.floors c) c.server.boot (e ∷ past) c.backs.held e.sent b.held
-    → (now ≡ up_boot d c.server.boot → BackedIn d b c.server.boot c.server.seats (λ j. (c.clients j).seat) c.clock (c.sent ++ e.sent) (e ∷ past)) → HoldsAt s now (noted_cell c armed d b e.sent) (e ∷ past)
+    → (now ≡ up_boot d c.server.boot → BackedIn d b c.server.boot c.server.seats (λ j. back_seat (c.clients j)) c.clock (c.sent ++ e.sent) (e ∷ past)) → HoldsAt s now (noted_cell c armed d b e.sent) (e ∷ past)
 noted s now c past armed d e b h boots p clock heard fallen gives backs =
     let still_ : (j : ℕ) → ClientFacts s j (view h.floors c j) (e ∷ past) = λ j. client_still j (view h.floors c j) e past (p.file j) (p.reach j) (p.act j) (λ f. p.last f (lines_of past)) (h.clients j) in
     record {
       floors = h.floors;
       count = h.count;
-      tables = h.tables;
+      own = h.own;
+      servers = h.servers;
       ideal = λ id. h.ideal id ∙ sym (p.ideal id);
       fine = h.fine;
       sound = λ id. sound_same id _ (lines_of past) (lines_of (e ∷ past)) (λ m u. p.last (fid_at id m u) (lines_of past)) (h.sound id);
@@ -130,7 +133,7 @@ pub record Turns (s : Script) (views : ℕ → View) (boot : ℕ) (past : List E
   pub held : Each (HeldIn views past) (replies_of t.backs.held)
 
 abbrev pub seats_of : Cell → ℕ → Option Seat
-seats_of c j = (c.clients j).seat
+seats_of c j = back_seat (c.clients j)
 
 -- the facts on breaks behind a step that leaves the seats
 pub record Loads (c : Cell) (past : List Entry) (t : Turn) : Type 0 where
@@ -437,6 +440,7 @@ pub record Serves (good : Bool) (s : Script) (c : Cell) (fl : ℕ → Ghost) (pa
   pub is_reply : IsReply x
   pub answer : Answers (c.clients n).spoiled n call (record { durable = own_durable good (taken n h (replied c.server.boot (client_head n h) x)) (call_seat (Client n) c.server.durable); epoch = h.epoch; last = h.number }) c.server.boot (replied c.server.boot (client_head n h) x) (e ∷ past)
   pub acts : PassesAct n e past
+  pub grows : (f : Fid) (i : ℕ) (b : Body) → HasVersion f i b (lines_of past) → HasVersion f i b (lines_of (e ∷ past))
   pub current : HasCurrent n (caller_view good fl c n h (replied c.server.boot (client_head n h) x)) (e ∷ past)
   pub reached : (f : Fid) → Reached (Client n) f (index_in (last_version f (lines_of (e ∷ past)))) (e ∷ past)
   pub made : (a : Going) → (c.clients n).running ≡ Some a → (f : Fid) → (InScope (asked a) f → ⊥) → IsKnown a c.clock f (c.clients n).cache → (reach (Client n) f (e ∷ past)).made ≡ 0
@@ -494,6 +498,7 @@ caller_after good s c past n h user call x e st H w v =
       idle = λ y. v.acts.runs s (lines_of past) ∙ d.idle y;
       made = v.made;
       current = v.current;
+      old = old_over (c.clients n).cache (lines_of past) (lines_of (e ∷ past)) v.grows d.old;
       runs = λ b y. v.acts.runs s (lines_of past) ∙ d.runs b y;
       asked = λ b y. inr (v.acts.begins, d.asked b y);
       reached = v.reached;
@@ -519,7 +524,8 @@ serves good s b c past n h user call x e st after d armed H w v boots heard fall
     record {
       floors = H.floors;
       count = H.count;
-      tables = H.tables;
+      own = H.own;
+      servers = H.servers;
       ideal = v.ideal;
       fine = v.fine;
       sound = v.sound;
@@ -593,6 +599,7 @@ serves_still s c past n h user call x e H w pf pr pa l ideal home new clock top 
       is_reply = is;
       answer = a;
       acts = pa n;
+      grows = λ f i b y. ((pf n f).grant).version i b (lines_of past) y;
       current = current_same s c past n h r e H (pf n) (pr n) l;
       made = λ a runs f o z. (pr n f).made ((H.clients n).made a runs f o z);
       reached = reached_still s c past n e H (λ f. (pr n f).both) l;
@@ -689,20 +696,25 @@ version_fid f v x e = ap (λ (u : ℕ). fid_at f.volume f.vnode u) (own_unique f
 
 -- the reply of a reading call fits it
 pub shown_fits : (sp : Bool) (n : ℕ) (call : FsCall) (v : Spot) (m : Message) (past : List Entry) (times : Fid → ℕ) (expiry : ℕ) (r : Reading) (shown : Shown) → IsShown call r.volume shown
-    → ((f : Found) → shown ≡ shows_body f → IsFetched sp n f.fid f.vnode.index (body_told (type_of f.vnode.kind) (bytes_by f.vnode.kind f.vnode)) expiry m past)
+    → ((f : Found) (b : Option Body) → granted_by shown ≡ f ∷ [] → IsBody b (body_told (type_of f.vnode.kind) (bytes_by f.vnode.kind f.vnode)) → IsFetched sp n f.fid f.vnode.index (shown_status f.vnode) b expiry m past)
     → FitsReply sp n call v m past (read_reply_of times expiry (record r { shown = shown }))
-shown_fits sp n (calls.FetchData g p w) v m past times expiry r (shows_body f) is h = subst (λ (z : Fid). IsFetched sp n z f.vnode.index (body_told (type_of f.vnode.kind) (bytes_by f.vnode.kind f.vnode)) expiry m past) (sym is.0) (h f refl)
+shown_fits sp n (calls.FetchData g p w) v m past times expiry r (shows_body f) is h = subst (λ (z : Fid). IsFetched sp n z f.vnode.index (shown_status f.vnode) (Some (body_told (type_of f.vnode.kind) (bytes_by f.vnode.kind f.vnode))) expiry m past) (sym is.0) (h f (Some (body_told (type_of f.vnode.kind) (bytes_by f.vnode.kind f.vnode))) refl refl)
 shown_fits sp n (calls.FetchAcl g) v m past times expiry r (shows_acl f) is h = λ id z. absurd cc
-shown_fits sp n (calls.FetchStatus g) v m past times expiry r (shows_status f) is h = λ id z. absurd cc
+shown_fits sp n (calls.FetchStatus g) v m past times expiry r (shows_status f) is h = subst (λ (z : Fid). IsFetched sp n z f.vnode.index (shown_status f.vnode) None expiry m past) (sym is.0) (h f None refl tt)
 shown_fits sp n (calls.GetVolumeStatus k) v m past times expiry r shows_volume is h = λ id z. absurd cc
 shown_fits sp n call v m past times expiry r shown is h = absurd is
 
-pub fid_in : (call : FsCall) (id : ℕ) (v : Volume) (shown : Shown) (f : Found) → volume_called call ≡ Some id → IsShown call v shown → shown ≡ shows_body f → (f.fid.volume ≡ id) × (vnode_of f.fid v ≡ Some f.vnode)
-fid_in (calls.FetchData g p w) id v (shows_body k) f of is e =
-    let same : k ≡ f = body_same k f e in
-    subst (λ (z : Found). (z.fid.volume ≡ id) × (vnode_of z.fid v ≡ Some z.vnode)) same (ap (λ (z : Fid). z.volume) (sym is.0) ∙ some_of g.volume id of, subst (λ (z : Fid). vnode_of z v ≡ Some k.vnode) is.0 is.1)
+pub one_found : (a b : Found) → a ∷ [] ≡ b ∷ [] → a ≡ b
+one_found a b e = cc
+
+pub found_in : (g : Fid) (id : ℕ) (v : Volume) (k f : Found) → Some g.volume ≡ Some id → g ≡ k.fid → vnode_of g v ≡ Some k.vnode → k ∷ [] ≡ f ∷ [] → (f.fid.volume ≡ id) × (vnode_of f.fid v ≡ Some f.vnode)
+found_in g id v k f of is at e =
+    subst (λ (z : Found). (z.fid.volume ≡ id) × (vnode_of z.fid v ≡ Some z.vnode)) (one_found k f e) (ap (λ (z : Fid). z.volume) (sym is) ∙ some_of g.volume id of, subst (λ (z : Fid). vnode_of z v ≡ Some k.vnode) is at)
+
+pub fid_in : (call : FsCall) (id : ℕ) (v : Volume) (shown : Shown) (f : Found) → volume_called call ≡ Some id → IsShown call v shown → granted_by shown ≡ f ∷ [] → (f.fid.volume ≡ id) × (vnode_of f.fid v ≡ Some f.vnode)
+fid_in (calls.FetchData g p w) id v (shows_body k) f of is e = found_in g id v k f of is.0 is.1 e
 fid_in (calls.FetchAcl g) id v (shows_acl k) f of is e = absurd cc
-fid_in (calls.FetchStatus g) id v (shows_status k) f of is e = absurd cc
+fid_in (calls.FetchStatus g) id v (shows_status k) f of is e = found_in g id v k f of is.0 is.1 e
 fid_in (calls.GetVolumeStatus k) id v shows_volume f of is e = absurd cc
 fid_in call id v shown f of is e = absurd is
 
@@ -713,13 +725,17 @@ pub record GrantAt (c : Node) (f : Fid) (x : ℕ) (p : ℕ) (fs : List Found) : 
   pub after : List Line
   pub line : lines.Given p ∷ granted the_server c x fs [] ≡ before ++ lines.Grant the_server c f index x ∷ after
 
-abbrev pub grant_at : (c : Node) (x p : ℕ) (shown : Shown) (f : Found) → shown ≡ shows_body f → GrantAt c f.fid x p (granted_by shown)
+abbrev pub grant_at : (c : Node) (x p : ℕ) (shown : Shown) (f : Found) → granted_by shown ≡ f ∷ [] → GrantAt c f.fid x p (granted_by shown)
 grant_at c x p shown f e = record {
   index = f.vnode.index;
   before = lines.Given p ∷ [];
   after = [];
-  line = ap (λ (z : Shown). lines.Given p ∷ granted the_server c x (granted_by z) []) e;
+  line = ap (λ (fs : List Found). lines.Given p ∷ granted the_server c x fs []) e;
 }
+
+-- what a vnode of the ideal volume shows, it has
+pub is_told : (f : Fid) (index : ℕ) (body : ReadBody) (o : Option Volume) (v : Volume) (x : Vnode) → Some v ≡ o → vnode_of f v ≡ Some x → Tells index body x → TellsOf f index body o
+is_told f index body o v x at found h = subst (TellsOf f index body) at (subst (TellsIn index body) (sym found) h)
 
 pub shows_goes : (s : Script) (c : Cell) (past : List Entry) (armed : Armed) (p n : ℕ) (h : Head) (user : List ℕ) (call : FsCall) (r : Reading) → (H : Holds s c past) → c.down ≡ None → message_at c.sent p ≡ Some (call_at n h user call) → Now s c H.floors past n h user call
     → volume_called call ≡ Some r.id → get r.id c.server.volumes ≡ Some r.volume → IsShown call r.volume r.shown → answer_at user call past ≡ Some (reads r.shown) → Goes s past (server_does c armed p (call_at n h user call) (shows (client_head n h) r))
@@ -746,7 +762,7 @@ shows_goes s c past armed p n h user call r H up at w of there is result =
           (serves_still s c past n h user call z e H w rest.file rest.reach rest.act (λ g. rest.last g (lines_of past)) (λ id. H.ideal id ∙ sym (rest.ideal id)) (λ id v found. rest.home id (lines_of past) (H.home id v found)) (λ key above. rest.new key (lines_of past) (H.new key above)) (k.clock (lines.Given p ∷ lines_of past) ∙ H.clock)
           (λ f i b x. subst (λ (o : Option Version). i ≤ index_in o) (sym (rest.last f (lines_of past))) (H.top f i b (rest.back f i b (lines_of past) x))) (λ f i a b x y. H.one f i a b (rest.back f i a (lines_of past) x) (rest.back f i b (lines_of past) y)) (λ y. y)
           (record {
-            fits = shown_fits (c.clients n).spoiled n call _ m (e ∷ past) c.server.times t r r.shown is (λ f yes.
+            fits = shown_fits (c.clients n).spoiled n call _ m (e ∷ past) c.server.times t r r.shown is (λ f b yes body.
                 let q = fid_in call r.id r.volume r.shown f of is yes in
                 let here : get f.fid.volume c.server.volumes ≡ Some r.volume = ap (λ (i : ℕ). get i c.server.volumes) q.0 ∙ there in
                 let last : last_version f.fid (lines_of past) ≡ Some (version_at f.fid.volume f.fid.vnode f.vnode) = found_last s c past f.fid r.volume f.vnode H here q.1 in
@@ -757,7 +773,12 @@ shows_goes s c past armed p n h user call r H up at w of there is result =
                     grant = record { is_reply = (refl, tt); to = refl; ran = ran_now s c past p n h user call e H up at w refl refl; server = the_server; node = refl; index = g.index; before = g.before; after = g.after; line = g.line };
                     server = refl;
                     kept = λ y d. d;
-                    whole = ((rest.file n f.fid).grant).version f.vnode.index (body_told (type_of f.vnode.kind) (bytes_by f.vnode.kind f.vnode)) (lines_of past) (subst (λ (b : Body). HasVersion f.fid f.vnode.index b (lines_of past)) (sym back) (last_has f.fid (lines_of past) (version_at f.fid.volume f.fid.vnode f.vnode) last));
+                    whole = record {
+                      is = body_told (type_of f.vnode.kind) (bytes_by f.vnode.kind f.vnode);
+                      told = ((rest.file n f.fid).grant).version f.vnode.index (body_told (type_of f.vnode.kind) (bytes_by f.vnode.kind f.vnode)) (lines_of past) (subst (λ (b : Body). HasVersion f.fid f.vnode.index b (lines_of past)) (sym back) (last_has f.fid (lines_of past) (version_at f.fid.volume f.fid.vnode f.vnode) last));
+                      holds = body;
+                      been = inl (is_told f.fid f.vnode.index (seen.Status (shown_status f.vnode)) (volume_after f.fid.volume (e ∷ past)) r.volume f.vnode (sym here ∙ (H.ideal f.fid.volume ∙ sym (rest.ideal f.fid.volume))) q.1 (refl, refl));
+                    };
                     base = lines_of (e ∷ past);
                     split = refl;
                     begun = boots;

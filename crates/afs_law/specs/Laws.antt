@@ -23,6 +23,7 @@ use Rattle.std.specs.Prelude.{◌⊎◌, ◌≤◌, ◌<◌, None, Some, ◌∷�
 use Rattle.afs_num.specs.declared.types.Fid.{Fid}
 use Rattle.afs_num.specs.declared.types.Node.{Node}
 use Rattle.afs_num.specs.declared.scripts.Script.{Script}
+use Rattle.afs_num.specs.declared.histories.Body.{Body}
 use Rattle.afs_num.specs.declared.histories.ReadBody.{ReadBody}
 use Rattle.afs_num.specs.declared.histories.ReadBody.TheVariants as seen
 use Rattle.afs_num.specs.declared.histories.ReadSource.{ReadSource}
@@ -33,9 +34,9 @@ use Rattle.afs_num.specs.declared.calls.FsCall.{FsCall}
 abbrev pub RunsAreLegal : Type 0
 RunsAreLegal = (s : Script) (history : List Entry) (end : Cell) → IsOneServer s → RunsTo history s end → Legal history s
 
--- in every run a key changes something at most once
+-- in every run of such a script a key changes something at most once
 abbrev pub KeysRunOnce : Type 0
-KeysRunOnce = (s : Script) (history : List Entry) (end : Cell) → RunsTo history s end → ChangesOnce history
+KeysRunOnce = (s : Script) (history : List Entry) (end : Cell) → IsOneServer s → RunsTo history s end → ChangesOnce history
 
 -- the same inputs make one run: its entries and its end
 abbrev pub RunsAreOne : Type 0
@@ -68,7 +69,7 @@ PairsAreKnown = (s : Script) (history : List Entry) (end : Cell) → IsOneServer
 abbrev pub TrustedIsGood : Type 0
 TrustedIsGood =
     (s : Script) (history : List Entry) (end : Cell) → IsOneServer s → RunsTo history s end → (j : ℕ) → (end.clients j).running ≡ None → (f : Fid) (e : CacheEntry) → find_cached f (end.clients j).cache ≡ Some e → end.clock < e.expiry
-    → GoodRead (Client j) f e.index Cached (seen.Contents e.body) (past_of (set_up s ∷ []) history) []
+    → ((body : Body) → e.body ≡ Some body → GoodRead (Client j) f e.index Cached (seen.Contents body) (past_of (set_up s ∷ []) history) []) × GoodRead (Client j) f e.index Cached (seen.Status e.status) (past_of (set_up s ∷ []) history) []
 
 -- a good read shows the newest version where no break of its grant is outstanding
 abbrev pub ReadsAreNewest : Type 0

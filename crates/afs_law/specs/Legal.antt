@@ -13,13 +13,14 @@ use Rattle.afs_ideal.specs.Volumes.{Volume, Edit, versions_by}
 use Rattle.afs_law.specs.Breaks.{AllOwes, EndedOf, EndedAll, GoodSettle, GoodQuit, live_grant, HasOwe, last_number}
 use Rattle.afs_rows.specs.Going.{Going, answers, next, asked}
 use Rattle.afs_law.specs.Grants.{read_reply, GrantOf, since, IsWithdrawn, IsDropped}
-use Rattle.afs_law.specs.Ideal.{set_up, IsLast, HasVersion, Accepts, clock_of, user_of, seen, change_in, change_key, call_under, volume_after}
+use Rattle.afs_law.specs.Ideal.{set_up, IsLast, HasBeen, HasVersion, Accepts, clock_of, user_of, seen, change_in, change_key, call_under, volume_after}
 use Rattle.afs_history.specs.declared.lines.Line.{Line}
 use Rattle.afs_law.specs.Past.{lines_of, sent_of, given_message, answered_key, IsReply, running, has_begun, Called, CalledSince, Ran}
 use Rattle.afs_rows.specs.Runs.{Entry}
 use Rattle.afs_num.specs.declared.scripts.Script.{Script}
 use Rattle.afs_num.specs.declared.histories.Actor.{Actor}
 use Rattle.afs_num.specs.declared.histories.Actor.TheVariants as actors
+use Rattle.afs_num.specs.declared.histories.Body.{Body}
 use Rattle.afs_num.specs.declared.histories.ReadBody.{ReadBody}
 use Rattle.afs_num.specs.declared.histories.ReadBody.TheVariants as shows
 use Rattle.afs_num.specs.declared.histories.ReadSource.{ReadSource}
@@ -34,15 +35,19 @@ use Rattle.afs_history.specs.declared.lines.Line.TheVariants as lines
 
 -- ---- reads
 
--- what a read shows is a version of this index. No client reads a status or rights yet
-abbrev pub Shows : Fid → ℕ → ReadBody → List Line → Type 0
-Shows f index (shows.Contents body) ls = HasVersion f index body ls
-Shows f index body ls = ⊥
+-- a version of this index was told, whatever its body
+abbrev pub HasIndex : Fid → ℕ → List Line → Type 0
+HasIndex f index ls = (body : Body) × HasVersion f index body ls
+
+-- what a read shows is that of a version: its body, or what its vnode had beside it
+abbrev pub Shows : Fid → ℕ → ReadBody → List Entry → List Line → Type 0
+Shows f index (shows.Contents body) past own = HasVersion f index body (own ++ lines_of past)
+Shows f index body past own = HasIndex f index (own ++ lines_of past) × HasBeen f index body past
 
 -- a read is whole: it shows a version; it is not older than any that the client has seen; and it is the newest unless its
 -- grant, which lasts and was not given up, was withdrawn
 pub record GoodRead (c : Node) (f : Fid) (index : ℕ) (source : ReadSource) (body : ReadBody) (past : List Entry) (own : List Line) : Type 0 where
-  pub whole : Shows f index body (own ++ lines_of past)
+  pub whole : Shows f index body past own
   pub not_older : seen c f past own ≤ index
   pub reply : Message
   pub by : read_reply c f source past own ≡ Some reply

@@ -5,19 +5,21 @@ use Rattle.afs_history.specs.declared.acts.Act.{Act}
 use Rattle.afs_history.specs.declared.acts.Operand.{Operand}
 use Rattle.afs_history.specs.declared.acts.Path.{Path}
 use Rattle.afs_history.specs.declared.acts.Operand.TheVariants as operands
-use Rattle.afs_rows.specs.States.{CacheEntry, Location, Seat}
+use Rattle.afs_rows.specs.States.{CacheEntry, Gift, KnownBoot, Location, Seat}
 use Rattle.afs_history.specs.declared.acts.Act.TheVariants as acts
-use Rattle.std.specs.Prelude.{ℕ, zero, suc, ◌+◌, List, [], ◌∷◌, ◌++◌, Bool, true, false, not, ◌&&◌, ◌||◌, Option, Some, None, pos, nat_eq, find, length, if◌then◌else◌}
+use Rattle.std.specs.Prelude.{ℕ, zero, suc, ◌+◌, List, [], ◌∷◌, ◌++◌, Bool, true, false, not, ◌&&◌, ◌||◌, Option, Some, None, pos, nat_eq, find, map, take, length, if◌then◌else◌}
 use Rattle.std.specs.Option.{option_map}
 use Rattle.std.specs.Str.{bytes_eq}
 use Rattle.afs_num.specs.Fids.{same_fid}
 use Rattle.afs_num.specs.declared.types.Fid.{Fid}
+use Rattle.afs_num.specs.declared.types.Node.{Node}
 use Rattle.afs_num.specs.declared.calls.AfsStoreStatus.{AfsStoreStatus}
 use Rattle.afs_num.specs.declared.calls.FsCall.{FsCall}
 use Rattle.afs_num.specs.declared.calls.FsCall.TheVariants as calls
 use Rattle.afs_num.specs.declared.histories.Body.{Body}
 use Rattle.afs_num.specs.declared.histories.Body.TheVariants as bodies
 use Rattle.afs_num.specs.declared.histories.ReadBody.{ReadBody}
+use Rattle.afs_num.specs.declared.histories.ReadStatus.{ReadStatus}
 use Rattle.afs_num.specs.declared.histories.ReadBody.TheVariants as seen
 
 -- the number of the volume of an act's first operand, and of its second; none where it has none, or the client doesn't know it
@@ -35,33 +37,75 @@ pub record Going : Type 0 where
   pub homes : Homes
   pub reads : List Shown
 
--- what an act needs next: to read this, to call this, or to answer
+-- What an act needs next: the body, the status, or the rights of this fid, or the status of each of these; this call; to give its
+-- promises back; or to answer
 pub data Need : Type 0 where
   reads : Fid → Need
+  reads_status : Fid → Need
+  reads_statuses : List Fid → Need
+  reads_rights : Fid → Need
   asks_for : FsCall → Need
+  gives_back : Need
   answers : ℕ → Need
 
 -- ---- reads. They are taken in their order; one of another fid, or that shows something else, is passed over
 
-pub record Taken : Type 0 where
-  pub body : Body
+-- what was found, and the reads behind it
+pub record Taken (A : Type 0) : Type 0 where
+  pub found : A
   pub rest : List Shown
 
-abbrev pub taken_by : Bool → ReadBody → List Shown → Option Taken → Option Taken
-taken_by true (seen.Contents body) rest later = Some (record { body = body; rest = rest })
-taken_by b body rest later = later
+abbrev pub taken_body : Bool → ReadBody → List Shown → Option (Taken Body) → Option (Taken Body)
+taken_body true (seen.Contents body) rest later = Some (record { found = body; rest = rest })
+taken_body b body rest later = later
 
-abbrev pub first_of : Fid → List Shown → Option Taken
-first_of f [] = None
-first_of f (r ∷ rs) = taken_by (same_fid r.fid f) r.body rs (first_of f rs)
+abbrev pub first_body : Fid → List Shown → Option (Taken Body)
+first_body f [] = None
+first_body f (r ∷ rs) = taken_body (same_fid r.fid f) r.body rs (first_body f rs)
 
-abbrev pub by_read : Fid → (Body → List Shown → Need) → Option Taken → Need
-by_read f more None = reads f
-by_read f more (Some t) = more t.body t.rest
+abbrev pub taken_status : Bool → ReadBody → List Shown → Option (Taken ReadStatus) → Option (Taken ReadStatus)
+taken_status true (seen.Status status) rest later = Some (record { found = status; rest = rest })
+taken_status b body rest later = later
 
--- this fid is read, and then this is needed
+abbrev pub first_status : Fid → List Shown → Option (Taken ReadStatus)
+first_status f [] = None
+first_status f (r ∷ rs) = taken_status (same_fid r.fid f) r.body rs (first_status f rs)
+
+abbrev pub has_rights_by : Bool → ReadBody → Bool → Bool
+has_rights_by true (seen.AccessList text) later = true
+has_rights_by b body later = later
+
+abbrev pub has_rights : Fid → List Shown → Bool
+has_rights f [] = false
+has_rights f (r ∷ rs) = has_rights_by (same_fid r.fid f) r.body (has_rights f rs)
+
+abbrev pub by_body : Fid → (Body → List Shown → Need) → Option (Taken Body) → Need
+by_body f more None = reads f
+by_body f more (Some t) = more t.found t.rest
+
+-- the body of this fid is read, and then this is needed
 abbrev pub reading : Fid → List Shown → (Body → List Shown → Need) → Need
-reading f rs more = by_read f more (first_of f rs)
+reading f rs more = by_body f more (first_body f rs)
+
+abbrev pub by_status : Fid → Option (Taken ReadStatus) → Need
+by_status f None = reads_status f
+by_status f (Some t) = answers 0
+
+-- this status is read, and nothing more is needed
+abbrev pub reading_status : Fid → List Shown → Need
+reading_status f rs = by_status f (first_status f rs)
+
+abbrev pub by_statuses : List Fid → (List Shown → Need) → Option (Taken ReadStatus) → Need
+by_statuses all more None = reads_statuses all
+by_statuses all more (Some t) = more t.rest
+
+-- the status of each of these is read, where they are the last of `all`
+abbrev pub reading_statuses : List Fid → List Fid → List Shown → Need
+reading_statuses all [] rs = answers 0
+reading_statuses all (f ∷ fs) rs = by_statuses all (reading_statuses all fs) (first_status f rs)
+
+abbrev pub reading_rights : Fid → List Shown → Need
+reading_rights f rs = if has_rights f rs then answers 0 else reads_rights f
 
 -- ---- walks
 
@@ -145,6 +189,18 @@ by_kind file directory link b = answers link
 abbrev pub shows : ℕ → ℕ → ℕ → Option ℕ → Operand → List Shown → Need
 shows file directory link home o rs = to_object home o rs (λ f rest. reading f rest (λ b later. by_kind file directory link b))
 
+-- the status of so many names at most is shown
+abbrev pub most_shown : ℕ
+most_shown = 50
+
+-- the first of a directory's names, in byte order
+abbrev pub named_first : ℕ → List Name → List Fid
+named_first volume names = map (fid_of volume) (take most_shown names)
+
+abbrev pub statuses_in : ℕ → List Shown → Body → Need
+statuses_in volume rs (bodies.Dir names) = reading_statuses (named_first volume names) (named_first volume names) rs
+statuses_in volume rs b = answers 20
+
 abbrev pub nothing_set : AfsStoreStatus
 nothing_set = record { mask = 0; client_mod_time = 0; owner = 0; group = 0; unix_mode_bits = 0; seg_size = 0 }
 
@@ -173,8 +229,8 @@ act_needs h (acts.Remove p) rs = to_parent h.first p rs (λ d name rest. asks_fo
 act_needs h (acts.RemoveDirectory p) rs = to_parent h.first p rs (λ d name rest. asks_for (calls.RemoveDir d name))
 act_needs h (acts.Move p q) rs = if (is_root p || is_root q) then answers 22 else to_parent h.first p rs (λ d old rest. to_parent h.second q rest (λ e new later. of_one d e (asks_for (calls.Rename d old e new))))
 act_needs h (acts.Link p q) rs = if is_root q then answers 22 else to_object h.first (operands.Path p) rs (λ f rest. to_parent h.second q rest (λ d name later. of_one f d (asks_for (calls.Link d name f))))
+act_needs h (acts.Stat o) rs = to_object h.first o rs (λ f rest. reading_status f rest)
 -- these come later
-act_needs h (acts.Stat o) rs = answers no_entry
 act_needs h (acts.StatAll o) rs = answers no_entry
 act_needs h (acts.GetAccessList o) rs = answers no_entry
 act_needs h acts.GiveUp rs = answers 0
@@ -182,7 +238,7 @@ act_needs h acts.GiveUp rs = answers 0
 abbrev pub next : Going → Need
 next g = act_needs g.homes g.act g.reads
 
--- the most reads of an act: each directory of its paths, and an object
+-- the most reads of an act that its cache may show: each directory of its paths, and an object
 abbrev pub reads_to : Operand → ℕ
 reads_to (operands.Path p) = length p.names + 1
 reads_to (operands.Fid f) = 1
@@ -201,14 +257,19 @@ reads_of (acts.Remove p) = length p.names
 reads_of (acts.RemoveDirectory p) = length p.names
 reads_of (acts.Move p q) = length p.names + length q.names
 reads_of (acts.Link p q) = length p.names + length q.names
-reads_of (acts.Stat o) = 0
-reads_of (acts.StatAll o) = 0
-reads_of (acts.GetAccessList o) = 0
+reads_of (acts.Stat o) = reads_to o
+reads_of (acts.StatAll o) = reads_to o
+reads_of (acts.GetAccessList o) = reads_to o
 reads_of acts.GiveUp = 0
 
+-- the call for it; which promises are given back no need tells
 abbrev pub call_for : Need → FsCall
 call_for (reads f) = calls.FetchData f (pos 0) (pos 2147483647)
+call_for (reads_status f) = calls.FetchStatus f
+call_for (reads_statuses fs) = calls.BulkStatus fs
+call_for (reads_rights f) = calls.FetchAcl f
 call_for (asks_for c) = c
+call_for gives_back = calls.GiveUpCallBacks [] []
 call_for (answers code) = calls.GetTime
 
 abbrev pub asked : Going → FsCall
@@ -259,13 +320,24 @@ abbrev pub read_on : Bool → Fid → ReadBody → Option Going → Option Going
 read_on true f body o = option_map (with_read f body) o
 read_on false f body o = o
 
+-- ---- a client
+
+-- Its epoch and the number of its last call in it; its user; how many entries its cache may have; where volumes are, and the boot
+-- numbers of servers, as it knows them; the servers that call it; its cache, the entry that was used last first. Of the act that
+-- runs: how often it was told to wait; whom its unanswered call is for, how often that was timed out, and whether a break spoils
+-- the reply; and the promises that it gives back still, the server of the first first.
 pub record ClientState : Type 0 where
   pub epoch : ℕ
   pub last : ℕ
-  pub boot : ℕ
-  pub tries : ℕ
+  pub user : List ℕ
+  pub capacity : ℕ
   pub table : List Location
-  pub running : Option Going
+  pub boots : List KnownBoot
+  pub seats : List Seat
   pub cache : List CacheEntry
+  pub running : Option Going
+  pub busy : ℕ
+  pub callee : Node
+  pub tries : ℕ
   pub spoiled : Bool
-  pub seat : Option Seat
+  pub gifts : List Gift

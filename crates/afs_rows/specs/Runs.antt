@@ -4,14 +4,14 @@ use Rattle.afs_ideal.specs.Tables.{Table, get, set}
 use Rattle.afs_ideal.specs.Volumes.{Volume}
 use Rattle.afs_history.specs.declared.acts.Act.{Act}
 use Rattle.afs_rows.specs.Callbacks.{put, Backs, BackCall, Turn, expired, turned_by, timed, pumped, no_turn, risen_turn, first_backs}
-use Rattle.afs_rows.specs.ClientRow.{the_server, begin_row, client_row, timeout_row, reborn}
+use Rattle.afs_rows.specs.ClientRow.{begin_row, client_row, timeout_row, new_client, reborn}
 use Rattle.afs_rows.specs.Going.{ClientState, Going}
 use Rattle.afs_history.specs.declared.lines.Line.{Line}
 use Rattle.afs_rows.specs.Records.{first_record, record_length, boot_record}
 use Rattle.afs_rows.specs.ServerRow.{Begun, begun_before, begun_after, Decision, decides, does, device_calls, has_room, revived}
 use Rattle.afs_rows.specs.States.{Location, ServerState}
 use Rattle.afs_rows.specs.Steps.{Step}
-use Rattle.std.specs.Prelude.{Result, Ok, Err, is_some, ◌≡◌, ℕ, zero, suc, ◌+◌, ◌-◌, List, [], ◌∷◌, ◌++◌, Bool, true, false, cond, nat_eq, nat_lt, map, Option, Some, None, if◌then◌else◌}
+use Rattle.std.specs.Prelude.{Result, Ok, Err, is_some, ◌≡◌, ℕ, zero, suc, ◌+◌, ◌-◌, List, [], ◌∷◌, ◌++◌, Bool, true, false, cond, nat_eq, nat_lt, map, codes, Option, Some, None, if◌then◌else◌}
 use Rattle.std.specs.Option.{option_map}
 use Rattle.afs_num.specs.declared.types.Node.{Node}
 use Rattle.afs_num.specs.declared.types.Node.TheVariants.{Loc, Server, Client, Admin}
@@ -101,6 +101,10 @@ pub data Outcome : Type 0 where
   fails_early : Outcome
   fails_midway : Outcome
   is_full : Outcome
+
+-- the one server of the cell
+abbrev pub the_server : Node
+the_server = Server 1
 
 -- the server and whether it is down (its state is then that from before the interrupted step), how its disk is set, the
 -- clients by their numbers and which of them are down, all messages ever sent, and the clock
@@ -328,15 +332,27 @@ first_volumes (v ∷ vs) = unless_there (is_some (get v.id (first_volumes vs))) 
 abbrev pub first_server : Table Volume → ServerState
 first_server volumes = record { boot = 1; volumes = volumes; times = λ f. 0; seats = []; durable = []; journal = 1 + record_length (first_record (λ f. 0) volumes); capacity = 268435456 }
 
-abbrev pub location_of : VolumeLine → Location
-location_of v = record { name = v.name; id = v.id }
+abbrev pub location_by : VolumeLine → Node → List Location → List Location
+location_by v (Server n) ls = record { name = v.name; id = v.id; server = n } ∷ ls
+location_by v node ls = ls
 
--- what clients know of the script's volumes
+abbrev pub locations_in : List VolumeLine → List Location
+locations_in [] = []
+locations_in (v ∷ vs) = location_by v v.server (locations_in vs)
+
+-- what clients know of the script's volumes, each at a server
 abbrev pub locations : Script → List Location
-locations s = map location_of s.volumes
+locations s = locations_in s.volumes
 
-abbrev pub first_client : List Location → ClientState
-first_client table = record { epoch = 1; last = 0; boot = 1; tries = 0; table = table; running = None; cache = []; spoiled = false; seat = None }
+-- the most entries of each cache, and the user of each client
+abbrev pub cache_size : Script → ℕ
+cache_size s = 64
+
+abbrev pub user_at : Script → ℕ → List ℕ
+user_at s n = codes "guest"
+
+abbrev pub first_client : Script → ℕ → ClientState
+first_client s n = new_client 1 (cache_size s) (user_at s n) (locations s)
 
 abbrev pub start : Script → Cell
 start s = record {
@@ -345,7 +361,7 @@ start s = record {
   count = s.clients;
   down = None;
   armed = unarmed;
-  clients = λ n. first_client (locations s);
+  clients = first_client s;
   away = λ n. false;
   sent = [];
   clock = 0;
