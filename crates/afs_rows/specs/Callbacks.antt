@@ -15,10 +15,12 @@ use Rattle.afs_num.specs.declared.messages.Carried.{Carried}
 use Rattle.afs_num.specs.declared.messages.Carried.TheVariants as carried
 use Rattle.afs_num.specs.declared.messages.Call.TheVariants as ask
 use Rattle.afs_num.specs.declared.messages.Message.{Message}
+use Rattle.afs_num.specs.declared.messages.Received.{Received}
+use Rattle.afs_num.specs.declared.messages.Received.TheVariants.{Nothing, Unserved, Unreadable, Whole}
 use Rattle.afs_ideal.specs.Operations.{Found}
 use Rattle.afs_history.specs.declared.lines.Line.{Line}
-use Rattle.afs_rows.specs.ServerRow.{Decision, drops, tells_boot, repeats, refuses, shows, saves, made, granted_by, granted_in, change_reply_to, read_reply_to, refusal, boot_told, promise_ticks}
-use Rattle.afs_rows.specs.States.{Seat, ServerState}
+use Rattle.afs_rows.specs.ServerRow.{Decision, drops, tells_boot, repeats, refuses, shows, saves, made, granted_in, change_reply_to, read_reply_to, refusal, boot_told, promise_ticks}
+use Rattle.afs_rows.specs.States.{Promise, Owed, BackCall, Held, Backs, Seat, ServerState}
 use Rattle.afs_model.specs.Calls.{call_seat}
 use Rattle.afs_history.specs.declared.lines.Line.TheVariants as lines
 use Rattle.afs_num.specs.declared.histories.Version.{Version}
@@ -26,41 +28,6 @@ use Rattle.afs_num.specs.declared.histories.Version.{Version}
 -- a map from numbers, changed at one
 abbrev pub put : {A : Type 0} → ℕ → A → (ℕ → A) → ℕ → A
 put n x h j = cond (nat_eq n j) x (h j)
-
-pub record Promise : Type 0 where
-  pub client : ℕ
-  pub fid : Fid
-  pub expiry : ℕ
-
--- an owed break, on a fid or on all
-pub record Owed : Type 0 where
-  pub number : ℕ
-  pub client : ℕ
-  pub what : Option Fid
-  pub expiry : ℕ
-
--- the server's unanswered call to a client, and the breaks that it carries
-pub record BackCall : Type 0 where
-  pub number : ℕ
-  pub tries : ℕ
-  pub breaks : List Owed
-
--- a reply that goes out once no break of these numbers is owed
-pub record Held : Type 0 where
-  pub reply : Message
-  pub waits : List ℕ
-
--- What a server has in memory beside its seats: promises and owed breaks, from the oldest, and
--- the last number of one; the last number of its own calls in this boot, its unanswered calls, and the boot numbers of the
--- clients as it knows them; and the replies that wait
-pub record Backs : Type 0 where
-  pub promises : List Promise
-  pub owed : List Owed
-  pub last_owed : ℕ
-  pub last_call : ℕ
-  pub calls : ℕ → Option BackCall
-  pub known : ℕ → ℕ
-  pub held : List Held
 
 -- each step begins with this
 abbrev pub expired : ℕ → Backs → Backs
@@ -83,6 +50,11 @@ with_promise n expiry f ps = filter (λ p. not (is_promise n f p)) ps ++ record 
 abbrev pub with_promises : ℕ → ℕ → List Found → List Promise → List Promise
 with_promises n expiry [] ps = ps
 with_promises n expiry (f ∷ fs) ps = with_promises n expiry fs (with_promise n expiry f.fid ps)
+
+-- the client gives up its promises on these fids
+abbrev pub without_promises : ℕ → List Fid → List Promise → List Promise
+without_promises n [] ps = ps
+without_promises n (f ∷ fs) ps = without_promises n fs (filter (λ p. not (is_promise n f p)) ps)
 
 -- a change of the fid by this client withdraws the promise
 abbrev pub is_hit : ℕ → Fid → Promise → Bool
@@ -173,20 +145,20 @@ repeats_by b reply false false = record { backs = b; lines = []; sent = []; outs
 
 abbrev pub turn_for : Node → ServerState → ℕ → Backs → Decision → Turn
 turn_for me s clock b drops = no_turn b
-turn_for me s clock b (tells_boot head) = record { backs = b; lines = []; sent = boot_told s.boot head ∷ []; outs = [] }
-turn_for me s clock b (repeats reply) = repeats_by b reply (is_held (key_answered reply) b.held) (is_seat_of reply (call_seat reply.head.to s.durable))
-turn_for me s clock b (refuses head code) = record { backs = b; lines = []; sent = []; outs = record { reply = refusal s.boot head code; waits = [] } ∷ [] }
+turn_for me s clock b (tells_boot head) = record { backs = b; lines = []; sent = boot_told s.lasting.boot head ∷ []; outs = [] }
+turn_for me s clock b (repeats reply) = repeats_by b reply (is_held (key_answered reply) b.held) (is_seat_of reply (call_seat reply.head.to s.lasting.kept))
+turn_for me s clock b (refuses head code) = record { backs = b; lines = []; sent = []; outs = record { reply = refusal s.lasting.boot head code; waits = [] } ∷ [] }
 turn_for me s clock b (shows head r) = record {
-  backs = record b { promises = with_promises (caller head.from) (clock + promise_ticks) (granted_by r.shown) b.promises };
+  backs = record b { promises = with_promises (caller head.from) (clock + promise_ticks) r.granted (without_promises (caller head.from) r.given_up b.promises) };
   lines = [];
   sent = [];
-  outs = record { reply = read_reply_to s.boot head s.times (clock + promise_ticks) r; waits = [] } ∷ [];
+  outs = record { reply = read_reply_to s.lasting.boot head (clock + promise_ticks) r; waits = [] } ∷ [];
 }
 turn_for me s clock b (saves head c) = record {
   backs = record (withdraws (caller head.from) (made c) b) { promises = with_promises (caller head.from) (clock + promise_ticks) (granted_in c) (left (caller head.from) (made c) b.promises) };
   lines = map (owe_line me) (new_owes (caller head.from) (made c) b);
   sent = [];
-  outs = record { reply = change_reply_to s.boot head clock s.times c; waits = numbers (new_owes (caller head.from) (made c) b) ++ alls b.owed } ∷ [];
+  outs = record { reply = change_reply_to s.lasting.boot head clock c; waits = numbers (new_owes (caller head.from) (made c) b) ++ alls b.owed } ∷ [];
 }
 
 -- ---- the server's own calls
@@ -315,8 +287,15 @@ noticed_by me boot head n b = no_turn b
 abbrev pub turned_by : Node → ServerState → ℕ → Backs → Decision → Head → Carried → Turn
 turned_by me s clock b d head (carried.Call user call) = turn_for me s clock b d
 turned_by me s clock b d head (carried.Refusal code) = no_turn b
-turned_by me s clock b d head (carried.Reply reply) = answered_by me s.boot head head.from b
-turned_by me s clock b d head carried.Notice = noticed_by me s.boot head head.from b
+turned_by me s clock b d head (carried.Reply reply) = answered_by me s.lasting.boot head head.from b
+turned_by me s clock b d head carried.Notice = noticed_by me s.lasting.boot head head.from b
+
+-- and one of which no more than the header can be read
+abbrev pub turned_in : Node → ServerState → ℕ → Backs → Decision → Received → Turn
+turned_in me s clock b d Nothing = no_turn b
+turned_in me s clock b d (Unserved head) = turn_for me s clock b d
+turned_in me s clock b d (Unreadable head) = turn_for me s clock b d
+turned_in me s clock b d (Whole m) = turned_by me s clock b d m.head m.carried
 
 -- ---- its timeouts: the third gives the breaks up
 
