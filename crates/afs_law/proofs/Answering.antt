@@ -176,7 +176,7 @@ begun_calls s c past n act h none =
     let y : ClientState = record x { last = x.last + 1; tries = 0; running = Some w.act; spoiled = false; cache = w.cache } in
     let ms : List Message = call_message (Client n) (asking x w.act) w.act ∷ [] in
     let e : Entry = step_entry n (ls ++ []) ms in
-    let g : Ghost = record { floor = c.server.boot; held = (h.floors n).held } in
+    let g : Ghost = record { floor = c.server.lasting.boot; held = (h.floors n).held } in
     let v : View = view_after c n g y in
     let not : LastRan v → ⊥ = λ ran. next_not _ _ _ _ (d.behind_durable ran.seat ran.at) ran.epoch ran.number in
     let at : running s (Client n) (onto (lines_of past) (ls ++ [])) ≡ Some w.act = ap (λ (os : List Line). running s (Client n) (onto (lines_of past) os)) (append-nil ls) ∙ W.runs in
@@ -240,7 +240,7 @@ pub record Due (c : Cell) (fl : ℕ → Ghost) (past : List Entry) (n p : ℕ) (
   pub number : m.head.number ≡ (c.clients n).last
   pub fact : ReplyFact n (view fl c n) past m
   pub key : answered_key m.head ≡ last_key n (view fl c n)
-  pub answers : Answers (c.clients n).spoiled n (asked act) (spot (view fl c n)) c.server.boot m past
+  pub answers : Answers (c.clients n).spoiled n (asked act) (spot (view fl c n)) c.server.lasting.boot m past
   pub heard : Heard c p m
   pub at : message_at (sent_of past) p ≡ Some m
 
@@ -296,13 +296,13 @@ abbrev pub holding : (ℕ → Ghost) → ℕ → ℕ → Ghost
 holding fl n held = record { floor = (fl n).floor; held = held }
 
 -- what a client holds that waited for a reply of an older boot
-pub old_held : (s : Script) (c : Cell) (past : List Entry) (n : ℕ) (act : Going) (m : Message) (held : ℕ) → (h : Holds s c past) → {p : ℕ} → Due c h.floors past n p act m → held ≡ (h.floors n).held → m.head.boot < c.server.boot → held < c.server.boot
+pub old_held : (s : Script) (c : Cell) (past : List Entry) (n : ℕ) (act : Going) (m : Message) (held : ℕ) → (h : Holds s c past) → {p : ℕ} → Due c h.floors past n p act m → held ≡ (h.floors n).held → m.head.boot < c.server.lasting.boot → held < c.server.lasting.boot
 old_held s c past n act m held h {p} d same l =
     let a : (h.floors n).held ≤ (h.floors n).floor = (h.clients n).waits act d.running in
     let b : (h.floors n).floor ≤ m.head.boot = d.fact.recent d.epoch d.number in
     omega arith
 
-pub below_boot : (s : Script) (c : Cell) (past : List Entry) (n : ℕ) (act : Going) (m : Message) (head : Head) → (h : Holds s c past) → {p : ℕ} → Due c h.floors past n p act m → head.epoch ≡ (c.clients n).epoch → head.number ≡ (c.clients n).last → Above (call_seat (Client n) c.server.seats) head.epoch head.number → m.head.boot < c.server.boot
+pub below_boot : (s : Script) (c : Cell) (past : List Entry) (n : ℕ) (act : Going) (m : Message) (head : Head) → (h : Holds s c past) → {p : ℕ} → Due c h.floors past n p act m → head.epoch ≡ (c.clients n).epoch → head.number ≡ (c.clients n).last → Above (call_seat (Client n) c.server.seats) head.epoch head.number → m.head.boot < c.server.lasting.boot
 below_boot s c past n act m head h {p} d e k above = elim (eq-or-lt_of_le d.fact.booted) [
   | inl same ↦ absurd (d.fact.tied same (subst (λ (x : ℕ). Above (call_seat (Client n) c.server.seats) x m.head.number) (e ∙ sym d.epoch) (subst (λ (x : ℕ). Above (call_seat (Client n) c.server.seats) head.epoch x) (k ∙ sym d.number) above)))
   | inr l ↦ l
@@ -319,7 +319,7 @@ ended_calls s c past n p act m cache held h d w head call f = record {
   safe = λ q above. elim (up_to_by _ _ _ _ f.behind) [
     | inl l ↦ absurd (stale_none h.floors c past n head call m f q above d.fact d.epoch d.number l)
     | inr same ↦ subst (λ (x : FsCall). IsSafe c.clock (c.clients n).epoch (c.clients n).last None cache (IsAged (view_after c n (holding h.floors n held) (ended (c.clients n) cache)) head) head x) (sym (f.own act d.running same.0 same.1))
-        (ended_safe (c.clients n).spoiled n (asked act) (spot (view h.floors c n)) c.server.boot m m.carried past c.clock (c.clients n).epoch (c.clients n).last cache (IsAged (view_after c n (holding h.floors n held) (ended (c.clients n) cache)) head) head d.answers.fits (not_ran (view h.floors c n) head.epoch head.number ((h.clients n).lower head.epoch head.number above) f.behind)
+        (ended_safe (c.clients n).spoiled n (asked act) (spot (view h.floors c n)) c.server.lasting.boot m m.carried past c.clock (c.clients n).epoch (c.clients n).last cache (IsAged (view_after c n (holding h.floors n held) (ended (c.clients n) cache)) head) head d.answers.fits (not_ran (view h.floors c n) head.epoch head.number ((h.clients n).lower head.epoch head.number above) f.behind)
         (λ code is. (old_held s c past n act m held h d (w code is) (below_boot s c past n act m head h d same.0 same.1 above), λ a y. absurd cc)))
   ];
 }
@@ -327,7 +327,7 @@ ended_calls s c past n p act m cache held h d w head call f = record {
 pub ended_reply : (s : Script) (c : Cell) (past : List Entry) (n : ℕ) (cache : List CacheEntry) (held : ℕ) (e : Entry) → (h : Holds s c past) → (m : Message) → ReplyFact n (view h.floors c n) past m → ReplyFact n (view_after c n (holding h.floors n held) (ended (c.clients n) cache)) (e ∷ past) m
 ended_reply s c past n cache held e h m f = idle_reply n (view h.floors c n) (view_after c n (holding h.floors n held) (ended (c.clients n) cache)) past (e ∷ past) m refl refl refl refl refl refl refl f
 
-pub ended_facts : (s : Script) (c : Cell) (past : List Entry) (n : ℕ) (cache : List CacheEntry) (held : ℕ) (e : Entry) → (h : Holds s c past) → held ≤ c.server.boot → running s (Client n) (lines_of (e ∷ past)) ≡ None → HasCurrent n (view_after c n (holding h.floors n held) (ended (c.clients n) cache)) (e ∷ past) → ((f : Fid) → Reached (Client n) f (index_in (last_version f (lines_of (e ∷ past)))) (e ∷ past))
+pub ended_facts : (s : Script) (c : Cell) (past : List Entry) (n : ℕ) (cache : List CacheEntry) (held : ℕ) (e : Entry) → (h : Holds s c past) → held ≤ c.server.lasting.boot → running s (Client n) (lines_of (e ∷ past)) ≡ None → HasCurrent n (view_after c n (holding h.floors n held) (ended (c.clients n) cache)) (e ∷ past) → ((f : Fid) → Reached (Client n) f (index_in (last_version f (lines_of (e ∷ past)))) (e ∷ past))
     → ClientFacts s n (view_after c n (holding h.floors n held) (ended (c.clients n) cache)) (e ∷ past)
 ended_facts s c past n cache held e h le idle cur r =
     let d = h.clients n in
@@ -369,7 +369,7 @@ pub refused_stands : (s : Script) (c : Cell) (past : List Entry) (n p : ℕ) (ac
 refused_stands s c past n p act head code e f u h d cur r g stay (inl a) = inl (record { reached = r u.index a.reached; newest = stay _ u.index _ cur.held.server a.newest; before = λ y x sc ran. absurd cc })
 refused_stands s c past n p act head code e f u h d cur r g stay (inr o) =
     let m : Message = record { head = head; carried = carried.Refusal code } in
-    let l : m.head.boot < c.server.boot = d.answers.fits.1 o.ran in
+    let l : m.head.boot < c.server.lasting.boot = d.answers.fits.1 o.ran in
     inl (record { reached = r u.index o.was; newest = inl (g.withdrawn _ _ (old_withdrawn s c past n f u h cur (old_held s c past n act m (h.floors n).held h d refl l))); before = λ y x sc ran. absurd cc })
 
 pub takes_refused : (s : Script) (c : Cell) (past : List Entry) (n p : ℕ) (act : Going) (head : Head) (code : Code) → (h : Holds s c past) → Due c h.floors past n p act (record { head = head; carried = carried.Refusal code }) → Goes s past (client_moves c n (answers_step (Client n) (c.clients n) p code))
@@ -416,11 +416,11 @@ used_reply : (n : ℕ) (f : Fid) (rest : Bool) (o u : Option Message) → cond (
 used_reply n f rest o u = rw (same_node-refl (Client n), same_fid-refl f) refl
 
 pub fetched_walks : (s : Script) (c : Cell) (past : List Entry) (n p : ℕ) (act : Going) (m : Message) (u : CacheEntry) → (h : Holds s c past) → Due c h.floors past n p act m → volume_changed (asked act) ≡ None → IsFetched false n u.fid u.index u.body u.expiry m past → c.clock < u.expiry
-    → Walks s c past n c.server.boot (read_now n p u) (with_read u.fid (seen.Contents u.body) act) (used_first u (c.clients n).cache)
+    → Walks s c past n c.server.lasting.boot (read_now n p u) (with_read u.fid (seen.Contents u.body) act) (used_first u (c.clients n).cache)
 fetched_walks s c past n p act m u h d shut a lt =
     let none : (g : Fid) → (reach (Client n) g past).made ≡ 0 = λ g. (h.clients n).made act d.running g (no_scope (asked act) g shut) (inl shut) in
     let raised_by : (g : Fid) (k : ℕ) → (same_fid u.fid g ≡ true → u.index ≤ k) → (reach (Client n) g past).seen ≤ k → raised (same_node (Client n) (Client n) && same_fid u.fid g) u.index (reach (Client n) g past).seen ≤ k = λ g k le h. raised_up_to (same_node (Client n) (Client n) && same_fid u.fid g) u.index (reach (Client n) g past).seen k (λ t. le (both (same_node (Client n) (Client n)) (same_fid u.fid g) t).1) h in
-    let mine : Ready n c.server.boot u.fid u (read_now n p u) past = record {
+    let mine : Ready n c.server.lasting.boot u.fid u (read_now n p u) past = record {
       reply = m;
       boot = d.fact.booted;
       held = a.held;
@@ -453,7 +453,7 @@ fetched_walks s c past n p act m u h d shut a lt =
       quiet = (tt, (refl, tt));
       runs = own_read n u.fid (seen.Contents u.body) act (running s (Client n) (lines_of past)) ((h.clients n).runs act d.running);
       ready = λ g w found lasts. elim (found-first g u (c.clients n).cache w found) [
-        | inl q ↦ subst (λ (y : CacheEntry). Ready n c.server.boot g y (read_now n p u) past) q.1 (subst (λ (y : Fid). Ready n c.server.boot y u (read_now n p u) past) q.0 mine)
+        | inl q ↦ subst (λ (y : CacheEntry). Ready n c.server.lasting.boot g y (read_now n p u) past) q.1 (subst (λ (y : Fid). Ready n c.server.lasting.boot y u (read_now n p u) past) q.0 mine)
         | inr q ↦
             let cur = (h.clients n).current g w q.1 lasts in
             let not : (same_node (Client n) (Client n) && same_fid u.fid g) ≡ false = both_not (same_node (Client n) (Client n)) (same_fid u.fid g) (λ y z. q.0 (same_fid-true u.fid g z)) in
@@ -477,8 +477,8 @@ fetched_walks s c past n p act m u h d shut a lt =
     }
 
 pub fetched_on : (s : Script) (c : Cell) (past : List Entry) (n p : ℕ) (act : Going) (m : Message) (u : CacheEntry) → (h : Holds s c past) → Due c h.floors past n p act m → volume_changed (asked act) ≡ None → IsFetched false n u.fid u.index u.body u.expiry m past → c.clock < u.expiry
-    → Walks s c past n c.server.boot (lines.Given p ∷ lines.Read (Client n) u.fid u.index Fetched (seen.Contents u.body) ∷ looked (Client n) (fetched_walk (c.clients n) c.clock act u).looks []) (fetched_walk (c.clients n) c.clock act u).act (fetched_walk (c.clients n) c.clock act u).cache
-fetched_on s c past n p act m u h d shut a lt = walks_on (most_reads act) s c past n c.server.boot (read_now n p u) (with_read u.fid (seen.Contents u.body) act) (used_first u (c.clients n).cache) h (fetched_walks s c past n p act m u h d shut a lt)
+    → Walks s c past n c.server.lasting.boot (lines.Given p ∷ lines.Read (Client n) u.fid u.index Fetched (seen.Contents u.body) ∷ looked (Client n) (fetched_walk (c.clients n) c.clock act u).looks []) (fetched_walk (c.clients n) c.clock act u).act (fetched_walk (c.clients n) c.clock act u).cache
+fetched_on s c past n p act m u h d shut a lt = walks_on (most_reads act) s c past n c.server.lasting.boot (read_now n p u) (with_read u.fid (seen.Contents u.body) act) (used_first u (c.clients n).cache) h (fetched_walks s c past n p act m u h d shut a lt)
 
 pub fetched_answered : (s : Script) (c : Cell) (past : List Entry) (n p : ℕ) (act : Going) (m : Message) (u : CacheEntry) (k : ℕ) → (h : Holds s c past) → Due c h.floors past n p act m → ((code : Code) → m.carried ≡ carried.Refusal code → ⊥) → volume_changed (asked act) ≡ None → IsFetched false n u.fid u.index u.body u.expiry m past → c.clock < u.expiry
     → next (fetched_walk (c.clients n) c.clock act u).act ≡ answers k → Goes s past (client_moves c n (goes_by (Client n) (c.clients n) (lines.Given p) (ClientRow.behind (look_at Fetched u) (fetched_walk (c.clients n) c.clock act u)) (answers k)))
@@ -487,19 +487,19 @@ fetched_answered s c past n p act m u k h d not shut a lt is =
     let w : Walked = fetched_walk x c.clock act u in
     let ls : List Line = lines.Given p ∷ lines.Read (Client n) u.fid u.index Fetched (seen.Contents u.body) ∷ looked (Client n) w.looks [] in
     let tail : List Line = lines.Answer (Client n) (record { 0 = pos k }) ∷ [] in
-    let W : Walks s c past n c.server.boot ls w.act w.cache = fetched_on s c past n p act m u h d shut a lt in
+    let W : Walks s c past n c.server.lasting.boot ls w.act w.cache = fetched_on s c past n p act m u h d shut a lt in
     let e : Entry = step_entry n (ls ++ tail) [] in
     let t : AreTail n tail = (refl, tt) in
     let ends : EndsReach n tail = ends_answered n (record { 0 = pos k }) in
-    let held : ℕ = c.server.boot in
+    let held : ℕ = c.server.lasting.boot in
     let g : Ghost = holding h.floors n held in
     subst (λ (os : List Line). Goes s past (with_lines c n (ended x w.cache) [] (lines.Given p ∷ lines.Read (Client n) u.fid u.index Fetched (seen.Contents u.body) ∷ os))) (sym (looked_more (Client n) w.looks tail))
     (moves s c past n g (record { state = ended x w.cache; lines = ls ++ tail; sent = [] }) h refl
-    (walk_answered s c past n c.server.boot ls w.act w.cache k W is)
+    (walk_answered s c past n c.server.lasting.boot ls w.act w.cache k W is)
     (quiet_passes s n (ls ++ tail) [] past (quiet_more n ls tail W.quiet (tail_quiet n tail t)) (W.dull tail t))
     (ended_facts s c past n w.cache held e h (le_refl _) (ap (running s (Client n)) (onto_last (lines_of past) ls (lines.Answer (Client n) (record { 0 = pos k }))) ∙ own_ended n (running s (Client n) (onto (lines_of past) ls)))
-    (λ f v found lasts. walk_current s c past n c.server.boot ls w.act w.cache tail [] (view_after c n g (ended x w.cache)) f v W t ends (le_refl _) (inr refl) found lasts)
-    (walk_reached s c past n c.server.boot ls w.act w.cache tail [] W t ends))
+    (λ f v found lasts. walk_current s c past n c.server.lasting.boot ls w.act w.cache tail [] (view_after c n g (ended x w.cache)) f v W t ends (le_refl _) (inr refl) found lasts)
+    (walk_reached s c past n c.server.lasting.boot ls w.act w.cache tail [] W t ends))
     (ended_calls s c past n p act m w.cache held h d (λ code z. absurd (not code z))) (ended_reply s c past n w.cache held e h) (nothing_new _ _) (λ b y z. absurd cc) refl)
 
 pub fetched_calls : (s : Script) (c : Cell) (past : List Entry) (n p : ℕ) (act : Going) (m : Message) (u : CacheEntry) → (h : Holds s c past) → Due c h.floors past n p act m → volume_changed (asked act) ≡ None → IsFetched false n u.fid u.index u.body u.expiry m past → c.clock < u.expiry
@@ -508,12 +508,12 @@ fetched_calls s c past n p act m u h d shut a lt =
     let x : ClientState = c.clients n in
     let w : Walked = fetched_walk x c.clock act u in
     let ls : List Line = lines.Given p ∷ lines.Read (Client n) u.fid u.index Fetched (seen.Contents u.body) ∷ looked (Client n) w.looks [] in
-    let W : Walks s c past n c.server.boot ls w.act w.cache = fetched_on s c past n p act m u h d shut a lt in
+    let W : Walks s c past n c.server.lasting.boot ls w.act w.cache = fetched_on s c past n p act m u h d shut a lt in
     let k = h.clients n in
     let y : ClientState = record x { last = x.last + 1; tries = 0; running = Some w.act; spoiled = false; cache = w.cache } in
     let ms : List Message = call_message (Client n) (asking x w.act) w.act ∷ [] in
     let e : Entry = step_entry n (ls ++ []) ms in
-    let g : Ghost = record { floor = c.server.boot; held = c.server.boot } in
+    let g : Ghost = record { floor = c.server.lasting.boot; held = c.server.lasting.boot } in
     let v : View = view_after c n g y in
     let never : LastRan v → ⊥ = λ ran. next_not _ _ _ _ (k.behind_durable ran.seat ran.at) ran.epoch ran.number in
     let at : running s (Client n) (onto (lines_of past) (ls ++ [])) ≡ Some w.act = ap (λ (os : List Line). running s (Client n) (onto (lines_of past) os)) (append-nil ls) ∙ W.runs in
@@ -539,11 +539,11 @@ fetched_calls s c past n p act m u h d shut a lt =
       holds = le_refl _;
       waits = λ b y. le_refl _;
       idle = λ y. absurd cc;
-      made = λ b y f o z. walk_made s c past n c.server.boot ls w.act w.cache [] ms f W (ends_here n);
-      current = λ f q found lasts. walk_current s c past n c.server.boot ls w.act w.cache [] ms v f q W tt (ends_here n) (le_refl _) (inl never) found lasts;
+      made = λ b y f o z. walk_made s c past n c.server.lasting.boot ls w.act w.cache [] ms f W (ends_here n);
+      current = λ f q found lasts. walk_current s c past n c.server.lasting.boot ls w.act w.cache [] ms v f q W tt (ends_here n) (le_refl _) (inl never) found lasts;
       runs = λ b y. at ∙ y;
       asked = λ b y. subst (λ (x : Going). CalledSince (last_key n v) guest (asked x) (e ∷ past)) (some_of w.act b y) (inl (refl, inl (refl, refl)));
-      reached = walk_reached s c past n c.server.boot ls w.act w.cache [] ms W tt (ends_here n);
+      reached = walk_reached s c past n c.server.lasting.boot ls w.act w.cache [] ms W tt (ends_here n);
     })
     (λ head' call r. record {
       behind = up_to_next _ _ _ _ r.behind;
@@ -683,7 +683,7 @@ takes_other s c past n p act m reply h d is =
 
 -- ---- a boot notice
 
-pub resends_goes : (s : Script) (c : Cell) (past : List Entry) (n p : ℕ) (act : Going) (m : Message) (boot : ℕ) → Holds s c past → Heard c p m → boot ≤ c.server.boot → (c.clients n).running ≡ Some act → Goes s past (client_moves c n (resends_step (Client n) (c.clients n) p act boot))
+pub resends_goes : (s : Script) (c : Cell) (past : List Entry) (n p : ℕ) (act : Going) (m : Message) (boot : ℕ) → Holds s c past → Heard c p m → boot ≤ c.server.lasting.boot → (c.clients n).running ≡ Some act → Goes s past (client_moves c n (resends_step (Client n) (c.clients n) p act boot))
 resends_goes s c past n p act m boot h d le runs =
     let x : ClientState = record (c.clients n) { boot = boot } in
     let ms : List Message = call_message (Client n) x act ∷ [] in
@@ -811,7 +811,7 @@ is_due s c past n p act m h heard to f w runs =
     }
 
 pub counts_goes : (s : Script) (c : Cell) (past : List Entry) (n p : ℕ) (act : Going) (head : Head) (x : Carried) → (h : Holds s c past) → Heard c p (record { head = head; carried = x }) → head.to ≡ Client n → OfReply (ReplyIn (view h.floors c) past (record { head = head; carried = x })) x
-    → OfNotice (IsNoticed c.server.boot (record { head = head; carried = x })) x → Awaited c n act (record { head = head; carried = x }) → (c.clients n).running ≡ Some act → Goes s past (client_moves c n (counts (Client n) (c.clients n) c.clock p act head x))
+    → OfNotice (IsNoticed c.server.lasting.boot (record { head = head; carried = x })) x → Awaited c n act (record { head = head; carried = x }) → (c.clients n).running ≡ Some act → Goes s past (client_moves c n (counts (Client n) (c.clients n) c.clock p act head x))
 counts_goes s c past n p act head (carried.Call user call) h heard to f k w runs = quiet s c past n p (record { head = head; carried = carried.Call user call }) h heard
 counts_goes s c past n p act head (carried.Refusal code) h heard to f k w runs = refused_goes s c past n p act head code (is_spent (c.clients n) act) h (is_due s c past n p act (record { head = head; carried = carried.Refusal code }) h heard to f w runs) refl
 counts_goes s c past n p act head (carried.Reply (tell.File reply)) h heard to f k w runs = replied_goes s c past n p act head reply (is_spent (c.clients n) act) h (is_due s c past n p act (record { head = head; carried = carried.Reply (tell.File reply) }) h heard to f w runs) refl
@@ -819,12 +819,12 @@ counts_goes s c past n p act head (carried.Reply (tell.Volume reply)) h heard to
 counts_goes s c past n p act head (carried.Reply (tell.Location reply)) h heard to f k w runs = quiet s c past n p (record { head = head; carried = carried.Reply (tell.Location reply) }) h heard
 counts_goes s c past n p act head carried.Notice h heard to f k w runs = resends_goes s c past n p act (record { head = head; carried = carried.Notice }) head.boot h heard k runs
 
-pub test_goes : (s : Script) (c : Cell) (past : List Entry) (n p : ℕ) (act : Going) (m : Message) (t : Bool) → (h : Holds s c past) → Heard c p m → m.head.to ≡ Client n → OfReply (ReplyIn (view h.floors c) past m) m.carried → OfNotice (IsNoticed c.server.boot m) m.carried → is_awaited (Client n) (c.clients n) act m.head ≡ t → (c.clients n).running ≡ Some act
+pub test_goes : (s : Script) (c : Cell) (past : List Entry) (n p : ℕ) (act : Going) (m : Message) (t : Bool) → (h : Holds s c past) → Heard c p m → m.head.to ≡ Client n → OfReply (ReplyIn (view h.floors c) past m) m.carried → OfNotice (IsNoticed c.server.lasting.boot m) m.carried → is_awaited (Client n) (c.clients n) act m.head ≡ t → (c.clients n).running ≡ Some act
     → Goes s past (client_moves c n (cond t (counts (Client n) (c.clients n) c.clock p act m.head m.carried) (ignores (c.clients n) p)))
 test_goes s c past n p act m true h heard to f k t runs = counts_goes s c past n p act m.head m.carried h heard to f k (awaited c n act m t) runs
 test_goes s c past n p act m false h heard to f k t runs = quiet s c past n p m h heard
 
-pub awaits_goes : (s : Script) (c : Cell) (past : List Entry) (n p : ℕ) (m : Message) (o : Option Going) → (h : Holds s c past) → Heard c p m → m.head.to ≡ Client n → OfReply (ReplyIn (view h.floors c) past m) m.carried → OfNotice (IsNoticed c.server.boot m) m.carried → (c.clients n).running ≡ o → Goes s past (client_moves c n (awaits (Client n) (c.clients n) c.clock p m o))
+pub awaits_goes : (s : Script) (c : Cell) (past : List Entry) (n p : ℕ) (m : Message) (o : Option Going) → (h : Holds s c past) → Heard c p m → m.head.to ≡ Client n → OfReply (ReplyIn (view h.floors c) past m) m.carried → OfNotice (IsNoticed c.server.lasting.boot m) m.carried → (c.clients n).running ≡ o → Goes s past (client_moves c n (awaits (Client n) (c.clients n) c.clock p m o))
 awaits_goes s c past n p m None h heard to f k runs = quiet s c past n p m h heard
 awaits_goes s c past n p m (Some act) h heard to f k runs = test_goes s c past n p act m (is_awaited (Client n) (c.clients n) act m.head) h heard to f k refl runs
 
@@ -840,8 +840,8 @@ to_notice n to X (carried.Refusal code) e h = tt
 to_notice n to X (carried.Reply reply) e h = tt
 to_notice n to X carried.Notice e h = by_client n to X e h
 
-pub hears_goes : (s : Script) (c : Cell) (past : List Entry) (n p : ℕ) (head : Head) (x : Carried) → (h : Holds s c past) → message_at c.sent p ≡ Some (record { head = head; carried = x }) → head.to ≡ Client n → Heard c p (record { head = head; carried = x }) → OfCall (ByServer (BackIn c.down c.backs.calls c.backs.last_call c.server.boot)) head x
-    → IfReply (ReplyIn (view h.floors c) past) (record { head = head; carried = x }) → IfNotice (IsNoticed c.server.boot) (record { head = head; carried = x }) → Goes s past (client_moves c n (hears_in (Client n) (c.clients n) c.clock p head x))
+pub hears_goes : (s : Script) (c : Cell) (past : List Entry) (n p : ℕ) (head : Head) (x : Carried) → (h : Holds s c past) → message_at c.sent p ≡ Some (record { head = head; carried = x }) → head.to ≡ Client n → Heard c p (record { head = head; carried = x }) → OfCall (ByServer (BackIn c.down c.server.backs.calls c.server.backs.last_call c.server.lasting.boot)) head x
+    → IfReply (ReplyIn (view h.floors c) past) (record { head = head; carried = x }) → IfNotice (IsNoticed c.server.lasting.boot) (record { head = head; carried = x }) → Goes s past (client_moves c n (hears_in (Client n) (c.clients n) c.clock p head x))
 hears_goes s c past n p head (carried.Call user (ask.File call)) h at to heard b f k = called_goes s c past n p head user call h heard to b
 hears_goes s c past n p head (carried.Call user (ask.Volume call)) h at to heard b f k = absurd b
 hears_goes s c past n p head (carried.Call user (ask.Location call)) h at to heard b f k = absurd b
@@ -852,8 +852,8 @@ hears_goes s c past n p head carried.Notice h at to heard b f k = awaits_goes s 
 pub client_goes : (s : Script) (c : Cell) (past : List Entry) (n p : ℕ) (m : Message) → Holds s c past → message_at c.sent p ≡ Some m → m.head.to ≡ Client n → Goes s past (client_moves c n (client_row (Client n) (c.clients n) c.clock p (Whole m)))
 unfolding client_row
 client_goes s c past n p m h at to =
-    hears_goes s c past n p m.head m.carried h at to (record { at = at; not_to = λ x. let y : Client n ≡ the_server = sym to ∙ x in absurd cc }) (each_at (IfBack (BackIn c.down c.backs.calls c.backs.last_call c.server.boot)) c.sent p m at (h.backs refl).calls)
-    (each_at (IfReply (ReplyIn (view h.floors c) past)) c.sent p m at h.sent.replies) (each_at (IfNotice (IsNoticed c.server.boot)) c.sent p m at h.sent.notices)
+    hears_goes s c past n p m.head m.carried h at to (record { at = at; not_to = λ x. let y : Client n ≡ the_server = sym to ∙ x in absurd cc }) (each_at (IfBack (BackIn c.down c.server.backs.calls c.server.backs.last_call c.server.lasting.boot)) c.sent p m at (h.backs refl).calls)
+    (each_at (IfReply (ReplyIn (view h.floors c) past)) c.sent p m at h.sent.replies) (each_at (IfNotice (IsNoticed c.server.lasting.boot)) c.sent p m at h.sent.notices)
 
 pub begun_goes : (s : Script) (c : Cell) (past : List Entry) (n : ℕ) (act : Act) (o : Option Going) → Holds s c past → (c.clients n).running ≡ o → Goes s past (begun_by c n act o)
 begun_goes s c past n act None h e = begins_goes s c past n act h e

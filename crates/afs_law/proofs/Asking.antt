@@ -86,16 +86,16 @@ calls_moved fl c n floor x sent w h = each_map (IfCall (CallIn (view fl c))) (If
 
 -- what is known of what a client sends, and of what it keeps for the server
 pub record Fresh (s : Script) (c : Cell) (n : ℕ) (views : ℕ → View) (past : List Entry) (ms : List Message) : Type 0 where
-  pub news : News s ms views c.server.boot past
+  pub news : News s ms views c.server.lasting.boot past
   pub good : AreGoodReplies past ms
-  pub calls : Each (IfBack (BackIn c.down c.backs.calls c.backs.last_call c.server.boot)) ms
-  pub dones : Each (IfDone (DoneIn c.down c.backs.calls c.backs.last_call c.server.boot past)) ms
+  pub calls : Each (IfBack (BackIn c.down c.server.backs.calls c.server.backs.last_call c.server.lasting.boot)) ms
+  pub dones : Each (IfDone (DoneIn c.down c.server.backs.calls c.server.backs.last_call c.server.lasting.boot past)) ms
 
 abbrev pub KeepsSeat : Cell → ℕ → Option Seat → List Entry → Type 0
-KeepsSeat c n o past = (seat : Seat) (m : Message) → o ≡ Some seat → seat.reply ≡ Some m → SeatedIn c.down c.backs.calls c.backs.last_call c.server.boot past n m
+KeepsSeat c n o past = (seat : Seat) (m : Message) → o ≡ Some seat → seat.reply ≡ Some m → SeatedIn c.down c.server.backs.calls c.server.backs.last_call c.server.lasting.boot past n m
 
-pub seat_put : (t : Bool) (c : Cell) (n j : ℕ) (x y : ClientState) (seat : Seat) (m : Message) (past : List Entry) → nat_eq n j ≡ t → (cond t x y).seat ≡ Some seat → seat.reply ≡ Some m → KeepsSeat c n x.seat past → (y.seat ≡ Some seat → SeatedIn c.down c.backs.calls c.backs.last_call c.server.boot past j m) → SeatedIn c.down c.backs.calls c.backs.last_call c.server.boot past j m
-seat_put true c n j x y seat m past e at is a b = subst (λ (k : ℕ). SeatedIn c.down c.backs.calls c.backs.last_call c.server.boot past k m) (eqb-true n j e) (a seat m at is)
+pub seat_put : (t : Bool) (c : Cell) (n j : ℕ) (x y : ClientState) (seat : Seat) (m : Message) (past : List Entry) → nat_eq n j ≡ t → (cond t x y).seat ≡ Some seat → seat.reply ≡ Some m → KeepsSeat c n x.seat past → (y.seat ≡ Some seat → SeatedIn c.down c.server.backs.calls c.server.backs.last_call c.server.lasting.boot past j m) → SeatedIn c.down c.server.backs.calls c.server.backs.last_call c.server.lasting.boot past j m
+seat_put true c n j x y seat m past e at is a b = subst (λ (k : ℕ). SeatedIn c.down c.server.backs.calls c.server.backs.last_call c.server.lasting.boot past k m) (eqb-true n j e) (a seat m at is)
 seat_put false c n j x y seat m past e at is a b = b at
 
 pub moves_back : (s : Script) (c : Cell) (past : List Entry) (n : ℕ) (floor : Ghost) (st : Step ClientState) → (h : Holds s c past) → st.state.table ≡ (c.clients n).table → AreGood s (actors.Node (Client n)) past [] st.lines → Passes s n st.lines st.sent past
@@ -125,20 +125,20 @@ moves_back s c past n floor st h table good p own w q fresh went keeps =
         booted = h.booted;
         boots = p.boot (lines_of past) ∙ h.boots;
         clients = now;
-        sent = more_sent c.sent (replies_of c.backs.held) (replies_of c.backs.held) (view h.floors c) (views_after h.floors c n floor st.state) c.server.boot c.server.boot e past h.sent (le_refl _) now (λ j a. at_mover h.floors c n floor st.state j (λ i v. v.running ≡ Some a → has_begun (Client i) e.lines ≡ false → (running s (Client i) (lines_of past) ≡ Some a) ⊎ Reading (running s (Client i) (lines_of past))) (λ x z. elim (went a x z) [ inl y ↦ inl ((h.clients n).runs a y) | inr y ↦ inr (record { act = y.act; runs = (h.clients n).runs y.act y.runs; read = y.read }) ]) (λ ne x z. inl ((h.clients j).runs a x))) (calls_moved h.floors c n floor st.state c.sent w h.sent.calls)
+        sent = more_sent c.sent (replies_of c.server.backs.held) (replies_of c.server.backs.held) (view h.floors c) (views_after h.floors c n floor st.state) c.server.lasting.boot c.server.lasting.boot e past h.sent (le_refl _) now (λ j a. at_mover h.floors c n floor st.state j (λ i v. v.running ≡ Some a → has_begun (Client i) e.lines ≡ false → (running s (Client i) (lines_of past) ≡ Some a) ⊎ Reading (running s (Client i) (lines_of past))) (λ x z. elim (went a x z) [ inl y ↦ inl ((h.clients n).runs a y) | inr y ↦ inr (record { act = y.act; runs = (h.clients n).runs y.act y.runs; read = y.read }) ]) (λ ne x z. inl ((h.clients j).runs a x))) (calls_moved h.floors c n floor st.state c.sent w h.sent.calls)
             (λ j m. at_mover h.floors c n floor st.state j (λ i v. ReplyFact i (view h.floors c i) past m → ReplyFact i v (e ∷ past) m) (q m)
             (λ ne. reply_over j (view h.floors c j) m e past (λ f. (p.file j ne f).grant) (p.reach j ne) (λ f. stays j f e past (p.file j ne f).grant (last f)))) (λ held. (fresh.news, held));
-        down = fallen_over c.down c.server c.sent st.sent e past h.down;
+        down = fallen_over c.down c.server.lasting c.sent st.sent e past h.down;
         clock = p.clock (lines_of past) ∙ h.clock;
         top = λ f i b x. subst (λ (o : Option Version). i ≤ index_in o) (sym (last f)) (h.top f i b (p.back f i b (lines_of past) x));
         one = λ f i a b x y. h.one f i a b (p.back f i a (lines_of past) x) (p.back f i b (lines_of past) y);
-        backs = λ z. backed_plain c.down c.backs c.server.boot c.server.seats (λ j. (c.clients j).seat) (λ j. (put n st.state c.clients j).seat) c.clock c.clock c.sent st.sent e past p.plain (le_refl _) b fresh.calls fresh.dones
-            (λ j seat m x y. seat_put (nat_eq n j) c n j st.state (c.clients j) seat m (e ∷ past) refl x y keeps (λ k. seated_over c.down c.down c.backs c.backs c.server.boot c.clock c.clock e past (plain_step c.down c.backs c.clock c.clock e past p.plain (le_refl _)) j m (b.seated j seat m k y)));
+        backs = λ z. backed_plain c.down c.server.backs c.server.lasting.boot c.server.seats (λ j. (c.clients j).seat) (λ j. (put n st.state c.clients j).seat) c.clock c.clock c.sent st.sent e past p.plain (le_refl _) b fresh.calls fresh.dones
+            (λ j seat m x y. seat_put (nat_eq n j) c n j st.state (c.clients j) seat m (e ∷ past) refl x y keeps (λ k. seated_over c.down c.down c.server.backs c.server.backs c.server.lasting.boot c.clock c.clock e past (plain_step c.down c.server.backs c.clock c.clock e past p.plain (le_refl _)) j m (b.seated j seat m k y)));
       };
     }
 
 pub old_seat : (s : Script) (c : Cell) (past : List Entry) (n : ℕ) (e : Entry) → Plain e.lines → Holds s c past → KeepsSeat c n (c.clients n).seat (e ∷ past)
-old_seat s c past n e p h seat m x y = seated_over c.down c.down c.backs c.backs c.server.boot c.clock c.clock e past (plain_step c.down c.backs c.clock c.clock e past p (le_refl _)) n m ((h.backs refl).seated n seat m x y)
+old_seat s c past n e p h seat m x y = seated_over c.down c.down c.server.backs c.server.backs c.server.lasting.boot c.clock c.clock e past (plain_step c.down c.server.backs c.clock c.clock e past p (le_refl _)) n m ((h.backs refl).seated n seat m x y)
 
 -- the client keeps what it kept for the server
 pub moves : (s : Script) (c : Cell) (past : List Entry) (n : ℕ) (floor : Ghost) (st : Step ClientState) → (h : Holds s c past) → st.state.table ≡ (c.clients n).table → AreGood s (actors.Node (Client n)) past [] st.lines → Passes s n st.lines st.sent past
@@ -350,7 +350,7 @@ used_passes s c past n p i f b code m h d = record {
 -- ---- a message that changes nothing
 
 -- the client keeps its call and its act, over lines that change nothing of it
-pub client_kept : (s : Script) (c : Cell) (past : List Entry) (n boot : ℕ) (e : Entry) → (h : Holds s c past) → boot ≤ c.server.boot → ((f : Fid) → PassesFile n f e past) → ((f : Fid) → PassesReach n f e past) → PassesAct n e past → ((f : Fid) → last_version f (lines_of (e ∷ past)) ≡ last_version f (lines_of past))
+pub client_kept : (s : Script) (c : Cell) (past : List Entry) (n boot : ℕ) (e : Entry) → (h : Holds s c past) → boot ≤ c.server.lasting.boot → ((f : Fid) → PassesFile n f e past) → ((f : Fid) → PassesReach n f e past) → PassesAct n e past → ((f : Fid) → last_version f (lines_of (e ∷ past)) ≡ last_version f (lines_of past))
     → ClientFacts s n (record (view h.floors c n) { known = boot }) (e ∷ past)
 client_kept s c past n boot e h le p q t l =
     let d : ClientFacts s n (view h.floors c n) (e ∷ past) = client_still n (view h.floors c n) e past p q t l (h.clients n) in
@@ -461,7 +461,7 @@ called_one n k user call S (e ∷ past) node (inl x) h = sends_one n k user call
 called_one n k user call S (e ∷ past) node (inr x) h = called_one n k user call S past node x.1 (each_front (IfCall (IsOne S)) (sent_of past) e.sent h).0
 
 -- the message of a call that the client sends now
-pub own_call : {s : Script} → (fl : ℕ → Ghost) (c : Cell) (past : List Entry) (n : ℕ) (floor : Ghost) (x : ClientState) (act : Going) (ls : List Line) → x.boot ≤ c.server.boot → x.running ≡ Some act → running s (Client n) (onto (lines_of past) ls) ≡ Some act → call_under (called_key (call_head (Client n) x act)) (sent_of past ++ call_message (Client n) x act ∷ []) ≡ Some (guest, call_of act)
+pub own_call : {s : Script} → (fl : ℕ → Ghost) (c : Cell) (past : List Entry) (n : ℕ) (floor : Ghost) (x : ClientState) (act : Going) (ls : List Line) → x.boot ≤ c.server.lasting.boot → x.running ≡ Some act → running s (Client n) (onto (lines_of past) ls) ≡ Some act → call_under (called_key (call_head (Client n) x act)) (sent_of past ++ call_message (Client n) x act ∷ []) ≡ Some (guest, call_of act)
     → Fresh s c n (views_after fl c n floor x) (step_entry n ls (call_message (Client n) x act ∷ []) ∷ past) (call_message (Client n) x act ∷ [])
 own_call {s} fl c past n floor x act ls le runs at one = record {
   good = (call_good _ (call_head (Client n) x act) guest (call_of act), tt);
@@ -525,7 +525,7 @@ asks s c past n act l h good p q r none shut at went =
     let d = h.clients n in
     let x : ClientState = asking (c.clients n) act in
     let e : Entry = step_entry n (l ∷ []) (call_message (Client n) x act ∷ []) in
-    let g : Ghost = record { floor = c.server.boot; held = (h.floors n).held } in
+    let g : Ghost = record { floor = c.server.lasting.boot; held = (h.floors n).held } in
     let v : View = view_after c n g x in
     let not : LastRan v → ⊥ = λ ran. next_not _ _ _ _ (d.behind_durable ran.seat ran.at) ran.epoch ran.number in
     let last : (f : Fid) → last_version f (lines_of (e ∷ past)) ≡ last_version f (lines_of past) = λ f. p.last f (lines_of past) in

@@ -1,6 +1,9 @@
+use Rattle.afs_num.specs.declared.messages.Carried.TheVariants as carried
+use Rattle.afs_num.specs.declared.messages.Call.TheVariants as ask
+use Rattle.afs_num.specs.declared.messages.Carried.{Carried}
 -- How the facts on breaks pass over an entry.
 use Rattle.std.proofs.Common.{◌≡◌, ℕ, ◌<◌, ◌≤◌, ◌⊎◌, inl, inr, Bool, true, false, cond, List, [], ◌∷◌, ◌++◌, Option, Some, None, refl, sym, ap, subst, ◌∙◌, arith}
-use Rattle.std.specs.Prelude.{not, ◌&&◌}
+use Rattle.std.specs.Prelude.{not, ◌&&◌, cond}
 use Rattle.std.proofs.Math.Nat.{le_refl, le_trans}
 use Rattle.afs_num.specs.Fids.{same_fid}
 use Rattle.afs_num.specs.Nodes.{same_node}
@@ -13,14 +16,14 @@ use Rattle.afs_num.specs.declared.calls.FsCall.{FsCall}
 use Rattle.afs_num.specs.declared.messages.Message.{Message}
 use Rattle.afs_law.proofs.Basics.{both, same_node-refl, Above, Each, IfBack, IfDone, each_more, each_map, if_back, if_done}
 use Rattle.afs_law.proofs.Owing.{AllOf, all_map, IsGranted, IsIn, IsNumberIn, AccountedBy, WaitedBy, AllWaitedBy, HeldWaits, IsOwed, CallOut, BackIn, DroppedOwe, IsDone, DoneIn, SeatedIn, BackedIn, Promised, Numbered}
-use Rattle.afs_law.specs.Breaks.{HasStopped, HasSettled, HasDrop, HasTimeout, last_grant, HasCome, Owes, AllOwes, EndedBy, OweAt, live_grant, is_on, last_number}
-use Rattle.afs_rows.specs.Callbacks.{Promise, Owed, BackCall, Held, Backs, is_held, key_answered, breaks_call}
+use Rattle.afs_law.specs.Breaks.{HasStopped, HasSettled, HasDrop, HasTimeout, last_grant, HasCome, Owes, AllOwes, EndedBy, OweAt, live_grant, is_on, last_number, lines_at, given_up_in, given_up_by, drops_of, fids_given_up, has_answer}
+use Rattle.afs_rows.specs.Callbacks.{is_held, key_answered, breaks_call}
 use Rattle.afs_rows.specs.ClientRow.{the_server}
 use Rattle.afs_law.specs.Legal.{HasChange}
 use Rattle.afs_history.specs.declared.lines.Line.{Line}
-use Rattle.afs_law.specs.Past.{onto, lines_on, lines_of}
+use Rattle.afs_law.specs.Past.{onto, lines_on, lines_of, called_key, given_message, sent_of}
 use Rattle.afs_rows.specs.Runs.{Entry, Fall}
-use Rattle.afs_rows.specs.States.{Seat}
+use Rattle.afs_rows.specs.States.{Seat, Promise, Owed, BackCall, Held, Backs}
 use Rattle.afs_model.specs.Calls.{call_seat}
 use Rattle.afs_history.specs.declared.lines.Line.TheVariants as lines
 
@@ -283,8 +286,41 @@ pub live_back : (c : Node) (f : Fid) (x : ℕ) (ls o : List Line) → all_lines 
 live_back c f x [] o h e = e
 live_back c f x (l ∷ ls) o h e = let q = both (is_still l) (all_lines is_still ls) h in live_before c f x l o q.0 (live_back c f x ls (l ∷ o) q.1 e)
 
-pub promised_over : (d : Option Fall) (ps : List Promise) (clock then : ℕ) (e : Entry) (past : List Entry) → all_lines is_still e.lines ≡ true → clock ≤ then → Promised d ps clock (lines_of past) → Promised d ps then (lines_of (e ∷ past))
-promised_over d ps clock then e past still le h j f x l t = h j f x (live_back (Client j) f x e.lines (lines_of past) still l) (omega arith)
+-- what clients gave up grants nothing
+drops_still : (c : Node) (fs : List Fid) → all_lines is_still (drops_of c fs) ≡ true
+drops_still c [] = refl
+drops_still c (f ∷ fs) = drops_still c fs
+
+same_still : (t : Bool) (c : Node) (fs : List Fid) → all_lines is_still (cond t (drops_of c fs) []) ≡ true
+same_still true c fs = drops_still c fs
+same_still false c fs = refl
+
+answered_still : (s : Node) (t : Bool) (head : Head) (c : Carried) → all_lines is_still (given_up_by s t head c) ≡ true
+answered_still s true head (carried.Call user (ask.File call)) = same_still (same_node head.to s) head.from (fids_given_up call)
+answered_still s true head (carried.Call user (ask.Volume call)) = refl
+answered_still s true head (carried.Call user (ask.Location call)) = refl
+answered_still s true head (carried.Refusal code) = refl
+answered_still s true head (carried.Reply reply) = refl
+answered_still s true head carried.Notice = refl
+answered_still s false head c = refl
+
+given_up_still : (s : Node) (sent : List Message) (o : Option Message) → all_lines is_still (given_up_in s sent o) ≡ true
+given_up_still s sent None = refl
+given_up_still s sent (Some m) = answered_still s (has_answer (called_key m.head) sent) m.head m.carried
+
+-- a grant that lasts behind an entry's own lines lasted before what clients gave up in it
+pub live_given : (c : Node) (f : Fid) (x : ℕ) (e : Entry) (past : List Entry) → live_grant the_server c f (onto (lines_at the_server past) (given_up_in the_server e.sent (given_message e.lines (sent_of past)))) ≡ Some x → live_grant the_server c f (lines_at the_server past) ≡ Some x
+live_given c f x e past l = live_back c f x (given_up_in the_server e.sent (given_message e.lines (sent_of past))) (lines_at the_server past) (given_up_still the_server e.sent (given_message e.lines (sent_of past))) l
+
+-- the lines before an entry's own
+abbrev pub before_own : Entry → List Entry → List Line
+before_own e past = onto (lines_at the_server past) (given_up_in the_server e.sent (given_message e.lines (sent_of past)))
+
+pub promised_given : (d : Option Fall) (ps : List Promise) (clock : ℕ) (e : Entry) (past : List Entry) → Promised d ps clock (lines_at the_server past) → Promised d ps clock (before_own e past)
+promised_given d ps clock e past h j f x l t = h j f x (live_given (Client j) f x e past l) t
+
+pub promised_over : (d : Option Fall) (ps : List Promise) (clock then : ℕ) (e : Entry) (past : List Entry) → all_lines is_still e.lines ≡ true → clock ≤ then → Promised d ps clock (lines_at the_server past) → Promised d ps then (lines_at the_server (e ∷ past))
+promised_over d ps clock then e past still le h j f x l t = h j f x (live_given (Client j) f x e past (live_back (Client j) f x e.lines (before_own e past) still l)) (omega arith)
 
 -- none lasts where the server stopped
 stop_none : (t : Bool) (n : Node) (o : Option ℕ) (x : ℕ) → same_node n the_server ≡ t → n ≡ the_server → cond t None o ≡ Some x → ⊥
@@ -378,7 +414,7 @@ open_over d u b now clock then e past s newer at older before after c what n (in
 ]
 
 pub backed_step : (d u : Option Fall) (b now : Backs) (boot : ℕ) (seats after : List Seat) (cs cz : ℕ → Option Seat) (clock then : ℕ) (sent ms : List Message) (e : Entry) (past : List Entry) → Stepping d u b now clock then e past → BackedIn d b boot seats cs clock sent past
-    → (u ≡ None → AllOf (IsGranted (lines_of (e ∷ past))) now.promises) → Promised u now.promises then (lines_of (e ∷ past)) → Numbered u now.last_owed (lines_of (e ∷ past)) → (u ≡ None → AllOf (λ (o : Owed). IsOwed o.client (lines_of (e ∷ past)) o) now.owed) → (u ≡ None → AllOf (HeldWaits after then (e ∷ past)) now.held) → (u ≡ None → (j : ℕ) (c : BackCall) → now.calls j ≡ Some c → CallOut j c now.last_call boot (e ∷ past))
+    → (u ≡ None → AllOf (IsGranted (lines_of (e ∷ past))) now.promises) → Promised u now.promises then (lines_at the_server (e ∷ past)) → Numbered u now.last_owed (lines_of (e ∷ past)) → (u ≡ None → AllOf (λ (o : Owed). IsOwed o.client (lines_of (e ∷ past)) o) now.owed) → (u ≡ None → AllOf (HeldWaits after then (e ∷ past)) now.held) → (u ≡ None → (j : ℕ) (c : BackCall) → now.calls j ≡ Some c → CallOut j c now.last_call boot (e ∷ past))
     → Each (IfBack (BackIn u now.calls now.last_call boot)) ms → Each (IfDone (DoneIn u now.calls now.last_call boot (e ∷ past))) ms
     → ((j : ℕ) (seat : Seat) (m : Message) → cz j ≡ Some seat → seat.reply ≡ Some m → SeatedIn u now.calls now.last_call boot (e ∷ past) j m)
     → BackedIn u now boot after cz then (sent ++ ms) (e ∷ past)
@@ -456,4 +492,4 @@ backed_fall d fall b boot seats after cs clock sent e past oweless still stop h 
       calls = calls_same b.calls b.last_call;
     } in
     backed_step d (Some fall) b b boot seats after cs cs clock clock sent [] e past s h (λ x. absurd cc)
-    (λ j f x l t. absurd (live_stop (Client j) f x e.lines (lines_of past) [] still (λ y z. y) (stop (h.promised j f x (live_back (Client j) f x e.lines (lines_of past) still l) t).0 []) l)) (numbered_fall d b.last_owed e past oweless stop h.numbered) (λ x. absurd cc) (λ x. absurd cc) (λ x. absurd cc) tt tt (λ j seat m x y. seated_over d (Some fall) b b boot clock clock e past s j m (h.seated j seat m x y))
+    (λ j f x l t. absurd (live_stop (Client j) f x e.lines (before_own e past) [] still (λ y z. y) (stop (h.promised j f x (live_given (Client j) f x e past (live_back (Client j) f x e.lines (before_own e past) still l)) t).0 []) l)) (numbered_fall d b.last_owed e past oweless stop h.numbered) (λ x. absurd cc) (λ x. absurd cc) (λ x. absurd cc) tt tt (λ j seat m x y. seated_over d (Some fall) b b boot clock clock e past s j m (h.seated j seat m x y))

@@ -8,7 +8,7 @@ use Rattle.afs_law.proofs.Passing.{body_kept, PassesGrant, PassesFile, PassesRea
 use Rattle.afs_law.proofs.Pumping.{no_call, no_notice, of_reply_any}
 use Rattle.afs_law.proofs.Serving.{told_file, told_reach, told_act, reached_still}
 use Rattle.afs_law.specs.Breaks.{HasDrop, OweAt, CarriesBreak, NamesIn}
-use Rattle.afs_rows.specs.Callbacks.{Owed, breaks_call}
+use Rattle.afs_rows.specs.Callbacks.{breaks_call}
 use Rattle.afs_rows.specs.ClientRow.{the_server, find_cached, ignores, is_named, names_act, is_waiting, drop_line, done_reply, back_seat, drops_fids, drops_all, told_step, breaks, admits_back, called_back, names_call, body_told}
 use Rattle.afs_rows.specs.Going.{Going, asked, ClientState}
 use Rattle.afs_law.specs.Grants.{has_fetched, IsWithdrawn, IsDropped, since}
@@ -18,7 +18,7 @@ use Rattle.afs_history.specs.declared.lines.Line.{Line}
 use Rattle.afs_law.specs.Past.{onto, lines_of, sent_of, running, has_begun}
 use Rattle.afs_rows.specs.Runs.{Entry, Cell, client_moves}
 use Rattle.afs_rows.specs.ServerRow.{boot_told}
-use Rattle.afs_rows.specs.States.{CacheEntry, Seat}
+use Rattle.afs_rows.specs.States.{CacheEntry, Seat, Owed}
 use Rattle.afs_rows.specs.Steps.{Step}
 use Rattle.afs_model.specs.Calls.{Admitted}
 -- A client is called by its server: it drops what it has cached of the broken promises.
@@ -175,7 +175,7 @@ client_none n j X e = subst (λ (m : Node). OfClient m X) (sym e) tt
 pub not_good : (past : List Entry) (m : Message) (n : ℕ) → m.head.from ≡ Client n → GoodReply past m
 not_good past m n e is nought i from = absurd cc
 
-pub reply_fresh : {s : Script} → (c : Cell) (n : ℕ) (views : ℕ → View) (past : List Entry) (m : Message) → SeatedIn c.down c.backs.calls c.backs.last_call c.server.boot past n m → Fresh s c n views past (m ∷ [])
+pub reply_fresh : {s : Script} → (c : Cell) (n : ℕ) (views : ℕ → View) (past : List Entry) (m : Message) → SeatedIn c.down c.server.backs.calls c.server.backs.last_call c.server.lasting.boot past n m → Fresh s c n views past (m ∷ [])
 reply_fresh {s} c n views past m x = record {
   news = record {
     calls = (no_call (ByClient (CallIn views)) m.head m.carried x.is_reply, tt);
@@ -188,7 +188,7 @@ reply_fresh {s} c n views past m x = record {
     to_clients = (no_call ToClient m.head m.carried x.is_reply, tt);
   };
   good = (not_good past m n x.from, tt);
-  calls = (no_call (ByServer (BackIn c.down c.backs.calls c.backs.last_call c.server.boot)) m.head m.carried x.is_reply, tt);
+  calls = (no_call (ByServer (BackIn c.down c.server.backs.calls c.server.backs.last_call c.server.lasting.boot)) m.head m.carried x.is_reply, tt);
   dones = (of_reply_any _ m.carried (server_any m.head.to _ (record { client = n; from = x.from; done = x.done })), tt);
 }
 
@@ -215,25 +215,25 @@ all_two P Q R w [] h k = tt
 all_two P Q R w (x ∷ xs) h k = (w x h.0 k.0, all_two P Q R w xs h.1 k.1)
 
 -- a call that was handled in this entry, whose lines drop what any break of such a call is on
-pub handled : (s : Script) (c : Cell) (past : List Entry) (n : ℕ) (head : Head) (user : List ℕ) (call : FsCall) (e : Entry) → Holds s c past → BackIn c.down c.backs.calls c.backs.last_call c.server.boot head user call → head.to ≡ Client n → all_lines is_up e.lines ≡ true
-    → ((w : Option Fid) (o : List Line) → CarriesBreak call w → HasDrop the_server (Client n) w (onto o e.lines)) → IsDone c.down c.backs.calls c.backs.last_call c.server.boot (e ∷ past) n head.epoch head.number
+pub handled : (s : Script) (c : Cell) (past : List Entry) (n : ℕ) (head : Head) (user : List ℕ) (call : FsCall) (e : Entry) → Holds s c past → BackIn c.down c.server.backs.calls c.server.backs.last_call c.server.lasting.boot head user call → head.to ≡ Client n → all_lines is_up e.lines ≡ true
+    → ((w : Option Fid) (o : List Line) → CarriesBreak call w → HasDrop the_server (Client n) w (onto o e.lines)) → IsDone c.down c.server.backs.calls c.server.backs.last_call c.server.lasting.boot (e ∷ past) n head.epoch head.number
 handled s c past n head user call e h b to up drop =
     let one : b.client ≡ n = client_number b.client n (sym b.to ∙ to) in
     record {
       booted = b.booted;
       below = b.below;
       dropped = λ k x y at q.
-          let is : call ≡ breaks_call k.breaks = b.is k x y (ap c.backs.calls one ∙ at) q in
-          let out : CallOut n k c.backs.last_call c.server.boot past = (h.backs refl).outs x n k at in
+          let is : call ≡ breaks_call k.breaks = b.is k x y (ap c.server.backs.calls one ∙ at) q in
+          let out : CallOut n k c.server.backs.last_call c.server.lasting.boot past = (h.backs refl).outs x n k at in
           all_two (IsOwed n (lines_of past)) (λ (o : Owed). CarriesBreak (breaks_call k.breaks) o.what) (DroppedOwe n (lines_of (e ∷ past)))
           (λ o z w. let owe : OweAt the_server (Client n) o.what o.number (lines_of past) = z in record { owe = owe_over (Client n) o.what o.number e past up owe; dropped = drop o.what owe.newer (subst (λ (u : FsCall). CarriesBreak u o.what) (sym is) w) }) k.breaks out.owes out.carries;
     }
 
-pub done_seated : (c : Cell) (n : ℕ) (past : List Entry) (x : ClientState) (head : Head) (reply : FsReply) → head.from ≡ the_server → head.to ≡ Client n → IsDone c.down c.backs.calls c.backs.last_call c.server.boot past n head.epoch head.number → SeatedIn c.down c.backs.calls c.backs.last_call c.server.boot past n (done_reply x head reply)
+pub done_seated : (c : Cell) (n : ℕ) (past : List Entry) (x : ClientState) (head : Head) (reply : FsReply) → head.from ≡ the_server → head.to ≡ Client n → IsDone c.down c.server.backs.calls c.server.backs.last_call c.server.lasting.boot past n head.epoch head.number → SeatedIn c.down c.server.backs.calls c.server.backs.last_call c.server.lasting.boot past n (done_reply x head reply)
 done_seated c n past x head reply from to d = record { to = from; from = to; is_reply = λ y. y; done = d }
 
-pub seat_keeps : (c : Cell) (n : ℕ) (past : List Entry) (x : ClientState) (head : Head) (reply : FsReply) → SeatedIn c.down c.backs.calls c.backs.last_call c.server.boot past n (done_reply x head reply) → KeepsSeat c n (Some (back_seat head (done_reply x head reply))) past
-seat_keeps c n past x head reply d seat m at is = subst (λ (z : Message). SeatedIn c.down c.backs.calls c.backs.last_call c.server.boot past n z) (some_of _ _ (sym (ap (λ (z : Seat). z.reply) (sym (some_of _ _ at))) ∙ is)) d
+pub seat_keeps : (c : Cell) (n : ℕ) (past : List Entry) (x : ClientState) (head : Head) (reply : FsReply) → SeatedIn c.down c.server.backs.calls c.server.backs.last_call c.server.lasting.boot past n (done_reply x head reply) → KeepsSeat c n (Some (back_seat head (done_reply x head reply))) past
+seat_keeps c n past x head reply d seat m at is = subst (λ (z : Message). SeatedIn c.down c.server.backs.calls c.server.backs.last_call c.server.lasting.boot past n z) (some_of _ _ (sym (ap (λ (z : Seat). z.reply) (sym (some_of _ _ at))) ∙ is)) d
 
 -- ---- breaks on fids
 
@@ -321,7 +321,7 @@ broken_fits sp n p call x boot m (carried.Refusal code) fs ms past last h = h
 broken_fits sp n p call x boot m c fs ms past last h = absurd h
 
 pub drops_goes : (s : Script) (c : Cell) (past : List Entry) (n p : ℕ) (head : Head) (user : List ℕ) (fs : List Fid) (cbs : List AfsCallBack) → (h : Holds s c past) → Heard c p (record { head = head; carried = carried.Call user (ask.File (calls.CallBack fs cbs)) }) → head.to ≡ Client n → head.from ≡ the_server
-    → BackIn c.down c.backs.calls c.backs.last_call c.server.boot head user (calls.CallBack fs cbs) → Goes s past (client_moves c n (drops_fids (Client n) (c.clients n) p head fs))
+    → BackIn c.down c.server.backs.calls c.server.backs.last_call c.server.lasting.boot head user (calls.CallBack fs cbs) → Goes s past (client_moves c n (drops_fids (Client n) (c.clients n) p head fs))
 drops_goes s c past n p head user fs cbs h heard to from b =
     let d = h.clients n in
     let st : Step ClientState = drops_fids (Client n) (c.clients n) p head fs in
@@ -335,12 +335,12 @@ drops_goes s c past n p head user fs cbs h heard to from b =
       recent = f.recent;
       tied = f.tied;
       answers = λ act y z w. let a = f.answers act y z w in record {
-        fits = subst (λ (o : Option Going). Fits (cond (names_act fs o) true (c.clients n).spoiled) n (asked act) (spot (view h.floors c n)) c.server.boot m m.carried (e ∷ past)) (sym y) (broken_fits (c.clients n).spoiled n p (asked act) (spot (view h.floors c n)) c.server.boot m m.carried fs (reply ∷ []) past last a.fits);
+        fits = subst (λ (o : Option Going). Fits (cond (names_act fs o) true (c.clients n).spoiled) n (asked act) (spot (view h.floors c n)) c.server.lasting.boot m m.carried (e ∷ past)) (sym y) (broken_fits (c.clients n).spoiled n p (asked act) (spot (view h.floors c n)) c.server.lasting.boot m m.carried fs (reply ∷ []) past last a.fits);
         code = a.code;
         cause = cause_over m a.code (asked act) e past a.cause;
       };
     } in
-    let done : SeatedIn c.down c.backs.calls c.backs.last_call c.server.boot (e ∷ past) n reply = done_seated c n (e ∷ past) (c.clients n) head replies.CallBack from to (handled s c past n head user (calls.CallBack fs cbs) e h b to (skips n fs).ups (λ w o z. (skips n fs).drop w (lines.Given p ∷ o) z)) in
+    let done : SeatedIn c.down c.server.backs.calls c.server.backs.last_call c.server.lasting.boot (e ∷ past) n reply = done_seated c n (e ∷ past) (c.clients n) head replies.CallBack from to (handled s c past n head user (calls.CallBack fs cbs) e h b to (skips n fs).ups (λ w o z. (skips n fs).drop w (lines.Given p ∷ o) z)) in
     moves_back s c past n (h.floors n) st h refl (tt, (skips n fs).good s past (lines.Given p ∷ [])) (broken_passes s c past n p _ fs (reply ∷ []) h heard)
     (record {
       behind = d.behind;
@@ -423,7 +423,7 @@ all_fits sp n p call x boot m (carried.Refusal code) e past v r w last h = h
 all_fits sp n p call x boot m c e past v r w last h = absurd h
 
 pub drops_all_goes : (s : Script) (c : Cell) (past : List Entry) (n p : ℕ) (head : Head) (user : List ℕ) → (h : Holds s c past) → Heard c p (record { head = head; carried = carried.Call user (ask.File calls.InitCallBackState) }) → head.to ≡ Client n → head.from ≡ the_server
-    → BackIn c.down c.backs.calls c.backs.last_call c.server.boot head user calls.InitCallBackState → Goes s past (client_moves c n (drops_all (Client n) (c.clients n) p head))
+    → BackIn c.down c.server.backs.calls c.server.backs.last_call c.server.lasting.boot head user calls.InitCallBackState → Goes s past (client_moves c n (drops_all (Client n) (c.clients n) p head))
 drops_all_goes s c past n p head user h heard to from b =
     let d = h.clients n in
     let st : Step ClientState = drops_all (Client n) (c.clients n) p head in
@@ -437,12 +437,12 @@ drops_all_goes s c past n p head user h heard to from b =
       recent = f.recent;
       tied = f.tied;
       answers = λ act y z w. let a = f.answers act y z w in record {
-        fits = subst (λ (o : Option Going). Fits (cond (is_waiting o) true (c.clients n).spoiled) n (asked act) (spot (view h.floors c n)) c.server.boot m m.carried (e ∷ past)) (sym y) (all_fits (c.clients n).spoiled n p (asked act) (spot (view h.floors c n)) c.server.boot m m.carried e past (λ g i x k. k) r (λ g i q o k. k) (λ g. refl) a.fits);
+        fits = subst (λ (o : Option Going). Fits (cond (is_waiting o) true (c.clients n).spoiled) n (asked act) (spot (view h.floors c n)) c.server.lasting.boot m m.carried (e ∷ past)) (sym y) (all_fits (c.clients n).spoiled n p (asked act) (spot (view h.floors c n)) c.server.lasting.boot m m.carried e past (λ g i x k. k) r (λ g i q o k. k) (λ g. refl) a.fits);
         code = a.code;
         cause = cause_over m a.code (asked act) e past a.cause;
       };
     } in
-    let done : SeatedIn c.down c.backs.calls c.backs.last_call c.server.boot (e ∷ past) n reply = done_seated c n (e ∷ past) (c.clients n) head replies.InitCallBackState from to (handled s c past n head user calls.InitCallBackState e h b to refl (λ w o z. inl (refl, from))) in
+    let done : SeatedIn c.down c.server.backs.calls c.server.backs.last_call c.server.lasting.boot (e ∷ past) n reply = done_seated c n (e ∷ past) (c.clients n) head replies.InitCallBackState from to (handled s c past n head user calls.InitCallBackState e h b to refl (λ w o z. inl (refl, from))) in
     moves_back s c past n (h.floors n) st h refl (tt, (refl, tt)) (all_passes s c past n p _ head.from (reply ∷ []) h heard)
     (record {
       behind = d.behind;
@@ -467,7 +467,7 @@ drops_all_goes s c past n p head user h heard to from b =
 -- ---- the row, by its cases
 
 pub breaks_goes : (s : Script) (c : Cell) (past : List Entry) (n p : ℕ) (head : Head) (user : List ℕ) (call : FsCall) → (h : Holds s c past) → Heard c p (record { head = head; carried = carried.Call user (ask.File call) }) → head.to ≡ Client n → head.from ≡ the_server
-    → BackIn c.down c.backs.calls c.backs.last_call c.server.boot head user call → Goes s past (client_moves c n (breaks (Client n) (c.clients n) p head call))
+    → BackIn c.down c.server.backs.calls c.server.backs.last_call c.server.lasting.boot head user call → Goes s past (client_moves c n (breaks (Client n) (c.clients n) p head call))
 breaks_goes s c past n p head user (calls.CallBack fs cbs) h heard to from b = drops_goes s c past n p head user fs cbs h heard to from b
 breaks_goes s c past n p head user calls.InitCallBackState h heard to from b = drops_all_goes s c past n p head user h heard to from b
 breaks_goes s c past n p head user call h heard to from b = quiet s c past n p _ h heard
@@ -476,7 +476,7 @@ pub again_goes : (s : Script) (c : Cell) (past : List Entry) (n p : ℕ) (m r : 
 again_goes s c past n p m r h heard l = tells_goes s c past n p m (r ∷ []) h heard (λ e plain. reply_fresh c n _ (e ∷ past) r (old_seat s c past n e plain h l.seat r l.at l.reply))
 
 pub admits_goes : (s : Script) (c : Cell) (past : List Entry) (n p : ℕ) (head : Head) (user : List ℕ) (call : FsCall) (o : Admitted Message) → (h : Holds s c past) → Heard c p (record { head = head; carried = carried.Call user (ask.File call) }) → head.to ≡ Client n → head.from ≡ the_server
-    → BackIn c.down c.backs.calls c.backs.last_call c.server.boot head user call → pairs.paired head.epoch head.number (c.clients n).seat ≡ o → Goes s past (client_moves c n (admits_back (Client n) (c.clients n) p head call o))
+    → BackIn c.down c.server.backs.calls c.server.backs.last_call c.server.lasting.boot head user call → pairs.paired head.epoch head.number (c.clients n).seat ≡ o → Goes s past (client_moves c n (admits_back (Client n) (c.clients n) p head call o))
 admits_goes s c past n p head user call pairs.runs h heard to from b e = breaks_goes s c past n p head user call h heard to from b
 admits_goes s c past n p head user call (pairs.kept r) h heard to from b e = again_goes s c past n p _ r h heard (kept_last head.epoch head.number (c.clients n).seat r e)
 admits_goes s c past n p head user call pairs.in_progress h heard to from b e = quiet s c past n p _ h heard
@@ -484,17 +484,17 @@ admits_goes s c past n p head user call pairs.older h heard to from b e = quiet 
 admits_goes s c past n p head user call (pairs.wrong_boot boot) h heard to from b e = tells_goes s c past n p _ _ h heard (λ e plain. notice_fresh c n _ (e ∷ past) (c.clients n).epoch head from)
 
 pub booted_goes : (s : Script) (c : Cell) (past : List Entry) (n p : ℕ) (head : Head) (user : List ℕ) (call : FsCall) (t : Bool) → (h : Holds s c past) → Heard c p (record { head = head; carried = carried.Call user (ask.File call) }) → head.to ≡ Client n → head.from ≡ the_server
-    → BackIn c.down c.backs.calls c.backs.last_call c.server.boot head user call → Goes s past (client_moves c n (cond t (admits_back (Client n) (c.clients n) p head call (pairs.paired head.epoch head.number (c.clients n).seat)) (told_step (c.clients n) p (boot_told (c.clients n).epoch head ∷ []))))
+    → BackIn c.down c.server.backs.calls c.server.backs.last_call c.server.lasting.boot head user call → Goes s past (client_moves c n (cond t (admits_back (Client n) (c.clients n) p head call (pairs.paired head.epoch head.number (c.clients n).seat)) (told_step (c.clients n) p (boot_told (c.clients n).epoch head ∷ []))))
 booted_goes s c past n p head user call true h heard to from b = admits_goes s c past n p head user call (pairs.paired head.epoch head.number (c.clients n).seat) h heard to from b refl
 booted_goes s c past n p head user call false h heard to from b = tells_goes s c past n p _ _ h heard (λ e plain. notice_fresh c n _ (e ∷ past) (c.clients n).epoch head from)
 
 pub from_goes : (s : Script) (c : Cell) (past : List Entry) (n p : ℕ) (head : Head) (user : List ℕ) (call : FsCall) (t : Bool) → (h : Holds s c past) → Heard c p (record { head = head; carried = carried.Call user (ask.File call) }) → head.to ≡ Client n → same_node head.from the_server ≡ t
-    → OfServer head.from (BackIn c.down c.backs.calls c.backs.last_call c.server.boot head user call) → Goes s past (client_moves c n (cond t (cond (nat_eq head.boot (c.clients n).epoch) (admits_back (Client n) (c.clients n) p head call (pairs.paired head.epoch head.number (c.clients n).seat)) (told_step (c.clients n) p (boot_told (c.clients n).epoch head ∷ []))) (ignores (c.clients n) p)))
+    → OfServer head.from (BackIn c.down c.server.backs.calls c.server.backs.last_call c.server.lasting.boot head user call) → Goes s past (client_moves c n (cond t (cond (nat_eq head.boot (c.clients n).epoch) (admits_back (Client n) (c.clients n) p head call (pairs.paired head.epoch head.number (c.clients n).seat)) (told_step (c.clients n) p (boot_told (c.clients n).epoch head ∷ []))) (ignores (c.clients n) p)))
 from_goes s c past n p head user call true h heard to e b =
     let from : head.from ≡ the_server = same_node-true head.from the_server e in
     booted_goes s c past n p head user call (nat_eq head.boot (c.clients n).epoch) h heard to from (by_server 1 head.from _ from b)
 from_goes s c past n p head user call false h heard to e b = quiet s c past n p _ h heard
 
 pub called_goes : (s : Script) (c : Cell) (past : List Entry) (n p : ℕ) (head : Head) (user : List ℕ) (call : FsCall) → (h : Holds s c past) → Heard c p (record { head = head; carried = carried.Call user (ask.File call) }) → head.to ≡ Client n
-    → OfServer head.from (BackIn c.down c.backs.calls c.backs.last_call c.server.boot head user call) → Goes s past (client_moves c n (called_back (Client n) (c.clients n) p head call))
+    → OfServer head.from (BackIn c.down c.server.backs.calls c.server.backs.last_call c.server.lasting.boot head user call) → Goes s past (client_moves c n (called_back (Client n) (c.clients n) p head call))
 called_goes s c past n p head user call h heard to b = from_goes s c past n p head user call (same_node head.from the_server) h heard to refl b

@@ -93,7 +93,6 @@ same_locations (v ∷ vs) = ap (λ (t : List Location). location_of v ∷ t) (sa
 abbrev starting : ℕ → Table Volume → List Location → Cell
 starting count volumes table = record {
   server = first_server volumes;
-  backs = first_backs;
   count = count;
   down = None;
   armed = unarmed;

@@ -1,5 +1,6 @@
 pub mod Basics
 pub mod Edits
+pub mod Keeping
 pub mod Owing
 pub mod Backing
 pub mod Turning

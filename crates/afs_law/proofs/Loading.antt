@@ -11,12 +11,12 @@ use Rattle.afs_num.specs.declared.types.Node.TheVariants.{Client}
 use Rattle.afs_num.specs.declared.calls.FsCall.{FsCall}
 use Rattle.afs_num.specs.declared.messages.Message.{Message}
 use Rattle.afs_ideal.specs.Operations.{Found}
-use Rattle.afs_law.proofs.Backing.{Plain, Stepping, all_lines, is_up, is_still, is_oweless, is_unchanging, is_still_to, grant_back_to, settled_onto, stopped_back, grant_back, front_onto, change_back, no_owe, owes_over, ended_over, calls_same, backed_step, seated_over, plain_step, plain_waits, waits_over, granted_over, owed_over, call_over, backed_plain, promised_over, live_back, numbered_over, zero_back}
+use Rattle.afs_law.proofs.Backing.{Plain, Stepping, all_lines, is_up, is_still, is_oweless, is_unchanging, is_still_to, grant_back_to, settled_onto, stopped_back, grant_back, front_onto, change_back, no_owe, owes_over, ended_over, calls_same, backed_step, seated_over, plain_step, plain_waits, waits_over, granted_over, owed_over, call_over, backed_plain, promised_over, live_back, numbered_over, zero_back, live_given, before_own}
 use Rattle.afs_law.proofs.Basics.{both, same_node-true, same_node-refl, same_fid-refl, same_fid-true, client_number, Above, Each, IfBack, IfDone, OfReply, each_map, if_back, if_done, some_of}
 use Rattle.afs_law.proofs.Owing.{AllOf, all_map, all_both, all_filter, IsGranted, IsIn, IsNumberIn, AccountedBy, WaitedBy, AllWaitedBy, HeldWaits, IsOwed, CallOut, BackIn, DroppedOwe, DoneIn, BackedIn, Promised, IsPromised, promise_to, Numbered}
 use Rattle.afs_law.proofs.Turning.{loaded, in_filter, put_call, kept_in}
-use Rattle.afs_law.specs.Breaks.{HasSettled, HasTimeout, last_grant, expiry_of, AllOwes, CarriesBreak, GoodSettle, GoodQuit, live_grant, HasOwe, last_number}
-use Rattle.afs_rows.specs.Callbacks.{Promise, Owed, BackCall, Held, Backs, is_all, alls, numbers, has_number, is_reply_to, is_held, key_answered, breaks_call, break_message, owe_line, settle_line, quit_line, is_among, ends_call, settles, quits, retries, is_promise, owes_from, is_hit, hits, left, owes_all, risen_turn, with_promise, with_promises}
+use Rattle.afs_law.specs.Breaks.{HasSettled, HasTimeout, last_grant, expiry_of, AllOwes, CarriesBreak, GoodSettle, GoodQuit, live_grant, HasOwe, last_number, lines_at, drops_of}
+use Rattle.afs_rows.specs.Callbacks.{is_all, alls, numbers, has_number, is_reply_to, is_held, key_answered, breaks_call, break_message, owe_line, settle_line, quit_line, is_among, ends_call, settles, quits, retries, is_promise, owes_from, is_hit, hits, left, owes_all, risen_turn, with_promise, with_promises, without_promises}
 use Rattle.afs_rows.specs.ClientRow.{the_server}
 use Rattle.afs_law.specs.Ideal.{clock_of, change_in}
 use Rattle.afs_law.specs.Legal.{IsNew, IsNot, IsKey, HasChange, AreGood, IsChanged}
@@ -24,7 +24,7 @@ use Rattle.afs_history.specs.declared.lines.Line.{Line}
 use Rattle.afs_law.specs.Past.{onto, lines_of, sent_of, given_message, called_key, IsCallUnder}
 use Rattle.afs_rows.specs.Runs.{Entry, Fall}
 use Rattle.afs_rows.specs.ServerRow.{granted, promise_ticks}
-use Rattle.afs_rows.specs.States.{Seat}
+use Rattle.afs_rows.specs.States.{Seat, Promise, Owed, BackCall, Held, Backs}
 use Rattle.afs_model.specs.Calls.{call_seat}
 use Rattle.afs_num.specs.declared.histories.Actor.TheVariants as actors
 use Rattle.afs_num.specs.declared.histories.Version.{Version}
@@ -296,7 +296,7 @@ pub record NewReply (seats : List Seat) (past : List Entry) (hd : Held) : Type 0
   pub under : Above (call_seat hd.reply.head.to seats) hd.reply.head.epoch hd.reply.head.number → ⊥
 
 pub run_loaded : (b : Backs) (ps : List Promise) (boot : ℕ) (seats now : List Seat) (cs : ℕ → Option Seat) (clock : ℕ) (sent : List Message) (e : Entry) (past : List Entry) (hd : Held) → BackedIn None b boot seats cs clock sent past → all_lines is_up e.lines ≡ true → all_lines is_oweless e.lines ≡ true → all_lines is_unchanging e.lines ≡ true
-    → AllOf (IsGranted (lines_of (e ∷ past))) ps → Promised None ps clock (lines_of (e ∷ past)) → ((m : Node) (x y : ℕ) → Above (call_seat m now) x y → Above (call_seat m seats) x y) → NewReply now (e ∷ past) hd → (is_held (key_answered hd.reply) b.held ≡ true → ⊥)
+    → AllOf (IsGranted (lines_of (e ∷ past))) ps → Promised None ps clock (lines_at the_server (e ∷ past)) → ((m : Node) (x y : ℕ) → Above (call_seat m now) x y → Above (call_seat m seats) x y) → NewReply now (e ∷ past) hd → (is_held (key_answered hd.reply) b.held ≡ true → ⊥)
     → (HasChange (key_answered hd.reply) (lines_of (e ∷ past)) → AllOwes the_server (AllWaitedBy hd clock) (e ∷ past))
     → BackedIn None (record b { promises = ps; held = b.held ++ hd ∷ [] }) boot now cs clock sent (e ∷ past)
 run_loaded b ps boot seats now cs clock sent e past hd h up oweless unchanging granted promised seat new none all =
@@ -677,17 +677,33 @@ pub all_promised : (n x clock : ℕ) (fs : List Found) (base : List Line) (ps : 
 all_promised n x clock [] base ps h = h
 all_promised n x clock (f ∷ fs) base ps h = all_promised n x clock fs (lines.Grant the_server (Client n) f.fid f.vnode.index x ∷ base) (with_promise n x f.fid ps) (promised_now n f.fid x f.vnode.index clock base ps h)
 
+-- ---- promises that a client gives up
+
+dropped_promised : (t : Bool) (n j : ℕ) (f g : Fid) (y : ℕ) (o : Option ℕ) (ps : List Promise) → (same_node (Client n) (Client j) && same_fid f g) ≡ t → (o ≡ Some y → IsPromised (promise_to j g y) ps) → cond t None o ≡ Some y
+    → IsPromised (promise_to j g y) (filter (λ q. not (is_promise n f q)) ps)
+dropped_promised true n j f g y o ps e h l = absurd cc
+dropped_promised false n j f g y o ps e h l = kept_in (λ z. not (is_promise n f z)) (promise_to j g y) ps (h l) (not_promise (nat_eq j n && same_fid g f) n j f g refl e)
+
+pub gone_promised : (n clock : ℕ) (fs : List Fid) (base : List Line) (ps : List Promise) → Promised None ps clock base → Promised None (without_promises n fs ps) clock (onto base (drops_of (Client n) fs))
+gone_promised n clock [] base ps h = h
+gone_promised n clock (f ∷ fs) base ps h = gone_promised n clock fs (lines.Drop (Client n) f ∷ base) (filter (λ p. not (is_promise n f p)) ps)
+    (λ j g y l t. (refl, dropped_promised (same_node (Client n) (Client j) && same_fid f g) n j f g y (live_grant the_server (Client j) g base) ps refl (λ k. (h j g y k t).1) l))
+
+pub gone_granted : (n : ℕ) (fs : List Fid) (ls : List Line) (ps : List Promise) → AllOf (IsGranted ls) ps → AllOf (IsGranted ls) (without_promises n fs ps)
+gone_granted n [] ls ps h = h
+gone_granted n (f ∷ fs) ls ps h = gone_granted n fs ls (filter (λ p. not (is_promise n f p)) ps) (all_filter (IsGranted ls) (λ p. not (is_promise n f p)) ps h)
+
 -- ---- a change, and what it owes
 
-pub left_promised : (n k x clock : ℕ) (vs : List Version) (ps : List Promise) (fs : List Found) (e : Entry) (past : List Entry) (front : List Line) → e.lines ≡ front ++ granted the_server (Client n) x fs (map (owe_line the_server) (owes_from k (hits n vs ps))) → all_lines is_still front ≡ true → Promised None ps clock (lines_of past)
-    → Promised None (with_promises n x fs (left n vs ps)) clock (lines_of (e ∷ past))
+pub left_promised : (n k x clock : ℕ) (vs : List Version) (ps : List Promise) (fs : List Found) (e : Entry) (past : List Entry) (front : List Line) → e.lines ≡ front ++ granted the_server (Client n) x fs (map (owe_line the_server) (owes_from k (hits n vs ps))) → all_lines is_still front ≡ true → Promised None ps clock (before_own e past)
+    → Promised None (with_promises n x fs (left n vs ps)) clock (lines_at the_server (e ∷ past))
 left_promised n k x clock vs ps fs e past front are still h j f y l t =
     let owes : List Line = map (owe_line the_server) (owes_from k (hits n vs ps)) in
-    let base : List Line = onto (lines_of past) front in
+    let base : List Line = onto (before_own e past) front in
     let mid : List Line = onto base (granted the_server (Client n) x fs []) in
-    let here : live_grant the_server (Client j) f (onto mid owes) ≡ Some y = subst (λ (ls : List Line). live_grant the_server (Client j) f ls ≡ Some y) (ap (onto (lines_of past)) are ∙ (onto_both (lines_of past) front (granted the_server (Client n) x fs owes) ∙ onto_granted n x fs owes base)) l in
+    let here : live_grant the_server (Client j) f (onto mid owes) ≡ Some y = subst (λ (ls : List Line). live_grant the_server (Client j) f ls ≡ Some y) (ap (onto (before_own e past)) are ∙ (onto_both (before_own e past) front (granted the_server (Client n) x fs owes) ∙ onto_granted n x fs owes base)) l in
     let before = live_back (Client j) f y owes mid (owes_still (owes_from k (hits n vs ps))) here in
-    let had : IsPromised (promise_to j f y) (with_promises n x fs ps) = (all_promised n x clock fs base ps (λ i g z a b. h i g z (live_back (Client i) g z front (lines_of past) still a) b) j f y before t).1 in
+    let had : IsPromised (promise_to j f y) (with_promises n x fs ps) = (all_promised n x clock fs base ps (λ i g z a b. h i g z (live_back (Client i) g z front (before_own e past) still a) b) j f y before t).1 in
     elim (all_with_left n x fs ps (left n vs ps) (hits n vs ps) (λ q z. hit_or_left n vs ps q z) (promise_to j f y) had) [
       | inl z ↦ absurd (owed_dead j f y y k (hits n vs ps) mid z here)
       | inr z ↦ (refl, z)
@@ -720,7 +736,7 @@ pub record Changing (n : ℕ) (b : Backs) (seats now : List Seat) (e : Entry) (p
   pub own : (n : ℕ) → IsNumberIn n (numbers os) → IsNumberIn n hd.waits
   pub all : (n : ℕ) → IsNumberIn n (alls b.owed) → IsNumberIn n hd.waits
 
-pub change_loaded : (n : ℕ) (b : Backs) (ps : List Promise) (more boot : ℕ) (seats now : List Seat) (cs : ℕ → Option Seat) (clock : ℕ) (sent : List Message) (e : Entry) (past : List Entry) (pre : List Line) (os : List Owed) (hd : Held) (m : Message) → BackedIn None b boot seats cs clock sent past → AllOf (IsGranted (lines_of (e ∷ past))) ps → Promised None ps clock (lines_of (e ∷ past)) → Numbered None more (lines_of (e ∷ past)) → Changing n b seats now e past pre os hd m
+pub change_loaded : (n : ℕ) (b : Backs) (ps : List Promise) (more boot : ℕ) (seats now : List Seat) (cs : ℕ → Option Seat) (clock : ℕ) (sent : List Message) (e : Entry) (past : List Entry) (pre : List Line) (os : List Owed) (hd : Held) (m : Message) → BackedIn None b boot seats cs clock sent past → AllOf (IsGranted (lines_of (e ∷ past))) ps → Promised None ps clock (lines_at the_server (e ∷ past)) → Numbered None more (lines_of (e ∷ past)) → Changing n b seats now e past pre os hd m
     → BackedIn None (record b { promises = ps; owed = b.owed ++ os; last_owed = more; held = b.held ++ hd ∷ [] }) boot now cs clock sent (e ∷ past)
 change_loaded who b ps more boot seats now cs clock sent e past pre os hd m h granted promised numbered w =
     let after : Backs = record b { promises = ps; owed = b.owed ++ os; last_owed = more; held = b.held ++ hd ∷ [] } in
@@ -825,7 +841,7 @@ rise_loaded count d b boot seats now cs clock sent e past pre ne h time are owel
           let zero : last_number the_server (onto (lines_of past) pre) ≡ 0 = zero_back pre (lines_of past) oweless (down_zero d b.last_owed (lines_of past) ne h.numbered) in
           subst (λ (ls : List Line). last_number the_server ls ≤ count) (sym (ap (onto (lines_of past)) are ∙ onto_both (lines_of past) pre (map (owe_line the_server) os)))
           (let y : last_number the_server (onto (onto (lines_of past) pre) (map (owe_line the_server) os)) ≤ 0 + count = alls_rise (clock + promise_ticks) 0 count (onto (lines_of past) pre) (le_of_eq zero) in omega arith);
-      promised = λ j f x l t. absurd (ne (h.promised j f x (live_back (Client j) f x e.lines (lines_of past) (subst (λ (ls : List Line). all_lines is_still ls ≡ true) (sym are) (lines_both is_still pre _ still (owes_still os))) l) t).0);
+      promised = λ j f x l t. absurd (ne (h.promised j f x (live_given (Client j) f x e past (live_back (Client j) f x e.lines (before_own e past) (subst (λ (ls : List Line). all_lines is_still ls ≡ true) (sym are) (lines_both is_still pre _ still (owes_still os))) l)) t).0);
       accounted = owes_over the_server (AccountedBy d b.owed b.held clock) (AccountedBy None os [] clock) e past
           (λ before rest c what n line. let f = owes_found pre os before rest c what n oweless (sym are ∙ line) in let x = in_all (OnAll (clock + promise_ticks)) f.o os f.is_in all in inr (
             refl,

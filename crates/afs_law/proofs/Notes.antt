@@ -1,3 +1,4 @@
+use Rattle.afs_rows.specs.States.{Owed}
 -- Lines of a server that tell of its breaks and of its own calls.
 use Rattle.std.proofs.Common.{◌≡◌, ℕ, ◌≤◌, Bool, false, List, [], ◌∷◌, Option, None, refl, sym, ap, subst, ◌∙◌}
 use Rattle.std.specs.Prelude.{⊤, map}
@@ -12,7 +13,7 @@ use Rattle.afs_num.specs.declared.histories.Body.{Body}
 use Rattle.afs_ideal.specs.Operations.{Found}
 use Rattle.afs_law.proofs.Facts.{server_boot}
 use Rattle.afs_law.proofs.Resting.{Rests}
-use Rattle.afs_rows.specs.Callbacks.{Owed, owe_line, settle_line, quit_line}
+use Rattle.afs_rows.specs.Callbacks.{owe_line, settle_line, quit_line}
 use Rattle.afs_rows.specs.ClientRow.{the_server}
 use Rattle.afs_law.specs.Grants.{has_fetched, IsWithdrawn, IsDropped}
 use Rattle.afs_law.specs.Ideal.{last_version, HasVersion, Accepts, clock_of, reach, Reach, reach_over, change_key, changed_under, volume_after}

@@ -9,14 +9,14 @@ use Rattle.afs_num.specs.declared.types.Node.TheVariants.{Client}
 use Rattle.afs_num.specs.declared.calls.FsCall.{FsCall}
 use Rattle.afs_num.specs.declared.messages.Message.{Message}
 use Rattle.afs_law.proofs.Basics.{Above, Each, IfBack, IfDone, OfReply}
-use Rattle.afs_law.specs.Breaks.{HasDrop, HasTimeout, last_grant, expiry_of, Owes, AllOwes, EndedBy, OweAt, CarriesBreak, WasSent, live_grant, last_number}
-use Rattle.afs_rows.specs.Callbacks.{Promise, Owed, BackCall, Held, Backs, is_held, key_answered, breaks_call}
+use Rattle.afs_law.specs.Breaks.{HasDrop, HasTimeout, last_grant, expiry_of, Owes, AllOwes, EndedBy, OweAt, CarriesBreak, WasSent, live_grant, last_number, lines_at}
+use Rattle.afs_rows.specs.Callbacks.{is_held, key_answered, breaks_call}
 use Rattle.afs_rows.specs.ClientRow.{the_server}
 use Rattle.afs_law.specs.Legal.{HasChange}
 use Rattle.afs_history.specs.declared.lines.Line.{Line}
 use Rattle.afs_law.specs.Past.{onto, lines_of, sent_of, given_message, IsCallUnder}
 use Rattle.afs_rows.specs.Runs.{Entry, Fall}
-use Rattle.afs_rows.specs.States.{Seat}
+use Rattle.afs_rows.specs.States.{Seat, Promise, Owed, BackCall, Held, Backs}
 use Rattle.afs_model.specs.Calls.{call_seat}
 
 abbrev pub AllOf : {A : Type 0} → (A → Type 0) → List A → Type 0
@@ -143,7 +143,7 @@ Numbered (Some fall) last ls = last_number the_server ls ≡ 0
 
 pub record BackedIn (d : Option Fall) (b : Backs) (boot : ℕ) (seats : List Seat) (cs : ℕ → Option Seat) (clock : ℕ) (sent : List Message) (past : List Entry) : Type 0 where
   pub granted : d ≡ None → AllOf (IsGranted (lines_of past)) b.promises
-  pub promised : Promised d b.promises clock (lines_of past)
+  pub promised : Promised d b.promises clock (lines_at the_server past)
   pub numbered : Numbered d b.last_owed (lines_of past)
   pub accounted : AllOwes the_server (AccountedBy d b.owed b.held clock) past
   pub owed : d ≡ None → AllOf (λ (o : Owed). IsOwed o.client (lines_of past) o) b.owed

@@ -21,7 +21,7 @@ use Rattle.afs_law.specs.Legal.{IsResult, IsKey, HasChange, Cause, answer_at, Is
 use Rattle.afs_history.specs.declared.lines.Line.{Line}
 use Rattle.afs_law.specs.Past.{onto, lines_of, sent_of, given_message, running, has_begun, Ran, called_key, same_key, is_called, has_sent, is_sent_since, answered_key}
 use Rattle.afs_rows.specs.Runs.{Entry, Fall, at_rest, in_step, in_boot}
-use Rattle.afs_rows.specs.States.{CacheEntry, Seat, ServerState}
+use Rattle.afs_rows.specs.States.{CacheEntry, Seat, ServerState, Lasting}
 use Rattle.afs_num.specs.declared.histories.Body.{Body}
 use Rattle.afs_num.specs.declared.histories.Version.{Version}
 use Rattle.std.proofs.Math.Nat.{le_refl}
@@ -441,7 +441,7 @@ pub replies_still : (sent : List Message) (v : ℕ → View) (e : Entry) (past :
 replies_still sent v e past p r l h = replies_over sent v v past (e ∷ past) (λ j m. reply_over j (v j) m e past (λ f. (p j f).grant) (r j) (λ f. stays j f e past (p j f).grant (l f))) h
 
 -- a step that was interrupted stays so
-pub fallen_over : (down : Option Fall) (server : ServerState) (sent ms : List Message) (e : Entry) (past : List Entry) → HasFallen down server sent past → HasFallen down server (sent ++ ms) (e ∷ past)
+pub fallen_over : (down : Option Fall) (server : Lasting) (sent ms : List Message) (e : Entry) (past : List Entry) → HasFallen down server sent past → HasFallen down server (sent ++ ms) (e ∷ past)
 fallen_over None server sent ms e past h = tt
 fallen_over (Some at_rest) server sent ms e past h = tt
 fallen_over (Some in_boot) server sent ms e past h = tt

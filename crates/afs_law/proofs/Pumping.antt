@@ -1,3 +1,4 @@
+use Rattle.afs_rows.specs.States.{Owed, Held, BackCall}
 -- What a server's step sends: replies whose breaks have ended, and calls for what it owes.
 use Rattle.afs_num.specs.declared.scripts.Script.{Script}
 use Rattle.std.proofs.Common.{◌≡◌, ℕ, Bool, true, false, cond, List, [], ◌∷◌, ◌++◌, Option, Some, None, refl, sym, subst, ◌∙◌}
@@ -10,7 +11,7 @@ use Rattle.afs_num.specs.declared.calls.FsCall.{FsCall}
 use Rattle.afs_law.proofs.Basics.{Each, each_more, OfCall, OfReply, OfNotice, ByClient, client_any}
 use Rattle.afs_law.proofs.Facts.{View, HeldIn, IsReply, CallIn, Origin, IsOne, IsActs, IsLastCall, ToClient}
 use Rattle.afs_law.proofs.Passing.{News}
-use Rattle.afs_rows.specs.Callbacks.{Owed, Held, Turn, Started, BackCall, is_ready, replies_of, starts, starts_by, pumped, break_message, started_call}
+use Rattle.afs_rows.specs.Callbacks.{Turn, Started, is_ready, replies_of, starts, starts_by, pumped, break_message, started_call}
 use Rattle.afs_rows.specs.ClientRow.{the_server}
 use Rattle.afs_law.specs.Past.{sent_of}
 use Rattle.afs_rows.specs.Runs.{Entry}

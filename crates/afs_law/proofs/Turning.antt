@@ -18,14 +18,14 @@ use Rattle.afs_law.proofs.Backing.{back_pass, done_pass, CallsPass}
 use Rattle.afs_law.proofs.Basics.{both, same_node-true, Each, IfBack, IfDone, OfCall, OfReply, OfServer, ByServer, each_more, each_map, if_back, if_done, some_of}
 use Rattle.afs_law.proofs.Owing.{AllOf, all_map, all_both, all_filter, IsGranted, IsIn, IsNumberIn, HeldWaits, IsOwed, CallOut, BackIn, DoneIn, BackedIn, IsPromised, promise_to}
 use Rattle.afs_law.specs.Breaks.{HasCome, AllOwes, EndedBy, EndedOf, EndedAll, CarriesBreak, NamesIn, WasSent}
-use Rattle.afs_rows.specs.Callbacks.{put, Promise, Owed, BackCall, Held, Backs, Turn, Started, expired, is_all, has_number, waits_none, is_ready, is_reply_to, is_held, key_answered, fids_of, breaks_call, fid_before, call_for, break_message, first_of, is_for, most_breaks, carries_for, started_call, starts_by, starts, replies_of, held_after, given_out, pumped}
+use Rattle.afs_rows.specs.Callbacks.{put, Turn, Started, expired, is_all, has_number, waits_none, is_ready, is_reply_to, is_held, key_answered, fids_of, breaks_call, fid_before, call_for, break_message, first_of, is_for, most_breaks, carries_for, started_call, starts_by, starts, replies_of, held_after, given_out, pumped}
 use Rattle.afs_rows.specs.ClientRow.{the_server}
 use Rattle.afs_law.specs.Ideal.{clock_of}
 use Rattle.afs_law.specs.Legal.{HasChange, GoodReply, AreGoodReplies}
 use Rattle.afs_history.specs.declared.lines.Line.{Line}
 use Rattle.afs_law.specs.Past.{lines_of, sent_of, given_message, answered_key, IsCallUnder, Sends}
 use Rattle.afs_rows.specs.Runs.{Entry}
-use Rattle.afs_rows.specs.States.{Seat}
+use Rattle.afs_rows.specs.States.{Seat, Promise, Owed, BackCall, Held, Backs}
 use Rattle.afs_history.specs.declared.lines.Line.TheVariants as lines
 
 -- ---- the step begins: what has expired is gone
