@@ -130,7 +130,7 @@ pub data Input : Type 0 where
   starts_again : Bool → Outcome → Input
   sets_stop : ℕ → ℕ → Input
   sets_fail : ℕ → Input
-  server_waits : ℕ → Input
+  server_waits : Node → Input
   wakes : Input
   nothing : Input
 
@@ -257,12 +257,12 @@ abbrev pub server_armed : Cell → Line → Armed → Option Fall → Moved
 server_armed c l armed None = server_set c l armed
 server_armed c l armed (Some fall) = voided c
 
--- the server's call to a client is timed out
-abbrev pub back_timed : Cell → ℕ → Option BackCall → Moved
+-- the server's call to a node is timed out
+abbrev pub back_timed : Cell → Node → Option BackCall → Moved
 back_timed c n None = voided c
 back_timed c n (Some b) = server_moves c c.armed (back_timeout_row the_server c.server c.clock n b)
 
-abbrev pub server_timed : Cell → ℕ → Option Fall → Moved
+abbrev pub server_timed : Cell → Node → Option Fall → Moved
 server_timed c n None = back_timed c n (c.server.backs.calls n)
 server_timed c n (Some fall) = voided c
 

@@ -21,8 +21,8 @@ done me s clock place d t = stepped me (does me s clock place d []).state (does 
 unfoldable pub server_row : Node → ServerState → ℕ → ℕ → Received → Step ServerState
 server_row me s clock place m = done me s clock place (decides me s clock m) (turned_in me s clock (expired clock s.backs) (decides me s clock m) m)
 
--- its unanswered call to this client is timed out
-unfoldable pub back_timeout_row : Node → ServerState → ℕ → ℕ → BackCall → Step ServerState
+-- its unanswered call to this node is timed out
+unfoldable pub back_timeout_row : Node → ServerState → ℕ → Node → BackCall → Step ServerState
 back_timeout_row me s clock n c = stepped me s (timed me s.lasting.boot n c (expired clock s.backs)).lines (timed me s.lasting.boot n c (expired clock s.backs))
 
 -- time has passed

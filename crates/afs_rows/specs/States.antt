@@ -2,6 +2,9 @@
 use Rattle.std.specs.Prelude.{ℕ, List, [], ◌∷◌, map, Option, Some, None}
 use Rattle.afs_num.specs.Nodes.{node_number}
 use Rattle.afs_num.specs.declared.types.Fid.{Fid}
+use Rattle.afs_num.specs.declared.types.Node.{Node}
+use Rattle.afs_breaks.specs.declared.types.OwedBreak.{OwedBreak}
+use Rattle.afs_breaks.specs.Promises.{Lists}
 use Rattle.afs_num.specs.declared.messages.Message.{Message}
 use Rattle.afs_num.specs.declared.histories.Body.{Body}
 use Rattle.std.specs.Option.{option_map}
@@ -68,38 +71,24 @@ durable_of l = record {
 
 -- ---- what it has in memory beside its callers
 
-pub record Promise : Type 0 where
-  pub client : ℕ
-  pub fid : Fid
-  pub expiry : ℕ
-
--- an owed break, on a fid or on all
-pub record Owed : Type 0 where
-  pub number : ℕ
-  pub client : ℕ
-  pub what : Option Fid
-  pub expiry : ℕ
-
--- the server's unanswered call to a client, and the breaks that it carries
+-- the server's unanswered call to a node, and the breaks that it carries
 pub record BackCall : Type 0 where
   pub number : ℕ
   pub tries : ℕ
-  pub breaks : List Owed
+  pub breaks : List OwedBreak
 
 -- a reply that goes out once no break of these numbers is owed
 pub record Held : Type 0 where
   pub reply : Message
   pub waits : List ℕ
 
--- Promises and owed breaks, from the oldest, and the last number of one; the last number of its own calls in this boot, its
--- unanswered calls, and the boot numbers of the clients as it knows them; and the replies that wait
+-- Promises and owed breaks; the last number of its own calls in this boot, its unanswered calls, and the boot numbers of the
+-- nodes that it calls as it knows them; and the replies that wait
 pub record Backs : Type 0 where
-  pub promises : List Promise
-  pub owed : List Owed
-  pub last_owed : ℕ
+  pub lists : Lists
   pub last_call : ℕ
-  pub calls : ℕ → Option BackCall
-  pub known : ℕ → ℕ
+  pub calls : Node → Option BackCall
+  pub known : Node → ℕ
   pub held : List Held
 
 -- a file server: what outlives a crash; its callers; and the rest
