@@ -1,4 +1,5 @@
-use Rattle.afs_rows.specs.ServerSteps.{start_row, server_row, back_timeout_row, wake_row}
+use Rattle.afs_law.proofs.Promising.{owes_all, risen_as, risen_is}
+use Rattle.afs_rows.specs.ServerSteps.{start_row, server_row, back_timeout_row, wake_row, stepped}
 use Rattle.afs_num.specs.declared.types.Fid.{Fid}
 use Rattle.std.specs.Prelude as outcome
 use Rattle.std.specs.Prelude.{Ok, Err}
@@ -15,7 +16,7 @@ use Rattle.afs_law.proofs.Backing.{Plain, all_lines, is_still, is_oweless, backe
 use Rattle.afs_law.proofs.Basics.{kept_last, not_above, runs_above, Below, Above, Each, IfCall, IfNotice, if_notice, by_server, IfDone, ByClient, OfClient, client_any, same_node-true, below_not, up_to_same, OfCall, each_map, each_at, if_call, some_of}
 use Rattle.afs_law.proofs.Edits.{on_top, SoundIn}
 use Rattle.afs_law.proofs.Facts.{HeldIn, ToClient, Ghost, HoldsAt, server_boot, up_boot, risen, IsActs, View, view, Spot, spot, ReplyFact, AreKept, HasFallen, IsCut, Fits, Answers, KeptReply, ClientFacts, CallFact, CallIn, Origin, AreUnheard, Holds, Goes, IsNoticed, IsOne}
-use Rattle.afs_law.proofs.Loading.{is_tickless, down_later, resent, rise_loaded, run_loaded, no_change, all_waited, quits_good, quits_backed, retries_backed, all_owed, alls_good}
+use Rattle.afs_law.proofs.Loading.{is_tickless, down_later, resent, rise_loaded, run_loaded, no_change, all_waited, quits_good, quits_backed, retries_backed, all_owed, alls_good, all_clients}
 use Rattle.afs_law.proofs.Notes.{AreNotes, Skips, skips, told_entry, risen_entry, risen_rests, owe_notes, quit_notes}
 use Rattle.afs_law.proofs.Ops.{IsShown, reads_is, op_code, op_is, IsFoundAs, changes_is}
 use Rattle.afs_law.proofs.Owing.{BackedIn, IsNumberIn, DoneIn}
@@ -26,15 +27,15 @@ use Rattle.afs_law.proofs.Saving.{versions_lines, versioned_front, saves_clock, 
 use Rattle.afs_law.proofs.Serving.{shows_goes, answered_goes, noticed_goes, nothing_done, quiet, acts_alone, still_loads, given_plain, Loads, up_backed, seats_of, Gives, noted, Dull, at_told, client_head, Now, call_at, taken, seats_after, views_after, ran_now, served_cell, unheard_later, refuses_goes, server_adds, server_does, IsRead, answer_in, AllSeen, IsSeen, IsLook}
 use Rattle.afs_law.proofs.Turning.{Pumps, pumps, put_call, break_good}
 use Rattle.afs_law.specs.Breaks.{HasStopped, last_number}
-use Rattle.afs_rows.specs.Callbacks.{retries, quits, Turn, replies_of, pumped, expired, turn_for, no_turn, repeats_by, is_held, key_answered, is_seat_of, risen_turn, owes_all, alls, put}
+use Rattle.afs_rows.specs.Callbacks.{retries, quits, Turn, replies_of, pumped, expired, turn_for, no_turn, repeats_by, is_held, key_answered, is_seat_of, risen_turn, alls, put, put_at}
 use Rattle.afs_rows.specs.ClientRow.{the_server}
 use Rattle.afs_rows.specs.Going.{asked}
 use Rattle.afs_law.specs.Ideal.{is_zero_code, clock_of, volume_after}
 use Rattle.afs_law.specs.Legal.{IsChanging, code_given, AreGood, IsNew, HasChange, versions_first, IsTold, answer_at, answer_on, GoodRestart, op_on, all_on, statuses_on}
 use Rattle.afs_history.specs.declared.lines.Line.{Line}
 use Rattle.afs_law.specs.Past.{onto, lines_of, sent_of, given_message, called_key, IsCallUnder}
-use Rattle.afs_rows.specs.Runs.{begun_by_disk, Entry, Cell, message_at, Armed, unarmed, Luck, Blow, struck, lowered, Fall, at_rest, in_step, in_boot, settled, Outcome, comes_up, fails_early, fails_midway, is_full, server_rises, server_ends, server_falls, blow_line, server_stopped, server_restarted, server_served, server_given, back_timed, server_timed, server_wakes}
-use Rattle.afs_rows.specs.ServerRow.{begun_after, begun_before, not_served, serves_call, shows, Reading, no_room, revived, device_calls, promise_ticks, decides, Decision, drops, tells_boot, repeats, refuses, saves, admits, called, hears, boot_told, versioned, Change, decided, in_volume, with_volume, Sight, lasting_started, sights, reading_in, seat_placed, sight_by, sight_in, no_volume, several}
+use Rattle.afs_rows.specs.Runs.{begun_by_disk, Entry, Cell, message_at, Armed, unarmed, Luck, Blow, struck, lowered, Fall, at_rest, in_step, in_boot, settled, Outcome, comes_up, fails_early, fails_midway, is_full, server_rises, server_ends, server_falls, blow_line, server_stopped, server_restarted, server_served, server_given, back_timed, server_timed, server_wakes, Moved, server_moves}
+use Rattle.afs_rows.specs.ServerRow.{begun_after, begun_before, not_served, serves_call, shows, Reading, no_room, revived, device_calls, promise_ticks, decides, Decision, drops, tells_boot, repeats, refuses, saves, admits, called, hears, boot_told, versioned, Change, decided, in_volume, with_volume, Sight, lasting_started, sights, reading_in, seat_placed, sight_by, sight_in, no_volume, several, saved}
 use Rattle.afs_rows.specs.States.{Seat, ServerState, Backs, Held, BackCall, volume_in, Lasting}
 use Rattle.afs_model.specs.Calls.{Admitted, call_seat, call_seated}
 use Rattle.afs_model.specs.Calls as pairs
@@ -379,8 +380,8 @@ pub turned_goes : (s : Script) (c : Cell) (past : List Entry) (armed : Armed) (p
     → Goes s past (server_does c armed p (record { head = head; carried = x }) drops)
 turned_goes s c past armed p head (carried.Call user call) i H up at to j = nothing_done s c past armed p _ H up at j
 turned_goes s c past armed p head (carried.Refusal code) i H up at to j = nothing_done s c past armed p _ H up at j
-turned_goes s c past armed p head (carried.Reply reply) i H up at to j = answered_goes s c past armed p _ head.from H up at j refl (by_server i head.to _ to (each_at (IfDone (DoneIn c.down c.server.backs.calls c.server.backs.last_call c.server.lasting.boot past)) c.sent p _ at (H.backs refl).dones))
-turned_goes s c past armed p head carried.Notice i H up at to j = noticed_goes s c past armed p _ head.from H up at j
+turned_goes s c past armed p head (carried.Reply reply) i H up at to j = answered_goes s c past armed p _ H up at j (by_server i head.to _ to (each_at (IfDone (DoneIn c.down c.server.backs.calls c.server.backs.last_call c.server.lasting.boot past)) c.sent p _ at (H.backs refl).dones))
+turned_goes s c past armed p head carried.Notice i H up at to j = noticed_goes s c past armed p _ H up at j
 
 -- ---- a kept reply is sent again
 
@@ -417,13 +418,13 @@ kept_new s c past reply client seat H at k t = H.new (key_answered reply) (subst
     (λ d i l. (H.clients client).lower d i (subst (λ (o : Option Seat). Above o d i) (sym at) (subst (λ (e : ℕ). Below e seat.number d i) k.epoch (subst (λ (z : ℕ). Below reply.head.epoch z d i) k.number l))))))
 
 pub repeat_loads : (s : Script) (c : Cell) (past : List Entry) (e : Entry) (p : ℕ) (reply : Message) (ws : List ℕ) → (H : Holds s c past) → c.down ≡ None → IsKept c reply → e ≡ told_entry p [] e.sent → is_held (key_answered reply) c.server.backs.held ≡ false
-    → (HasChange (key_answered reply) (lines_of past) → (n : ℕ) → IsNumberIn n (alls (expired c.clock c.server.backs).owed) → IsNumberIn n ws) → Loads c (e ∷ past) (record { backs = expired c.clock c.server.backs; lines = []; sent = []; outs = record { reply = reply; waits = ws } ∷ [] })
+    → (HasChange (key_answered reply) (lines_of past) → (n : ℕ) → IsNumberIn n (alls (expired c.clock c.server.backs).lists.owed) → IsNumberIn n ws) → Loads c (e ∷ past) (record { backs = expired c.clock c.server.backs; lines = []; sent = []; outs = record { reply = reply; waits = ws } ∷ [] })
 repeat_loads s c past e p reply ws H up k is none all =
     let d = (H.clients k.client).kept k.seat reply k.at k.kept in
     let B = up_backed s c past H up in
     let q : Plain e.lines = given_plain p e e.sent is in
     record {
-      backed = run_loaded (expired c.clock c.server.backs) (expired c.clock c.server.backs).promises c.server.lasting.boot c.server.seats c.server.seats (seats_of c) c.clock c.sent e past (record { reply = reply; waits = ws }) B q.up q.oweless q.unchanging (granted_over e past (expired c.clock c.server.backs).promises q.still (B.granted refl)) (promised_over None (expired c.clock c.server.backs).promises c.clock c.clock e past q.still (le_refl _) B.promised) (λ m y z w. w)
+      backed = run_loaded (expired c.clock c.server.backs) (expired c.clock c.server.backs).lists.promises c.server.lasting.boot c.server.seats c.server.seats (seats_of c) c.clock c.sent e past (record { reply = reply; waits = ws }) B q.up q.oweless q.unchanging (granted_over e past (expired c.clock c.server.backs).lists.promises q.still (B.granted refl)) (B.clients refl).promised (promised_over None (expired c.clock c.server.backs).lists.promises c.clock c.clock e past q.still (le_refl _) B.promised) (λ m y z w. w)
           (record { client = k.client; to = d.0.to; from = d.0.from; is_reply = d.0.is_reply; under = kept_under c reply k.client k.seat k.at d.0 }) (λ y. absurd cc)
           (λ y. all_waited (expired c.clock c.server.backs) c.server.lasting.boot c.server.seats (seats_of c) c.clock c.sent e past (record { reply = reply; waits = ws }) B (all (change_back (key_answered reply) e.lines (lines_of past) q.unchanging y)) (λ a b f what n line. absurd (no_owe e.lines a b the_server f what n q.oweless line)));
       sends = record { good = tt; calls = tt; dones = tt };
@@ -433,7 +434,7 @@ pub repeats_goes : (s : Script) (c : Cell) (past : List Entry) (armed : Armed) (
     → Goes s past (server_adds c armed c.server (lines.Given p ∷ []) (repeats_by (expired c.clock c.server.backs) reply held good))
 repeats_goes s c past armed p m reply true good H up at j k a b = nothing_done s c past armed p m H up at j
 repeats_goes s c past armed p m reply false true H up at j k a b = quiet s c past armed p m (repeats_by (expired c.clock c.server.backs) reply false true) H up at j tt tt (λ e over held. record { notes = tt; sent = no_news _ _ _; outs = (repeated s c past e reply H over k, tt); held = held })
-    (λ e q. repeat_loads s c past e p reply (alls (expired c.clock c.server.backs).owed) H up k (q ∙ ap (λ (ms : List Message). told_entry p [] ms) (sym (ap (λ (z : Entry). z.sent) q))) a (λ y n z. z))
+    (λ e q. repeat_loads s c past e p reply (alls (expired c.clock c.server.backs).lists.owed) H up k (q ∙ ap (λ (ms : List Message). told_entry p [] ms) (sym (ap (λ (z : Entry). z.sent) q))) a (λ y n z. z))
 repeats_goes s c past armed p m reply false false H up at j k a b = quiet s c past armed p m (repeats_by (expired c.clock c.server.backs) reply false false) H up at j tt tt (λ e over held. record { notes = tt; sent = no_news _ _ _; outs = (repeated s c past e reply H over k, tt); held = held })
     (λ e q. repeat_loads s c past e p reply [] H up k (q ∙ ap (λ (ms : List Message). told_entry p [] ms) (sym (ap (λ (z : Entry). z.sent) q))) a (λ y. absurd (no_change (key_answered reply) (lines_of past) (kept_new s c past reply k.client k.seat H k.at ((H.clients k.client).kept k.seat reply k.at k.kept).0 b) y)))
 
@@ -599,7 +600,7 @@ pub rises_at : (s : Script) (c : Cell) (past : List Entry) (fall : Fall) (boot :
 rises_at s c past fall boot h e = ap (λ (o : Option ℕ). risen o boot) (h.boots ∙ ap (λ (d : Option Fall). up_boot d c.server.lasting.boot) e)
 
 abbrev pub rising : Cell → Turn
-rising c = risen_turn the_server c.clock c.count
+rising c = risen_as the_server c.clock c.count
 
 pub rising_notes : (c : Cell) → AreNotes (rising c).lines
 rising_notes c = owe_notes (owes_all (c.clock + promise_ticks) 0 c.count)
@@ -614,15 +615,18 @@ rises_owed s c h j a b = all_owed (c.clock + promise_ticks) 0 c.count j (omega a
 
 -- what a restart sends
 pub rising_gives : {s : Script} → (views : ℕ → View) (boot b : ℕ) (past : List Entry) (c : Cell) (held : List Held) → Gives s views b past held (pumped the_server boot (rising c)).sent held
-rising_gives {s} views boot b past c held h = ((pumped_news views b past boot (rising c) (no_news _ _ _) tt tt).0, h)
+rising_gives {s} views boot b past c held h = ((pumped_news views b past boot (rising c) (all_clients (c.clock + promise_ticks) 0 c.count) (no_news _ _ _) tt tt).0, h)
 
 pub nothing_held : (boot : ℕ) (c : Cell) (views : ℕ → View) (past : List Entry) → Each (HeldIn views past) (replies_of (pumped the_server boot (rising c)).backs.held)
-nothing_held boot c views past = subst (λ (hs : List Held). Each (HeldIn views past) (replies_of hs)) (sym (starts_held boot (rising c).backs.owed _)) tt
+nothing_held boot c views past = subst (λ (hs : List Held). Each (HeldIn views past) (replies_of hs)) (sym (starts_held boot (rising c).backs.lists.owed _)) tt
 
 -- the server rises in the state that it has
-pub rises_goes : (s : Script) (c : Cell) (past : List Entry) (fall : Fall) → Holds s c past → c.down ≡ Some fall → Goes s past (server_rises c (begun_before c.server))
-unfolding start_row
-rises_goes s c past fall h e =
+-- the server begins again in a state, with lines before its own
+abbrev pub risen_move : Cell → ServerState → (List Line → List Line) → Turn → Moved
+risen_move c s before t = server_moves c unarmed (stepped the_server (revived s) (before (lines.Restart the_server (s.lasting.boot + 1) ∷ t.lines)) t)
+
+rises_as : (s : Script) (c : Cell) (past : List Entry) (fall : Fall) → Holds s c past → c.down ≡ Some fall → Goes s past (risen_move c c.server (λ ls. ls) (rising c))
+rises_as s c past fall h e =
     let b : ℕ = c.server.lasting.boot + 1 in
     let t : Turn = rising c in
     let sk : Skips t.lines = skips t.lines (rising_notes c) in
@@ -636,6 +640,10 @@ rises_goes s c past fall h e =
       holds = revives s (Some b) _ (x ∷ past) (pumped the_server b t).backs (noted s (Some b) c past c.armed c.down x c.server.backs h (sk.boot _ ∙ rises_at s c past fall b h e) (risen_rests s b t.lines (pumped the_server b t).sent past sk) (sk.clock _)
           (unheard_still c.down c x past (sk.given (sent_of past)) h.unheard) (fallen_over c.down c.server.lasting c.sent (pumped the_server b t).sent x past h.down) (rising_gives _ b _ _ c c.server.backs.held) (λ z. absurd (up_not c fall _ e (sym z)))) (λ fl z. nothing_held b c _ _) (λ z. pump.backed);
     }
+
+pub rises_goes : (s : Script) (c : Cell) (past : List Entry) (fall : Fall) → Holds s c past → c.down ≡ Some fall → Goes s past (server_rises c (begun_before c.server))
+unfolding start_row
+rises_goes s c past fall h e = subst (λ (t : Turn). Goes s past (risen_move c c.server (λ ls. ls) t)) (sym (risen_is the_server c.clock c.count)) (rises_as s c past fall h e)
 
 -- from what is found the server rises, or stays down
 
@@ -671,7 +679,7 @@ down_not c e z = absurd cc
 pub after_good : (s : Script) (c : Cell) (past : List Entry) (n : ℕ) (h : Head) (user : List ℕ) (call : FsCall) (id : ℕ) (v : Volume) (es : List Edit) (shown : ℕ) (ls : List Line) → (H : Holds s c past) → Now s c H.floors past n h user call → Change' c past user call id v es shown → {fall : Fall} → c.down ≡ Some fall → versions_first ls ≡ []
     → AreGood s (actors.Node the_server) past (on_top (versions_by id es v) (lines.Change the_server (called_key (client_head n h)) (length (versions_by id es v)) ∷ [])) ls → AreGood s (actors.Node the_server) past [] (lines.Change the_server (called_key (client_head n h)) (length (versions_by id es v)) ∷ versioned (versions_by id es v) ls)
 after_good s c past n h user call id v es shown ls H w q down none good =
-    ((refl, saves_change_good s c past [] ls n h user call id v es shown H w q (H.new _ w.above_durable) refl (H.home id v q.at) none (λ j f x ne y l t. absurd (down_not c down ((H.backs refl).promised j f x l (subst (λ (z : ℕ). z < x) H.clock t)).0))), versions_good s past _ ls (versions_by id es v) tt good)
+    ((refl, saves_change_good s c past [] ls n h user call id v es shown H w q (H.new _ w.above_durable) refl (H.home id v q.at) none (λ j f x ne y l t. absurd (down_not c down ((H.backs refl).promised (Client j) f x l (subst (λ (z : ℕ). z < x) H.clock t)).0))), versions_good s past _ ls (versions_by id es v) tt good)
 
 pub after_holds : (y : Way) (s : Script) (now : Option ℕ) (c : Cell) (past : List Entry) (after : Backs) (fall : Fall) (n : ℕ) (h : Head) (user : List ℕ) (call : FsCall) (time id : ℕ) (st : Stored) (es : List Edit) (shown : ℕ) → (H : Holds s c past) → Now s c H.floors past n h user call → Change' c past user call id st.volume es shown
     → IsCut c.server.lasting c.sent (call_at n h user call) past → given_message (saved_lines y (called_key (client_head n h)) (versions_by id es st.volume)) (sent_of past) ≡ None
@@ -684,10 +692,9 @@ after_holds y s now c past after fall n h user call time id st es shown H w q is
     saves_holds y s now c past after unarmed (Some fall) n h user call time id st es shown H w q (record { ran = ran_over _ _ past is_cut.ran; is = is_cut.is; ideal = is_cut.ideal }) boots
     (λ k x l. (λ z. subst (λ (o : Option Message). IsCallUnder the_server k x o) none z, unheard_later c.down c.server.seats c.server.lasting.boot past H.unheard k x l)) (fallen _ _ _) gives backs
 
-pub ends_saved : (s : Script) (c : Cell) (past : List Entry) (fall : Fall) (o : Outcome) (n : ℕ) (h : Head) (user : List ℕ) (call : FsCall) (time id : ℕ) (st : Stored) (es : List Edit) (shown : ℕ) → (H : Holds s c past) → c.down ≡ Some fall → Now s c H.floors past n h user call → Change' c past user call id st.volume es shown
-    → IsCut c.server.lasting c.sent (call_at n h user call) past → Goes s past (server_ends c (begun_after the_server c.server time (saves (client_head n h) (change_at id user call st es shown))) fall o)
-unfolding start_row
-ends_saved s c past fall comes_up n h user call time id st es shown H e w q is_cut =
+saved_up : (s : Script) (c : Cell) (past : List Entry) (fall : Fall) (n : ℕ) (h : Head) (user : List ℕ) (call : FsCall) (time id : ℕ) (st : Stored) (es : List Edit) (shown : ℕ) → (H : Holds s c past) → c.down ≡ Some fall → Now s c H.floors past n h user call → Change' c past user call id st.volume es shown
+    → IsCut c.server.lasting c.sent (call_at n h user call) past → Goes s past (risen_move c (saved (client_head n h) time (change_at id user call st es shown) c.server) (λ ls. lines.Change the_server (called_key (client_head n h)) (length (versions_by id es st.volume)) ∷ versioned (versions_by id es st.volume) ls) (rising c))
+saved_up s c past fall n h user call time id st es shown H e w q is_cut =
     let x : ℕ = c.server.lasting.boot + 1 in
     let t : Turn = rising c in
     let sk : Skips t.lines = skips t.lines (rising_notes c) in
@@ -707,6 +714,13 @@ ends_saved s c past fall comes_up n h user call time id st es shown H e w q is_c
       good = after_good s c past n h user call id st.volume es shown (lines.Restart the_server x ∷ t.lines) H w q e refl ((refl, rises_owed s c H), alls_good s (c.clock + promise_ticks) 0 c.count past _ (le_of_eq (top_number vs (lines.Change the_server key (length vs) ∷ []) (lines_of past) ∙ down_number s c past fall H e)));
       holds = revives s (Some x) _ _ (pumped the_server x t).backs (after_holds y s (Some x) c past c.server.backs at_rest n h user call time id st es shown H w q is_cut given (λ u z b. tt) (saves_boot y key vs r past ∙ (sk.boot _ ∙ rises_at s c past fall x H e)) (λ own. rising_gives _ x _ _ c c.server.backs.held) (λ z. absurd cc)) (λ fl z. nothing_held x c _ _) (λ z. pump.backed);
     }
+
+pub ends_saved : (s : Script) (c : Cell) (past : List Entry) (fall : Fall) (o : Outcome) (n : ℕ) (h : Head) (user : List ℕ) (call : FsCall) (time id : ℕ) (st : Stored) (es : List Edit) (shown : ℕ) → (H : Holds s c past) → c.down ≡ Some fall → Now s c H.floors past n h user call → Change' c past user call id st.volume es shown
+    → IsCut c.server.lasting c.sent (call_at n h user call) past → Goes s past (server_ends c (begun_after the_server c.server time (saves (client_head n h) (change_at id user call st es shown))) fall o)
+unfolding start_row
+ends_saved s c past fall comes_up n h user call time id st es shown H e w q is_cut =
+    subst (λ (t : Turn). Goes s past (risen_move c (saved (client_head n h) time (change_at id user call st es shown) c.server) (λ ls. lines.Change the_server (called_key (client_head n h)) (length (versions_by id es st.volume)) ∷ versioned (versions_by id es st.volume) ls) t)) (sym (risen_is the_server c.clock c.count))
+    (saved_up s c past fall n h user call time id st es shown H e w q is_cut)
 ends_saved s c past fall fails_early n h user call time id st es shown H e w q is_cut = ends_before s c past fall fails_early H e
 ends_saved s c past fall fails_midway n h user call time id st es shown H e w q is_cut = record {
   good = after_good s c past n h user call id st.volume es shown (lines.Fault the_server ∷ []) H w q e refl (refl, tt);
@@ -826,25 +840,25 @@ given_goes s c past p luck m (Some fall) i h e at to = voids s c past h
 
 -- ---- the server's own calls are timed out
 
-pub timed_goes : (s : Script) (c : Cell) (past : List Entry) (n : ℕ) (b : BackCall) (x : Bool) → (H : Holds s c past) → c.down ≡ None → c.server.backs.calls n ≡ Some b → nat_lt b.tries 2 ≡ x → Goes s past (server_adds c c.armed c.server [] (cond x (retries the_server c.server.lasting.boot n b (expired c.clock c.server.backs)) (quits the_server c.server.lasting.boot n b (expired c.clock c.server.backs))))
+pub timed_goes : (s : Script) (c : Cell) (past : List Entry) (n : Node) (b : BackCall) (x : Bool) → (H : Holds s c past) → c.down ≡ None → c.server.backs.calls n ≡ Some b → nat_lt b.tries 2 ≡ x → Goes s past (server_adds c c.armed c.server [] (cond x (retries the_server c.server.lasting.boot n b (expired c.clock c.server.backs)) (quits the_server c.server.lasting.boot n b (expired c.clock c.server.backs))))
 timed_goes s c past n b true H up at e =
     let x : Backs = expired c.clock c.server.backs in
-    acts_alone s c past c.armed (retries the_server c.server.lasting.boot n b x) H up (tt, tt) (refl, tt) (λ k held. record { notes = (tt, tt); sent = news_break _ _ _ c.server.lasting.boot n (x.known n) b; outs = tt; held = held })
+    acts_alone s c past c.armed (retries the_server c.server.lasting.boot n b x) H up (tt, tt) (refl, tt) (λ k held. record { notes = (tt, tt); sent = news_break _ _ _ c.server.lasting.boot n (x.known n) b ((up_backed s c past H up).outs refl n b at).client; outs = tt; held = held })
     (λ k q. let old = up_backed s c past H up in record {
       backed = retries_backed x c.server.lasting.boot c.server.seats (seats_of c) c.clock c.sent k past n b at (ap (λ (y : Entry). y.lines) q) old;
-      sends = record { good = (break_good (k ∷ past) c.server.lasting.boot n (x.known n) b, tt); calls = resent x c.server.lasting.boot c.server.seats (seats_of c) c.clock c.sent past (k ∷ past) n (x.known n) b (put n (Some (record b { tries = b.tries + 1 })) x.calls) old at (λ y w. put_call n n (record b { tries = b.tries + 1 }) y x.calls _ w (λ u v. ap (λ (z : BackCall). z.breaks) (sym v)) (λ u. ap (λ (z : BackCall). z.breaks) (some_of y b (sym u ∙ at)))); dones = (tt, tt) };
+      sends = record { good = (break_good (k ∷ past) c.server.lasting.boot n (x.known n) b, tt); calls = resent x c.server.lasting.boot c.server.seats (seats_of c) c.clock c.sent past (k ∷ past) n (x.known n) b (put_at n (Some (record b { tries = b.tries + 1 })) x.calls) old at (λ y w. put_call n n (record b { tries = b.tries + 1 }) y x.calls _ w (λ u v. ap (λ (z : BackCall). z.breaks) (sym v)) (λ u. ap (λ (z : BackCall). z.breaks) (some_of y b (sym u ∙ at)))); dones = (tt, tt) };
     })
 timed_goes s c past n b false H up at e =
     let x : Backs = expired c.clock c.server.backs in
-    acts_alone s c past c.armed (quits the_server c.server.lasting.boot n b x) H up (tt, quit_notes _) (refl, quits_good s n c.server.lasting.boot x.last_call b past x.owed ((up_backed s c past H up).outs refl n b at) e) (λ k held. record { notes = (tt, quit_notes _); sent = no_news _ _ _; outs = tt; held = held })
-    (λ k q. record { backed = quits_backed x c.server.lasting.boot c.server.seats (seats_of c) c.clock c.sent k past n b (ap (λ (y : Entry). y.lines) q) (up_backed s c past H up); sends = record { good = tt; calls = tt; dones = tt } })
+    acts_alone s c past c.armed (quits the_server c.server.lasting.boot n b x) H up (tt, quit_notes n _) (refl, quits_good s n c.server.lasting.boot x.last_call b x past ((up_backed s c past H up).outs refl n b at) e) (λ k held. record { notes = (tt, quit_notes n _); sent = no_news _ _ _; outs = tt; held = held })
+    (λ k q. record { backed = quits_backed x c.server.lasting.boot c.server.seats (seats_of c) c.clock c.sent k past n b at (ap (λ (y : Entry). y.lines) q) (up_backed s c past H up); sends = record { good = tt; calls = tt; dones = tt } })
 
-pub back_times : (s : Script) (c : Cell) (past : List Entry) (n : ℕ) (o : Option BackCall) → (H : Holds s c past) → c.down ≡ None → c.server.backs.calls n ≡ o → Goes s past (back_timed c n o)
+pub back_times : (s : Script) (c : Cell) (past : List Entry) (n : Node) (o : Option BackCall) → (H : Holds s c past) → c.down ≡ None → c.server.backs.calls n ≡ o → Goes s past (back_timed c n o)
 unfolding back_timeout_row
 back_times s c past n None H up at = voids s c past H
 back_times s c past n (Some b) H up at = timed_goes s c past n b (nat_lt b.tries 2) H up at refl
 
-pub server_times : (s : Script) (c : Cell) (past : List Entry) (n : ℕ) (d : Option Fall) → (H : Holds s c past) → c.down ≡ d → Goes s past (server_timed c n d)
+pub server_times : (s : Script) (c : Cell) (past : List Entry) (n : Node) (d : Option Fall) → (H : Holds s c past) → c.down ≡ d → Goes s past (server_timed c n d)
 server_times s c past n None H up = back_times s c past n (c.server.backs.calls n) H up refl
 server_times s c past n (Some fall) H up = voids s c past H
 

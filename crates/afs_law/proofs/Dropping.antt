@@ -1,3 +1,4 @@
+use Rattle.afs_law.proofs.Promising.{Owed}
 use Rattle.afs_num.specs.declared.calls.AfsFetchStatus.{AfsFetchStatus}
 use Rattle.afs_law.proofs.Asking.{Passes, Fresh, KeepsSeat, moves_back, moves, old_seat, step_entry, view_after, views_after, Heard, heard_dull, told_passes, quiet, reply_still, safe_cache}
 use Rattle.afs_law.proofs.Backing.{Plain, all_lines, is_up, is_still, is_oweless, is_unchanging, drop_onto, owe_over}
@@ -18,7 +19,7 @@ use Rattle.afs_history.specs.declared.lines.Line.{Line}
 use Rattle.afs_law.specs.Past.{onto, lines_of, sent_of, running, has_begun}
 use Rattle.afs_rows.specs.Runs.{Entry, Cell, client_moves}
 use Rattle.afs_rows.specs.ServerRow.{boot_told}
-use Rattle.afs_rows.specs.States.{CacheEntry, Seat, Owed}
+use Rattle.afs_rows.specs.States.{CacheEntry, Seat}
 use Rattle.afs_rows.specs.Steps.{Step}
 use Rattle.afs_model.specs.Calls.{Admitted}
 -- A client is called by its server: it drops what it has cached of the broken promises.
@@ -189,7 +190,7 @@ reply_fresh {s} c n views past m x = record {
   };
   good = (not_good past m n x.from, tt);
   calls = (no_call (ByServer (BackIn c.down c.server.backs.calls c.server.backs.last_call c.server.lasting.boot)) m.head m.carried x.is_reply, tt);
-  dones = (of_reply_any _ m.carried (server_any m.head.to _ (record { client = n; from = x.from; done = x.done })), tt);
+  dones = (of_reply_any _ m.carried (server_any m.head.to _ (record { client = Client n; from = x.from; done = x.done })), tt);
 }
 
 pub notice_fresh : {s : Script} → (c : Cell) (n : ℕ) (views : ℕ → View) (past : List Entry) (boot : ℕ) (head : Head) → head.from ≡ the_server → Fresh s c n views past (boot_told boot head ∷ [])
@@ -216,20 +217,20 @@ all_two P Q R w (x ∷ xs) h k = (w x h.0 k.0, all_two P Q R w xs h.1 k.1)
 
 -- a call that was handled in this entry, whose lines drop what any break of such a call is on
 pub handled : (s : Script) (c : Cell) (past : List Entry) (n : ℕ) (head : Head) (user : List ℕ) (call : FsCall) (e : Entry) → Holds s c past → BackIn c.down c.server.backs.calls c.server.backs.last_call c.server.lasting.boot head user call → head.to ≡ Client n → all_lines is_up e.lines ≡ true
-    → ((w : Option Fid) (o : List Line) → CarriesBreak call w → HasDrop the_server (Client n) w (onto o e.lines)) → IsDone c.down c.server.backs.calls c.server.backs.last_call c.server.lasting.boot (e ∷ past) n head.epoch head.number
+    → ((w : Option Fid) (o : List Line) → CarriesBreak call w → HasDrop the_server (Client n) w (onto o e.lines)) → IsDone c.down c.server.backs.calls c.server.backs.last_call c.server.lasting.boot (e ∷ past) (Client n) head.epoch head.number
 handled s c past n head user call e h b to up drop =
-    let one : b.client ≡ n = client_number b.client n (sym b.to ∙ to) in
+    let one : b.client ≡ Client n = sym b.to ∙ to in
     record {
       booted = b.booted;
       below = b.below;
       dropped = λ k x y at q.
           let is : call ≡ breaks_call k.breaks = b.is k x y (ap c.server.backs.calls one ∙ at) q in
-          let out : CallOut n k c.server.backs.last_call c.server.lasting.boot past = (h.backs refl).outs x n k at in
-          all_two (IsOwed n (lines_of past)) (λ (o : Owed). CarriesBreak (breaks_call k.breaks) o.what) (DroppedOwe n (lines_of (e ∷ past)))
+          let out : CallOut (Client n) k c.server.backs.last_call c.server.lasting.boot past = (h.backs refl).outs x (Client n) k at in
+          all_two (IsOwed (Client n) (lines_of past)) (λ (o : Owed). CarriesBreak (breaks_call k.breaks) o.what) (DroppedOwe (Client n) (lines_of (e ∷ past)))
           (λ o z w. let owe : OweAt the_server (Client n) o.what o.number (lines_of past) = z in record { owe = owe_over (Client n) o.what o.number e past up owe; dropped = drop o.what owe.newer (subst (λ (u : FsCall). CarriesBreak u o.what) (sym is) w) }) k.breaks out.owes out.carries;
     }
 
-pub done_seated : (c : Cell) (n : ℕ) (past : List Entry) (x : ClientState) (head : Head) (reply : FsReply) → head.from ≡ the_server → head.to ≡ Client n → IsDone c.down c.server.backs.calls c.server.backs.last_call c.server.lasting.boot past n head.epoch head.number → SeatedIn c.down c.server.backs.calls c.server.backs.last_call c.server.lasting.boot past n (done_reply x head reply)
+pub done_seated : (c : Cell) (n : ℕ) (past : List Entry) (x : ClientState) (head : Head) (reply : FsReply) → head.from ≡ the_server → head.to ≡ Client n → IsDone c.down c.server.backs.calls c.server.backs.last_call c.server.lasting.boot past (Client n) head.epoch head.number → SeatedIn c.down c.server.backs.calls c.server.backs.last_call c.server.lasting.boot past n (done_reply x head reply)
 done_seated c n past x head reply from to d = record { to = from; from = to; is_reply = λ y. y; done = d }
 
 pub seat_keeps : (c : Cell) (n : ℕ) (past : List Entry) (x : ClientState) (head : Head) (reply : FsReply) → SeatedIn c.down c.server.backs.calls c.server.backs.last_call c.server.lasting.boot past n (done_reply x head reply) → KeepsSeat c n (Some (back_seat head (done_reply x head reply))) past

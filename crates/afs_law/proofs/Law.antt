@@ -5,7 +5,7 @@ use Rattle.afs_ideal.specs.Tables.{AscendsFrom, Table, get, set}
 use Rattle.afs_ideal.specs.Told.{last_told}
 use Rattle.afs_ideal.specs.Volumes.{version_at, Vnode, Volume}
 use Rattle.afs_law.proofs.Answering.{client_goes, begun_goes}
-use Rattle.afs_law.proofs.Backing.{all_lines, is_oweless, no_owe, is_still, live_back, zero_back, live_given, before_own}
+use Rattle.afs_law.proofs.Backing.{all_lines, is_oweless, no_owe, is_still, live_back, zero_back, live_given, before_own, rising_back}
 use Rattle.afs_law.proofs.Basics.{same_fid-refl, same_fid-true, some_of, both}
 use Rattle.afs_law.proofs.Deciding.{server_times, server_wakes_goes, given_goes, stops_goes, restarts_goes}
 use Rattle.afs_law.proofs.Edits.{one_more, Ones, index_in, fid_at, live, SoundIn, sound_same, Tops, get-set, none_has}
@@ -368,9 +368,11 @@ starts s one =
       backs = λ z. record {
         granted = λ x. tt;
         numbered = let y : last_number the_server (onto [] (first_lines s.volumes)) ≡ 0 = zero_back (first_lines s.volumes) [] (first_oweless (first_lines s.volumes) (all_versions s.volumes)) refl in le_of_eq y;
-        promised = λ j f x l t. let none : live_grant the_server (Client j) f [] ≡ Some x = live_given (Client j) f x (set_up s) [] (live_back (Client j) f x (first_lines s.volumes) (before_own (set_up s) []) (first_still (first_lines s.volumes) (all_versions s.volumes)) l) in absurd cc;
+        promised = λ j f x l t. let none : live_grant the_server j f [] ≡ Some x = live_given j f x (set_up s) [] (live_back j f x (first_lines s.volumes) (before_own (set_up s) []) (first_still (first_lines s.volumes) (all_versions s.volumes)) l) in absurd cc;
         accounted = λ newer at older before after c what n split line. first_owes (start s).sent newer (set_up s) at older before after c what n (first_oweless (first_lines s.volumes) (all_versions s.volumes)) split line;
-        owed = λ x. tt;
+        owing = λ x. tt;
+        rising = rising_back (first_lines s.volumes) [] (first_oweless (first_lines s.volumes) (all_versions s.volumes)) tt;
+        clients = λ x. record { promised = tt; owed = tt };
         waiting = λ x. tt;
         outs = λ x j c at. absurd cc;
         calls = tt;

@@ -1,4 +1,4 @@
-use Rattle.afs_rows.specs.States.{Owed}
+use Rattle.afs_law.proofs.Promising.{Owed}
 -- Lines of a server that tell of its breaks and of its own calls.
 use Rattle.std.proofs.Common.{◌≡◌, ℕ, ◌≤◌, Bool, false, List, [], ◌∷◌, Option, None, refl, sym, ap, subst, ◌∙◌}
 use Rattle.std.specs.Prelude.{⊤, map}
@@ -250,13 +250,13 @@ pub owe_notes : (os : List Owed) → AreNotes (map (owe_line the_server) os)
 owe_notes [] = tt
 owe_notes (o ∷ os) = (tt, owe_notes os)
 
-pub settle_notes : (os : List Owed) → AreNotes (map (settle_line the_server) os)
-settle_notes [] = tt
-settle_notes (o ∷ os) = (tt, settle_notes os)
+pub settle_notes : (n : Node) (os : List Owed) → AreNotes (map (settle_line the_server n) os)
+settle_notes n [] = tt
+settle_notes n (o ∷ os) = (tt, settle_notes n os)
 
-pub quit_notes : (os : List Owed) → AreNotes (map (quit_line the_server) os)
-quit_notes [] = tt
-quit_notes (o ∷ os) = (tt, quit_notes os)
+pub quit_notes : (n : Node) (os : List Owed) → AreNotes (map (quit_line the_server n) os)
+quit_notes n [] = tt
+quit_notes n (o ∷ os) = (tt, quit_notes n os)
 
 pub no_versions : (ls : List Line) → AreNotes ls → versions_first ls ≡ []
 no_versions [] h = refl

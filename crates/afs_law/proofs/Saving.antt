@@ -1,25 +1,29 @@
+use Rattle.afs_breaks.specs.declared.types.Promise.{Promise}
+use Rattle.afs_breaks.specs.Promises.{owes_from}
+use Rattle.afs_rows.specs.ServerSteps.{done}
+use Rattle.afs_law.proofs.Promising.{Owed, staying, hits, saves_turn, saves_turn_is}
 use Rattle.afs_num.specs.declared.directories.Name.{Name}
 use Rattle.afs_ideal.specs.Operations.{Found, the_user, Result, changes, op, volume_called, volume_changed, changed}
 use Rattle.afs_ideal.specs.Replies.{vnode_or_none, change_reply}
 use Rattle.afs_ideal.specs.Tables.{Table, get, set}
 use Rattle.afs_ideal.specs.Told.{AreNext}
 use Rattle.afs_ideal.specs.Volumes.{or_old, with_status, Amend, Volume, Vnode, Kind, a_file, a_directory, a_link, body_by, body_of, version_at, Edit, versions_by, edited_all, counted, amended}
-use Rattle.afs_law.proofs.Backing.{is_still_to, all_lines, is_up, is_still, is_oweless, is_unchanging, change_back, promised_given}
+use Rattle.afs_law.proofs.Backing.{is_still_to, all_lines, is_up, is_still, is_oweless, is_unchanging, change_back, promised_given, rising_back}
 use Rattle.afs_law.proofs.Basics.{node_apart, Above, up_to_by, same_fid-true, same_node-true, client_number, below_not, up_to_same, own_seat, raised_up_to, some_of, yes_no}
 use Rattle.afs_law.proofs.Edits.{agrees_of, last_of, ones, Ones, index_in, fid_at, Sound, SoundIn, sound_same, Tops, get-set, on_top, Grow, Told, edits_told, counted_sound, rises, tops, touches, untouched, touched_volume, not_touched, there, none_has}
 use Rattle.afs_law.proofs.Facts.{Leaves, HeldIn, Ghost, HoldsAt, server_boot, up_boot, risen, LastStored, IsStored, IsUntrusted, view, Spot, spot, ReplyFact, HasFallen, Reached, Stands, IsCurrent, Fits, Answers, IsReply, AreUnheard, stored_index, Holds, Goes, FitsReply, FitsData, FitsSet, FitsPlain, WasChanged, AreIdeal, AreSound, WasStored}
 use Rattle.afs_law.proofs.Keeping.{volume_put, own_placed}
-use Rattle.afs_law.proofs.Loading.{hits_other, granted_all, onto_granted, left_granted, all_hits, change_loaded, owes_unchanging, all_new, number_front, number_second, left_promised, has_owe, touched_hit, numbers_good, numbers_rise}
+use Rattle.afs_law.proofs.Loading.{hits_other, granted_all, onto_granted, left_granted, all_hits, change_loaded, owes_unchanging, all_new, number_front, number_second, left_promised, has_owe, touched_hit, numbers_good, numbers_rise, granted_to_client, owes_to_clients, owes_rising, all_left}
 use Rattle.afs_law.proofs.Naming.{fine_after}
 use Rattle.afs_law.proofs.Notes.{granted_notes, AreNotes, Skips, skips, owe_notes, no_versions}
 use Rattle.afs_law.proofs.Ops.{stored_kind, stored_fid, amend_of, in_scope, changes_is, Storing, storing, stored_vnode}
-use Rattle.afs_law.proofs.Owing.{BackedIn, IsGranted}
+use Rattle.afs_law.proofs.Owing.{BackedIn, IsGranted, Rising, IsClient}
 use Rattle.afs_law.proofs.Passing.{reply_over, PassesBoth, PassesSeen, held_over, fetch_reply_by, cause_over, PassesFile, PassesAct, PassesReach, StaysNewest, client_over, PassesGrant}
 use Rattle.afs_law.proofs.Pumping.{no_news, pumped_news}
 use Rattle.afs_law.proofs.Serving.{up_backed, seats_of, Gives, taken_not, up_boots, reached_at, at_told, client_head, Now, call_at, taken, seats_after, Stock, server_after, caller_view, views_after, durable_before, above_before, not_ran, unheard_after, HasRun, cause_now, running_act, stale_none, served_cell, serves, last_has, has_run, server_does, answer_in}
 use Rattle.afs_law.proofs.Turning.{loaded, Pumps, pumps}
 use Rattle.afs_law.specs.Breaks.{live_grant, HasOwe, last_number, lines_at}
-use Rattle.afs_rows.specs.Callbacks.{hits, Turn, pumped, expired, turn_for, new_owes, numbers, alls}
+use Rattle.afs_rows.specs.Callbacks.{Turn, pumped, expired, turn_for, new_owes, numbers, alls}
 use Rattle.afs_rows.specs.ClientRow.{the_server}
 use Rattle.afs_rows.specs.Going.{asked, Going, next}
 use Rattle.afs_law.specs.Grants.{IsWithdrawn, has_fetched, fetch_reply, since, change_below, IsByOther, IsDropped}
@@ -27,10 +31,10 @@ use Rattle.afs_law.specs.Ideal.{versions_in, Reach, raised, IsLast, clock_of, la
 use Rattle.afs_law.specs.Legal.{code_given, AreGood, code_told, IsNew, HasChange, GoodChange, versions_first, IsTold, answer_at, answer_on, IsUnderChange, IsChanged, op_on}
 use Rattle.afs_history.specs.declared.lines.Line.{Line}
 use Rattle.afs_law.specs.Past.{onto, lines_of, sent_of, given_message, called_key, HasCode, is_of_act, running, has_begun}
-use Rattle.afs_rows.specs.Runs.{Entry, Cell, message_at, Armed, Fall}
+use Rattle.afs_rows.specs.Runs.{Entry, Cell, message_at, Armed, Fall, server_moves}
 use Rattle.afs_rows.specs.Scopes.{is_in_scope, is_volume}
 use Rattle.afs_rows.specs.ServerRow.{granted, granted_in, record_of, carried_by, change_reply_to, replied, stored_by, promise_ticks, saves, runs, told, versioned, Change, made, result, seat_placed}
-use Rattle.afs_rows.specs.States.{CacheEntry, Seat, volume_in, Backs, Held, Owed}
+use Rattle.afs_rows.specs.States.{CacheEntry, Seat, volume_in, Backs, Held}
 use Rattle.afs_records.specs.Changes.{stored_after}
 use Rattle.afs_records.specs.Durable.{Stored, time_in, place_length}
 use Rattle.afs_model.specs.Calls.{call_seated, call_seat}
@@ -860,15 +864,19 @@ pub granted_then : (s : Script) (past : List Entry) (own : List Line) (n x : ℕ
 granted_then s past own n x [] tail h = h
 granted_then s past own n x (f ∷ fs) tail h = (refl, granted_then s past (lines.Grant the_server (Client n) f.fid f.vnode.index x ∷ own) n x fs tail h)
 
-pub saves_goes : (s : Script) (c : Cell) (past : List Entry) (armed : Armed) (p n : ℕ) (h : Head) (user : List ℕ) (call : FsCall) (id : ℕ) (st : Stored) (es : List Edit) (shown : ℕ) → (H : Holds s c past) → c.down ≡ None → message_at c.sent p ≡ Some (call_at n h user call) → Now s c H.floors past n h user call → Change' c past user call id st.volume es shown
-    → Goes s past (server_does c armed p (call_at n h user call) (saves (client_head n h) (change_at id user call st es shown)))
-saves_goes s c past armed p n h user call id st es shown H up at w q =
+on_rising : (vs : List Version) (o : List Line) → Rising o → Rising (on_top vs o)
+on_rising [] o h = h
+on_rising (v ∷ vs) o h = on_rising vs (lines.Version v ∷ o) h
+
+saves_by_turn : (s : Script) (c : Cell) (past : List Entry) (armed : Armed) (p n : ℕ) (h : Head) (user : List ℕ) (call : FsCall) (id : ℕ) (st : Stored) (es : List Edit) (shown : ℕ) → (H : Holds s c past) → c.down ≡ None → message_at c.sent p ≡ Some (call_at n h user call) → Now s c H.floors past n h user call → Change' c past user call id st.volume es shown
+    → Goes s past (server_moves c armed (done the_server c.server c.clock p (saves (client_head n h) (change_at id user call st es shown)) (saves_turn the_server c.server c.clock (expired c.clock c.server.backs) (client_head n h) (change_at id user call st es shown))))
+saves_by_turn s c past armed p n h user call id st es shown H up at w q =
     let r : Message = reply_saved c (client_head n h) c.clock user call id st es shown in
     let k : Key = called_key (client_head n h) in
     let vs : List Version = versions_by id es st.volume in
     let b0 : Backs = expired c.clock c.server.backs in
-    let t : Turn = turn_for the_server c.server c.clock b0 (saves (client_head n h) (change_at id user call st es shown)) in
-    let os : List Owed = new_owes n vs b0 in
+    let t : Turn = saves_turn the_server c.server c.clock b0 (client_head n h) (change_at id user call st es shown) in
+    let os : List Owed = owes_from b0.lists.last_owed (hits (Client n) vs b0.lists.promises) in
     let fs : List Found = granted_in (change_at id user call st es shown) in
     let x : ℕ = c.clock + promise_ticks in
     let tl : List Line = granted the_server (Client n) x fs t.lines in
@@ -882,26 +890,33 @@ saves_goes s c past armed p n h user call id st es shown H up at w q =
     let fronted : e.lines ≡ front ++ tl = ap (λ (ls : List Line). lines.Given p ∷ lines.Change the_server k (length vs) ∷ ls) (versioned_front vs [] tl) in
     let are : e.lines ≡ pre ++ t.lines = ap (λ (ls : List Line). lines.Given p ∷ lines.Change the_server k (length vs) ∷ ls) (ap (versioned vs) (granted_front n x fs t.lines) ∙ versioned_front vs (granted the_server (Client n) x fs []) t.lines) in
     let base0 : List Line = on_top vs (base y k (length vs) (lines_of past)) in
-    let hd : Held = record { reply = r; waits = numbers os ++ alls b0.owed } in
+    let hd : Held = record { reply = r; waits = numbers os ++ alls b0.lists.owed } in
     let loads : BackedIn None (loaded t) c.server.lasting.boot (seats_after c n h r) (seats_of c) c.clock c.sent (e ∷ past) =
-    change_loaded n b0 t.backs.promises t.backs.last_owed c.server.lasting.boot c.server.seats (seats_after c n h r) (seats_of c) c.clock c.sent e past pre os hd (call_at n h user call) B
-    (left_granted n b0.last_owed x vs b0.promises fs e past front fronted (versions_lines is_still vs [] (λ z. refl) refl) (B.granted refl))
-    (left_promised n b0.last_owed x c.clock vs b0.promises fs e past front fronted (versions_lines is_still vs [] (λ z. refl) refl) (promised_given None b0.promises c.clock e past B.promised))
-    (subst (λ (ls : List Line). last_number the_server ls ≤ t.backs.last_owed) (sym (saved_on y k vs (lines_of past) ∙ onto_granted n x fs t.lines base0))
-    (numbers_rise b0.last_owed (hits n vs b0.promises) (onto base0 (granted the_server (Client n) x fs [])) (subst (λ (i : ℕ). i ≤ b0.last_owed) (sym (granted_number n x fs base0 ∙ on_number vs (base y k (length vs) (lines_of past)))) B.numbered))) (record {
+    change_loaded (Client n) b0 t.backs.lists.promises t.backs.lists.last_owed c.server.lasting.boot c.server.seats (seats_after c n h r) (seats_of c) c.clock c.sent e past pre os hd (call_at n h user call) B
+    (left_granted (Client n) b0.lists.last_owed x vs b0.lists.promises fs e past front fronted (versions_lines is_still vs [] (λ z. refl) refl) (B.granted refl))
+    (left_promised (Client n) b0.lists.last_owed x c.clock vs b0.lists.promises fs e past front fronted (versions_lines is_still vs [] (λ z. refl) refl) (promised_given None b0.lists.promises c.clock e past B.promised))
+    (subst (λ (ls : List Line). last_number the_server ls ≤ t.backs.lists.last_owed) (sym (saved_on y k vs (lines_of past) ∙ onto_granted (Client n) x fs t.lines base0))
+    (numbers_rise b0.lists.last_owed (hits (Client n) vs b0.lists.promises) (onto base0 (granted the_server (Client n) x fs [])) (subst (λ (i : ℕ). i ≤ b0.lists.last_owed) (sym (granted_number n x fs base0 ∙ on_number vs (base y k (length vs) (lines_of past)))) B.numbered)))
+    (subst Rising (sym (saved_on y k vs (lines_of past) ∙ onto_granted (Client n) x fs t.lines base0))
+    (owes_rising b0.lists.last_owed (hits (Client n) vs b0.lists.promises) (onto base0 (granted the_server (Client n) x fs [])) (subst (λ (i : ℕ). i ≤ b0.lists.last_owed) (sym (granted_number n x fs base0 ∙ on_number vs (base y k (length vs) (lines_of past)))) B.numbered)
+    (rising_back (granted the_server (Client n) x fs []) base0 (granted_all is_oweless (Client n) x fs (λ f i. refl)) (on_rising vs (base y k (length vs) (lines_of past)) B.rising))))
+    (record {
+      promised = granted_to_client x n fs (staying (Client n) vs b0.lists.promises) (all_left (λ (p : Promise). IsClient p.client) (Client n) vs b0.lists.promises (B.clients refl).promised);
+      owed = owes_to_clients b0.lists.last_owed (hits (Client n) vs b0.lists.promises) (all_hits (λ (p : Promise). IsClient p.client) (Client n) vs b0.lists.promises (B.clients refl).promised);
+    }) (record {
       are = are;
       up = versions_lines is_up vs (granted the_server (Client n) x fs []) (λ z. refl) (granted_all is_up (Client n) x fs (λ f i. refl));
-      still = λ j ne. versions_lines (is_still_to (Client j)) vs (granted the_server (Client n) x fs []) (λ z. refl) (granted_all (is_still_to (Client j)) (Client n) x fs (λ f i. ap not (node_apart (Client n) (Client j) (λ q. ne (sym (client_number n j q))))));
+      still = λ j ne. versions_lines (is_still_to j) vs (granted the_server (Client n) x fs []) (λ z. refl) (granted_all (is_still_to j) (Client n) x fs (λ f i. ap not (node_apart (Client n) j (λ q. ne (sym q)))));
       oweless = versions_lines is_oweless vs (granted the_server (Client n) x fs []) (λ z. refl) (granted_all is_oweless (Client n) x fs (λ f i. refl));
       given = at_told s c past p (call_at n h user call) H at;
       key = refl;
       above = w.above;
       seat = λ m x z. above_before c.server.seats n h r m x z w.above;
       reply = record { client = n; to = refl; from = refl; is_reply = carried_reply (c.clock + promise_ticks) (change_reply id (the_user user) (time_in (stored_after id c.clock es st)) (counted (edited_all id es st.volume)) shown call); under = taken_not c.server.seats n h r };
-      changed = λ l z. elim (on_changed l vs (lines.Change the_server k (length vs) ∷ lines.Given p ∷ lines_of past) (change_back l (granted the_server (Client n) x fs []) base0 (granted_all is_unchanging (Client n) x fs (λ f i. refl)) (change_back l t.lines _ (owes_unchanging os) (subst (HasChange l) (saved_on y k vs (lines_of past) ∙ onto_granted n x fs t.lines base0) z)))) [ inl same ↦ inr (subst (λ (u : Key). Above (call_seat u.node c.server.seats) u.epoch u.number) same w.above) | inr old ↦ inl old ];
-      owes = all_new n (lines_of past) b0.last_owed (hits n vs b0.promises) (all_hits (IsGranted (lines_of past)) n vs b0.promises (B.granted refl)) (hits_other n vs b0.promises);
-      own = λ i z. number_front i (numbers os) (alls b0.owed) z;
-      all = λ i z. number_second i (numbers os) (alls b0.owed) z;
+      changed = λ l z. elim (on_changed l vs (lines.Change the_server k (length vs) ∷ lines.Given p ∷ lines_of past) (change_back l (granted the_server (Client n) x fs []) base0 (granted_all is_unchanging (Client n) x fs (λ f i. refl)) (change_back l t.lines _ (owes_unchanging os) (subst (HasChange l) (saved_on y k vs (lines_of past) ∙ onto_granted (Client n) x fs t.lines base0) z)))) [ inl same ↦ inr (subst (λ (u : Key). Above (call_seat u.node c.server.seats) u.epoch u.number) same w.above) | inr old ↦ inl old ];
+      owes = all_new (Client n) (lines_of past) b0.lists.last_owed (hits (Client n) vs b0.lists.promises) (all_hits (IsGranted (lines_of past)) (Client n) vs b0.lists.promises (B.granted refl)) (hits_other (Client n) vs b0.lists.promises);
+      own = λ i z. number_front i (numbers os) (alls b0.lists.owed) z;
+      all = λ i z. number_second i (numbers os) (alls b0.lists.owed) z;
     }) in
     let pump : Pumps c.server.lasting.boot (seats_after c n h r) (seats_of c) c.clock c.sent (e ∷ past) t = pumps c.server.lasting.boot (seats_after c n h r) (seats_of c) c.clock c.sent e past t refl (saves_clock y k vs r past ∙ H.clock) loads (record { good = tt; calls = tt; dones = tt }) in
     record {
@@ -911,15 +926,21 @@ saves_goes s c past armed p n h user call id st es shown H up at w q =
           (
             refl,
             saves_change_good s c past (lines.Given p ∷ []) tl n h user call id st.volume es shown H w q (H.new _ w.above_durable) refl (H.home id st.volume q.at) (no_versions tl notes)
-                (λ j f z ne d l u. owe_behind (Client j) (Some f) vs tl (owe_granted (Client j) (Some f) n x fs t.lines (has_owe j f z b0.last_owed (hits n vs b0.promises) (touched_hit n j f z vs b0.promises (λ a. ne (ap Client a)) d (B.promised j f z l (subst (λ (i : ℕ). i < z) H.clock u)).1)))),
+                (λ j f z ne d l u. owe_behind (Client j) (Some f) vs tl (owe_granted (Client j) (Some f) n x fs t.lines (has_owe (Client j) f z b0.lists.last_owed (hits (Client n) vs b0.lists.promises) (touched_hit (Client n) (Client j) f z vs b0.lists.promises ne d (B.promised (Client j) f z l (subst (λ (i : ℕ). i < z) H.clock u)).1)))),
           ),
           versions_good s past _ tl vs tt (granted_then s past (on_top vs (lines.Change the_server k (length vs) ∷ lines.Given p ∷ [])) n x fs t.lines
-              (numbers_good s b0.last_owed (hits n vs b0.promises) past (onto (on_top vs (lines.Change the_server k (length vs) ∷ lines.Given p ∷ [])) (granted the_server (Client n) x fs []))
-              (subst (λ (i : ℕ). i ≤ b0.last_owed) (sym (granted_top n x fs (on_top vs (lines.Change the_server k (length vs) ∷ lines.Given p ∷ [])) (lines_of past) ∙ top_number vs (lines.Change the_server k (length vs) ∷ lines.Given p ∷ []) (lines_of past))) B.numbered))),
+              (numbers_good s b0.lists.last_owed (hits (Client n) vs b0.lists.promises) past (onto (on_top vs (lines.Change the_server k (length vs) ∷ lines.Given p ∷ [])) (granted the_server (Client n) x fs []))
+              (subst (λ (i : ℕ). i ≤ b0.lists.last_owed) (sym (granted_top n x fs (on_top vs (lines.Change the_server k (length vs) ∷ lines.Given p ∷ [])) (lines_of past) ∙ top_number vs (lines.Change the_server k (length vs) ∷ lines.Given p ∷ []) (lines_of past))) B.numbered))),
         ),
       );
       holds = saves_holds y s (Some c.server.lasting.boot) c past (pumped the_server c.server.lasting.boot t).backs armed None n h user call c.clock id st es shown H w q (has_run s c past p n h user call e H up at w refl refl) (saves_boot y k vs r past ∙ (sk.boot _ ∙ up_boots s c past H up)) (unheard_after s c past p n h user call r e H up at w refl) tt
-          (λ own held. pumped_news (views_after true H.floors c n h r) c.server.lasting.boot (e ∷ past) c.server.lasting.boot t (no_news _ _ _) (own, tt) held) (λ z. pump.backed);
+          (λ own held. pumped_news (views_after true H.floors c n h r) c.server.lasting.boot (e ∷ past) c.server.lasting.boot t pump.clients (no_news _ _ _) (own, tt) held) (λ z. pump.backed);
       replies = pump.good;
       volumes = refl;
     }
+
+pub saves_goes : (s : Script) (c : Cell) (past : List Entry) (armed : Armed) (p n : ℕ) (h : Head) (user : List ℕ) (call : FsCall) (id : ℕ) (st : Stored) (es : List Edit) (shown : ℕ) → (H : Holds s c past) → c.down ≡ None → message_at c.sent p ≡ Some (call_at n h user call) → Now s c H.floors past n h user call → Change' c past user call id st.volume es shown
+    → Goes s past (server_does c armed p (call_at n h user call) (saves (client_head n h) (change_at id user call st es shown)))
+saves_goes s c past armed p n h user call id st es shown H up at w q =
+    subst (λ (t : Turn). Goes s past (server_moves c armed (done the_server c.server c.clock p (saves (client_head n h) (change_at id user call st es shown)) t))) (sym (saves_turn_is the_server c.server c.clock (expired c.clock c.server.backs) (client_head n h) (change_at id user call st es shown)))
+    (saves_by_turn s c past armed p n h user call id st es shown H up at w q)

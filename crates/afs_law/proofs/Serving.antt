@@ -1,3 +1,6 @@
+use Rattle.afs_num.specs.Nodes.{same_node}
+use Rattle.afs_breaks.specs.declared.types.Promise.{Promise}
+use Rattle.afs_law.proofs.Promising.{Owed, without_promises, shows_turn, shows_turn_is}
 use Rattle.afs_law.specs.Grants.{IsDropped}
 use Rattle.afs_law.specs.Breaks.{lines_at, fids_given_up, has_answer, given_up_in, drops_of, given_up_by, is_told}
 use Rattle.afs_rows.specs.ServerSteps.{stepped, done}
@@ -13,15 +16,15 @@ use Rattle.afs_law.proofs.Basics.{Below, UpTo, Above, Each, IfCall, OfReply, abo
 use Rattle.afs_law.proofs.Edits.{Ones, index_in, fid_at, Sound, SoundIn, sound_same, Tops, live_index, there}
 use Rattle.afs_law.proofs.Facts.{IsKnown, IsReadable, AreFine, HeldIn, Ghost, HoldsAt, server_boot, up_boot, LastStored, IsActs, View, view_of, view, Spot, spot, LastRan, ReplyFact, IsBehind, AreKept, MayRun, HasFallen, Reached, HasCurrent, Fits, Answers, IsReply, KeptReply, ClientFacts, CallFact, CallIn, Origin, AreHome, AreNew, AreUnheard, Holds, Goes, InScope, IsFetched, FitsReply, AreIdeal, AreSound}
 use Rattle.afs_law.proofs.Keeping.{at_placed}
-use Rattle.afs_law.proofs.Loading.{all_promised, all_granted, granted_all, none_loaded, still_backed, known_backed, resent, run_loaded, key_held, no_change, settles_good, settles_backed, gone_promised, gone_granted}
+use Rattle.afs_law.proofs.Loading.{all_promised, all_granted, granted_all, none_loaded, still_backed, known_backed, resent, run_loaded, key_held, no_change, settles_good, settles_backed, gone_promised, gone_granted, granted_to_client, gone_to_clients}
 use Rattle.afs_law.proofs.Notes.{granted_notes, AreNotes, Skips, skips, told_entry, told_rests, noted_entry, noted_rests, settle_notes}
 use Rattle.afs_law.proofs.Ops.{IsShown}
-use Rattle.afs_law.proofs.Owing.{AllOf, BackedIn, IsDone, DroppedOwe, IsGranted, DoneIn, Promised}
+use Rattle.afs_law.proofs.Owing.{AllOf, BackedIn, IsDone, DroppedOwe, IsGranted, DoneIn, Promised, IsClient}
 use Rattle.afs_law.proofs.Passing.{stands_over, answers_over, reply_over, kept_over, PassesBoth, PassesFile, PassesAct, PassesReach, stays, current_over, client_still, News, more_sent}
 use Rattle.afs_law.proofs.Pumping.{no_news, pumped_news, news_break}
 use Rattle.afs_law.proofs.Resting.{Rests}
 use Rattle.afs_law.proofs.Turning.{loaded, TurnSends, Pumps, pumps, expired_backed, break_good}
-use Rattle.afs_rows.specs.Callbacks.{Turn, replies_of, pumped, expired, turn_for, no_turn, put, settles, settles_by, is_back_awaited, answered_by, renews, renews_by, noticed_by, turned_by, Started, starts, starts_by, held_after, given_out, without_promises}
+use Rattle.afs_rows.specs.Callbacks.{Turn, replies_of, pumped, expired, turn_for, no_turn, put, settles, settles_by, is_back_awaited, renews, renews_by, turned_by, Started, starts, starts_by, held_after, given_out, if_to, put_at}
 use Rattle.afs_rows.specs.ClientRow.{names_told, the_server, body_told}
 use Rattle.afs_rows.specs.Going.{asked, Going}
 use Rattle.afs_law.specs.Ideal.{is_zero_code, version_in, latest, IsThat, user_of, clock_of, last_version, HasVersion, reach, call_under}
@@ -30,7 +33,7 @@ use Rattle.afs_history.specs.declared.lines.Line.{Line}
 use Rattle.afs_law.specs.Past.{IsUnheard, lines_of, sent_of, given_message, called_key, HasCode, IsCallUnder, Ran, onto, same_key, answered_key}
 use Rattle.afs_rows.specs.Runs.{Entry, Cell, message_at, Armed, Fall, Moved, server_moves}
 use Rattle.afs_rows.specs.ServerRow.{shows, granted_by, granted, Reading, promise_ticks, refuses, reply_head, replied, told, result, Decision, seat_placed, Sight, given_up_read, promised_in, reading_in, statuses_read, time_read}
-use Rattle.afs_rows.specs.States.{Seat, ServerState, volume_in, Backs, Held, BackCall, Promise, Owed}
+use Rattle.afs_rows.specs.States.{Seat, ServerState, volume_in, Backs, Held, BackCall}
 use Rattle.afs_records.specs.Durable.{Stored, time_in}
 use Rattle.afs_model.specs.Calls.{call_seated, call_seat}
 use Rattle.std.specs.Prelude.{◌&&◌, ⊤, map, filter, not}
@@ -172,7 +175,7 @@ quiet s c past armed p m t h up at dull notes good turns loads =
       holds = noted s (Some c.server.lasting.boot) c past armed None e (pumped the_server c.server.lasting.boot t).backs h (k.boot _ ∙ up_boots s c past h up) rest (k.clock _)
           (unheard_over None c.server.seats c.server.lasting.boot e past m (at_told s c past p m h at) dull (unheard_up c past up h.unheard)) tt
           (λ held. let x = turns e (λ j r. reply_over j (view h.floors c j) r e past (λ f. (rest.file j f).grant) (rest.reach j) (λ f. stays j f e past (rest.file j f).grant (rest.last f (lines_of past)))) held in
-          pumped_news (view h.floors c) c.server.lasting.boot (e ∷ past) c.server.lasting.boot t x.sent x.outs x.held) (λ z. pump.backed);
+          pumped_news (view h.floors c) c.server.lasting.boot (e ∷ past) c.server.lasting.boot t pump.clients x.sent x.outs x.held) (λ z. pump.backed);
     }
 
 -- the server does something by itself
@@ -191,7 +194,7 @@ acts_alone s c past armed t h up notes good turns loads =
       volumes = refl;
       holds = noted s (Some c.server.lasting.boot) c past armed None e (pumped the_server c.server.lasting.boot t).backs h (k.boot _ ∙ up_boots s c past h up) rest (k.clock _)
           (λ key b may. ((λ x. subst (λ (o : Option Message). IsCallUnder the_server key b o) (k.given (sent_of past)) x), unheard_up c past up h.unheard key b may)) tt
-          (λ held. let x = turns e held in pumped_news (view h.floors c) c.server.lasting.boot (e ∷ past) c.server.lasting.boot t x.sent x.outs x.held) (λ z. pump.backed);
+          (λ held. let x = turns e held in pumped_news (view h.floors c) c.server.lasting.boot (e ∷ past) c.server.lasting.boot t pump.clients x.sent x.outs x.held) (λ z. pump.backed);
     }
 
 -- ---- what the server has in memory
@@ -212,50 +215,52 @@ nothing_done s c past armed p m H up at j = quiet s c past armed p m (no_turn (e
 
 -- ---- the server's own calls are answered
 
-pub settled_goes : (s : Script) (c : Cell) (past : List Entry) (armed : Armed) (p n : ℕ) (m : Message) (k : BackCall) (t : Bool) → (H : Holds s c past) → c.down ≡ None → message_at c.sent p ≡ Some m → Dull c.server.seats c.server.lasting.boot m → c.server.backs.calls n ≡ Some k
+pub settled_goes : (s : Script) (c : Cell) (past : List Entry) (armed : Armed) (p : ℕ) (n : Node) (m : Message) (k : BackCall) (t : Bool) → (H : Holds s c past) → c.down ≡ None → message_at c.sent p ≡ Some m → Dull c.server.seats c.server.lasting.boot m → c.server.backs.calls n ≡ Some k
     → IsDone c.down c.server.backs.calls c.server.backs.last_call c.server.lasting.boot past n m.head.epoch m.head.number → is_back_awaited c.server.lasting.boot k m.head ≡ t → Goes s past (server_adds c armed c.server (lines.Given p ∷ []) (cond t (settles the_server n k (expired c.clock c.server.backs)) (no_turn (expired c.clock c.server.backs))))
 settled_goes s c past armed p n m k false H up at j is done e = nothing_done s c past armed p m H up at j
 settled_goes s c past armed p n m k true H up at j is done e =
     let q = both _ _ e in
     let dropped : AllOf (DroppedOwe n (lines_of past)) k.breaks = done.dropped k up (eqb-true _ _ q.0) is (eqb-true _ _ q.1) in
-    quiet s c past armed p m (settles the_server n k (expired c.clock c.server.backs)) H up at j (settle_notes _) (settles_good s n k past (expired c.clock c.server.backs).owed (lines.Given p ∷ []) dropped)
-    (λ x over held. record { notes = settle_notes _; sent = no_news _ _ _; outs = tt; held = held })
-    (λ x z. record { backed = settles_backed (expired c.clock c.server.backs) c.server.lasting.boot c.server.seats (seats_of c) c.clock c.sent x past n p k (ap (λ (y : Entry). y.lines) z) (up_backed s c past H up); sends = record { good = tt; calls = tt; dones = tt } })
+    quiet s c past armed p m (settles the_server n k (expired c.clock c.server.backs)) H up at j (settle_notes n _) (settles_good s n k (expired c.clock c.server.backs) past (lines.Given p ∷ []) dropped)
+    (λ x over held. record { notes = settle_notes n _; sent = no_news _ _ _; outs = tt; held = held })
+    (λ x z. record { backed = settles_backed (expired c.clock c.server.backs) c.server.lasting.boot c.server.seats (seats_of c) c.clock c.sent x past n p k is (ap (λ (y : Entry). y.lines) z) (up_backed s c past H up); sends = record { good = tt; calls = tt; dones = tt } })
 
-pub settles_goes : (s : Script) (c : Cell) (past : List Entry) (armed : Armed) (p n : ℕ) (m : Message) (o : Option BackCall) → (H : Holds s c past) → c.down ≡ None → message_at c.sent p ≡ Some m → Dull c.server.seats c.server.lasting.boot m → c.server.backs.calls n ≡ o
-    → IsDone c.down c.server.backs.calls c.server.backs.last_call c.server.lasting.boot past n m.head.epoch m.head.number → Goes s past (server_adds c armed c.server (lines.Given p ∷ []) (settles_by the_server c.server.lasting.boot m.head n (expired c.clock c.server.backs) o))
-settles_goes s c past armed p n m None H up at j is done = nothing_done s c past armed p m H up at j
-settles_goes s c past armed p n m (Some k) H up at j is done = settled_goes s c past armed p n m k (is_back_awaited c.server.lasting.boot k m.head) H up at j is done refl
+pub settles_goes : (s : Script) (c : Cell) (past : List Entry) (armed : Armed) (p : ℕ) (m : Message) (o : Option BackCall) → (H : Holds s c past) → c.down ≡ None → message_at c.sent p ≡ Some m → Dull c.server.seats c.server.lasting.boot m → c.server.backs.calls m.head.from ≡ o
+    → DoneIn c.down c.server.backs.calls c.server.backs.last_call c.server.lasting.boot past m → Goes s past (server_adds c armed c.server (lines.Given p ∷ []) (settles_by the_server c.server.lasting.boot m.head (expired c.clock c.server.backs) o))
+settles_goes s c past armed p m None H up at j is d = nothing_done s c past armed p m H up at j
+settles_goes s c past armed p m (Some k) H up at j is d =
+    settled_goes s c past armed p m.head.from m k (is_back_awaited c.server.lasting.boot k m.head) H up at j is (subst (λ (n : Node). IsDone c.down c.server.backs.calls c.server.backs.last_call c.server.lasting.boot past n m.head.epoch m.head.number) (sym d.from) d.done) refl
 
-pub answered_goes : (s : Script) (c : Cell) (past : List Entry) (armed : Armed) (p : ℕ) (m : Message) (from : Node) → (H : Holds s c past) → c.down ≡ None → message_at c.sent p ≡ Some m → Dull c.server.seats c.server.lasting.boot m → m.head.from ≡ from → DoneIn c.down c.server.backs.calls c.server.backs.last_call c.server.lasting.boot past m
-    → Goes s past (server_adds c armed c.server (lines.Given p ∷ []) (answered_by the_server c.server.lasting.boot m.head from (expired c.clock c.server.backs)))
-answered_goes s c past armed p m (Client n) H up at j from d = settles_goes s c past armed p n m (c.server.backs.calls n) H up at j refl (subst (λ (i : ℕ). IsDone c.down c.server.backs.calls c.server.backs.last_call c.server.lasting.boot past i m.head.epoch m.head.number) (client_number d.client n (sym d.from ∙ from)) d.done)
-answered_goes s c past armed p m (Server n) H up at j from d = nothing_done s c past armed p m H up at j
-answered_goes s c past armed p m (Admin n) H up at j from d = nothing_done s c past armed p m H up at j
-answered_goes s c past armed p m Loc H up at j from d = nothing_done s c past armed p m H up at j
+-- a reply or a notice to another node does nothing
+if_to_goes : (t : Bool) (s : Script) (c : Cell) (past : List Entry) (armed : Armed) (p : ℕ) (m : Message) (x : Turn) → (H : Holds s c past) → c.down ≡ None → message_at c.sent p ≡ Some m → Dull c.server.seats c.server.lasting.boot m → Goes s past (server_adds c armed c.server (lines.Given p ∷ []) x)
+    → Goes s past (server_adds c armed c.server (lines.Given p ∷ []) (cond t x (no_turn (expired c.clock c.server.backs))))
+if_to_goes true s c past armed p m x H up at j g = g
+if_to_goes false s c past armed p m x H up at j g = nothing_done s c past armed p m H up at j
 
-pub renewed_goes : (s : Script) (c : Cell) (past : List Entry) (armed : Armed) (p n : ℕ) (m : Message) (k : BackCall) (t : Bool) → (H : Holds s c past) → c.down ≡ None → message_at c.sent p ≡ Some m → Dull c.server.seats c.server.lasting.boot m → c.server.backs.calls n ≡ Some k
+pub answered_goes : (s : Script) (c : Cell) (past : List Entry) (armed : Armed) (p : ℕ) (m : Message) → (H : Holds s c past) → c.down ≡ None → message_at c.sent p ≡ Some m → Dull c.server.seats c.server.lasting.boot m → DoneIn c.down c.server.backs.calls c.server.backs.last_call c.server.lasting.boot past m
+    → Goes s past (server_adds c armed c.server (lines.Given p ∷ []) (if_to the_server m.head (expired c.clock c.server.backs) (settles_by the_server c.server.lasting.boot m.head (expired c.clock c.server.backs) (c.server.backs.calls m.head.from))))
+answered_goes s c past armed p m H up at j d = if_to_goes (same_node m.head.to the_server) s c past armed p m _ H up at j (settles_goes s c past armed p m (c.server.backs.calls m.head.from) H up at j refl d)
+
+pub renewed_goes : (s : Script) (c : Cell) (past : List Entry) (armed : Armed) (p : ℕ) (n : Node) (m : Message) (k : BackCall) (t : Bool) → (H : Holds s c past) → c.down ≡ None → message_at c.sent p ≡ Some m → Dull c.server.seats c.server.lasting.boot m → c.server.backs.calls n ≡ Some k
     → Goes s past (server_adds c armed c.server (lines.Given p ∷ []) (cond t (renews the_server c.server.lasting.boot n m.head.boot k (expired c.clock c.server.backs)) (no_turn (expired c.clock c.server.backs))))
 renewed_goes s c past armed p n m k false H up at j is = nothing_done s c past armed p m H up at j
 renewed_goes s c past armed p n m k true H up at j is =
     let b : Backs = expired c.clock c.server.backs in
     quiet s c past armed p m (renews the_server c.server.lasting.boot n m.head.boot k b) H up at j tt tt
-    (λ x over held. record { notes = tt; sent = news_break _ _ _ c.server.lasting.boot n m.head.boot k; outs = tt; held = held })
+    (λ x over held. record { notes = tt; sent = news_break _ _ _ c.server.lasting.boot n m.head.boot k ((up_backed s c past H up).outs refl n k is).client; outs = tt; held = held })
     (λ x z. let old = still_backed b c.server.lasting.boot c.server.seats (seats_of c) c.clock c.sent x past (given_plain p x _ z) (up_backed s c past H up) in record {
-      backed = none_loaded None (record b { known = put n m.head.boot b.known }) c.server.lasting.boot c.server.seats (seats_of c) c.clock c.sent (x ∷ past) (known_backed b (put n m.head.boot b.known) c.server.lasting.boot c.server.seats (seats_of c) c.clock c.sent (x ∷ past) old);
+      backed = none_loaded None (record b { known = put_at n m.head.boot b.known }) c.server.lasting.boot c.server.seats (seats_of c) c.clock c.sent (x ∷ past) (known_backed b (put_at n m.head.boot b.known) c.server.lasting.boot c.server.seats (seats_of c) c.clock c.sent (x ∷ past) old);
       sends = record { good = (break_good (x ∷ past) c.server.lasting.boot n m.head.boot k, tt); calls = resent b c.server.lasting.boot c.server.seats (seats_of c) c.clock c.sent (x ∷ past) (x ∷ past) n m.head.boot k b.calls old is (λ y w. ap (λ (u : BackCall). u.breaks) (some_of y k (sym w ∙ is))); dones = (tt, tt) };
     })
 
-pub renews_goes : (s : Script) (c : Cell) (past : List Entry) (armed : Armed) (p n : ℕ) (m : Message) (o : Option BackCall) → (H : Holds s c past) → c.down ≡ None → message_at c.sent p ≡ Some m → Dull c.server.seats c.server.lasting.boot m → c.server.backs.calls n ≡ o
-    → Goes s past (server_adds c armed c.server (lines.Given p ∷ []) (renews_by the_server c.server.lasting.boot m.head n (expired c.clock c.server.backs) o))
-renews_goes s c past armed p n m None H up at j is = nothing_done s c past armed p m H up at j
-renews_goes s c past armed p n m (Some k) H up at j is = renewed_goes s c past armed p n m k (is_back_awaited c.server.lasting.boot k m.head) H up at j is
+pub renews_goes : (s : Script) (c : Cell) (past : List Entry) (armed : Armed) (p : ℕ) (m : Message) (o : Option BackCall) → (H : Holds s c past) → c.down ≡ None → message_at c.sent p ≡ Some m → Dull c.server.seats c.server.lasting.boot m → c.server.backs.calls m.head.from ≡ o
+    → Goes s past (server_adds c armed c.server (lines.Given p ∷ []) (renews_by the_server c.server.lasting.boot m.head (expired c.clock c.server.backs) o))
+renews_goes s c past armed p m None H up at j is = nothing_done s c past armed p m H up at j
+renews_goes s c past armed p m (Some k) H up at j is = renewed_goes s c past armed p m.head.from m k (is_back_awaited c.server.lasting.boot k m.head) H up at j is
 
-pub noticed_goes : (s : Script) (c : Cell) (past : List Entry) (armed : Armed) (p : ℕ) (m : Message) (from : Node) → (H : Holds s c past) → c.down ≡ None → message_at c.sent p ≡ Some m → Dull c.server.seats c.server.lasting.boot m → Goes s past (server_adds c armed c.server (lines.Given p ∷ []) (noticed_by the_server c.server.lasting.boot m.head from (expired c.clock c.server.backs)))
-noticed_goes s c past armed p m (Client n) H up at j = renews_goes s c past armed p n m (c.server.backs.calls n) H up at j refl
-noticed_goes s c past armed p m (Server n) H up at j = nothing_done s c past armed p m H up at j
-noticed_goes s c past armed p m (Admin n) H up at j = nothing_done s c past armed p m H up at j
-noticed_goes s c past armed p m Loc H up at j = nothing_done s c past armed p m H up at j
+pub noticed_goes : (s : Script) (c : Cell) (past : List Entry) (armed : Armed) (p : ℕ) (m : Message) → (H : Holds s c past) → c.down ≡ None → message_at c.sent p ≡ Some m → Dull c.server.seats c.server.lasting.boot m
+    → Goes s past (server_adds c armed c.server (lines.Given p ∷ []) (if_to the_server m.head (expired c.clock c.server.backs) (renews_by the_server c.server.lasting.boot m.head (expired c.clock c.server.backs) (c.server.backs.calls m.head.from))))
+noticed_goes s c past armed p m H up at j = if_to_goes (same_node m.head.to the_server) s c past armed p m _ H up at j (renews_goes s c past armed p m (c.server.backs.calls m.head.from) H up at j refl)
 
 -- ---- a call runs
 
@@ -624,13 +629,13 @@ has_run s c past p n h user call e H up at w is by = record { ran = ran_now s c 
 pub taken_not : (seats : List Seat) (n : ℕ) (h : Head) (r : Message) → Above (call_seat (Client n) (call_seated (taken n h r) seats)) h.epoch h.number → ⊥
 taken_not seats n h r above = below_not h.epoch h.number h.epoch h.number (subst (λ (o : Option Seat). Above o h.epoch h.number) (own_seat (taken n h r) seats) above) (up_to_same h.epoch h.number h.epoch h.number refl refl)
 
-pub run_backed : (s : Script) (c : Cell) (past : List Entry) (n : ℕ) (h : Head) (user : List ℕ) (call : FsCall) (x : Carried) (e : Entry) (ps : List Promise) → (H : Holds s c past) → c.down ≡ None → Now s c H.floors past n h user call → (OfReply ⊥ x → ⊥) → all_lines is_up e.lines ≡ true → all_lines is_oweless e.lines ≡ true → all_lines is_unchanging e.lines ≡ true → AllOf (IsGranted (lines_of (e ∷ past))) ps → Promised None ps c.clock (lines_at the_server (e ∷ past))
-    → BackedIn None (record (expired c.clock c.server.backs) { promises = ps; held = c.server.backs.held ++ record { reply = replied c.server.lasting.boot (client_head n h) x; waits = [] } ∷ [] }) c.server.lasting.boot (seats_after c n h (replied c.server.lasting.boot (client_head n h) x)) (seats_of c) c.clock c.sent (e ∷ past)
-run_backed s c past n h user call x e ps H up w is a b d granted promised =
+pub run_backed : (s : Script) (c : Cell) (past : List Entry) (n : ℕ) (h : Head) (user : List ℕ) (call : FsCall) (x : Carried) (e : Entry) (ps : List Promise) → (H : Holds s c past) → c.down ≡ None → Now s c H.floors past n h user call → (OfReply ⊥ x → ⊥) → all_lines is_up e.lines ≡ true → all_lines is_oweless e.lines ≡ true → all_lines is_unchanging e.lines ≡ true → AllOf (IsGranted (lines_of (e ∷ past))) ps → AllOf (λ (p : Promise). IsClient p.client) ps → Promised None ps c.clock (lines_at the_server (e ∷ past))
+    → BackedIn None (record (expired c.clock c.server.backs) { lists = record (expired c.clock c.server.backs).lists { promises = ps }; held = c.server.backs.held ++ record { reply = replied c.server.lasting.boot (client_head n h) x; waits = [] } ∷ [] }) c.server.lasting.boot (seats_after c n h (replied c.server.lasting.boot (client_head n h) x)) (seats_of c) c.clock c.sent (e ∷ past)
+run_backed s c past n h user call x e ps H up w is a b d granted clients promised =
     let r : Message = replied c.server.lasting.boot (client_head n h) x in
     let k : Key = called_key (client_head n h) in
     let B = up_backed s c past H up in
-    run_loaded (expired c.clock c.server.backs) ps c.server.lasting.boot c.server.seats (seats_after c n h r) (seats_of c) c.clock c.sent e past (record { reply = r; waits = [] }) B a b d granted promised (λ m y z. above_before c.server.seats n h r m y z w.above)
+    run_loaded (expired c.clock c.server.backs) ps c.server.lasting.boot c.server.seats (seats_after c n h r) (seats_of c) c.clock c.sent e past (record { reply = r; waits = [] }) B a b d granted clients promised (λ m y z. above_before c.server.seats n h r m y z w.above)
     (record { client = n; to = refl; from = refl; is_reply = is; under = taken_not c.server.seats n h r }) (λ y. key_held (expired c.clock c.server.backs) c.server.lasting.boot c.server.seats (seats_of c) c.clock c.sent past k B w.above y)
     (λ y. absurd (no_change k (lines_of past) (H.new k w.above_durable) (change_back k e.lines (lines_of past) d y)))
 
@@ -642,7 +647,7 @@ refuses_goes s c past armed p n h user call code H up at w nz result =
     let t : Turn = turn_for the_server c.server c.clock (expired c.clock c.server.backs) (refuses (client_head n h) code) in
     let ms : List Message = (pumped the_server c.server.lasting.boot t).sent in
     let e : Entry = record { actor = actors.Node the_server; lines = lines.Given p ∷ []; sent = ms; volumes = [] } in
-    let pump : Pumps c.server.lasting.boot (seats_after c n h r) (seats_of c) c.clock c.sent (e ∷ past) t = pumps c.server.lasting.boot (seats_after c n h r) (seats_of c) c.clock c.sent e past t refl H.clock (run_backed s c past n h user call x e (expired c.clock c.server.backs).promises H up w (λ y. y) refl refl refl (granted_over e past (expired c.clock c.server.backs).promises refl ((up_backed s c past H up).granted refl)) (promised_over None (expired c.clock c.server.backs).promises c.clock c.clock e past refl (le_refl _) (up_backed s c past H up).promised)) (record { good = tt; calls = tt; dones = tt }) in
+    let pump : Pumps c.server.lasting.boot (seats_after c n h r) (seats_of c) c.clock c.sent (e ∷ past) t = pumps c.server.lasting.boot (seats_after c n h r) (seats_of c) c.clock c.sent e past t refl H.clock (run_backed s c past n h user call x e (expired c.clock c.server.backs).lists.promises H up w (λ y. y) refl refl refl (granted_over e past (expired c.clock c.server.backs).lists.promises refl ((up_backed s c past H up).granted refl)) ((up_backed s c past H up).clients refl).promised (promised_over None (expired c.clock c.server.backs).lists.promises c.clock c.clock e past refl (le_refl _) (up_backed s c past H up).promised)) (record { good = tt; calls = tt; dones = tt }) in
     record {
       good = (tt, tt);
       holds = serves false s (Some c.server.lasting.boot) c past n h user call x e (stock c.server) (pumped the_server c.server.lasting.boot t).backs None armed H w
@@ -652,7 +657,7 @@ refuses_goes s c past armed p n h user call code H up at w nz result =
             code = code;
             cause = cause_now c n h user call x code (e ∷ past) (has_run s c past p n h user call e H up at w refl refl) w.origin.own_user tt refl result;
           }))
-          (H.boots ∙ ap (λ (d : Option Fall). up_boot d c.server.lasting.boot) up) (unheard_after s c past p n h user call r e H up at w refl) tt (λ own held. pumped_news (views_after false H.floors c n h r) c.server.lasting.boot (e ∷ past) c.server.lasting.boot t (no_news _ _ _) (own, tt) held) (λ z. pump.backed);
+          (H.boots ∙ ap (λ (d : Option Fall). up_boot d c.server.lasting.boot) up) (unheard_after s c past p n h user call r e H up at w refl) tt (λ own held. pumped_news (views_after false H.floors c n h r) c.server.lasting.boot (e ∷ past) c.server.lasting.boot t pump.clients (no_news _ _ _) (own, tt) held) (λ z. pump.backed);
       replies = pump.good;
       volumes = refl;
     }
@@ -851,14 +856,14 @@ first_answer : (boot : ℕ) (os : List Owed) (k : Key) (t : Started) → has_ans
 first_answer boot [] k t h = h
 first_answer boot (o ∷ os) k t h = first_answer boot os k _ (by_answer boot k t o (t.backs.calls o.client) h)
 
-pub shows_goes : (s : Script) (c : Cell) (past : List Entry) (armed : Armed) (p n : ℕ) (h : Head) (user : List ℕ) (call : FsCall) (r : Reading) → (H : Holds s c past) → c.down ≡ None → message_at c.sent p ≡ Some (call_at n h user call) → Now s c H.floors past n h user call
-    → IsRead c call r → code_given (answer_at user call past) ≡ pos 0 → IsTold (called_key (client_head n h)) (answer_at user call past) [] → Goes s past (server_does c armed p (call_at n h user call) (shows (client_head n h) r))
-shows_goes s c past armed p n h user call r H up at w is code done =
+shows_by : (s : Script) (c : Cell) (past : List Entry) (armed : Armed) (p n : ℕ) (h : Head) (user : List ℕ) (call : FsCall) (r : Reading) → (H : Holds s c past) → c.down ≡ None → message_at c.sent p ≡ Some (call_at n h user call) → Now s c H.floors past n h user call
+    → IsRead c call r → code_given (answer_at user call past) ≡ pos 0 → IsTold (called_key (client_head n h)) (answer_at user call past) [] → Goes s past (server_moves c armed (done the_server c.server c.clock p (shows (client_head n h) r) (shows_turn the_server c.server c.clock (expired c.clock c.server.backs) (client_head n h) r)))
+shows_by s c past armed p n h user call r H up at w is code done =
     let t : ℕ = c.clock + promise_ticks in
     let fs : List Found = r.granted in
     let z : Carried = carried.Reply (tell.File (promised_in t r.reply)) in
     let m : Message = replied c.server.lasting.boot (client_head n h) z in
-    let turn : Turn = turn_for the_server c.server c.clock (expired c.clock c.server.backs) (shows (client_head n h) r) in
+    let turn : Turn = shows_turn the_server c.server c.clock (expired c.clock c.server.backs) (client_head n h) r in
     let ms : List Message = (pumped the_server c.server.lasting.boot turn).sent in
     let ls : List Line = granted the_server (Client n) t fs [] in
     let e : Entry = told_entry p ls ms in
@@ -866,16 +871,17 @@ shows_goes s c past armed p n h user call r H up at w is code done =
     let rest : Rests s e past = told_rests s p ls ms past k in
     let run : HasRun c n h user call (e ∷ past) = has_run s c past p n h user call e H up at w refl refl in
     let B = up_backed s c past H up in
-    let ps : List Promise = (expired c.clock c.server.backs).promises in
+    let ps : List Promise = (expired c.clock c.server.backs).lists.promises in
     let boots : server_boot the_server (lines_of (e ∷ past)) ≡ Some c.server.lasting.boot = k.boot (lines.Given p ∷ lines_of past) ∙ up_boots s c past H up in
     let gave : given_up_in the_server ms (given_message e.lines (sent_of past)) ≡ drops_of (Client n) r.given_up =
-    ap (given_up_in the_server ms) (at_told s c past p _ H at) ∙ (ap (λ (b : Bool). given_up_by the_server b (client_head n h) (carried.Call user (ask.File call))) (first_answer c.server.lasting.boot turn.backs.owed (called_key (client_head n h)) (record { backs = held_after turn; sent = given_out turn }) (rw (same_node-refl (Client n), eq-eqb h.epoch h.epoch refl, eq-eqb h.number h.number refl) refl))
+    ap (given_up_in the_server ms) (at_told s c past p _ H at) ∙ (ap (λ (b : Bool). given_up_by the_server b (client_head n h) (carried.Call user (ask.File call))) (first_answer c.server.lasting.boot turn.backs.lists.owed (called_key (client_head n h)) (record { backs = held_after turn; sent = given_out turn }) (rw (same_node-refl (Client n), eq-eqb h.epoch h.epoch refl, eq-eqb h.number h.number refl) refl))
     ∙ ap (λ (gs : List Fid). drops_of (Client n) gs) (sym (gives_up_as c call r is))) in
-    let given : Promised None (without_promises n r.given_up ps) c.clock (before_own e past) = subst (λ (ds : List Line). Promised None (without_promises n r.given_up ps) c.clock (onto (lines_at the_server past) ds)) (sym gave) (gone_promised n c.clock r.given_up (lines_at the_server past) ps B.promised) in
+    let given : Promised None (without_promises (Client n) r.given_up ps) c.clock (before_own e past) = subst (λ (ds : List Line). Promised None (without_promises (Client n) r.given_up ps) c.clock (onto (lines_at the_server past) ds)) (sym gave) (gone_promised (Client n) c.clock r.given_up (lines_at the_server past) ps B.promised) in
     let pump : Pumps c.server.lasting.boot (seats_after c n h m) (seats_of c) c.clock c.sent (e ∷ past) turn = pumps c.server.lasting.boot (seats_after c n h m) (seats_of c) c.clock c.sent e past turn refl (k.clock (lines.Given p ∷ lines_of past) ∙ H.clock)
-    (run_backed s c past n h user call z e turn.backs.promises H up w (λ y. y) (granted_all is_up (Client n) t fs (λ f i. refl)) (granted_all is_oweless (Client n) t fs (λ f i. refl)) (granted_all is_unchanging (Client n) t fs (λ f i. refl))
-    (all_granted n t fs (lines.Given p ∷ lines_of past) (without_promises n r.given_up ps) (gone_granted n r.given_up (lines_of past) ps (B.granted refl)))
-    (all_promised n t c.clock fs (lines.Given p ∷ before_own e past) (without_promises n r.given_up ps) given)) (record { good = tt; calls = tt; dones = tt }) in
+    (run_backed s c past n h user call z e turn.backs.lists.promises H up w (λ y. y) (granted_all is_up (Client n) t fs (λ f i. refl)) (granted_all is_oweless (Client n) t fs (λ f i. refl)) (granted_all is_unchanging (Client n) t fs (λ f i. refl))
+    (all_granted (Client n) t fs (lines.Given p ∷ lines_of past) (without_promises (Client n) r.given_up ps) (gone_granted (Client n) r.given_up (lines_of past) ps (B.granted refl)))
+    (granted_to_client t n fs (without_promises (Client n) r.given_up ps) (gone_to_clients (Client n) r.given_up ps (B.clients refl).promised))
+    (all_promised (Client n) t c.clock fs (lines.Given p ∷ before_own e past) (without_promises (Client n) r.given_up ps) given)) (record { good = tt; calls = tt; dones = tt }) in
     record {
       good = (tt, granted_good s past (lines.Given p ∷ []) (Client n) t fs);
       holds = serves false s (Some c.server.lasting.boot) c past n h user call z e (stock c.server) (pumped the_server c.server.lasting.boot turn).backs None armed H w
@@ -907,7 +913,13 @@ shows_goes s c past armed p n h user call r H up at w is code done =
             code = pos 0;
             cause = cause_now c n h user call z (pos 0) (e ∷ past) run w.origin.own_user tt refl (inl (code, told_still (called_key (client_head n h)) (answer_at user call past) (lines_of (e ∷ past)) done));
           }))
-          boots (unheard_after s c past p n h user call m e H up at w refl) tt (λ own held. pumped_news (views_after false H.floors c n h m) c.server.lasting.boot (e ∷ past) c.server.lasting.boot turn (no_news _ _ _) (own, tt) held) (λ z. pump.backed);
+          boots (unheard_after s c past p n h user call m e H up at w refl) tt (λ own held. pumped_news (views_after false H.floors c n h m) c.server.lasting.boot (e ∷ past) c.server.lasting.boot turn pump.clients (no_news _ _ _) (own, tt) held) (λ z. pump.backed);
       replies = pump.good;
       volumes = refl;
     }
+
+pub shows_goes : (s : Script) (c : Cell) (past : List Entry) (armed : Armed) (p n : ℕ) (h : Head) (user : List ℕ) (call : FsCall) (r : Reading) → (H : Holds s c past) → c.down ≡ None → message_at c.sent p ≡ Some (call_at n h user call) → Now s c H.floors past n h user call
+    → IsRead c call r → code_given (answer_at user call past) ≡ pos 0 → IsTold (called_key (client_head n h)) (answer_at user call past) [] → Goes s past (server_does c armed p (call_at n h user call) (shows (client_head n h) r))
+shows_goes s c past armed p n h user call r H up at w is code told =
+    subst (λ (t : Turn). Goes s past (server_moves c armed (done the_server c.server c.clock p (shows (client_head n h) r) t))) (sym (shows_turn_is the_server c.server c.clock (expired c.clock c.server.backs) (client_head n h) r))
+    (shows_by s c past armed p n h user call r H up at w is code told)

@@ -1,8 +1,8 @@
 use Rattle.std.specs.Prelude as outcome
-use Rattle.std.specs.Prelude.{Ok, Err}
+use Rattle.std.specs.Prelude.{Ok, Err, ◌&&◌}
 use Rattle.afs_records.specs.Durable.{Stored, has_room}
 use Rattle.afs_rows.specs.States.{durable_of}
-use Rattle.afs_rows.specs.ServerRow.{several, Sight, sights, statuses_read, reading_in, given_up_read, time_read}
+use Rattle.afs_rows.specs.ServerRow.{several, Sight, sights, statuses_read, reading_in, given_up_read, time_read, is_client, runs_received}
 use Rattle.afs_records.specs.Durable.{has_room}
 use Rattle.std.proofs.Common.{◌≡◌, ℕ, Bool, true, false, cond, List, Option, Some, None, refl, sym, ap, ◌∙◌}
 use Rattle.std.specs.Prelude.{◌↔◌}
@@ -50,24 +50,31 @@ unseveral : (head : Head) (caller : Caller) (o : outcome.Result (List Sight) ℕ
 unseveral head caller (Err code) e = absurd cc
 unseveral head caller (Ok xs) e = unrefused (shows head (statuses_read caller xs)) head refl e
 
-pub unserved : (s : ServerState) (clock : ℕ) (head : Head) (user : List ℕ) (call : FsCall) → (runs s clock head (whole head (carried.Call user (ask.File call))) ≡ refuses head not_served) ↔ (serves (call_number call) ≡ false)
-unserved s clock head user (calls.FetchData a b c) = ((λ z. absurd (served s clock head (the_user user) (calls.FetchData a b c) _ refl _ z)), (λ z. absurd cc))
-unserved s clock head user (calls.FetchAcl a) = ((λ z. absurd (served s clock head (the_user user) (calls.FetchAcl a) _ refl _ z)), (λ z. absurd cc))
-unserved s clock head user (calls.FetchStatus a) = ((λ z. absurd (served s clock head (the_user user) (calls.FetchStatus a) _ refl _ z)), (λ z. absurd cc))
-unserved s clock head user (calls.StoreData a b c d e f) = ((λ z. absurd (served s clock head (the_user user) (calls.StoreData a b c d e f) _ refl _ z)), (λ z. absurd cc))
-unserved s clock head user (calls.StoreAcl a b) = ((λ z. absurd (served s clock head (the_user user) (calls.StoreAcl a b) _ refl _ z)), (λ z. absurd cc))
-unserved s clock head user (calls.StoreStatus a b) = ((λ z. absurd (served s clock head (the_user user) (calls.StoreStatus a b) _ refl _ z)), (λ z. absurd cc))
-unserved s clock head user (calls.RemoveFile a b) = ((λ z. absurd (served s clock head (the_user user) (calls.RemoveFile a b) _ refl _ z)), (λ z. absurd cc))
-unserved s clock head user (calls.CreateFile a b c) = ((λ z. absurd (served s clock head (the_user user) (calls.CreateFile a b c) _ refl _ z)), (λ z. absurd cc))
-unserved s clock head user (calls.Rename a b c d) = ((λ z. absurd (served s clock head (the_user user) (calls.Rename a b c d) _ refl _ z)), (λ z. absurd cc))
-unserved s clock head user (calls.Symlink a b c d) = ((λ z. absurd (served s clock head (the_user user) (calls.Symlink a b c d) _ refl _ z)), (λ z. absurd cc))
-unserved s clock head user (calls.Link a b c) = ((λ z. absurd (served s clock head (the_user user) (calls.Link a b c) _ refl _ z)), (λ z. absurd cc))
-unserved s clock head user (calls.MakeDir a b c) = ((λ z. absurd (served s clock head (the_user user) (calls.MakeDir a b c) _ refl _ z)), (λ z. absurd cc))
-unserved s clock head user (calls.RemoveDir a b) = ((λ z. absurd (served s clock head (the_user user) (calls.RemoveDir a b) _ refl _ z)), (λ z. absurd cc))
-unserved s clock head user (calls.GiveUpCallBacks a b) = ((λ z. absurd (unrefused (shows head (given_up_read a)) head refl z)), (λ z. absurd cc))
-unserved s clock head user (calls.GetVolumeStatus a) = ((λ z. absurd (served s clock head (the_user user) (calls.GetVolumeStatus a) a refl (get a s.lasting.volumes) z)), (λ z. absurd cc))
-unserved s clock head user calls.GetTime = ((λ z. absurd (unrefused (shows head (time_read clock)) head refl z)), (λ z. absurd cc))
-unserved s clock head user (calls.BulkStatus a) = ((λ z. absurd (unseveral head (the_user user) (sights s.lasting.volumes (the_user user) a) z)), (λ z. absurd cc))
-unserved s clock head user (calls.CallBack a b) = ((λ z. refl), (λ z. refl))
-unserved s clock head user calls.InitCallBackState = ((λ z. refl), (λ z. refl))
-unserved s clock head user calls.Probe = ((λ z. refl), (λ z. refl))
+served_client : (s : ServerState) (clock : ℕ) (head : Head) (user : List ℕ) (call : FsCall) → (runs_received s clock head (whole head (carried.Call user (ask.File call))) ≡ refuses head not_served) ↔ (serves (call_number call) ≡ false)
+served_client s clock head user (calls.FetchData a b c) = ((λ z. absurd (served s clock head (the_user user) (calls.FetchData a b c) _ refl _ z)), (λ z. absurd cc))
+served_client s clock head user (calls.FetchAcl a) = ((λ z. absurd (served s clock head (the_user user) (calls.FetchAcl a) _ refl _ z)), (λ z. absurd cc))
+served_client s clock head user (calls.FetchStatus a) = ((λ z. absurd (served s clock head (the_user user) (calls.FetchStatus a) _ refl _ z)), (λ z. absurd cc))
+served_client s clock head user (calls.StoreData a b c d e f) = ((λ z. absurd (served s clock head (the_user user) (calls.StoreData a b c d e f) _ refl _ z)), (λ z. absurd cc))
+served_client s clock head user (calls.StoreAcl a b) = ((λ z. absurd (served s clock head (the_user user) (calls.StoreAcl a b) _ refl _ z)), (λ z. absurd cc))
+served_client s clock head user (calls.StoreStatus a b) = ((λ z. absurd (served s clock head (the_user user) (calls.StoreStatus a b) _ refl _ z)), (λ z. absurd cc))
+served_client s clock head user (calls.RemoveFile a b) = ((λ z. absurd (served s clock head (the_user user) (calls.RemoveFile a b) _ refl _ z)), (λ z. absurd cc))
+served_client s clock head user (calls.CreateFile a b c) = ((λ z. absurd (served s clock head (the_user user) (calls.CreateFile a b c) _ refl _ z)), (λ z. absurd cc))
+served_client s clock head user (calls.Rename a b c d) = ((λ z. absurd (served s clock head (the_user user) (calls.Rename a b c d) _ refl _ z)), (λ z. absurd cc))
+served_client s clock head user (calls.Symlink a b c d) = ((λ z. absurd (served s clock head (the_user user) (calls.Symlink a b c d) _ refl _ z)), (λ z. absurd cc))
+served_client s clock head user (calls.Link a b c) = ((λ z. absurd (served s clock head (the_user user) (calls.Link a b c) _ refl _ z)), (λ z. absurd cc))
+served_client s clock head user (calls.MakeDir a b c) = ((λ z. absurd (served s clock head (the_user user) (calls.MakeDir a b c) _ refl _ z)), (λ z. absurd cc))
+served_client s clock head user (calls.RemoveDir a b) = ((λ z. absurd (served s clock head (the_user user) (calls.RemoveDir a b) _ refl _ z)), (λ z. absurd cc))
+served_client s clock head user (calls.GiveUpCallBacks a b) = ((λ z. absurd (unrefused (shows head (given_up_read a)) head refl z)), (λ z. absurd cc))
+served_client s clock head user (calls.GetVolumeStatus a) = ((λ z. absurd (served s clock head (the_user user) (calls.GetVolumeStatus a) a refl (get a s.lasting.volumes) z)), (λ z. absurd cc))
+served_client s clock head user calls.GetTime = ((λ z. absurd (unrefused (shows head (time_read clock)) head refl z)), (λ z. absurd cc))
+served_client s clock head user (calls.BulkStatus a) = ((λ z. absurd (unseveral head (the_user user) (sights s.lasting.volumes (the_user user) a) z)), (λ z. absurd cc))
+served_client s clock head user (calls.CallBack a b) = ((λ z. refl), (λ z. refl))
+served_client s clock head user calls.InitCallBackState = ((λ z. refl), (λ z. refl))
+served_client s clock head user calls.Probe = ((λ z. refl), (λ z. refl))
+
+unserved_by : (t : Bool) (s : ServerState) (clock : ℕ) (head : Head) (user : List ℕ) (call : FsCall) → (cond t (runs_received s clock head (whole head (carried.Call user (ask.File call)))) (refuses head not_served) ≡ refuses head not_served) ↔ ((t && serves (call_number call)) ≡ false)
+unserved_by true s clock head user call = served_client s clock head user call
+unserved_by false s clock head user call = ((λ z. refl), (λ z. refl))
+
+pub unserved : (s : ServerState) (clock : ℕ) (head : Head) (user : List ℕ) (call : FsCall) → (runs s clock head (whole head (carried.Call user (ask.File call))) ≡ refuses head not_served) ↔ ((is_client head.from && serves (call_number call)) ≡ false)
+unserved s clock head user call = unserved_by (is_client head.from) s clock head user call

@@ -80,7 +80,7 @@ row_six = refl
 
 -- a holder that never answers
 abbrev seven : List Input
-seven = begins 1 (acts.Open (operands.Fid file)) ∷ gives 1 steady ∷ gives 2 steady ∷ begins 2 (acts.Close (operands.Fid file) (codes "def")) ∷ gives 3 steady ∷ server_waits 1 ∷ server_waits 1 ∷ server_waits 1 ∷ gives 7 steady ∷ ticks 7199 ∷ begins 1 (acts.Open (operands.Fid file)) ∷ ticks 1 ∷ begins 1 (acts.Open (operands.Fid file)) ∷ gives 8 steady ∷ gives 9 steady ∷ []
+seven = begins 1 (acts.Open (operands.Fid file)) ∷ gives 1 steady ∷ gives 2 steady ∷ begins 2 (acts.Close (operands.Fid file) (codes "def")) ∷ gives 3 steady ∷ server_waits (Client 1) ∷ server_waits (Client 1) ∷ server_waits (Client 1) ∷ gives 7 steady ∷ ticks 7199 ∷ begins 1 (acts.Open (operands.Fid file)) ∷ ticks 1 ∷ begins 1 (acts.Open (operands.Fid file)) ∷ gives 8 steady ∷ gives 9 steady ∷ []
 
 row_seven : told (start (script 2)) seven ≡
     begun 1 ∷ lines.Given 1 ∷ lines.Grant (Server 1) (Client 1) file 1 7200 ∷ lines.Given 2 ∷ lines.Read (Client 1) file 1 Fetched (seen.Contents (bodies.File (codes "abc"))) ∷ answer 1 ∷ stores 2 ∷ lines.Given 3 ∷ (change 2 ++ lines.Owe (Server 1) (Client 1) (Some file) 1
@@ -207,7 +207,7 @@ row_ten = refl
 
 -- a store of the mode over an older body: the entry isn't just below the new index, so it is given up
 abbrev twenty_two : List Input
-twenty_two = begins 1 (acts.Open (operands.Fid file)) ∷ gives 1 steady ∷ gives 2 steady ∷ begins 2 (acts.Close (operands.Fid file) (codes "def")) ∷ gives 3 steady ∷ server_waits 1 ∷ server_waits 1 ∷ server_waits 1 ∷ gives 7 steady
+twenty_two = begins 1 (acts.Open (operands.Fid file)) ∷ gives 1 steady ∷ gives 2 steady ∷ begins 2 (acts.Close (operands.Fid file) (codes "def")) ∷ gives 3 steady ∷ server_waits (Client 1) ∷ server_waits (Client 1) ∷ server_waits (Client 1) ∷ gives 7 steady
     ∷ begins 1 (acts.SetMode (operands.Fid file) 384) ∷ gives 8 steady ∷ gives 9 steady ∷ begins 1 (acts.Open (operands.Fid file)) ∷ gives 10 steady ∷ gives 11 steady ∷ []
 
 row_twenty_two : filter is_kept (told (start (script 2)) twenty_two) ≡

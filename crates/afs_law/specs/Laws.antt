@@ -19,12 +19,12 @@ use Rattle.afs_law.specs.Once.{past_of, ChangesOnce}
 use Rattle.afs_law.specs.OneServer.{IsOneServer}
 use Rattle.afs_law.specs.Past.{HasCode, IsCall, lines_of}
 use Rattle.afs_rows.specs.Runs.{message_at, Leads, start, Input, Entry, Cell, RunsTo}
-use Rattle.afs_rows.specs.ServerRow.{Change, lasting_after, lasting_started, record_of, serves, runs, refuses, not_served, whole}
+use Rattle.afs_rows.specs.ServerRow.{Change, is_client, lasting_after, lasting_started, record_of, serves, runs, refuses, not_served, whole, is_client}
 use Rattle.afs_rows.specs.States.{CacheEntry, Seat, Lasting, durable_of, volume_in, ServerState}
 use Rattle.afs_model.specs.FsRows.{call_number}
 use Rattle.afs_num.specs.declared.messages.Carried.TheVariants as carried
 use Rattle.afs_num.specs.declared.messages.Call.TheVariants as ask
-use Rattle.std.specs.Prelude.{◌⊎◌, ◌≤◌, ◌<◌, None, Some, ◌∷◌, [], ◌≡◌, ◌↔◌, ℕ, List, ◌++◌, false, ◌+◌}
+use Rattle.std.specs.Prelude.{◌⊎◌, ◌≤◌, ◌<◌, None, Some, ◌∷◌, [], ◌≡◌, ◌↔◌, ℕ, List, ◌++◌, false, ◌+◌, ◌&&◌}
 use Rattle.afs_num.specs.declared.types.Fid.{Fid}
 use Rattle.afs_num.specs.declared.types.Node.{Node}
 use Rattle.afs_num.specs.declared.scripts.Script.{Script}
@@ -81,10 +81,10 @@ ReadsAreNewest =
     (c : Node) (f : Fid) (index : ℕ) (source : ReadSource) (body : ReadBody) (past : List Entry) (own : List Line) (read : GoodRead c f index source body past own)
     → (IsOutstanding read.grant.server c f (own ++ since c f read.expiry read.reply past read.grant) → ⊥) → IsLast f index (own ++ lines_of past)
 
--- a server tells that a call isn't served exactly where its opcode is none of those that it serves
+-- a server tells that a call isn't served exactly where its caller is no client, or its opcode none of those that it serves
 abbrev pub UnservedAreRefused : Type 0
 UnservedAreRefused =
-    (s : ServerState) (clock : ℕ) (head : Head) (user : List ℕ) (call : FsCall) → (runs s clock head (whole head (carried.Call user (ask.File call))) ≡ refuses head not_served) ↔ (serves (call_number call) ≡ false)
+    (s : ServerState) (clock : ℕ) (head : Head) (user : List ℕ) (call : FsCall) → (runs s clock head (whole head (carried.Call user (ask.File call))) ≡ refuses head not_served) ↔ ((is_client head.from && serves (call_number call)) ≡ false)
 
 -- What a change leaves is the fold of its record: where it is made in the volume as it stands, which it leaves one that a disk
 -- may hold, and the callers are nodes.

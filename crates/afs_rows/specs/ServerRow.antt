@@ -1,11 +1,12 @@
 -- The row of a file server: what it decides on a message, and what it then does with its volumes and its callers. What it does
 -- with its promises stands in Callbacks.
-use Rattle.std.specs.Prelude.{ℕ, ◌+◌, List, [], ◌∷◌, Bool, not, Option, Some, None, Ok, Err, ℤ, pos, negsuc, nat_eq, nat_lt, map, filter, length, if◌then◌else◌}
+use Rattle.std.specs.Prelude.{ℕ, ◌+◌, List, [], ◌∷◌, Bool, true, false, not, Option, Some, None, Ok, Err, ℤ, pos, negsuc, nat_eq, nat_lt, map, filter, length, if◌then◌else◌}
 use Rattle.std.specs.Prelude as outcome
 use Rattle.std.specs.List.{list_any}
 use Rattle.afs_num.specs.Nodes.{node_number, same_node}
 use Rattle.afs_num.specs.declared.types.Fid.{Fid}
 use Rattle.afs_num.specs.declared.types.Node.{Node}
+use Rattle.afs_num.specs.declared.types.Node.TheVariants.{Client}
 use Rattle.afs_num.specs.declared.types.Half.TheVariants as halves
 use Rattle.afs_num.specs.declared.types.Head.{Head}
 use Rattle.afs_num.specs.declared.types.Key.{Key}
@@ -270,12 +271,21 @@ runs_carried s clock head (carried.Call user (ask.File call)) = serves_call s cl
 runs_carried s clock head (carried.Call user call) = refuses head not_served
 runs_carried s clock head c = drops
 
--- a call that is to run, by what was found in its bytes
+-- by what was found in its bytes
+abbrev pub runs_received : ServerState → ℕ → Head → Received → Decision
+runs_received s clock head Nothing = drops
+runs_received s clock head (Unserved other) = refuses head not_served
+runs_received s clock head (Unreadable other) = refuses head (code_of_unreadable head.opcode)
+runs_received s clock head (Whole m) = runs_carried s clock head m.carried
+
+-- calls of clients alone are served
+abbrev pub is_client : Node → Bool
+is_client (Client n) = true
+is_client n = false
+
+-- a call that is to run
 abbrev pub runs : ServerState → ℕ → Head → Received → Decision
-runs s clock head Nothing = drops
-runs s clock head (Unserved other) = refuses head not_served
-runs s clock head (Unreadable other) = refuses head (code_of_unreadable head.opcode)
-runs s clock head (Whole m) = runs_carried s clock head m.carried
+runs s clock head r = if is_client head.from then runs_received s clock head r else refuses head not_served
 
 -- a call in progress or older than its caller's last one gets no answer
 abbrev pub admits : ServerState → ℕ → Head → Received → Admitted Message → Decision
