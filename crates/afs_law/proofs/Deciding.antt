@@ -12,22 +12,22 @@ use Rattle.std.proofs.Common.{◌≡◌, ℕ, ◌+◌, ◌<◌, ◌≤◌, ◌�
 use Rattle.afs_ideal.specs.Operations.{the_user, reads, Result, refused, changes, no_operation, op, volume_called, Caller, Shown, Found, shows_body, shows_acl, shows_status, shows_statuses, shows_volume}
 use Rattle.afs_ideal.specs.Tables.{get}
 use Rattle.afs_ideal.specs.Volumes.{Volume, Edit, versions_by, vnode_of}
-use Rattle.afs_law.proofs.Backing.{Plain, all_lines, is_still, is_oweless, backed_fall, granted_over, change_back, no_owe, promised_over}
+use Rattle.afs_law.proofs.Backing.{Plain, all_lines, is_still, is_oweless, backed_fall, granted_over, change_back, no_owe, promised_over, plain_waits}
 use Rattle.afs_law.proofs.Basics.{kept_last, not_above, runs_above, Below, Above, Each, IfCall, IfNotice, if_notice, by_server, IfDone, ByClient, OfClient, client_any, same_node-true, below_not, up_to_same, OfCall, each_map, each_at, if_call, some_of}
 use Rattle.afs_law.proofs.Edits.{on_top, SoundIn}
 use Rattle.afs_law.proofs.Facts.{HeldIn, ToClient, Ghost, HoldsAt, server_boot, up_boot, risen, IsActs, View, view, Spot, spot, ReplyFact, AreKept, HasFallen, IsCut, Fits, Answers, KeptReply, ClientFacts, CallFact, CallIn, Origin, AreUnheard, Holds, Goes, IsNoticed, IsOne}
-use Rattle.afs_law.proofs.Loading.{is_tickless, down_later, resent, rise_loaded, run_loaded, no_change, all_waited, quits_good, quits_backed, retries_backed, all_owed, alls_good, all_clients}
+use Rattle.afs_law.proofs.Loading.{is_tickless, down_later, resent, rise_loaded, run_loaded, no_change, all_waited, quits_good, quits_backed, retries_backed, all_owed, alls_good, all_clients, own_waited}
 use Rattle.afs_law.proofs.Notes.{AreNotes, Skips, skips, told_entry, risen_entry, risen_rests, owe_notes, quit_notes}
 use Rattle.afs_law.proofs.Ops.{IsShown, reads_is, op_code, op_is, IsFoundAs, changes_is}
-use Rattle.afs_law.proofs.Owing.{BackedIn, IsNumberIn, DoneIn}
+use Rattle.afs_law.proofs.Owing.{BackedIn, IsNumberIn, DoneIn, is_held, WaitedBy, AllWaitedBy, HeldWaits, AllOf}
 use Rattle.afs_law.proofs.Passing.{ran_over, kept_over, replies_over, waiting_over, fallen_over}
 use Rattle.afs_law.proofs.Pumping.{no_news, pumped_news, starts_held, news_break}
 use Rattle.afs_law.proofs.Resting.{fall_backed, Rests, fault_rests, full_rests, alone, rests, still, voids, unheard_still, fallen_still, server_crash_rests, cut_entry, cut_rests}
 use Rattle.afs_law.proofs.Saving.{versions_lines, versioned_front, saves_clock, Way, rises_to, faults, fills, saved_lines, saved_sent, saved_entry, given_on, Change', change_at, stock_after, NewEntry, saved_reply, saves_change_good, saves_holds, versions_good, saves_boot, saves_goes, top_number, reply_saved}
 use Rattle.afs_law.proofs.Serving.{shows_goes, answered_goes, noticed_goes, nothing_done, quiet, acts_alone, still_loads, given_plain, Loads, up_backed, seats_of, Gives, noted, Dull, at_told, client_head, Now, call_at, taken, seats_after, views_after, ran_now, served_cell, unheard_later, refuses_goes, server_adds, server_does, IsRead, answer_in, AllSeen, IsSeen, IsLook}
-use Rattle.afs_law.proofs.Turning.{Pumps, pumps, put_call, break_good}
-use Rattle.afs_law.specs.Breaks.{HasStopped, last_number}
-use Rattle.afs_rows.specs.Callbacks.{retries, quits, Turn, replies_of, pumped, expired, turn_for, no_turn, repeats_by, is_held, key_answered, is_seat_of, risen_turn, alls, put, put_at}
+use Rattle.afs_law.proofs.Turning.{Pumps, pumps, put_call, break_good, reply_key}
+use Rattle.afs_law.specs.Breaks.{HasStopped, last_number, AllOwes}
+use Rattle.afs_rows.specs.Callbacks.{retries, quits, Turn, replies_of, pumped, expired, turn_for, no_turn, repeats_by, key_answered, is_seat_of, risen_turn, alls, put, put_at, held_under, asked_again, is_ready, is_reply_to}
 use Rattle.afs_rows.specs.ClientRow.{the_server}
 use Rattle.afs_rows.specs.Going.{asked}
 use Rattle.afs_law.specs.Ideal.{is_zero_code, clock_of, volume_after}
@@ -373,13 +373,13 @@ pub refuses_by : (s : Script) (c : Cell) (past : List Entry) (armed : Armed) (p 
     → ((code_given (answer_at user call past) ≡ code) × IsTold (called_key (client_head n head)) (answer_at user call past) []) ⊎ ((code ≡ no_room) × IsChanging (answer_at user call past))
     → Goes s past (server_does c armed p (call_at n head user call) (refuses (client_head n head) code))
 refuses_by s c past armed p n head user call code H up at w nz (inl x) = refuses_goes s c past armed p n head user call code H up at w nz (inl (x.0, told_more (called_key (client_head n head)) (answer_at user call past) (lines.Given p ∷ lines_of past) x.1))
-refuses_by s c past armed p n head user call code H up at w nz (inr x) = refuses_goes s c past armed p n head user call code H up at w nz (inr x)
+refuses_by s c past armed p n head user call code H up at w nz (inr x) = refuses_goes s c past armed p n head user call code H up at w nz (inr (x.0, (x.1, λ y. y)))
 
 -- what a message does that runs nothing, beside the seats
 pub turned_goes : (s : Script) (c : Cell) (past : List Entry) (armed : Armed) (p : ℕ) (head : Head) (x : Carried) (i : ℕ) → (H : Holds s c past) → c.down ≡ None → message_at c.sent p ≡ Some (record { head = head; carried = x }) → head.to ≡ Server i → Dull c.server.seats c.server.lasting.boot (record { head = head; carried = x })
     → Goes s past (server_does c armed p (record { head = head; carried = x }) drops)
 turned_goes s c past armed p head (carried.Call user call) i H up at to j = nothing_done s c past armed p _ H up at j
-turned_goes s c past armed p head (carried.Refusal code) i H up at to j = nothing_done s c past armed p _ H up at j
+turned_goes s c past armed p head (carried.Refusal code) i H up at to j = answered_goes s c past armed p _ H up at j (by_server i head.to _ to (each_at (IfDone (DoneIn c.down c.server.backs.calls c.server.backs.last_call c.server.lasting.boot past)) c.sent p _ at (H.backs refl).dones))
 turned_goes s c past armed p head (carried.Reply reply) i H up at to j = answered_goes s c past armed p _ H up at j (by_server i head.to _ to (each_at (IfDone (DoneIn c.down c.server.backs.calls c.server.backs.last_call c.server.lasting.boot past)) c.sent p _ at (H.backs refl).dones))
 turned_goes s c past armed p head carried.Notice i H up at to j = noticed_goes s c past armed p _ H up at j
 
@@ -417,26 +417,75 @@ kept_new s c past reply client seat H at k t = H.new (key_answered reply) (subst
     (durable_above (call_seat (Client client) c.server.lasting.kept) reply.head.epoch reply.head.number reply refl refl (ap (λ (m : Node). is_seat_of reply (call_seat m c.server.lasting.kept)) (sym k.to) ∙ t)
     (λ d i l. (H.clients client).lower d i (subst (λ (o : Option Seat). Above o d i) (sym at) (subst (λ (e : ℕ). Below e seat.number d i) k.epoch (subst (λ (z : ℕ). Below reply.head.epoch z d i) k.number l))))))
 
-pub repeat_loads : (s : Script) (c : Cell) (past : List Entry) (e : Entry) (p : ℕ) (reply : Message) (ws : List ℕ) → (H : Holds s c past) → c.down ≡ None → IsKept c reply → e ≡ told_entry p [] e.sent → is_held (key_answered reply) c.server.backs.held ≡ false
-    → (HasChange (key_answered reply) (lines_of past) → (n : ℕ) → IsNumberIn n (alls (expired c.clock c.server.backs).lists.owed) → IsNumberIn n ws) → Loads c (e ∷ past) (record { backs = expired c.clock c.server.backs; lines = []; sent = []; outs = record { reply = reply; waits = ws } ∷ [] })
-repeat_loads s c past e p reply ws H up k is none all =
+abbrev pub again_held : Message → List ℕ → Held
+again_held reply ws = record { reply = reply; waits = ws; again = true }
+
+none_by : (t u : Bool) (h : Held) (o : Option Held) → cond t (Some h) o ≡ None → cond t true u ≡ true → (o ≡ None → u ≡ true → ⊥) → ⊥
+none_by true u h o e f w = absurd cc
+none_by false u h o e f w = w e f
+
+not_held : (k : Key) (hs : List Held) → held_under k hs ≡ None → is_held k hs ≡ true → ⊥
+not_held k [] e f = absurd cc
+not_held k (h ∷ hs) e f = none_by (is_reply_to k h.reply) (is_held k hs) h (held_under k hs) e f (λ x y. not_held k hs x y)
+
+held_by : (P : Held → Type 0) (t : Bool) (k : Key) (x h : Held) (o : Option Held) → is_reply_to k x.reply ≡ t → P x → cond t (Some x) o ≡ Some h → (o ≡ Some h → P h × (is_reply_to k h.reply ≡ true)) → P h × (is_reply_to k h.reply ≡ true)
+held_by P true k x h o e p at w = subst (λ (z : Held). P z × (is_reply_to k z.reply ≡ true)) (some_of x h at) (p, e)
+held_by P false k x h o e p at w = w at
+
+held_waits : (P : Held → Type 0) (k : Key) (hs : List Held) (h : Held) → held_under k hs ≡ Some h → AllOf P hs → P h × (is_reply_to k h.reply ≡ true)
+held_waits P k [] h at all = absurd cc
+held_waits P k (x ∷ hs) h at all = held_by P (is_reply_to k x.reply) k x h (held_under k hs) refl all.0 at (λ y. held_waits P k hs h y all.1)
+
+pub repeat_loads : (s : Script) (c : Cell) (past : List Entry) (e : Entry) (p : ℕ) (reply : Message) (ws : List ℕ) → (H : Holds s c past) → c.down ≡ None → IsKept c reply → e ≡ told_entry p [] e.sent → AllOwes the_server (WaitedBy (again_held reply ws) c.clock) (e ∷ past)
+    → (HasChange (key_answered reply) (lines_of (e ∷ past)) → AllOwes the_server (AllWaitedBy (again_held reply ws) c.clock) (e ∷ past)) → Loads c (e ∷ past) (asked_again (expired c.clock c.server.backs) reply ws)
+repeat_loads s c past e p reply ws H up k is own all =
     let d = (H.clients k.client).kept k.seat reply k.at k.kept in
     let B = up_backed s c past H up in
     let q : Plain e.lines = given_plain p e e.sent is in
     record {
-      backed = run_loaded (expired c.clock c.server.backs) (expired c.clock c.server.backs).lists.promises c.server.lasting.boot c.server.seats c.server.seats (seats_of c) c.clock c.sent e past (record { reply = reply; waits = ws }) B q.up q.oweless q.unchanging (granted_over e past (expired c.clock c.server.backs).lists.promises q.still (B.granted refl)) (B.clients refl).promised (promised_over None (expired c.clock c.server.backs).lists.promises c.clock c.clock e past q.still (le_refl _) B.promised) (λ m y z w. w)
-          (record { client = k.client; to = d.0.to; from = d.0.from; is_reply = d.0.is_reply; under = kept_under c reply k.client k.seat k.at d.0 }) (λ y. absurd cc)
-          (λ y. all_waited (expired c.clock c.server.backs) c.server.lasting.boot c.server.seats (seats_of c) c.clock c.sent e past (record { reply = reply; waits = ws }) B (all (change_back (key_answered reply) e.lines (lines_of past) q.unchanging y)) (λ a b f what n line. absurd (no_owe e.lines a b the_server f what n q.oweless line)));
+      backed = run_loaded (expired c.clock c.server.backs) (expired c.clock c.server.backs).lists.promises c.server.lasting.boot c.server.seats c.server.seats (seats_of c) c.clock c.sent e past (again_held reply ws) B q.up q.oweless q.unchanging (granted_over e past (expired c.clock c.server.backs).lists.promises q.still (B.granted refl)) (B.clients refl).promised (promised_over None (expired c.clock c.server.backs).lists.promises c.clock c.clock e past q.still (le_refl _) B.promised) (λ m y z w. w)
+          (record { client = k.client; to = d.0.to; from = d.0.from; is_reply = d.0.is_reply; under = kept_under c reply k.client k.seat k.at d.0 }) own all;
       sends = record { good = tt; calls = tt; dones = tt };
     }
 
-pub repeats_goes : (s : Script) (c : Cell) (past : List Entry) (armed : Armed) (p : ℕ) (m reply : Message) (held good : Bool) → (H : Holds s c past) → c.down ≡ None → message_at c.sent p ≡ Some m → Dull c.server.seats c.server.lasting.boot m → IsKept c reply → is_held (key_answered reply) c.server.backs.held ≡ held → is_seat_of reply (call_seat reply.head.to c.server.lasting.kept) ≡ good
+-- where none waits under its key
+pub first_loads : (s : Script) (c : Cell) (past : List Entry) (e : Entry) (p : ℕ) (reply : Message) (ws : List ℕ) → (H : Holds s c past) → c.down ≡ None → IsKept c reply → e ≡ told_entry p [] e.sent → held_under (key_answered reply) c.server.backs.held ≡ None
+    → (HasChange (key_answered reply) (lines_of past) → (n : ℕ) → IsNumberIn n (alls (expired c.clock c.server.backs).lists.owed) → IsNumberIn n ws) → Loads c (e ∷ past) (asked_again (expired c.clock c.server.backs) reply ws)
+first_loads s c past e p reply ws H up k is none all =
+    let B = up_backed s c past H up in
+    let q : Plain e.lines = given_plain p e e.sent is in
+    repeat_loads s c past e p reply ws H up k is
+    (own_waited (expired c.clock c.server.backs) c.server.lasting.boot c.server.seats (seats_of c) c.clock c.sent e past (again_held reply ws) B q.oweless (λ y. not_held (key_answered reply) c.server.backs.held none y))
+    (λ y. all_waited (expired c.clock c.server.backs) c.server.lasting.boot c.server.seats (seats_of c) c.clock c.sent e past (again_held reply ws) B (all (change_back (key_answered reply) e.lines (lines_of past) q.unchanging y)) (λ a b f what n line. absurd (no_owe e.lines a b the_server f what n q.oweless line)))
+
+-- where one waits, for the same
+pub second_loads : (s : Script) (c : Cell) (past : List Entry) (e : Entry) (p : ℕ) (reply : Message) (h : Held) → (H : Holds s c past) → c.down ≡ None → IsKept c reply → e ≡ told_entry p [] e.sent → held_under (key_answered reply) c.server.backs.held ≡ Some h → Loads c (e ∷ past) (asked_again (expired c.clock c.server.backs) reply h.waits)
+second_loads s c past e p reply h H up k is at =
+    let B = up_backed s c past H up in
+    let q : Plain e.lines = given_plain p e e.sent is in
+    let w = held_waits (HeldWaits c.server.seats c.clock past) (key_answered reply) c.server.backs.held h at (B.waiting refl) in
+    let same : key_answered h.reply ≡ key_answered reply = reply_key (key_answered reply) h.reply w.1 in
+    let x : HeldWaits c.server.seats c.clock (e ∷ past) h = plain_waits c.server.seats c.server.seats c.clock c.clock e past h q (le_refl _) (λ m a b z. z) w.0 in
+    repeat_loads s c past e p reply h.waits H up k is
+    (λ newer a older y z d what n split line boot u. x.own newer a older y z d what n split line boot (subst (λ (i : Key). IsCallUnder the_server i boot (given_message a.lines (sent_of older))) (sym same) u))
+    (λ y. x.all (subst (λ (i : Key). HasChange i (lines_of (e ∷ past))) (sym same) y))
+
+pub told_again : (p : ℕ) (e : Entry) (ms : List Message) → e ≡ told_entry p [] ms → e ≡ told_entry p [] e.sent
+told_again p e ms q = q ∙ ap (λ (xs : List Message). told_entry p [] xs) (sym (ap (λ (z : Entry). z.sent) q))
+
+again_goes : (t : Bool) (s : Script) (c : Cell) (past : List Entry) (armed : Armed) (p : ℕ) (m reply : Message) (h : Held) → (H : Holds s c past) → c.down ≡ None → message_at c.sent p ≡ Some m → Dull c.server.seats c.server.lasting.boot m → IsKept c reply → held_under (key_answered reply) c.server.backs.held ≡ Some h
+    → Goes s past (server_adds c armed c.server (lines.Given p ∷ []) (cond t (asked_again (expired c.clock c.server.backs) reply h.waits) (no_turn (expired c.clock c.server.backs))))
+again_goes true s c past armed p m reply h H up at j k a = quiet s c past armed p m (asked_again (expired c.clock c.server.backs) reply h.waits) H up at j tt tt (λ e over held. record { notes = tt; sent = no_news _ _ _; outs = (repeated s c past e reply H over k, tt); held = held })
+    (λ e q. second_loads s c past e p reply h H up k (told_again p e _ q) a)
+again_goes false s c past armed p m reply h H up at j k a = nothing_done s c past armed p m H up at j
+
+pub repeats_goes : (s : Script) (c : Cell) (past : List Entry) (armed : Armed) (p : ℕ) (m reply : Message) (held : Option Held) (good : Bool) → (H : Holds s c past) → c.down ≡ None → message_at c.sent p ≡ Some m → Dull c.server.seats c.server.lasting.boot m → IsKept c reply → held_under (key_answered reply) c.server.backs.held ≡ held → is_seat_of reply (call_seat reply.head.to c.server.lasting.kept) ≡ good
     → Goes s past (server_adds c armed c.server (lines.Given p ∷ []) (repeats_by (expired c.clock c.server.backs) reply held good))
-repeats_goes s c past armed p m reply true good H up at j k a b = nothing_done s c past armed p m H up at j
-repeats_goes s c past armed p m reply false true H up at j k a b = quiet s c past armed p m (repeats_by (expired c.clock c.server.backs) reply false true) H up at j tt tt (λ e over held. record { notes = tt; sent = no_news _ _ _; outs = (repeated s c past e reply H over k, tt); held = held })
-    (λ e q. repeat_loads s c past e p reply (alls (expired c.clock c.server.backs).lists.owed) H up k (q ∙ ap (λ (ms : List Message). told_entry p [] ms) (sym (ap (λ (z : Entry). z.sent) q))) a (λ y n z. z))
-repeats_goes s c past armed p m reply false false H up at j k a b = quiet s c past armed p m (repeats_by (expired c.clock c.server.backs) reply false false) H up at j tt tt (λ e over held. record { notes = tt; sent = no_news _ _ _; outs = (repeated s c past e reply H over k, tt); held = held })
-    (λ e q. repeat_loads s c past e p reply [] H up k (q ∙ ap (λ (ms : List Message). told_entry p [] ms) (sym (ap (λ (z : Entry). z.sent) q))) a (λ y. absurd (no_change (key_answered reply) (lines_of past) (kept_new s c past reply k.client k.seat H k.at ((H.clients k.client).kept k.seat reply k.at k.kept).0 b) y)))
+repeats_goes s c past armed p m reply (Some h) good H up at j k a b = again_goes (h.again && is_ready (expired c.clock c.server.backs).lists.owed h) s c past armed p m reply h H up at j k a
+repeats_goes s c past armed p m reply None true H up at j k a b = quiet s c past armed p m (repeats_by (expired c.clock c.server.backs) reply None true) H up at j tt tt (λ e over held. record { notes = tt; sent = no_news _ _ _; outs = (repeated s c past e reply H over k, tt); held = held })
+    (λ e q. first_loads s c past e p reply (alls (expired c.clock c.server.backs).lists.owed) H up k (told_again p e _ q) a (λ y n z. z))
+repeats_goes s c past armed p m reply None false H up at j k a b = quiet s c past armed p m (repeats_by (expired c.clock c.server.backs) reply None false) H up at j tt tt (λ e over held. record { notes = tt; sent = no_news _ _ _; outs = (repeated s c past e reply H over k, tt); held = held })
+    (λ e q. first_loads s c past e p reply [] H up k (told_again p e _ q) a (λ y. absurd (no_change (key_answered reply) (lines_of past) (kept_new s c past reply k.client k.seat H k.at ((H.clients k.client).kept k.seat reply k.at k.kept).0 b) y)))
 
 pub does_goes : (s : Script) (c : Cell) (past : List Entry) (armed : Armed) (p : ℕ) (m : Message) (d : Decision) (i : ℕ) → (H : Holds s c past) → c.down ≡ None → message_at c.sent p ≡ Some m → m.head.to ≡ Server i → IsJust s c H.floors past m d → Goes s past (server_does c armed p m d)
 does_goes s c past armed p m drops i H up at to j = turned_goes s c past armed p m.head m.carried i H up at to j
@@ -446,7 +495,7 @@ does_goes s c past armed p m (tells_boot head) i H up at to j =
     (λ e over held. record { notes = tt; sent = record { calls = (tt, tt); replies = (tt, tt); notices = (client_any head.from _ (le_refl _), tt); origins = (tt, tt); acts = (tt, tt); lasts = (tt, tt); ones = (tt, tt); to_clients = (tt, tt) }; outs = tt; held = held }) (λ e q. still_loads s c past e (boot_told c.server.lasting.boot head ∷ []) H up (given_plain p e _ q) (record { good = ((λ is nought k from. absurd is.1), tt); calls = (tt, tt); dones = (tt, tt) })))
 does_goes s c past armed p m (repeats reply) i H up at to j =
     subst (λ (x : Message). Goes s past (server_does c armed p x (repeats reply))) (sym j.call.is)
-    (repeats_goes s c past armed p (called_at m.head j.call.user j.call.call) reply (is_held (key_answered reply) (expired c.clock c.server.backs).held) (is_seat_of reply (call_seat reply.head.to c.server.lasting.kept)) H up (at ∙ ap Some j.call.is) (subst (λ (x : Message). Dull c.server.seats c.server.lasting.boot x) j.call.is j.call.idle) j.kept refl refl)
+    (repeats_goes s c past armed p (called_at m.head j.call.user j.call.call) reply (held_under (key_answered reply) (expired c.clock c.server.backs).held) (is_seat_of reply (call_seat reply.head.to c.server.lasting.kept)) H up (at ∙ ap Some j.call.is) (subst (λ (x : Message). Dull c.server.seats c.server.lasting.boot x) j.call.is j.call.idle) j.kept refl refl)
 does_goes s c past armed p m (refuses head code) i H up at to j =
     subst (λ (x : Message). Goes s past (server_does c armed p x (refuses head code))) (sym j.due.is)
     (subst (λ (x : Head). Goes s past (server_does c armed p (call_at j.due.client head j.due.user j.call) (refuses x code))) (sym j.due.from)

@@ -16,10 +16,10 @@ use Rattle.afs_num.specs.declared.messages.Message.{Message}
 use Rattle.afs_ideal.specs.Operations.{Found}
 use Rattle.afs_law.proofs.Backing.{Plain, Stepping, all_lines, is_up, is_still, is_oweless, is_unchanging, is_still_to, grant_back_to, settled_onto, stopped_back, grant_back, front_onto, change_back, no_owe, owes_over, ended_over, calls_same, backed_step, seated_over, plain_step, plain_waits, waits_over, granted_over, owed_over, call_over, backed_plain, promised_over, live_back, numbered_over, zero_back, live_given, before_own, rising_over, rising_back}
 use Rattle.afs_law.proofs.Basics.{both, same_node-true, same_node-refl, same_fid-refl, same_fid-true, client_number, Above, Each, IfBack, IfDone, OfReply, each_map, if_back, if_done, some_of}
-use Rattle.afs_law.proofs.Owing.{AllOf, all_map, all_both, all_filter, IsGranted, IsIn, IsNumberIn, AccountedBy, WaitedBy, AllWaitedBy, HeldWaits, IsOwed, CallOut, BackIn, DroppedOwe, DoneIn, BackedIn, Promised, IsPromised, promise_to, Numbered, IsClient, Rising, ToClients}
+use Rattle.afs_law.proofs.Owing.{AllOf, all_map, all_both, all_filter, IsGranted, IsIn, IsNumberIn, AccountedBy, WaitedBy, AllWaitedBy, HeldWaits, IsOwed, CallOut, BackIn, DroppedOwe, DoneIn, BackedIn, Promised, IsPromised, promise_to, Numbered, IsClient, Rising, ToClients, is_held}
 use Rattle.afs_law.proofs.Turning.{loaded, in_filter, put_call, kept_in}
 use Rattle.afs_law.specs.Breaks.{HasSettled, HasTimeout, last_grant, expiry_of, AllOwes, CarriesBreak, GoodSettle, GoodQuit, live_grant, HasOwe, last_number, lines_at, drops_of, HasStopped, OweAt}
-use Rattle.afs_rows.specs.Callbacks.{is_all, alls, numbers, is_reply_to, is_held, key_answered, breaks_call, break_message, owe_line, settle_line, quit_line, ends_call, settles, quits, retries, risen_turn, still_owed}
+use Rattle.afs_rows.specs.Callbacks.{is_all, alls, numbers, is_reply_to, key_answered, breaks_call, break_message, owe_line, settle_line, quit_line, ends_call, settles, quits, retries, risen_turn, still_owed}
 use Rattle.afs_rows.specs.ClientRow.{the_server}
 use Rattle.afs_law.specs.Ideal.{clock_of, change_in}
 use Rattle.afs_law.specs.Legal.{IsNew, IsNot, IsKey, HasChange, AreGood, IsChanged}
@@ -404,11 +404,16 @@ pub record NewReply (seats : List Seat) (past : List Entry) (hd : Held) : Type 0
   pub is_reply : OfReply ⊥ hd.reply.carried → ⊥
   pub under : Above (call_seat hd.reply.head.to seats) hd.reply.head.epoch hd.reply.head.number → ⊥
 
+-- what a reply waits for whose key no other waits under
+pub own_waited : (b : Backs) (boot : ℕ) (seats : List Seat) (cs : ℕ → Option Seat) (clock : ℕ) (sent : List Message) (e : Entry) (past : List Entry) (hd : Held) → BackedIn None b boot seats cs clock sent past → all_lines is_oweless e.lines ≡ true → (is_held (key_answered hd.reply) b.held ≡ true → ⊥) → AllOwes the_server (WaitedBy hd clock) (e ∷ past)
+own_waited b boot seats cs clock sent e past hd h oweless none =
+    owes_over the_server (AccountedBy None b.lists.owed b.held clock) (WaitedBy hd clock) e past (λ y z c what n line. absurd (no_owe e.lines y z the_server c what n oweless line)) (λ newer at older y z c what n w. own_past b boot seats cs clock sent e past hd newer at older y z c what n h none w) h.accounted
+
 pub run_loaded : (b : Backs) (ps : List Promise) (boot : ℕ) (seats now : List Seat) (cs : ℕ → Option Seat) (clock : ℕ) (sent : List Message) (e : Entry) (past : List Entry) (hd : Held) → BackedIn None b boot seats cs clock sent past → all_lines is_up e.lines ≡ true → all_lines is_oweless e.lines ≡ true → all_lines is_unchanging e.lines ≡ true
-    → AllOf (IsGranted (lines_of (e ∷ past))) ps → AllOf (λ (p : Promise). IsClient p.client) ps → Promised None ps clock (lines_at the_server (e ∷ past)) → ((m : Node) (x y : ℕ) → Above (call_seat m now) x y → Above (call_seat m seats) x y) → NewReply now (e ∷ past) hd → (is_held (key_answered hd.reply) b.held ≡ true → ⊥)
+    → AllOf (IsGranted (lines_of (e ∷ past))) ps → AllOf (λ (p : Promise). IsClient p.client) ps → Promised None ps clock (lines_at the_server (e ∷ past)) → ((m : Node) (x y : ℕ) → Above (call_seat m now) x y → Above (call_seat m seats) x y) → NewReply now (e ∷ past) hd → AllOwes the_server (WaitedBy hd clock) (e ∷ past)
     → (HasChange (key_answered hd.reply) (lines_of (e ∷ past)) → AllOwes the_server (AllWaitedBy hd clock) (e ∷ past))
     → BackedIn None (record b { lists = record b.lists { promises = ps }; held = b.held ++ hd ∷ [] }) boot now cs clock sent (e ∷ past)
-run_loaded b ps boot seats now cs clock sent e past hd h up oweless unchanging granted clients promised seat new none all =
+run_loaded b ps boot seats now cs clock sent e past hd h up oweless unchanging granted clients promised seat new own all =
     let after : Backs = record b { lists = record b.lists { promises = ps }; held = b.held ++ hd ∷ [] } in
     let s : Stepping None None b after clock clock e past = record {
       was_up = λ x. x;
@@ -430,7 +435,7 @@ run_loaded b ps boot seats now cs clock sent e past hd h up oweless unchanging g
         from = new.from;
         is_reply = new.is_reply;
         under = new.under;
-        own = owes_over the_server (AccountedBy None b.lists.owed b.held clock) (WaitedBy hd clock) e past (λ y z c what n line. absurd (no_owe e.lines y z the_server c what n oweless line)) (λ newer at older y z c what n w. own_past b boot seats cs clock sent e past hd newer at older y z c what n h none w) h.accounted;
+        own = own;
         all = all;
       },
       tt,

@@ -3,7 +3,7 @@ use Rattle.afs_breaks.specs.declared.types.Promise.{Promise}
 use Rattle.afs_law.proofs.Promising.{Owed}
 -- What holds of promises, breaks, the server's own calls, and replies that wait.
 use Rattle.std.proofs.Common.{◌≡◌, ℕ, ◌<◌, ◌≤◌, ◌⊎◌, Bool, true, false, cond, List, [], ◌∷◌, ◌++◌, Option, Some, None}
-use Rattle.std.specs.Prelude.{⊤, filter}
+use Rattle.std.specs.Prelude.{⊤, filter, false, if◌then◌else◌}
 use Rattle.afs_num.specs.declared.types.Fid.{Fid}
 use Rattle.afs_num.specs.declared.types.Head.{Head}
 use Rattle.afs_num.specs.declared.types.Key.{Key}
@@ -13,7 +13,7 @@ use Rattle.afs_num.specs.declared.calls.FsCall.{FsCall}
 use Rattle.afs_num.specs.declared.messages.Message.{Message}
 use Rattle.afs_law.proofs.Basics.{Above, Each, IfBack, IfDone, OfReply}
 use Rattle.afs_law.specs.Breaks.{HasDrop, HasTimeout, last_grant, expiry_of, Owes, AllOwes, EndedBy, OweAt, CarriesBreak, WasSent, live_grant, last_number, lines_at}
-use Rattle.afs_rows.specs.Callbacks.{is_held, key_answered, breaks_call}
+use Rattle.afs_rows.specs.Callbacks.{key_answered, breaks_call, is_reply_to}
 use Rattle.afs_rows.specs.ClientRow.{the_server}
 use Rattle.afs_law.specs.Legal.{HasChange}
 use Rattle.afs_history.specs.declared.lines.Line.{Line}
@@ -43,6 +43,11 @@ all_filter P q [] h = tt
 all_filter P q (x ∷ xs) h = all_by P (q x) x (filter q xs) h.0 (all_filter P q xs h.1)
 
 -- ---- the facts
+
+-- a reply waits under the key
+abbrev pub is_held : Key → List Held → Bool
+is_held k [] = false
+is_held k (h ∷ hs) = if is_reply_to k h.reply then true else is_held k hs
 
 -- a promise is that of the last grant
 abbrev pub IsGranted : List Line → Promise → Type 0

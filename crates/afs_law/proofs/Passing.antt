@@ -135,9 +135,9 @@ pub told_behind : (k : Key) (r : Option Result) (ls o : List Line) → IsTold k 
 told_behind k (Some (changes es n)) ls o h = change_behind k ls o h
 told_behind k r ls o h = tt
 
-pub result_by : (code : ℤ) (r : Option Result) (k : Key) (ls newer : List Line) → (IsTold k r ls → IsTold k r newer) → IsResult code r k ls → IsResult code r k newer
-result_by code r k ls newer w (inl x) = inl (x.0, w x.1)
-result_by code r k ls newer w (inr x) = inr x
+pub result_by : (code : ℤ) (r : Option Result) (k : Key) (ran ls newer : List Line) → (IsTold k r ls → IsTold k r newer) → IsResult code r k ran ls → IsResult code r k ran newer
+result_by code r k ran ls newer w (inl x) = inl (x.0, w x.1)
+result_by code r k ran ls newer w (inr x) = inr x
 
 pub cause_over : (m : Message) (code : ℤ) (call : FsCall) (e : Entry) (past : List Entry) → Cause m code call past [] → Cause m code call (e ∷ past) []
 cause_over m code call e past h = record {
@@ -149,7 +149,7 @@ cause_over m code call e past h = record {
   carries = h.carries;
   own_user = h.own_user;
   asks = h.asks;
-  result = result_by code (answer_at h.user h.call h.ran.older) (answered_key m.head) (lines_of past) (lines_of (e ∷ past)) (told_onto (answered_key m.head) (answer_at h.user h.call h.ran.older) e.lines (lines_of past)) h.result;
+  result = result_by code (answer_at h.user h.call h.ran.older) (answered_key m.head) h.ran.at.lines (lines_of past) (lines_of (e ∷ past)) (told_onto (answered_key m.head) (answer_at h.user h.call h.ran.older) e.lines (lines_of past)) h.result;
 }
 
 -- and behind an entry's own lines
@@ -163,7 +163,7 @@ cause_behind m code call past own h = record {
   carries = h.carries;
   own_user = h.own_user;
   asks = h.asks;
-  result = result_by code (answer_at h.user h.call h.ran.older) (answered_key m.head) (lines_of past) (own ++ lines_of past) (told_behind (answered_key m.head) (answer_at h.user h.call h.ran.older) own (lines_of past)) h.result;
+  result = result_by code (answer_at h.user h.call h.ran.older) (answered_key m.head) h.ran.at.lines (lines_of past) (own ++ lines_of past) (told_behind (answered_key m.head) (answer_at h.user h.call h.ran.older) own (lines_of past)) h.result;
 }
 
 -- what was the newest is so still, or has its grant withdrawn

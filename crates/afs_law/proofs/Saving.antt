@@ -890,7 +890,7 @@ saves_by_turn s c past armed p n h user call id st es shown H up at w q =
     let fronted : e.lines ≡ front ++ tl = ap (λ (ls : List Line). lines.Given p ∷ lines.Change the_server k (length vs) ∷ ls) (versioned_front vs [] tl) in
     let are : e.lines ≡ pre ++ t.lines = ap (λ (ls : List Line). lines.Given p ∷ lines.Change the_server k (length vs) ∷ ls) (ap (versioned vs) (granted_front n x fs t.lines) ∙ versioned_front vs (granted the_server (Client n) x fs []) t.lines) in
     let base0 : List Line = on_top vs (base y k (length vs) (lines_of past)) in
-    let hd : Held = record { reply = r; waits = numbers os ++ alls b0.lists.owed } in
+    let hd : Held = record { reply = r; waits = numbers os ++ alls b0.lists.owed; again = false } in
     let loads : BackedIn None (loaded t) c.server.lasting.boot (seats_after c n h r) (seats_of c) c.clock c.sent (e ∷ past) =
     change_loaded (Client n) b0 t.backs.lists.promises t.backs.lists.last_owed c.server.lasting.boot c.server.seats (seats_after c n h r) (seats_of c) c.clock c.sent e past pre os hd (call_at n h user call) B
     (left_granted (Client n) b0.lists.last_owed x vs b0.lists.promises fs e past front fronted (versions_lines is_still vs [] (λ z. refl) refl) (B.granted refl))

@@ -16,7 +16,7 @@ use Rattle.afs_law.proofs.Basics.{Below, UpTo, Above, Each, IfCall, OfReply, abo
 use Rattle.afs_law.proofs.Edits.{Ones, index_in, fid_at, Sound, SoundIn, sound_same, Tops, live_index, there}
 use Rattle.afs_law.proofs.Facts.{IsKnown, IsReadable, AreFine, HeldIn, Ghost, HoldsAt, server_boot, up_boot, LastStored, IsActs, View, view_of, view, Spot, spot, LastRan, ReplyFact, IsBehind, AreKept, MayRun, HasFallen, Reached, HasCurrent, Fits, Answers, IsReply, KeptReply, ClientFacts, CallFact, CallIn, Origin, AreHome, AreNew, AreUnheard, Holds, Goes, InScope, IsFetched, FitsReply, AreIdeal, AreSound}
 use Rattle.afs_law.proofs.Keeping.{at_placed}
-use Rattle.afs_law.proofs.Loading.{all_promised, all_granted, granted_all, none_loaded, still_backed, known_backed, resent, run_loaded, key_held, no_change, settles_good, settles_backed, gone_promised, gone_granted, granted_to_client, gone_to_clients}
+use Rattle.afs_law.proofs.Loading.{all_promised, all_granted, granted_all, none_loaded, still_backed, known_backed, resent, run_loaded, key_held, no_change, settles_good, settles_backed, gone_promised, gone_granted, granted_to_client, gone_to_clients, own_waited}
 use Rattle.afs_law.proofs.Notes.{granted_notes, AreNotes, Skips, skips, told_entry, told_rests, noted_entry, noted_rests, settle_notes}
 use Rattle.afs_law.proofs.Ops.{IsShown}
 use Rattle.afs_law.proofs.Owing.{AllOf, BackedIn, IsDone, DroppedOwe, IsGranted, DoneIn, Promised, IsClient}
@@ -220,7 +220,7 @@ pub settled_goes : (s : Script) (c : Cell) (past : List Entry) (armed : Armed) (
 settled_goes s c past armed p n m k false H up at j is done e = nothing_done s c past armed p m H up at j
 settled_goes s c past armed p n m k true H up at j is done e =
     let q = both _ _ e in
-    let dropped : AllOf (DroppedOwe n (lines_of past)) k.breaks = done.dropped k up (eqb-true _ _ q.0) is (eqb-true _ _ q.1) in
+    let dropped : AllOf (DroppedOwe n (lines_of past)) k.breaks = done.dropped k up (eqb-true _ _ q.0) is (eqb-true _ _ (both _ _ q.1).0) in
     quiet s c past armed p m (settles the_server n k (expired c.clock c.server.backs)) H up at j (settle_notes n _) (settles_good s n k (expired c.clock c.server.backs) past (lines.Given p ∷ []) dropped)
     (λ x over held. record { notes = settle_notes n _; sent = no_news _ _ _; outs = tt; held = held })
     (λ x z. record { backed = settles_backed (expired c.clock c.server.backs) c.server.lasting.boot c.server.seats (seats_of c) c.clock c.sent x past n p k is (ap (λ (y : Entry). y.lines) z) (up_backed s c past H up); sends = record { good = tt; calls = tt; dones = tt } })
@@ -395,7 +395,7 @@ pub record HasRun (c : Cell) (n : ℕ) (h : Head) (user : List ℕ) (call : FsCa
 
 -- the reply has the code of the ideal operation
 pub cause_now : (c : Cell) (n : ℕ) (h : Head) (user : List ℕ) (call : FsCall) (x : Carried) (code : ℤ) (past : List Entry) → (g : HasRun c n h user call past) → user ≡ user_of (Client n)
-    → HasCode x → code_told x ≡ Some code → IsResult code (answer_at user call g.ran.older) (called_key (client_head n h)) (lines_of past)
+    → HasCode x → code_told x ≡ Some code → IsResult code (answer_at user call g.ran.older) (called_key (client_head n h)) g.ran.at.lines (lines_of past)
     → Cause (replied c.server.lasting.boot (client_head n h) x) code call past []
 cause_now c n h user call x code past g own has told result = record {
   is_reply = (refl, has);
@@ -630,17 +630,17 @@ pub taken_not : (seats : List Seat) (n : ℕ) (h : Head) (r : Message) → Above
 taken_not seats n h r above = below_not h.epoch h.number h.epoch h.number (subst (λ (o : Option Seat). Above o h.epoch h.number) (own_seat (taken n h r) seats) above) (up_to_same h.epoch h.number h.epoch h.number refl refl)
 
 pub run_backed : (s : Script) (c : Cell) (past : List Entry) (n : ℕ) (h : Head) (user : List ℕ) (call : FsCall) (x : Carried) (e : Entry) (ps : List Promise) → (H : Holds s c past) → c.down ≡ None → Now s c H.floors past n h user call → (OfReply ⊥ x → ⊥) → all_lines is_up e.lines ≡ true → all_lines is_oweless e.lines ≡ true → all_lines is_unchanging e.lines ≡ true → AllOf (IsGranted (lines_of (e ∷ past))) ps → AllOf (λ (p : Promise). IsClient p.client) ps → Promised None ps c.clock (lines_at the_server (e ∷ past))
-    → BackedIn None (record (expired c.clock c.server.backs) { lists = record (expired c.clock c.server.backs).lists { promises = ps }; held = c.server.backs.held ++ record { reply = replied c.server.lasting.boot (client_head n h) x; waits = [] } ∷ [] }) c.server.lasting.boot (seats_after c n h (replied c.server.lasting.boot (client_head n h) x)) (seats_of c) c.clock c.sent (e ∷ past)
+    → BackedIn None (record (expired c.clock c.server.backs) { lists = record (expired c.clock c.server.backs).lists { promises = ps }; held = c.server.backs.held ++ record { reply = replied c.server.lasting.boot (client_head n h) x; waits = []; again = false } ∷ [] }) c.server.lasting.boot (seats_after c n h (replied c.server.lasting.boot (client_head n h) x)) (seats_of c) c.clock c.sent (e ∷ past)
 run_backed s c past n h user call x e ps H up w is a b d granted clients promised =
     let r : Message = replied c.server.lasting.boot (client_head n h) x in
     let k : Key = called_key (client_head n h) in
     let B = up_backed s c past H up in
-    run_loaded (expired c.clock c.server.backs) ps c.server.lasting.boot c.server.seats (seats_after c n h r) (seats_of c) c.clock c.sent e past (record { reply = r; waits = [] }) B a b d granted clients promised (λ m y z. above_before c.server.seats n h r m y z w.above)
-    (record { client = n; to = refl; from = refl; is_reply = is; under = taken_not c.server.seats n h r }) (λ y. key_held (expired c.clock c.server.backs) c.server.lasting.boot c.server.seats (seats_of c) c.clock c.sent past k B w.above y)
+    run_loaded (expired c.clock c.server.backs) ps c.server.lasting.boot c.server.seats (seats_after c n h r) (seats_of c) c.clock c.sent e past (record { reply = r; waits = []; again = false }) B a b d granted clients promised (λ m y z. above_before c.server.seats n h r m y z w.above)
+    (record { client = n; to = refl; from = refl; is_reply = is; under = taken_not c.server.seats n h r }) (own_waited (expired c.clock c.server.backs) c.server.lasting.boot c.server.seats (seats_of c) c.clock c.sent e past (record { reply = r; waits = []; again = false }) B b (λ y. key_held (expired c.clock c.server.backs) c.server.lasting.boot c.server.seats (seats_of c) c.clock c.sent past k B w.above y))
     (λ y. absurd (no_change k (lines_of past) (H.new k w.above_durable) (change_back k e.lines (lines_of past) d y)))
 
 pub refuses_goes : (s : Script) (c : Cell) (past : List Entry) (armed : Armed) (p n : ℕ) (h : Head) (user : List ℕ) (call : FsCall) (code : ℤ) → (H : Holds s c past) → c.down ≡ None → message_at c.sent p ≡ Some (call_at n h user call) → Now s c H.floors past n h user call → is_zero_code (record { 0 = code }) ≡ false
-    → IsResult code (answer_at user call past) (called_key (client_head n h)) (lines.Given p ∷ lines_of past) → Goes s past (server_does c armed p (call_at n h user call) (refuses (client_head n h) code))
+    → IsResult code (answer_at user call past) (called_key (client_head n h)) (lines.Given p ∷ []) (lines.Given p ∷ lines_of past) → Goes s past (server_does c armed p (call_at n h user call) (refuses (client_head n h) code))
 refuses_goes s c past armed p n h user call code H up at w nz result =
     let x : Carried = carried.Refusal (record { 0 = code }) in
     let r : Message = replied c.server.lasting.boot (client_head n h) x in

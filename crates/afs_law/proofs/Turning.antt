@@ -19,9 +19,9 @@ use Rattle.afs_num.specs.declared.messages.Call.TheVariants as ask
 use Rattle.afs_num.specs.declared.messages.Message.{Message}
 use Rattle.afs_law.proofs.Backing.{back_pass, done_pass, CallsPass}
 use Rattle.afs_law.proofs.Basics.{both, same_node-true, Each, IfBack, IfDone, OfCall, OfReply, OfServer, ByServer, each_more, each_map, if_back, if_done, some_of}
-use Rattle.afs_law.proofs.Owing.{AllOf, all_map, all_both, all_filter, IsGranted, IsIn, IsNumberIn, HeldWaits, IsOwed, CallOut, BackIn, DoneIn, BackedIn, IsPromised, promise_to, IsClient}
+use Rattle.afs_law.proofs.Owing.{AllOf, all_map, all_both, all_filter, IsGranted, IsIn, IsNumberIn, HeldWaits, IsOwed, CallOut, BackIn, DoneIn, BackedIn, IsPromised, promise_to, IsClient, is_held}
 use Rattle.afs_law.specs.Breaks.{HasCome, AllOwes, EndedBy, EndedOf, EndedAll, CarriesBreak, NamesIn, WasSent}
-use Rattle.afs_rows.specs.Callbacks.{put_at, Turn, Started, expired, is_all, waits_none, is_ready, is_reply_to, is_held, key_answered, fids_of, breaks_call, fid_before, call_for, break_message, first_of, is_for, most_breaks, carries_for, started_call, starts_by, starts, replies_of, held_after, given_out, pumped}
+use Rattle.afs_rows.specs.Callbacks.{put_at, Turn, Started, expired, is_all, waits_none, is_ready, is_reply_to, key_answered, fids_of, breaks_call, fid_before, call_for, break_message, first_of, is_for, most_breaks, carries_for, started_call, starts_by, starts, replies_of, held_after, given_out, pumped}
 use Rattle.afs_rows.specs.ClientRow.{the_server}
 use Rattle.afs_law.specs.Ideal.{clock_of}
 use Rattle.afs_law.specs.Legal.{HasChange, GoodReply, AreGoodReplies}
@@ -86,7 +86,7 @@ expired_backed b boot seats cs clock sent past h = record {
 abbrev pub loaded : Turn → Backs
 loaded t = record t.backs { held = t.backs.held ++ t.outs }
 
-reply_key : (k : Key) (m : Message) → is_reply_to k m ≡ true → key_answered m ≡ k
+pub reply_key : (k : Key) (m : Message) → is_reply_to k m ≡ true → key_answered m ≡ k
 reply_key k m t =
     let a = both (same_node m.head.to k.node) _ t in
     let b = both _ _ a.1 in

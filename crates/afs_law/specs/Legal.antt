@@ -163,9 +163,10 @@ abbrev pub IsChanging : Option Result → Type 0
 IsChanging (Some (changes es shown)) = ⊤
 IsChanging r = ⊥
 
--- the code is that of the ideal operation, and what that changes was told; or the server had no room for the change
-abbrev pub IsResult : ℤ → Option Result → Key → List Line → Type 0
-IsResult code r k ls = ((code_given r ≡ code) × IsTold k r ls) ⊎ ((code ≡ pos 108) × IsChanging r)
+-- the code is that of the ideal operation, and what that changes was told; or the server had no room for the change, and the
+-- entry that ran the call tells none under its key
+abbrev pub IsResult : ℤ → Option Result → Key → List Line → List Line → Type 0
+IsResult code r k ran ls = ((code_given r ≡ code) × IsTold k r ls) ⊎ ((code ≡ pos 108) × (IsChanging r × (HasChange k ran → ⊥)))
 
 -- the reply has this code, and so has the ideal operation where the call ran; the call is the one that the act asks, for
 -- its user; and where the operation makes versions, their change stands before
@@ -178,7 +179,7 @@ pub record Cause (reply : Message) (code : ℤ) (asks_for : FsCall) (past : List
   pub carries : ran.message.carried ≡ carried.Call user (ask.File call)
   pub own_user : user ≡ user_of reply.head.to
   pub asks : call ≡ asks_for
-  pub result : IsResult code (answer_at user call ran.older) (answered_key reply.head) (own ++ lines_of past)
+  pub result : IsResult code (answer_at user call ran.older) (answered_key reply.head) ran.at.lines (own ++ lines_of past)
 
 -- the reply that the answer's entry was given is the cause of the code, and its call is one of this very act: the client
 -- sent it since the act began, which was in an entry before

@@ -91,9 +91,10 @@ is_ready os h = waits_none h.waits os
 abbrev pub is_reply_to : Key → Message → Bool
 is_reply_to k m = same_node m.head.to k.node && (nat_eq m.head.epoch k.epoch && nat_eq m.head.number k.number)
 
-abbrev pub is_held : Key → List Held → Bool
-is_held k [] = false
-is_held k (h ∷ hs) = if is_reply_to k h.reply then true else is_held k hs
+-- the first one that waits
+abbrev pub held_under : Key → List Held → Option Held
+held_under k [] = None
+held_under k (h ∷ hs) = if is_reply_to k h.reply then Some h else held_under k hs
 
 abbrev pub key_answered : Message → Key
 key_answered m = record { node = m.head.to; epoch = m.head.epoch; number = m.head.number }
@@ -115,18 +116,23 @@ no_turn b = record { backs = b; lines = []; sent = []; outs = [] }
 
 -- a reply that waits for these breaks
 abbrev pub replies_turn : Backs → List Line → Message → List ℕ → Turn
-replies_turn b ls reply waits = record { backs = b; lines = ls; sent = []; outs = record { reply = reply; waits = waits } ∷ [] }
+replies_turn b ls reply waits = record { backs = b; lines = ls; sent = []; outs = record { reply = reply; waits = waits; again = false } ∷ [] }
 
--- a kept reply of a changing call waits for the breaks on all; one that waits already isn't held twice
-abbrev pub repeats_by : Backs → Message → Bool → Bool → Turn
-repeats_by b reply true good = no_turn b
-repeats_by b reply false true = replies_turn b [] reply (alls b.lists.owed)
-repeats_by b reply false false = replies_turn b [] reply []
+-- a kept reply
+abbrev pub asked_again : Backs → Message → List ℕ → Turn
+asked_again b reply waits = record { backs = b; lines = []; sent = []; outs = record { reply = reply; waits = waits; again = true } ∷ [] }
+
+-- A call whose own reply waits is in progress: it gets no answer. A kept reply of a changing call waits for the breaks on all, and
+-- isn't held twice; where those have ended in this very step it is sent, beside the one that waited.
+abbrev pub repeats_by : Backs → Message → Option Held → Bool → Turn
+repeats_by b reply (Some h) good = if (h.again && is_ready b.lists.owed h) then asked_again b reply h.waits else no_turn b
+repeats_by b reply None true = asked_again b reply (alls b.lists.owed)
+repeats_by b reply None false = asked_again b reply []
 
 abbrev pub turn_for : Node → ServerState → ℕ → Backs → Decision → Turn
 turn_for me s clock b drops = no_turn b
 turn_for me s clock b (tells_boot head) = record { backs = b; lines = []; sent = boot_told s.lasting.boot head ∷ []; outs = [] }
-turn_for me s clock b (repeats reply) = repeats_by b reply (is_held (key_answered reply) b.held) (is_seat_of reply (call_seat reply.head.to s.lasting.kept))
+turn_for me s clock b (repeats reply) = repeats_by b reply (held_under (key_answered reply) b.held) (is_seat_of reply (call_seat reply.head.to s.lasting.kept))
 turn_for me s clock b (refuses head code) = replies_turn b [] (refusal s.lasting.boot head code) []
 turn_for me s clock b (shows head r) =
     replies_turn (record b { lists = grants_found head.from (clock + promise_ticks) r.granted (gives_up_all head.from r.given_up b.lists) }) []
@@ -240,7 +246,7 @@ abbrev pub settles : Node → Node → BackCall → Backs → Turn
 settles me n c b = record { backs = ends_call n c b; lines = map (settle_line me n) (still_owed c b); sent = []; outs = [] }
 
 abbrev pub is_back_awaited : ℕ → BackCall → Head → Bool
-is_back_awaited boot c head = nat_eq head.epoch boot && nat_eq head.number c.number
+is_back_awaited boot c head = nat_eq head.epoch boot && (nat_eq head.number c.number && nat_eq head.opcode (breaks_opcode c.breaks))
 
 abbrev pub settles_by : Node → ℕ → Head → Backs → Option BackCall → Turn
 settles_by me boot head b None = no_turn b
@@ -261,7 +267,7 @@ if_to me head b t = if same_node head.to me then t else no_turn b
 -- what a message does
 abbrev pub turned_by : Node → ServerState → ℕ → Backs → Decision → Head → Carried → Turn
 turned_by me s clock b d head (carried.Call user call) = turn_for me s clock b d
-turned_by me s clock b d head (carried.Refusal code) = no_turn b
+turned_by me s clock b d head (carried.Refusal code) = if_to me head b (settles_by me s.lasting.boot head b (b.calls head.from))
 turned_by me s clock b d head (carried.Reply reply) = if_to me head b (settles_by me s.lasting.boot head b (b.calls head.from))
 turned_by me s clock b d head carried.Notice = if_to me head b (renews_by me s.lasting.boot head b (b.calls head.from))
 

@@ -321,7 +321,7 @@ abbrev pub first_stored : Table Volume → Table Stored
 first_stored [] = []
 first_stored (p ∷ ps) = (p.0, at_set_up p.1) ∷ first_stored ps
 
--- the lengths are the script's to give: of the capacity line, and of the first record
+-- the capacity is that of a script without a line on it
 abbrev pub first_lasting : Table Stored → Lasting
 first_lasting volumes = record {
   boot = 1;

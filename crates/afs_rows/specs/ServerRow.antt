@@ -287,7 +287,7 @@ is_client n = false
 abbrev pub runs : ServerState → ℕ → Head → Received → Decision
 runs s clock head r = if is_client head.from then runs_received s clock head r else refuses head not_served
 
--- a call in progress or older than its caller's last one gets no answer
+-- a call older than its caller's last one gets no answer. None is in progress here: a reply is kept at once, also where it waits
 abbrev pub admits : ServerState → ℕ → Head → Received → Admitted Message → Decision
 admits s clock head r pairs.runs = runs s clock head r
 admits s clock head r (pairs.kept reply) = repeats reply
@@ -403,7 +403,8 @@ is_unflagged p = not (is_flagged p.1)
 abbrev pub lasting_started : Lasting → Lasting
 lasting_started l = longer (boot_record (l.boot + 1)) (record l { boot = l.boot + 1; volumes = filter is_unflagged l.volumes })
 
--- callers whose last call changed nothing are forgotten
+-- each caller falls back to its last call that changed something. That read-write volumes vanish so is told once volumes have
+-- flags; set-up makes none
 abbrev pub revived : ServerState → ServerState
 revived s = record s { lasting = lasting_started s.lasting; seats = s.lasting.kept }
 

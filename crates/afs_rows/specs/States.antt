@@ -1,5 +1,5 @@
 -- What the nodes keep.
-use Rattle.std.specs.Prelude.{ℕ, List, [], ◌∷◌, map, Option, Some, None}
+use Rattle.std.specs.Prelude.{ℕ, Bool, List, [], ◌∷◌, map, Option, Some, None}
 use Rattle.afs_num.specs.Nodes.{node_number}
 use Rattle.afs_num.specs.declared.types.Fid.{Fid}
 use Rattle.afs_num.specs.declared.types.Node.{Node}
@@ -32,8 +32,9 @@ pub record CacheEntry : Type 0 where
 
 -- ---- what of a file server outlives a crash
 
--- Its boot number; its volumes; the stamps of families, and the servers to which volumes went, by numbers; the callers whose
--- last call changed something, by ascending numbers, each with its reply; the length of its journal, and how long that can get
+-- Its boot number; its volumes; the stamps of families, and the servers to which volumes went, by numbers; by ascending numbers
+-- the callers that ever changed something, each with the last call that did and its reply; the length of its journal, and how
+-- long that can get
 pub record Lasting : Type 0 where
   pub boot : ℕ
   pub volumes : Table Stored
@@ -77,10 +78,11 @@ pub record BackCall : Type 0 where
   pub tries : ℕ
   pub breaks : List OwedBreak
 
--- a reply that goes out once no break of these numbers is owed
+-- a reply that goes out once no break of these numbers is owed; it is the call's own, or a kept one that was asked again
 pub record Held : Type 0 where
   pub reply : Message
   pub waits : List ℕ
+  pub again : Bool
 
 -- Promises and owed breaks; the last number of its own calls in this boot, its unanswered calls, and the boot numbers of the
 -- nodes that it calls as it knows them; and the replies that wait
