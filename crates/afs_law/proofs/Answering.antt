@@ -2,13 +2,11 @@ use Rattle.afs_rows.specs.Steps.{Step}
 use Rattle.afs_num.specs.declared.histories.ReadBody.{ReadBody}
 use Rattle.afs_num.specs.declared.histories.ReadStatus.{ReadStatus}
 use Rattle.afs_law.proofs.Apart.{apart_filter, apart_put, apart_refreshed, found_take}
-use Rattle.afs_law.proofs.Walking.{walked_apart}
-use Rattle.std.specs.Prelude.{◌⊎◌}
-use Rattle.afs_law.proofs.Basics.{IfCall, ByClient, guest}
-use Rattle.afs_num.specs.declared.histories.ReadBody.TheVariants as seen
+use Rattle.afs_law.proofs.Walking.{walked_apart, onto_last, looked_more, walk_made, walk_reached, walk_current, walk_answered, walked_found, tail_given, tail_fetched, tail_quiet, ends_answered, ends_here, EndsReach, AreTail, walks_on, Ready, Walks}
+use Rattle.std.specs.Prelude.{◌⊎◌, ◌&&◌, pos, ℤ}
+use Rattle.afs_law.proofs.Basics.{IfCall, ByClient, guest, UpTo, Above, IfReply, IfNotice, OfReply, OfNotice, up_to_by, yes_no, both, same_fid-true, same_fid-refl, same_node-refl, client_number, found-cached-fid, found-first, found-refreshed, OfCall, each_at, some_of, ByServer, OfClient, by_client, IfBack, up_to_next, next_not, raised_up_to}
 use Rattle.afs_ideal.specs.Operations.{volume_changed}
 use Rattle.afs_law.proofs.Asking.{carried_is, client_asking, client_ended, own_read, safe_over, client_kept, call_known, reply_still, step_entry, view_after, moves, nothing_new, Heard, told_passes, answered_seen, own_zero, answered_lines, answered_file, answered_reach, answered_passes, quiet, safe_cache, own_call, asks, own_begun, no_scope, same_one, call_is, heard_dull, new_one}
-use Rattle.afs_law.proofs.Basics.{UpTo, Above, IfReply, IfNotice, OfReply, OfNotice, up_to_by, yes_no, both, same_fid-true, same_fid-refl, same_node-refl, client_number, found-cached-fid, found-first, found-refreshed, OfCall, each_at, some_of, ByServer, OfClient, by_client, IfBack, up_to_next, next_not, raised_up_to}
 use Rattle.afs_law.proofs.Dropping.{left_out, called_goes}
 use Rattle.afs_law.proofs.Edits.{Ones, index_in}
 use Rattle.afs_law.proofs.Facts.{ToClient, CallIn, FitsShown, IsOld, IsWhole, IsBody, HasOld, IsClient, IsPlain, IsKeptBody, IsTrusted, Ghost, Seen, IsAged, Spot, spot, LastStored, IsStored, IsSafe, Fits, View, view, last_key, LastRan, Reached, IsNewest, Overtaken, Stands, IsCurrent, HasCurrent, Answers, stored_index, ClientFacts, CallFact, ReplyFact, ReplyIn, Holds, Goes, IsFetched, FitsPlain, FitsData, FitsSet, FitsReply, WasStored, WasChanged, InScope, IsNoticed}
@@ -19,7 +17,6 @@ use Rattle.afs_law.proofs.Resting.{voids}
 use Rattle.afs_law.proofs.Saving.{old_withdrawn}
 use Rattle.afs_law.proofs.Serving.{told_file, told_reach, told_act, not_ran, stale_none, reached_still}
 use Rattle.afs_law.proofs.Skipping.{none_where, own_ended, skips, drop_lines, was_given, drop_file, drop_reach, drop_seen, drop_passes, ended_running, drops_good}
-use Rattle.afs_law.proofs.Walking.{walked_apart, onto_last, looked_more, walk_made, walk_reached, walk_current, walk_answered, walked_found, tail_given, tail_fetched, tail_quiet, ends_answered, ends_here, EndsReach, AreTail, walks_on, Ready, Walks}
 use Rattle.afs_history.specs.declared.acts.Act.{Act}
 use Rattle.afs_rows.specs.ClientRow.{boot_or_first, with_boot, takes_shown, takes_entry, boot_of, read_lines, status_told, entry_told, booted, joined, put_entry, calls_again, asking, is_trusted, goes_on, goes_by, look_at, looked, most_reads, walked, Walked, is_below, dropped_after, left_after, find_cached, used_first, refreshed, call_message, calls_step, zero_code, begin_row, ignores, ended, answers_step, takes_stored, takes, resends_step, counts, is_awaited, awaits, client_row, is_spent, hears, takes_plain, takes_data, takes_set, left_in, given_up_in, body_told, call_of, is_reading}
 use Rattle.afs_rows.specs.Going.{reads_status, reads_statuses, reads_rights, gives_back, asked, Going, Need, next, answers, began, with_read, ClientState, reads, asks_for}
@@ -33,7 +30,6 @@ use Rattle.afs_rows.specs.Scopes.{is_in_scope}
 use Rattle.afs_rows.specs.States.{KnownBoot, CacheEntry, Location, Seat}
 use Rattle.afs_model.specs.Calls.{call_seat}
 use Rattle.std.proofs.Common.{filter, find, ◌+◌, nat_eq, ◌++◌, ◌≡◌, ℕ, ◌<◌, ◌≤◌, inl, inr, Bool, true, false, cond, nat_lt, not, List, [], ◌∷◌, map, Option, Some, None, ℤ, refl, sym, ap, subst, ◌∙◌, eqb-true, ltb-true, lt-ltb, le_of_eq, append-nil, arith}
-use Rattle.std.specs.Prelude.{◌&&◌, pos, ℤ}
 use Rattle.std.specs.Option.{option_map}
 use Rattle.afs_num.specs.Fids.{same_fid}
 use Rattle.afs_num.specs.Nodes.{same_node}
@@ -51,13 +47,14 @@ use Rattle.afs_num.specs.declared.calls.FsReply.{FsReply}
 use Rattle.afs_num.specs.declared.messages.Carried.{Carried}
 use Rattle.afs_num.specs.declared.messages.Message.{Message}
 use Rattle.afs_num.specs.declared.messages.Received.TheVariants.{Whole}
-use Rattle.afs_rows.specs.ClientRow as ClientRow
 use Rattle.afs_num.specs.declared.scripts.Script.{Script}
-use Rattle.afs_num.specs.declared.histories.Actor.TheVariants as actors
 use Rattle.afs_num.specs.declared.histories.ReadSource.TheVariants.{Fetched}
 use Rattle.std.proofs.Math.Nat.{le_refl, le_trans, eq-or-lt_of_le}
 use Rattle.afs_num.specs.declared.histories.Body.{Body}
 use Rattle.afs_num.specs.declared.calls.AfsStoreStatus.{AfsStoreStatus}
+use Rattle.afs_num.specs.declared.histories.ReadBody.TheVariants as seen
+use Rattle.afs_rows.specs.ClientRow as ClientRow
+use Rattle.afs_num.specs.declared.histories.Actor.TheVariants as actors
 use Rattle.afs_num.specs.declared.calls.FsReply.TheVariants as replies
 use Rattle.afs_num.specs.declared.messages.Carried.TheVariants as carried
 use Rattle.afs_num.specs.declared.messages.Reply.TheVariants as tell
@@ -198,7 +195,7 @@ begun_calls s c past n act h none =
     let kind : IsClient s y = client_asking s c past (record (unbusied x) { cache = w.cache }) w.act h (record { table = (h.own n).table; user = (h.own n).user; callee = λ a z. (h.own n).callee a z; apart = walked_apart (most_reads (began (locations s) act)) c.clock (began (locations s) act) x.cache (h.own n).apart }) in
     let ms : List Message = call_message (Client n) y w.act ∷ [] in
     let e : Entry = step_entry n (ls ++ []) ms in
-    let g : Ghost = record { floor = c.server.boot; held = (h.floors n).held } in
+    let g : Ghost = record { floor = c.server.lasting.boot; held = (h.floors n).held } in
     let v : View = view_after c n g y in
     let not : LastRan v → ⊥ = λ ran. next_not _ _ _ _ (d.behind_durable ran.seat ran.at) ran.epoch ran.number in
     let at : running s (Client n) (onto (lines_of past) (ls ++ [])) ≡ Some w.act = ap (λ (os : List Line). running s (Client n) (onto (lines_of past) os)) (append-nil ls) ∙ W.runs in
@@ -267,7 +264,7 @@ pub record Due (c : Cell) (fl : ℕ → Ghost) (past : List Entry) (n p : ℕ) (
   pub number : m.head.number ≡ (c.clients n).last
   pub fact : ReplyFact n (view fl c n) past m
   pub key : answered_key m.head ≡ last_key n (view fl c n)
-  pub answers : Answers (c.clients n).spoiled n (asked act) (spot (view fl c n)) c.server.boot m past
+  pub answers : Answers (c.clients n).spoiled n (asked act) (spot (view fl c n)) c.server.lasting.boot m past
   pub heard : Heard c p m
   pub at : message_at (sent_of past) p ≡ Some m
 
@@ -328,13 +325,13 @@ abbrev pub holding : (ℕ → Ghost) → ℕ → ℕ → Ghost
 holding fl n held = record { floor = (fl n).floor; held = held }
 
 -- what a client holds that waited for a reply of an older boot
-pub old_held : (s : Script) (c : Cell) (past : List Entry) (n : ℕ) (act : Going) (m : Message) (held : ℕ) → (h : Holds s c past) → {p : ℕ} → Due c h.floors past n p act m → held ≡ (h.floors n).held → m.head.boot < c.server.boot → held < c.server.boot
+pub old_held : (s : Script) (c : Cell) (past : List Entry) (n : ℕ) (act : Going) (m : Message) (held : ℕ) → (h : Holds s c past) → {p : ℕ} → Due c h.floors past n p act m → held ≡ (h.floors n).held → m.head.boot < c.server.lasting.boot → held < c.server.lasting.boot
 old_held s c past n act m held h {p} d same l =
     let a : (h.floors n).held ≤ (h.floors n).floor = (h.clients n).waits act d.running in
     let b : (h.floors n).floor ≤ m.head.boot = d.fact.recent d.epoch d.number in
     omega arith
 
-pub below_boot : (s : Script) (c : Cell) (past : List Entry) (n : ℕ) (act : Going) (m : Message) (head : Head) → (h : Holds s c past) → {p : ℕ} → Due c h.floors past n p act m → head.epoch ≡ (c.clients n).epoch → head.number ≡ (c.clients n).last → Above (call_seat (Client n) c.server.seats) head.epoch head.number → m.head.boot < c.server.boot
+pub below_boot : (s : Script) (c : Cell) (past : List Entry) (n : ℕ) (act : Going) (m : Message) (head : Head) → (h : Holds s c past) → {p : ℕ} → Due c h.floors past n p act m → head.epoch ≡ (c.clients n).epoch → head.number ≡ (c.clients n).last → Above (call_seat (Client n) c.server.seats) head.epoch head.number → m.head.boot < c.server.lasting.boot
 below_boot s c past n act m head h {p} d e k above = elim (eq-or-lt_of_le d.fact.booted) [
   | inl same ↦ absurd (d.fact.tied same (subst (λ (x : ℕ). Above (call_seat (Client n) c.server.seats) x m.head.number) (e ∙ sym d.epoch) (subst (λ (x : ℕ). Above (call_seat (Client n) c.server.seats) head.epoch x) (k ∙ sym d.number) above)))
   | inr l ↦ l
@@ -351,7 +348,7 @@ ended_calls s c past n p act m cache held h d w head call f = record {
   safe = λ q above. elim (up_to_by _ _ _ _ f.behind) [
     | inl l ↦ absurd (stale_none h.floors c past n head call m f q above d.fact d.epoch d.number l)
     | inr same ↦ subst (λ (x : FsCall). IsSafe c.clock (c.clients n).epoch (c.clients n).last None cache (IsAged (view_after c n (holding h.floors n held) (ended (c.clients n) cache)) head) head x) (sym (f.own act d.running same.0 same.1))
-        (ended_safe (c.clients n).spoiled n (asked act) (spot (view h.floors c n)) c.server.boot m m.carried past c.clock (c.clients n).epoch (c.clients n).last cache (IsAged (view_after c n (holding h.floors n held) (ended (c.clients n) cache)) head) head d.answers.fits (not_ran (view h.floors c n) head.epoch head.number ((h.clients n).lower head.epoch head.number above) f.behind)
+        (ended_safe (c.clients n).spoiled n (asked act) (spot (view h.floors c n)) c.server.lasting.boot m m.carried past c.clock (c.clients n).epoch (c.clients n).last cache (IsAged (view_after c n (holding h.floors n held) (ended (c.clients n) cache)) head) head d.answers.fits (not_ran (view h.floors c n) head.epoch head.number ((h.clients n).lower head.epoch head.number above) f.behind)
         (λ code is. (old_held s c past n act m held h d (w code is) (below_boot s c past n act m head h d same.0 same.1 above), λ a y. absurd cc)))
   ];
 }
@@ -359,7 +356,7 @@ ended_calls s c past n p act m cache held h d w head call f = record {
 pub ended_reply : (s : Script) (c : Cell) (past : List Entry) (n : ℕ) (cache : List CacheEntry) (held : ℕ) (e : Entry) → (h : Holds s c past) → (m : Message) → ReplyFact n (view h.floors c n) past m → ReplyFact n (view_after c n (holding h.floors n held) (ended (c.clients n) cache)) (e ∷ past) m
 ended_reply s c past n cache held e h m f = idle_reply n (view h.floors c n) (view_after c n (holding h.floors n held) (ended (c.clients n) cache)) past (e ∷ past) m refl refl refl refl refl refl refl f
 
-pub ended_facts : (s : Script) (c : Cell) (past : List Entry) (n : ℕ) (cache : List CacheEntry) (held : ℕ) (e : Entry) → (h : Holds s c past) → held ≤ c.server.boot → running s (Client n) (lines_of (e ∷ past)) ≡ None → HasCurrent n (view_after c n (holding h.floors n held) (ended (c.clients n) cache)) (e ∷ past) → HasOld cache (lines_of (e ∷ past)) → ((f : Fid) → Reached (Client n) f (index_in (last_version f (lines_of (e ∷ past)))) (e ∷ past))
+pub ended_facts : (s : Script) (c : Cell) (past : List Entry) (n : ℕ) (cache : List CacheEntry) (held : ℕ) (e : Entry) → (h : Holds s c past) → held ≤ c.server.lasting.boot → running s (Client n) (lines_of (e ∷ past)) ≡ None → HasCurrent n (view_after c n (holding h.floors n held) (ended (c.clients n) cache)) (e ∷ past) → HasOld cache (lines_of (e ∷ past)) → ((f : Fid) → Reached (Client n) f (index_in (last_version f (lines_of (e ∷ past)))) (e ∷ past))
     → ClientFacts s n (view_after c n (holding h.floors n held) (ended (c.clients n) cache)) (e ∷ past)
 ended_facts s c past n cache held e h le idle cur old r =
     let d = h.clients n in
@@ -402,7 +399,7 @@ pub refused_stands : (s : Script) (c : Cell) (past : List Entry) (n p : ℕ) (ac
 refused_stands s c past n p act head code e f u h d cur r g stay (inl a) = inl (record { reached = r u.index a.reached; newest = stay _ u.index _ cur.held.server a.newest; before = λ y x sc ran. absurd cc })
 refused_stands s c past n p act head code e f u h d cur r g stay (inr o) =
     let m : Message = record { head = head; carried = carried.Refusal code } in
-    let l : m.head.boot < c.server.boot = d.answers.fits.1 o.ran in
+    let l : m.head.boot < c.server.lasting.boot = d.answers.fits.1 o.ran in
     inl (record { reached = r u.index o.was; newest = inl (g.withdrawn _ _ (old_withdrawn s c past n f u h cur (old_held s c past n act m (h.floors n).held h d refl l))); before = λ y x sc ran. absurd cc })
 
 pub takes_refused : (s : Script) (c : Cell) (past : List Entry) (n p : ℕ) (act : Going) (head : Head) (code : Code) → (h : Holds s c past) → Due c h.floors past n p act (record { head = head; carried = carried.Refusal code }) → Goes s past (client_moves c n (answers_step (Client n) (c.clients n) p code))
@@ -481,13 +478,13 @@ used_reply : (n : ℕ) (f : Fid) (rest : Bool) (o u : Option Message) → cond (
 used_reply n f rest o u = rw (same_node-refl (Client n), same_fid-refl f) refl
 
 pub fetched_walks : (s : Script) (c : Cell) (past : List Entry) (n p : ℕ) (act : Going) (m : Message) (u : CacheEntry) (body : ReadBody) → (h : Holds s c past) → Due c h.floors past n p act m → volume_changed (asked act) ≡ None → u.server ≡ the_server → Shows u.fid u.index body past (lines.Given p ∷ []) → IsFetched false n u.fid u.index u.status u.body u.expiry m past → c.clock < u.expiry
-    → Walks s c past n c.server.boot (read_now n p u body) (with_read u.fid body act) (put_entry (c.clients n).capacity u (c.clients n).cache)
+    → Walks s c past n c.server.lasting.boot (read_now n p u body) (with_read u.fid body act) (put_entry (c.clients n).capacity u (c.clients n).cache)
 fetched_walks s c past n p act m u body h d shut from shown a lt =
     let none : (g : Fid) → (reach (Client n) g past).made ≡ 0 = λ g. (h.clients n).made act d.running g (no_scope (asked act) g shut) (inl shut) in
     let raised_by : (g : Fid) (k : ℕ) → (same_fid u.fid g ≡ true → u.index ≤ k) → (reach (Client n) g past).seen ≤ k → raised (same_node (Client n) (Client n) && same_fid u.fid g) u.index (reach (Client n) g past).seen ≤ k = λ g k le h. raised_up_to (same_node (Client n) (Client n) && same_fid u.fid g) u.index (reach (Client n) g past).seen k (λ t. le (both (same_node (Client n) (Client n)) (same_fid u.fid g) t).1) h in
     let one : CacheEntry = joined u (c.clients n).cache in
     let whole : IsWhole u.fid u.index u.status one.body past = kept_whole u.body (find_cached u.fid (c.clients n).cache) u.fid u.index u.status (c.clients n).cache past refl h.one (h.clients n).old a.held.whole in
-    let mine : Ready n c.server.boot u.fid one (read_now n p u body) past = record {
+    let mine : Ready n c.server.lasting.boot u.fid one (read_now n p u body) past = record {
       reply = m;
       boot = d.fact.booted;
       from = from;
@@ -521,7 +518,7 @@ fetched_walks s c past n p act m u body h d shut from shown a lt =
       quiet = (tt, (refl, tt));
       runs = own_read n u.fid body act (running s (Client n) (lines_of past)) ((h.clients n).runs act d.running);
       ready = λ g w found lasts. elim (put_found (c.clients n).capacity g u (c.clients n).cache w found) [
-        | inl q ↦ subst (λ (y : CacheEntry). Ready n c.server.boot g y (read_now n p u body) past) q.1 (subst (λ (y : Fid). Ready n c.server.boot y one (read_now n p u body) past) q.0 mine)
+        | inl q ↦ subst (λ (y : CacheEntry). Ready n c.server.lasting.boot g y (read_now n p u body) past) q.1 (subst (λ (y : Fid). Ready n c.server.lasting.boot y one (read_now n p u body) past) q.0 mine)
         | inr q ↦
             let cur = (h.clients n).current g w q.1 lasts in
             let not : (same_node (Client n) (Client n) && same_fid u.fid g) ≡ false = both_not (same_node (Client n) (Client n)) (same_fid u.fid g) (λ y z. q.0 (same_fid-true u.fid g z)) in
@@ -546,8 +543,8 @@ fetched_walks s c past n p act m u body h d shut from shown a lt =
     }
 
 pub fetched_on : (s : Script) (c : Cell) (past : List Entry) (n p : ℕ) (act : Going) (m : Message) (u : CacheEntry) (body : ReadBody) → (h : Holds s c past) → Due c h.floors past n p act m → volume_changed (asked act) ≡ None → u.server ≡ the_server → Shows u.fid u.index body past (lines.Given p ∷ []) → IsFetched false n u.fid u.index u.status u.body u.expiry m past → c.clock < u.expiry
-    → Walks s c past n c.server.boot (lines.Given p ∷ lines.Read (Client n) u.fid u.index Fetched body ∷ looked (Client n) (fetched_walk (c.clients n) c.clock act u body).looks []) (fetched_walk (c.clients n) c.clock act u body).act (fetched_walk (c.clients n) c.clock act u body).cache
-fetched_on s c past n p act m u body h d shut from shown a lt = walks_on (most_reads act) s c past n c.server.boot (read_now n p u body) (with_read u.fid body act) (put_entry (c.clients n).capacity u (c.clients n).cache) h (fetched_walks s c past n p act m u body h d shut from shown a lt)
+    → Walks s c past n c.server.lasting.boot (lines.Given p ∷ lines.Read (Client n) u.fid u.index Fetched body ∷ looked (Client n) (fetched_walk (c.clients n) c.clock act u body).looks []) (fetched_walk (c.clients n) c.clock act u body).act (fetched_walk (c.clients n) c.clock act u body).cache
+fetched_on s c past n p act m u body h d shut from shown a lt = walks_on (most_reads act) s c past n c.server.lasting.boot (read_now n p u body) (with_read u.fid body act) (put_entry (c.clients n).capacity u (c.clients n).cache) h (fetched_walks s c past n p act m u body h d shut from shown a lt)
 
 pub fetched_answered : (s : Script) (c : Cell) (past : List Entry) (n p : ℕ) (act : Going) (m : Message) (u : CacheEntry) (body : ReadBody) (k : ℕ) → (h : Holds s c past) → Due c h.floors past n p act m → ((code : Code) → m.carried ≡ carried.Refusal code → ⊥) → volume_changed (asked act) ≡ None → u.server ≡ the_server → Shows u.fid u.index body past (lines.Given p ∷ []) → IsFetched false n u.fid u.index u.status u.body u.expiry m past → c.clock < u.expiry
     → next (fetched_walk (c.clients n) c.clock act u body).act ≡ answers k → Goes s past (client_moves c n (goes_by (Client n) (c.clients n) (read_lines (Client n) p (look_at Fetched u body)) (fetched_walk (c.clients n) c.clock act u body) (answers k)))
@@ -556,20 +553,20 @@ fetched_answered s c past n p act m u body k h d not shut from shown a lt is =
     let w : Walked = fetched_walk x c.clock act u body in
     let ls : List Line = lines.Given p ∷ lines.Read (Client n) u.fid u.index Fetched body ∷ looked (Client n) w.looks [] in
     let tail : List Line = lines.Answer (Client n) (record { 0 = pos k }) ∷ [] in
-    let W : Walks s c past n c.server.boot ls w.act w.cache = fetched_on s c past n p act m u body h d shut from shown a lt in
+    let W : Walks s c past n c.server.lasting.boot ls w.act w.cache = fetched_on s c past n p act m u body h d shut from shown a lt in
     let e : Entry = step_entry n (ls ++ tail) [] in
     let t : AreTail n tail = (refl, tt) in
     let ends : EndsReach n tail = ends_answered n (record { 0 = pos k }) in
-    let held : ℕ = c.server.boot in
+    let held : ℕ = c.server.lasting.boot in
     let g : Ghost = holding h.floors n held in
     subst (λ (os : List Line). Goes s past (with_lines c n (ended x w.cache) [] (lines.Given p ∷ lines.Read (Client n) u.fid u.index Fetched body ∷ os))) (sym (looked_more (Client n) w.looks tail))
     (moves s c past n g (record { state = ended x w.cache; lines = ls ++ tail; sent = [] }) h (client_ended s x w.cache (h.own n) (walked_apart (most_reads act) c.clock (with_read u.fid body act) (put_entry x.capacity u x.cache) (apart_put x.capacity u x.cache (h.own n).apart)))
-    (walk_answered s c past n c.server.boot ls w.act w.cache k W is)
+    (walk_answered s c past n c.server.lasting.boot ls w.act w.cache k W is)
     (quiet_passes s n (ls ++ tail) [] past (quiet_more n ls tail W.quiet (tail_quiet n tail t)) (W.dull tail t))
     (ended_facts s c past n w.cache held e h (le_refl _) (ap (running s (Client n)) (onto_last (lines_of past) ls (lines.Answer (Client n) (record { 0 = pos k }))) ∙ own_ended n (running s (Client n) (onto (lines_of past) ls)))
-    (λ f v found lasts. walk_current s c past n c.server.boot ls w.act w.cache tail [] (view_after c n g (ended x w.cache)) f v W t ends (le_refl _) (inr refl) found lasts)
+    (λ f v found lasts. walk_current s c past n c.server.lasting.boot ls w.act w.cache tail [] (view_after c n g (ended x w.cache)) f v W t ends (le_refl _) (inr refl) found lasts)
     (walk_old n (put_entry x.capacity u x.cache) w.cache (ls ++ tail) [] past (quiet_more n ls tail W.quiet (tail_quiet n tail t)) (λ f v z. walked_found (most_reads act) c.clock (with_read u.fid body act) (put_entry x.capacity u x.cache) f v z) (put_old x.capacity u x.cache past (kept_whole u.body (find_cached u.fid x.cache) u.fid u.index u.status x.cache past refl h.one (h.clients n).old a.held.whole) (h.clients n).old))
-    (walk_reached s c past n c.server.boot ls w.act w.cache tail [] W t ends))
+    (walk_reached s c past n c.server.lasting.boot ls w.act w.cache tail [] W t ends))
     (ended_calls s c past n p act m w.cache held h d (λ code z. absurd (not code z))) (ended_reply s c past n w.cache held e h) (nothing_new _ _) (λ b y z. absurd cc) refl)
 
 pub fetched_calls : (s : Script) (c : Cell) (past : List Entry) (n p : ℕ) (act : Going) (m : Message) (u : CacheEntry) (body : ReadBody) → (h : Holds s c past) → Due c h.floors past n p act m → volume_changed (asked act) ≡ None → u.server ≡ the_server → Shows u.fid u.index body past (lines.Given p ∷ []) → IsFetched false n u.fid u.index u.status u.body u.expiry m past → c.clock < u.expiry
@@ -578,13 +575,13 @@ fetched_calls s c past n p act m u body h d shut from shown a lt =
     let x : ClientState = c.clients n in
     let w : Walked = fetched_walk x c.clock act u body in
     let ls : List Line = lines.Given p ∷ lines.Read (Client n) u.fid u.index Fetched body ∷ looked (Client n) w.looks [] in
-    let W : Walks s c past n c.server.boot ls w.act w.cache = fetched_on s c past n p act m u body h d shut from shown a lt in
+    let W : Walks s c past n c.server.lasting.boot ls w.act w.cache = fetched_on s c past n p act m u body h d shut from shown a lt in
     let k = h.clients n in
     let y : ClientState = asking (record x { cache = w.cache }) w.act in
     let kind : IsClient s y = client_asking s c past (record x { cache = w.cache }) w.act h (record { table = (h.own n).table; user = (h.own n).user; callee = λ b z. (h.own n).callee b z; apart = walked_apart (most_reads act) c.clock (with_read u.fid body act) (put_entry x.capacity u x.cache) (apart_put x.capacity u x.cache (h.own n).apart) }) in
     let ms : List Message = call_message (Client n) y w.act ∷ [] in
     let e : Entry = step_entry n (ls ++ []) ms in
-    let g : Ghost = record { floor = c.server.boot; held = c.server.boot } in
+    let g : Ghost = record { floor = c.server.lasting.boot; held = c.server.lasting.boot } in
     let v : View = view_after c n g y in
     let never : LastRan v → ⊥ = λ ran. next_not _ _ _ _ (k.behind_durable ran.seat ran.at) ran.epoch ran.number in
     let at : running s (Client n) (onto (lines_of past) (ls ++ [])) ≡ Some w.act = ap (λ (os : List Line). running s (Client n) (onto (lines_of past) os)) (append-nil ls) ∙ W.runs in
@@ -610,12 +607,12 @@ fetched_calls s c past n p act m u body h d shut from shown a lt =
       holds = le_refl _;
       waits = λ b y. le_refl _;
       idle = λ y. absurd cc;
-      made = λ b y f o z. walk_made s c past n c.server.boot ls w.act w.cache [] ms f W (ends_here n);
-      current = λ f q found lasts. walk_current s c past n c.server.boot ls w.act w.cache [] ms v f q W tt (ends_here n) (le_refl _) (inl never) found lasts;
+      made = λ b y f o z. walk_made s c past n c.server.lasting.boot ls w.act w.cache [] ms f W (ends_here n);
+      current = λ f q found lasts. walk_current s c past n c.server.lasting.boot ls w.act w.cache [] ms v f q W tt (ends_here n) (le_refl _) (inl never) found lasts;
       old = walk_old n (put_entry x.capacity u x.cache) w.cache (ls ++ []) ms past (quiet_more n ls [] W.quiet tt) (λ f v z. walked_found (most_reads act) c.clock (with_read u.fid body act) (put_entry x.capacity u x.cache) f v z) (put_old x.capacity u x.cache past (kept_whole u.body (find_cached u.fid x.cache) u.fid u.index u.status x.cache past refl h.one k.old a.held.whole) k.old);
       runs = λ b y. at ∙ y;
       asked = λ b z. subst (λ (x : Going). CalledSince (last_key n v) guest (asked x) (e ∷ past)) (some_of w.act b z) (inl (refl, inl (refl, carried_is y w.act kind.user)));
-      reached = walk_reached s c past n c.server.boot ls w.act w.cache [] ms W tt (ends_here n);
+      reached = walk_reached s c past n c.server.lasting.boot ls w.act w.cache [] ms W tt (ends_here n);
     })
     (λ head' call r. record {
       behind = up_to_next _ _ _ _ r.behind;
@@ -784,7 +781,7 @@ takes_other s c past n p act m reply h d is =
 pub boot_with : (server : Node) (boot : ℕ) (boots : List KnownBoot) → boot_of server (with_boot server boot boots) ≡ boot
 boot_with server boot boots = ap (λ (t : Bool). boot_or_first (cond t (Some (record { server = server; boot = boot })) (find (λ (k : KnownBoot). same_node k.server server) (filter (λ (k : KnownBoot). not (same_node k.server server)) boots)))) (same_node-refl server)
 
-pub resends_goes : (s : Script) (c : Cell) (past : List Entry) (n p : ℕ) (act : Going) (m : Message) (boot : ℕ) → Holds s c past → Heard c p m → boot ≤ c.server.boot → (c.clients n).running ≡ Some act → Goes s past (client_moves c n (resends_step (Client n) (c.clients n) p act boot))
+pub resends_goes : (s : Script) (c : Cell) (past : List Entry) (n p : ℕ) (act : Going) (m : Message) (boot : ℕ) → Holds s c past → Heard c p m → boot ≤ c.server.lasting.boot → (c.clients n).running ≡ Some act → Goes s past (client_moves c n (resends_step (Client n) (c.clients n) p act boot))
 resends_goes s c past n p act m boot h d le runs =
     let old : ClientState = c.clients n in
     let x : ClientState = booted old boot in
@@ -796,7 +793,7 @@ resends_goes s c past n p act m boot h d le runs =
     (subst (λ (k : ℕ). ClientFacts s n (record (view h.floors c n) { known = k }) (e ∷ past)) (sym known) (client_kept s c past n boot e h le (λ f. told_file n p f (actors.Node (Client n)) ms past) (λ f. told_reach n p f (actors.Node (Client n)) ms past) (told_act n p (actors.Node (Client n)) ms past) (λ f. refl)))
     (λ head call f. call_known (view h.floors c n) (boot_of the_server x.boots) head call f)
     (reply_still n (view h.floors c n) e past (λ f. told_file n p f (actors.Node (Client n)) ms past) (λ f. told_reach n p f (actors.Node (Client n)) ms past) (λ f. refl))
-    (own_call h.floors c past n (h.floors n) x act (lines.Given p ∷ []) (subst (λ (k : ℕ). k ≤ c.server.boot) (sym known) le) kind runs ((h.clients n).runs act runs) (same_one s c past n act ms h runs)) (λ a x z. inl x) refl
+    (own_call h.floors c past n (h.floors n) x act (lines.Given p ∷ []) (subst (λ (k : ℕ). k ≤ c.server.lasting.boot) (sym known) le) kind runs ((h.clients n).runs act runs) (same_one s c past n act ms h runs)) (λ a x z. inl x) refl
 
 -- ---- the row, by its cases
 
@@ -933,7 +930,7 @@ is_due s c past n p act m h heard to f w runs =
     }
 
 pub counts_goes : (s : Script) (c : Cell) (past : List Entry) (n p : ℕ) (act : Going) (head : Head) (x : Carried) → (h : Holds s c past) → Heard c p (record { head = head; carried = x }) → head.to ≡ Client n → OfReply (ReplyIn (view h.floors c) past (record { head = head; carried = x })) x
-    → OfNotice (IsNoticed c.server.boot (record { head = head; carried = x })) x → Awaited c n act (record { head = head; carried = x }) → (c.clients n).running ≡ Some act → Goes s past (client_moves c n (counts (Client n) (c.clients n) c.clock p act head x))
+    → OfNotice (IsNoticed c.server.lasting.boot (record { head = head; carried = x })) x → Awaited c n act (record { head = head; carried = x }) → (c.clients n).running ≡ Some act → Goes s past (client_moves c n (counts (Client n) (c.clients n) c.clock p act head x))
 counts_goes s c past n p act head (carried.Call user call) h heard to f k w runs = quiet s c past n p (record { head = head; carried = carried.Call user call }) h heard
 counts_goes s c past n p act head (carried.Refusal code) h heard to f k w runs = refused_goes s c past n p act head code (is_spent (c.clients n) act) h (is_due s c past n p act (record { head = head; carried = carried.Refusal code }) h heard to f w runs) refl
 counts_goes s c past n p act head (carried.Reply (tell.File reply)) h heard to f k w runs = replied_goes s c past n p act head reply (is_spent (c.clients n) act) h (is_due s c past n p act (record { head = head; carried = carried.Reply (tell.File reply) }) h heard to f w runs) refl
@@ -941,12 +938,12 @@ counts_goes s c past n p act head (carried.Reply (tell.Volume reply)) h heard to
 counts_goes s c past n p act head (carried.Reply (tell.Location reply)) h heard to f k w runs = quiet s c past n p (record { head = head; carried = carried.Reply (tell.Location reply) }) h heard
 counts_goes s c past n p act head carried.Notice h heard to f k w runs = resends_goes s c past n p act (record { head = head; carried = carried.Notice }) head.boot h heard k runs
 
-pub test_goes : (s : Script) (c : Cell) (past : List Entry) (n p : ℕ) (act : Going) (m : Message) (t : Bool) → (h : Holds s c past) → Heard c p m → m.head.to ≡ Client n → OfReply (ReplyIn (view h.floors c) past m) m.carried → OfNotice (IsNoticed c.server.boot m) m.carried → is_awaited (c.clients n) act m.head ≡ t → (c.clients n).running ≡ Some act
+pub test_goes : (s : Script) (c : Cell) (past : List Entry) (n p : ℕ) (act : Going) (m : Message) (t : Bool) → (h : Holds s c past) → Heard c p m → m.head.to ≡ Client n → OfReply (ReplyIn (view h.floors c) past m) m.carried → OfNotice (IsNoticed c.server.lasting.boot m) m.carried → is_awaited (c.clients n) act m.head ≡ t → (c.clients n).running ≡ Some act
     → Goes s past (client_moves c n (cond t (counts (Client n) (c.clients n) c.clock p act m.head m.carried) (ignores (c.clients n) p)))
 test_goes s c past n p act m true h heard to f k t runs = counts_goes s c past n p act m.head m.carried h heard to f k (awaited c n act m t) runs
 test_goes s c past n p act m false h heard to f k t runs = quiet s c past n p m h heard
 
-pub awaits_goes : (s : Script) (c : Cell) (past : List Entry) (n p : ℕ) (m : Message) (o : Option Going) → (h : Holds s c past) → Heard c p m → m.head.to ≡ Client n → OfReply (ReplyIn (view h.floors c) past m) m.carried → OfNotice (IsNoticed c.server.boot m) m.carried → (c.clients n).running ≡ o → Goes s past (client_moves c n (awaits (Client n) (c.clients n) c.clock p m.head m.carried o))
+pub awaits_goes : (s : Script) (c : Cell) (past : List Entry) (n p : ℕ) (m : Message) (o : Option Going) → (h : Holds s c past) → Heard c p m → m.head.to ≡ Client n → OfReply (ReplyIn (view h.floors c) past m) m.carried → OfNotice (IsNoticed c.server.lasting.boot m) m.carried → (c.clients n).running ≡ o → Goes s past (client_moves c n (awaits (Client n) (c.clients n) c.clock p m.head m.carried o))
 awaits_goes s c past n p m None h heard to f k runs = quiet s c past n p m h heard
 awaits_goes s c past n p m (Some act) h heard to f k runs = test_goes s c past n p act m (is_awaited (c.clients n) act m.head) h heard to f k refl runs
 
@@ -969,8 +966,8 @@ caller_by views n (Server j) head user call e to f w = (w (λ i x. absurd cc)).1
 caller_by views n (Admin j) head user call e to f w = (w (λ i x. absurd cc)).1
 caller_by views n Loc head user call e to f w = (w (λ i x. absurd cc)).1
 
-pub hears_goes : (s : Script) (c : Cell) (past : List Entry) (n p : ℕ) (head : Head) (x : Carried) → (h : Holds s c past) → message_at c.sent p ≡ Some (record { head = head; carried = x }) → head.to ≡ Client n → Heard c p (record { head = head; carried = x }) → OfCall (ByServer (BackIn c.down c.backs.calls c.backs.last_call c.server.boot)) head x
-    → OfCall (ByClient (CallIn (view h.floors c))) head x → OfCall ToClient head x → IfReply (ReplyIn (view h.floors c) past) (record { head = head; carried = x }) → IfNotice (IsNoticed c.server.boot) (record { head = head; carried = x }) → Goes s past (client_moves c n (hears (Client n) (c.clients n) c.clock p head x))
+pub hears_goes : (s : Script) (c : Cell) (past : List Entry) (n p : ℕ) (head : Head) (x : Carried) → (h : Holds s c past) → message_at c.sent p ≡ Some (record { head = head; carried = x }) → head.to ≡ Client n → Heard c p (record { head = head; carried = x }) → OfCall (ByServer (BackIn c.down c.server.backs.calls c.server.backs.last_call c.server.lasting.boot)) head x
+    → OfCall (ByClient (CallIn (view h.floors c))) head x → OfCall ToClient head x → IfReply (ReplyIn (view h.floors c) past) (record { head = head; carried = x }) → IfNotice (IsNoticed c.server.lasting.boot) (record { head = head; carried = x }) → Goes s past (client_moves c n (hears (Client n) (c.clients n) c.clock p head x))
 hears_goes s c past n p head (carried.Call user (ask.File call)) h at to heard b q w f k = called_goes s c past n p head user call h heard to (caller_by (view h.floors c) n head.from head user call refl to q w) b
 hears_goes s c past n p head (carried.Call user (ask.Volume call)) h at to heard b q w f k = absurd b
 hears_goes s c past n p head (carried.Call user (ask.Location call)) h at to heard b q w f k = absurd b
@@ -986,9 +983,9 @@ pub client_goes : (s : Script) (c : Cell) (past : List Entry) (n p : ℕ) (m : M
 unfolding client_row
 client_goes s c past n p m h at to =
     to_me s past c n (same_node m.head.to (Client n)) (hears (Client n) (c.clients n) c.clock p m.head m.carried) (ignores (c.clients n) p) (ap (λ (q : Node). same_node q (Client n)) to ∙ same_node-refl (Client n))
-    (hears_goes s c past n p m.head m.carried h at to (record { at = at; not_to = λ x. let y : Client n ≡ the_server = sym to ∙ x in absurd cc }) (each_at (IfBack (BackIn c.down c.backs.calls c.backs.last_call c.server.boot)) c.sent p m at (h.backs refl).calls)
+    (hears_goes s c past n p m.head m.carried h at to (record { at = at; not_to = λ x. let y : Client n ≡ the_server = sym to ∙ x in absurd cc }) (each_at (IfBack (BackIn c.down c.server.backs.calls c.server.backs.last_call c.server.lasting.boot)) c.sent p m at (h.backs refl).calls)
     (each_at (IfCall (CallIn (view h.floors c))) c.sent p m at h.sent.calls) (each_at (λ z. OfCall ToClient z.head z.carried) c.sent p m at h.sent.to_clients)
-    (each_at (IfReply (ReplyIn (view h.floors c) past)) c.sent p m at h.sent.replies) (each_at (IfNotice (IsNoticed c.server.boot)) c.sent p m at h.sent.notices))
+    (each_at (IfReply (ReplyIn (view h.floors c) past)) c.sent p m at h.sent.replies) (each_at (IfNotice (IsNoticed c.server.lasting.boot)) c.sent p m at h.sent.notices))
 
 pub begun_goes : (s : Script) (c : Cell) (past : List Entry) (n : ℕ) (act : Act) (o : Option Going) → Holds s c past → (c.clients n).running ≡ o → Goes s past (begun_by c n act o)
 begun_goes s c past n act None h e = begins_goes s c past n act h e

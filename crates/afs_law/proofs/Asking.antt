@@ -1,6 +1,6 @@
 use Rattle.afs_num.specs.declared.types.Node.{Node}
-use Rattle.afs_rows.specs.States.{Location}
-use Rattle.afs_law.proofs.Basics.{guest}
+use Rattle.afs_rows.specs.States.{Location, Gift, CacheEntry, Seat}
+use Rattle.afs_law.proofs.Basics.{guest, at_put, found-first, Each, IfCall, ByClient, OfClient, by_client, both, same_fid-true, same_node-true, same_node-refl, node_apart, client_number, up_to_same, up_to_next, next_not, below_not, at_puts, each_map, if_call, raised_up_to, some_of, IfBack, IfDone, same_key-refl, OfCall, UpTo}
 use Rattle.afs_history.specs.declared.acts.Act.{Act}
 use Rattle.std.proofs.Common.{◌≡◌, ℕ, ◌+◌, ◌≤◌, ◌⊎◌, inl, inr, Bool, true, false, cond, List, [], ◌∷◌, Option, Some, None, refl, sym, ap, subst, ◌∙◌, arith, nat_eq, eqb-true, ◌++◌}
 use Rattle.std.specs.Prelude.{◌&&◌}
@@ -15,7 +15,6 @@ use Rattle.afs_num.specs.declared.calls.FsCall.{FsCall}
 use Rattle.afs_num.specs.declared.messages.Message.{Message}
 use Rattle.afs_ideal.specs.Operations.{volume_changed}
 use Rattle.afs_law.proofs.Backing.{Plain, backed_plain, seated_over, plain_step}
-use Rattle.afs_law.proofs.Basics.{at_put, found-first, Each, IfCall, ByClient, OfClient, by_client, both, same_fid-true, same_node-true, same_node-refl, node_apart, client_number, up_to_same, up_to_next, next_not, below_not, at_puts, each_map, if_call, raised_up_to, some_of, IfBack, IfDone, same_key-refl, OfCall, UpTo}
 use Rattle.afs_law.proofs.Edits.{index_in, fid_at, sound_same}
 use Rattle.afs_law.proofs.Facts.{AreApart, IsClient, back_seat, Ghost, Seen, IsAged, server_boot, View, view_of, view, desk, last_key, LastRan, Reached, ReplyFact, ClientFacts, IsUntrusted, IsSafe, CallFact, CallIn, Holds, Goes, Reading, InScope, IsOne}
 use Rattle.afs_law.proofs.Owing.{BackIn, DoneIn, SeatedIn}
@@ -24,24 +23,23 @@ use Rattle.afs_law.proofs.Serving.{told_file, told_reach, told_act, reached_stil
 use Rattle.afs_law.proofs.Turning.{call_good}
 use Rattle.afs_rows.specs.Callbacks.{put, replies_of}
 use Rattle.afs_rows.specs.ClientRow.{volume_asked, server_at, ended, call_by, boot_of, used_first, find_cached, call_of, call_head, call_message, asking, calls_step, ignores}
-use Rattle.afs_rows.specs.Going.{call_for, Need, reads, reads_status, reads_statuses, reads_rights, asks_for, gives_back, answers, Need, next, asked, Going, began, with_read, read_on, ClientState}
+use Rattle.afs_rows.specs.Going.{call_for, Need, reads, reads_status, reads_statuses, reads_rights, asks_for, gives_back, answers, next, asked, Going, began, with_read, read_on, ClientState}
 use Rattle.afs_law.specs.Ideal.{last_version, HasVersion, Accepts, clock_of, reach, raised, is_zero_code, volume_after, call_in, call_under}
 use Rattle.afs_law.specs.Legal.{IsNew, AreGood, AreGoodReplies}
 use Rattle.afs_history.specs.declared.lines.Line.{Line}
 use Rattle.afs_law.specs.Past.{onto, lines_of, sent_of, given_message, running, CalledSince, IsCallUnder, has_begun, called_key, is_called, same_key, Sends}
 use Rattle.afs_rows.specs.Runs.{the_server, locations, Entry, Cell, message_at, client_moves}
 use Rattle.afs_rows.specs.Scopes.{is_volume}
-use Rattle.afs_rows.specs.States.{Gift, CacheEntry, Seat}
 use Rattle.afs_rows.specs.Steps.{Step}
 use Rattle.afs_num.specs.declared.scripts.Script.{Script}
-use Rattle.afs_num.specs.declared.histories.Actor.TheVariants as actors
 use Rattle.afs_num.specs.declared.histories.Body.{Body}
 use Rattle.afs_num.specs.declared.histories.ReadBody.{ReadBody}
-use Rattle.afs_history.specs.declared.acts.Act.TheVariants as acts
 use Rattle.afs_num.specs.declared.histories.ReadSource.TheVariants.{Cached, Fetched}
 use Rattle.afs_num.specs.declared.histories.Version.{Version}
 use Rattle.std.proofs.Math.Nat.{le_refl}
 use Rattle.afs_num.specs.declared.messages.Carried.{Carried}
+use Rattle.afs_num.specs.declared.histories.Actor.TheVariants as actors
+use Rattle.afs_history.specs.declared.acts.Act.TheVariants as acts
 use Rattle.afs_num.specs.declared.calls.FsCall.TheVariants as calls
 use Rattle.afs_num.specs.declared.messages.Carried.TheVariants as carried
 use Rattle.afs_num.specs.declared.messages.Call.TheVariants as ask
@@ -89,16 +87,16 @@ calls_moved fl c n floor x sent w h = each_map (IfCall (CallIn (view fl c))) (If
 
 -- what is known of what a client sends, and of what it keeps for the server
 pub record Fresh (s : Script) (c : Cell) (n : ℕ) (views : ℕ → View) (past : List Entry) (ms : List Message) : Type 0 where
-  pub news : News s ms views c.server.boot past
+  pub news : News s ms views c.server.lasting.boot past
   pub good : AreGoodReplies past ms
-  pub calls : Each (IfBack (BackIn c.down c.backs.calls c.backs.last_call c.server.boot)) ms
-  pub dones : Each (IfDone (DoneIn c.down c.backs.calls c.backs.last_call c.server.boot past)) ms
+  pub calls : Each (IfBack (BackIn c.down c.server.backs.calls c.server.backs.last_call c.server.lasting.boot)) ms
+  pub dones : Each (IfDone (DoneIn c.down c.server.backs.calls c.server.backs.last_call c.server.lasting.boot past)) ms
 
 abbrev pub KeepsSeat : Cell → ℕ → Option Seat → List Entry → Type 0
-KeepsSeat c n o past = (seat : Seat) (m : Message) → o ≡ Some seat → seat.reply ≡ Some m → SeatedIn c.down c.backs.calls c.backs.last_call c.server.boot past n m
+KeepsSeat c n o past = (seat : Seat) (m : Message) → o ≡ Some seat → seat.reply ≡ Some m → SeatedIn c.down c.server.backs.calls c.server.backs.last_call c.server.lasting.boot past n m
 
-pub seat_put : (t : Bool) (c : Cell) (n j : ℕ) (x y : ClientState) (seat : Seat) (m : Message) (past : List Entry) → nat_eq n j ≡ t → back_seat (cond t x y) ≡ Some seat → seat.reply ≡ Some m → KeepsSeat c n (back_seat x) past → (back_seat y ≡ Some seat → SeatedIn c.down c.backs.calls c.backs.last_call c.server.boot past j m) → SeatedIn c.down c.backs.calls c.backs.last_call c.server.boot past j m
-seat_put true c n j x y seat m past e at is a b = subst (λ (k : ℕ). SeatedIn c.down c.backs.calls c.backs.last_call c.server.boot past k m) (eqb-true n j e) (a seat m at is)
+pub seat_put : (t : Bool) (c : Cell) (n j : ℕ) (x y : ClientState) (seat : Seat) (m : Message) (past : List Entry) → nat_eq n j ≡ t → back_seat (cond t x y) ≡ Some seat → seat.reply ≡ Some m → KeepsSeat c n (back_seat x) past → (back_seat y ≡ Some seat → SeatedIn c.down c.server.backs.calls c.server.backs.last_call c.server.lasting.boot past j m) → SeatedIn c.down c.server.backs.calls c.server.backs.last_call c.server.lasting.boot past j m
+seat_put true c n j x y seat m past e at is a b = subst (λ (k : ℕ). SeatedIn c.down c.server.backs.calls c.server.backs.last_call c.server.lasting.boot past k m) (eqb-true n j e) (a seat m at is)
 seat_put false c n j x y seat m past e at is a b = b at
 
 pub moves_back : (s : Script) (c : Cell) (past : List Entry) (n : ℕ) (floor : Ghost) (st : Step ClientState) → (h : Holds s c past) → IsClient s st.state → AreGood s (actors.Node (Client n)) past [] st.lines → Passes s n st.lines st.sent past
@@ -129,20 +127,20 @@ moves_back s c past n floor st h kind good p own w q fresh went keeps =
         booted = h.booted;
         boots = p.boot (lines_of past) ∙ h.boots;
         clients = now;
-        sent = more_sent c.sent (replies_of c.backs.held) (replies_of c.backs.held) (view h.floors c) (views_after h.floors c n floor st.state) c.server.boot c.server.boot e past h.sent (le_refl _) now (λ j a. at_mover h.floors c n floor st.state j (λ i v. v.running ≡ Some a → has_begun (Client i) e.lines ≡ false → (running s (Client i) (lines_of past) ≡ Some a) ⊎ Reading (running s (Client i) (lines_of past))) (λ x z. elim (went a x z) [ inl y ↦ inl ((h.clients n).runs a y) | inr y ↦ inr (record { act = y.act; runs = (h.clients n).runs y.act y.runs; read = y.read }) ]) (λ ne x z. inl ((h.clients j).runs a x))) (calls_moved h.floors c n floor st.state c.sent w h.sent.calls)
+        sent = more_sent c.sent (replies_of c.server.backs.held) (replies_of c.server.backs.held) (view h.floors c) (views_after h.floors c n floor st.state) c.server.lasting.boot c.server.lasting.boot e past h.sent (le_refl _) now (λ j a. at_mover h.floors c n floor st.state j (λ i v. v.running ≡ Some a → has_begun (Client i) e.lines ≡ false → (running s (Client i) (lines_of past) ≡ Some a) ⊎ Reading (running s (Client i) (lines_of past))) (λ x z. elim (went a x z) [ inl y ↦ inl ((h.clients n).runs a y) | inr y ↦ inr (record { act = y.act; runs = (h.clients n).runs y.act y.runs; read = y.read }) ]) (λ ne x z. inl ((h.clients j).runs a x))) (calls_moved h.floors c n floor st.state c.sent w h.sent.calls)
             (λ j m. at_mover h.floors c n floor st.state j (λ i v. ReplyFact i (view h.floors c i) past m → ReplyFact i v (e ∷ past) m) (q m)
             (λ ne. reply_over j (view h.floors c j) m e past (λ f. (p.file j ne f).grant) (p.reach j ne) (λ f. stays j f e past (p.file j ne f).grant (last f)))) (λ held. (fresh.news, held));
-        down = fallen_over c.down c.server c.sent st.sent e past h.down;
+        down = fallen_over c.down c.server.lasting c.sent st.sent e past h.down;
         clock = p.clock (lines_of past) ∙ h.clock;
         top = λ f i b x. subst (λ (o : Option Version). i ≤ index_in o) (sym (last f)) (h.top f i b (p.back f i b (lines_of past) x));
         one = λ f i a b x y. h.one f i a b (p.back f i a (lines_of past) x) (p.back f i b (lines_of past) y);
-        backs = λ z. backed_plain c.down c.backs c.server.boot c.server.seats (λ j. back_seat (c.clients j)) (λ j. back_seat (put n st.state c.clients j)) c.clock c.clock c.sent st.sent e past p.plain (le_refl _) b fresh.calls fresh.dones
-            (λ j seat m x y. seat_put (nat_eq n j) c n j st.state (c.clients j) seat m (e ∷ past) refl x y keeps (λ k. seated_over c.down c.down c.backs c.backs c.server.boot c.clock c.clock e past (plain_step c.down c.backs c.clock c.clock e past p.plain (le_refl _)) j m (b.seated j seat m k y)));
+        backs = λ z. backed_plain c.down c.server.backs c.server.lasting.boot c.server.seats (λ j. back_seat (c.clients j)) (λ j. back_seat (put n st.state c.clients j)) c.clock c.clock c.sent st.sent e past p.plain (le_refl _) b fresh.calls fresh.dones
+            (λ j seat m x y. seat_put (nat_eq n j) c n j st.state (c.clients j) seat m (e ∷ past) refl x y keeps (λ k. seated_over c.down c.down c.server.backs c.server.backs c.server.lasting.boot c.clock c.clock e past (plain_step c.down c.server.backs c.clock c.clock e past p.plain (le_refl _)) j m (b.seated j seat m k y)));
       };
     }
 
 pub old_seat : (s : Script) (c : Cell) (past : List Entry) (n : ℕ) (e : Entry) → Plain e.lines → Holds s c past → KeepsSeat c n (back_seat (c.clients n)) (e ∷ past)
-old_seat s c past n e p h seat m x y = seated_over c.down c.down c.backs c.backs c.server.boot c.clock c.clock e past (plain_step c.down c.backs c.clock c.clock e past p (le_refl _)) n m ((h.backs refl).seated n seat m x y)
+old_seat s c past n e p h seat m x y = seated_over c.down c.down c.server.backs c.server.backs c.server.lasting.boot c.clock c.clock e past (plain_step c.down c.server.backs c.clock c.clock e past p (le_refl _)) n m ((h.backs refl).seated n seat m x y)
 
 -- the client keeps what it kept for the server
 pub moves : (s : Script) (c : Cell) (past : List Entry) (n : ℕ) (floor : Ghost) (st : Step ClientState) → (h : Holds s c past) → IsClient s st.state → AreGood s (actors.Node (Client n)) past [] st.lines → Passes s n st.lines st.sent past
@@ -227,7 +225,7 @@ answered_passes s c past n p m code h d = record {
 -- ---- a message that changes nothing
 
 -- the client keeps its call and its act, over lines that change nothing of it
-pub client_kept : (s : Script) (c : Cell) (past : List Entry) (n boot : ℕ) (e : Entry) → (h : Holds s c past) → boot ≤ c.server.boot → ((f : Fid) → PassesFile n f e past) → ((f : Fid) → PassesReach n f e past) → PassesAct n e past → ((f : Fid) → last_version f (lines_of (e ∷ past)) ≡ last_version f (lines_of past))
+pub client_kept : (s : Script) (c : Cell) (past : List Entry) (n boot : ℕ) (e : Entry) → (h : Holds s c past) → boot ≤ c.server.lasting.boot → ((f : Fid) → PassesFile n f e past) → ((f : Fid) → PassesReach n f e past) → PassesAct n e past → ((f : Fid) → last_version f (lines_of (e ∷ past)) ≡ last_version f (lines_of past))
     → ClientFacts s n (record (view h.floors c n) { known = boot }) (e ∷ past)
 client_kept s c past n boot e h le p q t l =
     let d : ClientFacts s n (view h.floors c n) (e ∷ past) = client_still n (view h.floors c n) e past p q t l (h.clients n) in
@@ -364,7 +362,7 @@ called_one n k user call S (e ∷ past) node (inl x) h = sends_one n k user call
 called_one n k user call S (e ∷ past) node (inr x) h = called_one n k user call S past node x.1 (each_front (IfCall (IsOne S)) (sent_of past) e.sent h).0
 
 -- the message of a call that the client sends now
-pub own_call : {s : Script} → (fl : ℕ → Ghost) (c : Cell) (past : List Entry) (n : ℕ) (floor : Ghost) (x : ClientState) (act : Going) (ls : List Line) → boot_of the_server x.boots ≤ c.server.boot → IsClient s x → x.running ≡ Some act → running s (Client n) (onto (lines_of past) ls) ≡ Some act
+pub own_call : {s : Script} → (fl : ℕ → Ghost) (c : Cell) (past : List Entry) (n : ℕ) (floor : Ghost) (x : ClientState) (act : Going) (ls : List Line) → boot_of the_server x.boots ≤ c.server.lasting.boot → IsClient s x → x.running ≡ Some act → running s (Client n) (onto (lines_of past) ls) ≡ Some act
     → call_under (called_key (call_head (Client n) x act)) (sent_of past ++ call_message (Client n) x act ∷ []) ≡ Some (x.user, call_of x act) → Fresh s c n (views_after fl c n floor x) (step_entry n ls (call_message (Client n) x act ∷ []) ∷ past) (call_message (Client n) x act ∷ [])
 own_call {s} fl c past n floor x act ls le kind runs at one =
     let to : x.callee ≡ the_server = kind.callee act runs in
@@ -381,7 +379,7 @@ own_call {s} fl c past n floor x act ls le kind runs at one =
             fact = at_mover fl c n floor x n (λ i v. CallFact v (call_head (Client n) x act) (call_of x act))
                 (record {
                   behind = up_to_same _ _ _ _ refl refl;
-                  booted = subst (λ (q : Node). boot_of q x.boots ≤ c.server.boot) (sym to) le;
+                  booted = subst (λ (q : Node). boot_of q x.boots ≤ c.server.lasting.boot) (sym to) le;
                   stale = λ l. absurd (below_not _ _ _ _ l (up_to_same _ _ _ _ refl refl));
                   own = λ b y e k. call_is x act ∙ ap asked (some_of act b (sym runs ∙ y));
                   safe = λ q above. safe_own x act c.clock x.epoch x.last x.running x.cache _ (call_head (Client n) x act) runs refl refl;
@@ -433,7 +431,7 @@ asks s c past n act l h good p q r none shut at went =
     let x : ClientState = asking (c.clients n) act in
     let kind : IsClient s x = client_asking s c past (c.clients n) act h (h.own n) in
     let e : Entry = step_entry n (l ∷ []) (call_message (Client n) x act ∷ []) in
-    let g : Ghost = record { floor = c.server.boot; held = (h.floors n).held } in
+    let g : Ghost = record { floor = c.server.lasting.boot; held = (h.floors n).held } in
     let v : View = view_after c n g x in
     let not : LastRan v → ⊥ = λ ran. next_not _ _ _ _ (d.behind_durable ran.seat ran.at) ran.epoch ran.number in
     let last : (f : Fid) → last_version f (lines_of (e ∷ past)) ≡ last_version f (lines_of past) = λ f. p.last f (lines_of past) in

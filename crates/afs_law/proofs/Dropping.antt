@@ -1,23 +1,20 @@
+-- A client is called by its server: it drops what it has cached of the broken promises.
 use Rattle.afs_law.proofs.Apart.{apart_filter, found_filter}
-use Rattle.afs_law.proofs.Asking.{call_is}
-use Rattle.afs_law.proofs.Basics.{own_seat, same_node-refl}
-use Rattle.afs_law.proofs.Facts.{IsReply, IsFetched, FitsShown, back_seat}
-use Rattle.afs_law.proofs.Passing.{old_over, old_within, whole_over}
-use Rattle.afs_model.specs.Calls.{call_seat, call_seated}
+use Rattle.afs_law.proofs.Asking.{call_is, Passes, Fresh, KeepsSeat, moves_back, moves, old_seat, step_entry, view_after, views_after, Heard, heard_dull, told_passes, quiet, reply_still, safe_cache}
+use Rattle.afs_law.proofs.Basics.{own_seat, same_node-refl, same_fid-true, same_fid-refl, same_node-true, client_number, OfClient, OfServer, ByClient, ByServer, by_server, server_any, LastSeat, some_of, kept_last}
+use Rattle.afs_law.proofs.Facts.{IsReply, IsFetched, FitsShown, back_seat, IsKnown, View, view, Spot, spot, Fits, ReplyFact, IsAged, IsLastCall, CallIn, Origin, IsActs, ToClient, server_boot, Holds, Goes, FitsData, FitsSet, FitsReply, IsOne}
+use Rattle.afs_law.proofs.Passing.{old_over, old_within, whole_over, body_kept, PassesGrant, PassesFile, PassesReach, current_over, stands_over, stays, kept_over, grant_over, cause_over, onto_front, client_still}
+use Rattle.afs_model.specs.Calls.{call_seat, call_seated, Admitted}
 use Rattle.afs_num.specs.declared.histories.ReadStatus.{ReadStatus}
-use Rattle.afs_rows.specs.ServerRow.{not_served, replied, seat_for}
-use Rattle.std.specs.Prelude.{◌&&◌}
+use Rattle.afs_rows.specs.ServerRow.{not_served, replied, seat_for, boot_told}
+use Rattle.std.specs.Prelude.{◌&&◌, filter}
 use Rattle.afs_num.specs.declared.calls.AfsFetchStatus.{AfsFetchStatus}
-use Rattle.afs_law.proofs.Asking.{Passes, Fresh, KeepsSeat, moves_back, moves, old_seat, step_entry, view_after, views_after, Heard, heard_dull, told_passes, quiet, reply_still, safe_cache}
 use Rattle.afs_law.proofs.Backing.{Plain, all_lines, is_up, is_still, is_oweless, is_unchanging, drop_onto, owe_over}
-use Rattle.afs_law.proofs.Basics.{same_fid-true, same_fid-refl, same_node-true, client_number, OfClient, OfServer, ByClient, ByServer, by_server, server_any, LastSeat, some_of, kept_last}
-use Rattle.afs_law.proofs.Facts.{IsKnown, View, view, Spot, spot, Fits, ReplyFact, IsAged, IsLastCall, CallIn, Origin, IsActs, ToClient, server_boot, Holds, Goes, FitsData, FitsSet, FitsReply, IsOne}
 use Rattle.afs_law.proofs.Owing.{AllOf, IsOwed, CallOut, BackIn, DroppedOwe, IsDone, SeatedIn}
-use Rattle.afs_law.proofs.Passing.{body_kept, PassesGrant, PassesFile, PassesReach, current_over, stands_over, stays, kept_over, grant_over, cause_over, onto_front, client_still}
 use Rattle.afs_law.proofs.Pumping.{no_call, no_notice, of_reply_any}
 use Rattle.afs_law.proofs.Serving.{told_file, told_reach, told_act, reached_still}
 use Rattle.afs_law.specs.Breaks.{HasDrop, OweAt, CarriesBreak, NamesIn}
-use Rattle.afs_rows.specs.Callbacks.{Owed, breaks_call}
+use Rattle.afs_rows.specs.Callbacks.{breaks_call}
 use Rattle.afs_rows.specs.ClientRow.{find_cached, ignores, is_named, names_act, is_waiting, is_spoiled_by_all, drop_line, done, without_fids, without_server, replies_step, refused_with, told_step, breaks, runs_call, runs_carried, admits_call, called, whole, names_call, body_told, call_of, status_told}
 use Rattle.afs_rows.specs.Going.{Going, asked, ClientState}
 use Rattle.afs_law.specs.Grants.{has_fetched, IsWithdrawn, IsDropped, since}
@@ -26,14 +23,9 @@ use Rattle.afs_law.specs.Legal.{IsNew, AreGood, GoodReply}
 use Rattle.afs_history.specs.declared.lines.Line.{Line}
 use Rattle.afs_law.specs.Past.{onto, lines_of, sent_of, running, has_begun}
 use Rattle.afs_rows.specs.Runs.{the_server, Entry, Cell, client_moves}
-use Rattle.afs_rows.specs.ServerRow.{boot_told}
 use Rattle.afs_rows.specs.States.{CacheEntry, Seat}
 use Rattle.afs_rows.specs.Steps.{Step}
-use Rattle.afs_model.specs.Calls.{Admitted}
--- A client is called by its server: it drops what it has cached of the broken promises.
 use Rattle.std.proofs.Common.{◌≡◌, ℕ, ◌≤◌, ◌⊎◌, inl, inr, Bool, true, false, cond, nat_eq, not, List, [], ◌∷◌, map, Option, Some, None, refl, sym, ap, subst, ◌∙◌}
-use Rattle.afs_model.specs.Calls as pairs
-use Rattle.std.specs.Prelude.{filter}
 use Rattle.std.proofs.Math.Nat.{le_refl}
 use Rattle.afs_num.specs.Fids.{same_fid}
 use Rattle.afs_num.specs.Nodes.{same_node}
@@ -43,22 +35,24 @@ use Rattle.afs_num.specs.declared.types.Key.{Key}
 use Rattle.afs_num.specs.declared.types.Node.{Node}
 use Rattle.afs_num.specs.declared.types.Node.TheVariants.{Server, Client}
 use Rattle.afs_num.specs.declared.calls.FsCall.{FsCall}
-use Rattle.afs_num.specs.declared.calls.FsCall.TheVariants as calls
 use Rattle.afs_num.specs.declared.calls.FsReply.{FsReply}
-use Rattle.afs_num.specs.declared.calls.FsReply.TheVariants as replies
 use Rattle.afs_num.specs.declared.messages.Carried.{Carried}
-use Rattle.afs_num.specs.declared.messages.Carried.TheVariants as carried
-use Rattle.afs_num.specs.declared.messages.Reply.TheVariants as tell
-use Rattle.afs_num.specs.declared.messages.Call.TheVariants as ask
 use Rattle.afs_num.specs.declared.messages.Message.{Message}
 use Rattle.afs_num.specs.declared.scripts.Script.{Script}
-use Rattle.afs_num.specs.declared.histories.Actor.TheVariants as actors
 use Rattle.afs_num.specs.declared.histories.Body.{Body}
-use Rattle.afs_num.specs.declared.histories.Body.TheVariants as bodies
-use Rattle.afs_history.specs.declared.lines.Line.TheVariants as lines
 use Rattle.std.specs.Option.{option_map}
 use Rattle.afs_num.specs.declared.histories.Version.{Version}
 use Rattle.afs_num.specs.declared.calls.AfsCallBack.{AfsCallBack}
+use Rattle.afs_law.proofs.Promising.{Owed}
+use Rattle.afs_model.specs.Calls as pairs
+use Rattle.afs_num.specs.declared.calls.FsCall.TheVariants as calls
+use Rattle.afs_num.specs.declared.calls.FsReply.TheVariants as replies
+use Rattle.afs_num.specs.declared.messages.Carried.TheVariants as carried
+use Rattle.afs_num.specs.declared.messages.Reply.TheVariants as tell
+use Rattle.afs_num.specs.declared.messages.Call.TheVariants as ask
+use Rattle.afs_num.specs.declared.histories.Actor.TheVariants as actors
+use Rattle.afs_num.specs.declared.histories.Body.TheVariants as bodies
+use Rattle.afs_history.specs.declared.lines.Line.TheVariants as lines
 
 -- ---- what stays
 
@@ -184,7 +178,7 @@ client_none n j X e = subst (λ (m : Node). OfClient m X) (sym e) tt
 pub not_good : (past : List Entry) (m : Message) (n : ℕ) → m.head.from ≡ Client n → GoodReply past m
 not_good past m n e is nought i from = absurd cc
 
-pub reply_fresh : {s : Script} → (c : Cell) (n : ℕ) (views : ℕ → View) (past : List Entry) (m : Message) → SeatedIn c.down c.backs.calls c.backs.last_call c.server.boot past n m → Fresh s c n views past (m ∷ [])
+pub reply_fresh : {s : Script} → (c : Cell) (n : ℕ) (views : ℕ → View) (past : List Entry) (m : Message) → SeatedIn c.down c.server.backs.calls c.server.backs.last_call c.server.lasting.boot past n m → Fresh s c n views past (m ∷ [])
 reply_fresh {s} c n views past m x = record {
   news = record {
     calls = (no_call (ByClient (CallIn views)) m.head m.carried x.is_reply, tt);
@@ -197,8 +191,8 @@ reply_fresh {s} c n views past m x = record {
     to_clients = (no_call ToClient m.head m.carried x.is_reply, tt);
   };
   good = (not_good past m n x.from, tt);
-  calls = (no_call (ByServer (BackIn c.down c.backs.calls c.backs.last_call c.server.boot)) m.head m.carried x.is_reply, tt);
-  dones = (of_reply_any _ m.carried (server_any m.head.to _ (record { client = n; from = x.from; done = x.done })), tt);
+  calls = (no_call (ByServer (BackIn c.down c.server.backs.calls c.server.backs.last_call c.server.lasting.boot)) m.head m.carried x.is_reply, tt);
+  dones = (of_reply_any _ m.carried (server_any m.head.to _ (record { client = Client n; from = x.from; done = x.done })), tt);
 }
 
 pub notice_fresh : {s : Script} → (c : Cell) (n : ℕ) (views : ℕ → View) (past : List Entry) (boot : ℕ) (head : Head) → head.from ≡ the_server → Fresh s c n views past (boot_told boot head ∷ [])
@@ -224,40 +218,40 @@ all_two P Q R w [] h k = tt
 all_two P Q R w (x ∷ xs) h k = (w x h.0 k.0, all_two P Q R w xs h.1 k.1)
 
 -- a call that was handled in this entry, whose lines drop what any break of such a call is on
-pub handled : (s : Script) (c : Cell) (past : List Entry) (n : ℕ) (head : Head) (user : List ℕ) (call : FsCall) (e : Entry) → Holds s c past → BackIn c.down c.backs.calls c.backs.last_call c.server.boot head user call → head.to ≡ Client n → all_lines is_up e.lines ≡ true
-    → ((w : Option Fid) (o : List Line) → CarriesBreak call w → HasDrop the_server (Client n) w (onto o e.lines)) → IsDone c.down c.backs.calls c.backs.last_call c.server.boot (e ∷ past) n head.epoch head.number
+pub handled : (s : Script) (c : Cell) (past : List Entry) (n : ℕ) (head : Head) (user : List ℕ) (call : FsCall) (e : Entry) → Holds s c past → BackIn c.down c.server.backs.calls c.server.backs.last_call c.server.lasting.boot head user call → head.to ≡ Client n → all_lines is_up e.lines ≡ true
+    → ((w : Option Fid) (o : List Line) → CarriesBreak call w → HasDrop the_server (Client n) w (onto o e.lines)) → IsDone c.down c.server.backs.calls c.server.backs.last_call c.server.lasting.boot (e ∷ past) (Client n) head.epoch head.number
 handled s c past n head user call e h b to up drop =
-    let one : b.client ≡ n = client_number b.client n (sym b.to ∙ to) in
+    let one : b.client ≡ Client n = sym b.to ∙ to in
     record {
       booted = b.booted;
       below = b.below;
       dropped = λ k x y at q.
-          let is : call ≡ breaks_call k.breaks = b.is k x y (ap c.backs.calls one ∙ at) q in
-          let out : CallOut n k c.backs.last_call c.server.boot past = (h.backs refl).outs x n k at in
-          all_two (IsOwed n (lines_of past)) (λ (o : Owed). CarriesBreak (breaks_call k.breaks) o.what) (DroppedOwe n (lines_of (e ∷ past)))
+          let is : call ≡ breaks_call k.breaks = b.is k x y (ap c.server.backs.calls one ∙ at) q in
+          let out : CallOut (Client n) k c.server.backs.last_call c.server.lasting.boot past = (h.backs refl).outs x (Client n) k at in
+          all_two (IsOwed (Client n) (lines_of past)) (λ (o : Owed). CarriesBreak (breaks_call k.breaks) o.what) (DroppedOwe (Client n) (lines_of (e ∷ past)))
           (λ o z w. let owe : OweAt the_server (Client n) o.what o.number (lines_of past) = z in record { owe = owe_over (Client n) o.what o.number e past up owe; dropped = drop o.what owe.newer (subst (λ (u : FsCall). CarriesBreak u o.what) (sym is) w) }) k.breaks out.owes out.carries;
     }
 
-pub done_seated : (c : Cell) (n : ℕ) (past : List Entry) (x : ClientState) (head : Head) (y : Carried) → IsReply y → head.from ≡ the_server → head.to ≡ Client n → IsDone c.down c.backs.calls c.backs.last_call c.server.boot past n head.epoch head.number → SeatedIn c.down c.backs.calls c.backs.last_call c.server.boot past n (replied x.epoch head y)
+pub done_seated : (c : Cell) (n : ℕ) (past : List Entry) (x : ClientState) (head : Head) (y : Carried) → IsReply y → head.from ≡ the_server → head.to ≡ Client n → IsDone c.down c.server.backs.calls c.server.backs.last_call c.server.lasting.boot past (Client n) head.epoch head.number → SeatedIn c.down c.server.backs.calls c.server.backs.last_call c.server.lasting.boot past n (replied x.epoch head y)
 done_seated c n past x head y is from to d = record { to = from; from = to; is_reply = is; done = d }
 
 -- the server's seat is that of its call
 pub seat_back : (head : Head) (reply : Message) (seats : List Seat) → head.from ≡ the_server → call_seat the_server (call_seated (seat_for head reply) seats) ≡ Some (seat_for head reply)
 seat_back head reply seats from = ap (λ (q : Node). call_seat q (call_seated (seat_for head reply) seats)) (sym from) ∙ own_seat (seat_for head reply) seats
 
-pub seat_keeps : (c : Cell) (n : ℕ) (past : List Entry) (x : ClientState) (head : Head) (y : Carried) → head.from ≡ the_server → SeatedIn c.down c.backs.calls c.backs.last_call c.server.boot past n (replied x.epoch head y) → KeepsSeat c n (call_seat the_server (call_seated (seat_for head (replied x.epoch head y)) x.seats)) past
+pub seat_keeps : (c : Cell) (n : ℕ) (past : List Entry) (x : ClientState) (head : Head) (y : Carried) → head.from ≡ the_server → SeatedIn c.down c.server.backs.calls c.server.backs.last_call c.server.lasting.boot past n (replied x.epoch head y) → KeepsSeat c n (call_seat the_server (call_seated (seat_for head (replied x.epoch head y)) x.seats)) past
 seat_keeps c n past x head y from d seat m at is =
     let one : seat_for head (replied x.epoch head y) ≡ seat = some_of _ _ (sym (seat_back head (replied x.epoch head y) x.seats from) ∙ at) in
-    subst (λ (z : Message). SeatedIn c.down c.backs.calls c.backs.last_call c.server.boot past n z) (some_of _ _ (ap (λ (z : Seat). z.reply) one ∙ is)) d
+    subst (λ (z : Message). SeatedIn c.down c.server.backs.calls c.server.backs.last_call c.server.lasting.boot past n z) (some_of _ _ (ap (λ (z : Seat). z.reply) one ∙ is)) d
 
 -- a call that breaks nothing is answered, and that is all
 pub answers_back : (s : Script) (c : Cell) (past : List Entry) (n p : ℕ) (head : Head) (user : List ℕ) (call : FsCall) (y : Carried) → (h : Holds s c past) → Heard c p (record { head = head; carried = carried.Call user (ask.File call) }) → head.to ≡ Client n → head.from ≡ the_server
-    → BackIn c.down c.backs.calls c.backs.last_call c.server.boot head user call → IsReply y → ((w : Option Fid) → CarriesBreak call w → ⊥) → Goes s past (client_moves c n (replies_step (c.clients n) p head [] y))
+    → BackIn c.down c.server.backs.calls c.server.backs.last_call c.server.lasting.boot head user call → IsReply y → ((w : Option Fid) → CarriesBreak call w → ⊥) → Goes s past (client_moves c n (replies_step (c.clients n) p head [] y))
 answers_back s c past n p head user call y h heard to from b is none =
     let reply : Message = replied (c.clients n).epoch head y in
     let ms : List Message = reply ∷ [] in
     let e : Entry = step_entry n (lines.Given p ∷ []) ms in
-    let seated : SeatedIn c.down c.backs.calls c.backs.last_call c.server.boot (e ∷ past) n reply = done_seated c n (e ∷ past) (c.clients n) head y is from to (handled s c past n head user call e h b to refl (λ w o z. absurd (none w z))) in
+    let seated : SeatedIn c.down c.server.backs.calls c.server.backs.last_call c.server.lasting.boot (e ∷ past) n reply = done_seated c n (e ∷ past) (c.clients n) head y is from to (handled s c past n head user call e h b to refl (λ w o z. absurd (none w z))) in
     let k = h.own n in
     moves_back s c past n (h.floors n) (replies_step (c.clients n) p head [] y) h (record { table = k.table; user = k.user; callee = λ a z. k.callee a z; apart = k.apart }) (tt, tt) (told_passes s c past n p _ ms h heard)
     (client_still n (view h.floors c n) e past (λ f. told_file n p f (actors.Node (Client n)) ms past) (λ f. told_reach n p f (actors.Node (Client n)) ms past) (told_act n p (actors.Node (Client n)) ms past) (λ f. refl) (h.clients n))
@@ -359,7 +353,7 @@ broken_fits sp n p call x boot m (carried.Refusal code) fs ms past last h = h
 broken_fits sp n p call x boot m c fs ms past last h = absurd h
 
 pub drops_goes : (s : Script) (c : Cell) (past : List Entry) (n p : ℕ) (head : Head) (user : List ℕ) (fs : List Fid) (cbs : List AfsCallBack) → (h : Holds s c past) → Heard c p (record { head = head; carried = carried.Call user (ask.File (calls.CallBack fs cbs)) }) → head.to ≡ Client n → head.from ≡ the_server
-    → BackIn c.down c.backs.calls c.backs.last_call c.server.boot head user (calls.CallBack fs cbs) → Goes s past (client_moves c n (replies_step (without_fids (c.clients n) fs) p head (map (drop_line (Client n)) fs) (done replies.CallBack)))
+    → BackIn c.down c.server.backs.calls c.server.backs.last_call c.server.lasting.boot head user (calls.CallBack fs cbs) → Goes s past (client_moves c n (replies_step (without_fids (c.clients n) fs) p head (map (drop_line (Client n)) fs) (done replies.CallBack)))
 drops_goes s c past n p head user fs cbs h heard to from b =
     let d = h.clients n in
     let x : ClientState = c.clients n in
@@ -374,12 +368,12 @@ drops_goes s c past n p head user fs cbs h heard to from b =
       recent = f.recent;
       tied = f.tied;
       answers = λ act y z w. let a = f.answers act y z w in record {
-        fits = subst (λ (o : Option Going). Fits (cond (names_act x fs o) true x.spoiled) n (asked act) (spot (view h.floors c n)) c.server.boot m m.carried (e ∷ past)) (sym y) (subst (λ (k : FsCall). Fits (cond (names_call fs k) true x.spoiled) n (asked act) (spot (view h.floors c n)) c.server.boot m m.carried (e ∷ past)) (sym (call_is x act)) (broken_fits (c.clients n).spoiled n p (asked act) (spot (view h.floors c n)) c.server.boot m m.carried fs (reply ∷ []) past last a.fits));
+        fits = subst (λ (o : Option Going). Fits (cond (names_act x fs o) true x.spoiled) n (asked act) (spot (view h.floors c n)) c.server.lasting.boot m m.carried (e ∷ past)) (sym y) (subst (λ (k : FsCall). Fits (cond (names_call fs k) true x.spoiled) n (asked act) (spot (view h.floors c n)) c.server.lasting.boot m m.carried (e ∷ past)) (sym (call_is x act)) (broken_fits (c.clients n).spoiled n p (asked act) (spot (view h.floors c n)) c.server.lasting.boot m m.carried fs (reply ∷ []) past last a.fits));
         code = a.code;
         cause = cause_over m a.code (asked act) e past a.cause;
       };
     } in
-    let seated : SeatedIn c.down c.backs.calls c.backs.last_call c.server.boot (e ∷ past) n reply = done_seated c n (e ∷ past) x head (done replies.CallBack) (λ y. y) from to (handled s c past n head user (calls.CallBack fs cbs) e h b to (skips n fs).ups (λ w o z. (skips n fs).drop w (lines.Given p ∷ o) z)) in
+    let seated : SeatedIn c.down c.server.backs.calls c.server.backs.last_call c.server.lasting.boot (e ∷ past) n reply = done_seated c n (e ∷ past) x head (done replies.CallBack) (λ y. y) from to (handled s c past n head user (calls.CallBack fs cbs) e h b to (skips n fs).ups (λ w o z. (skips n fs).drop w (lines.Given p ∷ o) z)) in
     moves_back s c past n (h.floors n) st h (record { table = (h.own n).table; user = (h.own n).user; callee = λ a z. (h.own n).callee a z; apart = apart_filter (λ y. not (is_named y.fid fs)) x.cache (h.own n).apart }) (tt, (skips n fs).good s past (lines.Given p ∷ [])) (broken_passes s c past n p _ fs (reply ∷ []) h heard)
     (record {
       behind = d.behind;
@@ -473,7 +467,7 @@ all_fits sp n p call x boot m (carried.Refusal code) e past v r w last h = h
 all_fits sp n p call x boot m c e past v r w last h = absurd h
 
 pub drops_all_goes : (s : Script) (c : Cell) (past : List Entry) (n p : ℕ) (head : Head) (user : List ℕ) → (h : Holds s c past) → Heard c p (record { head = head; carried = carried.Call user (ask.File calls.InitCallBackState) }) → head.to ≡ Client n → head.from ≡ the_server
-    → BackIn c.down c.backs.calls c.backs.last_call c.server.boot head user calls.InitCallBackState → Goes s past (client_moves c n (replies_step (without_server (c.clients n) head.from) p head (lines.DropAll (Client n) head.from ∷ []) (done replies.InitCallBackState)))
+    → BackIn c.down c.server.backs.calls c.server.backs.last_call c.server.lasting.boot head user calls.InitCallBackState → Goes s past (client_moves c n (replies_step (without_server (c.clients n) head.from) p head (lines.DropAll (Client n) head.from ∷ []) (done replies.InitCallBackState)))
 drops_all_goes s c past n p head user h heard to from b =
     let d = h.clients n in
     let x : ClientState = c.clients n in
@@ -490,14 +484,14 @@ drops_all_goes s c past n p head user h heard to from b =
       recent = f.recent;
       tied = f.tied;
       answers = λ act y z w. let a = f.answers act y z w in record {
-        fits = subst (λ (o : Option Going). Fits (cond (is_waiting x head.from o) true x.spoiled) n (asked act) (spot (view h.floors c n)) c.server.boot m m.carried (e ∷ past)) (sym y)
-            (subst (λ (b : Bool). Fits (cond (b && is_spoiled_by_all (call_of x act)) true x.spoiled) n (asked act) (spot (view h.floors c n)) c.server.boot m m.carried (e ∷ past)) (sym (its act y))
-            (subst (λ (k : FsCall). Fits (cond (is_spoiled_by_all k) true x.spoiled) n (asked act) (spot (view h.floors c n)) c.server.boot m m.carried (e ∷ past)) (sym (call_is x act)) (all_fits x.spoiled n p (asked act) (spot (view h.floors c n)) c.server.boot m m.carried e past (λ g i x k. k) r (λ g i q o k. k) (λ g. refl) a.fits)));
+        fits = subst (λ (o : Option Going). Fits (cond (is_waiting x head.from o) true x.spoiled) n (asked act) (spot (view h.floors c n)) c.server.lasting.boot m m.carried (e ∷ past)) (sym y)
+            (subst (λ (b : Bool). Fits (cond (b && is_spoiled_by_all (call_of x act)) true x.spoiled) n (asked act) (spot (view h.floors c n)) c.server.lasting.boot m m.carried (e ∷ past)) (sym (its act y))
+            (subst (λ (k : FsCall). Fits (cond (is_spoiled_by_all k) true x.spoiled) n (asked act) (spot (view h.floors c n)) c.server.lasting.boot m m.carried (e ∷ past)) (sym (call_is x act)) (all_fits x.spoiled n p (asked act) (spot (view h.floors c n)) c.server.lasting.boot m m.carried e past (λ g i x k. k) r (λ g i q o k. k) (λ g. refl) a.fits)));
         code = a.code;
         cause = cause_over m a.code (asked act) e past a.cause;
       };
     } in
-    let seated : SeatedIn c.down c.backs.calls c.backs.last_call c.server.boot (e ∷ past) n reply = done_seated c n (e ∷ past) x head (done replies.InitCallBackState) (λ y. y) from to (handled s c past n head user calls.InitCallBackState e h b to refl (λ w o z. inl (refl, from))) in
+    let seated : SeatedIn c.down c.server.backs.calls c.server.backs.last_call c.server.lasting.boot (e ∷ past) n reply = done_seated c n (e ∷ past) x head (done replies.InitCallBackState) (λ y. y) from to (handled s c past n head user calls.InitCallBackState e h b to refl (λ w o z. inl (refl, from))) in
     moves_back s c past n (h.floors n) st h (record { table = (h.own n).table; user = (h.own n).user; callee = λ a z. (h.own n).callee a z; apart = apart_filter (λ y. not (same_node y.server head.from)) x.cache (h.own n).apart }) (tt, (refl, tt)) (all_passes s c past n p _ head.from (reply ∷ []) h heard)
     (record {
       behind = d.behind;
@@ -527,7 +521,7 @@ drops_all_goes s c past n p head user h heard to from b =
 -- ---- the row, by its cases
 
 pub breaks_goes : (s : Script) (c : Cell) (past : List Entry) (n p : ℕ) (head : Head) (user : List ℕ) (call : FsCall) → (h : Holds s c past) → Heard c p (record { head = head; carried = carried.Call user (ask.File call) }) → head.to ≡ Client n → head.from ≡ the_server
-    → BackIn c.down c.backs.calls c.backs.last_call c.server.boot head user call → Goes s past (client_moves c n (breaks (Client n) (c.clients n) p head call))
+    → BackIn c.down c.server.backs.calls c.server.backs.last_call c.server.lasting.boot head user call → Goes s past (client_moves c n (breaks (Client n) (c.clients n) p head call))
 breaks_goes s c past n p head user (calls.CallBack fs cbs) h heard to from b = drops_goes s c past n p head user fs cbs h heard to from b
 breaks_goes s c past n p head user calls.InitCallBackState h heard to from b = drops_all_goes s c past n p head user h heard to from b
 breaks_goes s c past n p head user calls.Probe h heard to from b = answers_back s c past n p head user calls.Probe (done replies.Probe) h heard to from b (λ y. y) (λ w z. z)
@@ -537,7 +531,7 @@ pub again_goes : (s : Script) (c : Cell) (past : List Entry) (n p : ℕ) (m r : 
 again_goes s c past n p m r h heard l = tells_goes s c past n p m (r ∷ []) h heard (λ e plain. reply_fresh c n _ (e ∷ past) r (old_seat s c past n e plain h l.seat r l.at l.reply))
 
 pub admits_goes : (s : Script) (c : Cell) (past : List Entry) (n p : ℕ) (head : Head) (user : List ℕ) (call : FsCall) (o : Admitted Message) → (h : Holds s c past) → Heard c p (record { head = head; carried = carried.Call user (ask.File call) }) → head.to ≡ Client n → head.from ≡ the_server
-    → BackIn c.down c.backs.calls c.backs.last_call c.server.boot head user call → ((r : Message) → o ≡ pairs.kept r → pairs.paired head.epoch head.number (back_seat (c.clients n)) ≡ pairs.kept r) → Goes s past (client_moves c n (admits_call (Client n) (c.clients n) p head (whole head (carried.Call user (ask.File call))) o))
+    → BackIn c.down c.server.backs.calls c.server.backs.last_call c.server.lasting.boot head user call → ((r : Message) → o ≡ pairs.kept r → pairs.paired head.epoch head.number (back_seat (c.clients n)) ≡ pairs.kept r) → Goes s past (client_moves c n (admits_call (Client n) (c.clients n) p head (whole head (carried.Call user (ask.File call))) o))
 admits_goes s c past n p head user call pairs.runs h heard to from b e = breaks_goes s c past n p head user call h heard to from b
 admits_goes s c past n p head user call (pairs.kept r) h heard to from b e = again_goes s c past n p _ r h heard (kept_last head.epoch head.number (back_seat (c.clients n)) r (e r refl))
 admits_goes s c past n p head user call pairs.in_progress h heard to from b e = quiet s c past n p _ h heard
@@ -549,7 +543,7 @@ kept_pair true boot o q r e k = e ∙ k
 kept_pair false boot o q r e k = absurd cc
 
 pub called_goes : (s : Script) (c : Cell) (past : List Entry) (n p : ℕ) (head : Head) (user : List ℕ) (call : FsCall) → (h : Holds s c past) → Heard c p (record { head = head; carried = carried.Call user (ask.File call) }) → head.to ≡ Client n → head.from ≡ the_server
-    → OfServer head.from (BackIn c.down c.backs.calls c.backs.last_call c.server.boot head user call) → Goes s past (client_moves c n (called (Client n) (c.clients n) p head (whole head (carried.Call user (ask.File call)))))
+    → OfServer head.from (BackIn c.down c.server.backs.calls c.server.backs.last_call c.server.lasting.boot head user call) → Goes s past (client_moves c n (called (Client n) (c.clients n) p head (whole head (carried.Call user (ask.File call)))))
 called_goes s c past n p head user call h heard to from b =
     admits_goes s c past n p head user call (pairs.admitted (c.clients n).epoch (c.clients n).seats head) h heard to from (by_server 1 head.from _ from b)
     (λ r k. kept_pair (nat_eq head.boot (c.clients n).epoch) (c.clients n).epoch (pairs.paired head.epoch head.number (call_seat head.from (c.clients n).seats)) (pairs.paired head.epoch head.number (back_seat (c.clients n))) r (ap (λ (q : Node). pairs.paired head.epoch head.number (call_seat q (c.clients n).seats)) (sym from)) k)

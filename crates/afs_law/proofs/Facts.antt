@@ -2,7 +2,7 @@ use Rattle.afs_ideal.specs.Directories.{IsDirectory, FitNames}
 use Rattle.afs_ideal.specs.Operations.{volume_changed}
 use Rattle.afs_ideal.specs.Tables.{AscendsFrom, Table, get}
 use Rattle.afs_ideal.specs.Volumes.{Vnode, Volume}
-use Rattle.afs_law.proofs.Basics.{Below, UpTo, Above, Each, IfCall, IfReply, IfNotice, OfCall, OfReply}
+use Rattle.afs_law.proofs.Basics.{Below, UpTo, Above, Each, IfCall, IfReply, IfNotice, OfCall, OfReply, guest}
 use Rattle.afs_law.proofs.Edits.{Ones, index_in, SoundIn, Tops}
 use Rattle.afs_law.proofs.Owing.{BackedIn}
 use Rattle.afs_rows.specs.Callbacks.{replies_of}
@@ -16,7 +16,7 @@ use Rattle.afs_law.specs.Past.{is_of_act, lines_of, sent_of, called_key, running
 use Rattle.afs_rows.specs.Runs.{the_server, locations, Entry, Cell, Moved, Fall, at_rest, in_step, in_boot, message_at}
 use Rattle.afs_rows.specs.Scopes.{is_in_scope}
 use Rattle.afs_rows.specs.ServerRow.{reply_head}
-use Rattle.afs_rows.specs.States.{CacheEntry, Seat, ServerState}
+use Rattle.afs_rows.specs.States.{CacheEntry, Seat, ServerState, Lasting, volume_in}
 use Rattle.afs_model.specs.Calls.{call_seat}
 use Rattle.std.specs.Prelude.{Bool, true, false, ◌++◌, if◌then◌else◌, ⊤}
 use Rattle.afs_num.specs.Nodes.{same_node}
@@ -31,12 +31,13 @@ use Rattle.afs_num.specs.declared.messages.Carried.{Carried}
 use Rattle.afs_num.specs.declared.messages.Message.{Message}
 use Rattle.afs_num.specs.declared.scripts.Script.{Script}
 use Rattle.afs_num.specs.declared.histories.Body.{Body}
-use Rattle.afs_num.specs.declared.histories.ReadBody.TheVariants as seen
 use Rattle.afs_num.specs.declared.histories.ReadStatus.{ReadStatus}
-use Rattle.afs_law.proofs.Basics.{guest}
 use Rattle.afs_num.specs.declared.calls.FsReply.{FsReply}
 use Rattle.afs_num.specs.declared.calls.AfsFetchStatus.{AfsFetchStatus}
 use Rattle.afs_num.specs.declared.calls.AfsCallBack.{AfsCallBack}
+use Rattle.afs_law.proofs.Keeping.{unflagged}
+use Rattle.afs_records.specs.Durable.{Stored}
+use Rattle.afs_num.specs.declared.histories.ReadBody.TheVariants as seen
 use Rattle.afs_history.specs.declared.lines.Line.TheVariants as lines
 use Rattle.afs_num.specs.declared.calls.FsCall.TheVariants as calls
 use Rattle.afs_num.specs.declared.calls.FsReply.TheVariants as replies
@@ -108,7 +109,7 @@ pub record IsClient (s : Script) (c : ClientState) : Type 0 where
   pub apart : AreApart c.cache
 
 abbrev pub desk : ServerState → ℕ → Desk
-desk s j = record { boot = s.boot; seat = call_seat (Client j) s.seats; durable = call_seat (Client j) s.durable }
+desk s j = record { boot = s.lasting.boot; seat = call_seat (Client j) s.seats; durable = call_seat (Client j) s.lasting.kept }
 
 abbrev pub view : (ℕ → Ghost) → Cell → ℕ → View
 view fl c j = view_of c.clock (fl j) (c.clients j) (desk c.server j)
@@ -499,11 +500,11 @@ pub record SentFacts (s : Script) (sent held : List Message) (views : ℕ → Vi
 -- ---- all of them
 
 -- the server's volumes are the ideal ones
-abbrev pub AreIdeal : Table Volume → List Entry → Type 0
-AreIdeal volumes past = (id : ℕ) → get id volumes ≡ volume_after id past
+abbrev pub AreIdeal : Table Stored → List Entry → Type 0
+AreIdeal volumes past = (id : ℕ) → volume_in id volumes ≡ volume_after id past
 
-abbrev pub AreSound : Table Volume → List Line → Type 0
-AreSound volumes ls = (id : ℕ) → SoundIn id (get id volumes) ls
+abbrev pub AreSound : Table Stored → List Line → Type 0
+AreSound volumes ls = (id : ℕ) → SoundIn id (volume_in id volumes) ls
 
 -- a vnode's names are those of a directory, and all its numbers have a spelling
 pub record IsReadable (n : ℕ) (x : Vnode) : Type 0 where
@@ -512,17 +513,18 @@ pub record IsReadable (n : ℕ) (x : Vnode) : Type 0 where
   pub names : IsDirectory x.names
   pub fit : FitNames x.names
 
--- the vnodes stand by their numbers, with unique numbers that were given out, and can be read again
+-- the vnodes stand by their numbers, with unique numbers that were given out, and can be read again; it doesn't go at a start
 pub record IsFine (v : Volume) : Type 0 where
   pub ascends : AscendsFrom 1 v.vnodes
   pub below : (n : ℕ) (x : Vnode) → get n v.vnodes ≡ Some x → x.unique < v.next
   pub readable : (n : ℕ) (x : Vnode) → get n v.vnodes ≡ Some x → IsReadable n x
+  pub stays : unflagged v ≡ true
 
-abbrev pub AreFine : Table Volume → Type 0
-AreFine volumes = (id : ℕ) (v : Volume) → get id volumes ≡ Some v → IsFine v
+abbrev pub AreFine : Table Stored → Type 0
+AreFine volumes = (id : ℕ) (v : Volume) → volume_in id volumes ≡ Some v → IsFine v
 
-abbrev pub AreHome : Script → Table Volume → List Line → Type 0
-AreHome s volumes ls = (id : ℕ) (v : Volume) → get id volumes ≡ Some v → Accepts s id the_server ls
+abbrev pub AreHome : Script → Table Stored → List Line → Type 0
+AreHome s volumes ls = (id : ℕ) (v : Volume) → volume_in id volumes ≡ Some v → Accepts s id the_server ls
 
 -- keys above their caller's durable seat never changed anything
 abbrev pub AreNew : List Seat → List Line → Type 0
@@ -540,44 +542,44 @@ AreUnheard down seats boot past = (k : Key) (b : ℕ) → MayRun down boot (call
 -- ---- a step that was interrupted
 
 -- its message was sent; its entry ran it if any does; and the volumes were then what they are now
-pub record IsCut (server : ServerState) (sent : List Message) (m : Message) (past : List Entry) : Type 0 where
+pub record IsCut (kept : Lasting) (sent : List Message) (m : Message) (past : List Entry) : Type 0 where
   pub place : ℕ
   pub at : message_at sent place ≡ Some m
-  pub ran : Ran (reply_head server.boot m.head) past
+  pub ran : Ran (reply_head kept.boot m.head) past
   pub is : ran.message ≡ m
-  pub ideal : AreIdeal server.volumes ran.older
+  pub ideal : AreIdeal kept.volumes ran.older
 
-abbrev pub HasFallen : Option Fall → ServerState → List Message → List Entry → Type 0
-HasFallen None server sent past = ⊤
-HasFallen (Some at_rest) server sent past = ⊤
-HasFallen (Some in_boot) server sent past = ⊤
-HasFallen (Some (in_step m clock)) server sent past = IsCut server sent m past
+abbrev pub HasFallen : Option Fall → Lasting → List Message → List Entry → Type 0
+HasFallen None kept sent past = ⊤
+HasFallen (Some at_rest) kept sent past = ⊤
+HasFallen (Some in_boot) kept sent past = ⊤
+HasFallen (Some (in_step m clock)) kept sent past = IsCut kept sent m past
 
 -- `now` is the server's boot by the lines
 pub record HoldsAt (s : Script) (now : Option ℕ) (c : Cell) (past : List Entry) : Type 0 where
   pub floors : ℕ → Ghost
-  pub ideal : AreIdeal c.server.volumes past
-  pub sound : AreSound c.server.volumes (lines_of past)
-  pub fine : AreFine c.server.volumes
-  pub home : AreHome s c.server.volumes (lines_of past)
-  pub new : AreNew c.server.durable (lines_of past)
-  pub unheard : AreUnheard c.down c.server.seats c.server.boot past
+  pub ideal : AreIdeal c.server.lasting.volumes past
+  pub sound : AreSound c.server.lasting.volumes (lines_of past)
+  pub fine : AreFine c.server.lasting.volumes
+  pub home : AreHome s c.server.lasting.volumes (lines_of past)
+  pub new : AreNew c.server.lasting.kept (lines_of past)
+  pub unheard : AreUnheard c.down c.server.seats c.server.lasting.boot past
   pub count : c.count ≡ s.clients
   pub own : (j : ℕ) → IsClient s (c.clients j)
   pub servers : (id : ℕ) → server_at (locations s) id ≡ 1
-  pub booted : 1 ≤ c.server.boot
+  pub booted : 1 ≤ c.server.lasting.boot
   pub boots : server_boot the_server (lines_of past) ≡ now
   pub clients : (j : ℕ) → ClientFacts s j (view floors c j) past
-  pub sent : SentFacts s c.sent (replies_of c.backs.held) (view floors c) c.server.boot past
-  pub down : HasFallen c.down c.server c.sent past
+  pub sent : SentFacts s c.sent (replies_of c.server.backs.held) (view floors c) c.server.lasting.boot past
+  pub down : HasFallen c.down c.server.lasting c.sent past
   pub clock : clock_of (lines_of past) ≡ c.clock
   pub top : Tops (lines_of past)
   pub one : Ones (lines_of past)
   -- of the server's memory, but in the midst of a restart
-  pub backs : now ≡ up_boot c.down c.server.boot → BackedIn c.down c.backs c.server.boot c.server.seats (λ j. back_seat (c.clients j)) c.clock c.sent past
+  pub backs : now ≡ up_boot c.down c.server.lasting.boot → BackedIn c.down c.server.backs c.server.lasting.boot c.server.seats (λ j. back_seat (c.clients j)) c.clock c.sent past
 
 abbrev pub Holds : Script → Cell → List Entry → Type 0
-Holds s c past = HoldsAt s (up_boot c.down c.server.boot) c past
+Holds s c past = HoldsAt s (up_boot c.down c.server.lasting.boot) c past
 
 pub record Goes (s : Script) (past : List Entry) (m : Moved) : Type 0 where
   pub good : AreGood s m.entry.actor past [] m.entry.lines

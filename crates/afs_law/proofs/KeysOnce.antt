@@ -15,8 +15,8 @@ use Rattle.afs_rows.specs.States.{Location}
 use Rattle.afs_rows.specs.Runs.{Entry, Cell, RunsTo}
 use Rattle.afs_num.specs.declared.scripts.VolumeLine.{VolumeLine}
 use Rattle.std.specs.Prelude.{is_some, Some, None, false}
-use Rattle.afs_history.specs.declared.lines.Line.TheVariants as lines
 use Rattle.afs_num.specs.declared.histories.Actor.{Actor}
+use Rattle.afs_history.specs.declared.lines.Line.TheVariants as lines
 
 -- A key changes something at most once in a run.
 

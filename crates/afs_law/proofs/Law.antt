@@ -6,7 +6,7 @@ use Rattle.afs_ideal.specs.Tables.{AscendsFrom, Table, get, set}
 use Rattle.afs_ideal.specs.Told.{last_told}
 use Rattle.afs_ideal.specs.Volumes.{version_at, Vnode, Volume}
 use Rattle.afs_law.proofs.Answering.{client_goes, begun_goes}
-use Rattle.afs_law.proofs.Backing.{all_lines, is_oweless, no_owe, is_still, live_back, zero_back}
+use Rattle.afs_law.proofs.Backing.{all_lines, is_oweless, no_owe, is_still, live_back, zero_back, live_given, before_own, rising_back}
 use Rattle.afs_law.proofs.Basics.{same_fid-refl, same_fid-true, some_of, both}
 use Rattle.afs_law.proofs.Deciding.{server_times, server_wakes_goes, given_goes, stops_goes, restarts_goes}
 use Rattle.afs_law.proofs.Edits.{one_more, Ones, index_in, fid_at, live, SoundIn, sound_same, Tops, get-set, none_has}
@@ -34,6 +34,7 @@ use Rattle.afs_num.specs.declared.histories.Body.{Body}
 use Rattle.afs_num.specs.declared.histories.Version.{Version}
 use Rattle.afs_num.specs.declared.scripts.VolumeLine.{VolumeLine}
 use Rattle.std.proofs.Math.Nat.{le_refl}
+use Rattle.afs_law.proofs.Keeping.{first_in}
 use Rattle.afs_history.specs.declared.lines.Line.TheVariants as lines
 
 -- Every run of a script is legal.
@@ -158,10 +159,10 @@ told_none a b e = subst (λ (x : Option Version). or_told x b ≡ b) (sym e) ref
 
 -- what the set-up of volumes must give
 pub record FirstFacts (t : Table Volume) (ls : List Line) : Type 0 where
-  pub sound : AreSound t ls
+  pub sound : (id : ℕ) → SoundIn id (get id t) ls
   pub top : Tops ls
   pub one : Ones ls
-  pub fine : AreFine t
+  pub fine : (id : ℕ) (v : Volume) → get id t ≡ Some v → IsFine v
 
 pub not_some : (o : Option Volume) → is_some o ≡ false → o ≡ None
 not_some None e = refl
@@ -354,10 +355,10 @@ starts s one =
       count = refl;
       own = λ j. record { table = refl; user = refl; callee = λ a z. absurd cc; apart = tt };
       servers = λ id. found_server s.volumes one.1 id;
-      ideal = ideal_first s;
-      sound = facts.sound;
-      fine = facts.fine;
-      home = λ id v found. any_home s id the_server (lines_of (set_up s ∷ [])) (found_home s.volumes one.1 id v found);
+      ideal = λ id. first_in id (first_volumes s.volumes) ∙ ideal_first s id;
+      sound = λ id. subst (λ (o : Option Volume). SoundIn id o (lines_of (set_up s ∷ []))) (sym (first_in id (first_volumes s.volumes))) (facts.sound id);
+      fine = λ id v e. facts.fine id v (sym (first_in id (first_volumes s.volumes)) ∙ e);
+      home = λ id v found. any_home s id the_server (lines_of (set_up s ∷ [])) (found_home s.volumes one.1 id v (sym (first_in id (first_volumes s.volumes)) ∙ found));
       new = λ k above. first_passed (IsNew k) (λ v o h. h) s.volumes [] tt;
       unheard = λ k b may. ((λ x. subst (λ (o : Option Message). IsCallUnder the_server k b o) (given_first (first_lines s.volumes) [] (all_versions s.volumes)) x), tt);
       booted = le_refl 1;
@@ -388,9 +389,11 @@ starts s one =
       backs = λ z. record {
         granted = λ x. tt;
         numbered = let y : last_number the_server (onto [] (first_lines s.volumes)) ≡ 0 = zero_back (first_lines s.volumes) [] (first_oweless (first_lines s.volumes) (all_versions s.volumes)) refl in le_of_eq y;
-        promised = λ j f x l t. let none : live_grant the_server (Client j) f [] ≡ Some x = live_back (Client j) f x (first_lines s.volumes) [] (first_still (first_lines s.volumes) (all_versions s.volumes)) l in absurd cc;
+        promised = λ j f x l t. let none : live_grant the_server j f [] ≡ Some x = live_given j f x (set_up s) [] (live_back j f x (first_lines s.volumes) (before_own (set_up s) []) (first_still (first_lines s.volumes) (all_versions s.volumes)) l) in absurd cc;
         accounted = λ newer at older before after c what n split line. first_owes (start s).sent newer (set_up s) at older before after c what n (first_oweless (first_lines s.volumes) (all_versions s.volumes)) split line;
-        owed = λ x. tt;
+        owing = λ x. tt;
+        rising = rising_back (first_lines s.volumes) [] (first_oweless (first_lines s.volumes) (all_versions s.volumes)) tt;
+        clients = λ x. record { promised = tt; owed = tt };
         waiting = λ x. tt;
         outs = λ x j c at. absurd cc;
         calls = tt;

@@ -1,5 +1,7 @@
 pub mod Basics
 pub mod Edits
+pub mod Keeping
+pub mod Promising
 pub mod Owing
 pub mod Backing
 pub mod Turning

@@ -1,4 +1,5 @@
 -- Lines of a server that tell of its breaks and of its own calls.
+use Rattle.afs_law.proofs.Promising.{Owed}
 use Rattle.std.proofs.Common.{◌≡◌, ℕ, ◌≤◌, Bool, false, List, [], ◌∷◌, Option, None, refl, sym, ap, subst, ◌∙◌}
 use Rattle.std.specs.Prelude.{⊤, map}
 use Rattle.afs_num.specs.declared.types.Fid.{Fid}
@@ -7,19 +8,19 @@ use Rattle.afs_num.specs.declared.types.Node.{Node}
 use Rattle.afs_num.specs.declared.types.Node.TheVariants.{Client}
 use Rattle.afs_num.specs.declared.messages.Message.{Message}
 use Rattle.afs_num.specs.declared.scripts.Script.{Script}
-use Rattle.afs_num.specs.declared.histories.Actor.TheVariants as actors
 use Rattle.afs_num.specs.declared.histories.Body.{Body}
 use Rattle.afs_ideal.specs.Operations.{Found}
 use Rattle.afs_law.proofs.Facts.{server_boot}
 use Rattle.afs_law.proofs.Resting.{Rests}
-use Rattle.afs_rows.specs.Callbacks.{Owed, owe_line, settle_line, quit_line}
+use Rattle.afs_rows.specs.Callbacks.{owe_line, settle_line, quit_line}
 use Rattle.afs_law.specs.Grants.{has_fetched, IsWithdrawn, IsDropped}
 use Rattle.afs_law.specs.Ideal.{last_version, HasVersion, Accepts, clock_of, reach, Reach, reach_over, change_key, changed_under, volume_after}
 use Rattle.afs_law.specs.Legal.{IsNew, HasChange, versions_first}
 use Rattle.afs_history.specs.declared.lines.Line.{Line}
 use Rattle.afs_law.specs.Past.{onto, sent_of, given_message, running, has_begun}
-use Rattle.afs_rows.specs.Runs.{the_server, Entry}
+use Rattle.afs_rows.specs.Runs.{Entry, the_server}
 use Rattle.afs_rows.specs.ServerRow.{granted}
+use Rattle.afs_num.specs.declared.histories.Actor.TheVariants as actors
 use Rattle.afs_history.specs.declared.lines.Line.TheVariants as lines
 
 abbrev pub IsNote : Line → Type 0
@@ -248,13 +249,13 @@ pub owe_notes : (os : List Owed) → AreNotes (map (owe_line the_server) os)
 owe_notes [] = tt
 owe_notes (o ∷ os) = (tt, owe_notes os)
 
-pub settle_notes : (os : List Owed) → AreNotes (map (settle_line the_server) os)
-settle_notes [] = tt
-settle_notes (o ∷ os) = (tt, settle_notes os)
+pub settle_notes : (n : Node) (os : List Owed) → AreNotes (map (settle_line the_server n) os)
+settle_notes n [] = tt
+settle_notes n (o ∷ os) = (tt, settle_notes n os)
 
-pub quit_notes : (os : List Owed) → AreNotes (map (quit_line the_server) os)
-quit_notes [] = tt
-quit_notes (o ∷ os) = (tt, quit_notes os)
+pub quit_notes : (n : Node) (os : List Owed) → AreNotes (map (quit_line the_server n) os)
+quit_notes n [] = tt
+quit_notes n (o ∷ os) = (tt, quit_notes n os)
 
 pub no_versions : (ls : List Line) → AreNotes ls → versions_first ls ≡ []
 no_versions [] h = refl

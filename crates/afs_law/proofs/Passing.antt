@@ -22,7 +22,7 @@ use Rattle.afs_law.specs.Legal.{IsResult, IsKey, HasChange, Cause, answer_at, Is
 use Rattle.afs_history.specs.declared.lines.Line.{Line}
 use Rattle.afs_law.specs.Past.{onto, lines_of, sent_of, given_message, running, has_begun, Ran, called_key, same_key, is_called, has_sent, is_sent_since, answered_key}
 use Rattle.afs_rows.specs.Runs.{the_server, Entry, Fall, at_rest, in_step, in_boot}
-use Rattle.afs_rows.specs.States.{CacheEntry, Seat, ServerState}
+use Rattle.afs_rows.specs.States.{CacheEntry, Seat, ServerState, Lasting}
 use Rattle.afs_num.specs.declared.histories.Body.{Body}
 use Rattle.afs_num.specs.declared.histories.Version.{Version}
 use Rattle.std.proofs.Math.Nat.{le_refl}
@@ -139,9 +139,9 @@ pub told_behind : (k : Key) (r : Option Result) (ls o : List Line) → IsTold k 
 told_behind k (Some (changes es n)) ls o h = change_behind k ls o h
 told_behind k r ls o h = tt
 
-pub result_by : (code : ℤ) (r : Option Result) (k : Key) (ls newer : List Line) → (IsTold k r ls → IsTold k r newer) → IsResult code r k ls → IsResult code r k newer
-result_by code r k ls newer w (inl x) = inl (x.0, w x.1)
-result_by code r k ls newer w (inr x) = inr x
+pub result_by : (code : ℤ) (r : Option Result) (k : Key) (ran ls newer : List Line) → (IsTold k r ls → IsTold k r newer) → IsResult code r k ran ls → IsResult code r k ran newer
+result_by code r k ran ls newer w (inl x) = inl (x.0, w x.1)
+result_by code r k ran ls newer w (inr x) = inr x
 
 pub cause_over : (m : Message) (code : ℤ) (call : FsCall) (e : Entry) (past : List Entry) → Cause m code call past [] → Cause m code call (e ∷ past) []
 cause_over m code call e past h = record {
@@ -153,7 +153,7 @@ cause_over m code call e past h = record {
   carries = h.carries;
   own_user = h.own_user;
   asks = h.asks;
-  result = result_by code (answer_at h.user h.call h.ran.older) (answered_key m.head) (lines_of past) (lines_of (e ∷ past)) (told_onto (answered_key m.head) (answer_at h.user h.call h.ran.older) e.lines (lines_of past)) h.result;
+  result = result_by code (answer_at h.user h.call h.ran.older) (answered_key m.head) h.ran.at.lines (lines_of past) (lines_of (e ∷ past)) (told_onto (answered_key m.head) (answer_at h.user h.call h.ran.older) e.lines (lines_of past)) h.result;
 }
 
 -- and behind an entry's own lines
@@ -167,7 +167,7 @@ cause_behind m code call past own h = record {
   carries = h.carries;
   own_user = h.own_user;
   asks = h.asks;
-  result = result_by code (answer_at h.user h.call h.ran.older) (answered_key m.head) (lines_of past) (own ++ lines_of past) (told_behind (answered_key m.head) (answer_at h.user h.call h.ran.older) own (lines_of past)) h.result;
+  result = result_by code (answer_at h.user h.call h.ran.older) (answered_key m.head) h.ran.at.lines (lines_of past) (own ++ lines_of past) (told_behind (answered_key m.head) (answer_at h.user h.call h.ran.older) own (lines_of past)) h.result;
 }
 
 -- what was the newest is so still, or has its grant withdrawn
@@ -465,7 +465,7 @@ pub replies_still : (sent : List Message) (v : ℕ → View) (e : Entry) (past :
 replies_still sent v e past p r l h = replies_over sent v v past (e ∷ past) (λ j m. reply_over j (v j) m e past (λ f. (p j f).grant) (r j) (λ f. stays j f e past (p j f).grant (l f))) h
 
 -- a step that was interrupted stays so
-pub fallen_over : (down : Option Fall) (server : ServerState) (sent ms : List Message) (e : Entry) (past : List Entry) → HasFallen down server sent past → HasFallen down server (sent ++ ms) (e ∷ past)
+pub fallen_over : (down : Option Fall) (server : Lasting) (sent ms : List Message) (e : Entry) (past : List Entry) → HasFallen down server sent past → HasFallen down server (sent ++ ms) (e ∷ past)
 fallen_over None server sent ms e past h = tt
 fallen_over (Some at_rest) server sent ms e past h = tt
 fallen_over (Some in_boot) server sent ms e past h = tt

@@ -1,18 +1,23 @@
 -- What a server's step sends: replies whose breaks have ended, and calls for what it owes.
+use Rattle.afs_law.proofs.Owing.{AllOf, IsClient}
+use Rattle.afs_num.specs.declared.types.Node.TheVariants.{Client, Server, Admin, Loc}
+use Rattle.afs_num.specs.declared.types.Node.{Node}
+use Rattle.afs_law.proofs.Promising.{Owed}
+use Rattle.afs_rows.specs.States.{Held, BackCall}
 use Rattle.afs_num.specs.declared.scripts.Script.{Script}
 use Rattle.std.proofs.Common.{◌≡◌, ℕ, Bool, true, false, cond, List, [], ◌∷◌, ◌++◌, Option, Some, None, refl, sym, subst, ◌∙◌}
 use Rattle.std.specs.Prelude.{filter, not}
 use Rattle.afs_num.specs.declared.messages.Message.{Message}
 use Rattle.afs_num.specs.declared.messages.Carried.{Carried}
-use Rattle.afs_num.specs.declared.messages.Carried.TheVariants as carried
 use Rattle.afs_num.specs.declared.types.Head.{Head}
 use Rattle.afs_num.specs.declared.calls.FsCall.{FsCall}
 use Rattle.afs_law.proofs.Basics.{Each, each_more, OfCall, OfReply, OfNotice, ByClient, client_any}
 use Rattle.afs_law.proofs.Facts.{View, HeldIn, IsReply, CallIn, Origin, IsOne, IsActs, IsLastCall, ToClient}
 use Rattle.afs_law.proofs.Passing.{News}
-use Rattle.afs_rows.specs.Callbacks.{Owed, Held, Turn, Started, BackCall, is_ready, replies_of, starts, starts_by, pumped, break_message, started_call}
+use Rattle.afs_rows.specs.Callbacks.{Turn, Started, is_ready, replies_of, starts, starts_by, pumped, break_message, started_call}
 use Rattle.afs_law.specs.Past.{sent_of}
-use Rattle.afs_rows.specs.Runs.{the_server, Entry}
+use Rattle.afs_rows.specs.Runs.{Entry, the_server}
+use Rattle.afs_num.specs.declared.messages.Carried.TheVariants as carried
 
 pub of_reply_any : (P : Type 0) (c : Carried) → P → OfReply P c
 of_reply_any P (carried.Call user call) x = tt
@@ -64,17 +69,23 @@ news_held {s} views b past (m ∷ ms) h =
       to_clients = (no_call ToClient m.head m.carried f.is_reply, n.to_clients);
     }
 
+no_client : (n : Node) → IsClient n → n ≡ the_server → ⊥
+no_client (Client n) is e = cc
+no_client (Server n) is e = is
+no_client (Admin n) is e = is
+no_client Loc is e = is
+
 -- a server's own call
-pub news_break : {s : Script} → (views : ℕ → View) (b : ℕ) (past : List Entry) (boot n known : ℕ) (c : BackCall) → News s (break_message the_server boot n known c ∷ []) views b past
-news_break {s} views b past boot n known c = record { calls = (tt, tt); replies = (tt, tt); notices = (tt, tt); origins = (tt, tt); acts = (tt, tt); lasts = (tt, tt); ones = (tt, tt); to_clients = ((λ ne. ((λ x. absurd cc), refl)), tt) }
+pub news_break : {s : Script} → (views : ℕ → View) (b : ℕ) (past : List Entry) (boot : ℕ) (n : Node) (known : ℕ) (c : BackCall) → IsClient n → News s (break_message the_server boot n known c ∷ []) views b past
+news_break {s} views b past boot n known c is = record { calls = (tt, tt); replies = (tt, tt); notices = (tt, tt); origins = (tt, tt); acts = (tt, tt); lasts = (tt, tt); ones = (tt, tt); to_clients = ((λ ne. ((λ x. no_client n is x), refl)), tt) }
 
-started_by_news : {s : Script} → (views : ℕ → View) (b : ℕ) (past : List Entry) (boot : ℕ) (t : Started) (o : Owed) (x : Option BackCall) → News s t.sent views b past → News s (starts_by the_server boot t o x).sent views b past
-started_by_news {s} views b past boot t o None h = news_more views b past t.sent _ h (news_break views b past boot o.client (t.backs.known o.client) (started_call t.backs o))
-started_by_news {s} views b past boot t o (Some c) h = h
+started_by_news : {s : Script} → (views : ℕ → View) (b : ℕ) (past : List Entry) (boot : ℕ) (t : Started) (o : Owed) (x : Option BackCall) → IsClient o.client → News s t.sent views b past → News s (starts_by the_server boot t o x).sent views b past
+started_by_news {s} views b past boot t o None is h = news_more views b past t.sent _ h (news_break views b past boot o.client (t.backs.known o.client) (started_call t.backs o) is)
+started_by_news {s} views b past boot t o (Some c) is h = h
 
-started_news : {s : Script} → (views : ℕ → View) (b : ℕ) (past : List Entry) (boot : ℕ) (os : List Owed) (t : Started) → News s t.sent views b past → News s (starts the_server boot os t).sent views b past
-started_news {s} views b past boot [] t h = h
-started_news {s} views b past boot (o ∷ os) t h = started_news views b past boot os _ (started_by_news views b past boot t o (t.backs.calls o.client) h)
+started_news : {s : Script} → (views : ℕ → View) (b : ℕ) (past : List Entry) (boot : ℕ) (os : List Owed) (t : Started) → AllOf (λ (o : Owed). IsClient o.client) os → News s t.sent views b past → News s (starts the_server boot os t).sent views b past
+started_news {s} views b past boot [] t is h = h
+started_news {s} views b past boot (o ∷ os) t is h = started_news views b past boot os _ is.1 (started_by_news views b past boot t o (t.backs.calls o.client) is.0 h)
 
 held_by : (boot : ℕ) (t : Started) (o : Owed) (x : Option BackCall) → (starts_by the_server boot t o x).backs.held ≡ t.backs.held
 held_by boot t o None = refl
@@ -97,10 +108,10 @@ each_both P [] b h k = k
 each_both P (x ∷ a) b h k = (h.0, each_both P a b h.1 k)
 
 -- what is known of all that a step sends, and of what it holds then
-pub pumped_news : {s : Script} → (views : ℕ → View) (b : ℕ) (past : List Entry) (boot : ℕ) (t : Turn) → News s t.sent views b past → Each (HeldIn views past) (replies_of t.outs) → Each (HeldIn views past) (replies_of t.backs.held)
+pub pumped_news : {s : Script} → (views : ℕ → View) (b : ℕ) (past : List Entry) (boot : ℕ) (t : Turn) → AllOf (λ (o : Owed). IsClient o.client) t.backs.lists.owed → News s t.sent views b past → Each (HeldIn views past) (replies_of t.outs) → Each (HeldIn views past) (replies_of t.backs.held)
     → News s (pumped the_server boot t).sent views b past × Each (HeldIn views past) (replies_of (pumped the_server boot t).backs.held)
-pumped_news {s} views b past boot t n outs held =
+pumped_news {s} views b past boot t is n outs held =
     let P : Message → Type 0 = HeldIn views past in (
-      started_news views b past boot t.backs.owed _ (news_more views b past t.sent _ n (news_held views b past _ (each_filter P (is_ready t.backs.owed) (t.outs ++ t.backs.held) (each_both P t.outs t.backs.held outs held)))),
-      subst (λ (hs : List Held). Each P (replies_of hs)) (sym (starts_held boot t.backs.owed _)) (each_filter P (λ h. not (is_ready t.backs.owed h)) (t.backs.held ++ t.outs) (each_both P t.backs.held t.outs held outs)),
+      started_news views b past boot t.backs.lists.owed _ is (news_more views b past t.sent _ n (news_held views b past _ (each_filter P (is_ready t.backs.lists.owed) (t.outs ++ t.backs.held) (each_both P t.outs t.backs.held outs held)))),
+      subst (λ (hs : List Held). Each P (replies_of hs)) (sym (starts_held boot t.backs.lists.owed _)) (each_filter P (λ h. not (is_ready t.backs.lists.owed h)) (t.backs.held ++ t.outs) (each_both P t.backs.held t.outs held outs)),
     )

@@ -220,7 +220,7 @@ client_stops_goes s c past n h =
     let d = h.clients n in
     let x : ClientState = reborn (c.clients n) in
     let e : Entry = step_entry n (lines.Crash (Client n) ∷ []) [] in
-    let g : Ghost = record { floor = c.server.boot; held = (h.floors n).held } in
+    let g : Ghost = record { floor = c.server.lasting.boot; held = (h.floors n).held } in
     let v : View = view_after c n g x in
     let over : (m : Message) → ReplyFact n (view h.floors c n) past m → ReplyFact n v (e ∷ past) m = λ m f. record {
       behind = new_epoch _ _ _ _ f.behind;

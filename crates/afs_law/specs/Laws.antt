@@ -4,6 +4,11 @@ use Rattle.afs_rows.specs.ClientRow.{find_cached}
 use Rattle.afs_num.specs.declared.messages.Message.{Message}
 use Rattle.afs_num.specs.declared.types.Node.TheVariants.{Client}
 use Rattle.afs_ideal.specs.Tables.{get}
+use Rattle.afs_num.specs.Nodes.{IsNode}
+use Rattle.afs_records.specs.Changes.{boot_record}
+use Rattle.afs_records.specs.Durable.{folded}
+use Rattle.afs_records.specs.Laws.{CanBeStored}
+use Rattle.std.specs.List.{AllByRecursion}
 use Rattle.afs_ideal.specs.Told.{Agrees}
 use Rattle.afs_ideal.specs.Volumes.{Volume}
 use Rattle.afs_law.specs.Grants.{since, IsOutstanding}
@@ -14,12 +19,12 @@ use Rattle.afs_law.specs.Once.{past_of, ChangesOnce}
 use Rattle.afs_law.specs.OneServer.{IsOneServer}
 use Rattle.afs_law.specs.Past.{HasCode, IsCall, lines_of}
 use Rattle.afs_rows.specs.Runs.{message_at, Leads, start, Input, Entry, Cell, RunsTo}
-use Rattle.afs_rows.specs.ServerRow.{serves, runs, refuses, not_served, whole}
-use Rattle.afs_rows.specs.States.{CacheEntry, ServerState}
+use Rattle.afs_rows.specs.ServerRow.{Change, is_client, lasting_after, lasting_started, record_of, serves, runs, refuses, not_served, whole, is_client}
+use Rattle.afs_rows.specs.States.{CacheEntry, Seat, Lasting, durable_of, volume_in, ServerState}
 use Rattle.afs_model.specs.FsRows.{call_number}
 use Rattle.afs_num.specs.declared.messages.Carried.TheVariants as carried
 use Rattle.afs_num.specs.declared.messages.Call.TheVariants as ask
-use Rattle.std.specs.Prelude.{◌⊎◌, ◌≤◌, ◌<◌, None, Some, ◌∷◌, [], ◌≡◌, ◌↔◌, ℕ, List, ◌++◌, false}
+use Rattle.std.specs.Prelude.{◌⊎◌, ◌≤◌, ◌<◌, None, Some, ◌∷◌, [], ◌≡◌, ◌↔◌, ℕ, List, ◌++◌, false, ◌+◌, ◌&&◌}
 use Rattle.afs_num.specs.declared.types.Fid.{Fid}
 use Rattle.afs_num.specs.declared.types.Node.{Node}
 use Rattle.afs_num.specs.declared.scripts.Script.{Script}
@@ -44,7 +49,7 @@ RunsAreOne = (s : Script) (inputs : List Input) (history other : List Entry) (en
 
 -- what the server holds of a volume at the end of a run is the ideal volume, and the versions that were told agree with it
 pub record IsHeld (id : ℕ) (end : Cell) (past : List Entry) : Type 0 where
-  pub ideal : get id end.server.volumes ≡ volume_after id past
+  pub ideal : volume_in id end.server.lasting.volumes ≡ volume_after id past
   pub told : (v : Volume) → volume_after id past ≡ Some v → Agrees id v (versions_in (lines_of past))
 
 abbrev pub VolumesAreTold : Type 0
@@ -77,7 +82,17 @@ ReadsAreNewest =
     (c : Node) (f : Fid) (index : ℕ) (source : ReadSource) (body : ReadBody) (past : List Entry) (own : List Line) (read : GoodRead c f index source body past own)
     → (IsOutstanding read.grant.server c f (own ++ since c f read.expiry read.reply past read.grant) → ⊥) → IsLast f index (own ++ lines_of past)
 
--- a server tells that a call isn't served exactly where its opcode is none of those that it serves
+-- a server tells that a call isn't served exactly where its caller is no client, or its opcode none of those that it serves
 abbrev pub UnservedAreRefused : Type 0
 UnservedAreRefused =
-    (s : ServerState) (head : Head) (user : List ℕ) (call : FsCall) → (runs s head (whole head (carried.Call user (ask.File call))) ≡ refuses head not_served) ↔ (serves (call_number call) ≡ false)
+    (s : ServerState) (clock : ℕ) (head : Head) (user : List ℕ) (call : FsCall) → (runs s clock head (whole head (carried.Call user (ask.File call))) ≡ refuses head not_served) ↔ ((is_client head.from && serves (call_number call)) ≡ false)
+
+-- What a change leaves is the fold of its record: where it is made in the volume as it stands, which it leaves one that a disk
+-- may hold, and the callers are nodes.
+abbrev pub ChangesAreFolded : Type 0
+ChangesAreFolded = (l : Lasting) (head : Head) (clock : ℕ) (c : Change) → get c.id l.volumes ≡ Some c.before → CanBeStored c.id c.edits c.before.volume → IsNode head.from → AllByRecursion (λ (s : Seat). IsNode s.caller) l.kept →
+    folded (record_of l.boot head clock c) (durable_of l) ≡ Some (durable_of (lasting_after head clock c l))
+
+-- what a start leaves is the fold of its record
+abbrev pub StartsAreFolded : Type 0
+StartsAreFolded = (l : Lasting) → folded (boot_record (l.boot + 1)) (durable_of l) ≡ Some (durable_of (lasting_started l))

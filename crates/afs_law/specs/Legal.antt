@@ -6,11 +6,12 @@ use Rattle.afs_num.specs.declared.types.Key.{Key}
 use Rattle.afs_num.specs.declared.types.Node.{Node}
 use Rattle.afs_num.specs.declared.types.Node.TheVariants.{Server, Client}
 use Rattle.afs_num.specs.declared.calls.FsCall.{FsCall}
+use Rattle.afs_num.specs.declared.calls.FsCall.TheVariants as calls
 use Rattle.afs_num.specs.declared.messages.Carried.{Carried}
 use Rattle.afs_num.specs.declared.messages.Message.{Message}
-use Rattle.afs_ideal.specs.Operations.{Caller, the_user, Result, refused, changes, op, code_of, volume_called}
+use Rattle.afs_ideal.specs.Operations.{Caller, the_user, Result, refused, changes, no_operation, op, code_of, volume_called}
 use Rattle.afs_ideal.specs.Volumes.{Volume, Edit, versions_by}
-use Rattle.afs_law.specs.Breaks.{AllOwes, EndedOf, EndedAll, GoodSettle, GoodQuit, live_grant, HasOwe, last_number}
+use Rattle.afs_law.specs.Breaks.{AllOwes, EndedOf, EndedAll, GoodSettle, GoodQuit, live_grant, lines_at, HasOwe, last_number}
 use Rattle.afs_rows.specs.Going.{Going, answers, next, asked}
 use Rattle.afs_law.specs.Grants.{read_reply, GrantOf, since, IsWithdrawn, IsDropped}
 use Rattle.afs_law.specs.Ideal.{set_up, IsLast, HasBeen, HasVersion, Accepts, clock_of, user_of, seen, change_in, change_key, call_under, volume_after}
@@ -100,7 +101,7 @@ pub record GoodChange (s : Script) (server : Node) (k : Key) (count : ℕ) (past
   pub result : op id (the_user user) call before ≡ changes edits shown
   pub versions : versions_first next ≡ versions_by id edits before
   pub number : count ≡ length (versions_first next)
-  pub owed : (j : ℕ) (f : Fid) (x : ℕ) → (Client j ≡ k.node → ⊥) → IsChanged f (versions_first next) → live_grant server (Client j) f (own ++ lines_of past) ≡ Some x → clock_of (own ++ lines_of past) < x → HasOwe server (Client j) (Some f) next
+  pub owed : (j : ℕ) (f : Fid) (x : ℕ) → (Client j ≡ k.node → ⊥) → IsChanged f (versions_first next) → live_grant server (Client j) f (own ++ lines_at server past) ≡ Some x → clock_of (own ++ lines_of past) < x → HasOwe server (Client j) (Some f) next
   pub home : Accepts s id server (own ++ lines_of past)
 
 -- a version stands under its change; that these are not too many is said of the change
@@ -136,7 +137,20 @@ abbrev pub answer_on : List ℕ → FsCall → Option ℕ → List Entry → Opt
 answer_on user call None past = None
 answer_on user call (Some id) past = Some (op_on id (the_user user) call (volume_after id past))
 
+-- several statuses: each on the volume of its fid, and the first refusal counts
+abbrev pub all_on : Result → Result → Result
+all_on (refused code) r = refused code
+all_on q r = r
+
+abbrev pub statuses_on : Caller → List Fid → List Entry → Result
+statuses_on caller [] past = no_operation
+statuses_on caller (f ∷ fs) past = all_on (op_on f.volume caller (calls.FetchStatus f) (volume_after f.volume past)) (statuses_on caller fs past)
+
+-- what the time is, and that promises are given up, needs no volume
 abbrev pub answer_at : List ℕ → FsCall → List Entry → Option Result
+answer_at user (calls.GiveUpCallBacks fids callbacks) past = Some no_operation
+answer_at user calls.GetTime past = Some no_operation
+answer_at user (calls.BulkStatus fids) past = Some (statuses_on (the_user user) fids past)
 answer_at user call past = answer_on user call (volume_called call) past
 
 -- a call that no volume serves is -455
@@ -154,9 +168,10 @@ abbrev pub IsChanging : Option Result → Type 0
 IsChanging (Some (changes es shown)) = ⊤
 IsChanging r = ⊥
 
--- the code is that of the ideal operation, and what that changes was told; or the server had no room for the change
-abbrev pub IsResult : ℤ → Option Result → Key → List Line → Type 0
-IsResult code r k ls = ((code_given r ≡ code) × IsTold k r ls) ⊎ ((code ≡ pos 108) × IsChanging r)
+-- the code is that of the ideal operation, and what that changes was told; or the server had no room for the change, and the
+-- entry that ran the call tells none under its key
+abbrev pub IsResult : ℤ → Option Result → Key → List Line → List Line → Type 0
+IsResult code r k ran ls = ((code_given r ≡ code) × IsTold k r ls) ⊎ ((code ≡ pos 108) × (IsChanging r × (HasChange k ran → ⊥)))
 
 -- the reply has this code, and so has the ideal operation where the call ran; the call is the one that the act asks, for
 -- its user; and where the operation makes versions, their change stands before
@@ -169,7 +184,7 @@ pub record Cause (reply : Message) (code : ℤ) (asks_for : FsCall) (past : List
   pub carries : ran.message.carried ≡ carried.Call user (ask.File call)
   pub own_user : user ≡ user_of reply.head.to
   pub asks : call ≡ asks_for
-  pub result : IsResult code (answer_at user call ran.older) (answered_key reply.head) (own ++ lines_of past)
+  pub result : IsResult code (answer_at user call ran.older) (answered_key reply.head) ran.at.lines (own ++ lines_of past)
 
 -- the reply that the answer's entry was given is the cause of the code, and its call is one of this very act: the client
 -- sent it since the act began, which was in an entry before

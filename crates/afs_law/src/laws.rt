@@ -1,6 +1,6 @@
 //! Laws about the runs of a script. Each is the contract of a function that does nothing.
 
-ghost use Rattle.afs_law.specs.Laws.{KeysRunOnce, ReadsAreNewest, RunsAreLegal, RunsAreOne, VolumesAreTold, PairsAreKnown, TrustedIsGood, UnservedAreRefused};
+ghost use Rattle.afs_law.specs.Laws.{ChangesAreFolded, KeysRunOnce, ReadsAreNewest, RunsAreLegal, RunsAreOne, StartsAreFolded, VolumesAreTold, PairsAreKnown, TrustedIsGood, UnservedAreRefused};
 
 /// Every run of a script for one server is legal.
 pub fn runs_are_legal()
@@ -40,4 +40,14 @@ pub fn trusted_is_good()
 /// A server tells that a call isn't served exactly where its opcode is none of those that it serves.
 pub fn unserved_are_refused()
     ensures { UnservedAreRefused }
+{}
+
+/// What a change leaves of a server is the fold of its record.
+pub fn changes_are_folded()
+    ensures { ChangesAreFolded }
+{}
+
+/// What a start leaves of a server is the fold of its record.
+pub fn starts_are_folded()
+    ensures { StartsAreFolded }
 {}

@@ -1,9 +1,9 @@
 pub mod States
 pub mod Steps
-pub mod Records
 pub mod Scopes
 pub mod ServerRow
 pub mod Callbacks
+pub mod ServerSteps
 pub mod Going
 pub mod ClientRow
 pub mod Runs

@@ -1,0 +1,3 @@
+pub mod Granting
+pub mod Owing
+pub mod Promises

@@ -1,0 +1,45 @@
+-- How the owed breaks are kept: a map in the order of their numbers, from which those that end are struck out, and a
+-- heap by expiry.
+use Rattle.std.specs.Prelude.{◌≡◌, ℕ, ◌+◌, ◌≤◌, List, [], ◌∷◌, Bool, true, false, Option, Some, None, nat_eq, if◌then◌else◌}
+use Rattle.std.specs.List.{Contains}
+use Rattle.std.specs.Ordering.{nat_cmp, ordering_then}
+use Rattle.std.specs.declared.cmp.Ordering.{Ordering}
+use Rattle.std.specs.declared.cmp.Reverse.{Reverse}
+use Rattle.afs_promise.specs.declared.types.OwedBreak.{OwedBreak}
+
+-- the breaks that are owed, the last number of one, and how many more can become owed without memory
+pub record Owing : Type 0 where
+  pub breaks : List OwedBreak
+  pub last : ℕ
+  pub room : ℕ
+
+-- in the heap the break comes first that ends first
+abbrev pub due_order : Reverse (ℕ × ℕ) → Reverse (ℕ × ℕ) → Ordering
+due_order x y = ordering_then (nat_cmp y.0.0 x.0.0) (nat_cmp y.0.1 x.0.1)
+
+abbrev pub has_break : ℕ → List OwedBreak → Bool
+has_break number [] = false
+has_break number (o ∷ os) = if nat_eq o.number number then true else has_break number os
+
+abbrev pub break_before : Option OwedBreak → List OwedBreak → List OwedBreak
+break_before None os = os
+break_before (Some o) os = o ∷ os
+
+-- the breaks that aren't struck out
+abbrev pub breaks_in : List (ℕ × Option OwedBreak) → List OwedBreak
+breaks_in [] = []
+breaks_in (e ∷ es) = break_before e.1 (breaks_in es)
+
+abbrev pub IsNumbered : ℕ → Option OwedBreak → Type 0
+IsNumbered number None = Unit {0}
+IsNumbered number (Some o) = o.number ≡ number
+
+-- the numbers ascend, from above `low` up to `high`, and each break stands under its own
+abbrev pub Ascends : ℕ → ℕ → List (ℕ × Option OwedBreak) → Type 0
+Ascends low high [] = low ≤ high
+Ascends low high (e ∷ es) = (low + 1 ≤ e.0) × IsNumbered e.0 e.1 × Ascends e.0 high es
+
+-- each break is in the heap, by its expiry
+abbrev pub AreDue : List (ℕ × ℕ) → List OwedBreak → Type 0
+AreDue due [] = Unit {0}
+AreDue due (o ∷ os) = Contains due (o.expiry, o.number) × AreDue due os

@@ -1,0 +1,298 @@
+//! The promises that are held, in the order of granting.
+
+ghost use Rattle.std.specs.Prelude.{◌≡◌, ◌+◌, ◌<◌, ◌≤◌, ◌++◌, [], length, true, None, is_some, if◌then◌else◌, IsOk, OnOk, IfNone};
+ghost use Rattle.std.specs.List.{list_any};
+ghost use Rattle.std.specs.Option.{option_to_list};
+ghost use Rattle.std.specs.Vec.{vec_capacity, vec_len};
+ghost use Rattle.indexmap.specs.IndexMap.{get, spare};
+ghost use Rattle.afs_num.specs.Nodes.{same_node};
+ghost use Rattle.afs_num.specs.declared.types.Node.{Node};
+ghost use Rattle.afs_promise.specs.declared.types.Holding.{Holding};
+ghost use Rattle.afs_promise.specs.Promises.{with_promise, without_promise, hits, left, hits_on, left_off, by_fid, lasting};
+ghost use Rattle.afs_promise.specs.Granting.{holding, same_holding, is_held, hit_of, earlier, oldest, promises_in, held_on};
+
+use crate::holding::holding;
+use crate::types::{Grant, Holding, Promise};
+use afs_num::types::{Fid, Mem, Node};
+use indexmap::IndexMap;
+use std::alloc::{AllocError, Global};
+use std::marker::Model;
+
+/// The promises that are held, as a log of grants: a promise is held while its grant is the latest of its client on
+/// its fid. Grants that are held no more go once they are more than half of the log.
+#[derive(Drop)]
+pub struct Grants {
+    log: Vec<Grant>,
+    latest: IndexMap<Holding, Grant>,
+    // All that were ever granted a promise: so many as a cell has clients.
+    clients: Vec<Node>,
+    // So many at the front of the log are held no more.
+    ended: usize,
+    // So many in the log are held.
+    count: usize,
+    next: u64,
+    // Whether the expiries in the log don't fall, so that those which end stand at its front.
+    rising: bool,
+    // That of the last grant.
+    highest: u32,
+    // So many promises can be granted without memory.
+    room: usize,
+}
+
+impl Model for Grants {
+    ghost use Rattle.std.specs.Prelude.{◌≤◌, ◌+◌, ◌<◌, ◌^◌};
+    ghost use Rattle.std.specs.Vec.{vec_capacity, vec_len};
+    ghost use Rattle.indexmap.specs.IndexMap.{get, spare};
+    ghost use Rattle.afs_promise.specs.Granting.{same_holding, held, IsLog, Granted};
+
+    ghost Value = { Granted };
+
+    ghost view = { λ g. record { promises = held (get same_holding g.latest) g.log.items; room = g.room } };
+
+    ghost invariant = { λ g. IsLog (get same_holding g.latest) g.log.items g.clients.items g.ended g.count g.next g.rising g.highest × (vec_len g.log + g.room ≤ vec_capacity g.log) × (vec_len g.clients + g.room ≤ vec_capacity g.clients) × (g.room ≤ spare g.latest) × (g.next + g.room < 2 ^ 64) };
+}
+
+/// Whether the grant is the latest of its client on its fid.
+fn is_held(latest: &IndexMap<Holding, Grant>, grant: &Grant) -> bool
+    ensures { result ≡ is_held (get same_holding latest.now) grant.now }
+{
+    match latest.get(&holding(grant.promise.client, grant.promise.fid)) {
+        Some(last) => last.order == grant.order,
+        None => false,
+    }
+}
+
+/// What the client holds on the fid, unless it is `except`.
+fn hit_of(latest: &IndexMap<Holding, Grant>, except: Node, fid: Fid, client: Node) -> Option<Grant>
+    ensures { result ≡ hit_of (get same_holding latest.now) except fid client }
+{
+    if client.is(&except) {
+        return None;
+    }
+    latest.get(&holding(client, fid)).copied()
+}
+
+/// That which was granted first.
+fn earlier(one: Option<Grant>, other: Option<Grant>) -> Option<Grant>
+    ensures { result ≡ earlier one other }
+{
+    match (one, other) {
+        (None, _) => other,
+        (_, None) => one,
+        (Some(g), Some(h)) => { if h.order < g.order { other } else { one } }
+    }
+}
+
+/// The promise on the fid that was granted first, of all clients but `except`.
+fn oldest(
+    latest: &IndexMap<Holding, Grant>,
+    clients: &[Node],
+    except: Node,
+    fid: Fid,
+) -> Option<Grant>
+    ensures { result ≡ oldest (get same_holding latest.now) except fid None clients.now }
+{
+    let mut best = None;
+    for client in clients {
+        best = earlier(best, hit_of(latest, except, fid, *client));
+    }
+    best
+}
+
+/// Notes a client, in the room that was made for it.
+fn meet(clients: &mut Vec<Node>, client: Node) -> Mem<()>
+    requires { vec_len clients.old < vec_capacity clients.old }
+    ensures ok { IsOk result }
+    ensures known { list_any (same_node client) clients.new.items ≡ true }
+    ensures keeps { (c : Node) → list_any (same_node c) clients.old.items ≡ true → list_any (same_node c) clients.new.items ≡ true }
+    ensures len { vec_len clients.new ≤ vec_len clients.old + 1 }
+    ensures capacity { vec_capacity clients.old ≤ vec_capacity clients.new }
+{
+    if !clients.iter().any(|c| client.is(c)) {
+        clients.push(client)?;
+    }
+    Ok(())
+}
+
+/// Removes what the client holds on the fid, if anything, and counts it off.
+fn remove(latest: &mut IndexMap<Holding, Grant>, count: &mut usize, client: Node, fid: Fid)
+    requires { is_some (get same_holding latest.old (holding client fid)) ≡ true → 0 < count.old }
+    ensures updates { (q : Holding) → get same_holding latest.new q ≡ (if same_holding (holding client fid) q then None else get same_holding latest.old q) }
+    ensures count { count.new + (if is_some (get same_holding latest.old (holding client fid)) then 1 else 0) ≡ count.old }
+    ensures room { spare latest.old ≤ spare latest.new }
+{
+    if latest.swap_remove(&holding(client, fid)).is_some() {
+        *count -= 1;
+    }
+}
+
+/// Puts the grants that are held on the volume behind one another.
+fn gather(
+    log: &[Grant],
+    latest: &IndexMap<Holding, Grant>,
+    volume: u32,
+    gone: &mut Vec<Grant>,
+) -> Mem<()>
+    requires { vec_len gone.old + length (held_on (get same_holding latest.now) volume log.now) ≤ vec_capacity gone.old }
+    ensures ok { IsOk result }
+    ensures grants { gone.new.items ≡ gone.old.items ++ held_on (get same_holding latest.now) volume log.now }
+    ensures capacity { vec_capacity gone.new ≡ vec_capacity gone.old }
+{
+    for grant in log {
+        if is_held(latest, grant) && grant.promise.fid.volume == volume {
+            gone.push(*grant)?;
+        }
+    }
+    Ok(())
+}
+
+impl Grants {
+    /// No promises. It takes no memory.
+    pub fn new(alloc: Global) -> Grants
+        ensures { result.promises ≡ [] }
+    {
+        Grants {
+            log: Vec::new(alloc),
+            latest: IndexMap::new(alloc),
+            clients: Vec::new(alloc),
+            ended: 0,
+            count: 0,
+            next: 0,
+            rising: true,
+            highest: 0,
+            room: 0,
+        }
+    }
+
+    /// How many promises are held.
+    pub fn len(&self) -> usize
+        ensures { result ≡ length self.now.promises }
+    {
+        self.count
+    }
+
+    /// Leaves out of the log what is held no more, once that is more than half of it.
+    fn tidy(&mut self)
+        ensures { self.new ≡ self.old }
+    {
+        if self.log.len() / 2 > self.count {
+            let latest = &self.latest;
+            self.log.retain(|g| is_held(latest, g));
+            self.ended = 0;
+        }
+    }
+
+    /// Makes room to grant so many promises without memory.
+    pub fn reserve(&mut self, additional: usize) -> Mem<()>
+        ensures ok { OnOk result (additional ≤ self.new.room) }
+        ensures promises { self.new.promises ≡ self.old.promises }
+    {
+        if additional <= self.room {
+            return Ok(());
+        }
+        self.tidy();
+        self.log.reserve(additional)?;
+        self.latest.reserve(additional)?;
+        self.clients.reserve(additional)?;
+        // A server that grants a billion promises a second comes here after five hundred years.
+        if u64::MAX - self.next <= additional as u64 {
+            return Err(AllocError);
+        }
+        self.room = additional;
+        Ok(())
+    }
+
+    /// Grants a promise in the room that was made for it.
+    pub fn put(&mut self, client: Node, fid: Fid, expiry: u32) -> Mem<()>
+        requires { 0 < self.old.room }
+        ensures ok { IsOk result }
+        ensures promises { self.new.promises ≡ with_promise client expiry fid self.old.promises }
+        ensures room { self.new.room + 1 ≡ self.old.room }
+    {
+        let grant = Grant {
+            order: self.next,
+            promise: Promise {
+                client,
+                fid,
+                expiry,
+            },
+        };
+        meet(&mut self.clients, client)?;
+        if self.latest.insert(holding(client, fid), grant)?.is_none() {
+            self.count += 1;
+        }
+        self.rising = self.log.is_empty() || (self.rising && self.highest <= expiry);
+        self.highest = expiry;
+        self.log.push(grant)?;
+        self.next += 1;
+        self.room -= 1;
+        Ok(())
+    }
+
+    /// Removes the client's promise on the fid, where it holds one.
+    pub fn give_up(&mut self, client: Node, fid: Fid)
+        ensures promises { self.new.promises ≡ without_promise client fid self.old.promises }
+        ensures room { self.new.room ≡ self.old.room }
+    {
+        remove(&mut self.latest, &mut self.count, client, fid);
+    }
+
+    /// Removes and gives the promise on the fid that was granted first, of all clients but `except`.
+    pub fn take_hit(&mut self, fid: Fid, except: Node) -> Option<Promise>
+        ensures hits { hits except fid self.old.promises ≡ option_to_list result ++ hits except fid self.new.promises }
+        ensures left { left except fid self.new.promises ≡ left except fid self.old.promises }
+        ensures none { IfNone result (self.new.promises ≡ left except fid self.old.promises) }
+        ensures len { length self.new.promises + length (option_to_list result) ≡ length self.old.promises }
+        ensures room { self.new.room ≡ self.old.room }
+    {
+        let grant = oldest(&self.latest, &self.clients, except, fid)?;
+        self.give_up(grant.promise.client, grant.promise.fid);
+        Some(grant.promise)
+    }
+
+    /// Removes every promise on the volume, and gives them by fid, those on one fid in the order of granting.
+    pub fn take_volume(&mut self, volume: u32, gone: &mut Vec<Grant>) -> Mem<()>
+        requires empty { gone.old.items ≡ [] }
+        requires room { length self.old.promises ≤ vec_capacity gone.old }
+        ensures ok { IsOk result }
+        ensures hits { promises_in gone.new.items ≡ by_fid (hits_on volume self.old.promises) }
+        ensures left { self.new.promises ≡ left_off volume self.old.promises }
+        ensures capacity { vec_capacity gone.new ≡ vec_capacity gone.old }
+        ensures room_kept { self.new.room ≡ self.old.room }
+    {
+        gather(&self.log, &self.latest, volume, gone)?;
+        gone.sort_unstable_by_key(|g| (g.promise.fid, g.order));
+        for grant in &*gone {
+            remove(
+                &mut self.latest,
+                &mut self.count,
+                grant.promise.client,
+                grant.promise.fid,
+            );
+        }
+        Ok(())
+    }
+
+    /// Ends each promise whose expiry isn't above the clock. Where expiries don't fall, no other is looked at.
+    pub fn expire(&mut self, now: u32)
+        ensures promises { self.new.promises ≡ lasting now self.old.promises }
+        ensures room { self.new.room ≡ self.old.room }
+    {
+        let mut at = self.ended;
+        while at < self.log.len() && !(self.rising && self.log[at].promise.expiry > now) {
+            let grant = self.log[at];
+            if grant.promise.expiry <= now && is_held(&self.latest, &grant) {
+                remove(
+                    &mut self.latest,
+                    &mut self.count,
+                    grant.promise.client,
+                    grant.promise.fid,
+                );
+            }
+            at += 1;
+        }
+        if self.rising {
+            self.ended = at;
+        }
+    }
+}

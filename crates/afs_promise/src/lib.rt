@@ -1,0 +1,11 @@
+#![tactic(auto)]
+
+mod grants;
+mod holding;
+mod owed;
+mod promises;
+mod types;
+
+pub use owed::{OwedBreaks, OwedList};
+pub use promises::Promises;
+pub use types::{OwedBreak, Promise};

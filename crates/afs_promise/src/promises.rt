@@ -1,0 +1,178 @@
+ghost use Rattle.std.specs.Prelude.{◌≡◌, ◌+◌, ◌<◌, ◌≤◌, length, IsOk, OnOk, OnErr};
+ghost use Rattle.std.specs.Vec.{vec_capacity};
+ghost use Rattle.afs_promise.specs.Promises.{no_lists, grants, grants_all, gives_up, owes_all, withdraws, withdraws_volume, ends, expired};
+
+use crate::grants::Grants;
+use crate::owed::OwedList;
+use crate::types::Grant;
+use afs_num::types::{Fid, Mem, Node};
+use std::alloc::Global;
+use std::marker::Model;
+
+/// What a file server has promised in this boot, and the breaks that it owes.
+///
+/// A promise that is held has its room among the owed breaks from its grant on, so that it becomes owed without
+/// memory. To grant, to give up and to look for one promise takes constant time on average, and so does a step of
+/// `expire` for each promise that ends, where expiries never fall from one grant to the next; of a break, `settled`,
+/// `quit` and `expire` take time with the logarithm of their number.
+#[derive(Drop)]
+pub struct Promises {
+    grants: Grants,
+    owed: OwedList,
+    // Empty, with room for each promise that is held: those of a volume, while they are put in order.
+    gone: Vec<Grant>,
+}
+
+impl Model for Promises {
+    ghost use Rattle.std.specs.Prelude.{◌≡◌, ◌≤◌, [], length};
+    ghost use Rattle.std.specs.Vec.{vec_capacity};
+    ghost use Rattle.afs_promise.specs.Promises.{Lists};
+
+    ghost Value = { Lists };
+
+    ghost view = { λ p. record { promises = p.grants.promises; owed = p.owed.breaks; last_owed = p.owed.last } };
+
+    ghost invariant = { λ p. (length p.grants.promises ≤ p.owed.room) × (length p.grants.promises ≤ vec_capacity p.gone) × (p.gone.items ≡ []) };
+}
+
+/// Makes room for so many more promises, and for each that is held then to become owed.
+fn make_room(
+    grants: &mut Grants,
+    owed: &mut OwedList,
+    gone: &mut Vec<Grant>,
+    additional: usize,
+) -> Mem<()>
+    ensures ok { OnOk result ((additional ≤ grants.new.room) × (length grants.old.promises + additional ≤ owed.new.room) × (length grants.old.promises + additional ≤ vec_capacity gone.new)) }
+    ensures promises { grants.new.promises ≡ grants.old.promises }
+    ensures breaks { owed.new.breaks ≡ owed.old.breaks }
+    ensures last { owed.new.last ≡ owed.old.last }
+    ensures room { owed.old.room ≤ owed.new.room }
+    ensures gone { gone.new.items ≡ gone.old.items }
+    ensures capacity { vec_capacity gone.old ≤ vec_capacity gone.new }
+{
+    let held = grants.len() + additional;
+    owed.reserve(held)?;
+    gone.reserve(held)?;
+    grants.reserve(additional)
+}
+
+impl Promises {
+    /// No promises, and nothing owed. It takes no memory.
+    pub fn new(alloc: Global) -> Promises
+        ensures { result ≡ no_lists }
+    {
+        Promises {
+            grants: Grants::new(alloc),
+            owed: OwedList::new(alloc),
+            gone: Vec::new(alloc),
+        }
+    }
+
+    /// From now on a break on all that it holds is owed to the client, until the clock reaches the expiry.
+    pub fn owe_all(&mut self, client: Node, expiry: u32) -> Mem<()>
+        requires { self.old.last_owed + length self.old.promises < 4000000000 }
+        ensures ok { OnOk result (self.new ≡ owes_all client expiry self.old) }
+        ensures err { OnErr result (self.new ≡ self.old) }
+    {
+        self.owed.reserve(self.grants.len() + 1)?;
+        self.owed.owe(client, None, expiry)
+    }
+
+    /// Grants a promise on the fid until the clock reaches the expiry.
+    pub fn grant(&mut self, client: Node, fid: Fid, expiry: u32) -> Mem<()>
+        ensures ok { OnOk result (self.new ≡ grants client expiry fid self.old) }
+        ensures err { OnErr result (self.new ≡ self.old) }
+    {
+        make_room(&mut self.grants, &mut self.owed, &mut self.gone, 1)?;
+        self.grants.put(client, fid, expiry)
+    }
+
+    /// Grants a promise on each of these fids, in their order.
+    pub fn grant_all(&mut self, client: Node, fids: &[Fid], expiry: u32) -> Mem<()>
+        ensures ok { OnOk result (self.new ≡ grants_all client expiry fids.now self.old) }
+        ensures err { OnErr result (self.new ≡ self.old) }
+    {
+        make_room(&mut self.grants, &mut self.owed, &mut self.gone, fids.len())?;
+        for fid in fids {
+            self.grants.put(client, *fid, expiry)?;
+        }
+        Ok(())
+    }
+
+    /// Makes room for each promise that is held, and for one that is granted next, to become owed. A grant makes its
+    /// own room, so there is nothing to do.
+    pub fn reserve(&mut self) -> Mem<()>
+        ensures ok { IsOk result }
+        ensures same { self.new ≡ self.old }
+    {
+        Ok(())
+    }
+
+    /// Withdraws the promises on the fid but that of `except`: their breaks become owed, in the order of granting. It
+    /// takes no memory.
+    pub fn withdraw(&mut self, fid: Fid, except: Node) -> Mem<()>
+        requires { self.old.last_owed + length self.old.promises < 4000000000 }
+        ensures ok { IsOk result }
+        ensures lists { self.new ≡ withdraws except fid self.old }
+    {
+        while let Some(promise) = self.grants.take_hit(fid, except) {
+            self.owed
+                .owe(promise.client, Some(promise.fid), promise.expiry)?;
+        }
+        Ok(())
+    }
+
+    /// Withdraws every promise on the volume: their breaks become owed, by ascending vnode, of one vnode number the
+    /// lower unique first, and of one fid in the order of granting. It takes no memory.
+    pub fn withdraw_volume(&mut self, volume: u32) -> Mem<()>
+        requires { self.old.last_owed + length self.old.promises < 4000000000 }
+        ensures ok { IsOk result }
+        ensures lists { self.new ≡ withdraws_volume volume self.old }
+    {
+        self.grants.take_volume(volume, &mut self.gone)?;
+        for grant in &self.gone {
+            let promise = &grant.promise;
+            self.owed
+                .owe(promise.client, Some(promise.fid), promise.expiry)?;
+        }
+        self.gone.clear();
+        Ok(())
+    }
+
+    /// The breaks that are owed. It takes no memory.
+    pub fn owed(&self) -> &OwedList
+        ensures breaks { result.now.breaks ≡ self.now.owed }
+        ensures last { result.now.last ≡ self.now.last_owed }
+    {
+        &self.owed
+    }
+
+    /// Removes the client's promise on the fid, where it holds one. It takes no memory.
+    pub fn give_up(&mut self, client: Node, fid: Fid)
+        ensures { self.new ≡ gives_up client fid self.old }
+    {
+        self.grants.give_up(client, fid);
+    }
+
+    /// The client has handled this break. It takes no memory.
+    pub fn settled(&mut self, number: u32)
+        ensures { self.new ≡ ends number self.old }
+    {
+        self.owed.end(number);
+    }
+
+    /// The client doesn't answer, and this break is given up. It takes no memory.
+    pub fn quit(&mut self, number: u32)
+        ensures { self.new ≡ ends number self.old }
+    {
+        self.owed.end(number);
+    }
+
+    /// Ends each promise and each owed break whose expiry isn't above the clock. It takes no memory.
+    pub fn expire(&mut self, now: u32)
+        ensures { self.new ≡ expired now self.old }
+    {
+        self.grants.expire(now);
+        self.owed.expire(now);
+    }
+}

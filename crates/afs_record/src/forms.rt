@@ -1,0 +1,156 @@
+//! Forms: how a value is written, and how it is read.
+
+ghost use Rattle.std.specs.Prelude.{◌≡◌, ◌++◌, OnOk};
+ghost use Rattle.afs_records.specs.Forms as forms;
+ghost use Rattle.afs_records.specs.Records.{between, kind_form, server_form, flag_form, flag_number, most_name};
+ghost use Rattle.afs_record.specs.Reading.{ReadsForm};
+
+use crate::faults::RecordFault;
+use afs_num::sequences::Octets;
+use afs_num::types::Mem;
+use afs_num::vnodes::Vnode;
+use afs_vnode::faults::ImageFault;
+use afs_vnode::images::{read_image, write_image};
+use afs_xdr::reading::Reader;
+use afs_xdr::writing::Writer;
+use std::alloc::Global;
+
+/// How values are spelled in a record. Of what a form reads nothing is limited but by the bytes that are there.
+pub(crate) trait Form {
+    ghost use Rattle.afs_records.specs.Forms as forms;
+
+    type Value: Drop;
+
+    ghost form: { forms.Form Self.Value };
+
+    /// Reads one value from the front.
+    fn read(alloc: Global, r: &mut Reader) -> Result<Self::Value, RecordFault>
+        ensures { ReadsForm form.at (λ x. x) r.old r.new result };
+
+    /// Appends a value. After want of memory bytes of it may stand behind those from before.
+    fn write(value: &Self::Value, w: &mut Writer) -> Mem<()>
+        requires { form.Fits value.now }
+        ensures { OnOk result (w.new ≡ w.old ++ form.spelled value.now) };
+}
+
+/// Reads a word from `low` to `high`.
+fn read_ranged(r: &mut Reader, low: u32, high: u32) -> Result<u32, RecordFault>
+    ensures { ReadsForm (between low high).at (λ n. n) r.old r.new result }
+{
+    let n = r.word()?;
+    if n < low || high < n {
+        return Err(RecordFault::NoForm);
+    }
+    Ok(n)
+}
+
+/// A word.
+pub(crate) struct Word;
+
+impl Form for Word {
+    type Value = u32;
+
+    ghost form = { forms.word_form };
+
+    fn read(_alloc: Global, r: &mut Reader) -> Result<u32, RecordFault> {
+        Ok(r.word()?)
+    }
+
+    fn write(value: &u32, w: &mut Writer) -> Mem<()> {
+        w.word(*value)
+    }
+}
+
+/// The image of a vnode.
+pub(crate) struct Image;
+
+impl Form for Image {
+    type Value = Vnode;
+
+    ghost form = { forms.image_form };
+
+    fn read(alloc: Global, r: &mut Reader) -> Result<Vnode, RecordFault> {
+        match read_image(alloc, r) {
+            Ok(vnode) => Ok(vnode),
+            Err(ImageFault::Field(_, _)) => Err(RecordFault::NoForm),
+            Err(ImageFault::OutOfMemory) => Err(RecordFault::OutOfMemory),
+        }
+    }
+
+    fn write(value: &Vnode, w: &mut Writer) -> Mem<()> {
+        write_image(value, w)
+    }
+}
+
+/// A word from 0 to 2: the kind of a volume.
+pub(crate) struct VolumeKind;
+
+impl Form for VolumeKind {
+    type Value = u32;
+
+    ghost form = { kind_form };
+
+    fn read(_alloc: Global, r: &mut Reader) -> Result<u32, RecordFault> {
+        read_ranged(r, 0, 2)
+    }
+
+    fn write(value: &u32, w: &mut Writer) -> Mem<()> {
+        w.word(*value)
+    }
+}
+
+/// The number of a server.
+pub(crate) struct Server;
+
+impl Form for Server {
+    type Value = u32;
+
+    ghost form = { server_form };
+
+    fn read(_alloc: Global, r: &mut Reader) -> Result<u32, RecordFault> {
+        read_ranged(r, 1, 8)
+    }
+
+    fn write(value: &u32, w: &mut Writer) -> Mem<()> {
+        w.word(*value)
+    }
+}
+
+/// 0 or 1.
+pub(crate) struct Flag;
+
+impl Form for Flag {
+    type Value = bool;
+
+    ghost form = { flag_form };
+
+    fn read(_alloc: Global, r: &mut Reader) -> Result<bool, RecordFault> {
+        match r.word()? {
+            0 => Ok(false),
+            1 => Ok(true),
+            _ => Err(RecordFault::NoForm),
+        }
+    }
+
+    fn write(value: &bool, w: &mut Writer) -> Mem<()> {
+        w.word(if *value { 1 } else { 0 })
+    }
+}
+
+/// At most so many bytes.
+pub(crate) struct Text<const MOST: u32>;
+
+impl<const MOST: u32> Form for Text<MOST> {
+    type Value = Octets;
+
+    ghost form = { forms.text_form MOST };
+
+    fn read(alloc: Global, r: &mut Reader) -> Result<Octets, RecordFault> {
+        let bytes = r.opaque(MOST)?;
+        Ok(Octets::from_slice(alloc, bytes)?)
+    }
+
+    fn write(value: &Octets, w: &mut Writer) -> Mem<()> {
+        w.opaque(value.as_slice())
+    }
+}

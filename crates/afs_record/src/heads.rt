@@ -1,0 +1,77 @@
+//! What stands before the fields of each record.
+
+ghost use Rattle.std.specs.Prelude.{◌≡◌, ◌++◌, OnOk};
+ghost use Rattle.afs_records.specs.Records.{caller_form, caller_number, head_form};
+ghost use Rattle.afs_record.specs.Reading.{ReadsForm};
+
+use crate::faults::RecordFault;
+use crate::forms::{Form, Text};
+use afs_num::records::RecordHead;
+use afs_num::types::{Mem, Node};
+use afs_xdr::reading::Reader;
+use afs_xdr::writing::Writer;
+use std::alloc::Global;
+
+/// Any word counts the bytes of a kept reply.
+const MOST_REPLY: u32 = 4_294_967_295;
+
+/// The number of a caller whose reply is kept, or 0.
+fn caller_number(caller: Option<Node>) -> u32
+    requires { caller_form.Fits caller }
+    ensures { result ≡ caller_number caller }
+{
+    match caller {
+        Some(node) => node.number(),
+        None => 0,
+    }
+}
+
+/// Reads the caller whose reply is kept.
+fn read_caller(r: &mut Reader) -> Result<Option<Node>, RecordFault>
+    ensures { ReadsForm caller_form.at (λ c. c) r.old r.new result }
+{
+    match r.word()? {
+        0 => Ok(None),
+        number => match Node::from_number(number) {
+            Some(node) => Ok(Some(node)),
+            None => Err(RecordFault::NoForm),
+        },
+    }
+}
+
+/// Reads a head.
+#[tactic(auto, unfolding(afs_records::specs::Records::head_form))]
+pub(crate) fn read_head(alloc: Global, r: &mut Reader) -> Result<RecordHead, RecordFault>
+    ensures { ReadsForm head_form.at (λ h. h) r.old r.new result }
+{
+    let family = r.word()?;
+    let stamp = r.word()?;
+    let caller = read_caller(r)?;
+    let epoch = r.word()?;
+    let number = r.word()?;
+    let reply = Text::<MOST_REPLY>::read(alloc, r)?;
+    Ok(RecordHead {
+        family,
+        stamp,
+        caller,
+        epoch,
+        number,
+        reply,
+    })
+}
+
+/// Appends a head.
+#[tactic(auto, unfolding(afs_records::specs::Records::head_form))]
+pub(crate) fn write_head(head: &RecordHead, w: &mut Writer) -> Mem<()>
+    requires { head_form.Fits head.now }
+    ensures { OnOk result (w.new ≡ w.old ++ head_form.spelled head.now) }
+{
+    w.words(&[
+        head.family,
+        head.stamp,
+        caller_number(head.caller),
+        head.epoch,
+        head.number,
+    ])?;
+    w.opaque(head.reply.as_slice())
+}

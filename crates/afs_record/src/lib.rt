@@ -1,0 +1,10 @@
+//! The records of a server's journal: each written as its bytes, and read from them.
+#![tactic(auto)]
+
+pub mod faults;
+mod forms;
+mod heads;
+mod lists;
+pub mod records;
+mod tables;
+mod volumes;
