@@ -25,6 +25,7 @@ pub mod Dropping
 pub mod Answering
 pub mod Waiting
 pub mod Law
+pub mod Roomless
 pub mod Unserved
 pub mod Agreeing
 pub mod KeysOnce

@@ -1,3 +1,4 @@
+use Rattle.afs_ideal.specs.Operations.{Caller, the_user, Result, refused, reads, changes, no_operation, op, volume_called}
 -- Laws about the runs of a script.
 use Rattle.afs_num.specs.declared.histories.ReadSource.TheVariants.{Cached}
 use Rattle.afs_rows.specs.ClientRow.{find_cached}
@@ -6,7 +7,7 @@ use Rattle.afs_num.specs.declared.types.Node.TheVariants.{Client}
 use Rattle.afs_ideal.specs.Tables.{get}
 use Rattle.afs_num.specs.Nodes.{IsNode}
 use Rattle.afs_records.specs.Changes.{boot_record}
-use Rattle.afs_records.specs.Durable.{folded}
+use Rattle.afs_records.specs.Durable.{folded, Stored, has_room}
 use Rattle.afs_records.specs.Laws.{CanBeStored}
 use Rattle.std.specs.List.{AllByRecursion}
 use Rattle.afs_ideal.specs.Told.{Agrees}
@@ -19,12 +20,12 @@ use Rattle.afs_law.specs.Once.{past_of, ChangesOnce}
 use Rattle.afs_law.specs.OneServer.{IsOneServer}
 use Rattle.afs_law.specs.Past.{HasCode, IsCall, lines_of}
 use Rattle.afs_rows.specs.Runs.{message_at, Leads, start, Input, Entry, Cell, RunsTo}
-use Rattle.afs_rows.specs.ServerRow.{Change, is_client, lasting_after, lasting_started, record_of, serves, runs, refuses, not_served, whole, is_client}
+use Rattle.afs_rows.specs.ServerRow.{Change, is_client, lasting_after, lasting_started, record_of, serves, runs, refuses, not_served, whole, is_client, no_room}
 use Rattle.afs_rows.specs.States.{CacheEntry, Seat, Lasting, durable_of, volume_in, ServerState}
 use Rattle.afs_model.specs.FsRows.{call_number}
 use Rattle.afs_num.specs.declared.messages.Carried.TheVariants as carried
 use Rattle.afs_num.specs.declared.messages.Call.TheVariants as ask
-use Rattle.std.specs.Prelude.{◌⊎◌, ◌≤◌, ◌<◌, None, Some, ◌∷◌, [], ◌≡◌, ◌↔◌, ℕ, List, ◌++◌, false, ◌+◌, ◌&&◌}
+use Rattle.std.specs.Prelude.{◌⊎◌, ◌≤◌, ◌<◌, None, Some, ◌∷◌, [], ◌≡◌, ◌↔◌, ℕ, List, ◌++◌, false, ◌+◌, ◌&&◌, Option, Bool, true}
 use Rattle.afs_num.specs.declared.types.Fid.{Fid}
 use Rattle.afs_num.specs.declared.types.Node.{Node}
 use Rattle.afs_num.specs.declared.scripts.Script.{Script}
@@ -86,6 +87,28 @@ ReadsAreNewest =
 abbrev pub UnservedAreRefused : Type 0
 UnservedAreRefused =
     (s : ServerState) (clock : ℕ) (head : Head) (user : List ℕ) (call : FsCall) → (runs s clock head (whole head (carried.Call user (ask.File call))) ≡ refuses head not_served) ↔ ((is_client head.from && serves (call_number call)) ≡ false)
+
+-- there is no room for the change of a call: the operation says so, or its record doesn't fit
+abbrev pub LacksRoomBy : ServerState → ℕ → Head → Caller → FsCall → ℕ → Stored → Result → Type 0
+LacksRoomBy s clock head caller call id st (refused code) = code ≡ 108
+LacksRoomBy s clock head caller call id st (reads shown) = ⊥
+LacksRoomBy s clock head caller call id st no_operation = ⊥
+LacksRoomBy s clock head caller call id st (changes es n) =
+    has_room (durable_of s.lasting) (record_of s.lasting.boot head clock (record { id = id; caller = caller; call = call; before = st; edits = es; shown = n })) ≡ false
+
+abbrev pub LacksRoomIn : ServerState → ℕ → Head → Caller → FsCall → ℕ → Option Stored → Type 0
+LacksRoomIn s clock head caller call id None = ⊥
+LacksRoomIn s clock head caller call id (Some st) = LacksRoomBy s clock head caller call id st (op id caller call st.volume)
+
+abbrev pub LacksRoom : ServerState → ℕ → Head → Caller → FsCall → Option ℕ → Type 0
+LacksRoom s clock head caller call None = ⊥
+LacksRoom s clock head caller call (Some id) = LacksRoomIn s clock head caller call id (get id s.lasting.volumes)
+
+-- a server tells a client that there is no room (108) exactly where the change has none
+abbrev pub RoomlessAreRefused : Type 0
+RoomlessAreRefused =
+    (s : ServerState) (clock : ℕ) (head : Head) (user : List ℕ) (call : FsCall)
+    → (runs s clock head (whole head (carried.Call user (ask.File call))) ≡ refuses head no_room) ↔ ((is_client head.from ≡ true) × LacksRoom s clock head (the_user user) call (volume_called call))
 
 -- What a change leaves is the fold of its record: where it is made in the volume as it stands, which it leaves one that a disk
 -- may hold, and the callers are nodes.
