@@ -1,3 +1,10 @@
+use Rattle.afs_law.proofs.Facts.{IsWhole}
+use Rattle.afs_law.proofs.Walking.{body_shows}
+use Rattle.afs_law.specs.Legal.{Shows}
+use Rattle.afs_num.specs.declared.histories.Body.{Body}
+use Rattle.afs_num.specs.declared.histories.ReadBody.{ReadBody}
+use Rattle.afs_rows.specs.ClientRow.{body_seen}
+use Rattle.afs_num.specs.declared.histories.ReadBody.TheVariants as seen
 use Rattle.afs_num.specs.declared.messages.Call.TheVariants as ask
 use Rattle.afs_num.specs.declared.messages.Carried.TheVariants as carried
 use Rattle.afs_ideal.specs.Told.{Agrees}
@@ -7,16 +14,16 @@ use Rattle.afs_law.proofs.Basics.{ByClient, OfReply, OfCall, IfReply, IfCall, ea
 use Rattle.afs_law.proofs.Edits.{agrees_of, SoundIn}
 use Rattle.afs_law.proofs.Facts.{ReplyIn, CallIn, view, Ghost, Holds}
 use Rattle.afs_law.proofs.Law.{goes, starts}
-use Rattle.afs_law.specs.ClientRow.{find_cached}
+use Rattle.afs_rows.specs.ClientRow.{find_cached}
 use Rattle.afs_law.specs.Ideal.{versions_in, set_up}
 use Rattle.afs_law.specs.Laws.{ArePairsKnown, IsKnownTo, IsHeld}
 use Rattle.afs_law.specs.Legal.{GoodRead}
-use Rattle.afs_law.specs.Lines.{Line}
+use Rattle.afs_history.specs.declared.lines.Line.{Line}
 use Rattle.afs_law.specs.Once.{past_of}
 use Rattle.afs_law.specs.OneServer.{IsOneServer}
 use Rattle.afs_law.specs.Past.{HasCode, IsCall}
-use Rattle.afs_law.specs.Runs.{Entry, Cell, Input, moved, Leads, start, RunsTo}
-use Rattle.afs_law.specs.States.{CacheEntry}
+use Rattle.afs_rows.specs.Runs.{Entry, Cell, Input, moved, Leads, start, RunsTo}
+use Rattle.afs_rows.specs.States.{CacheEntry}
 use Rattle.afs_num.specs.declared.histories.ReadSource.TheVariants.{Cached}
 use Rattle.afs_num.specs.declared.messages.Carried.{Carried}
 use Rattle.afs_num.specs.declared.types.Node.TheVariants.{Client}
@@ -96,14 +103,14 @@ pairs_known s h end one r =
 
 -- ---- what a client trusts
 
-pub trusted_good : (s : Script) (h : List Entry) (end : Cell) → IsOneServer s → RunsTo h s end → (j : ℕ) → (end.clients j).running ≡ None → (f : Fid) (e : CacheEntry) → find_cached f (end.clients j).cache ≡ Some e → end.clock < e.expiry
-    → GoodRead (Client j) f e.index Cached e.body (past_of (set_up s ∷ []) h) []
-trusted_good s h end one r j none f e found lasts =
+pub trusted_shown : (s : Script) (h : List Entry) (end : Cell) → IsOneServer s → RunsTo h s end → (j : ℕ) → (end.clients j).running ≡ None → (f : Fid) (e : CacheEntry) → find_cached f (end.clients j).cache ≡ Some e → end.clock < e.expiry
+    → (body : ReadBody) → (IsWhole f e.index e.status e.body (past_of (set_up s ∷ []) h) → Shows f e.index body (past_of (set_up s ∷ []) h) []) → GoodRead (Client j) f e.index Cached body (past_of (set_up s ∷ []) h) []
+trusted_shown s h end one r j none f e found lasts body shows =
     let k : Holds s end (past_of (set_up s ∷ []) h) = at_end s h end one r in
     let past : List Entry = past_of (set_up s ∷ []) h in
     let cur = (k.clients j).current f e found lasts in
     record {
-      whole = cur.held.whole;
+      whole = shows cur.held.whole;
       not_older = idle_reached j f e.index _ _ (view k.floors end j) past none cur.state;
       reply = cur.reply;
       by = cur.by;
@@ -113,3 +120,11 @@ trusted_good s h end one r j none f e found lasts =
       kept = cur.held.kept refl;
       newest = idle_newest j f e.index _ _ (view k.floors end j) past none cur.state;
     }
+
+pub trusted_good : (s : Script) (h : List Entry) (end : Cell) → IsOneServer s → RunsTo h s end → (j : ℕ) → (end.clients j).running ≡ None → (f : Fid) (e : CacheEntry) → find_cached f (end.clients j).cache ≡ Some e → end.clock < e.expiry
+    → ((body : Body) → e.body ≡ Some body → GoodRead (Client j) f e.index Cached (seen.Contents body) (past_of (set_up s ∷ []) h) []) × GoodRead (Client j) f e.index Cached (seen.Status e.status) (past_of (set_up s ∷ []) h) []
+trusted_good s h end one r j none f e found lasts =
+    let past : List Entry = past_of (set_up s ∷ []) h in (
+      λ body has. trusted_shown s h end one r j none f e found lasts (seen.Contents body) (λ w. body_shows e.body f e.index w.is (seen.Contents body) past [] w.holds w.told (ap body_seen has)),
+      trusted_shown s h end one r j none f e found lasts (seen.Status e.status) (λ w. ((w.is, w.told), w.been)),
+    )

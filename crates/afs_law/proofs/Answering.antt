@@ -1,31 +1,35 @@
+use Rattle.afs_rows.specs.Steps.{Step}
+use Rattle.afs_num.specs.declared.histories.ReadBody.{ReadBody}
+use Rattle.afs_num.specs.declared.histories.ReadStatus.{ReadStatus}
+use Rattle.afs_law.proofs.Apart.{apart_filter, apart_put, apart_refreshed, found_take}
+use Rattle.afs_law.proofs.Walking.{walked_apart, onto_last, looked_more, walk_made, walk_reached, walk_current, walk_answered, walked_found, tail_given, tail_fetched, tail_quiet, ends_answered, ends_here, EndsReach, AreTail, walks_on, Ready, Walks}
+use Rattle.std.specs.Prelude.{◌⊎◌, ◌&&◌, pos, ℤ}
+use Rattle.afs_law.proofs.Basics.{IfCall, ByClient, guest, UpTo, Above, IfReply, IfNotice, OfReply, OfNotice, up_to_by, yes_no, both, same_fid-true, same_fid-refl, same_node-refl, client_number, found-cached-fid, found-first, found-refreshed, OfCall, each_at, some_of, ByServer, OfClient, by_client, IfBack, up_to_next, next_not, raised_up_to}
 use Rattle.afs_ideal.specs.Operations.{volume_changed}
-use Rattle.afs_law.proofs.Asking.{own_read, safe_over, client_kept, call_known, reply_still, step_entry, view_after, moves, nothing_new, Heard, told_passes, answered_seen, own_zero, answered_lines, answered_file, answered_reach, answered_passes, quiet, safe_cache, own_call, asks, own_begun, no_scope, same_one, call_is, heard_dull, new_one}
-use Rattle.afs_law.proofs.Basics.{UpTo, Above, IfReply, IfNotice, OfReply, OfNotice, up_to_by, yes_no, both, same_fid-true, same_fid-refl, same_node-refl, client_number, found-cached-fid, found-first, found-refreshed, OfCall, each_at, some_of, ByServer, OfClient, by_client, IfBack, up_to_next, next_not, raised_up_to}
+use Rattle.afs_law.proofs.Asking.{carried_is, client_asking, client_ended, own_read, safe_over, client_kept, call_known, reply_still, step_entry, view_after, moves, nothing_new, Heard, told_passes, answered_seen, own_zero, answered_lines, answered_file, answered_reach, answered_passes, quiet, safe_cache, own_call, asks, own_begun, no_scope, same_one, call_is, heard_dull, new_one}
 use Rattle.afs_law.proofs.Dropping.{left_out, called_goes}
-use Rattle.afs_law.proofs.Edits.{index_in}
-use Rattle.afs_law.proofs.Facts.{IsPlain, IsKeptBody, IsTrusted, Ghost, Seen, IsAged, Spot, spot, LastStored, IsStored, IsSafe, Fits, View, view, last_key, LastRan, Reached, IsNewest, Overtaken, Stands, IsCurrent, HasCurrent, Answers, stored_index, ClientFacts, CallFact, ReplyFact, ReplyIn, Holds, Goes, IsFetched, FitsPlain, FitsData, FitsSet, FitsReply, WasStored, WasChanged, InScope, IsNoticed}
+use Rattle.afs_law.proofs.Edits.{Ones, index_in}
+use Rattle.afs_law.proofs.Facts.{ToClient, CallIn, FitsShown, IsOld, IsWhole, IsBody, HasOld, IsClient, IsPlain, IsKeptBody, IsTrusted, Ghost, Seen, IsAged, Spot, spot, LastStored, IsStored, IsSafe, Fits, View, view, last_key, LastRan, Reached, IsNewest, Overtaken, Stands, IsCurrent, HasCurrent, Answers, stored_index, ClientFacts, CallFact, ReplyFact, ReplyIn, Holds, Goes, IsFetched, FitsPlain, FitsData, FitsSet, FitsReply, WasStored, WasChanged, InScope, IsNoticed}
 use Rattle.afs_law.proofs.Owing.{BackIn}
-use Rattle.afs_law.proofs.Passing.{PassesSeen, PassesGrant, PassesFile, StaysNewest, stays, held_over, fetch_reply_by, current_over, kept_over, cause_behind}
-use Rattle.afs_law.proofs.Quiet.{quiet_more, quiet_passes}
+use Rattle.afs_law.proofs.Passing.{body_kept, old_within, old_over, PassesSeen, PassesGrant, PassesFile, StaysNewest, stays, held_over, fetch_reply_by, current_over, kept_over, cause_behind}
+use Rattle.afs_law.proofs.Quiet.{quiet_grant, AreQuiet, quiet_more, quiet_passes}
 use Rattle.afs_law.proofs.Resting.{voids}
 use Rattle.afs_law.proofs.Saving.{old_withdrawn}
 use Rattle.afs_law.proofs.Serving.{told_file, told_reach, told_act, not_ran, stale_none, reached_still}
 use Rattle.afs_law.proofs.Skipping.{none_where, own_ended, skips, drop_lines, was_given, drop_file, drop_reach, drop_seen, drop_passes, ended_running, drops_good}
-use Rattle.afs_law.proofs.Walking.{onto_last, looked_more, walk_made, walk_reached, walk_current, walk_answered, walked_found, tail_given, tail_fetched, tail_quiet, ends_answered, ends_here, EndsReach, AreTail, walks_on, Ready, Walks}
-use Rattle.afs_law.specs.Acts.{Act}
-use Rattle.afs_law.specs.ClientRow.{asking, is_trusted, goes_on, goes_by, look_at, looked, most_reads, walked, Walked, is_below, dropped_after, left_after, the_server, find_cached, guest, used_first, refreshed, call_message, calls_step, zero_code, begin_row, ignores, ended, answers_step, takes_stored, takes, resends_step, counts, is_awaited, awaits, client_row, is_spent, hears_in, takes_plain, takes_data, takes_set, left_in, given_up_in, body_told, call_of, is_reading}
-use Rattle.afs_law.specs.Going.{asked, Going, Need, next, answers, began, with_read, ClientState, reads, asks_for}
+use Rattle.afs_history.specs.declared.acts.Act.{Act}
+use Rattle.afs_rows.specs.ClientRow.{boot_or_first, with_boot, takes_shown, takes_entry, boot_of, read_lines, status_told, entry_told, booted, joined, put_entry, calls_again, asking, is_trusted, goes_on, goes_by, look_at, looked, most_reads, walked, Walked, is_below, dropped_after, left_after, find_cached, used_first, refreshed, call_message, calls_step, zero_code, begin_row, ignores, ended, answers_step, takes_stored, takes, resends_step, counts, is_awaited, awaits, client_row, is_spent, hears, takes_plain, takes_data, takes_set, left_in, given_up_in, body_told, call_of, is_reading}
+use Rattle.afs_rows.specs.Going.{reads_status, reads_statuses, reads_rights, gives_back, asked, Going, Need, next, answers, began, with_read, ClientState, reads, asks_for}
 use Rattle.afs_law.specs.Grants.{has_fetched, fetch_reply, since}
-use Rattle.afs_law.specs.Ideal.{raised, is_zero_code, reach, last_version, HasVersion}
-use Rattle.afs_law.specs.Legal.{Cause, code_told, GoodCode}
-use Rattle.afs_law.specs.Lines.{Line}
+use Rattle.afs_law.specs.Ideal.{HasBeen, raised, is_zero_code, reach, last_version, HasVersion}
+use Rattle.afs_law.specs.Legal.{Shows, Cause, code_told, GoodCode}
+use Rattle.afs_history.specs.declared.lines.Line.{Line}
 use Rattle.afs_law.specs.Past.{IsCallUnder, onto, lines_of, sent_of, given_message, answered_key, running, has_begun, CalledSince}
-use Rattle.afs_law.specs.Runs.{Moved, Entry, Cell, message_at, client_moves, begun_by}
-use Rattle.afs_law.specs.Scopes.{is_in_scope}
-use Rattle.afs_law.specs.States.{CacheEntry, Seat}
+use Rattle.afs_rows.specs.Runs.{the_server, locations, Moved, Entry, Cell, message_at, client_moves, begun_by}
+use Rattle.afs_rows.specs.Scopes.{is_in_scope}
+use Rattle.afs_rows.specs.States.{KnownBoot, CacheEntry, Location, Seat}
 use Rattle.afs_model.specs.Calls.{call_seat}
-use Rattle.std.proofs.Common.{◌+◌, nat_eq, ◌++◌, ◌≡◌, ℕ, ◌<◌, ◌≤◌, inl, inr, Bool, true, false, cond, nat_lt, not, List, [], ◌∷◌, map, Option, Some, None, ℤ, refl, sym, ap, subst, ◌∙◌, eqb-true, ltb-true, lt-ltb, le_of_eq, append-nil, arith}
-use Rattle.std.specs.Prelude.{◌&&◌, pos, ℤ}
+use Rattle.std.proofs.Common.{filter, find, ◌+◌, nat_eq, ◌++◌, ◌≡◌, ℕ, ◌<◌, ◌≤◌, inl, inr, Bool, true, false, cond, nat_lt, not, List, [], ◌∷◌, map, Option, Some, None, ℤ, refl, sym, ap, subst, ◌∙◌, eqb-true, ltb-true, lt-ltb, le_of_eq, append-nil, arith}
 use Rattle.std.specs.Option.{option_map}
 use Rattle.afs_num.specs.Fids.{same_fid}
 use Rattle.afs_num.specs.Nodes.{same_node}
@@ -34,7 +38,7 @@ use Rattle.afs_num.specs.declared.types.Fid.{Fid}
 use Rattle.afs_num.specs.declared.types.Head.{Head}
 use Rattle.afs_num.specs.declared.types.Key.{Key}
 use Rattle.afs_num.specs.declared.types.Node.{Node}
-use Rattle.afs_num.specs.declared.types.Node.TheVariants.{Client}
+use Rattle.afs_num.specs.declared.types.Node.TheVariants.{Loc, Server, Client, Admin}
 use Rattle.afs_num.specs.declared.calls.AfsCallBack.{AfsCallBack}
 use Rattle.afs_num.specs.declared.calls.AfsFetchStatus.{AfsFetchStatus}
 use Rattle.afs_num.specs.declared.calls.AfsVolSync.{AfsVolSync}
@@ -43,19 +47,20 @@ use Rattle.afs_num.specs.declared.calls.FsReply.{FsReply}
 use Rattle.afs_num.specs.declared.messages.Carried.{Carried}
 use Rattle.afs_num.specs.declared.messages.Message.{Message}
 use Rattle.afs_num.specs.declared.messages.Received.TheVariants.{Whole}
-use Rattle.afs_law.specs.ClientRow as ClientRow
 use Rattle.afs_num.specs.declared.scripts.Script.{Script}
-use Rattle.afs_num.specs.declared.histories.Actor.TheVariants as actors
 use Rattle.afs_num.specs.declared.histories.ReadSource.TheVariants.{Fetched}
 use Rattle.std.proofs.Math.Nat.{le_refl, le_trans, eq-or-lt_of_le}
 use Rattle.afs_num.specs.declared.histories.Body.{Body}
 use Rattle.afs_num.specs.declared.calls.AfsStoreStatus.{AfsStoreStatus}
+use Rattle.afs_num.specs.declared.histories.ReadBody.TheVariants as seen
+use Rattle.afs_rows.specs.ClientRow as ClientRow
+use Rattle.afs_num.specs.declared.histories.Actor.TheVariants as actors
 use Rattle.afs_num.specs.declared.calls.FsReply.TheVariants as replies
 use Rattle.afs_num.specs.declared.messages.Carried.TheVariants as carried
 use Rattle.afs_num.specs.declared.messages.Reply.TheVariants as tell
 use Rattle.afs_num.specs.declared.messages.Call.TheVariants as ask
 use Rattle.afs_num.specs.declared.histories.Body.TheVariants as bodies
-use Rattle.afs_law.specs.Lines as lines
+use Rattle.afs_history.specs.declared.lines.Line.TheVariants as lines
 use Rattle.afs_num.specs.declared.calls.FsCall.TheVariants as calls
 
 -- The clients' steps that answer an act.
@@ -84,17 +89,18 @@ idle_newest j f i server newer v past none (inl a) = a.newest
 idle_newest j f i server newer v past none (inr o) = absurd (not_waiting j f i server newer v past none o)
 
 -- how far an act that begins comes
-abbrev pub begun_walk : ClientState → ℕ → Act → Walked
-begun_walk x clock act = walked (most_reads (began act)) clock (began act) x.cache
+abbrev pub begun_walk : Script → ClientState → ℕ → Act → Walked
+begun_walk s x clock act = walked (most_reads (began (locations s) act)) clock (began (locations s) act) x.cache
 
-pub begun_walks : (s : Script) (c : Cell) (past : List Entry) (n : ℕ) (act : Act) → (h : Holds s c past) → (c.clients n).running ≡ None → Walks s c past n (h.floors n).held (lines.Begin (Client n) act ∷ []) (began act) (c.clients n).cache
+pub begun_walks : (s : Script) (c : Cell) (past : List Entry) (n : ℕ) (act : Act) → (h : Holds s c past) → (c.clients n).running ≡ None → Walks s c past n (h.floors n).held (lines.Begin (Client n) act ∷ []) (began (locations s) act) (c.clients n).cache
 begun_walks s c past n act h none = record {
   good = λ tail g. (refl, g);
   quiet = (refl, tt);
-  runs = own_begun n (began act) (running (Client n) (lines_of past));
+  runs = own_begun n (began (locations s) act) (running s (Client n) (lines_of past));
   ready = λ g u found lasts. let cur = (h.clients n).current g u found lasts in record {
     reply = cur.reply;
     boot = cur.boot;
+    from = cur.from;
     held = cur.held;
     newest = idle_newest n g u.index _ _ (view h.floors c n) past none cur.state;
     low = idle_reached n g u.index _ _ (view h.floors c n) past none cur.state;
@@ -107,30 +113,42 @@ begun_walks s c past n act h none = record {
 }
 
 pub begun_on : (s : Script) (c : Cell) (past : List Entry) (n : ℕ) (act : Act) → (h : Holds s c past) → (c.clients n).running ≡ None
-    → Walks s c past n (h.floors n).held (lines.Begin (Client n) act ∷ looked (Client n) (begun_walk (c.clients n) c.clock act).looks []) (begun_walk (c.clients n) c.clock act).act (begun_walk (c.clients n) c.clock act).cache
-begun_on s c past n act h none = walks_on (most_reads (began act)) s c past n (h.floors n).held (lines.Begin (Client n) act ∷ []) (began act) (c.clients n).cache h (begun_walks s c past n act h none)
+    → Walks s c past n (h.floors n).held (lines.Begin (Client n) act ∷ looked (Client n) (begun_walk s (c.clients n) c.clock act).looks []) (begun_walk s (c.clients n) c.clock act).act (begun_walk s (c.clients n) c.clock act).cache
+begun_on s c past n act h none = walks_on (most_reads (began (locations s) act)) s c past n (h.floors n).held (lines.Begin (Client n) act ∷ []) (began (locations s) act) (c.clients n).cache h (begun_walks s c past n act h none)
+
+-- what a walk's cache holds of bodies stays that of versions
+pub walk_old : (n : ℕ) (cache less : List CacheEntry) (ls : List Line) (ms : List Message) (past : List Entry) → AreQuiet n ls → ((f : Fid) (u : CacheEntry) → find_cached f less ≡ Some u → find_cached f cache ≡ Some u) → HasOld cache (lines_of past) → HasOld less (lines_of (step_entry n ls ms ∷ past))
+walk_old n cache less ls ms past q w h = old_over less (lines_of past) (lines_of (step_entry n ls ms ∷ past)) (λ f i b x. (quiet_grant n n f ls ms past q).version i b (lines_of past) x) (old_within cache less (lines_of past) w h)
+
+-- an act begins with these lines
+abbrev pub begin_lines : ℕ → Act → List Line → List Line
+begin_lines n act ls = lines.Begin (Client n) act ∷ ls
+
+abbrev pub unbusied : ClientState → ClientState
+unbusied x = record x { busy = 0 }
 
 abbrev pub with_lines : Cell → ℕ → ClientState → List Message → List Line → Moved
 with_lines c n x ms ls = client_moves c n (record { state = x; lines = ls; sent = ms })
 
 -- all that the act needed was in the cache
-pub begun_answered : (s : Script) (c : Cell) (past : List Entry) (n : ℕ) (act : Act) (k : ℕ) → Holds s c past → (c.clients n).running ≡ None → next (begun_walk (c.clients n) c.clock act).act ≡ answers k
-    → Goes s past (client_moves c n (goes_by (Client n) (c.clients n) (lines.Begin (Client n) act) (begun_walk (c.clients n) c.clock act) (answers k)))
+pub begun_answered : (s : Script) (c : Cell) (past : List Entry) (n : ℕ) (act : Act) (k : ℕ) → Holds s c past → (c.clients n).running ≡ None → next (begun_walk s (c.clients n) c.clock act).act ≡ answers k
+    → Goes s past (client_moves c n (goes_by (Client n) (unbusied (c.clients n)) (begin_lines n act) (begun_walk s (c.clients n) c.clock act) (answers k)))
 begun_answered s c past n act k h none is =
     let x : ClientState = c.clients n in
     let d = h.clients n in
-    let w : Walked = begun_walk x c.clock act in
+    let w : Walked = begun_walk s x c.clock act in
     let ls : List Line = lines.Begin (Client n) act ∷ looked (Client n) w.looks [] in
     let tail : List Line = lines.Answer (Client n) (record { 0 = pos k }) ∷ [] in
     let W : Walks s c past n (h.floors n).held ls w.act w.cache = begun_on s c past n act h none in
-    let y : ClientState = record x { running = None; cache = w.cache } in
+    let y : ClientState = ended (unbusied x) w.cache in
+    let kind : IsClient s y = client_ended s (unbusied x) w.cache (record { table = (h.own n).table; user = (h.own n).user; callee = λ a z. (h.own n).callee a z; apart = (h.own n).apart }) (walked_apart (most_reads (began (locations s) act)) c.clock (began (locations s) act) x.cache (h.own n).apart) in
     let e : Entry = step_entry n (ls ++ tail) [] in
     let t : AreTail n tail = (refl, tt) in
     let ends : EndsReach n tail = ends_answered n (record { 0 = pos k }) in
     let v : View = view_after c n (h.floors n) y in
     let over : (m : Message) → ReplyFact n (view h.floors c n) past m → ReplyFact n v (e ∷ past) m = λ m f. idle_reply n (view h.floors c n) v past (e ∷ past) m refl refl refl refl refl refl refl f in
     subst (λ (os : List Line). Goes s past (with_lines c n y [] (lines.Begin (Client n) act ∷ os))) (sym (looked_more (Client n) w.looks tail))
-    (moves s c past n (h.floors n) (record { state = y; lines = ls ++ tail; sent = [] }) h
+    (moves s c past n (h.floors n) (record { state = y; lines = ls ++ tail; sent = [] }) h kind
     (walk_answered s c past n (h.floors n).held ls w.act w.cache k W is)
     (quiet_passes s n (ls ++ tail) [] past (quiet_more n ls tail W.quiet (tail_quiet n tail t)) (W.dull tail t))
     (record {
@@ -143,9 +161,10 @@ begun_answered s c past n act k h none is =
       floored = d.floored;
       holds = d.holds;
       waits = λ b z. absurd cc;
-      idle = λ z. ap (running (Client n)) (onto_last (lines_of past) ls (lines.Answer (Client n) (record { 0 = pos k }))) ∙ own_ended n (running (Client n) (onto (lines_of past) ls));
+      idle = λ z. ap (running s (Client n)) (onto_last (lines_of past) ls (lines.Answer (Client n) (record { 0 = pos k }))) ∙ own_ended n (running s (Client n) (onto (lines_of past) ls));
       made = λ b z. absurd cc;
       current = λ g u found lasts. walk_current s c past n (h.floors n).held ls w.act w.cache tail [] v g u W t ends (le_refl _) (inr refl) found lasts;
+      old = walk_old n x.cache w.cache (ls ++ tail) [] past (quiet_more n ls tail W.quiet (tail_quiet n tail t)) (λ f u z. walked_found (most_reads (began (locations s) act)) c.clock (began (locations s) act) x.cache f u z) d.old;
       runs = λ b z. absurd cc;
       asked = λ b z. absurd cc;
       reached = walk_reached s c past n (h.floors n).held ls w.act w.cache tail [] W t ends;
@@ -156,7 +175,7 @@ begun_answered s c past n act k h none is =
       stale = f.stale;
       own = λ b z. absurd cc;
       safe = λ q above. safe_over call c.clock x.epoch x.last x.epoch x.last x.running None w.cache (IsAged (view h.floors c n) head) (IsAged v head) head (λ b z. let no_ : Some b ≡ None = sym z ∙ none in absurd cc) (λ z. (z.0, λ b r. absurd cc))
-          (safe_cache call c.clock x.epoch x.last x.running x.cache w.cache (IsAged (view h.floors c n) head) head (λ g z u at lasts. z u (walked_found (most_reads (began act)) c.clock (began act) x.cache g u at) lasts) (f.safe q above));
+          (safe_cache call c.clock x.epoch x.last x.running x.cache w.cache (IsAged (view h.floors c n) head) head (λ g z u at lasts. z u (walked_found (most_reads (began (locations s) act)) c.clock (began (locations s) act) x.cache g u at) lasts) (f.safe q above));
     })
     over (nothing_new _ _) (λ a z r. absurd cc) refl)
 
@@ -165,20 +184,21 @@ begun_not n rest S e = let yes : same_node (Client n) (Client n) ≡ true = same
 
 -- it calls for what is missing
 pub begun_calls : (s : Script) (c : Cell) (past : List Entry) (n : ℕ) (act : Act) → Holds s c past → (c.clients n).running ≡ None
-    → Goes s past (client_moves c n (goes_by (Client n) (c.clients n) (lines.Begin (Client n) act) (begun_walk (c.clients n) c.clock act) (asks_for calls.GetTime)))
+    → Goes s past (client_moves c n (goes_by (Client n) (unbusied (c.clients n)) (begin_lines n act) (begun_walk s (c.clients n) c.clock act) (asks_for calls.GetTime)))
 begun_calls s c past n act h none =
     let x : ClientState = c.clients n in
     let d = h.clients n in
-    let w : Walked = begun_walk x c.clock act in
+    let w : Walked = begun_walk s x c.clock act in
     let ls : List Line = lines.Begin (Client n) act ∷ looked (Client n) w.looks [] in
     let W : Walks s c past n (h.floors n).held ls w.act w.cache = begun_on s c past n act h none in
-    let y : ClientState = record x { last = x.last + 1; tries = 0; running = Some w.act; spoiled = false; cache = w.cache } in
-    let ms : List Message = call_message (Client n) (asking x w.act) w.act ∷ [] in
+    let y : ClientState = asking (record (unbusied x) { cache = w.cache }) w.act in
+    let kind : IsClient s y = client_asking s c past (record (unbusied x) { cache = w.cache }) w.act h (record { table = (h.own n).table; user = (h.own n).user; callee = λ a z. (h.own n).callee a z; apart = walked_apart (most_reads (began (locations s) act)) c.clock (began (locations s) act) x.cache (h.own n).apart }) in
+    let ms : List Message = call_message (Client n) y w.act ∷ [] in
     let e : Entry = step_entry n (ls ++ []) ms in
-    let g : Ghost = record { floor = c.server.boot; held = (h.floors n).held } in
+    let g : Ghost = record { floor = c.server.lasting.boot; held = (h.floors n).held } in
     let v : View = view_after c n g y in
     let not : LastRan v → ⊥ = λ ran. next_not _ _ _ _ (d.behind_durable ran.seat ran.at) ran.epoch ran.number in
-    let at : running (Client n) (onto (lines_of past) (ls ++ [])) ≡ Some w.act = ap (λ (os : List Line). running (Client n) (onto (lines_of past) os)) (append-nil ls) ∙ W.runs in
+    let at : running s (Client n) (onto (lines_of past) (ls ++ [])) ≡ Some w.act = ap (λ (os : List Line). running s (Client n) (onto (lines_of past) os)) (append-nil ls) ∙ W.runs in
     let idle : (a : Going) → x.running ≡ Some a → volume_changed (asked a) ≡ None = λ a z. let no_ : Some a ≡ None = sym z ∙ none in absurd cc in
     let over : (m : Message) → ReplyFact n (view h.floors c n) past m → ReplyFact n v (e ∷ past) m = λ m f. record {
       behind = up_to_next _ _ _ _ f.behind;
@@ -188,7 +208,7 @@ begun_calls s c past n act h none =
       answers = λ b runs z k. absurd (next_not _ _ _ _ f.behind z k);
     } in
     subst (λ (os : List Line). Goes s past (with_lines c n y ms os)) (append-nil ls)
-    (moves s c past n g (record { state = y; lines = ls ++ []; sent = ms }) h
+    (moves s c past n g (record { state = y; lines = ls ++ []; sent = ms }) h kind
     (W.good [] tt)
     (quiet_passes s n (ls ++ []) ms past (quiet_more n ls [] W.quiet tt) (W.dull [] tt))
     (record {
@@ -204,8 +224,9 @@ begun_calls s c past n act h none =
       idle = λ z. absurd cc;
       made = λ b z f o k. walk_made s c past n (h.floors n).held ls w.act w.cache [] ms f W (ends_here n);
       current = λ f u found lasts. walk_current s c past n (h.floors n).held ls w.act w.cache [] ms v f u W tt (ends_here n) (le_refl _) (inl not) found lasts;
+      old = walk_old n x.cache w.cache (ls ++ []) ms past (quiet_more n ls [] W.quiet tt) (λ f u z. walked_found (most_reads (began (locations s) act)) c.clock (began (locations s) act) x.cache f u z) d.old;
       runs = λ b z. at ∙ z;
-      asked = λ b z. subst (λ (a : Going). CalledSince (last_key n v) guest (asked a) (e ∷ past)) (some_of w.act b z) (inl (refl, inl (refl, ap (λ (k : FsCall). carried.Call guest (ask.File k)) (call_is w.act))));
+      asked = λ b z. subst (λ (a : Going). CalledSince (last_key n v) guest (asked a) (e ∷ past)) (some_of w.act b z) (inl (refl, inl (refl, carried_is y w.act kind.user)));
       reached = walk_reached s c past n (h.floors n).held ls w.act w.cache [] ms W tt (ends_here n);
     })
     (λ head call f. record {
@@ -214,19 +235,26 @@ begun_calls s c past n act h none =
       stale = λ z. f.booted;
       own = λ b z k u. absurd (next_not _ _ _ _ f.behind k u);
       safe = λ q above. safe_over call c.clock x.epoch x.last x.epoch (x.last + 1) x.running (Some w.act) w.cache (IsAged (view h.floors c n) head) (IsAged v head) head idle (λ z. (z.0, λ b k u r. next_not _ _ _ _ f.behind u r))
-          (safe_cache call c.clock x.epoch x.last x.running x.cache w.cache (IsAged (view h.floors c n) head) head (λ f z u found lasts. z u (walked_found (most_reads (began act)) c.clock (began act) x.cache f u found) lasts) (f.safe q above));
+          (safe_cache call c.clock x.epoch x.last x.running x.cache w.cache (IsAged (view h.floors c n) head) head (λ f z u found lasts. z u (walked_found (most_reads (began (locations s) act)) c.clock (began (locations s) act) x.cache f u found) lasts) (f.safe q above));
     })
-    over (own_call h.floors c past n g y w.act (ls ++ []) d.known refl at (new_one s c past n w.act h)) (λ a z k. begun_not n _ _ k) refl)
+    over (own_call h.floors c past n g y w.act (ls ++ []) d.known kind refl at (new_one s c past n y w.act h refl refl)) (λ a z k. begun_not n _ _ k) refl)
 
-begins_by : (need : Need) (s : Script) (c : Cell) (past : List Entry) (n : ℕ) (act : Act) → Holds s c past → (c.clients n).running ≡ None → next (begun_walk (c.clients n) c.clock act).act ≡ need
-    → Goes s past (client_moves c n (goes_by (Client n) (c.clients n) (lines.Begin (Client n) act) (begun_walk (c.clients n) c.clock act) need))
+begins_by : (need : Need) (s : Script) (c : Cell) (past : List Entry) (n : ℕ) (act : Act) → Holds s c past → (c.clients n).running ≡ None → next (begun_walk s (c.clients n) c.clock act).act ≡ need
+    → Goes s past (client_moves c n (goes_by (Client n) (unbusied (c.clients n)) (begin_lines n act) (begun_walk s (c.clients n) c.clock act) need))
 begins_by (answers k) s c past n act h none e = begun_answered s c past n act k h none e
 begins_by (reads f) s c past n act h none e = begun_calls s c past n act h none
+begins_by (reads_status f) s c past n act h none e = begun_calls s c past n act h none
+begins_by (reads_statuses fs) s c past n act h none e = begun_calls s c past n act h none
+begins_by (reads_rights f) s c past n act h none e = begun_calls s c past n act h none
 begins_by (asks_for call) s c past n act h none e = begun_calls s c past n act h none
+begins_by gives_back s c past n act h none e = begun_calls s c past n act h none
 
 pub begins_goes : (s : Script) (c : Cell) (past : List Entry) (n : ℕ) (act : Act) → Holds s c past → (c.clients n).running ≡ None → Goes s past (client_moves c n (begin_row (Client n) (c.clients n) c.clock act))
 unfolding begin_row
-begins_goes s c past n act h none = begins_by (next (begun_walk (c.clients n) c.clock act).act) s c past n act h none refl
+begins_goes s c past n act h none =
+    let x : ClientState = c.clients n in
+    subst (λ (t : List Location). Goes s past (client_moves c n (goes_on (Client n) (unbusied x) (begin_lines n act) (walked (most_reads (began t act)) c.clock (began t act) x.cache)))) (sym (h.own n).table)
+    (begins_by (next (begun_walk s x c.clock act).act) s c past n act h none refl)
 
 -- ---- the reply to the running act
 
@@ -236,13 +264,13 @@ pub record Due (c : Cell) (fl : ℕ → Ghost) (past : List Entry) (n p : ℕ) (
   pub number : m.head.number ≡ (c.clients n).last
   pub fact : ReplyFact n (view fl c n) past m
   pub key : answered_key m.head ≡ last_key n (view fl c n)
-  pub answers : Answers (c.clients n).spoiled n (asked act) (spot (view fl c n)) c.server.boot m past
+  pub answers : Answers (c.clients n).spoiled n (asked act) (spot (view fl c n)) c.server.lasting.boot m past
   pub heard : Heard c p m
   pub at : message_at (sent_of past) p ≡ Some m
 
 -- its act is answered with its code
 pub good_code : (s : Script) (c : Cell) (past : List Entry) (n p : ℕ) (act : Going) (m : Message) (code : Code) (own : List Line) → (h : Holds s c past) → Due c h.floors past n p act m → code_told m.carried ≡ Some code.0 → given_message own (sent_of past) ≡ message_at (sent_of past) p
-    → has_begun (Client n) own ≡ false → running (Client n) (own ++ lines_of past) ≡ running (Client n) (lines_of past) → GoodCode (Client n) code past own
+    → has_begun (Client n) own ≡ false → running s (Client n) (own ++ lines_of past) ≡ running s (Client n) (lines_of past) → GoodCode s (Client n) code past own
 good_code s c past n p act m code own h d told by none still =
     let cause : Cause m code.0 (asked act) past [] = subst (λ (z : ℤ). Cause m z (asked act) past []) (some_of _ _ (sym d.answers.cause.told ∙ told)) d.answers.cause in
     let asked_now : CalledSince (answered_key m.head) guest (asked act) past = subst (λ (k : Key). CalledSince k guest (asked act) past) (sym d.key) ((h.clients n).asked act d.running) in
@@ -275,8 +303,13 @@ set_safe (calls.StoreAcl f acl) n x m past status t e l cache aged head fits non
 set_safe (calls.StoreStatus f st) n x m past status t e l cache aged head fits none = absurd (none fits.1.0.ran)
 set_safe call n x m past status t e l cache aged head fits none = plain_safe call x m t e l cache aged head (volume_changed call) refl fits none
 
+pub shown_safe : (sp : Bool) (call : FsCall) (n : ℕ) (x : Spot) (m : Message) (past : List Entry) (status : AfsFetchStatus) (callback : AfsCallBack) (t e l : ℕ) (cache : List CacheEntry) (aged : Type 0) (head : Head) → FitsShown sp n x m past status callback call → (LastStored x → ⊥) → IsSafe t e l None cache aged head call
+shown_safe sp (calls.FetchStatus f) n x m past status callback t e l cache aged head fits none = inl refl
+shown_safe sp call n x m past status callback t e l cache aged head fits none = plain_safe call x m t e l cache aged head (volume_changed call) refl fits none
+
 pub reply_safe : (sp : Bool) (reply : FsReply) (n : ℕ) (call : FsCall) (x : Spot) (m : Message) (past : List Entry) (t e l : ℕ) (cache : List CacheEntry) (aged : Type 0) (head : Head) → FitsReply sp n call x m past reply → (LastStored x → ⊥) → IsSafe t e l None cache aged head call
 reply_safe sp (replies.FetchData contents status callback sync) n call x m past t e l cache aged head fits none = data_safe sp call n x m past contents status callback t e l cache aged head fits none
+reply_safe sp (replies.FetchStatus status callback sync) n call x m past t e l cache aged head fits none = shown_safe sp call n x m past status callback t e l cache aged head fits none
 reply_safe sp (replies.StoreData status sync) n call x m past t e l cache aged head fits none = set_safe call n x m past status t e l cache aged head fits none
 reply_safe sp (replies.StoreAcl status sync) n call x m past t e l cache aged head fits none = set_safe call n x m past status t e l cache aged head fits none
 reply_safe sp (replies.StoreStatus status sync) n call x m past t e l cache aged head fits none = set_safe call n x m past status t e l cache aged head fits none
@@ -292,13 +325,13 @@ abbrev pub holding : (ℕ → Ghost) → ℕ → ℕ → Ghost
 holding fl n held = record { floor = (fl n).floor; held = held }
 
 -- what a client holds that waited for a reply of an older boot
-pub old_held : (s : Script) (c : Cell) (past : List Entry) (n : ℕ) (act : Going) (m : Message) (held : ℕ) → (h : Holds s c past) → {p : ℕ} → Due c h.floors past n p act m → held ≡ (h.floors n).held → m.head.boot < c.server.boot → held < c.server.boot
+pub old_held : (s : Script) (c : Cell) (past : List Entry) (n : ℕ) (act : Going) (m : Message) (held : ℕ) → (h : Holds s c past) → {p : ℕ} → Due c h.floors past n p act m → held ≡ (h.floors n).held → m.head.boot < c.server.lasting.boot → held < c.server.lasting.boot
 old_held s c past n act m held h {p} d same l =
     let a : (h.floors n).held ≤ (h.floors n).floor = (h.clients n).waits act d.running in
     let b : (h.floors n).floor ≤ m.head.boot = d.fact.recent d.epoch d.number in
     omega arith
 
-pub below_boot : (s : Script) (c : Cell) (past : List Entry) (n : ℕ) (act : Going) (m : Message) (head : Head) → (h : Holds s c past) → {p : ℕ} → Due c h.floors past n p act m → head.epoch ≡ (c.clients n).epoch → head.number ≡ (c.clients n).last → Above (call_seat (Client n) c.server.seats) head.epoch head.number → m.head.boot < c.server.boot
+pub below_boot : (s : Script) (c : Cell) (past : List Entry) (n : ℕ) (act : Going) (m : Message) (head : Head) → (h : Holds s c past) → {p : ℕ} → Due c h.floors past n p act m → head.epoch ≡ (c.clients n).epoch → head.number ≡ (c.clients n).last → Above (call_seat (Client n) c.server.seats) head.epoch head.number → m.head.boot < c.server.lasting.boot
 below_boot s c past n act m head h {p} d e k above = elim (eq-or-lt_of_le d.fact.booted) [
   | inl same ↦ absurd (d.fact.tied same (subst (λ (x : ℕ). Above (call_seat (Client n) c.server.seats) x m.head.number) (e ∙ sym d.epoch) (subst (λ (x : ℕ). Above (call_seat (Client n) c.server.seats) head.epoch x) (k ∙ sym d.number) above)))
   | inr l ↦ l
@@ -315,7 +348,7 @@ ended_calls s c past n p act m cache held h d w head call f = record {
   safe = λ q above. elim (up_to_by _ _ _ _ f.behind) [
     | inl l ↦ absurd (stale_none h.floors c past n head call m f q above d.fact d.epoch d.number l)
     | inr same ↦ subst (λ (x : FsCall). IsSafe c.clock (c.clients n).epoch (c.clients n).last None cache (IsAged (view_after c n (holding h.floors n held) (ended (c.clients n) cache)) head) head x) (sym (f.own act d.running same.0 same.1))
-        (ended_safe (c.clients n).spoiled n (asked act) (spot (view h.floors c n)) c.server.boot m m.carried past c.clock (c.clients n).epoch (c.clients n).last cache (IsAged (view_after c n (holding h.floors n held) (ended (c.clients n) cache)) head) head d.answers.fits (not_ran (view h.floors c n) head.epoch head.number ((h.clients n).lower head.epoch head.number above) f.behind)
+        (ended_safe (c.clients n).spoiled n (asked act) (spot (view h.floors c n)) c.server.lasting.boot m m.carried past c.clock (c.clients n).epoch (c.clients n).last cache (IsAged (view_after c n (holding h.floors n held) (ended (c.clients n) cache)) head) head d.answers.fits (not_ran (view h.floors c n) head.epoch head.number ((h.clients n).lower head.epoch head.number above) f.behind)
         (λ code is. (old_held s c past n act m held h d (w code is) (below_boot s c past n act m head h d same.0 same.1 above), λ a y. absurd cc)))
   ];
 }
@@ -323,9 +356,9 @@ ended_calls s c past n p act m cache held h d w head call f = record {
 pub ended_reply : (s : Script) (c : Cell) (past : List Entry) (n : ℕ) (cache : List CacheEntry) (held : ℕ) (e : Entry) → (h : Holds s c past) → (m : Message) → ReplyFact n (view h.floors c n) past m → ReplyFact n (view_after c n (holding h.floors n held) (ended (c.clients n) cache)) (e ∷ past) m
 ended_reply s c past n cache held e h m f = idle_reply n (view h.floors c n) (view_after c n (holding h.floors n held) (ended (c.clients n) cache)) past (e ∷ past) m refl refl refl refl refl refl refl f
 
-pub ended_facts : (s : Script) (c : Cell) (past : List Entry) (n : ℕ) (cache : List CacheEntry) (held : ℕ) (e : Entry) → (h : Holds s c past) → held ≤ c.server.boot → running (Client n) (lines_of (e ∷ past)) ≡ None → HasCurrent n (view_after c n (holding h.floors n held) (ended (c.clients n) cache)) (e ∷ past) → ((f : Fid) → Reached (Client n) f (index_in (last_version f (lines_of (e ∷ past)))) (e ∷ past))
-    → ClientFacts n (view_after c n (holding h.floors n held) (ended (c.clients n) cache)) (e ∷ past)
-ended_facts s c past n cache held e h le idle cur r =
+pub ended_facts : (s : Script) (c : Cell) (past : List Entry) (n : ℕ) (cache : List CacheEntry) (held : ℕ) (e : Entry) → (h : Holds s c past) → held ≤ c.server.lasting.boot → running s (Client n) (lines_of (e ∷ past)) ≡ None → HasCurrent n (view_after c n (holding h.floors n held) (ended (c.clients n) cache)) (e ∷ past) → HasOld cache (lines_of (e ∷ past)) → ((f : Fid) → Reached (Client n) f (index_in (last_version f (lines_of (e ∷ past)))) (e ∷ past))
+    → ClientFacts s n (view_after c n (holding h.floors n held) (ended (c.clients n) cache)) (e ∷ past)
+ended_facts s c past n cache held e h le idle cur old r =
     let d = h.clients n in
     let v : View = view_after c n (holding h.floors n held) (ended (c.clients n) cache) in
     record {
@@ -341,6 +374,7 @@ ended_facts s c past n cache held e h le idle cur r =
       idle = λ y. idle;
       made = λ b y. absurd cc;
       current = cur;
+      old = old;
       runs = λ b y. absurd cc;
       asked = λ b y. absurd cc;
       reached = r;
@@ -365,7 +399,7 @@ pub refused_stands : (s : Script) (c : Cell) (past : List Entry) (n p : ℕ) (ac
 refused_stands s c past n p act head code e f u h d cur r g stay (inl a) = inl (record { reached = r u.index a.reached; newest = stay _ u.index _ cur.held.server a.newest; before = λ y x sc ran. absurd cc })
 refused_stands s c past n p act head code e f u h d cur r g stay (inr o) =
     let m : Message = record { head = head; carried = carried.Refusal code } in
-    let l : m.head.boot < c.server.boot = d.answers.fits.1 o.ran in
+    let l : m.head.boot < c.server.lasting.boot = d.answers.fits.1 o.ran in
     inl (record { reached = r u.index o.was; newest = inl (g.withdrawn _ _ (old_withdrawn s c past n f u h cur (old_held s c past n act m (h.floors n).held h d refl l))); before = λ y x sc ran. absurd cc })
 
 pub takes_refused : (s : Script) (c : Cell) (past : List Entry) (n p : ℕ) (act : Going) (head : Head) (code : Code) → (h : Holds s c past) → Due c h.floors past n p act (record { head = head; carried = carried.Refusal code }) → Goes s past (client_moves c n (answers_step (Client n) (c.clients n) p code))
@@ -374,34 +408,66 @@ takes_refused s c past n p act head code h d =
     let e : Entry = step_entry n (answered_lines n p code) [] in
     let nz : is_zero_code code ≡ false = d.answers.fits.0 in
     let held : ℕ = (h.floors n).held in
-    moves s c past n (holding h.floors n held) (answers_step (Client n) (c.clients n) p code) h
+    moves s c past n (holding h.floors n held) (answers_step (Client n) (c.clients n) p code) h (client_ended s (c.clients n) (c.clients n).cache (h.own n) (h.own n).apart)
     (tt, ((refl, good_code s c past n p act m code (lines.Given p ∷ []) h d refl refl refl refl), tt))
     (answered_passes s c past n p m code h d.heard)
-    (ended_facts s c past n (c.clients n).cache held e h (h.clients n).holds (own_ended n (running (Client n) (lines_of past)))
+    (ended_facts s c past n (c.clients n).cache held e h (h.clients n).holds (own_ended n (running s (Client n) (lines_of past)))
     (λ f u found lasts. let cur : IsCurrent n f u (view h.floors c n) past = (h.clients n).current f u found lasts in
     let file : PassesFile n f e past = answered_file n n p code past f in
     record {
       reply = cur.reply;
       boot = cur.boot;
       by = fetch_reply_by (has_fetched (Client n) f e.lines) (given_message e.lines (sent_of past)) (fetch_reply (Client n) f past) file.fetched ∙ cur.by;
-      held = held_over n f u.index u.body u.expiry cur.reply e past file.grant cur.held;
+      from = cur.from;
+      held = held_over n f u.index u.status u.body u.expiry cur.reply e past file.grant cur.held;
       state = refused_stands s c past n p act head code e f u h d cur (answered_seen n n p code past f (λ t z. yes_no (is_zero_code code) z nz)) file.grant (stays n f e past file.grant refl) cur.state;
     })
+    (old_over (c.clients n).cache (lines_of past) (lines_of (e ∷ past)) (λ f i b z. (answered_file n n p code past f).grant.version i b (lines_of past) z) (h.clients n).old)
     (reached_still s c past n e h (answered_reach n n p code past) (λ f. refl)))
     (ended_calls s c past n p act m (c.clients n).cache held h d (λ k is. refl)) (ended_reply s c past n (c.clients n).cache held e h) (nothing_new _ _) (λ a x z. absurd cc) refl
 
 -- the client calls again
-pub again_goes : (s : Script) (c : Cell) (past : List Entry) (n p : ℕ) (act : Going) (m : Message) → (h : Holds s c past) → Due c h.floors past n p act m → volume_changed (asked act) ≡ None → Goes s past (client_moves c n (calls_step (Client n) (c.clients n) act (lines.Given p)))
+pub again_goes : (s : Script) (c : Cell) (past : List Entry) (n p : ℕ) (act : Going) (m : Message) → (h : Holds s c past) → Due c h.floors past n p act m → volume_changed (asked act) ≡ None → Goes s past (client_moves c n (calls_again (Client n) (c.clients n) p act))
 again_goes s c past n p act m h d shut =
     asks s c past n act (lines.Given p) h (tt, tt) (told_passes s c past n p _ _ h d.heard) (λ g. told_file n p g (actors.Node (Client n)) _ past) (λ g. told_reach n p g (actors.Node (Client n)) _ past) (λ g o. (h.clients n).made act d.running g o (inl shut)) (λ b y. ap (λ (z : Going). volume_changed (asked z)) (some_of b act (sym y ∙ d.running)) ∙ shut) ((h.clients n).runs act d.running) (λ z. d.running)
 
 -- ---- what was fetched is read, and the act goes on
 
-abbrev pub read_now : ℕ → ℕ → CacheEntry → List Line
-read_now n p u = lines.Given p ∷ lines.Read (Client n) u.fid u.index Fetched u.body ∷ []
+abbrev pub read_now : ℕ → ℕ → CacheEntry → ReadBody → List Line
+read_now n p u body = lines.Given p ∷ lines.Read (Client n) u.fid u.index Fetched body ∷ []
 
-abbrev pub fetched_walk : ClientState → ℕ → Going → CacheEntry → Walked
-fetched_walk x clock act u = walked (most_reads act) clock (with_read u.fid u.body act) (used_first u x.cache)
+abbrev pub fetched_walk : ClientState → ℕ → Going → CacheEntry → ReadBody → Walked
+fetched_walk x clock act u body = walked (most_reads act) clock (with_read u.fid body act) (put_entry x.capacity u x.cache)
+
+-- a reply's entry has a body of its version, whether the reply or the cache had it
+kept_whole_by : (t : Bool) (f : Fid) (i : ℕ) (status : ReadStatus) (b : Option Body) (old : CacheEntry) (past : List Entry) → nat_eq old.index i ≡ t → Ones (lines_of past) → (w : IsWhole f i status None past) → IsOld f old.index old.body (lines_of past) → old.body ≡ b → IsWhole f i status (cond t b None) past
+kept_whole_by true f i status None old past e one w h is = w
+kept_whole_by true f i status (Some k) old past e one w h is =
+    let had : HasVersion f i k (lines_of past) = subst (λ (j : ℕ). HasVersion f j k (lines_of past)) (eqb-true old.index i e) (subst (λ (o : Option Body). IsOld f old.index o (lines_of past)) is h) in
+    record { is = w.is; told = w.told; holds = one f i k w.is had w.told; been = w.been }
+kept_whole_by false f i status b old past e one w h is = w
+
+kept_whole : (b : Option Body) (o : Option CacheEntry) (f : Fid) (i : ℕ) (status : ReadStatus) (cache : List CacheEntry) (past : List Entry) → find_cached f cache ≡ o → Ones (lines_of past) → HasOld cache (lines_of past) → IsWhole f i status b past → IsWhole f i status (ClientRow.body_kept b i o) past
+kept_whole (Some k) o f i status cache past e one h w = w
+kept_whole None None f i status cache past e one h w = w
+kept_whole None (Some old) f i status cache past e one h w = kept_whole_by (nat_eq old.index i) f i status old.body old past refl one w (h f old e) refl
+
+old_of : (b : Option Body) (f : Fid) (i : ℕ) (is : Body) (ls : List Line) → IsBody b is → HasVersion f i is ls → IsOld f i b ls
+old_of None f i is ls h told = tt
+old_of (Some k) f i is ls h told = subst (λ (y : Body). HasVersion f i y ls) (sym h) told
+
+pub whole_old : (f : Fid) (i : ℕ) (status : ReadStatus) (b : Option Body) (past : List Entry) → IsWhole f i status b past → IsOld f i b (lines_of past)
+whole_old f i status b past w = old_of b f i w.is (lines_of past) w.holds w.told
+
+-- what a cache holds where such an entry was put
+pub put_found : (k : ℕ) (g : Fid) (u : CacheEntry) (cache : List CacheEntry) (v : CacheEntry) → find_cached g (put_entry k u cache) ≡ Some v → ((u.fid ≡ g) × (joined u cache ≡ v)) ⊎ ((u.fid ≡ g → ⊥) × (find_cached g cache ≡ Some v))
+put_found k g u cache v e = found-first g (joined u cache) cache v (found_take k g (used_first (joined u cache) cache) v e)
+
+pub put_old : (k : ℕ) (u : CacheEntry) (cache : List CacheEntry) (past : List Entry) → IsWhole u.fid u.index u.status (joined u cache).body past → HasOld cache (lines_of past) → HasOld (put_entry k u cache) (lines_of past)
+put_old k u cache past w h g v e = elim (put_found k g u cache v e) [
+  | inl q ↦ subst (λ (y : CacheEntry). IsOld g y.index y.body (lines_of past)) q.1 (subst (λ (y : Fid). IsOld y u.index (joined u cache).body (lines_of past)) q.0 (whole_old u.fid u.index u.status (joined u cache).body past w))
+  | inr q ↦ h g v q.1
+]
 
 pub both_not : (a b : Bool) → (a ≡ true → b ≡ true → ⊥) → (a && b) ≡ false
 both_not true true h = absurd (h refl refl)
@@ -411,15 +477,18 @@ both_not false b h = refl
 used_reply : (n : ℕ) (f : Fid) (rest : Bool) (o u : Option Message) → cond (cond (same_node (Client n) (Client n) && same_fid f f) true rest) o u ≡ o
 used_reply n f rest o u = rw (same_node-refl (Client n), same_fid-refl f) refl
 
-pub fetched_walks : (s : Script) (c : Cell) (past : List Entry) (n p : ℕ) (act : Going) (m : Message) (u : CacheEntry) → (h : Holds s c past) → Due c h.floors past n p act m → volume_changed (asked act) ≡ None → IsFetched false n u.fid u.index u.body u.expiry m past → c.clock < u.expiry
-    → Walks s c past n c.server.boot (read_now n p u) (with_read u.fid u.body act) (used_first u (c.clients n).cache)
-fetched_walks s c past n p act m u h d shut a lt =
+pub fetched_walks : (s : Script) (c : Cell) (past : List Entry) (n p : ℕ) (act : Going) (m : Message) (u : CacheEntry) (body : ReadBody) → (h : Holds s c past) → Due c h.floors past n p act m → volume_changed (asked act) ≡ None → u.server ≡ the_server → Shows u.fid u.index body past (lines.Given p ∷ []) → IsFetched false n u.fid u.index u.status u.body u.expiry m past → c.clock < u.expiry
+    → Walks s c past n c.server.lasting.boot (read_now n p u body) (with_read u.fid body act) (put_entry (c.clients n).capacity u (c.clients n).cache)
+fetched_walks s c past n p act m u body h d shut from shown a lt =
     let none : (g : Fid) → (reach (Client n) g past).made ≡ 0 = λ g. (h.clients n).made act d.running g (no_scope (asked act) g shut) (inl shut) in
     let raised_by : (g : Fid) (k : ℕ) → (same_fid u.fid g ≡ true → u.index ≤ k) → (reach (Client n) g past).seen ≤ k → raised (same_node (Client n) (Client n) && same_fid u.fid g) u.index (reach (Client n) g past).seen ≤ k = λ g k le h. raised_up_to (same_node (Client n) (Client n) && same_fid u.fid g) u.index (reach (Client n) g past).seen k (λ t. le (both (same_node (Client n) (Client n)) (same_fid u.fid g) t).1) h in
-    let mine : Ready n c.server.boot u.fid u (read_now n p u) past = record {
+    let one : CacheEntry = joined u (c.clients n).cache in
+    let whole : IsWhole u.fid u.index u.status one.body past = kept_whole u.body (find_cached u.fid (c.clients n).cache) u.fid u.index u.status (c.clients n).cache past refl h.one (h.clients n).old a.held.whole in
+    let mine : Ready n c.server.lasting.boot u.fid one (read_now n p u body) past = record {
       reply = m;
       boot = d.fact.booted;
-      held = a.held;
+      from = from;
+      held = record { grant = a.held.grant; server = a.held.server; kept = a.held.kept; whole = whole; base = a.held.base; split = a.held.split; begun = a.held.begun };
       newest = a.newest;
       low = raised_by u.fid u.index (λ t. le_refl _) a.reached;
       by = used_reply n u.fid false (message_at (sent_of past) p) (fetch_reply (Client n) u.fid past) ∙ d.at;
@@ -432,7 +501,7 @@ fetched_walks s c past n p act m u h d shut a lt =
           (
             refl,
             record {
-              whole = a.held.whole;
+              whole = shown;
               not_older = a.reached;
               reply = m;
               by = d.at;
@@ -447,9 +516,9 @@ fetched_walks s c past n p act m u h d shut a lt =
         ),
       );
       quiet = (tt, (refl, tt));
-      runs = own_read n u.fid u.body act (running (Client n) (lines_of past)) ((h.clients n).runs act d.running);
-      ready = λ g w found lasts. elim (found-first g u (c.clients n).cache w found) [
-        | inl q ↦ subst (λ (y : CacheEntry). Ready n c.server.boot g y (read_now n p u) past) q.1 (subst (λ (y : Fid). Ready n c.server.boot y u (read_now n p u) past) q.0 mine)
+      runs = own_read n u.fid body act (running s (Client n) (lines_of past)) ((h.clients n).runs act d.running);
+      ready = λ g w found lasts. elim (put_found (c.clients n).capacity g u (c.clients n).cache w found) [
+        | inl q ↦ subst (λ (y : CacheEntry). Ready n c.server.lasting.boot g y (read_now n p u body) past) q.1 (subst (λ (y : Fid). Ready n c.server.lasting.boot y one (read_now n p u body) past) q.0 mine)
         | inr q ↦
             let cur = (h.clients n).current g w q.1 lasts in
             let not : (same_node (Client n) (Client n) && same_fid u.fid g) ≡ false = both_not (same_node (Client n) (Client n)) (same_fid u.fid g) (λ y z. q.0 (same_fid-true u.fid g z)) in
@@ -460,6 +529,7 @@ fetched_walks s c past n p act m u h d shut a lt =
             record {
               reply = cur.reply;
               boot = le_trans cur.boot (h.clients n).holds;
+              from = cur.from;
               held = cur.held;
               newest = plain.newest;
               low = raised_by g w.index (λ t. absurd (q.0 (same_fid-true u.fid g t))) plain.reached;
@@ -467,52 +537,54 @@ fetched_walks s c past n p act m u h d shut a lt =
               later = λ tail t. ap (λ (b : Bool). cond (cond b true (has_fetched (Client n) g tail)) (message_at (sent_of past) p) (fetch_reply (Client n) g past)) not ∙ (ap (λ (b : Bool). cond b (message_at (sent_of past) p) (fetch_reply (Client n) g past)) (tail_fetched n (Client n) g tail t) ∙ cur.by);
             }
       ];
-      up = λ g. raised_by g (index_in (last_version g (lines_of past))) (λ t. subst (λ (z : Fid). u.index ≤ index_in (last_version z (lines_of past))) (same_fid-true u.fid g t) (h.top u.fid u.index u.body a.held.whole)) ((h.clients n).reached g).seen;
+      up = λ g. raised_by g (index_in (last_version g (lines_of past))) (λ t. subst (λ (z : Fid). u.index ≤ index_in (last_version z (lines_of past))) (same_fid-true u.fid g t) (h.top u.fid u.index a.held.whole.is a.held.whole.told)) ((h.clients n).reached g).seen;
       made = none;
       dull = λ tail t k boot y. heard_dull s c past p m h d.heard k boot y;
     }
 
-pub fetched_on : (s : Script) (c : Cell) (past : List Entry) (n p : ℕ) (act : Going) (m : Message) (u : CacheEntry) → (h : Holds s c past) → Due c h.floors past n p act m → volume_changed (asked act) ≡ None → IsFetched false n u.fid u.index u.body u.expiry m past → c.clock < u.expiry
-    → Walks s c past n c.server.boot (lines.Given p ∷ lines.Read (Client n) u.fid u.index Fetched u.body ∷ looked (Client n) (fetched_walk (c.clients n) c.clock act u).looks []) (fetched_walk (c.clients n) c.clock act u).act (fetched_walk (c.clients n) c.clock act u).cache
-fetched_on s c past n p act m u h d shut a lt = walks_on (most_reads act) s c past n c.server.boot (read_now n p u) (with_read u.fid u.body act) (used_first u (c.clients n).cache) h (fetched_walks s c past n p act m u h d shut a lt)
+pub fetched_on : (s : Script) (c : Cell) (past : List Entry) (n p : ℕ) (act : Going) (m : Message) (u : CacheEntry) (body : ReadBody) → (h : Holds s c past) → Due c h.floors past n p act m → volume_changed (asked act) ≡ None → u.server ≡ the_server → Shows u.fid u.index body past (lines.Given p ∷ []) → IsFetched false n u.fid u.index u.status u.body u.expiry m past → c.clock < u.expiry
+    → Walks s c past n c.server.lasting.boot (lines.Given p ∷ lines.Read (Client n) u.fid u.index Fetched body ∷ looked (Client n) (fetched_walk (c.clients n) c.clock act u body).looks []) (fetched_walk (c.clients n) c.clock act u body).act (fetched_walk (c.clients n) c.clock act u body).cache
+fetched_on s c past n p act m u body h d shut from shown a lt = walks_on (most_reads act) s c past n c.server.lasting.boot (read_now n p u body) (with_read u.fid body act) (put_entry (c.clients n).capacity u (c.clients n).cache) h (fetched_walks s c past n p act m u body h d shut from shown a lt)
 
-pub fetched_answered : (s : Script) (c : Cell) (past : List Entry) (n p : ℕ) (act : Going) (m : Message) (u : CacheEntry) (k : ℕ) → (h : Holds s c past) → Due c h.floors past n p act m → ((code : Code) → m.carried ≡ carried.Refusal code → ⊥) → volume_changed (asked act) ≡ None → IsFetched false n u.fid u.index u.body u.expiry m past → c.clock < u.expiry
-    → next (fetched_walk (c.clients n) c.clock act u).act ≡ answers k → Goes s past (client_moves c n (goes_by (Client n) (c.clients n) (lines.Given p) (ClientRow.behind (look_at Fetched u) (fetched_walk (c.clients n) c.clock act u)) (answers k)))
-fetched_answered s c past n p act m u k h d not shut a lt is =
+pub fetched_answered : (s : Script) (c : Cell) (past : List Entry) (n p : ℕ) (act : Going) (m : Message) (u : CacheEntry) (body : ReadBody) (k : ℕ) → (h : Holds s c past) → Due c h.floors past n p act m → ((code : Code) → m.carried ≡ carried.Refusal code → ⊥) → volume_changed (asked act) ≡ None → u.server ≡ the_server → Shows u.fid u.index body past (lines.Given p ∷ []) → IsFetched false n u.fid u.index u.status u.body u.expiry m past → c.clock < u.expiry
+    → next (fetched_walk (c.clients n) c.clock act u body).act ≡ answers k → Goes s past (client_moves c n (goes_by (Client n) (c.clients n) (read_lines (Client n) p (look_at Fetched u body)) (fetched_walk (c.clients n) c.clock act u body) (answers k)))
+fetched_answered s c past n p act m u body k h d not shut from shown a lt is =
     let x : ClientState = c.clients n in
-    let w : Walked = fetched_walk x c.clock act u in
-    let ls : List Line = lines.Given p ∷ lines.Read (Client n) u.fid u.index Fetched u.body ∷ looked (Client n) w.looks [] in
+    let w : Walked = fetched_walk x c.clock act u body in
+    let ls : List Line = lines.Given p ∷ lines.Read (Client n) u.fid u.index Fetched body ∷ looked (Client n) w.looks [] in
     let tail : List Line = lines.Answer (Client n) (record { 0 = pos k }) ∷ [] in
-    let W : Walks s c past n c.server.boot ls w.act w.cache = fetched_on s c past n p act m u h d shut a lt in
+    let W : Walks s c past n c.server.lasting.boot ls w.act w.cache = fetched_on s c past n p act m u body h d shut from shown a lt in
     let e : Entry = step_entry n (ls ++ tail) [] in
     let t : AreTail n tail = (refl, tt) in
     let ends : EndsReach n tail = ends_answered n (record { 0 = pos k }) in
-    let held : ℕ = c.server.boot in
+    let held : ℕ = c.server.lasting.boot in
     let g : Ghost = holding h.floors n held in
-    subst (λ (os : List Line). Goes s past (with_lines c n (ended x w.cache) [] (lines.Given p ∷ lines.Read (Client n) u.fid u.index Fetched u.body ∷ os))) (sym (looked_more (Client n) w.looks tail))
-    (moves s c past n g (record { state = ended x w.cache; lines = ls ++ tail; sent = [] }) h
-    (walk_answered s c past n c.server.boot ls w.act w.cache k W is)
+    subst (λ (os : List Line). Goes s past (with_lines c n (ended x w.cache) [] (lines.Given p ∷ lines.Read (Client n) u.fid u.index Fetched body ∷ os))) (sym (looked_more (Client n) w.looks tail))
+    (moves s c past n g (record { state = ended x w.cache; lines = ls ++ tail; sent = [] }) h (client_ended s x w.cache (h.own n) (walked_apart (most_reads act) c.clock (with_read u.fid body act) (put_entry x.capacity u x.cache) (apart_put x.capacity u x.cache (h.own n).apart)))
+    (walk_answered s c past n c.server.lasting.boot ls w.act w.cache k W is)
     (quiet_passes s n (ls ++ tail) [] past (quiet_more n ls tail W.quiet (tail_quiet n tail t)) (W.dull tail t))
-    (ended_facts s c past n w.cache held e h (le_refl _) (ap (running (Client n)) (onto_last (lines_of past) ls (lines.Answer (Client n) (record { 0 = pos k }))) ∙ own_ended n (running (Client n) (onto (lines_of past) ls)))
-    (λ f v found lasts. walk_current s c past n c.server.boot ls w.act w.cache tail [] (view_after c n g (ended x w.cache)) f v W t ends (le_refl _) (inr refl) found lasts)
-    (walk_reached s c past n c.server.boot ls w.act w.cache tail [] W t ends))
+    (ended_facts s c past n w.cache held e h (le_refl _) (ap (running s (Client n)) (onto_last (lines_of past) ls (lines.Answer (Client n) (record { 0 = pos k }))) ∙ own_ended n (running s (Client n) (onto (lines_of past) ls)))
+    (λ f v found lasts. walk_current s c past n c.server.lasting.boot ls w.act w.cache tail [] (view_after c n g (ended x w.cache)) f v W t ends (le_refl _) (inr refl) found lasts)
+    (walk_old n (put_entry x.capacity u x.cache) w.cache (ls ++ tail) [] past (quiet_more n ls tail W.quiet (tail_quiet n tail t)) (λ f v z. walked_found (most_reads act) c.clock (with_read u.fid body act) (put_entry x.capacity u x.cache) f v z) (put_old x.capacity u x.cache past (kept_whole u.body (find_cached u.fid x.cache) u.fid u.index u.status x.cache past refl h.one (h.clients n).old a.held.whole) (h.clients n).old))
+    (walk_reached s c past n c.server.lasting.boot ls w.act w.cache tail [] W t ends))
     (ended_calls s c past n p act m w.cache held h d (λ code z. absurd (not code z))) (ended_reply s c past n w.cache held e h) (nothing_new _ _) (λ b y z. absurd cc) refl)
 
-pub fetched_calls : (s : Script) (c : Cell) (past : List Entry) (n p : ℕ) (act : Going) (m : Message) (u : CacheEntry) → (h : Holds s c past) → Due c h.floors past n p act m → volume_changed (asked act) ≡ None → IsFetched false n u.fid u.index u.body u.expiry m past → c.clock < u.expiry
-    → Goes s past (client_moves c n (goes_by (Client n) (c.clients n) (lines.Given p) (ClientRow.behind (look_at Fetched u) (fetched_walk (c.clients n) c.clock act u)) (asks_for calls.GetTime)))
-fetched_calls s c past n p act m u h d shut a lt =
+pub fetched_calls : (s : Script) (c : Cell) (past : List Entry) (n p : ℕ) (act : Going) (m : Message) (u : CacheEntry) (body : ReadBody) → (h : Holds s c past) → Due c h.floors past n p act m → volume_changed (asked act) ≡ None → u.server ≡ the_server → Shows u.fid u.index body past (lines.Given p ∷ []) → IsFetched false n u.fid u.index u.status u.body u.expiry m past → c.clock < u.expiry
+    → Goes s past (client_moves c n (goes_by (Client n) (c.clients n) (read_lines (Client n) p (look_at Fetched u body)) (fetched_walk (c.clients n) c.clock act u body) (asks_for calls.GetTime)))
+fetched_calls s c past n p act m u body h d shut from shown a lt =
     let x : ClientState = c.clients n in
-    let w : Walked = fetched_walk x c.clock act u in
-    let ls : List Line = lines.Given p ∷ lines.Read (Client n) u.fid u.index Fetched u.body ∷ looked (Client n) w.looks [] in
-    let W : Walks s c past n c.server.boot ls w.act w.cache = fetched_on s c past n p act m u h d shut a lt in
+    let w : Walked = fetched_walk x c.clock act u body in
+    let ls : List Line = lines.Given p ∷ lines.Read (Client n) u.fid u.index Fetched body ∷ looked (Client n) w.looks [] in
+    let W : Walks s c past n c.server.lasting.boot ls w.act w.cache = fetched_on s c past n p act m u body h d shut from shown a lt in
     let k = h.clients n in
-    let y : ClientState = record x { last = x.last + 1; tries = 0; running = Some w.act; spoiled = false; cache = w.cache } in
-    let ms : List Message = call_message (Client n) (asking x w.act) w.act ∷ [] in
+    let y : ClientState = asking (record x { cache = w.cache }) w.act in
+    let kind : IsClient s y = client_asking s c past (record x { cache = w.cache }) w.act h (record { table = (h.own n).table; user = (h.own n).user; callee = λ b z. (h.own n).callee b z; apart = walked_apart (most_reads act) c.clock (with_read u.fid body act) (put_entry x.capacity u x.cache) (apart_put x.capacity u x.cache (h.own n).apart) }) in
+    let ms : List Message = call_message (Client n) y w.act ∷ [] in
     let e : Entry = step_entry n (ls ++ []) ms in
-    let g : Ghost = record { floor = c.server.boot; held = c.server.boot } in
+    let g : Ghost = record { floor = c.server.lasting.boot; held = c.server.lasting.boot } in
     let v : View = view_after c n g y in
     let never : LastRan v → ⊥ = λ ran. next_not _ _ _ _ (k.behind_durable ran.seat ran.at) ran.epoch ran.number in
-    let at : running (Client n) (onto (lines_of past) (ls ++ [])) ≡ Some w.act = ap (λ (os : List Line). running (Client n) (onto (lines_of past) os)) (append-nil ls) ∙ W.runs in
+    let at : running s (Client n) (onto (lines_of past) (ls ++ [])) ≡ Some w.act = ap (λ (os : List Line). running s (Client n) (onto (lines_of past) os)) (append-nil ls) ∙ W.runs in
     let over : (q : Message) → ReplyFact n (view h.floors c n) past q → ReplyFact n v (e ∷ past) q = λ q r. record {
       behind = up_to_next _ _ _ _ r.behind;
       booted = r.booted;
@@ -521,7 +593,7 @@ fetched_calls s c past n p act m u h d shut a lt =
       answers = λ b runs y z. absurd (next_not _ _ _ _ r.behind y z);
     } in
     subst (λ (os : List Line). Goes s past (with_lines c n y ms os)) (append-nil ls)
-    (moves s c past n g (record { state = y; lines = ls ++ []; sent = ms }) h
+    (moves s c past n g (record { state = y; lines = ls ++ []; sent = ms }) h kind
     (W.good [] tt)
     (quiet_passes s n (ls ++ []) ms past (quiet_more n ls [] W.quiet tt) (W.dull [] tt))
     (record {
@@ -535,11 +607,12 @@ fetched_calls s c past n p act m u h d shut a lt =
       holds = le_refl _;
       waits = λ b y. le_refl _;
       idle = λ y. absurd cc;
-      made = λ b y f o z. walk_made s c past n c.server.boot ls w.act w.cache [] ms f W (ends_here n);
-      current = λ f q found lasts. walk_current s c past n c.server.boot ls w.act w.cache [] ms v f q W tt (ends_here n) (le_refl _) (inl never) found lasts;
+      made = λ b y f o z. walk_made s c past n c.server.lasting.boot ls w.act w.cache [] ms f W (ends_here n);
+      current = λ f q found lasts. walk_current s c past n c.server.lasting.boot ls w.act w.cache [] ms v f q W tt (ends_here n) (le_refl _) (inl never) found lasts;
+      old = walk_old n (put_entry x.capacity u x.cache) w.cache (ls ++ []) ms past (quiet_more n ls [] W.quiet tt) (λ f v z. walked_found (most_reads act) c.clock (with_read u.fid body act) (put_entry x.capacity u x.cache) f v z) (put_old x.capacity u x.cache past (kept_whole u.body (find_cached u.fid x.cache) u.fid u.index u.status x.cache past refl h.one k.old a.held.whole) k.old);
       runs = λ b y. at ∙ y;
-      asked = λ b y. subst (λ (x : Going). CalledSince (last_key n v) guest (asked x) (e ∷ past)) (some_of w.act b y) (inl (refl, inl (refl, refl)));
-      reached = walk_reached s c past n c.server.boot ls w.act w.cache [] ms W tt (ends_here n);
+      asked = λ b z. subst (λ (x : Going). CalledSince (last_key n v) guest (asked x) (e ∷ past)) (some_of w.act b z) (inl (refl, inl (refl, carried_is y w.act kind.user)));
+      reached = walk_reached s c past n c.server.lasting.boot ls w.act w.cache [] ms W tt (ends_here n);
     })
     (λ head' call r. record {
       behind = up_to_next _ _ _ _ r.behind;
@@ -551,18 +624,22 @@ fetched_calls s c past n p act m u h d shut a lt =
         | inr same ↦ inl (ap volume_changed (r.own act d.running same.0 same.1) ∙ shut)
       ];
     })
-    over (own_call h.floors c past n g y w.act (ls ++ []) k.known refl at (new_one s c past n w.act h)) (λ b x z. inr (record { act = act; runs = d.running; read = shut })) refl)
+    over (own_call h.floors c past n g y w.act (ls ++ []) k.known kind refl at (new_one s c past n y w.act h refl refl)) (λ b x z. inr (record { act = act; runs = d.running; read = shut })) refl)
 
-fetched_by : (need : Need) (s : Script) (c : Cell) (past : List Entry) (n p : ℕ) (act : Going) (m : Message) (u : CacheEntry) → (h : Holds s c past) → Due c h.floors past n p act m → ((code : Code) → m.carried ≡ carried.Refusal code → ⊥) → volume_changed (asked act) ≡ None → IsFetched false n u.fid u.index u.body u.expiry m past → c.clock < u.expiry
-    → next (fetched_walk (c.clients n) c.clock act u).act ≡ need → Goes s past (client_moves c n (goes_by (Client n) (c.clients n) (lines.Given p) (ClientRow.behind (look_at Fetched u) (fetched_walk (c.clients n) c.clock act u)) need))
-fetched_by (answers k) s c past n p act m u h d not shut a lt e = fetched_answered s c past n p act m u k h d not shut a lt e
-fetched_by (reads f) s c past n p act m u h d not shut a lt e = fetched_calls s c past n p act m u h d shut a lt
-fetched_by (asks_for call) s c past n p act m u h d not shut a lt e = fetched_calls s c past n p act m u h d shut a lt
+fetched_by : (need : Need) (s : Script) (c : Cell) (past : List Entry) (n p : ℕ) (act : Going) (m : Message) (u : CacheEntry) (body : ReadBody) → (h : Holds s c past) → Due c h.floors past n p act m → ((code : Code) → m.carried ≡ carried.Refusal code → ⊥) → volume_changed (asked act) ≡ None → u.server ≡ the_server → Shows u.fid u.index body past (lines.Given p ∷ []) → IsFetched false n u.fid u.index u.status u.body u.expiry m past → c.clock < u.expiry
+    → next (fetched_walk (c.clients n) c.clock act u body).act ≡ need → Goes s past (client_moves c n (goes_by (Client n) (c.clients n) (read_lines (Client n) p (look_at Fetched u body)) (fetched_walk (c.clients n) c.clock act u body) need))
+fetched_by (answers k) s c past n p act m u body h d not shut from shown a lt e = fetched_answered s c past n p act m u body k h d not shut from shown a lt e
+fetched_by (reads f) s c past n p act m u body h d not shut from shown a lt e = fetched_calls s c past n p act m u body h d shut from shown a lt
+fetched_by (reads_status f) s c past n p act m u body h d not shut from shown a lt e = fetched_calls s c past n p act m u body h d shut from shown a lt
+fetched_by (reads_statuses fs) s c past n p act m u body h d not shut from shown a lt e = fetched_calls s c past n p act m u body h d shut from shown a lt
+fetched_by (reads_rights f) s c past n p act m u body h d not shut from shown a lt e = fetched_calls s c past n p act m u body h d shut from shown a lt
+fetched_by (asks_for call) s c past n p act m u body h d not shut from shown a lt e = fetched_calls s c past n p act m u body h d shut from shown a lt
+fetched_by gives_back s c past n p act m u body h d not shut from shown a lt e = fetched_calls s c past n p act m u body h d shut from shown a lt
 
-pub fetched_goes : (s : Script) (c : Cell) (past : List Entry) (n p : ℕ) (act : Going) (u : CacheEntry) (m : Message) (t : Bool) → (h : Holds s c past) → Due c h.floors past n p act m → ((code : Code) → m.carried ≡ carried.Refusal code → ⊥) → volume_changed (asked act) ≡ None → IsFetched false n u.fid u.index u.body u.expiry m past → nat_lt c.clock u.expiry ≡ t
-    → Goes s past (client_moves c n (cond t (goes_on (Client n) (c.clients n) (lines.Given p) (ClientRow.behind (look_at Fetched u) (fetched_walk (c.clients n) c.clock act u))) (calls_step (Client n) (c.clients n) act (lines.Given p))))
-fetched_goes s c past n p act u m true h d not shut a lasts = fetched_by (next (fetched_walk (c.clients n) c.clock act u).act) s c past n p act m u h d not shut a (ltb-true _ _ lasts) refl
-fetched_goes s c past n p act u m false h d not shut a lasts = again_goes s c past n p act m h d shut
+pub fetched_goes : (s : Script) (c : Cell) (past : List Entry) (n p : ℕ) (act : Going) (u : CacheEntry) (body : ReadBody) (m : Message) (t : Bool) → (h : Holds s c past) → Due c h.floors past n p act m → ((code : Code) → m.carried ≡ carried.Refusal code → ⊥) → volume_changed (asked act) ≡ None → u.server ≡ the_server → Shows u.fid u.index body past (lines.Given p ∷ []) → IsFetched false n u.fid u.index u.status u.body u.expiry m past → nat_lt c.clock u.expiry ≡ t
+    → Goes s past (client_moves c n (cond t (goes_on (Client n) (c.clients n) (read_lines (Client n) p (look_at Fetched u body)) (fetched_walk (c.clients n) c.clock act u body)) (calls_again (Client n) (c.clients n) p act)))
+fetched_goes s c past n p act u body m true h d not shut from shown a lasts = fetched_by (next (fetched_walk (c.clients n) c.clock act u body).act) s c past n p act m u body h d not shut from shown a (ltb-true _ _ lasts) refl
+fetched_goes s c past n p act u body m false h d not shut from shown a lasts = again_goes s c past n p act m h d shut
 
 -- ---- an answered store
 
@@ -573,11 +650,11 @@ pub record IsStoreBy (act : Going) (call : FsCall) (f : Fid) : Type 0 where
   pub changed : (n : ℕ) (g : Fid) (server : Node) (newer : List Line) (reply : Option Message) (past : List Entry) → WasChanged n g server newer reply past call → WasStored n g server newer reply past
 
 -- what the store made of the body of the client's entry was told
-abbrev pub IsLeft : Cell → ℕ → Fid → ℕ → (Body → Body) → List Entry → Type 0
-IsLeft c n f index made past = (x : CacheEntry) → find_cached f (c.clients n).cache ≡ Some x → c.clock < x.expiry → HasVersion f index (made x.body) (lines_of past)
+abbrev pub IsLeft : Cell → ℕ → Fid → ℕ → ReadStatus → (Option Body → Option Body) → List Entry → Type 0
+IsLeft c n f index status made past = (x : CacheEntry) → find_cached f (c.clients n).cache ≡ Some x → c.clock < x.expiry → IsWhole f index status (made x.body) past
 
 -- the entry of the file holds what was stored, under the reply's index
-pub stored_state : (fl : ℕ → Ghost) (c : Cell) (past : List Entry) (n p : ℕ) (act : Going) (call : FsCall) (f : Fid) (b : Body → Body) (m : Message) (index i : ℕ) (server : Node) (newer : List Line) (e : Entry) (cache : List CacheEntry) → Due c fl past n p act m → IsStored (spot (view fl c n)) m → IsStoreBy act call f → stored_index m.carried ≡ Some index
+pub stored_state : (fl : ℕ → Ghost) (c : Cell) (past : List Entry) (n p : ℕ) (act : Going) (call : FsCall) (f : Fid) (b : Option Body → Option Body) (m : Message) (index i : ℕ) (server : Node) (newer : List Line) (e : Entry) (cache : List CacheEntry) → Due c fl past n p act m → IsStored (spot (view fl c n)) m → IsStoreBy act call f → stored_index m.carried ≡ Some index
     → Seen n f index (e ∷ past) → StaysNewest n f e past → server ≡ the_server → Stands n f i server newer (view fl c n) past
     → Stands n f index server (onto newer e.lines) (view_after c n (holding fl n (fl n).held) (ended (c.clients n) cache)) (e ∷ past)
 stored_state fl c past n p act call f b m index i server newer e cache d is same told r stay q (inl a) = absurd (a.before act d.running (ap (λ (z : FsCall). is_in_scope z f) same.asks ∙ (same.scope f ∙ same_fid-refl f)) is.ran)
@@ -593,58 +670,78 @@ stored_state fl c past n p act call f b m index i server newer e cache d is same
     })
 
 -- that of the file
-pub stored_own : (s : Script) (c : Cell) (past : List Entry) (n p : ℕ) (act : Going) (call : FsCall) (f : Fid) (b : Body → Body) (m : Message) (index : ℕ) (x : CacheEntry) (e : Entry) (cache : List CacheEntry) → (h : Holds s c past) → Due c h.floors past n p act m → IsStored (spot (view h.floors c n)) m → IsStoreBy act call f → stored_index m.carried ≡ Some index
-    → HasVersion f index (b x.body) (lines_of past) → PassesFile n f e past → Seen n f index (e ∷ past) → StaysNewest n f e past → IsCurrent n f x (view h.floors c n) past
-    → IsCurrent n f (record x { index = index; body = b x.body }) (view_after c n (holding h.floors n (h.floors n).held) (ended (c.clients n) cache)) (e ∷ past)
-stored_own s c past n p act call f b m index x e cache h d is same told whole pass r stay cur = record {
+pub stored_own : (s : Script) (c : Cell) (past : List Entry) (n p : ℕ) (act : Going) (call : FsCall) (f : Fid) (b : Option Body → Option Body) (m : Message) (index : ℕ) (status : ReadStatus) (x : CacheEntry) (e : Entry) (cache : List CacheEntry) → (h : Holds s c past) → Due c h.floors past n p act m → IsStored (spot (view h.floors c n)) m → IsStoreBy act call f → stored_index m.carried ≡ Some index
+    → IsWhole f index status (b x.body) past → PassesFile n f e past → Seen n f index (e ∷ past) → StaysNewest n f e past → IsCurrent n f x (view h.floors c n) past
+    → IsCurrent n f (record x { index = index; status = status; body = b x.body }) (view_after c n (holding h.floors n (h.floors n).held) (ended (c.clients n) cache)) (e ∷ past)
+stored_own s c past n p act call f b m index status x e cache h d is same told whole pass r stay cur = record {
   reply = cur.reply;
   boot = cur.boot;
   by = fetch_reply_by (has_fetched (Client n) f e.lines) (given_message e.lines (sent_of past)) (fetch_reply (Client n) f past) pass.fetched ∙ cur.by;
-  held = held_over n f index (b x.body) x.expiry cur.reply e past pass.grant (record { grant = cur.held.grant; server = cur.held.server; kept = cur.held.kept; whole = whole; base = cur.held.base; split = cur.held.split; begun = cur.held.begun });
+  from = cur.from;
+  held = held_over n f index status (b x.body) x.expiry cur.reply e past pass.grant (record { grant = cur.held.grant; server = cur.held.server; kept = cur.held.kept; whole = whole; base = cur.held.base; split = cur.held.split; begun = cur.held.begun });
   state = stored_state h.floors c past n p act call f b m index x.index cur.held.grant.server (since (Client n) f x.expiry cur.reply past cur.held.grant) e cache d is same told r stay cur.held.server cur.state;
 }
 
-pub stored_by : (t live : Bool) (s : Script) (c : Cell) (past : List Entry) (n p : ℕ) (act : Going) (call : FsCall) (f g : Fid) (b : Body → Body) (m : Message) (index : ℕ) (x u : CacheEntry) (e : Entry) (cache : List CacheEntry) → (h : Holds s c past) → Due c h.floors past n p act m → IsStored (spot (view h.floors c n)) m → IsStoreBy act call f → stored_index m.carried ≡ Some index
-    → IsLeft c n f index b past → ((k : Fid) → PassesFile n k e past) → Seen n f index (e ∷ past) → ((k : Fid) (i : ℕ) → (f ≡ k → ⊥) → IsTrusted c.clock k (c.clients n).cache → Seen n k i past → Seen n k i (e ∷ past)) → ((k : Fid) → StaysNewest n k e past)
-    → same_fid x.fid f ≡ t → nat_lt c.clock x.expiry ≡ live → same_fid x.fid g ≡ true → find_cached g (c.clients n).cache ≡ Some x → cond (t && live) (record x { index = index; body = b x.body }) x ≡ u → c.clock < u.expiry
+pub stored_by : (t live : Bool) (s : Script) (c : Cell) (past : List Entry) (n p : ℕ) (act : Going) (call : FsCall) (f g : Fid) (b : Option Body → Option Body) (m : Message) (index : ℕ) (status : ReadStatus) (x u : CacheEntry) (e : Entry) (cache : List CacheEntry) → (h : Holds s c past) → Due c h.floors past n p act m → IsStored (spot (view h.floors c n)) m → IsStoreBy act call f → stored_index m.carried ≡ Some index
+    → IsLeft c n f index status b past → ((k : Fid) → PassesFile n k e past) → Seen n f index (e ∷ past) → ((k : Fid) (i : ℕ) → (f ≡ k → ⊥) → IsTrusted c.clock k (c.clients n).cache → Seen n k i past → Seen n k i (e ∷ past)) → ((k : Fid) → StaysNewest n k e past)
+    → same_fid x.fid f ≡ t → nat_lt c.clock x.expiry ≡ live → same_fid x.fid g ≡ true → find_cached g (c.clients n).cache ≡ Some x → cond (t && live) (record x { index = index; status = status; body = b x.body }) x ≡ u → c.clock < u.expiry
     → IsCurrent n g u (view_after c n (holding h.floors n (h.floors n).held) (ended (c.clients n) cache)) (e ∷ past)
-stored_by true true s c past n p act call f g b m index x u e cache h d kept same told whole pass z r stay t live own found is lasts =
+stored_by true true s c past n p act call f g b m index status x u e cache h d kept same told whole pass z r stay t live own found is lasts =
     let fg : f ≡ g = sym (same_fid-true x.fid f t) ∙ same_fid-true x.fid g own in
     subst (λ (y : CacheEntry). IsCurrent n g y (view_after c n (holding h.floors n (h.floors n).held) (ended (c.clients n) cache)) (e ∷ past)) is
-    (subst (λ (y : Fid). IsCurrent n y (record x { index = index; body = b x.body }) (view_after c n (holding h.floors n (h.floors n).held) (ended (c.clients n) cache)) (e ∷ past)) fg
-    (stored_own s c past n p act call f b m index x e cache h d kept same told (whole x (ap (λ (y : Fid). find_cached y (c.clients n).cache) fg ∙ found) (ltb-true _ _ live)) (pass f) z (stay f) ((h.clients n).current f x (ap (λ (y : Fid). find_cached y (c.clients n).cache) fg ∙ found) (ltb-true _ _ live))))
-stored_by true false s c past n p act call f g b m index x u e cache h d kept same told whole pass z r stay t live own found is lasts =
+    (subst (λ (y : Fid). IsCurrent n y (record x { index = index; status = status; body = b x.body }) (view_after c n (holding h.floors n (h.floors n).held) (ended (c.clients n) cache)) (e ∷ past)) fg
+    (stored_own s c past n p act call f b m index status x e cache h d kept same told (whole x (ap (λ (y : Fid). find_cached y (c.clients n).cache) fg ∙ found) (ltb-true _ _ live)) (pass f) z (stay f) ((h.clients n).current f x (ap (λ (y : Fid). find_cached y (c.clients n).cache) fg ∙ found) (ltb-true _ _ live))))
+stored_by true false s c past n p act call f g b m index status x u e cache h d kept same told whole pass z r stay t live own found is lasts =
     let lasts' : c.clock < x.expiry = subst (λ (y : CacheEntry). c.clock < y.expiry) (sym is) lasts in
     let yes : nat_lt c.clock x.expiry ≡ true = lt-ltb _ _ lasts' in
     absurd cc
-stored_by false live s c past n p act call f g b m index x u e cache h d kept same told whole pass z r stay t live' own found is lasts =
+stored_by false live s c past n p act call f g b m index status x u e cache h d kept same told whole pass z r stay t live' own found is lasts =
     let ne : f ≡ g → ⊥ = λ q. let yes : same_fid x.fid f ≡ true = ap (same_fid x.fid) q ∙ own in absurd cc in
     let lasts' : c.clock < x.expiry = subst (λ (y : CacheEntry). c.clock < y.expiry) (sym is) lasts in
     subst (λ (y : CacheEntry). IsCurrent n g y (view_after c n (holding h.floors n (h.floors n).held) (ended (c.clients n) cache)) (e ∷ past)) is
     (current_over n g x (view h.floors c n) (view_after c n (holding h.floors n (h.floors n).held) (ended (c.clients n) cache)) e past (le_refl _) (pass g) (ended_stands h.floors c past n cache (holding h.floors n (h.floors n).held) e g x.index (r g x.index ne (record { entry = x; found = found; lasts = lasts' })) (stay g)
     (λ a runs sc ran. ne (same_fid-true f g (sym (same.scope g) ∙ (ap (λ (z : FsCall). is_in_scope z g) (sym same.asks) ∙ (ap (λ (z : Going). is_in_scope (asked z) g) (some_of act a (sym d.running ∙ runs)) ∙ sc)))))) ((h.clients n).current g x found lasts'))
 
-pub stored_of : (o : Option CacheEntry) (s : Script) (c : Cell) (past : List Entry) (n p : ℕ) (act : Going) (call : FsCall) (f g : Fid) (b : Body → Body) (m : Message) (index : ℕ) (u : CacheEntry) (e : Entry) (cache : List CacheEntry) → (h : Holds s c past) → Due c h.floors past n p act m → IsStored (spot (view h.floors c n)) m → IsStoreBy act call f → stored_index m.carried ≡ Some index
-    → IsLeft c n f index b past → ((k : Fid) → PassesFile n k e past) → Seen n f index (e ∷ past) → ((k : Fid) (i : ℕ) → (f ≡ k → ⊥) → IsTrusted c.clock k (c.clients n).cache → Seen n k i past → Seen n k i (e ∷ past)) → ((k : Fid) → StaysNewest n k e past)
-    → find_cached g (c.clients n).cache ≡ o → option_map (refreshed c.clock f index b) o ≡ Some u → c.clock < u.expiry
+pub stored_of : (o : Option CacheEntry) (s : Script) (c : Cell) (past : List Entry) (n p : ℕ) (act : Going) (call : FsCall) (f g : Fid) (b : Option Body → Option Body) (m : Message) (index : ℕ) (status : ReadStatus) (u : CacheEntry) (e : Entry) (cache : List CacheEntry) → (h : Holds s c past) → Due c h.floors past n p act m → IsStored (spot (view h.floors c n)) m → IsStoreBy act call f → stored_index m.carried ≡ Some index
+    → IsLeft c n f index status b past → ((k : Fid) → PassesFile n k e past) → Seen n f index (e ∷ past) → ((k : Fid) (i : ℕ) → (f ≡ k → ⊥) → IsTrusted c.clock k (c.clients n).cache → Seen n k i past → Seen n k i (e ∷ past)) → ((k : Fid) → StaysNewest n k e past)
+    → find_cached g (c.clients n).cache ≡ o → option_map (refreshed c.clock f index status b) o ≡ Some u → c.clock < u.expiry
     → IsCurrent n g u (view_after c n (holding h.floors n (h.floors n).held) (ended (c.clients n) cache)) (e ∷ past)
-stored_of None s c past n p act call f g b m index u e cache h d kept same told whole pass z r stay found is lasts = absurd cc
-stored_of (Some x) s c past n p act call f g b m index u e cache h d kept same told whole pass z r stay found is lasts =
-    stored_by (same_fid x.fid f) (nat_lt c.clock x.expiry) s c past n p act call f g b m index x u e cache h d kept same told whole pass z r stay refl refl (found-cached-fid g (c.clients n).cache x found) found (some_of _ _ is) lasts
+stored_of None s c past n p act call f g b m index status u e cache h d kept same told whole pass z r stay found is lasts = absurd cc
+stored_of (Some x) s c past n p act call f g b m index status u e cache h d kept same told whole pass z r stay found is lasts =
+    stored_by (same_fid x.fid f) (nat_lt c.clock x.expiry) s c past n p act call f g b m index status x u e cache h d kept same told whole pass z r stay refl refl (found-cached-fid g (c.clients n).cache x found) found (some_of _ _ is) lasts
 
-pub takes_saved : (s : Script) (c : Cell) (past : List Entry) (n p : ℕ) (act : Going) (call : FsCall) (f : Fid) (b : Body → Body) (i : ℕ) (m : Message) → (h : Holds s c past) → Due c h.floors past n p act m → code_told m.carried ≡ Some (pos 0) → ((code : Code) → m.carried ≡ carried.Refusal code → ⊥)
-    → IsStoreBy act call f → stored_index m.carried ≡ Some i → IsStored (spot (view h.floors c n)) m → Reached (Client n) f i past → IsLeft c n f i b past → Goes s past (client_moves c n (takes_stored (Client n) (c.clients n) c.clock p f i b))
-takes_saved s c past n p act call f b i m h d zero not same told kept up left =
+old_stored : (t live : Bool) (c : Cell) (n : ℕ) (f g : Fid) (i : ℕ) (status : ReadStatus) (b : Option Body → Option Body) (past : List Entry) (x : CacheEntry) → IsLeft c n f i status b past → same_fid x.fid f ≡ t → nat_lt c.clock x.expiry ≡ live → find_cached g (c.clients n).cache ≡ Some x → IsOld g x.index x.body (lines_of past)
+    → (let u : CacheEntry = cond (t && live) (record x { index = i; status = status; body = b x.body }) x in IsOld g u.index u.body (lines_of past))
+old_stored true true c n f g i status b past x left t live found old =
+    let own : x.fid ≡ g = same_fid-true x.fid g (found-cached-fid g (c.clients n).cache x found) in
+    let fg : f ≡ g = sym (same_fid-true x.fid f t) ∙ own in
+    subst (λ (y : Fid). IsOld y i (b x.body) (lines_of past)) fg (whole_old f i status (b x.body) past (left x (ap (λ (y : Fid). find_cached y (c.clients n).cache) fg ∙ found) (ltb-true _ _ live)))
+old_stored true false c n f g i status b past x left t live found old = old
+old_stored false live c n f g i status b past x left t live' found old = old
+
+old_mapped : (o : Option CacheEntry) (c : Cell) (n : ℕ) (f g : Fid) (i : ℕ) (status : ReadStatus) (b : Option Body → Option Body) (past : List Entry) (u : CacheEntry) → IsLeft c n f i status b past → HasOld (c.clients n).cache (lines_of past) → find_cached g (c.clients n).cache ≡ o → option_map (refreshed c.clock f i status b) o ≡ Some u → IsOld g u.index u.body (lines_of past)
+old_mapped None c n f g i status b past u left old found e = absurd cc
+old_mapped (Some x) c n f g i status b past u left old found e =
+    subst (λ (y : CacheEntry). IsOld g y.index y.body (lines_of past)) (some_of _ _ e) (old_stored (same_fid x.fid f) (nat_lt c.clock x.expiry) c n f g i status b past x left refl refl found (old g x found))
+
+-- what the client's own store made of bodies is that of versions
+pub old_refreshed : (c : Cell) (n : ℕ) (f : Fid) (i : ℕ) (status : ReadStatus) (b : Option Body → Option Body) (past : List Entry) → IsLeft c n f i status b past → HasOld (c.clients n).cache (lines_of past) → HasOld (map (refreshed c.clock f i status b) (c.clients n).cache) (lines_of past)
+old_refreshed c n f i status b past left old g u found = old_mapped (find_cached g (c.clients n).cache) c n f g i status b past u left old refl (sym (found-refreshed c.clock f g i status b (c.clients n).cache) ∙ found)
+
+pub takes_saved : (s : Script) (c : Cell) (past : List Entry) (n p : ℕ) (act : Going) (call : FsCall) (f : Fid) (b : Option Body → Option Body) (i : ℕ) (status : ReadStatus) (m : Message) → (h : Holds s c past) → Due c h.floors past n p act m → code_told m.carried ≡ Some (pos 0) → ((code : Code) → m.carried ≡ carried.Refusal code → ⊥)
+    → IsStoreBy act call f → stored_index m.carried ≡ Some i → IsStored (spot (view h.floors c n)) m → Reached (Client n) f i past → IsLeft c n f i status b past → Goes s past (client_moves c n (takes_stored (Client n) (c.clients n) c.clock p f i status b))
+takes_saved s c past n p act call f b i status m h d zero not same told kept up left =
     let held : ℕ = (h.floors n).held in
-    let cache : List CacheEntry = map (refreshed c.clock f i b) (c.clients n).cache in
+    let cache : List CacheEntry = map (refreshed c.clock f i status b) (c.clients n).cache in
     let e : Entry = step_entry n (answered_lines n p zero_code) [] in
-    moves s c past n (holding h.floors n held) (takes_stored (Client n) (c.clients n) c.clock p f i b) h
+    moves s c past n (holding h.floors n held) (takes_stored (Client n) (c.clients n) c.clock p f i status b) h (client_ended s (c.clients n) cache (h.own n) (apart_refreshed c.clock f i status b (c.clients n).cache (h.own n).apart))
     (tt, ((refl, good_code s c past n p act m zero_code (lines.Given p ∷ []) h d zero refl refl refl), tt))
     (answered_passes s c past n p m zero_code h d.heard)
-    (ended_facts s c past n cache held e h (h.clients n).holds (own_ended n (running (Client n) (lines_of past)))
-    (λ g u found lasts. stored_of (find_cached g (c.clients n).cache) s c past n p act call f g b m i u e cache h d kept same told left (answered_file n n p zero_code past) (answered_reach n n p zero_code past f i up).seen
+    (ended_facts s c past n cache held e h (h.clients n).holds (own_ended n (running s (Client n) (lines_of past)))
+    (λ g u found lasts. stored_of (find_cached g (c.clients n).cache) s c past n p act call f g b m i status u e cache h d kept same told left (answered_file n n p zero_code past) (answered_reach n n p zero_code past f i up).seen
     (λ k j ne trusted y. (answered_reach n n p zero_code past k j (record { made = le_trans (le_of_eq ((h.clients n).made act d.running k (λ z. ne (same_fid-true f k (sym (same.scope k) ∙ (ap (λ (x : FsCall). is_in_scope x k) (sym same.asks) ∙ z)))) (inr trusted))) (omega arith); seen = y })).seen) (λ k. stays n k e past (answered_file n n p zero_code past k).grant refl)
-    refl (sym (found-refreshed c.clock f g i b (c.clients n).cache) ∙ found) lasts)
+    refl (sym (found-refreshed c.clock f g i status b (c.clients n).cache) ∙ found) lasts)
+    (old_over cache (lines_of past) (lines_of (e ∷ past)) (λ k j y z. (answered_file n n p zero_code past k).grant.version j y (lines_of past) z) (old_refreshed c n f i status b past left (h.clients n).old))
     (reached_still s c past n e h (answered_reach n n p zero_code past) (λ g. refl)))
     (ended_calls s c past n p act m cache held h d (λ code is. absurd (not code is))) (ended_reply s c past n cache held e h) (nothing_new _ _) (λ a x z. absurd cc) refl
 
@@ -663,10 +760,10 @@ takes_other s c past n p act m reply h d is =
     let last : (f : Fid) → last_version f (lines_of (e ∷ past)) ≡ last_version f (lines_of past) = λ f. (skips n zero_code es).last f _ in
     let held : ℕ = (h.floors n).held in
     let g : Ghost = holding h.floors n held in
-    moves s c past n g (takes_plain (Client n) x p call) h
+    moves s c past n g (takes_plain (Client n) x p call) h (client_ended s x cache (h.own n) (apart_filter (λ y. not (is_in_scope call y.fid)) x.cache (h.own n).apart))
     (tt, drops_good s n p act m past es (lines.Given p ∷ []) (λ own a b r. good_code s c past n p act m zero_code own h d (ap code_told is) a b r) refl refl refl)
     (drop_passes s c past n (was_given p) zero_code es (heard_dull s c past p m h d.heard))
-    (ended_facts s c past n cache held e h (h.clients n).holds (ended_running n zero_code es (lines.Given p ∷ lines_of past))
+    (ended_facts s c past n cache held e h (h.clients n).holds (ended_running s n zero_code es (lines.Given p ∷ lines_of past))
     (λ k u found lasts.
     let was = left_out (is_in_scope call) k x.cache u found in
     let out : InScope call k → ⊥ = λ z. yes_no (is_in_scope call k) z was.1 in
@@ -674,21 +771,29 @@ takes_other s c past n p act m reply h d is =
     current_over n k u (view h.floors c n) (view_after c n g (ended x cache)) e past (le_refl _) file
     (ended_stands h.floors c past n cache g e k u.index (λ y. drop_seen n n (was_given p) zero_code es past k u.index (le_trans (le_of_eq ((h.clients n).made act d.running k out (inr (record { entry = u; found = was.0; lasts = lasts })))) (omega arith)) y) (stays n k e past file.grant (last k)) (λ a is sc ran. out (subst (λ (z : Going). InScope (asked z) k) (sym (some_of act a (sym d.running ∙ is))) sc)))
     ((h.clients n).current k u was.0 lasts))
+    (old_over cache (lines_of past) (lines_of (e ∷ past)) (λ k i b z. (skips n zero_code es).version k i b (lines.Given p ∷ lines_of past) z) (old_within x.cache cache (lines_of past) (λ k u z. (left_out (is_in_scope call) k x.cache u z).0) (h.clients n).old))
     (reached_still s c past n e h (drop_reach n n (was_given p) zero_code es past) last))
     (ended_calls s c past n p act m cache held h d (λ code x. absurd (reply_not reply code (sym is ∙ x)))) (ended_reply s c past n cache held e h) (nothing_new _ _) (λ a x z. absurd cc) refl
 
 -- ---- a boot notice
 
-pub resends_goes : (s : Script) (c : Cell) (past : List Entry) (n p : ℕ) (act : Going) (m : Message) (boot : ℕ) → Holds s c past → Heard c p m → boot ≤ c.server.boot → (c.clients n).running ≡ Some act → Goes s past (client_moves c n (resends_step (Client n) (c.clients n) p act boot))
+-- the boot number that was told last is known
+pub boot_with : (server : Node) (boot : ℕ) (boots : List KnownBoot) → boot_of server (with_boot server boot boots) ≡ boot
+boot_with server boot boots = ap (λ (t : Bool). boot_or_first (cond t (Some (record { server = server; boot = boot })) (find (λ (k : KnownBoot). same_node k.server server) (filter (λ (k : KnownBoot). not (same_node k.server server)) boots)))) (same_node-refl server)
+
+pub resends_goes : (s : Script) (c : Cell) (past : List Entry) (n p : ℕ) (act : Going) (m : Message) (boot : ℕ) → Holds s c past → Heard c p m → boot ≤ c.server.lasting.boot → (c.clients n).running ≡ Some act → Goes s past (client_moves c n (resends_step (Client n) (c.clients n) p act boot))
 resends_goes s c past n p act m boot h d le runs =
-    let x : ClientState = record (c.clients n) { boot = boot } in
+    let old : ClientState = c.clients n in
+    let x : ClientState = booted old boot in
+    let kind : IsClient s x = record { table = (h.own n).table; user = (h.own n).user; callee = λ a z. (h.own n).callee a z; apart = (h.own n).apart } in
+    let known : boot_of the_server x.boots ≡ boot = ap (λ (q : Node). boot_of the_server (with_boot q boot old.boots)) ((h.own n).callee act runs) ∙ boot_with the_server boot old.boots in
     let ms : List Message = call_message (Client n) x act ∷ [] in
     let e : Entry = step_entry n (lines.Given p ∷ []) ms in
-    moves s c past n (h.floors n) (resends_step (Client n) (c.clients n) p act boot) h (tt, tt) (told_passes s c past n p m ms h d)
-    (client_kept s c past n boot e h le (λ f. told_file n p f (actors.Node (Client n)) ms past) (λ f. told_reach n p f (actors.Node (Client n)) ms past) (told_act n p (actors.Node (Client n)) ms past) (λ f. refl))
-    (λ head call f. call_known (view h.floors c n) boot head call f)
+    moves s c past n (h.floors n) (resends_step (Client n) old p act boot) h kind (tt, tt) (told_passes s c past n p m ms h d)
+    (subst (λ (k : ℕ). ClientFacts s n (record (view h.floors c n) { known = k }) (e ∷ past)) (sym known) (client_kept s c past n boot e h le (λ f. told_file n p f (actors.Node (Client n)) ms past) (λ f. told_reach n p f (actors.Node (Client n)) ms past) (told_act n p (actors.Node (Client n)) ms past) (λ f. refl)))
+    (λ head call f. call_known (view h.floors c n) (boot_of the_server x.boots) head call f)
     (reply_still n (view h.floors c n) e past (λ f. told_file n p f (actors.Node (Client n)) ms past) (λ f. told_reach n p f (actors.Node (Client n)) ms past) (λ f. refl))
-    (own_call h.floors c past n (h.floors n) x act (lines.Given p ∷ []) le runs ((h.clients n).runs act runs) (same_one s c past n act ms h runs)) (λ a x z. inl x) refl
+    (own_call h.floors c past n (h.floors n) x act (lines.Given p ∷ []) (subst (λ (k : ℕ). k ≤ c.server.lasting.boot) (sym known) le) kind runs ((h.clients n).runs act runs) (same_one s c past n act ms h runs)) (λ a x z. inl x) refl
 
 -- ---- the row, by its cases
 
@@ -706,24 +811,41 @@ fresh_of true None e q = absurd cc
 fresh_of true (Some id) e q = absurd cc
 fresh_of false o e q = refl
 
+-- a reading reply is used
+pub entry_goes : (s : Script) (c : Cell) (past : List Entry) (n p : ℕ) (act : Going) (head : Head) (reply : FsReply) (u : CacheEntry) (body : ReadBody) → (h : Holds s c past) → Due c h.floors past n p act (record { head = head; carried = carried.Reply (tell.File reply) }) → is_spent (c.clients n) act ≡ false → volume_changed (asked act) ≡ None
+    → u.server ≡ (c.clients n).callee → Shows u.fid u.index body past (lines.Given p ∷ []) → IsFetched (c.clients n).spoiled n u.fid u.index u.status u.body u.expiry (record { head = head; carried = carried.Reply (tell.File reply) }) past → Goes s past (client_moves c n (takes_entry (Client n) (c.clients n) c.clock p act u body))
+entry_goes s c past n p act head reply u body h d fresh shut at shown fits =
+    fetched_goes s c past n p act u body _ (nat_lt c.clock u.expiry) h d (λ code z. reply_not reply code z) shut (at ∙ (h.own n).callee act d.running) shown
+    (subst (λ (sp : Bool). IsFetched sp n u.fid u.index u.status u.body u.expiry (record { head = head; carried = carried.Reply (tell.File reply) }) past) (fresh_of (c.clients n).spoiled (volume_changed (call_of (c.clients n) act)) fresh (ap volume_changed (call_is (c.clients n) act) ∙ shut)) fits) refl
+
 pub data_goes : (s : Script) (c : Cell) (past : List Entry) (n p : ℕ) (act : Going) (call : FsCall) (head : Head) (contents : List ℕ) (status : AfsFetchStatus) (callback : AfsCallBack) (sync : AfsVolSync) → (h : Holds s c past) → Due c h.floors past n p act (record { head = head; carried = carried.Reply (tell.File (replies.FetchData contents status callback sync)) })
-    → is_spent (c.clients n) act ≡ false → asked act ≡ call → FitsData (c.clients n).spoiled n (spot (view h.floors c n)) (record { head = head; carried = carried.Reply (tell.File (replies.FetchData contents status callback sync)) }) past contents status callback call → Goes s past (client_moves c n (takes_data (Client n) (c.clients n) c.clock p act contents status callback call))
+    → is_spent (c.clients n) act ≡ false → asked act ≡ call → FitsData (c.clients n).spoiled n (spot (view h.floors c n)) (record { head = head; carried = carried.Reply (tell.File (replies.FetchData contents status callback sync)) }) past contents status callback call → Goes s past (client_moves c n (takes_data (Client n) (c.clients n) c.clock p act contents status callback sync call))
 data_goes s c past n p act (calls.FetchData f pp w) head contents status callback sync h d fresh same fits =
-    let shut : volume_changed (asked act) ≡ None = ap volume_changed same in
-    fetched_goes s c past n p act (record { fid = f; index = status.sync_counter; expiry = callback.expiration_time; body = body_told status.file_type contents }) _ (nat_lt c.clock callback.expiration_time) h d (λ code z. reply_not (replies.FetchData contents status callback sync) code z) shut
-    (subst (λ (sp : Bool). IsFetched sp n f status.sync_counter (body_told status.file_type contents) callback.expiration_time (record { head = head; carried = carried.Reply (tell.File (replies.FetchData contents status callback sync)) }) past) (fresh_of (c.clients n).spoiled (volume_changed (asked act)) fresh shut) fits) refl
+    entry_goes s c past n p act head (replies.FetchData contents status callback sync) (entry_told (c.clients n).callee f status callback sync (Some (body_told status.file_type contents))) (seen.Contents (body_told status.file_type contents)) h d fresh (ap volume_changed same) refl
+    (subst (λ (b : Body). HasVersion f status.sync_counter b (lines_of past)) (sym fits.held.whole.holds) fits.held.whole.told) fits
 data_goes s c past n p act call head contents status callback sync h d fresh same fits = plain_goes s c past n p act call _ (replies.FetchData contents status callback sync) h d refl same
+
+pub status_goes : (s : Script) (c : Cell) (past : List Entry) (n p : ℕ) (act : Going) (call : FsCall) (head : Head) (status : AfsFetchStatus) (callback : AfsCallBack) (sync : AfsVolSync) → (h : Holds s c past) → Due c h.floors past n p act (record { head = head; carried = carried.Reply (tell.File (replies.FetchStatus status callback sync)) })
+    → is_spent (c.clients n) act ≡ false → asked act ≡ call → FitsShown (c.clients n).spoiled n (spot (view h.floors c n)) (record { head = head; carried = carried.Reply (tell.File (replies.FetchStatus status callback sync)) }) past status callback call → Goes s past (client_moves c n (takes_shown (Client n) (c.clients n) c.clock p act status callback sync call))
+status_goes s c past n p act (calls.FetchStatus f) head status callback sync h d fresh same fits =
+    entry_goes s c past n p act head (replies.FetchStatus status callback sync) (entry_told (c.clients n).callee f status callback sync None) (seen.Status (status_told status)) h d fresh (ap volume_changed same) refl
+    ((fits.held.whole.is, fits.held.whole.told), fits.held.whole.been) fits
+status_goes s c past n p act call head status callback sync h d fresh same fits = plain_goes s c past n p act call _ (replies.FetchStatus status callback sync) h d refl same
 
 pub data_stored : (t : Bool) (s : Script) (c : Cell) (past : List Entry) (n p : ℕ) (act : Going) (st : AfsStoreStatus) (pp ww ll : ℤ) (f : Fid) (b : List ℕ) (status : AfsFetchStatus) (m : Message) (reply : FsReply) → (h : Holds s c past) → Due c h.floors past n p act m → m.carried ≡ carried.Reply (tell.File reply) → stored_index m.carried ≡ Some status.sync_counter
     → asked act ≡ calls.StoreData f st pp ww ll b → FitsSet n (spot (view h.floors c n)) m past status (calls.StoreData f st pp ww ll b)
-    → Goes s past (client_moves c n (cond t (takes_plain (Client n) (c.clients n) p (calls.StoreData f st pp ww ll b)) (takes_stored (Client n) (c.clients n) c.clock p f status.sync_counter (λ body. bodies.File b))))
+    → Goes s past (client_moves c n (cond t (takes_plain (Client n) (c.clients n) p (calls.StoreData f st pp ww ll b)) (takes_stored (Client n) (c.clients n) c.clock p f status.sync_counter (status_told status) (λ body. Some (bodies.File b)))))
 data_stored true s c past n p act st pp ww ll f b status m reply h d is told same fits = plain_goes s c past n p act (calls.StoreData f st pp ww ll b) m reply h d is same
 data_stored false s c past n p act st pp ww ll f b status m reply h d is told same fits =
-    takes_saved s c past n p act (calls.StoreData f st pp ww ll b) f (λ body. bodies.File b) status.sync_counter m h d (ap code_told is) (λ code x. absurd (reply_not reply code (sym is ∙ x))) (record { asks = same; scope = λ g. refl; changed = λ k g server newer o older w. w }) told fits.1.0 fits.1.1 (λ x found lasts. fits.0)
+    takes_saved s c past n p act (calls.StoreData f st pp ww ll b) f (λ body. Some (bodies.File b)) status.sync_counter (status_told status) m h d (ap code_told is) (λ code x. absurd (reply_not reply code (sym is ∙ x))) (record { asks = same; scope = λ g. refl; changed = λ k g server newer o older w. w }) told fits.1.0 fits.1.1 (λ x found lasts. record { is = bodies.File b; told = fits.0.0; holds = refl; been = fits.0.1 })
 
 -- the entry stands just below the new index, so its body is that of the version before
-pub left_body : (s : Script) (c : Cell) (past : List Entry) (n : ℕ) (f : Fid) (index : ℕ) → (h : Holds s c past) → IsKeptBody f index (lines_of past) → is_below c.clock index (find_cached f (c.clients n).cache) ≡ true → IsLeft c n f index (λ body. body) past
-left_body s c past n f index h kept t x found lasts =
+same_body : (b : Option Body) (is body : Body) → IsBody b is → is ≡ body → IsBody b body
+same_body None is body h e = tt
+same_body (Some k) is body h e = h ∙ e
+
+pub left_body : (s : Script) (c : Cell) (past : List Entry) (n : ℕ) (f : Fid) (index : ℕ) (status : ReadStatus) → (h : Holds s c past) → IsKeptBody f index (lines_of past) → HasBeen f index (seen.Status status) past → is_below c.clock index (find_cached f (c.clients n).cache) ≡ true → IsLeft c n f index status (λ body. body) past
+left_body s c past n f index status h kept been t x found lasts =
     let below : is_below c.clock index (Some x) ≡ true = subst (λ (o : Option CacheEntry). is_below c.clock index o ≡ true) found t in
     let live : nat_lt c.clock x.expiry ≡ true = lt-ltb _ _ lasts in
     let at : cond (nat_lt c.clock x.expiry) (nat_eq (x.index + 1) index) true ≡ true = below in
@@ -731,57 +853,58 @@ left_body s c past n f index h kept t x found lasts =
     let is : x.index + 1 ≡ index = eqb-true _ _ here in
     let next : index ≡ kept.before + 1 = kept.next in
     let same : kept.before ≡ x.index = omega arith in
-    let had : HasVersion f kept.before x.body (lines_of past) = subst (λ (i : ℕ). HasVersion f i x.body (lines_of past)) (sym same) ((h.clients n).current f x found lasts).held.whole in
-    subst (λ (b : Body). HasVersion f index b (lines_of past)) (h.one f kept.before kept.body x.body kept.old had) kept.new
+    let w = ((h.clients n).current f x found lasts).held.whole in
+    let had : HasVersion f kept.before w.is (lines_of past) = subst (λ (i : ℕ). HasVersion f i w.is (lines_of past)) (sym same) w.told in
+    record { is = kept.body; told = kept.new; holds = same_body x.body w.is kept.body w.holds (sym (h.one f kept.before kept.body w.is kept.old had)); been = been }
 
-pub status_by : (t u : Bool) (s : Script) (c : Cell) (past : List Entry) (n p : ℕ) (act : Going) (call : FsCall) (f : Fid) (index : ℕ) (m : Message) (reply : FsReply) → (h : Holds s c past) → Due c h.floors past n p act m → m.carried ≡ carried.Reply (tell.File reply) → stored_index m.carried ≡ Some index
-    → IsStoreBy act call f → IsStored (spot (view h.floors c n)) m → Reached (Client n) f index past → IsKeptBody f index (lines_of past) → is_below c.clock index (find_cached f (c.clients n).cache) ≡ u
-    → Goes s past (client_moves c n (cond (not t && u) (takes_stored (Client n) (c.clients n) c.clock p f index (λ body. body)) (takes_plain (Client n) (c.clients n) p call)))
-status_by true u s c past n p act call f index m reply h d is told same stored up kept below = plain_goes s c past n p act call m reply h d is same.asks
-status_by false false s c past n p act call f index m reply h d is told same stored up kept below = plain_goes s c past n p act call m reply h d is same.asks
-status_by false true s c past n p act call f index m reply h d is told same stored up kept below =
-    takes_saved s c past n p act call f (λ body. body) index m h d (ap code_told is) (λ code x. absurd (reply_not reply code (sym is ∙ x))) same told stored up (left_body s c past n f index h kept below)
+pub status_by : (t u : Bool) (s : Script) (c : Cell) (past : List Entry) (n p : ℕ) (act : Going) (call : FsCall) (f : Fid) (index : ℕ) (status : ReadStatus) (m : Message) (reply : FsReply) → (h : Holds s c past) → Due c h.floors past n p act m → m.carried ≡ carried.Reply (tell.File reply) → stored_index m.carried ≡ Some index
+    → IsStoreBy act call f → IsStored (spot (view h.floors c n)) m → Reached (Client n) f index past → IsKeptBody f index (lines_of past) → HasBeen f index (seen.Status status) past → is_below c.clock index (find_cached f (c.clients n).cache) ≡ u
+    → Goes s past (client_moves c n (cond (not t && u) (takes_stored (Client n) (c.clients n) c.clock p f index status (λ body. body)) (takes_plain (Client n) (c.clients n) p call)))
+status_by true u s c past n p act call f index status m reply h d is told same stored up kept been below = plain_goes s c past n p act call m reply h d is same.asks
+status_by false false s c past n p act call f index status m reply h d is told same stored up kept been below = plain_goes s c past n p act call m reply h d is same.asks
+status_by false true s c past n p act call f index status m reply h d is told same stored up kept been below =
+    takes_saved s c past n p act call f (λ body. body) index status m h d (ap code_told is) (λ code x. absurd (reply_not reply code (sym is ∙ x))) same told stored up (left_body s c past n f index status h kept been below)
 
 pub set_goes : (s : Script) (c : Cell) (past : List Entry) (n p : ℕ) (act : Going) (call : FsCall) (status : AfsFetchStatus) (m : Message) (reply : FsReply) → (h : Holds s c past) → Due c h.floors past n p act m → m.carried ≡ carried.Reply (tell.File reply) → stored_index m.carried ≡ Some status.sync_counter
     → asked act ≡ call → FitsSet n (spot (view h.floors c n)) m past status call → Goes s past (client_moves c n (takes_set (Client n) (c.clients n) c.clock p status call))
 set_goes s c past n p act (calls.StoreData f st pp ww ll b) status m reply h d is told same fits = data_stored (c.clients n).spoiled s c past n p act st pp ww ll f b status m reply h d is told same fits
 set_goes s c past n p act (calls.StoreAcl f acl) status m reply h d is told same fits =
-    status_by (c.clients n).spoiled (is_below c.clock status.sync_counter (find_cached f (c.clients n).cache)) s c past n p act (calls.StoreAcl f acl) f status.sync_counter m reply h d is told (record { asks = same; scope = λ g. refl; changed = λ k g server newer o older w. w }) fits.1.0 fits.1.1 fits.0 refl
+    status_by (c.clients n).spoiled (is_below c.clock status.sync_counter (find_cached f (c.clients n).cache)) s c past n p act (calls.StoreAcl f acl) f status.sync_counter (status_told status) m reply h d is told (record { asks = same; scope = λ g. refl; changed = λ k g server newer o older w. w }) fits.1.0 fits.1.1 fits.0.0 fits.0.1 refl
 set_goes s c past n p act (calls.StoreStatus f st) status m reply h d is told same fits =
-    status_by (c.clients n).spoiled (is_below c.clock status.sync_counter (find_cached f (c.clients n).cache)) s c past n p act (calls.StoreStatus f st) f status.sync_counter m reply h d is told (record { asks = same; scope = λ g. refl; changed = λ k g server newer o older w. w }) fits.1.0 fits.1.1 fits.0 refl
+    status_by (c.clients n).spoiled (is_below c.clock status.sync_counter (find_cached f (c.clients n).cache)) s c past n p act (calls.StoreStatus f st) f status.sync_counter (status_told status) m reply h d is told (record { asks = same; scope = λ g. refl; changed = λ k g server newer o older w. w }) fits.1.0 fits.1.1 fits.0.0 fits.0.1 refl
 set_goes s c past n p act call status m reply h d is told same fits = plain_goes s c past n p act call m reply h d is same
 
 pub takes_goes : (s : Script) (c : Cell) (past : List Entry) (n p : ℕ) (act : Going) (call : FsCall) (head : Head) (reply : FsReply) → (h : Holds s c past) → Due c h.floors past n p act (record { head = head; carried = carried.Reply (tell.File reply) }) → is_spent (c.clients n) act ≡ false → asked act ≡ call → Goes s past (client_moves c n (takes (Client n) (c.clients n) c.clock p act call reply))
 takes_goes s c past n p act call head (replies.FetchData contents status callback sync) h d fresh same = data_goes s c past n p act call head contents status callback sync h d fresh same (subst (λ (x : FsCall). FitsData (c.clients n).spoiled n (spot (view h.floors c n)) (record { head = head; carried = carried.Reply (tell.File (replies.FetchData contents status callback sync)) }) past contents status callback x) same d.answers.fits)
+takes_goes s c past n p act call head (replies.FetchStatus status callback sync) h d fresh same = status_goes s c past n p act call head status callback sync h d fresh same (subst (λ (x : FsCall). FitsShown (c.clients n).spoiled n (spot (view h.floors c n)) (record { head = head; carried = carried.Reply (tell.File (replies.FetchStatus status callback sync)) }) past status callback x) same d.answers.fits)
 takes_goes s c past n p act call head (replies.StoreData status sync) h d fresh same = set_goes s c past n p act call status _ (replies.StoreData status sync) h d refl refl same (subst (λ (x : FsCall). FitsSet n (spot (view h.floors c n)) (record { head = head; carried = carried.Reply (tell.File (replies.StoreData status sync)) }) past status x) same d.answers.fits)
 takes_goes s c past n p act call head (replies.StoreAcl status sync) h d fresh same = set_goes s c past n p act call status _ (replies.StoreAcl status sync) h d refl refl same (subst (λ (x : FsCall). FitsSet n (spot (view h.floors c n)) (record { head = head; carried = carried.Reply (tell.File (replies.StoreAcl status sync)) }) past status x) same d.answers.fits)
 takes_goes s c past n p act call head (replies.StoreStatus status sync) h d fresh same = set_goes s c past n p act call status _ (replies.StoreStatus status sync) h d refl refl same (subst (λ (x : FsCall). FitsSet n (spot (view h.floors c n)) (record { head = head; carried = carried.Reply (tell.File (replies.StoreStatus status sync)) }) past status x) same d.answers.fits)
 takes_goes s c past n p act call head reply h d fresh same = plain_goes s c past n p act call _ reply h d refl same
 
 -- a reply that isn't used
-pub spent_goes : (s : Script) (c : Cell) (past : List Entry) (n p : ℕ) (act : Going) (m : Message) → (h : Holds s c past) → Due c h.floors past n p act m → is_spent (c.clients n) act ≡ true → Goes s past (client_moves c n (calls_step (Client n) (c.clients n) act (lines.Given p)))
-spent_goes s c past n p act m h d e = again_goes s c past n p act m h d (spent_shut (c.clients n).spoiled (volume_changed (asked act)) e)
+pub spent_goes : (s : Script) (c : Cell) (past : List Entry) (n p : ℕ) (act : Going) (m : Message) → (h : Holds s c past) → Due c h.floors past n p act m → is_spent (c.clients n) act ≡ true → Goes s past (client_moves c n (calls_again (Client n) (c.clients n) p act))
+spent_goes s c past n p act m h d e = again_goes s c past n p act m h d (ap volume_changed (sym (call_is (c.clients n) act)) ∙ spent_shut (c.clients n).spoiled (volume_changed (call_of (c.clients n) act)) e)
 
 pub refused_goes : (s : Script) (c : Cell) (past : List Entry) (n p : ℕ) (act : Going) (head : Head) (code : Code) (t : Bool) → (h : Holds s c past) → Due c h.floors past n p act (record { head = head; carried = carried.Refusal code }) → is_spent (c.clients n) act ≡ t
-    → Goes s past (client_moves c n (cond t (calls_step (Client n) (c.clients n) act (lines.Given p)) (answers_step (Client n) (c.clients n) p code)))
+    → Goes s past (client_moves c n (cond t (calls_again (Client n) (c.clients n) p act) (answers_step (Client n) (c.clients n) p code)))
 refused_goes s c past n p act head code true h d e = spent_goes s c past n p act _ h d e
 refused_goes s c past n p act head code false h d e = takes_refused s c past n p act head code h d
 
 pub replied_goes : (s : Script) (c : Cell) (past : List Entry) (n p : ℕ) (act : Going) (head : Head) (reply : FsReply) (t : Bool) → (h : Holds s c past) → Due c h.floors past n p act (record { head = head; carried = carried.Reply (tell.File reply) }) → is_spent (c.clients n) act ≡ t
-    → Goes s past (client_moves c n (cond t (calls_step (Client n) (c.clients n) act (lines.Given p)) (takes (Client n) (c.clients n) c.clock p act (call_of act) reply)))
+    → Goes s past (client_moves c n (cond t (calls_again (Client n) (c.clients n) p act) (takes (Client n) (c.clients n) c.clock p act (call_of (c.clients n) act) reply)))
 replied_goes s c past n p act head reply true h d e = spent_goes s c past n p act _ h d e
-replied_goes s c past n p act head reply false h d e = takes_goes s c past n p act (call_of act) head reply h d e (sym (call_is act))
+replied_goes s c past n p act head reply false h d e = takes_goes s c past n p act (call_of (c.clients n) act) head reply h d e (sym (call_is (c.clients n) act))
 
 -- what is known of a message to the client that may be awaited
 pub record Awaited (c : Cell) (n : ℕ) (act : Going) (m : Message) : Type 0 where
   pub epoch : m.head.epoch ≡ (c.clients n).epoch
   pub number : m.head.number ≡ (c.clients n).last
 
-pub awaited : (c : Cell) (n : ℕ) (act : Going) (m : Message) → is_awaited (Client n) (c.clients n) act m.head ≡ true → Awaited c n act m
+pub awaited : (c : Cell) (n : ℕ) (act : Going) (m : Message) → is_awaited (c.clients n) act m.head ≡ true → Awaited c n act m
 awaited c n act m t =
     let a = both _ _ t in
-    let b = both _ _ a.1 in
-    let e = both _ _ b.1 in
+    let e = both _ _ a.1 in
     let k = both _ _ e.1 in
     record { epoch = eqb-true _ _ e.0; number = eqb-true _ _ k.0 }
 
@@ -807,7 +930,7 @@ is_due s c past n p act m h heard to f w runs =
     }
 
 pub counts_goes : (s : Script) (c : Cell) (past : List Entry) (n p : ℕ) (act : Going) (head : Head) (x : Carried) → (h : Holds s c past) → Heard c p (record { head = head; carried = x }) → head.to ≡ Client n → OfReply (ReplyIn (view h.floors c) past (record { head = head; carried = x })) x
-    → OfNotice (IsNoticed c.server.boot (record { head = head; carried = x })) x → Awaited c n act (record { head = head; carried = x }) → (c.clients n).running ≡ Some act → Goes s past (client_moves c n (counts (Client n) (c.clients n) c.clock p act head x))
+    → OfNotice (IsNoticed c.server.lasting.boot (record { head = head; carried = x })) x → Awaited c n act (record { head = head; carried = x }) → (c.clients n).running ≡ Some act → Goes s past (client_moves c n (counts (Client n) (c.clients n) c.clock p act head x))
 counts_goes s c past n p act head (carried.Call user call) h heard to f k w runs = quiet s c past n p (record { head = head; carried = carried.Call user call }) h heard
 counts_goes s c past n p act head (carried.Refusal code) h heard to f k w runs = refused_goes s c past n p act head code (is_spent (c.clients n) act) h (is_due s c past n p act (record { head = head; carried = carried.Refusal code }) h heard to f w runs) refl
 counts_goes s c past n p act head (carried.Reply (tell.File reply)) h heard to f k w runs = replied_goes s c past n p act head reply (is_spent (c.clients n) act) h (is_due s c past n p act (record { head = head; carried = carried.Reply (tell.File reply) }) h heard to f w runs) refl
@@ -815,14 +938,14 @@ counts_goes s c past n p act head (carried.Reply (tell.Volume reply)) h heard to
 counts_goes s c past n p act head (carried.Reply (tell.Location reply)) h heard to f k w runs = quiet s c past n p (record { head = head; carried = carried.Reply (tell.Location reply) }) h heard
 counts_goes s c past n p act head carried.Notice h heard to f k w runs = resends_goes s c past n p act (record { head = head; carried = carried.Notice }) head.boot h heard k runs
 
-pub test_goes : (s : Script) (c : Cell) (past : List Entry) (n p : ℕ) (act : Going) (m : Message) (t : Bool) → (h : Holds s c past) → Heard c p m → m.head.to ≡ Client n → OfReply (ReplyIn (view h.floors c) past m) m.carried → OfNotice (IsNoticed c.server.boot m) m.carried → is_awaited (Client n) (c.clients n) act m.head ≡ t → (c.clients n).running ≡ Some act
+pub test_goes : (s : Script) (c : Cell) (past : List Entry) (n p : ℕ) (act : Going) (m : Message) (t : Bool) → (h : Holds s c past) → Heard c p m → m.head.to ≡ Client n → OfReply (ReplyIn (view h.floors c) past m) m.carried → OfNotice (IsNoticed c.server.lasting.boot m) m.carried → is_awaited (c.clients n) act m.head ≡ t → (c.clients n).running ≡ Some act
     → Goes s past (client_moves c n (cond t (counts (Client n) (c.clients n) c.clock p act m.head m.carried) (ignores (c.clients n) p)))
 test_goes s c past n p act m true h heard to f k t runs = counts_goes s c past n p act m.head m.carried h heard to f k (awaited c n act m t) runs
 test_goes s c past n p act m false h heard to f k t runs = quiet s c past n p m h heard
 
-pub awaits_goes : (s : Script) (c : Cell) (past : List Entry) (n p : ℕ) (m : Message) (o : Option Going) → (h : Holds s c past) → Heard c p m → m.head.to ≡ Client n → OfReply (ReplyIn (view h.floors c) past m) m.carried → OfNotice (IsNoticed c.server.boot m) m.carried → (c.clients n).running ≡ o → Goes s past (client_moves c n (awaits (Client n) (c.clients n) c.clock p m o))
+pub awaits_goes : (s : Script) (c : Cell) (past : List Entry) (n p : ℕ) (m : Message) (o : Option Going) → (h : Holds s c past) → Heard c p m → m.head.to ≡ Client n → OfReply (ReplyIn (view h.floors c) past m) m.carried → OfNotice (IsNoticed c.server.lasting.boot m) m.carried → (c.clients n).running ≡ o → Goes s past (client_moves c n (awaits (Client n) (c.clients n) c.clock p m.head m.carried o))
 awaits_goes s c past n p m None h heard to f k runs = quiet s c past n p m h heard
-awaits_goes s c past n p m (Some act) h heard to f k runs = test_goes s c past n p act m (is_awaited (Client n) (c.clients n) act m.head) h heard to f k refl runs
+awaits_goes s c past n p m (Some act) h heard to f k runs = test_goes s c past n p act m (is_awaited (c.clients n) act m.head) h heard to f k refl runs
 
 pub to_reply : (n : ℕ) (to : Node) (X : Type 0) (c : Carried) → to ≡ Client n → OfReply (OfClient to X) c → OfReply X c
 to_reply n to X (carried.Call user call) e h = tt
@@ -836,20 +959,33 @@ to_notice n to X (carried.Refusal code) e h = tt
 to_notice n to X (carried.Reply reply) e h = tt
 to_notice n to X carried.Notice e h = by_client n to X e h
 
-pub hears_goes : (s : Script) (c : Cell) (past : List Entry) (n p : ℕ) (head : Head) (x : Carried) → (h : Holds s c past) → message_at c.sent p ≡ Some (record { head = head; carried = x }) → head.to ≡ Client n → Heard c p (record { head = head; carried = x }) → OfCall (ByServer (BackIn c.down c.backs.calls c.backs.last_call c.server.boot)) head x
-    → IfReply (ReplyIn (view h.floors c) past) (record { head = head; carried = x }) → IfNotice (IsNoticed c.server.boot) (record { head = head; carried = x }) → Goes s past (client_moves c n (hears_in (Client n) (c.clients n) c.clock p head x))
-hears_goes s c past n p head (carried.Call user (ask.File call)) h at to heard b f k = called_goes s c past n p head user call h heard to b
-hears_goes s c past n p head (carried.Call user (ask.Volume call)) h at to heard b f k = absurd b
-hears_goes s c past n p head (carried.Call user (ask.Location call)) h at to heard b f k = absurd b
-hears_goes s c past n p head (carried.Refusal code) h at to heard b f k = awaits_goes s c past n p _ (c.clients n).running h heard to (by_client n head.to _ to f) tt refl
-hears_goes s c past n p head (carried.Reply reply) h at to heard b f k = awaits_goes s c past n p _ (c.clients n).running h heard to (by_client n head.to _ to f) tt refl
-hears_goes s c past n p head carried.Notice h at to heard b f k = awaits_goes s c past n p _ (c.clients n).running h heard to tt (by_client n head.to _ to k) refl
+-- who calls a client is the server
+pub caller_by : (views : ℕ → View) (n : ℕ) (q : Node) (head : Head) (user : List ℕ) (call : FsCall) → head.from ≡ q → head.to ≡ Client n → OfClient q (CallIn views head user call) → ToClient head user call → head.from ≡ the_server
+caller_by views n (Client j) head user call e to f w = let at : head.to ≡ the_server = f.to in absurd cc
+caller_by views n (Server j) head user call e to f w = (w (λ i x. absurd cc)).1
+caller_by views n (Admin j) head user call e to f w = (w (λ i x. absurd cc)).1
+caller_by views n Loc head user call e to f w = (w (λ i x. absurd cc)).1
+
+pub hears_goes : (s : Script) (c : Cell) (past : List Entry) (n p : ℕ) (head : Head) (x : Carried) → (h : Holds s c past) → message_at c.sent p ≡ Some (record { head = head; carried = x }) → head.to ≡ Client n → Heard c p (record { head = head; carried = x }) → OfCall (ByServer (BackIn c.down c.server.backs.calls c.server.backs.last_call c.server.lasting.boot)) head x
+    → OfCall (ByClient (CallIn (view h.floors c))) head x → OfCall ToClient head x → IfReply (ReplyIn (view h.floors c) past) (record { head = head; carried = x }) → IfNotice (IsNoticed c.server.lasting.boot) (record { head = head; carried = x }) → Goes s past (client_moves c n (hears (Client n) (c.clients n) c.clock p head x))
+hears_goes s c past n p head (carried.Call user (ask.File call)) h at to heard b q w f k = called_goes s c past n p head user call h heard to (caller_by (view h.floors c) n head.from head user call refl to q w) b
+hears_goes s c past n p head (carried.Call user (ask.Volume call)) h at to heard b q w f k = absurd b
+hears_goes s c past n p head (carried.Call user (ask.Location call)) h at to heard b q w f k = absurd b
+hears_goes s c past n p head (carried.Refusal code) h at to heard b q w f k = awaits_goes s c past n p _ (c.clients n).running h heard to (by_client n head.to _ to f) tt refl
+hears_goes s c past n p head (carried.Reply reply) h at to heard b q w f k = awaits_goes s c past n p _ (c.clients n).running h heard to (by_client n head.to _ to f) tt refl
+hears_goes s c past n p head carried.Notice h at to heard b q w f k = awaits_goes s c past n p _ (c.clients n).running h heard to tt (by_client n head.to _ to k) refl
+
+to_me : (s : Script) (past : List Entry) (c : Cell) (n : ℕ) (t : Bool) (a b : Step ClientState) → t ≡ true → Goes s past (client_moves c n a) → Goes s past (client_moves c n (cond t a b))
+to_me s past c n true a b e g = g
+to_me s past c n false a b e g = absurd cc
 
 pub client_goes : (s : Script) (c : Cell) (past : List Entry) (n p : ℕ) (m : Message) → Holds s c past → message_at c.sent p ≡ Some m → m.head.to ≡ Client n → Goes s past (client_moves c n (client_row (Client n) (c.clients n) c.clock p (Whole m)))
 unfolding client_row
 client_goes s c past n p m h at to =
-    hears_goes s c past n p m.head m.carried h at to (record { at = at; not_to = λ x. let y : Client n ≡ the_server = sym to ∙ x in absurd cc }) (each_at (IfBack (BackIn c.down c.backs.calls c.backs.last_call c.server.boot)) c.sent p m at (h.backs refl).calls)
-    (each_at (IfReply (ReplyIn (view h.floors c) past)) c.sent p m at h.sent.replies) (each_at (IfNotice (IsNoticed c.server.boot)) c.sent p m at h.sent.notices)
+    to_me s past c n (same_node m.head.to (Client n)) (hears (Client n) (c.clients n) c.clock p m.head m.carried) (ignores (c.clients n) p) (ap (λ (q : Node). same_node q (Client n)) to ∙ same_node-refl (Client n))
+    (hears_goes s c past n p m.head m.carried h at to (record { at = at; not_to = λ x. let y : Client n ≡ the_server = sym to ∙ x in absurd cc }) (each_at (IfBack (BackIn c.down c.server.backs.calls c.server.backs.last_call c.server.lasting.boot)) c.sent p m at (h.backs refl).calls)
+    (each_at (IfCall (CallIn (view h.floors c))) c.sent p m at h.sent.calls) (each_at (λ z. OfCall ToClient z.head z.carried) c.sent p m at h.sent.to_clients)
+    (each_at (IfReply (ReplyIn (view h.floors c) past)) c.sent p m at h.sent.replies) (each_at (IfNotice (IsNoticed c.server.lasting.boot)) c.sent p m at h.sent.notices))
 
 pub begun_goes : (s : Script) (c : Cell) (past : List Entry) (n : ℕ) (act : Act) (o : Option Going) → Holds s c past → (c.clients n).running ≡ o → Goes s past (begun_by c n act o)
 begun_goes s c past n act None h e = begins_goes s c past n act h e

@@ -1,3 +1,7 @@
+use Rattle.afs_num.specs.declared.types.Node.{Node}
+use Rattle.afs_rows.specs.States.{Location, Gift, CacheEntry, Seat}
+use Rattle.afs_law.proofs.Basics.{guest, at_put, found-first, Each, IfCall, ByClient, OfClient, by_client, both, same_fid-true, same_node-true, same_node-refl, node_apart, client_number, up_to_same, up_to_next, next_not, below_not, at_puts, each_map, if_call, raised_up_to, some_of, IfBack, IfDone, same_key-refl, OfCall, UpTo}
+use Rattle.afs_history.specs.declared.acts.Act.{Act}
 use Rattle.std.proofs.Common.{◌≡◌, ℕ, ◌+◌, ◌≤◌, ◌⊎◌, inl, inr, Bool, true, false, cond, List, [], ◌∷◌, Option, Some, None, refl, sym, ap, subst, ◌∙◌, arith, nat_eq, eqb-true, ◌++◌}
 use Rattle.std.specs.Prelude.{◌&&◌}
 use Rattle.afs_num.specs.Fids.{same_fid}
@@ -6,41 +10,40 @@ use Rattle.afs_num.specs.declared.types.Code.{Code}
 use Rattle.afs_num.specs.declared.types.Fid.{Fid}
 use Rattle.afs_num.specs.declared.types.Head.{Head}
 use Rattle.afs_num.specs.declared.types.Key.{Key}
-use Rattle.afs_num.specs.declared.types.Node.TheVariants.{Client}
+use Rattle.afs_num.specs.declared.types.Node.TheVariants.{Server, Client}
 use Rattle.afs_num.specs.declared.calls.FsCall.{FsCall}
 use Rattle.afs_num.specs.declared.messages.Message.{Message}
 use Rattle.afs_ideal.specs.Operations.{volume_changed}
 use Rattle.afs_law.proofs.Backing.{Plain, backed_plain, seated_over, plain_step}
-use Rattle.afs_law.proofs.Basics.{found-first, Each, IfCall, ByClient, OfClient, by_client, both, same_fid-true, same_node-true, same_node-refl, node_apart, client_number, up_to_same, up_to_next, next_not, below_not, at_puts, each_map, if_call, raised_up_to, some_of, IfBack, IfDone, same_key-refl, OfCall, UpTo}
 use Rattle.afs_law.proofs.Edits.{index_in, fid_at, sound_same}
-use Rattle.afs_law.proofs.Facts.{Ghost, Seen, IsAged, server_boot, View, view_of, view, desk, last_key, LastRan, Reached, ReplyFact, ClientFacts, IsUntrusted, IsSafe, CallFact, CallIn, Holds, Goes, Reading, InScope, IsOne}
+use Rattle.afs_law.proofs.Facts.{AreApart, IsClient, back_seat, Ghost, Seen, IsAged, server_boot, View, view_of, view, desk, last_key, LastRan, Reached, ReplyFact, ClientFacts, IsUntrusted, IsSafe, CallFact, CallIn, Holds, Goes, Reading, InScope, IsOne}
 use Rattle.afs_law.proofs.Owing.{BackIn, DoneIn, SeatedIn}
-use Rattle.afs_law.proofs.Passing.{PassesGrant, PassesFile, PassesAct, PassesReach, stays, PassesBoth, PassesSeen, current_over, reply_over, kept_over, client_still, News, more_sent, fallen_over, one_more}
+use Rattle.afs_law.proofs.Passing.{old_over, PassesGrant, PassesFile, PassesAct, PassesReach, stays, PassesBoth, PassesSeen, current_over, reply_over, kept_over, client_still, News, more_sent, fallen_over, one_more}
 use Rattle.afs_law.proofs.Serving.{told_file, told_reach, told_act, reached_still}
 use Rattle.afs_law.proofs.Turning.{call_good}
-use Rattle.afs_law.specs.Acts.{Act, Open, at_fid}
-use Rattle.afs_law.specs.Callbacks.{put, replies_of}
-use Rattle.afs_law.specs.ClientRow.{used_first, the_server, find_cached, guest, call_of, call_head, call_message, asking, calls_step, ignores}
-use Rattle.afs_law.specs.Going.{asked, Going, began, with_read, read_on, ClientState}
+use Rattle.afs_rows.specs.Callbacks.{put, replies_of}
+use Rattle.afs_rows.specs.ClientRow.{volume_asked, server_at, ended, call_by, boot_of, used_first, find_cached, call_of, call_head, call_message, asking, calls_step, ignores}
+use Rattle.afs_rows.specs.Going.{call_for, Need, reads, reads_status, reads_statuses, reads_rights, asks_for, gives_back, answers, next, asked, Going, began, with_read, read_on, ClientState}
 use Rattle.afs_law.specs.Ideal.{last_version, HasVersion, Accepts, clock_of, reach, raised, is_zero_code, volume_after, call_in, call_under}
 use Rattle.afs_law.specs.Legal.{IsNew, AreGood, AreGoodReplies}
-use Rattle.afs_law.specs.Lines.{Line}
+use Rattle.afs_history.specs.declared.lines.Line.{Line}
 use Rattle.afs_law.specs.Past.{onto, lines_of, sent_of, given_message, running, CalledSince, IsCallUnder, has_begun, called_key, is_called, same_key, Sends}
-use Rattle.afs_law.specs.Runs.{Entry, Cell, message_at, client_moves}
-use Rattle.afs_law.specs.Scopes.{is_volume}
-use Rattle.afs_law.specs.States.{CacheEntry, Seat}
-use Rattle.afs_law.specs.Steps.{Step}
+use Rattle.afs_rows.specs.Runs.{the_server, locations, Entry, Cell, message_at, client_moves}
+use Rattle.afs_rows.specs.Scopes.{is_volume}
+use Rattle.afs_rows.specs.Steps.{Step}
 use Rattle.afs_num.specs.declared.scripts.Script.{Script}
-use Rattle.afs_num.specs.declared.histories.Actor.TheVariants as actors
 use Rattle.afs_num.specs.declared.histories.Body.{Body}
+use Rattle.afs_num.specs.declared.histories.ReadBody.{ReadBody}
 use Rattle.afs_num.specs.declared.histories.ReadSource.TheVariants.{Cached, Fetched}
 use Rattle.afs_num.specs.declared.histories.Version.{Version}
 use Rattle.std.proofs.Math.Nat.{le_refl}
 use Rattle.afs_num.specs.declared.messages.Carried.{Carried}
+use Rattle.afs_num.specs.declared.histories.Actor.TheVariants as actors
+use Rattle.afs_history.specs.declared.acts.Act.TheVariants as acts
 use Rattle.afs_num.specs.declared.calls.FsCall.TheVariants as calls
 use Rattle.afs_num.specs.declared.messages.Carried.TheVariants as carried
 use Rattle.afs_num.specs.declared.messages.Call.TheVariants as ask
-use Rattle.afs_law.specs.Lines as lines
+use Rattle.afs_history.specs.declared.lines.Line.TheVariants as lines
 
 -- The clients' steps.
 
@@ -83,28 +86,28 @@ calls_moved fl c n floor x sent w h = each_map (IfCall (CallIn (view fl c))) (If
 })) sent h
 
 -- what is known of what a client sends, and of what it keeps for the server
-pub record Fresh (c : Cell) (n : ℕ) (views : ℕ → View) (past : List Entry) (ms : List Message) : Type 0 where
-  pub news : News ms views c.server.boot past
+pub record Fresh (s : Script) (c : Cell) (n : ℕ) (views : ℕ → View) (past : List Entry) (ms : List Message) : Type 0 where
+  pub news : News s ms views c.server.lasting.boot past
   pub good : AreGoodReplies past ms
-  pub calls : Each (IfBack (BackIn c.down c.backs.calls c.backs.last_call c.server.boot)) ms
-  pub dones : Each (IfDone (DoneIn c.down c.backs.calls c.backs.last_call c.server.boot past)) ms
+  pub calls : Each (IfBack (BackIn c.down c.server.backs.calls c.server.backs.last_call c.server.lasting.boot)) ms
+  pub dones : Each (IfDone (DoneIn c.down c.server.backs.calls c.server.backs.last_call c.server.lasting.boot past)) ms
 
 abbrev pub KeepsSeat : Cell → ℕ → Option Seat → List Entry → Type 0
-KeepsSeat c n o past = (seat : Seat) (m : Message) → o ≡ Some seat → seat.reply ≡ Some m → SeatedIn c.down c.backs.calls c.backs.last_call c.server.boot past n m
+KeepsSeat c n o past = (seat : Seat) (m : Message) → o ≡ Some seat → seat.reply ≡ Some m → SeatedIn c.down c.server.backs.calls c.server.backs.last_call c.server.lasting.boot past n m
 
-pub seat_put : (t : Bool) (c : Cell) (n j : ℕ) (x y : ClientState) (seat : Seat) (m : Message) (past : List Entry) → nat_eq n j ≡ t → (cond t x y).seat ≡ Some seat → seat.reply ≡ Some m → KeepsSeat c n x.seat past → (y.seat ≡ Some seat → SeatedIn c.down c.backs.calls c.backs.last_call c.server.boot past j m) → SeatedIn c.down c.backs.calls c.backs.last_call c.server.boot past j m
-seat_put true c n j x y seat m past e at is a b = subst (λ (k : ℕ). SeatedIn c.down c.backs.calls c.backs.last_call c.server.boot past k m) (eqb-true n j e) (a seat m at is)
+pub seat_put : (t : Bool) (c : Cell) (n j : ℕ) (x y : ClientState) (seat : Seat) (m : Message) (past : List Entry) → nat_eq n j ≡ t → back_seat (cond t x y) ≡ Some seat → seat.reply ≡ Some m → KeepsSeat c n (back_seat x) past → (back_seat y ≡ Some seat → SeatedIn c.down c.server.backs.calls c.server.backs.last_call c.server.lasting.boot past j m) → SeatedIn c.down c.server.backs.calls c.server.backs.last_call c.server.lasting.boot past j m
+seat_put true c n j x y seat m past e at is a b = subst (λ (k : ℕ). SeatedIn c.down c.server.backs.calls c.server.backs.last_call c.server.lasting.boot past k m) (eqb-true n j e) (a seat m at is)
 seat_put false c n j x y seat m past e at is a b = b at
 
-pub moves_back : (s : Script) (c : Cell) (past : List Entry) (n : ℕ) (floor : Ghost) (st : Step ClientState) → (h : Holds s c past) → AreGood s (actors.Node (Client n)) past [] st.lines → Passes s n st.lines st.sent past
-    → ClientFacts n (view_after c n floor st.state) ((client_moves c n st).entry ∷ past)
+pub moves_back : (s : Script) (c : Cell) (past : List Entry) (n : ℕ) (floor : Ghost) (st : Step ClientState) → (h : Holds s c past) → IsClient s st.state → AreGood s (actors.Node (Client n)) past [] st.lines → Passes s n st.lines st.sent past
+    → ClientFacts s n (view_after c n floor st.state) ((client_moves c n st).entry ∷ past)
     → ((head : Head) (call : FsCall) → CallFact (view h.floors c n) head call → CallFact (view_after c n floor st.state) head call)
     → ((m : Message) → ReplyFact n (view h.floors c n) past m → ReplyFact n (view_after c n floor st.state) ((client_moves c n st).entry ∷ past) m)
-    → Fresh c n (views_after h.floors c n floor st.state) ((client_moves c n st).entry ∷ past) st.sent → ((a : Going) → st.state.running ≡ Some a → has_begun (Client n) st.lines ≡ false → ((c.clients n).running ≡ Some a) ⊎ Reading (c.clients n).running) → KeepsSeat c n st.state.seat ((client_moves c n st).entry ∷ past) → Goes s past (client_moves c n st)
-moves_back s c past n floor st h good p own w q fresh went keeps =
+    → Fresh s c n (views_after h.floors c n floor st.state) ((client_moves c n st).entry ∷ past) st.sent → ((a : Going) → st.state.running ≡ Some a → has_begun (Client n) st.lines ≡ false → ((c.clients n).running ≡ Some a) ⊎ Reading (c.clients n).running) → KeepsSeat c n (back_seat st.state) ((client_moves c n st).entry ∷ past) → Goes s past (client_moves c n st)
+moves_back s c past n floor st h kind good p own w q fresh went keeps =
     let e : Entry = (client_moves c n st).entry in
     let last : (f : Fid) → last_version f (lines_of (e ∷ past)) ≡ last_version f (lines_of past) = λ f. p.last f (lines_of past) in
-    let now : (j : ℕ) → ClientFacts j (views_after h.floors c n floor st.state j) (e ∷ past) = λ j. at_mover h.floors c n floor st.state j (λ i v. ClientFacts i v (e ∷ past)) own (λ ne. client_still j (view h.floors c j) e past (p.file j ne) (p.reach j ne) (p.act j ne) last (h.clients j)) in
+    let now : (j : ℕ) → ClientFacts s j (views_after h.floors c n floor st.state j) (e ∷ past) = λ j. at_mover h.floors c n floor st.state j (λ i v. ClientFacts s i v (e ∷ past)) own (λ ne. client_still j (view h.floors c j) e past (p.file j ne) (p.reach j ne) (p.act j ne) last (h.clients j)) in
     let b = h.backs refl in
     record {
       good = good;
@@ -113,6 +116,8 @@ moves_back s c past n floor st h good p own w q fresh went keeps =
       holds = record {
         floors = put n floor h.floors;
         count = h.count;
+        own = λ j. at_put n j (IsClient s) st.state c.clients (λ e. kind) (λ ne. h.own j);
+        servers = h.servers;
         ideal = λ id. h.ideal id ∙ sym (p.ideal id);
         fine = h.fine;
         sound = λ id. sound_same id _ (lines_of past) (lines_of (e ∷ past)) (λ a u. last (fid_at id a u)) (h.sound id);
@@ -122,31 +127,31 @@ moves_back s c past n floor st h good p own w q fresh went keeps =
         booted = h.booted;
         boots = p.boot (lines_of past) ∙ h.boots;
         clients = now;
-        sent = more_sent c.sent (replies_of c.backs.held) (replies_of c.backs.held) (view h.floors c) (views_after h.floors c n floor st.state) c.server.boot c.server.boot e past h.sent (le_refl _) now (λ j a. at_mover h.floors c n floor st.state j (λ i v. v.running ≡ Some a → has_begun (Client i) e.lines ≡ false → (running (Client i) (lines_of past) ≡ Some a) ⊎ Reading (running (Client i) (lines_of past))) (λ x z. elim (went a x z) [ inl y ↦ inl ((h.clients n).runs a y) | inr y ↦ inr (record { act = y.act; runs = (h.clients n).runs y.act y.runs; read = y.read }) ]) (λ ne x z. inl ((h.clients j).runs a x))) (calls_moved h.floors c n floor st.state c.sent w h.sent.calls)
+        sent = more_sent c.sent (replies_of c.server.backs.held) (replies_of c.server.backs.held) (view h.floors c) (views_after h.floors c n floor st.state) c.server.lasting.boot c.server.lasting.boot e past h.sent (le_refl _) now (λ j a. at_mover h.floors c n floor st.state j (λ i v. v.running ≡ Some a → has_begun (Client i) e.lines ≡ false → (running s (Client i) (lines_of past) ≡ Some a) ⊎ Reading (running s (Client i) (lines_of past))) (λ x z. elim (went a x z) [ inl y ↦ inl ((h.clients n).runs a y) | inr y ↦ inr (record { act = y.act; runs = (h.clients n).runs y.act y.runs; read = y.read }) ]) (λ ne x z. inl ((h.clients j).runs a x))) (calls_moved h.floors c n floor st.state c.sent w h.sent.calls)
             (λ j m. at_mover h.floors c n floor st.state j (λ i v. ReplyFact i (view h.floors c i) past m → ReplyFact i v (e ∷ past) m) (q m)
             (λ ne. reply_over j (view h.floors c j) m e past (λ f. (p.file j ne f).grant) (p.reach j ne) (λ f. stays j f e past (p.file j ne f).grant (last f)))) (λ held. (fresh.news, held));
-        down = fallen_over c.down c.server c.sent st.sent e past h.down;
+        down = fallen_over c.down c.server.lasting c.sent st.sent e past h.down;
         clock = p.clock (lines_of past) ∙ h.clock;
         top = λ f i b x. subst (λ (o : Option Version). i ≤ index_in o) (sym (last f)) (h.top f i b (p.back f i b (lines_of past) x));
         one = λ f i a b x y. h.one f i a b (p.back f i a (lines_of past) x) (p.back f i b (lines_of past) y);
-        backs = λ z. backed_plain c.down c.backs c.server.boot c.server.seats (λ j. (c.clients j).seat) (λ j. (put n st.state c.clients j).seat) c.clock c.clock c.sent st.sent e past p.plain (le_refl _) b fresh.calls fresh.dones
-            (λ j seat m x y. seat_put (nat_eq n j) c n j st.state (c.clients j) seat m (e ∷ past) refl x y keeps (λ k. seated_over c.down c.down c.backs c.backs c.server.boot c.clock c.clock e past (plain_step c.down c.backs c.clock c.clock e past p.plain (le_refl _)) j m (b.seated j seat m k y)));
+        backs = λ z. backed_plain c.down c.server.backs c.server.lasting.boot c.server.seats (λ j. back_seat (c.clients j)) (λ j. back_seat (put n st.state c.clients j)) c.clock c.clock c.sent st.sent e past p.plain (le_refl _) b fresh.calls fresh.dones
+            (λ j seat m x y. seat_put (nat_eq n j) c n j st.state (c.clients j) seat m (e ∷ past) refl x y keeps (λ k. seated_over c.down c.down c.server.backs c.server.backs c.server.lasting.boot c.clock c.clock e past (plain_step c.down c.server.backs c.clock c.clock e past p.plain (le_refl _)) j m (b.seated j seat m k y)));
       };
     }
 
-pub old_seat : (s : Script) (c : Cell) (past : List Entry) (n : ℕ) (e : Entry) → Plain e.lines → Holds s c past → KeepsSeat c n (c.clients n).seat (e ∷ past)
-old_seat s c past n e p h seat m x y = seated_over c.down c.down c.backs c.backs c.server.boot c.clock c.clock e past (plain_step c.down c.backs c.clock c.clock e past p (le_refl _)) n m ((h.backs refl).seated n seat m x y)
+pub old_seat : (s : Script) (c : Cell) (past : List Entry) (n : ℕ) (e : Entry) → Plain e.lines → Holds s c past → KeepsSeat c n (back_seat (c.clients n)) (e ∷ past)
+old_seat s c past n e p h seat m x y = seated_over c.down c.down c.server.backs c.server.backs c.server.lasting.boot c.clock c.clock e past (plain_step c.down c.server.backs c.clock c.clock e past p (le_refl _)) n m ((h.backs refl).seated n seat m x y)
 
 -- the client keeps what it kept for the server
-pub moves : (s : Script) (c : Cell) (past : List Entry) (n : ℕ) (floor : Ghost) (st : Step ClientState) → (h : Holds s c past) → AreGood s (actors.Node (Client n)) past [] st.lines → Passes s n st.lines st.sent past
-    → ClientFacts n (view_after c n floor st.state) ((client_moves c n st).entry ∷ past)
+pub moves : (s : Script) (c : Cell) (past : List Entry) (n : ℕ) (floor : Ghost) (st : Step ClientState) → (h : Holds s c past) → IsClient s st.state → AreGood s (actors.Node (Client n)) past [] st.lines → Passes s n st.lines st.sent past
+    → ClientFacts s n (view_after c n floor st.state) ((client_moves c n st).entry ∷ past)
     → ((head : Head) (call : FsCall) → CallFact (view h.floors c n) head call → CallFact (view_after c n floor st.state) head call)
     → ((m : Message) → ReplyFact n (view h.floors c n) past m → ReplyFact n (view_after c n floor st.state) ((client_moves c n st).entry ∷ past) m)
-    → Fresh c n (views_after h.floors c n floor st.state) ((client_moves c n st).entry ∷ past) st.sent → ((a : Going) → st.state.running ≡ Some a → has_begun (Client n) st.lines ≡ false → ((c.clients n).running ≡ Some a) ⊎ Reading (c.clients n).running) → st.state.seat ≡ (c.clients n).seat → Goes s past (client_moves c n st)
-moves s c past n floor st h good p own w q fresh went same = moves_back s c past n floor st h good p own w q fresh went (λ seat m x y. old_seat s c past n (client_moves c n st).entry p.plain h seat m (sym same ∙ x) y)
+    → Fresh s c n (views_after h.floors c n floor st.state) ((client_moves c n st).entry ∷ past) st.sent → ((a : Going) → st.state.running ≡ Some a → has_begun (Client n) st.lines ≡ false → ((c.clients n).running ≡ Some a) ⊎ Reading (c.clients n).running) → back_seat st.state ≡ back_seat (c.clients n) → Goes s past (client_moves c n st)
+moves s c past n floor st h kind good p own w q fresh went same = moves_back s c past n floor st h kind good p own w q fresh went (λ seat m x y. old_seat s c past n (client_moves c n st).entry p.plain h seat m (sym same ∙ x) y)
 
-pub nothing_new : {c : Cell} → {n : ℕ} → (views : ℕ → View) (past : List Entry) → Fresh c n views past []
-nothing_new views past = record { good = tt; calls = tt; dones = tt; news = record { calls = tt; replies = tt; notices = tt; origins = tt; acts = tt; lasts = tt; ones = tt; to_clients = tt } }
+pub nothing_new : {s : Script} → {c : Cell} → {n : ℕ} → (views : ℕ → View) (past : List Entry) → Fresh s c n views past []
+nothing_new {s} views past = record { good = tt; calls = tt; dones = tt; news = record { calls = tt; replies = tt; notices = tt; origins = tt; acts = tt; lasts = tt; ones = tt; to_clients = tt } }
 
 -- ---- the message that a client is given
 
@@ -182,93 +187,11 @@ other_client n j ne = node_apart (Client n) (Client j) (λ q. ne (client_number 
 pub runs_by_other : (n j : ℕ) (a o : Option Going) → (n ≡ j → ⊥) → cond (same_node (Client n) (Client j)) a o ≡ o
 runs_by_other n j a o ne = rw (other_client n j ne) refl
 
-pub reads_by_other : (n j : ℕ) (f : Fid) (b : Body) (o : Option Going) → (n ≡ j → ⊥) → read_on (same_node (Client n) (Client j)) f b o ≡ o
+pub reads_by_other : (n j : ℕ) (f : Fid) (b : ReadBody) (o : Option Going) → (n ≡ j → ⊥) → read_on (same_node (Client n) (Client j)) f b o ≡ o
 reads_by_other n j f b o ne = rw (other_client n j ne) refl
-
-pub has_not_begun : (n j : ℕ) → (n ≡ j → ⊥) → cond (same_node (Client n) (Client j)) true false ≡ false
-has_not_begun n j ne = rw (other_client n j ne) refl
-
-pub reset_up_to : (t : Bool) (m i : ℕ) → m ≤ i → cond t 0 m ≤ i
-reset_up_to true m i h = omega arith
-reset_up_to false m i h = h
-
-pub reset_none : (t : Bool) (m : ℕ) → m ≡ 0 → cond t 0 m ≡ 0
-reset_none true m h = refl
-reset_none false m h = h
-
-pub begin_file : (n j : ℕ) (a : Act) (ms : List Message) (past : List Entry) (f : Fid) → PassesFile j f (step_entry n (lines.Begin (Client n) a ∷ []) ms) past
-begin_file n j a ms past f = record { grant = record { version = λ i b l x. x; dropped = λ q l d. d; withdrawn = λ q l w. w }; fetched = refl }
-
-pub begin_reach : (n j : ℕ) (a : Act) (ms : List Message) (past : List Entry) (f : Fid) → PassesReach j f (step_entry n (lines.Begin (Client n) a ∷ []) ms) past
-begin_reach n j a ms past f = record {
-  both = λ i h. record { made = reset_up_to (same_node (Client n) (Client j)) (reach (Client j) f past).made i h.made; seen = h.seen };
-  seen = λ i h. h;
-  made = λ h. reset_none (same_node (Client n) (Client j)) (reach (Client j) f past).made h;
-}
-
-pub either_le : (m k : ℕ) (T : Type 0) → m ≤ k ⊎ (T → ⊥) → T → m ≤ k
-either_le m k T (inl x) t = x
-either_le m k T (inr x) t = absurd (x t)
-
-pub begin_passes : (s : Script) (n : ℕ) (a : Act) (ms : List Message) (past : List Entry) → Passes s n (lines.Begin (Client n) a ∷ []) ms past
-begin_passes s n a ms past = record {
-  file = λ j ne f. begin_file n j a ms past f;
-  reach = λ j ne f. begin_reach n j a ms past f;
-  act = λ j ne. record { runs = λ l. runs_by_other n j (Some (began a)) (running (Client j) l) ne; begins = has_not_begun n j ne };
-  last = λ f o. refl;
-  back = λ f i b o x. x;
-  new = λ k o x. x;
-  clock = λ o. refl;
-  home = λ id o x. x;
-  boot = λ o. refl;
-  plain = record { up = refl; still = refl; oweless = refl; unchanging = refl };
-  ideal = λ id. refl;
-  dull = λ k boot x. x;
-}
-
-abbrev pub shown_lines : ℕ → Act → Fid → ℕ → Body → Code → List Line
-shown_lines n a f i b code = lines.Begin (Client n) a ∷ lines.Read (Client n) f i Cached b ∷ lines.Answer (Client n) code ∷ []
-
-pub shown_file : (n j i : ℕ) (a : Act) (f g : Fid) (b : Body) (code : Code) (past : List Entry) → PassesFile j g (step_entry n (shown_lines n a f i b code) []) past
-shown_file n j i a f g b code past = record { grant = record { version = λ k x l y. y; dropped = λ q l d. d; withdrawn = λ q l w. w }; fetched = refl }
-
--- a read raises what its client has seen of its fid
-pub shown_reach : (n j i : ℕ) (a : Act) (f g : Fid) (b : Body) (code : Code) (past : List Entry) (k : ℕ) → (same_node (Client n) (Client j) ≡ true → same_fid f g ≡ true → i ≤ k) → Reached (Client j) g k past → Reached (Client j) g k (step_entry n (shown_lines n a f i b code) [] ∷ past)
-shown_reach n j i a f g b code past k le h =
-    let r = reach (Client j) g past in
-    record {
-      made = reset_up_to (same_node (Client n) (Client j)) r.made k h.made;
-      seen = raised_up_to (same_node (Client n) (Client j) && is_zero_code code) (cond (same_node (Client n) (Client j)) 0 r.made) (raised (same_node (Client n) (Client j) && same_fid f g) i r.seen) k
-          (λ t. reset_up_to (same_node (Client n) (Client j)) r.made k h.made)
-          (raised_up_to (same_node (Client n) (Client j) && same_fid f g) i r.seen k (λ t. let q = both (same_node (Client n) (Client j)) (same_fid f g) t in le q.0 q.1) h.seen);
-    }
 
 pub not_client : (n j : ℕ) → (n ≡ j → ⊥) → same_node (Client n) (Client j) ≡ true → ⊥
 not_client n j ne t = ne (client_number n j (same_node-true (Client n) (Client j) t))
-
--- what is seen, where the read shows no fid that counts above its index
-pub shown_seen : (n j i : ℕ) (a : Act) (f g : Fid) (b : Body) (code : Code) (past : List Entry) (k : ℕ) → (same_node (Client n) (Client j) ≡ true → same_fid f g ≡ true → i ≤ k) → cond (same_node (Client n) (Client j)) 0 (reach (Client j) g past).made ≤ k ⊎ (same_node (Client n) (Client j) ≡ true → ⊥) → Seen j g k past → Seen j g k (step_entry n (shown_lines n a f i b code) [] ∷ past)
-shown_seen n j i a f g b code past k le m h =
-    let r = reach (Client j) g past in
-    raised_up_to (same_node (Client n) (Client j) && is_zero_code code) (cond (same_node (Client n) (Client j)) 0 r.made) (raised (same_node (Client n) (Client j) && same_fid f g) i r.seen) k
-    (λ t. either_le _ k _ m (both (same_node (Client n) (Client j)) (is_zero_code code) t).0)
-    (raised_up_to (same_node (Client n) (Client j) && same_fid f g) i r.seen k (λ t. let q = both (same_node (Client n) (Client j)) (same_fid f g) t in le q.0 q.1) h)
-
-pub shown_passes : (s : Script) (n i : ℕ) (a : Act) (f : Fid) (b : Body) (code : Code) (past : List Entry) → Passes s n (shown_lines n a f i b code) [] past
-shown_passes s n i a f b code past = record {
-  file = λ j ne g. shown_file n j i a f g b code past;
-  reach = λ j ne g. record { both = λ k h. shown_reach n j i a f g b code past k (λ t u. absurd (not_client n j ne t)) h; seen = λ k h. shown_seen n j i a f g b code past k (λ t u. absurd (not_client n j ne t)) (inr (not_client n j ne)) h; made = λ h. reset_none (same_node (Client n) (Client j)) (reach (Client j) g past).made h };
-  act = λ j ne. record { runs = λ l. runs_by_other n j None _ ne ∙ (reads_by_other n j f b _ ne ∙ runs_by_other n j (Some (began a)) (running (Client j) l) ne); begins = has_not_begun n j ne };
-  last = λ g o. refl;
-  back = λ g k x o y. y;
-  new = λ k o x. x;
-  clock = λ o. refl;
-  home = λ id o x. x;
-  boot = λ o. refl;
-  plain = record { up = refl; still = refl; oweless = refl; unchanging = refl };
-  ideal = λ id. refl;
-  dull = λ k boot x. x;
-}
 
 abbrev pub answered_lines : ℕ → ℕ → Code → List Line
 answered_lines n p code = lines.Given p ∷ lines.Answer (Client n) code ∷ []
@@ -287,54 +210,9 @@ pub answered_passes : (s : Script) (c : Cell) (past : List Entry) (n p : ℕ) (m
 answered_passes s c past n p m code h d = record {
   file = λ j ne f. answered_file n j p code past f;
   reach = λ j ne f. record { both = answered_reach n j p code past f; seen = answered_seen n j p code past f (λ t z. not_client n j ne t); made = λ x. x };
-  act = λ j ne. record { runs = λ l. runs_by_other n j None (running (Client j) l) ne; begins = refl };
+  act = λ j ne. record { runs = λ s l. runs_by_other n j None (running s (Client j) l) ne; begins = refl };
   last = λ f o. refl;
   back = λ f i b o x. x;
-  new = λ k o x. x;
-  clock = λ o. refl;
-  home = λ id o x. x;
-  boot = λ o. refl;
-  plain = record { up = refl; still = refl; oweless = refl; unchanging = refl };
-  ideal = λ id. refl;
-  dull = heard_dull s c past p m h d;
-}
-
-abbrev pub used_lines : ℕ → ℕ → Fid → ℕ → Body → Code → List Line
-used_lines n p f i b code = lines.Given p ∷ lines.Read (Client n) f i Fetched b ∷ lines.Answer (Client n) code ∷ []
-
-pub used_by : (a b : Bool) → (a ≡ true → b ≡ true → ⊥) → cond (a && b) true false ≡ false
-used_by true true h = absurd (h refl refl)
-used_by true false h = refl
-used_by false b h = refl
-
-pub used_grant : (n j p i : ℕ) (f g : Fid) (b : Body) (code : Code) (past : List Entry) → PassesGrant j g (step_entry n (used_lines n p f i b code) []) past
-used_grant n j p i f g b code past = record { version = λ k x l y. y; dropped = λ q l d. d; withdrawn = λ q l w. w }
-
-pub used_file : (n j p i : ℕ) (f g : Fid) (b : Body) (code : Code) (past : List Entry) → (n ≡ j → f ≡ g → ⊥) → PassesFile j g (step_entry n (used_lines n p f i b code) []) past
-used_file n j p i f g b code past ne = record { grant = used_grant n j p i f g b code past; fetched = used_by (same_node (Client n) (Client j)) (same_fid f g) (λ x y. ne (client_number n j (same_node-true (Client n) (Client j) x)) (same_fid-true f g y)) }
-
-pub used_reach : (n j p i : ℕ) (f g : Fid) (b : Body) (code : Code) (past : List Entry) (k : ℕ) → (same_node (Client n) (Client j) ≡ true → same_fid f g ≡ true → i ≤ k) → Reached (Client j) g k past → Reached (Client j) g k (step_entry n (used_lines n p f i b code) [] ∷ past)
-used_reach n j p i f g b code past k le h =
-    let r = reach (Client j) g past in
-    record {
-      made = h.made;
-      seen = raised_up_to (same_node (Client n) (Client j) && is_zero_code code) r.made (raised (same_node (Client n) (Client j) && same_fid f g) i r.seen) k (λ t. h.made)
-          (raised_up_to (same_node (Client n) (Client j) && same_fid f g) i r.seen k (λ t. let q = both (same_node (Client n) (Client j)) (same_fid f g) t in le q.0 q.1) h.seen);
-    }
-
-used_seen : (n j p i : ℕ) (f g : Fid) (b : Body) (code : Code) (past : List Entry) → (same_node (Client n) (Client j) ≡ true → ⊥) → PassesSeen j g (step_entry n (used_lines n p f i b code) []) past
-used_seen n j p i f g b code past ne k h =
-    let r = reach (Client j) g past in
-    raised_up_to (same_node (Client n) (Client j) && is_zero_code code) r.made (raised (same_node (Client n) (Client j) && same_fid f g) i r.seen) k (λ t. absurd (ne (both (same_node (Client n) (Client j)) (is_zero_code code) t).0))
-    (raised_up_to (same_node (Client n) (Client j) && same_fid f g) i r.seen k (λ t. absurd (ne (both (same_node (Client n) (Client j)) (same_fid f g) t).0)) h)
-
-pub used_passes : (s : Script) (c : Cell) (past : List Entry) (n p i : ℕ) (f : Fid) (b : Body) (code : Code) (m : Message) → Holds s c past → Heard c p m → Passes s n (used_lines n p f i b code) [] past
-used_passes s c past n p i f b code m h d = record {
-  file = λ j ne g. used_file n j p i f g b code past (λ q x. ne q);
-  reach = λ j ne g. record { both = λ k x. used_reach n j p i f g b code past k (λ t u. absurd (not_client n j ne t)) x; seen = used_seen n j p i f g b code past (not_client n j ne); made = λ x. x };
-  act = λ j ne. record { runs = λ l. runs_by_other n j None _ ne ∙ reads_by_other n j f b (running (Client j) l) ne; begins = refl };
-  last = λ g o. refl;
-  back = λ g k x o y. y;
   new = λ k o x. x;
   clock = λ o. refl;
   home = λ id o x. x;
@@ -347,11 +225,11 @@ used_passes s c past n p i f b code m h d = record {
 -- ---- a message that changes nothing
 
 -- the client keeps its call and its act, over lines that change nothing of it
-pub client_kept : (s : Script) (c : Cell) (past : List Entry) (n boot : ℕ) (e : Entry) → (h : Holds s c past) → boot ≤ c.server.boot → ((f : Fid) → PassesFile n f e past) → ((f : Fid) → PassesReach n f e past) → PassesAct n e past → ((f : Fid) → last_version f (lines_of (e ∷ past)) ≡ last_version f (lines_of past))
-    → ClientFacts n (record (view h.floors c n) { known = boot }) (e ∷ past)
+pub client_kept : (s : Script) (c : Cell) (past : List Entry) (n boot : ℕ) (e : Entry) → (h : Holds s c past) → boot ≤ c.server.lasting.boot → ((f : Fid) → PassesFile n f e past) → ((f : Fid) → PassesReach n f e past) → PassesAct n e past → ((f : Fid) → last_version f (lines_of (e ∷ past)) ≡ last_version f (lines_of past))
+    → ClientFacts s n (record (view h.floors c n) { known = boot }) (e ∷ past)
 client_kept s c past n boot e h le p q t l =
-    let d : ClientFacts n (view h.floors c n) (e ∷ past) = client_still n (view h.floors c n) e past p q t l (h.clients n) in
-    record { behind = d.behind; behind_durable = d.behind_durable; lower = d.lower; kept = d.kept; stored = d.stored; known = le; floored = d.floored; holds = d.holds; waits = d.waits; idle = d.idle; made = d.made; current = d.current; runs = d.runs; asked = d.asked; reached = d.reached }
+    let d : ClientFacts s n (view h.floors c n) (e ∷ past) = client_still n (view h.floors c n) e past p q t l (h.clients n) in
+    record { behind = d.behind; behind_durable = d.behind_durable; lower = d.lower; kept = d.kept; stored = d.stored; known = le; floored = d.floored; holds = d.holds; waits = d.waits; idle = d.idle; made = d.made; current = d.current; runs = d.runs; old = d.old; asked = d.asked; reached = d.reached }
 
 pub reply_still : (j : ℕ) (v : View) (e : Entry) (past : List Entry) → ((f : Fid) → PassesFile j f e past) → ((f : Fid) → PassesReach j f e past) → ((f : Fid) → last_version f (lines_of (e ∷ past)) ≡ last_version f (lines_of past)) → (m : Message) → ReplyFact j v past m → ReplyFact j v (e ∷ past) m
 reply_still j v e past p q l m = reply_over j v m e past (λ f. (p f).grant) q (λ f. stays j f e past (p f).grant (l f))
@@ -362,14 +240,40 @@ call_known v boot head call f = record { behind = f.behind; booted = f.booted; s
 pub quiet : (s : Script) (c : Cell) (past : List Entry) (n p : ℕ) (m : Message) → Holds s c past → Heard c p m → Goes s past (client_moves c n (ignores (c.clients n) p))
 quiet s c past n p m h d =
     let e : Entry = step_entry n (lines.Given p ∷ []) [] in
-    moves s c past n (h.floors n) (ignores (c.clients n) p) h (tt, tt) (told_passes s c past n p m [] h d)
+    moves s c past n (h.floors n) (ignores (c.clients n) p) h (h.own n) (tt, tt) (told_passes s c past n p m [] h d)
     (client_still n (view h.floors c n) e past (λ f. told_file n p f (actors.Node (Client n)) [] past) (λ f. told_reach n p f (actors.Node (Client n)) [] past) (told_act n p (actors.Node (Client n)) [] past) (λ f. refl) (h.clients n))
     (λ head call f. f) (reply_still n (view h.floors c n) e past (λ f. told_file n p f (actors.Node (Client n)) [] past) (λ f. told_reach n p f (actors.Node (Client n)) [] past) (λ f. refl)) (nothing_new _ _) (λ a x z. inl x) refl
 
 -- ---- a call is sent
 
-pub call_is : (act : Going) → call_of act ≡ asked act
-call_is act = refl
+call_by_is : (gifts : List Gift) (need : Need) → call_by gifts need ≡ call_for need
+call_by_is gifts (reads f) = refl
+call_by_is gifts (reads_status f) = refl
+call_by_is gifts (reads_statuses fs) = refl
+call_by_is gifts (reads_rights f) = refl
+call_by_is gifts (asks_for call) = refl
+call_by_is gifts gives_back = refl
+call_by_is gifts (answers code) = refl
+
+pub call_is : (x : ClientState) (act : Going) → call_of x act ≡ asked act
+call_is x act = call_by_is x.gifts (next act)
+
+-- what a client's call carries
+pub carried_is : (x : ClientState) (act : Going) → x.user ≡ guest → carried.Call x.user (ask.File (call_of x act)) ≡ carried.Call guest (ask.File (asked act))
+carried_is x act who = ap (λ (u : List ℕ). carried.Call u (ask.File (call_of x act))) who ∙ ap (λ (k : FsCall). carried.Call guest (ask.File k)) (call_is x act)
+
+-- a client that asks next is still one of the script
+pub client_asking : (s : Script) (c : Cell) (past : List Entry) (x : ClientState) (act : Going) → Holds s c past → IsClient s x → IsClient s (asking x act)
+client_asking s c past x act h k = record {
+  table = k.table;
+  user = k.user;
+  callee = λ a e. ap Server (ap (λ (t : List Location). server_at t (volume_asked (call_for (next act)))) k.table ∙ h.servers (volume_asked (call_for (next act))));
+  apart = k.apart;
+}
+
+-- and so is one whose act ended, or that reads another way
+pub client_ended : (s : Script) (x : ClientState) (cache : List CacheEntry) → IsClient s x → AreApart cache → IsClient s (ended x cache)
+client_ended s x cache k a = record { table = k.table; user = k.user; callee = λ act e. absurd cc; apart = a }
 
 -- a call that changes nothing has no fid in its scope
 pub scope_volume : (n : ℕ) (o : Option ℕ) → o ≡ None → is_volume n o ≡ true → ⊥
@@ -398,8 +302,8 @@ safe_cache call t e l running cache other aged head w (inr (inl x)) = inr (inl x
 safe_cache call t e l running cache other aged head w (inr (inr (inl x))) = inr (inr (inl (λ f y. w f (x f y))))
 safe_cache call t e l running cache other aged head w (inr (inr (inr x))) = inr (inr (inr x))
 
-pub safe_own : (act : Going) (t e l : ℕ) (running : Option Going) (cache : List CacheEntry) (aged : Type 0) (head : Head) → running ≡ Some act → head.epoch ≡ e → head.number ≡ l → IsSafe t e l running cache aged head (call_of act)
-safe_own act t e l running cache aged head r x y = inr (inl (record { act = act; runs = r; asks = call_is act; epoch' = x; number' = y }))
+pub safe_own : (x : ClientState) (act : Going) (t e l : ℕ) (running : Option Going) (cache : List CacheEntry) (aged : Type 0) (head : Head) → running ≡ Some act → head.epoch ≡ e → head.number ≡ l → IsSafe t e l running cache aged head (call_of x act)
+safe_own x act t e l running cache aged head r y z = inr (inl (record { act = act; runs = r; asks = call_is x act; epoch' = y; number' = z }))
 
 -- ---- the call under the key of one that is sent now
 
@@ -458,71 +362,76 @@ called_one n k user call S (e ∷ past) node (inl x) h = sends_one n k user call
 called_one n k user call S (e ∷ past) node (inr x) h = called_one n k user call S past node x.1 (each_front (IfCall (IsOne S)) (sent_of past) e.sent h).0
 
 -- the message of a call that the client sends now
-pub own_call : (fl : ℕ → Ghost) (c : Cell) (past : List Entry) (n : ℕ) (floor : Ghost) (x : ClientState) (act : Going) (ls : List Line) → x.boot ≤ c.server.boot → x.running ≡ Some act → running (Client n) (onto (lines_of past) ls) ≡ Some act → call_under (called_key (call_head (Client n) x act)) (sent_of past ++ call_message (Client n) x act ∷ []) ≡ Some (guest, call_of act)
-    → Fresh c n (views_after fl c n floor x) (step_entry n ls (call_message (Client n) x act ∷ []) ∷ past) (call_message (Client n) x act ∷ [])
-own_call fl c past n floor x act ls le runs at one = record {
-  good = (call_good _ (call_head (Client n) x act) guest (call_of act), tt);
-  calls = (tt, tt);
-  dones = (tt, tt);
-  news = record {
-    calls = (
-      record {
-        client = n;
-        from = refl;
-        to = refl;
-        fact = at_mover fl c n floor x n (λ i v. CallFact v (call_head (Client n) x act) (call_of act))
-            (record {
-              behind = up_to_same _ _ _ _ refl refl;
-              booted = le;
-              stale = λ l. absurd (below_not _ _ _ _ l (up_to_same _ _ _ _ refl refl));
-              own = λ b y e k. call_is act ∙ ap asked (some_of act b (sym runs ∙ y));
-              safe = λ q above. safe_own act c.clock x.epoch x.last x.running x.cache _ (call_head (Client n) x act) runs refl refl;
-            })
-            (λ ne. absurd (ne refl));
-      },
-      tt,
-    );
-    replies = (tt, tt);
-    notices = (tt, tt);
-    origins = (record { act = act; called = inl (refl, (inl (refl, refl), at)); own_user = refl; own_call = call_is act }, tt);
-    acts = ((λ t a r. inr (call_is act ∙ ap asked (some_of act a (sym at ∙ r)))), tt);
-    lasts = (
-      record {
-        client = n;
-        from = refl;
-        epoch = at_mover fl c n floor x n (λ i v. x.epoch ≡ v.epoch) refl (λ ne. absurd (ne refl));
-        number = at_mover fl c n floor x n (λ i v. x.last ≡ v.last) refl (λ ne. absurd (ne refl));
-      },
-      tt,
-    );
-    to_clients = ((λ ne y. ne n refl), tt);
-    ones = (one, tt);
-  };
-}
+pub own_call : {s : Script} → (fl : ℕ → Ghost) (c : Cell) (past : List Entry) (n : ℕ) (floor : Ghost) (x : ClientState) (act : Going) (ls : List Line) → boot_of the_server x.boots ≤ c.server.lasting.boot → IsClient s x → x.running ≡ Some act → running s (Client n) (onto (lines_of past) ls) ≡ Some act
+    → call_under (called_key (call_head (Client n) x act)) (sent_of past ++ call_message (Client n) x act ∷ []) ≡ Some (x.user, call_of x act) → Fresh s c n (views_after fl c n floor x) (step_entry n ls (call_message (Client n) x act ∷ []) ∷ past) (call_message (Client n) x act ∷ [])
+own_call {s} fl c past n floor x act ls le kind runs at one =
+    let to : x.callee ≡ the_server = kind.callee act runs in
+    record {
+      good = (call_good _ (call_head (Client n) x act) x.user (call_of x act), tt);
+      calls = (tt, tt);
+      dones = (tt, tt);
+      news = record {
+        calls = (
+          record {
+            client = n;
+            from = refl;
+            to = to;
+            fact = at_mover fl c n floor x n (λ i v. CallFact v (call_head (Client n) x act) (call_of x act))
+                (record {
+                  behind = up_to_same _ _ _ _ refl refl;
+                  booted = subst (λ (q : Node). boot_of q x.boots ≤ c.server.lasting.boot) (sym to) le;
+                  stale = λ l. absurd (below_not _ _ _ _ l (up_to_same _ _ _ _ refl refl));
+                  own = λ b y e k. call_is x act ∙ ap asked (some_of act b (sym runs ∙ y));
+                  safe = λ q above. safe_own x act c.clock x.epoch x.last x.running x.cache _ (call_head (Client n) x act) runs refl refl;
+                })
+                (λ ne. absurd (ne refl));
+          },
+          tt,
+        );
+        replies = (tt, tt);
+        notices = (tt, tt);
+        origins = (record { act = act; called = inl (refl, (inl (refl, refl), at)); own_user = kind.user; own_call = call_is x act }, tt);
+        acts = ((λ t a r. inr (call_is x act ∙ ap asked (some_of act a (sym at ∙ r)))), tt);
+        lasts = (
+          record {
+            client = n;
+            from = refl;
+            epoch = at_mover fl c n floor x n (λ i v. x.epoch ≡ v.epoch) refl (λ ne. absurd (ne refl));
+            number = at_mover fl c n floor x n (λ i v. x.last ≡ v.last) refl (λ ne. absurd (ne refl));
+          },
+          tt,
+        );
+        to_clients = ((λ ne. absurd (ne n refl)), tt);
+        ones = (one, tt);
+      };
+    }
 
 -- a call under the next number is the first with its key
-pub new_one : (s : Script) (c : Cell) (past : List Entry) (n : ℕ) (act : Going) → Holds s c past → call_under (called_key (call_head (Client n) (asking (c.clients n) act) act)) (sent_of past ++ call_message (Client n) (asking (c.clients n) act) act ∷ []) ≡ Some (guest, call_of act)
-new_one s c past n act h =
-    let k : Key = called_key (call_head (Client n) (asking (c.clients n) act) act) in
-    under_last k (sent_of past) (call_message (Client n) (asking (c.clients n) act) act) (guest, call_of act)
-    (ap (call_under k) h.sent.told ∙ none_under (view h.floors c) n k c.sent refl refl refl h.sent.calls) (same_key-refl k) refl
+pub new_one : (s : Script) (c : Cell) (past : List Entry) (n : ℕ) (x : ClientState) (act : Going) → Holds s c past → x.epoch ≡ (c.clients n).epoch → x.last ≡ (c.clients n).last + 1 → call_under (called_key (call_head (Client n) x act)) (sent_of past ++ call_message (Client n) x act ∷ []) ≡ Some (x.user, call_of x act)
+new_one s c past n x act h epoch number =
+    let k : Key = called_key (call_head (Client n) x act) in
+    under_last k (sent_of past) (call_message (Client n) x act) (x.user, call_of x act)
+    (ap (call_under k) h.sent.told ∙ none_under (view h.floors c) n k c.sent refl epoch number h.sent.calls) (same_key-refl k) refl
 
 -- a call that is sent again is the one under its key
-pub same_one : (s : Script) (c : Cell) (past : List Entry) (n : ℕ) (act : Going) (ms : List Message) → (h : Holds s c past) → (c.clients n).running ≡ Some act → call_under (last_key n (view h.floors c n)) (sent_of past ++ ms) ≡ Some (guest, call_of act)
+pub same_one : (s : Script) (c : Cell) (past : List Entry) (n : ℕ) (act : Going) (ms : List Message) → (h : Holds s c past) → (c.clients n).running ≡ Some act → call_under (last_key n (view h.floors c n)) (sent_of past ++ ms) ≡ Some ((c.clients n).user, call_of (c.clients n) act)
 same_one s c past n act ms h runs =
     let k : Key = last_key n (view h.floors c n) in
-    one_more k (sent_of past) ms (guest, call_of act)
-    (subst (λ (x : FsCall). call_under k (sent_of past) ≡ Some (guest, x)) (sym (call_is act))
-    (called_one n k guest (asked act) (sent_of past) past refl ((h.clients n).asked act runs) (subst (λ (S : List Message). Each (IfCall (IsOne S)) S) (sym h.sent.told) h.sent.ones)))
+    let x : ClientState = c.clients n in
+    one_more k (sent_of past) ms (x.user, call_of x act)
+    (subst (λ (u : List ℕ). call_under k (sent_of past) ≡ Some (u, call_of x act)) (sym (h.own n).user)
+    (subst (λ (y : FsCall). call_under k (sent_of past) ≡ Some (guest, y)) (sym (call_is x act))
+    (called_one n k guest (asked act) (sent_of past) past refl ((h.clients n).asked act runs) (subst (λ (S : List Message). Each (IfCall (IsOne S)) S) (sym h.sent.told) h.sent.ones))))
 
 pub asks : (s : Script) (c : Cell) (past : List Entry) (n : ℕ) (act : Going) (l : Line) → Holds s c past → AreGood s (actors.Node (Client n)) past [] (l ∷ []) → Passes s n (l ∷ []) (call_message (Client n) (asking (c.clients n) act) act ∷ []) past
     → ((f : Fid) → PassesFile n f (step_entry n (l ∷ []) (call_message (Client n) (asking (c.clients n) act) act ∷ [])) past) → ((f : Fid) → PassesReach n f (step_entry n (l ∷ []) (call_message (Client n) (asking (c.clients n) act) act ∷ [])) past)
-    → ((f : Fid) → (InScope (asked act) f → ⊥) → (reach (Client n) f (step_entry n (l ∷ []) (call_message (Client n) (asking (c.clients n) act) act ∷ []) ∷ past)).made ≡ 0) → ((a : Going) → (c.clients n).running ≡ Some a → volume_changed (asked a) ≡ None) → running (Client n) (l ∷ lines_of past) ≡ Some act → (has_begun (Client n) (l ∷ []) ≡ false → (c.clients n).running ≡ Some act) → Goes s past (client_moves c n (calls_step (Client n) (c.clients n) act l))
+    → ((f : Fid) → (InScope (asked act) f → ⊥) → (reach (Client n) f (step_entry n (l ∷ []) (call_message (Client n) (asking (c.clients n) act) act ∷ []) ∷ past)).made ≡ 0) → ((a : Going) → (c.clients n).running ≡ Some a → volume_changed (asked a) ≡ None) → running s (Client n) (l ∷ lines_of past) ≡ Some act → (has_begun (Client n) (l ∷ []) ≡ false → (c.clients n).running ≡ Some act) → Goes s past (client_moves c n (calls_step (Client n) (c.clients n) act (λ ls. l ∷ ls)))
 asks s c past n act l h good p q r none shut at went =
     let d = h.clients n in
     let x : ClientState = asking (c.clients n) act in
+    let kind : IsClient s x = client_asking s c past (c.clients n) act h (h.own n) in
     let e : Entry = step_entry n (l ∷ []) (call_message (Client n) x act ∷ []) in
-    let g : Ghost = record { floor = c.server.boot; held = (h.floors n).held } in
+    let g : Ghost = record { floor = c.server.lasting.boot; held = (h.floors n).held } in
     let v : View = view_after c n g x in
     let not : LastRan v → ⊥ = λ ran. next_not _ _ _ _ (d.behind_durable ran.seat ran.at) ran.epoch ran.number in
     let last : (f : Fid) → last_version f (lines_of (e ∷ past)) ≡ last_version f (lines_of past) = λ f. p.last f (lines_of past) in
@@ -533,7 +442,7 @@ asks s c past n act l h good p q r none shut at went =
       tied = f.tied;
       answers = λ b runs y k. absurd (next_not _ _ _ _ f.behind y k);
     } in
-    moves s c past n g (calls_step (Client n) (c.clients n) act l) h good p
+    moves s c past n g (calls_step (Client n) (c.clients n) act (λ ls. l ∷ ls)) h kind good p
     (record {
       behind = λ seat y. up_to_next _ _ _ _ (d.behind seat y);
       behind_durable = λ seat y. up_to_next _ _ _ _ (d.behind_durable seat y);
@@ -550,8 +459,9 @@ asks s c past n act l h good p q r none shut at went =
         | inl a ↦ inl (record { reached = (r f).seen u.index a.reached; newest = stays n f e past (q f).grant (last f) server u.index newer z a.newest; before = λ y is sc ran. not ran })
         | inr o ↦ absurd (no_scope (asked o.act) f (shut o.act o.runs) o.scope)
       ]) (d.current f u found lasts);
+      old = old_over (c.clients n).cache (lines_of past) (lines_of (e ∷ past)) (λ f i b y. (q f).grant.version i b (lines_of past) y) d.old;
       runs = λ b y. at ∙ y;
-      asked = λ b y. subst (λ (a : Going). CalledSince (last_key n v) guest (asked a) (e ∷ past)) (some_of act b y) (inl (refl, inl (refl, ap (λ (z : FsCall). carried.Call guest (ask.File z)) (call_is act))));
+      asked = λ b y. subst (λ (a : Going). CalledSince (last_key n v) guest (asked a) (e ∷ past)) (some_of act b y) (inl (refl, inl (refl, carried_is x act kind.user)));
       reached = reached_still s c past n e h (λ f. (r f).both) last;
     })
     (λ head call f. record {
@@ -561,19 +471,13 @@ asks s c past n act l h good p q r none shut at went =
       own = λ b y z w. absurd (next_not _ _ _ _ f.behind z w);
       safe = λ q above. safe_over call c.clock (c.clients n).epoch (c.clients n).last (c.clients n).epoch ((c.clients n).last + 1) (c.clients n).running (Some act) (c.clients n).cache (IsAged (view h.floors c n) head) (IsAged v head) head shut (λ y. (y.0, λ b z w u. next_not _ _ _ _ f.behind w u)) (f.safe q above);
     })
-    over (own_call h.floors c past n g x act (l ∷ []) d.known refl at (new_one s c past n act h)) (λ a x z. inl (went z ∙ x)) refl
+    over (own_call h.floors c past n g x act (l ∷ []) d.known kind refl at (new_one s c past n x act h refl refl)) (λ a x z. inl (went z ∙ x)) refl
 
 pub own_begun : (n : ℕ) (act : Going) (o : Option Going) → cond (same_node (Client n) (Client n)) (Some act) o ≡ Some act
 own_begun n act o = rw (same_node-refl (Client n)) refl
 
 pub own_zero : (n m : ℕ) → cond (same_node (Client n) (Client n)) 0 m ≡ 0
 own_zero n m = rw (same_node-refl (Client n)) refl
-
-pub begins_now : (n : ℕ) (S : Type 0) → has_begun (Client n) (lines.Begin (Client n) (Open (at_fid (record { volume = 0; vnode = 0; unique = 0 }))) ∷ []) ≡ false → S
-begins_now n S e = let yes : same_node (Client n) (Client n) ≡ true = same_node-refl (Client n) in absurd cc
-
-pub idle_asks : (s : Script) (c : Cell) (past : List Entry) (n : ℕ) (act : Act) → Holds s c past → (c.clients n).running ≡ None → Goes s past (client_moves c n (calls_step (Client n) (c.clients n) (began act) (lines.Begin (Client n) act)))
-idle_asks s c past n act h none = asks s c past n (began act) (lines.Begin (Client n) act) h (refl, tt) (begin_passes s n act _ past) (begin_file n n act _ past) (begin_reach n n act _ past) (λ f o. own_zero n (reach (Client n) f past).made) (λ a e. absurd cc) (own_begun n (began act) (running (Client n) (lines_of past))) (λ z. begins_now n _ z)
 
 -- ---- entries that are used
 
@@ -587,5 +491,5 @@ used_found g u cache v at found = elim (found-first g u cache v found) [
   | inr q ↦ q.1
 ]
 
-pub own_read : (n : ℕ) (f : Fid) (b : Body) (g : Going) (o : Option Going) → o ≡ Some g → read_on (same_node (Client n) (Client n)) f b o ≡ Some (with_read f b g)
+pub own_read : (n : ℕ) (f : Fid) (b : ReadBody) (g : Going) (o : Option Going) → o ≡ Some g → read_on (same_node (Client n) (Client n)) f b o ≡ Some (with_read f b g)
 own_read n f b g o e = rw (same_node-refl (Client n), e) refl

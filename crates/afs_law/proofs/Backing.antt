@@ -1,6 +1,9 @@
 -- How the facts on breaks pass over an entry.
+use Rattle.afs_breaks.specs.declared.types.Promise.{Promise}
+use Rattle.afs_law.proofs.Promising.{Owed}
+use Rattle.afs_num.specs.declared.messages.Carried.{Carried}
 use Rattle.std.proofs.Common.{◌≡◌, ℕ, ◌<◌, ◌≤◌, ◌⊎◌, inl, inr, Bool, true, false, cond, List, [], ◌∷◌, ◌++◌, Option, Some, None, refl, sym, ap, subst, ◌∙◌, arith}
-use Rattle.std.specs.Prelude.{not, ◌&&◌}
+use Rattle.std.specs.Prelude.{not, ◌&&◌, cond}
 use Rattle.std.proofs.Math.Nat.{le_refl, le_trans}
 use Rattle.afs_num.specs.Fids.{same_fid}
 use Rattle.afs_num.specs.Nodes.{same_node}
@@ -12,17 +15,18 @@ use Rattle.afs_num.specs.declared.types.Node.TheVariants.{Client}
 use Rattle.afs_num.specs.declared.calls.FsCall.{FsCall}
 use Rattle.afs_num.specs.declared.messages.Message.{Message}
 use Rattle.afs_law.proofs.Basics.{both, same_node-refl, Above, Each, IfBack, IfDone, each_more, each_map, if_back, if_done}
-use Rattle.afs_law.proofs.Owing.{AllOf, all_map, IsGranted, IsIn, IsNumberIn, AccountedBy, WaitedBy, AllWaitedBy, HeldWaits, IsOwed, CallOut, BackIn, DroppedOwe, IsDone, DoneIn, SeatedIn, BackedIn, Promised, Numbered}
-use Rattle.afs_law.specs.Breaks.{HasStopped, HasSettled, HasDrop, HasTimeout, last_grant, HasCome, Owes, AllOwes, EndedBy, OweAt, live_grant, is_on, last_number}
-use Rattle.afs_law.specs.Callbacks.{Promise, Owed, BackCall, Held, Backs, is_held, key_answered, breaks_call}
-use Rattle.afs_law.specs.ClientRow.{the_server}
+use Rattle.afs_law.proofs.Owing.{AllOf, all_map, IsGranted, IsIn, IsNumberIn, AccountedBy, WaitedBy, AllWaitedBy, HeldWaits, IsOwed, CallOut, BackIn, DroppedOwe, IsDone, DoneIn, SeatedIn, BackedIn, Promised, Numbered, Rising, ToClients, is_held}
+use Rattle.afs_law.specs.Breaks.{HasStopped, HasSettled, HasDrop, HasTimeout, last_grant, HasCome, Owes, AllOwes, EndedBy, OweAt, live_grant, is_on, last_number, lines_at, given_up_in, given_up_by, drops_of, fids_given_up, has_answer}
+use Rattle.afs_rows.specs.Callbacks.{key_answered, breaks_call}
 use Rattle.afs_law.specs.Legal.{HasChange}
-use Rattle.afs_law.specs.Lines.{Line}
-use Rattle.afs_law.specs.Past.{onto, lines_on, lines_of}
-use Rattle.afs_law.specs.Runs.{Entry, Fall}
-use Rattle.afs_law.specs.States.{Seat}
+use Rattle.afs_history.specs.declared.lines.Line.{Line}
+use Rattle.afs_law.specs.Past.{onto, lines_on, lines_of, called_key, given_message, sent_of}
+use Rattle.afs_rows.specs.Runs.{Entry, Fall, the_server}
+use Rattle.afs_rows.specs.States.{Seat, BackCall, Held, Backs}
 use Rattle.afs_model.specs.Calls.{call_seat}
-use Rattle.afs_law.specs.Lines as lines
+use Rattle.afs_num.specs.declared.messages.Carried.TheVariants as carried
+use Rattle.afs_num.specs.declared.messages.Call.TheVariants as ask
+use Rattle.afs_history.specs.declared.lines.Line.TheVariants as lines
 
 -- ---- lines
 
@@ -207,10 +211,10 @@ waits_over seats now t u e past h le change new seat w = record {
 -- ---- the server's own calls
 
 -- an unanswered call was there before, or is a new one
-abbrev pub CallsPass : (ℕ → Option BackCall) → ℕ → (ℕ → Option BackCall) → Type 0
-CallsPass old last new = (j : ℕ) (c : BackCall) → new j ≡ Some c → (last < c.number) ⊎ ((x : BackCall) × ((old j ≡ Some x) × ((x.number ≡ c.number) × (x.breaks ≡ c.breaks))))
+abbrev pub CallsPass : (Node → Option BackCall) → ℕ → (Node → Option BackCall) → Type 0
+CallsPass old last new = (j : Node) (c : BackCall) → new j ≡ Some c → (last < c.number) ⊎ ((x : BackCall) × ((old j ≡ Some x) × ((x.number ≡ c.number) × (x.breaks ≡ c.breaks))))
 
-pub calls_same : (calls : ℕ → Option BackCall) (last : ℕ) → CallsPass calls last calls
+pub calls_same : (calls : Node → Option BackCall) (last : ℕ) → CallsPass calls last calls
 calls_same calls last j c e = inr (c, (e, (refl, refl)))
 
 pub front_onto : (a b ls : List Line) → onto (a ++ b) ls ≡ onto a ls ++ b
@@ -225,14 +229,15 @@ owe_over c what n e past up o = record {
   up = λ x. o.up (stopped_back e.lines o.newer up x);
 }
 
-pub dropped_over : (j : ℕ) (e : Entry) (past : List Entry) (o : Owed) → all_lines is_up e.lines ≡ true → DroppedOwe j (lines_of past) o → DroppedOwe j (lines_of (e ∷ past)) o
-dropped_over j e past o up d = record { owe = owe_over (Client j) o.what o.number e past up d.owe; dropped = drop_onto the_server (Client j) o.what e.lines d.owe.newer d.dropped }
+pub dropped_over : (j : Node) (e : Entry) (past : List Entry) (o : Owed) → all_lines is_up e.lines ≡ true → DroppedOwe j (lines_of past) o → DroppedOwe j (lines_of (e ∷ past)) o
+dropped_over j e past o up d = record { owe = owe_over j o.what o.number e past up d.owe; dropped = drop_onto the_server j o.what e.lines d.owe.newer d.dropped }
 
-pub call_over : (j : ℕ) (c : BackCall) (last more boot : ℕ) (e : Entry) (past : List Entry) → last ≤ more → all_lines is_up e.lines ≡ true → CallOut j c last boot past → CallOut j c more boot (e ∷ past)
+pub call_over : (j : Node) (c : BackCall) (last more boot : ℕ) (e : Entry) (past : List Entry) → last ≤ more → all_lines is_up e.lines ≡ true → CallOut j c last boot past → CallOut j c more boot (e ∷ past)
 call_over j c last more boot e past le up h = record {
   number = le_trans h.number le;
-  owes = all_map (IsOwed j (lines_of past)) (IsOwed j (lines_of (e ∷ past))) (λ o x. owe_over (Client j) o.what o.number e past up x) c.breaks h.owes;
-  tries = λ t a b. timeout_onto the_server (Client j) boot c.number t e.lines (lines_of past) (h.tries t a b);
+  client = h.client;
+  owes = all_map (IsOwed j (lines_of past)) (IsOwed j (lines_of (e ∷ past))) (λ o x. owe_over j o.what o.number e past up x) c.breaks h.owes;
+  tries = λ t a b. timeout_onto the_server j boot c.number t e.lines (lines_of past) (h.tries t a b);
   sent = inr h.sent;
   carries = h.carries;
 }
@@ -240,7 +245,7 @@ call_over j c last more boot e past le up h = record {
 below_not : (n last : ℕ) (c : BackCall) → last < c.number → n ≤ last → n ≡ c.number → ⊥
 below_not n last c a b e = absurd (omega arith)
 
-pub back_pass : (d e : Option Fall) (old new : ℕ → Option BackCall) (last more boot : ℕ) (head : Head) (user : List ℕ) (call : FsCall) → (e ≡ None → d ≡ None) → last ≤ more → CallsPass old last new → BackIn d old last boot head user call → BackIn e new more boot head user call
+pub back_pass : (d e : Option Fall) (old new : Node → Option BackCall) (last more boot : ℕ) (head : Head) (user : List ℕ) (call : FsCall) → (e ≡ None → d ≡ None) → last ≤ more → CallsPass old last new → BackIn d old last boot head user call → BackIn e new more boot head user call
 back_pass d e old new last more boot head user call up le pass h = record {
   client = h.client;
   to = h.to;
@@ -252,7 +257,7 @@ back_pass d e old new last more boot head user call up le pass h = record {
   ];
 }
 
-pub done_pass : (d e : Option Fall) (old new : ℕ → Option BackCall) (last more boot : ℕ) (past newer : List Entry) (j epoch number : ℕ) → (e ≡ None → d ≡ None) → last ≤ more → CallsPass old last new → (e ≡ None → (o : Owed) → DroppedOwe j (lines_of past) o → DroppedOwe j (lines_of newer) o)
+pub done_pass : (d e : Option Fall) (old new : Node → Option BackCall) (last more boot : ℕ) (past newer : List Entry) (j : Node) (epoch number : ℕ) → (e ≡ None → d ≡ None) → last ≤ more → CallsPass old last new → (e ≡ None → (o : Owed) → DroppedOwe j (lines_of past) o → DroppedOwe j (lines_of newer) o)
     → IsDone d old last boot past j epoch number → IsDone e new more boot newer j epoch number
 done_pass d e old new last more boot past newer j epoch number up le pass over h = record {
   booted = h.booted;
@@ -283,8 +288,53 @@ pub live_back : (c : Node) (f : Fid) (x : ℕ) (ls o : List Line) → all_lines 
 live_back c f x [] o h e = e
 live_back c f x (l ∷ ls) o h e = let q = both (is_still l) (all_lines is_still ls) h in live_before c f x l o q.0 (live_back c f x ls (l ∷ o) q.1 e)
 
-pub promised_over : (d : Option Fall) (ps : List Promise) (clock then : ℕ) (e : Entry) (past : List Entry) → all_lines is_still e.lines ≡ true → clock ≤ then → Promised d ps clock (lines_of past) → Promised d ps then (lines_of (e ∷ past))
-promised_over d ps clock then e past still le h j f x l t = h j f x (live_back (Client j) f x e.lines (lines_of past) still l) (omega arith)
+-- what clients gave up grants nothing
+drops_still : (c : Node) (fs : List Fid) → all_lines is_still (drops_of c fs) ≡ true
+drops_still c [] = refl
+drops_still c (f ∷ fs) = drops_still c fs
+
+same_still : (t : Bool) (c : Node) (fs : List Fid) → all_lines is_still (cond t (drops_of c fs) []) ≡ true
+same_still true c fs = drops_still c fs
+same_still false c fs = refl
+
+answered_still : (s : Node) (t : Bool) (head : Head) (c : Carried) → all_lines is_still (given_up_by s t head c) ≡ true
+answered_still s true head (carried.Call user (ask.File call)) = same_still (same_node head.to s) head.from (fids_given_up call)
+answered_still s true head (carried.Call user (ask.Volume call)) = refl
+answered_still s true head (carried.Call user (ask.Location call)) = refl
+answered_still s true head (carried.Refusal code) = refl
+answered_still s true head (carried.Reply reply) = refl
+answered_still s true head carried.Notice = refl
+answered_still s false head c = refl
+
+given_up_still : (s : Node) (sent : List Message) (o : Option Message) → all_lines is_still (given_up_in s sent o) ≡ true
+given_up_still s sent None = refl
+given_up_still s sent (Some m) = answered_still s (has_answer (called_key m.head) sent) m.head m.carried
+
+-- a grant that lasts behind an entry's own lines lasted before what clients gave up in it
+pub live_given : (c : Node) (f : Fid) (x : ℕ) (e : Entry) (past : List Entry) → live_grant the_server c f (onto (lines_at the_server past) (given_up_in the_server e.sent (given_message e.lines (sent_of past)))) ≡ Some x → live_grant the_server c f (lines_at the_server past) ≡ Some x
+live_given c f x e past l = live_back c f x (given_up_in the_server e.sent (given_message e.lines (sent_of past))) (lines_at the_server past) (given_up_still the_server e.sent (given_message e.lines (sent_of past))) l
+
+-- the lines before an entry's own
+abbrev pub before_own : Entry → List Entry → List Line
+before_own e past = onto (lines_at the_server past) (given_up_in the_server e.sent (given_message e.lines (sent_of past)))
+
+pub promised_given : (d : Option Fall) (ps : List Promise) (clock : ℕ) (e : Entry) (past : List Entry) → Promised d ps clock (lines_at the_server past) → Promised d ps clock (before_own e past)
+promised_given d ps clock e past h j f x l t = h j f x (live_given j f x e past l) t
+
+pub promised_over : (d : Option Fall) (ps : List Promise) (clock then : ℕ) (e : Entry) (past : List Entry) → all_lines is_still e.lines ≡ true → clock ≤ then → Promised d ps clock (lines_at the_server past) → Promised d ps then (lines_at the_server (e ∷ past))
+promised_over d ps clock then e past still le h j f x l t = h j f x (live_given j f x e past (live_back j f x e.lines (before_own e past) still l)) (omega arith)
+
+-- the breaks were owed in order
+rising_before : (l : Line) (o : List Line) → is_oweless l ≡ true → Rising o → Rising (l ∷ o)
+rising_before (lines.Owe s c what n) o e h = absurd cc
+rising_before l o e h = h
+
+pub rising_back : (ls o : List Line) → all_lines is_oweless ls ≡ true → Rising o → Rising (onto o ls)
+rising_back [] o e h = h
+rising_back (l ∷ ls) o e h = let q = both (is_oweless l) (all_lines is_oweless ls) e in rising_back ls (l ∷ o) q.1 (rising_before l o q.0 h)
+
+pub rising_over : (e : Entry) (past : List Entry) → all_lines is_oweless e.lines ≡ true → Rising (lines_of past) → Rising (lines_of (e ∷ past))
+rising_over e past oweless h = rising_back e.lines (lines_of past) oweless h
 
 -- none lasts where the server stopped
 stop_none : (t : Bool) (n : Node) (o : Option ℕ) (x : ℕ) → same_node n the_server ≡ t → n ≡ the_server → cond t None o ≡ Some x → ⊥
@@ -360,34 +410,36 @@ pub record Stepping (d u : Option Fall) (b now : Backs) (clock then : ℕ) (e : 
   pub up : u ≡ None → all_lines is_up e.lines ≡ true
   pub or_stopped : d ≡ None → (u ≡ None) ⊎ ((o : List Line) → HasStopped the_server (onto o e.lines))
   pub later : clock ≤ then
-  pub new : (before after : List Line) (c : Node) (what : Option Fid) (n : ℕ) → e.lines ≡ before ++ lines.Owe the_server c what n ∷ after → AccountedBy u now.owed now.held then [] e past before after c what n
-  pub gone : (o : Owed) → IsIn o b.owed → IsIn o now.owed ⊎ ((l : List Line) → HasSettled the_server (Client o.client) o.number (onto l e.lines))
+  pub new : (before after : List Line) (c : Node) (what : Option Fid) (n : ℕ) → e.lines ≡ before ++ lines.Owe the_server c what n ∷ after → AccountedBy u now.lists.owed now.held then [] e past before after c what n
+  pub gone : (o : Owed) → IsIn o b.lists.owed → IsIn o now.lists.owed ⊎ ((l : List Line) → HasSettled the_server o.client o.number (onto l e.lines))
   pub held : (k : Key) → is_held k b.held ≡ true → is_held k now.held ≡ true
   pub last : b.last_call ≤ now.last_call
   pub calls : CallsPass b.calls b.last_call now.calls
 
 open_over : (d u : Option Fall) (b now : Backs) (clock then : ℕ) (e : Entry) (past : List Entry) → Stepping d u b now clock then e past → (newer : List Entry) (at : Entry) (older : List Entry) (before after : List Line) (c : Node) (what : Option Fid) (n : ℕ)
-    → AccountedBy d b.owed b.held clock newer at older before after c what n → AccountedBy u now.owed now.held then (e ∷ newer) at older before after c what n
+    → AccountedBy d b.lists.owed b.held clock newer at older before after c what n → AccountedBy u now.lists.owed now.held then (e ∷ newer) at older before after c what n
 open_over d u b now clock then e past s newer at older before after c what n (inl x) = inl (ended_over e clock then newer at older before after c what n s.later x)
 open_over d u b now clock then e past s newer at older before after c what n (inr x) = elim (s.or_stopped x.0) [
   | inl up ↦ elim (s.gone x.1.o x.1.is_in) [
     | inl is ↦ inr (up, record { o = x.1.o; is_in = is; number = x.1.number; client = x.1.client; on = x.1.on; expiry = x.1.expiry; waits = λ k boot y. elim (x.1.waits k boot y) [ inl z ↦ inl (ended_over e clock then newer at older before after c what n s.later z) | inr z ↦ inr (s.held k z) ] })
-    | inr gone ↦ inl (inl (subst (λ (m : Node). HasSettled the_server m n (onto (lines_on (onto [] after) newer) e.lines)) x.1.client (subst (λ (k : ℕ). HasSettled the_server (Client x.1.o.client) k (onto (lines_on (onto [] after) newer) e.lines)) x.1.number (gone _))))
+    | inr gone ↦ inl (inl (subst (λ (m : Node). HasSettled the_server m n (onto (lines_on (onto [] after) newer) e.lines)) x.1.client (subst (λ (k : ℕ). HasSettled the_server x.1.o.client k (onto (lines_on (onto [] after) newer) e.lines)) x.1.number (gone _))))
   ]
   | inr stop ↦ inl (inr (inl (stop _)))
 ]
 
 pub backed_step : (d u : Option Fall) (b now : Backs) (boot : ℕ) (seats after : List Seat) (cs cz : ℕ → Option Seat) (clock then : ℕ) (sent ms : List Message) (e : Entry) (past : List Entry) → Stepping d u b now clock then e past → BackedIn d b boot seats cs clock sent past
-    → (u ≡ None → AllOf (IsGranted (lines_of (e ∷ past))) now.promises) → Promised u now.promises then (lines_of (e ∷ past)) → Numbered u now.last_owed (lines_of (e ∷ past)) → (u ≡ None → AllOf (λ (o : Owed). IsOwed o.client (lines_of (e ∷ past)) o) now.owed) → (u ≡ None → AllOf (HeldWaits after then (e ∷ past)) now.held) → (u ≡ None → (j : ℕ) (c : BackCall) → now.calls j ≡ Some c → CallOut j c now.last_call boot (e ∷ past))
+    → (u ≡ None → AllOf (IsGranted (lines_of (e ∷ past))) now.lists.promises) → Promised u now.lists.promises then (lines_at the_server (e ∷ past)) → Numbered u now.lists.last_owed (lines_of (e ∷ past)) → Rising (lines_of (e ∷ past)) → (u ≡ None → ToClients now.lists.promises now.lists.owed) → (u ≡ None → AllOf (λ (o : Owed). IsOwed o.client (lines_of (e ∷ past)) o) now.lists.owed) → (u ≡ None → AllOf (HeldWaits after then (e ∷ past)) now.held) → (u ≡ None → (j : Node) (c : BackCall) → now.calls j ≡ Some c → CallOut j c now.last_call boot (e ∷ past))
     → Each (IfBack (BackIn u now.calls now.last_call boot)) ms → Each (IfDone (DoneIn u now.calls now.last_call boot (e ∷ past))) ms
     → ((j : ℕ) (seat : Seat) (m : Message) → cz j ≡ Some seat → seat.reply ≡ Some m → SeatedIn u now.calls now.last_call boot (e ∷ past) j m)
     → BackedIn u now boot after cz then (sent ++ ms) (e ∷ past)
-backed_step d u b now boot seats after cs cz clock then sent ms e past s h granted promised numbered owed waiting outs backs dones seated = record {
+backed_step d u b now boot seats after cs cz clock then sent ms e past s h granted promised numbered rising clients owed waiting outs backs dones seated = record {
   granted = granted;
   promised = promised;
   numbered = numbered;
-  owed = owed;
-  accounted = owes_over the_server (AccountedBy d b.owed b.held clock) (AccountedBy u now.owed now.held then) e past s.new (open_over d u b now clock then e past s) h.accounted;
+  rising = rising;
+  clients = clients;
+  owing = owed;
+  accounted = owes_over the_server (AccountedBy d b.lists.owed b.held clock) (AccountedBy u now.lists.owed now.held then) e past s.new (open_over d u b now clock then e past s) h.accounted;
   waiting = waiting;
   outs = outs;
   calls = each_more (IfBack (BackIn u now.calls now.last_call boot)) sent ms (each_map (IfBack (BackIn d b.calls b.last_call boot)) (IfBack (BackIn u now.calls now.last_call boot)) (if_back (BackIn d b.calls b.last_call boot) (BackIn u now.calls now.last_call boot)
@@ -403,7 +455,7 @@ seated_over d u b now boot clock then e past s j m x = record {
   to = x.to;
   from = x.from;
   is_reply = x.is_reply;
-  done = done_pass d u b.calls now.calls b.last_call now.last_call boot past (e ∷ past) j m.head.epoch m.head.number s.was_up s.last s.calls (λ y o z. dropped_over j e past o (s.up y) z) x.done;
+  done = done_pass d u b.calls now.calls b.last_call now.last_call boot past (e ∷ past) (Client j) m.head.epoch m.head.number s.was_up s.last s.calls (λ y o z. dropped_over (Client j) e past o (s.up y) z) x.done;
 }
 
 -- ---- a step that leaves what the server has in memory
@@ -425,10 +477,10 @@ pub plain_waits : (seats now : List Seat) (t u : ℕ) (e : Entry) (past : List E
 plain_waits seats now t u e past h p le seat w = waits_over seats now t u e past h le (λ k x. inl (change_back k e.lines (lines_of past) p.unchanging x)) (λ before after c what n line. absurd (no_owe e.lines before after the_server c what n p.oweless line)) seat w
 
 pub granted_over : (e : Entry) (past : List Entry) (ps : List Promise) → all_lines is_still e.lines ≡ true → AllOf (IsGranted (lines_of past)) ps → AllOf (IsGranted (lines_of (e ∷ past))) ps
-granted_over e past ps still h = all_map (IsGranted (lines_of past)) (IsGranted (lines_of (e ∷ past))) (λ p x. grant_back (Client p.client) p.fid e.lines (lines_of past) still ∙ x) ps h
+granted_over e past ps still h = all_map (IsGranted (lines_of past)) (IsGranted (lines_of (e ∷ past))) (λ p x. grant_back p.client p.fid e.lines (lines_of past) still ∙ x) ps h
 
 pub owed_over : (e : Entry) (past : List Entry) (os : List Owed) → all_lines is_up e.lines ≡ true → AllOf (λ (o : Owed). IsOwed o.client (lines_of past) o) os → AllOf (λ (o : Owed). IsOwed o.client (lines_of (e ∷ past)) o) os
-owed_over e past os up h = all_map (λ (o : Owed). IsOwed o.client (lines_of past) o) (λ (o : Owed). IsOwed o.client (lines_of (e ∷ past)) o) (λ o x. owe_over (Client o.client) o.what o.number e past up x) os h
+owed_over e past os up h = all_map (λ (o : Owed). IsOwed o.client (lines_of past) o) (λ (o : Owed). IsOwed o.client (lines_of (e ∷ past)) o) (λ o x. owe_over o.client o.what o.number e past up x) os h
 
 -- a client's step, or one of nobody: the clock may rise
 pub backed_plain : (d : Option Fall) (b : Backs) (boot : ℕ) (seats : List Seat) (cs cz : ℕ → Option Seat) (clock then : ℕ) (sent ms : List Message) (e : Entry) (past : List Entry) → Plain e.lines → clock ≤ then → BackedIn d b boot seats cs clock sent past
@@ -436,7 +488,7 @@ pub backed_plain : (d : Option Fall) (b : Backs) (boot : ℕ) (seats : List Seat
     → ((j : ℕ) (seat : Seat) (m : Message) → cz j ≡ Some seat → seat.reply ≡ Some m → SeatedIn d b.calls b.last_call boot (e ∷ past) j m) → BackedIn d b boot seats cz then (sent ++ ms) (e ∷ past)
 backed_plain d b boot seats cs cz clock then sent ms e past p le h backs dones seated =
     let s : Stepping d d b b clock then e past = plain_step d b clock then e past p le in
-    backed_step d d b b boot seats seats cs cz clock then sent ms e past s h (λ x. granted_over e past b.promises p.still (h.granted x)) (promised_over d b.promises clock then e past p.still le h.promised) (numbered_over d b.last_owed e past p.up p.oweless h.numbered) (λ x. owed_over e past b.owed p.up (h.owed x))
+    backed_step d d b b boot seats seats cs cz clock then sent ms e past s h (λ x. granted_over e past b.lists.promises p.still (h.granted x)) (promised_over d b.lists.promises clock then e past p.still le h.promised) (numbered_over d b.lists.last_owed e past p.up p.oweless h.numbered) (rising_over e past p.oweless h.rising) h.clients (λ x. owed_over e past b.lists.owed p.up (h.owing x))
     (λ x. all_map (HeldWaits seats clock past) (HeldWaits seats then (e ∷ past)) (λ q y. plain_waits seats seats clock then e past q p le (λ m a c z. z) y) b.held (h.waiting x))
     (λ x j c at. call_over j c b.last_call b.last_call boot e past (le_refl _) p.up (h.outs x j c at)) backs dones seated
 
@@ -456,4 +508,4 @@ backed_fall d fall b boot seats after cs clock sent e past oweless still stop h 
       calls = calls_same b.calls b.last_call;
     } in
     backed_step d (Some fall) b b boot seats after cs cs clock clock sent [] e past s h (λ x. absurd cc)
-    (λ j f x l t. absurd (live_stop (Client j) f x e.lines (lines_of past) [] still (λ y z. y) (stop (h.promised j f x (live_back (Client j) f x e.lines (lines_of past) still l) t).0 []) l)) (numbered_fall d b.last_owed e past oweless stop h.numbered) (λ x. absurd cc) (λ x. absurd cc) (λ x. absurd cc) tt tt (λ j seat m x y. seated_over d (Some fall) b b boot clock clock e past s j m (h.seated j seat m x y))
+    (λ j f x l t. absurd (live_stop j f x e.lines (before_own e past) [] still (λ y z. y) (stop (h.promised j f x (live_given j f x e past (live_back j f x e.lines (before_own e past) still l)) t).0 []) l)) (numbered_fall d b.lists.last_owed e past oweless stop h.numbered) (rising_over e past oweless h.rising) (λ x. absurd cc) (λ x. absurd cc) (λ x. absurd cc) (λ x. absurd cc) tt tt (λ j seat m x y. seated_over d (Some fall) b b boot clock clock e past s j m (h.seated j seat m x y))

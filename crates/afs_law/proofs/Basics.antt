@@ -1,14 +1,15 @@
+use Rattle.afs_num.specs.declared.histories.ReadStatus.{ReadStatus}
 use Rattle.afs_num.specs.declared.histories.Body.{Body}
-use Rattle.afs_law.specs.Callbacks.{put}
-use Rattle.afs_law.specs.ClientRow.{find_cached, used_first, is_trusted, refreshed}
+use Rattle.afs_rows.specs.Callbacks.{put}
+use Rattle.afs_rows.specs.ClientRow.{find_cached, used_first, is_trusted, refreshed}
 use Rattle.afs_law.specs.Ideal.{raised}
 use Rattle.afs_law.specs.Past.{same_key}
-use Rattle.afs_law.specs.Runs.{message_at}
-use Rattle.afs_law.specs.States.{CacheEntry}
+use Rattle.afs_rows.specs.Runs.{message_at}
+use Rattle.afs_rows.specs.States.{CacheEntry}
 use Rattle.afs_model.proofs.Keyed.{IsExact, found_own, at_last}
 use Rattle.afs_model.specs.Calls.{CallSeat, Admitted, runs, kept, older, pair_below, caller_of, call_seat, call_seated, repeated, paired}
 use Rattle.std.proofs.Common.{◌≡◌, ℕ, zero, suc, ◌+◌, ◌<◌, ◌≤◌, ◌⊎◌, inl, inr, Bool, true, false, cond, eqb, ltb, not, List, [], ◌∷◌, ◌++◌, map, Option, Some, None, refl, sym, ap, subst, ◌∙◌, arith, eq-eqb, eqb-true, ltb-true, ltb-false}
-use Rattle.std.specs.Prelude.{filter, ◌&&◌, ⊤}
+use Rattle.std.specs.Prelude.{filter, codes, ◌&&◌, ⊤}
 use Rattle.std.specs.Option.{option_map}
 use Rattle.std.proofs.Math.Nat.{max-le, eq-or-lt_of_le}
 use Rattle.afs_num.specs.Fids.{same_fid}
@@ -23,6 +24,10 @@ use Rattle.afs_num.specs.declared.messages.Carried.{Carried}
 use Rattle.afs_num.specs.declared.messages.Message.{Message}
 use Rattle.afs_num.specs.declared.messages.Carried.TheVariants as carried
 use Rattle.afs_num.specs.declared.messages.Call.TheVariants as ask
+
+-- the user of every client
+abbrev pub guest : List ℕ
+guest = codes "guest"
 
 -- Small laws: fids, nodes and keys; pairs of epoch and number; seats; what is found; lists of messages.
 
@@ -292,17 +297,17 @@ none_by false g n es t at e = found-left n.fid g es (apart n.fid g t) ∙ e
 pub none-first : (g : Fid) (n : CacheEntry) (es : List CacheEntry) → find_cached n.fid es ≡ Some n → find_cached g es ≡ None → find_cached g (used_first n es) ≡ None
 none-first g n es at e = none_by (same_fid n.fid g) g n es refl at e
 
-refreshed_fid_by : (c : Bool) (i : ℕ) (b : Body → Body) (v : CacheEntry) → (cond c (record v { index = i; body = b v.body }) v).fid ≡ v.fid
-refreshed_fid_by true i b v = refl
-refreshed_fid_by false i b v = refl
+refreshed_fid_by : (c : Bool) (i : ℕ) (t : ReadStatus) (b : Option Body → Option Body) (v : CacheEntry) → (cond c (record v { index = i; status = t; body = b v.body }) v).fid ≡ v.fid
+refreshed_fid_by true i t b v = refl
+refreshed_fid_by false i t b v = refl
 
 cached_by : (c : Bool) (h : CacheEntry → CacheEntry) (v : CacheEntry) (o : Option CacheEntry) → cond c (Some (h v)) (option_map h o) ≡ option_map h (cond c (Some v) o)
 cached_by true h v o = refl
 cached_by false h v o = refl
 
-pub found-refreshed : (clock : ℕ) (f g : Fid) (i : ℕ) (b : Body → Body) (vs : List CacheEntry) → find_cached g (map (refreshed clock f i b) vs) ≡ option_map (refreshed clock f i b) (find_cached g vs)
-found-refreshed clock f g i b [] = refl
-found-refreshed clock f g i b (v ∷ vs) = rw (refreshed_fid_by (same_fid v.fid f && is_trusted clock v) i b v, found-refreshed clock f g i b vs) (cached_by (same_fid v.fid g) (refreshed clock f i b) v (find_cached g vs))
+pub found-refreshed : (clock : ℕ) (f g : Fid) (i : ℕ) (t : ReadStatus) (b : Option Body → Option Body) (vs : List CacheEntry) → find_cached g (map (refreshed clock f i t b) vs) ≡ option_map (refreshed clock f i t b) (find_cached g vs)
+found-refreshed clock f g i t b [] = refl
+found-refreshed clock f g i t b (v ∷ vs) = rw (refreshed_fid_by (same_fid v.fid f && is_trusted clock v) i t b v, found-refreshed clock f g i t b vs) (cached_by (same_fid v.fid g) (refreshed clock f i t b) v (find_cached g vs))
 
 -- ---- every call, every reply in a list of messages
 

@@ -2,21 +2,21 @@ use Rattle.afs_ideal.specs.Directories.{IsDirectory, FitNames}
 use Rattle.afs_ideal.specs.Operations.{volume_changed}
 use Rattle.afs_ideal.specs.Tables.{AscendsFrom, Table, get}
 use Rattle.afs_ideal.specs.Volumes.{Vnode, Volume}
-use Rattle.afs_law.proofs.Basics.{Below, UpTo, Above, Each, IfCall, IfReply, IfNotice, OfCall, OfReply}
+use Rattle.afs_law.proofs.Basics.{Below, UpTo, Above, Each, IfCall, IfReply, IfNotice, OfCall, OfReply, guest}
 use Rattle.afs_law.proofs.Edits.{Ones, index_in, SoundIn, Tops}
 use Rattle.afs_law.proofs.Owing.{BackedIn}
-use Rattle.afs_law.specs.Callbacks.{replies_of}
-use Rattle.afs_law.specs.ClientRow.{the_server, find_cached, body_told}
-use Rattle.afs_law.specs.Going.{asked, Going, ClientState}
+use Rattle.afs_rows.specs.Callbacks.{replies_of}
+use Rattle.afs_rows.specs.ClientRow.{boot_of, find_cached, body_told, server_at, status_told}
+use Rattle.afs_rows.specs.Going.{asked, Going, ClientState}
 use Rattle.afs_law.specs.Grants.{fetch_reply, GrantOf, since, IsWithdrawn, IsDropped}
-use Rattle.afs_law.specs.Ideal.{is_zero_code, last_version, IsLast, HasVersion, Accepts, clock_of, user_of, reach, call_under, volume_after}
+use Rattle.afs_law.specs.Ideal.{is_zero_code, last_version, IsLast, HasBeen, HasVersion, Accepts, clock_of, user_of, reach, call_under, volume_after}
 use Rattle.afs_law.specs.Legal.{IsNew, Cause, AreGood, AreGoodReplies}
-use Rattle.afs_law.specs.Lines.{Line}
+use Rattle.afs_history.specs.declared.lines.Line.{Line}
 use Rattle.afs_law.specs.Past.{is_of_act, lines_of, sent_of, called_key, running, Called, CalledSince, IsUnheard, Ran}
-use Rattle.afs_law.specs.Runs.{Entry, Cell, Moved, Fall, at_rest, in_step, in_boot, message_at}
-use Rattle.afs_law.specs.Scopes.{is_in_scope}
-use Rattle.afs_law.specs.ServerRow.{reply_head}
-use Rattle.afs_law.specs.States.{CacheEntry, Seat, ServerState}
+use Rattle.afs_rows.specs.Runs.{the_server, locations, Entry, Cell, Moved, Fall, at_rest, in_step, in_boot, message_at}
+use Rattle.afs_rows.specs.Scopes.{is_in_scope}
+use Rattle.afs_rows.specs.ServerRow.{reply_head}
+use Rattle.afs_rows.specs.States.{CacheEntry, Seat, ServerState, Lasting, volume_in}
 use Rattle.afs_model.specs.Calls.{call_seat}
 use Rattle.std.specs.Prelude.{Bool, true, false, ◌++◌, if◌then◌else◌, ⊤}
 use Rattle.afs_num.specs.Nodes.{same_node}
@@ -31,10 +31,14 @@ use Rattle.afs_num.specs.declared.messages.Carried.{Carried}
 use Rattle.afs_num.specs.declared.messages.Message.{Message}
 use Rattle.afs_num.specs.declared.scripts.Script.{Script}
 use Rattle.afs_num.specs.declared.histories.Body.{Body}
+use Rattle.afs_num.specs.declared.histories.ReadStatus.{ReadStatus}
 use Rattle.afs_num.specs.declared.calls.FsReply.{FsReply}
 use Rattle.afs_num.specs.declared.calls.AfsFetchStatus.{AfsFetchStatus}
 use Rattle.afs_num.specs.declared.calls.AfsCallBack.{AfsCallBack}
-use Rattle.afs_law.specs.Lines as lines
+use Rattle.afs_law.proofs.Keeping.{unflagged}
+use Rattle.afs_records.specs.Durable.{Stored}
+use Rattle.afs_num.specs.declared.histories.ReadBody.TheVariants as seen
+use Rattle.afs_history.specs.declared.lines.Line.TheVariants as lines
 use Rattle.afs_num.specs.declared.calls.FsCall.TheVariants as calls
 use Rattle.afs_num.specs.declared.calls.FsReply.TheVariants as replies
 use Rattle.afs_num.specs.declared.messages.Carried.TheVariants as carried
@@ -79,7 +83,7 @@ view_of clock g c d = record {
   held = g.held;
   epoch = c.epoch;
   last = c.last;
-  known = c.boot;
+  known = boot_of the_server c.boots;
   running = c.running;
   cache = c.cache;
   spoiled = c.spoiled;
@@ -88,8 +92,24 @@ view_of clock g c d = record {
   durable = d.durable;
 }
 
+-- what the client keeps of the server's last call
+abbrev pub back_seat : ClientState → Option Seat
+back_seat c = call_seat the_server c.seats
+
+-- a fid has one entry
+abbrev pub AreApart : List CacheEntry → Type 0
+AreApart [] = ⊤
+AreApart (e ∷ cache) = (find_cached e.fid cache ≡ None) × AreApart cache
+
+-- a client of the script; what it asks, it asks of the server
+pub record IsClient (s : Script) (c : ClientState) : Type 0 where
+  pub table : c.table ≡ locations s
+  pub user : c.user ≡ guest
+  pub callee : (act : Going) → c.running ≡ Some act → c.callee ≡ the_server
+  pub apart : AreApart c.cache
+
 abbrev pub desk : ServerState → ℕ → Desk
-desk s j = record { boot = s.boot; seat = call_seat (Client j) s.seats; durable = call_seat (Client j) s.durable }
+desk s j = record { boot = s.lasting.boot; seat = call_seat (Client j) s.seats; durable = call_seat (Client j) s.lasting.kept }
 
 abbrev pub view : (ℕ → Ghost) → Cell → ℕ → View
 view fl c j = view_of c.clock (fl j) (c.clients j) (desk c.server j)
@@ -151,11 +171,23 @@ InScope call f = is_in_scope call f ≡ true
 
 -- ---- what was fetched is whole and was not given up, and is the newest unless its grant is withdrawn
 
-pub record Held (sp : Bool) (j : ℕ) (f : Fid) (index : ℕ) (body : Body) (expiry : ℕ) (reply : Message) (past : List Entry) : Type 0 where
+-- what is held of a body is this one
+abbrev pub IsBody : Option Body → Body → Type 0
+IsBody None body = ⊤
+IsBody (Some b) body = b ≡ body
+
+-- the status is one that the fid had under this index, and the body, if one is held, that of its version
+pub record IsWhole (f : Fid) (index : ℕ) (status : ReadStatus) (body : Option Body) (past : List Entry) : Type 0 where
+  pub is : Body
+  pub told : HasVersion f index is (lines_of past)
+  pub holds : IsBody body is
+  pub been : HasBeen f index (seen.Status status) past
+
+pub record Held (sp : Bool) (j : ℕ) (f : Fid) (index : ℕ) (status : ReadStatus) (body : Option Body) (expiry : ℕ) (reply : Message) (past : List Entry) : Type 0 where
   pub grant : GrantOf (Client j) f expiry reply past
   pub server : grant.server ≡ the_server
   pub kept : sp ≡ false → IsDropped grant.server (Client j) f (since (Client j) f expiry reply past grant) → ⊥
-  pub whole : HasVersion f index body (lines_of past)
+  pub whole : IsWhole f index status body past
   pub base : List Line
   pub split : lines_of past ≡ since (Client j) f expiry reply past grant ++ base
   pub begun : server_boot the_server base ≡ Some reply.head.boot
@@ -212,7 +244,8 @@ pub record IsCurrentIn (j : ℕ) (f : Fid) (e : CacheEntry) (running : Option Go
   pub reply : Message
   pub boot : reply.head.boot ≤ most
   pub by : fetch_reply (Client j) f past ≡ Some reply
-  pub held : Held false j f e.index e.body e.expiry reply past
+  pub from : e.server ≡ the_server
+  pub held : Held false j f e.index e.status e.body e.expiry reply past
   pub state : IsPlain j f e.index held.grant.server (since (Client j) f e.expiry reply past held.grant) running x past
       ⊎ IsOvertaken j f e.index held.grant.server (since (Client j) f e.expiry reply past held.grant) running x past
 
@@ -222,10 +255,18 @@ IsCurrent j f e v past = IsCurrentIn j f e v.running (spot v) v.held past
 abbrev pub HasCurrent : ℕ → View → List Entry → Type 0
 HasCurrent j v past = (f : Fid) (e : CacheEntry) → find_cached f v.cache ≡ Some e → v.clock < e.expiry → IsCurrent j f e v past
 
+-- what a client holds of a body, trusted or not, is that of a version
+abbrev pub IsOld : Fid → ℕ → Option Body → List Line → Type 0
+IsOld f index None ls = ⊤
+IsOld f index (Some body) ls = HasVersion f index body ls
+
+abbrev pub HasOld : List CacheEntry → List Line → Type 0
+HasOld cache ls = (f : Fid) (e : CacheEntry) → find_cached f cache ≡ Some e → IsOld f e.index e.body ls
+
 -- ---- the kept reply answers the running act
 
-pub record IsFetched (sp : Bool) (j : ℕ) (f : Fid) (index : ℕ) (body : Body) (expiry : ℕ) (reply : Message) (past : List Entry) : Type 0 where
-  pub held : Held sp j f index body expiry reply past
+pub record IsFetched (sp : Bool) (j : ℕ) (f : Fid) (index : ℕ) (status : ReadStatus) (body : Option Body) (expiry : ℕ) (reply : Message) (past : List Entry) : Type 0 where
+  pub held : Held sp j f index status body expiry reply past
   pub reached : Seen j f index past
   pub newest : IsNewest held.grant.server j f index (since (Client j) f expiry reply past held.grant) (lines_of past)
 
@@ -238,8 +279,12 @@ abbrev pub FitsPlain : Spot → Message → FsCall → Type 0
 FitsPlain v m call = (id : ℕ) → volume_changed call ≡ Some id → IsStored v m
 
 abbrev pub FitsData : Bool → ℕ → Spot → Message → List Entry → List ℕ → AfsFetchStatus → AfsCallBack → FsCall → Type 0
-FitsData sp j v m past contents status callback (calls.FetchData f position wanted) = IsFetched sp j f status.sync_counter (body_told status.file_type contents) callback.expiration_time m past
+FitsData sp j v m past contents status callback (calls.FetchData f position wanted) = IsFetched sp j f status.sync_counter (status_told status) (Some (body_told status.file_type contents)) callback.expiration_time m past
 FitsData sp j v m past contents status callback call = FitsPlain v m call
+
+abbrev pub FitsShown : Bool → ℕ → Spot → Message → List Entry → AfsFetchStatus → AfsCallBack → FsCall → Type 0
+FitsShown sp j v m past status callback (calls.FetchStatus f) = IsFetched sp j f status.sync_counter (status_told status) None callback.expiration_time m past
+FitsShown sp j v m past status callback call = FitsPlain v m call
 
 -- the version has the body of the one before
 pub record IsKeptBody (f : Fid) (index : ℕ) (ls : List Line) : Type 0 where
@@ -255,7 +300,7 @@ Leaves (calls.StoreData g set position wanted file_length contents) f index ls =
 Leaves call f index ls = IsKeptBody f index ls
 
 abbrev pub FitsStore : ℕ → Fid → Spot → Message → List Entry → AfsFetchStatus → FsCall → Type 0
-FitsStore j f v m past status call = Leaves call f status.sync_counter (lines_of past) × (IsStored v m × Reached (Client j) f status.sync_counter past)
+FitsStore j f v m past status call = (Leaves call f status.sync_counter (lines_of past) × HasBeen f status.sync_counter (seen.Status (status_told status)) past) × (IsStored v m × Reached (Client j) f status.sync_counter past)
 
 abbrev pub FitsSet : ℕ → Spot → Message → List Entry → AfsFetchStatus → FsCall → Type 0
 FitsSet j v m past status (calls.StoreData f set position wanted file_length contents) = FitsStore j f v m past status (calls.StoreData f set position wanted file_length contents)
@@ -265,6 +310,7 @@ FitsSet j v m past status call = FitsPlain v m call
 
 abbrev pub FitsReply : Bool → ℕ → FsCall → Spot → Message → List Entry → FsReply → Type 0
 FitsReply sp j call v m past (replies.FetchData contents status callback sync) = FitsData sp j v m past contents status callback call
+FitsReply sp j call v m past (replies.FetchStatus status callback sync) = FitsShown sp j v m past status callback call
 FitsReply sp j call v m past (replies.StoreData status sync) = FitsSet j v m past status call
 FitsReply sp j call v m past (replies.StoreAcl status sync) = FitsSet j v m past status call
 FitsReply sp j call v m past (replies.StoreStatus status sync) = FitsSet j v m past status call
@@ -336,7 +382,7 @@ pub record IsTrusted (clock : ℕ) (f : Fid) (cache : List CacheEntry) : Type 0 
 abbrev pub IsKnown : Going → ℕ → Fid → List CacheEntry → Type 0
 IsKnown act clock f cache = (volume_changed (asked act) ≡ None) ⊎ IsTrusted clock f cache
 
-pub record ClientFacts (j : ℕ) (v : View) (past : List Entry) : Type 0 where
+pub record ClientFacts (s : Script) (j : ℕ) (v : View) (past : List Entry) : Type 0 where
   pub behind : IsBehind v.seat v
   pub behind_durable : IsBehind v.durable v
   pub lower : (e n : ℕ) → Above v.seat e n → Above v.durable e n
@@ -346,10 +392,11 @@ pub record ClientFacts (j : ℕ) (v : View) (past : List Entry) : Type 0 where
   pub floored : v.floor ≤ v.boot
   pub holds : v.held ≤ v.boot
   pub waits : (act : Going) → v.running ≡ Some act → v.held ≤ v.floor
-  pub idle : v.running ≡ None → running (Client j) (lines_of past) ≡ None
+  pub idle : v.running ≡ None → running s (Client j) (lines_of past) ≡ None
   pub made : (act : Going) → v.running ≡ Some act → (f : Fid) → (InScope (asked act) f → ⊥) → IsKnown act v.clock f v.cache → (reach (Client j) f past).made ≡ 0
   pub current : HasCurrent j v past
-  pub runs : (act : Going) → v.running ≡ Some act → running (Client j) (lines_of past) ≡ Some act
+  pub old : HasOld v.cache (lines_of past)
+  pub runs : (act : Going) → v.running ≡ Some act → running s (Client j) (lines_of past) ≡ Some act
   pub asked : (act : Going) → v.running ≡ Some act → CalledSince (last_key j v) (user_of (Client j)) (asked act) past
   pub reached : (f : Fid) → Reached (Client j) f (index_in (last_version f (lines_of past))) past
 
@@ -405,8 +452,8 @@ pub record HeldIn (views : ℕ → View) (past : List Entry) (m : Message) : Typ
   pub fact : ReplyFact client (views client) past m
 
 -- a changing call of the act that the client began last is what the running act asks
-abbrev pub IsActs : List Entry → Head → List ℕ → FsCall → Type 0
-IsActs past head user call = is_of_act head.from (called_key head) past ≡ true → (act : Going) → running head.from (lines_of past) ≡ Some act → (volume_changed call ≡ None) ⊎ (call ≡ asked act)
+abbrev pub IsActs : Script → List Entry → Head → List ℕ → FsCall → Type 0
+IsActs s past head user call = is_of_act head.from (called_key head) past ≡ true → (act : Going) → running s head.from (lines_of past) ≡ Some act → (volume_changed call ≡ None) ⊎ (call ≡ asked act)
 
 -- an act ran that asked to read
 pub record Reading (o : Option Going) : Type 0 where
@@ -421,9 +468,9 @@ pub record IsLastCall (views : ℕ → View) (head : Head) (user : List ℕ) (ca
   pub epoch : head.epoch ≡ (views client).epoch
   pub number : head.number ≡ (views client).last
 
-pub record Origin (past : List Entry) (head : Head) (user : List ℕ) (call : FsCall) : Type 0 where
+pub record Origin (s : Script) (past : List Entry) (head : Head) (user : List ℕ) (call : FsCall) : Type 0 where
   pub act : Going
-  pub called : Called (called_key head) user call act past
+  pub called : Called s (called_key head) user call act past
   pub own_user : user ≡ user_of head.from
   pub own_call : call ≡ asked act
 
@@ -435,16 +482,16 @@ IsOne sent head user call = call_under (called_key head) sent ≡ Some (user, ca
 abbrev pub IsNoticed : ℕ → Message → Type 0
 IsNoticed boot m = m.head.boot ≤ boot
 
--- a call that isn't a client's is not to the server
+-- a call that isn't a client's is the server's, and to another
 abbrev pub ToClient : Head → List ℕ → FsCall → Type 0
-ToClient head user call = ((j : ℕ) → head.from ≡ Client j → ⊥) → head.to ≡ the_server → ⊥
+ToClient head user call = ((j : ℕ) → head.from ≡ Client j → ⊥) → (head.to ≡ the_server → ⊥) × (head.from ≡ the_server)
 
-pub record SentFacts (sent held : List Message) (views : ℕ → View) (boot : ℕ) (past : List Entry) : Type 0 where
+pub record SentFacts (s : Script) (sent held : List Message) (views : ℕ → View) (boot : ℕ) (past : List Entry) : Type 0 where
   pub calls : Each (IfCall (CallIn views)) sent
   pub replies : Each (IfReply (ReplyIn views past)) sent
   pub notices : Each (IfNotice (IsNoticed boot)) sent
-  pub origins : Each (IfCall (Origin past)) sent
-  pub acts : Each (IfCall (IsActs past)) sent
+  pub origins : Each (IfCall (Origin s past)) sent
+  pub acts : Each (IfCall (IsActs s past)) sent
   pub ones : Each (IfCall (IsOne sent)) sent
   pub told : sent_of past ≡ sent
   pub waiting : Each (HeldIn views past) held
@@ -453,11 +500,11 @@ pub record SentFacts (sent held : List Message) (views : ℕ → View) (boot : �
 -- ---- all of them
 
 -- the server's volumes are the ideal ones
-abbrev pub AreIdeal : Table Volume → List Entry → Type 0
-AreIdeal volumes past = (id : ℕ) → get id volumes ≡ volume_after id past
+abbrev pub AreIdeal : Table Stored → List Entry → Type 0
+AreIdeal volumes past = (id : ℕ) → volume_in id volumes ≡ volume_after id past
 
-abbrev pub AreSound : Table Volume → List Line → Type 0
-AreSound volumes ls = (id : ℕ) → SoundIn id (get id volumes) ls
+abbrev pub AreSound : Table Stored → List Line → Type 0
+AreSound volumes ls = (id : ℕ) → SoundIn id (volume_in id volumes) ls
 
 -- a vnode's names are those of a directory, and all its numbers have a spelling
 pub record IsReadable (n : ℕ) (x : Vnode) : Type 0 where
@@ -466,17 +513,18 @@ pub record IsReadable (n : ℕ) (x : Vnode) : Type 0 where
   pub names : IsDirectory x.names
   pub fit : FitNames x.names
 
--- the vnodes stand by their numbers, with unique numbers that were given out, and can be read again
+-- the vnodes stand by their numbers, with unique numbers that were given out, and can be read again; it doesn't go at a start
 pub record IsFine (v : Volume) : Type 0 where
   pub ascends : AscendsFrom 1 v.vnodes
   pub below : (n : ℕ) (x : Vnode) → get n v.vnodes ≡ Some x → x.unique < v.next
   pub readable : (n : ℕ) (x : Vnode) → get n v.vnodes ≡ Some x → IsReadable n x
+  pub stays : unflagged v ≡ true
 
-abbrev pub AreFine : Table Volume → Type 0
-AreFine volumes = (id : ℕ) (v : Volume) → get id volumes ≡ Some v → IsFine v
+abbrev pub AreFine : Table Stored → Type 0
+AreFine volumes = (id : ℕ) (v : Volume) → volume_in id volumes ≡ Some v → IsFine v
 
-abbrev pub AreHome : Script → Table Volume → List Line → Type 0
-AreHome s volumes ls = (id : ℕ) (v : Volume) → get id volumes ≡ Some v → Accepts s id the_server ls
+abbrev pub AreHome : Script → Table Stored → List Line → Type 0
+AreHome s volumes ls = (id : ℕ) (v : Volume) → volume_in id volumes ≡ Some v → Accepts s id the_server ls
 
 -- keys above their caller's durable seat never changed anything
 abbrev pub AreNew : List Seat → List Line → Type 0
@@ -494,42 +542,44 @@ AreUnheard down seats boot past = (k : Key) (b : ℕ) → MayRun down boot (call
 -- ---- a step that was interrupted
 
 -- its message was sent; its entry ran it if any does; and the volumes were then what they are now
-pub record IsCut (server : ServerState) (sent : List Message) (m : Message) (past : List Entry) : Type 0 where
+pub record IsCut (kept : Lasting) (sent : List Message) (m : Message) (past : List Entry) : Type 0 where
   pub place : ℕ
   pub at : message_at sent place ≡ Some m
-  pub ran : Ran (reply_head server.boot m.head) past
+  pub ran : Ran (reply_head kept.boot m.head) past
   pub is : ran.message ≡ m
-  pub ideal : AreIdeal server.volumes ran.older
+  pub ideal : AreIdeal kept.volumes ran.older
 
-abbrev pub HasFallen : Option Fall → ServerState → List Message → List Entry → Type 0
-HasFallen None server sent past = ⊤
-HasFallen (Some at_rest) server sent past = ⊤
-HasFallen (Some in_boot) server sent past = ⊤
-HasFallen (Some (in_step m clock)) server sent past = IsCut server sent m past
+abbrev pub HasFallen : Option Fall → Lasting → List Message → List Entry → Type 0
+HasFallen None kept sent past = ⊤
+HasFallen (Some at_rest) kept sent past = ⊤
+HasFallen (Some in_boot) kept sent past = ⊤
+HasFallen (Some (in_step m clock)) kept sent past = IsCut kept sent m past
 
 -- `now` is the server's boot by the lines
 pub record HoldsAt (s : Script) (now : Option ℕ) (c : Cell) (past : List Entry) : Type 0 where
   pub floors : ℕ → Ghost
-  pub ideal : AreIdeal c.server.volumes past
-  pub sound : AreSound c.server.volumes (lines_of past)
-  pub fine : AreFine c.server.volumes
-  pub home : AreHome s c.server.volumes (lines_of past)
-  pub new : AreNew c.server.durable (lines_of past)
-  pub unheard : AreUnheard c.down c.server.seats c.server.boot past
+  pub ideal : AreIdeal c.server.lasting.volumes past
+  pub sound : AreSound c.server.lasting.volumes (lines_of past)
+  pub fine : AreFine c.server.lasting.volumes
+  pub home : AreHome s c.server.lasting.volumes (lines_of past)
+  pub new : AreNew c.server.lasting.kept (lines_of past)
+  pub unheard : AreUnheard c.down c.server.seats c.server.lasting.boot past
   pub count : c.count ≡ s.clients
-  pub booted : 1 ≤ c.server.boot
+  pub own : (j : ℕ) → IsClient s (c.clients j)
+  pub servers : (id : ℕ) → server_at (locations s) id ≡ 1
+  pub booted : 1 ≤ c.server.lasting.boot
   pub boots : server_boot the_server (lines_of past) ≡ now
-  pub clients : (j : ℕ) → ClientFacts j (view floors c j) past
-  pub sent : SentFacts c.sent (replies_of c.backs.held) (view floors c) c.server.boot past
-  pub down : HasFallen c.down c.server c.sent past
+  pub clients : (j : ℕ) → ClientFacts s j (view floors c j) past
+  pub sent : SentFacts s c.sent (replies_of c.server.backs.held) (view floors c) c.server.lasting.boot past
+  pub down : HasFallen c.down c.server.lasting c.sent past
   pub clock : clock_of (lines_of past) ≡ c.clock
   pub top : Tops (lines_of past)
   pub one : Ones (lines_of past)
   -- of the server's memory, but in the midst of a restart
-  pub backs : now ≡ up_boot c.down c.server.boot → BackedIn c.down c.backs c.server.boot c.server.seats (λ j. (c.clients j).seat) c.clock c.sent past
+  pub backs : now ≡ up_boot c.down c.server.lasting.boot → BackedIn c.down c.server.backs c.server.lasting.boot c.server.seats (λ j. back_seat (c.clients j)) c.clock c.sent past
 
 abbrev pub Holds : Script → Cell → List Entry → Type 0
-Holds s c past = HoldsAt s (up_boot c.down c.server.boot) c past
+Holds s c past = HoldsAt s (up_boot c.down c.server.lasting.boot) c past
 
 pub record Goes (s : Script) (past : List Entry) (m : Moved) : Type 0 where
   pub good : AreGood s m.entry.actor past [] m.entry.lines

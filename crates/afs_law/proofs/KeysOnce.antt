@@ -1,22 +1,22 @@
-use Rattle.std.proofs.Common.{◌≡◌, Option, List, [], ◌∷◌, ◌++◌, map, refl, sym, ap, subst, ◌∙◌}
+use Rattle.afs_law.specs.OneServer.{IsOneServer}
+use Rattle.std.proofs.Common.{◌≡◌, ℕ, Option, List, [], ◌∷◌, ◌++◌, map, refl, sym, ap, subst, ◌∙◌}
 use Rattle.afs_num.specs.declared.types.Key.{Key}
 use Rattle.afs_num.specs.declared.scripts.Script.{Script}
 use Rattle.afs_ideal.specs.Tables.{Table, get}
 use Rattle.afs_ideal.specs.Volumes.{Volume}
 use Rattle.afs_law.proofs.Law.{legal, first_passed}
-use Rattle.afs_law.specs.Callbacks.{first_backs}
-use Rattle.afs_law.specs.ClientRow.{the_server}
+use Rattle.afs_rows.specs.Callbacks.{first_backs}
 use Rattle.afs_law.specs.Ideal.{set_up, change_in}
 use Rattle.afs_law.specs.Legal.{IsNot, IsNew, IsGood, AreGood, LegalAfter, Legal}
-use Rattle.afs_law.specs.Lines.{Line}
+use Rattle.afs_history.specs.declared.lines.Line.{Line}
 use Rattle.afs_law.specs.Once.{IsFirst, AreOnce, past_of, ChangesOnce}
-use Rattle.afs_law.specs.OneServer.{AreAtServer}
 use Rattle.afs_law.specs.Past.{onto, lines_on, lines_of}
-use Rattle.afs_law.specs.Runs.{Entry, Cell, unarmed, start, first_client, first_server, RunsTo, Leads, first_volume, first_volumes, unless_there}
+use Rattle.afs_rows.specs.States.{Location}
+use Rattle.afs_rows.specs.Runs.{Entry, Cell, RunsTo}
 use Rattle.afs_num.specs.declared.scripts.VolumeLine.{VolumeLine}
 use Rattle.std.specs.Prelude.{is_some, Some, None, false}
-use Rattle.afs_law.specs.Lines as lines
 use Rattle.afs_num.specs.declared.histories.Actor.{Actor}
+use Rattle.afs_history.specs.declared.lines.Line.TheVariants as lines
 
 -- A key changes something at most once in a run.
 
@@ -71,31 +71,5 @@ legal_once s h g =
     once_front (lines_of (past_of [] h)) (lines_of (set_up s ∷ []))
     (subst AreOnce (set_up_under (set_up s) [] h ∙ lines_front (lines_of (set_up s ∷ [])) (past_of [] h)) (after_once s (set_up s ∷ []) h g (first_passed AreOnce (λ v o h. h) s.volumes [] tt)))
 
--- ---- a run doesn't read the servers of the script's volumes
-
-abbrev pub at_server : VolumeLine → VolumeLine
-at_server v = record v { server = the_server }
-
-pub same_volumes : (vs : List VolumeLine) → first_volumes (map at_server vs) ≡ first_volumes vs
-same_volumes [] = refl
-same_volumes (v ∷ vs) = ap (λ (t : Table Volume). unless_there (is_some (get v.id t)) v.id (first_volume v) t) (same_volumes vs)
-
-pub all_at : (vs : List VolumeLine) → AreAtServer (map at_server vs)
-all_at [] = tt
-all_at (v ∷ vs) = (refl, all_at vs)
-
-pub once : (s : Script) (h : List Entry) (end : Cell) → RunsTo h s end → ChangesOnce h
-once s h end r =
-    let one : Script = record s { servers = 1; volumes = map at_server s.volumes } in
-    let same : start s ≡ start one = ap (λ (volumes : Table Volume). record {
-      server = first_server volumes;
-      backs = first_backs;
-      count = s.clients;
-      down = None;
-      armed = unarmed;
-      clients = λ n. first_client;
-      away = λ n. false;
-      sent = [];
-      clock = 0;
-    }) (sym (same_volumes s.volumes)) in
-    legal_once one h (legal one h end (refl, all_at s.volumes) (record { inputs = r.inputs; leads = subst (λ (c : Cell). Leads c r.inputs h end) same r.leads }))
+pub once : (s : Script) (h : List Entry) (end : Cell) → IsOneServer s → RunsTo h s end → ChangesOnce h
+once s h end one r = legal_once s h (legal s h end one r)

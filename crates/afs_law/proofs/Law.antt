@@ -1,10 +1,12 @@
+use Rattle.afs_rows.specs.States.{Location}
+use Rattle.afs_rows.specs.ClientRow.{server_at, server_or_first}
 use Rattle.afs_ideal.proofs.Edits.{first_agrees}
 use Rattle.afs_ideal.specs.SetUp.{first_versions}
 use Rattle.afs_ideal.specs.Tables.{AscendsFrom, Table, get, set}
 use Rattle.afs_ideal.specs.Told.{last_told}
 use Rattle.afs_ideal.specs.Volumes.{version_at, Vnode, Volume}
 use Rattle.afs_law.proofs.Answering.{client_goes, begun_goes}
-use Rattle.afs_law.proofs.Backing.{all_lines, is_oweless, no_owe, is_still, live_back, zero_back}
+use Rattle.afs_law.proofs.Backing.{all_lines, is_oweless, no_owe, is_still, live_back, zero_back, live_given, before_own, rising_back}
 use Rattle.afs_law.proofs.Basics.{same_fid-refl, same_fid-true, some_of, both}
 use Rattle.afs_law.proofs.Deciding.{server_times, server_wakes_goes, given_goes, stops_goes, restarts_goes}
 use Rattle.afs_law.proofs.Edits.{one_more, Ones, index_in, fid_at, live, SoundIn, sound_same, Tops, get-set, none_has}
@@ -13,14 +15,13 @@ use Rattle.afs_law.proofs.Naming.{first_fine}
 use Rattle.afs_law.proofs.Resting.{voids, ticks_goes, stop_set, fail_set}
 use Rattle.afs_law.proofs.Waiting.{waits_goes, client_stops_goes, client_starts_goes}
 use Rattle.afs_law.specs.Breaks.{live_grant, last_number}
-use Rattle.afs_law.specs.ClientRow.{the_server}
 use Rattle.afs_law.specs.Ideal.{first_told, last_version, HasVersion, Accepts, clock_of, Reach, reach_over, first_lines, set_up, is_at, unless, reach, change_key, volume_after, brought, or_before, changed_under}
 use Rattle.afs_law.specs.Legal.{IsNew, LegalAfter, Legal}
-use Rattle.afs_law.specs.Lines.{Line}
+use Rattle.afs_history.specs.declared.lines.Line.{Line}
 use Rattle.afs_law.specs.OneServer.{AreAtServer, IsOneServer}
 use Rattle.afs_law.specs.Past.{running, onto, lines_of, given_message, IsCallUnder}
-use Rattle.afs_law.specs.Runs.{Entry, Cell, message_at, Moved, Armed, Fall, Luck, waits, ticks, client_stops, client_starts, stops, starts_again, sets_stop, sets_fail, server_armed, Input, begins, gives, nothing, moved, given_to, given_at, Leads, start, RunsTo, server_waits, wakes, first_volume, first_volumes, unless_there}
-use Rattle.std.proofs.Common.{◌≡◌, ℕ, ◌+◌, ◌≤◌, ◌⊎◌, inl, inr, Bool, true, false, cond, nat_eq, List, [], ◌∷◌, ◌++◌, Option, Some, None, refl, sym, ap, subst, ◌∙◌, arith, eqb-true, eqb, eq-eqb, le_of_eq}
+use Rattle.afs_rows.specs.Runs.{locations_in, location_by, the_server, Entry, Cell, message_at, Moved, Armed, Fall, Luck, waits, ticks, client_stops, client_starts, stops, starts_again, sets_stop, sets_fail, server_armed, Input, begins, gives, nothing, moved, given_to, given_at, Leads, start, RunsTo, server_waits, wakes, first_volume, first_volumes, unless_there}
+use Rattle.std.proofs.Common.{find, ◌≡◌, ℕ, ◌+◌, ◌≤◌, ◌⊎◌, inl, inr, Bool, true, false, cond, nat_eq, List, [], ◌∷◌, ◌++◌, Option, Some, None, refl, sym, ap, subst, ◌∙◌, arith, eqb-true, eqb, eq-eqb, le_of_eq}
 use Rattle.std.specs.Prelude.{is_some, ⊤}
 use Rattle.afs_num.specs.Fids.{same_fid}
 use Rattle.afs_num.specs.declared.types.Fid.{Fid}
@@ -33,7 +34,8 @@ use Rattle.afs_num.specs.declared.histories.Body.{Body}
 use Rattle.afs_num.specs.declared.histories.Version.{Version}
 use Rattle.afs_num.specs.declared.scripts.VolumeLine.{VolumeLine}
 use Rattle.std.proofs.Math.Nat.{le_refl}
-use Rattle.afs_law.specs.Lines as lines
+use Rattle.afs_law.proofs.Keeping.{first_in}
+use Rattle.afs_history.specs.declared.lines.Line.TheVariants as lines
 
 -- Every run of a script is legal.
 
@@ -157,10 +159,10 @@ told_none a b e = subst (λ (x : Option Version). or_told x b ≡ b) (sym e) ref
 
 -- what the set-up of volumes must give
 pub record FirstFacts (t : Table Volume) (ls : List Line) : Type 0 where
-  pub sound : AreSound t ls
+  pub sound : (id : ℕ) → SoundIn id (get id t) ls
   pub top : Tops ls
   pub one : Ones ls
-  pub fine : AreFine t
+  pub fine : (id : ℕ) (v : Volume) → get id t ≡ Some v → IsFine v
 
 pub not_some : (o : Option Volume) → is_some o ≡ false → o ≡ None
 not_some None e = refl
@@ -327,16 +329,36 @@ lines_none (y ∷ z ∷ newer) x at older e = absurd cc
 pub first_owes : {X : Type 0} → (ms : List Message) (newer : List Entry) (x at : Entry) (older : List Entry) (before after : List Line) (c : Node) (what : Option Fid) (n : ℕ) → all_lines is_oweless x.lines ≡ true → x ∷ [] ≡ newer ++ (at ∷ older) → at.lines ≡ before ++ lines.Owe the_server c what n ∷ after → X
 first_owes ms newer x at older before after c what n h split line = absurd (no_owe at.lines before after the_server c what n (subst (λ (e : Entry). all_lines is_oweless e.lines ≡ true) (lines_none newer x at older split) h) line)
 
+server_number : (n m : ℕ) → Server n ≡ Server m → n ≡ m
+server_number n m e = cc
+
+server_by : (t : Bool) (l : Location) (o : Option Location) → l.server ≡ 1 → server_or_first o ≡ 1 → server_or_first (cond t (Some l) o) ≡ 1
+server_by true l o e h = e
+server_by false l o e h = h
+
+located_by : (v : VolumeLine) (q : Node) (ls : List Location) (id : ℕ) → q ≡ the_server → server_at ls id ≡ 1 → server_at (location_by v q ls) id ≡ 1
+located_by v (Server n) ls id e h = server_by (nat_eq v.id id) (record { name = v.name; id = v.id; server = n }) (find (λ l. nat_eq l.id id) ls) (server_number n 1 e) h
+located_by v (Client n) ls id e h = h
+located_by v (Admin n) ls id e h = h
+located_by v Loc ls id e h = h
+
+-- every volume is at the server
+found_server : (vs : List VolumeLine) → AreAtServer vs → (id : ℕ) → server_at (locations_in vs) id ≡ 1
+found_server [] a id = refl
+found_server (v ∷ vs) a id = located_by v v.server (locations_in vs) id a.0 (found_server vs a.1 id)
+
 pub starts : (s : Script) → IsOneServer s → Holds s (start s) (set_up s ∷ [])
 starts s one =
     let facts : FirstFacts (first_volumes s.volumes) (onto [] (first_lines s.volumes)) = first_facts s.volumes in
     record {
       floors = λ j. record { floor = 1; held = 1 };
       count = refl;
-      ideal = ideal_first s;
-      sound = facts.sound;
-      fine = facts.fine;
-      home = λ id v found. any_home s id the_server (lines_of (set_up s ∷ [])) (found_home s.volumes one.1 id v found);
+      own = λ j. record { table = refl; user = refl; callee = λ a z. absurd cc; apart = tt };
+      servers = λ id. found_server s.volumes one.1 id;
+      ideal = λ id. first_in id (first_volumes s.volumes) ∙ ideal_first s id;
+      sound = λ id. subst (λ (o : Option Volume). SoundIn id o (lines_of (set_up s ∷ []))) (sym (first_in id (first_volumes s.volumes))) (facts.sound id);
+      fine = λ id v e. facts.fine id v (sym (first_in id (first_volumes s.volumes)) ∙ e);
+      home = λ id v found. any_home s id the_server (lines_of (set_up s ∷ [])) (found_home s.volumes one.1 id v (sym (first_in id (first_volumes s.volumes)) ∙ found));
       new = λ k above. first_passed (IsNew k) (λ v o h. h) s.volumes [] tt;
       unheard = λ k b may. ((λ x. subst (λ (o : Option Message). IsCallUnder the_server k b o) (given_first (first_lines s.volumes) [] (all_versions s.volumes)) x), tt);
       booted = le_refl 1;
@@ -352,8 +374,9 @@ starts s one =
         floored = le_refl 1;
         holds = le_refl 1;
         waits = λ act x. absurd cc;
-        idle = λ x. first_passed (λ (ls : List Line). running (Client j) ls ≡ None) (λ v o h. h) s.volumes [] refl;
+        idle = λ x. first_passed (λ (ls : List Line). running s (Client j) ls ≡ None) (λ v o h. h) s.volumes [] refl;
         made = λ act x. absurd cc;
+        old = λ f u found. absurd cc;
         current = λ f e x lasts. absurd cc;
         runs = λ act x. absurd cc;
         asked = λ act x. absurd cc;
@@ -366,9 +389,11 @@ starts s one =
       backs = λ z. record {
         granted = λ x. tt;
         numbered = let y : last_number the_server (onto [] (first_lines s.volumes)) ≡ 0 = zero_back (first_lines s.volumes) [] (first_oweless (first_lines s.volumes) (all_versions s.volumes)) refl in le_of_eq y;
-        promised = λ j f x l t. let none : live_grant the_server (Client j) f [] ≡ Some x = live_back (Client j) f x (first_lines s.volumes) [] (first_still (first_lines s.volumes) (all_versions s.volumes)) l in absurd cc;
+        promised = λ j f x l t. let none : live_grant the_server j f [] ≡ Some x = live_given j f x (set_up s) [] (live_back j f x (first_lines s.volumes) (before_own (set_up s) []) (first_still (first_lines s.volumes) (all_versions s.volumes)) l) in absurd cc;
         accounted = λ newer at older before after c what n split line. first_owes (start s).sent newer (set_up s) at older before after c what n (first_oweless (first_lines s.volumes) (all_versions s.volumes)) split line;
-        owed = λ x. tt;
+        owing = λ x. tt;
+        rising = rising_back (first_lines s.volumes) [] (first_oweless (first_lines s.volumes) (all_versions s.volumes)) tt;
+        clients = λ x. record { promised = tt; owed = tt };
         waiting = λ x. tt;
         outs = λ x j c at. absurd cc;
         calls = tt;

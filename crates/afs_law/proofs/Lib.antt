@@ -1,11 +1,14 @@
 pub mod Basics
 pub mod Edits
+pub mod Keeping
+pub mod Promising
 pub mod Owing
 pub mod Backing
 pub mod Turning
 pub mod Facts
 pub mod Loading
 pub mod Ops
+pub mod Apart
 pub mod Passing
 pub mod Resting
 pub mod Notes
@@ -22,6 +25,7 @@ pub mod Dropping
 pub mod Answering
 pub mod Waiting
 pub mod Law
+pub mod Roomless
 pub mod Unserved
 pub mod Agreeing
 pub mod KeysOnce

@@ -1,5 +1,8 @@
 -- What each step of the server makes of promises, breaks, calls and replies that wait.
-use Rattle.std.proofs.Common.{◌≡◌, ◌+◌, ◌≤◌, ◌⊎◌, inl, inr, Bool, true, false, cond, nat_eq, nat_lt, ℕ, zero, suc, List, [], ◌∷◌, ◌++◌, Option, Some, None, refl, sym, ap, subst, ◌∙◌, arith, eqb-true, eq-eqb, ltb-false, append-nil, le_of_eq}
+use Rattle.afs_breaks.specs.declared.types.Promise.{Promise}
+use Rattle.afs_breaks.specs.Promises.{is_promise, with_promise, is_hit, owes_from, has_break, without_break}
+use Rattle.afs_law.proofs.Promising.{Owed, hits, staying, with_promises, without_promises, owes_all, risen_as, without_all, ended_call, ended_is}
+use Rattle.std.proofs.Common.{◌≡◌, ◌+◌, ◌≤◌, ◌⊎◌, inl, inr, Bool, true, false, cond, nat_eq, nat_lt, ℕ, zero, suc, List, [], ◌∷◌, ◌++◌, Option, Some, None, refl, sym, ap, subst, ◌∙◌, arith, eqb-true, eq-eqb, ltb-false, append-nil, le_of_eq, ◌<◌}
 use Rattle.std.specs.Prelude.{map, filter, not, ◌&&◌, length}
 use Rattle.std.proofs.Math.Nat.{le_refl, le_trans, eq-or-lt_of_le}
 use Rattle.afs_num.specs.Fids.{same_fid}
@@ -11,25 +14,24 @@ use Rattle.afs_num.specs.declared.types.Node.TheVariants.{Client}
 use Rattle.afs_num.specs.declared.calls.FsCall.{FsCall}
 use Rattle.afs_num.specs.declared.messages.Message.{Message}
 use Rattle.afs_ideal.specs.Operations.{Found}
-use Rattle.afs_law.proofs.Backing.{Plain, Stepping, all_lines, is_up, is_still, is_oweless, is_unchanging, is_still_to, grant_back_to, settled_onto, stopped_back, grant_back, front_onto, change_back, no_owe, owes_over, ended_over, calls_same, backed_step, seated_over, plain_step, plain_waits, waits_over, granted_over, owed_over, call_over, backed_plain, promised_over, live_back, numbered_over, zero_back}
+use Rattle.afs_law.proofs.Backing.{Plain, Stepping, all_lines, is_up, is_still, is_oweless, is_unchanging, is_still_to, grant_back_to, settled_onto, stopped_back, grant_back, front_onto, change_back, no_owe, owes_over, ended_over, calls_same, backed_step, seated_over, plain_step, plain_waits, waits_over, granted_over, owed_over, call_over, backed_plain, promised_over, live_back, numbered_over, zero_back, live_given, before_own, rising_over, rising_back}
 use Rattle.afs_law.proofs.Basics.{both, same_node-true, same_node-refl, same_fid-refl, same_fid-true, client_number, Above, Each, IfBack, IfDone, OfReply, each_map, if_back, if_done, some_of}
-use Rattle.afs_law.proofs.Owing.{AllOf, all_map, all_both, all_filter, IsGranted, IsIn, IsNumberIn, AccountedBy, WaitedBy, AllWaitedBy, HeldWaits, IsOwed, CallOut, BackIn, DroppedOwe, DoneIn, BackedIn, Promised, IsPromised, promise_to, Numbered}
+use Rattle.afs_law.proofs.Owing.{AllOf, all_map, all_both, all_filter, IsGranted, IsIn, IsNumberIn, AccountedBy, WaitedBy, AllWaitedBy, HeldWaits, IsOwed, CallOut, BackIn, DroppedOwe, DoneIn, BackedIn, Promised, IsPromised, promise_to, Numbered, IsClient, Rising, ToClients, is_held}
 use Rattle.afs_law.proofs.Turning.{loaded, in_filter, put_call, kept_in}
-use Rattle.afs_law.specs.Breaks.{HasSettled, HasTimeout, last_grant, expiry_of, AllOwes, CarriesBreak, GoodSettle, GoodQuit, live_grant, HasOwe, last_number}
-use Rattle.afs_law.specs.Callbacks.{Promise, Owed, BackCall, Held, Backs, is_all, alls, numbers, has_number, is_reply_to, is_held, key_answered, breaks_call, break_message, owe_line, settle_line, quit_line, is_among, ends_call, settles, quits, retries, is_promise, owes_from, is_hit, hits, left, owes_all, risen_turn, with_promise, with_promises}
-use Rattle.afs_law.specs.ClientRow.{the_server}
+use Rattle.afs_law.specs.Breaks.{HasSettled, HasTimeout, last_grant, expiry_of, AllOwes, CarriesBreak, GoodSettle, GoodQuit, live_grant, HasOwe, last_number, lines_at, drops_of, HasStopped, OweAt}
+use Rattle.afs_rows.specs.Callbacks.{is_all, alls, numbers, is_reply_to, key_answered, breaks_call, break_message, owe_line, settle_line, quit_line, ends_call, settles, quits, retries, risen_turn, still_owed}
 use Rattle.afs_law.specs.Ideal.{clock_of, change_in}
 use Rattle.afs_law.specs.Legal.{IsNew, IsNot, IsKey, HasChange, AreGood, IsChanged}
-use Rattle.afs_law.specs.Lines.{Line}
+use Rattle.afs_history.specs.declared.lines.Line.{Line}
 use Rattle.afs_law.specs.Past.{onto, lines_of, sent_of, given_message, called_key, IsCallUnder}
-use Rattle.afs_law.specs.Runs.{Entry, Fall}
-use Rattle.afs_law.specs.ServerRow.{granted, promise_ticks}
-use Rattle.afs_law.specs.States.{Seat}
+use Rattle.afs_rows.specs.Runs.{Entry, Fall, the_server}
+use Rattle.afs_rows.specs.ServerRow.{granted, promise_ticks}
+use Rattle.afs_rows.specs.States.{Seat, BackCall, Held, Backs}
 use Rattle.afs_model.specs.Calls.{call_seat}
-use Rattle.afs_num.specs.declared.histories.Actor.TheVariants as actors
 use Rattle.afs_num.specs.declared.histories.Version.{Version}
-use Rattle.afs_law.specs.Lines as lines
 use Rattle.afs_num.specs.declared.scripts.Script.{Script}
+use Rattle.afs_num.specs.declared.histories.Actor.TheVariants as actors
+use Rattle.afs_history.specs.declared.lines.Line.TheVariants as lines
 
 down_zero : (d : Option Fall) (last : ℕ) (ls : List Line) → (d ≡ None → ⊥) → Numbered d last ls → last_number the_server ls ≡ 0
 down_zero None last ls ne h = absurd (ne refl)
@@ -40,9 +42,11 @@ pub down_later : (d : Option Fall) (b : Backs) (boot : ℕ) (seats now : List Se
 down_later d b boot seats now cs clock sent past fall ne h = record {
   granted = λ x. absurd cc;
   promised = λ j f x l t. absurd (ne (h.promised j f x l t).0);
-  numbered = down_zero d b.last_owed (lines_of past) ne h.numbered;
+  rising = h.rising;
+  clients = λ x. absurd cc;
+  numbered = down_zero d b.lists.last_owed (lines_of past) ne h.numbered;
   accounted = λ newer at older before after c what n split line. elim (h.accounted newer at older before after c what n split line) [ inl x ↦ inl x | inr x ↦ absurd (ne x.0) ];
-  owed = λ x. absurd cc;
+  owing = λ x. absurd cc;
   waiting = λ x. absurd cc;
   outs = λ x. absurd cc;
   calls = each_map (IfBack (BackIn d b.calls b.last_call boot)) (IfBack (BackIn (Some fall) b.calls b.last_call (boot + 1))) (if_back (BackIn d b.calls b.last_call boot) (BackIn (Some fall) b.calls b.last_call (boot + 1)) (λ head user call x. record { client = x.client; to = x.to; booted = le_trans x.booted (omega arith); below = λ y. absurd cc; is = λ c y. absurd cc })) sent h.calls;
@@ -62,11 +66,11 @@ still_backed b boot seats cs clock sent e past p h =
     (backed_plain None b boot seats cs cs clock clock sent [] e past p (le_refl _) h tt tt (λ j seat m x y. seated_over None None b b boot clock clock e past (plain_step None b clock clock e past p (le_refl _)) j m (h.seated j seat m x y)))
 
 -- the clients' boot numbers are read by no fact
-pub known_backed : (b : Backs) (known : ℕ → ℕ) (boot : ℕ) (seats : List Seat) (cs : ℕ → Option Seat) (clock : ℕ) (sent : List Message) (past : List Entry) → BackedIn None b boot seats cs clock sent past → BackedIn None (record b { known = known }) boot seats cs clock sent past
-known_backed b known boot seats cs clock sent past h = record { granted = h.granted; promised = h.promised; numbered = h.numbered; accounted = h.accounted; owed = h.owed; waiting = h.waiting; outs = h.outs; calls = h.calls; dones = h.dones; seated = h.seated }
+pub known_backed : (b : Backs) (known : Node → ℕ) (boot : ℕ) (seats : List Seat) (cs : ℕ → Option Seat) (clock : ℕ) (sent : List Message) (past : List Entry) → BackedIn None b boot seats cs clock sent past → BackedIn None (record b { known = known }) boot seats cs clock sent past
+known_backed b known boot seats cs clock sent past h = record { granted = h.granted; promised = h.promised; numbered = h.numbered; rising = h.rising; clients = h.clients; accounted = h.accounted; owing = h.owing; waiting = h.waiting; outs = h.outs; calls = h.calls; dones = h.dones; seated = h.seated }
 
 -- the unanswered call is sent again
-pub resent : (b : Backs) (boot : ℕ) (seats : List Seat) (cs : ℕ → Option Seat) (clock : ℕ) (sent : List Message) (past newer : List Entry) (n known : ℕ) (c : BackCall) (calls : ℕ → Option BackCall) → BackedIn None b boot seats cs clock sent past → b.calls n ≡ Some c → ((x : BackCall) → calls n ≡ Some x → x.breaks ≡ c.breaks)
+pub resent : (b : Backs) (boot : ℕ) (seats : List Seat) (cs : ℕ → Option Seat) (clock : ℕ) (sent : List Message) (past newer : List Entry) (n : Node) (known : ℕ) (c : BackCall) (calls : Node → Option BackCall) → BackedIn None b boot seats cs clock sent past → b.calls n ≡ Some c → ((x : BackCall) → calls n ≡ Some x → x.breaks ≡ c.breaks)
     → Each (IfBack (BackIn None calls b.last_call boot)) (break_message the_server boot n known c ∷ [])
 resent b boot seats cs clock sent past newer n known c calls h at same = (
   record {
@@ -81,34 +85,144 @@ resent b boot seats cs clock sent past newer n known c calls h at same = (
 
 -- ---- a call is answered, or given up
 
-settles_plain : (os : List Owed) → Plain (map (settle_line the_server) os)
-settles_plain [] = record { up = refl; still = refl; oweless = refl; unchanging = refl }
-settles_plain (o ∷ os) = let h = settles_plain os in record { up = h.up; still = h.still; oweless = h.oweless; unchanging = h.unchanging }
+settles_plain : (n : Node) (os : List Owed) → Plain (map (settle_line the_server n) os)
+settles_plain n [] = record { up = refl; still = refl; oweless = refl; unchanging = refl }
+settles_plain n (o ∷ os) = let h = settles_plain n os in record { up = h.up; still = h.still; oweless = h.oweless; unchanging = h.unchanging }
 
-quits_plain : (os : List Owed) → Plain (map (quit_line the_server) os)
-quits_plain [] = record { up = refl; still = refl; oweless = refl; unchanging = refl }
-quits_plain (o ∷ os) = let h = quits_plain os in record { up = h.up; still = h.still; oweless = h.oweless; unchanging = h.unchanging }
+quits_plain : (n : Node) (os : List Owed) → Plain (map (quit_line the_server n) os)
+quits_plain n [] = record { up = refl; still = refl; oweless = refl; unchanging = refl }
+quits_plain n (o ∷ os) = let h = quits_plain n os in record { up = h.up; still = h.still; oweless = h.oweless; unchanging = h.unchanging }
 
-settled_later : (s c : Node) (n : ℕ) (os : List Owed) (l : List Line) → HasSettled s c n l → HasSettled s c n (onto l (map (settle_line the_server) os))
-settled_later s c n os l h = settled_onto s c n (map (settle_line the_server) os) l h
+settled_by : (t : Bool) (n : Node) (k : ℕ) (o : Owed) (os : List Owed) (l : List Line) → nat_eq o.number k ≡ t → cond t true (has_break k os) ≡ true → (has_break k os ≡ true → HasSettled the_server n k (onto (settle_line the_server n o ∷ l) (map (settle_line the_server n) os)))
+    → HasSettled the_server n k (onto (settle_line the_server n o ∷ l) (map (settle_line the_server n) os))
+settled_by true n k o os l e x w = settled_onto the_server n k (map (settle_line the_server n) os) (settle_line the_server n o ∷ l) (inl (refl, (refl, eqb-true o.number k e)))
+settled_by false n k o os l e x w = w x
 
-settled_in : (o : Owed) (os : List Owed) (l : List Line) → IsIn o os → HasSettled the_server (Client o.client) o.number (onto l (map (settle_line the_server) os))
-settled_in o [] l h = absurd h
-settled_in o (x ∷ os) l (inl e) = settled_onto the_server (Client o.client) o.number (map (settle_line the_server) os) (settle_line the_server x ∷ l) (inl (refl, (ap (λ (z : Owed). Client z.client) e, ap (λ (z : Owed). z.number) e)))
-settled_in o (x ∷ os) l (inr h) = settled_in o os (settle_line the_server x ∷ l) h
+quit_at : (t : Bool) (n : Node) (k : ℕ) (o : Owed) (os : List Owed) (l : List Line) → nat_eq o.number k ≡ t → cond t true (has_break k os) ≡ true → (has_break k os ≡ true → HasSettled the_server n k (onto (quit_line the_server n o ∷ l) (map (quit_line the_server n) os)))
+    → HasSettled the_server n k (onto (quit_line the_server n o ∷ l) (map (quit_line the_server n) os))
+quit_at true n k o os l e x w = settled_onto the_server n k (map (quit_line the_server n) os) (quit_line the_server n o ∷ l) (inl (refl, (refl, eqb-true o.number k e)))
+quit_at false n k o os l e x w = w x
 
-quit_in : (o : Owed) (os : List Owed) (l : List Line) → IsIn o os → HasSettled the_server (Client o.client) o.number (onto l (map (quit_line the_server) os))
-quit_in o [] l h = absurd h
-quit_in o (x ∷ os) l (inl e) = settled_onto the_server (Client o.client) o.number (map (quit_line the_server) os) (quit_line the_server x ∷ l) (inl (refl, (ap (λ (z : Owed). Client z.client) e, ap (λ (z : Owed). z.number) e)))
-quit_in o (x ∷ os) l (inr h) = quit_in o os (quit_line the_server x ∷ l) h
+-- its line stands among those of the breaks that are ended
+settled_in : (n : Node) (k : ℕ) (os : List Owed) (l : List Line) → has_break k os ≡ true → HasSettled the_server n k (onto l (map (settle_line the_server n) os))
+settled_in n k [] l e = absurd cc
+settled_in n k (o ∷ os) l e = settled_by (nat_eq o.number k) n k o os l refl e (λ x. settled_in n k os (settle_line the_server n o ∷ l) x)
+
+quit_in : (n : Node) (k : ℕ) (os : List Owed) (l : List Line) → has_break k os ≡ true → HasSettled the_server n k (onto l (map (quit_line the_server n) os))
+quit_in n k [] l e = absurd cc
+quit_in n k (o ∷ os) l e = quit_at (nat_eq o.number k) n k o os l refl e (λ x. quit_in n k os (quit_line the_server n o ∷ l) x)
 
 none_by : (t : Bool) (o : Option BackCall) (c : BackCall) → cond t None o ≡ Some c → o ≡ Some c
 none_by true o c e = absurd cc
 none_by false o c e = e
 
-gone_by : (t : Bool) (S G : Type 0) (u : Bool) → u ≡ t → (u ≡ true → G) → (not u ≡ true → S) → S ⊎ G
-gone_by true S G u e a b = inr (a e)
-gone_by false S G u e a b = inl (b (rw e refl))
+-- ---- a break that is owed is the only one of its number
+
+held_here : (t rest : Bool) → t ≡ true → cond t true rest ≡ true
+held_here true rest e = refl
+held_here false rest e = absurd cc
+
+held_next : (t rest : Bool) → rest ≡ true → cond t true rest ≡ true
+held_next true rest e = refl
+held_next false rest e = e
+
+in_all : (P : Owed → Type 0) (o : Owed) (os : List Owed) → IsIn o os → AllOf P os → P o
+in_all P o [] h k = absurd h
+in_all P o (x ∷ os) (inl e) k = subst P e k.0
+in_all P o (x ∷ os) (inr h) k = in_all P o os h k.1
+
+same_stop : (t : Bool) (n : Node) (x : ℕ) (k : ℕ) → same_node n the_server ≡ t → (n ≡ the_server → ⊥) → k ≤ x → k ≤ cond t 0 x
+same_stop true n x k e ne le = absurd (ne (same_node-true n the_server e))
+same_stop false n x k e ne le = le
+
+same_owe : (t : Bool) (q : Node) (m x k : ℕ) → same_node q the_server ≡ t → (q ≡ the_server → x < m) → k ≤ x → k ≤ cond t m x
+same_owe true q m x k e lt le = let l : x < m = lt (same_node-true q the_server e) in omega arith
+same_owe false q m x k e lt le = le
+
+low_by : (newer base : List Line) (c : Node) (what : Option Fid) (n : ℕ) → (HasStopped the_server newer → ⊥) → Rising (newer ++ (lines.Owe the_server c what n ∷ base)) → n ≤ last_number the_server (newer ++ (lines.Owe the_server c what n ∷ base))
+low_by [] base c what n up h = le_refl n
+low_by (lines.Owe q d w m ∷ newer) base c what n up h = same_owe (same_node q the_server) q m _ n refl h.0 (low_by newer base c what n up h.1)
+low_by (lines.Crash q ∷ newer) base c what n up h = same_stop (same_node q the_server) q _ n refl (λ e. up (inl e)) (low_by newer base c what n (λ x. up (inr x)) h)
+low_by (lines.Fault q ∷ newer) base c what n up h = same_stop (same_node q the_server) q _ n refl (λ e. up (inl e)) (low_by newer base c what n (λ x. up (inr x)) h)
+low_by (l ∷ newer) base c what n up h = low_by newer base c what n up h
+
+rising_tail : (l : Line) (ls : List Line) → Rising (l ∷ ls) → Rising ls
+rising_tail (lines.Owe q d w m) ls h = h.1
+rising_tail l ls h = h
+
+rising_head : (l : Line) (ls : List Line) (c : Node) (what : Option Fid) (n : ℕ) → l ≡ lines.Owe the_server c what n → Rising (l ∷ ls) → last_number the_server ls < n
+rising_head l ls c what n e h = (subst (λ (x : Line). Rising (x ∷ ls)) e h).0 refl
+
+stopped_tail : (l : Line) (ls : List Line) → (HasStopped the_server (l ∷ ls) → ⊥) → HasStopped the_server ls → ⊥
+stopped_tail (lines.Crash q) ls h x = h (inr x)
+stopped_tail (lines.Fault q) ls h x = h (inr x)
+stopped_tail l ls h x = h x
+
+owe_clients : (a b : Node) (v w : Option Fid) (n : ℕ) → lines.Owe the_server a v n ≡ lines.Owe the_server b w n → a ≡ b
+owe_clients a b v w n e = cc
+
+lines_head : (x y : Line) (a b : List Line) → x ∷ a ≡ y ∷ b → x ≡ y
+lines_head x y a b e = cc
+
+lines_tail : (x y : Line) (a b : List Line) → x ∷ a ≡ y ∷ b → a ≡ b
+lines_tail x y a b e = cc
+
+once_by : (xs ys base below : List Line) (a b : Node) (v w : Option Fid) (n : ℕ) → xs ++ (lines.Owe the_server a v n ∷ base) ≡ ys ++ (lines.Owe the_server b w n ∷ below) → (HasStopped the_server xs → ⊥) → (HasStopped the_server ys → ⊥) → Rising (xs ++ (lines.Owe the_server a v n ∷ base)) → a ≡ b
+once_by [] [] base below a b v w n e up down h = owe_clients a b v w n (lines_head _ _ base below e)
+once_by [] (y ∷ ys) base below a b v w n e up down h =
+    let rest : base ≡ ys ++ (lines.Owe the_server b w n ∷ below) = lines_tail (lines.Owe the_server a v n) y base _ e in
+    let r : Rising (ys ++ (lines.Owe the_server b w n ∷ below)) = subst Rising rest h.1 in
+    let low : n ≤ last_number the_server (ys ++ (lines.Owe the_server b w n ∷ below)) = low_by ys below b w n (stopped_tail y ys down) r in
+    let high : last_number the_server (ys ++ (lines.Owe the_server b w n ∷ below)) < n = subst (λ (ls : List Line). last_number the_server ls < n) rest (h.0 refl) in
+    absurd (omega arith)
+once_by (x ∷ xs) [] base below a b v w n e up down h =
+    let rest : xs ++ (lines.Owe the_server a v n ∷ base) ≡ below = lines_tail x (lines.Owe the_server b w n) _ below e in
+    let low : n ≤ last_number the_server (xs ++ (lines.Owe the_server a v n ∷ base)) = low_by xs base a v n (stopped_tail x xs up) (rising_tail x _ h) in
+    let high : last_number the_server (xs ++ (lines.Owe the_server a v n ∷ base)) < n = rising_head x _ b w n (lines_head x (lines.Owe the_server b w n) _ below e) h in
+    absurd (omega arith)
+once_by (x ∷ xs) (y ∷ ys) base below a b v w n e up down h = once_by xs ys base below a b v w n (lines_tail x y _ _ e) (stopped_tail x xs up) (stopped_tail y ys down) (rising_tail x _ h)
+
+owed_once : (a b : Node) (v w : Option Fid) (n : ℕ) (ls : List Line) → OweAt the_server a v n ls → OweAt the_server b w n ls → Rising ls → a ≡ b
+owed_once a b v w n ls x y h = once_by x.newer y.newer x.base y.base a b v w n (sym x.split ∙ y.split) x.up y.up (subst Rising x.split h)
+
+-- one of the breaks that end with the call
+has_number : (o : Owed) (os : List Owed) → IsIn o os → has_break o.number os ≡ true
+has_number o [] h = absurd h
+has_number o (x ∷ os) (inl e) = held_here (nat_eq x.number o.number) (has_break o.number os) (eq-eqb x.number o.number (ap (λ (z : Owed). z.number) e))
+has_number o (x ∷ os) (inr h) = held_next (nat_eq x.number o.number) (has_break o.number os) (has_number o os h)
+
+-- it ends with the call, or stays
+stay_by : (t : Bool) (o x : Owed) (xs os : List Owed) → nat_eq o.number x.number ≡ t → IsIn o os → (IsIn o (without_break x.number os) → IsIn o (without_all xs (without_break x.number os)) ⊎ (has_break o.number xs ≡ true))
+    → IsIn o (without_all xs (without_break x.number os)) ⊎ (cond (nat_eq x.number o.number) true (has_break o.number xs) ≡ true)
+stay_by true o x xs os e h w = inr (held_here (nat_eq x.number o.number) (has_break o.number xs) (eq-eqb x.number o.number (sym (eqb-true o.number x.number e))))
+stay_by false o x xs os e h w = elim (w (in_filter (λ z. not (nat_eq z.number x.number)) o os h (rw e refl))) [ inl y ↦ inl y | inr y ↦ inr (held_next (nat_eq x.number o.number) (has_break o.number xs) y) ]
+
+ends_or_stays : (o : Owed) (xs os : List Owed) → IsIn o os → IsIn o (without_all xs os) ⊎ (has_break o.number xs ≡ true)
+ends_or_stays o [] os h = inl h
+ends_or_stays o (x ∷ xs) os h = stay_by (nat_eq o.number x.number) o x xs os refl h (λ y. ends_or_stays o xs (without_break x.number os) y)
+
+all_without : (P : Owed → Type 0) (xs os : List Owed) → AllOf P os → AllOf P (without_all xs os)
+all_without P [] os h = h
+all_without P (x ∷ xs) os h = all_without P xs (without_break x.number os) (all_filter P (λ z. not (nat_eq z.number x.number)) os h)
+
+picked_number : (t u : Bool) (k : ℕ) (x : Owed) (xs : List Owed) → nat_eq x.number k ≡ t → t ≡ true → u ≡ true → has_break k (cond u (x ∷ xs) xs) ≡ true
+picked_number true true k x xs e a b = rw e refl
+picked_number true false k x xs e a b = absurd cc
+picked_number false u k x xs e a b = absurd cc
+
+more_number : (u : Bool) (k : ℕ) (x : Owed) (xs : List Owed) → has_break k xs ≡ true → has_break k (cond u (x ∷ xs) xs) ≡ true
+more_number true k x xs h = held_next (nat_eq x.number k) (has_break k xs) h
+more_number false k x xs h = h
+
+ending_by : (t : Bool) (n : Node) (k : ℕ) (ls : List Line) (x : Owed) (xs owed : List Owed) (S : Type 0) → nat_eq x.number k ≡ t → IsOwed n ls x → cond t true (has_break k xs) ≡ true → has_break k owed ≡ true → ((what : Option Fid) → OweAt the_server n what k ls → has_break k (cond (has_break x.number owed) (x ∷ filter (λ (o : Owed). has_break o.number owed) xs) (filter (λ (o : Owed). has_break o.number owed) xs)) ≡ true → S) → (has_break k xs ≡ true → S) → S
+ending_by true n k ls x xs owed S e owe h at w more =
+    let same : x.number ≡ k = eqb-true x.number k e in
+    w x.what (subst (λ (i : ℕ). OweAt the_server n x.what i ls) same owe) (picked_number true (has_break x.number owed) k x (filter (λ (o : Owed). has_break o.number owed) xs) e refl (subst (λ (i : ℕ). has_break i owed ≡ true) (sym same) at))
+ending_by false n k ls x xs owed S e owe h at w more = more h
+
+ending : (n : Node) (k : ℕ) (ls : List Line) (xs owed : List Owed) → AllOf (IsOwed n ls) xs → has_break k xs ≡ true → has_break k owed ≡ true → (what : Option Fid) × (OweAt the_server n what k ls × (has_break k (filter (λ (o : Owed). has_break o.number owed) xs) ≡ true))
+ending n k ls [] owed h e at = absurd cc
+ending n k ls (x ∷ xs) owed h e at = ending_by (nat_eq x.number k) n k ls x xs owed _ refl h.0 e at (λ what owe y. (what, (owe, y))) (λ y. let z = ending n k ls xs owed h.1 y at in (z.0, (z.1.0, more_number (has_break x.number owed) k x (filter (λ (o : Owed). has_break o.number owed) xs) z.1.1)))
 
 held_or : (t a b : Bool) → cond t true a ≡ true → (a ≡ true → b ≡ true) → cond t true b ≡ true
 held_or true a b e w = refl
@@ -118,55 +232,57 @@ pub more_held : (k : Key) (hs ks : List Held) → is_held k hs ≡ true → is_h
 more_held k [] ks e = absurd cc
 more_held k (h ∷ hs) ks e = held_or (is_reply_to k h.reply) (is_held k hs) (is_held k (hs ++ ks)) e (more_held k hs ks)
 
-pub ends_backed : (b : Backs) (boot : ℕ) (seats : List Seat) (cs : ℕ → Option Seat) (clock : ℕ) (sent : List Message) (e : Entry) (past : List Entry) (n : ℕ) (c : BackCall) → Plain e.lines → BackedIn None b boot seats cs clock sent past
-    → ((o : Owed) (l : List Line) → IsIn o (filter (is_among n c.breaks) b.owed) → HasSettled the_server (Client o.client) o.number (onto l e.lines)) → BackedIn None (record (ends_call n c b) { held = b.held ++ [] }) boot seats cs clock sent (e ∷ past)
-ends_backed b boot seats cs clock sent e past n c p h gone =
-    let now : Backs = record (ends_call n c b) { held = b.held ++ [] } in
+pub ends_backed : (b : Backs) (boot : ℕ) (seats : List Seat) (cs : ℕ → Option Seat) (clock : ℕ) (sent : List Message) (e : Entry) (past : List Entry) (n : Node) (c : BackCall) → Plain e.lines → BackedIn None b boot seats cs clock sent past → b.calls n ≡ Some c
+    → ((k : ℕ) (l : List Line) → has_break k (still_owed c b) ≡ true → HasSettled the_server n k (onto l e.lines)) → BackedIn None (record (ended_call n c b) { held = b.held ++ [] }) boot seats cs clock sent (e ∷ past)
+ends_backed b boot seats cs clock sent e past n c p h at gone =
+    let now : Backs = record (ended_call n c b) { held = b.held ++ [] } in
+    let out : CallOut n c b.last_call boot past = h.outs refl n c at in
     let s : Stepping None None b now clock clock e past = record {
       was_up = λ x. x;
       up = λ x. p.up;
       or_stopped = λ x. inl x;
       later = le_refl _;
       new = λ before after d what k line. absurd (no_owe e.lines before after the_server d what k p.oweless line);
-      gone = λ o x. gone_by (is_among n c.breaks o) _ _ (is_among n c.breaks o) refl (λ y l. gone o l (in_filter (is_among n c.breaks) o b.owed x y)) (λ y. in_filter (λ z. not (is_among n c.breaks z)) o b.owed x y);
+      gone = λ o x. elim (ends_or_stays o c.breaks b.lists.owed x) [
+        | inl y ↦ inl y
+        | inr y ↦ inr (λ l. let z = ending n o.number (lines_of past) c.breaks b.lists.owed out.owes y (has_number o b.lists.owed x) in
+            subst (λ (m : Node). HasSettled the_server m o.number (onto l e.lines)) (owed_once n o.client z.0 o.what o.number (lines_of past) z.1.0 (in_all (λ (u : Owed). IsOwed u.client (lines_of past) u) o b.lists.owed x (h.owing refl)) h.rising) (gone o.number l z.1.1))
+      ];
       held = λ k x. more_held k b.held [] x;
       last = le_refl _;
-      calls = λ j k at. inr (k, (none_by (nat_eq n j) (b.calls j) k at, (refl, refl)));
+      calls = λ j k y. inr (k, (none_by (same_node n j) (b.calls j) k y, (refl, refl)));
     } in
     subst (λ (ms : List Message). BackedIn None now boot seats cs clock ms (e ∷ past)) (append-nil sent)
-    (backed_step None None b now boot seats seats cs cs clock clock sent [] e past s h (λ x. granted_over e past b.promises p.still (h.granted x)) (promised_over None b.promises clock clock e past p.still (le_refl _) h.promised) (numbered_over None b.last_owed e past p.up p.oweless h.numbered)
-    (λ x. all_filter (λ (o : Owed). IsOwed o.client (lines_of (e ∷ past)) o) (λ o. not (is_among n c.breaks o)) b.owed (owed_over e past b.owed p.up (h.owed x)))
+    (backed_step None None b now boot seats seats cs cs clock clock sent [] e past s h (λ x. granted_over e past b.lists.promises p.still (h.granted x)) (promised_over None b.lists.promises clock clock e past p.still (le_refl _) h.promised) (numbered_over None b.lists.last_owed e past p.up p.oweless h.numbered) (rising_over e past p.oweless h.rising)
+    (λ x. record { promised = (h.clients x).promised; owed = all_without (λ (o : Owed). IsClient o.client) c.breaks b.lists.owed (h.clients x).owed })
+    (λ x. all_without (λ (o : Owed). IsOwed o.client (lines_of (e ∷ past)) o) c.breaks b.lists.owed (owed_over e past b.lists.owed p.up (h.owing x)))
     (λ x. all_both (HeldWaits seats clock (e ∷ past)) b.held [] (all_map (HeldWaits seats clock past) (HeldWaits seats clock (e ∷ past)) (λ q y. plain_waits seats seats clock clock e past q p (le_refl _) (λ m a d z. z) y) b.held (h.waiting x)) tt)
-    (λ x j k at. call_over j k b.last_call b.last_call boot e past (le_refl _) p.up (h.outs x j k (none_by (nat_eq n j) (b.calls j) k at))) tt tt
+    (λ x j k y. call_over j k b.last_call b.last_call boot e past (le_refl _) p.up (h.outs x j k (none_by (same_node n j) (b.calls j) k y))) tt tt
     (λ j seat m x y. seated_over None None b now boot clock clock e past s j m (h.seated j seat m x y)))
 
 -- the lines are good
-settle_by : (t : Bool) (n k : ℕ) (o : Owed) (os : List Owed) (past : List Entry) (own : List Line) → nat_eq o.number k ≡ t → cond t true (has_number k os) ≡ true → DroppedOwe n (lines_of past) o → (has_number k os ≡ true → GoodSettle the_server (Client n) k past own) → GoodSettle the_server (Client n) k past own
-settle_by true n k o os past own e x d w = subst (λ (i : ℕ). GoodSettle the_server (Client n) i past own) (eqb-true o.number k e) (record { what = o.what; owe = d.owe; dropped = d.dropped })
-settle_by false n k o os past own e x d w = w x
+settles_by_good : (t : Bool) (s : Script) (n : Node) (o : Owed) (past : List Entry) (own : List Line) (xs : List Owed) → DroppedOwe n (lines_of past) o → ((own : List Line) → AreGood s (actors.Node the_server) past own (map (settle_line the_server n) xs)) → AreGood s (actors.Node the_server) past own (map (settle_line the_server n) (cond t (o ∷ xs) xs))
+settles_by_good true s n o past own xs d w = ((refl, record { what = o.what; owe = d.owe; dropped = d.dropped }), w (settle_line the_server n o ∷ own))
+settles_by_good false s n o past own xs d w = w own
 
-good_settle : (n k : ℕ) (os : List Owed) (past : List Entry) (own : List Line) → has_number k os ≡ true → AllOf (DroppedOwe n (lines_of past)) os → GoodSettle the_server (Client n) k past own
-good_settle n k [] past own e h = absurd cc
-good_settle n k (o ∷ os) past own e h = settle_by (nat_eq o.number k) n k o os past own refl e h.0 (λ x. good_settle n k os past own x h.1)
+settles_all : (s : Script) (n : Node) (past : List Entry) (os owed : List Owed) (own : List Line) → AllOf (DroppedOwe n (lines_of past)) os → AreGood s (actors.Node the_server) past own (map (settle_line the_server n) (filter (λ (o : Owed). has_break o.number owed) os))
+settles_all s n past [] owed own h = tt
+settles_all s n past (o ∷ os) owed own h = settles_by_good (has_break o.number owed) s n o past own (filter (λ (x : Owed). has_break x.number owed) os) h.0 (λ x. settles_all s n past os owed x h.1)
 
-settles_by_good : (t : Bool) (s : Script) (n : ℕ) (c : BackCall) (o : Owed) (past : List Entry) (own : List Line) (xs : List Owed) → is_among n c.breaks o ≡ t → AllOf (DroppedOwe n (lines_of past)) c.breaks → ((own : List Line) → AreGood s (actors.Node the_server) past own (map (settle_line the_server) xs)) → AreGood s (actors.Node the_server) past own (map (settle_line the_server) (cond t (o ∷ xs) xs))
-settles_by_good true s n c o past own xs e h w =
-    let q = both (nat_eq o.client n) (has_number o.number c.breaks) e in
-    ((refl, subst (λ (j : ℕ). GoodSettle the_server (Client j) o.number past own) (sym (eqb-true o.client n q.0)) (good_settle n o.number c.breaks past own q.1 h)), w (settle_line the_server o ∷ own))
-settles_by_good false s n c o past own xs e h w = w own
-
-pub settles_good : (s : Script) (n : ℕ) (c : BackCall) (past : List Entry) (os : List Owed) (own : List Line) → AllOf (DroppedOwe n (lines_of past)) c.breaks → AreGood s (actors.Node the_server) past own (map (settle_line the_server) (filter (is_among n c.breaks) os))
-settles_good s n c past [] own h = tt
-settles_good s n c past (o ∷ os) own h = settles_by_good (is_among n c.breaks o) s n c o past own (filter (is_among n c.breaks) os) refl h (λ x. settles_good s n c past os x h)
+pub settles_good : (s : Script) (n : Node) (c : BackCall) (b : Backs) (past : List Entry) (own : List Line) → AllOf (DroppedOwe n (lines_of past)) c.breaks → AreGood s (actors.Node the_server) past own (map (settle_line the_server n) (still_owed c b))
+settles_good s n c b past own h = settles_all s n past c.breaks b.lists.owed own h
 
 -- a break that is given up
-record MayQuit (n : ℕ) (past : List Entry) (boot number : ℕ) (call : FsCall) (o : Owed) : Type 0 where
+record MayQuit (n : Node) (past : List Entry) (boot number : ℕ) (call : FsCall) (o : Owed) : Type 0 where
   owe : IsOwed n (lines_of past) o
   carries : CarriesBreak call o.what
 
-quit_by : (t : Bool) (n k boot : ℕ) (c : BackCall) (o : Owed) (os : List Owed) (past : List Entry) (own : List Line) (last : ℕ) → nat_eq o.number k ≡ t → cond t true (has_number k os) ≡ true → CallOut n c last boot past → 2 ≤ c.tries → HasTimeout the_server (Client n) boot c.number 3 own → MayQuit n past boot c.number (breaks_call c.breaks) o
-    → (has_number k os ≡ true → GoodQuit the_server (Client n) k past own) → GoodQuit the_server (Client n) k past own
-quit_by true n k boot c o os past own last e x out le third m w = subst (λ (i : ℕ). GoodQuit the_server (Client n) i past own) (eqb-true o.number k e) (record {
+two_all : {A : Type 0} → (P Q R : A → Type 0) → ((x : A) → P x → Q x → R x) → (xs : List A) → AllOf P xs → AllOf Q xs → AllOf R xs
+two_all P Q R w [] h k = tt
+two_all P Q R w (x ∷ xs) h k = (w x h.0 k.0, two_all P Q R w xs h.1 k.1)
+
+quit_good : (n : Node) (boot : ℕ) (c : BackCall) (o : Owed) (past : List Entry) (own : List Line) (last : ℕ) → CallOut n c last boot past → 2 ≤ c.tries → HasTimeout the_server n boot c.number 3 own → MayQuit n past boot c.number (breaks_call c.breaks) o → GoodQuit the_server n o.number past own
+quit_good n boot c o past own last out le third m = record {
   what = o.what;
   owe = m.owe;
   epoch = boot;
@@ -178,64 +294,56 @@ quit_by true n k boot c o os past own last e x out le third m w = subst (λ (i :
   call = breaks_call c.breaks;
   called = out.sent;
   carries = m.carries;
-})
-quit_by false n k boot c o os past own last e x out le third m w = w x
+}
 
-two_all : {A : Type 0} → (P Q R : A → Type 0) → ((x : A) → P x → Q x → R x) → (xs : List A) → AllOf P xs → AllOf Q xs → AllOf R xs
-two_all P Q R w [] h k = tt
-two_all P Q R w (x ∷ xs) h k = (w x h.0 k.0, two_all P Q R w xs h.1 k.1)
+quits_by_good : (t : Bool) (s : Script) (n : Node) (boot last : ℕ) (c : BackCall) (o : Owed) (past : List Entry) (own : List Line) (xs : List Owed) → CallOut n c last boot past → 2 ≤ c.tries → HasTimeout the_server n boot c.number 3 own → MayQuit n past boot c.number (breaks_call c.breaks) o
+    → ((own : List Line) → HasTimeout the_server n boot c.number 3 own → AreGood s (actors.Node the_server) past own (map (quit_line the_server n) xs)) → AreGood s (actors.Node the_server) past own (map (quit_line the_server n) (cond t (o ∷ xs) xs))
+quits_by_good true s n boot last c o past own xs out le third m w = ((refl, quit_good n boot c o past own last out le third m), w (quit_line the_server n o ∷ own) third)
+quits_by_good false s n boot last c o past own xs out le third m w = w own third
 
-good_quit : (n k boot : ℕ) (c : BackCall) (os : List Owed) (past : List Entry) (own : List Line) (last : ℕ) → has_number k os ≡ true → CallOut n c last boot past → 2 ≤ c.tries → HasTimeout the_server (Client n) boot c.number 3 own → AllOf (MayQuit n past boot c.number (breaks_call c.breaks)) os → GoodQuit the_server (Client n) k past own
-good_quit n k boot c [] past own last e out le third h = absurd cc
-good_quit n k boot c (o ∷ os) past own last e out le third h = quit_by (nat_eq o.number k) n k boot c o os past own last refl e out le third h.0 (λ x. good_quit n k boot c os past own last x out le third h.1)
+quits_all : (s : Script) (n : Node) (boot last : ℕ) (c : BackCall) (past : List Entry) (os owed : List Owed) (own : List Line) → CallOut n c last boot past → 2 ≤ c.tries → HasTimeout the_server n boot c.number 3 own → AllOf (MayQuit n past boot c.number (breaks_call c.breaks)) os → AreGood s (actors.Node the_server) past own (map (quit_line the_server n) (filter (λ (o : Owed). has_break o.number owed) os))
+quits_all s n boot last c past [] owed own out le third h = tt
+quits_all s n boot last c past (o ∷ os) owed own out le third h = quits_by_good (has_break o.number owed) s n boot last c o past own (filter (λ (x : Owed). has_break x.number owed) os) out le third h.0 (λ x y. quits_all s n boot last c past os owed x out le y h.1)
 
-quits_by_good : (t : Bool) (s : Script) (n boot last : ℕ) (c : BackCall) (o : Owed) (past : List Entry) (own : List Line) (xs : List Owed) → is_among n c.breaks o ≡ t → CallOut n c last boot past → 2 ≤ c.tries → HasTimeout the_server (Client n) boot c.number 3 own → AllOf (MayQuit n past boot c.number (breaks_call c.breaks)) c.breaks
-    → ((own : List Line) → HasTimeout the_server (Client n) boot c.number 3 own → AreGood s (actors.Node the_server) past own (map (quit_line the_server) xs)) → AreGood s (actors.Node the_server) past own (map (quit_line the_server) (cond t (o ∷ xs) xs))
-quits_by_good true s n boot last c o past own xs e out le third h w =
-    let q = both (nat_eq o.client n) (has_number o.number c.breaks) e in
-    ((refl, subst (λ (j : ℕ). GoodQuit the_server (Client j) o.number past own) (sym (eqb-true o.client n q.0)) (good_quit n o.number boot c c.breaks past own last q.1 out le third h)), w (quit_line the_server o ∷ own) third)
-quits_by_good false s n boot last c o past own xs e out le third h w = w own third
-
-quits_all : (s : Script) (n boot last : ℕ) (c : BackCall) (past : List Entry) (os : List Owed) (own : List Line) → CallOut n c last boot past → 2 ≤ c.tries → HasTimeout the_server (Client n) boot c.number 3 own → AllOf (MayQuit n past boot c.number (breaks_call c.breaks)) c.breaks → AreGood s (actors.Node the_server) past own (map (quit_line the_server) (filter (is_among n c.breaks) os))
-quits_all s n boot last c past [] own out le third h = tt
-quits_all s n boot last c past (o ∷ os) own out le third h = quits_by_good (is_among n c.breaks o) s n boot last c o past own (filter (is_among n c.breaks) os) refl out le third h (λ x y. quits_all s n boot last c past os x out le y h)
-
-pub quits_good : (s : Script) (n boot last : ℕ) (c : BackCall) (past : List Entry) (os : List Owed) → CallOut n c last boot past → nat_lt c.tries 2 ≡ false → AreGood s (actors.Node the_server) past (lines.Timeout the_server (Client n) boot c.number 3 ∷ []) (map (quit_line the_server) (filter (is_among n c.breaks) os))
-quits_good s n boot last c past os out e = quits_all s n boot last c past os _ out (ltb-false _ _ e) (inl (refl, (refl, (refl, (refl, refl)))))
+pub quits_good : (s : Script) (n : Node) (boot last : ℕ) (c : BackCall) (b : Backs) (past : List Entry) → CallOut n c last boot past → nat_lt c.tries 2 ≡ false → AreGood s (actors.Node the_server) past (lines.Timeout the_server n boot c.number 3 ∷ []) (map (quit_line the_server n) (still_owed c b))
+quits_good s n boot last c b past out e = quits_all s n boot last c past c.breaks b.lists.owed _ out (ltb-false _ _ e) (inl (refl, (refl, (refl, (refl, refl)))))
     (two_all (IsOwed n (lines_of past)) (λ (o : Owed). CarriesBreak (breaks_call c.breaks) o.what) (MayQuit n past boot c.number (breaks_call c.breaks)) (λ o x y. record { owe = x; carries = y }) c.breaks out.owes out.carries)
 
-pub settles_backed : (b : Backs) (boot : ℕ) (seats : List Seat) (cs : ℕ → Option Seat) (clock : ℕ) (sent : List Message) (e : Entry) (past : List Entry) (n p : ℕ) (c : BackCall) → e.lines ≡ lines.Given p ∷ map (settle_line the_server) (filter (is_among n c.breaks) b.owed) → BackedIn None b boot seats cs clock sent past → BackedIn None (loaded (settles the_server n c b)) boot seats cs clock sent (e ∷ past)
-settles_backed b boot seats cs clock sent e past n p c is h =
-    let os : List Owed = filter (is_among n c.breaks) b.owed in
-    let q = settles_plain os in
-    ends_backed b boot seats cs clock sent e past n c (subst Plain (sym is) (record { up = q.up; still = q.still; oweless = q.oweless; unchanging = q.unchanging })) h
-    (λ o l x. subst (λ (ls : List Line). HasSettled the_server (Client o.client) o.number (onto l ls)) (sym is) (settled_in o os (lines.Given p ∷ l) x))
+pub settles_backed : (b : Backs) (boot : ℕ) (seats : List Seat) (cs : ℕ → Option Seat) (clock : ℕ) (sent : List Message) (e : Entry) (past : List Entry) (n : Node) (p : ℕ) (c : BackCall) → b.calls n ≡ Some c → e.lines ≡ lines.Given p ∷ map (settle_line the_server n) (still_owed c b) → BackedIn None b boot seats cs clock sent past → BackedIn None (loaded (settles the_server n c b)) boot seats cs clock sent (e ∷ past)
+settles_backed b boot seats cs clock sent e past n p c at is h =
+    let os : List Owed = still_owed c b in
+    let q = settles_plain n os in
+    subst (λ (x : Backs). BackedIn None (record x { held = b.held ++ [] }) boot seats cs clock sent (e ∷ past)) (sym (ended_is n c b))
+    (ends_backed b boot seats cs clock sent e past n c (subst Plain (sym is) (record { up = q.up; still = q.still; oweless = q.oweless; unchanging = q.unchanging })) h at
+    (λ k l x. subst (λ (ls : List Line). HasSettled the_server n k (onto l ls)) (sym is) (settled_in n k os (lines.Given p ∷ l) x)))
 
-pub quits_backed : (b : Backs) (boot : ℕ) (seats : List Seat) (cs : ℕ → Option Seat) (clock : ℕ) (sent : List Message) (e : Entry) (past : List Entry) (n : ℕ) (c : BackCall) → e.lines ≡ (quits the_server boot n c b).lines → BackedIn None b boot seats cs clock sent past → BackedIn None (loaded (quits the_server boot n c b)) boot seats cs clock sent (e ∷ past)
-quits_backed b boot seats cs clock sent e past n c is h =
-    let os : List Owed = filter (is_among n c.breaks) b.owed in
-    let q = quits_plain os in
-    ends_backed b boot seats cs clock sent e past n c (subst Plain (sym is) (record { up = q.up; still = q.still; oweless = q.oweless; unchanging = q.unchanging })) h
-    (λ o l x. subst (λ (ls : List Line). HasSettled the_server (Client o.client) o.number (onto l ls)) (sym is) (quit_in o os (lines.Timeout the_server (Client n) boot c.number 3 ∷ l) x))
+pub quits_backed : (b : Backs) (boot : ℕ) (seats : List Seat) (cs : ℕ → Option Seat) (clock : ℕ) (sent : List Message) (e : Entry) (past : List Entry) (n : Node) (c : BackCall) → b.calls n ≡ Some c → e.lines ≡ (quits the_server boot n c b).lines → BackedIn None b boot seats cs clock sent past → BackedIn None (loaded (quits the_server boot n c b)) boot seats cs clock sent (e ∷ past)
+quits_backed b boot seats cs clock sent e past n c at is h =
+    let os : List Owed = still_owed c b in
+    let q = quits_plain n os in
+    subst (λ (x : Backs). BackedIn None (record x { held = b.held ++ [] }) boot seats cs clock sent (e ∷ past)) (sym (ended_is n c b))
+    (ends_backed b boot seats cs clock sent e past n c (subst Plain (sym is) (record { up = q.up; still = q.still; oweless = q.oweless; unchanging = q.unchanging })) h at
+    (λ k l x. subst (λ (ls : List Line). HasSettled the_server n k (onto l ls)) (sym is) (quit_in n k os (lines.Timeout the_server n boot c.number 3 ∷ l) x)))
 
 -- ---- a call is sent again after a timeout
 
-tried : (n boot last : ℕ) (c : BackCall) (e : Entry) (past : List Entry) → e.lines ≡ lines.Timeout the_server (Client n) boot c.number (c.tries + 1) ∷ [] → CallOut n c last boot past → CallOut n (record c { tries = c.tries + 1 }) last boot (e ∷ past)
+tried : (n : Node) (boot last : ℕ) (c : BackCall) (e : Entry) (past : List Entry) → e.lines ≡ lines.Timeout the_server n boot c.number (c.tries + 1) ∷ [] → CallOut n c last boot past → CallOut n (record c { tries = c.tries + 1 }) last boot (e ∷ past)
 tried n boot last c e past is h =
     let up : all_lines is_up e.lines ≡ true = subst (λ (ls : List Line). all_lines is_up ls ≡ true) (sym is) refl in
     let k : CallOut n c last boot (e ∷ past) = call_over n c last last boot e past (le_refl _) up h in
     record {
       number = k.number;
+      client = k.client;
       owes = k.owes;
       tries = λ t a b. elim (eq-or-lt_of_le b) [
-        | inl q ↦ subst (λ (ls : List Line). HasTimeout the_server (Client n) boot c.number t (onto (lines_of past) ls)) (sym is) (inl (refl, (refl, (refl, (refl, sym q)))))
+        | inl q ↦ subst (λ (ls : List Line). HasTimeout the_server n boot c.number t (onto (lines_of past) ls)) (sym is) (inl (refl, (refl, (refl, (refl, sym q)))))
         | inr l ↦ k.tries t a (omega arith)
       ];
       sent = k.sent;
       carries = k.carries;
     }
 
-pub retries_backed : (b : Backs) (boot : ℕ) (seats : List Seat) (cs : ℕ → Option Seat) (clock : ℕ) (sent : List Message) (e : Entry) (past : List Entry) (n : ℕ) (c : BackCall) → b.calls n ≡ Some c → e.lines ≡ lines.Timeout the_server (Client n) boot c.number (c.tries + 1) ∷ [] → BackedIn None b boot seats cs clock sent past
+pub retries_backed : (b : Backs) (boot : ℕ) (seats : List Seat) (cs : ℕ → Option Seat) (clock : ℕ) (sent : List Message) (e : Entry) (past : List Entry) (n : Node) (c : BackCall) → b.calls n ≡ Some c → e.lines ≡ lines.Timeout the_server n boot c.number (c.tries + 1) ∷ [] → BackedIn None b boot seats cs clock sent past
     → BackedIn None (loaded (retries the_server boot n c b)) boot seats cs clock sent (e ∷ past)
 retries_backed b boot seats cs clock sent e past n c at is h =
     let now : Backs = loaded (retries the_server boot n c b) in
@@ -253,9 +361,9 @@ retries_backed b boot seats cs clock sent e past n c at is h =
       calls = λ j k y. put_call n j more k b.calls _ y (λ q z. inr (c, (ap b.calls (sym q) ∙ at, (ap (λ (u : BackCall). u.number) z, ap (λ (u : BackCall). u.breaks) z)))) (λ z. inr (k, (z, (refl, refl))));
     } in
     subst (λ (ms : List Message). BackedIn None now boot seats cs clock ms (e ∷ past)) (append-nil sent)
-    (backed_step None None b now boot seats seats cs cs clock clock sent [] e past s h (λ x. granted_over e past b.promises p.still (h.granted x)) (promised_over None b.promises clock clock e past p.still (le_refl _) h.promised) (numbered_over None b.last_owed e past p.up p.oweless h.numbered) (λ x. owed_over e past b.owed p.up (h.owed x))
+    (backed_step None None b now boot seats seats cs cs clock clock sent [] e past s h (λ x. granted_over e past b.lists.promises p.still (h.granted x)) (promised_over None b.lists.promises clock clock e past p.still (le_refl _) h.promised) (numbered_over None b.lists.last_owed e past p.up p.oweless h.numbered) (rising_over e past p.oweless h.rising) h.clients (λ x. owed_over e past b.lists.owed p.up (h.owing x))
     (λ x. all_both (HeldWaits seats clock (e ∷ past)) b.held [] (all_map (HeldWaits seats clock past) (HeldWaits seats clock (e ∷ past)) (λ q y. plain_waits seats seats clock clock e past q p (le_refl _) (λ m a d z. z) y) b.held (h.waiting x)) tt)
-    (λ x j k y. put_call n j more k b.calls (CallOut j k b.last_call boot (e ∷ past)) y (λ q z. subst (λ (i : ℕ). CallOut i k b.last_call boot (e ∷ past)) q (subst (λ (u : BackCall). CallOut n u b.last_call boot (e ∷ past)) z (tried n boot b.last_call c e past is (h.outs x n c at)))) (λ z. call_over j k b.last_call b.last_call boot e past (le_refl _) p.up (h.outs x j k z))) tt tt
+    (λ x j k y. put_call n j more k b.calls (CallOut j k b.last_call boot (e ∷ past)) y (λ q z. subst (λ (i : Node). CallOut i k b.last_call boot (e ∷ past)) q (subst (λ (u : BackCall). CallOut n u b.last_call boot (e ∷ past)) z (tried n boot b.last_call c e past is (h.outs x n c at)))) (λ z. call_over j k b.last_call b.last_call boot e past (le_refl _) p.up (h.outs x j k z))) tt tt
     (λ j seat m x y. seated_over None None b now boot clock clock e past s j m (h.seated j seat m x y)))
 
 -- ---- a call runs: its reply is new
@@ -283,7 +391,7 @@ old_waits b boot seats now cs clock sent e past h oweless unchanging seat = all_
 
 -- what the entries of a key owed before that runs now is ended
 own_past : (b : Backs) (boot : ℕ) (seats : List Seat) (cs : ℕ → Option Seat) (clock : ℕ) (sent : List Message) (e : Entry) (past : List Entry) (hd : Held) (newer : List Entry) (at : Entry) (older : List Entry) (before after : List Line) (c : Node) (what : Option Fid) (n : ℕ) → BackedIn None b boot seats cs clock sent past → (is_held (key_answered hd.reply) b.held ≡ true → ⊥)
-    → AccountedBy None b.owed b.held clock newer at older before after c what n → WaitedBy hd clock (e ∷ newer) at older before after c what n
+    → AccountedBy None b.lists.owed b.held clock newer at older before after c what n → WaitedBy hd clock (e ∷ newer) at older before after c what n
 own_past b boot seats cs clock sent e past hd newer at older before after c what n h none (inl x) k y = inl (ended_over e clock clock newer at older before after c what n (le_refl _) x)
 own_past b boot seats cs clock sent e past hd newer at older before after c what n h none (inr x) k y = elim (x.1.waits (key_answered hd.reply) k y) [ inl z ↦ inl (ended_over e clock clock newer at older before after c what n (le_refl _) z) | inr z ↦ absurd (none z) ]
 
@@ -295,12 +403,17 @@ pub record NewReply (seats : List Seat) (past : List Entry) (hd : Held) : Type 0
   pub is_reply : OfReply ⊥ hd.reply.carried → ⊥
   pub under : Above (call_seat hd.reply.head.to seats) hd.reply.head.epoch hd.reply.head.number → ⊥
 
+-- what a reply waits for whose key no other waits under
+pub own_waited : (b : Backs) (boot : ℕ) (seats : List Seat) (cs : ℕ → Option Seat) (clock : ℕ) (sent : List Message) (e : Entry) (past : List Entry) (hd : Held) → BackedIn None b boot seats cs clock sent past → all_lines is_oweless e.lines ≡ true → (is_held (key_answered hd.reply) b.held ≡ true → ⊥) → AllOwes the_server (WaitedBy hd clock) (e ∷ past)
+own_waited b boot seats cs clock sent e past hd h oweless none =
+    owes_over the_server (AccountedBy None b.lists.owed b.held clock) (WaitedBy hd clock) e past (λ y z c what n line. absurd (no_owe e.lines y z the_server c what n oweless line)) (λ newer at older y z c what n w. own_past b boot seats cs clock sent e past hd newer at older y z c what n h none w) h.accounted
+
 pub run_loaded : (b : Backs) (ps : List Promise) (boot : ℕ) (seats now : List Seat) (cs : ℕ → Option Seat) (clock : ℕ) (sent : List Message) (e : Entry) (past : List Entry) (hd : Held) → BackedIn None b boot seats cs clock sent past → all_lines is_up e.lines ≡ true → all_lines is_oweless e.lines ≡ true → all_lines is_unchanging e.lines ≡ true
-    → AllOf (IsGranted (lines_of (e ∷ past))) ps → Promised None ps clock (lines_of (e ∷ past)) → ((m : Node) (x y : ℕ) → Above (call_seat m now) x y → Above (call_seat m seats) x y) → NewReply now (e ∷ past) hd → (is_held (key_answered hd.reply) b.held ≡ true → ⊥)
+    → AllOf (IsGranted (lines_of (e ∷ past))) ps → AllOf (λ (p : Promise). IsClient p.client) ps → Promised None ps clock (lines_at the_server (e ∷ past)) → ((m : Node) (x y : ℕ) → Above (call_seat m now) x y → Above (call_seat m seats) x y) → NewReply now (e ∷ past) hd → AllOwes the_server (WaitedBy hd clock) (e ∷ past)
     → (HasChange (key_answered hd.reply) (lines_of (e ∷ past)) → AllOwes the_server (AllWaitedBy hd clock) (e ∷ past))
-    → BackedIn None (record b { promises = ps; held = b.held ++ hd ∷ [] }) boot now cs clock sent (e ∷ past)
-run_loaded b ps boot seats now cs clock sent e past hd h up oweless unchanging granted promised seat new none all =
-    let after : Backs = record b { promises = ps; held = b.held ++ hd ∷ [] } in
+    → BackedIn None (record b { lists = record b.lists { promises = ps }; held = b.held ++ hd ∷ [] }) boot now cs clock sent (e ∷ past)
+run_loaded b ps boot seats now cs clock sent e past hd h up oweless unchanging granted clients promised seat new own all =
+    let after : Backs = record b { lists = record b.lists { promises = ps }; held = b.held ++ hd ∷ [] } in
     let s : Stepping None None b after clock clock e past = record {
       was_up = λ x. x;
       up = λ x. up;
@@ -313,7 +426,7 @@ run_loaded b ps boot seats now cs clock sent e past hd h up oweless unchanging g
       calls = calls_same b.calls b.last_call;
     } in
     subst (λ (ms : List Message). BackedIn None after boot now cs clock ms (e ∷ past)) (append-nil sent)
-    (backed_step None None b after boot seats now cs cs clock clock sent [] e past s h (λ x. granted) promised (numbered_over None b.last_owed e past up oweless h.numbered) (λ x. owed_over e past b.owed up (h.owed x))
+    (backed_step None None b after boot seats now cs cs clock clock sent [] e past s h (λ x. granted) promised (numbered_over None b.lists.last_owed e past up oweless h.numbered) (rising_over e past oweless h.rising) (λ x. record { promised = clients; owed = (h.clients x).owed }) (λ x. owed_over e past b.lists.owed up (h.owing x))
     (λ x. all_both (HeldWaits now clock (e ∷ past)) b.held (hd ∷ []) (old_waits b boot seats now cs clock sent e past h oweless unchanging seat) (
       record {
         client = new.client;
@@ -321,7 +434,7 @@ run_loaded b ps boot seats now cs clock sent e past hd h up oweless unchanging g
         from = new.from;
         is_reply = new.is_reply;
         under = new.under;
-        own = owes_over the_server (AccountedBy None b.owed b.held clock) (WaitedBy hd clock) e past (λ y z c what n line. absurd (no_owe e.lines y z the_server c what n oweless line)) (λ newer at older y z c what n w. own_past b boot seats cs clock sent e past hd newer at older y z c what n h none w) h.accounted;
+        own = own;
         all = all;
       },
       tt,
@@ -346,25 +459,25 @@ grant_by : (t : Bool) (x : ℕ) (o : Option ℕ) (q : ℕ) → t ≡ false → o
 grant_by true x o q e h = absurd cc
 grant_by false x o q e h = h
 
-not_granted : (a b : Bool) (n m : ℕ) (f g : Fid) → nat_eq m n ≡ a → same_fid g f ≡ b → not (a && b) ≡ true → (same_node the_server the_server && (same_node (Client n) (Client m) && same_fid f g)) ≡ false
+not_granted : (a b : Bool) (n m : Node) (f g : Fid) → same_node m n ≡ a → same_fid g f ≡ b → not (a && b) ≡ true → (same_node the_server the_server && (same_node n m && same_fid f g)) ≡ false
 not_granted true true n m f g x y e = absurd cc
-not_granted true false n m f g x y e = granted_false (same_node (Client n) (Client m)) (same_fid f g) (inr (λ z. let q : same_fid g f ≡ true = ap (same_fid g) (same_fid-true f g z) ∙ same_fid-refl g in absurd cc))
-not_granted false b n m f g x y e = granted_false (same_node (Client n) (Client m)) (same_fid f g) (inl (λ z. let q : nat_eq m n ≡ true = eq-eqb m n (sym (client_number n m (same_node-true (Client n) (Client m) z))) in absurd cc))
+not_granted true false n m f g x y e = granted_false (same_node n m) (same_fid f g) (inr (λ z. let q : same_fid g f ≡ true = ap (same_fid g) (same_fid-true f g z) ∙ same_fid-refl g in absurd cc))
+not_granted false b n m f g x y e = granted_false (same_node n m) (same_fid f g) (inl (λ z. let q : same_node m n ≡ true = ap (same_node m) (same_node-true n m z) ∙ same_node-refl m in absurd cc))
 
-others_granted : (n : ℕ) (f : Fid) (x index : ℕ) (base : List Line) (ps : List Promise) → AllOf (IsGranted base) ps → AllOf (IsGranted (lines.Grant the_server (Client n) f index x ∷ base)) (filter (λ q. not (is_promise n f q)) ps)
+others_granted : (n : Node) (f : Fid) (x index : ℕ) (base : List Line) (ps : List Promise) → AllOf (IsGranted base) ps → AllOf (IsGranted (lines.Grant the_server n f index x ∷ base)) (filter (λ q. not (is_promise n f q)) ps)
 others_granted n f x index base [] h = tt
-others_granted n f x index base (q ∷ ps) h = granted_if (not (is_promise n f q)) (IsGranted (lines.Grant the_server (Client n) f index x ∷ base)) q (filter (λ z. not (is_promise n f z)) ps) refl
-    (λ e. grant_by (same_node the_server the_server && (same_node (Client n) (Client q.client) && same_fid f q.fid)) x (last_grant the_server (Client q.client) q.fid base) q.expiry (not_granted (nat_eq q.client n) (same_fid q.fid f) n q.client f q.fid refl refl e) h.0) (others_granted n f x index base ps h.1)
+others_granted n f x index base (q ∷ ps) h = granted_if (not (is_promise n f q)) (IsGranted (lines.Grant the_server n f index x ∷ base)) q (filter (λ z. not (is_promise n f z)) ps) refl
+    (λ e. grant_by (same_node the_server the_server && (same_node n q.client && same_fid f q.fid)) x (last_grant the_server q.client q.fid base) q.expiry (not_granted (same_node q.client n) (same_fid q.fid f) n q.client f q.fid refl refl e) h.0) (others_granted n f x index base ps h.1)
 
 -- the promises behind a grant
-granted_now : (n : ℕ) (f : Fid) (x index : ℕ) (base : List Line) (ps : List Promise) → AllOf (IsGranted base) ps → AllOf (IsGranted (lines.Grant the_server (Client n) f index x ∷ base)) (with_promise n x f ps)
+granted_now : (n : Node) (f : Fid) (x index : ℕ) (base : List Line) (ps : List Promise) → AllOf (IsGranted base) ps → AllOf (IsGranted (lines.Grant the_server n f index x ∷ base)) (with_promise n x f ps)
 granted_now n f x index base ps h =
-    all_both (IsGranted (lines.Grant the_server (Client n) f index x ∷ base)) (filter (λ q. not (is_promise n f q)) ps) _ (others_granted n f x index base ps h) (rw (same_node-refl (Client n), same_fid-refl f) refl, tt)
+    all_both (IsGranted (lines.Grant the_server n f index x ∷ base)) (filter (λ q. not (is_promise n f q)) ps) _ (others_granted n f x index base ps h) (rw (same_node-refl n, same_fid-refl f) refl, tt)
 
 -- behind several
-pub all_granted : (n x : ℕ) (fs : List Found) (base : List Line) (ps : List Promise) → AllOf (IsGranted base) ps → AllOf (IsGranted (onto base (granted the_server (Client n) x fs []))) (with_promises n x fs ps)
+pub all_granted : (n : Node) (x : ℕ) (fs : List Found) (base : List Line) (ps : List Promise) → AllOf (IsGranted base) ps → AllOf (IsGranted (onto base (granted the_server n x fs []))) (with_promises n x fs ps)
 all_granted n x [] base ps h = h
-all_granted n x (f ∷ fs) base ps h = all_granted n x fs (lines.Grant the_server (Client n) f.fid f.vnode.index x ∷ base) (with_promise n x f.fid ps) (granted_now n f.fid x f.vnode.index base ps h)
+all_granted n x (f ∷ fs) base ps h = all_granted n x fs (lines.Grant the_server n f.fid f.vnode.index x ∷ base) (with_promise n x f.fid ps) (granted_now n f.fid x f.vnode.index base ps h)
 
 -- a line of which a test holds
 pub granted_all : (q : Line → Bool) (c : Node) (x : ℕ) (fs : List Found) → ((f : Fid) (i : ℕ) → q (lines.Grant the_server c f i x) ≡ true) → all_lines q (granted the_server c x fs []) ≡ true
@@ -386,10 +499,10 @@ in_alls o [] n h w e = absurd h
 in_alls o (x ∷ os) n (inl q) w e = all_first_by (is_all x.what) x.number n (alls os) (ap (λ (z : Owed). is_all z.what) q ∙ ap is_all w) (ap (λ (z : Owed). z.number) q ∙ e)
 in_alls o (x ∷ os) n (inr q) w e = all_next_by (is_all x.what) x.number n (alls os) (in_alls o os n q w e)
 
-pub all_waited : (b : Backs) (boot : ℕ) (seats : List Seat) (cs : ℕ → Option Seat) (clock : ℕ) (sent : List Message) (e : Entry) (past : List Entry) (hd : Held) → BackedIn None b boot seats cs clock sent past → ((n : ℕ) → IsNumberIn n (alls b.owed) → IsNumberIn n hd.waits)
+pub all_waited : (b : Backs) (boot : ℕ) (seats : List Seat) (cs : ℕ → Option Seat) (clock : ℕ) (sent : List Message) (e : Entry) (past : List Entry) (hd : Held) → BackedIn None b boot seats cs clock sent past → ((n : ℕ) → IsNumberIn n (alls b.lists.owed) → IsNumberIn n hd.waits)
     → ((before after : List Line) (c : Node) (what : Option Fid) (n : ℕ) → e.lines ≡ before ++ lines.Owe the_server c what n ∷ after → what ≡ None → ⊥) → AllOwes the_server (AllWaitedBy hd clock) (e ∷ past)
-all_waited b boot seats cs clock sent e past hd h more none = owes_over the_server (AccountedBy None b.owed b.held clock) (AllWaitedBy hd clock) e past (λ y z c what n line w. absurd (none y z c what n line w))
-    (λ newer at older y z c what n x w. elim x [ inl k ↦ inl (ended_over e clock clock newer at older y z c what n (le_refl _) k) | inr k ↦ inr (more n (in_alls k.1.o b.owed n k.1.is_in (k.1.on ∙ w) k.1.number)) ]) h.accounted
+all_waited b boot seats cs clock sent e past hd h more none = owes_over the_server (AccountedBy None b.lists.owed b.held clock) (AllWaitedBy hd clock) e past (λ y z c what n line w. absurd (none y z c what n line w))
+    (λ newer at older y z c what n x w. elim x [ inl k ↦ inl (ended_over e clock clock newer at older y z c what n (le_refl _) k) | inr k ↦ inr (more n (in_alls k.1.o b.lists.owed n k.1.is_in (k.1.on ∙ w) k.1.number)) ]) h.accounted
 
 new_by : (k : Key) (o : Option Key) (A B : Type 0) → (A → B → ⊥) → IsNot k o A → IsKey k o B → ⊥
 new_by k None A B w x y = w x y
@@ -447,11 +560,11 @@ clock_back (l ∷ ls) o h = let q = both (is_tickless l) (all_lines is_tickless 
 record OweFound (os : List Owed) (c : Node) (what : Option Fid) (n : ℕ) : Type 0 where
   o : Owed
   is_in : IsIn o os
-  client : Client o.client ≡ c
+  client : o.client ≡ c
   on : o.what ≡ what
   number : o.number ≡ n
 
-owe_same : (o : Owed) (c : Node) (what : Option Fid) (n : ℕ) → owe_line the_server o ≡ lines.Owe the_server c what n → (Client o.client ≡ c) × ((o.what ≡ what) × (o.number ≡ n))
+owe_same : (o : Owed) (c : Node) (what : Option Fid) (n : ℕ) → owe_line the_server o ≡ lines.Owe the_server c what n → (o.client ≡ c) × ((o.what ≡ what) × (o.number ≡ n))
 owe_same o c what n e = (cc, (cc, cc))
 
 first_same : (x y : Line) (a b : List Line) → x ∷ a ≡ y ∷ b → x ≡ y
@@ -492,11 +605,6 @@ in_front o [] b h = absurd h
 in_front o (x ∷ a) b (inl e) = inl e
 in_front o (x ∷ a) b (inr h) = inr (in_front o a b h)
 
-in_all : (P : Owed → Type 0) (o : Owed) (os : List Owed) → IsIn o os → AllOf P os → P o
-in_all P o [] h k = absurd h
-in_all P o (x ∷ os) (inl e) k = subst P e k.0
-in_all P o (x ∷ os) (inr h) k = in_all P o os h k.1
-
 pub number_of : (o : Owed) (os : List Owed) (n : ℕ) → IsIn o os → o.number ≡ n → IsNumberIn n (numbers os)
 number_of o [] n h e = absurd h
 number_of o (x ∷ os) n (inl q) e = inl (ap (λ (z : Owed). z.number) q ∙ e)
@@ -514,56 +622,48 @@ number_second n (k ∷ a) b h = inr (number_second n a b h)
 reply_to_key : (k : Key) (m : Message) → key_answered m ≡ k → is_reply_to k m ≡ true
 reply_to_key k m e = subst (λ (z : Key). is_reply_to z m ≡ true) e (rw (same_node-refl m.head.to, eq-eqb m.head.epoch m.head.epoch refl, eq-eqb m.head.number m.head.number refl) refl)
 
-held_here : (t rest : Bool) → t ≡ true → cond t true rest ≡ true
-held_here true rest e = refl
-held_here false rest e = absurd cc
-
-held_next : (t rest : Bool) → rest ≡ true → cond t true rest ≡ true
-held_next true rest e = refl
-held_next false rest e = e
-
 held_last : (k : Key) (hs : List Held) (hd : Held) → key_answered hd.reply ≡ k → is_held k (hs ++ hd ∷ []) ≡ true
 held_last k [] hd e = held_here (is_reply_to k hd.reply) false (reply_to_key k hd.reply e)
 held_last k (h ∷ hs) hd e = held_next (is_reply_to k h.reply) (is_held k (hs ++ hd ∷ [])) (held_last k hs hd e)
 
 -- a break on a fid that ends with the last grant
 -- a promise to another client
-abbrev pub IsOfOther : ℕ → Promise → Type 0
+abbrev pub IsOfOther : Node → Promise → Type 0
 IsOfOther n p = p.client ≡ n → ⊥
 
-other_by : (a b : Bool) (n : ℕ) (p : Promise) → nat_eq p.client n ≡ b → (a && not b) ≡ true → IsOfOther n p
+other_by : (a b : Bool) (n : Node) (p : Promise) → same_node p.client n ≡ b → (a && not b) ≡ true → IsOfOther n p
 other_by a true n p e h = let z = both a false h in absurd cc
-other_by a false n p e h = λ q. let yes : nat_eq p.client n ≡ true = eq-eqb p.client n q in absurd cc
+other_by a false n p e h = λ q. let yes : same_node p.client n ≡ true = ap (λ (m : Node). same_node m n) q ∙ same_node-refl n in absurd cc
 
-first_other : (t : Bool) (n : ℕ) (p : Promise) (ps : List Promise) → (t ≡ true → IsOfOther n p) → AllOf (IsOfOther n) ps → AllOf (IsOfOther n) (cond t (p ∷ ps) ps)
+first_other : (t : Bool) (n : Node) (p : Promise) (ps : List Promise) → (t ≡ true → IsOfOther n p) → AllOf (IsOfOther n) ps → AllOf (IsOfOther n) (cond t (p ∷ ps) ps)
 first_other true n p ps w h = (w refl, h)
 first_other false n p ps w h = h
 
-hit_other : (n : ℕ) (f : Fid) (ps : List Promise) → AllOf (IsOfOther n) (filter (is_hit n f) ps)
+hit_other : (n : Node) (f : Fid) (ps : List Promise) → AllOf (IsOfOther n) (filter (is_hit n f) ps)
 hit_other n f [] = tt
-hit_other n f (p ∷ ps) = first_other (is_hit n f p) n p (filter (is_hit n f) ps) (λ t. other_by (same_fid p.fid f) (nat_eq p.client n) n p refl t) (hit_other n f ps)
+hit_other n f (p ∷ ps) = first_other (is_hit n f p) n p (filter (is_hit n f) ps) (λ t. other_by (same_fid p.fid f) (same_node p.client n) n p refl t) (hit_other n f ps)
 
 -- what a client's change withdraws are promises to others
-pub hits_other : (n : ℕ) (vs : List Version) (ps : List Promise) → AllOf (IsOfOther n) (hits n vs ps)
+pub hits_other : (n : Node) (vs : List Version) (ps : List Promise) → AllOf (IsOfOther n) (hits n vs ps)
 hits_other n [] ps = tt
 hits_other n (v ∷ vs) ps = all_both (IsOfOther n) (filter (is_hit n v.fid) ps) (hits n vs (filter (λ p. not (is_hit n v.fid p)) ps)) (hit_other n v.fid ps) (hits_other n vs (filter (λ p. not (is_hit n v.fid p)) ps))
 
-pub record NewOwe (n : ℕ) (ls : List Line) (o : Owed) : Type 0 where
+pub record NewOwe (n : Node) (ls : List Line) (o : Owed) : Type 0 where
   pub other : o.client ≡ n → ⊥
   pub fid : Fid
   pub on : o.what ≡ Some fid
-  pub granted : last_grant the_server (Client o.client) fid ls ≡ Some o.expiry
+  pub granted : last_grant the_server o.client fid ls ≡ Some o.expiry
 
-pub all_new : (n : ℕ) (ls : List Line) (k : ℕ) (ps : List Promise) → AllOf (IsGranted ls) ps → AllOf (IsOfOther n) ps → AllOf (NewOwe n ls) (owes_from k ps)
+pub all_new : (n : Node) (ls : List Line) (k : ℕ) (ps : List Promise) → AllOf (IsGranted ls) ps → AllOf (IsOfOther n) ps → AllOf (NewOwe n ls) (owes_from k ps)
 all_new n ls k [] h o = tt
 all_new n ls k (p ∷ ps) h o = (record { other = o.0; fid = p.fid; on = refl; granted = h.0 }, all_new n ls (k + 1) ps h.1 o.1)
 
 -- of the promises some are withdrawn, and the others stay
-pub all_hits : (P : Promise → Type 0) (n : ℕ) (vs : List Version) (ps : List Promise) → AllOf P ps → AllOf P (hits n vs ps)
+pub all_hits : (P : Promise → Type 0) (n : Node) (vs : List Version) (ps : List Promise) → AllOf P ps → AllOf P (hits n vs ps)
 all_hits P n [] ps h = tt
 all_hits P n (v ∷ vs) ps h = all_both P (filter (is_hit n v.fid) ps) (hits n vs (filter (λ p. not (is_hit n v.fid p)) ps)) (all_filter P (is_hit n v.fid) ps h) (all_hits P n vs (filter (λ p. not (is_hit n v.fid p)) ps) (all_filter P (λ p. not (is_hit n v.fid p)) ps h))
 
-pub all_left : (P : Promise → Type 0) (n : ℕ) (vs : List Version) (ps : List Promise) → AllOf P ps → AllOf P (left n vs ps)
+pub all_left : (P : Promise → Type 0) (n : Node) (vs : List Version) (ps : List Promise) → AllOf P ps → AllOf P (staying n vs ps)
 all_left P n [] ps h = h
 all_left P n (v ∷ vs) ps h = all_left P n vs (filter (λ p. not (is_hit n v.fid p)) ps) (all_filter P (λ p. not (is_hit n v.fid p)) ps h)
 
@@ -581,7 +681,7 @@ filter_by true q p ps e h = inl (kept_in q p ps h e)
 filter_by false q p ps e h = inr (kept_in (λ z. not (q z)) p ps h (ap not e))
 
 -- a promise is withdrawn, or stays
-hit_or_left : (n : ℕ) (vs : List Version) (ps : List Promise) (p : Promise) → IsPromised p ps → IsPromised p (hits n vs ps) ⊎ IsPromised p (left n vs ps)
+hit_or_left : (n : Node) (vs : List Version) (ps : List Promise) (p : Promise) → IsPromised p ps → IsPromised p (hits n vs ps) ⊎ IsPromised p (staying n vs ps)
 hit_or_left n [] ps p h = inr h
 hit_or_left n (v ∷ vs) ps p h = elim (filter_by (is_hit n v.fid p) (is_hit n v.fid) p ps refl h) [
   | inl x ↦ inl (in_first p (filter (is_hit n v.fid) ps) (hits n vs (filter (λ z. not (is_hit n v.fid z)) ps)) x)
@@ -594,56 +694,56 @@ hit_test true false e h = refl
 hit_test false b e h = absurd cc
 
 -- another's promise on a fid that changes is withdrawn
-pub touched_hit : (n j : ℕ) (f : Fid) (x : ℕ) (vs : List Version) (ps : List Promise) → (j ≡ n → ⊥) → IsChanged f vs → IsPromised (promise_to j f x) ps → IsPromised (promise_to j f x) (hits n vs ps)
+pub touched_hit : (n j : Node) (f : Fid) (x : ℕ) (vs : List Version) (ps : List Promise) → (j ≡ n → ⊥) → IsChanged f vs → IsPromised (promise_to j f x) ps → IsPromised (promise_to j f x) (hits n vs ps)
 touched_hit n j f x [] ps ne c h = absurd c
-touched_hit n j f x (v ∷ vs) ps ne (inl e) h = in_first (promise_to j f x) (filter (is_hit n v.fid) ps) (hits n vs (filter (λ z. not (is_hit n v.fid z)) ps)) (kept_in (is_hit n v.fid) (promise_to j f x) ps h (hit_test (same_fid f v.fid) (nat_eq j n) (ap (same_fid f) e ∙ same_fid-refl f) (λ t. ne (eqb-true j n t))))
+touched_hit n j f x (v ∷ vs) ps ne (inl e) h = in_first (promise_to j f x) (filter (is_hit n v.fid) ps) (hits n vs (filter (λ z. not (is_hit n v.fid z)) ps)) (kept_in (is_hit n v.fid) (promise_to j f x) ps h (hit_test (same_fid f v.fid) (same_node j n) (ap (same_fid f) e ∙ same_fid-refl f) (λ t. ne (same_node-true j n t))))
 touched_hit n j f x (v ∷ vs) ps ne (inr c) h = elim (filter_by (is_hit n v.fid (promise_to j f x)) (is_hit n v.fid) (promise_to j f x) ps refl h) [
   | inl y ↦ in_first (promise_to j f x) (filter (is_hit n v.fid) ps) (hits n vs (filter (λ z. not (is_hit n v.fid z)) ps)) y
   | inr y ↦ in_last (promise_to j f x) (filter (is_hit n v.fid) ps) (hits n vs (filter (λ z. not (is_hit n v.fid z)) ps)) (touched_hit n j f x vs (filter (λ z. not (is_hit n v.fid z)) ps) ne c y)
 ]
 
-pub has_owe : (j : ℕ) (f : Fid) (x k : ℕ) (ps : List Promise) → IsPromised (promise_to j f x) ps → HasOwe the_server (Client j) (Some f) (map (owe_line the_server) (owes_from k ps))
+pub has_owe : (j : Node) (f : Fid) (x k : ℕ) (ps : List Promise) → IsPromised (promise_to j f x) ps → HasOwe the_server j (Some f) (map (owe_line the_server) (owes_from k ps))
 has_owe j f x k [] h = absurd h
-has_owe j f x k (q ∷ ps) (inl e) = inl (refl, (ap (λ (p : Promise). Client p.client) e, ap (λ (p : Promise). Some p.fid) e))
+has_owe j f x k (q ∷ ps) (inl e) = inl (refl, (ap (λ (p : Promise). p.client) e, ap (λ (p : Promise). Some p.fid) e))
 has_owe j f x k (q ∷ ps) (inr h) = inr (has_owe j f x (k + 1) ps h)
 
 dead_by : (t : Bool) (o : Option ℕ) (y : ℕ) → t ≡ true → cond t None o ≡ Some y → ⊥
 dead_by true o y e k = absurd cc
 dead_by false o y e k = absurd cc
 
-owe_dead : (j : ℕ) (f : Fid) (x y k : ℕ) (q : Promise) (base : List Line) → q ≡ promise_to j f x → live_grant the_server (Client j) f (lines.Owe the_server (Client q.client) (Some q.fid) k ∷ base) ≡ Some y → ⊥
-owe_dead j f x y k q base e l = dead_by (same_node (Client j) (Client j) && same_fid f f) (live_grant the_server (Client j) f base) y (rw (same_node-refl (Client j), same_fid-refl f) refl)
-    (subst (λ (p : Promise). live_grant the_server (Client j) f (lines.Owe the_server (Client p.client) (Some p.fid) k ∷ base) ≡ Some y) e l)
+owe_dead : (j : Node) (f : Fid) (x y k : ℕ) (q : Promise) (base : List Line) → q ≡ promise_to j f x → live_grant the_server j f (lines.Owe the_server q.client (Some q.fid) k ∷ base) ≡ Some y → ⊥
+owe_dead j f x y k q base e l = dead_by (same_node j j && same_fid f f) (live_grant the_server j f base) y (rw (same_node-refl j, same_fid-refl f) refl)
+    (subst (λ (p : Promise). live_grant the_server j f (lines.Owe the_server p.client (Some p.fid) k ∷ base) ≡ Some y) e l)
 
 -- a grant that is owed lasts no more
-owed_dead : (j : ℕ) (f : Fid) (x y k : ℕ) (ps : List Promise) (base : List Line) → IsPromised (promise_to j f x) ps → live_grant the_server (Client j) f (onto base (map (owe_line the_server) (owes_from k ps))) ≡ Some y → ⊥
+owed_dead : (j : Node) (f : Fid) (x y k : ℕ) (ps : List Promise) (base : List Line) → IsPromised (promise_to j f x) ps → live_grant the_server j f (onto base (map (owe_line the_server) (owes_from k ps))) ≡ Some y → ⊥
 owed_dead j f x y k [] base h l = absurd h
-owed_dead j f x y k (q ∷ ps) base (inl e) l = owe_dead j f x y (k + 1) q base e (live_back (Client j) f y (map (owe_line the_server) (owes_from (k + 1) ps)) (lines.Owe the_server (Client q.client) (Some q.fid) (k + 1) ∷ base) (owes_still (owes_from (k + 1) ps)) l)
-owed_dead j f x y k (q ∷ ps) base (inr h) l = owed_dead j f x y (k + 1) ps (lines.Owe the_server (Client q.client) (Some q.fid) (k + 1) ∷ base) h l
+owed_dead j f x y k (q ∷ ps) base (inl e) l = owe_dead j f x y (k + 1) q base e (live_back j f y (map (owe_line the_server) (owes_from (k + 1) ps)) (lines.Owe the_server q.client (Some q.fid) (k + 1) ∷ base) (owes_still (owes_from (k + 1) ps)) l)
+owed_dead j f x y k (q ∷ ps) base (inr h) l = owed_dead j f x y (k + 1) ps (lines.Owe the_server q.client (Some q.fid) (k + 1) ∷ base) h l
 
 -- behind a change
 -- behind a grant
-not_promise : (b : Bool) (n j : ℕ) (f g : Fid) → (nat_eq j n && same_fid g f) ≡ b → (same_node (Client n) (Client j) && same_fid f g) ≡ false → not (nat_eq j n && same_fid g f) ≡ true
+not_promise : (b : Bool) (n j : Node) (f g : Fid) → (same_node j n && same_fid g f) ≡ b → (same_node n j && same_fid f g) ≡ false → not (same_node j n && same_fid g f) ≡ true
 not_promise true n j f g e h =
-    let q = both (nat_eq j n) (same_fid g f) e in
-    let yes : (same_node (Client n) (Client j) && same_fid f g) ≡ true = subst (λ (k : ℕ). (same_node (Client n) (Client k) && same_fid f g) ≡ true) (sym (eqb-true j n q.0)) (subst (λ (z : Fid). (same_node (Client n) (Client n) && same_fid f z) ≡ true) (sym (same_fid-true g f q.1)) (rw (same_node-refl (Client n), same_fid-refl f) refl)) in
+    let q = both (same_node j n) (same_fid g f) e in
+    let yes : (same_node n j && same_fid f g) ≡ true = subst (λ (k : Node). (same_node n k && same_fid f g) ≡ true) (sym (same_node-true j n q.0)) (subst (λ (z : Fid). (same_node n n && same_fid f z) ≡ true) (sym (same_fid-true g f q.1)) (rw (same_node-refl n, same_fid-refl f) refl)) in
     absurd cc
 not_promise false n j f g e h = ap not e
 
-grant_promised : (t : Bool) (n j : ℕ) (f g : Fid) (x y : ℕ) (o : Option ℕ) (ps : List Promise) → (same_node (Client n) (Client j) && same_fid f g) ≡ t → (o ≡ Some y → IsPromised (promise_to j g y) ps) → cond t (Some x) o ≡ Some y
+grant_promised : (t : Bool) (n j : Node) (f g : Fid) (x y : ℕ) (o : Option ℕ) (ps : List Promise) → (same_node n j && same_fid f g) ≡ t → (o ≡ Some y → IsPromised (promise_to j g y) ps) → cond t (Some x) o ≡ Some y
     → IsPromised (promise_to j g y) (filter (λ q. not (is_promise n f q)) ps ++ promise_to n f x ∷ [])
 grant_promised true n j f g x y o ps e h l =
-    let q = both (same_node (Client n) (Client j)) (same_fid f g) e in
-    in_last (promise_to j g y) (filter (λ z. not (is_promise n f z)) ps) (promise_to n f x ∷ []) (inl (subst (λ (z : ℕ). promise_to n f z ≡ promise_to j g y) (sym (some_of x y l)) (subst (λ (z : Fid). promise_to n z y ≡ promise_to j g y) (sym (same_fid-true f g q.1)) (ap (λ (z : ℕ). promise_to z g y) (client_number n j (same_node-true (Client n) (Client j) q.0))))))
-grant_promised false n j f g x y o ps e h l = in_first (promise_to j g y) (filter (λ z. not (is_promise n f z)) ps) (promise_to n f x ∷ []) (kept_in (λ z. not (is_promise n f z)) (promise_to j g y) ps (h l) (not_promise (nat_eq j n && same_fid g f) n j f g refl e))
+    let q = both (same_node n j) (same_fid f g) e in
+    in_last (promise_to j g y) (filter (λ z. not (is_promise n f z)) ps) (promise_to n f x ∷ []) (inl (subst (λ (z : ℕ). promise_to n f z ≡ promise_to j g y) (sym (some_of x y l)) (subst (λ (z : Fid). promise_to n z y ≡ promise_to j g y) (sym (same_fid-true f g q.1)) (ap (λ (z : Node). promise_to z g y) (same_node-true n j q.0)))))
+grant_promised false n j f g x y o ps e h l = in_first (promise_to j g y) (filter (λ z. not (is_promise n f z)) ps) (promise_to n f x ∷ []) (kept_in (λ z. not (is_promise n f z)) (promise_to j g y) ps (h l) (not_promise (same_node j n && same_fid g f) n j f g refl e))
 
-promised_now : (n : ℕ) (f : Fid) (x index clock : ℕ) (base : List Line) (ps : List Promise) → Promised None ps clock base → Promised None (with_promise n x f ps) clock (lines.Grant the_server (Client n) f index x ∷ base)
-promised_now n f x index clock base ps h j g y l t = (refl, grant_promised (same_node (Client n) (Client j) && same_fid f g) n j f g x y (live_grant the_server (Client j) g base) ps refl (λ k. (h j g y k t).1) l)
+promised_now : (n : Node) (f : Fid) (x index clock : ℕ) (base : List Line) (ps : List Promise) → Promised None ps clock base → Promised None (with_promise n x f ps) clock (lines.Grant the_server n f index x ∷ base)
+promised_now n f x index clock base ps h j g y l t = (refl, grant_promised (same_node n j && same_fid f g) n j f g x y (live_grant the_server j g base) ps refl (λ k. (h j g y k t).1) l)
 
 -- grants, and lines behind them
-pub onto_granted : (n x : ℕ) (fs : List Found) (tail o : List Line) → onto o (granted the_server (Client n) x fs tail) ≡ onto (onto o (granted the_server (Client n) x fs [])) tail
+pub onto_granted : (n : Node) (x : ℕ) (fs : List Found) (tail o : List Line) → onto o (granted the_server n x fs tail) ≡ onto (onto o (granted the_server n x fs [])) tail
 onto_granted n x [] tail o = refl
-onto_granted n x (f ∷ fs) tail o = onto_granted n x fs tail (lines.Grant the_server (Client n) f.fid f.vnode.index x ∷ o)
+onto_granted n x (f ∷ fs) tail o = onto_granted n x fs tail (lines.Grant the_server n f.fid f.vnode.index x ∷ o)
 
 in_either : (p : Promise) (a b : List Promise) → IsPromised p (a ++ b) → IsPromised p a ⊎ IsPromised p b
 in_either p [] b h = inr h
@@ -660,7 +760,7 @@ in_filter_both q p [] h = absurd h
 in_filter_both q p (x ∷ ps) h = kept_by (q x) q p x (filter q ps) ps refl (in_filter_both q p ps) h
 
 -- what is promised beside some that are withdrawn still is when more is promised
-with_left : (n x : ℕ) (f : Fid) (p : Promise) (ps qs hs : List Promise) → ((q : Promise) → IsPromised q ps → IsPromised q hs ⊎ IsPromised q qs) → IsPromised p (with_promise n x f ps) → IsPromised p hs ⊎ IsPromised p (with_promise n x f qs)
+with_left : (n : Node) (x : ℕ) (f : Fid) (p : Promise) (ps qs hs : List Promise) → ((q : Promise) → IsPromised q ps → IsPromised q hs ⊎ IsPromised q qs) → IsPromised p (with_promise n x f ps) → IsPromised p hs ⊎ IsPromised p (with_promise n x f qs)
 with_left n x f p ps qs hs w h = elim (in_either p (filter (λ z. not (is_promise n f z)) ps) (promise_to n f x ∷ []) h) [
   | inl y ↦ let k = in_filter_both (λ z. not (is_promise n f z)) p ps y in elim (w p k.0) [
     | inl z ↦ inl z
@@ -669,46 +769,83 @@ with_left n x f p ps qs hs w h = elim (in_either p (filter (λ z. not (is_promis
   | inr y ↦ inr (in_last p (filter (λ z. not (is_promise n f z)) qs) (promise_to n f x ∷ []) y)
 ]
 
-all_with_left : (n x : ℕ) (fs : List Found) (ps qs hs : List Promise) → ((q : Promise) → IsPromised q ps → IsPromised q hs ⊎ IsPromised q qs) → (p : Promise) → IsPromised p (with_promises n x fs ps) → IsPromised p hs ⊎ IsPromised p (with_promises n x fs qs)
+all_with_left : (n : Node) (x : ℕ) (fs : List Found) (ps qs hs : List Promise) → ((q : Promise) → IsPromised q ps → IsPromised q hs ⊎ IsPromised q qs) → (p : Promise) → IsPromised p (with_promises n x fs ps) → IsPromised p hs ⊎ IsPromised p (with_promises n x fs qs)
 all_with_left n x [] ps qs hs w p h = w p h
 all_with_left n x (f ∷ fs) ps qs hs w p h = all_with_left n x fs (with_promise n x f.fid ps) (with_promise n x f.fid qs) hs (λ q z. with_left n x f.fid q ps qs hs w z) p h
 
-pub all_promised : (n x clock : ℕ) (fs : List Found) (base : List Line) (ps : List Promise) → Promised None ps clock base → Promised None (with_promises n x fs ps) clock (onto base (granted the_server (Client n) x fs []))
+pub all_promised : (n : Node) (x clock : ℕ) (fs : List Found) (base : List Line) (ps : List Promise) → Promised None ps clock base → Promised None (with_promises n x fs ps) clock (onto base (granted the_server n x fs []))
 all_promised n x clock [] base ps h = h
-all_promised n x clock (f ∷ fs) base ps h = all_promised n x clock fs (lines.Grant the_server (Client n) f.fid f.vnode.index x ∷ base) (with_promise n x f.fid ps) (promised_now n f.fid x f.vnode.index clock base ps h)
+all_promised n x clock (f ∷ fs) base ps h = all_promised n x clock fs (lines.Grant the_server n f.fid f.vnode.index x ∷ base) (with_promise n x f.fid ps) (promised_now n f.fid x f.vnode.index clock base ps h)
+
+-- ---- promises that a client gives up
+
+dropped_promised : (t : Bool) (n j : Node) (f g : Fid) (y : ℕ) (o : Option ℕ) (ps : List Promise) → (same_node n j && same_fid f g) ≡ t → (o ≡ Some y → IsPromised (promise_to j g y) ps) → cond t None o ≡ Some y
+    → IsPromised (promise_to j g y) (filter (λ q. not (is_promise n f q)) ps)
+dropped_promised true n j f g y o ps e h l = absurd cc
+dropped_promised false n j f g y o ps e h l = kept_in (λ z. not (is_promise n f z)) (promise_to j g y) ps (h l) (not_promise (same_node j n && same_fid g f) n j f g refl e)
+
+pub gone_promised : (n : Node) (clock : ℕ) (fs : List Fid) (base : List Line) (ps : List Promise) → Promised None ps clock base → Promised None (without_promises n fs ps) clock (onto base (drops_of n fs))
+gone_promised n clock [] base ps h = h
+gone_promised n clock (f ∷ fs) base ps h = gone_promised n clock fs (lines.Drop n f ∷ base) (filter (λ p. not (is_promise n f p)) ps)
+    (λ j g y l t. (refl, dropped_promised (same_node n j && same_fid f g) n j f g y (live_grant the_server j g base) ps refl (λ k. (h j g y k t).1) l))
+
+pub gone_granted : (n : Node) (fs : List Fid) (ls : List Line) (ps : List Promise) → AllOf (IsGranted ls) ps → AllOf (IsGranted ls) (without_promises n fs ps)
+gone_granted n [] ls ps h = h
+gone_granted n (f ∷ fs) ls ps h = gone_granted n fs ls (filter (λ p. not (is_promise n f p)) ps) (all_filter (IsGranted ls) (λ p. not (is_promise n f p)) ps h)
+
+-- ---- promises are made to clients
+
+all_to_clients : (x : ℕ) (n : Node) (fs : List Found) (ps : List Promise) → IsClient n → AllOf (λ (p : Promise). IsClient p.client) ps → AllOf (λ (p : Promise). IsClient p.client) (with_promises n x fs ps)
+all_to_clients x n [] ps is h = h
+all_to_clients x n (f ∷ fs) ps is h = all_to_clients x n fs (with_promise n x f.fid ps) is (all_both (λ (p : Promise). IsClient p.client) (filter (λ q. not (is_promise n f.fid q)) ps) (promise_to n f.fid x ∷ []) (all_filter (λ (p : Promise). IsClient p.client) (λ q. not (is_promise n f.fid q)) ps h) (is, tt))
+
+pub granted_to_client : (x n : ℕ) (fs : List Found) (ps : List Promise) → AllOf (λ (p : Promise). IsClient p.client) ps → AllOf (λ (p : Promise). IsClient p.client) (with_promises (Client n) x fs ps)
+granted_to_client x n fs ps h = all_to_clients x (Client n) fs ps tt h
+
+pub gone_to_clients : (n : Node) (fs : List Fid) (ps : List Promise) → AllOf (λ (p : Promise). IsClient p.client) ps → AllOf (λ (p : Promise). IsClient p.client) (without_promises n fs ps)
+gone_to_clients n [] ps h = h
+gone_to_clients n (f ∷ fs) ps h = gone_to_clients n fs (filter (λ p. not (is_promise n f p)) ps) (all_filter (λ (p : Promise). IsClient p.client) (λ p. not (is_promise n f p)) ps h)
+
+pub owes_to_clients : (k : ℕ) (ps : List Promise) → AllOf (λ (p : Promise). IsClient p.client) ps → AllOf (λ (o : Owed). IsClient o.client) (owes_from k ps)
+owes_to_clients k [] h = tt
+owes_to_clients k (p ∷ ps) h = (h.0, owes_to_clients (k + 1) ps h.1)
+
+pub all_clients : (x k m : ℕ) → AllOf (λ (o : Owed). IsClient o.client) (owes_all x k m)
+all_clients x k zero = tt
+all_clients x k (suc m) = (tt, all_clients x (k + 1) m)
 
 -- ---- a change, and what it owes
 
-pub left_promised : (n k x clock : ℕ) (vs : List Version) (ps : List Promise) (fs : List Found) (e : Entry) (past : List Entry) (front : List Line) → e.lines ≡ front ++ granted the_server (Client n) x fs (map (owe_line the_server) (owes_from k (hits n vs ps))) → all_lines is_still front ≡ true → Promised None ps clock (lines_of past)
-    → Promised None (with_promises n x fs (left n vs ps)) clock (lines_of (e ∷ past))
+pub left_promised : (n : Node) (k x clock : ℕ) (vs : List Version) (ps : List Promise) (fs : List Found) (e : Entry) (past : List Entry) (front : List Line) → e.lines ≡ front ++ granted the_server n x fs (map (owe_line the_server) (owes_from k (hits n vs ps))) → all_lines is_still front ≡ true → Promised None ps clock (before_own e past)
+    → Promised None (with_promises n x fs (staying n vs ps)) clock (lines_at the_server (e ∷ past))
 left_promised n k x clock vs ps fs e past front are still h j f y l t =
     let owes : List Line = map (owe_line the_server) (owes_from k (hits n vs ps)) in
-    let base : List Line = onto (lines_of past) front in
-    let mid : List Line = onto base (granted the_server (Client n) x fs []) in
-    let here : live_grant the_server (Client j) f (onto mid owes) ≡ Some y = subst (λ (ls : List Line). live_grant the_server (Client j) f ls ≡ Some y) (ap (onto (lines_of past)) are ∙ (onto_both (lines_of past) front (granted the_server (Client n) x fs owes) ∙ onto_granted n x fs owes base)) l in
-    let before = live_back (Client j) f y owes mid (owes_still (owes_from k (hits n vs ps))) here in
-    let had : IsPromised (promise_to j f y) (with_promises n x fs ps) = (all_promised n x clock fs base ps (λ i g z a b. h i g z (live_back (Client i) g z front (lines_of past) still a) b) j f y before t).1 in
-    elim (all_with_left n x fs ps (left n vs ps) (hits n vs ps) (λ q z. hit_or_left n vs ps q z) (promise_to j f y) had) [
+    let base : List Line = onto (before_own e past) front in
+    let mid : List Line = onto base (granted the_server n x fs []) in
+    let here : live_grant the_server j f (onto mid owes) ≡ Some y = subst (λ (ls : List Line). live_grant the_server j f ls ≡ Some y) (ap (onto (before_own e past)) are ∙ (onto_both (before_own e past) front (granted the_server n x fs owes) ∙ onto_granted n x fs owes base)) l in
+    let before = live_back j f y owes mid (owes_still (owes_from k (hits n vs ps))) here in
+    let had : IsPromised (promise_to j f y) (with_promises n x fs ps) = (all_promised n x clock fs base ps (λ i g z a b. h i g z (live_back i g z front (before_own e past) still a) b) j f y before t).1 in
+    elim (all_with_left n x fs ps (staying n vs ps) (hits n vs ps) (λ q z. hit_or_left n vs ps q z) (promise_to j f y) had) [
       | inl z ↦ absurd (owed_dead j f y y k (hits n vs ps) mid z here)
       | inr z ↦ (refl, z)
     ]
 
 -- the promises behind a change
-pub left_granted : (n k x : ℕ) (vs : List Version) (ps : List Promise) (fs : List Found) (e : Entry) (past : List Entry) (front : List Line) → e.lines ≡ front ++ granted the_server (Client n) x fs (map (owe_line the_server) (owes_from k (hits n vs ps))) → all_lines is_still front ≡ true → AllOf (IsGranted (lines_of past)) ps
-    → AllOf (IsGranted (lines_of (e ∷ past))) (with_promises n x fs (left n vs ps))
+pub left_granted : (n : Node) (k x : ℕ) (vs : List Version) (ps : List Promise) (fs : List Found) (e : Entry) (past : List Entry) (front : List Line) → e.lines ≡ front ++ granted the_server n x fs (map (owe_line the_server) (owes_from k (hits n vs ps))) → all_lines is_still front ≡ true → AllOf (IsGranted (lines_of past)) ps
+    → AllOf (IsGranted (lines_of (e ∷ past))) (with_promises n x fs (staying n vs ps))
 left_granted n k x vs ps fs e past front are still h =
     let owes : List Line = map (owe_line the_server) (owes_from k (hits n vs ps)) in
     let base : List Line = onto (lines_of past) front in
-    let mid : List Line = onto base (granted the_server (Client n) x fs []) in
-    let first : AllOf (IsGranted base) (left n vs ps) = all_map (IsGranted (lines_of past)) (IsGranted base) (λ p z. grant_back (Client p.client) p.fid front (lines_of past) still ∙ z) (left n vs ps) (all_left (IsGranted (lines_of past)) n vs ps h) in
-    let second : AllOf (IsGranted mid) (with_promises n x fs (left n vs ps)) = all_granted n x fs base (left n vs ps) first in
-    subst (λ (ls : List Line). AllOf (IsGranted ls) (with_promises n x fs (left n vs ps))) (sym (ap (onto (lines_of past)) are ∙ (onto_both (lines_of past) front (granted the_server (Client n) x fs owes) ∙ onto_granted n x fs owes base)))
-    (all_map (IsGranted mid) (IsGranted (onto mid owes)) (λ p z. grant_back (Client p.client) p.fid owes mid (owes_still (owes_from k (hits n vs ps))) ∙ z) (with_promises n x fs (left n vs ps)) second)
+    let mid : List Line = onto base (granted the_server n x fs []) in
+    let first : AllOf (IsGranted base) (staying n vs ps) = all_map (IsGranted (lines_of past)) (IsGranted base) (λ p z. grant_back p.client p.fid front (lines_of past) still ∙ z) (staying n vs ps) (all_left (IsGranted (lines_of past)) n vs ps h) in
+    let second : AllOf (IsGranted mid) (with_promises n x fs (staying n vs ps)) = all_granted n x fs base (staying n vs ps) first in
+    subst (λ (ls : List Line). AllOf (IsGranted ls) (with_promises n x fs (staying n vs ps))) (sym (ap (onto (lines_of past)) are ∙ (onto_both (lines_of past) front (granted the_server n x fs owes) ∙ onto_granted n x fs owes base)))
+    (all_map (IsGranted mid) (IsGranted (onto mid owes)) (λ p z. grant_back p.client p.fid owes mid (owes_still (owes_from k (hits n vs ps))) ∙ z) (with_promises n x fs (staying n vs ps)) second)
 
-pub record Changing (n : ℕ) (b : Backs) (seats now : List Seat) (e : Entry) (past : List Entry) (pre : List Line) (os : List Owed) (hd : Held) (m : Message) : Type 0 where
+pub record Changing (n : Node) (b : Backs) (seats now : List Seat) (e : Entry) (past : List Entry) (pre : List Line) (os : List Owed) (hd : Held) (m : Message) : Type 0 where
   pub are : e.lines ≡ pre ++ map (owe_line the_server) os
   pub up : all_lines is_up pre ≡ true
-  pub still : (c : ℕ) → (c ≡ n → ⊥) → all_lines (is_still_to (Client c)) pre ≡ true
+  pub still : (c : Node) → (c ≡ n → ⊥) → all_lines (is_still_to c) pre ≡ true
   pub oweless : all_lines is_oweless pre ≡ true
   pub given : given_message e.lines (sent_of past) ≡ Some m
   pub key : key_answered hd.reply ≡ called_key m.head
@@ -718,14 +855,14 @@ pub record Changing (n : ℕ) (b : Backs) (seats now : List Seat) (e : Entry) (p
   pub changed : (k : Key) → HasChange k (lines_of (e ∷ past)) → HasChange k (lines_of past) ⊎ Above (call_seat k.node seats) k.epoch k.number
   pub owes : AllOf (NewOwe n (lines_of past)) os
   pub own : (n : ℕ) → IsNumberIn n (numbers os) → IsNumberIn n hd.waits
-  pub all : (n : ℕ) → IsNumberIn n (alls b.owed) → IsNumberIn n hd.waits
+  pub all : (n : ℕ) → IsNumberIn n (alls b.lists.owed) → IsNumberIn n hd.waits
 
-pub change_loaded : (n : ℕ) (b : Backs) (ps : List Promise) (more boot : ℕ) (seats now : List Seat) (cs : ℕ → Option Seat) (clock : ℕ) (sent : List Message) (e : Entry) (past : List Entry) (pre : List Line) (os : List Owed) (hd : Held) (m : Message) → BackedIn None b boot seats cs clock sent past → AllOf (IsGranted (lines_of (e ∷ past))) ps → Promised None ps clock (lines_of (e ∷ past)) → Numbered None more (lines_of (e ∷ past)) → Changing n b seats now e past pre os hd m
-    → BackedIn None (record b { promises = ps; owed = b.owed ++ os; last_owed = more; held = b.held ++ hd ∷ [] }) boot now cs clock sent (e ∷ past)
-change_loaded who b ps more boot seats now cs clock sent e past pre os hd m h granted promised numbered w =
-    let after : Backs = record b { promises = ps; owed = b.owed ++ os; last_owed = more; held = b.held ++ hd ∷ [] } in
+pub change_loaded : (n : Node) (b : Backs) (ps : List Promise) (more boot : ℕ) (seats now : List Seat) (cs : ℕ → Option Seat) (clock : ℕ) (sent : List Message) (e : Entry) (past : List Entry) (pre : List Line) (os : List Owed) (hd : Held) (m : Message) → BackedIn None b boot seats cs clock sent past → AllOf (IsGranted (lines_of (e ∷ past))) ps → Promised None ps clock (lines_at the_server (e ∷ past)) → Numbered None more (lines_of (e ∷ past)) → Rising (lines_of (e ∷ past)) → ToClients ps os → Changing n b seats now e past pre os hd m
+    → BackedIn None (record b { lists = record { promises = ps; owed = b.lists.owed ++ os; last_owed = more }; held = b.held ++ hd ∷ [] }) boot now cs clock sent (e ∷ past)
+change_loaded who b ps more boot seats now cs clock sent e past pre os hd m h granted promised numbered rising clients w =
+    let after : Backs = record b { lists = record { promises = ps; owed = b.lists.owed ++ os; last_owed = more }; held = b.held ++ hd ∷ [] } in
     let up : all_lines is_up e.lines ≡ true = subst (λ (ls : List Line). all_lines is_up ls ≡ true) (sym w.are) (lines_both is_up pre _ w.up (owes_up os)) in
-    let still : (c : ℕ) → (c ≡ who → ⊥) → all_lines (is_still_to (Client c)) e.lines ≡ true = λ c ne. subst (λ (ls : List Line). all_lines (is_still_to (Client c)) ls ≡ true) (sym w.are) (lines_both (is_still_to (Client c)) pre _ (w.still c ne) (owes_still_to (Client c) os)) in
+    let still : (c : Node) → (c ≡ who → ⊥) → all_lines (is_still_to c) e.lines ≡ true = λ c ne. subst (λ (ls : List Line). all_lines (is_still_to c) ls ≡ true) (sym w.are) (lines_both (is_still_to c) pre _ (w.still c ne) (owes_still_to c os)) in
     let found : (before after : List Line) (c : Node) (what : Option Fid) (n : ℕ) → e.lines ≡ before ++ lines.Owe the_server c what n ∷ after → OweFound os c what n = λ before after c what n line. owes_found pre os before after c what n w.oweless (sym w.are ∙ line) in
     let not_all : (before after : List Line) (c : Node) (what : Option Fid) (n : ℕ) → e.lines ≡ before ++ lines.Owe the_server c what n ∷ after → what ≡ None → ⊥ = λ before after c what n line z. let f = found before after c what n line in let x = in_all (NewOwe who (lines_of past)) f.o os f.is_in w.owes in let y : Some x.fid ≡ None = sym x.on ∙ (f.on ∙ z) in absurd cc in
     let under : (k : Key) (t : ℕ) → IsCallUnder the_server k t (given_message e.lines (sent_of past)) → called_key m.head ≡ k = λ k t y. (subst (λ (o : Option Message). IsCallUnder the_server k t o) w.given y).1.0 in
@@ -739,23 +876,23 @@ change_loaded who b ps more boot seats now cs clock sent e past pre os hd m h gr
         refl,
         record {
           o = f.o;
-          is_in = in_second f.o b.owed os f.is_in;
+          is_in = in_second f.o b.lists.owed os f.is_in;
           number = f.number;
           client = f.client;
           on = f.on;
           expiry = subst (λ (z : Option Fid). expiry_of the_server c z (onto (lines_of past) before) ≡ Some f.o.expiry) (sym x.on ∙ f.on) (subst (λ (z : Node). last_grant the_server z x.fid (onto (lines_of past) before) ≡ Some f.o.expiry) f.client
-              (grant_back_to (Client f.o.client) x.fid before (lines_of past) (lines_front (is_still_to (Client f.o.client)) before _ (subst (λ (ls : List Line). all_lines (is_still_to (Client f.o.client)) ls ≡ true) line (still f.o.client x.other))) ∙ x.granted));
+              (grant_back_to f.o.client x.fid before (lines_of past) (lines_front (is_still_to f.o.client) before _ (subst (λ (ls : List Line). all_lines (is_still_to f.o.client) ls ≡ true) line (still f.o.client x.other))) ∙ x.granted));
           waits = λ k t y. inr (held_last k b.held hd (w.key ∙ under k t y));
         },
       );
-      gone = λ o x. inl (in_front o b.owed os x);
+      gone = λ o x. inl (in_front o b.lists.owed os x);
       held = λ k x. more_held k b.held (hd ∷ []) x;
       last = le_refl _;
       calls = calls_same b.calls b.last_call;
     } in
     subst (λ (ms : List Message). BackedIn None after boot now cs clock ms (e ∷ past)) (append-nil sent)
-    (backed_step None None b after boot seats now cs cs clock clock sent [] e past s h (λ x. granted) promised numbered
-    (λ x. all_both (λ (o : Owed). IsOwed o.client (lines_of (e ∷ past)) o) b.owed os (owed_over e past b.owed up (h.owed x))
+    (backed_step None None b after boot seats now cs cs clock clock sent [] e past s h (λ x. granted) promised numbered rising (λ x. record { promised = clients.promised; owed = all_both (λ (o : Owed). IsClient o.client) b.lists.owed os (h.clients x).owed clients.owed })
+    (λ x. all_both (λ (o : Owed). IsOwed o.client (lines_of (e ∷ past)) o) b.lists.owed os (owed_over e past b.lists.owed up (h.owing x))
     (subst (λ (ls : List Line). AllOf (λ (o : Owed). IsOwed o.client ls o) os) (sym (ap (onto (lines_of past)) w.are ∙ onto_both (lines_of past) pre (map (owe_line the_server) os))) (owes_at os (onto (lines_of past) pre))))
     (λ x. all_both (HeldWaits now clock (e ∷ past)) b.held (hd ∷ [])
     (all_map (HeldWaits seats clock past) (HeldWaits now clock (e ∷ past)) (λ q y. waits_over seats now clock clock e past q (le_refl _) w.changed
@@ -766,7 +903,7 @@ change_loaded who b ps more boot seats now cs clock sent e past pre os hd m h gr
         from = w.reply.from;
         is_reply = w.reply.is_reply;
         under = w.reply.under;
-        own = owes_over the_server (AccountedBy None b.owed b.held clock) (WaitedBy hd clock) e past (λ y z c what n line t k. let f = found y z c what n line in inr (w.own n (number_of f.o os n f.is_in f.number)))
+        own = owes_over the_server (AccountedBy None b.lists.owed b.held clock) (WaitedBy hd clock) e past (λ y z c what n line t k. let f = found y z c what n line in inr (w.own n (number_of f.o os n f.is_in f.number)))
             (λ newer at older y z c what n u. own_past b boot seats cs clock sent e past hd newer at older y z c what n h none u) h.accounted;
         all = λ y. all_waited b boot seats cs clock sent e past hd h w.all not_all;
       },
@@ -778,11 +915,19 @@ change_loaded who b ps more boot seats now cs clock sent e past pre os hd m h gr
 -- numbers of new breaks
 pub numbers_good : (s : Script) (k : ℕ) (ps : List Promise) (past : List Entry) (own : List Line) → last_number the_server (own ++ lines_of past) ≤ k → AreGood s (actors.Node the_server) past own (map (owe_line the_server) (owes_from k ps))
 numbers_good s k [] past own h = tt
-numbers_good s k (p ∷ ps) past own h = ((refl, omega arith), numbers_good s (k + 1) ps past (lines.Owe the_server (Client p.client) (Some p.fid) (k + 1) ∷ own) (le_refl _))
+numbers_good s k (p ∷ ps) past own h = ((refl, omega arith), numbers_good s (k + 1) ps past (lines.Owe the_server p.client (Some p.fid) (k + 1) ∷ own) (le_refl _))
 
 pub numbers_rise : (k : ℕ) (ps : List Promise) (base : List Line) → last_number the_server base ≤ k → last_number the_server (onto base (map (owe_line the_server) (owes_from k ps))) ≤ k + length (owes_from k ps)
 numbers_rise k [] base h = omega arith
-numbers_rise k (p ∷ ps) base h = let x : last_number the_server (onto (lines.Owe the_server (Client p.client) (Some p.fid) (k + 1) ∷ base) (map (owe_line the_server) (owes_from (k + 1) ps))) ≤ (k + 1) + length (owes_from (k + 1) ps) = numbers_rise (k + 1) ps (lines.Owe the_server (Client p.client) (Some p.fid) (k + 1) ∷ base) (le_refl _) in omega arith
+numbers_rise k (p ∷ ps) base h = let x : last_number the_server (onto (lines.Owe the_server p.client (Some p.fid) (k + 1) ∷ base) (map (owe_line the_server) (owes_from (k + 1) ps))) ≤ (k + 1) + length (owes_from (k + 1) ps) = numbers_rise (k + 1) ps (lines.Owe the_server p.client (Some p.fid) (k + 1) ∷ base) (le_refl _) in omega arith
+
+pub owes_rising : (k : ℕ) (ps : List Promise) (base : List Line) → last_number the_server base ≤ k → Rising base → Rising (onto base (map (owe_line the_server) (owes_from k ps)))
+owes_rising k [] base le h = h
+owes_rising k (p ∷ ps) base le h = owes_rising (k + 1) ps (lines.Owe the_server p.client (Some p.fid) (k + 1) ∷ base) (le_refl _) (λ e. omega arith, h)
+
+alls_rising : (x k m : ℕ) (base : List Line) → last_number the_server base ≤ k → Rising base → Rising (onto base (map (owe_line the_server) (owes_all x k m)))
+alls_rising x k zero base le h = h
+alls_rising x k (suc m) base le h = alls_rising x (k + 1) m (lines.Owe the_server (Client (k + 1)) None (k + 1) ∷ base) (le_refl _) (λ e. omega arith, h)
 
 pub alls_good : (s : Script) (x k m : ℕ) (past : List Entry) (own : List Line) → last_number the_server (own ++ lines_of past) ≤ k → AreGood s (actors.Node the_server) past own (map (owe_line the_server) (owes_all x k m))
 alls_good s x k zero past own h = tt
@@ -814,7 +959,7 @@ not_now : (e boot : ℕ) → e ≤ boot → e ≡ boot + 1 → ⊥
 not_now e boot a b = absurd (omega arith)
 
 pub rise_loaded : (count : ℕ) (d : Option Fall) (b : Backs) (boot : ℕ) (seats now : List Seat) (cs : ℕ → Option Seat) (clock : ℕ) (sent : List Message) (e : Entry) (past : List Entry) (pre : List Line) → (d ≡ None → ⊥) → BackedIn d b boot seats cs clock sent past → clock_of (lines_of past) ≡ clock
-    → e.lines ≡ pre ++ (risen_turn the_server clock count).lines → all_lines is_oweless pre ≡ true → all_lines is_tickless pre ≡ true → all_lines is_still pre ≡ true → given_message e.lines (sent_of past) ≡ None → BackedIn None (loaded (risen_turn the_server clock count)) (boot + 1) now cs clock sent (e ∷ past)
+    → e.lines ≡ pre ++ (risen_as the_server clock count).lines → all_lines is_oweless pre ≡ true → all_lines is_tickless pre ≡ true → all_lines is_still pre ≡ true → given_message e.lines (sent_of past) ≡ None → BackedIn None (loaded (risen_as the_server clock count)) (boot + 1) now cs clock sent (e ∷ past)
 rise_loaded count d b boot seats now cs clock sent e past pre ne h time are oweless tickless still given =
     let os : List Owed = owes_all (clock + promise_ticks) 0 count in
     let all : AllOf (OnAll (clock + promise_ticks)) os = on_all (clock + promise_ticks) 0 count in
@@ -822,11 +967,15 @@ rise_loaded count d b boot seats now cs clock sent e past pre ne h time are owel
     record {
       granted = λ x. tt;
       numbered =
-          let zero : last_number the_server (onto (lines_of past) pre) ≡ 0 = zero_back pre (lines_of past) oweless (down_zero d b.last_owed (lines_of past) ne h.numbered) in
+          let zero : last_number the_server (onto (lines_of past) pre) ≡ 0 = zero_back pre (lines_of past) oweless (down_zero d b.lists.last_owed (lines_of past) ne h.numbered) in
           subst (λ (ls : List Line). last_number the_server ls ≤ count) (sym (ap (onto (lines_of past)) are ∙ onto_both (lines_of past) pre (map (owe_line the_server) os)))
           (let y : last_number the_server (onto (onto (lines_of past) pre) (map (owe_line the_server) os)) ≤ 0 + count = alls_rise (clock + promise_ticks) 0 count (onto (lines_of past) pre) (le_of_eq zero) in omega arith);
-      promised = λ j f x l t. absurd (ne (h.promised j f x (live_back (Client j) f x e.lines (lines_of past) (subst (λ (ls : List Line). all_lines is_still ls ≡ true) (sym are) (lines_both is_still pre _ still (owes_still os))) l) t).0);
-      accounted = owes_over the_server (AccountedBy d b.owed b.held clock) (AccountedBy None os [] clock) e past
+      rising =
+          let zero : last_number the_server (onto (lines_of past) pre) ≡ 0 = zero_back pre (lines_of past) oweless (down_zero d b.lists.last_owed (lines_of past) ne h.numbered) in
+          subst Rising (sym (ap (onto (lines_of past)) are ∙ onto_both (lines_of past) pre (map (owe_line the_server) os))) (alls_rising (clock + promise_ticks) 0 count (onto (lines_of past) pre) (le_of_eq zero) (rising_back pre (lines_of past) oweless h.rising));
+      clients = λ x. record { promised = tt; owed = all_clients (clock + promise_ticks) 0 count };
+      promised = λ j f x l t. absurd (ne (h.promised j f x (live_given j f x e past (live_back j f x e.lines (before_own e past) (subst (λ (ls : List Line). all_lines is_still ls ≡ true) (sym are) (lines_both is_still pre _ still (owes_still os))) l)) t).0);
+      accounted = owes_over the_server (AccountedBy d b.lists.owed b.held clock) (AccountedBy None os [] clock) e past
           (λ before rest c what n line. let f = owes_found pre os before rest c what n oweless (sym are ∙ line) in let x = in_all (OnAll (clock + promise_ticks)) f.o os f.is_in all in inr (
             refl,
             record {
@@ -841,7 +990,7 @@ rise_loaded count d b boot seats now cs clock sent e past pre ne h time are owel
             },
           ))
           (λ newer at older before rest c what n x. elim x [ inl y ↦ inl (ended_over e clock clock newer at older before rest c what n (le_refl _) y) | inr y ↦ absurd (ne y.0) ]) h.accounted;
-      owed = λ x. subst (λ (ls : List Line). AllOf (λ (o : Owed). IsOwed o.client ls o) os) (sym (ap (onto (lines_of past)) are ∙ onto_both (lines_of past) pre (map (owe_line the_server) os))) (owes_at os (onto (lines_of past) pre));
+      owing = λ x. subst (λ (ls : List Line). AllOf (λ (o : Owed). IsOwed o.client ls o) os) (sym (ap (onto (lines_of past)) are ∙ onto_both (lines_of past) pre (map (owe_line the_server) os))) (owes_at os (onto (lines_of past) pre));
       waiting = λ x. tt;
       outs = λ x j c at. absurd cc;
       calls = each_map (IfBack (BackIn d b.calls b.last_call boot)) (IfBack (BackIn None (λ n. None) 0 (boot + 1))) (if_back (BackIn d b.calls b.last_call boot) (BackIn None (λ n. None) 0 (boot + 1)) (λ head user call x. record { client = x.client; to = x.to; booted = le_trans x.booted (omega arith); below = λ y z. absurd (not_now head.epoch boot x.booted z); is = λ c y z. absurd (not_now head.epoch boot x.booted z) })) sent h.calls;

@@ -26,10 +26,13 @@ use Rattle.afs_ideal.specs.Tables.{Table, get, set, unset, AscendsFrom, lowest_f
 use Rattle.afs_ideal.specs.Volumes.{Kind, a_file, a_link, a_directory, Vnode, Volume, Edit, Amend, amends, makes, frees, amended, fresh, amends_at, makes_at, frees_at, edited, edited_all, edit_number, counted, vnode_of, with_status, or_old, ascending}
 use Rattle.afs_law.proofs.Basics.{some_of, both}
 use Rattle.afs_law.proofs.Edits.{get-set, get-unset}
+use Rattle.afs_law.proofs.Keeping.{volume_put}
+use Rattle.afs_rows.specs.States.{volume_in}
+use Rattle.afs_records.specs.Durable.{Stored}
 use Rattle.afs_law.proofs.Facts.{IsReadable, IsFine, AreFine}
 use Rattle.afs_law.proofs.Ops.{AllHold, all_hold}
 use Rattle.afs_law.proofs.Serving.{own_found, own_unique}
-use Rattle.afs_law.specs.Runs.{laid_or, all_laid, first_volume}
+use Rattle.afs_rows.specs.Runs.{laid_or, all_laid, first_volume}
 use Rattle.afs_ideal.specs.Operations as ops
 use Rattle.std.specs.Option.{ok_or}
 use Rattle.afs_shape.specs.Reading.{◌>>=◌}
@@ -97,6 +100,7 @@ amends_fine id n a v (Some x) e h f =
       ascends = ascends_set 1 n (amended (v.counter + 1) a x) v.vnodes (low_by n v.vnodes x (ltb n 1) refl f.ascends e) f.ascends;
       below = at_set (λ m y. y.unique < v.next) n (amended (v.counter + 1) a x) v.vnodes (f.below n x e) f.below;
       readable = at_set IsReadable n (amended (v.counter + 1) a x) v.vnodes (record { number = r.number; unique = r.unique; names = names.0; fit = names.1 }) f.readable;
+      stays = f.stays;
     }
 
 no_names : IsDirectory []
@@ -111,6 +115,7 @@ makes_fine id n x v None next le h f =
       ascends = ascends_set 1 n new v.vnodes h.low f.ascends;
       below = at_set (λ m y. y.unique < v.next + 1) n new v.vnodes (omega arith) (λ m y e. let l : y.unique < v.next = f.below m y e in omega arith);
       readable = at_set IsReadable n new v.vnodes (record { number = h.high; unique = small v.next next le high; names = subst IsDirectory (sym h.names) no_names; fit = subst FitNames (sym h.names) tt }) f.readable;
+      stays = f.stays;
     }
   where
     small : (a b : ℕ) → a ≤ b → b < 2 ^ 32 → a < 2 ^ 32
@@ -118,7 +123,7 @@ makes_fine id n x v None next le h f =
 
 frees_fine : (id n : ℕ) (v : Volume) (o : Option Vnode) → IsFine v → IsFine (frees_at id n v o).volume
 frees_fine id n v None f = f
-frees_fine id n v (Some x) f = record { ascends = ascends_unset 1 n v.vnodes f.ascends; below = at_unset (λ m y. y.unique < v.next) n v.vnodes f.below; readable = at_unset IsReadable n v.vnodes f.readable }
+frees_fine id n v (Some x) f = record { ascends = ascends_unset 1 n v.vnodes f.ascends; below = at_unset (λ m y. y.unique < v.next) n v.vnodes f.below; readable = at_unset IsReadable n v.vnodes f.readable; stays = f.stays }
 
 edit_fine : (id : ℕ) (e : Edit) (v : Volume) (next : ℕ) → v.next ≤ next → FitsEdit next e → IsFine v → IsFine (edited id e v).volume
 edit_fine id (amends n a) v next le h f = amends_fine id n a v (get n v.vnodes) refl h f
@@ -352,7 +357,7 @@ op_fine id caller call v es n of e f =
     let lim : list_all (edit_fits v) es ≡ true = (both (not (is_last_count v.counter)) _ (all_hold (limits id es v) a.fits).1.0).1 in
     let fits : AllFit v.next es = subst (Fits v.next) a.effected (call_fits id caller call v of (all_hold (tests caller call v) a.tested) (subst (IsLimited id v) (sym a.effected) lim) f) in
     let g : IsFine (edited_all id es v) = edits_fine id es v v.next (le_refl v.next) fits f in
-    record { ascends = g.ascends; below = g.below; readable = g.readable }
+    record { ascends = g.ascends; below = g.below; readable = g.readable; stays = g.stays }
 
 -- ---- all volumes
 
@@ -360,8 +365,8 @@ one_by : (t : Bool) (new u : Volume) (o : Option Volume) → IsFine new → (o �
 one_by true new u o f h e = subst IsFine (some_of new u e) f
 one_by false new u o f h e = h e
 
-pub fine_after : (id : ℕ) (caller : Caller) (call : FsCall) (v : Volume) (es : List Edit) (n : ℕ) (volumes : Table Volume) → AreFine volumes → volume_called call ≡ Some id → get id volumes ≡ Some v → op id caller call v ≡ changes es n → AreFine (set id (counted (edited_all id es v)) volumes)
-fine_after id caller call v es n volumes h of at e i u found = one_by (eqb id i) (counted (edited_all id es v)) u (get i volumes) (op_fine id caller call v es n (λ z. absurd cc) e (h id v at)) (h i u) (sym (get-set id i (counted (edited_all id es v)) volumes) ∙ found)
+pub fine_after : (id : ℕ) (caller : Caller) (call : FsCall) (v : Volume) (es : List Edit) (n : ℕ) (volumes : Table Stored) (x : Stored) → x.volume ≡ counted (edited_all id es v) → AreFine volumes → volume_called call ≡ Some id → volume_in id volumes ≡ Some v → op id caller call v ≡ changes es n → AreFine (set id x volumes)
+fine_after id caller call v es n volumes x is h of at e i u found = one_by (eqb id i) (counted (edited_all id es v)) u (volume_in i volumes) (op_fine id caller call v es n (λ z. absurd cc) e (h id v at)) (h i u) (sym (volume_put id i x (counted (edited_all id es v)) volumes is) ∙ found)
 
 -- ---- the set-up
 
@@ -393,7 +398,7 @@ laid_fine_by id call v ops.no_operation of e f = tt
 laid_fine_by id call v (changes es n) of e f =
     let g : IsFine (counted (edited_all id es v)) = op_fine id all_rights call v es n of e f in
     let q = all_first es (counted (edited_all id es v)).vnodes (counted (edited_all id es v)).next g.ascends g.below g.readable in
-    record { ascends = q.0; below = q.1.0; readable = q.1.1 }
+    record { ascends = q.0; below = q.1.0; readable = q.1.1; stays = g.stays }
 
 called_fine : (id : ℕ) (call : FsCall) (v : Volume) → (volume_called call ≡ None → ⊥) → IsFine v → FineIn (called id call v)
 called_fine id call v of f = laid_fine_by id call v (op id all_rights call v) of refl f
@@ -428,12 +433,13 @@ root_by : (P : ℕ → Vnode → Type 0) (t : Bool) (n : ℕ) (x : Vnode) → eq
 root_by P true n x t p e = subst (λ (k : ℕ). P k x) (eqb-true 1 n t) (subst (P 1) (some_of new_root x e) p)
 root_by P false n x t p e = absurd cc
 
-new_fine : (family : ℕ) (name : List ℕ) (kind flags quota : ℕ) → IsFine (new_volume family name kind flags quota)
-new_fine family name kind flags quota = record {
+new_fine : (family : ℕ) (name : List ℕ) (kind quota : ℕ) → IsFine (new_volume family name kind 0 quota)
+new_fine family name kind quota = record {
   ascends = (le_refl 1, tt);
   below = λ n x e. root_by (λ m y. y.unique < 2) (eqb 1 n) n x refl (omega arith) e;
   readable = λ n x e. root_by IsReadable (eqb 1 n) n x refl (record { number = omega arith; unique = omega arith; names = no_names; fit = tt }) e;
+  stays = refl;
 }
 
 pub first_fine : (v : VolumeLine) → IsFine (first_volume v)
-first_fine v = all_fine v.id v.lines (new_volume v.id v.name 0 0 v.quota) (new_fine v.id v.name 0 0 v.quota)
+first_fine v = all_fine v.id v.lines (new_volume v.id v.name 0 0 v.quota) (new_fine v.id v.name 0 v.quota)

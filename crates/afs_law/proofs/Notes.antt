@@ -1,4 +1,5 @@
 -- Lines of a server that tell of its breaks and of its own calls.
+use Rattle.afs_law.proofs.Promising.{Owed}
 use Rattle.std.proofs.Common.{◌≡◌, ℕ, ◌≤◌, Bool, false, List, [], ◌∷◌, Option, None, refl, sym, ap, subst, ◌∙◌}
 use Rattle.std.specs.Prelude.{⊤, map}
 use Rattle.afs_num.specs.declared.types.Fid.{Fid}
@@ -7,21 +8,20 @@ use Rattle.afs_num.specs.declared.types.Node.{Node}
 use Rattle.afs_num.specs.declared.types.Node.TheVariants.{Client}
 use Rattle.afs_num.specs.declared.messages.Message.{Message}
 use Rattle.afs_num.specs.declared.scripts.Script.{Script}
-use Rattle.afs_num.specs.declared.histories.Actor.TheVariants as actors
 use Rattle.afs_num.specs.declared.histories.Body.{Body}
 use Rattle.afs_ideal.specs.Operations.{Found}
 use Rattle.afs_law.proofs.Facts.{server_boot}
 use Rattle.afs_law.proofs.Resting.{Rests}
-use Rattle.afs_law.specs.Callbacks.{Owed, owe_line, settle_line, quit_line}
-use Rattle.afs_law.specs.ClientRow.{the_server}
+use Rattle.afs_rows.specs.Callbacks.{owe_line, settle_line, quit_line}
 use Rattle.afs_law.specs.Grants.{has_fetched, IsWithdrawn, IsDropped}
 use Rattle.afs_law.specs.Ideal.{last_version, HasVersion, Accepts, clock_of, reach, Reach, reach_over, change_key, changed_under, volume_after}
 use Rattle.afs_law.specs.Legal.{IsNew, HasChange, versions_first}
-use Rattle.afs_law.specs.Lines.{Line}
+use Rattle.afs_history.specs.declared.lines.Line.{Line}
 use Rattle.afs_law.specs.Past.{onto, sent_of, given_message, running, has_begun}
-use Rattle.afs_law.specs.Runs.{Entry}
-use Rattle.afs_law.specs.ServerRow.{granted}
-use Rattle.afs_law.specs.Lines as lines
+use Rattle.afs_rows.specs.Runs.{Entry, the_server}
+use Rattle.afs_rows.specs.ServerRow.{granted}
+use Rattle.afs_num.specs.declared.histories.Actor.TheVariants as actors
+use Rattle.afs_history.specs.declared.lines.Line.TheVariants as lines
 
 abbrev pub IsNote : Line → Type 0
 IsNote (lines.Owe s c what n) = ⊤
@@ -42,7 +42,7 @@ pub record Skips (ls : List Line) : Type 0 where
   pub last : (f : Fid) (o : List Line) → last_version f (onto o ls) ≡ last_version f o
   pub withdrawn : (q c : Node) (f : Fid) (o : List Line) → IsWithdrawn q c f o → IsWithdrawn q c f (onto o ls)
   pub kept : (q c : Node) (f : Fid) (o : List Line) → IsDropped q c f (onto o ls) → IsDropped q c f o
-  pub runs : (n : Node) (o : List Line) → running n (onto o ls) ≡ running n o
+  pub runs : (s : Script) (n : Node) (o : List Line) → running s n (onto o ls) ≡ running s n o
   pub new : (k : Key) (o : List Line) → IsNew k o → IsNew k (onto o ls)
   pub clock : (o : List Line) → clock_of (onto o ls) ≡ clock_of o
   pub home : (s : Script) (id : ℕ) (o : List Line) → Accepts s id the_server o → Accepts s id the_server (onto o ls)
@@ -62,7 +62,7 @@ skips [] h = record {
   last = λ f o. refl;
   withdrawn = λ q c f o x. x;
   kept = λ q c f o x. x;
-  runs = λ n o. refl;
+  runs = λ s n o. refl;
   new = λ k o x. x;
   clock = λ o. refl;
   home = λ s id o x. x;
@@ -83,7 +83,7 @@ skips (lines.Owe s c what n ∷ ls) h =
       last = λ f o. ih.last f (lines.Owe s c what n ∷ o);
       withdrawn = λ q d f o x. ih.withdrawn q d f (lines.Owe s c what n ∷ o) x;
       kept = λ q d f o x. ih.kept q d f (lines.Owe s c what n ∷ o) x;
-      runs = λ m o. ih.runs m (lines.Owe s c what n ∷ o);
+      runs = λ r m o. ih.runs r m (lines.Owe s c what n ∷ o);
       new = λ key o x. ih.new key (lines.Owe s c what n ∷ o) x;
       clock = λ o. ih.clock (lines.Owe s c what n ∷ o);
       home = λ q id o x. ih.home q id (lines.Owe s c what n ∷ o) x;
@@ -104,7 +104,7 @@ skips (lines.Settle s c n ∷ ls) h =
       last = λ f o. ih.last f (lines.Settle s c n ∷ o);
       withdrawn = λ q d f o x. ih.withdrawn q d f (lines.Settle s c n ∷ o) x;
       kept = λ q d f o x. ih.kept q d f (lines.Settle s c n ∷ o) x;
-      runs = λ m o. ih.runs m (lines.Settle s c n ∷ o);
+      runs = λ r m o. ih.runs r m (lines.Settle s c n ∷ o);
       new = λ key o x. ih.new key (lines.Settle s c n ∷ o) x;
       clock = λ o. ih.clock (lines.Settle s c n ∷ o);
       home = λ q id o x. ih.home q id (lines.Settle s c n ∷ o) x;
@@ -125,7 +125,7 @@ skips (lines.Quit s c n ∷ ls) h =
       last = λ f o. ih.last f (lines.Quit s c n ∷ o);
       withdrawn = λ q d f o x. ih.withdrawn q d f (lines.Quit s c n ∷ o) x;
       kept = λ q d f o x. ih.kept q d f (lines.Quit s c n ∷ o) x;
-      runs = λ m o. ih.runs m (lines.Quit s c n ∷ o);
+      runs = λ r m o. ih.runs r m (lines.Quit s c n ∷ o);
       new = λ key o x. ih.new key (lines.Quit s c n ∷ o) x;
       clock = λ o. ih.clock (lines.Quit s c n ∷ o);
       home = λ q id o x. ih.home q id (lines.Quit s c n ∷ o) x;
@@ -146,7 +146,7 @@ skips (lines.Timeout s c e n k ∷ ls) h =
       last = λ f o. ih.last f (lines.Timeout s c e n k ∷ o);
       withdrawn = λ q d f o x. ih.withdrawn q d f (lines.Timeout s c e n k ∷ o) x;
       kept = λ q d f o x. ih.kept q d f (lines.Timeout s c e n k ∷ o) x;
-      runs = λ m o. ih.runs m (lines.Timeout s c e n k ∷ o);
+      runs = λ r m o. ih.runs r m (lines.Timeout s c e n k ∷ o);
       new = λ key o x. ih.new key (lines.Timeout s c e n k ∷ o) x;
       clock = λ o. ih.clock (lines.Timeout s c e n k ∷ o);
       home = λ q id o x. ih.home q id (lines.Timeout s c e n k ∷ o) x;
@@ -167,7 +167,7 @@ skips (lines.Grant s c g a x ∷ ls) h =
       last = λ f o. ih.last f (lines.Grant s c g a x ∷ o);
       withdrawn = λ q d f o z. ih.withdrawn q d f (lines.Grant s c g a x ∷ o) z;
       kept = λ q d f o z. ih.kept q d f (lines.Grant s c g a x ∷ o) z;
-      runs = λ m o. ih.runs m (lines.Grant s c g a x ∷ o);
+      runs = λ r m o. ih.runs r m (lines.Grant s c g a x ∷ o);
       new = λ key o z. ih.new key (lines.Grant s c g a x ∷ o) z;
       clock = λ o. ih.clock (lines.Grant s c g a x ∷ o);
       home = λ q id o z. ih.home q id (lines.Grant s c g a x ∷ o) z;
@@ -193,7 +193,7 @@ noted_rests s ls ms past k = record {
     seen = λ i x. subst (λ (r : Reach). r.seen ≤ i) (sym at) x;
     made = λ x. ap (λ (r : Reach). r.made) at ∙ x;
   };
-  act = λ j. record { runs = λ o. k.runs (Client j) o; begins = k.begins (Client j) };
+  act = λ j. record { runs = λ s o. k.runs s (Client j) o; begins = k.begins (Client j) };
   last = λ f o. k.last f o;
   back = λ f i b o x. k.back f i b o x;
   new = λ key o x. k.new key o x;
@@ -212,7 +212,7 @@ told_rests s p ls ms past k = record {
     seen = λ i x. subst (λ (r : Reach). r.seen ≤ i) (sym at) x;
     made = λ x. ap (λ (r : Reach). r.made) at ∙ x;
   };
-  act = λ j. record { runs = λ o. k.runs (Client j) (lines.Given p ∷ o); begins = k.begins (Client j) };
+  act = λ j. record { runs = λ s o. k.runs s (Client j) (lines.Given p ∷ o); begins = k.begins (Client j) };
   last = λ f o. k.last f (lines.Given p ∷ o);
   back = λ f i b o x. k.back f i b (lines.Given p ∷ o) x;
   new = λ key o x. k.new key (lines.Given p ∷ o) x;
@@ -231,7 +231,7 @@ risen_rests s boot ls ms past k = record {
     seen = λ i x. subst (λ (r : Reach). r.seen ≤ i) (sym at) x;
     made = λ x. ap (λ (r : Reach). r.made) at ∙ x;
   };
-  act = λ j. record { runs = λ o. k.runs (Client j) (lines.Restart the_server boot ∷ o); begins = k.begins (Client j) };
+  act = λ j. record { runs = λ s o. k.runs s (Client j) (lines.Restart the_server boot ∷ o); begins = k.begins (Client j) };
   last = λ f o. k.last f (lines.Restart the_server boot ∷ o);
   back = λ f i b o x. k.back f i b (lines.Restart the_server boot ∷ o) x;
   new = λ key o x. k.new key (lines.Restart the_server boot ∷ o) x;
@@ -249,13 +249,13 @@ pub owe_notes : (os : List Owed) → AreNotes (map (owe_line the_server) os)
 owe_notes [] = tt
 owe_notes (o ∷ os) = (tt, owe_notes os)
 
-pub settle_notes : (os : List Owed) → AreNotes (map (settle_line the_server) os)
-settle_notes [] = tt
-settle_notes (o ∷ os) = (tt, settle_notes os)
+pub settle_notes : (n : Node) (os : List Owed) → AreNotes (map (settle_line the_server n) os)
+settle_notes n [] = tt
+settle_notes n (o ∷ os) = (tt, settle_notes n os)
 
-pub quit_notes : (os : List Owed) → AreNotes (map (quit_line the_server) os)
-quit_notes [] = tt
-quit_notes (o ∷ os) = (tt, quit_notes os)
+pub quit_notes : (n : Node) (os : List Owed) → AreNotes (map (quit_line the_server n) os)
+quit_notes n [] = tt
+quit_notes n (o ∷ os) = (tt, quit_notes n os)
 
 pub no_versions : (ls : List Line) → AreNotes ls → versions_first ls ≡ []
 no_versions [] h = refl

@@ -8,8 +8,8 @@ use Rattle.afs_law.proofs.Basics.{both, some_of}
 use Rattle.afs_law.proofs.Edits.{get-set, Grow, touches, touched_volume}
 use Rattle.afs_law.proofs.Facts.{InScope}
 use Rattle.afs_law.specs.Ideal.{is_zero_code}
-use Rattle.afs_law.specs.Lines.{Line}
-use Rattle.afs_law.specs.Scopes.{is_volume}
+use Rattle.afs_history.specs.declared.lines.Line.{Line}
+use Rattle.afs_rows.specs.Scopes.{is_volume}
 use Rattle.std.proofs.Common.{◌≤◌, ◌≡◌, ℕ, ◌+◌, ◌⊎◌, inl, Bool, true, false, cond, eqb, nat_eq, List, [], ◌∷◌, ◌++◌, Option, Some, None, ℤ, pos, refl, sym, ap, subst, ◌∙◌, eq-eqb, eqb-true}
 use Rattle.std.specs.Prelude.{⊤, is_some}
 use Rattle.afs_num.specs.declared.types.Fid.{Fid}

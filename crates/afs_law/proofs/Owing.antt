@@ -1,6 +1,8 @@
 -- What holds of promises, breaks, the server's own calls, and replies that wait.
+use Rattle.afs_breaks.specs.declared.types.Promise.{Promise}
+use Rattle.afs_law.proofs.Promising.{Owed}
 use Rattle.std.proofs.Common.{◌≡◌, ℕ, ◌<◌, ◌≤◌, ◌⊎◌, Bool, true, false, cond, List, [], ◌∷◌, ◌++◌, Option, Some, None}
-use Rattle.std.specs.Prelude.{⊤, filter}
+use Rattle.std.specs.Prelude.{⊤, filter, false, if◌then◌else◌}
 use Rattle.afs_num.specs.declared.types.Fid.{Fid}
 use Rattle.afs_num.specs.declared.types.Head.{Head}
 use Rattle.afs_num.specs.declared.types.Key.{Key}
@@ -9,15 +11,15 @@ use Rattle.afs_num.specs.declared.types.Node.TheVariants.{Client}
 use Rattle.afs_num.specs.declared.calls.FsCall.{FsCall}
 use Rattle.afs_num.specs.declared.messages.Message.{Message}
 use Rattle.afs_law.proofs.Basics.{Above, Each, IfBack, IfDone, OfReply}
-use Rattle.afs_law.specs.Breaks.{HasDrop, HasTimeout, last_grant, expiry_of, Owes, AllOwes, EndedBy, OweAt, CarriesBreak, WasSent, live_grant, last_number}
-use Rattle.afs_law.specs.Callbacks.{Promise, Owed, BackCall, Held, Backs, is_held, key_answered, breaks_call}
-use Rattle.afs_law.specs.ClientRow.{the_server}
+use Rattle.afs_law.specs.Breaks.{HasDrop, HasTimeout, last_grant, expiry_of, Owes, AllOwes, EndedBy, OweAt, CarriesBreak, WasSent, live_grant, last_number, lines_at}
+use Rattle.afs_rows.specs.Callbacks.{key_answered, breaks_call, is_reply_to}
 use Rattle.afs_law.specs.Legal.{HasChange}
-use Rattle.afs_law.specs.Lines.{Line}
+use Rattle.afs_history.specs.declared.lines.Line.{Line}
 use Rattle.afs_law.specs.Past.{onto, lines_of, sent_of, given_message, IsCallUnder}
-use Rattle.afs_law.specs.Runs.{Entry, Fall}
-use Rattle.afs_law.specs.States.{Seat}
+use Rattle.afs_rows.specs.Runs.{Entry, Fall, the_server}
+use Rattle.afs_rows.specs.States.{Seat, BackCall, Held, Backs}
 use Rattle.afs_model.specs.Calls.{call_seat}
+use Rattle.afs_history.specs.declared.lines.Line.TheVariants as lines
 
 abbrev pub AllOf : {A : Type 0} → (A → Type 0) → List A → Type 0
 AllOf P [] = ⊤
@@ -41,9 +43,14 @@ all_filter P q (x ∷ xs) h = all_by P (q x) x (filter q xs) h.0 (all_filter P q
 
 -- ---- the facts
 
+-- a reply waits under the key
+abbrev pub is_held : Key → List Held → Bool
+is_held k [] = false
+is_held k (h ∷ hs) = if is_reply_to k h.reply then true else is_held k hs
+
 -- a promise is that of the last grant
 abbrev pub IsGranted : List Line → Promise → Type 0
-IsGranted ls p = last_grant the_server (Client p.client) p.fid ls ≡ Some p.expiry
+IsGranted ls p = last_grant the_server p.client p.fid ls ≡ Some p.expiry
 
 abbrev pub IsIn : Owed → List Owed → Type 0
 IsIn o [] = ⊥
@@ -58,7 +65,7 @@ pub record IsOpen (owed : List Owed) (held : List Held) (ended : Type 0) (at : E
   pub o : Owed
   pub is_in : IsIn o owed
   pub number : o.number ≡ n
-  pub client : Client o.client ≡ c
+  pub client : o.client ≡ c
   pub on : o.what ≡ what
   pub expiry : expiry_of the_server c what base ≡ Some o.expiry
   pub waits : (k : Key) (boot : ℕ) → IsCallUnder the_server k boot (given_message at.lines (sent_of older)) → ended ⊎ (is_held k held ≡ true)
@@ -83,72 +90,90 @@ pub record HeldWaits (seats : List Seat) (clock : ℕ) (past : List Entry) (h : 
   pub own : AllOwes the_server (WaitedBy h clock) past
   pub all : HasChange (key_answered h.reply) (lines_of past) → AllOwes the_server (AllWaitedBy h clock) past
 
-abbrev pub IsOwed : ℕ → List Line → Owed → Type 0
-IsOwed j ls o = OweAt the_server (Client j) o.what o.number ls
+abbrev pub IsOwed : Node → List Line → Owed → Type 0
+IsOwed j ls o = OweAt the_server j o.what o.number ls
+
+abbrev pub IsClient : Node → Type 0
+IsClient (Client n) = ⊤
+IsClient n = ⊥
 
 -- an unanswered call of the server
-pub record CallOut (j : ℕ) (c : BackCall) (last boot : ℕ) (past : List Entry) : Type 0 where
+pub record CallOut (j : Node) (c : BackCall) (last boot : ℕ) (past : List Entry) : Type 0 where
   pub number : c.number ≤ last
+  pub client : IsClient j
   pub owes : AllOf (IsOwed j (lines_of past)) c.breaks
-  pub tries : (t : ℕ) → 1 ≤ t → t ≤ c.tries → HasTimeout the_server (Client j) boot c.number t (lines_of past)
+  pub tries : (t : ℕ) → 1 ≤ t → t ≤ c.tries → HasTimeout the_server j boot c.number t (lines_of past)
   pub sent : WasSent (record { node = the_server; epoch = boot; number = c.number }) [] (breaks_call c.breaks) past
   pub carries : AllOf (λ (o : Owed). CarriesBreak (breaks_call c.breaks) o.what) c.breaks
 
 -- a call of the server under way: if it is the unanswered one, it carries its breaks
-pub record BackIn (d : Option Fall) (calls : ℕ → Option BackCall) (last boot : ℕ) (head : Head) (user : List ℕ) (call : FsCall) : Type 0 where
-  pub client : ℕ
-  pub to : head.to ≡ Client client
+pub record BackIn (d : Option Fall) (calls : Node → Option BackCall) (last boot : ℕ) (head : Head) (user : List ℕ) (call : FsCall) : Type 0 where
+  pub client : Node
+  pub to : head.to ≡ client
   pub booted : head.epoch ≤ boot
   pub below : d ≡ None → head.epoch ≡ boot → head.number ≤ last
   pub is : (c : BackCall) → d ≡ None → head.epoch ≡ boot → calls client ≡ Some c → head.number ≡ c.number → call ≡ breaks_call c.breaks
 
 -- the client dropped what this break is on
-pub record DroppedOwe (j : ℕ) (ls : List Line) (o : Owed) : Type 0 where
-  pub owe : OweAt the_server (Client j) o.what o.number ls
-  pub dropped : HasDrop the_server (Client j) o.what owe.newer
+pub record DroppedOwe (j : Node) (ls : List Line) (o : Owed) : Type 0 where
+  pub owe : OweAt the_server j o.what o.number ls
+  pub dropped : HasDrop the_server j o.what owe.newer
 
 -- the client was given the server's call of this epoch and number: if that is the unanswered one, it dropped what its breaks are on
-pub record IsDone (d : Option Fall) (calls : ℕ → Option BackCall) (last boot : ℕ) (past : List Entry) (j epoch number : ℕ) : Type 0 where
+pub record IsDone (d : Option Fall) (calls : Node → Option BackCall) (last boot : ℕ) (past : List Entry) (j : Node) (epoch number : ℕ) : Type 0 where
   pub booted : epoch ≤ boot
   pub below : d ≡ None → epoch ≡ boot → number ≤ last
   pub dropped : (c : BackCall) → d ≡ None → epoch ≡ boot → calls j ≡ Some c → number ≡ c.number → AllOf (DroppedOwe j (lines_of past)) c.breaks
 
-pub record DoneIn (d : Option Fall) (calls : ℕ → Option BackCall) (last boot : ℕ) (past : List Entry) (m : Message) : Type 0 where
-  pub client : ℕ
-  pub from : m.head.from ≡ Client client
+pub record DoneIn (d : Option Fall) (calls : Node → Option BackCall) (last boot : ℕ) (past : List Entry) (m : Message) : Type 0 where
+  pub client : Node
+  pub from : m.head.from ≡ client
   pub done : IsDone d calls last boot past client m.head.epoch m.head.number
 
 -- a reply that a client keeps for the server
-pub record SeatedIn (d : Option Fall) (calls : ℕ → Option BackCall) (last boot : ℕ) (past : List Entry) (j : ℕ) (m : Message) : Type 0 where
+pub record SeatedIn (d : Option Fall) (calls : Node → Option BackCall) (last boot : ℕ) (past : List Entry) (j : ℕ) (m : Message) : Type 0 where
   pub to : m.head.to ≡ the_server
   pub from : m.head.from ≡ Client j
   pub is_reply : OfReply ⊥ m.carried → ⊥
-  pub done : IsDone d calls last boot past j m.head.epoch m.head.number
+  pub done : IsDone d calls last boot past (Client j) m.head.epoch m.head.number
 
 abbrev pub IsPromised : Promise → List Promise → Type 0
 IsPromised p [] = ⊥
 IsPromised p (q ∷ ps) = (q ≡ p) ⊎ IsPromised p ps
 
-abbrev pub promise_to : ℕ → Fid → ℕ → Promise
+abbrev pub promise_to : Node → Fid → ℕ → Promise
 promise_to j f x = record { client = j; fid = f; expiry = x }
 
 -- each grant that lasts and isn't owed is promised
 abbrev pub Promised : Option Fall → List Promise → ℕ → List Line → Type 0
-Promised d ps clock ls = (j : ℕ) (f : Fid) (x : ℕ) → live_grant the_server (Client j) f ls ≡ Some x → clock < x → (d ≡ None) × IsPromised (promise_to j f x) ps
+Promised d ps clock ls = (j : Node) (f : Fid) (x : ℕ) → live_grant the_server j f ls ≡ Some x → clock < x → (d ≡ None) × IsPromised (promise_to j f x) ps
 
 -- the breaks of a boot are numbered upwards
 abbrev pub Numbered : Option Fall → ℕ → List Line → Type 0
 Numbered None last ls = last_number the_server ls ≤ last
 Numbered (Some fall) last ls = last_number the_server ls ≡ 0
 
+-- the breaks of a boot become owed in the order of their numbers
+abbrev pub Rising : List Line → Type 0
+Rising [] = ⊤
+Rising (lines.Owe q d w n ∷ older) = (q ≡ the_server → last_number the_server older < n) × Rising older
+Rising (l ∷ older) = Rising older
+
+-- promises are made to clients alone
+pub record ToClients (ps : List Promise) (os : List Owed) : Type 0 where
+  pub promised : AllOf (λ (p : Promise). IsClient p.client) ps
+  pub owed : AllOf (λ (o : Owed). IsClient o.client) os
+
 pub record BackedIn (d : Option Fall) (b : Backs) (boot : ℕ) (seats : List Seat) (cs : ℕ → Option Seat) (clock : ℕ) (sent : List Message) (past : List Entry) : Type 0 where
-  pub granted : d ≡ None → AllOf (IsGranted (lines_of past)) b.promises
-  pub promised : Promised d b.promises clock (lines_of past)
-  pub numbered : Numbered d b.last_owed (lines_of past)
-  pub accounted : AllOwes the_server (AccountedBy d b.owed b.held clock) past
-  pub owed : d ≡ None → AllOf (λ (o : Owed). IsOwed o.client (lines_of past) o) b.owed
+  pub granted : d ≡ None → AllOf (IsGranted (lines_of past)) b.lists.promises
+  pub promised : Promised d b.lists.promises clock (lines_at the_server past)
+  pub numbered : Numbered d b.lists.last_owed (lines_of past)
+  pub rising : Rising (lines_of past)
+  pub clients : d ≡ None → ToClients b.lists.promises b.lists.owed
+  pub accounted : AllOwes the_server (AccountedBy d b.lists.owed b.held clock) past
+  pub owing : d ≡ None → AllOf (λ (o : Owed). IsOwed o.client (lines_of past) o) b.lists.owed
   pub waiting : d ≡ None → AllOf (HeldWaits seats clock past) b.held
-  pub outs : d ≡ None → (j : ℕ) (c : BackCall) → b.calls j ≡ Some c → CallOut j c b.last_call boot past
+  pub outs : d ≡ None → (j : Node) (c : BackCall) → b.calls j ≡ Some c → CallOut j c b.last_call boot past
   pub calls : Each (IfBack (BackIn d b.calls b.last_call boot)) sent
   pub dones : Each (IfDone (DoneIn d b.calls b.last_call boot past)) sent
   pub seated : (j : ℕ) (seat : Seat) (m : Message) → cs j ≡ Some seat → seat.reply ≡ Some m → SeatedIn d b.calls b.last_call boot past j m

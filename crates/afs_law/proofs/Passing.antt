@@ -1,3 +1,5 @@
+use Rattle.afs_num.specs.declared.histories.ReadStatus.{ReadStatus}
+use Rattle.afs_num.specs.declared.scripts.Script.{Script}
 use Rattle.std.proofs.Common.{◌≡◌, ℕ, ◌≤◌, inl, inr, Bool, true, false, cond, List, [], ◌∷◌, ◌++◌, Option, Some, None, ℤ, refl, sym, ap, ◌∙◌, subst, arith, le_of_eq, le_trans, eqb-true}
 use Rattle.std.specs.Option.{option_map}
 use Rattle.afs_num.specs.declared.types.Fid.{Fid}
@@ -11,16 +13,16 @@ use Rattle.afs_num.specs.declared.messages.Message.{Message}
 use Rattle.afs_ideal.specs.Operations.{volume_changed, Result, changes}
 use Rattle.afs_law.proofs.Basics.{Each, IfCall, IfReply, IfNotice, each_more, each_map, if_call, if_reply, if_notice, at_more, ByClient, OfClient, by_client, both, same_node-true, same_node-refl, client_number, OfCall}
 use Rattle.afs_law.proofs.Edits.{index_in}
-use Rattle.afs_law.proofs.Facts.{IsKeptBody, Seen, IsActs, IsLastCall, View, Spot, spot, Reached, Held, IsNewest, Stands, IsCurrent, IsFetched, Fits, Answers, ReplyFact, AreKept, ClientFacts, CallIn, ReplyIn, Origin, HeldIn, ToClient, SentFacts, HasFallen, Reading, FitsReply, FitsData, FitsSet, WasChanged, WasStored, IsOne, IsNoticed}
-use Rattle.afs_law.specs.ClientRow.{the_server, body_told}
-use Rattle.afs_law.specs.Going.{asked, Going}
+use Rattle.afs_law.proofs.Facts.{IsWhole, IsOld, HasOld, FitsShown, IsKeptBody, Seen, IsActs, IsLastCall, View, Spot, spot, Reached, Held, IsNewest, Stands, IsCurrent, IsFetched, Fits, Answers, ReplyFact, AreKept, ClientFacts, CallIn, ReplyIn, Origin, HeldIn, ToClient, SentFacts, HasFallen, Reading, FitsReply, FitsData, FitsSet, WasChanged, WasStored, IsOne, IsNoticed}
+use Rattle.afs_rows.specs.ClientRow.{body_told, find_cached, status_told}
+use Rattle.afs_rows.specs.Going.{asked, Going}
 use Rattle.afs_law.specs.Grants.{has_fetched, fetch_reply, GrantOf, since, IsWithdrawn, IsDropped}
 use Rattle.afs_law.specs.Ideal.{last_version, HasVersion, reach, change_in, call_in, call_under}
 use Rattle.afs_law.specs.Legal.{IsResult, IsKey, HasChange, Cause, answer_at, IsTold}
-use Rattle.afs_law.specs.Lines.{Line}
+use Rattle.afs_history.specs.declared.lines.Line.{Line}
 use Rattle.afs_law.specs.Past.{onto, lines_of, sent_of, given_message, running, has_begun, Ran, called_key, same_key, is_called, has_sent, is_sent_since, answered_key}
-use Rattle.afs_law.specs.Runs.{Entry, Fall, at_rest, in_step, in_boot}
-use Rattle.afs_law.specs.States.{CacheEntry, Seat, ServerState}
+use Rattle.afs_rows.specs.Runs.{the_server, Entry, Fall, at_rest, in_step, in_boot}
+use Rattle.afs_rows.specs.States.{CacheEntry, Seat, ServerState, Lasting}
 use Rattle.afs_num.specs.declared.histories.Body.{Body}
 use Rattle.afs_num.specs.declared.histories.Version.{Version}
 use Rattle.std.proofs.Math.Nat.{le_refl}
@@ -50,7 +52,7 @@ pub record PassesFile (j : ℕ) (f : Fid) (e : Entry) (past : List Entry) : Type
   pub fetched : has_fetched (Client j) f e.lines ≡ false
 
 pub record PassesAct (j : ℕ) (e : Entry) (past : List Entry) : Type 0 where
-  pub runs : (o : List Line) → running (Client j) (onto o e.lines) ≡ running (Client j) o
+  pub runs : (s : Script) (o : List Line) → running s (Client j) (onto o e.lines) ≡ running s (Client j) o
   pub begins : has_begun (Client j) e.lines ≡ false
 
 abbrev pub PassesBoth : ℕ → Fid → Entry → List Entry → Type 0
@@ -99,12 +101,15 @@ pub onto_front : (a b ls : List Line) → onto (a ++ b) ls ≡ onto a ls ++ b
 onto_front a b [] = refl
 onto_front a b (l ∷ ls) = onto_front (l ∷ a) b ls
 
-abbrev pub held_over : {sp : Bool} → (j : ℕ) (f : Fid) (i : ℕ) (b : Body) (x : ℕ) (m : Message) (e : Entry) (past : List Entry) → PassesGrant j f e past → Held sp j f i b x m past → Held sp j f i b x m (e ∷ past)
-held_over j f i b x m e past p h = record {
+pub whole_over : (f : Fid) (i : ℕ) (t : ReadStatus) (b : Option Body) (e : Entry) (past : List Entry) → ((k : Body) → HasVersion f i k (lines_of past) → HasVersion f i k (lines_of (e ∷ past))) → IsWhole f i t b past → IsWhole f i t b (e ∷ past)
+whole_over f i t b e past w h = record { is = h.is; told = w h.is h.told; holds = h.holds; been = inr h.been }
+
+abbrev pub held_over : {sp : Bool} → (j : ℕ) (f : Fid) (i : ℕ) (t : ReadStatus) (b : Option Body) (x : ℕ) (m : Message) (e : Entry) (past : List Entry) → PassesGrant j f e past → Held sp j f i t b x m past → Held sp j f i t b x m (e ∷ past)
+held_over j f i t b x m e past p h = record {
   grant = grant_over (Client j) f x m e past h.grant;
   server = h.server;
   kept = λ z d. h.kept z (p.dropped h.grant.server (since (Client j) f x m past h.grant) d);
-  whole = p.version i b (lines_of past) h.whole;
+  whole = whole_over f i t b e past (λ k. p.version i k (lines_of past)) h.whole;
   base = h.base;
   split = ap (λ (o : List Line). onto o e.lines) h.split ∙ onto_front (since (Client j) f x m past h.grant) h.base e.lines;
   begun = h.begun;
@@ -134,9 +139,9 @@ pub told_behind : (k : Key) (r : Option Result) (ls o : List Line) → IsTold k 
 told_behind k (Some (changes es n)) ls o h = change_behind k ls o h
 told_behind k r ls o h = tt
 
-pub result_by : (code : ℤ) (r : Option Result) (k : Key) (ls newer : List Line) → (IsTold k r ls → IsTold k r newer) → IsResult code r k ls → IsResult code r k newer
-result_by code r k ls newer w (inl x) = inl (x.0, w x.1)
-result_by code r k ls newer w (inr x) = inr x
+pub result_by : (code : ℤ) (r : Option Result) (k : Key) (ran ls newer : List Line) → (IsTold k r ls → IsTold k r newer) → IsResult code r k ran ls → IsResult code r k ran newer
+result_by code r k ran ls newer w (inl x) = inl (x.0, w x.1)
+result_by code r k ran ls newer w (inr x) = inr x
 
 pub cause_over : (m : Message) (code : ℤ) (call : FsCall) (e : Entry) (past : List Entry) → Cause m code call past [] → Cause m code call (e ∷ past) []
 cause_over m code call e past h = record {
@@ -148,7 +153,7 @@ cause_over m code call e past h = record {
   carries = h.carries;
   own_user = h.own_user;
   asks = h.asks;
-  result = result_by code (answer_at h.user h.call h.ran.older) (answered_key m.head) (lines_of past) (lines_of (e ∷ past)) (told_onto (answered_key m.head) (answer_at h.user h.call h.ran.older) e.lines (lines_of past)) h.result;
+  result = result_by code (answer_at h.user h.call h.ran.older) (answered_key m.head) h.ran.at.lines (lines_of past) (lines_of (e ∷ past)) (told_onto (answered_key m.head) (answer_at h.user h.call h.ran.older) e.lines (lines_of past)) h.result;
 }
 
 -- and behind an entry's own lines
@@ -162,7 +167,7 @@ cause_behind m code call past own h = record {
   carries = h.carries;
   own_user = h.own_user;
   asks = h.asks;
-  result = result_by code (answer_at h.user h.call h.ran.older) (answered_key m.head) (lines_of past) (own ++ lines_of past) (told_behind (answered_key m.head) (answer_at h.user h.call h.ran.older) own (lines_of past)) h.result;
+  result = result_by code (answer_at h.user h.call h.ran.older) (answered_key m.head) h.ran.at.lines (lines_of past) (own ++ lines_of past) (told_behind (answered_key m.head) (answer_at h.user h.call h.ran.older) own (lines_of past)) h.result;
 }
 
 -- what was the newest is so still, or has its grant withdrawn
@@ -186,7 +191,8 @@ current_over j f u v w e past le p st h = record {
   reply = h.reply;
   boot = le_trans h.boot le;
   by = fetch_reply_by (has_fetched (Client j) f e.lines) (given_message e.lines (sent_of past)) (fetch_reply (Client j) f past) p.fetched ∙ h.by;
-  held = held_over j f u.index u.body u.expiry h.reply e past p.grant h.held;
+  from = h.from;
+  held = held_over j f u.index u.status u.body u.expiry h.reply e past p.grant h.held;
   state = st h.held.grant.server (since (Client j) f u.expiry h.reply past h.held.grant) h.held.server h.state;
 }
 
@@ -220,33 +226,51 @@ stands_over j f i v e past r n server newer q (inr h) = inr (record {
   changed = was_over j f server newer h.ran.seat.reply e past (asked h.act) r n q h.changed;
 })
 
+old_by : (f : Fid) (i : ℕ) (b : Option Body) (ls more : List Line) → ((k : Body) → HasVersion f i k ls → HasVersion f i k more) → IsOld f i b ls → IsOld f i b more
+old_by f i None ls more w h = tt
+old_by f i (Some b) ls more w h = w b h
+
+-- what is held of bodies stays so
+pub old_over : (cache : List CacheEntry) (ls more : List Line) → ((f : Fid) (i : ℕ) (k : Body) → HasVersion f i k ls → HasVersion f i k more) → HasOld cache ls → HasOld cache more
+old_over cache ls more w h f u found = old_by f u.index u.body ls more (w f u.index) (h f u found)
+
+-- where others were found before
+pub old_within : (cache less : List CacheEntry) (ls : List Line) → ((f : Fid) (u : CacheEntry) → find_cached f less ≡ Some u → find_cached f cache ≡ Some u) → HasOld cache ls → HasOld less ls
+old_within cache less ls w h f u found = h f u (w f u found)
+
 -- ---- a kept reply
 
-fetched_over : {sp : Bool} → (j : ℕ) (f : Fid) (i : ℕ) (b : Body) (x : ℕ) (m : Message) (e : Entry) (past : List Entry) → PassesGrant j f e past → PassesSeen j f e past → StaysNewest j f e past → IsFetched sp j f i b x m past → IsFetched sp j f i b x m (e ∷ past)
-fetched_over j f i b x m e past p r n h = record {
-  held = held_over j f i b x m e past p h.held;
+fetched_over : {sp : Bool} → (j : ℕ) (f : Fid) (i : ℕ) (t : ReadStatus) (b : Option Body) (x : ℕ) (m : Message) (e : Entry) (past : List Entry) → PassesGrant j f e past → PassesSeen j f e past → StaysNewest j f e past → IsFetched sp j f i t b x m past → IsFetched sp j f i t b x m (e ∷ past)
+fetched_over j f i t b x m e past p r n h = record {
+  held = held_over j f i t b x m e past p h.held;
   reached = r i h.reached;
   newest = n h.held.grant.server i (since (Client j) f x m past h.held.grant) h.held.server h.newest;
 }
 
 data_over : (sp : Bool) (j : ℕ) (v : Spot) (m : Message) (e : Entry) (past : List Entry) (contents : List ℕ) (status : AfsFetchStatus) (callback : AfsCallBack) (call : FsCall) → ((f : Fid) → PassesGrant j f e past) → ((f : Fid) → PassesReach j f e past) → ((f : Fid) → StaysNewest j f e past)
     → FitsData sp j v m past contents status callback call → FitsData sp j v m (e ∷ past) contents status callback call
-data_over sp j v m e past contents status callback (calls.FetchData f position wanted) p r n h = fetched_over j f status.sync_counter (body_told status.file_type contents) callback.expiration_time m e past (p f) (r f).seen (n f) h
+data_over sp j v m e past contents status callback (calls.FetchData f position wanted) p r n h = fetched_over j f status.sync_counter (status_told status) (Some (body_told status.file_type contents)) callback.expiration_time m e past (p f) (r f).seen (n f) h
 data_over sp j v m e past contents status callback call p r n h = h
+
+shown_over : (sp : Bool) (j : ℕ) (v : Spot) (m : Message) (e : Entry) (past : List Entry) (status : AfsFetchStatus) (callback : AfsCallBack) (call : FsCall) → ((f : Fid) → PassesGrant j f e past) → ((f : Fid) → PassesReach j f e past) → ((f : Fid) → StaysNewest j f e past)
+    → FitsShown sp j v m past status callback call → FitsShown sp j v m (e ∷ past) status callback call
+shown_over sp j v m e past status callback (calls.FetchStatus f) p r n h = fetched_over j f status.sync_counter (status_told status) None callback.expiration_time m e past (p f) (r f).seen (n f) h
+shown_over sp j v m e past status callback call p r n h = h
 
 pub body_kept : (f : Fid) (i : ℕ) (ls more : List Line) → ((k : ℕ) (b : Body) → HasVersion f k b ls → HasVersion f k b more) → IsKeptBody f i ls → IsKeptBody f i more
 body_kept f i ls more w h = record { before = h.before; next = h.next; body = h.body; old = w h.before h.body h.old; new = w i h.body h.new }
 
 set_over : (j : ℕ) (v : Spot) (m : Message) (e : Entry) (past : List Entry) (status : AfsFetchStatus) (call : FsCall) → ((f : Fid) → PassesGrant j f e past) → ((f : Fid) → PassesReach j f e past)
     → FitsSet j v m past status call → FitsSet j v m (e ∷ past) status call
-set_over j v m e past status (calls.StoreData f set position wanted file_length contents) p r h = ((p f).version status.sync_counter (bodies.File contents) (lines_of past) h.0, (h.1.0, (r f).both status.sync_counter h.1.1))
-set_over j v m e past status (calls.StoreAcl f acl) p r h = (body_kept f status.sync_counter (lines_of past) (lines_of (e ∷ past)) (λ i b x. (p f).version i b (lines_of past) x) h.0, (h.1.0, (r f).both status.sync_counter h.1.1))
-set_over j v m e past status (calls.StoreStatus f set) p r h = (body_kept f status.sync_counter (lines_of past) (lines_of (e ∷ past)) (λ i b x. (p f).version i b (lines_of past) x) h.0, (h.1.0, (r f).both status.sync_counter h.1.1))
+set_over j v m e past status (calls.StoreData f set position wanted file_length contents) p r h = (((p f).version status.sync_counter (bodies.File contents) (lines_of past) h.0.0, inr h.0.1), (h.1.0, (r f).both status.sync_counter h.1.1))
+set_over j v m e past status (calls.StoreAcl f acl) p r h = ((body_kept f status.sync_counter (lines_of past) (lines_of (e ∷ past)) (λ i b x. (p f).version i b (lines_of past) x) h.0.0, inr h.0.1), (h.1.0, (r f).both status.sync_counter h.1.1))
+set_over j v m e past status (calls.StoreStatus f set) p r h = ((body_kept f status.sync_counter (lines_of past) (lines_of (e ∷ past)) (λ i b x. (p f).version i b (lines_of past) x) h.0.0, inr h.0.1), (h.1.0, (r f).both status.sync_counter h.1.1))
 set_over j v m e past status call p r h = h
 
 reply_fits : (sp : Bool) (j : ℕ) (call : FsCall) (v : Spot) (m : Message) (e : Entry) (past : List Entry) (reply : FsReply) → ((f : Fid) → PassesGrant j f e past) → ((f : Fid) → PassesReach j f e past) → ((f : Fid) → StaysNewest j f e past)
     → FitsReply sp j call v m past reply → FitsReply sp j call v m (e ∷ past) reply
 reply_fits sp j call v m e past (replies.FetchData contents status callback sync) p r n h = data_over sp j v m e past contents status callback call p r n h
+reply_fits sp j call v m e past (replies.FetchStatus status callback sync) p r n h = shown_over sp j v m e past status callback call p r n h
 reply_fits sp j call v m e past (replies.StoreData status sync) p r n h = set_over j v m e past status call p r h
 reply_fits sp j call v m e past (replies.StoreAcl status sync) p r n h = set_over j v m e past status call p r h
 reply_fits sp j call v m e past (replies.StoreStatus status sync) p r n h = set_over j v m e past status call p r h
@@ -277,9 +301,9 @@ kept_over j o v w past newer over h seat m x y = ((h seat m x y).0, over m (h se
 pub reached_more : (c : Node) (f : Fid) (i k : ℕ) (past : List Entry) → i ≤ k → Reached c f i past → Reached c f k past
 reached_more c f i k past le h = let a : (reach c f past).made ≤ i = h.made in let b : (reach c f past).seen ≤ i = h.seen in record { made = omega arith; seen = omega arith }
 
-pub client_over : (j : ℕ) (v : View) (e : Entry) (past : List Entry) → ((f : Fid) → PassesFile j f e past) → ((f : Fid) → PassesReach j f e past) → ((f : Fid) → StaysNewest j f e past) → PassesAct j e past
-    → ((f : Fid) → index_in (last_version f (lines_of past)) ≤ index_in (last_version f (lines_of (e ∷ past)))) → ClientFacts j v past → ClientFacts j v (e ∷ past)
-client_over j v e past p r n q l h =
+pub client_over : {s : Script} → (j : ℕ) (v : View) (e : Entry) (past : List Entry) → ((f : Fid) → PassesFile j f e past) → ((f : Fid) → PassesReach j f e past) → ((f : Fid) → StaysNewest j f e past) → PassesAct j e past
+    → ((f : Fid) → index_in (last_version f (lines_of past)) ≤ index_in (last_version f (lines_of (e ∷ past)))) → ClientFacts s j v past → ClientFacts s j v (e ∷ past)
+client_over {s} j v e past p r n q l h =
     let over : (m : Message) → ReplyFact j v past m → ReplyFact j v (e ∷ past) m = λ m. reply_over j v m e past (λ f. (p f).grant) r n in
     record {
       behind = h.behind;
@@ -291,26 +315,27 @@ client_over j v e past p r n q l h =
       floored = h.floored;
       holds = h.holds;
       waits = h.waits;
-      idle = λ x. q.runs (lines_of past) ∙ h.idle x;
+      idle = λ x. q.runs s (lines_of past) ∙ h.idle x;
       made = λ act x f o z. (r f).made (h.made act x f o z);
       current = λ f u found lasts. current_over j f u v v e past (le_refl _) (p f) (stands_over j f u.index v e past (r f).seen (n f)) (h.current f u found lasts);
-      runs = λ act x. q.runs (lines_of past) ∙ h.runs act x;
+      old = old_over v.cache (lines_of past) (lines_of (e ∷ past)) (λ f i k x. (p f).grant.version i k (lines_of past) x) h.old;
+      runs = λ act x. q.runs s (lines_of past) ∙ h.runs act x;
       asked = λ act x. inr (q.begins, h.asked act x);
       reached = λ f. reached_more (Client j) f (index_in (last_version f (lines_of past))) (index_in (last_version f (lines_of (e ∷ past)))) (e ∷ past) (l f) ((r f).both (index_in (last_version f (lines_of past))) (h.reached f));
     }
 
 -- over an entry that changes no file
-pub client_still : (j : ℕ) (v : View) (e : Entry) (past : List Entry) → ((f : Fid) → PassesFile j f e past) → ((f : Fid) → PassesReach j f e past) → PassesAct j e past
-    → ((f : Fid) → last_version f (lines_of (e ∷ past)) ≡ last_version f (lines_of past)) → ClientFacts j v past → ClientFacts j v (e ∷ past)
-client_still j v e past p r q l h = client_over j v e past p r (λ f. stays j f e past (p f).grant (l f)) q (λ f. le_of_eq (ap index_in (sym (l f)))) h
+pub client_still : {s : Script} → (j : ℕ) (v : View) (e : Entry) (past : List Entry) → ((f : Fid) → PassesFile j f e past) → ((f : Fid) → PassesReach j f e past) → PassesAct j e past
+    → ((f : Fid) → last_version f (lines_of (e ∷ past)) ≡ last_version f (lines_of past)) → ClientFacts s j v past → ClientFacts s j v (e ∷ past)
+client_still {s} j v e past p r q l h = client_over j v e past p r (λ f. stays j f e past (p f).grant (l f)) q (λ f. le_of_eq (ap index_in (sym (l f)))) h
 
 -- ---- messages in flight
 
-pub origin_over : (e : Entry) (past : List Entry) (head : Head) (user : List ℕ) (call : FsCall) → Origin past head user call → Origin (e ∷ past) head user call
-origin_over e past head user call o = record { act = o.act; called = inr o.called; own_user = o.own_user; own_call = o.own_call }
+pub origin_over : {s : Script} → (e : Entry) (past : List Entry) (head : Head) (user : List ℕ) (call : FsCall) → Origin s past head user call → Origin s (e ∷ past) head user call
+origin_over {s} e past head user call o = record { act = o.act; called = inr o.called; own_user = o.own_user; own_call = o.own_call }
 
-pub older_origins : (sent : List Message) (e : Entry) (past : List Entry) → Each (IfCall (Origin past)) sent → Each (IfCall (Origin (e ∷ past))) sent
-older_origins sent e past h = each_map (IfCall (Origin past)) (IfCall (Origin (e ∷ past))) (if_call (Origin past) (Origin (e ∷ past)) (origin_over e past)) sent h
+pub older_origins : (s : Script) (sent : List Message) (e : Entry) (past : List Entry) → Each (IfCall (Origin s past)) sent → Each (IfCall (Origin s (e ∷ past))) sent
+older_origins s sent e past h = each_map (IfCall (Origin s past)) (IfCall (Origin s (e ∷ past))) (if_call (Origin s past) (Origin s (e ∷ past)) (origin_over e past)) sent h
 
 -- ---- calls of the act that began last
 
@@ -344,14 +369,14 @@ acts_by false true rest S x e p q = absurd cc
 acts_by false false rest S x e p q = q refl e
 
 -- the act that runs by the lines is the client's
-runs_now : (j : ℕ) (v : View) (past : List Entry) (o : Option Going) (a : Going) → v.running ≡ o → ClientFacts j v past → running (Client j) (lines_of past) ≡ Some a → v.running ≡ Some a
-runs_now j v past None a e h r = let none = h.idle e in absurd cc
-runs_now j v past (Some b) a e h r = e ∙ (sym (h.runs b e) ∙ r)
+runs_now : {s : Script} → (j : ℕ) (v : View) (past : List Entry) (o : Option Going) (a : Going) → v.running ≡ o → ClientFacts s j v past → running s (Client j) (lines_of past) ≡ Some a → v.running ≡ Some a
+runs_now {s} j v past None a e h r = let none = h.idle e in absurd cc
+runs_now {s} j v past (Some b) a e h r = e ∙ (sym (h.runs b e) ∙ r)
 
-act_over : (e : Entry) (past : List Entry) (w : ℕ → View) (head : Head) (user : List ℕ) (call : FsCall) → Each (IfCall (IsLastCall w)) e.sent → ((j : ℕ) → ClientFacts j (w j) (e ∷ past)) → ((j : ℕ) (a : Going) → (w j).running ≡ Some a → has_begun (Client j) e.lines ≡ false → ((running (Client j) (lines_of past) ≡ Some a) ⊎ Reading (running (Client j) (lines_of past)))) → CallIn w head user call → IsActs past head user call → IsActs (e ∷ past) head user call
-act_over e past w head user call lasts now k f h of_act act r =
+act_over : {s : Script} → (e : Entry) (past : List Entry) (w : ℕ → View) (head : Head) (user : List ℕ) (call : FsCall) → Each (IfCall (IsLastCall w)) e.sent → ((j : ℕ) → ClientFacts s j (w j) (e ∷ past)) → ((j : ℕ) (a : Going) → (w j).running ≡ Some a → has_begun (Client j) e.lines ≡ false → ((running s (Client j) (lines_of past) ≡ Some a) ⊎ Reading (running s (Client j) (lines_of past)))) → CallIn w head user call → IsActs s past head user call → IsActs s (e ∷ past) head user call
+act_over {s} e past w head user call lasts now k f h of_act act r =
     let since = (both (same_node head.from head.from) _ of_act).1 in
-    let runs : (w f.client).running ≡ Some act = runs_now f.client (w f.client) (e ∷ past) (w f.client).running act refl (now f.client) (subst (λ (n : Node). running n (lines_of (e ∷ past)) ≡ Some act) f.from r) in
+    let runs : (w f.client).running ≡ Some act = runs_now f.client (w f.client) (e ∷ past) (w f.client).running act refl (now f.client) (subst (λ (n : Node). running s n (lines_of (e ∷ past)) ≡ Some act) f.from r) in
     acts_by (has_sent (called_key head) e.sent) (has_begun head.from e.lines) ⊤ ((volume_changed call ≡ None) ⊎ (call ≡ asked act)) (is_sent_since head.from (called_key head) past) since
     (λ sent. let x : IsAmong (called_key head) (ByClient (IsLastCall w)) = among (called_key head) (IsLastCall w) e.sent sent lasts in
     let p = both _ _ x.key in
@@ -363,8 +388,8 @@ act_over e past w head user call lasts now k f h of_act act r =
     let number : head.number ≡ (w f.client).last = sym (eqb-true _ _ q.1) ∙ (its.number ∙ ap (λ (j : ℕ). (w j).last) one) in
     inr (f.fact.own act runs epoch number))
     (λ none old. elim (k f.client act runs (subst (λ (n : Node). has_begun n e.lines ≡ false) f.from none)) [
-      | inl x ↦ h (rw (same_node-refl head.from) old) act (subst (λ (n : Node). running n (lines_of past) ≡ Some act) (sym f.from) x)
-      | inr x ↦ elim (h (rw (same_node-refl head.from) old) x.act (subst (λ (n : Node). running n (lines_of past) ≡ Some x.act) (sym f.from) x.runs)) [ inl y ↦ inl y | inr y ↦ inl (ap volume_changed y ∙ x.read) ]
+      | inl x ↦ h (rw (same_node-refl head.from) old) act (subst (λ (n : Node). running s n (lines_of past) ≡ Some act) (sym f.from) x)
+      | inr x ↦ elim (h (rw (same_node-refl head.from) old) x.act (subst (λ (n : Node). running s n (lines_of past) ≡ Some x.act) (sym f.from) x.runs)) [ inl y ↦ inl y | inr y ↦ inl (ap volume_changed y ∙ x.read) ]
     ])
 
 both_client : (n : Node) (X Y Z : Type 0) → (X → Y → Z) → OfClient n X → OfClient n Y → OfClient n Z
@@ -373,17 +398,17 @@ both_client (Server n) X Y Z w x y = tt
 both_client (Admin n) X Y Z w x y = tt
 both_client Loc X Y Z w x y = tt
 
-acts_one : (c : Carried) (head : Head) (e : Entry) (past : List Entry) (w : ℕ → View) → Each (IfCall (IsLastCall w)) e.sent → ((j : ℕ) → ClientFacts j (w j) (e ∷ past)) → ((j : ℕ) (a : Going) → (w j).running ≡ Some a → has_begun (Client j) e.lines ≡ false → ((running (Client j) (lines_of past) ≡ Some a) ⊎ Reading (running (Client j) (lines_of past)))) → OfCall (ByClient (CallIn w)) head c → OfCall (ByClient (IsActs past)) head c → OfCall (ByClient (IsActs (e ∷ past))) head c
-acts_one (carried.Call user (ask.File call)) head e past w lasts now k f h = both_client head.from _ _ _ (act_over e past w head user call lasts now k) f h
-acts_one (carried.Call user (ask.Volume call)) head e past w lasts now k f h = absurd f
-acts_one (carried.Call user (ask.Location call)) head e past w lasts now k f h = absurd f
-acts_one (carried.Refusal code) head e past w lasts now k f h = tt
-acts_one (carried.Reply reply) head e past w lasts now k f h = tt
-acts_one carried.Notice head e past w lasts now k f h = tt
+acts_one : {s : Script} → (c : Carried) (head : Head) (e : Entry) (past : List Entry) (w : ℕ → View) → Each (IfCall (IsLastCall w)) e.sent → ((j : ℕ) → ClientFacts s j (w j) (e ∷ past)) → ((j : ℕ) (a : Going) → (w j).running ≡ Some a → has_begun (Client j) e.lines ≡ false → ((running s (Client j) (lines_of past) ≡ Some a) ⊎ Reading (running s (Client j) (lines_of past)))) → OfCall (ByClient (CallIn w)) head c → OfCall (ByClient (IsActs s past)) head c → OfCall (ByClient (IsActs s (e ∷ past))) head c
+acts_one {s} (carried.Call user (ask.File call)) head e past w lasts now k f h = both_client head.from _ _ _ (act_over e past w head user call lasts now k) f h
+acts_one {s} (carried.Call user (ask.Volume call)) head e past w lasts now k f h = absurd f
+acts_one {s} (carried.Call user (ask.Location call)) head e past w lasts now k f h = absurd f
+acts_one {s} (carried.Refusal code) head e past w lasts now k f h = tt
+acts_one {s} (carried.Reply reply) head e past w lasts now k f h = tt
+acts_one {s} carried.Notice head e past w lasts now k f h = tt
 
-pub acts_over : (sent : List Message) (e : Entry) (past : List Entry) (w : ℕ → View) → Each (IfCall (IsLastCall w)) e.sent → ((j : ℕ) → ClientFacts j (w j) (e ∷ past)) → ((j : ℕ) (a : Going) → (w j).running ≡ Some a → has_begun (Client j) e.lines ≡ false → ((running (Client j) (lines_of past) ≡ Some a) ⊎ Reading (running (Client j) (lines_of past)))) → Each (IfCall (CallIn w)) sent → Each (IfCall (IsActs past)) sent → Each (IfCall (IsActs (e ∷ past))) sent
-acts_over [] e past w lasts now k c h = tt
-acts_over (m ∷ sent) e past w lasts now k c h = (acts_one m.carried m.head e past w lasts now k c.0 h.0, acts_over sent e past w lasts now k c.1 h.1)
+pub acts_over : {s : Script} → (sent : List Message) (e : Entry) (past : List Entry) (w : ℕ → View) → Each (IfCall (IsLastCall w)) e.sent → ((j : ℕ) → ClientFacts s j (w j) (e ∷ past)) → ((j : ℕ) (a : Going) → (w j).running ≡ Some a → has_begun (Client j) e.lines ≡ false → ((running s (Client j) (lines_of past) ≡ Some a) ⊎ Reading (running s (Client j) (lines_of past)))) → Each (IfCall (CallIn w)) sent → Each (IfCall (IsActs s past)) sent → Each (IfCall (IsActs s (e ∷ past))) sent
+acts_over {s} [] e past w lasts now k c h = tt
+acts_over {s} (m ∷ sent) e past w lasts now k c h = (acts_one m.carried m.head e past w lasts now k c.0 h.0, acts_over sent e past w lasts now k c.1 h.1)
 
 -- ---- each key has one call
 
@@ -399,12 +424,12 @@ pub ones_more : (old sent ms : List Message) → Each (IfCall (IsOne sent)) old 
 ones_more old sent ms h = each_map (IfCall (IsOne sent)) (IfCall (IsOne (sent ++ ms))) (if_call (IsOne sent) (IsOne (sent ++ ms)) (λ head user call o. one_more (called_key head) sent ms (user, call) o)) old h
 
 -- what is known of the messages that a step sends
-pub record News (ms : List Message) (views : ℕ → View) (boot : ℕ) (past : List Entry) : Type 0 where
+pub record News (s : Script) (ms : List Message) (views : ℕ → View) (boot : ℕ) (past : List Entry) : Type 0 where
   pub calls : Each (IfCall (CallIn views)) ms
   pub replies : Each (IfReply (ReplyIn views past)) ms
   pub notices : Each (IfNotice (IsNoticed boot)) ms
-  pub origins : Each (IfCall (Origin past)) ms
-  pub acts : Each (IfCall (IsActs past)) ms
+  pub origins : Each (IfCall (Origin s past)) ms
+  pub acts : Each (IfCall (IsActs s past)) ms
   pub lasts : Each (IfCall (IsLastCall views)) ms
   pub to_clients : Each (λ m. OfCall ToClient m.head m.carried) ms
   pub ones : Each (IfCall (IsOne (sent_of past))) ms
@@ -417,17 +442,17 @@ replies_over sent v w past newer over h = each_map (IfReply (ReplyIn v past)) (I
 pub waiting_over : (held : List Message) (v w : ℕ → View) (past newer : List Entry) → ((j : ℕ) (m : Message) → ReplyFact j (v j) past m → ReplyFact j (w j) newer m) → Each (HeldIn v past) held → Each (HeldIn w newer) held
 waiting_over held v w past newer over h = each_map (HeldIn v past) (HeldIn w newer) (λ m f. record { client = f.client; to = f.to; from = f.from; half = f.half; is_reply = f.is_reply; fact = over f.client m f.fact }) held h
 
-pub more_sent : (sent held after : List Message) (v w : ℕ → View) (b d : ℕ) (e : Entry) (past : List Entry) → SentFacts sent held v b past → b ≤ d → ((j : ℕ) → ClientFacts j (w j) (e ∷ past)) → ((j : ℕ) (a : Going) → (w j).running ≡ Some a → has_begun (Client j) e.lines ≡ false → ((running (Client j) (lines_of past) ≡ Some a) ⊎ Reading (running (Client j) (lines_of past)))) → Each (IfCall (CallIn w)) sent → ((j : ℕ) (m : Message) → ReplyFact j (v j) past m → ReplyFact j (w j) (e ∷ past) m)
-    → (Each (HeldIn w (e ∷ past)) held → News e.sent w d (e ∷ past) × Each (HeldIn w (e ∷ past)) after) → SentFacts (sent ++ e.sent) after w d (e ∷ past)
-more_sent sent held after v w b d e past h le now k c over pass =
+pub more_sent : {s : Script} → (sent held after : List Message) (v w : ℕ → View) (b d : ℕ) (e : Entry) (past : List Entry) → SentFacts s sent held v b past → b ≤ d → ((j : ℕ) → ClientFacts s j (w j) (e ∷ past)) → ((j : ℕ) (a : Going) → (w j).running ≡ Some a → has_begun (Client j) e.lines ≡ false → ((running s (Client j) (lines_of past) ≡ Some a) ⊎ Reading (running s (Client j) (lines_of past)))) → Each (IfCall (CallIn w)) sent → ((j : ℕ) (m : Message) → ReplyFact j (v j) past m → ReplyFact j (w j) (e ∷ past) m)
+    → (Each (HeldIn w (e ∷ past)) held → News s e.sent w d (e ∷ past) × Each (HeldIn w (e ∷ past)) after) → SentFacts s (sent ++ e.sent) after w d (e ∷ past)
+more_sent {s} sent held after v w b d e past h le now k c over pass =
     let got = pass (waiting_over held v w past (e ∷ past) over h.waiting) in
-    let n : News e.sent w d (e ∷ past) = got.0 in
+    let n : News s e.sent w d (e ∷ past) = got.0 in
     record {
       calls = each_more (IfCall (CallIn w)) sent e.sent c n.calls;
       replies = each_more (IfReply (ReplyIn w (e ∷ past))) sent e.sent (replies_over sent v w past (e ∷ past) over h.replies) n.replies;
       notices = each_more (IfNotice (IsNoticed d)) sent e.sent (each_map (IfNotice (IsNoticed b)) (IfNotice (IsNoticed d)) (if_notice (IsNoticed b) (IsNoticed d) (λ m x. le_trans x le)) sent h.notices) n.notices;
-      origins = each_more (IfCall (Origin (e ∷ past))) sent e.sent (older_origins sent e past h.origins) n.origins;
-      acts = each_more (IfCall (IsActs (e ∷ past))) sent e.sent (acts_over sent e past w n.lasts now k c h.acts) n.acts;
+      origins = each_more (IfCall (Origin s (e ∷ past))) sent e.sent (older_origins s sent e past h.origins) n.origins;
+      acts = each_more (IfCall (IsActs s (e ∷ past))) sent e.sent (acts_over sent e past w n.lasts now k c h.acts) n.acts;
       ones = each_more (IfCall (IsOne (sent ++ e.sent))) sent e.sent (ones_more sent sent e.sent h.ones) (subst (λ (x : List Message). Each (IfCall (IsOne (x ++ e.sent))) e.sent) h.told n.ones);
       told = ap (λ (ms : List Message). ms ++ e.sent) h.told;
       waiting = got.1;
@@ -440,7 +465,7 @@ pub replies_still : (sent : List Message) (v : ℕ → View) (e : Entry) (past :
 replies_still sent v e past p r l h = replies_over sent v v past (e ∷ past) (λ j m. reply_over j (v j) m e past (λ f. (p j f).grant) (r j) (λ f. stays j f e past (p j f).grant (l f))) h
 
 -- a step that was interrupted stays so
-pub fallen_over : (down : Option Fall) (server : ServerState) (sent ms : List Message) (e : Entry) (past : List Entry) → HasFallen down server sent past → HasFallen down server (sent ++ ms) (e ∷ past)
+pub fallen_over : (down : Option Fall) (server : Lasting) (sent ms : List Message) (e : Entry) (past : List Entry) → HasFallen down server sent past → HasFallen down server (sent ++ ms) (e ∷ past)
 fallen_over None server sent ms e past h = tt
 fallen_over (Some at_rest) server sent ms e past h = tt
 fallen_over (Some in_boot) server sent ms e past h = tt

@@ -14,15 +14,14 @@ use Rattle.afs_law.proofs.Asking.{step_entry, Passes, other_client}
 use Rattle.afs_law.proofs.Backing.{all_lines, is_up, is_still, is_oweless, is_unchanging}
 use Rattle.afs_law.proofs.Facts.{server_boot}
 use Rattle.afs_law.proofs.Passing.{PassesGrant}
-use Rattle.afs_law.specs.ClientRow.{the_server}
-use Rattle.afs_law.specs.Going.{began, read_on}
+use Rattle.afs_rows.specs.Going.{began, read_on}
 use Rattle.afs_law.specs.Grants.{has_fetched, IsWithdrawn, IsDropped}
 use Rattle.afs_law.specs.Ideal.{last_version, HasVersion, Accepts, clock_of, Reach, raised, reach_over, reach, is_zero_code, change_key, changed_under, volume_after}
 use Rattle.afs_law.specs.Legal.{IsNew}
-use Rattle.afs_law.specs.Lines.{Line}
+use Rattle.afs_history.specs.declared.lines.Line.{Line}
 use Rattle.afs_law.specs.Past.{onto, sent_of, given_message, has_begun, running, IsCallUnder}
-use Rattle.afs_law.specs.Runs.{Entry}
-use Rattle.afs_law.specs.Lines as lines
+use Rattle.afs_rows.specs.Runs.{the_server, locations, Entry}
+use Rattle.afs_history.specs.declared.lines.Line.TheVariants as lines
 
 -- Lines of a client that begins an act, is given a message, reads, or answers: what they leave as it was.
 
@@ -118,12 +117,12 @@ boot_line n l q o = absurd q
 is_other : (n j : ℕ) (m : Node) → (n ≡ j → ⊥) → m ≡ Client n → (P : Bool → Type 0) → P false → P (same_node m (Client j))
 is_other n j m ne e P h = subst P (sym (ap (λ (x : Node). same_node x (Client j)) e ∙ other_client n j ne)) h
 
-runs_line : (n j : ℕ) → (n ≡ j → ⊥) → (l : Line) → IsQuiet n l → (o : List Line) → running (Client j) (l ∷ o) ≡ running (Client j) o
-runs_line n j ne (lines.Begin m a) q o = is_other n j m ne q (λ t. cond t (Some (began a)) (running (Client j) o) ≡ running (Client j) o) refl
-runs_line n j ne (lines.Given p) q o = refl
-runs_line n j ne (lines.Read m g k source body) q o = is_other n j m ne q (λ t. read_on t g body (running (Client j) o) ≡ running (Client j) o) refl
-runs_line n j ne (lines.Answer m code) q o = is_other n j m ne q (λ t. cond t None (running (Client j) o) ≡ running (Client j) o) refl
-runs_line n j ne l q o = absurd q
+runs_line : (s : Script) (n j : ℕ) → (n ≡ j → ⊥) → (l : Line) → IsQuiet n l → (o : List Line) → running s (Client j) (l ∷ o) ≡ running s (Client j) o
+runs_line s n j ne (lines.Begin m a) q o = is_other n j m ne q (λ t. cond t (Some (began (locations s) a)) (running s (Client j) o) ≡ running s (Client j) o) refl
+runs_line s n j ne (lines.Given p) q o = refl
+runs_line s n j ne (lines.Read m g k source body) q o = is_other n j m ne q (λ t. read_on t g body (running s (Client j) o) ≡ running s (Client j) o) refl
+runs_line s n j ne (lines.Answer m code) q o = is_other n j m ne q (λ t. cond t None (running s (Client j) o) ≡ running s (Client j) o) refl
+runs_line s n j ne l q o = absurd q
 
 -- ---- all of them
 
@@ -228,7 +227,7 @@ quiet_passes s n ls ms past q dull = record {
     seen = λ i h. subst (λ (r : Reach). r.seen ≤ i) (sym same) h;
     made = λ h. ap (λ (r : Reach). r.made) same ∙ h;
   };
-  act = λ j ne. record { runs = λ o. quiet_same n (running (Client j)) (runs_line n j ne) ls q o; begins = quiet_begins n j ne ls q };
+  act = λ j ne. record { runs = λ s o. quiet_same n (running s (Client j)) (runs_line s n j ne) ls q o; begins = quiet_begins n j ne ls q };
   last = λ f o. quiet_last n f ls q o;
   back = λ f i b o x. quiet_back n (HasVersion f i b) (back_line n f i b) ls q o x;
   new = λ k o x. quiet_on n (IsNew k) (new_line n k) ls q o x;

@@ -7,26 +7,25 @@ use Rattle.afs_num.specs.declared.calls.FsCall.{FsCall}
 use Rattle.afs_num.specs.declared.messages.Message.{Message}
 use Rattle.afs_num.specs.declared.scripts.Script.{Script}
 use Rattle.afs_num.specs.declared.histories.Actor.{Actor}
-use Rattle.afs_num.specs.declared.histories.Actor.TheVariants as actors
 use Rattle.afs_num.specs.declared.histories.Body.{Body}
 use Rattle.afs_law.proofs.Backing.{Plain, all_lines, is_up, is_still, is_oweless, is_unchanging, backed_plain, backed_fall, plain_step, seated_over}
 use Rattle.afs_law.proofs.Basics.{Each, IfCall, each_map, if_call}
 use Rattle.afs_law.proofs.Edits.{index_in, fid_at, sound_same}
-use Rattle.afs_law.proofs.Facts.{IsKnown, HoldsAt, server_boot, up_boot, IsLastCall, View, view, ClientFacts, IsSafe, CallIn, HasFallen, AreUnheard, Holds, Goes}
+use Rattle.afs_law.proofs.Facts.{IsKnown, HoldsAt, server_boot, up_boot, IsLastCall, View, view, ClientFacts, IsSafe, CallIn, HasFallen, AreUnheard, Holds, Goes, back_seat}
 use Rattle.afs_law.proofs.Owing.{BackedIn}
 use Rattle.afs_law.proofs.Passing.{waiting_over, PassesFile, PassesAct, PassesReach, client_still, replies_over, reply_over, stays, acts_over, fallen_over, older_origins}
 use Rattle.afs_law.specs.Breaks.{HasStopped}
-use Rattle.afs_law.specs.Callbacks.{replies_of}
-use Rattle.afs_law.specs.ClientRow.{the_server}
-use Rattle.afs_law.specs.Going.{Going}
+use Rattle.afs_rows.specs.Callbacks.{replies_of}
+use Rattle.afs_rows.specs.Going.{Going}
 use Rattle.afs_law.specs.Ideal.{last_version, HasVersion, Accepts, clock_of, volume_after}
 use Rattle.afs_law.specs.Legal.{IsNew}
-use Rattle.afs_law.specs.Lines.{Line}
+use Rattle.afs_history.specs.declared.lines.Line.{Line}
 use Rattle.afs_law.specs.Past.{onto, lines_of, sent_of, given_message, IsCallUnder}
-use Rattle.afs_law.specs.Runs.{Entry, Cell, Armed, Fall, voided, ticked, server_set, blow_line}
-use Rattle.afs_law.specs.States.{CacheEntry}
+use Rattle.afs_rows.specs.Runs.{Entry, Cell, Armed, Fall, voided, ticked, server_set, blow_line, the_server}
+use Rattle.afs_rows.specs.States.{CacheEntry}
 use Rattle.afs_num.specs.declared.histories.Version.{Version}
-use Rattle.afs_law.specs.Lines as lines
+use Rattle.afs_num.specs.declared.histories.Actor.TheVariants as actors
+use Rattle.afs_history.specs.declared.lines.Line.TheVariants as lines
 
 -- Entries that leave the server, the clients and what was sent as they were: nothing happens, the clock rises, a disk is set,
 -- a node begins again with nothing done, the server stops.
@@ -56,8 +55,8 @@ later_known : (n : ℕ) (act : Going) (clock : ℕ) (f : Fid) (cache : List Cach
 later_known n act clock f cache (inl x) = inl x
 later_known n act clock f cache (inr x) = let l : clock + n < x.entry.expiry = x.lasts in inr (record { entry = x.entry; found = x.found; lasts = omega arith })
 
-later_client : (n j : ℕ) (v : View) (past : List Entry) → ClientFacts j v past → ClientFacts j (later_view n v) past
-later_client n j v past h = record {
+later_client : {s : Script} → (n j : ℕ) (v : View) (past : List Entry) → ClientFacts s j v past → ClientFacts s j (later_view n v) past
+later_client {s} n j v past h = record {
   behind = h.behind;
   behind_durable = h.behind_durable;
   lower = h.lower;
@@ -70,6 +69,7 @@ later_client n j v past h = record {
   idle = h.idle;
   made = λ act x f o z. h.made act x f o (later_known n act v.clock f v.cache z);
   current = λ f e at lasts. h.current f e at (omega arith);
+  old = h.old;
   runs = h.runs;
   asked = h.asked;
   reached = h.reached;
@@ -88,12 +88,14 @@ calls_rested s c n d armed past h = each_map (IfCall (CallIn (view h.floors c)))
 })) c.sent h.sent.calls
 
 pub rests : (s : Script) (b : Option ℕ) (c : Cell) (past : List Entry) (e : Entry) (n : ℕ) (d : Option Fall) (armed : Armed) → (h : Holds s c past) → server_boot the_server (lines_of (e ∷ past)) ≡ b → e.sent ≡ [] → Rests s e past → clock_of (lines_of (e ∷ past)) ≡ clock_of (lines_of past) + n
-    → AreUnheard d c.server.seats c.server.boot (e ∷ past) → HasFallen d c.server c.sent (e ∷ past) → (b ≡ up_boot d c.server.boot → BackedIn d c.backs c.server.boot c.server.seats (λ j. (c.clients j).seat) (c.clock + n) c.sent (e ∷ past)) → HoldsAt s b (rested c n d armed) (e ∷ past)
+    → AreUnheard d c.server.seats c.server.lasting.boot (e ∷ past) → HasFallen d c.server.lasting c.sent (e ∷ past) → (b ≡ up_boot d c.server.lasting.boot → BackedIn d c.server.backs c.server.lasting.boot c.server.seats (λ j. back_seat (c.clients j)) (c.clock + n) c.sent (e ∷ past)) → HoldsAt s b (rested c n d armed) (e ∷ past)
 rests s b c past e n d armed h boots none p clock heard fallen backs =
-    let now : (j : ℕ) → ClientFacts j (view h.floors (rested c n d armed) j) (e ∷ past) = λ j. later_client n j (view h.floors c j) (e ∷ past) (client_still j (view h.floors c j) e past (p.file j) (p.reach j) (p.act j) (λ f. p.last f (lines_of past)) (h.clients j)) in
+    let now : (j : ℕ) → ClientFacts s j (view h.floors (rested c n d armed) j) (e ∷ past) = λ j. later_client n j (view h.floors c j) (e ∷ past) (client_still j (view h.floors c j) e past (p.file j) (p.reach j) (p.act j) (λ f. p.last f (lines_of past)) (h.clients j)) in
     record {
       floors = h.floors;
       count = h.count;
+      own = h.own;
+      servers = h.servers;
       ideal = λ id. h.ideal id ∙ sym (p.ideal id);
       fine = h.fine;
       sound = λ id. sound_same id _ (lines_of past) (lines_of (e ∷ past)) (λ m u. p.last (fid_at id m u) (lines_of past)) (h.sound id);
@@ -108,11 +110,11 @@ rests s b c past e n d armed h boots none p clock heard fallen backs =
         replies = replies_over c.sent (view h.floors c) (view h.floors (rested c n d armed)) past (e ∷ past)
             (λ j m. reply_over j (view h.floors c j) m e past (λ f. (p.file j f).grant) (p.reach j) (λ f. stays j f e past (p.file j f).grant (p.last f (lines_of past)))) h.sent.replies;
         notices = h.sent.notices;
-        origins = older_origins c.sent e past h.sent.origins;
+        origins = older_origins s c.sent e past h.sent.origins;
         acts = acts_over c.sent e past (view h.floors (rested c n d armed)) (subst (λ (ms : List Message). Each (IfCall (IsLastCall (view h.floors (rested c n d armed)))) ms) (sym none) tt) now (λ j a x z. inl ((h.clients j).runs a x)) (calls_rested s c n d armed past h) h.sent.acts;
         ones = h.sent.ones;
         told = ap (λ (ms : List Message). sent_of past ++ ms) none ∙ (append-nil _ ∙ h.sent.told);
-        waiting = waiting_over (replies_of c.backs.held) (view h.floors c) (view h.floors (rested c n d armed)) past (e ∷ past)
+        waiting = waiting_over (replies_of c.server.backs.held) (view h.floors c) (view h.floors (rested c n d armed)) past (e ∷ past)
             (λ j m. reply_over j (view h.floors c j) m e past (λ f. (p.file j f).grant) (p.reach j) (λ f. stays j f e past (p.file j f).grant (p.last f (lines_of past)))) h.sent.waiting;
         to_clients = h.sent.to_clients;
       };
@@ -124,30 +126,30 @@ rests s b c past e n d armed h boots none p clock heard fallen backs =
     }
 
 -- what the server has in memory passes over such an entry: the clock rose, or the server went down
-pub rest_backed : (s : Script) (c : Cell) (past : List Entry) (e : Entry) (n : ℕ) → Plain e.lines → Holds s c past → BackedIn c.down c.backs c.server.boot c.server.seats (λ j. (c.clients j).seat) (c.clock + n) c.sent (e ∷ past)
+pub rest_backed : (s : Script) (c : Cell) (past : List Entry) (e : Entry) (n : ℕ) → Plain e.lines → Holds s c past → BackedIn c.down c.server.backs c.server.lasting.boot c.server.seats (λ j. back_seat (c.clients j)) (c.clock + n) c.sent (e ∷ past)
 rest_backed s c past e n p h =
     let b = h.backs refl in
     let le : c.clock ≤ c.clock + n = omega arith in
-    subst (λ (ms : List Message). BackedIn c.down c.backs c.server.boot c.server.seats (λ j. (c.clients j).seat) (c.clock + n) ms (e ∷ past)) (append-nil c.sent)
-    (backed_plain c.down c.backs c.server.boot c.server.seats (λ j. (c.clients j).seat) (λ j. (c.clients j).seat) c.clock (c.clock + n) c.sent [] e past p le b tt tt
-    (λ j seat m x y. seated_over c.down c.down c.backs c.backs c.server.boot c.clock (c.clock + n) e past (plain_step c.down c.backs c.clock (c.clock + n) e past p le) j m (b.seated j seat m x y)))
+    subst (λ (ms : List Message). BackedIn c.down c.server.backs c.server.lasting.boot c.server.seats (λ j. back_seat (c.clients j)) (c.clock + n) ms (e ∷ past)) (append-nil c.sent)
+    (backed_plain c.down c.server.backs c.server.lasting.boot c.server.seats (λ j. back_seat (c.clients j)) (λ j. back_seat (c.clients j)) c.clock (c.clock + n) c.sent [] e past p le b tt tt
+    (λ j seat m x y. seated_over c.down c.down c.server.backs c.server.backs c.server.lasting.boot c.clock (c.clock + n) e past (plain_step c.down c.server.backs c.clock (c.clock + n) e past p le) j m (b.seated j seat m x y)))
 
-pub fall_backed : (s : Script) (c : Cell) (past : List Entry) (e : Entry) (fall : Fall) → all_lines is_oweless e.lines ≡ true → all_lines is_still e.lines ≡ true → (c.down ≡ None → (o : List Line) → HasStopped the_server (onto o e.lines)) → Holds s c past → BackedIn (Some fall) c.backs c.server.boot c.server.seats (λ j. (c.clients j).seat) (c.clock + 0) c.sent (e ∷ past)
+pub fall_backed : (s : Script) (c : Cell) (past : List Entry) (e : Entry) (fall : Fall) → all_lines is_oweless e.lines ≡ true → all_lines is_still e.lines ≡ true → (c.down ≡ None → (o : List Line) → HasStopped the_server (onto o e.lines)) → Holds s c past → BackedIn (Some fall) c.server.backs c.server.lasting.boot c.server.seats (λ j. back_seat (c.clients j)) (c.clock + 0) c.sent (e ∷ past)
 fall_backed s c past e fall p still stop h =
     let zero_more : c.clock ≡ c.clock + 0 = omega arith in
-    subst (λ (t : ℕ). BackedIn (Some fall) c.backs c.server.boot c.server.seats (λ j. (c.clients j).seat) t c.sent (e ∷ past)) zero_more
-    (subst (λ (ms : List Message). BackedIn (Some fall) c.backs c.server.boot c.server.seats (λ j. (c.clients j).seat) c.clock ms (e ∷ past)) (append-nil c.sent)
-    (backed_fall c.down fall c.backs c.server.boot c.server.seats c.server.seats (λ j. (c.clients j).seat) c.clock c.sent e past p still stop (h.backs refl)))
+    subst (λ (t : ℕ). BackedIn (Some fall) c.server.backs c.server.lasting.boot c.server.seats (λ j. back_seat (c.clients j)) t c.sent (e ∷ past)) zero_more
+    (subst (λ (ms : List Message). BackedIn (Some fall) c.server.backs c.server.lasting.boot c.server.seats (λ j. back_seat (c.clients j)) c.clock ms (e ∷ past)) (append-nil c.sent)
+    (backed_fall c.down fall c.server.backs c.server.lasting.boot c.server.seats c.server.seats (λ j. back_seat (c.clients j)) c.clock c.sent e past p still stop (h.backs refl)))
 
 pub plain_refl : (l : Line) → is_up l ≡ true → is_still l ≡ true → is_oweless l ≡ true → is_unchanging l ≡ true → Plain (l ∷ [])
 plain_refl l a b c d = record { up = rw a refl; still = rw b refl; oweless = rw c refl; unchanging = rw d refl }
 
 -- the server stays up, or down, and nobody is given a message
-pub unheard_still : (d : Option Fall) (c : Cell) (e : Entry) (past : List Entry) → given_message e.lines (sent_of past) ≡ None → AreUnheard d c.server.seats c.server.boot past → AreUnheard d c.server.seats c.server.boot (e ∷ past)
+pub unheard_still : (d : Option Fall) (c : Cell) (e : Entry) (past : List Entry) → given_message e.lines (sent_of past) ≡ None → AreUnheard d c.server.seats c.server.lasting.boot past → AreUnheard d c.server.seats c.server.lasting.boot (e ∷ past)
 unheard_still d c e past none h k b may = (λ x. subst (λ (o : Option Message). IsCallUnder the_server k b o) none x, h k b may)
 
-pub fallen_still : (d : Option Fall) (c : Cell) (e : Entry) (past : List Entry) → HasFallen d c.server c.sent past → HasFallen d c.server c.sent (e ∷ past)
-fallen_still d c e past h = subst (λ (ms : List Message). HasFallen d c.server ms (e ∷ past)) (append-nil c.sent) (fallen_over d c.server c.sent [] e past h)
+pub fallen_still : (d : Option Fall) (c : Cell) (e : Entry) (past : List Entry) → HasFallen d c.server.lasting c.sent past → HasFallen d c.server.lasting c.sent (e ∷ past)
+fallen_still d c e past h = subst (λ (ms : List Message). HasFallen d c.server.lasting ms (e ∷ past)) (append-nil c.sent) (fallen_over d c.server.lasting c.sent [] e past h)
 
 abbrev pub alone : Actor → Line → Entry
 alone o l = record { actor = o; lines = l ∷ []; sent = []; volumes = [] }
@@ -156,7 +158,7 @@ void_rests : (s : Script) (past : List Entry) → Rests s (alone actors.Nobody l
 void_rests s past = record {
   file = λ j f. record { grant = record { version = λ i b l x. x; dropped = λ q l d. d; withdrawn = λ q l w. w }; fetched = refl };
   reach = λ j f. record { both = λ i x. record { made = x.made; seen = x.seen }; seen = λ i x. x; made = λ x. x };
-  act = λ j. record { runs = λ l. refl; begins = refl };
+  act = λ j. record { runs = λ s l. refl; begins = refl };
   last = λ f o. refl;
   back = λ f i b o x. x;
   new = λ k o x. x;
@@ -168,7 +170,7 @@ tick_rests : (s : Script) (n : ℕ) (past : List Entry) → Rests s (alone actor
 tick_rests s n past = record {
   file = λ j f. record { grant = record { version = λ i b l x. x; dropped = λ q l d. d; withdrawn = λ q l w. w }; fetched = refl };
   reach = λ j f. record { both = λ i x. record { made = x.made; seen = x.seen }; seen = λ i x. x; made = λ x. x };
-  act = λ j. record { runs = λ l. refl; begins = refl };
+  act = λ j. record { runs = λ s l. refl; begins = refl };
   last = λ f o. refl;
   back = λ f i b o x. x;
   new = λ k o x. x;
@@ -180,7 +182,7 @@ stop_rests : (s : Script) (o : Actor) (node : Node) (n pick : ℕ) (past : List 
 stop_rests s o node n pick past = record {
   file = λ j f. record { grant = record { version = λ i b l x. x; dropped = λ q l d. d; withdrawn = λ q l w. w }; fetched = refl };
   reach = λ j f. record { both = λ i x. record { made = x.made; seen = x.seen }; seen = λ i x. x; made = λ x. x };
-  act = λ j. record { runs = λ l. refl; begins = refl };
+  act = λ j. record { runs = λ s l. refl; begins = refl };
   last = λ f l. refl;
   back = λ f i b l x. x;
   new = λ k l x. x;
@@ -192,7 +194,7 @@ fail_rests : (s : Script) (o : Actor) (node : Node) (n : ℕ) (past : List Entry
 fail_rests s o node n past = record {
   file = λ j f. record { grant = record { version = λ i b l x. x; dropped = λ q l d. d; withdrawn = λ q l w. w }; fetched = refl };
   reach = λ j f. record { both = λ i x. record { made = x.made; seen = x.seen }; seen = λ i x. x; made = λ x. x };
-  act = λ j. record { runs = λ l. refl; begins = refl };
+  act = λ j. record { runs = λ s l. refl; begins = refl };
   last = λ f l. refl;
   back = λ f i b l x. x;
   new = λ k l x. x;
@@ -204,7 +206,7 @@ pub restart_rests : (s : Script) (o : Actor) (node : Node) (n : ℕ) (past : Lis
 restart_rests s o node n past = record {
   file = λ j f. record { grant = record { version = λ i b l x. x; dropped = λ q l d. d; withdrawn = λ q l w. w }; fetched = refl };
   reach = λ j f. record { both = λ i x. record { made = x.made; seen = x.seen }; seen = λ i x. x; made = λ x. x };
-  act = λ j. record { runs = λ l. refl; begins = refl };
+  act = λ j. record { runs = λ s l. refl; begins = refl };
   last = λ f l. refl;
   back = λ f i b l x. x;
   new = λ k l x. x;
@@ -216,7 +218,7 @@ pub fault_rests : (s : Script) (past : List Entry) → Rests s (alone (actors.No
 fault_rests s past = record {
   file = λ j f. record { grant = record { version = λ i b l x. x; dropped = λ q l d. d; withdrawn = λ q l w. inr w }; fetched = refl };
   reach = λ j f. record { both = λ i x. record { made = x.made; seen = x.seen }; seen = λ i x. x; made = λ x. x };
-  act = λ j. record { runs = λ l. refl; begins = refl };
+  act = λ j. record { runs = λ s l. refl; begins = refl };
   last = λ f l. refl;
   back = λ f i b l x. x;
   new = λ k l x. x;
@@ -228,7 +230,7 @@ pub full_rests : (s : Script) (past : List Entry) → Rests s (alone (actors.Nod
 full_rests s past = record {
   file = λ j f. record { grant = record { version = λ i b l x. x; dropped = λ q l d. d; withdrawn = λ q l w. w }; fetched = refl };
   reach = λ j f. record { both = λ i x. record { made = x.made; seen = x.seen }; seen = λ i x. x; made = λ x. x };
-  act = λ j. record { runs = λ l. refl; begins = refl };
+  act = λ j. record { runs = λ s l. refl; begins = refl };
   last = λ f l. refl;
   back = λ f i b l x. x;
   new = λ k l x. x;
@@ -240,7 +242,7 @@ pub server_crash_rests : (s : Script) (past : List Entry) → Rests s (alone (ac
 server_crash_rests s past = record {
   file = λ j f. record { grant = record { version = λ i b l x. x; dropped = λ q l d. d; withdrawn = λ q l w. inr w }; fetched = refl };
   reach = λ j f. record { both = λ i x. record { made = x.made; seen = x.seen }; seen = λ i x. x; made = λ x. x };
-  act = λ j. record { runs = λ l. refl; begins = refl };
+  act = λ j. record { runs = λ s l. refl; begins = refl };
   last = λ f l. refl;
   back = λ f i b l x. x;
   new = λ k l x. x;
@@ -256,7 +258,7 @@ pub cut_rests : (s : Script) (p : ℕ) (stops : Bool) (past : List Entry) → Re
 cut_rests s p true past = record {
   file = λ j f. record { grant = record { version = λ i b l x. x; dropped = λ q l d. d; withdrawn = λ q l w. inr w }; fetched = refl };
   reach = λ j f. record { both = λ i x. record { made = x.made; seen = x.seen }; seen = λ i x. x; made = λ x. x };
-  act = λ j. record { runs = λ l. refl; begins = refl };
+  act = λ j. record { runs = λ s l. refl; begins = refl };
   last = λ f l. refl;
   back = λ f i b l x. x;
   new = λ k l x. x;
@@ -266,7 +268,7 @@ cut_rests s p true past = record {
 cut_rests s p false past = record {
   file = λ j f. record { grant = record { version = λ i b l x. x; dropped = λ q l d. d; withdrawn = λ q l w. inr w }; fetched = refl };
   reach = λ j f. record { both = λ i x. record { made = x.made; seen = x.seen }; seen = λ i x. x; made = λ x. x };
-  act = λ j. record { runs = λ l. refl; begins = refl };
+  act = λ j. record { runs = λ s l. refl; begins = refl };
   last = λ f l. refl;
   back = λ f i b l x. x;
   new = λ k l x. x;
@@ -283,7 +285,7 @@ still s b c past h = subst (λ (n : ℕ). HoldsAt s b (record c { clock = n }) p
 pub voids : (s : Script) (c : Cell) (past : List Entry) → Holds s c past → Goes s past (voided c)
 voids s c past h = record {
   good = (refl, tt);
-  holds = still s _ c _ (rests s (up_boot c.down c.server.boot) c past (alone actors.Nobody lines.Void) 0 c.down c.armed h h.boots refl (void_rests s past) (omega arith) (unheard_still c.down c (alone actors.Nobody lines.Void) past refl h.unheard) (fallen_still c.down c (alone actors.Nobody lines.Void) past h.down) (λ z. rest_backed s c past (alone actors.Nobody lines.Void) 0 (plain_refl lines.Void refl refl refl refl) h));
+  holds = still s _ c _ (rests s (up_boot c.down c.server.lasting.boot) c past (alone actors.Nobody lines.Void) 0 c.down c.armed h h.boots refl (void_rests s past) (omega arith) (unheard_still c.down c (alone actors.Nobody lines.Void) past refl h.unheard) (fallen_still c.down c (alone actors.Nobody lines.Void) past h.down) (λ z. rest_backed s c past (alone actors.Nobody lines.Void) 0 (plain_refl lines.Void refl refl refl refl) h));
   replies = tt;
   volumes = refl;
 }
@@ -291,7 +293,7 @@ voids s c past h = record {
 pub ticks_goes : (s : Script) (c : Cell) (past : List Entry) (n : ℕ) → Holds s c past → Goes s past (ticked c n)
 ticks_goes s c past n h = record {
   good = (refl, tt);
-  holds = rests s (up_boot c.down c.server.boot) c past (alone actors.Clock (lines.Tick n)) n c.down c.armed h h.boots refl (tick_rests s n past) refl (unheard_still c.down c (alone actors.Clock (lines.Tick n)) past refl h.unheard) (fallen_still c.down c (alone actors.Clock (lines.Tick n)) past h.down) (λ z. rest_backed s c past (alone actors.Clock (lines.Tick n)) n (plain_refl (lines.Tick n) refl refl refl refl) h);
+  holds = rests s (up_boot c.down c.server.lasting.boot) c past (alone actors.Clock (lines.Tick n)) n c.down c.armed h h.boots refl (tick_rests s n past) refl (unheard_still c.down c (alone actors.Clock (lines.Tick n)) past refl h.unheard) (fallen_still c.down c (alone actors.Clock (lines.Tick n)) past h.down) (λ z. rest_backed s c past (alone actors.Clock (lines.Tick n)) n (plain_refl (lines.Tick n) refl refl refl refl) h);
   replies = tt;
   volumes = refl;
 }
@@ -299,9 +301,9 @@ ticks_goes s c past n h = record {
 pub stop_set : (s : Script) (c : Cell) (past : List Entry) (n pick : ℕ) (armed : Armed) → Holds s c past → Goes s past (server_set c (lines.Stop the_server n pick) armed)
 stop_set s c past n pick armed h =
     let e : Entry = alone (actors.Node the_server) (lines.Stop the_server n pick) in
-    record { good = (refl, tt); holds = still s _ (record c { armed = armed }) _ (rests s (up_boot c.down c.server.boot) c past e 0 c.down armed h h.boots refl (stop_rests s (actors.Node the_server) the_server n pick past) (omega arith) (unheard_still c.down c e past refl h.unheard) (fallen_still c.down c e past h.down) (λ z. rest_backed s c past e 0 (plain_refl (lines.Stop the_server n pick) refl refl refl refl) h)); replies = tt; volumes = refl }
+    record { good = (refl, tt); holds = still s _ (record c { armed = armed }) _ (rests s (up_boot c.down c.server.lasting.boot) c past e 0 c.down armed h h.boots refl (stop_rests s (actors.Node the_server) the_server n pick past) (omega arith) (unheard_still c.down c e past refl h.unheard) (fallen_still c.down c e past h.down) (λ z. rest_backed s c past e 0 (plain_refl (lines.Stop the_server n pick) refl refl refl refl) h)); replies = tt; volumes = refl }
 
 pub fail_set : (s : Script) (c : Cell) (past : List Entry) (n : ℕ) (armed : Armed) → Holds s c past → Goes s past (server_set c (lines.Fail the_server n) armed)
 fail_set s c past n armed h =
     let e : Entry = alone (actors.Node the_server) (lines.Fail the_server n) in
-    record { good = (refl, tt); holds = still s _ (record c { armed = armed }) _ (rests s (up_boot c.down c.server.boot) c past e 0 c.down armed h h.boots refl (fail_rests s (actors.Node the_server) the_server n past) (omega arith) (unheard_still c.down c e past refl h.unheard) (fallen_still c.down c e past h.down) (λ z. rest_backed s c past e 0 (plain_refl (lines.Fail the_server n) refl refl refl refl) h)); replies = tt; volumes = refl }
+    record { good = (refl, tt); holds = still s _ (record c { armed = armed }) _ (rests s (up_boot c.down c.server.lasting.boot) c past e 0 c.down armed h h.boots refl (fail_rests s (actors.Node the_server) the_server n past) (omega arith) (unheard_still c.down c e past refl h.unheard) (fallen_still c.down c e past h.down) (λ z. rest_backed s c past e 0 (plain_refl (lines.Fail the_server n) refl refl refl refl) h)); replies = tt; volumes = refl }

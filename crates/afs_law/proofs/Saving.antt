@@ -1,40 +1,46 @@
+use Rattle.afs_breaks.specs.declared.types.Promise.{Promise}
+use Rattle.afs_breaks.specs.Promises.{owes_from}
+use Rattle.afs_rows.specs.ServerSteps.{done}
+use Rattle.afs_law.proofs.Promising.{Owed, staying, hits, saves_turn, saves_turn_is}
 use Rattle.afs_num.specs.declared.directories.Name.{Name}
 use Rattle.afs_ideal.specs.Operations.{Found, the_user, Result, changes, op, volume_called, volume_changed, changed}
-use Rattle.afs_ideal.specs.Replies.{vnode_or_none, change_reply, stamped}
+use Rattle.afs_ideal.specs.Replies.{stamped, vnode_or_none, change_reply, status_at, status_of}
 use Rattle.afs_ideal.specs.Tables.{Table, get, set}
 use Rattle.afs_ideal.specs.Told.{AreNext}
-use Rattle.afs_ideal.specs.Volumes.{or_old, with_status, Amend, Volume, Vnode, Kind, a_file, a_directory, a_link, body_by, body_of, version_at, Edit, versions_by, edited_all, counted, amended}
-use Rattle.afs_law.proofs.Backing.{is_still_to, all_lines, is_up, is_still, is_oweless, is_unchanging, change_back}
+use Rattle.afs_ideal.specs.Volumes.{or_old, with_status, Amend, Volume, Vnode, Kind, a_file, a_directory, a_link, body_by, body_of, version_at, Edit, versions_by, edited_all, counted, amended, vnode_of, if_unique}
+use Rattle.afs_law.proofs.Backing.{is_still_to, all_lines, is_up, is_still, is_oweless, is_unchanging, change_back, promised_given, rising_back}
 use Rattle.afs_law.proofs.Basics.{node_apart, Above, up_to_by, same_fid-true, same_node-true, client_number, below_not, up_to_same, own_seat, raised_up_to, some_of, yes_no}
-use Rattle.afs_law.proofs.Edits.{agrees_of, last_of, ones, Ones, index_in, fid_at, Sound, SoundIn, sound_same, Tops, get-set, on_top, Grow, Told, edits_told, counted_sound, rises, tops, touches, untouched, touched_volume, not_touched, there, none_has}
-use Rattle.afs_law.proofs.Facts.{Leaves, HeldIn, Ghost, HoldsAt, server_boot, up_boot, risen, LastStored, IsStored, IsUntrusted, view, Spot, spot, ReplyFact, HasFallen, Reached, Stands, IsCurrent, Fits, Answers, IsReply, AreUnheard, stored_index, Holds, Goes, FitsReply, FitsData, FitsSet, FitsPlain, WasChanged, AreIdeal, AreSound, WasStored}
-use Rattle.afs_law.proofs.Loading.{hits_other, granted_all, onto_granted, left_granted, all_hits, change_loaded, owes_unchanging, all_new, number_front, number_second, left_promised, has_owe, touched_hit, numbers_good, numbers_rise}
+use Rattle.afs_law.proofs.Edits.{agrees_of, last_of, ones, Ones, index_in, fid_at, Sound, SoundIn, sound_same, Tops, get-set, on_top, Grow, Told, edits_told, counted_sound, rises, tops, touches, untouched, touched_volume, not_touched, there, none_has, live, live_is}
+use Rattle.afs_law.proofs.Facts.{Leaves, HeldIn, Ghost, HoldsAt, server_boot, up_boot, risen, LastStored, IsStored, IsUntrusted, view, Spot, spot, ReplyFact, HasFallen, Reached, Stands, IsCurrent, Fits, Answers, IsReply, AreUnheard, stored_index, Holds, Goes, FitsReply, FitsData, FitsSet, FitsPlain, WasChanged, AreIdeal, AreSound, WasStored, FitsShown}
+use Rattle.afs_law.proofs.Keeping.{volume_put, own_placed}
+use Rattle.afs_law.proofs.Loading.{hits_other, granted_all, onto_granted, left_granted, all_hits, change_loaded, owes_unchanging, all_new, number_front, number_second, left_promised, has_owe, touched_hit, numbers_good, numbers_rise, granted_to_client, owes_to_clients, owes_rising, all_left}
 use Rattle.afs_law.proofs.Naming.{fine_after}
 use Rattle.afs_law.proofs.Notes.{granted_notes, AreNotes, Skips, skips, owe_notes, no_versions}
 use Rattle.afs_law.proofs.Ops.{stored_kind, stored_fid, amend_of, in_scope, changes_is, Storing, storing, stored_vnode}
-use Rattle.afs_law.proofs.Owing.{BackedIn, IsGranted}
+use Rattle.afs_law.proofs.Owing.{BackedIn, IsGranted, Rising, IsClient}
 use Rattle.afs_law.proofs.Passing.{reply_over, PassesBoth, PassesSeen, held_over, fetch_reply_by, cause_over, PassesFile, PassesAct, PassesReach, StaysNewest, client_over, PassesGrant}
 use Rattle.afs_law.proofs.Pumping.{no_news, pumped_news}
-use Rattle.afs_law.proofs.Serving.{up_backed, seats_of, Gives, taken_not, up_boots, reached_at, at_told, client_head, Now, call_at, taken, seats_after, Stock, server_after, caller_view, views_after, above_before, not_ran, unheard_after, HasRun, cause_now, running_act, stale_none, served_cell, serves, last_has, has_run}
+use Rattle.afs_law.proofs.Serving.{up_backed, seats_of, Gives, taken_not, up_boots, reached_at, at_told, client_head, Now, call_at, taken, seats_after, Stock, server_after, caller_view, views_after, durable_before, above_before, not_ran, unheard_after, HasRun, cause_now, running_act, stale_none, served_cell, serves, last_has, has_run, server_does, answer_in}
 use Rattle.afs_law.proofs.Turning.{loaded, Pumps, pumps}
-use Rattle.afs_law.specs.Breaks.{live_grant, HasOwe, last_number}
-use Rattle.afs_law.specs.Callbacks.{hits, Backs, Held, Owed, Turn, pumped, expired, turn_for, new_owes, numbers, alls}
-use Rattle.afs_law.specs.ClientRow.{the_server}
-use Rattle.afs_law.specs.Going.{asked, Going, next}
+use Rattle.afs_law.specs.Breaks.{live_grant, HasOwe, last_number, lines_at}
+use Rattle.afs_rows.specs.Callbacks.{Turn, pumped, expired, turn_for, new_owes, numbers, alls}
+use Rattle.afs_rows.specs.ClientRow.{status_told}
+use Rattle.afs_rows.specs.Going.{asked, Going, next}
 use Rattle.afs_law.specs.Grants.{IsWithdrawn, has_fetched, fetch_reply, since, change_below, IsByOther, IsDropped}
-use Rattle.afs_law.specs.Ideal.{versions_in, Reach, raised, IsLast, clock_of, last_version, HasVersion, Accepts, reach, volume_after, change_key, call_under, reach_over, applied, applied_by}
+use Rattle.afs_law.specs.Ideal.{versions_in, Reach, raised, IsLast, clock_of, last_version, HasVersion, Accepts, reach, volume_after, change_key, call_under, reach_over, applied, applied_by, HasBeen, TellsIn, TellsOf, shown_status}
 use Rattle.afs_law.specs.Legal.{code_given, AreGood, code_told, IsNew, HasChange, GoodChange, versions_first, IsTold, answer_at, answer_on, IsUnderChange, IsChanged, op_on}
-use Rattle.afs_law.specs.Lines.{Line}
+use Rattle.afs_history.specs.declared.lines.Line.{Line}
 use Rattle.afs_law.specs.Past.{onto, lines_of, sent_of, given_message, called_key, HasCode, is_of_act, running, has_begun}
-use Rattle.afs_law.specs.Runs.{Entry, Cell, message_at, Armed, Fall, server_does}
-use Rattle.afs_law.specs.Scopes.{is_in_scope, is_volume}
-use Rattle.afs_law.specs.ServerRow.{granted, granted_in, record_of, carried_by, change_reply_to, longer, promise_ticks, saves, runs, told, versioned, Change, made, result}
-use Rattle.afs_law.specs.States.{CacheEntry, Seat}
+use Rattle.afs_rows.specs.Runs.{Entry, Cell, message_at, Armed, Fall, server_moves, the_server}
+use Rattle.afs_rows.specs.Scopes.{is_in_scope, is_volume}
+use Rattle.afs_rows.specs.ServerRow.{granted, granted_in, record_of, carried_by, change_reply_to, replied, stored_by, promise_ticks, saves, runs, told, versioned, Change, made, result, seat_placed}
+use Rattle.afs_rows.specs.States.{CacheEntry, Seat, volume_in, Backs, Held}
+use Rattle.afs_records.specs.Changes.{stored_after}
+use Rattle.afs_records.specs.Durable.{Stored, time_in, place_length}
 use Rattle.afs_model.specs.Calls.{call_seated, call_seat}
 use Rattle.afs_num.specs.declared.calls.AfsStoreStatus.{AfsStoreStatus}
-use Rattle.afs_ideal.proofs.Edits as ideal_edits
 use Rattle.std.proofs.Common.{◌≡◌, ℕ, ◌+◌, ◌<◌, ◌≤◌, ◌⊎◌, inl, inr, Bool, true, false, cond, length, List, [], ◌∷◌, ◌++◌, Option, Some, None, pos, refl, sym, ap, subst, ◌∙◌, arith, eq-eqb, eqb-true, eqb}
-use Rattle.std.specs.Prelude.{◌&&◌, not}
+use Rattle.std.specs.Prelude.{◌&&◌, not, is_some}
 use Rattle.std.specs.Option.{option_map}
 use Rattle.afs_num.specs.Fids.{same_fid}
 use Rattle.afs_num.specs.Nodes.{same_node}
@@ -47,19 +53,22 @@ use Rattle.afs_num.specs.declared.calls.FsCall.{FsCall}
 use Rattle.afs_num.specs.declared.messages.Carried.{Carried}
 use Rattle.afs_num.specs.declared.messages.Message.{Message}
 use Rattle.afs_num.specs.declared.scripts.Script.{Script}
-use Rattle.afs_num.specs.declared.histories.Actor.TheVariants as actors
 use Rattle.afs_num.specs.declared.histories.Body.{Body}
 use Rattle.afs_num.specs.declared.histories.Version.{Version}
 use Rattle.std.proofs.Math.Nat.{le_trans, eq-or-lt_of_le}
 use Rattle.afs_num.specs.declared.calls.FsReply.{FsReply}
 use Rattle.afs_num.specs.declared.calls.AfsFetchStatus.{AfsFetchStatus}
 use Rattle.afs_num.specs.declared.calls.AfsCallBack.{AfsCallBack}
+use Rattle.afs_ideal.proofs.Edits as ideal_edits
+use Rattle.afs_num.specs.declared.histories.Actor.TheVariants as actors
 use Rattle.afs_num.specs.declared.calls.FsCall.TheVariants as calls
 use Rattle.afs_num.specs.declared.messages.Carried.TheVariants as carried
 use Rattle.afs_num.specs.declared.messages.Reply.TheVariants as tell
 use Rattle.afs_num.specs.declared.histories.Body.TheVariants as bodies
-use Rattle.afs_law.specs.Lines as lines
+use Rattle.afs_history.specs.declared.lines.Line.TheVariants as lines
 use Rattle.afs_num.specs.declared.calls.FsReply.TheVariants as replies
+use Rattle.afs_ideal.specs.Volumes as volumes
+use Rattle.afs_num.specs.declared.histories.ReadBody.TheVariants as seen
 
 -- The server's changes: of any number of versions.
 
@@ -131,9 +140,9 @@ pub on_breaks : (s c : Node) (f : Fid) (vs : List Version) (o : List Line) → I
 on_breaks s c f [] o by e = absurd cc
 on_breaks s c f (v ∷ vs) o by e = breaks_by (same_fid v.fid f) s c f v vs o refl by e (λ t. on_breaks s c f vs (lines.Version v ∷ o) by t)
 
-pub on_running : (n : Node) (vs : List Version) (o : List Line) → running n (on_top vs o) ≡ running n o
-on_running n [] o = refl
-on_running n (v ∷ vs) o = on_running n vs (lines.Version v ∷ o)
+pub on_running : (s : Script) (n : Node) (vs : List Version) (o : List Line) → running s n (on_top vs o) ≡ running s n o
+on_running s n [] o = refl
+on_running s n (v ∷ vs) o = on_running s n vs (lines.Version v ∷ o)
 
 pub on_clock : (vs : List Version) (o : List Line) → clock_of (on_top vs o) ≡ clock_of o
 on_clock [] o = refl
@@ -224,10 +233,10 @@ saves_file faults j k vs r past f = record { grant = saves_grant faults j k vs r
 saves_file fills j k vs r past f = record { grant = saves_grant fills j k vs r past f; fetched = fetched_on (Client j) f vs _ }
 
 pub saves_act : (y : Way) (j : ℕ) (k : Key) (vs : List Version) (r : Message) (past : List Entry) → PassesAct j (saved_entry y k vs r) past
-saves_act (whole p tl a ms) j k vs r past = record { runs = λ l. ap (running (Client j)) (saved_on (whole p tl a ms) k vs l) ∙ ((skips tl a).runs (Client j) _ ∙ on_running (Client j) vs _); begins = begun_on (Client j) vs _ ∙ (skips tl a).begins (Client j) }
-saves_act (rises_to b tl a ms) j k vs r past = record { runs = λ l. ap (running (Client j)) (saved_on (rises_to b tl a ms) k vs l) ∙ ((skips tl a).runs (Client j) _ ∙ on_running (Client j) vs _); begins = begun_on (Client j) vs _ ∙ (skips tl a).begins (Client j) }
-saves_act faults j k vs r past = record { runs = λ l. ap (running (Client j)) (saved_on faults k vs l) ∙ on_running (Client j) vs _; begins = begun_on (Client j) vs _ }
-saves_act fills j k vs r past = record { runs = λ l. ap (running (Client j)) (saved_on fills k vs l) ∙ on_running (Client j) vs _; begins = begun_on (Client j) vs _ }
+saves_act (whole p tl a ms) j k vs r past = record { runs = λ s l. ap (running s (Client j)) (saved_on (whole p tl a ms) k vs l) ∙ ((skips tl a).runs s (Client j) _ ∙ on_running s (Client j) vs _); begins = begun_on (Client j) vs _ ∙ (skips tl a).begins (Client j) }
+saves_act (rises_to b tl a ms) j k vs r past = record { runs = λ s l. ap (running s (Client j)) (saved_on (rises_to b tl a ms) k vs l) ∙ ((skips tl a).runs s (Client j) _ ∙ on_running s (Client j) vs _); begins = begun_on (Client j) vs _ ∙ (skips tl a).begins (Client j) }
+saves_act faults j k vs r past = record { runs = λ s l. ap (running s (Client j)) (saved_on faults k vs l) ∙ on_running s (Client j) vs _; begins = begun_on (Client j) vs _ }
+saves_act fills j k vs r past = record { runs = λ s l. ap (running s (Client j)) (saved_on fills k vs l) ∙ on_running s (Client j) vs _; begins = begun_on (Client j) vs _ }
 
 pub saves_last : (y : Way) (k : Key) (vs : List Version) (r : Message) (past : List Entry) (f : Fid) → last_version f (lines_of (saved_entry y k vs r ∷ past)) ≡ last_version f (on_top vs (base y k (length vs) (lines_of past)))
 saves_last (whole p tl a ms) k vs r past f = ap (last_version f) (saved_on (whole p tl a ms) k vs (lines_of past)) ∙ (skips tl a).last f _
@@ -301,18 +310,17 @@ saves_ideal fills id k vs r past = refl
 -- ---- a change of client n, which ran on the volume
 
 pub record Change' (c : Cell) (past : List Entry) (user : List ℕ) (call : FsCall) (id : ℕ) (v : Volume) (es : List Edit) (shown : ℕ) : Type 0 where
-  pub at : get id c.server.volumes ≡ Some v
+  pub at : volume_in id c.server.lasting.volumes ≡ Some v
   pub of_volume : volume_called call ≡ Some id
   pub result : op id (the_user user) call v ≡ changes es shown
 
-abbrev pub change_at : ℕ → List ℕ → FsCall → Volume → List Edit → ℕ → Change
-change_at id user call v es shown = record { id = id; caller = the_user user; call = call; before = v; edits = es; shown = shown }
+abbrev pub change_at : ℕ → List ℕ → FsCall → Stored → List Edit → ℕ → Change
+change_at id user call st es shown = record { id = id; caller = the_user user; call = call; before = st; edits = es; shown = shown }
 
 abbrev pub stock_after : Cell → Head → ℕ → Change → Stock
 stock_after c head time ch = record {
-  volumes = set ch.id (result ch) c.server.volumes;
-  times = stamped time (made ch) c.server.times;
-  journal = longer c.server (record_of c.server head time ch);
+  volumes = set ch.id (stored_by time ch) c.server.lasting.volumes;
+  journal = c.server.lasting.journal + place_length (record_of c.server.lasting.boot head time ch);
 }
 
 pub told_at : (y : Way) (s : Script) (c : Cell) (past : List Entry) (user : List ℕ) (call : FsCall) (id : ℕ) (v : Volume) (es : List Edit) (shown : ℕ) (k : Key) → Holds s c past → Change' c past user call id v es shown → Told id (edited_all id es v) (versions_by id es v) (base y k (length (versions_by id es v)) (lines_of past))
@@ -327,11 +335,11 @@ sound_by false y id other V o k vs r past t new g old =
     sound_same other o (lines_of past) (lines_of (saved_entry y k vs r ∷ past)) (λ a u. saves_last y k vs r past (fid_at other a u) ∙ (untouched (fid_at other a u) vs (base y k (length vs) (lines_of past)) (not_touched (fid_at other a u) id vs (base y k (length vs) (lines_of past)) g (λ q. let yes : eqb id other ≡ true = eq-eqb id other (sym q) in absurd cc))
     ∙ base_last y k (length vs) (lines_of past) (fid_at other a u))) old
 
-pub sound_after : (y : Way) (s : Script) (c : Cell) (past : List Entry) (user : List ℕ) (call : FsCall) (id : ℕ) (v : Volume) (es : List Edit) (shown : ℕ) (k : Key) (r : Message) → Holds s c past → Change' c past user call id v es shown → AreSound (set id (counted (edited_all id es v)) c.server.volumes) (lines_of (saved_entry y k (versions_by id es v) r ∷ past))
-sound_after y s c past user call id v es shown k r H g other =
+pub sound_after : (y : Way) (s : Script) (c : Cell) (past : List Entry) (user : List ℕ) (call : FsCall) (id : ℕ) (v : Volume) (es : List Edit) (shown : ℕ) (k : Key) (r : Message) (x : Stored) → x.volume ≡ counted (edited_all id es v) → Holds s c past → Change' c past user call id v es shown → AreSound (set id x c.server.lasting.volumes) (lines_of (saved_entry y k (versions_by id es v) r ∷ past))
+sound_after y s c past user call id v es shown k r x is H g other =
     let t = told_at y s c past user call id v es shown k H g in
-    subst (λ (o : Option Volume). SoundIn other o (lines_of (saved_entry y k (versions_by id es v) r ∷ past))) (sym (get-set id other (counted (edited_all id es v)) c.server.volumes))
-    (sound_by (eqb id other) y id other (counted (edited_all id es v)) (get other c.server.volumes) k (versions_by id es v) r past refl (counted_sound id (edited_all id es v) _ t.sound) t.grow (H.sound other))
+    subst (λ (o : Option Volume). SoundIn other o (lines_of (saved_entry y k (versions_by id es v) r ∷ past))) (sym (volume_put id other x (counted (edited_all id es v)) c.server.lasting.volumes is))
+    (sound_by (eqb id other) y id other (counted (edited_all id es v)) (volume_in other c.server.lasting.volumes) k (versions_by id es v) r past refl (counted_sound id (edited_all id es v) _ t.sound) t.grow (H.sound other))
 
 pub ideal_by : (t : Bool) (id other : ℕ) (user : List ℕ) (call : FsCall) (v : Volume) (es : List Edit) (shown : ℕ) (o p : Option Volume) → eqb id other ≡ t → op id (the_user user) call v ≡ changes es shown → (id ≡ other → p ≡ Some v) → o ≡ p → cond t (Some (counted (edited_all id es v))) o ≡ applied_by t other user call p
 ideal_by true id other user call v es shown o p t res at same =
@@ -343,11 +351,11 @@ ideal_by false id other user call v es shown o p t res at same = same
 pub volume_test : (id other : ℕ) (o : Option ℕ) → o ≡ Some id → is_volume other o ≡ eqb id other
 volume_test id other o e = ap (is_volume other) e
 
-pub ideal_after : (y : Way) (s : Script) (c : Cell) (past : List Entry) (user : List ℕ) (call : FsCall) (id : ℕ) (v : Volume) (es : List Edit) (shown : ℕ) (k : Key) (r : Message) → Holds s c past → Change' c past user call id v es shown → call_under k (sent_of past) ≡ Some (user, call)
-    → AreIdeal (set id (counted (edited_all id es v)) c.server.volumes) (saved_entry y k (versions_by id es v) r ∷ past)
-ideal_after y s c past user call id v es shown k r H g one other =
-    get-set id other (counted (edited_all id es v)) c.server.volumes
-    ∙ (ideal_by (eqb id other) id other user call v es shown (get other c.server.volumes) (volume_after other past) refl g.result (λ e. subst (λ (i : ℕ). volume_after i past ≡ Some v) e (sym (H.ideal id) ∙ g.at)) (H.ideal other)
+pub ideal_after : (y : Way) (s : Script) (c : Cell) (past : List Entry) (user : List ℕ) (call : FsCall) (id : ℕ) (v : Volume) (es : List Edit) (shown : ℕ) (k : Key) (r : Message) (x : Stored) → x.volume ≡ counted (edited_all id es v) → Holds s c past → Change' c past user call id v es shown → call_under k (sent_of past) ≡ Some (user, call)
+    → AreIdeal (set id x c.server.lasting.volumes) (saved_entry y k (versions_by id es v) r ∷ past)
+ideal_after y s c past user call id v es shown k r x is H g one other =
+    volume_put id other x (counted (edited_all id es v)) c.server.lasting.volumes is
+    ∙ (ideal_by (eqb id other) id other user call v es shown (volume_in other c.server.lasting.volumes) (volume_after other past) refl g.result (λ e. subst (λ (i : ℕ). volume_after i past ≡ Some v) e (sym (H.ideal id) ∙ g.at)) (H.ideal other)
     ∙ (ap (λ (t : Bool). applied_by t other user call (volume_after other past)) (sym (volume_test id other (volume_called call) g.of_volume))
     ∙ (ap (λ (o : Option (List ℕ × FsCall)). applied other o (volume_after other past)) (sym one) ∙ sym (saves_ideal y other k (versions_by id es v) r past))))
 
@@ -402,12 +410,12 @@ other_newest y j n k vs r past f own ne server i newer q (inr at) = newest_by (t
 abbrev pub NewEntry : Way → ℕ → Head → List Version → Message → Entry
 NewEntry y n h vs r = saved_entry y (called_key (client_head n h)) vs r
 
-pub own_stands : (t : Bool) (y : Way) (fl : ℕ → Ghost) (c : Cell) (past : List Entry) (n : ℕ) (h : Head) (user : List ℕ) (call : FsCall) (vs : List Version) (r : Message) (g : Fid) (i : ℕ) (server : Node) (newer : List Line)
-    → Now c fl past n h user call → is_in_scope call g ≡ t → (volume_changed call ≡ None → ⊥) → (touches g vs ≡ true → is_in_scope call g ≡ true) → (is_in_scope call g ≡ true → WasChanged n g server (onto newer (NewEntry y n h vs r).lines) (Some r) (NewEntry y n h vs r ∷ past) call)
-    → (IsUntrusted c.clock g (c.clients n).cache → ⊥) → ((fl n).held < c.server.boot → IsWithdrawn server (Client n) g newer) → Stands n g i server newer (view fl c n) past
+pub own_stands : {s : Script} → (t : Bool) (y : Way) (fl : ℕ → Ghost) (c : Cell) (past : List Entry) (n : ℕ) (h : Head) (user : List ℕ) (call : FsCall) (vs : List Version) (r : Message) (g : Fid) (i : ℕ) (server : Node) (newer : List Line)
+    → Now s c fl past n h user call → is_in_scope call g ≡ t → (volume_changed call ≡ None → ⊥) → (touches g vs ≡ true → is_in_scope call g ≡ true) → (is_in_scope call g ≡ true → WasChanged n g server (onto newer (NewEntry y n h vs r).lines) (Some r) (NewEntry y n h vs r ∷ past) call)
+    → (IsUntrusted c.clock g (c.clients n).cache → ⊥) → ((fl n).held < c.server.lasting.boot → IsWithdrawn server (Client n) g newer) → Stands n g i server newer (view fl c n) past
     → Stands n g i server (onto newer (NewEntry y n h vs r).lines) (caller_view true fl c n h r) (NewEntry y n h vs r ∷ past)
-own_stands t y fl c past n h user call vs r g i server newer w q some scope changed there aged (inr o) = absurd (not_ran (view fl c n) h.epoch h.number w.above_durable w.fact.behind o.ran)
-own_stands true y fl c past n h user call vs r g i server newer w q some scope changed there aged (inl a) =
+own_stands {s} t y fl c past n h user call vs r g i server newer w q some scope changed there aged (inr o) = absurd (not_ran (view fl c n) h.epoch h.number w.above_durable w.fact.behind o.ran)
+own_stands {s} true y fl c past n h user call vs r g i server newer w q some scope changed there aged (inl a) =
     let k : Key = called_key (client_head n h) in
     elim (w.fact.safe w.boot w.above) [
       | inl none ↦ absurd (some none)
@@ -430,7 +438,7 @@ own_stands true y fl c past n h user call vs r g i server newer w q some scope c
         ]
       ]
     ]
-own_stands false y fl c past n h user call vs r g i server newer w q some scope changed there aged (inl a) =
+own_stands {s} false y fl c past n h user call vs r g i server newer w q some scope changed there aged (inl a) =
     let k : Key = called_key (client_head n h) in
     let none : touches g vs ≡ false = no_touch' (touches g vs) (λ t. let yes = scope t in yes_no _ yes q) in
     inl (record {
@@ -478,7 +486,7 @@ index_told c i = stored_index c ≡ Some i
 
 -- what a change is answered
 abbrev pub change_carried : ℕ → List ℕ → FsCall → ℕ → (Fid → ℕ) → Volume → List Edit → ℕ → Carried
-change_carried time user call id times v es shown = carried_by (time + promise_ticks) (change_reply id (the_user user) (stamped time (versions_by id es v) times) (counted (edited_all id es v)) shown call)
+change_carried time user call id times v es shown = carried_by (time + promise_ticks) (change_reply id (the_user user) times (counted (edited_all id es v)) shown call)
 
 index_at : (id : ℕ) (f : Fid) (a : Amend) (v : Volume) (es : List Edit) (shown : ℕ) → (x : Storing f a v es shown) → (vnode_or_none (get f.vnode (edited_all id es v).vnodes)).index ≡ x.vnode.index + 1
 index_at id f a v es shown x = ap (λ (o : Option Vnode). (vnode_or_none o).index) (stored_vnode id f a v es shown x)
@@ -495,13 +503,17 @@ store_before s c past user call f a id v es shown H g at x =
     let sound : Sound id v (lines_of past) = subst (λ (o : Option Volume). SoundIn id o (lines_of past)) g.at (H.sound id) in
     ap (λ (i : ℕ). last_version (fid_at i f.vnode f.unique) (lines_of past)) at ∙ (ap (λ (u : ℕ). last_version (fid_at id f.vnode u) (lines_of past)) (sym x.unique) ∙ there id f.vnode v x.vnode (lines_of past) x.found sound)
 
-abbrev pub saved_reply : Cell → Head → ℕ → List ℕ → FsCall → ℕ → Volume → List Edit → ℕ → Message
-saved_reply c head time user call id v es shown = change_reply_to c.server.boot head time c.server.times (change_at id user call v es shown)
+abbrev pub saved_reply : Cell → Head → ℕ → (Fid → ℕ) → List ℕ → FsCall → ℕ → Volume → List Edit → ℕ → Message
+saved_reply c head time times user call id v es shown = replied c.server.lasting.boot head (change_carried time user call id times v es shown)
 
-pub was_stored : (call : FsCall) (f : Fid) (y : Way) (s : Script) (c : Cell) (past : List Entry) (n : ℕ) (head : Head) (user : List ℕ) (id time : ℕ) (v : Volume) (es : List Edit) (shown : ℕ) (k : Key) (g : Fid) (server : Node) (newer : List Line) → Holds s c past → Change' c past user call id v es shown → stored_fid call ≡ Some f → f.volume ≡ id → f ≡ g
-    → WasStored n g server newer (Some (saved_reply c head time user call id v es shown)) (saved_entry y k (versions_by id es v) (saved_reply c head time user call id v es shown) ∷ past)
-was_stored call f y s c past n head user id time v es shown k g server newer H q is at fg =
-    let r : Message = saved_reply c head time user call id v es shown in
+-- by the volume as it stands
+abbrev pub reply_saved : Cell → Head → ℕ → List ℕ → FsCall → ℕ → Stored → List Edit → ℕ → Message
+reply_saved c head time user call id st es shown = saved_reply c head time (time_in (stored_after id time es st)) user call id st.volume es shown
+
+pub was_stored : (call : FsCall) (f : Fid) (y : Way) (s : Script) (c : Cell) (past : List Entry) (n : ℕ) (head : Head) (user : List ℕ) (id time : ℕ) (times : Fid → ℕ) (v : Volume) (es : List Edit) (shown : ℕ) (k : Key) (g : Fid) (server : Node) (newer : List Line) → Holds s c past → Change' c past user call id v es shown → stored_fid call ≡ Some f → f.volume ≡ id → f ≡ g
+    → WasStored n g server newer (Some (saved_reply c head time times user call id v es shown)) (saved_entry y k (versions_by id es v) (saved_reply c head time times user call id v es shown) ∷ past)
+was_stored call f y s c past n head user id time times v es shown k g server newer H q is at fg =
+    let r : Message = saved_reply c head time times user call id v es shown in
     let x : Storing f (amend_of call) v es shown = storing id (the_user user) call f v es shown is q.result in
     let last = store_last y s c past user call f (amend_of call) id v es shown k r H q at x in
     let before = store_before s c past user call f (amend_of call) id v es shown H q at x in
@@ -511,18 +523,18 @@ was_stored call f y s c past n head user id time v es shown k g server newer H q
       index = x.vnode.index + 1;
       reply = r;
       kept = refl;
-      told = store_told call id time user c.server.times f v es shown is x;
+      told = store_told call id time user times f v es shown is x;
       reached = seen_saved y n k (versions_by id es v) r past f (x.vnode.index + 1) (omega arith);
       newest = inr (ap (option_map (λ (z : Version). z.index)) last);
     })
 
 -- an entry that the caller's own change has overtaken
-pub was_changed : (call : FsCall) (y : Way) (s : Script) (c : Cell) (past : List Entry) (n : ℕ) (head : Head) (user : List ℕ) (id time : ℕ) (v : Volume) (es : List Edit) (shown : ℕ) (k : Key) (g : Fid) (server : Node) (newer : List Line) → Holds s c past → Change' c past user call id v es shown → is_in_scope call g ≡ true
-    → WasChanged n g server newer (Some (saved_reply c head time user call id v es shown)) (saved_entry y k (versions_by id es v) (saved_reply c head time user call id v es shown) ∷ past) call
-was_changed (calls.StoreData f st p w l b) y s c past n head user id time v es shown k g server newer H q scope = was_stored (calls.StoreData f st p w l b) f y s c past n head user id time v es shown k g server newer H q refl (some_of f.volume id q.of_volume) (same_fid-true f g scope)
-was_changed (calls.StoreAcl f acl) y s c past n head user id time v es shown k g server newer H q scope = was_stored (calls.StoreAcl f acl) f y s c past n head user id time v es shown k g server newer H q refl (some_of f.volume id q.of_volume) (same_fid-true f g scope)
-was_changed (calls.StoreStatus f st) y s c past n head user id time v es shown k g server newer H q scope = was_stored (calls.StoreStatus f st) f y s c past n head user id time v es shown k g server newer H q refl (some_of f.volume id q.of_volume) (same_fid-true f g scope)
-was_changed call y s c past n head user id time v es shown k g server newer H q scope = tt
+pub was_changed : (call : FsCall) (y : Way) (s : Script) (c : Cell) (past : List Entry) (n : ℕ) (head : Head) (user : List ℕ) (id time : ℕ) (times : Fid → ℕ) (v : Volume) (es : List Edit) (shown : ℕ) (k : Key) (g : Fid) (server : Node) (newer : List Line) → Holds s c past → Change' c past user call id v es shown → is_in_scope call g ≡ true
+    → WasChanged n g server newer (Some (saved_reply c head time times user call id v es shown)) (saved_entry y k (versions_by id es v) (saved_reply c head time times user call id v es shown) ∷ past) call
+was_changed (calls.StoreData f st p w l b) y s c past n head user id time times v es shown k g server newer H q scope = was_stored (calls.StoreData f st p w l b) f y s c past n head user id time times v es shown k g server newer H q refl (some_of f.volume id q.of_volume) (same_fid-true f g scope)
+was_changed (calls.StoreAcl f acl) y s c past n head user id time times v es shown k g server newer H q scope = was_stored (calls.StoreAcl f acl) f y s c past n head user id time times v es shown k g server newer H q refl (some_of f.volume id q.of_volume) (same_fid-true f g scope)
+was_changed (calls.StoreStatus f st) y s c past n head user id time times v es shown k g server newer H q scope = was_stored (calls.StoreStatus f st) f y s c past n head user id time times v es shown k g server newer H q refl (some_of f.volume id q.of_volume) (same_fid-true f g scope)
+was_changed call y s c past n head user id time times v es shown k g server newer H q scope = tt
 
 pub stored_reach : (y : Way) (past : List Entry) (n : ℕ) (k : Key) (id : ℕ) (vs : List Version) (r : Message) (f : Fid) (w : Version) → last_version f (lines_of (saved_entry y k vs r ∷ past)) ≡ Some w → Grow id vs (base y k (length vs) (lines_of past)) → Reached (Client n) f (index_in (last_version f (lines_of past))) past
     → Reached (Client n) f w.index (saved_entry y k vs r ∷ past)
@@ -555,18 +567,47 @@ leaves (calls.StoreStatus g st) f id m user v es shown x ls is e at old new =
     record { before = x.index; next = refl; body = body_of x; old = old; new = subst (λ (d : Body). HasVersion f (x.index + 1) d ls) (body_stays (amend_of (calls.StoreStatus g st)) m x refl refl) new }
 leaves call f id m user v es shown x ls is e at old new = absurd cc
 
+-- the status that a reply tells is that of its vnode
+told_in_by : (t : Bool) (y : Vnode) (F : Vnode → AfsFetchStatus) → ((x : Vnode) → (x.index ≡ (F x).sync_counter) × (shown_status x ≡ status_told (F x))) → is_some (cond t (Some y) None) ≡ true → TellsIn (F y).sync_counter (seen.Status (status_told (F y))) (cond t (Some y) None)
+told_in_by true y F w e = w y
+told_in_by false y F w e = absurd cc
+
+told_in : (u : ℕ) (g : Option Vnode) (F : Vnode → AfsFetchStatus) → ((x : Vnode) → (x.index ≡ (F x).sync_counter) × (shown_status x ≡ status_told (F x))) → is_some (if_unique u g) ≡ true → TellsIn (F (vnode_or_none g)).sync_counter (seen.Status (status_told (F (vnode_or_none g)))) (if_unique u g)
+told_in u None F w e = absurd cc
+told_in u (Some y) F w e = told_in_by (eqb y.unique u) y F w e
+
+some_mapped : {A B : Type 0} (g : A → B) (o : Option A) (y : B) → option_map g o ≡ Some y → is_some o ≡ true
+some_mapped g None y e = absurd cc
+some_mapped g (Some x) y e = refl
+
+-- that of a store's reply has been the fid's
+pub store_been : (call : FsCall) (f : Fid) (y : Way) (s : Script) (c : Cell) (past : List Entry) (user : List ℕ) (id time : ℕ) (v : Volume) (es : List Edit) (shown : ℕ) (k : Key) (r : Message) → Holds s c past → Change' c past user call id v es shown → call_under k (sent_of past) ≡ Some (user, call) → stored_fid call ≡ Some f → f.volume ≡ id
+    → (times : Fid → ℕ) → HasBeen f (status_at id (the_user user) times (counted (edited_all id es v)) f.vnode).sync_counter (seen.Status (status_told (status_at id (the_user user) times (counted (edited_all id es v)) f.vnode))) (saved_entry y k (versions_by id es v) r ∷ past)
+store_been call f y s c past user id time v es shown k r H q one is at times =
+    let e : Entry = saved_entry y k (versions_by id es v) r in
+    let W : Volume = counted (edited_all id es v) in
+    let z : Storing f (amend_of call) v es shown = storing id (the_user user) call f v es shown is q.result in
+    let last = store_last y s c past user call f (amend_of call) id v es shown k r H q at z in
+    let x : Stored = record { volume = W; times = []; is_new = false } in
+    let put : volume_in id (set id x c.server.lasting.volumes) ≡ Some W = volume_put id id x W c.server.lasting.volumes refl ∙ ap (λ (t : Bool). cond t (Some W) (volume_in id c.server.lasting.volumes)) (eq-eqb id id refl) in
+    let here : Some W ≡ volume_after id (e ∷ past) = sym put ∙ ideal_after y s c past user call id v es shown k r x refl H q one id in
+    let sound : Sound id W (lines_of (e ∷ past)) = subst (λ (o : Option Volume). SoundIn id o (lines_of (e ∷ past))) put (sound_after y s c past user call id v es shown k r x refl H q id) in
+    let there : is_some (vnode_of f W) ≡ true = some_mapped (version_at id f.vnode) (vnode_of f W) _ (sym (sound.agree f.vnode f.unique) ∙ (ap (λ (i : ℕ). live (last_version (fid_at i f.vnode f.unique) (lines_of (e ∷ past)))) (sym at) ∙ (ap live last ∙ live_is id f.vnode (amended (v.counter + 1) (amend_of call) z.vnode)))) in
+    inl (subst (λ (o : Option Volume). TellsOf f (status_at id (the_user user) times W f.vnode).sync_counter (seen.Status (status_told (status_at id (the_user user) times W f.vnode))) o) (here ∙ ap (λ (i : ℕ). volume_after i (e ∷ past)) (sym at))
+    (told_in f.unique (get f.vnode W.vnodes) (λ x. status_of (the_user user) W (times (volumes.fid_of id f.vnode x)) x) (λ x. (refl, refl)) there))
+
 -- the reply of a store fits its call
-pub store_fits : (call : FsCall) (f : Fid) (y : Way) (s : Script) (c : Cell) (past : List Entry) (n : ℕ) (head : Head) (user : List ℕ) (id time : ℕ) (v : Volume) (es : List Edit) (shown : ℕ) (k : Key) (x : Spot) (i : ℕ) → Holds s c past → Change' c past user call id v es shown → stored_fid call ≡ Some f → f.volume ≡ id
-    → stored_index (change_carried time user call id c.server.times v es shown) ≡ Some i
-    → Leaves call f i (lines_of (saved_entry y k (versions_by id es v) (saved_reply c head time user call id v es shown) ∷ past)) × Reached (Client n) f i (saved_entry y k (versions_by id es v) (saved_reply c head time user call id v es shown) ∷ past)
-store_fits call f y s c past n head user id time v es shown k x i H q is at told =
-    let r : Message = saved_reply c head time user call id v es shown in
+pub store_fits : (call : FsCall) (f : Fid) (y : Way) (s : Script) (c : Cell) (past : List Entry) (n : ℕ) (head : Head) (user : List ℕ) (id time : ℕ) (times : Fid → ℕ) (v : Volume) (es : List Edit) (shown : ℕ) (k : Key) (x : Spot) (i : ℕ) → Holds s c past → Change' c past user call id v es shown → stored_fid call ≡ Some f → f.volume ≡ id
+    → stored_index (change_carried time user call id times v es shown) ≡ Some i
+    → Leaves call f i (lines_of (saved_entry y k (versions_by id es v) (saved_reply c head time times user call id v es shown) ∷ past)) × Reached (Client n) f i (saved_entry y k (versions_by id es v) (saved_reply c head time times user call id v es shown) ∷ past)
+store_fits call f y s c past n head user id time times v es shown k x i H q is at told =
+    let r : Message = saved_reply c head time times user call id v es shown in
     let z : Storing f (amend_of call) v es shown = storing id (the_user user) call f v es shown is q.result in
     let a : Vnode = amended (v.counter + 1) (amend_of call) z.vnode in
     let L : List Line = lines_of (saved_entry y k (versions_by id es v) r ∷ past) in
     let last : last_version f L ≡ Some (version_at id f.vnode a) = store_last y s c past user call f (amend_of call) id v es shown k r H q at z in
     let before = store_before s c past user call f (amend_of call) id v es shown H q at z in
-    let index : z.vnode.index + 1 ≡ i = some_of _ _ (sym (store_told call id time user c.server.times f v es shown is z) ∙ told) in
+    let index : z.vnode.index + 1 ≡ i = some_of _ _ (sym (store_told call id time user times f v es shown is z) ∙ told) in
     let t = told_at y s c past user call id v es shown k H q in (
       subst (λ (j : ℕ). Leaves call f j L) index (leaves call f id (v.counter + 1) user v es shown z.vnode L is q.result z.found
           ((saves_grant y n k (versions_by id es v) r past f).version z.vnode.index (body_of z.vnode) (lines_of past) (last_has f (lines_of past) (version_at id f.vnode z.vnode) before))
@@ -574,22 +615,25 @@ store_fits call f y s c past n head user id time v es shown k x i H q is at told
       subst (λ (j : ℕ). Reached (Client n) f j (saved_entry y k (versions_by id es v) r ∷ past)) index (stored_reach y past n k id (versions_by id es v) r f (version_at id f.vnode a) last t.grow ((H.clients n).reached f)),
     )
 
-pub change_fits : (sp : Bool) (call : FsCall) (y : Way) (s : Script) (c : Cell) (past : List Entry) (n : ℕ) (head : Head) (user : List ℕ) (id time : ℕ) (v : Volume) (es : List Edit) (shown : ℕ) (k : Key) (x : Spot) → (volume_changed call ≡ None → ⊥) → Holds s c past → Change' c past user call id v es shown → IsStored x (saved_reply c head time user call id v es shown)
-    → Fits sp n call x c.server.boot (saved_reply c head time user call id v es shown) (change_carried time user call id c.server.times v es shown) (saved_entry y k (versions_by id es v) (saved_reply c head time user call id v es shown) ∷ past)
-change_fits sp (calls.StoreData f st p w l b) y s c past n head user id time v es shown k x some H q is =
-    let z = store_fits (calls.StoreData f st p w l b) f y s c past n head user id time v es shown k x _ H q refl (some_of f.volume id q.of_volume) refl in (z.0, (is, z.1))
-change_fits sp (calls.StoreAcl f acl) y s c past n head user id time v es shown k x some H q is =
-    let z = store_fits (calls.StoreAcl f acl) f y s c past n head user id time v es shown k x _ H q refl (some_of f.volume id q.of_volume) refl in (z.0, (is, z.1))
-change_fits sp (calls.StoreStatus f st) y s c past n head user id time v es shown k x some H q is =
-    let z = store_fits (calls.StoreStatus f st) f y s c past n head user id time v es shown k x _ H q refl (some_of f.volume id q.of_volume) refl in (z.0, (is, z.1))
-change_fits sp (calls.RemoveFile d name) y s c past n head user id time v es shown k x some H q is = λ i e. is
-change_fits sp (calls.CreateFile d name st) y s c past n head user id time v es shown k x some H q is = λ i e. is
-change_fits sp (calls.Rename d old d' new) y s c past n head user id time v es shown k x some H q is = λ i e. is
-change_fits sp (calls.Symlink d name target st) y s c past n head user id time v es shown k x some H q is = λ i e. is
-change_fits sp (calls.Link d name f) y s c past n head user id time v es shown k x some H q is = λ i e. is
-change_fits sp (calls.MakeDir d name st) y s c past n head user id time v es shown k x some H q is = λ i e. is
-change_fits sp (calls.RemoveDir d name) y s c past n head user id time v es shown k x some H q is = λ i e. is
-change_fits sp call y s c past n head user id time v es shown k x some H q is = absurd (some refl)
+pub change_fits : (sp : Bool) (call : FsCall) (y : Way) (s : Script) (c : Cell) (past : List Entry) (n : ℕ) (head : Head) (user : List ℕ) (id time : ℕ) (times : Fid → ℕ) (v : Volume) (es : List Edit) (shown : ℕ) (k : Key) (x : Spot) → (volume_changed call ≡ None → ⊥) → Holds s c past → Change' c past user call id v es shown → call_under k (sent_of past) ≡ Some (user, call) → IsStored x (saved_reply c head time times user call id v es shown)
+    → Fits sp n call x c.server.lasting.boot (saved_reply c head time times user call id v es shown) (change_carried time user call id times v es shown) (saved_entry y k (versions_by id es v) (saved_reply c head time times user call id v es shown) ∷ past)
+change_fits sp (calls.StoreData f st p w l b) y s c past n head user id time times v es shown k x some H q one is =
+    let z = store_fits (calls.StoreData f st p w l b) f y s c past n head user id time times v es shown k x _ H q refl (some_of f.volume id q.of_volume) refl in
+    ((z.0, store_been (calls.StoreData f st p w l b) f y s c past user id time v es shown k (saved_reply c head time times user (calls.StoreData f st p w l b) id v es shown) H q one refl (some_of f.volume id q.of_volume) times), (is, z.1))
+change_fits sp (calls.StoreAcl f acl) y s c past n head user id time times v es shown k x some H q one is =
+    let z = store_fits (calls.StoreAcl f acl) f y s c past n head user id time times v es shown k x _ H q refl (some_of f.volume id q.of_volume) refl in
+    ((z.0, store_been (calls.StoreAcl f acl) f y s c past user id time v es shown k (saved_reply c head time times user (calls.StoreAcl f acl) id v es shown) H q one refl (some_of f.volume id q.of_volume) times), (is, z.1))
+change_fits sp (calls.StoreStatus f st) y s c past n head user id time times v es shown k x some H q one is =
+    let z = store_fits (calls.StoreStatus f st) f y s c past n head user id time times v es shown k x _ H q refl (some_of f.volume id q.of_volume) refl in
+    ((z.0, store_been (calls.StoreStatus f st) f y s c past user id time v es shown k (saved_reply c head time times user (calls.StoreStatus f st) id v es shown) H q one refl (some_of f.volume id q.of_volume) times), (is, z.1))
+change_fits sp (calls.RemoveFile d name) y s c past n head user id time times v es shown k x some H q one is = λ i e. is
+change_fits sp (calls.CreateFile d name st) y s c past n head user id time times v es shown k x some H q one is = λ i e. is
+change_fits sp (calls.Rename d old d' new) y s c past n head user id time times v es shown k x some H q one is = λ i e. is
+change_fits sp (calls.Symlink d name target st) y s c past n head user id time times v es shown k x some H q one is = λ i e. is
+change_fits sp (calls.Link d name f) y s c past n head user id time times v es shown k x some H q one is = λ i e. is
+change_fits sp (calls.MakeDir d name st) y s c past n head user id time times v es shown k x some H q one is = λ i e. is
+change_fits sp (calls.RemoveDir d name) y s c past n head user id time times v es shown k x some H q one is = λ i e. is
+change_fits sp call y s c past n head user id time times v es shown k x some H q one is = absurd (some refl)
 
 -- what a change is answered is a reply with code 0
 pub carried_reply : (x : ℕ) (o : Option FsReply) → IsReply (carried_by x o)
@@ -629,8 +673,13 @@ set_again (calls.StoreAcl f acl) n x z m past newer status some none h = absurd 
 set_again (calls.StoreStatus f st) n x z m past newer status some none h = absurd (none h.1.0.ran)
 set_again call n x z m past newer status some none h = plain_again call x z m some none (volume_changed call) refl h
 
+pub shown_again : (call : FsCall) (sp : Bool) (n : ℕ) (x z : Spot) (m : Message) (past newer : List Entry) (status : AfsFetchStatus) (callback : AfsCallBack) → (volume_changed call ≡ None → ⊥) → (LastStored x → ⊥) → FitsShown sp n x m past status callback call → FitsShown sp n z m newer status callback call
+shown_again (calls.FetchStatus f) sp n x z m past newer status callback some none h = absurd (some refl)
+shown_again call sp n x z m past newer status callback some none h = plain_again call x z m some none (volume_changed call) refl h
+
 pub reply_again : (sp : Bool) (reply : FsReply) (n : ℕ) (call : FsCall) (x z : Spot) (m : Message) (past newer : List Entry) → (volume_changed call ≡ None → ⊥) → (LastStored x → ⊥) → FitsReply sp n call x m past reply → FitsReply sp n call z m newer reply
 reply_again sp (replies.FetchData contents status callback sync) n call x z m past newer some none h = data_again sp call n x z m past newer contents status callback some none h
+reply_again sp (replies.FetchStatus status callback sync) n call x z m past newer some none h = shown_again call sp n x z m past newer status callback some none h
 reply_again sp (replies.StoreData status sync) n call x z m past newer some none h = set_again call n x z m past newer status some none h
 reply_again sp (replies.StoreAcl status sync) n call x z m past newer some none h = set_again call n x z m past newer status some none h
 reply_again sp (replies.StoreStatus status sync) n call x z m past newer some none h = set_again call n x z m past newer status some none h
@@ -641,21 +690,21 @@ saved_again sp n call x z boot m (carried.Reply (tell.File reply)) past newer so
 saved_again sp n call x z boot m (carried.Refusal code) past newer some none lt h = (h.0, λ y. lt)
 saved_again sp n call x z boot m c past newer some none lt h = absurd h
 
-pub earlier : (fl : ℕ → Ghost) (c : Cell) (past : List Entry) (n : ℕ) (h : Head) (user : List ℕ) (call : FsCall) (m : Message) → Now c fl past n h user call → ReplyFact n (view fl c n) past m → h.epoch ≡ m.head.epoch → h.number ≡ m.head.number → m.head.boot < c.server.boot
-earlier fl c past n h user call m w f e k = elim (eq-or-lt_of_le f.booted) [
+pub earlier : {s : Script} → (fl : ℕ → Ghost) (c : Cell) (past : List Entry) (n : ℕ) (h : Head) (user : List ℕ) (call : FsCall) (m : Message) → Now s c fl past n h user call → ReplyFact n (view fl c n) past m → h.epoch ≡ m.head.epoch → h.number ≡ m.head.number → m.head.boot < c.server.lasting.boot
+earlier {s} fl c past n h user call m w f e k = elim (eq-or-lt_of_le f.booted) [
   | inl same ↦ absurd (f.tied same (subst (λ (d : ℕ). Above (call_seat (Client n) c.server.seats) d m.head.number) e (subst (λ (d : ℕ). Above (call_seat (Client n) c.server.seats) h.epoch d) k w.above)))
   | inr lt ↦ lt
 ]
 
-pub saved_answers : (fl : ℕ → Ghost) (c : Cell) (past : List Entry) (e : Entry) (n : ℕ) (h : Head) (user : List ℕ) (call : FsCall) (z : Spot) → Now c fl past n h user call → (volume_changed call ≡ None → ⊥) → (a : Going) (m : Message) → ReplyFact n (view fl c n) past m → (c.clients n).running ≡ Some a
-    → m.head.epoch ≡ (c.clients n).epoch → m.head.number ≡ (c.clients n).last → Answers (c.clients n).spoiled n (asked a) z c.server.boot m (e ∷ past)
-saved_answers fl c past e n h user call z w some a m fact runs y k = elim (up_to_by _ _ _ _ w.fact.behind) [
+pub saved_answers : {s : Script} → (fl : ℕ → Ghost) (c : Cell) (past : List Entry) (e : Entry) (n : ℕ) (h : Head) (user : List ℕ) (call : FsCall) (z : Spot) → Now s c fl past n h user call → (volume_changed call ≡ None → ⊥) → (a : Going) (m : Message) → ReplyFact n (view fl c n) past m → (c.clients n).running ≡ Some a
+    → m.head.epoch ≡ (c.clients n).epoch → m.head.number ≡ (c.clients n).last → Answers (c.clients n).spoiled n (asked a) z c.server.lasting.boot m (e ∷ past)
+saved_answers {s} fl c past e n h user call z w some a m fact runs y k = elim (up_to_by _ _ _ _ w.fact.behind) [
   | inl l ↦ absurd (stale_none fl c past n (client_head n h) call m w.fact w.boot w.above fact y k l)
   | inr q ↦ let same : call ≡ asked a = running_act true fl c past n h user call w a runs q.0 q.1 in
-      let old : Answers (c.clients n).spoiled n (asked a) (spot (view fl c n)) c.server.boot m past = fact.answers a runs y k in
+      let old : Answers (c.clients n).spoiled n (asked a) (spot (view fl c n)) c.server.lasting.boot m past = fact.answers a runs y k in
       record {
-        fits = subst (λ (u : FsCall). Fits (c.clients n).spoiled n u z c.server.boot m m.carried (e ∷ past)) same (saved_again (c.clients n).spoiled n call (spot (view fl c n)) z c.server.boot m m.carried past (e ∷ past) some (not_ran (view fl c n) h.epoch h.number w.above_durable w.fact.behind)
-            (earlier fl c past n h user call m w fact (q.0 ∙ sym y) (q.1 ∙ sym k)) (subst (λ (u : FsCall). Fits (c.clients n).spoiled n u (spot (view fl c n)) c.server.boot m m.carried past) (sym same) old.fits));
+        fits = subst (λ (u : FsCall). Fits (c.clients n).spoiled n u z c.server.lasting.boot m m.carried (e ∷ past)) same (saved_again (c.clients n).spoiled n call (spot (view fl c n)) z c.server.lasting.boot m m.carried past (e ∷ past) some (not_ran (view fl c n) h.epoch h.number w.above_durable w.fact.behind)
+            (earlier fl c past n h user call m w fact (q.0 ∙ sym y) (q.1 ∙ sym k)) (subst (λ (u : FsCall). Fits (c.clients n).spoiled n u (spot (view fl c n)) c.server.lasting.boot m m.carried past) (sym same) old.fits));
         code = old.code;
         cause = cause_over m old.code (asked a) e past old.cause;
       }
@@ -684,22 +733,22 @@ pub not_now : (d : Option Fall) (boot b : ℕ) → b < boot → up_boot d boot �
 not_now None boot b l e = let same : boot ≡ b = some_of _ _ e in absurd (omega arith)
 not_now (Some fall) boot b l e = absurd cc
 
-pub old_withdrawn : (s : Script) (c : Cell) (past : List Entry) (n : ℕ) (f : Fid) (u : CacheEntry) → (H : Holds s c past) → (cur : IsCurrent n f u (view H.floors c n) past) → (H.floors n).held < c.server.boot
+pub old_withdrawn : (s : Script) (c : Cell) (past : List Entry) (n : ℕ) (f : Fid) (u : CacheEntry) → (H : Holds s c past) → (cur : IsCurrent n f u (view H.floors c n) past) → (H.floors n).held < c.server.lasting.boot
     → IsWithdrawn cur.held.grant.server (Client n) f (since (Client n) f u.expiry cur.reply past cur.held.grant)
 old_withdrawn s c past n f u H cur l =
     let low : cur.reply.head.boot ≤ (H.floors n).held = cur.boot in
     subst (λ (x : Node). IsWithdrawn x (Client n) f (since (Client n) f u.expiry cur.reply past cur.held.grant)) (sym cur.held.server)
     (stopped_since the_server (Client n) f cur.reply.head.boot (since (Client n) f u.expiry cur.reply past cur.held.grant) cur.held.base cur.held.begun
-    (λ e. not_now c.down c.server.boot cur.reply.head.boot (omega arith) (sym H.boots ∙ (ap (server_boot the_server) cur.held.split ∙ e))))
+    (λ e. not_now c.down c.server.lasting.boot cur.reply.head.boot (omega arith) (sym H.boots ∙ (ap (server_boot the_server) cur.held.split ∙ e))))
 
 -- the key that ran is not above its seat
-pub new_not : (c : Cell) (n : ℕ) (h : Head) (r : Message) (l : Key) → l ≡ called_key (client_head n h) → Above (call_seat l.node (call_seated (taken n h r) c.server.durable)) l.epoch l.number → ⊥
+pub new_not : (c : Cell) (n : ℕ) (h : Head) (r : Message) (l : Key) → l ≡ called_key (client_head n h) → Above (call_seat l.node (seat_placed (taken n h r) c.server.lasting.kept)) l.epoch l.number → ⊥
 new_not c n h r l same above =
-    let own : Above (call_seat (Client n) (call_seated (taken n h r) c.server.durable)) h.epoch h.number = subst (λ (x : Key). Above (call_seat x.node (call_seated (taken n h r) c.server.durable)) x.epoch x.number) same above in
-    below_not h.epoch h.number h.epoch h.number (subst (λ (o : Option Seat). Above o h.epoch h.number) (own_seat (taken n h r) c.server.durable) own) (up_to_same h.epoch h.number h.epoch h.number refl refl)
+    let own : Above (call_seat (Client n) (seat_placed (taken n h r) c.server.lasting.kept)) h.epoch h.number = subst (λ (x : Key). Above (call_seat x.node (seat_placed (taken n h r) c.server.lasting.kept)) x.epoch x.number) same above in
+    below_not h.epoch h.number h.epoch h.number (subst (λ (o : Option Seat). Above o h.epoch h.number) (own_placed (taken n h r) c.server.lasting.kept) own) (up_to_same h.epoch h.number h.epoch h.number refl refl)
 
-pub saves_change_good : (s : Script) (c : Cell) (past : List Entry) (own tail : List Line) (n : ℕ) (h : Head) (user : List ℕ) (call : FsCall) (id : ℕ) (v : Volume) (es : List Edit) (shown : ℕ) → (H : Holds s c past) → Now c H.floors past n h user call → Change' c past user call id v es shown
-    → IsNew (called_key (client_head n h)) (own ++ lines_of past) → change_key own ≡ None → Accepts s id the_server (own ++ lines_of past) → versions_first tail ≡ [] → ((j : ℕ) (f : Fid) (x : ℕ) → (Client j ≡ Client n → ⊥) → IsChanged f (versions_by id es v) → live_grant the_server (Client j) f (own ++ lines_of past) ≡ Some x → clock_of (own ++ lines_of past) < x → HasOwe the_server (Client j) (Some f) (versioned (versions_by id es v) tail))
+pub saves_change_good : (s : Script) (c : Cell) (past : List Entry) (own tail : List Line) (n : ℕ) (h : Head) (user : List ℕ) (call : FsCall) (id : ℕ) (v : Volume) (es : List Edit) (shown : ℕ) → (H : Holds s c past) → Now s c H.floors past n h user call → Change' c past user call id v es shown
+    → IsNew (called_key (client_head n h)) (own ++ lines_of past) → change_key own ≡ None → Accepts s id the_server (own ++ lines_of past) → versions_first tail ≡ [] → ((j : ℕ) (f : Fid) (x : ℕ) → (Client j ≡ Client n → ⊥) → IsChanged f (versions_by id es v) → live_grant the_server (Client j) f (own ++ lines_at the_server past) ≡ Some x → clock_of (own ++ lines_of past) < x → HasOwe the_server (Client j) (Some f) (versioned (versions_by id es v) tail))
     → GoodChange s the_server (called_key (client_head n h)) (length (versions_by id es v)) past own (versioned (versions_by id es v) tail)
 saves_change_good s c past own tail n h user call id v es shown H w q new only home none owed = record {
   fresh = new;
@@ -725,75 +774,77 @@ saves_change_good s c past own tail n h user call id v es shown H w q new only h
 }
 
 -- the ideal operation where the call ran
-pub answer_is : (user : List ℕ) (call : FsCall) (id : ℕ) (v : Volume) (es : List Edit) (shown : ℕ) (volumes : Table Volume) (older : List Entry) → volume_called call ≡ Some id → get id volumes ≡ Some v → AreIdeal volumes older → op id (the_user user) call v ≡ changes es shown → answer_at user call older ≡ Some (changes es shown)
+pub answer_is : (user : List ℕ) (call : FsCall) (id : ℕ) (v : Volume) (es : List Edit) (shown : ℕ) (volumes : Table Stored) (older : List Entry) → volume_called call ≡ Some id → volume_in id volumes ≡ Some v → AreIdeal volumes older → op id (the_user user) call v ≡ changes es shown → answer_at user call older ≡ Some (changes es shown)
 answer_is user call id v es shown volumes older of at ideal res =
-    ap (λ (o : Option ℕ). answer_on user call o older) of ∙ (ap (λ (o : Option Volume). Some (op_on id (the_user user) call o)) (sym (ideal id) ∙ at) ∙ ap Some res)
+    answer_in user call older id of ∙ (ap (λ (o : Option Volume). Some (op_on id (the_user user) call o)) (sym (ideal id) ∙ at) ∙ ap Some res)
 
 -- a fid that had a version isn't new
 pub scope_of : (g : Fid) (i : ℕ) (b : Body) (id : ℕ) (v : Volume) (ls : List Line) (S : Type 0) → Sound id v ls → g.volume ≡ id → HasVersion g i b ls → S ⊎ (v.next ≤ g.unique) → S
 scope_of g i b id v ls S sound at had (inl s) = s
 scope_of g i b id v ls S sound at had (inr new) = absurd (none_has g i b ls (ap (λ (x : ℕ). last_version (fid_at x g.vnode g.unique) ls) at ∙ sound.new g.vnode g.unique new) had)
 
-pub saves_holds : (y : Way) (s : Script) (now : Option ℕ) (c : Cell) (past : List Entry) (after : Backs) (armed : Armed) (d : Option Fall) (n : ℕ) (h : Head) (user : List ℕ) (call : FsCall) (time id : ℕ) (v : Volume) (es : List Edit) (shown : ℕ) → (H : Holds s c past) → Now c H.floors past n h user call → Change' c past user call id v es shown
-    → HasRun c n h user call (NewEntry y n h (versions_by id es v) (saved_reply c (client_head n h) time user call id v es shown) ∷ past)
-    → server_boot the_server (lines_of (NewEntry y n h (versions_by id es v) (saved_reply c (client_head n h) time user call id v es shown) ∷ past)) ≡ now
-    → AreUnheard d (seats_after c n h (saved_reply c (client_head n h) time user call id v es shown)) c.server.boot (NewEntry y n h (versions_by id es v) (saved_reply c (client_head n h) time user call id v es shown) ∷ past)
-    → HasFallen d (server_after true c n h (saved_reply c (client_head n h) time user call id v es shown) (stock_after c (client_head n h) time (change_at id user call v es shown))) (c.sent ++ saved_sent y (saved_reply c (client_head n h) time user call id v es shown)) (NewEntry y n h (versions_by id es v) (saved_reply c (client_head n h) time user call id v es shown) ∷ past)
-    → (HeldIn (views_after true H.floors c n h (saved_reply c (client_head n h) time user call id v es shown)) (NewEntry y n h (versions_by id es v) (saved_reply c (client_head n h) time user call id v es shown) ∷ past) (saved_reply c (client_head n h) time user call id v es shown) → Gives (views_after true H.floors c n h (saved_reply c (client_head n h) time user call id v es shown)) c.server.boot (NewEntry y n h (versions_by id es v) (saved_reply c (client_head n h) time user call id v es shown) ∷ past) c.backs.held (saved_sent y (saved_reply c (client_head n h) time user call id v es shown)) after.held)
-    → (now ≡ up_boot d c.server.boot → BackedIn d after c.server.boot (seats_after c n h (saved_reply c (client_head n h) time user call id v es shown)) (seats_of c) c.clock (c.sent ++ saved_sent y (saved_reply c (client_head n h) time user call id v es shown)) (NewEntry y n h (versions_by id es v) (saved_reply c (client_head n h) time user call id v es shown) ∷ past))
-    → HoldsAt s now (served_cell true c n h (saved_reply c (client_head n h) time user call id v es shown) (stock_after c (client_head n h) time (change_at id user call v es shown)) after d armed (saved_sent y (saved_reply c (client_head n h) time user call id v es shown)))
-    (NewEntry y n h (versions_by id es v) (saved_reply c (client_head n h) time user call id v es shown) ∷ past)
-saves_holds y s now c past after armed d n h user call time id v es shown H w q run boots heard fallen gives backs =
+pub saves_holds : (y : Way) (s : Script) (now : Option ℕ) (c : Cell) (past : List Entry) (after : Backs) (armed : Armed) (d : Option Fall) (n : ℕ) (h : Head) (user : List ℕ) (call : FsCall) (time id : ℕ) (st : Stored) (es : List Edit) (shown : ℕ) → (H : Holds s c past) → Now s c H.floors past n h user call → Change' c past user call id st.volume es shown
+    → HasRun c n h user call (NewEntry y n h (versions_by id es st.volume) (reply_saved c (client_head n h) time user call id st es shown) ∷ past)
+    → server_boot the_server (lines_of (NewEntry y n h (versions_by id es st.volume) (reply_saved c (client_head n h) time user call id st es shown) ∷ past)) ≡ now
+    → AreUnheard d (seats_after c n h (reply_saved c (client_head n h) time user call id st es shown)) c.server.lasting.boot (NewEntry y n h (versions_by id es st.volume) (reply_saved c (client_head n h) time user call id st es shown) ∷ past)
+    → HasFallen d (server_after true c n h (reply_saved c (client_head n h) time user call id st es shown) (stock_after c (client_head n h) time (change_at id user call st es shown))).lasting (c.sent ++ saved_sent y (reply_saved c (client_head n h) time user call id st es shown)) (NewEntry y n h (versions_by id es st.volume) (reply_saved c (client_head n h) time user call id st es shown) ∷ past)
+    → (HeldIn (views_after true H.floors c n h (reply_saved c (client_head n h) time user call id st es shown)) (NewEntry y n h (versions_by id es st.volume) (reply_saved c (client_head n h) time user call id st es shown) ∷ past) (reply_saved c (client_head n h) time user call id st es shown) → Gives s (views_after true H.floors c n h (reply_saved c (client_head n h) time user call id st es shown)) c.server.lasting.boot (NewEntry y n h (versions_by id es st.volume) (reply_saved c (client_head n h) time user call id st es shown) ∷ past) c.server.backs.held (saved_sent y (reply_saved c (client_head n h) time user call id st es shown)) after.held)
+    → (now ≡ up_boot d c.server.lasting.boot → BackedIn d after c.server.lasting.boot (seats_after c n h (reply_saved c (client_head n h) time user call id st es shown)) (seats_of c) c.clock (c.sent ++ saved_sent y (reply_saved c (client_head n h) time user call id st es shown)) (NewEntry y n h (versions_by id es st.volume) (reply_saved c (client_head n h) time user call id st es shown) ∷ past))
+    → HoldsAt s now (served_cell true c n h (reply_saved c (client_head n h) time user call id st es shown) (stock_after c (client_head n h) time (change_at id user call st es shown)) after d armed (saved_sent y (reply_saved c (client_head n h) time user call id st es shown)))
+    (NewEntry y n h (versions_by id es st.volume) (reply_saved c (client_head n h) time user call id st es shown) ∷ past)
+saves_holds y s now c past after armed d n h user call time id st es shown H w q run boots heard fallen gives backs =
     let fl : ℕ → Ghost = H.floors in
-    let vs : List Version = versions_by id es v in
-    let x : Carried = change_carried time user call id c.server.times v es shown in
-    let r : Message = saved_reply c (client_head n h) time user call id v es shown in
+    let vs : List Version = versions_by id es st.volume in
+    let x : Carried = change_carried time user call id (time_in (stored_after id time es st)) st.volume es shown in
+    let r : Message = reply_saved c (client_head n h) time user call id st es shown in
     let k : Key = called_key (client_head n h) in
     let e : Entry = saved_entry y k vs r in
-    let grow : Grow id vs (base y k (length vs) (lines_of past)) = (told_at y s c past user call id v es shown k H q).grow in
-    let some : volume_changed call ≡ None → ⊥ = changes_is id (the_user user) call v es shown q.of_volume q.result in
+    let grow : Grow id vs (base y k (length vs) (lines_of past)) = (told_at y s c past user call id st.volume es shown k H q).grow in
+    let some : volume_changed call ≡ None → ⊥ = changes_is id (the_user user) call st.volume es shown q.of_volume q.result in
     let scope : (g : Fid) (i : ℕ) (b : Body) → HasVersion g i b (lines_of past) → touches g vs ≡ true → is_in_scope call g ≡ true = λ g i b had t.
-    scope_of g i b id v (lines_of past) (is_in_scope call g ≡ true) (subst (λ (o : Option Volume). SoundIn id o (lines_of past)) q.at (H.sound id)) (touched_volume g id vs (base y k (length vs) (lines_of past)) grow t) had
-    (in_scope (the_user user) call id v es shown g (base y k (length vs) (lines_of past)) q.result q.of_volume grow t) in
+    scope_of g i b id st.volume (lines_of past) (is_in_scope call g ≡ true) (subst (λ (o : Option Volume). SoundIn id o (lines_of past)) q.at (H.sound id)) (touched_volume g id vs (base y k (length vs) (lines_of past)) grow t) had
+    (in_scope (the_user user) call id st.volume es shown g (base y k (length vs) (lines_of past)) q.result q.of_volume grow t) in
     let other : (j : ℕ) → (n ≡ j → ⊥) → Client n ≡ Client j → ⊥ = λ j ne z. ne (client_number n j z) in
-    let result : answer_at user call run.ran.older ≡ Some (changes es shown) = answer_is user call id v es shown c.server.volumes run.ran.older q.of_volume q.at run.ideal q.result in
-    serves true s now c past n h user call x e (stock_after c (client_head n h) time (change_at id user call v es shown)) after d armed H w
+    let result : answer_at user call run.ran.older ≡ Some (changes es shown) = answer_is user call id st.volume es shown c.server.lasting.volumes run.ran.older q.of_volume q.at run.ideal q.result in
+    serves true s now c past n h user call x e (stock_after c (client_head n h) time (change_at id user call st es shown)) after d armed H w
     (record {
-      ideal = ideal_after y s c past user call id v es shown k r H q w.one;
-      sound = sound_after y s c past user call id v es shown k r H q;
-      fine = fine_after id (the_user user) call v es shown c.server.volumes H.fine q.of_volume q.at q.result;
-      home = λ i u z. saves_home y s i k vs r past (home_by (eqb id i) s id i (counted (edited_all id es v)) u (get i c.server.volumes) (lines_of past) refl (H.home id v q.at) (H.home i u) (sym (get-set id i (counted (edited_all id es v)) c.server.volumes) ∙ z));
-      new = λ l above. saves_new y k l vs r past (λ same. new_not c n h r l same above) (H.new l (above_before c.server.durable n h r l.node l.epoch l.number w.above_durable above));
+      ideal = ideal_after y s c past user call id st.volume es shown k r (stored_after id time es st) refl H q w.one;
+      sound = sound_after y s c past user call id st.volume es shown k r (stored_after id time es st) refl H q;
+      fine = fine_after id (the_user user) call st.volume es shown c.server.lasting.volumes (stored_after id time es st) refl H.fine q.of_volume q.at q.result;
+      home = λ i u z. saves_home y s i k vs r past (home_by (eqb id i) s id i (counted (edited_all id es st.volume)) u (volume_in i c.server.lasting.volumes) (lines_of past) refl (H.home id st.volume q.at) (H.home i u) (sym (volume_put id i (stored_after id time es st) (counted (edited_all id es st.volume)) c.server.lasting.volumes refl) ∙ z));
+      new = λ l above. saves_new y k l vs r past (λ same. new_not c n h r l same above) (H.new l (durable_before true c n h r l.node l.epoch l.number w.above_durable above));
       other = λ j ne. client_over j (view fl c j) e past (saves_file y j k vs r past) (λ f. other_reach y j n k vs r past f refl (other j ne)) (λ f. other_newest y j n k vs r past f refl (other j ne)) (saves_act y j k vs r past) (λ f. rises_saved y past k id vs r f grow);
       other_reply = λ j m ne. reply_over j (view fl c j) m e past (λ f. saves_grant y j k vs r past f) (λ f. other_reach y j n k vs r past f refl (other j ne)) (λ f. other_newest y j n k vs r past f refl (other j ne));
       own_answers = λ a m f runs z i. saved_answers fl c past e n h user call (spot (caller_view true fl c n h r)) w some a m f runs z i;
-      is_reply = carried_reply (time + promise_ticks) (change_reply id (the_user user) (stamped time vs c.server.times) (counted (edited_all id es v)) shown call);
+      is_reply = carried_reply (time + promise_ticks) (change_reply id (the_user user) (time_in (stored_after id time es st)) (counted (edited_all id es st.volume)) shown call);
       answer = record {
-        fits = change_fits (c.clients n).spoiled call y s c past n (client_head n h) user id time v es shown k (record { durable = Some (taken n h r); epoch = h.epoch; last = h.number }) some H q (record { ran = record { seat = taken n h r; at = refl; epoch = refl; number = refl }; kept = refl });
+        fits = change_fits (c.clients n).spoiled call y s c past n (client_head n h) user id time (time_in (stored_after id time es st)) st.volume es shown k (record { durable = Some (taken n h r); epoch = h.epoch; last = h.number }) some H q w.one (record { ran = record { seat = taken n h r; at = refl; epoch = refl; number = refl }; kept = refl });
         code = pos 0;
-        cause = cause_now c n h user call x (pos 0) (e ∷ past) run w.origin.own_user (carried_code (time + promise_ticks) (change_reply id (the_user user) (stamped time vs c.server.times) (counted (edited_all id es v)) shown call)) (carried_zero call time id user c.server.times v es shown some) (inl (ap code_given result, subst (λ (z : Option Result). IsTold k z (lines_of (e ∷ past))) (sym result) (saves_change y k vs r past)));
+        cause = cause_now c n h user call x (pos 0) (e ∷ past) run w.origin.own_user (carried_code (time + promise_ticks) (change_reply id (the_user user) (time_in (stored_after id time es st)) (counted (edited_all id es st.volume)) shown call)) (carried_zero call time id user (time_in (stored_after id time es st)) st.volume es shown some) (inl (ap code_given result, subst (λ (z : Option Result). IsTold k z (lines_of (e ∷ past))) (sym result) (saves_change y k vs r past)));
       };
       acts = saves_act y n k vs r past;
+      grows = λ f i b z. (saves_grant y n k vs r past f).version i b (lines_of past) z;
       current = λ f u found lasts. let cur : IsCurrent n f u (view fl c n) past = (H.clients n).current f u found lasts in
           record {
             reply = cur.reply;
             boot = cur.boot;
             by = fetch_reply_by (has_fetched (Client n) f e.lines) (given_message e.lines (sent_of past)) (fetch_reply (Client n) f past) (saves_file y n k vs r past f).fetched ∙ cur.by;
-            held = held_over n f u.index u.body u.expiry cur.reply e past (saves_grant y n k vs r past f) cur.held;
-            state = own_stands (is_in_scope call f) y fl c past n h user call vs r f u.index cur.held.grant.server (since (Client n) f u.expiry cur.reply past cur.held.grant) w refl some (scope f u.index u.body cur.held.whole)
-                (λ t. was_changed call y s c past n (client_head n h) user id time v es shown k f cur.held.grant.server (onto (since (Client n) f u.expiry cur.reply past cur.held.grant) e.lines) H q t) (λ z. z u found lasts) (old_withdrawn s c past n f u H cur) cur.state;
+            from = cur.from;
+            held = held_over n f u.index u.status u.body u.expiry cur.reply e past (saves_grant y n k vs r past f) cur.held;
+            state = own_stands (is_in_scope call f) y fl c past n h user call vs r f u.index cur.held.grant.server (since (Client n) f u.expiry cur.reply past cur.held.grant) w refl some (scope f u.index cur.held.whole.is cur.held.whole.told)
+                (λ t. was_changed call y s c past n (client_head n h) user id time (time_in (stored_after id time es st)) st.volume es shown k f cur.held.grant.server (onto (since (Client n) f u.expiry cur.reply past cur.held.grant) e.lines) H q t) (λ z. z u found lasts) (old_withdrawn s c past n f u H cur) cur.state;
           };
       made = λ a runs f o known. made_saved y n k vs r past f (λ z. no_touch' (touches f vs) (λ t. elim (w.acts z a ((H.clients n).runs a runs)) [
         | inl none ↦ some none
         | inr same ↦ elim known [
           | inl reading ↦ some (ap volume_changed same ∙ reading)
-          | inr trusted ↦ o (ap (λ (b : FsCall). is_in_scope b f) (sym same) ∙ scope f trusted.entry.index trusted.entry.body ((H.clients n).current f trusted.entry trusted.found trusted.lasts).held.whole t)
+          | inr trusted ↦ o (ap (λ (b : FsCall). is_in_scope b f) (sym same) ∙ (let whole = ((H.clients n).current f trusted.entry trusted.found trusted.lasts).held.whole in scope f trusted.entry.index whole.is whole.told t))
         ]
       ])) ∙ (H.clients n).made a runs f o known;
       reached = λ f. own_reached y past n k id vs r f grow ((H.clients n).reached f);
       clock = saves_clock y k vs r past ∙ H.clock;
       top = saves_tops y id k vs r past grow H.top;
-      one = saves_ones y id k vs r past grow (versions_by_next id es v (base y k (length vs) (lines_of past)) (sound_same id (Some v) (lines_of past) (base y k (length vs) (lines_of past)) (λ a u. base_last y k (length vs) (lines_of past) (fid_at id a u)) (subst (λ (o : Option Volume). SoundIn id o (lines_of past)) q.at (H.sound id)))) H.top H.one;
+      one = saves_ones y id k vs r past grow (versions_by_next id es st.volume (base y k (length vs) (lines_of past)) (sound_same id (Some st.volume) (lines_of past) (base y k (length vs) (lines_of past)) (λ a u. base_last y k (length vs) (lines_of past) (fid_at id a u)) (subst (λ (o : Option Volume). SoundIn id o (lines_of past)) q.at (H.sound id)))) H.top H.one;
     })
     boots heard fallen gives backs
 
@@ -854,66 +905,83 @@ pub granted_then : (s : Script) (past : List Entry) (own : List Line) (n x : ℕ
 granted_then s past own n x [] tail h = h
 granted_then s past own n x (f ∷ fs) tail h = (refl, granted_then s past (lines.Grant the_server (Client n) f.fid f.vnode.index x ∷ own) n x fs tail h)
 
-pub saves_goes : (s : Script) (c : Cell) (past : List Entry) (armed : Armed) (p n : ℕ) (h : Head) (user : List ℕ) (call : FsCall) (id : ℕ) (v : Volume) (es : List Edit) (shown : ℕ) → (H : Holds s c past) → c.down ≡ None → message_at c.sent p ≡ Some (call_at n h user call) → Now c H.floors past n h user call → Change' c past user call id v es shown
-    → Goes s past (server_does c armed p (call_at n h user call) (saves (client_head n h) (change_at id user call v es shown)))
-saves_goes s c past armed p n h user call id v es shown H up at w q =
-    let r : Message = saved_reply c (client_head n h) c.clock user call id v es shown in
+on_rising : (vs : List Version) (o : List Line) → Rising o → Rising (on_top vs o)
+on_rising [] o h = h
+on_rising (v ∷ vs) o h = on_rising vs (lines.Version v ∷ o) h
+
+saves_by_turn : (s : Script) (c : Cell) (past : List Entry) (armed : Armed) (p n : ℕ) (h : Head) (user : List ℕ) (call : FsCall) (id : ℕ) (st : Stored) (es : List Edit) (shown : ℕ) → (H : Holds s c past) → c.down ≡ None → message_at c.sent p ≡ Some (call_at n h user call) → Now s c H.floors past n h user call → Change' c past user call id st.volume es shown
+    → Goes s past (server_moves c armed (done the_server c.server c.clock p (saves (client_head n h) (change_at id user call st es shown)) (saves_turn the_server c.server c.clock (expired c.clock c.server.backs) (client_head n h) (change_at id user call st es shown))))
+saves_by_turn s c past armed p n h user call id st es shown H up at w q =
+    let r : Message = reply_saved c (client_head n h) c.clock user call id st es shown in
     let k : Key = called_key (client_head n h) in
-    let vs : List Version = versions_by id es v in
-    let b0 : Backs = expired c.clock c.backs in
-    let t : Turn = turn_for the_server c.server c.clock b0 (saves (client_head n h) (change_at id user call v es shown)) in
-    let os : List Owed = new_owes n vs b0 in
-    let fs : List Found = granted_in (change_at id user call v es shown) in
+    let vs : List Version = versions_by id es st.volume in
+    let b0 : Backs = expired c.clock c.server.backs in
+    let t : Turn = saves_turn the_server c.server c.clock b0 (client_head n h) (change_at id user call st es shown) in
+    let os : List Owed = owes_from b0.lists.last_owed (hits (Client n) vs b0.lists.promises) in
+    let fs : List Found = granted_in (change_at id user call st es shown) in
     let x : ℕ = c.clock + promise_ticks in
     let tl : List Line = granted the_server (Client n) x fs t.lines in
     let notes : AreNotes tl = granted_notes (Client n) x fs t.lines (owe_notes os) in
     let sk : Skips tl = skips tl notes in
-    let y : Way = whole p tl notes (pumped the_server c.server.boot t).sent in
+    let y : Way = whole p tl notes (pumped the_server c.server.lasting.boot t).sent in
     let e : Entry = saved_entry y k vs r in
-    let B : BackedIn None b0 c.server.boot c.server.seats (seats_of c) c.clock c.sent past = up_backed s c past H up in
+    let B : BackedIn None b0 c.server.lasting.boot c.server.seats (seats_of c) c.clock c.sent past = up_backed s c past H up in
     let front : List Line = lines.Given p ∷ lines.Change the_server k (length vs) ∷ versioned vs [] in
     let pre : List Line = lines.Given p ∷ lines.Change the_server k (length vs) ∷ versioned vs (granted the_server (Client n) x fs []) in
     let fronted : e.lines ≡ front ++ tl = ap (λ (ls : List Line). lines.Given p ∷ lines.Change the_server k (length vs) ∷ ls) (versioned_front vs [] tl) in
     let are : e.lines ≡ pre ++ t.lines = ap (λ (ls : List Line). lines.Given p ∷ lines.Change the_server k (length vs) ∷ ls) (ap (versioned vs) (granted_front n x fs t.lines) ∙ versioned_front vs (granted the_server (Client n) x fs []) t.lines) in
     let base0 : List Line = on_top vs (base y k (length vs) (lines_of past)) in
-    let hd : Held = record { reply = r; waits = numbers os ++ alls b0.owed } in
-    let loads : BackedIn None (loaded t) c.server.boot (seats_after c n h r) (seats_of c) c.clock c.sent (e ∷ past) =
-    change_loaded n b0 t.backs.promises t.backs.last_owed c.server.boot c.server.seats (seats_after c n h r) (seats_of c) c.clock c.sent e past pre os hd (call_at n h user call) B
-    (left_granted n b0.last_owed x vs b0.promises fs e past front fronted (versions_lines is_still vs [] (λ z. refl) refl) (B.granted refl))
-    (left_promised n b0.last_owed x c.clock vs b0.promises fs e past front fronted (versions_lines is_still vs [] (λ z. refl) refl) B.promised)
-    (subst (λ (ls : List Line). last_number the_server ls ≤ t.backs.last_owed) (sym (saved_on y k vs (lines_of past) ∙ onto_granted n x fs t.lines base0))
-    (numbers_rise b0.last_owed (hits n vs b0.promises) (onto base0 (granted the_server (Client n) x fs [])) (subst (λ (i : ℕ). i ≤ b0.last_owed) (sym (granted_number n x fs base0 ∙ on_number vs (base y k (length vs) (lines_of past)))) B.numbered))) (record {
+    let hd : Held = record { reply = r; waits = numbers os ++ alls b0.lists.owed; again = false } in
+    let loads : BackedIn None (loaded t) c.server.lasting.boot (seats_after c n h r) (seats_of c) c.clock c.sent (e ∷ past) =
+    change_loaded (Client n) b0 t.backs.lists.promises t.backs.lists.last_owed c.server.lasting.boot c.server.seats (seats_after c n h r) (seats_of c) c.clock c.sent e past pre os hd (call_at n h user call) B
+    (left_granted (Client n) b0.lists.last_owed x vs b0.lists.promises fs e past front fronted (versions_lines is_still vs [] (λ z. refl) refl) (B.granted refl))
+    (left_promised (Client n) b0.lists.last_owed x c.clock vs b0.lists.promises fs e past front fronted (versions_lines is_still vs [] (λ z. refl) refl) (promised_given None b0.lists.promises c.clock e past B.promised))
+    (subst (λ (ls : List Line). last_number the_server ls ≤ t.backs.lists.last_owed) (sym (saved_on y k vs (lines_of past) ∙ onto_granted (Client n) x fs t.lines base0))
+    (numbers_rise b0.lists.last_owed (hits (Client n) vs b0.lists.promises) (onto base0 (granted the_server (Client n) x fs [])) (subst (λ (i : ℕ). i ≤ b0.lists.last_owed) (sym (granted_number n x fs base0 ∙ on_number vs (base y k (length vs) (lines_of past)))) B.numbered)))
+    (subst Rising (sym (saved_on y k vs (lines_of past) ∙ onto_granted (Client n) x fs t.lines base0))
+    (owes_rising b0.lists.last_owed (hits (Client n) vs b0.lists.promises) (onto base0 (granted the_server (Client n) x fs [])) (subst (λ (i : ℕ). i ≤ b0.lists.last_owed) (sym (granted_number n x fs base0 ∙ on_number vs (base y k (length vs) (lines_of past)))) B.numbered)
+    (rising_back (granted the_server (Client n) x fs []) base0 (granted_all is_oweless (Client n) x fs (λ f i. refl)) (on_rising vs (base y k (length vs) (lines_of past)) B.rising))))
+    (record {
+      promised = granted_to_client x n fs (staying (Client n) vs b0.lists.promises) (all_left (λ (p : Promise). IsClient p.client) (Client n) vs b0.lists.promises (B.clients refl).promised);
+      owed = owes_to_clients b0.lists.last_owed (hits (Client n) vs b0.lists.promises) (all_hits (λ (p : Promise). IsClient p.client) (Client n) vs b0.lists.promises (B.clients refl).promised);
+    }) (record {
       are = are;
       up = versions_lines is_up vs (granted the_server (Client n) x fs []) (λ z. refl) (granted_all is_up (Client n) x fs (λ f i. refl));
-      still = λ j ne. versions_lines (is_still_to (Client j)) vs (granted the_server (Client n) x fs []) (λ z. refl) (granted_all (is_still_to (Client j)) (Client n) x fs (λ f i. ap not (node_apart (Client n) (Client j) (λ q. ne (sym (client_number n j q))))));
+      still = λ j ne. versions_lines (is_still_to j) vs (granted the_server (Client n) x fs []) (λ z. refl) (granted_all (is_still_to j) (Client n) x fs (λ f i. ap not (node_apart (Client n) j (λ q. ne (sym q)))));
       oweless = versions_lines is_oweless vs (granted the_server (Client n) x fs []) (λ z. refl) (granted_all is_oweless (Client n) x fs (λ f i. refl));
       given = at_told s c past p (call_at n h user call) H at;
       key = refl;
       above = w.above;
       seat = λ m x z. above_before c.server.seats n h r m x z w.above;
-      reply = record { client = n; to = refl; from = refl; is_reply = carried_reply (c.clock + promise_ticks) (change_reply id (the_user user) (stamped c.clock vs c.server.times) (counted (edited_all id es v)) shown call); under = taken_not c.server.seats n h r };
-      changed = λ l z. elim (on_changed l vs (lines.Change the_server k (length vs) ∷ lines.Given p ∷ lines_of past) (change_back l (granted the_server (Client n) x fs []) base0 (granted_all is_unchanging (Client n) x fs (λ f i. refl)) (change_back l t.lines _ (owes_unchanging os) (subst (HasChange l) (saved_on y k vs (lines_of past) ∙ onto_granted n x fs t.lines base0) z)))) [ inl same ↦ inr (subst (λ (u : Key). Above (call_seat u.node c.server.seats) u.epoch u.number) same w.above) | inr old ↦ inl old ];
-      owes = all_new n (lines_of past) b0.last_owed (hits n vs b0.promises) (all_hits (IsGranted (lines_of past)) n vs b0.promises (B.granted refl)) (hits_other n vs b0.promises);
-      own = λ i z. number_front i (numbers os) (alls b0.owed) z;
-      all = λ i z. number_second i (numbers os) (alls b0.owed) z;
+      reply = record { client = n; to = refl; from = refl; is_reply = carried_reply (c.clock + promise_ticks) (change_reply id (the_user user) (time_in (stored_after id c.clock es st)) (counted (edited_all id es st.volume)) shown call); under = taken_not c.server.seats n h r };
+      changed = λ l z. elim (on_changed l vs (lines.Change the_server k (length vs) ∷ lines.Given p ∷ lines_of past) (change_back l (granted the_server (Client n) x fs []) base0 (granted_all is_unchanging (Client n) x fs (λ f i. refl)) (change_back l t.lines _ (owes_unchanging os) (subst (HasChange l) (saved_on y k vs (lines_of past) ∙ onto_granted (Client n) x fs t.lines base0) z)))) [ inl same ↦ inr (subst (λ (u : Key). Above (call_seat u.node c.server.seats) u.epoch u.number) same w.above) | inr old ↦ inl old ];
+      owes = all_new (Client n) (lines_of past) b0.lists.last_owed (hits (Client n) vs b0.lists.promises) (all_hits (IsGranted (lines_of past)) (Client n) vs b0.lists.promises (B.granted refl)) (hits_other (Client n) vs b0.lists.promises);
+      own = λ i z. number_front i (numbers os) (alls b0.lists.owed) z;
+      all = λ i z. number_second i (numbers os) (alls b0.lists.owed) z;
     }) in
-    let pump : Pumps c.server.boot (seats_after c n h r) (seats_of c) c.clock c.sent (e ∷ past) t = pumps c.server.boot (seats_after c n h r) (seats_of c) c.clock c.sent e past t refl (saves_clock y k vs r past ∙ H.clock) loads (record { good = tt; calls = tt; dones = tt }) in
+    let pump : Pumps c.server.lasting.boot (seats_after c n h r) (seats_of c) c.clock c.sent (e ∷ past) t = pumps c.server.lasting.boot (seats_after c n h r) (seats_of c) c.clock c.sent e past t refl (saves_clock y k vs r past ∙ H.clock) loads (record { good = tt; calls = tt; dones = tt }) in
     record {
       good = (
         tt,
         (
           (
             refl,
-            saves_change_good s c past (lines.Given p ∷ []) tl n h user call id v es shown H w q (H.new _ w.above_durable) refl (H.home id v q.at) (no_versions tl notes)
-                (λ j f z ne d l u. owe_behind (Client j) (Some f) vs tl (owe_granted (Client j) (Some f) n x fs t.lines (has_owe j f z b0.last_owed (hits n vs b0.promises) (touched_hit n j f z vs b0.promises (λ a. ne (ap Client a)) d (B.promised j f z l (subst (λ (i : ℕ). i < z) H.clock u)).1)))),
+            saves_change_good s c past (lines.Given p ∷ []) tl n h user call id st.volume es shown H w q (H.new _ w.above_durable) refl (H.home id st.volume q.at) (no_versions tl notes)
+                (λ j f z ne d l u. owe_behind (Client j) (Some f) vs tl (owe_granted (Client j) (Some f) n x fs t.lines (has_owe (Client j) f z b0.lists.last_owed (hits (Client n) vs b0.lists.promises) (touched_hit (Client n) (Client j) f z vs b0.lists.promises ne d (B.promised (Client j) f z l (subst (λ (i : ℕ). i < z) H.clock u)).1)))),
           ),
           versions_good s past _ tl vs tt (granted_then s past (on_top vs (lines.Change the_server k (length vs) ∷ lines.Given p ∷ [])) n x fs t.lines
-              (numbers_good s b0.last_owed (hits n vs b0.promises) past (onto (on_top vs (lines.Change the_server k (length vs) ∷ lines.Given p ∷ [])) (granted the_server (Client n) x fs []))
-              (subst (λ (i : ℕ). i ≤ b0.last_owed) (sym (granted_top n x fs (on_top vs (lines.Change the_server k (length vs) ∷ lines.Given p ∷ [])) (lines_of past) ∙ top_number vs (lines.Change the_server k (length vs) ∷ lines.Given p ∷ []) (lines_of past))) B.numbered))),
+              (numbers_good s b0.lists.last_owed (hits (Client n) vs b0.lists.promises) past (onto (on_top vs (lines.Change the_server k (length vs) ∷ lines.Given p ∷ [])) (granted the_server (Client n) x fs []))
+              (subst (λ (i : ℕ). i ≤ b0.lists.last_owed) (sym (granted_top n x fs (on_top vs (lines.Change the_server k (length vs) ∷ lines.Given p ∷ [])) (lines_of past) ∙ top_number vs (lines.Change the_server k (length vs) ∷ lines.Given p ∷ []) (lines_of past))) B.numbered))),
         ),
       );
-      holds = saves_holds y s (Some c.server.boot) c past (pumped the_server c.server.boot t).backs armed None n h user call c.clock id v es shown H w q (has_run s c past p n h user call e H up at w refl refl) (saves_boot y k vs r past ∙ (sk.boot _ ∙ up_boots s c past H up)) (unheard_after s c past p n h user call r e H up at w refl) tt
-          (λ own held. pumped_news (views_after true H.floors c n h r) c.server.boot (e ∷ past) c.server.boot t (no_news _ _ _) (own, tt) held) (λ z. pump.backed);
+      holds = saves_holds y s (Some c.server.lasting.boot) c past (pumped the_server c.server.lasting.boot t).backs armed None n h user call c.clock id st es shown H w q (has_run s c past p n h user call e H up at w refl refl) (saves_boot y k vs r past ∙ (sk.boot _ ∙ up_boots s c past H up)) (unheard_after s c past p n h user call r e H up at w refl) tt
+          (λ own held. pumped_news (views_after true H.floors c n h r) c.server.lasting.boot (e ∷ past) c.server.lasting.boot t pump.clients (no_news _ _ _) (own, tt) held) (λ z. pump.backed);
       replies = pump.good;
       volumes = refl;
     }
+
+pub saves_goes : (s : Script) (c : Cell) (past : List Entry) (armed : Armed) (p n : ℕ) (h : Head) (user : List ℕ) (call : FsCall) (id : ℕ) (st : Stored) (es : List Edit) (shown : ℕ) → (H : Holds s c past) → c.down ≡ None → message_at c.sent p ≡ Some (call_at n h user call) → Now s c H.floors past n h user call → Change' c past user call id st.volume es shown
+    → Goes s past (server_does c armed p (call_at n h user call) (saves (client_head n h) (change_at id user call st es shown)))
+saves_goes s c past armed p n h user call id st es shown H up at w q =
+    subst (λ (t : Turn). Goes s past (server_moves c armed (done the_server c.server c.clock p (saves (client_head n h) (change_at id user call st es shown)) t))) (sym (saves_turn_is the_server c.server c.clock (expired c.clock c.server.backs) (client_head n h) (change_at id user call st es shown)))
+    (saves_by_turn s c past armed p n h user call id st es shown H up at w q)

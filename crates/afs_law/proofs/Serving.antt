@@ -1,32 +1,32 @@
-use Rattle.std.proofs.Common.{◌≡◌, ℕ, ◌+◌, ◌<◌, ◌≤◌, ◌⊎◌, inl, inr, Bool, true, false, cond, nat_eq, List, [], ◌∷◌, ◌++◌, Option, Some, None, ℤ, pos, refl, sym, ap, subst, ◌∙◌, arith, eqb-true}
-use Rattle.std.specs.Prelude as std_result
+use Rattle.afs_num.specs.declared.histories.ReadBody.{ReadBody}
+use Rattle.std.proofs.Common.{◌≡◌, ℕ, ◌+◌, ◌<◌, ◌≤◌, ◌⊎◌, inl, inr, Bool, true, false, cond, nat_eq, List, [], ◌∷◌, ◌++◌, Option, Some, None, ℤ, pos, refl, sym, ap, subst, ◌∙◌, arith, eqb-true, append-nil, append_assoc, eq-eqb}
 use Rattle.afs_num.specs.declared.directories.Name.{Name}
 use Rattle.afs_ideal.proofs.DirectoryBytes.{spelled_is_read}
-use Rattle.afs_ideal.specs.Operations.{shows_volume, shows_status, shows_body, Found, reads, Shown, Result, shows_acl, volume_called}
+use Rattle.afs_ideal.specs.Operations.{shows_volume, shows_status, shows_body, Found, reads, Shown, Result, shows_acl, volume_called, Caller, changes}
 use Rattle.afs_ideal.specs.Tables.{Table, get}
 use Rattle.afs_ideal.specs.Volumes.{type_of, bytes_by, Volume, Vnode, Kind, a_file, a_directory, a_link, body_by, body_of, vnode_of, if_unique, version_at}
-use Rattle.afs_law.proofs.Backing.{Plain, all_lines, is_up, is_oweless, is_unchanging, granted_over, change_back, promised_over}
-use Rattle.afs_law.proofs.Basics.{Below, UpTo, Above, Each, IfCall, OfReply, above_up, both, same_fid-true, client_number, below_up_to, below_not, up_to_same, own_seat, at_seat, each_map, if_call, some_of}
+use Rattle.afs_law.proofs.Backing.{Plain, all_lines, is_up, is_oweless, is_unchanging, granted_over, change_back, promised_over, before_own}
+use Rattle.afs_law.proofs.Basics.{Below, UpTo, Above, Each, IfCall, OfReply, above_up, both, same_fid-true, client_number, below_up_to, below_not, up_to_same, own_seat, at_seat, each_map, if_call, some_of, same_node-refl}
 use Rattle.afs_law.proofs.Edits.{Ones, index_in, fid_at, Sound, SoundIn, sound_same, Tops, live_index, there}
-use Rattle.afs_law.proofs.Facts.{IsKnown, IsReadable, AreFine, HeldIn, Ghost, HoldsAt, server_boot, up_boot, LastStored, IsActs, View, view_of, view, Spot, spot, LastRan, ReplyFact, IsBehind, AreKept, MayRun, HasFallen, Reached, HasCurrent, Fits, Answers, IsReply, KeptReply, ClientFacts, CallFact, CallIn, Origin, AreHome, AreNew, AreUnheard, Holds, Goes, InScope, IsFetched, FitsReply, AreIdeal, AreSound}
-use Rattle.afs_law.proofs.Loading.{all_promised, all_granted, granted_all, none_loaded, still_backed, known_backed, resent, run_loaded, key_held, no_change, settles_good, settles_backed}
+use Rattle.afs_law.proofs.Facts.{IsBody, back_seat, IsKnown, IsReadable, AreFine, HeldIn, Ghost, HoldsAt, server_boot, up_boot, LastStored, IsActs, View, view_of, view, Spot, spot, LastRan, ReplyFact, IsBehind, AreKept, MayRun, HasFallen, Reached, HasCurrent, Fits, Answers, IsReply, KeptReply, ClientFacts, CallFact, CallIn, Origin, AreHome, AreNew, AreUnheard, Holds, Goes, InScope, IsFetched, FitsReply, AreIdeal, AreSound}
+use Rattle.afs_law.proofs.Loading.{all_promised, all_granted, granted_all, none_loaded, still_backed, known_backed, resent, run_loaded, key_held, no_change, settles_good, settles_backed, gone_promised, gone_granted, granted_to_client, gone_to_clients, own_waited}
 use Rattle.afs_law.proofs.Notes.{granted_notes, AreNotes, Skips, skips, told_entry, told_rests, noted_entry, noted_rests, settle_notes}
 use Rattle.afs_law.proofs.Ops.{IsShown}
-use Rattle.afs_law.proofs.Owing.{AllOf, BackedIn, IsDone, DroppedOwe, IsGranted, DoneIn, Promised}
-use Rattle.afs_law.proofs.Passing.{stands_over, answers_over, reply_over, kept_over, PassesBoth, PassesFile, PassesAct, PassesReach, stays, current_over, client_still, News, more_sent}
+use Rattle.afs_law.proofs.Owing.{AllOf, BackedIn, IsDone, DroppedOwe, IsGranted, DoneIn, Promised, IsClient}
+use Rattle.afs_law.proofs.Passing.{old_over, stands_over, answers_over, reply_over, kept_over, PassesBoth, PassesFile, PassesAct, PassesReach, stays, current_over, client_still, News, more_sent}
 use Rattle.afs_law.proofs.Pumping.{no_news, pumped_news, news_break}
 use Rattle.afs_law.proofs.Resting.{Rests}
 use Rattle.afs_law.proofs.Turning.{loaded, TurnSends, Pumps, pumps, expired_backed, break_good}
-use Rattle.afs_law.specs.Callbacks.{Backs, Held, Turn, BackCall, replies_of, pumped, expired, turn_for, no_turn, Promise, put, settles, settles_by, is_back_awaited, answered_by, renews, renews_by, noticed_by}
-use Rattle.afs_law.specs.ClientRow.{names_told, the_server, body_told}
-use Rattle.afs_law.specs.Going.{asked, Going}
-use Rattle.afs_law.specs.Ideal.{is_zero_code, version_in, latest, IsThat, user_of, clock_of, last_version, HasVersion, reach, call_under}
-use Rattle.afs_law.specs.Legal.{code_given, IsResult, AreGood, code_told, Cause, IsTold, answer_at}
-use Rattle.afs_law.specs.Lines.{Line}
-use Rattle.afs_law.specs.Past.{IsUnheard, lines_of, sent_of, given_message, called_key, HasCode, IsCallUnder, Ran}
-use Rattle.afs_law.specs.Runs.{Entry, Cell, message_at, Armed, Fall, server_adds, server_does}
-use Rattle.afs_law.specs.ServerRow.{shows, granted_by, read_reply_of, granted, Reading, promise_ticks, refuses, reply_head, replied, told, result}
-use Rattle.afs_law.specs.States.{Seat, ServerState}
+use Rattle.afs_rows.specs.Callbacks.{Turn, replies_of, pumped, expired, turn_for, no_turn, put, settles, settles_by, is_back_awaited, renews, renews_by, turned_by, Started, starts, starts_by, held_after, given_out, if_to, put_at}
+use Rattle.afs_rows.specs.ClientRow.{names_told, body_told}
+use Rattle.afs_rows.specs.Going.{asked, Going}
+use Rattle.afs_law.specs.Ideal.{shown_status, Tells, TellsIn, TellsOf, volume_after, is_zero_code, version_in, latest, IsThat, user_of, clock_of, last_version, HasVersion, reach, call_under}
+use Rattle.afs_law.specs.Legal.{code_given, IsResult, AreGood, code_told, Cause, IsTold, answer_at, answer_on}
+use Rattle.afs_history.specs.declared.lines.Line.{Line}
+use Rattle.afs_law.specs.Past.{IsUnheard, lines_of, sent_of, given_message, called_key, HasCode, IsCallUnder, Ran, onto, same_key, answered_key}
+use Rattle.afs_rows.specs.Runs.{the_server, Entry, Cell, message_at, Armed, Fall, Moved, server_moves}
+use Rattle.afs_rows.specs.ServerRow.{shows, granted_by, granted, Reading, promise_ticks, refuses, reply_head, replied, told, result, Decision, seat_placed, Sight, given_up_read, promised_in, reading_in, statuses_read, time_read}
+use Rattle.afs_rows.specs.States.{Seat, ServerState, volume_in, Backs, Held, BackCall}
 use Rattle.afs_model.specs.Calls.{call_seated, call_seat}
 use Rattle.std.specs.Prelude.{◌&&◌, ⊤, map, filter, not}
 use Rattle.std.specs.Option.{option_map}
@@ -42,19 +42,37 @@ use Rattle.afs_num.specs.declared.messages.Carried.{Carried}
 use Rattle.afs_num.specs.declared.messages.Message.{Message}
 use Rattle.afs_num.specs.declared.scripts.Script.{Script}
 use Rattle.afs_num.specs.declared.histories.Actor.{Actor}
-use Rattle.afs_num.specs.declared.histories.Actor.TheVariants as actors
 use Rattle.afs_num.specs.declared.histories.Body.{Body}
 use Rattle.afs_num.specs.declared.histories.Version.{Version}
 use Rattle.std.proofs.Math.Nat.{le_refl}
+use Rattle.afs_num.specs.Nodes.{same_node}
+use Rattle.afs_breaks.specs.declared.types.Promise.{Promise}
+use Rattle.afs_law.proofs.Promising.{Owed, without_promises, shows_turn, shows_turn_is}
+use Rattle.afs_law.specs.Grants.{IsDropped}
+use Rattle.afs_law.specs.Breaks.{lines_at, fids_given_up, has_answer, given_up_in, drops_of, given_up_by, is_told}
+use Rattle.afs_rows.specs.ServerSteps.{stepped, done}
+use Rattle.afs_law.proofs.Keeping.{at_placed}
+use Rattle.afs_records.specs.Durable.{Stored, time_in}
+use Rattle.afs_num.specs.declared.histories.ReadBody.TheVariants as seen
+use Rattle.std.specs.Prelude as std_result
+use Rattle.afs_num.specs.declared.histories.Actor.TheVariants as actors
 use Rattle.afs_num.specs.declared.calls.FsCall.TheVariants as calls
 use Rattle.afs_num.specs.declared.messages.Carried.TheVariants as carried
 use Rattle.afs_num.specs.declared.messages.Reply.TheVariants as tell
 use Rattle.afs_num.specs.declared.messages.Call.TheVariants as ask
 use Rattle.afs_num.specs.declared.histories.Body.TheVariants as bodies
-use Rattle.afs_law.specs.Lines as lines
+use Rattle.afs_history.specs.declared.lines.Line.TheVariants as lines
 use Rattle.afs_num.specs.declared.types.Half.TheVariants as halves
 
 -- The server's steps.
+
+-- these lines, and then those of what the server does with its calls and promises
+abbrev pub server_adds : Cell → Armed → ServerState → List Line → Turn → Moved
+server_adds c armed s ls t = server_moves c armed (stepped the_server s (ls ++ t.lines) t)
+
+-- what is decided on a message is done
+abbrev pub server_does : Cell → Armed → ℕ → Message → Decision → Moved
+server_does c armed place m d = server_moves c armed (done the_server c.server c.clock place d (turned_by the_server c.server c.clock (expired c.clock c.server.backs) d m.head m.carried))
 
 -- ---- a message that runs nothing
 
@@ -71,8 +89,8 @@ pub unheard_later : (d : Option Fall) (seats : List Seat) (boot : ℕ) (past : L
 unheard_later None seats boot past h k b l = h k b (inl l)
 unheard_later (Some fall) seats boot past h k b l = h k b l
 
-pub unheard_up : (c : Cell) (past : List Entry) → c.down ≡ None → AreUnheard c.down c.server.seats c.server.boot past → AreUnheard None c.server.seats c.server.boot past
-unheard_up c past up h = subst (λ (d : Option Fall). AreUnheard d c.server.seats c.server.boot past) up h
+pub unheard_up : (c : Cell) (past : List Entry) → c.down ≡ None → AreUnheard c.down c.server.seats c.server.lasting.boot past → AreUnheard None c.server.seats c.server.lasting.boot past
+unheard_up c past up h = subst (λ (d : Option Fall). AreUnheard d c.server.seats c.server.lasting.boot past) up h
 
 pub at_told : (s : Script) (c : Cell) (past : List Entry) (p : ℕ) (m : Message) → Holds s c past → message_at c.sent p ≡ Some m → message_at (sent_of past) p ≡ Some m
 at_told s c past p m h at = ap (λ (ms : List Message). message_at ms p) h.sent.told ∙ at
@@ -85,24 +103,26 @@ pub told_reach : (j p : ℕ) (f : Fid) (o : Actor) (ms : List Message) (past : L
 told_reach j p f o ms past = record { both = λ i h. record { made = h.made; seen = h.seen }; seen = λ i h. h; made = λ x. x }
 
 pub told_act : (j p : ℕ) (o : Actor) (ms : List Message) (past : List Entry) → PassesAct j (record { actor = o; lines = lines.Given p ∷ []; sent = ms; volumes = [] }) past
-told_act j p o ms past = record { runs = λ l. refl; begins = refl }
+told_act j p o ms past = record { runs = λ s l. refl; begins = refl }
 
 -- a step that runs no call, where the server is then down or not
 abbrev pub noted_cell : Cell → Armed → Option Fall → Backs → List Message → Cell
-noted_cell c armed d b ms = record c { backs = b; down = d; armed = armed; sent = c.sent ++ ms }
+noted_cell c armed d b ms = record c { server = record c.server { backs = b }; down = d; armed = armed; sent = c.sent ++ ms }
 
 -- what is known of the replies that wait makes known what is sent, and what waits then
-abbrev pub Gives : (ℕ → View) → ℕ → List Entry → List Held → List Message → List Held → Type 0
-Gives views boot past held sent after = Each (HeldIn views past) (replies_of held) → News sent views boot past × Each (HeldIn views past) (replies_of after)
+abbrev pub Gives : Script → (ℕ → View) → ℕ → List Entry → List Held → List Message → List Held → Type 0
+Gives s views boot past held sent after = Each (HeldIn views past) (replies_of held) → News s sent views boot past × Each (HeldIn views past) (replies_of after)
 
 pub noted : (s : Script) (now : Option ℕ) (c : Cell) (past : List Entry) (armed : Armed) (d : Option Fall) (e : Entry) (b : Backs) → (h : Holds s c past) → server_boot the_server (lines_of (e ∷ past)) ≡ now → Rests s e past → clock_of (lines_of (e ∷ past)) ≡ clock_of (lines_of past)
-    → AreUnheard d c.server.seats c.server.boot (e ∷ past) → HasFallen d c.server (c.sent ++ e.sent) (e ∷ past) → Gives (view h.floors c) c.server.boot (e ∷ past) c.backs.held e.sent b.held
-    → (now ≡ up_boot d c.server.boot → BackedIn d b c.server.boot c.server.seats (λ j. (c.clients j).seat) c.clock (c.sent ++ e.sent) (e ∷ past)) → HoldsAt s now (noted_cell c armed d b e.sent) (e ∷ past)
+    → AreUnheard d c.server.seats c.server.lasting.boot (e ∷ past) → HasFallen d c.server.lasting (c.sent ++ e.sent) (e ∷ past) → Gives s (view h.floors c) c.server.lasting.boot (e ∷ past) c.server.backs.held e.sent b.held
+    → (now ≡ up_boot d c.server.lasting.boot → BackedIn d b c.server.lasting.boot c.server.seats (λ j. back_seat (c.clients j)) c.clock (c.sent ++ e.sent) (e ∷ past)) → HoldsAt s now (noted_cell c armed d b e.sent) (e ∷ past)
 noted s now c past armed d e b h boots p clock heard fallen gives backs =
-    let still_ : (j : ℕ) → ClientFacts j (view h.floors c j) (e ∷ past) = λ j. client_still j (view h.floors c j) e past (p.file j) (p.reach j) (p.act j) (λ f. p.last f (lines_of past)) (h.clients j) in
+    let still_ : (j : ℕ) → ClientFacts s j (view h.floors c j) (e ∷ past) = λ j. client_still j (view h.floors c j) e past (p.file j) (p.reach j) (p.act j) (λ f. p.last f (lines_of past)) (h.clients j) in
     record {
       floors = h.floors;
       count = h.count;
+      own = h.own;
+      servers = h.servers;
       ideal = λ id. h.ideal id ∙ sym (p.ideal id);
       fine = h.fine;
       sound = λ id. sound_same id _ (lines_of past) (lines_of (e ∷ past)) (λ m u. p.last (fid_at id m u) (lines_of past)) (h.sound id);
@@ -112,7 +132,7 @@ noted s now c past armed d e b h boots p clock heard fallen gives backs =
       booted = h.booted;
       boots = boots;
       clients = still_;
-      sent = more_sent c.sent (replies_of c.backs.held) (replies_of b.held) (view h.floors c) (view h.floors c) c.server.boot c.server.boot e past h.sent (le_refl _) still_ (λ j a x z. inl ((h.clients j).runs a x)) h.sent.calls
+      sent = more_sent c.sent (replies_of c.server.backs.held) (replies_of b.held) (view h.floors c) (view h.floors c) c.server.lasting.boot c.server.lasting.boot e past h.sent (le_refl _) still_ (λ j a x z. inl ((h.clients j).runs a x)) h.sent.calls
           (λ j m. reply_over j (view h.floors c j) m e past (λ f. (p.file j f).grant) (p.reach j) (λ f. stays j f e past (p.file j f).grant (p.last f (lines_of past)))) gives;
       down = fallen;
       clock = clock ∙ h.clock;
@@ -122,126 +142,128 @@ noted s now c past armed d e b h boots p clock heard fallen gives backs =
     }
 
 -- what is known of a step's end
-pub record Turns (views : ℕ → View) (boot : ℕ) (past : List Entry) (t : Turn) : Type 0 where
+pub record Turns (s : Script) (views : ℕ → View) (boot : ℕ) (past : List Entry) (t : Turn) : Type 0 where
   pub notes : AreNotes t.lines
-  pub sent : News t.sent views boot past
+  pub sent : News s t.sent views boot past
   pub outs : Each (HeldIn views past) (replies_of t.outs)
   pub held : Each (HeldIn views past) (replies_of t.backs.held)
 
 abbrev pub seats_of : Cell → ℕ → Option Seat
-seats_of c j = (c.clients j).seat
+seats_of c j = back_seat (c.clients j)
 
 -- the facts on breaks behind a step that leaves the seats
 pub record Loads (c : Cell) (past : List Entry) (t : Turn) : Type 0 where
-  pub backed : BackedIn None (loaded t) c.server.boot c.server.seats (seats_of c) c.clock c.sent past
-  pub sends : TurnSends (loaded t) c.server.boot past t.sent
+  pub backed : BackedIn None (loaded t) c.server.lasting.boot c.server.seats (seats_of c) c.clock c.sent past
+  pub sends : TurnSends (loaded t) c.server.lasting.boot past t.sent
 
-pub up_boots : (s : Script) (c : Cell) (past : List Entry) → Holds s c past → c.down ≡ None → server_boot the_server (lines_of past) ≡ Some c.server.boot
-up_boots s c past h up = h.boots ∙ ap (λ (d : Option Fall). up_boot d c.server.boot) up
+pub up_boots : (s : Script) (c : Cell) (past : List Entry) → Holds s c past → c.down ≡ None → server_boot the_server (lines_of past) ≡ Some c.server.lasting.boot
+up_boots s c past h up = h.boots ∙ ap (λ (d : Option Fall). up_boot d c.server.lasting.boot) up
 
 -- the server is given a message that runs nothing
-pub quiet : (s : Script) (c : Cell) (past : List Entry) (armed : Armed) (p : ℕ) (m : Message) (t : Turn) → (h : Holds s c past) → c.down ≡ None → message_at c.sent p ≡ Some m → Dull c.server.seats c.server.boot m → AreNotes t.lines
+pub quiet : (s : Script) (c : Cell) (past : List Entry) (armed : Armed) (p : ℕ) (m : Message) (t : Turn) → (h : Holds s c past) → c.down ≡ None → message_at c.sent p ≡ Some m → Dull c.server.seats c.server.lasting.boot m → AreNotes t.lines
     → AreGood s (actors.Node the_server) past (lines.Given p ∷ []) t.lines
-    → ((e : Entry) → ((j : ℕ) (r : Message) → ReplyFact j (view h.floors c j) past r → ReplyFact j (view h.floors c j) (e ∷ past) r) → Each (HeldIn (view h.floors c) (e ∷ past)) (replies_of c.backs.held) → Turns (view h.floors c) c.server.boot (e ∷ past) t)
-    → ((e : Entry) → e ≡ told_entry p t.lines (pumped the_server c.server.boot t).sent → Loads c (e ∷ past) t)
+    → ((e : Entry) → ((j : ℕ) (r : Message) → ReplyFact j (view h.floors c j) past r → ReplyFact j (view h.floors c j) (e ∷ past) r) → Each (HeldIn (view h.floors c) (e ∷ past)) (replies_of c.server.backs.held) → Turns s (view h.floors c) c.server.lasting.boot (e ∷ past) t)
+    → ((e : Entry) → e ≡ told_entry p t.lines (pumped the_server c.server.lasting.boot t).sent → Loads c (e ∷ past) t)
     → Goes s past (server_adds c armed c.server (lines.Given p ∷ []) t)
 quiet s c past armed p m t h up at dull notes good turns loads =
-    let ms : List Message = (pumped the_server c.server.boot t).sent in
+    let ms : List Message = (pumped the_server c.server.lasting.boot t).sent in
     let e : Entry = told_entry p t.lines ms in
     let k : Skips t.lines = skips t.lines notes in
     let rest : Rests s e past = told_rests s p t.lines ms past k in
-    let pump : Pumps c.server.boot c.server.seats (seats_of c) c.clock c.sent (e ∷ past) t = let l = loads e refl in pumps c.server.boot c.server.seats (seats_of c) c.clock c.sent e past t refl (k.clock _ ∙ h.clock) l.backed l.sends in
+    let pump : Pumps c.server.lasting.boot c.server.seats (seats_of c) c.clock c.sent (e ∷ past) t = let l = loads e refl in pumps c.server.lasting.boot c.server.seats (seats_of c) c.clock c.sent e past t refl (k.clock _ ∙ h.clock) l.backed l.sends in
     record {
       good = (tt, good);
       replies = pump.good;
       volumes = refl;
-      holds = noted s (Some c.server.boot) c past armed None e (pumped the_server c.server.boot t).backs h (k.boot _ ∙ up_boots s c past h up) rest (k.clock _)
-          (unheard_over None c.server.seats c.server.boot e past m (at_told s c past p m h at) dull (unheard_up c past up h.unheard)) tt
+      holds = noted s (Some c.server.lasting.boot) c past armed None e (pumped the_server c.server.lasting.boot t).backs h (k.boot _ ∙ up_boots s c past h up) rest (k.clock _)
+          (unheard_over None c.server.seats c.server.lasting.boot e past m (at_told s c past p m h at) dull (unheard_up c past up h.unheard)) tt
           (λ held. let x = turns e (λ j r. reply_over j (view h.floors c j) r e past (λ f. (rest.file j f).grant) (rest.reach j) (λ f. stays j f e past (rest.file j f).grant (rest.last f (lines_of past)))) held in
-          pumped_news (view h.floors c) c.server.boot (e ∷ past) c.server.boot t x.sent x.outs x.held) (λ z. pump.backed);
+          pumped_news (view h.floors c) c.server.lasting.boot (e ∷ past) c.server.lasting.boot t pump.clients x.sent x.outs x.held) (λ z. pump.backed);
     }
 
 -- the server does something by itself
 pub acts_alone : (s : Script) (c : Cell) (past : List Entry) (armed : Armed) (t : Turn) → (h : Holds s c past) → c.down ≡ None → AreNotes t.lines → AreGood s (actors.Node the_server) past [] t.lines
-    → ((e : Entry) → Each (HeldIn (view h.floors c) (e ∷ past)) (replies_of c.backs.held) → Turns (view h.floors c) c.server.boot (e ∷ past) t)
-    → ((e : Entry) → e ≡ noted_entry t.lines (pumped the_server c.server.boot t).sent → Loads c (e ∷ past) t) → Goes s past (server_adds c armed c.server [] t)
+    → ((e : Entry) → Each (HeldIn (view h.floors c) (e ∷ past)) (replies_of c.server.backs.held) → Turns s (view h.floors c) c.server.lasting.boot (e ∷ past) t)
+    → ((e : Entry) → e ≡ noted_entry t.lines (pumped the_server c.server.lasting.boot t).sent → Loads c (e ∷ past) t) → Goes s past (server_adds c armed c.server [] t)
 acts_alone s c past armed t h up notes good turns loads =
-    let ms : List Message = (pumped the_server c.server.boot t).sent in
+    let ms : List Message = (pumped the_server c.server.lasting.boot t).sent in
     let e : Entry = noted_entry t.lines ms in
     let k : Skips t.lines = skips t.lines notes in
     let rest : Rests s e past = noted_rests s t.lines ms past k in
-    let pump : Pumps c.server.boot c.server.seats (seats_of c) c.clock c.sent (e ∷ past) t = let l = loads e refl in pumps c.server.boot c.server.seats (seats_of c) c.clock c.sent e past t refl (k.clock _ ∙ h.clock) l.backed l.sends in
+    let pump : Pumps c.server.lasting.boot c.server.seats (seats_of c) c.clock c.sent (e ∷ past) t = let l = loads e refl in pumps c.server.lasting.boot c.server.seats (seats_of c) c.clock c.sent e past t refl (k.clock _ ∙ h.clock) l.backed l.sends in
     record {
       good = good;
       replies = pump.good;
       volumes = refl;
-      holds = noted s (Some c.server.boot) c past armed None e (pumped the_server c.server.boot t).backs h (k.boot _ ∙ up_boots s c past h up) rest (k.clock _)
+      holds = noted s (Some c.server.lasting.boot) c past armed None e (pumped the_server c.server.lasting.boot t).backs h (k.boot _ ∙ up_boots s c past h up) rest (k.clock _)
           (λ key b may. ((λ x. subst (λ (o : Option Message). IsCallUnder the_server key b o) (k.given (sent_of past)) x), unheard_up c past up h.unheard key b may)) tt
-          (λ held. let x = turns e held in pumped_news (view h.floors c) c.server.boot (e ∷ past) c.server.boot t x.sent x.outs x.held) (λ z. pump.backed);
+          (λ held. let x = turns e held in pumped_news (view h.floors c) c.server.lasting.boot (e ∷ past) c.server.lasting.boot t pump.clients x.sent x.outs x.held) (λ z. pump.backed);
     }
 
 -- ---- what the server has in memory
 
-pub up_backed : (s : Script) (c : Cell) (past : List Entry) → (H : Holds s c past) → c.down ≡ None → BackedIn None (expired c.clock c.backs) c.server.boot c.server.seats (seats_of c) c.clock c.sent past
-up_backed s c past H up = expired_backed c.backs c.server.boot c.server.seats (seats_of c) c.clock c.sent past (subst (λ (d : Option Fall). BackedIn d c.backs c.server.boot c.server.seats (seats_of c) c.clock c.sent past) up (H.backs refl))
+pub up_backed : (s : Script) (c : Cell) (past : List Entry) → (H : Holds s c past) → c.down ≡ None → BackedIn None (expired c.clock c.server.backs) c.server.lasting.boot c.server.seats (seats_of c) c.clock c.sent past
+up_backed s c past H up = expired_backed c.server.backs c.server.lasting.boot c.server.seats (seats_of c) c.clock c.sent past (subst (λ (d : Option Fall). BackedIn d c.server.backs c.server.lasting.boot c.server.seats (seats_of c) c.clock c.sent past) up (H.backs refl))
 
 -- nothing is done
-pub still_loads : (s : Script) (c : Cell) (past : List Entry) (e : Entry) (ms : List Message) → (H : Holds s c past) → c.down ≡ None → Plain e.lines → TurnSends (loaded (no_turn (expired c.clock c.backs))) c.server.boot (e ∷ past) ms → Loads c (e ∷ past) (record { backs = expired c.clock c.backs; lines = []; sent = ms; outs = [] })
-still_loads s c past e ms H up p sends = record { backed = none_loaded None (expired c.clock c.backs) c.server.boot c.server.seats (seats_of c) c.clock c.sent (e ∷ past) (still_backed (expired c.clock c.backs) c.server.boot c.server.seats (seats_of c) c.clock c.sent e past p (up_backed s c past H up)); sends = sends }
+pub still_loads : (s : Script) (c : Cell) (past : List Entry) (e : Entry) (ms : List Message) → (H : Holds s c past) → c.down ≡ None → Plain e.lines → TurnSends (loaded (no_turn (expired c.clock c.server.backs))) c.server.lasting.boot (e ∷ past) ms → Loads c (e ∷ past) (record { backs = expired c.clock c.server.backs; lines = []; sent = ms; outs = [] })
+still_loads s c past e ms H up p sends = record { backed = none_loaded None (expired c.clock c.server.backs) c.server.lasting.boot c.server.seats (seats_of c) c.clock c.sent (e ∷ past) (still_backed (expired c.clock c.server.backs) c.server.lasting.boot c.server.seats (seats_of c) c.clock c.sent e past p (up_backed s c past H up)); sends = sends }
 
 pub given_plain : (p : ℕ) (e : Entry) (ms : List Message) → e ≡ told_entry p [] ms → Plain e.lines
 given_plain p e ms q = subst (λ (x : Entry). Plain x.lines) (sym q) (record { up = refl; still = refl; oweless = refl; unchanging = refl })
 
-pub nothing_done : (s : Script) (c : Cell) (past : List Entry) (armed : Armed) (p : ℕ) (m : Message) → (H : Holds s c past) → c.down ≡ None → message_at c.sent p ≡ Some m → Dull c.server.seats c.server.boot m → Goes s past (server_adds c armed c.server (lines.Given p ∷ []) (no_turn (expired c.clock c.backs)))
-nothing_done s c past armed p m H up at j = quiet s c past armed p m (no_turn (expired c.clock c.backs)) H up at j tt tt (λ e over held. record { notes = tt; sent = no_news _ _ _; outs = tt; held = held })
+pub nothing_done : (s : Script) (c : Cell) (past : List Entry) (armed : Armed) (p : ℕ) (m : Message) → (H : Holds s c past) → c.down ≡ None → message_at c.sent p ≡ Some m → Dull c.server.seats c.server.lasting.boot m → Goes s past (server_adds c armed c.server (lines.Given p ∷ []) (no_turn (expired c.clock c.server.backs)))
+nothing_done s c past armed p m H up at j = quiet s c past armed p m (no_turn (expired c.clock c.server.backs)) H up at j tt tt (λ e over held. record { notes = tt; sent = no_news _ _ _; outs = tt; held = held })
     (λ e q. still_loads s c past e [] H up (given_plain p e _ q) (record { good = tt; calls = tt; dones = tt }))
 
 -- ---- the server's own calls are answered
 
-pub settled_goes : (s : Script) (c : Cell) (past : List Entry) (armed : Armed) (p n : ℕ) (m : Message) (k : BackCall) (t : Bool) → (H : Holds s c past) → c.down ≡ None → message_at c.sent p ≡ Some m → Dull c.server.seats c.server.boot m → c.backs.calls n ≡ Some k
-    → IsDone c.down c.backs.calls c.backs.last_call c.server.boot past n m.head.epoch m.head.number → is_back_awaited c.server.boot k m.head ≡ t → Goes s past (server_adds c armed c.server (lines.Given p ∷ []) (cond t (settles the_server n k (expired c.clock c.backs)) (no_turn (expired c.clock c.backs))))
+pub settled_goes : (s : Script) (c : Cell) (past : List Entry) (armed : Armed) (p : ℕ) (n : Node) (m : Message) (k : BackCall) (t : Bool) → (H : Holds s c past) → c.down ≡ None → message_at c.sent p ≡ Some m → Dull c.server.seats c.server.lasting.boot m → c.server.backs.calls n ≡ Some k
+    → IsDone c.down c.server.backs.calls c.server.backs.last_call c.server.lasting.boot past n m.head.epoch m.head.number → is_back_awaited c.server.lasting.boot k m.head ≡ t → Goes s past (server_adds c armed c.server (lines.Given p ∷ []) (cond t (settles the_server n k (expired c.clock c.server.backs)) (no_turn (expired c.clock c.server.backs))))
 settled_goes s c past armed p n m k false H up at j is done e = nothing_done s c past armed p m H up at j
 settled_goes s c past armed p n m k true H up at j is done e =
     let q = both _ _ e in
-    let dropped : AllOf (DroppedOwe n (lines_of past)) k.breaks = done.dropped k up (eqb-true _ _ q.0) is (eqb-true _ _ q.1) in
-    quiet s c past armed p m (settles the_server n k (expired c.clock c.backs)) H up at j (settle_notes _) (settles_good s n k past (expired c.clock c.backs).owed (lines.Given p ∷ []) dropped)
-    (λ x over held. record { notes = settle_notes _; sent = no_news _ _ _; outs = tt; held = held })
-    (λ x z. record { backed = settles_backed (expired c.clock c.backs) c.server.boot c.server.seats (seats_of c) c.clock c.sent x past n p k (ap (λ (y : Entry). y.lines) z) (up_backed s c past H up); sends = record { good = tt; calls = tt; dones = tt } })
+    let dropped : AllOf (DroppedOwe n (lines_of past)) k.breaks = done.dropped k up (eqb-true _ _ q.0) is (eqb-true _ _ (both _ _ q.1).0) in
+    quiet s c past armed p m (settles the_server n k (expired c.clock c.server.backs)) H up at j (settle_notes n _) (settles_good s n k (expired c.clock c.server.backs) past (lines.Given p ∷ []) dropped)
+    (λ x over held. record { notes = settle_notes n _; sent = no_news _ _ _; outs = tt; held = held })
+    (λ x z. record { backed = settles_backed (expired c.clock c.server.backs) c.server.lasting.boot c.server.seats (seats_of c) c.clock c.sent x past n p k is (ap (λ (y : Entry). y.lines) z) (up_backed s c past H up); sends = record { good = tt; calls = tt; dones = tt } })
 
-pub settles_goes : (s : Script) (c : Cell) (past : List Entry) (armed : Armed) (p n : ℕ) (m : Message) (o : Option BackCall) → (H : Holds s c past) → c.down ≡ None → message_at c.sent p ≡ Some m → Dull c.server.seats c.server.boot m → c.backs.calls n ≡ o
-    → IsDone c.down c.backs.calls c.backs.last_call c.server.boot past n m.head.epoch m.head.number → Goes s past (server_adds c armed c.server (lines.Given p ∷ []) (settles_by the_server c.server.boot m.head n (expired c.clock c.backs) o))
-settles_goes s c past armed p n m None H up at j is done = nothing_done s c past armed p m H up at j
-settles_goes s c past armed p n m (Some k) H up at j is done = settled_goes s c past armed p n m k (is_back_awaited c.server.boot k m.head) H up at j is done refl
+pub settles_goes : (s : Script) (c : Cell) (past : List Entry) (armed : Armed) (p : ℕ) (m : Message) (o : Option BackCall) → (H : Holds s c past) → c.down ≡ None → message_at c.sent p ≡ Some m → Dull c.server.seats c.server.lasting.boot m → c.server.backs.calls m.head.from ≡ o
+    → DoneIn c.down c.server.backs.calls c.server.backs.last_call c.server.lasting.boot past m → Goes s past (server_adds c armed c.server (lines.Given p ∷ []) (settles_by the_server c.server.lasting.boot m.head (expired c.clock c.server.backs) o))
+settles_goes s c past armed p m None H up at j is d = nothing_done s c past armed p m H up at j
+settles_goes s c past armed p m (Some k) H up at j is d =
+    settled_goes s c past armed p m.head.from m k (is_back_awaited c.server.lasting.boot k m.head) H up at j is (subst (λ (n : Node). IsDone c.down c.server.backs.calls c.server.backs.last_call c.server.lasting.boot past n m.head.epoch m.head.number) (sym d.from) d.done) refl
 
-pub answered_goes : (s : Script) (c : Cell) (past : List Entry) (armed : Armed) (p : ℕ) (m : Message) (from : Node) → (H : Holds s c past) → c.down ≡ None → message_at c.sent p ≡ Some m → Dull c.server.seats c.server.boot m → m.head.from ≡ from → DoneIn c.down c.backs.calls c.backs.last_call c.server.boot past m
-    → Goes s past (server_adds c armed c.server (lines.Given p ∷ []) (answered_by the_server c.server.boot m.head from (expired c.clock c.backs)))
-answered_goes s c past armed p m (Client n) H up at j from d = settles_goes s c past armed p n m (c.backs.calls n) H up at j refl (subst (λ (i : ℕ). IsDone c.down c.backs.calls c.backs.last_call c.server.boot past i m.head.epoch m.head.number) (client_number d.client n (sym d.from ∙ from)) d.done)
-answered_goes s c past armed p m (Server n) H up at j from d = nothing_done s c past armed p m H up at j
-answered_goes s c past armed p m (Admin n) H up at j from d = nothing_done s c past armed p m H up at j
-answered_goes s c past armed p m Loc H up at j from d = nothing_done s c past armed p m H up at j
+-- a reply or a notice to another node does nothing
+if_to_goes : (t : Bool) (s : Script) (c : Cell) (past : List Entry) (armed : Armed) (p : ℕ) (m : Message) (x : Turn) → (H : Holds s c past) → c.down ≡ None → message_at c.sent p ≡ Some m → Dull c.server.seats c.server.lasting.boot m → Goes s past (server_adds c armed c.server (lines.Given p ∷ []) x)
+    → Goes s past (server_adds c armed c.server (lines.Given p ∷ []) (cond t x (no_turn (expired c.clock c.server.backs))))
+if_to_goes true s c past armed p m x H up at j g = g
+if_to_goes false s c past armed p m x H up at j g = nothing_done s c past armed p m H up at j
 
-pub renewed_goes : (s : Script) (c : Cell) (past : List Entry) (armed : Armed) (p n : ℕ) (m : Message) (k : BackCall) (t : Bool) → (H : Holds s c past) → c.down ≡ None → message_at c.sent p ≡ Some m → Dull c.server.seats c.server.boot m → c.backs.calls n ≡ Some k
-    → Goes s past (server_adds c armed c.server (lines.Given p ∷ []) (cond t (renews the_server c.server.boot n m.head.boot k (expired c.clock c.backs)) (no_turn (expired c.clock c.backs))))
+pub answered_goes : (s : Script) (c : Cell) (past : List Entry) (armed : Armed) (p : ℕ) (m : Message) → (H : Holds s c past) → c.down ≡ None → message_at c.sent p ≡ Some m → Dull c.server.seats c.server.lasting.boot m → DoneIn c.down c.server.backs.calls c.server.backs.last_call c.server.lasting.boot past m
+    → Goes s past (server_adds c armed c.server (lines.Given p ∷ []) (if_to the_server m.head (expired c.clock c.server.backs) (settles_by the_server c.server.lasting.boot m.head (expired c.clock c.server.backs) (c.server.backs.calls m.head.from))))
+answered_goes s c past armed p m H up at j d = if_to_goes (same_node m.head.to the_server) s c past armed p m _ H up at j (settles_goes s c past armed p m (c.server.backs.calls m.head.from) H up at j refl d)
+
+pub renewed_goes : (s : Script) (c : Cell) (past : List Entry) (armed : Armed) (p : ℕ) (n : Node) (m : Message) (k : BackCall) (t : Bool) → (H : Holds s c past) → c.down ≡ None → message_at c.sent p ≡ Some m → Dull c.server.seats c.server.lasting.boot m → c.server.backs.calls n ≡ Some k
+    → Goes s past (server_adds c armed c.server (lines.Given p ∷ []) (cond t (renews the_server c.server.lasting.boot n m.head.boot k (expired c.clock c.server.backs)) (no_turn (expired c.clock c.server.backs))))
 renewed_goes s c past armed p n m k false H up at j is = nothing_done s c past armed p m H up at j
 renewed_goes s c past armed p n m k true H up at j is =
-    let b : Backs = expired c.clock c.backs in
-    quiet s c past armed p m (renews the_server c.server.boot n m.head.boot k b) H up at j tt tt
-    (λ x over held. record { notes = tt; sent = news_break _ _ _ c.server.boot n m.head.boot k; outs = tt; held = held })
-    (λ x z. let old = still_backed b c.server.boot c.server.seats (seats_of c) c.clock c.sent x past (given_plain p x _ z) (up_backed s c past H up) in record {
-      backed = none_loaded None (record b { known = put n m.head.boot b.known }) c.server.boot c.server.seats (seats_of c) c.clock c.sent (x ∷ past) (known_backed b (put n m.head.boot b.known) c.server.boot c.server.seats (seats_of c) c.clock c.sent (x ∷ past) old);
-      sends = record { good = (break_good (x ∷ past) c.server.boot n m.head.boot k, tt); calls = resent b c.server.boot c.server.seats (seats_of c) c.clock c.sent (x ∷ past) (x ∷ past) n m.head.boot k b.calls old is (λ y w. ap (λ (u : BackCall). u.breaks) (some_of y k (sym w ∙ is))); dones = (tt, tt) };
+    let b : Backs = expired c.clock c.server.backs in
+    quiet s c past armed p m (renews the_server c.server.lasting.boot n m.head.boot k b) H up at j tt tt
+    (λ x over held. record { notes = tt; sent = news_break _ _ _ c.server.lasting.boot n m.head.boot k ((up_backed s c past H up).outs refl n k is).client; outs = tt; held = held })
+    (λ x z. let old = still_backed b c.server.lasting.boot c.server.seats (seats_of c) c.clock c.sent x past (given_plain p x _ z) (up_backed s c past H up) in record {
+      backed = none_loaded None (record b { known = put_at n m.head.boot b.known }) c.server.lasting.boot c.server.seats (seats_of c) c.clock c.sent (x ∷ past) (known_backed b (put_at n m.head.boot b.known) c.server.lasting.boot c.server.seats (seats_of c) c.clock c.sent (x ∷ past) old);
+      sends = record { good = (break_good (x ∷ past) c.server.lasting.boot n m.head.boot k, tt); calls = resent b c.server.lasting.boot c.server.seats (seats_of c) c.clock c.sent (x ∷ past) (x ∷ past) n m.head.boot k b.calls old is (λ y w. ap (λ (u : BackCall). u.breaks) (some_of y k (sym w ∙ is))); dones = (tt, tt) };
     })
 
-pub renews_goes : (s : Script) (c : Cell) (past : List Entry) (armed : Armed) (p n : ℕ) (m : Message) (o : Option BackCall) → (H : Holds s c past) → c.down ≡ None → message_at c.sent p ≡ Some m → Dull c.server.seats c.server.boot m → c.backs.calls n ≡ o
-    → Goes s past (server_adds c armed c.server (lines.Given p ∷ []) (renews_by the_server c.server.boot m.head n (expired c.clock c.backs) o))
-renews_goes s c past armed p n m None H up at j is = nothing_done s c past armed p m H up at j
-renews_goes s c past armed p n m (Some k) H up at j is = renewed_goes s c past armed p n m k (is_back_awaited c.server.boot k m.head) H up at j is
+pub renews_goes : (s : Script) (c : Cell) (past : List Entry) (armed : Armed) (p : ℕ) (m : Message) (o : Option BackCall) → (H : Holds s c past) → c.down ≡ None → message_at c.sent p ≡ Some m → Dull c.server.seats c.server.lasting.boot m → c.server.backs.calls m.head.from ≡ o
+    → Goes s past (server_adds c armed c.server (lines.Given p ∷ []) (renews_by the_server c.server.lasting.boot m.head (expired c.clock c.server.backs) o))
+renews_goes s c past armed p m None H up at j is = nothing_done s c past armed p m H up at j
+renews_goes s c past armed p m (Some k) H up at j is = renewed_goes s c past armed p m.head.from m k (is_back_awaited c.server.lasting.boot k m.head) H up at j is
 
-pub noticed_goes : (s : Script) (c : Cell) (past : List Entry) (armed : Armed) (p : ℕ) (m : Message) (from : Node) → (H : Holds s c past) → c.down ≡ None → message_at c.sent p ≡ Some m → Dull c.server.seats c.server.boot m → Goes s past (server_adds c armed c.server (lines.Given p ∷ []) (noticed_by the_server c.server.boot m.head from (expired c.clock c.backs)))
-noticed_goes s c past armed p m (Client n) H up at j = renews_goes s c past armed p n m (c.backs.calls n) H up at j refl
-noticed_goes s c past armed p m (Server n) H up at j = nothing_done s c past armed p m H up at j
-noticed_goes s c past armed p m (Admin n) H up at j = nothing_done s c past armed p m H up at j
-noticed_goes s c past armed p m Loc H up at j = nothing_done s c past armed p m H up at j
+pub noticed_goes : (s : Script) (c : Cell) (past : List Entry) (armed : Armed) (p : ℕ) (m : Message) → (H : Holds s c past) → c.down ≡ None → message_at c.sent p ≡ Some m → Dull c.server.seats c.server.lasting.boot m
+    → Goes s past (server_adds c armed c.server (lines.Given p ∷ []) (if_to the_server m.head (expired c.clock c.server.backs) (renews_by the_server c.server.lasting.boot m.head (expired c.clock c.server.backs) (c.server.backs.calls m.head.from))))
+noticed_goes s c past armed p m H up at j = if_to_goes (same_node m.head.to the_server) s c past armed p m _ H up at j (renews_goes s c past armed p m (c.server.backs.calls m.head.from) H up at j refl)
 
 -- ---- a call runs
 
@@ -249,13 +271,13 @@ abbrev pub client_head : ℕ → Head → Head
 client_head n h = record h { from = Client n; to = the_server }
 
 -- what is known where a call of client n is new, to the server as it stands
-pub record Now (c : Cell) (fl : ℕ → Ghost) (past : List Entry) (n : ℕ) (h : Head) (user : List ℕ) (call : FsCall) : Type 0 where
-  pub boot : h.boot ≡ c.server.boot
+pub record Now (s : Script) (c : Cell) (fl : ℕ → Ghost) (past : List Entry) (n : ℕ) (h : Head) (user : List ℕ) (call : FsCall) : Type 0 where
+  pub boot : h.boot ≡ c.server.lasting.boot
   pub above : Above (call_seat (Client n) c.server.seats) h.epoch h.number
-  pub above_durable : Above (call_seat (Client n) c.server.durable) h.epoch h.number
+  pub above_durable : Above (call_seat (Client n) c.server.lasting.kept) h.epoch h.number
   pub fact : CallFact (view fl c n) (client_head n h) call
-  pub origin : Origin past (client_head n h) user call
-  pub acts : IsActs past (client_head n h) user call
+  pub origin : Origin s past (client_head n h) user call
+  pub acts : IsActs s past (client_head n h) user call
   pub one : call_under (called_key (client_head n h)) (sent_of past) ≡ Some (user, call)
 
 abbrev pub call_at : ℕ → Head → List ℕ → FsCall → Message
@@ -269,30 +291,29 @@ seats_after c n h r = call_seated (taken n h r) c.server.seats
 
 -- the seats that outlive a crash, after a call that changed something or one that did not
 abbrev pub durable_after : Bool → Cell → ℕ → Head → Message → List Seat
-durable_after true c n h r = call_seated (taken n h r) c.server.durable
-durable_after false c n h r = c.server.durable
+durable_after true c n h r = seat_placed (taken n h r) c.server.lasting.kept
+durable_after false c n h r = c.server.lasting.kept
 
 -- what a step may change of the server besides its seats
 pub record Stock : Type 0 where
-  pub volumes : Table Volume
-  pub times : Fid → ℕ
+  pub volumes : Table Stored
   pub journal : ℕ
 
 abbrev pub stock : ServerState → Stock
-stock s = record { volumes = s.volumes; times = s.times; journal = s.journal }
+stock s = record { volumes = s.lasting.volumes; journal = s.lasting.journal }
 
 abbrev pub server_after : Bool → Cell → ℕ → Head → Message → Stock → ServerState
-server_after good c n h r st = record c.server { volumes = st.volumes; times = st.times; journal = st.journal; seats = seats_after c n h r; durable = durable_after good c n h r }
+server_after good c n h r st = record c.server { lasting = record c.server.lasting { volumes = st.volumes; journal = st.journal; kept = durable_after good c n h r }; seats = seats_after c n h r }
 
 abbrev pub own_durable : Bool → Seat → Option Seat → Option Seat
 own_durable true x o = Some x
 own_durable false x o = o
 
 abbrev pub seated_view : (ℕ → Ghost) → Cell → ℕ → Option Seat → Option Seat → View
-seated_view fl c j o d = view_of c.clock (fl j) (c.clients j) (record { boot = c.server.boot; seat = o; durable = d })
+seated_view fl c j o d = view_of c.clock (fl j) (c.clients j) (record { boot = c.server.lasting.boot; seat = o; durable = d })
 
 abbrev pub caller_view : Bool → (ℕ → Ghost) → Cell → ℕ → Head → Message → View
-caller_view good fl c n h r = seated_view fl c n (Some (taken n h r)) (own_durable good (taken n h r) (call_seat (Client n) c.server.durable))
+caller_view good fl c n h r = seated_view fl c n (Some (taken n h r)) (own_durable good (taken n h r) (call_seat (Client n) c.server.lasting.kept))
 
 abbrev pub views_after : Bool → (ℕ → Ghost) → Cell → ℕ → Head → Message → ℕ → View
 views_after good fl c n h r j = seated_view fl c j (call_seat (Client j) (seats_after c n h r)) (call_seat (Client j) (durable_after good c n h r))
@@ -306,24 +327,26 @@ above_before seats n h r m e k a = at_seat (taken n h r) m seats (λ o. Above o 
     (λ q b. subst (λ (x : Node). Above (call_seat x seats) e k) q (above_more (call_seat (Client n) seats) h.epoch h.number e k a b))
     (λ ne b. b)
 
-pub durable_before : (good : Bool) (c : Cell) (n : ℕ) (h : Head) (r : Message) (m : Node) (e k : ℕ) → Above (call_seat (Client n) c.server.durable) h.epoch h.number → Above (call_seat m (durable_after good c n h r)) e k → Above (call_seat m c.server.durable) e k
-durable_before true c n h r m e k a = above_before c.server.durable n h r m e k a
+pub durable_before : (good : Bool) (c : Cell) (n : ℕ) (h : Head) (r : Message) (m : Node) (e k : ℕ) → Above (call_seat (Client n) c.server.lasting.kept) h.epoch h.number → Above (call_seat m (durable_after good c n h r)) e k → Above (call_seat m c.server.lasting.kept) e k
+durable_before true c n h r m e k a = at_placed (taken n h r) m c.server.lasting.kept (λ o. Above o e k → Above (call_seat m c.server.lasting.kept) e k)
+    (λ q b. subst (λ (x : Node). Above (call_seat x c.server.lasting.kept) e k) q (above_more (call_seat (Client n) c.server.lasting.kept) h.epoch h.number e k a b))
+    (λ ne b. b)
 durable_before false c n h r m e k a = λ b. b
 
 -- the client that called, or another
-pub at_desk : (good : Bool) (c : Cell) (n : ℕ) (h : Head) (r : Message) (j : ℕ) (P : Option Seat → Option Seat → Type 0) → (n ≡ j → P (Some (taken n h r)) (own_durable good (taken n h r) (call_seat (Client j) c.server.durable))) → ((n ≡ j → ⊥) → P (call_seat (Client j) c.server.seats) (call_seat (Client j) c.server.durable))
+pub at_desk : (good : Bool) (c : Cell) (n : ℕ) (h : Head) (r : Message) (j : ℕ) (P : Option Seat → Option Seat → Type 0) → (n ≡ j → P (Some (taken n h r)) (own_durable good (taken n h r) (call_seat (Client j) c.server.lasting.kept))) → ((n ≡ j → ⊥) → P (call_seat (Client j) c.server.seats) (call_seat (Client j) c.server.lasting.kept))
     → P (call_seat (Client j) (seats_after c n h r)) (call_seat (Client j) (durable_after good c n h r))
-at_desk true c n h r j P a b = at_seat (taken n h r) (Client j) c.server.seats (λ o. P o (call_seat (Client j) (call_seated (taken n h r) c.server.durable)))
-    (λ q. at_seat (taken n h r) (Client j) c.server.durable (λ o. P (Some (taken n h r)) o) (λ z. a (client_number n j q)) (λ ne. absurd (ne q)))
-    (λ ne. at_seat (taken n h r) (Client j) c.server.durable (λ o. P (call_seat (Client j) c.server.seats) o) (λ q. absurd (ne q)) (λ z. b (λ q. ne (ap Client q))))
-at_desk false c n h r j P a b = at_seat (taken n h r) (Client j) c.server.seats (λ o. P o (call_seat (Client j) c.server.durable)) (λ q. a (client_number n j q)) (λ ne. b (λ q. ne (ap Client q)))
+at_desk true c n h r j P a b = at_seat (taken n h r) (Client j) c.server.seats (λ o. P o (call_seat (Client j) (seat_placed (taken n h r) c.server.lasting.kept)))
+    (λ q. at_placed (taken n h r) (Client j) c.server.lasting.kept (λ o. P (Some (taken n h r)) o) (λ z. a (client_number n j q)) (λ ne. absurd (ne q)))
+    (λ ne. at_placed (taken n h r) (Client j) c.server.lasting.kept (λ o. P (call_seat (Client j) c.server.seats) o) (λ q. absurd (ne q)) (λ z. b (λ q. ne (ap Client q))))
+at_desk false c n h r j P a b = at_seat (taken n h r) (Client j) c.server.seats (λ o. P o (call_seat (Client j) c.server.lasting.kept)) (λ q. a (client_number n j q)) (λ ne. b (λ q. ne (ap Client q)))
 
 -- the same for what is known of a client under both views
 pub at_views : (good : Bool) (fl : ℕ → Ghost) (c : Cell) (n : ℕ) (h : Head) (r : Message) (j : ℕ) (Q : ℕ → View → Type 0) → Q n (caller_view good fl c n h r) → ((n ≡ j → ⊥) → Q j (view fl c j)) → Q j (views_after good fl c n h r j)
 at_views good fl c n h r j Q a b = at_desk good c n h r j (λ o d. Q j (seated_view fl c j o d))
-    (λ q. subst (λ (i : ℕ). Q i (seated_view fl c i (Some (taken n h r)) (own_durable good (taken n h r) (call_seat (Client i) c.server.durable)))) q a) b
+    (λ q. subst (λ (i : ℕ). Q i (seated_view fl c i (Some (taken n h r)) (own_durable good (taken n h r) (call_seat (Client i) c.server.lasting.kept)))) q a) b
 
-pub dull_after : (c : Cell) (n : ℕ) (h : Head) (r : Message) (user : List ℕ) (call : FsCall) → h.boot ≡ c.server.boot → Dull (seats_after c n h r) c.server.boot (call_at n h user call)
+pub dull_after : (c : Cell) (n : ℕ) (h : Head) (r : Message) (user : List ℕ) (call : FsCall) → h.boot ≡ c.server.lasting.boot → Dull (seats_after c n h r) c.server.lasting.boot (call_at n h user call)
 dull_after c n h r user call boot k b x (inl l) = let is : h.boot ≡ b = x.1.1 in absurd (omega arith)
 dull_after c n h r user call boot k b x (inr above) =
     let own : Above (call_seat (Client n) (seats_after c n h r)) h.epoch h.number = subst (λ (l : Key). Above (call_seat l.node (seats_after c n h r)) l.epoch l.number) (sym x.1.0) above.1 in
@@ -344,14 +367,14 @@ calls_after good s c past n h r H a = each_map (IfCall (CallIn (view H.floors c)
       fact = record { behind = f.fact.behind; booted = f.fact.booted; stale = f.fact.stale; own = f.fact.own; safe = λ q b. f.fact.safe q (above_before c.server.seats n h r (Client f.client) head.epoch head.number a b) };
     })) c.sent H.sent.calls
 
-pub unheard_after : (s : Script) (c : Cell) (past : List Entry) (p n : ℕ) (h : Head) (user : List ℕ) (call : FsCall) (r : Message) (e : Entry) → (H : Holds s c past) → c.down ≡ None → message_at c.sent p ≡ Some (call_at n h user call) → Now c H.floors past n h user call
-    → given_message e.lines (sent_of past) ≡ message_at (sent_of past) p → AreUnheard None (seats_after c n h r) c.server.boot (e ∷ past)
-unheard_after s c past p n h user call r e H up at w is = unheard_over None (seats_after c n h r) c.server.boot e past (call_at n h user call) (is ∙ at_told s c past p _ H at) (dull_after c n h r user call w.boot)
+pub unheard_after : (s : Script) (c : Cell) (past : List Entry) (p n : ℕ) (h : Head) (user : List ℕ) (call : FsCall) (r : Message) (e : Entry) → (H : Holds s c past) → c.down ≡ None → message_at c.sent p ≡ Some (call_at n h user call) → Now s c H.floors past n h user call
+    → given_message e.lines (sent_of past) ≡ message_at (sent_of past) p → AreUnheard None (seats_after c n h r) c.server.lasting.boot (e ∷ past)
+unheard_after s c past p n h user call r e H up at w is = unheard_over None (seats_after c n h r) c.server.lasting.boot e past (call_at n h user call) (is ∙ at_told s c past p _ H at) (dull_after c n h r user call w.boot)
     (λ k b may. unheard_up c past up H.unheard k b (elim may [ inl l ↦ inl l | inr x ↦ inr (x.0, above_before c.server.seats n h r k.node k.epoch k.number w.above x.1) ]))
 
 -- the entry ran the call
-abbrev pub ran_now : (s : Script) (c : Cell) (past : List Entry) (p n : ℕ) (h : Head) (user : List ℕ) (call : FsCall) (e : Entry) → (H : Holds s c past) → c.down ≡ None → message_at c.sent p ≡ Some (call_at n h user call) → Now c H.floors past n h user call
-    → given_message e.lines (sent_of past) ≡ message_at (sent_of past) p → e.actor ≡ actors.Node the_server → Ran (reply_head c.server.boot (client_head n h)) (e ∷ past)
+abbrev pub ran_now : (s : Script) (c : Cell) (past : List Entry) (p n : ℕ) (h : Head) (user : List ℕ) (call : FsCall) (e : Entry) → (H : Holds s c past) → c.down ≡ None → message_at c.sent p ≡ Some (call_at n h user call) → Now s c H.floors past n h user call
+    → given_message e.lines (sent_of past) ≡ message_at (sent_of past) p → e.actor ≡ actors.Node the_server → Ran (reply_head c.server.lasting.boot (client_head n h)) (e ∷ past)
 ran_now s c past p n h user call e H up sent w is at = record {
   newer = [];
   at = e;
@@ -364,19 +387,19 @@ ran_now s c past p n h user call e H up sent w is at = record {
   boot = w.boot;
   callee = refl;
   node = at;
-  first = unheard_up c past up H.unheard (record { node = Client n; epoch = h.epoch; number = h.number }) c.server.boot (inr (refl, w.above));
+  first = unheard_up c past up H.unheard (record { node = Client n; epoch = h.epoch; number = h.number }) c.server.lasting.boot (inr (refl, w.above));
 }
 
 -- the call ran in this entry, or in one before whose step was done by this one
 pub record HasRun (c : Cell) (n : ℕ) (h : Head) (user : List ℕ) (call : FsCall) (past : List Entry) : Type 0 where
-  pub ran : Ran (reply_head c.server.boot (client_head n h)) past
+  pub ran : Ran (reply_head c.server.lasting.boot (client_head n h)) past
   pub is : ran.message ≡ call_at n h user call
-  pub ideal : AreIdeal c.server.volumes ran.older
+  pub ideal : AreIdeal c.server.lasting.volumes ran.older
 
 -- the reply has the code of the ideal operation
 pub cause_now : (c : Cell) (n : ℕ) (h : Head) (user : List ℕ) (call : FsCall) (x : Carried) (code : ℤ) (past : List Entry) → (g : HasRun c n h user call past) → user ≡ user_of (Client n)
-    → HasCode x → code_told x ≡ Some code → IsResult code (answer_at user call g.ran.older) (called_key (client_head n h)) (lines_of past)
-    → Cause (replied c.server.boot (client_head n h) x) code call past []
+    → HasCode x → code_told x ≡ Some code → IsResult code (answer_at user call g.ran.older) (called_key (client_head n h)) g.ran.at.lines (lines_of past)
+    → Cause (replied c.server.lasting.boot (client_head n h) x) code call past []
 cause_now c n h user call x code past g own has told result = record {
   is_reply = (refl, has);
   told = told;
@@ -390,16 +413,16 @@ cause_now c n h user call x code past g own has told result = record {
 }
 
 -- the call whose call ran is the running one, where the client waits for it
-pub running_act : (good : Bool) (fl : ℕ → Ghost) (c : Cell) (past : List Entry) (n : ℕ) (h : Head) (user : List ℕ) (call : FsCall) → Now c fl past n h user call → (b : Going) → (c.clients n).running ≡ Some b → h.epoch ≡ (c.clients n).epoch → h.number ≡ (c.clients n).last → call ≡ asked b
-running_act good fl c past n h user call w b x y k = w.fact.own b x y k
+pub running_act : {s : Script} → (good : Bool) (fl : ℕ → Ghost) (c : Cell) (past : List Entry) (n : ℕ) (h : Head) (user : List ℕ) (call : FsCall) → Now s c fl past n h user call → (b : Going) → (c.clients n).running ≡ Some b → h.epoch ≡ (c.clients n).epoch → h.number ≡ (c.clients n).last → call ≡ asked b
+running_act {s} good fl c past n h user call w b x y k = w.fact.own b x y k
 
 -- no reply to the client's last call was made where a call below it runs
-pub stale_none : (fl : ℕ → Ghost) (c : Cell) (past : List Entry) (n : ℕ) (h : Head) (call : FsCall) (m : Message) → CallFact (view fl c n) h call → h.boot ≡ c.server.boot → Above (call_seat (Client n) c.server.seats) h.epoch h.number
+pub stale_none : (fl : ℕ → Ghost) (c : Cell) (past : List Entry) (n : ℕ) (h : Head) (call : FsCall) (m : Message) → CallFact (view fl c n) h call → h.boot ≡ c.server.lasting.boot → Above (call_seat (Client n) c.server.seats) h.epoch h.number
     → ReplyFact n (view fl c n) past m → m.head.epoch ≡ (c.clients n).epoch → m.head.number ≡ (c.clients n).last → Below h.epoch h.number (c.clients n).epoch (c.clients n).last → ⊥
 stale_none fl c past n h call m w boot a f y k l =
     let low : h.boot ≤ (fl n).floor = w.stale l in
     let high : (fl n).floor ≤ m.head.boot = f.recent y k in
-    let top : m.head.boot ≤ c.server.boot = f.booted in
+    let top : m.head.boot ≤ c.server.lasting.boot = f.booted in
     f.tied (omega arith) (subst (λ (d : ℕ). Above (call_seat (Client n) c.server.seats) d m.head.number) (sym y) (subst (λ (d : ℕ). Above (call_seat (Client n) c.server.seats) (c.clients n).epoch d) (sym k) (above_more _ _ _ _ _ a l)))
 
 abbrev pub spot_at : Option Seat → ℕ → ℕ → Spot
@@ -409,16 +432,16 @@ pub answers_at : (sp : Bool) (n : ℕ) (call : FsCall) (o : Option Seat) (e d k 
 answers_at sp n call o e d k l boot m past p q a = subst (λ (z : ℕ). Answers sp n call (spot_at o z l) boot m past) p (subst (λ (z : ℕ). Answers sp n call (spot_at o e z) boot m past) q a)
 
 -- the new reply
-pub reply_now : (good : Bool) (fl : ℕ → Ghost) (c : Cell) (past newer : List Entry) (n : ℕ) (h : Head) (user : List ℕ) (call : FsCall) (x : Carried) → Now c fl past n h user call → (fl n).floor ≤ c.server.boot
-    → Answers (c.clients n).spoiled n call (record { durable = own_durable good (taken n h (replied c.server.boot (client_head n h) x)) (call_seat (Client n) c.server.durable); epoch = h.epoch; last = h.number }) c.server.boot (replied c.server.boot (client_head n h) x) newer
-    → ReplyFact n (caller_view good fl c n h (replied c.server.boot (client_head n h) x)) newer (replied c.server.boot (client_head n h) x)
-reply_now good fl c past newer n h user call x w le a = record {
+pub reply_now : {s : Script} → (good : Bool) (fl : ℕ → Ghost) (c : Cell) (past newer : List Entry) (n : ℕ) (h : Head) (user : List ℕ) (call : FsCall) (x : Carried) → Now s c fl past n h user call → (fl n).floor ≤ c.server.lasting.boot
+    → Answers (c.clients n).spoiled n call (record { durable = own_durable good (taken n h (replied c.server.lasting.boot (client_head n h) x)) (call_seat (Client n) c.server.lasting.kept); epoch = h.epoch; last = h.number }) c.server.lasting.boot (replied c.server.lasting.boot (client_head n h) x) newer
+    → ReplyFact n (caller_view good fl c n h (replied c.server.lasting.boot (client_head n h) x)) newer (replied c.server.lasting.boot (client_head n h) x)
+reply_now {s} good fl c past newer n h user call x w le a = record {
   behind = w.fact.behind;
   booted = le_refl _;
   recent = λ y k. le;
   tied = λ q above. below_not _ _ _ _ above (up_to_same _ _ _ _ refl refl);
-  answers = λ b q y k. subst (λ (z : FsCall). Answers (c.clients n).spoiled n z (spot (caller_view good fl c n h (replied c.server.boot (client_head n h) x))) c.server.boot (replied c.server.boot (client_head n h) x) newer) (running_act good fl c past n h user call w b q y k)
-      (answers_at (c.clients n).spoiled n call (own_durable good (taken n h (replied c.server.boot (client_head n h) x)) (call_seat (Client n) c.server.durable)) h.epoch (c.clients n).epoch h.number (c.clients n).last c.server.boot (replied c.server.boot (client_head n h) x) newer y k a);
+  answers = λ b q y k. subst (λ (z : FsCall). Answers (c.clients n).spoiled n z (spot (caller_view good fl c n h (replied c.server.lasting.boot (client_head n h) x))) c.server.lasting.boot (replied c.server.lasting.boot (client_head n h) x) newer) (running_act good fl c past n h user call w b q y k)
+      (answers_at (c.clients n).spoiled n call (own_durable good (taken n h (replied c.server.lasting.boot (client_head n h) x)) (call_seat (Client n) c.server.lasting.kept)) h.epoch (c.clients n).epoch h.number (c.clients n).last c.server.lasting.boot (replied c.server.lasting.boot (client_head n h) x) newer y k a);
 }
 
 -- What a step of the server gives that runs a call of client n: `d` tells whether the server is then down, `st` is
@@ -428,23 +451,24 @@ pub record Serves (good : Bool) (s : Script) (c : Cell) (fl : ℕ → Ghost) (pa
   pub sound : AreSound st.volumes (lines_of (e ∷ past))
   pub fine : AreFine st.volumes
   pub home : AreHome s st.volumes (lines_of (e ∷ past))
-  pub new : AreNew (durable_after good c n h (replied c.server.boot (client_head n h) x)) (lines_of (e ∷ past))
-  pub other : (j : ℕ) → (n ≡ j → ⊥) → ClientFacts j (view fl c j) past → ClientFacts j (view fl c j) (e ∷ past)
+  pub new : AreNew (durable_after good c n h (replied c.server.lasting.boot (client_head n h) x)) (lines_of (e ∷ past))
+  pub other : (j : ℕ) → (n ≡ j → ⊥) → ClientFacts s j (view fl c j) past → ClientFacts s j (view fl c j) (e ∷ past)
   pub other_reply : (j : ℕ) (m : Message) → (n ≡ j → ⊥) → ReplyFact j (view fl c j) past m → ReplyFact j (view fl c j) (e ∷ past) m
   pub own_answers : (b : Going) (m : Message) → ReplyFact n (view fl c n) past m → (c.clients n).running ≡ Some b → m.head.epoch ≡ (c.clients n).epoch → m.head.number ≡ (c.clients n).last
-      → Answers (c.clients n).spoiled n (asked b) (spot (caller_view good fl c n h (replied c.server.boot (client_head n h) x))) c.server.boot m (e ∷ past)
+      → Answers (c.clients n).spoiled n (asked b) (spot (caller_view good fl c n h (replied c.server.lasting.boot (client_head n h) x))) c.server.lasting.boot m (e ∷ past)
   pub is_reply : IsReply x
-  pub answer : Answers (c.clients n).spoiled n call (record { durable = own_durable good (taken n h (replied c.server.boot (client_head n h) x)) (call_seat (Client n) c.server.durable); epoch = h.epoch; last = h.number }) c.server.boot (replied c.server.boot (client_head n h) x) (e ∷ past)
+  pub answer : Answers (c.clients n).spoiled n call (record { durable = own_durable good (taken n h (replied c.server.lasting.boot (client_head n h) x)) (call_seat (Client n) c.server.lasting.kept); epoch = h.epoch; last = h.number }) c.server.lasting.boot (replied c.server.lasting.boot (client_head n h) x) (e ∷ past)
   pub acts : PassesAct n e past
-  pub current : HasCurrent n (caller_view good fl c n h (replied c.server.boot (client_head n h) x)) (e ∷ past)
+  pub grows : (f : Fid) (i : ℕ) (b : Body) → HasVersion f i b (lines_of past) → HasVersion f i b (lines_of (e ∷ past))
+  pub current : HasCurrent n (caller_view good fl c n h (replied c.server.lasting.boot (client_head n h) x)) (e ∷ past)
   pub reached : (f : Fid) → Reached (Client n) f (index_in (last_version f (lines_of (e ∷ past)))) (e ∷ past)
   pub made : (a : Going) → (c.clients n).running ≡ Some a → (f : Fid) → (InScope (asked a) f → ⊥) → IsKnown a c.clock f (c.clients n).cache → (reach (Client n) f (e ∷ past)).made ≡ 0
   pub clock : clock_of (lines_of (e ∷ past)) ≡ c.clock
   pub top : Tops (lines_of (e ∷ past))
   pub one : Ones (lines_of (e ∷ past))
 
-pub own_reply : (good : Bool) (s : Script) (c : Cell) (fl : ℕ → Ghost) (past : List Entry) (n : ℕ) (h : Head) (user : List ℕ) (call : FsCall) (x : Carried) (e : Entry) (st : Stock) → Now c fl past n h user call → Serves good s c fl past n h user call x e st
-    → (m : Message) → ReplyFact n (view fl c n) past m → ReplyFact n (caller_view good fl c n h (replied c.server.boot (client_head n h) x)) (e ∷ past) m
+pub own_reply : (good : Bool) (s : Script) (c : Cell) (fl : ℕ → Ghost) (past : List Entry) (n : ℕ) (h : Head) (user : List ℕ) (call : FsCall) (x : Carried) (e : Entry) (st : Stock) → Now s c fl past n h user call → Serves good s c fl past n h user call x e st
+    → (m : Message) → ReplyFact n (view fl c n) past m → ReplyFact n (caller_view good fl c n h (replied c.server.lasting.boot (client_head n h) x)) (e ∷ past) m
 own_reply good s c fl past n h user call x e st w v m f = record {
   behind = f.behind;
   booted = f.booted;
@@ -453,7 +477,7 @@ own_reply good s c fl past n h user call x e st w v m f = record {
   answers = λ b y z k. v.own_answers b m f y z k;
 }
 
-pub lower_by : (good : Bool) (c : Cell) (n : ℕ) (h : Head) (r : Message) → Above (call_seat (Client n) c.server.durable) h.epoch h.number → (e k : ℕ) → Below h.epoch h.number e k → Above (own_durable good (taken n h r) (call_seat (Client n) c.server.durable)) e k
+pub lower_by : (good : Bool) (c : Cell) (n : ℕ) (h : Head) (r : Message) → Above (call_seat (Client n) c.server.lasting.kept) h.epoch h.number → (e k : ℕ) → Below h.epoch h.number e k → Above (own_durable good (taken n h r) (call_seat (Client n) c.server.lasting.kept)) e k
 lower_by true c n h r a e k b = b
 lower_by false c n h r a e k b = above_more _ _ _ _ _ a b
 
@@ -472,11 +496,11 @@ stored_by true n x o r v past is k f h seat m one y = own_kept n x seat r m v pa
 stored_by false n x o r v past is k f h seat m one y = h seat m one y
 
 -- the caller, after its call ran
-pub caller_after : (good : Bool) (s : Script) (c : Cell) (past : List Entry) (n : ℕ) (h : Head) (user : List ℕ) (call : FsCall) (x : Carried) (e : Entry) (st : Stock) → (H : Holds s c past) → Now c H.floors past n h user call → Serves good s c H.floors past n h user call x e st
-    → ClientFacts n (caller_view good H.floors c n h (replied c.server.boot (client_head n h) x)) (e ∷ past)
+pub caller_after : (good : Bool) (s : Script) (c : Cell) (past : List Entry) (n : ℕ) (h : Head) (user : List ℕ) (call : FsCall) (x : Carried) (e : Entry) (st : Stock) → (H : Holds s c past) → Now s c H.floors past n h user call → Serves good s c H.floors past n h user call x e st
+    → ClientFacts s n (caller_view good H.floors c n h (replied c.server.lasting.boot (client_head n h) x)) (e ∷ past)
 caller_after good s c past n h user call x e st H w v =
     let d = H.clients n in
-    let r : Message = replied c.server.boot (client_head n h) x in
+    let r : Message = replied c.server.lasting.boot (client_head n h) x in
     let after : View = caller_view good H.floors c n h r in
     let k : KeptReply n (taken n h r) r = record { to = refl; from = refl; half = refl; epoch = refl; number = refl; is_reply = v.is_reply } in
     let f : ReplyFact n after (e ∷ past) r = reply_now good H.floors c past (e ∷ past) n h user call x w d.floored v.answer in
@@ -490,34 +514,37 @@ caller_after good s c past n h user call x e st H w v =
       floored = d.floored;
       holds = d.holds;
       waits = d.waits;
-      idle = λ y. v.acts.runs (lines_of past) ∙ d.idle y;
+      idle = λ y. v.acts.runs s (lines_of past) ∙ d.idle y;
       made = v.made;
       current = v.current;
-      runs = λ b y. v.acts.runs (lines_of past) ∙ d.runs b y;
+      old = old_over (c.clients n).cache (lines_of past) (lines_of (e ∷ past)) v.grows d.old;
+      runs = λ b y. v.acts.runs s (lines_of past) ∙ d.runs b y;
       asked = λ b y. inr (v.acts.begins, d.asked b y);
       reached = v.reached;
     }
 
 abbrev pub served_cell : Bool → Cell → ℕ → Head → Message → Stock → Backs → Option Fall → Armed → List Message → Cell
-served_cell good c n h r st b d armed ms = record c { server = server_after good c n h r st; backs = b; down = d; armed = armed; sent = c.sent ++ ms }
+served_cell good c n h r st b d armed ms = record c { server = record (server_after good c n h r st) { backs = b }; down = d; armed = armed; sent = c.sent ++ ms }
 
 -- the reply
 pub own_held : (good : Bool) (fl : ℕ → Ghost) (c : Cell) (n : ℕ) (h : Head) (r : Message) (past : List Entry) → r.head.to ≡ Client n → r.head.from ≡ the_server → r.head.half ≡ halves.Reply → IsReply r.carried → ReplyFact n (caller_view good fl c n h r) past r → HeldIn (views_after good fl c n h r) past r
 own_held good fl c n h r past to from half is f = record { client = n; to = to; from = from; half = half; is_reply = is; fact = at_views good fl c n h r n (λ i u. ReplyFact i u past r) f (λ ne. absurd (ne refl)) }
 
-pub serves : (good : Bool) (s : Script) (b : Option ℕ) (c : Cell) (past : List Entry) (n : ℕ) (h : Head) (user : List ℕ) (call : FsCall) (x : Carried) (e : Entry) (st : Stock) (after : Backs) (d : Option Fall) (armed : Armed) → (H : Holds s c past) → Now c H.floors past n h user call → Serves good s c H.floors past n h user call x e st
+pub serves : (good : Bool) (s : Script) (b : Option ℕ) (c : Cell) (past : List Entry) (n : ℕ) (h : Head) (user : List ℕ) (call : FsCall) (x : Carried) (e : Entry) (st : Stock) (after : Backs) (d : Option Fall) (armed : Armed) → (H : Holds s c past) → Now s c H.floors past n h user call → Serves good s c H.floors past n h user call x e st
     → server_boot the_server (lines_of (e ∷ past)) ≡ b
-    → AreUnheard d (seats_after c n h (replied c.server.boot (client_head n h) x)) c.server.boot (e ∷ past)
-    → HasFallen d (server_after good c n h (replied c.server.boot (client_head n h) x) st) (c.sent ++ e.sent) (e ∷ past)
-    → (HeldIn (views_after good H.floors c n h (replied c.server.boot (client_head n h) x)) (e ∷ past) (replied c.server.boot (client_head n h) x) → Gives (views_after good H.floors c n h (replied c.server.boot (client_head n h) x)) c.server.boot (e ∷ past) c.backs.held e.sent after.held)
-    → (b ≡ up_boot d c.server.boot → BackedIn d after c.server.boot (seats_after c n h (replied c.server.boot (client_head n h) x)) (seats_of c) c.clock (c.sent ++ e.sent) (e ∷ past))
-    → HoldsAt s b (served_cell good c n h (replied c.server.boot (client_head n h) x) st after d armed e.sent) (e ∷ past)
+    → AreUnheard d (seats_after c n h (replied c.server.lasting.boot (client_head n h) x)) c.server.lasting.boot (e ∷ past)
+    → HasFallen d (server_after good c n h (replied c.server.lasting.boot (client_head n h) x) st).lasting (c.sent ++ e.sent) (e ∷ past)
+    → (HeldIn (views_after good H.floors c n h (replied c.server.lasting.boot (client_head n h) x)) (e ∷ past) (replied c.server.lasting.boot (client_head n h) x) → Gives s (views_after good H.floors c n h (replied c.server.lasting.boot (client_head n h) x)) c.server.lasting.boot (e ∷ past) c.server.backs.held e.sent after.held)
+    → (b ≡ up_boot d c.server.lasting.boot → BackedIn d after c.server.lasting.boot (seats_after c n h (replied c.server.lasting.boot (client_head n h) x)) (seats_of c) c.clock (c.sent ++ e.sent) (e ∷ past))
+    → HoldsAt s b (served_cell good c n h (replied c.server.lasting.boot (client_head n h) x) st after d armed e.sent) (e ∷ past)
 serves good s b c past n h user call x e st after d armed H w v boots heard fallen news backs =
-    let r : Message = replied c.server.boot (client_head n h) x in
-    let now : (j : ℕ) → ClientFacts j (views_after good H.floors c n h r j) (e ∷ past) = λ j. at_views good H.floors c n h r j (λ i u. ClientFacts i u (e ∷ past)) (caller_after good s c past n h user call x e st H w v) (λ ne. v.other j ne (H.clients j)) in
+    let r : Message = replied c.server.lasting.boot (client_head n h) x in
+    let now : (j : ℕ) → ClientFacts s j (views_after good H.floors c n h r j) (e ∷ past) = λ j. at_views good H.floors c n h r j (λ i u. ClientFacts s i u (e ∷ past)) (caller_after good s c past n h user call x e st H w v) (λ ne. v.other j ne (H.clients j)) in
     record {
       floors = H.floors;
       count = H.count;
+      own = H.own;
+      servers = H.servers;
       ideal = v.ideal;
       fine = v.fine;
       sound = v.sound;
@@ -527,7 +554,7 @@ serves good s b c past n h user call x e st after d armed H w v boots heard fall
       booted = H.booted;
       boots = boots;
       clients = now;
-      sent = more_sent c.sent (replies_of c.backs.held) (replies_of after.held) (view H.floors c) (views_after good H.floors c n h r) c.server.boot c.server.boot e past H.sent (le_refl _) now (λ j a x z. inl ((H.clients j).runs a x)) (calls_after good s c past n h r H w.above)
+      sent = more_sent c.sent (replies_of c.server.backs.held) (replies_of after.held) (view H.floors c) (views_after good H.floors c n h r) c.server.lasting.boot c.server.lasting.boot e past H.sent (le_refl _) now (λ j a x z. inl ((H.clients j).runs a x)) (calls_after good s c past n h r H w.above)
           (λ j m. at_views good H.floors c n h r j (λ i u. ReplyFact i (view H.floors c i) past m → ReplyFact i u (e ∷ past) m) (own_reply good s c H.floors past n h user call x e st w v m) (λ ne. v.other_reply j m ne))
           (news (own_held good H.floors c n h r (e ∷ past) refl refl refl v.is_reply (reply_now good H.floors c past (e ∷ past) n h user call x w (H.clients n).floored v.answer)));
       down = fallen;
@@ -573,12 +600,12 @@ not_stored o e k a ran =
     below_not _ _ _ _ l (up_to_same _ _ _ _ (sym ran.epoch) (sym ran.number))
 
 -- over an entry that changes no file
-pub serves_still : (s : Script) (c : Cell) (past : List Entry) (n : ℕ) (h : Head) (user : List ℕ) (call : FsCall) (x : Carried) (e : Entry) → (H : Holds s c past) → Now c H.floors past n h user call
+pub serves_still : (s : Script) (c : Cell) (past : List Entry) (n : ℕ) (h : Head) (user : List ℕ) (call : FsCall) (x : Carried) (e : Entry) → (H : Holds s c past) → Now s c H.floors past n h user call
     → ((j : ℕ) (f : Fid) → PassesFile j f e past) → ((j : ℕ) (f : Fid) → PassesReach j f e past) → ((j : ℕ) → PassesAct j e past) → ((f : Fid) → last_version f (lines_of (e ∷ past)) ≡ last_version f (lines_of past))
-    → AreIdeal c.server.volumes (e ∷ past) → AreHome s c.server.volumes (lines_of (e ∷ past)) → AreNew c.server.durable (lines_of (e ∷ past)) → clock_of (lines_of (e ∷ past)) ≡ c.clock → Tops (lines_of (e ∷ past)) → Ones (lines_of (e ∷ past)) → IsReply x
-    → Answers (c.clients n).spoiled n call (record { durable = call_seat (Client n) c.server.durable; epoch = h.epoch; last = h.number }) c.server.boot (replied c.server.boot (client_head n h) x) (e ∷ past) → Serves false s c H.floors past n h user call x e (stock c.server)
+    → AreIdeal c.server.lasting.volumes (e ∷ past) → AreHome s c.server.lasting.volumes (lines_of (e ∷ past)) → AreNew c.server.lasting.kept (lines_of (e ∷ past)) → clock_of (lines_of (e ∷ past)) ≡ c.clock → Tops (lines_of (e ∷ past)) → Ones (lines_of (e ∷ past)) → IsReply x
+    → Answers (c.clients n).spoiled n call (record { durable = call_seat (Client n) c.server.lasting.kept; epoch = h.epoch; last = h.number }) c.server.lasting.boot (replied c.server.lasting.boot (client_head n h) x) (e ∷ past) → Serves false s c H.floors past n h user call x e (stock c.server)
 serves_still s c past n h user call x e H w pf pr pa l ideal home new clock top one is a =
-    let r : Message = replied c.server.boot (client_head n h) x in
+    let r : Message = replied c.server.lasting.boot (client_head n h) x in
     record {
       ideal = ideal;
       fine = H.fine;
@@ -587,10 +614,11 @@ serves_still s c past n h user call x e H w pf pr pa l ideal home new clock top 
       new = new;
       other = λ j ne. client_still j (view H.floors c j) e past (pf j) (pr j) (pa j) l;
       other_reply = λ j m ne. reply_over j (view H.floors c j) m e past (λ f. (pf j f).grant) (pr j) (λ f. stays j f e past (pf j f).grant (l f));
-      own_answers = λ b m f y z k. answers_over n (asked b) (spot (view H.floors c n)) c.server.boot m e past (λ g. (pf n g).grant) (pr n) (λ g. stays n g e past (pf n g).grant (l g)) (f.answers b y z k);
+      own_answers = λ b m f y z k. answers_over n (asked b) (spot (view H.floors c n)) c.server.lasting.boot m e past (λ g. (pf n g).grant) (pr n) (λ g. stays n g e past (pf n g).grant (l g)) (f.answers b y z k);
       is_reply = is;
       answer = a;
       acts = pa n;
+      grows = λ f i b y. ((pf n f).grant).version i b (lines_of past) y;
       current = current_same s c past n h r e H (pf n) (pr n) l;
       made = λ a runs f o z. (pr n f).made ((H.clients n).made a runs f o z);
       reached = reached_still s c past n e H (λ f. (pr n f).both) l;
@@ -600,7 +628,7 @@ serves_still s c past n h user call x e H w pf pr pa l ideal home new clock top 
     }
 
 -- the call runs now
-abbrev pub has_run : (s : Script) (c : Cell) (past : List Entry) (p n : ℕ) (h : Head) (user : List ℕ) (call : FsCall) (e : Entry) → (H : Holds s c past) → c.down ≡ None → message_at c.sent p ≡ Some (call_at n h user call) → Now c H.floors past n h user call
+abbrev pub has_run : (s : Script) (c : Cell) (past : List Entry) (p n : ℕ) (h : Head) (user : List ℕ) (call : FsCall) (e : Entry) → (H : Holds s c past) → c.down ≡ None → message_at c.sent p ≡ Some (call_at n h user call) → Now s c H.floors past n h user call
     → given_message e.lines (sent_of past) ≡ message_at (sent_of past) p → e.actor ≡ actors.Node the_server → HasRun c n h user call (e ∷ past)
 has_run s c past p n h user call e H up at w is by = record { ran = ran_now s c past p n h user call e H up at w is by; is = refl; ideal = H.ideal }
 
@@ -608,35 +636,35 @@ has_run s c past p n h user call e H up at w is by = record { ran = ran_now s c 
 pub taken_not : (seats : List Seat) (n : ℕ) (h : Head) (r : Message) → Above (call_seat (Client n) (call_seated (taken n h r) seats)) h.epoch h.number → ⊥
 taken_not seats n h r above = below_not h.epoch h.number h.epoch h.number (subst (λ (o : Option Seat). Above o h.epoch h.number) (own_seat (taken n h r) seats) above) (up_to_same h.epoch h.number h.epoch h.number refl refl)
 
-pub run_backed : (s : Script) (c : Cell) (past : List Entry) (n : ℕ) (h : Head) (user : List ℕ) (call : FsCall) (x : Carried) (e : Entry) (ps : List Promise) → (H : Holds s c past) → c.down ≡ None → Now c H.floors past n h user call → (OfReply ⊥ x → ⊥) → all_lines is_up e.lines ≡ true → all_lines is_oweless e.lines ≡ true → all_lines is_unchanging e.lines ≡ true → AllOf (IsGranted (lines_of (e ∷ past))) ps → Promised None ps c.clock (lines_of (e ∷ past))
-    → BackedIn None (record (expired c.clock c.backs) { promises = ps; held = c.backs.held ++ record { reply = replied c.server.boot (client_head n h) x; waits = [] } ∷ [] }) c.server.boot (seats_after c n h (replied c.server.boot (client_head n h) x)) (seats_of c) c.clock c.sent (e ∷ past)
-run_backed s c past n h user call x e ps H up w is a b d granted promised =
-    let r : Message = replied c.server.boot (client_head n h) x in
+pub run_backed : (s : Script) (c : Cell) (past : List Entry) (n : ℕ) (h : Head) (user : List ℕ) (call : FsCall) (x : Carried) (e : Entry) (ps : List Promise) → (H : Holds s c past) → c.down ≡ None → Now s c H.floors past n h user call → (OfReply ⊥ x → ⊥) → all_lines is_up e.lines ≡ true → all_lines is_oweless e.lines ≡ true → all_lines is_unchanging e.lines ≡ true → AllOf (IsGranted (lines_of (e ∷ past))) ps → AllOf (λ (p : Promise). IsClient p.client) ps → Promised None ps c.clock (lines_at the_server (e ∷ past))
+    → BackedIn None (record (expired c.clock c.server.backs) { lists = record (expired c.clock c.server.backs).lists { promises = ps }; held = c.server.backs.held ++ record { reply = replied c.server.lasting.boot (client_head n h) x; waits = []; again = false } ∷ [] }) c.server.lasting.boot (seats_after c n h (replied c.server.lasting.boot (client_head n h) x)) (seats_of c) c.clock c.sent (e ∷ past)
+run_backed s c past n h user call x e ps H up w is a b d granted clients promised =
+    let r : Message = replied c.server.lasting.boot (client_head n h) x in
     let k : Key = called_key (client_head n h) in
     let B = up_backed s c past H up in
-    run_loaded (expired c.clock c.backs) ps c.server.boot c.server.seats (seats_after c n h r) (seats_of c) c.clock c.sent e past (record { reply = r; waits = [] }) B a b d granted promised (λ m y z. above_before c.server.seats n h r m y z w.above)
-    (record { client = n; to = refl; from = refl; is_reply = is; under = taken_not c.server.seats n h r }) (λ y. key_held (expired c.clock c.backs) c.server.boot c.server.seats (seats_of c) c.clock c.sent past k B w.above y)
+    run_loaded (expired c.clock c.server.backs) ps c.server.lasting.boot c.server.seats (seats_after c n h r) (seats_of c) c.clock c.sent e past (record { reply = r; waits = []; again = false }) B a b d granted clients promised (λ m y z. above_before c.server.seats n h r m y z w.above)
+    (record { client = n; to = refl; from = refl; is_reply = is; under = taken_not c.server.seats n h r }) (own_waited (expired c.clock c.server.backs) c.server.lasting.boot c.server.seats (seats_of c) c.clock c.sent e past (record { reply = r; waits = []; again = false }) B b (λ y. key_held (expired c.clock c.server.backs) c.server.lasting.boot c.server.seats (seats_of c) c.clock c.sent past k B w.above y))
     (λ y. absurd (no_change k (lines_of past) (H.new k w.above_durable) (change_back k e.lines (lines_of past) d y)))
 
-pub refuses_goes : (s : Script) (c : Cell) (past : List Entry) (armed : Armed) (p n : ℕ) (h : Head) (user : List ℕ) (call : FsCall) (code : ℤ) → (H : Holds s c past) → c.down ≡ None → message_at c.sent p ≡ Some (call_at n h user call) → Now c H.floors past n h user call → is_zero_code (record { 0 = code }) ≡ false
-    → IsResult code (answer_at user call past) (called_key (client_head n h)) (lines.Given p ∷ lines_of past) → Goes s past (server_does c armed p (call_at n h user call) (refuses (client_head n h) code))
+pub refuses_goes : (s : Script) (c : Cell) (past : List Entry) (armed : Armed) (p n : ℕ) (h : Head) (user : List ℕ) (call : FsCall) (code : ℤ) → (H : Holds s c past) → c.down ≡ None → message_at c.sent p ≡ Some (call_at n h user call) → Now s c H.floors past n h user call → is_zero_code (record { 0 = code }) ≡ false
+    → IsResult code (answer_at user call past) (called_key (client_head n h)) (lines.Given p ∷ []) (lines.Given p ∷ lines_of past) → Goes s past (server_does c armed p (call_at n h user call) (refuses (client_head n h) code))
 refuses_goes s c past armed p n h user call code H up at w nz result =
     let x : Carried = carried.Refusal (record { 0 = code }) in
-    let r : Message = replied c.server.boot (client_head n h) x in
-    let t : Turn = turn_for the_server c.server c.clock (expired c.clock c.backs) (refuses (client_head n h) code) in
-    let ms : List Message = (pumped the_server c.server.boot t).sent in
+    let r : Message = replied c.server.lasting.boot (client_head n h) x in
+    let t : Turn = turn_for the_server c.server c.clock (expired c.clock c.server.backs) (refuses (client_head n h) code) in
+    let ms : List Message = (pumped the_server c.server.lasting.boot t).sent in
     let e : Entry = record { actor = actors.Node the_server; lines = lines.Given p ∷ []; sent = ms; volumes = [] } in
-    let pump : Pumps c.server.boot (seats_after c n h r) (seats_of c) c.clock c.sent (e ∷ past) t = pumps c.server.boot (seats_after c n h r) (seats_of c) c.clock c.sent e past t refl H.clock (run_backed s c past n h user call x e (expired c.clock c.backs).promises H up w (λ y. y) refl refl refl (granted_over e past (expired c.clock c.backs).promises refl ((up_backed s c past H up).granted refl)) (promised_over None (expired c.clock c.backs).promises c.clock c.clock e past refl (le_refl _) (up_backed s c past H up).promised)) (record { good = tt; calls = tt; dones = tt }) in
+    let pump : Pumps c.server.lasting.boot (seats_after c n h r) (seats_of c) c.clock c.sent (e ∷ past) t = pumps c.server.lasting.boot (seats_after c n h r) (seats_of c) c.clock c.sent e past t refl H.clock (run_backed s c past n h user call x e (expired c.clock c.server.backs).lists.promises H up w (λ y. y) refl refl refl (granted_over e past (expired c.clock c.server.backs).lists.promises refl ((up_backed s c past H up).granted refl)) ((up_backed s c past H up).clients refl).promised (promised_over None (expired c.clock c.server.backs).lists.promises c.clock c.clock e past refl (le_refl _) (up_backed s c past H up).promised)) (record { good = tt; calls = tt; dones = tt }) in
     record {
       good = (tt, tt);
-      holds = serves false s (Some c.server.boot) c past n h user call x e (stock c.server) (pumped the_server c.server.boot t).backs None armed H w
+      holds = serves false s (Some c.server.lasting.boot) c past n h user call x e (stock c.server) (pumped the_server c.server.lasting.boot t).backs None armed H w
           (serves_still s c past n h user call x e H w (λ j f. told_file j p f (actors.Node the_server) ms past) (λ j f. told_reach j p f (actors.Node the_server) ms past) (λ j. told_act j p (actors.Node the_server) ms past) (λ f. refl) H.ideal H.home H.new H.clock H.top H.one (λ y. y)
           (record {
-            fits = refusal_fits (c.clients n).spoiled n call (spot_at (call_seat (Client n) c.server.durable) h.epoch h.number) c.server.boot r (record { 0 = code }) (e ∷ past) nz (not_stored (call_seat (Client n) c.server.durable) h.epoch h.number w.above_durable);
+            fits = refusal_fits (c.clients n).spoiled n call (spot_at (call_seat (Client n) c.server.lasting.kept) h.epoch h.number) c.server.lasting.boot r (record { 0 = code }) (e ∷ past) nz (not_stored (call_seat (Client n) c.server.lasting.kept) h.epoch h.number w.above_durable);
             code = code;
             cause = cause_now c n h user call x code (e ∷ past) (has_run s c past p n h user call e H up at w refl refl) w.origin.own_user tt refl result;
           }))
-          (H.boots ∙ ap (λ (d : Option Fall). up_boot d c.server.boot) up) (unheard_after s c past p n h user call r e H up at w refl) tt (λ own held. pumped_news (views_after false H.floors c n h r) c.server.boot (e ∷ past) c.server.boot t (no_news _ _ _) (own, tt) held) (λ z. pump.backed);
+          (H.boots ∙ ap (λ (d : Option Fall). up_boot d c.server.lasting.boot) up) (unheard_after s c past p n h user call r e H up at w refl) tt (λ own held. pumped_news (views_after false H.floors c n h r) c.server.lasting.boot (e ∷ past) c.server.lasting.boot t pump.clients (no_news _ _ _) (own, tt) held) (λ z. pump.backed);
       replies = pump.good;
       volumes = refl;
     }
@@ -652,7 +680,7 @@ told_kind n a_file x h = refl
 told_kind n a_directory x h = ap (λ (r : std_result.Result (List Name) ℕ). bodies.Dir (names_told r)) (spelled_is_read x.names h.names h.fit)
 told_kind n a_link x h = refl
 
-pub found_last : (s : Script) (c : Cell) (past : List Entry) (f : Fid) (v : Volume) (x : Vnode) → Holds s c past → get f.volume c.server.volumes ≡ Some v → vnode_of f v ≡ Some x → last_version f (lines_of past) ≡ Some (version_at f.volume f.vnode x)
+pub found_last : (s : Script) (c : Cell) (past : List Entry) (f : Fid) (v : Volume) (x : Vnode) → Holds s c past → volume_in f.volume c.server.lasting.volumes ≡ Some v → vnode_of f v ≡ Some x → last_version f (lines_of past) ≡ Some (version_at f.volume f.vnode x)
 found_last s c past f v x H at found =
     let h : Sound f.volume v (lines_of past) = subst (λ (o : Option Volume). SoundIn f.volume o (lines_of past)) at (H.sound f.volume) in
     live_index _ _ (h.agree f.vnode f.unique ∙ ap (option_map (version_at f.volume f.vnode)) found)
@@ -685,88 +713,231 @@ granted_good s past own c x (f ∷ fs) = (refl, granted_good s past (lines.Grant
 pub version_fid : (f : Fid) (v : Volume) (x : Vnode) → vnode_of f v ≡ Some x → (version_at f.volume f.vnode x).fid ≡ f
 version_fid f v x e = ap (λ (u : ℕ). fid_at f.volume f.vnode u) (own_unique f.unique (get f.vnode v.vnodes) x e)
 
--- the reply of a reading call fits it
-pub shown_fits : (sp : Bool) (n : ℕ) (call : FsCall) (v : Spot) (m : Message) (past : List Entry) (times : Fid → ℕ) (expiry : ℕ) (r : Reading) (shown : Shown) → IsShown call r.volume shown
-    → ((f : Found) → shown ≡ shows_body f → IsFetched sp n f.fid f.vnode.index (body_told (type_of f.vnode.kind) (bytes_by f.vnode.kind f.vnode)) expiry m past)
-    → FitsReply sp n call v m past (read_reply_of times expiry (record r { shown = shown }))
-shown_fits sp n (calls.FetchData g p w) v m past times expiry r (shows_body f) is h = subst (λ (z : Fid). IsFetched sp n z f.vnode.index (body_told (type_of f.vnode.kind) (bytes_by f.vnode.kind f.vnode)) expiry m past) (sym is.0) (h f refl)
-shown_fits sp n (calls.FetchAcl g) v m past times expiry r (shows_acl f) is h = λ id z. absurd cc
-shown_fits sp n (calls.FetchStatus g) v m past times expiry r (shows_status f) is h = λ id z. absurd cc
-shown_fits sp n (calls.GetVolumeStatus k) v m past times expiry r shows_volume is h = λ id z. absurd cc
-shown_fits sp n call v m past times expiry r shown is h = absurd is
+-- a vnode, as it was found in the server's volumes
+pub record IsSeen (c : Cell) (f : Fid) (st : Stored) (x : Found) : Type 0 where
+  pub fid : f ≡ x.fid
+  pub at : get x.fid.volume c.server.lasting.volumes ≡ Some st
+  pub found : vnode_of x.fid st.volume ≡ Some x.vnode
 
-pub fid_in : (call : FsCall) (id : ℕ) (v : Volume) (shown : Shown) (f : Found) → volume_called call ≡ Some id → IsShown call v shown → shown ≡ shows_body f → (f.fid.volume ≡ id) × (vnode_of f.fid v ≡ Some f.vnode)
-fid_in (calls.FetchData g p w) id v (shows_body k) f of is e =
-    let same : k ≡ f = body_same k f e in
-    subst (λ (z : Found). (z.fid.volume ≡ id) × (vnode_of z.fid v ≡ Some z.vnode)) same (ap (λ (z : Fid). z.volume) (sym is.0) ∙ some_of g.volume id of, subst (λ (z : Fid). vnode_of z v ≡ Some k.vnode) is.0 is.1)
-fid_in (calls.FetchAcl g) id v (shows_acl k) f of is e = absurd cc
-fid_in (calls.FetchStatus g) id v (shows_status k) f of is e = absurd cc
-fid_in (calls.GetVolumeStatus k) id v shows_volume f of is e = absurd cc
-fid_in call id v shown f of is e = absurd is
+-- what is read of one
+pub record IsLook (c : Cell) (f : Fid) (show : Found → Shown) (r : Reading) : Type 0 where
+  pub stored : Stored
+  pub found : Found
+  pub seen : IsSeen c f stored found
+  pub caller : Caller
+  pub is : r ≡ reading_in f.volume caller stored (show found)
 
--- the fid is granted among those that are
-pub record GrantAt (c : Node) (f : Fid) (x : ℕ) (p : ℕ) (fs : List Found) : Type 0 where
+pub record IsTime (r : Reading) : Type 0 where
+  pub time : ℕ
+  pub is : r ≡ time_read time
+
+pub record IsOfVolume (id : ℕ) (r : Reading) : Type 0 where
+  pub stored : Stored
+  pub caller : Caller
+  pub is : r ≡ reading_in id caller stored shows_volume
+
+abbrev pub AllSeen : Cell → List Fid → List Sight → Type 0
+AllSeen c [] [] = ⊤
+AllSeen c (f ∷ fs) (x ∷ xs) = IsSeen c f x.stored x.found × AllSeen c fs xs
+AllSeen c fs xs = ⊥
+
+pub record AreLooked (c : Cell) (fs : List Fid) (r : Reading) : Type 0 where
+  pub sights : List Sight
+  pub seen : AllSeen c fs sights
+  pub caller : Caller
+  pub is : r ≡ statuses_read caller sights
+
+-- what a reading call is told is what it asks for
+abbrev pub IsRead : Cell → FsCall → Reading → Type 0
+IsRead c (calls.FetchData f position wanted) r = IsLook c f shows_body r
+IsRead c (calls.FetchAcl f) r = IsLook c f shows_acl r
+IsRead c (calls.FetchStatus f) r = IsLook c f shows_status r
+IsRead c (calls.GetVolumeStatus id) r = IsOfVolume id r
+IsRead c (calls.GiveUpCallBacks fids callbacks) r = r ≡ given_up_read fids
+IsRead c calls.GetTime r = IsTime r
+IsRead c (calls.BulkStatus fids) r = AreLooked c fids r
+IsRead c call r = ⊥
+
+-- it is promised
+abbrev pub IsAmong : Found → List Found → Type 0
+IsAmong f [] = ⊥
+IsAmong f (x ∷ xs) = (x ≡ f) ⊎ IsAmong f xs
+
+-- the reply of a reading call fits it, where each vnode that it promises is fetched
+pub read_fits : (sp : Bool) (n : ℕ) (call : FsCall) (v : Spot) (m : Message) (c : Cell) (past : List Entry) (expiry : ℕ) (r : Reading) → IsRead c call r
+    → ((st : Stored) (f : Found) → get f.fid.volume c.server.lasting.volumes ≡ Some st → vnode_of f.fid st.volume ≡ Some f.vnode → IsAmong f r.granted → (b : Option Body) → IsBody b (body_told (type_of f.vnode.kind) (bytes_by f.vnode.kind f.vnode)) → IsFetched sp n f.fid f.vnode.index (shown_status f.vnode) b expiry m past)
+    → FitsReply sp n call v m past (promised_in expiry r.reply)
+read_fits sp n (calls.FetchData g p w) v m c past expiry r x h =
+    let b : Option Body = Some (body_told (type_of x.found.vnode.kind) (bytes_by x.found.vnode.kind x.found.vnode)) in
+    subst (λ (y : Reading). FitsReply sp n (calls.FetchData g p w) v m past (promised_in expiry y.reply)) (sym x.is)
+    (subst (λ (z : Fid). IsFetched sp n z x.found.vnode.index (shown_status x.found.vnode) b expiry m past) (sym x.seen.fid) (h x.stored x.found x.seen.at x.seen.found (subst (λ (y : Reading). IsAmong x.found y.granted) (sym x.is) (inl refl)) b refl))
+read_fits sp n (calls.FetchAcl g) v m c past expiry r x h = subst (λ (y : Reading). FitsReply sp n (calls.FetchAcl g) v m past (promised_in expiry y.reply)) (sym x.is) (λ id z. absurd cc)
+read_fits sp n (calls.FetchStatus g) v m c past expiry r x h =
+    subst (λ (y : Reading). FitsReply sp n (calls.FetchStatus g) v m past (promised_in expiry y.reply)) (sym x.is)
+    (subst (λ (z : Fid). IsFetched sp n z x.found.vnode.index (shown_status x.found.vnode) None expiry m past) (sym x.seen.fid) (h x.stored x.found x.seen.at x.seen.found (subst (λ (y : Reading). IsAmong x.found y.granted) (sym x.is) (inl refl)) None tt))
+read_fits sp n (calls.GetVolumeStatus k) v m c past expiry r x h = subst (λ (y : Reading). FitsReply sp n (calls.GetVolumeStatus k) v m past (promised_in expiry y.reply)) (sym x.is) (λ id z. absurd cc)
+read_fits sp n (calls.GiveUpCallBacks fids callbacks) v m c past expiry r x h = subst (λ (y : Reading). FitsReply sp n (calls.GiveUpCallBacks fids callbacks) v m past (promised_in expiry y.reply)) (sym x) (λ id z. absurd cc)
+read_fits sp n calls.GetTime v m c past expiry r x h = subst (λ (y : Reading). FitsReply sp n calls.GetTime v m past (promised_in expiry y.reply)) (sym x.is) (λ id z. absurd cc)
+read_fits sp n (calls.BulkStatus fids) v m c past expiry r x h = subst (λ (y : Reading). FitsReply sp n (calls.BulkStatus fids) v m past (promised_in expiry y.reply)) (sym x.is) (λ id z. absurd cc)
+read_fits sp n call v m c past expiry r x h = absurd x
+
+-- the answer of a call that one volume serves
+pub answer_in : (user : List ℕ) (call : FsCall) (past : List Entry) (id : ℕ) → volume_called call ≡ Some id → answer_at user call past ≡ answer_on user call (Some id) past
+answer_in user (calls.GiveUpCallBacks fids callbacks) past id of = absurd cc
+answer_in user calls.GetTime past id of = absurd cc
+answer_in user (calls.BulkStatus fids) past id of = absurd cc
+answer_in user call past id of = ap (λ (o : Option ℕ). answer_on user call o past) of
+
+-- the fids of which promises end are those that the call gives up
+pub gives_up_as : (c : Cell) (call : FsCall) (r : Reading) → IsRead c call r → r.given_up ≡ fids_given_up call
+gives_up_as c (calls.FetchData g p w) r x = ap (λ (y : Reading). y.given_up) x.is
+gives_up_as c (calls.FetchAcl g) r x = ap (λ (y : Reading). y.given_up) x.is
+gives_up_as c (calls.FetchStatus g) r x = ap (λ (y : Reading). y.given_up) x.is
+gives_up_as c (calls.GetVolumeStatus k) r x = ap (λ (y : Reading). y.given_up) x.is
+gives_up_as c (calls.GiveUpCallBacks fids callbacks) r x = ap (λ (y : Reading). y.given_up) x
+gives_up_as c calls.GetTime r x = ap (λ (y : Reading). y.given_up) x.is
+gives_up_as c (calls.BulkStatus fids) r x = ap (λ (y : Reading). y.given_up) x.is
+gives_up_as c call r x = absurd x
+
+-- the grant's line among those of an entry: the lines behind it, and those before
+pub record GrantAt (c : Node) (f : Fid) (x : ℕ) (front : List Line) (fs : List Found) : Type 0 where
   pub index : ℕ
-  pub before : List Line
-  pub after : List Line
-  pub line : lines.Given p ∷ granted the_server c x fs [] ≡ before ++ lines.Grant the_server c f index x ∷ after
+  pub before : List Found
+  pub after : List Found
+  pub line : front ++ granted the_server c x fs [] ≡ (front ++ granted the_server c x before []) ++ lines.Grant the_server c f index x ∷ granted the_server c x after []
 
-abbrev pub grant_at : (c : Node) (x p : ℕ) (shown : Shown) (f : Found) → shown ≡ shows_body f → GrantAt c f.fid x p (granted_by shown)
-grant_at c x p shown f e = record {
+pub grant_among : (c : Node) (x : ℕ) (front : List Line) (f : Found) (fs : List Found) → IsAmong f fs → GrantAt c f.fid x front fs
+grant_among c x front f [] h = absurd h
+grant_among c x front f (g ∷ fs) (inl e) = record {
   index = f.vnode.index;
-  before = lines.Given p ∷ [];
-  after = [];
-  line = ap (λ (z : Shown). lines.Given p ∷ granted the_server c x (granted_by z) []) e;
+  before = [];
+  after = fs;
+  line = ap (λ (z : Found). front ++ lines.Grant the_server c z.fid z.vnode.index x ∷ granted the_server c x fs []) e ∙ ap (λ (ls : List Line). ls ++ lines.Grant the_server c f.fid f.vnode.index x ∷ granted the_server c x fs []) (sym (append-nil front));
 }
+grant_among c x front f (g ∷ fs) (inr h) =
+    let k : GrantAt c f.fid x front fs = grant_among c x front f fs h in
+    let l : Line = lines.Grant the_server c g.fid g.vnode.index x in
+    let y = grant_among c x (front ++ l ∷ []) f fs h in
+    record {
+      index = y.index;
+      before = g ∷ y.before;
+      after = y.after;
+      line = sym (append_assoc front (l ∷ []) (granted the_server c x fs [])) ∙ (y.line ∙ ap (λ (ls : List Line). ls ++ lines.Grant the_server c f.fid y.index x ∷ granted the_server c x y.after []) (append_assoc front (l ∷ []) (granted the_server c x y.before [])));
+    }
 
-pub shows_goes : (s : Script) (c : Cell) (past : List Entry) (armed : Armed) (p n : ℕ) (h : Head) (user : List ℕ) (call : FsCall) (r : Reading) → (H : Holds s c past) → c.down ≡ None → message_at c.sent p ≡ Some (call_at n h user call) → Now c H.floors past n h user call
-    → volume_called call ≡ Some r.id → get r.id c.server.volumes ≡ Some r.volume → IsShown call r.volume r.shown → answer_at user call past ≡ Some (reads r.shown) → Goes s past (server_does c armed p (call_at n h user call) (shows (client_head n h) r))
-shows_goes s c past armed p n h user call r H up at w of there is result =
+-- behind grants nothing is dropped
+grants_keep : (s c d : Node) (f : Fid) (x : ℕ) (fs : List Found) (o : List Line) → IsDropped s c f (onto o (granted the_server d x fs [])) → IsDropped s c f o
+grants_keep s c d f x [] o h = h
+grants_keep s c d f x (g ∷ fs) o h = grants_keep s c d f x fs (lines.Grant the_server d g.fid g.vnode.index x ∷ o) h
+
+grants_boot : (d : Node) (x : ℕ) (fs : List Found) (o : List Line) → server_boot the_server (onto o (granted the_server d x fs [])) ≡ server_boot the_server o
+grants_boot d x [] o = refl
+grants_boot d x (g ∷ fs) o = grants_boot d x fs (lines.Grant the_server d g.fid g.vnode.index x ∷ o)
+
+onto_parts : (o a b : List Line) → onto o (a ++ b) ≡ onto (onto o a) b
+onto_parts o [] b = refl
+onto_parts o (l ∷ a) b = onto_parts (l ∷ o) a b
+
+-- further lines stand before older ones
+onto_front : (o a : List Line) → onto o a ≡ onto [] a ++ o
+onto_front o [] = refl
+onto_front o (l ∷ a) = onto_front (l ∷ o) a ∙ (sym (append_assoc (onto [] a) (l ∷ []) o) ∙ ap (λ (ls : List Line). ls ++ o) (sym (onto_front (l ∷ []) a)))
+
+-- the reply goes out in the step itself
+answers_by : (b : Bool) (k : Key) (ms ns : List Message) → cond b true (has_answer k ms) ≡ true → (has_answer k ms ≡ true → has_answer k (ms ++ ns) ≡ true) → cond b true (has_answer k (ms ++ ns)) ≡ true
+answers_by true k ms ns h w = refl
+answers_by false k ms ns h w = w h
+
+-- what the operation changes none of was told
+told_still : (k : Key) (o : Option Result) (ls : List Line) → IsTold k o [] → IsTold k o ls
+told_still k (Some (changes es n)) ls h = absurd h
+told_still k o ls h = tt
+
+more_answers : (k : Key) (ms ns : List Message) → has_answer k ms ≡ true → has_answer k (ms ++ ns) ≡ true
+more_answers k [] ns h = absurd cc
+more_answers k (m ∷ ms) ns h = answers_by (same_key (answered_key m.head) k && is_told m.carried) k ms ns h (more_answers k ms ns)
+
+by_answer : (boot : ℕ) (k : Key) (t : Started) (o : Owed) (x : Option BackCall) → has_answer k t.sent ≡ true → has_answer k (starts_by the_server boot t o x).sent ≡ true
+by_answer boot k t o None h = more_answers k t.sent _ h
+by_answer boot k t o (Some c) h = h
+
+first_answer : (boot : ℕ) (os : List Owed) (k : Key) (t : Started) → has_answer k t.sent ≡ true → has_answer k (starts the_server boot os t).sent ≡ true
+first_answer boot [] k t h = h
+first_answer boot (o ∷ os) k t h = first_answer boot os k _ (by_answer boot k t o (t.backs.calls o.client) h)
+
+-- what a vnode of the ideal volume shows, it has
+pub told_there : (f : Fid) (index : ℕ) (body : ReadBody) (o : Option Volume) (v : Volume) (x : Vnode) → Some v ≡ o → vnode_of f v ≡ Some x → Tells index body x → TellsOf f index body o
+told_there f index body o v x at found h = subst (TellsOf f index body) at (subst (TellsIn index body) (sym found) h)
+
+shows_by : (s : Script) (c : Cell) (past : List Entry) (armed : Armed) (p n : ℕ) (h : Head) (user : List ℕ) (call : FsCall) (r : Reading) → (H : Holds s c past) → c.down ≡ None → message_at c.sent p ≡ Some (call_at n h user call) → Now s c H.floors past n h user call
+    → IsRead c call r → code_given (answer_at user call past) ≡ pos 0 → IsTold (called_key (client_head n h)) (answer_at user call past) [] → Goes s past (server_moves c armed (done the_server c.server c.clock p (shows (client_head n h) r) (shows_turn the_server c.server c.clock (expired c.clock c.server.backs) (client_head n h) r)))
+shows_by s c past armed p n h user call r H up at w is code done =
     let t : ℕ = c.clock + promise_ticks in
-    let fs : List Found = granted_by r.shown in
-    let z : Carried = carried.Reply (tell.File (read_reply_of c.server.times t r)) in
-    let m : Message = replied c.server.boot (client_head n h) z in
-    let turn : Turn = turn_for the_server c.server c.clock (expired c.clock c.backs) (shows (client_head n h) r) in
-    let ms : List Message = (pumped the_server c.server.boot turn).sent in
+    let fs : List Found = r.granted in
+    let z : Carried = carried.Reply (tell.File (promised_in t r.reply)) in
+    let m : Message = replied c.server.lasting.boot (client_head n h) z in
+    let turn : Turn = shows_turn the_server c.server c.clock (expired c.clock c.server.backs) (client_head n h) r in
+    let ms : List Message = (pumped the_server c.server.lasting.boot turn).sent in
     let ls : List Line = granted the_server (Client n) t fs [] in
     let e : Entry = told_entry p ls ms in
     let k : Skips ls = skips ls (granted_notes (Client n) t fs [] tt) in
     let rest : Rests s e past = told_rests s p ls ms past k in
     let run : HasRun c n h user call (e ∷ past) = has_run s c past p n h user call e H up at w refl refl in
     let B = up_backed s c past H up in
-    let boots : server_boot the_server (lines_of (e ∷ past)) ≡ Some c.server.boot = k.boot (lines.Given p ∷ lines_of past) ∙ up_boots s c past H up in
-    let pump : Pumps c.server.boot (seats_after c n h m) (seats_of c) c.clock c.sent (e ∷ past) turn = pumps c.server.boot (seats_after c n h m) (seats_of c) c.clock c.sent e past turn refl (k.clock (lines.Given p ∷ lines_of past) ∙ H.clock)
-    (run_backed s c past n h user call z e turn.backs.promises H up w (λ y. y) (granted_all is_up (Client n) t fs (λ f i. refl)) (granted_all is_oweless (Client n) t fs (λ f i. refl)) (granted_all is_unchanging (Client n) t fs (λ f i. refl))
-    (all_granted n t fs (lines.Given p ∷ lines_of past) (expired c.clock c.backs).promises (B.granted refl)) (all_promised n t c.clock fs (lines.Given p ∷ lines_of past) (expired c.clock c.backs).promises B.promised)) (record { good = tt; calls = tt; dones = tt }) in
+    let ps : List Promise = (expired c.clock c.server.backs).lists.promises in
+    let boots : server_boot the_server (lines_of (e ∷ past)) ≡ Some c.server.lasting.boot = k.boot (lines.Given p ∷ lines_of past) ∙ up_boots s c past H up in
+    let gave : given_up_in the_server ms (given_message e.lines (sent_of past)) ≡ drops_of (Client n) r.given_up =
+    ap (given_up_in the_server ms) (at_told s c past p _ H at) ∙ (ap (λ (b : Bool). given_up_by the_server b (client_head n h) (carried.Call user (ask.File call))) (first_answer c.server.lasting.boot turn.backs.lists.owed (called_key (client_head n h)) (record { backs = held_after turn; sent = given_out turn }) (rw (same_node-refl (Client n), eq-eqb h.epoch h.epoch refl, eq-eqb h.number h.number refl) refl))
+    ∙ ap (λ (gs : List Fid). drops_of (Client n) gs) (sym (gives_up_as c call r is))) in
+    let given : Promised None (without_promises (Client n) r.given_up ps) c.clock (before_own e past) = subst (λ (ds : List Line). Promised None (without_promises (Client n) r.given_up ps) c.clock (onto (lines_at the_server past) ds)) (sym gave) (gone_promised (Client n) c.clock r.given_up (lines_at the_server past) ps B.promised) in
+    let pump : Pumps c.server.lasting.boot (seats_after c n h m) (seats_of c) c.clock c.sent (e ∷ past) turn = pumps c.server.lasting.boot (seats_after c n h m) (seats_of c) c.clock c.sent e past turn refl (k.clock (lines.Given p ∷ lines_of past) ∙ H.clock)
+    (run_backed s c past n h user call z e turn.backs.lists.promises H up w (λ y. y) (granted_all is_up (Client n) t fs (λ f i. refl)) (granted_all is_oweless (Client n) t fs (λ f i. refl)) (granted_all is_unchanging (Client n) t fs (λ f i. refl))
+    (all_granted (Client n) t fs (lines.Given p ∷ lines_of past) (without_promises (Client n) r.given_up ps) (gone_granted (Client n) r.given_up (lines_of past) ps (B.granted refl)))
+    (granted_to_client t n fs (without_promises (Client n) r.given_up ps) (gone_to_clients (Client n) r.given_up ps (B.clients refl).promised))
+    (all_promised (Client n) t c.clock fs (lines.Given p ∷ before_own e past) (without_promises (Client n) r.given_up ps) given)) (record { good = tt; calls = tt; dones = tt }) in
     record {
       good = (tt, granted_good s past (lines.Given p ∷ []) (Client n) t fs);
-      holds = serves false s (Some c.server.boot) c past n h user call z e (stock c.server) (pumped the_server c.server.boot turn).backs None armed H w
+      holds = serves false s (Some c.server.lasting.boot) c past n h user call z e (stock c.server) (pumped the_server c.server.lasting.boot turn).backs None armed H w
           (serves_still s c past n h user call z e H w rest.file rest.reach rest.act (λ g. rest.last g (lines_of past)) (λ id. H.ideal id ∙ sym (rest.ideal id)) (λ id v found. rest.home id (lines_of past) (H.home id v found)) (λ key above. rest.new key (lines_of past) (H.new key above)) (k.clock (lines.Given p ∷ lines_of past) ∙ H.clock)
           (λ f i b x. subst (λ (o : Option Version). i ≤ index_in o) (sym (rest.last f (lines_of past))) (H.top f i b (rest.back f i b (lines_of past) x))) (λ f i a b x y. H.one f i a b (rest.back f i a (lines_of past) x) (rest.back f i b (lines_of past) y)) (λ y. y)
           (record {
-            fits = shown_fits (c.clients n).spoiled n call _ m (e ∷ past) c.server.times t r r.shown is (λ f yes.
-                let q = fid_in call r.id r.volume r.shown f of is yes in
-                let here : get f.fid.volume c.server.volumes ≡ Some r.volume = ap (λ (i : ℕ). get i c.server.volumes) q.0 ∙ there in
-                let last : last_version f.fid (lines_of past) ≡ Some (version_at f.fid.volume f.fid.vnode f.vnode) = found_last s c past f.fid r.volume f.vnode H here q.1 in
-                let back : body_told (type_of f.vnode.kind) (bytes_by f.vnode.kind f.vnode) ≡ body_of f.vnode = told_kind f.fid.vnode f.vnode.kind f.vnode ((H.fine f.fid.volume r.volume here).readable f.fid.vnode f.vnode (own_found f.fid.unique (get f.fid.vnode r.volume.vnodes) f.vnode q.1)) in
-                let g = grant_at (Client n) t p r.shown f yes in
+            fits = read_fits (c.clients n).spoiled n call _ m c (e ∷ past) t r is (λ st f there found yes b body.
+                let v : Volume = st.volume in
+                let here : volume_in f.fid.volume c.server.lasting.volumes ≡ Some v = ap (option_map (λ (x : Stored). x.volume)) there in
+                let last : last_version f.fid (lines_of past) ≡ Some (version_at f.fid.volume f.fid.vnode f.vnode) = found_last s c past f.fid v f.vnode H here found in
+                let back : body_told (type_of f.vnode.kind) (bytes_by f.vnode.kind f.vnode) ≡ body_of f.vnode = told_kind f.fid.vnode f.vnode.kind f.vnode ((H.fine f.fid.volume v here).readable f.fid.vnode f.vnode (own_found f.fid.unique (get f.fid.vnode v.vnodes) f.vnode found)) in
+                let g = grant_among (Client n) t (lines.Given p ∷ []) f fs yes in
+                let before : List Line = lines.Given p ∷ granted the_server (Client n) t g.before [] in
+                let after : List Line = granted the_server (Client n) t g.after [] in
+                let base : List Line = lines.Grant the_server (Client n) f.fid g.index t ∷ onto (lines_of past) before in
                 record {
                   held = record {
-                    grant = record { is_reply = (refl, tt); to = refl; ran = ran_now s c past p n h user call e H up at w refl refl; server = the_server; node = refl; index = g.index; before = g.before; after = g.after; line = g.line };
+                    grant = record { is_reply = (refl, tt); to = refl; ran = ran_now s c past p n h user call e H up at w refl refl; server = the_server; node = refl; index = g.index; before = before; after = after; line = g.line };
                     server = refl;
-                    kept = λ y d. d;
-                    whole = ((rest.file n f.fid).grant).version f.vnode.index (body_told (type_of f.vnode.kind) (bytes_by f.vnode.kind f.vnode)) (lines_of past) (subst (λ (b : Body). HasVersion f.fid f.vnode.index b (lines_of past)) (sym back) (last_has f.fid (lines_of past) (version_at f.fid.volume f.fid.vnode f.vnode) last));
-                    base = lines_of (e ∷ past);
-                    split = refl;
-                    begun = boots;
+                    kept = λ y d. grants_keep the_server (Client n) (Client n) f.fid t g.after [] d;
+                    whole = record {
+                      is = body_told (type_of f.vnode.kind) (bytes_by f.vnode.kind f.vnode);
+                      told = ((rest.file n f.fid).grant).version f.vnode.index (body_told (type_of f.vnode.kind) (bytes_by f.vnode.kind f.vnode)) (lines_of past) (subst (λ (b : Body). HasVersion f.fid f.vnode.index b (lines_of past)) (sym back) (last_has f.fid (lines_of past) (version_at f.fid.volume f.fid.vnode f.vnode) last));
+                      holds = body;
+                      been = inl (told_there f.fid f.vnode.index (seen.Status (shown_status f.vnode)) (volume_after f.fid.volume (e ∷ past)) v f.vnode (sym here ∙ (H.ideal f.fid.volume ∙ sym (rest.ideal f.fid.volume))) found (refl, refl));
+                    };
+                    base = base;
+                    split = ap (onto (lines_of past)) g.line ∙ (onto_parts (lines_of past) before (lines.Grant the_server (Client n) f.fid g.index t ∷ after) ∙ onto_front base after);
+                    begun = grants_boot (Client n) t g.before (lines.Given p ∷ lines_of past) ∙ up_boots s c past H up;
                   };
                   reached = (rest.reach n f.fid).seen f.vnode.index ((reached_at s c past n f.fid (version_at f.fid.volume f.fid.vnode f.vnode) H last).seen);
                   newest = inr (ap (option_map (λ (y : Version). y.index)) (rest.last f.fid (lines_of past) ∙ last));
                 });
             code = pos 0;
-            cause = cause_now c n h user call z (pos 0) (e ∷ past) run w.origin.own_user tt refl (inl (ap code_given result, subst (λ (y : Option Result). IsTold (called_key (client_head n h)) y (lines_of (e ∷ past))) (sym result) tt));
+            cause = cause_now c n h user call z (pos 0) (e ∷ past) run w.origin.own_user tt refl (inl (code, told_still (called_key (client_head n h)) (answer_at user call past) (lines_of (e ∷ past)) done));
           }))
-          boots (unheard_after s c past p n h user call m e H up at w refl) tt (λ own held. pumped_news (views_after false H.floors c n h m) c.server.boot (e ∷ past) c.server.boot turn (no_news _ _ _) (own, tt) held) (λ z. pump.backed);
+          boots (unheard_after s c past p n h user call m e H up at w refl) tt (λ own held. pumped_news (views_after false H.floors c n h m) c.server.lasting.boot (e ∷ past) c.server.lasting.boot turn pump.clients (no_news _ _ _) (own, tt) held) (λ z. pump.backed);
       replies = pump.good;
       volumes = refl;
     }
+
+pub shows_goes : (s : Script) (c : Cell) (past : List Entry) (armed : Armed) (p n : ℕ) (h : Head) (user : List ℕ) (call : FsCall) (r : Reading) → (H : Holds s c past) → c.down ≡ None → message_at c.sent p ≡ Some (call_at n h user call) → Now s c H.floors past n h user call
+    → IsRead c call r → code_given (answer_at user call past) ≡ pos 0 → IsTold (called_key (client_head n h)) (answer_at user call past) [] → Goes s past (server_does c armed p (call_at n h user call) (shows (client_head n h) r))
+shows_goes s c past armed p n h user call r H up at w is code told =
+    subst (λ (t : Turn). Goes s past (server_moves c armed (done the_server c.server c.clock p (shows (client_head n h) r) t))) (sym (shows_turn_is the_server c.server c.clock (expired c.clock c.server.backs) (client_head n h) r))
+    (shows_by s c past armed p n h user call r H up at w is code told)

@@ -10,16 +10,16 @@ use Rattle.afs_law.proofs.Backing.{all_lines, is_up, is_still, is_oweless, is_un
 use Rattle.afs_law.proofs.Basics.{same_fid-true, same_node-refl, client_number, raised_up_to}
 use Rattle.afs_law.proofs.Facts.{server_boot, InScope, Seen}
 use Rattle.afs_law.proofs.Passing.{PassesBoth, PassesFile, PassesReach, PassesGrant, PassesSeen}
-use Rattle.afs_law.specs.ClientRow.{the_server, find_cached, left_in, given_up_in, dropped, zero_code}
-use Rattle.afs_law.specs.Going.{Going}
+use Rattle.afs_rows.specs.ClientRow.{find_cached, left_in, given_up_in, dropped, zero_code}
+use Rattle.afs_rows.specs.Going.{Going}
 use Rattle.afs_law.specs.Grants.{has_fetched, IsWithdrawn, IsDropped}
 use Rattle.afs_law.specs.Ideal.{raised, last_version, HasVersion, Accepts, clock_of, Reach, reach_over, reach, is_zero_code, change_key, volume_after, changed_under, brought}
 use Rattle.afs_law.specs.Legal.{IsNew, AreGood, GoodCode}
-use Rattle.afs_law.specs.Lines.{Line}
+use Rattle.afs_history.specs.declared.lines.Line.{Line}
 use Rattle.afs_law.specs.Past.{onto, lines_of, sent_of, given_message, has_begun, running, IsCallUnder}
-use Rattle.afs_law.specs.Runs.{Entry, Cell, message_at}
-use Rattle.afs_law.specs.Scopes.{is_volume}
-use Rattle.afs_law.specs.States.{CacheEntry}
+use Rattle.afs_rows.specs.Runs.{the_server, Entry, Cell, message_at}
+use Rattle.afs_rows.specs.Scopes.{is_volume}
+use Rattle.afs_rows.specs.States.{CacheEntry}
 use Rattle.std.proofs.Math.Nat.{le_trans}
 use Rattle.std.proofs.Common.{le_of_eq}
 use Rattle.std.specs.Prelude.{◌&&◌}
@@ -34,7 +34,7 @@ use Rattle.afs_num.specs.declared.calls.FsCall.{FsCall}
 use Rattle.afs_num.specs.declared.calls.FsCall.TheVariants as calls
 use Rattle.afs_num.specs.declared.messages.Message.{Message}
 use Rattle.afs_num.specs.declared.scripts.Script.{Script}
-use Rattle.afs_law.specs.Lines as lines
+use Rattle.afs_history.specs.declared.lines.Line.TheVariants as lines
 use Rattle.afs_num.specs.declared.messages.Message.{Message}
 use Rattle.std.proofs.Common.{eqb-true}
 
@@ -74,7 +74,7 @@ pub record Skips (n : ℕ) (code : Code) (es : List CacheEntry) : Type 0 where
   pub last : (f : Fid) (o : List Line) → last_version f (onto o (dropped (Client n) es (last_line n code))) ≡ last_version f o
   pub withdrawn : (q c : Node) (f : Fid) (o : List Line) → IsWithdrawn q c f o → IsWithdrawn q c f (onto o (dropped (Client n) es (last_line n code)))
   pub kept : (q c : Node) (f : Fid) (o : List Line) → AreNone (Client n) c f es → IsDropped q c f (onto o (dropped (Client n) es (last_line n code))) → IsDropped q c f o
-  pub runs : (j : ℕ) (o : List Line) → (n ≡ j → ⊥) → running (Client j) (onto o (dropped (Client n) es (last_line n code))) ≡ running (Client j) o
+  pub runs : (s : Script) (j : ℕ) (o : List Line) → (n ≡ j → ⊥) → running s (Client j) (onto o (dropped (Client n) es (last_line n code))) ≡ running s (Client j) o
   pub new : (k : Key) (o : List Line) → IsNew k o → IsNew k (onto o (dropped (Client n) es (last_line n code)))
   pub clock : (o : List Line) → clock_of (onto o (dropped (Client n) es (last_line n code))) ≡ clock_of o
   pub home : (s : Script) (id : ℕ) (o : List Line) → Accepts s id the_server o → Accepts s id the_server (onto o (dropped (Client n) es (last_line n code)))
@@ -98,7 +98,7 @@ skips n code [] = record {
   last = λ f o. refl;
   withdrawn = λ q c f o x. x;
   kept = λ q c f o w x. x;
-  runs = λ j o ne. runs_by_other n j None (running (Client j) o) ne;
+  runs = λ s j o ne. runs_by_other n j None (running s (Client j) o) ne;
   new = λ k o x. x;
   clock = λ o. refl;
   home = λ s id o x. x;
@@ -123,7 +123,7 @@ skips n code (u ∷ es) =
       last = λ f o. ih.last f (lines.Drop (Client n) u.fid ∷ o);
       withdrawn = λ q c f o x. ih.withdrawn q c f (lines.Drop (Client n) u.fid ∷ o) x;
       kept = λ q c f o w x. elim (ih.kept q c f (lines.Drop (Client n) u.fid ∷ o) w.1 x) [ inl y ↦ absurd (w.0 y.0 y.1) | inr y ↦ y ];
-      runs = λ j o ne. ih.runs j (lines.Drop (Client n) u.fid ∷ o) ne;
+      runs = λ s j o ne. ih.runs s j (lines.Drop (Client n) u.fid ∷ o) ne;
       new = λ k o x. ih.new k (lines.Drop (Client n) u.fid ∷ o) x;
       clock = λ o. ih.clock (lines.Drop (Client n) u.fid ∷ o);
       home = λ s id o x. ih.home s id (lines.Drop (Client n) u.fid ∷ o) x;
@@ -214,7 +214,7 @@ pub drop_passes : (s : Script) (c : Cell) (past : List Entry) (n : ℕ) (front :
 drop_passes s c past n (timed e l) code es dull = record {
   file = λ j ne f. drop_file n j (timed e l) code es past f (none_of_other n j f es ne);
   reach = λ j ne f. drop_passed n j (timed e l) code es past f (other_no n j (is_zero_code code) ne);
-  act = λ j ne. record { runs = λ o. (skips n code es).runs j (front_line n (timed e l) ∷ o) ne; begins = (skips n code es).begins (Client j) };
+  act = λ j ne. record { runs = λ s o. (skips n code es).runs s j (front_line n (timed e l) ∷ o) ne; begins = (skips n code es).begins (Client j) };
   last = λ f o. (skips n code es).last f (front_line n (timed e l) ∷ o);
   back = λ f i b o x. (skips n code es).back f i b (front_line n (timed e l) ∷ o) x;
   new = λ key o x. (skips n code es).new key (front_line n (timed e l) ∷ o) x;
@@ -228,7 +228,7 @@ drop_passes s c past n (timed e l) code es dull = record {
 drop_passes s c past n (was_given p) code es dull = record {
   file = λ j ne f. drop_file n j (was_given p) code es past f (none_of_other n j f es ne);
   reach = λ j ne f. drop_passed n j (was_given p) code es past f (other_no n j (is_zero_code code) ne);
-  act = λ j ne. record { runs = λ o. (skips n code es).runs j (front_line n (was_given p) ∷ o) ne; begins = (skips n code es).begins (Client j) };
+  act = λ j ne. record { runs = λ s o. (skips n code es).runs s j (front_line n (was_given p) ∷ o) ne; begins = (skips n code es).begins (Client j) };
   last = λ f o. (skips n code es).last f (front_line n (was_given p) ∷ o);
   back = λ f i b o x. (skips n code es).back f i b (front_line n (was_given p) ∷ o) x;
   new = λ key o x. (skips n code es).new key (front_line n (was_given p) ∷ o) x;
@@ -240,9 +240,9 @@ drop_passes s c past n (was_given p) code es dull = record {
   dull = λ key boot x. dull key boot x;
 }
 
-pub ended_running : (n : ℕ) (code : Code) (es : List CacheEntry) (o : List Line) → running (Client n) (onto o (dropped (Client n) es (last_line n code))) ≡ None
-ended_running n code [] o = own_ended n (running (Client n) o)
-ended_running n code (u ∷ es) o = ended_running n code es (lines.Drop (Client n) u.fid ∷ o)
+pub ended_running : (s : Script) (n : ℕ) (code : Code) (es : List CacheEntry) (o : List Line) → running s (Client n) (onto o (dropped (Client n) es (last_line n code))) ≡ None
+ended_running s n code [] o = own_ended n (running s (Client n) o)
+ended_running s n code (u ∷ es) o = ended_running s n code es (lines.Drop (Client n) u.fid ∷ o)
 
 -- ---- what stays, where the entries of a volume are given up
 
@@ -281,7 +281,7 @@ none_where q m c f [] other = tt
 none_where q m c f (u ∷ cache) other = none_of (q u.fid) q m c f u _ refl other (none_where q m c f cache other)
 
 -- the answer 0 is good behind the drops
-pub drops_good : (s : Script) (n p : ℕ) (act : Going) (m : Message) (past : List Entry) (es : List CacheEntry) (own : List Line) → ((own : List Line) → given_message own (sent_of past) ≡ message_at (sent_of past) p → has_begun (Client n) own ≡ false → running (Client n) (own ++ lines_of past) ≡ running (Client n) (lines_of past) → GoodCode (Client n) zero_code past own)
-    → given_message own (sent_of past) ≡ message_at (sent_of past) p → has_begun (Client n) own ≡ false → running (Client n) (own ++ lines_of past) ≡ running (Client n) (lines_of past) → AreGood s (actors.Node (Client n)) past own (dropped (Client n) es (last_line n zero_code))
+pub drops_good : (s : Script) (n p : ℕ) (act : Going) (m : Message) (past : List Entry) (es : List CacheEntry) (own : List Line) → ((own : List Line) → given_message own (sent_of past) ≡ message_at (sent_of past) p → has_begun (Client n) own ≡ false → running s (Client n) (own ++ lines_of past) ≡ running s (Client n) (lines_of past) → GoodCode s (Client n) zero_code past own)
+    → given_message own (sent_of past) ≡ message_at (sent_of past) p → has_begun (Client n) own ≡ false → running s (Client n) (own ++ lines_of past) ≡ running s (Client n) (lines_of past) → AreGood s (actors.Node (Client n)) past own (dropped (Client n) es (last_line n zero_code))
 drops_good s n p act m past [] own good a b r = ((refl, good own a b r), tt)
 drops_good s n p act m past (u ∷ es) own good a b r = (refl, drops_good s n p act m past es (lines.Drop (Client n) u.fid ∷ own) good a b r)

@@ -1,4 +1,7 @@
 -- How a step of the server begins and ends, for the facts on breaks.
+use Rattle.afs_breaks.specs.Promises.{has_break}
+use Rattle.afs_breaks.specs.declared.types.Promise.{Promise}
+use Rattle.afs_law.proofs.Promising.{Owed}
 use Rattle.std.proofs.Common.{◌≡◌, ◌+◌, ◌<◌, ◌≤◌, ◌⊎◌, inl, inr, Bool, true, false, cond, nat_eq, nat_lt, ℕ, zero, suc, List, [], ◌∷◌, ◌++◌, Option, Some, None, refl, sym, ap, subst, ◌∙◌, arith, eqb-true, eq-eqb, ltb-false, lt-ltb}
 use Rattle.std.proofs.lemmas.List.{append_assoc}
 use Rattle.std.specs.Prelude.{filter, not}
@@ -11,22 +14,21 @@ use Rattle.afs_num.specs.declared.types.Node.{Node}
 use Rattle.afs_num.specs.declared.types.Node.TheVariants.{Client}
 use Rattle.afs_num.specs.declared.calls.FsCall.{FsCall}
 use Rattle.afs_num.specs.declared.messages.Carried.{Carried}
-use Rattle.afs_num.specs.declared.messages.Carried.TheVariants as carried
-use Rattle.afs_num.specs.declared.messages.Call.TheVariants as ask
 use Rattle.afs_num.specs.declared.messages.Message.{Message}
 use Rattle.afs_law.proofs.Backing.{back_pass, done_pass, CallsPass}
 use Rattle.afs_law.proofs.Basics.{both, same_node-true, Each, IfBack, IfDone, OfCall, OfReply, OfServer, ByServer, each_more, each_map, if_back, if_done, some_of}
-use Rattle.afs_law.proofs.Owing.{AllOf, all_map, all_both, all_filter, IsGranted, IsIn, IsNumberIn, HeldWaits, IsOwed, CallOut, BackIn, DoneIn, BackedIn, IsPromised, promise_to}
+use Rattle.afs_law.proofs.Owing.{AllOf, all_map, all_both, all_filter, IsGranted, IsIn, IsNumberIn, HeldWaits, IsOwed, CallOut, BackIn, DoneIn, BackedIn, IsPromised, promise_to, IsClient, is_held}
 use Rattle.afs_law.specs.Breaks.{HasCome, AllOwes, EndedBy, EndedOf, EndedAll, CarriesBreak, NamesIn, WasSent}
-use Rattle.afs_law.specs.Callbacks.{put, Promise, Owed, BackCall, Held, Backs, Turn, Started, expired, is_all, has_number, waits_none, is_ready, is_reply_to, is_held, key_answered, fids_of, breaks_call, fid_before, call_for, break_message, first_of, is_for, most_breaks, carries_for, started_call, starts_by, starts, replies_of, held_after, given_out, pumped}
-use Rattle.afs_law.specs.ClientRow.{the_server}
+use Rattle.afs_rows.specs.Callbacks.{put_at, Turn, Started, expired, is_all, waits_none, is_ready, is_reply_to, key_answered, fids_of, breaks_call, fid_before, call_for, break_message, first_of, is_for, most_breaks, carries_for, started_call, starts_by, starts, replies_of, held_after, given_out, pumped}
 use Rattle.afs_law.specs.Ideal.{clock_of}
 use Rattle.afs_law.specs.Legal.{HasChange, GoodReply, AreGoodReplies}
-use Rattle.afs_law.specs.Lines.{Line}
+use Rattle.afs_history.specs.declared.lines.Line.{Line}
 use Rattle.afs_law.specs.Past.{lines_of, sent_of, given_message, answered_key, IsCallUnder, Sends}
-use Rattle.afs_law.specs.Runs.{Entry}
-use Rattle.afs_law.specs.States.{Seat}
-use Rattle.afs_law.specs.Lines as lines
+use Rattle.afs_rows.specs.Runs.{Entry, the_server}
+use Rattle.afs_rows.specs.States.{Seat, BackCall, Held, Backs}
+use Rattle.afs_num.specs.declared.messages.Carried.TheVariants as carried
+use Rattle.afs_num.specs.declared.messages.Call.TheVariants as ask
+use Rattle.afs_history.specs.declared.lines.Line.TheVariants as lines
 
 -- ---- the step begins: what has expired is gone
 
@@ -59,15 +61,17 @@ kept_in q p (r ∷ ps) (inr h) e = stays_more (q r) p r (filter q ps) (kept_in q
 
 pub expired_backed : (b : Backs) (boot : ℕ) (seats : List Seat) (cs : ℕ → Option Seat) (clock : ℕ) (sent : List Message) (past : List Entry) → BackedIn None b boot seats cs clock sent past → BackedIn None (expired clock b) boot seats cs clock sent past
 expired_backed b boot seats cs clock sent past h = record {
-  granted = λ x. all_filter (IsGranted (lines_of past)) (λ p. nat_lt clock p.expiry) b.promises (h.granted x);
-  promised = λ j f x l t. let q = h.promised j f x l t in (q.0, kept_in (λ p. nat_lt clock p.expiry) (promise_to j f x) b.promises q.1 (lt-ltb _ _ t));
+  granted = λ x. all_filter (IsGranted (lines_of past)) (λ p. nat_lt clock p.expiry) b.lists.promises (h.granted x);
+  promised = λ j f x l t. let q = h.promised j f x l t in (q.0, kept_in (λ p. nat_lt clock p.expiry) (promise_to j f x) b.lists.promises q.1 (lt-ltb _ _ t));
   numbered = h.numbered;
+  rising = h.rising;
+  clients = λ x. record { promised = all_filter (λ (p : Promise). IsClient p.client) (λ p. nat_lt clock p.expiry) b.lists.promises (h.clients x).promised; owed = all_filter (λ (o : Owed). IsClient o.client) (λ o. nat_lt clock o.expiry) b.lists.owed (h.clients x).owed };
   accounted = λ newer at older before after c what n split line. elim (h.accounted newer at older before after c what n split line) [
     | inl x ↦ inl x
     | inr x ↦ expired_by (nat_lt clock x.1.o.expiry) clock x.1.o _ _ refl (λ le. inr (inr (subst (λ (o : Option ℕ). HasCome o clock) (sym x.1.expiry) le)))
-        (λ y. (x.0, record { o = x.1.o; is_in = in_filter (λ o. nat_lt clock o.expiry) x.1.o b.owed x.1.is_in y; number = x.1.number; client = x.1.client; on = x.1.on; expiry = x.1.expiry; waits = x.1.waits }))
+        (λ y. (x.0, record { o = x.1.o; is_in = in_filter (λ o. nat_lt clock o.expiry) x.1.o b.lists.owed x.1.is_in y; number = x.1.number; client = x.1.client; on = x.1.on; expiry = x.1.expiry; waits = x.1.waits }))
   ];
-  owed = λ x. all_filter (λ (o : Owed). IsOwed o.client (lines_of past) o) (λ o. nat_lt clock o.expiry) b.owed (h.owed x);
+  owing = λ x. all_filter (λ (o : Owed). IsOwed o.client (lines_of past) o) (λ o. nat_lt clock o.expiry) b.lists.owed (h.owing x);
   waiting = h.waiting;
   outs = h.outs;
   calls = h.calls;
@@ -81,7 +85,7 @@ expired_backed b boot seats cs clock sent past h = record {
 abbrev pub loaded : Turn → Backs
 loaded t = record t.backs { held = t.backs.held ++ t.outs }
 
-reply_key : (k : Key) (m : Message) → is_reply_to k m ≡ true → key_answered m ≡ k
+pub reply_key : (k : Key) (m : Message) → is_reply_to k m ≡ true → key_answered m ≡ k
 reply_key k m t =
     let a = both (same_node m.head.to k.node) _ t in
     let b = both _ _ a.1 in
@@ -96,20 +100,20 @@ number_second : (t rest : Bool) → rest ≡ true → cond t true rest ≡ true
 number_second true rest e = refl
 number_second false rest e = e
 
-number_in : (n : ℕ) (o : Owed) (os : List Owed) → IsIn o os → o.number ≡ n → has_number n os ≡ true
+number_in : (n : ℕ) (o : Owed) (os : List Owed) → IsIn o os → o.number ≡ n → has_break n os ≡ true
 number_in n o [] h e = absurd h
-number_in n o (x ∷ os) (inl y) e = number_by (nat_eq x.number n) (has_number n os) (eq-eqb x.number n (ap (λ (z : Owed). z.number) y ∙ e))
-number_in n o (x ∷ os) (inr y) e = number_second (nat_eq x.number n) (has_number n os) (number_in n o os y e)
+number_in n o (x ∷ os) (inl y) e = number_by (nat_eq x.number n) (has_break n os) (eq-eqb x.number n (ap (λ (z : Owed). z.number) y ∙ e))
+number_in n o (x ∷ os) (inr y) e = number_second (nat_eq x.number n) (has_break n os) (number_in n o os y e)
 
 not_ready_by : (t u : Bool) → (t ≡ true) ⊎ (u ≡ false) → cond t false u ≡ false
 not_ready_by true u h = refl
 not_ready_by false u (inl x) = absurd cc
 not_ready_by false u (inr x) = x
 
-not_ready : (n : ℕ) (ks : List ℕ) (os : List Owed) → IsNumberIn n ks → has_number n os ≡ true → waits_none ks os ≡ false
+not_ready : (n : ℕ) (ks : List ℕ) (os : List Owed) → IsNumberIn n ks → has_break n os ≡ true → waits_none ks os ≡ false
 not_ready n [] os h e = absurd h
-not_ready n (k ∷ ks) os (inl x) e = not_ready_by (has_number k os) (waits_none ks os) (inl (ap (λ (z : ℕ). has_number z os) x ∙ e))
-not_ready n (k ∷ ks) os (inr x) e = not_ready_by (has_number k os) (waits_none ks os) (inr (not_ready n ks os x e))
+not_ready n (k ∷ ks) os (inl x) e = not_ready_by (has_break k os) (waits_none ks os) (inl (ap (λ (z : ℕ). has_break z os) x ∙ e))
+not_ready n (k ∷ ks) os (inr x) e = not_ready_by (has_break k os) (waits_none ks os) (inr (not_ready n ks os x e))
 
 -- a break that is owed keeps the reply of its key
 stays_held : (t r : Bool) (k : Key) (h : Held) (rest : List Held) → r ≡ false → is_reply_to k h.reply ≡ t → t ≡ true ⊎ (is_held k rest ≡ true) → is_held k (cond (not r) (h ∷ rest) rest) ≡ true
@@ -128,7 +132,7 @@ kept_by true E k h r hs rest a e own more = elim (own (reply_key k h.reply a)) [
 kept_by false E k h r hs rest a e own more = elim (more e) [ inl x ↦ inl x | inr x ↦ inr (rest_held r k h rest x) ]
 
 kept_held : (seats : List Seat) (clock : ℕ) (past : List Entry) (owed : List Owed) (hs : List Held) (k : Key) (boot : ℕ) (newer : List Entry) (at : Entry) (older : List Entry) (before after : List Line) (c : Node) (what : Option Fid) (n : ℕ) → AllOf (HeldWaits seats clock past) hs
-    → past ≡ newer ++ (at ∷ older) → at.lines ≡ before ++ lines.Owe the_server c what n ∷ after → has_number n owed ≡ true → IsCallUnder the_server k boot (given_message at.lines (sent_of older)) → is_held k hs ≡ true
+    → past ≡ newer ++ (at ∷ older) → at.lines ≡ before ++ lines.Owe the_server c what n ∷ after → has_break n owed ≡ true → IsCallUnder the_server k boot (given_message at.lines (sent_of older)) → is_held k hs ≡ true
     → EndedBy the_server clock newer at older before after c what n ⊎ (is_held k (filter (λ h. not (is_ready owed h)) hs) ≡ true)
 kept_held seats clock past owed [] k boot newer at older before after c what n w split line is y e = absurd cc
 kept_held seats clock past owed (h ∷ hs) k boot newer at older before after c what n w split line is y e =
@@ -169,17 +173,17 @@ held_all P (x ∷ xs) ys h = let q = held_all P xs ys h.1 in ((h.0, q.0), q.1)
 ready_not : (n : ℕ) (o : Owed) (ks : List ℕ) (os : List Owed) (X : Type 0) → IsNumberIn n ks → IsIn o os → o.number ≡ n → waits_none ks os ≡ true → X
 ready_not n o ks os X a b c e = let x : waits_none ks os ≡ false = not_ready n ks os a (number_in n o os b c) in absurd cc
 
-reply_good : (b : Backs) (boot : ℕ) (seats : List Seat) (cs : ℕ → Option Seat) (clock : ℕ) (sent : List Message) (past : List Entry) (h : Held) → BackedIn None b boot seats cs clock sent past → clock_of (lines_of past) ≡ clock → HeldWaits seats clock past h → is_ready b.owed h ≡ true → GoodReply past h.reply
+reply_good : (b : Backs) (boot : ℕ) (seats : List Seat) (cs : ℕ → Option Seat) (clock : ℕ) (sent : List Message) (past : List Entry) (h : Held) → BackedIn None b boot seats cs clock sent past → clock_of (lines_of past) ≡ clock → HeldWaits seats clock past h → is_ready b.lists.owed h ≡ true → GoodReply past h.reply
 reply_good b boot seats cs clock sent past h B time w ready is nought i from =
     subst (λ (s : Node). AllOwes s (EndedOf s (answered_key h.reply.head) (clock_of (lines_of past))) past × (HasChange (answered_key h.reply.head) (lines_of past) → AllOwes s (EndedAll s (clock_of (lines_of past))) past)) (sym w.from)
     (subst (λ (t : ℕ). AllOwes the_server (EndedOf the_server (answered_key h.reply.head) t) past × (HasChange (answered_key h.reply.head) (lines_of past) → AllOwes the_server (EndedAll the_server t) past)) (sym time) (
       (λ newer at older before after c what n split line k y. elim (B.accounted newer at older before after c what n split line) [
         | inl x ↦ x
-        | inr x ↦ elim (w.own newer at older before after c what n split line k y) [ inl z ↦ z | inr z ↦ ready_not n x.1.o h.waits b.owed _ z x.1.is_in x.1.number ready ]
+        | inr x ↦ elim (w.own newer at older before after c what n split line k y) [ inl z ↦ z | inr z ↦ ready_not n x.1.o h.waits b.lists.owed _ z x.1.is_in x.1.number ready ]
       ]),
       (λ changed newer at older before after c what n split line all. elim (B.accounted newer at older before after c what n split line) [
         | inl x ↦ x
-        | inr x ↦ elim (w.all changed newer at older before after c what n split line all) [ inl z ↦ z | inr z ↦ ready_not n x.1.o h.waits b.owed _ z x.1.is_in x.1.number ready ]
+        | inr x ↦ elim (w.all changed newer at older before after c what n split line all) [ inl z ↦ z | inr z ↦ ready_not n x.1.o h.waits b.lists.owed _ z x.1.is_in x.1.number ready ]
       ]),
     ))
 
@@ -187,9 +191,9 @@ good_by : (t : Bool) (past : List Entry) (h : Held) (rest : List Held) → (t �
 good_by true past h rest a b = (a refl, b)
 good_by false past h rest a b = b
 
-replies_good : (b : Backs) (boot : ℕ) (seats : List Seat) (cs : ℕ → Option Seat) (clock : ℕ) (sent : List Message) (past : List Entry) (hs : List Held) → BackedIn None b boot seats cs clock sent past → clock_of (lines_of past) ≡ clock → AllOf (HeldWaits seats clock past) hs → AreGoodReplies past (replies_of (filter (is_ready b.owed) hs))
+replies_good : (b : Backs) (boot : ℕ) (seats : List Seat) (cs : ℕ → Option Seat) (clock : ℕ) (sent : List Message) (past : List Entry) (hs : List Held) → BackedIn None b boot seats cs clock sent past → clock_of (lines_of past) ≡ clock → AllOf (HeldWaits seats clock past) hs → AreGoodReplies past (replies_of (filter (is_ready b.lists.owed) hs))
 replies_good b boot seats cs clock sent past [] B time w = tt
-replies_good b boot seats cs clock sent past (h ∷ hs) B time w = good_by (is_ready b.owed h) past h (filter (is_ready b.owed) hs) (λ e. reply_good b boot seats cs clock sent past h B time w.0 e) (replies_good b boot seats cs clock sent past hs B time w.1)
+replies_good b boot seats cs clock sent past (h ∷ hs) B time w = good_by (is_ready b.lists.owed h) past h (filter (is_ready b.lists.owed) hs) (λ e. reply_good b boot seats cs clock sent past h B time w.0 e) (replies_good b boot seats cs clock sent past hs B time w.1)
 
 pub good_more : (past : List Entry) (a b : List Message) → AreGoodReplies past a → AreGoodReplies past b → AreGoodReplies past (a ++ b)
 good_more past [] b h k = k
@@ -250,15 +254,15 @@ on_fid : (t : Bool) → not t ≡ true → t ≡ false
 on_fid true h = absurd cc
 on_fid false h = refl
 
-record IsPick (j : ℕ) (ls : List Line) (o : Owed) : Type 0 where
+record IsPick (j : Node) (ls : List Line) (o : Owed) : Type 0 where
   owed : IsOwed j ls o
   fid : IsOnFid o
 
-picks : (j : ℕ) (ls : List Line) (os : List Owed) → AllOf (λ (o : Owed). IsOwed o.client ls o) os → AllOf (IsPick j ls) (first_of most_breaks (filter (is_for j) os))
-picks j ls os h = all_first (IsPick j ls) most_breaks (filter (is_for j) os) (all_picked (λ (o : Owed). IsOwed o.client ls o) (IsPick j ls) (is_for j) (λ o e x. let q = both (nat_eq o.client j) (not (is_all o.what)) e in record { owed = subst (λ (n : ℕ). IsOwed n ls o) (eqb-true _ _ q.0) x; fid = on_fid (is_all o.what) q.1 }) os h)
+picks : (j : Node) (ls : List Line) (os : List Owed) → AllOf (λ (o : Owed). IsOwed o.client ls o) os → AllOf (IsPick j ls) (first_of most_breaks (filter (is_for j) os))
+picks j ls os h = all_first (IsPick j ls) most_breaks (filter (is_for j) os) (all_picked (λ (o : Owed). IsOwed o.client ls o) (IsPick j ls) (is_for j) (λ o e x. let q = both (same_node o.client j) (not (is_all o.what)) e in record { owed = subst (λ (n : Node). IsOwed n ls o) (same_node-true _ _ q.0) x; fid = on_fid (is_all o.what) q.1 }) os h)
 
 -- what the new call carries
-record AreCarried (j : ℕ) (ls : List Line) (os : List Owed) : Type 0 where
+record AreCarried (j : Node) (ls : List Line) (os : List Owed) : Type 0 where
   owes : AllOf (IsOwed j ls) os
   carries : AllOf (λ (o : Owed). CarriesBreak (breaks_call os) o.what) os
 
@@ -269,17 +273,17 @@ are_carried (Some f) o ls owed e h k =
     let os : List Owed = first_of most_breaks (filter (is_for o.client) owed) in
     record { owes = all_map (IsPick o.client ls) (IsOwed o.client ls) (λ x y. y.owed) os p; carries = all_carried os (all_map (IsPick o.client ls) IsOnFid (λ x y. y.fid) os p) }
 
-call_more : (j : ℕ) (c : BackCall) (last more boot : ℕ) (past : List Entry) → last ≤ more → CallOut j c last boot past → CallOut j c more boot past
-call_more j c last more boot past le h = record { number = le_trans h.number le; owes = h.owes; tries = h.tries; sent = h.sent; carries = h.carries }
+call_more : (j : Node) (c : BackCall) (last more boot : ℕ) (past : List Entry) → last ≤ more → CallOut j c last boot past → CallOut j c more boot past
+call_more j c last more boot past le h = record { client = h.client; number = le_trans h.number le; owes = h.owes; tries = h.tries; sent = h.sent; carries = h.carries }
 
-put_by : (t : Bool) (j k : ℕ) (n c : BackCall) (o : Option BackCall) (X : Type 0) → nat_eq j k ≡ t → cond t (Some n) o ≡ Some c → (j ≡ k → n ≡ c → X) → (o ≡ Some c → X) → X
-put_by true j k n c o X e at a b = a (eqb-true j k e) (some_of n c at)
+put_by : (t : Bool) (j k : Node) (n c : BackCall) (o : Option BackCall) (X : Type 0) → same_node j k ≡ t → cond t (Some n) o ≡ Some c → (j ≡ k → n ≡ c → X) → (o ≡ Some c → X) → X
+put_by true j k n c o X e at a b = a (same_node-true j k e) (some_of n c at)
 put_by false j k n c o X e at a b = b at
 
-pub put_call : (j k : ℕ) (n c : BackCall) (calls : ℕ → Option BackCall) (X : Type 0) → put j (Some n) calls k ≡ Some c → (j ≡ k → n ≡ c → X) → (calls k ≡ Some c → X) → X
-put_call j k n c calls X at a b = put_by (nat_eq j k) j k n c (calls k) X refl at a b
+pub put_call : (j k : Node) (n c : BackCall) (calls : Node → Option BackCall) (X : Type 0) → put_at j (Some n) calls k ≡ Some c → (j ≡ k → n ≡ c → X) → (calls k ≡ Some c → X) → X
+put_call j k n c calls X at a b = put_by (same_node j k) j k n c (calls k) X refl at a b
 
-started_pass : (t : Started) (o : Owed) → CallsPass t.backs.calls t.backs.last_call (put o.client (Some (started_call t.backs o)) t.backs.calls)
+started_pass : (t : Started) (o : Owed) → CallsPass t.backs.calls t.backs.last_call (put_at o.client (Some (started_call t.backs o)) t.backs.calls)
 started_pass t o j c at = put_call o.client j (started_call t.backs o) c t.backs.calls _ at (λ e q. inl (subst (λ (x : BackCall). t.backs.last_call < x.number) q (omega arith))) (λ e. inr (c, (e, (refl, refl))))
 
 sends_front : (k : Key) (user : List ℕ) (call : FsCall) (a b : List Message) → Sends k user call a → Sends k user call (a ++ b)
@@ -291,28 +295,31 @@ sends_last : (k : Key) (user : List ℕ) (call : FsCall) (a : List Message) (m :
 sends_last k user call [] m h = h
 sends_last k user call (x ∷ a) m h = inr (sends_last k user call a m h)
 
-started_backed : (boot : ℕ) (seats : List Seat) (cs : ℕ → Option Seat) (clock : ℕ) (sent : List Message) (past : List Entry) (t : Started) (o : Owed) (x : Option BackCall) → IsBacked boot seats cs clock sent past t → IsOwed o.client (lines_of past) o
+started_backed : (boot : ℕ) (seats : List Seat) (cs : ℕ → Option Seat) (clock : ℕ) (sent : List Message) (past : List Entry) (t : Started) (o : Owed) (x : Option BackCall) → IsBacked boot seats cs clock sent past t → IsOwed o.client (lines_of past) o → IsClient o.client
     → ((c : BackCall) → x ≡ None → Sends (record { node = the_server; epoch = boot; number = c.number }) [] (breaks_call c.breaks) (t.sent ++ break_message the_server boot o.client (t.backs.known o.client) c ∷ []) → c ≡ started_call t.backs o → WasSent (record { node = the_server; epoch = boot; number = c.number }) [] (breaks_call c.breaks) past)
     → IsBacked boot seats cs clock sent past (starts_by the_server boot t o x)
-started_backed boot seats cs clock sent past t o (Some c) h is was = h
-started_backed boot seats cs clock sent past t o None h is was =
+started_backed boot seats cs clock sent past t o (Some c) h is to was = h
+started_backed boot seats cs clock sent past t o None h is to was =
     let n : BackCall = started_call t.backs o in
     let last : ℕ = t.backs.last_call in
-    let calls' : ℕ → Option BackCall = put o.client (Some n) t.backs.calls in
+    let calls' : Node → Option BackCall = put_at o.client (Some n) t.backs.calls in
     let m : Message = break_message the_server boot o.client (t.backs.known o.client) n in
     let pass : CallsPass t.backs.calls last calls' = started_pass t o in
     let le : last ≤ last + 1 = omega arith in
-    let carried_ : AreCarried o.client (lines_of past) n.breaks = are_carried o.what o (lines_of past) t.backs.owed refl is (h.owed refl) in
+    let carried_ : AreCarried o.client (lines_of past) n.breaks = are_carried o.what o (lines_of past) t.backs.lists.owed refl is (h.owing refl) in
     subst (λ (ms : List Message). BackedIn None (starts_by the_server boot t o None).backs boot seats cs clock ms past) (append_assoc sent t.sent (m ∷ [])) (record {
       granted = h.granted;
       promised = h.promised;
       numbered = h.numbered;
+      rising = h.rising;
+      clients = h.clients;
       accounted = h.accounted;
-      owed = h.owed;
+      owing = h.owing;
       waiting = h.waiting;
       outs = λ y j c at. put_call o.client j n c t.backs.calls (CallOut j c (last + 1) boot past) at
-          (λ e q. subst (λ (k : ℕ). CallOut k c (last + 1) boot past) e (subst (λ (z : BackCall). CallOut o.client z (last + 1) boot past) q (record {
+          (λ e q. subst (λ (k : Node). CallOut k c (last + 1) boot past) e (subst (λ (z : BackCall). CallOut o.client z (last + 1) boot past) q (record {
             number = le_refl _;
+            client = to;
             owes = carried_.owes;
             tries = λ k a b. absurd (omega arith);
             sent = was n refl (sends_last _ _ _ t.sent m (inl (refl, refl))) refl;
@@ -332,7 +339,7 @@ started_backed boot seats cs clock sent past t o None h is was =
           );
       dones = each_more (IfDone (DoneIn None calls' (last + 1) boot past)) (sent ++ t.sent) (m ∷ []) (each_map (IfDone (DoneIn None t.backs.calls last boot past)) (IfDone (DoneIn None calls' (last + 1) boot past)) (if_done (DoneIn None t.backs.calls last boot past) (DoneIn None calls' (last + 1) boot past)
           (λ k y. record { client = y.client; from = y.from; done = done_pass None None t.backs.calls calls' last (last + 1) boot past past y.client k.head.epoch k.head.number (λ z. z) le pass (λ z u w. w) y.done })) (sent ++ t.sent) h.dones) (tt, tt);
-      seated = λ j seat k y z. let w = h.seated j seat k y z in record { to = w.to; from = w.from; is_reply = w.is_reply; done = done_pass None None t.backs.calls calls' last (last + 1) boot past past j k.head.epoch k.head.number (λ u. u) le pass (λ u v q. q) w.done };
+      seated = λ j seat k y z. let w = h.seated j seat k y z in record { to = w.to; from = w.from; is_reply = w.is_reply; done = done_pass None None t.backs.calls calls' last (last + 1) boot past past (Client j) k.head.epoch k.head.number (λ u. u) le pass (λ u v q. q) w.done };
     })
 
 abbrev IsSentBy : ℕ → Started → List Owed → List Entry → Type 0
@@ -350,12 +357,12 @@ new_sent : (boot : ℕ) (t : Started) (o : Owed) (x : Option BackCall) (c : Back
 new_sent boot t o None c k user call e q h = subst (λ (z : BackCall). Sends k user call (t.sent ++ break_message the_server boot o.client (t.backs.known o.client) z ∷ [])) q h
 new_sent boot t o (Some x) c k user call e q h = absurd cc
 
-started_all : (boot : ℕ) (seats : List Seat) (cs : ℕ → Option Seat) (clock : ℕ) (sent : List Message) (past : List Entry) (os : List Owed) (t : Started) → IsBacked boot seats cs clock sent past t → AllOf (λ (o : Owed). IsOwed o.client (lines_of past) o) os → IsSentBy boot t os past → IsBacked boot seats cs clock sent past (starts the_server boot os t)
-started_all boot seats cs clock sent past [] t h is was = h
-started_all boot seats cs clock sent past (o ∷ os) t h is was =
+started_all : (boot : ℕ) (seats : List Seat) (cs : ℕ → Option Seat) (clock : ℕ) (sent : List Message) (past : List Entry) (os : List Owed) (t : Started) → IsBacked boot seats cs clock sent past t → AllOf (λ (o : Owed). IsOwed o.client (lines_of past) o) os → AllOf (λ (o : Owed). IsClient o.client) os → IsSentBy boot t os past → IsBacked boot seats cs clock sent past (starts the_server boot os t)
+started_all boot seats cs clock sent past [] t h is to was = h
+started_all boot seats cs clock sent past (o ∷ os) t h is to was =
     let x : Option BackCall = t.backs.calls o.client in
     let u : Started = starts_by the_server boot t o x in
-    started_all boot seats cs clock sent past os u (started_backed boot seats cs clock sent past t o x h is.0 (λ c e y q. was _ _ _ (sent_all boot os u _ _ _ (new_sent boot t o x c _ _ _ e q y)))) is.1 was
+    started_all boot seats cs clock sent past os u (started_backed boot seats cs clock sent past t o x h is.0 to.0 (λ c e y q. was _ _ _ (sent_all boot os u _ _ _ (new_sent boot t o x c _ _ _ e q y)))) is.1 to.1 was
 
 -- ---- the end of a step
 
@@ -370,12 +377,14 @@ released : (boot : ℕ) (seats : List Seat) (cs : ℕ → Option Seat) (clock : 
 released boot seats cs clock sent past t h s =
     let all : AllOf (HeldWaits seats clock past) (t.backs.held ++ t.outs) = h.waiting refl in
     let q = held_all (HeldWaits seats clock past) t.backs.held t.outs all in
-    let ready : List Held = filter (is_ready t.backs.owed) (t.outs ++ t.backs.held) in
-    let w : AllOf (HeldWaits seats clock past) ready = all_filter (HeldWaits seats clock past) (is_ready t.backs.owed) (t.outs ++ t.backs.held) (all_both (HeldWaits seats clock past) t.outs t.backs.held q.1 q.0) in
+    let ready : List Held = filter (is_ready t.backs.lists.owed) (t.outs ++ t.backs.held) in
+    let w : AllOf (HeldWaits seats clock past) ready = all_filter (HeldWaits seats clock past) (is_ready t.backs.lists.owed) (t.outs ++ t.backs.held) (all_both (HeldWaits seats clock past) t.outs t.backs.held q.1 q.0) in
     record {
       granted = h.granted;
       promised = h.promised;
       numbered = h.numbered;
+      rising = h.rising;
+      clients = h.clients;
       accounted = λ newer at older before after c what n split line. elim (h.accounted newer at older before after c what n split line) [
         | inl x ↦ inl x
         | inr x ↦ inr (
@@ -389,13 +398,13 @@ released boot seats cs clock sent past t h s =
             expiry = x.1.expiry;
             waits = λ k boot' y. elim (x.1.waits k boot' y) [
               | inl z ↦ inl z
-              | inr z ↦ kept_held seats clock past t.backs.owed (t.backs.held ++ t.outs) k boot' newer at older before after c what n all split line (number_in n x.1.o t.backs.owed x.1.is_in x.1.number) y z
+              | inr z ↦ kept_held seats clock past t.backs.lists.owed (t.backs.held ++ t.outs) k boot' newer at older before after c what n all split line (number_in n x.1.o t.backs.lists.owed x.1.is_in x.1.number) y z
             ];
           },
         )
       ];
-      owed = h.owed;
-      waiting = λ x. all_filter (HeldWaits seats clock past) (λ z. not (is_ready t.backs.owed z)) (t.backs.held ++ t.outs) all;
+      owing = h.owing;
+      waiting = λ x. all_filter (HeldWaits seats clock past) (λ z. not (is_ready t.backs.lists.owed z)) (t.backs.held ++ t.outs) all;
       outs = h.outs;
       calls = each_more (IfBack (BackIn None t.backs.calls t.backs.last_call boot)) sent (given_out t) h.calls (each_more (IfBack (BackIn None t.backs.calls t.backs.last_call boot)) t.sent (replies_of ready) s.calls (replies_back (BackIn None t.backs.calls t.backs.last_call boot) seats clock past ready w));
       dones = each_more (IfDone (DoneIn None t.backs.calls t.backs.last_call boot past)) sent (given_out t) h.dones (each_more (IfDone (DoneIn None t.backs.calls t.backs.last_call boot past)) t.sent (replies_of ready) s.dones (replies_done (DoneIn None t.backs.calls t.backs.last_call boot past) seats clock past ready w));
@@ -413,6 +422,7 @@ calls_good boot past (o ∷ os) t h = calls_good boot past os (starts_by the_ser
 -- the whole end: `past` begins with the entry, which sends all this
 pub record Pumps (boot : ℕ) (seats : List Seat) (cs : ℕ → Option Seat) (clock : ℕ) (sent : List Message) (past : List Entry) (t : Turn) : Type 0 where
   pub good : AreGoodReplies past (pumped the_server boot t).sent
+  pub clients : AllOf (λ (o : Owed). IsClient o.client) t.backs.lists.owed
   pub backed : BackedIn None (pumped the_server boot t).backs boot seats cs clock (sent ++ (pumped the_server boot t).sent) past
 
 was_sent : (e : Entry) (past : List Entry) (k : Key) (user : List ℕ) (call : FsCall) → Sends k user call e.sent → WasSent k user call (e ∷ past)
@@ -422,9 +432,10 @@ pub pumps : (boot : ℕ) (seats : List Seat) (cs : ℕ → Option Seat) (clock :
 pumps boot seats cs clock sent e past t is time h s =
     let q = held_all (HeldWaits seats clock (e ∷ past)) t.backs.held t.outs (h.waiting refl) in
     record {
-      good = calls_good boot (e ∷ past) t.backs.owed _ (good_more (e ∷ past) t.sent _ s.good (replies_good (loaded t) boot seats cs clock sent (e ∷ past) (t.outs ++ t.backs.held) h time (all_both (HeldWaits seats clock (e ∷ past)) t.outs t.backs.held q.1 q.0)));
-      backed = started_all boot seats cs clock sent (e ∷ past) t.backs.owed _ (released boot seats cs clock sent (e ∷ past) t h s) (h.owed refl) (λ k user call x. was_sent e past k user call (subst (λ (ms : List Message). Sends k user call ms) (sym is) x));
+      good = calls_good boot (e ∷ past) t.backs.lists.owed _ (good_more (e ∷ past) t.sent _ s.good (replies_good (loaded t) boot seats cs clock sent (e ∷ past) (t.outs ++ t.backs.held) h time (all_both (HeldWaits seats clock (e ∷ past)) t.outs t.backs.held q.1 q.0)));
+      clients = (h.clients refl).owed;
+      backed = started_all boot seats cs clock sent (e ∷ past) t.backs.lists.owed _ (released boot seats cs clock sent (e ∷ past) t h s) (h.owing refl) (h.clients refl).owed (λ k user call x. was_sent e past k user call (subst (λ (ms : List Message). Sends k user call ms) (sym is) x));
     }
 
-pub break_good : (past : List Entry) (boot n known : ℕ) (c : BackCall) → GoodReply past (break_message the_server boot n known c)
+pub break_good : (past : List Entry) (boot : ℕ) (n : Node) (known : ℕ) (c : BackCall) → GoodReply past (break_message the_server boot n known c)
 break_good past boot n known c = let m : Message = break_message the_server boot n known c in call_good past m.head [] (breaks_call c.breaks)

@@ -1,4 +1,10 @@
-use Rattle.std.proofs.Common.{◌≡◌, ℕ, ◌+◌, inl, inr, Bool, true, false, cond, nat_lt, List, [], ◌∷◌, ◌++◌, Option, Some, None, refl, sym, ap, subst, ◌∙◌, arith}
+use Rattle.afs_rows.specs.Steps.{Step}
+use Rattle.afs_num.specs.declared.types.Node.{Node}
+use Rattle.afs_law.proofs.Apart.{apart_filter}
+use Rattle.afs_law.proofs.Asking.{client_ended}
+use Rattle.afs_law.proofs.Facts.{AreApart, IsClient}
+use Rattle.afs_law.proofs.Passing.{old_over, old_within}
+use Rattle.std.proofs.Common.{nat_eq, not, ◌≡◌, ℕ, ◌+◌, inl, inr, Bool, true, false, cond, nat_lt, List, [], ◌∷◌, ◌++◌, Option, Some, None, refl, sym, ap, subst, ◌∙◌, arith}
 use Rattle.std.specs.Prelude.{◌&&◌}
 use Rattle.afs_num.specs.declared.histories.Actor.TheVariants as actors
 use Rattle.afs_ideal.specs.Operations.{volume_changed}
@@ -10,14 +16,14 @@ use Rattle.afs_law.proofs.Passing.{PassesFile, PassesAct, PassesReach, stays, cu
 use Rattle.afs_law.proofs.Resting.{voids}
 use Rattle.afs_law.proofs.Serving.{reached_still}
 use Rattle.afs_law.proofs.Skipping.{own_ended, last_line, skips, timed, drop_lines, drop_file, drop_reach, drop_still, drop_passes, ended_running, left_found, left_scope, left_none, scope_is}
-use Rattle.afs_law.specs.ClientRow.{the_server, dead_code, tries_again, dropped, gives_up, call_message, ended, reborn, left_in, given_up_in, gives_up'}
-use Rattle.afs_law.specs.Going.{asked, Going, ClientState}
+use Rattle.afs_rows.specs.ClientRow.{boot_of, ends_step, call_of, dead_code, tries_again, dropped, gives_up, call_message, ended, reborn, left_in, given_up_in}
+use Rattle.afs_rows.specs.Going.{asked, Going, ClientState}
 use Rattle.afs_law.specs.Ideal.{last_version, user_of}
 use Rattle.afs_law.specs.Legal.{given_up, AreGood}
-use Rattle.afs_law.specs.Lines.{Line}
+use Rattle.afs_history.specs.declared.lines.Line.{Line}
 use Rattle.afs_law.specs.Past.{lines_of, has_begun, running, CalledSince}
-use Rattle.afs_law.specs.Runs.{Entry, Cell, Moved, client_moves, turned, client_falls, client_rises, waited_by}
-use Rattle.afs_law.specs.States.{CacheEntry}
+use Rattle.afs_rows.specs.Runs.{the_server, Entry, Cell, Moved, client_moves, turned, client_falls, client_rises, waited_by}
+use Rattle.afs_rows.specs.States.{CacheEntry}
 use Rattle.std.proofs.Math.Nat.{le_refl}
 use Rattle.afs_num.specs.Nodes.{same_node}
 use Rattle.afs_num.specs.declared.types.Fid.{Fid}
@@ -27,24 +33,24 @@ use Rattle.afs_num.specs.declared.types.Node.TheVariants.{Client}
 use Rattle.afs_num.specs.declared.calls.FsCall.{FsCall}
 use Rattle.afs_num.specs.declared.messages.Message.{Message}
 use Rattle.afs_num.specs.declared.scripts.Script.{Script}
-use Rattle.afs_law.specs.Lines as lines
+use Rattle.afs_history.specs.declared.lines.Line.TheVariants as lines
 
 -- ---- a timeout line alone
 
-pub timeout_file : (n j e l k : ℕ) (ms : List Message) (past : List Entry) (f : Fid) → PassesFile j f (step_entry n (lines.Timeout (Client n) the_server e l k ∷ []) ms) past
-timeout_file n j e l k ms past f = record { grant = record { version = λ i b o s. s; dropped = λ s o d. d; withdrawn = λ s o w. w }; fetched = refl }
+pub timeout_file : (q : Node) (n j e l k : ℕ) (ms : List Message) (past : List Entry) (f : Fid) → PassesFile j f (step_entry n (lines.Timeout (Client n) q e l k ∷ []) ms) past
+timeout_file q n j e l k ms past f = record { grant = record { version = λ i b o s. s; dropped = λ s o d. d; withdrawn = λ s o w. w }; fetched = refl }
 
-pub timeout_reach : (n j e l k : ℕ) (ms : List Message) (past : List Entry) (f : Fid) → PassesReach j f (step_entry n (lines.Timeout (Client n) the_server e l k ∷ []) ms) past
-timeout_reach n j e l k ms past f = record { both = λ i h. record { made = h.made; seen = h.seen }; seen = λ i h. h; made = λ x. x }
+pub timeout_reach : (q : Node) (n j e l k : ℕ) (ms : List Message) (past : List Entry) (f : Fid) → PassesReach j f (step_entry n (lines.Timeout (Client n) q e l k ∷ []) ms) past
+timeout_reach q n j e l k ms past f = record { both = λ i h. record { made = h.made; seen = h.seen }; seen = λ i h. h; made = λ x. x }
 
-pub timeout_act : (n j e l k : ℕ) (ms : List Message) (past : List Entry) → PassesAct j (step_entry n (lines.Timeout (Client n) the_server e l k ∷ []) ms) past
-timeout_act n j e l k ms past = record { runs = λ o. refl; begins = refl }
+pub timeout_act : (q : Node) (n j e l k : ℕ) (ms : List Message) (past : List Entry) → PassesAct j (step_entry n (lines.Timeout (Client n) q e l k ∷ []) ms) past
+timeout_act q n j e l k ms past = record { runs = λ s o. refl; begins = refl }
 
-pub timeout_passes : (s : Script) (n e l k : ℕ) (ms : List Message) (past : List Entry) → Passes s n (lines.Timeout (Client n) the_server e l k ∷ []) ms past
-timeout_passes s n e l k ms past = record {
-  file = λ j ne f. timeout_file n j e l k ms past f;
-  reach = λ j ne f. timeout_reach n j e l k ms past f;
-  act = λ j ne. timeout_act n j e l k ms past;
+pub timeout_passes : (s : Script) (q : Node) (n e l k : ℕ) (ms : List Message) (past : List Entry) → Passes s n (lines.Timeout (Client n) q e l k ∷ []) ms past
+timeout_passes s q n e l k ms past = record {
+  file = λ j ne f. timeout_file q n j e l k ms past f;
+  reach = λ j ne f. timeout_reach q n j e l k ms past f;
+  act = λ j ne. timeout_act q n j e l k ms past;
   last = λ f o. refl;
   back = λ f i b o x. x;
   new = λ key o x. x;
@@ -59,13 +65,16 @@ timeout_passes s n e l k ms past = record {
 pub tries_goes : (s : Script) (c : Cell) (past : List Entry) (n : ℕ) (act : Going) → Holds s c past → (c.clients n).running ≡ Some act → Goes s past (client_moves c n (tries_again (Client n) (c.clients n) act))
 tries_goes s c past n act h runs =
     let x : ClientState = c.clients n in
+    let q : Node = x.callee in
+    let y : ClientState = record x { tries = x.tries + 1 } in
+    let kind : IsClient s y = record { table = (h.own n).table; user = (h.own n).user; callee = λ a z. (h.own n).callee a z; apart = (h.own n).apart } in
     let ms : List Message = call_message (Client n) x act ∷ [] in
-    let e : Entry = step_entry n (lines.Timeout (Client n) the_server x.epoch x.last (x.tries + 1) ∷ []) ms in
-    moves s c past n (h.floors n) (tries_again (Client n) x act) h (refl, tt) (timeout_passes s n x.epoch x.last (x.tries + 1) ms past)
-    (client_kept s c past n x.boot e h (h.clients n).known (timeout_file n n x.epoch x.last (x.tries + 1) ms past) (timeout_reach n n x.epoch x.last (x.tries + 1) ms past) (timeout_act n n x.epoch x.last (x.tries + 1) ms past) (λ f. refl))
-    (λ head call f. call_known (view h.floors c n) x.boot head call f)
-    (reply_still n (view h.floors c n) e past (timeout_file n n x.epoch x.last (x.tries + 1) ms past) (timeout_reach n n x.epoch x.last (x.tries + 1) ms past) (λ f. refl))
-    (own_call h.floors c past n (h.floors n) (record x { tries = x.tries + 1 }) act (lines.Timeout (Client n) the_server x.epoch x.last (x.tries + 1) ∷ []) (h.clients n).known runs ((h.clients n).runs act runs) (same_one s c past n act ms h runs)) (λ a x z. inl x) refl
+    let e : Entry = step_entry n (lines.Timeout (Client n) q x.epoch x.last (x.tries + 1) ∷ []) ms in
+    moves s c past n (h.floors n) (tries_again (Client n) x act) h kind (refl, tt) (timeout_passes s q n x.epoch x.last (x.tries + 1) ms past)
+    (client_kept s c past n (boot_of the_server x.boots) e h (h.clients n).known (timeout_file q n n x.epoch x.last (x.tries + 1) ms past) (timeout_reach q n n x.epoch x.last (x.tries + 1) ms past) (timeout_act q n n x.epoch x.last (x.tries + 1) ms past) (λ f. refl))
+    (λ head call f. call_known (view h.floors c n) (boot_of the_server x.boots) head call f)
+    (reply_still n (view h.floors c n) e past (timeout_file q n n x.epoch x.last (x.tries + 1) ms past) (timeout_reach q n n x.epoch x.last (x.tries + 1) ms past) (λ f. refl))
+    (own_call h.floors c past n (h.floors n) y act (lines.Timeout (Client n) q x.epoch x.last (x.tries + 1) ∷ []) (h.clients n).known kind runs ((h.clients n).runs act runs) (same_one s c past n act ms h runs)) (λ a x z. inl x) refl
 
 -- The clients' timeouts, and how a client stops and begins again.
 
@@ -76,7 +85,7 @@ not_raised false = refl
 -- ---- a call is given up
 
 -- the answer is good behind the drops
-pub dead_good : (s : Script) (n : ℕ) (act : Going) (key : Key) (past : List Entry) (es : List CacheEntry) (own : List Line) → running (Client n) (own ++ lines_of past) ≡ Some act → given_up (Client n) own ≡ Some key → has_begun (Client n) own ≡ false → CalledSince key (user_of (Client n)) (asked act) past
+pub dead_good : (s : Script) (n : ℕ) (act : Going) (key : Key) (past : List Entry) (es : List CacheEntry) (own : List Line) → running s (Client n) (own ++ lines_of past) ≡ Some act → given_up (Client n) own ≡ Some key → has_begun (Client n) own ≡ false → CalledSince key (user_of (Client n)) (asked act) past
     → AreGood s (actors.Node (Client n)) past own (dropped (Client n) es (last_line n dead_code))
 dead_good s n act key past [] own runs third before called = ((refl, record { act = act; runs = runs; cause = inr (inr (record { is = refl; key = key; third = third; before = before; called = called })) }), tt)
 dead_good s n act key past (u ∷ es) own runs third before called = (refl, dead_good s n act key past es (lines.Drop (Client n) u.fid ∷ own) runs third before called)
@@ -87,7 +96,15 @@ dead_safe call t e l act o cache aged older head runs w (inr (inl x)) = inr (inr
 dead_safe call t e l act o cache aged older head runs w (inr (inr (inl x))) = inr (inr (inl (λ f z u at lasts. x f z u (left_found (volume_changed (asked act)) f cache u at) lasts)))
 dead_safe call t e l act o cache aged older head runs w (inr (inr (inr x))) = inr (inr (inr (w x)))
 
-pub gives_up_by : (s : Script) (c : Cell) (past : List Entry) (n : ℕ) (act : Going) → Holds s c past → (c.clients n).running ≡ Some act → Goes s past (client_moves c n (gives_up' (Client n) (c.clients n) (asked act)))
+-- the client gives up its call to this callee
+abbrev gives_up_on : Node → ℕ → ClientState → FsCall → Step ClientState
+gives_up_on q n x call = ends_step (Client n) x (left_in (volume_changed call) x.cache) (λ ls. lines.Timeout (Client n) q x.epoch x.last 3 ∷ dropped (Client n) (given_up_in (volume_changed call) x.cache) ls) dead_code
+
+left_as : (o : Option ℕ) (cache : List CacheEntry) → AreApart cache → AreApart (left_in o cache)
+left_as None cache a = a
+left_as (Some id) cache a = apart_filter (λ e. not (nat_eq e.fid.volume id)) cache a
+
+pub gives_up_by : (s : Script) (c : Cell) (past : List Entry) (n : ℕ) (act : Going) → Holds s c past → (c.clients n).running ≡ Some act → Goes s past (client_moves c n (gives_up_on the_server n (c.clients n) (asked act)))
 gives_up_by s c past n act h runs =
     let x : ClientState = c.clients n in
     let call : FsCall = asked act in
@@ -97,24 +114,28 @@ gives_up_by s c past n act h runs =
     let last : (f : Fid) → last_version f (lines_of (e ∷ past)) ≡ last_version f (lines_of past) = λ f. (skips n dead_code es).last f _ in
     let held : ℕ = (h.floors n).held in
     let g : Ghost = holding h.floors n held in
-    moves s c past n g (gives_up' (Client n) x call) h
+    moves s c past n g (gives_up_on the_server n x call) h (client_ended s x cache (h.own n) (left_as (volume_changed call) x.cache (h.own n).apart))
     (refl, dead_good s n act (last_key n (view h.floors c n)) past es (lines.Timeout (Client n) the_server x.epoch x.last 3 ∷ []) ((h.clients n).runs act runs) (rw (same_node-refl (Client n)) refl) refl ((h.clients n).asked act runs))
     (drop_passes s c past n (timed x.epoch x.last) dead_code es (λ k boot y. y))
-    (ended_facts s c past n cache held e h (h.clients n).holds (ended_running n dead_code es (lines.Timeout (Client n) the_server x.epoch x.last 3 ∷ lines_of past))
+    (ended_facts s c past n cache held e h (h.clients n).holds (ended_running s n dead_code es (lines.Timeout (Client n) the_server x.epoch x.last 3 ∷ lines_of past))
     (λ k u found lasts.
     let out : InScope call k → ⊥ = λ z. left_scope (volume_changed call) k x.cache u found (scope_is call k z) in
     let file : PassesFile n k e past = drop_file n n (timed x.epoch x.last) dead_code es past k (left_none (volume_changed call) (Client n) (Client n) k x.cache u found) in
     current_over n k u (view h.floors c n) (view_after c n g (ended x cache)) e past (le_refl _) file
     (ended_stands h.floors c past n cache g e k u.index (drop_still n n (timed x.epoch x.last) dead_code es past k (not_raised (same_node (Client n) (Client n))) u.index) (stays n k e past file.grant (last k)) (λ a is sc ran. out (subst (λ (z : Going). InScope (asked z) k) (sym (some_of act a (sym runs ∙ is))) sc)))
     ((h.clients n).current k u (left_found (volume_changed call) k x.cache u found) lasts))
+    (old_over cache (lines_of past) (lines_of (e ∷ past)) (λ k i b y. (skips n dead_code es).version k i b (lines.Timeout (Client n) the_server x.epoch x.last 3 ∷ lines_of past) y) (old_within x.cache cache (lines_of past) (λ k u y. left_found (volume_changed call) k x.cache u y) (h.clients n).old))
     (reached_still s c past n e h (drop_reach n n (timed x.epoch x.last) dead_code es past) last))
     (λ head call' f. record { behind = f.behind; booted = f.booted; stale = f.stale; own = λ b y z w. absurd cc; safe = λ q above. dead_safe call' c.clock x.epoch x.last act x.running x.cache (IsAged (view h.floors c n) head) (IsAged (view_after c n g (ended x cache)) head) head runs (λ y. (y.0, λ b z. absurd cc)) (f.safe q above) })
     (ended_reply s c past n cache held e h) (nothing_new _ _) (λ a x z. absurd cc) refl
 
-pub gives_up_goes : (s : Script) (c : Cell) (past : List Entry) (n : ℕ) (act : Going) → Holds s c past → (c.clients n).running ≡ Some act → Goes s past (client_moves c n (gives_up (Client n) (c.clients n) act))
-gives_up_goes s c past n act h runs = subst (λ (x : FsCall). Goes s past (client_moves c n (gives_up' (Client n) (c.clients n) x))) (sym (call_is act)) (gives_up_by s c past n act h runs)
+pub gives_up_goes : (s : Script) (c : Cell) (past : List Entry) (n : ℕ) (act : Going) → Holds s c past → (c.clients n).running ≡ Some act → Goes s past (client_moves c n (gives_up (Client n) (c.clients n) (call_of (c.clients n) act)))
+gives_up_goes s c past n act h runs =
+    let x : ClientState = c.clients n in
+    subst (λ (q : Node). Goes s past (client_moves c n (gives_up_on q n x (call_of x act)))) (sym ((h.own n).callee act runs))
+    (subst (λ (k : FsCall). Goes s past (client_moves c n (gives_up_on the_server n x k))) (sym (call_is x act)) (gives_up_by s c past n act h runs))
 
-pub timeout_by : (s : Script) (c : Cell) (past : List Entry) (n : ℕ) (act : Going) (t : Bool) → Holds s c past → (c.clients n).running ≡ Some act → Goes s past (client_moves c n (cond t (tries_again (Client n) (c.clients n) act) (gives_up (Client n) (c.clients n) act)))
+pub timeout_by : (s : Script) (c : Cell) (past : List Entry) (n : ℕ) (act : Going) (t : Bool) → Holds s c past → (c.clients n).running ≡ Some act → Goes s past (client_moves c n (cond t (tries_again (Client n) (c.clients n) act) (gives_up (Client n) (c.clients n) (call_of (c.clients n) act))))
 timeout_by s c past n act true h runs = tries_goes s c past n act h runs
 timeout_by s c past n act false h runs = gives_up_goes s c past n act h runs
 
@@ -129,6 +150,8 @@ pub away_again : (s : Script) (c : Cell) (past : List Entry) (a : ℕ → Bool) 
 away_again s c past a h = record {
   floors = h.floors;
   count = h.count;
+  own = h.own;
+  servers = h.servers;
   ideal = h.ideal;
   sound = h.sound;
   fine = h.fine;
@@ -153,7 +176,7 @@ pub crash_passes : (s : Script) (n : ℕ) (past : List Entry) → Passes s n (li
 crash_passes s n past = record {
   file = λ j ne f. record { grant = record { version = λ i b o x. x; dropped = λ s o d. d; withdrawn = λ s o w. inr w }; fetched = refl };
   reach = λ j ne f. record { both = λ i h. record { made = h.made; seen = h.seen }; seen = λ i h. h; made = λ x. x };
-  act = λ j ne. record { runs = λ o. runs_by_other n j None (running (Client j) o) ne; begins = refl };
+  act = λ j ne. record { runs = λ s o. runs_by_other n j None (running s (Client j) o) ne; begins = refl };
   last = λ f o. refl;
   back = λ f i b o x. x;
   new = λ key o x. x;
@@ -169,7 +192,7 @@ pub restart_passes : (s : Script) (n boot : ℕ) (past : List Entry) → Passes 
 restart_passes s n boot past = record {
   file = λ j ne f. record { grant = record { version = λ i b o x. x; dropped = λ s o d. d; withdrawn = λ s o w. w }; fetched = refl };
   reach = λ j ne f. record { both = λ i h. record { made = h.made; seen = h.seen }; seen = λ i h. h; made = λ x. x };
-  act = λ j ne. record { runs = λ o. refl; begins = refl };
+  act = λ j ne. record { runs = λ s o. refl; begins = refl };
   last = λ f o. refl;
   back = λ f i b o x. x;
   new = λ key o x. x;
@@ -197,7 +220,7 @@ client_stops_goes s c past n h =
     let d = h.clients n in
     let x : ClientState = reborn (c.clients n) in
     let e : Entry = step_entry n (lines.Crash (Client n) ∷ []) [] in
-    let g : Ghost = record { floor = c.server.boot; held = (h.floors n).held } in
+    let g : Ghost = record { floor = c.server.lasting.boot; held = (h.floors n).held } in
     let v : View = view_after c n g x in
     let over : (m : Message) → ReplyFact n (view h.floors c n) past m → ReplyFact n v (e ∷ past) m = λ m f. record {
       behind = new_epoch _ _ _ _ f.behind;
@@ -206,7 +229,7 @@ client_stops_goes s c past n h =
       tied = f.tied;
       answers = λ b y. absurd cc;
     } in
-    turned_goes s past n true _ (moves_back s c past n g (record { state = x; lines = lines.Crash (Client n) ∷ []; sent = [] }) h (refl, tt) (crash_passes s n past)
+    turned_goes s past n true _ (moves_back s c past n g (record { state = x; lines = lines.Crash (Client n) ∷ []; sent = [] }) h (record { table = (h.own n).table; user = (h.own n).user; callee = λ a z. absurd cc; apart = tt }) (refl, tt) (crash_passes s n past)
     (record {
       behind = λ seat y. new_epoch _ _ _ _ (d.behind seat y);
       behind_durable = λ seat y. new_epoch _ _ _ _ (d.behind_durable seat y);
@@ -217,9 +240,10 @@ client_stops_goes s c past n h =
       floored = le_refl _;
       holds = d.holds;
       waits = λ b y. absurd cc;
-      idle = λ y. own_ended n (running (Client n) (lines_of past));
+      idle = λ y. own_ended n (running s (Client n) (lines_of past));
       made = λ b y. absurd cc;
       current = λ f u found lasts. absurd cc;
+      old = λ f u found. absurd cc;
       runs = λ b y. absurd cc;
       asked = λ b y. absurd cc;
       reached = reached_still s c past n e h (λ f i r. record { made = r.made; seen = r.seen }) (λ f. refl);
@@ -233,6 +257,6 @@ client_starts_goes s c past n h =
     let e : Entry = step_entry n (lines.Restart (Client n) x.epoch ∷ []) [] in
     let file : (f : Fid) → PassesFile n f e past = λ f. record { grant = record { version = λ i b o x. x; dropped = λ s o d. d; withdrawn = λ s o w. w }; fetched = refl } in
     let reach_ : (f : Fid) → PassesReach n f e past = λ f. record { both = λ i r. record { made = r.made; seen = r.seen }; seen = λ i r. r; made = λ x. x } in
-    turned_goes s past n false _ (moves s c past n (h.floors n) (record { state = x; lines = lines.Restart (Client n) x.epoch ∷ []; sent = [] }) h ((refl, tt), tt) (restart_passes s n x.epoch past)
-    (client_kept s c past n x.boot e h (h.clients n).known file reach_ (record { runs = λ o. refl; begins = refl }) (λ f. refl))
-    (λ head call f. call_known (view h.floors c n) x.boot head call f) (reply_still n (view h.floors c n) e past file reach_ (λ f. refl)) (nothing_new _ _) (λ a x z. inl x) refl)
+    turned_goes s past n false _ (moves s c past n (h.floors n) (record { state = x; lines = lines.Restart (Client n) x.epoch ∷ []; sent = [] }) h (h.own n) ((refl, tt), tt) (restart_passes s n x.epoch past)
+    (client_kept s c past n (boot_of the_server x.boots) e h (h.clients n).known file reach_ (record { runs = λ s o. refl; begins = refl }) (λ f. refl))
+    (λ head call f. call_known (view h.floors c n) (boot_of the_server x.boots) head call f) (reply_still n (view h.floors c n) e past file reach_ (λ f. refl)) (nothing_new _ _) (λ a x z. inl x) refl)

@@ -1,3 +1,8 @@
+use Rattle.afs_law.proofs.Apart.{apart_used}
+use Rattle.afs_law.proofs.Basics.{some_of}
+use Rattle.afs_num.specs.declared.histories.Body.{Body}
+use Rattle.afs_num.specs.declared.histories.ReadBody.{ReadBody}
+use Rattle.afs_num.specs.declared.histories.ReadBody.TheVariants as seen
 use Rattle.std.proofs.Common.{◌≡◌, ℕ, zero, suc, ◌<◌, ◌≤◌, ◌⊎◌, inl, inr, Bool, true, false, cond, nat_lt, List, [], ◌∷◌, ◌++◌, Option, Some, None, pos, refl, sym, ap, subst, ◌∙◌, arith, append-nil, ltb-true}
 use Rattle.std.specs.Prelude.{⊤, ◌&&◌}
 use Rattle.std.specs.Option.{option_map}
@@ -18,20 +23,20 @@ use Rattle.afs_num.specs.declared.histories.ReadSource.TheVariants.{Cached, Fetc
 use Rattle.afs_law.proofs.Asking.{same_entry, own_read, used_found, step_entry}
 use Rattle.afs_law.proofs.Basics.{same_fid-true, found-cached-fid, raised_up_to, both}
 use Rattle.afs_law.proofs.Edits.{index_in}
-use Rattle.afs_law.proofs.Facts.{Held, IsNewest, IsCurrent, View, Reached, LastRan, Holds}
+use Rattle.afs_law.proofs.Facts.{AreApart, IsBody, IsWhole, Held, IsNewest, IsCurrent, View, Reached, LastRan, Holds}
 use Rattle.afs_law.proofs.Passing.{PassesGrant, held_over, onto_front, stays}
 use Rattle.afs_law.proofs.Quiet.{AreQuiet, quiet_more, quiet_grant, quiet_last, quiet_clock, reach_more}
-use Rattle.afs_law.specs.ClientRow.{the_server, find_cached, used_first, Look, Walked, walked, walked_by, walked_at, look_at, looked, is_trusted}
-use Rattle.afs_law.specs.Going.{Going, Need, reads, asks_for, answers, next, with_read}
+use Rattle.afs_rows.specs.ClientRow.{body_seen, shown_by, walked_with, find_cached, used_first, Look, Walked, walked, walked_by, walked_at, look_at, looked, is_trusted}
+use Rattle.afs_rows.specs.Going.{reads_status, reads_statuses, reads_rights, gives_back, Going, Need, reads, asks_for, answers, next, with_read}
 use Rattle.afs_law.specs.Grants.{has_fetched, fetch_reply, read_reply, since, IsWithdrawn, IsDropped}
 use Rattle.afs_law.specs.Ideal.{last_version, HasVersion, IsLast, clock_of, Reach, reach_over, reach, is_zero_code}
-use Rattle.afs_law.specs.Legal.{AreGood, GoodRead}
-use Rattle.afs_law.specs.Lines.{Line}
+use Rattle.afs_law.specs.Legal.{AreGood, GoodRead, Shows}
+use Rattle.afs_history.specs.declared.lines.Line.{Line}
 use Rattle.afs_law.specs.Past.{onto, lines_of, sent_of, given_message, running, IsCallUnder}
-use Rattle.afs_law.specs.Runs.{Entry, Cell}
-use Rattle.afs_law.specs.States.{CacheEntry}
-use Rattle.afs_law.specs.ClientRow as ClientRow
-use Rattle.afs_law.specs.Lines as lines
+use Rattle.afs_rows.specs.Runs.{the_server, Entry, Cell}
+use Rattle.afs_rows.specs.States.{CacheEntry}
+use Rattle.afs_rows.specs.ClientRow as ClientRow
+use Rattle.afs_history.specs.declared.lines.Line.TheVariants as lines
 
 -- An act that reads from its client's cache.
 
@@ -97,7 +102,8 @@ tail_given n (l ∷ ls) sent t = absurd t.0
 pub record Ready (n most : ℕ) (g : Fid) (u : CacheEntry) (ls : List Line) (past : List Entry) : Type 0 where
   pub reply : Message
   pub boot : reply.head.boot ≤ most
-  pub held : Held false n g u.index u.body u.expiry reply past
+  pub from : u.server ≡ the_server
+  pub held : Held false n g u.index u.status u.body u.expiry reply past
   pub newest : IsNewest held.grant.server n g u.index (since (Client n) g u.expiry reply past held.grant) (lines_of past)
   pub low : (reach_over (Client n) g past false (reach (Client n) g past) ls).seen ≤ u.index
   pub by : read_reply (Client n) g Cached past (onto [] ls) ≡ Some reply
@@ -106,19 +112,33 @@ pub record Ready (n most : ℕ) (g : Fid) (u : CacheEntry) (ls : List Line) (pas
 pub record Walks (s : Script) (c : Cell) (past : List Entry) (n most : ℕ) (ls : List Line) (a : Going) (cache : List CacheEntry) : Type 0 where
   pub good : (tail : List Line) → AreGood s (actors.Node (Client n)) past (onto [] ls) tail → AreGood s (actors.Node (Client n)) past [] (ls ++ tail)
   pub quiet : AreQuiet n ls
-  pub runs : running (Client n) (onto (lines_of past) ls) ≡ Some a
+  pub runs : running s (Client n) (onto (lines_of past) ls) ≡ Some a
   pub ready : (g : Fid) (u : CacheEntry) → find_cached g cache ≡ Some u → c.clock < u.expiry → Ready n most g u ls past
   pub up : (g : Fid) → (reach_over (Client n) g past false (reach (Client n) g past) ls).seen ≤ index_in (last_version g (lines_of past))
   pub made : (g : Fid) → (reach_over (Client n) g past false (reach (Client n) g past) ls).made ≡ 0
   pub dull : (tail : List Line) → AreTail n tail → (k : Key) (boot : ℕ) → IsCallUnder the_server k boot (given_message (ls ++ tail) (sent_of past)) → ⊥
 
+-- what an entry shows is that of its version
+pub body_shows : (b : Option Body) (f : Fid) (i : ℕ) (is : Body) (body : ReadBody) (past : List Entry) (own : List Line) → IsBody b is → HasVersion f i is (own ++ lines_of past) → body_seen b ≡ Some body → Shows f i body past own
+body_shows None f i is body past own h told e = absurd cc
+body_shows (Some k) f i is body past own h told e = subst (λ (y : ReadBody). Shows f i y past own) (some_of (seen.Contents k) body e) (subst (λ (y : Body). HasVersion f i y (own ++ lines_of past)) (sym h) told)
+
+pub shown_good : (need : Need) (u : CacheEntry) (body : ReadBody) (past : List Entry) (own : List Line) → (w : IsWhole u.fid u.index u.status u.body past) → HasVersion u.fid u.index w.is (own ++ lines_of past) → shown_by need u ≡ Some body → Shows u.fid u.index body past own
+shown_good (reads f) u body past own w told e = body_shows u.body u.fid u.index w.is body past own w.holds told e
+shown_good (reads_status f) u body past own w told e = subst (λ (y : ReadBody). Shows u.fid u.index y past own) (some_of (seen.Status u.status) body e) ((w.is, told), w.been)
+shown_good (reads_statuses fs) u body past own w told e = absurd cc
+shown_good (reads_rights f) u body past own w told e = absurd cc
+shown_good (asks_for call) u body past own w told e = absurd cc
+shown_good gives_back u body past own w told e = absurd cc
+shown_good (answers code) u body past own w told e = absurd cc
+
 -- what can be read is read well
-pub ready_good : (s : Script) (c : Cell) (past : List Entry) (n most : ℕ) (ls : List Line) (u : CacheEntry) → Holds s c past → AreQuiet n ls → c.clock < u.expiry → Ready n most u.fid u ls past → GoodRead (Client n) u.fid u.index Cached u.body past (onto [] ls)
-ready_good s c past n most ls u h q lasts r =
+pub ready_good : (s : Script) (c : Cell) (past : List Entry) (n most : ℕ) (ls : List Line) (need : Need) (u : CacheEntry) (body : ReadBody) → Holds s c past → AreQuiet n ls → c.clock < u.expiry → shown_by need u ≡ Some body → Ready n most u.fid u ls past → GoodRead (Client n) u.fid u.index Cached body past (onto [] ls)
+ready_good s c past n most ls need u body h q lasts shown r =
     let p : PassesGrant n u.fid (step_entry n ls []) past = quiet_grant n n u.fid ls [] past q in
     let new : List Line = since (Client n) u.fid u.expiry r.reply past r.held.grant in
     record {
-      whole = subst (HasVersion u.fid u.index u.body) (own_lines ls (lines_of past)) (p.version u.index u.body (lines_of past) r.held.whole);
+      whole = shown_good need u body past (onto [] ls) r.held.whole (subst (HasVersion u.fid u.index r.held.whole.is) (own_lines ls (lines_of past)) (p.version u.index r.held.whole.is (lines_of past) r.held.whole.told)) shown;
       not_older = subst (λ (o : List Line). (reach_over (Client n) u.fid past false (reach (Client n) u.fid past) o).seen ≤ u.index) (sym (back_again ls)) r.low;
       reply = r.reply;
       by = r.by;
@@ -133,22 +153,23 @@ ready_good s c past n most ls u h q lasts r =
     }
 
 -- the act reads an entry
-pub walks_read : (s : Script) (c : Cell) (past : List Entry) (n most : ℕ) (ls : List Line) (a : Going) (cache : List CacheEntry) (u : CacheEntry) → Holds s c past → Walks s c past n most ls a cache → find_cached u.fid cache ≡ Some u → c.clock < u.expiry
-    → Walks s c past n most (ls ++ lines.Read (Client n) u.fid u.index Cached u.body ∷ []) (with_read u.fid u.body a) (used_first u cache)
-walks_read s c past n most ls a cache u h w found lasts =
-    let x : Line = lines.Read (Client n) u.fid u.index Cached u.body in
+pub walks_read : (s : Script) (c : Cell) (past : List Entry) (n most : ℕ) (ls : List Line) (a : Going) (cache : List CacheEntry) (need : Need) (u : CacheEntry) (body : ReadBody) → Holds s c past → Walks s c past n most ls a cache → find_cached u.fid cache ≡ Some u → c.clock < u.expiry → shown_by need u ≡ Some body
+    → Walks s c past n most (ls ++ lines.Read (Client n) u.fid u.index Cached body ∷ []) (with_read u.fid body a) (used_first u cache)
+walks_read s c past n most ls a cache need u body h w found lasts shown =
+    let x : Line = lines.Read (Client n) u.fid u.index Cached body in
     let r : Ready n most u.fid u ls past = w.ready u.fid u found lasts in
     let more : (g : Fid) → reach_over (Client n) g past false (reach (Client n) g past) (ls ++ x ∷ []) ≡ reach_over (Client n) g past false (reach_over (Client n) g past false (reach (Client n) g past) ls) (x ∷ []) = λ g. reach_more n (Client n) g past (reach (Client n) g past) ls (x ∷ []) w.quiet in
     record {
-      good = λ tail g. subst (AreGood s (actors.Node (Client n)) past []) (sym (lines_assoc ls tail x)) (w.good (x ∷ tail) ((refl, ready_good s c past n most ls u h w.quiet lasts r), subst (λ (o : List Line). AreGood s (actors.Node (Client n)) past o tail) (onto_last [] ls x) g));
+      good = λ tail g. subst (AreGood s (actors.Node (Client n)) past []) (sym (lines_assoc ls tail x)) (w.good (x ∷ tail) ((refl, ready_good s c past n most ls need u body h w.quiet lasts shown r), subst (λ (o : List Line). AreGood s (actors.Node (Client n)) past o tail) (onto_last [] ls x) g));
       quiet = quiet_more n ls (x ∷ []) w.quiet (refl, tt);
-      runs = ap (running (Client n)) (onto_last (lines_of past) ls x) ∙ own_read n u.fid u.body a (running (Client n) (onto (lines_of past) ls)) w.runs;
+      runs = ap (running s (Client n)) (onto_last (lines_of past) ls x) ∙ own_read n u.fid body a (running s (Client n) (onto (lines_of past) ls)) w.runs;
       ready = λ g v at lasts'.
           let before : find_cached g cache ≡ Some v = used_found g u cache v found at in
           let q : Ready n most g v ls past = w.ready g v before lasts' in
           record {
             reply = q.reply;
             boot = q.boot;
+            from = q.from;
             held = q.held;
             newest = q.newest;
             low = subst (λ (z : Reach). z.seen ≤ v.index) (sym (more g)) (raised_up_to (same_node (Client n) (Client n) && same_fid u.fid g) u.index (reach_over (Client n) g past false (reach (Client n) g past) ls).seen v.index
@@ -157,35 +178,46 @@ walks_read s c past n most ls a cache u h w found lasts =
             later = λ tail t. subst (λ (o : List Line). cond (has_fetched (Client n) g o) (given_message o (sent_of past)) (fetch_reply (Client n) g past) ≡ Some q.reply) (sym (lines_assoc ls tail x)) (q.later (x ∷ tail) (refl, t));
           };
       up = λ g. subst (λ (z : Reach). z.seen ≤ index_in (last_version g (lines_of past))) (sym (more g)) (raised_up_to (same_node (Client n) (Client n) && same_fid u.fid g) u.index (reach_over (Client n) g past false (reach (Client n) g past) ls).seen (index_in (last_version g (lines_of past)))
-          (λ t. subst (λ (f : Fid). u.index ≤ index_in (last_version f (lines_of past))) (same_fid-true u.fid g (both (same_node (Client n) (Client n)) (same_fid u.fid g) t).1) (h.top u.fid u.index u.body r.held.whole)) (w.up g));
+          (λ t. subst (λ (f : Fid). u.index ≤ index_in (last_version f (lines_of past))) (same_fid-true u.fid g (both (same_node (Client n) (Client n)) (same_fid u.fid g) t).1) (h.top u.fid u.index r.held.whole.is r.held.whole.told)) (w.up g));
       made = λ g. ap (λ (z : Reach). z.made) (more g) ∙ w.made g;
       dull = λ tail t k boot y. w.dull (x ∷ tail) (refl, t) k boot (subst (λ (o : List Line). IsCallUnder the_server k boot (given_message o (sent_of past))) (lines_assoc ls tail x) y);
     }
 
 -- as far as it comes
-pub walks_if : (t : Bool) (k : ℕ) (s : Script) (c : Cell) (past : List Entry) (n most : ℕ) (ls : List Line) (a : Going) (cache : List CacheEntry) (f : Fid) (u : CacheEntry) → Holds s c past → Walks s c past n most ls a cache → find_cached f cache ≡ Some u → nat_lt c.clock u.expiry ≡ t
+pub walks_with : (o : Option ReadBody) (k : ℕ) (s : Script) (c : Cell) (past : List Entry) (n most : ℕ) (ls : List Line) (a : Going) (cache : List CacheEntry) (need : Need) (u : CacheEntry) → Holds s c past → Walks s c past n most ls a cache → find_cached u.fid cache ≡ Some u → c.clock < u.expiry → shown_by need u ≡ o
     → ((a : Going) (cache : List CacheEntry) (ls : List Line) → Walks s c past n most ls a cache → Walks s c past n most (ls ++ looked (Client n) (walked k c.clock a cache).looks []) (walked k c.clock a cache).act (walked k c.clock a cache).cache)
-    → Walks s c past n most (ls ++ looked (Client n) (cond t (ClientRow.behind (look_at Cached u) (walked k c.clock (with_read u.fid u.body a) (used_first u cache))) (ClientRow.stays a cache)).looks []) (cond t (ClientRow.behind (look_at Cached u) (walked k c.clock (with_read u.fid u.body a) (used_first u cache))) (ClientRow.stays a cache)).act (cond t (ClientRow.behind (look_at Cached u) (walked k c.clock (with_read u.fid u.body a) (used_first u cache))) (ClientRow.stays a cache)).cache
-walks_if true k s c past n most ls a cache f u h w found lasts ih =
+    → Walks s c past n most (ls ++ looked (Client n) (walked_with (walked k c.clock) a cache u o).looks []) (walked_with (walked k c.clock) a cache u o).act (walked_with (walked k c.clock) a cache u o).cache
+walks_with None k s c past n most ls a cache need u h w found lasts shown ih = subst (λ (o : List Line). Walks s c past n most o a cache) (sym (append-nil ls)) w
+walks_with (Some body) k s c past n most ls a cache need u h w found lasts shown ih =
+    let x : Line = lines.Read (Client n) u.fid u.index Cached body in
+    let next : Walked = walked k c.clock (with_read u.fid body a) (used_first u cache) in
+    subst (λ (o : List Line). Walks s c past n most o next.act next.cache) (lines_assoc ls (looked (Client n) next.looks []) x)
+    (ih (with_read u.fid body a) (used_first u cache) (ls ++ x ∷ []) (walks_read s c past n most ls a cache need u body h w found lasts shown))
+
+pub walks_if : (t : Bool) (k : ℕ) (s : Script) (c : Cell) (past : List Entry) (n most : ℕ) (ls : List Line) (a : Going) (cache : List CacheEntry) (need : Need) (f : Fid) (u : CacheEntry) → Holds s c past → Walks s c past n most ls a cache → find_cached f cache ≡ Some u → nat_lt c.clock u.expiry ≡ t
+    → ((a : Going) (cache : List CacheEntry) (ls : List Line) → Walks s c past n most ls a cache → Walks s c past n most (ls ++ looked (Client n) (walked k c.clock a cache).looks []) (walked k c.clock a cache).act (walked k c.clock a cache).cache)
+    → (let w : Walked = cond t (walked_with (walked k c.clock) a cache u (shown_by need u)) (ClientRow.stays a cache) in Walks s c past n most (ls ++ looked (Client n) w.looks []) w.act w.cache)
+walks_if true k s c past n most ls a cache need f u h w found lasts ih =
     let own : u.fid ≡ f = same_fid-true u.fid f (found-cached-fid f cache u found) in
     let there : find_cached u.fid cache ≡ Some u = ap (λ (x : Fid). find_cached x cache) own ∙ found in
-    let x : Line = lines.Read (Client n) u.fid u.index Cached u.body in
-    let next : Walked = walked k c.clock (with_read u.fid u.body a) (used_first u cache) in
-    subst (λ (o : List Line). Walks s c past n most o next.act next.cache) (lines_assoc ls (looked (Client n) next.looks []) x)
-    (ih (with_read u.fid u.body a) (used_first u cache) (ls ++ x ∷ []) (walks_read s c past n most ls a cache u h w there (ltb-true _ _ lasts)))
-walks_if false k s c past n most ls a cache f u h w found lasts ih = subst (λ (o : List Line). Walks s c past n most o a cache) (sym (append-nil ls)) w
+    walks_with (shown_by need u) k s c past n most ls a cache need u h w there (ltb-true _ _ lasts) refl ih
+walks_if false k s c past n most ls a cache need f u h w found lasts ih = subst (λ (o : List Line). Walks s c past n most o a cache) (sym (append-nil ls)) w
 
-pub walks_at : (o : Option CacheEntry) (k : ℕ) (s : Script) (c : Cell) (past : List Entry) (n most : ℕ) (ls : List Line) (a : Going) (cache : List CacheEntry) (f : Fid) → Holds s c past → Walks s c past n most ls a cache → find_cached f cache ≡ o
+pub walks_at : (o : Option CacheEntry) (k : ℕ) (s : Script) (c : Cell) (past : List Entry) (n most : ℕ) (ls : List Line) (a : Going) (cache : List CacheEntry) (need : Need) (f : Fid) → Holds s c past → Walks s c past n most ls a cache → find_cached f cache ≡ o
     → ((a : Going) (cache : List CacheEntry) (ls : List Line) → Walks s c past n most ls a cache → Walks s c past n most (ls ++ looked (Client n) (walked k c.clock a cache).looks []) (walked k c.clock a cache).act (walked k c.clock a cache).cache)
-    → Walks s c past n most (ls ++ looked (Client n) (walked_at (walked k c.clock) c.clock a cache o).looks []) (walked_at (walked k c.clock) c.clock a cache o).act (walked_at (walked k c.clock) c.clock a cache o).cache
-walks_at None k s c past n most ls a cache f h w found ih = subst (λ (o : List Line). Walks s c past n most o a cache) (sym (append-nil ls)) w
-walks_at (Some u) k s c past n most ls a cache f h w found ih = walks_if (nat_lt c.clock u.expiry) k s c past n most ls a cache f u h w found refl ih
+    → Walks s c past n most (ls ++ looked (Client n) (walked_at (walked k c.clock) c.clock a cache need o).looks []) (walked_at (walked k c.clock) c.clock a cache need o).act (walked_at (walked k c.clock) c.clock a cache need o).cache
+walks_at None k s c past n most ls a cache need f h w found ih = subst (λ (o : List Line). Walks s c past n most o a cache) (sym (append-nil ls)) w
+walks_at (Some u) k s c past n most ls a cache need f h w found ih = walks_if (nat_lt c.clock u.expiry) k s c past n most ls a cache need f u h w found refl ih
 
 pub walks_by : (need : Need) (k : ℕ) (s : Script) (c : Cell) (past : List Entry) (n most : ℕ) (ls : List Line) (a : Going) (cache : List CacheEntry) → Holds s c past → Walks s c past n most ls a cache
     → ((a : Going) (cache : List CacheEntry) (ls : List Line) → Walks s c past n most ls a cache → Walks s c past n most (ls ++ looked (Client n) (walked k c.clock a cache).looks []) (walked k c.clock a cache).act (walked k c.clock a cache).cache)
     → Walks s c past n most (ls ++ looked (Client n) (walked_by (walked k c.clock) c.clock a cache need).looks []) (walked_by (walked k c.clock) c.clock a cache need).act (walked_by (walked k c.clock) c.clock a cache need).cache
-walks_by (reads f) k s c past n most ls a cache h w ih = walks_at (find_cached f cache) k s c past n most ls a cache f h w refl ih
+walks_by (reads f) k s c past n most ls a cache h w ih = walks_at (find_cached f cache) k s c past n most ls a cache (reads f) f h w refl ih
+walks_by (reads_status f) k s c past n most ls a cache h w ih = walks_at (find_cached f cache) k s c past n most ls a cache (reads_status f) f h w refl ih
+walks_by (reads_statuses fs) k s c past n most ls a cache h w ih = subst (λ (o : List Line). Walks s c past n most o a cache) (sym (append-nil ls)) w
+walks_by (reads_rights f) k s c past n most ls a cache h w ih = subst (λ (o : List Line). Walks s c past n most o a cache) (sym (append-nil ls)) w
 walks_by (asks_for call) k s c past n most ls a cache h w ih = subst (λ (o : List Line). Walks s c past n most o a cache) (sym (append-nil ls)) w
+walks_by gives_back k s c past n most ls a cache h w ih = subst (λ (o : List Line). Walks s c past n most o a cache) (sym (append-nil ls)) w
 walks_by (answers code) k s c past n most ls a cache h w ih = subst (λ (o : List Line). Walks s c past n most o a cache) (sym (append-nil ls)) w
 
 pub walks_on : (k : ℕ) (s : Script) (c : Cell) (past : List Entry) (n most : ℕ) (ls : List Line) (a : Going) (cache : List CacheEntry) → Holds s c past → Walks s c past n most ls a cache
@@ -193,28 +225,41 @@ pub walks_on : (k : ℕ) (s : Script) (c : Cell) (past : List Entry) (n most : �
 walks_on zero s c past n most ls a cache h w = subst (λ (o : List Line). Walks s c past n most o a cache) (sym (append-nil ls)) w
 walks_on (suc k) s c past n most ls a cache h w = walks_by (next a) k s c past n most ls a cache h w (λ b cs os x. walks_on k s c past n most os b cs h x)
 
+abbrev Uses : (List CacheEntry → Type 0) → Type 0
+Uses P = (f : Fid) (u : CacheEntry) (cache : List CacheEntry) → find_cached u.fid cache ≡ Some u → P cache → P (used_first u cache)
+
+keeps_with : (P : List CacheEntry → Type 0) → Uses P → (o : Option ReadBody) (more : Going → List CacheEntry → Walked) (a : Going) (cache : List CacheEntry) (u : CacheEntry) → ((b : Going) (cs : List CacheEntry) → P cs → P (more b cs).cache) → find_cached u.fid cache ≡ Some u → P cache → P (walked_with more a cache u o).cache
+keeps_with P w None more a cache u ih found h = h
+keeps_with P w (Some body) more a cache u ih found h = ih (with_read u.fid body a) (used_first u cache) (w u.fid u cache found h)
+
+keeps_if : (P : List CacheEntry → Type 0) → Uses P → (t : Bool) (need : Need) (more : Going → List CacheEntry → Walked) (a : Going) (cache : List CacheEntry) (f : Fid) (u : CacheEntry) → ((b : Going) (cs : List CacheEntry) → P cs → P (more b cs).cache) → find_cached f cache ≡ Some u → P cache → P (cond t (walked_with more a cache u (shown_by need u)) (ClientRow.stays a cache)).cache
+keeps_if P w true need more a cache f u ih found h = keeps_with P w (shown_by need u) more a cache u ih (ap (λ (x : Fid). find_cached x cache) (same_fid-true u.fid f (found-cached-fid f cache u found)) ∙ found) h
+keeps_if P w false need more a cache f u ih found h = h
+
+keeps_at : (P : List CacheEntry → Type 0) → Uses P → (o : Option CacheEntry) (need : Need) (more : Going → List CacheEntry → Walked) (clock : ℕ) (a : Going) (cache : List CacheEntry) (f : Fid) → ((b : Going) (cs : List CacheEntry) → P cs → P (more b cs).cache) → find_cached f cache ≡ o → P cache → P (walked_at more clock a cache need o).cache
+keeps_at P w None need more clock a cache f ih found h = h
+keeps_at P w (Some u) need more clock a cache f ih found h = keeps_if P w (nat_lt clock u.expiry) need more a cache f u ih found h
+
+keeps_by : (P : List CacheEntry → Type 0) → Uses P → (need : Need) (more : Going → List CacheEntry → Walked) (clock : ℕ) (a : Going) (cache : List CacheEntry) → ((b : Going) (cs : List CacheEntry) → P cs → P (more b cs).cache) → P cache → P (walked_by more clock a cache need).cache
+keeps_by P w (reads f) more clock a cache ih h = keeps_at P w (find_cached f cache) (reads f) more clock a cache f ih refl h
+keeps_by P w (reads_status f) more clock a cache ih h = keeps_at P w (find_cached f cache) (reads_status f) more clock a cache f ih refl h
+keeps_by P w (reads_statuses fs) more clock a cache ih h = h
+keeps_by P w (reads_rights f) more clock a cache ih h = h
+keeps_by P w (asks_for call) more clock a cache ih h = h
+keeps_by P w gives_back more clock a cache ih h = h
+keeps_by P w (answers code) more clock a cache ih h = h
+
+-- what a walk makes of a cache, by its cases: what holds of it and stays where an entry is used holds behind it
+pub walked_keeps : (P : List CacheEntry → Type 0) → ((f : Fid) (u : CacheEntry) (cache : List CacheEntry) → find_cached u.fid cache ≡ Some u → P cache → P (used_first u cache)) → (k clock : ℕ) (a : Going) (cache : List CacheEntry) → P cache → P (walked k clock a cache).cache
+walked_keeps P w zero clock a cache h = h
+walked_keeps P w (suc k) clock a cache h = keeps_by P w (next a) (walked k clock) clock a cache (λ b cs x. walked_keeps P w k clock b cs x) h
+
+pub walked_apart : (k clock : ℕ) (a : Going) (cache : List CacheEntry) → AreApart cache → AreApart (walked k clock a cache).cache
+walked_apart k clock a cache h = walked_keeps AreApart (λ f u cs found x. apart_used u cs x) k clock a cache h
+
 -- what is in the cache then was in it before
-found_if : (t : Bool) (k clock : ℕ) (a : Going) (cache : List CacheEntry) (f g : Fid) (u v : CacheEntry) → find_cached f cache ≡ Some u → ((b : Going) (cs : List CacheEntry) → find_cached g (walked k clock b cs).cache ≡ Some v → find_cached g cs ≡ Some v)
-    → find_cached g (cond t (ClientRow.behind (look_at Cached u) (walked k clock (with_read u.fid u.body a) (used_first u cache))) (ClientRow.stays a cache)).cache ≡ Some v → find_cached g cache ≡ Some v
-found_if true k clock a cache f g u v found ih at =
-    let own : u.fid ≡ f = same_fid-true u.fid f (found-cached-fid f cache u found) in
-    used_found g u cache v (ap (λ (x : Fid). find_cached x cache) own ∙ found) (ih (with_read u.fid u.body a) (used_first u cache) at)
-found_if false k clock a cache f g u v found ih at = at
-
-found_at : (o : Option CacheEntry) (k clock : ℕ) (a : Going) (cache : List CacheEntry) (f g : Fid) (v : CacheEntry) → find_cached f cache ≡ o → ((b : Going) (cs : List CacheEntry) → find_cached g (walked k clock b cs).cache ≡ Some v → find_cached g cs ≡ Some v)
-    → find_cached g (walked_at (walked k clock) clock a cache o).cache ≡ Some v → find_cached g cache ≡ Some v
-found_at None k clock a cache f g v found ih at = at
-found_at (Some u) k clock a cache f g v found ih at = found_if (nat_lt clock u.expiry) k clock a cache f g u v found ih at
-
-found_by : (need : Need) (k clock : ℕ) (a : Going) (cache : List CacheEntry) (g : Fid) (v : CacheEntry) → ((b : Going) (cs : List CacheEntry) → find_cached g (walked k clock b cs).cache ≡ Some v → find_cached g cs ≡ Some v)
-    → find_cached g (walked_by (walked k clock) clock a cache need).cache ≡ Some v → find_cached g cache ≡ Some v
-found_by (reads f) k clock a cache g v ih at = found_at (find_cached f cache) k clock a cache f g v refl ih at
-found_by (asks_for call) k clock a cache g v ih at = at
-found_by (answers code) k clock a cache g v ih at = at
-
 pub walked_found : (k clock : ℕ) (a : Going) (cache : List CacheEntry) (g : Fid) (v : CacheEntry) → find_cached g (walked k clock a cache).cache ≡ Some v → find_cached g cache ≡ Some v
-walked_found zero clock a cache g v at = at
-walked_found (suc k) clock a cache g v at = found_by (next a) k clock a cache g v (λ b cs x. walked_found k clock b cs g v x) at
+walked_found k clock a cache g v at = walked_keeps (λ cs. find_cached g cs ≡ Some v → find_cached g cache ≡ Some v) (λ f u cs found x y. x (used_found g u cs v found y)) k clock a cache (λ y. y) at
 
 -- ---- behind the entry
 
@@ -256,7 +301,8 @@ walk_current s c past n most ls a cache tail ms v g u w t ends le free found las
       reply = r.reply;
       boot = le_trans r.boot le;
       by = r.later tail t;
-      held = held_over n g u.index u.body u.expiry r.reply e past p r.held;
+      from = r.from;
+      held = held_over n g u.index u.status u.body u.expiry r.reply e past p r.held;
       state = inl (record {
         reached = (walk_reach s c past n most ls a cache tail ms g u.index w ends r.low).seen;
         newest = stays n g e past p (quiet_last n g (ls ++ tail) q (lines_of past)) r.held.grant.server u.index (since (Client n) g u.expiry r.reply past r.held.grant) r.held.server r.newest;
@@ -267,4 +313,4 @@ walk_current s c past n most ls a cache tail ms v g u w t ends le free found las
 -- an act that needs no more is answered
 pub walk_answered : (s : Script) (c : Cell) (past : List Entry) (n most : ℕ) (ls : List Line) (a : Going) (cache : List CacheEntry) (k : ℕ) → Walks s c past n most ls a cache → next a ≡ answers k → AreGood s (actors.Node (Client n)) past [] (ls ++ lines.Answer (Client n) (record { 0 = pos k }) ∷ [])
 walk_answered s c past n most ls a cache k w e =
-    w.good (lines.Answer (Client n) (record { 0 = pos k }) ∷ []) ((refl, record { act = a; runs = ap (running (Client n)) (sym (own_lines ls (lines_of past))) ∙ w.runs; cause = inr (inl (record { number = k; is = refl; by = e })) }), tt)
+    w.good (lines.Answer (Client n) (record { 0 = pos k }) ∷ []) ((refl, record { act = a; runs = ap (running s (Client n)) (sym (own_lines ls (lines_of past))) ∙ w.runs; cause = inr (inl (record { number = k; is = refl; by = e })) }), tt)

@@ -1,4 +1,9 @@
+use Rattle.afs_records.specs.Records.{record_bytes, head_form, volume_form}
+use Rattle.afs_rows.specs.ServerSteps.{server_row, back_timeout_row, wake_row, start_row}
 -- Worked runs: breaks that overtake a reply, that are never answered, that wait behind a restart, and those of a change of two versions.
+use Rattle.afs_num.specs.declared.histories.ReadBody.TheVariants as seen
+use Rattle.afs_history.specs.declared.acts.Act.TheVariants as acts
+use Rattle.afs_history.specs.declared.acts.Operand.TheVariants as operands
 use Rattle.afs_num.specs.declared.histories.Actor.TheVariants as actors
 use Rattle.afs_ideal.specs.Volumes.{Volume}
 use Rattle.afs_ideal.specs.Tables.{Table}
@@ -15,19 +20,17 @@ use Rattle.afs_ideal.specs.Directories.{directory_bytes, name_bytes, directory_o
 use Rattle.afs_ideal.specs.SetUp.{laid_at, led}
 use Rattle.afs_ideal.specs.VnodeImage.{image}
 use Rattle.afs_law.proofs.Law.{legal}
-use Rattle.afs_law.specs.Acts.{Open, Close, Remove, SetMode, at_fid, at_path}
-use Rattle.afs_law.specs.ClientRow.{begin_row, client_row}
+use Rattle.afs_rows.specs.ClientRow.{begin_row, client_row}
 use Rattle.afs_law.specs.Legal.{Legal}
-use Rattle.afs_law.specs.Lines.{Line}
-use Rattle.afs_law.specs.Records.{change_record, boot_record, first_record, volume_bytes}
-use Rattle.afs_law.specs.Runs.{first_volume, comes_up, steady, waits, starts_again, sets_stop, ticks, server_waits, Entry, Cell, Input, begins, gives, moved, start, Leads}
+use Rattle.afs_history.specs.declared.lines.Line.{Line}
+use Rattle.afs_rows.specs.Runs.{first_volume, comes_up, steady, waits, starts_again, sets_stop, ticks, server_waits, Entry, Cell, Input, begins, gives, moved, start, Leads}
 use Rattle.afs_model.specs.Messages.{spelled}
 use Rattle.afs_num.specs.Names.{name_ok}
 use Rattle.std.specs.Fmt.{digits}
 use Rattle.afs_num.specs.declared.scripts.Script.{Script}
 use Rattle.afs_num.specs.declared.scripts.SetupLine.TheVariants as setup
 use Rattle.afs_num.specs.declared.histories.Body.TheVariants as bodies
-use Rattle.afs_law.specs.Lines as lines
+use Rattle.afs_history.specs.declared.lines.Line.TheVariants as lines
 use Rattle.afs_num.specs.declared.histories.ReadSource.TheVariants.{Cached, Fetched}
 use Rattle.afs_xdr.specs.Words.{opaque, pad, word, opaque_at, word_at, counted_at}
 
@@ -57,43 +60,43 @@ abbrev answer : ℕ → Line
 answer n = lines.Answer (Client n) (record { 0 = pos 0 })
 
 abbrev begun : ℕ → Line
-begun n = lines.Begin (Client n) (Open (at_fid file))
+begun n = lines.Begin (Client n) (acts.Open (operands.Fid file))
 
 abbrev stores : ℕ → Line
-stores n = lines.Begin (Client n) (Close (at_fid file) (codes "def"))
+stores n = lines.Begin (Client n) (acts.Close (operands.Fid file) (codes "def"))
 
 abbrev change : ℕ → List Line
 change n = lines.Change (Server 1) (record { node = Client n; epoch = 1; number = 1 }) 1 ∷ lines.Version (record { fid = file; index = 2; data_version = 2; body = bodies.File (codes "def") }) ∷ []
 
 -- a break before the fetch reply
 abbrev six : List Input
-six = begins 1 (Open (at_fid file)) ∷ gives 1 steady ∷ begins 2 (Close (at_fid file) (codes "def")) ∷ gives 3 steady ∷ gives 4 steady ∷ gives 5 steady ∷ gives 2 steady ∷ gives 6 steady ∷ gives 7 steady ∷ gives 8 steady ∷ []
+six = begins 1 (acts.Open (operands.Fid file)) ∷ gives 1 steady ∷ begins 2 (acts.Close (operands.Fid file) (codes "def")) ∷ gives 3 steady ∷ gives 4 steady ∷ gives 5 steady ∷ gives 2 steady ∷ gives 6 steady ∷ gives 7 steady ∷ gives 8 steady ∷ []
 
 row_six : told (start (script 2)) six ≡
     begun 1 ∷ lines.Given 1 ∷ lines.Grant (Server 1) (Client 1) file 1 7200 ∷ stores 2 ∷ lines.Given 3 ∷ (change 2 ++ lines.Owe (Server 1) (Client 1) (Some file) 1 ∷ lines.Given 4 ∷ lines.Drop (Client 1) file ∷ lines.Given 5 ∷ lines.Settle (Server 1) (Client 1) 1
-    ∷ lines.Given 2 ∷ lines.Given 6 ∷ answer 2 ∷ lines.Given 7 ∷ lines.Grant (Server 1) (Client 1) file 2 7200 ∷ lines.Given 8 ∷ lines.Read (Client 1) file 2 Fetched (bodies.File (codes "def")) ∷ answer 1 ∷ [])
-unfolding moved begin_row client_row change_record boot_record spelled opaque pad word laid_at led name_ok directory_bytes name_bytes rights_of first_record volume_bytes image acl_text digits entry_text
+    ∷ lines.Given 2 ∷ lines.Given 6 ∷ answer 2 ∷ lines.Given 7 ∷ lines.Grant (Server 1) (Client 1) file 2 7200 ∷ lines.Given 8 ∷ lines.Read (Client 1) file 2 Fetched (seen.Contents (bodies.File (codes "def"))) ∷ answer 1 ∷ [])
+unfolding moved begin_row client_row server_row back_timeout_row wake_row start_row record_bytes head_form volume_form spelled opaque pad word laid_at led name_ok directory_bytes name_bytes rights_of image acl_text digits entry_text
 row_six = refl
 
 -- a holder that never answers
 abbrev seven : List Input
-seven = begins 1 (Open (at_fid file)) ∷ gives 1 steady ∷ gives 2 steady ∷ begins 2 (Close (at_fid file) (codes "def")) ∷ gives 3 steady ∷ server_waits 1 ∷ server_waits 1 ∷ server_waits 1 ∷ gives 7 steady ∷ ticks 7199 ∷ begins 1 (Open (at_fid file)) ∷ ticks 1 ∷ begins 1 (Open (at_fid file)) ∷ gives 8 steady ∷ gives 9 steady ∷ []
+seven = begins 1 (acts.Open (operands.Fid file)) ∷ gives 1 steady ∷ gives 2 steady ∷ begins 2 (acts.Close (operands.Fid file) (codes "def")) ∷ gives 3 steady ∷ server_waits (Client 1) ∷ server_waits (Client 1) ∷ server_waits (Client 1) ∷ gives 7 steady ∷ ticks 7199 ∷ begins 1 (acts.Open (operands.Fid file)) ∷ ticks 1 ∷ begins 1 (acts.Open (operands.Fid file)) ∷ gives 8 steady ∷ gives 9 steady ∷ []
 
 row_seven : told (start (script 2)) seven ≡
-    begun 1 ∷ lines.Given 1 ∷ lines.Grant (Server 1) (Client 1) file 1 7200 ∷ lines.Given 2 ∷ lines.Read (Client 1) file 1 Fetched (bodies.File (codes "abc")) ∷ answer 1 ∷ stores 2 ∷ lines.Given 3 ∷ (change 2 ++ lines.Owe (Server 1) (Client 1) (Some file) 1
+    begun 1 ∷ lines.Given 1 ∷ lines.Grant (Server 1) (Client 1) file 1 7200 ∷ lines.Given 2 ∷ lines.Read (Client 1) file 1 Fetched (seen.Contents (bodies.File (codes "abc"))) ∷ answer 1 ∷ stores 2 ∷ lines.Given 3 ∷ (change 2 ++ lines.Owe (Server 1) (Client 1) (Some file) 1
     ∷ lines.Timeout (Server 1) (Client 1) 1 1 1 ∷ lines.Timeout (Server 1) (Client 1) 1 1 2 ∷ lines.Timeout (Server 1) (Client 1) 1 1 3 ∷ lines.Quit (Server 1) (Client 1) 1 ∷ lines.Given 7 ∷ answer 2
-    ∷ lines.Tick 7199 ∷ begun 1 ∷ lines.Read (Client 1) file 1 Cached (bodies.File (codes "abc")) ∷ answer 1 ∷ lines.Tick 1 ∷ begun 1 ∷ lines.Given 8 ∷ lines.Grant (Server 1) (Client 1) file 2 14400 ∷ lines.Given 9 ∷ lines.Read (Client 1) file 2 Fetched (bodies.File (codes "def")) ∷ answer 1 ∷ [])
-unfolding moved begin_row client_row change_record boot_record spelled opaque pad word laid_at led name_ok directory_bytes name_bytes rights_of first_record volume_bytes image acl_text digits entry_text
+    ∷ lines.Tick 7199 ∷ begun 1 ∷ lines.Read (Client 1) file 1 Cached (seen.Contents (bodies.File (codes "abc"))) ∷ answer 1 ∷ lines.Tick 1 ∷ begun 1 ∷ lines.Given 8 ∷ lines.Grant (Server 1) (Client 1) file 2 14400 ∷ lines.Given 9 ∷ lines.Read (Client 1) file 2 Fetched (seen.Contents (bodies.File (codes "def"))) ∷ answer 1 ∷ [])
+unfolding moved begin_row client_row server_row back_timeout_row wake_row start_row record_bytes head_form volume_form spelled opaque pad word laid_at led name_ok directory_bytes name_bytes rights_of image acl_text digits entry_text
 row_seven = refl
 
 -- a stop after the gate was written: the kept reply waits for the break on all
 abbrev eight : List Input
-eight = begins 1 (Close (at_fid file) (codes "def")) ∷ sets_stop 3 1 ∷ gives 1 steady ∷ starts_again true comes_up ∷ waits 1 ∷ gives 3 steady ∷ gives 4 steady ∷ gives 5 steady ∷ gives 2 steady ∷ gives 6 steady ∷ gives 7 steady ∷ []
+eight = begins 1 (acts.Close (operands.Fid file) (codes "def")) ∷ sets_stop 3 1 ∷ gives 1 steady ∷ starts_again true comes_up ∷ waits 1 ∷ gives 3 steady ∷ gives 4 steady ∷ gives 5 steady ∷ gives 2 steady ∷ gives 6 steady ∷ gives 7 steady ∷ []
 
 row_eight : told (start (script 1)) eight ≡
     stores 1 ∷ lines.Stop (Server 1) 3 1 ∷ lines.Given 1 ∷ lines.Crash (Server 1) ∷ (change 1 ++ lines.Restart (Server 1) 2 ∷ lines.Owe (Server 1) (Client 1) None 1 ∷ lines.Timeout (Client 1) (Server 1) 1 1 1 ∷ lines.Given 3 ∷ lines.Given 4 ∷ lines.Given 5
     ∷ lines.Given 2 ∷ lines.DropAll (Client 1) (Server 1) ∷ lines.Given 6 ∷ lines.Settle (Server 1) (Client 1) 1 ∷ lines.Given 7 ∷ answer 1 ∷ [])
-unfolding moved begin_row client_row change_record boot_record spelled opaque pad word laid_at led name_ok directory_bytes name_bytes rights_of first_record volume_bytes image acl_text digits entry_text
+unfolding moved begin_row client_row server_row back_timeout_row wake_row start_row record_bytes head_form volume_form spelled opaque pad word laid_at led name_ok directory_bytes name_bytes rights_of image acl_text digits entry_text
 row_eight = refl
 
 -- a file that two hold is removed from a directory that one of them holds too: breaks by ascending vnode, then in the order of
@@ -109,13 +112,13 @@ abbrev code : ℕ → ℕ → Line
 code n k = lines.Answer (Client n) (record { 0 = pos k })
 
 abbrev nine : List Input
-nine = begins 1 (Open (at_fid root)) ∷ gives 1 steady ∷ begins 2 (Open (at_fid file)) ∷ gives 3 steady ∷ gives 2 steady ∷ begins 1 (Open (at_fid file)) ∷ gives 5 steady ∷ begins 3 (Remove (record { volume = home; names = codes "a" ∷ [] })) ∷ gives 7 steady ∷ gives 8 steady ∷ gives 9 steady
+nine = begins 1 (acts.Open (operands.Fid root)) ∷ gives 1 steady ∷ begins 2 (acts.Open (operands.Fid file)) ∷ gives 3 steady ∷ gives 2 steady ∷ begins 1 (acts.Open (operands.Fid file)) ∷ gives 5 steady ∷ begins 3 (acts.Remove (record { volume = codes "proj"; names = codes "a" ∷ [] })) ∷ gives 7 steady ∷ gives 8 steady ∷ gives 9 steady
     ∷ gives 10 steady ∷ gives 11 steady ∷ gives 12 steady ∷ gives 13 steady ∷ gives 14 steady ∷ gives 6 steady ∷ gives 15 steady ∷ gives 16 steady ∷ []
 
 row_nine : filter is_told (told (start (script 3)) nine) ≡
     code 1 21 ∷ lines.Owe (Server 1) (Client 1) (Some root) 1 ∷ lines.Owe (Server 1) (Client 2) (Some file) 2 ∷ lines.Owe (Server 1) (Client 1) (Some file) 3
     ∷ lines.Drop (Client 1) root ∷ lines.Drop (Client 1) file ∷ lines.Drop (Client 2) file ∷ lines.Settle (Server 1) (Client 1) 1 ∷ lines.Settle (Server 1) (Client 1) 3 ∷ lines.Settle (Server 1) (Client 2) 2 ∷ lines.Drop (Client 3) root ∷ code 3 0 ∷ code 1 102 ∷ []
-unfolding moved begin_row client_row change_record boot_record spelled opaque pad word laid_at led name_ok directory_bytes name_bytes rights_of first_record volume_bytes image acl_text digits entry_text
+unfolding moved begin_row client_row server_row back_timeout_row wake_row start_row record_bytes head_form volume_form spelled opaque pad word laid_at led name_ok directory_bytes name_bytes rights_of image acl_text digits entry_text
 row_nine = refl
 
 -- ---- without their breaks these runs aren't legal
@@ -132,27 +135,27 @@ abbrev without : Entry → Entry
 without e = record e { lines = filter (λ l. not (is_owe l)) e.lines }
 
 abbrev six_front : List Input
-six_front = begins 1 (Open (at_fid file)) ∷ gives 1 steady ∷ begins 2 (Close (at_fid file) (codes "def")) ∷ gives 3 steady ∷ []
+six_front = begins 1 (acts.Open (operands.Fid file)) ∷ gives 1 steady ∷ begins 2 (acts.Close (operands.Fid file) (codes "def")) ∷ gives 3 steady ∷ []
 
 -- with them it is: so far they are told
 owed_is_legal : (c : Cell) → Leads (start (script 2)) six_front (entries (start (script 2)) six_front) c → Legal (entries (start (script 2)) six_front) (script 2)
 owed_is_legal c r = legal (script 2) (entries (start (script 2)) six_front) c (refl, (refl, tt)) (record { inputs = six_front; leads = r })
 
 not_owed : Legal (map without (entries (start (script 2)) six_front)) (script 2) → ⊥
-unfolding moved begin_row client_row change_record boot_record spelled opaque pad word laid_at led name_ok directory_bytes name_bytes rights_of first_record volume_bytes image acl_text digits entry_text
+unfolding moved begin_row client_row server_row back_timeout_row wake_row start_row record_bytes head_form volume_form spelled opaque pad word laid_at led name_ok directory_bytes name_bytes rights_of image acl_text digits entry_text
 not_owed h = h.1.1.1.0.0.0.1.0.1.owed 1 file 7200 (λ e. absurd cc) (inl refl) refl (omega arith)
 
 abbrev eight_front : List Input
-eight_front = begins 1 (Close (at_fid file) (codes "def")) ∷ sets_stop 3 1 ∷ gives 1 steady ∷ starts_again true comes_up ∷ []
+eight_front = begins 1 (acts.Close (operands.Fid file) (codes "def")) ∷ sets_stop 3 1 ∷ gives 1 steady ∷ starts_again true comes_up ∷ []
 
 not_all_owed : Legal (map without (entries (start (script 1)) eight_front)) (script 1) → ⊥
-unfolding moved begin_row client_row change_record boot_record spelled opaque pad word laid_at led name_ok directory_bytes name_bytes rights_of first_record volume_bytes image acl_text digits entry_text
+unfolding moved begin_row client_row server_row back_timeout_row wake_row start_row record_bytes head_form volume_form spelled opaque pad word laid_at led name_ok directory_bytes name_bytes rights_of image acl_text digits entry_text
 not_all_owed h = h.1.1.1.0.0.0.1.1.0.1 1 (omega arith) (omega arith)
 
 -- ---- a walk, the last read of which a break overtakes: it is fetched again, and the act ends in one answer
 
 abbrev walked : List Input
-walked = begins 1 (Open (at_path (record { volume = home; names = codes "a" ∷ [] }))) ∷ gives 1 steady ∷ gives 2 steady ∷ gives 3 steady ∷ begins 2 (Close (at_fid file) (codes "def")) ∷ gives 5 steady ∷ gives 6 steady ∷ gives 4 steady ∷ gives 7 steady ∷ gives 8 steady ∷ gives 10 steady ∷ []
+walked = begins 1 (acts.Open (operands.Path (record { volume = codes "proj"; names = codes "a" ∷ [] }))) ∷ gives 1 steady ∷ gives 2 steady ∷ gives 3 steady ∷ begins 2 (acts.Close (operands.Fid file) (codes "def")) ∷ gives 5 steady ∷ gives 6 steady ∷ gives 4 steady ∷ gives 7 steady ∷ gives 8 steady ∷ gives 10 steady ∷ []
 
 abbrev is_walked : Line → Bool
 is_walked (lines.Given p) = false
@@ -160,10 +163,10 @@ is_walked (lines.Version v) = false
 is_walked l = true
 
 row_walked : filter is_walked (told (start (script 2)) walked) ≡
-    lines.Begin (Client 1) (Open (at_path (record { volume = home; names = codes "a" ∷ [] }))) ∷ lines.Grant (Server 1) (Client 1) root 1 7200 ∷ lines.Read (Client 1) root 1 Fetched (bodies.Dir (record { name = codes "a"; vnode = 2; unique = 2 } ∷ []))
+    lines.Begin (Client 1) (acts.Open (operands.Path (record { volume = codes "proj"; names = codes "a" ∷ [] }))) ∷ lines.Grant (Server 1) (Client 1) root 1 7200 ∷ lines.Read (Client 1) root 1 Fetched (seen.Contents (bodies.Dir (record { name = codes "a"; vnode = 2; unique = 2 } ∷ [])))
     ∷ lines.Grant (Server 1) (Client 1) file 1 7200 ∷ stores 2 ∷ lines.Change (Server 1) (record { node = Client 2; epoch = 1; number = 1 }) 1 ∷ lines.Owe (Server 1) (Client 1) (Some file) 1 ∷ lines.Drop (Client 1) file
-    ∷ lines.Settle (Server 1) (Client 1) 1 ∷ lines.Grant (Server 1) (Client 1) file 2 7200 ∷ lines.Read (Client 1) file 2 Fetched (bodies.File (codes "def")) ∷ code 1 0 ∷ []
-unfolding moved begin_row client_row change_record boot_record spelled opaque pad word laid_at led name_ok directory_bytes name_bytes rights_of first_record volume_bytes image acl_text digits entry_text directory_of names_at opaque_at word_at counted_at whole_at count_at name_at spelled_at bytes_below
+    ∷ lines.Settle (Server 1) (Client 1) 1 ∷ lines.Grant (Server 1) (Client 1) file 2 7200 ∷ lines.Read (Client 1) file 2 Fetched (seen.Contents (bodies.File (codes "def"))) ∷ code 1 0 ∷ []
+unfolding moved begin_row client_row server_row back_timeout_row wake_row start_row record_bytes head_form volume_form spelled opaque pad word laid_at led name_ok directory_bytes name_bytes rights_of image acl_text digits entry_text directory_of names_at opaque_at word_at counted_at whole_at count_at name_at spelled_at bytes_below
 row_walked = refl
 
 -- the lines of acts, grants, reads and drops alone
@@ -184,52 +187,52 @@ last_entry c (x ∷ y ∷ xs) = last_entry (moved c x).cell (y ∷ xs)
 
 -- the disk stops before the change is on it: the restart has none, and the call runs then, once
 abbrev nine_before : List Input
-nine_before = begins 1 (Close (at_fid file) (codes "def")) ∷ sets_stop 3 0 ∷ gives 1 steady ∷ starts_again false comes_up ∷ waits 1 ∷ gives 3 steady ∷ gives 4 steady ∷ gives 5 steady ∷ gives 2 steady ∷ gives 6 steady ∷ gives 7 steady ∷ []
+nine_before = begins 1 (acts.Close (operands.Fid file) (codes "def")) ∷ sets_stop 3 0 ∷ gives 1 steady ∷ starts_again false comes_up ∷ waits 1 ∷ gives 3 steady ∷ gives 4 steady ∷ gives 5 steady ∷ gives 2 steady ∷ gives 6 steady ∷ gives 7 steady ∷ []
 
 row_nine_before : told (start (script 1)) nine_before ≡
     stores 1 ∷ lines.Stop (Server 1) 3 0 ∷ lines.Given 1 ∷ lines.Crash (Server 1) ∷ lines.Restart (Server 1) 2 ∷ lines.Owe (Server 1) (Client 1) None 1 ∷ lines.Timeout (Client 1) (Server 1) 1 1 1 ∷ lines.Given 3 ∷ lines.Given 4 ∷ lines.Given 5 ∷ (change 1 ++ lines.Given 2 ∷ lines.DropAll (Client 1) (Server 1)
     ∷ lines.Given 6 ∷ lines.Settle (Server 1) (Client 1) 1 ∷ lines.Given 7 ∷ answer 1 ∷ [])
-unfolding moved begin_row client_row change_record boot_record spelled opaque pad word laid_at led name_ok directory_bytes name_bytes rights_of first_record volume_bytes image acl_text digits entry_text
+unfolding moved begin_row client_row server_row back_timeout_row wake_row start_row record_bytes head_form volume_form spelled opaque pad word laid_at led name_ok directory_bytes name_bytes rights_of image acl_text digits entry_text
 row_nine_before = refl
 
 -- a store whose reply is lost is given up; an open behind it reads what it left
 abbrev ten : List Input
-ten = begins 1 (Close (at_fid file) (codes "def")) ∷ gives 1 steady ∷ waits 1 ∷ waits 1 ∷ waits 1 ∷ begins 1 (Open (at_fid file)) ∷ gives 5 steady ∷ gives 6 steady ∷ []
+ten = begins 1 (acts.Close (operands.Fid file) (codes "def")) ∷ gives 1 steady ∷ waits 1 ∷ waits 1 ∷ waits 1 ∷ begins 1 (acts.Open (operands.Fid file)) ∷ gives 5 steady ∷ gives 6 steady ∷ []
 
 row_ten : told (start (script 1)) ten ≡
     stores 1 ∷ lines.Given 1 ∷ (change 1 ++ lines.Timeout (Client 1) (Server 1) 1 1 1 ∷ lines.Timeout (Client 1) (Server 1) 1 1 2 ∷ lines.Timeout (Client 1) (Server 1) 1 1 3 ∷ lines.Answer (Client 1) (record { 0 = negsuc 0 })
-    ∷ begun 1 ∷ lines.Given 5 ∷ lines.Grant (Server 1) (Client 1) file 2 7200 ∷ lines.Given 6 ∷ lines.Read (Client 1) file 2 Fetched (bodies.File (codes "def")) ∷ answer 1 ∷ [])
-unfolding moved begin_row client_row change_record boot_record spelled opaque pad word laid_at led name_ok directory_bytes name_bytes rights_of first_record volume_bytes image acl_text digits entry_text
+    ∷ begun 1 ∷ lines.Given 5 ∷ lines.Grant (Server 1) (Client 1) file 2 7200 ∷ lines.Given 6 ∷ lines.Read (Client 1) file 2 Fetched (seen.Contents (bodies.File (codes "def"))) ∷ answer 1 ∷ [])
+unfolding moved begin_row client_row server_row back_timeout_row wake_row start_row record_bytes head_form volume_form spelled opaque pad word laid_at led name_ok directory_bytes name_bytes rights_of image acl_text digits entry_text
 row_ten = refl
 
 -- a store of the mode over an older body: the entry isn't just below the new index, so it is given up
 abbrev twenty_two : List Input
-twenty_two = begins 1 (Open (at_fid file)) ∷ gives 1 steady ∷ gives 2 steady ∷ begins 2 (Close (at_fid file) (codes "def")) ∷ gives 3 steady ∷ server_waits 1 ∷ server_waits 1 ∷ server_waits 1 ∷ gives 7 steady
-    ∷ begins 1 (SetMode (at_fid file) 384) ∷ gives 8 steady ∷ gives 9 steady ∷ begins 1 (Open (at_fid file)) ∷ gives 10 steady ∷ gives 11 steady ∷ []
+twenty_two = begins 1 (acts.Open (operands.Fid file)) ∷ gives 1 steady ∷ gives 2 steady ∷ begins 2 (acts.Close (operands.Fid file) (codes "def")) ∷ gives 3 steady ∷ server_waits (Client 1) ∷ server_waits (Client 1) ∷ server_waits (Client 1) ∷ gives 7 steady
+    ∷ begins 1 (acts.SetMode (operands.Fid file) 384) ∷ gives 8 steady ∷ gives 9 steady ∷ begins 1 (acts.Open (operands.Fid file)) ∷ gives 10 steady ∷ gives 11 steady ∷ []
 
 row_twenty_two : filter is_kept (told (start (script 2)) twenty_two) ≡
-    begun 1 ∷ lines.Grant (Server 1) (Client 1) file 1 7200 ∷ lines.Read (Client 1) file 1 Fetched (bodies.File (codes "abc")) ∷ answer 1 ∷ stores 2 ∷ answer 2
-    ∷ lines.Begin (Client 1) (SetMode (at_fid file) 384) ∷ lines.Drop (Client 1) file ∷ answer 1 ∷ begun 1 ∷ lines.Grant (Server 1) (Client 1) file 3 7200 ∷ lines.Read (Client 1) file 3 Fetched (bodies.File (codes "def")) ∷ answer 1 ∷ []
-unfolding moved begin_row client_row change_record boot_record spelled opaque pad word laid_at led name_ok directory_bytes name_bytes rights_of first_record volume_bytes image acl_text digits entry_text
+    begun 1 ∷ lines.Grant (Server 1) (Client 1) file 1 7200 ∷ lines.Read (Client 1) file 1 Fetched (seen.Contents (bodies.File (codes "abc"))) ∷ answer 1 ∷ stores 2 ∷ answer 2
+    ∷ lines.Begin (Client 1) (acts.SetMode (operands.Fid file) 384) ∷ lines.Drop (Client 1) file ∷ answer 1 ∷ begun 1 ∷ lines.Grant (Server 1) (Client 1) file 3 7200 ∷ lines.Read (Client 1) file 3 Fetched (seen.Contents (bodies.File (codes "def"))) ∷ answer 1 ∷ []
+unfolding moved begin_row client_row server_row back_timeout_row wake_row start_row record_bytes head_form volume_form spelled opaque pad word laid_at led name_ok directory_bytes name_bytes rights_of image acl_text digits entry_text
 row_twenty_two = refl
 
 -- an entry just below it is raised, and shown without a message
 abbrev raised : List Input
-raised = begins 1 (Open (at_fid file)) ∷ gives 1 steady ∷ gives 2 steady ∷ begins 1 (SetMode (at_fid file) 384) ∷ gives 3 steady ∷ gives 4 steady ∷ begins 1 (Open (at_fid file)) ∷ []
+raised = begins 1 (acts.Open (operands.Fid file)) ∷ gives 1 steady ∷ gives 2 steady ∷ begins 1 (acts.SetMode (operands.Fid file) 384) ∷ gives 3 steady ∷ gives 4 steady ∷ begins 1 (acts.Open (operands.Fid file)) ∷ []
 
 row_raised : filter is_kept (told (start (script 1)) raised) ≡
-    begun 1 ∷ lines.Grant (Server 1) (Client 1) file 1 7200 ∷ lines.Read (Client 1) file 1 Fetched (bodies.File (codes "abc")) ∷ answer 1 ∷ lines.Begin (Client 1) (SetMode (at_fid file) 384) ∷ answer 1
-    ∷ begun 1 ∷ lines.Read (Client 1) file 2 Cached (bodies.File (codes "abc")) ∷ answer 1 ∷ []
-unfolding moved begin_row client_row change_record boot_record spelled opaque pad word laid_at led name_ok directory_bytes name_bytes rights_of first_record volume_bytes image acl_text digits entry_text
+    begun 1 ∷ lines.Grant (Server 1) (Client 1) file 1 7200 ∷ lines.Read (Client 1) file 1 Fetched (seen.Contents (bodies.File (codes "abc"))) ∷ answer 1 ∷ lines.Begin (Client 1) (acts.SetMode (operands.Fid file) 384) ∷ answer 1
+    ∷ begun 1 ∷ lines.Read (Client 1) file 2 Cached (seen.Contents (bodies.File (codes "abc"))) ∷ answer 1 ∷ []
+unfolding moved begin_row client_row server_row back_timeout_row wake_row start_row record_bytes head_form volume_form spelled opaque pad word laid_at led name_ok directory_bytes name_bytes rights_of image acl_text digits entry_text
 row_raised = refl
 
 -- a walk that the cache knows whole is one step
 abbrev at_once : List Input
-at_once = begins 1 (Open (at_path (record { volume = home; names = codes "a" ∷ [] }))) ∷ gives 1 steady ∷ gives 2 steady ∷ gives 3 steady ∷ gives 4 steady ∷ begins 1 (Open (at_path (record { volume = home; names = codes "a" ∷ [] }))) ∷ []
+at_once = begins 1 (acts.Open (operands.Path (record { volume = codes "proj"; names = codes "a" ∷ [] }))) ∷ gives 1 steady ∷ gives 2 steady ∷ gives 3 steady ∷ gives 4 steady ∷ begins 1 (acts.Open (operands.Path (record { volume = codes "proj"; names = codes "a" ∷ [] }))) ∷ []
 
 row_at_once : option_map (λ (e : Entry). e.lines) (last_entry (start (script 1)) at_once) ≡
-    Some (lines.Begin (Client 1) (Open (at_path (record { volume = home; names = codes "a" ∷ [] }))) ∷ lines.Read (Client 1) root 1 Cached (bodies.Dir (record { name = codes "a"; vnode = 2; unique = 2 } ∷ [])) ∷ lines.Read (Client 1) file 1 Cached (bodies.File (codes "abc")) ∷ answer 1 ∷ [])
-unfolding moved begin_row client_row change_record boot_record spelled opaque pad word laid_at led name_ok directory_bytes name_bytes rights_of first_record volume_bytes image acl_text digits entry_text directory_of names_at opaque_at word_at counted_at whole_at count_at name_at spelled_at bytes_below
+    Some (lines.Begin (Client 1) (acts.Open (operands.Path (record { volume = codes "proj"; names = codes "a" ∷ [] }))) ∷ lines.Read (Client 1) root 1 Cached (seen.Contents (bodies.Dir (record { name = codes "a"; vnode = 2; unique = 2 } ∷ []))) ∷ lines.Read (Client 1) file 1 Cached (seen.Contents (bodies.File (codes "abc"))) ∷ answer 1 ∷ [])
+unfolding moved begin_row client_row server_row back_timeout_row wake_row start_row record_bytes head_form volume_form spelled opaque pad word laid_at led name_ok directory_bytes name_bytes rights_of image acl_text digits entry_text directory_of names_at opaque_at word_at counted_at whole_at count_at name_at spelled_at bytes_below
 row_at_once = refl
 
 -- ---- wrong histories. Each differs from that of a run in one line, or in whose entry it is
@@ -254,15 +257,15 @@ abbrev moved_to : Actor → Entry → Entry
 moved_to o e = record e { actor = o }
 
 begun_elsewhere : Legal (six_by 0 (moved_to (actors.Node (Client 2)))) (script 2) → ⊥
-unfolding moved begin_row client_row change_record boot_record spelled opaque pad word laid_at led name_ok directory_bytes name_bytes rights_of first_record volume_bytes image acl_text digits entry_text
+unfolding moved begin_row client_row server_row back_timeout_row wake_row start_row record_bytes head_form volume_form spelled opaque pad word laid_at led name_ok directory_bytes name_bytes rights_of image acl_text digits entry_text
 begun_elsewhere h = let e : actors.Node (Client 2) ≡ actors.Node (Client 1) = h.0.0.0.0 in absurd cc
 
 granted_elsewhere : Legal (six_by 1 (moved_to (actors.Node (Client 1)))) (script 2) → ⊥
-unfolding moved begin_row client_row change_record boot_record spelled opaque pad word laid_at led name_ok directory_bytes name_bytes rights_of first_record volume_bytes image acl_text digits entry_text
+unfolding moved begin_row client_row server_row back_timeout_row wake_row start_row record_bytes head_form volume_form spelled opaque pad word laid_at led name_ok directory_bytes name_bytes rights_of image acl_text digits entry_text
 granted_elsewhere h = let e : actors.Node (Client 1) ≡ actors.Node (Server 1) = h.1.0.0.0.1.0 in absurd cc
 
 changed_by_nobody : Legal (six_by 3 (moved_to actors.Nobody)) (script 2) → ⊥
-unfolding moved begin_row client_row change_record boot_record spelled opaque pad word laid_at led name_ok directory_bytes name_bytes rights_of first_record volume_bytes image acl_text digits entry_text
+unfolding moved begin_row client_row server_row back_timeout_row wake_row start_row record_bytes head_form volume_form spelled opaque pad word laid_at led name_ok directory_bytes name_bytes rights_of image acl_text digits entry_text
 changed_by_nobody h = let e : actors.Nobody ≡ actors.Node (Server 1) = h.1.1.1.0.0.0.1.0.0 in absurd cc
 
 -- a change that says more versions than follow
@@ -271,7 +274,7 @@ counts_two (lines.Change s k n) = lines.Change s k 2
 counts_two l = l
 
 counted_wrong : Legal (six_by 3 (by_lines counts_two)) (script 2) → ⊥
-unfolding moved begin_row client_row change_record boot_record spelled opaque pad word laid_at led name_ok directory_bytes name_bytes rights_of first_record volume_bytes image acl_text digits entry_text
+unfolding moved begin_row client_row server_row back_timeout_row wake_row start_row record_bytes head_form volume_form spelled opaque pad word laid_at led name_ok directory_bytes name_bytes rights_of image acl_text digits entry_text
 counted_wrong h = apart_numbers 2 1 refl h.1.1.1.0.0.0.1.0.1.number
 
 -- a version under no change
@@ -280,7 +283,7 @@ no_change (lines.Change s k n) = lines.Given 3
 no_change l = l
 
 unchanged : Legal (six_by 3 (by_lines no_change)) (script 2) → ⊥
-unfolding moved begin_row client_row change_record boot_record spelled opaque pad word laid_at led name_ok directory_bytes name_bytes rights_of first_record volume_bytes image acl_text digits entry_text
+unfolding moved begin_row client_row server_row back_timeout_row wake_row start_row record_bytes head_form volume_form spelled opaque pad word laid_at led name_ok directory_bytes name_bytes rights_of image acl_text digits entry_text
 unchanged h = h.1.1.1.0.0.0.1.1.0
 
 -- a break whose number doesn't rise
@@ -289,7 +292,7 @@ nought (lines.Owe s c w n) = lines.Owe s c w 0
 nought l = l
 
 owed_nought : Legal (six_by 3 (by_lines nought)) (script 2) → ⊥
-unfolding moved begin_row client_row change_record boot_record spelled opaque pad word laid_at led name_ok directory_bytes name_bytes rights_of first_record volume_bytes image acl_text digits entry_text
+unfolding moved begin_row client_row server_row back_timeout_row wake_row start_row record_bytes head_form volume_form spelled opaque pad word laid_at led name_ok directory_bytes name_bytes rights_of image acl_text digits entry_text
 owed_nought h = let e : 0 < 0 = h.1.1.1.0.0.0.1.1.1.0.1 in absurd (omega arith)
 
 -- an entry that brings a volume
@@ -300,15 +303,15 @@ no_table : (p : ℕ × Volume) (ps : Table Volume) → p ∷ ps ≡ [] → ⊥
 no_table p ps e = absurd cc
 
 brought_one : Legal (six_by 2 brings) (script 2) → ⊥
-unfolding moved begin_row client_row change_record boot_record spelled opaque pad word laid_at led name_ok directory_bytes name_bytes rights_of first_record volume_bytes image acl_text digits entry_text
+unfolding moved begin_row client_row server_row back_timeout_row wake_row start_row record_bytes head_form volume_form spelled opaque pad word laid_at led name_ok directory_bytes name_bytes rights_of image acl_text digits entry_text
 brought_one h = no_table _ _ h.1.1.0.1
 
 -- what is read isn't what its version holds; or it has another index
 abbrev open_front : List Input
-open_front = begins 1 (Open (at_fid file)) ∷ gives 1 steady ∷ gives 2 steady ∷ []
+open_front = begins 1 (acts.Open (operands.Fid file)) ∷ gives 1 steady ∷ gives 2 steady ∷ []
 
 abbrev shows_other : Line → Line
-shows_other (lines.Read c f i source b) = lines.Read c f i source (bodies.File (codes "xyz"))
+shows_other (lines.Read c f i source b) = lines.Read c f i source (seen.Contents (bodies.File (codes "xyz")))
 shows_other l = l
 
 abbrev later_index : Line → Line
@@ -328,9 +331,9 @@ other_fid : root ≡ file → ⊥
 other_fid e = apart_numbers 1 2 refl (ap (λ (f : Fid). f.vnode) e)
 
 shown_wrong : Legal (alters 2 (by_lines shows_other) (entries (start (script 1)) open_front)) (script 1) → ⊥
-unfolding moved begin_row client_row change_record boot_record spelled opaque pad word laid_at led name_ok directory_bytes name_bytes rights_of first_record volume_bytes image acl_text digits entry_text
+unfolding moved begin_row client_row server_row back_timeout_row wake_row start_row record_bytes head_form volume_form spelled opaque pad word laid_at led name_ok directory_bytes name_bytes rights_of image acl_text digits entry_text
 shown_wrong h = elim h.1.1.0.0.0.1.0.1.whole [ inl x ↦ other_fid x.0 | inr y ↦ elim y [ inl x ↦ other_bytes x.1.1 | inr z ↦ z ] ]
 
 shown_later : Legal (alters 2 (by_lines later_index) (entries (start (script 1)) open_front)) (script 1) → ⊥
-unfolding moved begin_row client_row change_record boot_record spelled opaque pad word laid_at led name_ok directory_bytes name_bytes rights_of first_record volume_bytes image acl_text digits entry_text
+unfolding moved begin_row client_row server_row back_timeout_row wake_row start_row record_bytes head_form volume_form spelled opaque pad word laid_at led name_ok directory_bytes name_bytes rights_of image acl_text digits entry_text
 shown_later h = elim h.1.1.0.0.0.1.0.1.whole [ inl x ↦ other_fid x.0 | inr y ↦ elim y [ inl x ↦ apart_numbers 1 2 refl x.1.0 | inr z ↦ z ] ]

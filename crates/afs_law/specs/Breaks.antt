@@ -1,5 +1,5 @@
 -- What becomes of the breaks that a server owes.
-use Rattle.std.specs.Prelude.{◌≡◌, ℕ, ◌+◌, ◌≤◌, List, [], ◌∷◌, ◌++◌, Bool, cond, ◌&&◌, Option, Some, None, ◌⊎◌, true}
+use Rattle.std.specs.Prelude.{◌≡◌, ℕ, ◌+◌, ◌≤◌, List, [], ◌∷◌, ◌++◌, Bool, cond, ◌&&◌, Option, Some, None, ◌⊎◌, true, false, if◌then◌else◌}
 use Rattle.afs_num.specs.Fids.{same_fid}
 use Rattle.afs_num.specs.Nodes.{same_node}
 use Rattle.afs_num.specs.declared.types.Fid.{Fid}
@@ -8,10 +8,15 @@ use Rattle.afs_num.specs.declared.types.Node.{Node}
 use Rattle.afs_num.specs.declared.calls.FsCall.{FsCall}
 use Rattle.afs_num.specs.declared.calls.FsCall.TheVariants as calls
 use Rattle.afs_law.specs.Ideal.{clock_of}
-use Rattle.afs_law.specs.Lines.{Line}
-use Rattle.afs_law.specs.Past.{onto, lines_on, lines_of, sent_of, given_message, IsCallUnder, Sends}
-use Rattle.afs_law.specs.Runs.{Entry}
-use Rattle.afs_law.specs.Lines as lines
+use Rattle.afs_history.specs.declared.lines.Line.{Line}
+use Rattle.afs_law.specs.Past.{onto, lines_on, lines_of, sent_of, given_message, IsCallUnder, Sends, answered_key, called_key, same_key}
+use Rattle.afs_num.specs.declared.types.Head.{Head}
+use Rattle.afs_num.specs.declared.messages.Carried.{Carried}
+use Rattle.afs_num.specs.declared.messages.Carried.TheVariants as carried
+use Rattle.afs_num.specs.declared.messages.Call.TheVariants as ask
+use Rattle.afs_num.specs.declared.messages.Message.{Message}
+use Rattle.afs_rows.specs.Runs.{Entry}
+use Rattle.afs_history.specs.declared.lines.Line.TheVariants as lines
 
 -- ---- by the lines since, the newest first
 
@@ -64,6 +69,37 @@ live_grant s c f (lines.Drop m g ∷ older) = cond (same_node m c && same_fid g 
 live_grant s c f (lines.DropAll m q ∷ older) = cond (same_node m c && same_node q s) None (live_grant s c f older)
 live_grant s c f (lines.Owe q d w n ∷ older) = cond (same_node q s && (same_node d c && is_on f w)) None (live_grant s c f older)
 live_grant s c f (l ∷ older) = live_grant s c f older
+
+-- ---- the lines before, as a server knows them: what a client gave up by a call is dropped where the server answers the call
+
+abbrev pub fids_given_up : FsCall → List Fid
+fids_given_up (calls.GiveUpCallBacks fids callbacks) = fids
+fids_given_up call = []
+
+-- a reply with code 0
+abbrev pub is_told : Carried → Bool
+is_told (carried.Reply reply) = true
+is_told c = false
+
+abbrev pub has_answer : Key → List Message → Bool
+has_answer k [] = false
+has_answer k (m ∷ ms) = if (same_key (answered_key m.head) k && is_told m.carried) then true else has_answer k ms
+
+abbrev pub drops_of : Node → List Fid → List Line
+drops_of c [] = []
+drops_of c (f ∷ fs) = lines.Drop c f ∷ drops_of c fs
+
+abbrev pub given_up_by : Node → Bool → Head → Carried → List Line
+given_up_by s true head (carried.Call user (ask.File call)) = if same_node head.to s then drops_of head.from (fids_given_up call) else []
+given_up_by s t head c = []
+
+abbrev pub given_up_in : Node → List Message → Option Message → List Line
+given_up_in s sent None = []
+given_up_in s sent (Some m) = given_up_by s (has_answer (called_key m.head) sent) m.head m.carried
+
+abbrev pub lines_at : Node → List Entry → List Line
+lines_at s [] = []
+lines_at s (e ∷ past) = onto (onto (lines_at s past) (given_up_in s e.sent (given_message e.lines (sent_of past)))) e.lines
 
 -- the number of the last break that became owed in this boot
 abbrev pub last_number : Node → List Line → ℕ

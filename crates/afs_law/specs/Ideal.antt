@@ -1,10 +1,14 @@
+use Rattle.afs_ideal.specs.AccessLists.{acl_text}
+use Rattle.afs_num.specs.declared.histories.ReadBody.{ReadBody}
+use Rattle.afs_num.specs.declared.histories.ReadBody.TheVariants as shows
+use Rattle.afs_num.specs.declared.histories.ReadStatus.{ReadStatus}
 use Rattle.afs_ideal.specs.Operations.{the_user, volume_called, changed, op, is_number}
 use Rattle.afs_ideal.specs.Tables.{Table, get}
-use Rattle.afs_ideal.specs.Volumes.{Vnode, version_at, Volume}
-use Rattle.afs_law.specs.Lines.{Line}
+use Rattle.afs_ideal.specs.Volumes.{Vnode, version_at, Volume, body_of, size_of, type_of, vnode_of}
+use Rattle.afs_history.specs.declared.lines.Line.{Line}
 use Rattle.afs_law.specs.Past.{onto, is_of_act, sent_of, is_called}
-use Rattle.afs_law.specs.Runs.{Entry, first_volume, first_volumes}
-use Rattle.afs_law.specs.Scopes.{is_volume}
+use Rattle.afs_rows.specs.Runs.{Entry, first_volume, first_volumes}
+use Rattle.afs_rows.specs.Scopes.{is_volume}
 use Rattle.std.specs.Prelude.{is_some, ◌≡◌, ℕ, ◌+◌, List, [], ◌∷◌, ◌++◌, Bool, true, false, ◌&&◌, Option, Some, None, codes, max, if◌then◌else◌, ◌⊎◌}
 use Rattle.std.specs.Option.{option_map}
 use Rattle.afs_num.specs.Fids.{same_fid}
@@ -21,7 +25,7 @@ use Rattle.afs_num.specs.declared.histories.Version.{Version}
 use Rattle.afs_num.specs.declared.types.Key.{Key}
 use Rattle.afs_num.specs.declared.messages.Carried.{Carried}
 use Rattle.afs_num.specs.declared.messages.Message.{Message}
-use Rattle.afs_law.specs.Lines as lines
+use Rattle.afs_history.specs.declared.lines.Line.TheVariants as lines
 use Rattle.afs_num.specs.declared.messages.Carried.TheVariants as carried
 use Rattle.afs_num.specs.declared.messages.Call.TheVariants as ask
 
@@ -134,6 +138,30 @@ IsThat f index body (Some v) before = ((v.fid ≡ f) × ((v.index ≡ index) × 
 abbrev pub HasVersion : Fid → ℕ → Body → List Line → Type 0
 HasVersion f index body [] = ⊥
 HasVersion f index body (l ∷ older) = IsThat f index body (version_in l) (HasVersion f index body older)
+
+-- ---- what a vnode showed beside its body
+
+abbrev pub shown_status : Vnode → ReadStatus
+shown_status x = record { kind = type_of x.kind; link_count = x.links; length = size_of x; mode = x.mode }
+
+-- the vnode has this index, and this is its status, or the text of its rights
+abbrev pub Tells : ℕ → ReadBody → Vnode → Type 0
+Tells index (shows.Contents body) x = (x.index ≡ index) × (body_of x ≡ body)
+Tells index (shows.Status status) x = (x.index ≡ index) × (shown_status x ≡ status)
+Tells index (shows.AccessList text) x = (x.index ≡ index) × (acl_text x.acl ≡ text)
+
+abbrev pub TellsIn : ℕ → ReadBody → Option Vnode → Type 0
+TellsIn index body None = ⊥
+TellsIn index body (Some x) = Tells index body x
+
+abbrev pub TellsOf : Fid → ℕ → ReadBody → Option Volume → Type 0
+TellsOf f index body None = ⊥
+TellsOf f index body (Some v) = TellsIn index body (vnode_of f v)
+
+-- it did so in the ideal volume of some moment
+abbrev pub HasBeen : Fid → ℕ → ReadBody → List Entry → Type 0
+HasBeen f index body [] = ⊥
+HasBeen f index body (e ∷ past) = TellsOf f index body (volume_after f.volume (e ∷ past)) ⊎ HasBeen f index body past
 
 -- ---- servers and the clock
 

@@ -1,29 +1,37 @@
+use Rattle.afs_ideal.specs.Operations.{Caller, the_user, Result, refused, reads, changes, no_operation, op, volume_called}
 -- Laws about the runs of a script.
 use Rattle.afs_num.specs.declared.histories.ReadSource.TheVariants.{Cached}
-use Rattle.afs_law.specs.ClientRow.{find_cached}
+use Rattle.afs_rows.specs.ClientRow.{find_cached}
 use Rattle.afs_num.specs.declared.messages.Message.{Message}
 use Rattle.afs_num.specs.declared.types.Node.TheVariants.{Client}
 use Rattle.afs_ideal.specs.Tables.{get}
+use Rattle.afs_num.specs.Nodes.{IsNode}
+use Rattle.afs_records.specs.Changes.{boot_record}
+use Rattle.afs_records.specs.Durable.{folded, Stored, has_room}
+use Rattle.afs_records.specs.Laws.{CanBeStored}
+use Rattle.std.specs.List.{AllByRecursion}
 use Rattle.afs_ideal.specs.Told.{Agrees}
 use Rattle.afs_ideal.specs.Volumes.{Volume}
 use Rattle.afs_law.specs.Grants.{since, IsOutstanding}
 use Rattle.afs_law.specs.Ideal.{versions_in, volume_after, set_up, IsLast}
 use Rattle.afs_law.specs.Legal.{GoodRead, Legal}
-use Rattle.afs_law.specs.Lines.{Line}
+use Rattle.afs_history.specs.declared.lines.Line.{Line}
 use Rattle.afs_law.specs.Once.{past_of, ChangesOnce}
 use Rattle.afs_law.specs.OneServer.{IsOneServer}
 use Rattle.afs_law.specs.Past.{HasCode, IsCall, lines_of}
-use Rattle.afs_law.specs.Runs.{message_at, Leads, start, Input, Entry, Cell, RunsTo}
-use Rattle.afs_law.specs.ServerRow.{serves, runs, refuses, not_served, whole}
-use Rattle.afs_law.specs.States.{CacheEntry, ServerState}
+use Rattle.afs_rows.specs.Runs.{message_at, Leads, start, Input, Entry, Cell, RunsTo}
+use Rattle.afs_rows.specs.ServerRow.{Change, is_client, lasting_after, lasting_started, record_of, serves, runs, refuses, not_served, whole, is_client, no_room}
+use Rattle.afs_rows.specs.States.{CacheEntry, Seat, Lasting, durable_of, volume_in, ServerState}
 use Rattle.afs_model.specs.FsRows.{call_number}
 use Rattle.afs_num.specs.declared.messages.Carried.TheVariants as carried
 use Rattle.afs_num.specs.declared.messages.Call.TheVariants as ask
-use Rattle.std.specs.Prelude.{◌⊎◌, ◌≤◌, ◌<◌, None, Some, ◌∷◌, [], ◌≡◌, ◌↔◌, ℕ, List, ◌++◌, false}
+use Rattle.std.specs.Prelude.{◌⊎◌, ◌≤◌, ◌<◌, None, Some, ◌∷◌, [], ◌≡◌, ◌↔◌, ℕ, List, ◌++◌, false, ◌+◌, ◌&&◌, Option, Bool, true}
 use Rattle.afs_num.specs.declared.types.Fid.{Fid}
 use Rattle.afs_num.specs.declared.types.Node.{Node}
 use Rattle.afs_num.specs.declared.scripts.Script.{Script}
 use Rattle.afs_num.specs.declared.histories.Body.{Body}
+use Rattle.afs_num.specs.declared.histories.ReadBody.{ReadBody}
+use Rattle.afs_num.specs.declared.histories.ReadBody.TheVariants as seen
 use Rattle.afs_num.specs.declared.histories.ReadSource.{ReadSource}
 use Rattle.afs_num.specs.declared.types.Head.{Head}
 use Rattle.afs_num.specs.declared.calls.FsCall.{FsCall}
@@ -32,9 +40,9 @@ use Rattle.afs_num.specs.declared.calls.FsCall.{FsCall}
 abbrev pub RunsAreLegal : Type 0
 RunsAreLegal = (s : Script) (history : List Entry) (end : Cell) → IsOneServer s → RunsTo history s end → Legal history s
 
--- in every run a key changes something at most once
+-- in every run of such a script a key changes something at most once
 abbrev pub KeysRunOnce : Type 0
-KeysRunOnce = (s : Script) (history : List Entry) (end : Cell) → RunsTo history s end → ChangesOnce history
+KeysRunOnce = (s : Script) (history : List Entry) (end : Cell) → IsOneServer s → RunsTo history s end → ChangesOnce history
 
 -- the same inputs make one run: its entries and its end
 abbrev pub RunsAreOne : Type 0
@@ -42,7 +50,7 @@ RunsAreOne = (s : Script) (inputs : List Input) (history other : List Entry) (en
 
 -- what the server holds of a volume at the end of a run is the ideal volume, and the versions that were told agree with it
 pub record IsHeld (id : ℕ) (end : Cell) (past : List Entry) : Type 0 where
-  pub ideal : get id end.server.volumes ≡ volume_after id past
+  pub ideal : volume_in id end.server.lasting.volumes ≡ volume_after id past
   pub told : (v : Volume) → volume_after id past ≡ Some v → Agrees id v (versions_in (lines_of past))
 
 abbrev pub VolumesAreTold : Type 0
@@ -67,15 +75,47 @@ PairsAreKnown = (s : Script) (history : List Entry) (end : Cell) → IsOneServer
 abbrev pub TrustedIsGood : Type 0
 TrustedIsGood =
     (s : Script) (history : List Entry) (end : Cell) → IsOneServer s → RunsTo history s end → (j : ℕ) → (end.clients j).running ≡ None → (f : Fid) (e : CacheEntry) → find_cached f (end.clients j).cache ≡ Some e → end.clock < e.expiry
-    → GoodRead (Client j) f e.index Cached e.body (past_of (set_up s ∷ []) history) []
+    → ((body : Body) → e.body ≡ Some body → GoodRead (Client j) f e.index Cached (seen.Contents body) (past_of (set_up s ∷ []) history) []) × GoodRead (Client j) f e.index Cached (seen.Status e.status) (past_of (set_up s ∷ []) history) []
 
 -- a good read shows the newest version where no break of its grant is outstanding
 abbrev pub ReadsAreNewest : Type 0
 ReadsAreNewest =
-    (c : Node) (f : Fid) (index : ℕ) (source : ReadSource) (body : Body) (past : List Entry) (own : List Line) (read : GoodRead c f index source body past own)
+    (c : Node) (f : Fid) (index : ℕ) (source : ReadSource) (body : ReadBody) (past : List Entry) (own : List Line) (read : GoodRead c f index source body past own)
     → (IsOutstanding read.grant.server c f (own ++ since c f read.expiry read.reply past read.grant) → ⊥) → IsLast f index (own ++ lines_of past)
 
--- a server tells that a call isn't served exactly where its opcode is none of those that it serves
+-- a server tells that a call isn't served exactly where its caller is no client, or its opcode none of those that it serves
 abbrev pub UnservedAreRefused : Type 0
 UnservedAreRefused =
-    (s : ServerState) (head : Head) (user : List ℕ) (call : FsCall) → (runs s head (whole head (carried.Call user (ask.File call))) ≡ refuses head not_served) ↔ (serves (call_number call) ≡ false)
+    (s : ServerState) (clock : ℕ) (head : Head) (user : List ℕ) (call : FsCall) → (runs s clock head (whole head (carried.Call user (ask.File call))) ≡ refuses head not_served) ↔ ((is_client head.from && serves (call_number call)) ≡ false)
+
+-- there is no room for the change of a call: the operation says so, or its record doesn't fit
+abbrev pub LacksRoomBy : ServerState → ℕ → Head → Caller → FsCall → ℕ → Stored → Result → Type 0
+LacksRoomBy s clock head caller call id st (refused code) = code ≡ 108
+LacksRoomBy s clock head caller call id st (reads shown) = ⊥
+LacksRoomBy s clock head caller call id st no_operation = ⊥
+LacksRoomBy s clock head caller call id st (changes es n) =
+    has_room (durable_of s.lasting) (record_of s.lasting.boot head clock (record { id = id; caller = caller; call = call; before = st; edits = es; shown = n })) ≡ false
+
+abbrev pub LacksRoomIn : ServerState → ℕ → Head → Caller → FsCall → ℕ → Option Stored → Type 0
+LacksRoomIn s clock head caller call id None = ⊥
+LacksRoomIn s clock head caller call id (Some st) = LacksRoomBy s clock head caller call id st (op id caller call st.volume)
+
+abbrev pub LacksRoom : ServerState → ℕ → Head → Caller → FsCall → Option ℕ → Type 0
+LacksRoom s clock head caller call None = ⊥
+LacksRoom s clock head caller call (Some id) = LacksRoomIn s clock head caller call id (get id s.lasting.volumes)
+
+-- a server tells a client that there is no room (108) exactly where the change has none
+abbrev pub RoomlessAreRefused : Type 0
+RoomlessAreRefused =
+    (s : ServerState) (clock : ℕ) (head : Head) (user : List ℕ) (call : FsCall)
+    → (runs s clock head (whole head (carried.Call user (ask.File call))) ≡ refuses head no_room) ↔ ((is_client head.from ≡ true) × LacksRoom s clock head (the_user user) call (volume_called call))
+
+-- What a change leaves is the fold of its record: where it is made in the volume as it stands, which it leaves one that a disk
+-- may hold, and the callers are nodes.
+abbrev pub ChangesAreFolded : Type 0
+ChangesAreFolded = (l : Lasting) (head : Head) (clock : ℕ) (c : Change) → get c.id l.volumes ≡ Some c.before → CanBeStored c.id c.edits c.before.volume → IsNode head.from → AllByRecursion (λ (s : Seat). IsNode s.caller) l.kept →
+    folded (record_of l.boot head clock c) (durable_of l) ≡ Some (durable_of (lasting_after head clock c l))
+
+-- what a start leaves is the fold of its record
+abbrev pub StartsAreFolded : Type 0
+StartsAreFolded = (l : Lasting) → folded (boot_record (l.boot + 1)) (durable_of l) ≡ Some (durable_of (lasting_started l))

@@ -6,26 +6,29 @@ use Rattle.afs_num.specs.declared.types.Key.{Key}
 use Rattle.afs_num.specs.declared.types.Node.{Node}
 use Rattle.afs_num.specs.declared.types.Node.TheVariants.{Server, Client}
 use Rattle.afs_num.specs.declared.calls.FsCall.{FsCall}
+use Rattle.afs_num.specs.declared.calls.FsCall.TheVariants as calls
 use Rattle.afs_num.specs.declared.messages.Carried.{Carried}
 use Rattle.afs_num.specs.declared.messages.Message.{Message}
-use Rattle.afs_ideal.specs.Operations.{Caller, the_user, Result, refused, changes, op, code_of, volume_called}
+use Rattle.afs_ideal.specs.Operations.{Caller, the_user, Result, refused, changes, no_operation, op, code_of, volume_called}
 use Rattle.afs_ideal.specs.Volumes.{Volume, Edit, versions_by}
-use Rattle.afs_law.specs.Breaks.{AllOwes, EndedOf, EndedAll, GoodSettle, GoodQuit, live_grant, HasOwe, last_number}
-use Rattle.afs_law.specs.Going.{Going, answers, next, asked}
+use Rattle.afs_law.specs.Breaks.{AllOwes, EndedOf, EndedAll, GoodSettle, GoodQuit, live_grant, lines_at, HasOwe, last_number}
+use Rattle.afs_rows.specs.Going.{Going, answers, next, asked}
 use Rattle.afs_law.specs.Grants.{read_reply, GrantOf, since, IsWithdrawn, IsDropped}
-use Rattle.afs_law.specs.Ideal.{set_up, IsLast, HasVersion, Accepts, clock_of, user_of, seen, change_in, change_key, call_under, volume_after}
-use Rattle.afs_law.specs.Lines.{Line}
+use Rattle.afs_law.specs.Ideal.{set_up, IsLast, HasBeen, HasVersion, Accepts, clock_of, user_of, seen, change_in, change_key, call_under, volume_after}
+use Rattle.afs_history.specs.declared.lines.Line.{Line}
 use Rattle.afs_law.specs.Past.{lines_of, sent_of, given_message, answered_key, IsReply, running, has_begun, Called, CalledSince, Ran}
-use Rattle.afs_law.specs.Runs.{Entry}
+use Rattle.afs_rows.specs.Runs.{Entry}
 use Rattle.afs_num.specs.declared.scripts.Script.{Script}
 use Rattle.afs_num.specs.declared.histories.Actor.{Actor}
 use Rattle.afs_num.specs.declared.histories.Actor.TheVariants as actors
 use Rattle.afs_num.specs.declared.histories.Body.{Body}
+use Rattle.afs_num.specs.declared.histories.ReadBody.{ReadBody}
+use Rattle.afs_num.specs.declared.histories.ReadBody.TheVariants as shows
 use Rattle.afs_num.specs.declared.histories.ReadSource.{ReadSource}
 use Rattle.afs_num.specs.declared.histories.Version.{Version}
 use Rattle.afs_num.specs.declared.messages.Carried.TheVariants as carried
 use Rattle.afs_num.specs.declared.messages.Call.TheVariants as ask
-use Rattle.afs_law.specs.Lines as lines
+use Rattle.afs_history.specs.declared.lines.Line.TheVariants as lines
 
 -- Which histories are legal: those of which each line is good after all that stands before it.
 -- `who` is the entry's node, `past` are the entries before, the newest first, `own` the entry's own lines before, the
@@ -33,10 +36,19 @@ use Rattle.afs_law.specs.Lines as lines
 
 -- ---- reads
 
+-- a version of this index was told, whatever its body
+abbrev pub HasIndex : Fid → ℕ → List Line → Type 0
+HasIndex f index ls = (body : Body) × HasVersion f index body ls
+
+-- what a read shows is that of a version: its body, or what its vnode had beside it
+abbrev pub Shows : Fid → ℕ → ReadBody → List Entry → List Line → Type 0
+Shows f index (shows.Contents body) past own = HasVersion f index body (own ++ lines_of past)
+Shows f index body past own = HasIndex f index (own ++ lines_of past) × HasBeen f index body past
+
 -- a read is whole: it shows a version; it is not older than any that the client has seen; and it is the newest unless its
 -- grant, which lasts and was not given up, was withdrawn
-pub record GoodRead (c : Node) (f : Fid) (index : ℕ) (source : ReadSource) (body : Body) (past : List Entry) (own : List Line) : Type 0 where
-  pub whole : HasVersion f index body (own ++ lines_of past)
+pub record GoodRead (c : Node) (f : Fid) (index : ℕ) (source : ReadSource) (body : ReadBody) (past : List Entry) (own : List Line) : Type 0 where
+  pub whole : Shows f index body past own
   pub not_older : seen c f past own ≤ index
   pub reply : Message
   pub by : read_reply c f source past own ≡ Some reply
@@ -76,7 +88,7 @@ pub record GoodChange (s : Script) (server : Node) (k : Key) (count : ℕ) (past
   pub user : List ℕ
   pub call : FsCall
   pub act : Going
-  pub called : Called k user call act past
+  pub called : Called s k user call act past
   pub one : call_under k (sent_of past) ≡ Some (user, call)
   pub own_user : user ≡ user_of k.node
   pub own_call : call ≡ asked act
@@ -89,7 +101,7 @@ pub record GoodChange (s : Script) (server : Node) (k : Key) (count : ℕ) (past
   pub result : op id (the_user user) call before ≡ changes edits shown
   pub versions : versions_first next ≡ versions_by id edits before
   pub number : count ≡ length (versions_first next)
-  pub owed : (j : ℕ) (f : Fid) (x : ℕ) → (Client j ≡ k.node → ⊥) → IsChanged f (versions_first next) → live_grant server (Client j) f (own ++ lines_of past) ≡ Some x → clock_of (own ++ lines_of past) < x → HasOwe server (Client j) (Some f) next
+  pub owed : (j : ℕ) (f : Fid) (x : ℕ) → (Client j ≡ k.node → ⊥) → IsChanged f (versions_first next) → live_grant server (Client j) f (own ++ lines_at server past) ≡ Some x → clock_of (own ++ lines_of past) < x → HasOwe server (Client j) (Some f) next
   pub home : Accepts s id server (own ++ lines_of past)
 
 -- a version stands under its change; that these are not too many is said of the change
@@ -125,7 +137,20 @@ abbrev pub answer_on : List ℕ → FsCall → Option ℕ → List Entry → Opt
 answer_on user call None past = None
 answer_on user call (Some id) past = Some (op_on id (the_user user) call (volume_after id past))
 
+-- several statuses: each on the volume of its fid, and the first refusal counts
+abbrev pub all_on : Result → Result → Result
+all_on (refused code) r = refused code
+all_on q r = r
+
+abbrev pub statuses_on : Caller → List Fid → List Entry → Result
+statuses_on caller [] past = no_operation
+statuses_on caller (f ∷ fs) past = all_on (op_on f.volume caller (calls.FetchStatus f) (volume_after f.volume past)) (statuses_on caller fs past)
+
+-- what the time is, and that promises are given up, needs no volume
 abbrev pub answer_at : List ℕ → FsCall → List Entry → Option Result
+answer_at user (calls.GiveUpCallBacks fids callbacks) past = Some no_operation
+answer_at user calls.GetTime past = Some no_operation
+answer_at user (calls.BulkStatus fids) past = Some (statuses_on (the_user user) fids past)
 answer_at user call past = answer_on user call (volume_called call) past
 
 -- a call that no volume serves is -455
@@ -143,9 +168,10 @@ abbrev pub IsChanging : Option Result → Type 0
 IsChanging (Some (changes es shown)) = ⊤
 IsChanging r = ⊥
 
--- the code is that of the ideal operation, and what that changes was told; or the server had no room for the change
-abbrev pub IsResult : ℤ → Option Result → Key → List Line → Type 0
-IsResult code r k ls = ((code_given r ≡ code) × IsTold k r ls) ⊎ ((code ≡ pos 108) × IsChanging r)
+-- the code is that of the ideal operation, and what that changes was told; or the server had no room for the change, and the
+-- entry that ran the call tells none under its key
+abbrev pub IsResult : ℤ → Option Result → Key → List Line → List Line → Type 0
+IsResult code r k ran ls = ((code_given r ≡ code) × IsTold k r ls) ⊎ ((code ≡ pos 108) × (IsChanging r × (HasChange k ran → ⊥)))
 
 -- the reply has this code, and so has the ideal operation where the call ran; the call is the one that the act asks, for
 -- its user; and where the operation makes versions, their change stands before
@@ -158,7 +184,7 @@ pub record Cause (reply : Message) (code : ℤ) (asks_for : FsCall) (past : List
   pub carries : ran.message.carried ≡ carried.Call user (ask.File call)
   pub own_user : user ≡ user_of reply.head.to
   pub asks : call ≡ asks_for
-  pub result : IsResult code (answer_at user call ran.older) (answered_key reply.head) (own ++ lines_of past)
+  pub result : IsResult code (answer_at user call ran.older) (answered_key reply.head) ran.at.lines (own ++ lines_of past)
 
 -- the reply that the answer's entry was given is the cause of the code, and its call is one of this very act: the client
 -- sent it since the act began, which was in an entry before
@@ -193,9 +219,9 @@ pub record IsDead (c : Node) (act : Going) (code : ℤ) (past : List Entry) (own
 
 -- an act runs, and its answer has its cause: the reply to its call, for 0 that it was done from the cache, or for -1 that
 -- its call was given up
-pub record GoodCode (c : Node) (code : Code) (past : List Entry) (own : List Line) : Type 0 where
+pub record GoodCode (s : Script) (c : Node) (code : Code) (past : List Entry) (own : List Line) : Type 0 where
   pub act : Going
-  pub runs : running c (own ++ lines_of past) ≡ Some act
+  pub runs : running s c (own ++ lines_of past) ≡ Some act
   pub cause : IsCaused c act code.0 past own ⊎ (IsDone act code.0 ⊎ IsDead c act code.0 past own)
 
 -- ---- replies that are sent
@@ -228,7 +254,7 @@ IsGood s who (lines.Grant server c f index expiry) past own next = who ≡ actor
 IsGood s who (lines.Change server k count) past own next = (who ≡ actors.Node server) × GoodChange s server k count past own next
 IsGood s who (lines.Version v) past own next = IsUnderChange own
 IsGood s who (lines.Read c f index source body) past own next = (who ≡ actors.Node c) × GoodRead c f index source body past own
-IsGood s who (lines.Answer c code) past own next = (who ≡ actors.Node c) × GoodCode c code past own
+IsGood s who (lines.Answer c code) past own next = (who ≡ actors.Node c) × GoodCode s c code past own
 IsGood s who (lines.Timeout c callee epoch number count) past own next = who ≡ actors.Node c
 IsGood s who (lines.Tick n) past own next = who ≡ actors.Clock
 IsGood s who (lines.Stop n calls pick) past own next = who ≡ actors.Node n

@@ -1,15 +1,3 @@
-pub mod Acts
-pub mod Lines
-pub mod States
-pub mod Steps
-pub mod Records
-pub mod Scopes
-pub mod ServerRow
-pub mod Callbacks
-pub mod Going
-pub mod ClientRow
-pub mod Runs
-pub mod Durable
 pub mod Past
 pub mod Ideal
 pub mod Grants

@@ -2,9 +2,9 @@
 use Rattle.std.specs.Prelude.{List, [], ◌∷◌, Option, Some, None, ⊤}
 use Rattle.afs_law.specs.Ideal.{change_in}
 use Rattle.afs_law.specs.Legal.{IsNew}
-use Rattle.afs_law.specs.Lines.{Line}
+use Rattle.afs_history.specs.declared.lines.Line.{Line}
 use Rattle.afs_law.specs.Past.{lines_of}
-use Rattle.afs_law.specs.Runs.{Entry}
+use Rattle.afs_rows.specs.Runs.{Entry}
 use Rattle.afs_num.specs.declared.types.Key.{Key}
 
 abbrev pub IsFirst : Option Key → List Line → Type 0 → Type 0

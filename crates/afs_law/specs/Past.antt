@@ -6,13 +6,14 @@ use Rattle.afs_num.specs.declared.types.Node.{Node}
 use Rattle.afs_num.specs.declared.calls.FsCall.{FsCall}
 use Rattle.afs_num.specs.declared.messages.Carried.{Carried}
 use Rattle.afs_num.specs.declared.messages.Message.{Message}
-use Rattle.afs_law.specs.Going.{Going, began, read_on}
-use Rattle.afs_law.specs.Lines.{Line}
-use Rattle.afs_law.specs.Runs.{Entry, message_at}
+use Rattle.afs_rows.specs.Going.{Going, began, read_on}
+use Rattle.afs_history.specs.declared.lines.Line.{Line}
+use Rattle.afs_rows.specs.Runs.{Entry, locations, message_at}
+use Rattle.afs_num.specs.declared.scripts.Script.{Script}
 use Rattle.afs_num.specs.declared.types.Half.TheVariants as halves
 use Rattle.afs_num.specs.declared.messages.Carried.TheVariants as carried
 use Rattle.afs_num.specs.declared.messages.Call.TheVariants as ask
-use Rattle.afs_law.specs.Lines as lines
+use Rattle.afs_history.specs.declared.lines.Line.TheVariants as lines
 use Rattle.afs_num.specs.declared.histories.Actor.TheVariants as actors
 
 -- The past of a moment: the entries before it, the newest first, and what can be looked up in them.
@@ -74,14 +75,15 @@ IsReply m = (m.head.half ≡ halves.Reply) × HasCode m.carried
 
 -- ---- acts and their calls
 
--- the act that runs at the node: the one that it began last, until that is answered or the node stops
-abbrev pub running : Node → List Line → Option Going
-running n [] = None
-running n (lines.Begin m act ∷ older) = if same_node m n then Some (began act) else running n older
-running n (lines.Read m f index source body ∷ older) = read_on (same_node m n) f body (running n older)
-running n (lines.Answer m code ∷ older) = if same_node m n then None else running n older
-running n (lines.Crash m ∷ older) = if same_node m n then None else running n older
-running n (l ∷ older) = running n older
+-- the act that runs at the node, by where the script has its volumes: the one that it began last, until that is answered or the node
+-- stops
+abbrev pub running : Script → Node → List Line → Option Going
+running s n [] = None
+running s n (lines.Begin m act ∷ older) = if same_node m n then Some (began (locations s) act) else running s n older
+running s n (lines.Read m f index source body ∷ older) = read_on (same_node m n) f body (running s n older)
+running s n (lines.Answer m code ∷ older) = if same_node m n then None else running s n older
+running s n (lines.Crash m ∷ older) = if same_node m n then None else running s n older
+running s n (l ∷ older) = running s n older
 
 abbrev pub has_begun : Node → List Line → Bool
 has_begun n [] = false
@@ -112,10 +114,10 @@ Sends k user call [] = ⊥
 Sends k user call (m ∷ ms) = ((called_key m.head ≡ k) × (m.carried ≡ carried.Call user (ask.File call))) ⊎ Sends k user call ms
 
 -- the same, by the key's node while this act ran there
-abbrev pub Called : Key → List ℕ → FsCall → Going → List Entry → Type 0
-Called k user call act [] = ⊥
-Called k user call act (e ∷ past) =
-    ((e.actor ≡ actors.Node k.node) × (Sends k user call e.sent × (running k.node (lines_of (e ∷ past)) ≡ Some act))) ⊎ Called k user call act past
+abbrev pub Called : Script → Key → List ℕ → FsCall → Going → List Entry → Type 0
+Called s k user call act [] = ⊥
+Called s k user call act (e ∷ past) =
+    ((e.actor ≡ actors.Node k.node) × (Sends k user call e.sent × (running s k.node (lines_of (e ∷ past)) ≡ Some act))) ⊎ Called s k user call act past
 
 -- the same, by the key's node since it last began an act
 abbrev pub CalledSince : Key → List ℕ → FsCall → List Entry → Type 0

@@ -1,5 +1,5 @@
 use Rattle.afs_law.proofs.Agreeing.{one_run}
-use Rattle.afs_law.specs.Runs.{start}
+use Rattle.afs_rows.specs.Runs.{start}
 use Rattle.afs_law.proofs.laws.runs_are_one.Goals as goal
 
 pub returns : goal.returns

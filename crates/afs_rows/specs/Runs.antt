@@ -2,16 +2,15 @@ use Rattle.afs_num.specs.Places.{at_place}
 use Rattle.afs_ideal.specs.SetUp.{new_volume, laid}
 use Rattle.afs_ideal.specs.Tables.{Table, get, set}
 use Rattle.afs_ideal.specs.Volumes.{Volume}
-use Rattle.afs_law.specs.Acts.{Act}
-use Rattle.afs_law.specs.Callbacks.{put, Backs, BackCall, Turn, expired, turned_by, timed, pumped, no_turn, risen_turn, first_backs}
-use Rattle.afs_law.specs.ClientRow.{the_server, begin_row, client_row, timeout_row, reborn}
-use Rattle.afs_law.specs.Going.{ClientState, Going}
-use Rattle.afs_law.specs.Lines.{Line}
-use Rattle.afs_law.specs.Records.{first_record, record_length, boot_record}
-use Rattle.afs_law.specs.ServerRow.{Begun, begun_before, begun_after, Decision, decides, does, device_calls, has_room, revived}
-use Rattle.afs_law.specs.States.{ServerState}
-use Rattle.afs_law.specs.Steps.{Step}
-use Rattle.std.specs.Prelude.{Result, Ok, Err, is_some, ◌≡◌, ℕ, zero, suc, ◌+◌, ◌-◌, List, [], ◌∷◌, ◌++◌, Bool, true, false, cond, nat_eq, nat_lt, Option, Some, None, if◌then◌else◌}
+use Rattle.afs_history.specs.declared.acts.Act.{Act}
+use Rattle.afs_rows.specs.Callbacks.{put, first_backs}
+use Rattle.afs_rows.specs.ClientRow.{begin_row, client_row, timeout_row, new_client, reborn}
+use Rattle.afs_rows.specs.Going.{ClientState, Going}
+use Rattle.afs_history.specs.declared.lines.Line.{Line}
+use Rattle.afs_rows.specs.ServerRow.{Begun, begun_before, begun_after, decides, device_calls, revived}
+use Rattle.afs_rows.specs.States.{Location, ServerState, BackCall, Lasting, durable_of}
+use Rattle.afs_rows.specs.Steps.{Step}
+use Rattle.std.specs.Prelude.{Result, Ok, Err, is_some, ◌≡◌, ℕ, zero, suc, ◌+◌, ◌-◌, List, [], ◌∷◌, ◌++◌, Bool, true, false, cond, nat_eq, nat_lt, map, codes, Option, Some, None, if◌then◌else◌}
 use Rattle.std.specs.Option.{option_map}
 use Rattle.afs_num.specs.declared.types.Node.{Node}
 use Rattle.afs_num.specs.declared.types.Node.TheVariants.{Loc, Server, Client, Admin}
@@ -20,8 +19,11 @@ use Rattle.afs_num.specs.declared.messages.Received.TheVariants.{Whole}
 use Rattle.afs_num.specs.declared.scripts.Script.{Script}
 use Rattle.afs_num.specs.declared.scripts.SetupLine.{SetupLine}
 use Rattle.afs_num.specs.declared.scripts.VolumeLine.{VolumeLine}
-use Rattle.afs_law.specs.Lines as lines
 use Rattle.afs_num.specs.declared.histories.Actor.{Actor}
+use Rattle.afs_rows.specs.ServerSteps.{server_row, back_timeout_row, wake_row, start_row}
+use Rattle.afs_records.specs.Changes.{at_set_up, can_boot, record_of_volumes}
+use Rattle.afs_records.specs.Durable.{Stored, place_length}
+use Rattle.afs_history.specs.declared.lines.Line.TheVariants as lines
 use Rattle.afs_num.specs.declared.histories.Actor.TheVariants as actors
 
 -- The cell, what it is given, and the runs of a script. A run knows no schedule.
@@ -102,11 +104,14 @@ pub data Outcome : Type 0 where
   fails_midway : Outcome
   is_full : Outcome
 
+-- the one server of the cell
+abbrev pub the_server : Node
+the_server = Server 1
+
 -- the server and whether it is down (its state is then that from before the interrupted step), how its disk is set, the
 -- clients by their numbers and which of them are down, all messages ever sent, and the clock
 pub record Cell : Type 0 where
   pub server : ServerState
-  pub backs : Backs
   pub count : ℕ
   pub down : Option Fall
   pub armed : Armed
@@ -129,7 +134,7 @@ pub data Input : Type 0 where
   starts_again : Bool → Outcome → Input
   sets_stop : ℕ → ℕ → Input
   sets_fail : ℕ → Input
-  server_waits : ℕ → Input
+  server_waits : Node → Input
   wakes : Input
   nothing : Input
 
@@ -146,16 +151,11 @@ client_moves c n s = record {
   cell = record c { clients = put n s.state c.clients; sent = c.sent ++ s.sent };
 }
 
--- what the server does with its calls and promises comes last in its step; these are all its lines
-abbrev pub server_moves : Cell → Armed → ServerState → List Line → Turn → Moved
-server_moves c armed s ls t = record {
-  entry = record { actor = actors.Node the_server; lines = ls; sent = (pumped the_server s.boot t).sent; volumes = [] };
-  cell = record c { server = s; backs = (pumped the_server s.boot t).backs; down = None; armed = armed; sent = c.sent ++ (pumped the_server s.boot t).sent };
+abbrev pub server_moves : Cell → Armed → Step ServerState → Moved
+server_moves c armed s = record {
+  entry = record { actor = actors.Node the_server; lines = s.lines; sent = s.sent; volumes = [] };
+  cell = record c { server = s.state; down = None; armed = armed; sent = c.sent ++ s.sent };
 }
-
--- these lines, and then those of what it does with its calls and promises
-abbrev pub server_adds : Cell → Armed → ServerState → List Line → Turn → Moved
-server_adds c armed s ls t = server_moves c armed s (ls ++ t.lines) t
 
 -- a step of the server that leaves its state
 abbrev pub server_falls : Cell → List Line → Fall → Moved
@@ -176,19 +176,15 @@ abbrev pub blow_line : Bool → Line
 blow_line true = lines.Crash the_server
 blow_line false = lines.Fault the_server
 
-abbrev pub server_does : Cell → Armed → ℕ → Message → Decision → Moved
-server_does c armed place m d =
-    server_moves c armed (does the_server c.server c.clock place d []).state (does the_server c.server c.clock place d (turned_by the_server c.server c.clock (expired c.clock c.backs) d m.head m.carried).lines).lines (turned_by the_server c.server c.clock (expired c.clock c.backs) d m.head m.carried)
-
 -- a step is done, or its disk ends it
 abbrev pub server_served : Cell → ℕ → Message → Option Blow → Moved
 server_served c place m None =
-    server_does c (lowered (device_calls (decides the_server c.server (Whole m))) c.armed) place m (decides the_server c.server (Whole m))
+    server_moves c (lowered (device_calls (decides the_server c.server c.clock (Whole m))) c.armed) (server_row the_server c.server c.clock place (Whole m))
 server_served c place m (Some b) = server_falls c (lines.Given place ∷ blow_line b.stops ∷ []) (in_step m c.clock)
 
 abbrev pub server_given : Cell → ℕ → Luck → Message → Option Fall → Moved
 server_given c place luck m (Some fall) = voided c
-server_given c place luck m None = server_served c place m (struck c.armed luck (device_calls (decides the_server c.server (Whole m))))
+server_given c place luck m None = server_served c place m (struck c.armed luck (device_calls (decides the_server c.server c.clock (Whole m))))
 
 -- a message is given to the node that its header names
 abbrev pub given_to : Cell → ℕ → Luck → Message → Node → Moved
@@ -231,12 +227,12 @@ server_stopped c (Some fall) = voided c
 abbrev pub begun_by_disk : ServerState → Bool → Fall → Begun
 begun_by_disk s after at_rest = begun_before s
 begun_by_disk s false (in_step m clock) = begun_before s
-begun_by_disk s true (in_step m clock) = begun_after the_server s clock (decides the_server s (Whole m))
+begun_by_disk s true (in_step m clock) = begun_after the_server s clock (decides the_server s clock (Whole m))
 begun_by_disk s false in_boot = begun_before s
 begun_by_disk s true in_boot = begun_before (revived s)
 
 abbrev pub server_rises : Cell → Begun → Moved
-server_rises c f = server_moves c unarmed (revived f.state) (f.before (lines.Restart the_server (f.state.boot + 1) ∷ (risen_turn the_server c.clock c.count).lines)) (risen_turn the_server c.clock c.count)
+server_rises c f = server_moves c unarmed (start_row the_server c.clock c.count f)
 
 -- the server stays down, in the state that was found
 abbrev pub server_stays : Cell → Begun → Line → Fall → Moved
@@ -251,11 +247,11 @@ server_ends c f fall fails_early = server_falls c (lines.Fault the_server ∷ []
 server_ends c f fall fails_midway = server_stays c f (lines.Fault the_server) in_boot
 server_ends c f fall is_full = server_stays c f (lines.Full the_server) at_rest
 
--- a boot record that doesn't fit isn't begun
+-- a boot record that doesn't fit isn't begun, and none follows the last boot number
 abbrev pub settled : ServerState → Outcome → Outcome
 settled s fails_early = fails_early
-settled s fails_midway = if has_room s (boot_record (s.boot + 1)) then fails_midway else is_full
-settled s o = if has_room s (boot_record (s.boot + 1)) then comes_up else is_full
+settled s fails_midway = if can_boot (durable_of s.lasting) then fails_midway else is_full
+settled s o = if can_boot (durable_of s.lasting) then comes_up else is_full
 
 abbrev pub server_restarted : Cell → Bool → Outcome → Option Fall → Moved
 server_restarted c after o None = voided c
@@ -265,18 +261,18 @@ abbrev pub server_armed : Cell → Line → Armed → Option Fall → Moved
 server_armed c l armed None = server_set c l armed
 server_armed c l armed (Some fall) = voided c
 
--- the server's call to a client is timed out
-abbrev pub back_timed : Cell → ℕ → Option BackCall → Moved
+-- the server's call to a node is timed out
+abbrev pub back_timed : Cell → Node → Option BackCall → Moved
 back_timed c n None = voided c
-back_timed c n (Some b) = server_moves c c.armed c.server (timed the_server c.server.boot n b (expired c.clock c.backs)).lines (timed the_server c.server.boot n b (expired c.clock c.backs))
+back_timed c n (Some b) = server_moves c c.armed (back_timeout_row the_server c.server c.clock n b)
 
-abbrev pub server_timed : Cell → ℕ → Option Fall → Moved
-server_timed c n None = back_timed c n (c.backs.calls n)
+abbrev pub server_timed : Cell → Node → Option Fall → Moved
+server_timed c n None = back_timed c n (c.server.backs.calls n)
 server_timed c n (Some fall) = voided c
 
 -- time has passed at the server
 abbrev pub server_wakes : Cell → Option Fall → Moved
-server_wakes c None = server_moves c c.armed c.server [] (no_turn (expired c.clock c.backs))
+server_wakes c None = server_moves c c.armed (wake_row the_server c.server c.clock)
 server_wakes c (Some fall) = voided c
 
 unfoldable pub moved : Cell → Input → Moved
@@ -324,21 +320,55 @@ abbrev pub first_volumes : List VolumeLine → Table Volume
 first_volumes [] = []
 first_volumes (v ∷ vs) = unless_there (is_some (get v.id (first_volumes vs))) v.id (first_volume v) (first_volumes vs)
 
--- the lengths are the script's to give: of the capacity line, and of the first record
-abbrev pub first_server : Table Volume → ServerState
-first_server volumes = record { boot = 1; volumes = volumes; times = λ f. 0; seats = []; durable = []; journal = 1 + record_length (first_record (λ f. 0) volumes); capacity = 268435456 }
+-- with what stands beside them
+abbrev pub first_stored : Table Volume → Table Stored
+first_stored [] = []
+first_stored (p ∷ ps) = (p.0, at_set_up p.1) ∷ first_stored ps
 
-abbrev pub first_client : ClientState
-first_client = record { epoch = 1; last = 0; boot = 1; tries = 0; running = None; cache = []; spoiled = false; seat = None }
+-- the capacity is that of a script without a line on it
+abbrev pub first_lasting : Table Stored → Lasting
+first_lasting volumes = record {
+  boot = 1;
+  volumes = volumes;
+  stamps = [];
+  forwardings = [];
+  kept = [];
+  journal = 1 + place_length (record_of_volumes volumes);
+  capacity = 268435456;
+}
+
+abbrev pub first_server : Table Volume → ServerState
+first_server volumes = record { lasting = first_lasting (first_stored volumes); seats = []; backs = first_backs }
+
+abbrev pub location_by : VolumeLine → Node → List Location → List Location
+location_by v (Server n) ls = record { name = v.name; id = v.id; server = n } ∷ ls
+location_by v node ls = ls
+
+abbrev pub locations_in : List VolumeLine → List Location
+locations_in [] = []
+locations_in (v ∷ vs) = location_by v v.server (locations_in vs)
+
+-- what clients know of the script's volumes, each at a server
+abbrev pub locations : Script → List Location
+locations s = locations_in s.volumes
+
+-- the most entries of each cache, and the user of each client
+abbrev pub cache_size : Script → ℕ
+cache_size s = 64
+
+abbrev pub user_at : Script → ℕ → List ℕ
+user_at s n = codes "guest"
+
+abbrev pub first_client : Script → ℕ → ClientState
+first_client s n = new_client 1 (cache_size s) (user_at s n) (locations s)
 
 abbrev pub start : Script → Cell
 start s = record {
   server = first_server (first_volumes s.volumes);
-  backs = first_backs;
   count = s.clients;
   down = None;
   armed = unarmed;
-  clients = λ n. first_client;
+  clients = first_client s;
   away = λ n. false;
   sent = [];
   clock = 0;

@@ -1,0 +1,57 @@
+//! The acts of clients: what a user asks of a cache manager.
+
+use afs_num::sequences::{Octets, Sequence};
+use afs_num::types::Fid;
+
+/// A volume's name, as the script writes it, and names from the volume's root.
+#[derive(Drop)]
+pub struct Path {
+    pub volume: Octets,
+    pub names: Sequence<Octets>,
+}
+
+/// An object, by a path or by its fid.
+#[derive(Drop)]
+pub enum Operand {
+    Path(Path),
+    Fid(Fid),
+}
+
+/// An act of a client.
+#[derive(Drop)]
+pub enum Act {
+    /// A file is shown.
+    Open { operand: Operand },
+    /// A directory's names are shown.
+    ListNames { operand: Operand },
+    /// A symbolic link's text is shown.
+    ReadLink { operand: Operand },
+    /// An object's status is shown.
+    Stat { operand: Operand },
+    /// The status of each of a directory's first names is shown.
+    StatAll { operand: Operand },
+    /// A file that was written is stored whole, with these bytes.
+    Close { operand: Operand, contents: Octets },
+    /// A new file.
+    Make { path: Path },
+    /// A new directory.
+    MakeDirectory { path: Path },
+    /// A file's or a link's name is taken away.
+    Remove { path: Path },
+    /// An empty directory is taken away.
+    RemoveDirectory { path: Path },
+    /// What has the first path as its name gets the second one.
+    Move { from: Path, to: Path },
+    /// A file gets a further name.
+    Link { target: Path, path: Path },
+    /// A new symbolic link, with this text.
+    Symlink { path: Path, target: Octets },
+    /// The mode of Unix is set.
+    SetMode { operand: Operand, mode: u32 },
+    /// A directory's access list is set to this text.
+    SetAccessList { operand: Operand, text: Octets },
+    /// A directory's access list is shown.
+    GetAccessList { operand: Operand },
+    /// All that the client trusts is given up, and its servers are told so.
+    GiveUp,
+}

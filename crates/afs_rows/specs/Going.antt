@@ -1,0 +1,343 @@
+-- What runs at a client: an act, and what it has read; and what it needs next.
+use Rattle.afs_num.specs.declared.directories.Name.{Name}
+use Rattle.afs_ideal.specs.Directories.{named}
+use Rattle.afs_history.specs.declared.acts.Act.{Act}
+use Rattle.afs_history.specs.declared.acts.Operand.{Operand}
+use Rattle.afs_history.specs.declared.acts.Path.{Path}
+use Rattle.afs_history.specs.declared.acts.Operand.TheVariants as operands
+use Rattle.afs_rows.specs.States.{CacheEntry, Gift, KnownBoot, Location, Seat}
+use Rattle.afs_history.specs.declared.acts.Act.TheVariants as acts
+use Rattle.std.specs.Prelude.{ℕ, zero, suc, ◌+◌, List, [], ◌∷◌, ◌++◌, Bool, true, false, not, ◌&&◌, ◌||◌, Option, Some, None, pos, nat_eq, find, map, take, length, if◌then◌else◌}
+use Rattle.std.specs.Option.{option_map}
+use Rattle.std.specs.Str.{bytes_eq}
+use Rattle.afs_num.specs.Fids.{same_fid}
+use Rattle.afs_num.specs.declared.types.Fid.{Fid}
+use Rattle.afs_num.specs.declared.types.Node.{Node}
+use Rattle.afs_num.specs.declared.calls.AfsStoreStatus.{AfsStoreStatus}
+use Rattle.afs_num.specs.declared.calls.FsCall.{FsCall}
+use Rattle.afs_num.specs.declared.calls.FsCall.TheVariants as calls
+use Rattle.afs_num.specs.declared.histories.Body.{Body}
+use Rattle.afs_num.specs.declared.histories.Body.TheVariants as bodies
+use Rattle.afs_num.specs.declared.histories.ReadBody.{ReadBody}
+use Rattle.afs_num.specs.declared.histories.ReadStatus.{ReadStatus}
+use Rattle.afs_num.specs.declared.histories.ReadBody.TheVariants as seen
+
+-- the number of the volume of an act's first operand, and of its second; none where it has none, or the client doesn't know it
+pub record Homes : Type 0 where
+  pub first : Option ℕ
+  pub second : Option ℕ
+
+pub record Shown : Type 0 where
+  pub fid : Fid
+  pub body : ReadBody
+
+-- an act, the numbers of the volumes that it names, and what it has read, the first first
+pub record Going : Type 0 where
+  pub act : Act
+  pub homes : Homes
+  pub reads : List Shown
+
+-- What an act needs next: the body, the status, or the rights of this fid, or the status of each of these; this call; to give its
+-- promises back; or to answer
+pub data Need : Type 0 where
+  reads : Fid → Need
+  reads_status : Fid → Need
+  reads_statuses : List Fid → Need
+  reads_rights : Fid → Need
+  asks_for : FsCall → Need
+  gives_back : Need
+  answers : ℕ → Need
+
+-- ---- reads. They are taken in their order; one of another fid, or that shows something else, is passed over
+
+-- what was found, and the reads behind it
+pub record Taken (A : Type 0) : Type 0 where
+  pub found : A
+  pub rest : List Shown
+
+abbrev pub taken_body : Bool → ReadBody → List Shown → Option (Taken Body) → Option (Taken Body)
+taken_body true (seen.Contents body) rest later = Some (record { found = body; rest = rest })
+taken_body b body rest later = later
+
+abbrev pub first_body : Fid → List Shown → Option (Taken Body)
+first_body f [] = None
+first_body f (r ∷ rs) = taken_body (same_fid r.fid f) r.body rs (first_body f rs)
+
+abbrev pub taken_status : Bool → ReadBody → List Shown → Option (Taken ReadStatus) → Option (Taken ReadStatus)
+taken_status true (seen.Status status) rest later = Some (record { found = status; rest = rest })
+taken_status b body rest later = later
+
+abbrev pub first_status : Fid → List Shown → Option (Taken ReadStatus)
+first_status f [] = None
+first_status f (r ∷ rs) = taken_status (same_fid r.fid f) r.body rs (first_status f rs)
+
+abbrev pub has_rights_by : Bool → ReadBody → Bool → Bool
+has_rights_by true (seen.AccessList text) later = true
+has_rights_by b body later = later
+
+abbrev pub has_rights : Fid → List Shown → Bool
+has_rights f [] = false
+has_rights f (r ∷ rs) = has_rights_by (same_fid r.fid f) r.body (has_rights f rs)
+
+abbrev pub by_body : Fid → (Body → List Shown → Need) → Option (Taken Body) → Need
+by_body f more None = reads f
+by_body f more (Some t) = more t.found t.rest
+
+-- the body of this fid is read, and then this is needed
+abbrev pub reading : Fid → List Shown → (Body → List Shown → Need) → Need
+reading f rs more = by_body f more (first_body f rs)
+
+abbrev pub by_status : Fid → Option (Taken ReadStatus) → Need
+by_status f None = reads_status f
+by_status f (Some t) = answers 0
+
+-- this status is read, and nothing more is needed
+abbrev pub reading_status : Fid → List Shown → Need
+reading_status f rs = by_status f (first_status f rs)
+
+abbrev pub by_statuses : List Fid → (List Shown → Need) → Option (Taken ReadStatus) → Need
+by_statuses all more None = reads_statuses all
+by_statuses all more (Some t) = more t.rest
+
+-- the status of each of these is read, where they are the last of `all`
+abbrev pub reading_statuses : List Fid → List Fid → List Shown → Need
+reading_statuses all [] rs = answers 0
+reading_statuses all (f ∷ fs) rs = by_statuses all (reading_statuses all fs) (first_status f rs)
+
+abbrev pub reading_rights : Fid → List Shown → Need
+reading_rights f rs = if has_rights f rs then answers 0 else reads_rights f
+
+-- ---- walks
+
+abbrev pub is_even : ℕ → Bool
+is_even zero = true
+is_even (suc n) = not (is_even n)
+
+abbrev pub is_last_name : List (List ℕ) → Bool
+is_last_name [] = true
+is_last_name (n ∷ names) = false
+
+abbrev pub fid_of : ℕ → Name → Fid
+fid_of volume n = record { volume = volume; vnode = n.vnode; unique = n.unique }
+
+abbrev pub root_of : ℕ → Fid
+root_of volume = record { volume = volume; vnode = 1; unique = 1 }
+
+abbrev pub looked_up : List ℕ → Body → Option (Option Name)
+looked_up name (bodies.Dir names) = Some (named name names)
+looked_up name b = None
+
+-- 2: there is no such name; 20: what must be a directory is none, which an even number tells without a read
+abbrev pub step_to : Bool → (Fid → Need) → ℕ → Option (Option Name) → Need
+step_to inner more volume None = answers 20
+step_to inner more volume (Some None) = answers 2
+step_to inner more volume (Some (Some n)) = if (inner && is_even n.vnode) then answers 20 else more (fid_of volume n)
+
+-- along the names from a directory; where it goes on to a parent, each of them must be a directory, else all but the last
+abbrev pub walk : Bool → (Fid → List Shown → Need) → List (List ℕ) → List Shown → Fid → Need
+walk all more [] rs f = more f rs
+walk all more (name ∷ names) rs f = reading f rs (λ b rest. step_to (all || not (is_last_name names)) (walk all more names rest) f.volume (looked_up name b))
+
+-- 363524: no such volume is known
+abbrev pub no_entry : ℕ
+no_entry = 363524
+
+abbrev pub in_home : Option ℕ → (ℕ → Need) → Need
+in_home None more = answers no_entry
+in_home (Some id) more = more id
+
+abbrev pub to_object : Option ℕ → Operand → List Shown → (Fid → List Shown → Need) → Need
+to_object home (operands.Fid f) rs more = in_home home (λ id. more f rs)
+to_object home (operands.Path p) rs more = in_home home (λ id. walk false more p.names rs (root_of id))
+
+-- the names before the last, and that one
+pub record Parted : Type 0 where
+  pub front : List (List ℕ)
+  pub last : List ℕ
+
+abbrev pub put_front : List ℕ → Parted → Parted
+put_front name p = record { front = name ∷ p.front; last = p.last }
+
+abbrev pub parted_on : List ℕ → List (List ℕ) → Parted
+parted_on name [] = record { front = []; last = name }
+parted_on name (other ∷ names) = put_front name (parted_on other names)
+
+abbrev pub parted : List (List ℕ) → Option Parted
+parted [] = None
+parted (name ∷ names) = Some (parted_on name names)
+
+abbrev pub in_directory : Need → Body → Need
+in_directory need (bodies.Dir b) = need
+in_directory need b = answers 20
+
+abbrev pub at_parent : Option ℕ → List Shown → (Fid → List ℕ → List Shown → Need) → Option Parted → Need
+at_parent home rs more None = answers 22
+at_parent home rs more (Some p) = in_home home (λ id. walk true (λ d rest. reading d rest (λ b later. in_directory (more d p.last later) b)) p.front rs (root_of id))
+
+-- to the parent of the last name, which is read too; the root has none
+abbrev pub to_parent : Option ℕ → Path → List Shown → (Fid → List ℕ → List Shown → Need) → Need
+to_parent home p rs more = at_parent home rs more (parted p.names)
+
+-- ---- acts
+
+-- the answer where the object is a file, a directory, a link
+abbrev pub by_kind : ℕ → ℕ → ℕ → Body → Need
+by_kind file directory link (bodies.File b) = answers file
+by_kind file directory link (bodies.Dir b) = answers directory
+by_kind file directory link b = answers link
+
+abbrev pub shows : ℕ → ℕ → ℕ → Option ℕ → Operand → List Shown → Need
+shows file directory link home o rs = to_object home o rs (λ f rest. reading f rest (λ b later. by_kind file directory link b))
+
+-- the status of so many names at most is shown
+abbrev pub most_shown : ℕ
+most_shown = 50
+
+-- the first of a directory's names, in byte order
+abbrev pub named_first : ℕ → List Name → List Fid
+named_first volume names = map (fid_of volume) (take most_shown names)
+
+abbrev pub statuses_in : ℕ → List Shown → Body → Need
+statuses_in volume rs (bodies.Dir names) = reading_statuses (named_first volume names) (named_first volume names) rs
+statuses_in volume rs b = answers 20
+
+abbrev pub nothing_set : AfsStoreStatus
+nothing_set = record { mask = 0; client_mod_time = 0; owner = 0; group = 0; unix_mode_bits = 0; seg_size = 0 }
+
+abbrev pub mode_set : ℕ → AfsStoreStatus
+mode_set mode = record nothing_set { mask = 8; unix_mode_bits = mode }
+
+-- 22: the two are of different volumes
+abbrev pub of_one : Fid → Fid → Need → Need
+of_one f g need = if nat_eq f.volume g.volume then need else answers 22
+
+-- 22: the root has no parent
+abbrev pub is_root : Path → Bool
+is_root p = is_last_name p.names
+
+abbrev pub act_needs : Homes → Act → List Shown → Need
+act_needs h (acts.Open o) rs = shows 0 21 22 h.first o rs
+act_needs h (acts.ListNames o) rs = shows 20 0 20 h.first o rs
+act_needs h (acts.ReadLink o) rs = shows 22 21 0 h.first o rs
+act_needs h (acts.Close o contents) rs = to_object h.first o rs (λ f rest. asks_for (calls.StoreData f nothing_set (pos 0) (pos (length contents)) (pos (length contents)) contents))
+act_needs h (acts.SetMode o mode) rs = to_object h.first o rs (λ f rest. asks_for (calls.StoreStatus f (mode_set mode)))
+act_needs h (acts.SetAccessList o text) rs = to_object h.first o rs (λ f rest. asks_for (calls.StoreAcl f text))
+act_needs h (acts.Make p) rs = to_parent h.first p rs (λ d name rest. asks_for (calls.CreateFile d name nothing_set))
+act_needs h (acts.MakeDirectory p) rs = to_parent h.first p rs (λ d name rest. asks_for (calls.MakeDir d name nothing_set))
+act_needs h (acts.Symlink p target) rs = to_parent h.first p rs (λ d name rest. asks_for (calls.Symlink d name target nothing_set))
+act_needs h (acts.Remove p) rs = to_parent h.first p rs (λ d name rest. asks_for (calls.RemoveFile d name))
+act_needs h (acts.RemoveDirectory p) rs = to_parent h.first p rs (λ d name rest. asks_for (calls.RemoveDir d name))
+act_needs h (acts.Move p q) rs = if (is_root p || is_root q) then answers 22 else to_parent h.first p rs (λ d old rest. to_parent h.second q rest (λ e new later. of_one d e (asks_for (calls.Rename d old e new))))
+act_needs h (acts.Link p q) rs = if is_root q then answers 22 else to_object h.first (operands.Path p) rs (λ f rest. to_parent h.second q rest (λ d name later. of_one f d (asks_for (calls.Link d name f))))
+act_needs h (acts.Stat o) rs = to_object h.first o rs (λ f rest. reading_status f rest)
+-- these come later
+act_needs h (acts.StatAll o) rs = answers no_entry
+act_needs h (acts.GetAccessList o) rs = answers no_entry
+act_needs h acts.GiveUp rs = answers 0
+
+abbrev pub next : Going → Need
+next g = act_needs g.homes g.act g.reads
+
+-- the most reads of an act that its cache may show: each directory of its paths, and an object
+abbrev pub reads_to : Operand → ℕ
+reads_to (operands.Path p) = length p.names + 1
+reads_to (operands.Fid f) = 1
+
+abbrev pub reads_of : Act → ℕ
+reads_of (acts.Open o) = reads_to o
+reads_of (acts.ListNames o) = reads_to o
+reads_of (acts.ReadLink o) = reads_to o
+reads_of (acts.Close o contents) = reads_to o
+reads_of (acts.SetMode o mode) = reads_to o
+reads_of (acts.SetAccessList o text) = reads_to o
+reads_of (acts.Make p) = length p.names
+reads_of (acts.MakeDirectory p) = length p.names
+reads_of (acts.Symlink p target) = length p.names
+reads_of (acts.Remove p) = length p.names
+reads_of (acts.RemoveDirectory p) = length p.names
+reads_of (acts.Move p q) = length p.names + length q.names
+reads_of (acts.Link p q) = length p.names + length q.names
+reads_of (acts.Stat o) = reads_to o
+reads_of (acts.StatAll o) = reads_to o
+reads_of (acts.GetAccessList o) = reads_to o
+reads_of acts.GiveUp = 0
+
+-- the call for it; which promises are given back no need tells
+abbrev pub call_for : Need → FsCall
+call_for (reads f) = calls.FetchData f (pos 0) (pos 2147483647)
+call_for (reads_status f) = calls.FetchStatus f
+call_for (reads_statuses fs) = calls.BulkStatus fs
+call_for (reads_rights f) = calls.FetchAcl f
+call_for (asks_for c) = c
+call_for gives_back = calls.GiveUpCallBacks [] []
+call_for (answers code) = calls.GetTime
+
+abbrev pub asked : Going → FsCall
+asked g = call_for (next g)
+
+-- ---- where volumes are
+
+abbrev pub id_of : Option Location → Option ℕ
+id_of o = option_map (λ (l : Location). l.id) o
+
+-- a path names its volume, a fid has its number
+abbrev pub volume_at : List Location → Operand → Option ℕ
+volume_at t (operands.Path p) = id_of (find (λ l. bytes_eq l.name p.volume) t)
+volume_at t (operands.Fid f) = id_of (find (λ l. nat_eq l.id f.volume) t)
+
+abbrev pub at_one : List Location → Operand → Homes
+at_one t o = record { first = volume_at t o; second = None }
+
+abbrev pub at_two : List Location → Path → Path → Homes
+at_two t p q = record { first = volume_at t (operands.Path p); second = volume_at t (operands.Path q) }
+
+abbrev pub homes_of : List Location → Act → Homes
+homes_of t (acts.Open o) = at_one t o
+homes_of t (acts.ListNames o) = at_one t o
+homes_of t (acts.ReadLink o) = at_one t o
+homes_of t (acts.Stat o) = at_one t o
+homes_of t (acts.StatAll o) = at_one t o
+homes_of t (acts.Close o contents) = at_one t o
+homes_of t (acts.Make p) = at_one t (operands.Path p)
+homes_of t (acts.MakeDirectory p) = at_one t (operands.Path p)
+homes_of t (acts.Remove p) = at_one t (operands.Path p)
+homes_of t (acts.RemoveDirectory p) = at_one t (operands.Path p)
+homes_of t (acts.Move p q) = at_two t p q
+homes_of t (acts.Link p q) = at_two t p q
+homes_of t (acts.Symlink p target) = at_one t (operands.Path p)
+homes_of t (acts.SetMode o mode) = at_one t o
+homes_of t (acts.SetAccessList o text) = at_one t o
+homes_of t (acts.GetAccessList o) = at_one t o
+homes_of t acts.GiveUp = record { first = None; second = None }
+
+abbrev pub began : List Location → Act → Going
+began t act = record { act = act; homes = homes_of t act; reads = [] }
+
+abbrev pub with_read : Fid → ReadBody → Going → Going
+with_read f body g = record g { reads = g.reads ++ record { fid = f; body = body } ∷ [] }
+
+abbrev pub read_on : Bool → Fid → ReadBody → Option Going → Option Going
+read_on true f body o = option_map (with_read f body) o
+read_on false f body o = o
+
+-- ---- a client
+
+-- Its epoch and the number of its last call in it; its user; how many entries its cache may have; where volumes are, and the boot
+-- numbers of servers, as it knows them; the servers that call it; its cache, the entry that was used last first. Of the act that
+-- runs: how often it was told to wait; whom its unanswered call is for, how often that was timed out, and whether a break spoils
+-- the reply; and the promises that it gives back still, the server of the first first.
+pub record ClientState : Type 0 where
+  pub epoch : ℕ
+  pub last : ℕ
+  pub user : List ℕ
+  pub capacity : ℕ
+  pub table : List Location
+  pub boots : List KnownBoot
+  pub seats : List Seat
+  pub cache : List CacheEntry
+  pub running : Option Going
+  pub busy : ℕ
+  pub callee : Node
+  pub tries : ℕ
+  pub spoiled : Bool
+  pub gifts : List Gift

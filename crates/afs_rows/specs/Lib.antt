@@ -1,0 +1,10 @@
+pub mod States
+pub mod Steps
+pub mod Scopes
+pub mod ServerRow
+pub mod Callbacks
+pub mod ServerSteps
+pub mod Going
+pub mod ClientRow
+pub mod Runs
+pub mod Durable

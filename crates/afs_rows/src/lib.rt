@@ -1,0 +1,3 @@
+//! The rows of the nodes: what a file server and a cache manager do with one input, and the runs of a cell, as definitions. No
+//! code runs in it.
+#![tactic(auto)]
