@@ -1,3 +1,6 @@
+use Rattle.afs_law.proofs.Facts.{FitsList}
+use Rattle.afs_law.proofs.Walking.{read_by}
+use Rattle.afs_law.specs.Grants.{is_promised}
 use Rattle.afs_rows.specs.Steps.{Step}
 use Rattle.afs_num.specs.declared.histories.ReadBody.{ReadBody}
 use Rattle.afs_num.specs.declared.histories.ReadStatus.{ReadStatus}
@@ -307,8 +310,13 @@ pub shown_safe : (sp : Bool) (call : FsCall) (n : ℕ) (x : Spot) (m : Message) 
 shown_safe sp (calls.FetchStatus f) n x m past status callback t e l cache aged head fits none = inl refl
 shown_safe sp call n x m past status callback t e l cache aged head fits none = plain_safe call x m t e l cache aged head (volume_changed call) refl fits none
 
+pub list_safe : (call : FsCall) (n : ℕ) (x : Spot) (m : Message) (past : List Entry) (text : List ℕ) (status : AfsFetchStatus) (t e l : ℕ) (cache : List CacheEntry) (aged : Type 0) (head : Head) → FitsList n x m past text status call → (LastStored x → ⊥) → IsSafe t e l None cache aged head call
+list_safe (calls.FetchAcl f) n x m past text status t e l cache aged head fits none = inl refl
+list_safe call n x m past text status t e l cache aged head fits none = plain_safe call x m t e l cache aged head (volume_changed call) refl fits none
+
 pub reply_safe : (sp : Bool) (reply : FsReply) (n : ℕ) (call : FsCall) (x : Spot) (m : Message) (past : List Entry) (t e l : ℕ) (cache : List CacheEntry) (aged : Type 0) (head : Head) → FitsReply sp n call x m past reply → (LastStored x → ⊥) → IsSafe t e l None cache aged head call
 reply_safe sp (replies.FetchData contents status callback sync) n call x m past t e l cache aged head fits none = data_safe sp call n x m past contents status callback t e l cache aged head fits none
+reply_safe sp (replies.FetchAcl text status sync) n call x m past t e l cache aged head fits none = list_safe call n x m past text status t e l cache aged head fits none
 reply_safe sp (replies.FetchStatus status callback sync) n call x m past t e l cache aged head fits none = shown_safe sp call n x m past status callback t e l cache aged head fits none
 reply_safe sp (replies.StoreData status sync) n call x m past t e l cache aged head fits none = set_safe call n x m past status t e l cache aged head fits none
 reply_safe sp (replies.StoreAcl status sync) n call x m past t e l cache aged head fits none = set_safe call n x m past status t e l cache aged head fits none
@@ -474,12 +482,16 @@ both_not true true h = absurd (h refl refl)
 both_not true false h = refl
 both_not false b h = refl
 
-used_reply : (n : ℕ) (f : Fid) (rest : Bool) (o u : Option Message) → cond (cond (same_node (Client n) (Client n) && same_fid f f) true rest) o u ≡ o
-used_reply n f rest o u = rw (same_node-refl (Client n), same_fid-refl f) refl
+and_not : (a b : Bool) → b ≡ false → (a && b) ≡ false
+and_not true b e = e
+and_not false b e = refl
 
-pub fetched_walks : (s : Script) (c : Cell) (past : List Entry) (n p : ℕ) (act : Going) (m : Message) (u : CacheEntry) (body : ReadBody) → (h : Holds s c past) → Due c h.floors past n p act m → volume_changed (asked act) ≡ None → u.server ≡ the_server → Shows u.fid u.index body past (lines.Given p ∷ []) → IsFetched false n u.fid u.index u.status u.body u.expiry m past → c.clock < u.expiry
+used_reply : (p : Bool) (n : ℕ) (f : Fid) (rest : Bool) (o u : Option Message) → p ≡ true → cond (cond (p && (same_node (Client n) (Client n) && same_fid f f)) true rest) o u ≡ o
+used_reply p n f rest o u e = rw (e, same_node-refl (Client n), same_fid-refl f) refl
+
+pub fetched_walks : (s : Script) (c : Cell) (past : List Entry) (n p : ℕ) (act : Going) (m : Message) (u : CacheEntry) (body : ReadBody) → (h : Holds s c past) → Due c h.floors past n p act m → volume_changed (asked act) ≡ None → is_promised body ≡ true → u.server ≡ the_server → Shows u.fid u.index body past (lines.Given p ∷ []) → IsFetched false n u.fid u.index u.status u.body u.expiry m past → c.clock < u.expiry
     → Walks s c past n c.server.lasting.boot (read_now n p u body) (with_read u.fid body act) (put_entry (c.clients n).capacity u (c.clients n).cache)
-fetched_walks s c past n p act m u body h d shut from shown a lt =
+fetched_walks s c past n p act m u body h d shut kind from shown a lt =
     let none : (g : Fid) → (reach (Client n) g past).made ≡ 0 = λ g. (h.clients n).made act d.running g (no_scope (asked act) g shut) (inl shut) in
     let raised_by : (g : Fid) (k : ℕ) → (same_fid u.fid g ≡ true → u.index ≤ k) → (reach (Client n) g past).seen ≤ k → raised (same_node (Client n) (Client n) && same_fid u.fid g) u.index (reach (Client n) g past).seen ≤ k = λ g k le h. raised_up_to (same_node (Client n) (Client n) && same_fid u.fid g) u.index (reach (Client n) g past).seen k (λ t. le (both (same_node (Client n) (Client n)) (same_fid u.fid g) t).1) h in
     let one : CacheEntry = joined u (c.clients n).cache in
@@ -491,8 +503,8 @@ fetched_walks s c past n p act m u body h d shut from shown a lt =
       held = record { grant = a.held.grant; server = a.held.server; kept = a.held.kept; whole = whole; base = a.held.base; split = a.held.split; begun = a.held.begun };
       newest = a.newest;
       low = raised_by u.fid u.index (λ t. le_refl _) a.reached;
-      by = used_reply n u.fid false (message_at (sent_of past) p) (fetch_reply (Client n) u.fid past) ∙ d.at;
-      later = λ tail t. used_reply n u.fid (has_fetched (Client n) u.fid tail) (message_at (sent_of past) p) (fetch_reply (Client n) u.fid past) ∙ d.at;
+      by = used_reply (is_promised body) n u.fid false (message_at (sent_of past) p) (fetch_reply (Client n) u.fid past) kind ∙ d.at;
+      later = λ tail t. used_reply (is_promised body) n u.fid (has_fetched (Client n) u.fid tail) (message_at (sent_of past) p) (fetch_reply (Client n) u.fid past) kind ∙ d.at;
     } in
     record {
       good = λ tail g. (
@@ -500,7 +512,7 @@ fetched_walks s c past n p act m u body h d shut from shown a lt =
         (
           (
             refl,
-            record {
+            read_by (is_promised body) (Client n) u.fid u.index Fetched body past (lines.Given p ∷ []) kind (record {
               whole = shown;
               not_older = a.reached;
               reply = m;
@@ -510,7 +522,7 @@ fetched_walks s c past n p act m u body h d shut from shown a lt =
               lasts = subst (λ (t : ℕ). t < u.expiry) (sym h.clock) lt;
               kept = a.held.kept refl;
               newest = a.newest;
-            },
+            }),
           ),
           g,
         ),
@@ -533,8 +545,8 @@ fetched_walks s c past n p act m u body h d shut from shown a lt =
               held = cur.held;
               newest = plain.newest;
               low = raised_by g w.index (λ t. absurd (q.0 (same_fid-true u.fid g t))) plain.reached;
-              by = ap (λ (b : Bool). cond (cond b true false) (message_at (sent_of past) p) (fetch_reply (Client n) g past)) not ∙ cur.by;
-              later = λ tail t. ap (λ (b : Bool). cond (cond b true (has_fetched (Client n) g tail)) (message_at (sent_of past) p) (fetch_reply (Client n) g past)) not ∙ (ap (λ (b : Bool). cond b (message_at (sent_of past) p) (fetch_reply (Client n) g past)) (tail_fetched n (Client n) g tail t) ∙ cur.by);
+              by = ap (λ (b : Bool). cond (cond b true false) (message_at (sent_of past) p) (fetch_reply (Client n) g past)) (and_not (is_promised body) _ not) ∙ cur.by;
+              later = λ tail t. ap (λ (b : Bool). cond (cond b true (has_fetched (Client n) g tail)) (message_at (sent_of past) p) (fetch_reply (Client n) g past)) (and_not (is_promised body) _ not) ∙ (ap (λ (b : Bool). cond b (message_at (sent_of past) p) (fetch_reply (Client n) g past)) (tail_fetched n (Client n) g tail t) ∙ cur.by);
             }
       ];
       up = λ g. raised_by g (index_in (last_version g (lines_of past))) (λ t. subst (λ (z : Fid). u.index ≤ index_in (last_version z (lines_of past))) (same_fid-true u.fid g t) (h.top u.fid u.index a.held.whole.is a.held.whole.told)) ((h.clients n).reached g).seen;
@@ -542,18 +554,18 @@ fetched_walks s c past n p act m u body h d shut from shown a lt =
       dull = λ tail t k boot y. heard_dull s c past p m h d.heard k boot y;
     }
 
-pub fetched_on : (s : Script) (c : Cell) (past : List Entry) (n p : ℕ) (act : Going) (m : Message) (u : CacheEntry) (body : ReadBody) → (h : Holds s c past) → Due c h.floors past n p act m → volume_changed (asked act) ≡ None → u.server ≡ the_server → Shows u.fid u.index body past (lines.Given p ∷ []) → IsFetched false n u.fid u.index u.status u.body u.expiry m past → c.clock < u.expiry
+pub fetched_on : (s : Script) (c : Cell) (past : List Entry) (n p : ℕ) (act : Going) (m : Message) (u : CacheEntry) (body : ReadBody) → (h : Holds s c past) → Due c h.floors past n p act m → volume_changed (asked act) ≡ None → is_promised body ≡ true → u.server ≡ the_server → Shows u.fid u.index body past (lines.Given p ∷ []) → IsFetched false n u.fid u.index u.status u.body u.expiry m past → c.clock < u.expiry
     → Walks s c past n c.server.lasting.boot (lines.Given p ∷ lines.Read (Client n) u.fid u.index Fetched body ∷ looked (Client n) (fetched_walk (c.clients n) c.clock act u body).looks []) (fetched_walk (c.clients n) c.clock act u body).act (fetched_walk (c.clients n) c.clock act u body).cache
-fetched_on s c past n p act m u body h d shut from shown a lt = walks_on (most_reads act) s c past n c.server.lasting.boot (read_now n p u body) (with_read u.fid body act) (put_entry (c.clients n).capacity u (c.clients n).cache) h (fetched_walks s c past n p act m u body h d shut from shown a lt)
+fetched_on s c past n p act m u body h d shut kind from shown a lt = walks_on (most_reads act) s c past n c.server.lasting.boot (read_now n p u body) (with_read u.fid body act) (put_entry (c.clients n).capacity u (c.clients n).cache) h (fetched_walks s c past n p act m u body h d shut kind from shown a lt)
 
-pub fetched_answered : (s : Script) (c : Cell) (past : List Entry) (n p : ℕ) (act : Going) (m : Message) (u : CacheEntry) (body : ReadBody) (k : ℕ) → (h : Holds s c past) → Due c h.floors past n p act m → ((code : Code) → m.carried ≡ carried.Refusal code → ⊥) → volume_changed (asked act) ≡ None → u.server ≡ the_server → Shows u.fid u.index body past (lines.Given p ∷ []) → IsFetched false n u.fid u.index u.status u.body u.expiry m past → c.clock < u.expiry
+pub fetched_answered : (s : Script) (c : Cell) (past : List Entry) (n p : ℕ) (act : Going) (m : Message) (u : CacheEntry) (body : ReadBody) (k : ℕ) → (h : Holds s c past) → Due c h.floors past n p act m → ((code : Code) → m.carried ≡ carried.Refusal code → ⊥) → volume_changed (asked act) ≡ None → is_promised body ≡ true → u.server ≡ the_server → Shows u.fid u.index body past (lines.Given p ∷ []) → IsFetched false n u.fid u.index u.status u.body u.expiry m past → c.clock < u.expiry
     → next (fetched_walk (c.clients n) c.clock act u body).act ≡ answers k → Goes s past (client_moves c n (goes_by (Client n) (c.clients n) (read_lines (Client n) p (look_at Fetched u body)) (fetched_walk (c.clients n) c.clock act u body) (answers k)))
-fetched_answered s c past n p act m u body k h d not shut from shown a lt is =
+fetched_answered s c past n p act m u body k h d not shut kind from shown a lt is =
     let x : ClientState = c.clients n in
     let w : Walked = fetched_walk x c.clock act u body in
     let ls : List Line = lines.Given p ∷ lines.Read (Client n) u.fid u.index Fetched body ∷ looked (Client n) w.looks [] in
     let tail : List Line = lines.Answer (Client n) (record { 0 = pos k }) ∷ [] in
-    let W : Walks s c past n c.server.lasting.boot ls w.act w.cache = fetched_on s c past n p act m u body h d shut from shown a lt in
+    let W : Walks s c past n c.server.lasting.boot ls w.act w.cache = fetched_on s c past n p act m u body h d shut kind from shown a lt in
     let e : Entry = step_entry n (ls ++ tail) [] in
     let t : AreTail n tail = (refl, tt) in
     let ends : EndsReach n tail = ends_answered n (record { 0 = pos k }) in
@@ -569,16 +581,16 @@ fetched_answered s c past n p act m u body k h d not shut from shown a lt is =
     (walk_reached s c past n c.server.lasting.boot ls w.act w.cache tail [] W t ends))
     (ended_calls s c past n p act m w.cache held h d (λ code z. absurd (not code z))) (ended_reply s c past n w.cache held e h) (nothing_new _ _) (λ b y z. absurd cc) refl)
 
-pub fetched_calls : (s : Script) (c : Cell) (past : List Entry) (n p : ℕ) (act : Going) (m : Message) (u : CacheEntry) (body : ReadBody) → (h : Holds s c past) → Due c h.floors past n p act m → volume_changed (asked act) ≡ None → u.server ≡ the_server → Shows u.fid u.index body past (lines.Given p ∷ []) → IsFetched false n u.fid u.index u.status u.body u.expiry m past → c.clock < u.expiry
+pub fetched_calls : (s : Script) (c : Cell) (past : List Entry) (n p : ℕ) (act : Going) (m : Message) (u : CacheEntry) (body : ReadBody) → (h : Holds s c past) → Due c h.floors past n p act m → volume_changed (asked act) ≡ None → is_promised body ≡ true → u.server ≡ the_server → Shows u.fid u.index body past (lines.Given p ∷ []) → IsFetched false n u.fid u.index u.status u.body u.expiry m past → c.clock < u.expiry
     → Goes s past (client_moves c n (goes_by (Client n) (c.clients n) (read_lines (Client n) p (look_at Fetched u body)) (fetched_walk (c.clients n) c.clock act u body) (asks_for calls.GetTime)))
-fetched_calls s c past n p act m u body h d shut from shown a lt =
+fetched_calls s c past n p act m u body h d shut kind from shown a lt =
     let x : ClientState = c.clients n in
     let w : Walked = fetched_walk x c.clock act u body in
     let ls : List Line = lines.Given p ∷ lines.Read (Client n) u.fid u.index Fetched body ∷ looked (Client n) w.looks [] in
-    let W : Walks s c past n c.server.lasting.boot ls w.act w.cache = fetched_on s c past n p act m u body h d shut from shown a lt in
+    let W : Walks s c past n c.server.lasting.boot ls w.act w.cache = fetched_on s c past n p act m u body h d shut kind from shown a lt in
     let k = h.clients n in
     let y : ClientState = asking (record x { cache = w.cache }) w.act in
-    let kind : IsClient s y = client_asking s c past (record x { cache = w.cache }) w.act h (record { table = (h.own n).table; user = (h.own n).user; callee = λ b z. (h.own n).callee b z; apart = walked_apart (most_reads act) c.clock (with_read u.fid body act) (put_entry x.capacity u x.cache) (apart_put x.capacity u x.cache (h.own n).apart) }) in
+    let its : IsClient s y = client_asking s c past (record x { cache = w.cache }) w.act h (record { table = (h.own n).table; user = (h.own n).user; callee = λ b z. (h.own n).callee b z; apart = walked_apart (most_reads act) c.clock (with_read u.fid body act) (put_entry x.capacity u x.cache) (apart_put x.capacity u x.cache (h.own n).apart) }) in
     let ms : List Message = call_message (Client n) y w.act ∷ [] in
     let e : Entry = step_entry n (ls ++ []) ms in
     let g : Ghost = record { floor = c.server.lasting.boot; held = c.server.lasting.boot } in
@@ -593,7 +605,7 @@ fetched_calls s c past n p act m u body h d shut from shown a lt =
       answers = λ b runs y z. absurd (next_not _ _ _ _ r.behind y z);
     } in
     subst (λ (os : List Line). Goes s past (with_lines c n y ms os)) (append-nil ls)
-    (moves s c past n g (record { state = y; lines = ls ++ []; sent = ms }) h kind
+    (moves s c past n g (record { state = y; lines = ls ++ []; sent = ms }) h its
     (W.good [] tt)
     (quiet_passes s n (ls ++ []) ms past (quiet_more n ls [] W.quiet tt) (W.dull [] tt))
     (record {
@@ -611,7 +623,7 @@ fetched_calls s c past n p act m u body h d shut from shown a lt =
       current = λ f q found lasts. walk_current s c past n c.server.lasting.boot ls w.act w.cache [] ms v f q W tt (ends_here n) (le_refl _) (inl never) found lasts;
       old = walk_old n (put_entry x.capacity u x.cache) w.cache (ls ++ []) ms past (quiet_more n ls [] W.quiet tt) (λ f v z. walked_found (most_reads act) c.clock (with_read u.fid body act) (put_entry x.capacity u x.cache) f v z) (put_old x.capacity u x.cache past (kept_whole u.body (find_cached u.fid x.cache) u.fid u.index u.status x.cache past refl h.one k.old a.held.whole) k.old);
       runs = λ b y. at ∙ y;
-      asked = λ b z. subst (λ (x : Going). CalledSince (last_key n v) guest (asked x) (e ∷ past)) (some_of w.act b z) (inl (refl, inl (refl, carried_is y w.act kind.user)));
+      asked = λ b z. subst (λ (x : Going). CalledSince (last_key n v) guest (asked x) (e ∷ past)) (some_of w.act b z) (inl (refl, inl (refl, carried_is y w.act its.user)));
       reached = walk_reached s c past n c.server.lasting.boot ls w.act w.cache [] ms W tt (ends_here n);
     })
     (λ head' call r. record {
@@ -624,22 +636,22 @@ fetched_calls s c past n p act m u body h d shut from shown a lt =
         | inr same ↦ inl (ap volume_changed (r.own act d.running same.0 same.1) ∙ shut)
       ];
     })
-    over (own_call h.floors c past n g y w.act (ls ++ []) k.known kind refl at (new_one s c past n y w.act h refl refl)) (λ b x z. inr (record { act = act; runs = d.running; read = shut })) refl)
+    over (own_call h.floors c past n g y w.act (ls ++ []) k.known its refl at (new_one s c past n y w.act h refl refl)) (λ b x z. inr (record { act = act; runs = d.running; read = shut })) refl)
 
-fetched_by : (need : Need) (s : Script) (c : Cell) (past : List Entry) (n p : ℕ) (act : Going) (m : Message) (u : CacheEntry) (body : ReadBody) → (h : Holds s c past) → Due c h.floors past n p act m → ((code : Code) → m.carried ≡ carried.Refusal code → ⊥) → volume_changed (asked act) ≡ None → u.server ≡ the_server → Shows u.fid u.index body past (lines.Given p ∷ []) → IsFetched false n u.fid u.index u.status u.body u.expiry m past → c.clock < u.expiry
+fetched_by : (need : Need) (s : Script) (c : Cell) (past : List Entry) (n p : ℕ) (act : Going) (m : Message) (u : CacheEntry) (body : ReadBody) → (h : Holds s c past) → Due c h.floors past n p act m → ((code : Code) → m.carried ≡ carried.Refusal code → ⊥) → volume_changed (asked act) ≡ None → is_promised body ≡ true → u.server ≡ the_server → Shows u.fid u.index body past (lines.Given p ∷ []) → IsFetched false n u.fid u.index u.status u.body u.expiry m past → c.clock < u.expiry
     → next (fetched_walk (c.clients n) c.clock act u body).act ≡ need → Goes s past (client_moves c n (goes_by (Client n) (c.clients n) (read_lines (Client n) p (look_at Fetched u body)) (fetched_walk (c.clients n) c.clock act u body) need))
-fetched_by (answers k) s c past n p act m u body h d not shut from shown a lt e = fetched_answered s c past n p act m u body k h d not shut from shown a lt e
-fetched_by (reads f) s c past n p act m u body h d not shut from shown a lt e = fetched_calls s c past n p act m u body h d shut from shown a lt
-fetched_by (reads_status f) s c past n p act m u body h d not shut from shown a lt e = fetched_calls s c past n p act m u body h d shut from shown a lt
-fetched_by (reads_statuses fs) s c past n p act m u body h d not shut from shown a lt e = fetched_calls s c past n p act m u body h d shut from shown a lt
-fetched_by (reads_rights f) s c past n p act m u body h d not shut from shown a lt e = fetched_calls s c past n p act m u body h d shut from shown a lt
-fetched_by (asks_for call) s c past n p act m u body h d not shut from shown a lt e = fetched_calls s c past n p act m u body h d shut from shown a lt
-fetched_by gives_back s c past n p act m u body h d not shut from shown a lt e = fetched_calls s c past n p act m u body h d shut from shown a lt
+fetched_by (answers k) s c past n p act m u body h d not shut kind from shown a lt e = fetched_answered s c past n p act m u body k h d not shut kind from shown a lt e
+fetched_by (reads f) s c past n p act m u body h d not shut kind from shown a lt e = fetched_calls s c past n p act m u body h d shut kind from shown a lt
+fetched_by (reads_status f) s c past n p act m u body h d not shut kind from shown a lt e = fetched_calls s c past n p act m u body h d shut kind from shown a lt
+fetched_by (reads_statuses fs) s c past n p act m u body h d not shut kind from shown a lt e = fetched_calls s c past n p act m u body h d shut kind from shown a lt
+fetched_by (reads_rights f) s c past n p act m u body h d not shut kind from shown a lt e = fetched_calls s c past n p act m u body h d shut kind from shown a lt
+fetched_by (asks_for call) s c past n p act m u body h d not shut kind from shown a lt e = fetched_calls s c past n p act m u body h d shut kind from shown a lt
+fetched_by gives_back s c past n p act m u body h d not shut kind from shown a lt e = fetched_calls s c past n p act m u body h d shut kind from shown a lt
 
-pub fetched_goes : (s : Script) (c : Cell) (past : List Entry) (n p : ℕ) (act : Going) (u : CacheEntry) (body : ReadBody) (m : Message) (t : Bool) → (h : Holds s c past) → Due c h.floors past n p act m → ((code : Code) → m.carried ≡ carried.Refusal code → ⊥) → volume_changed (asked act) ≡ None → u.server ≡ the_server → Shows u.fid u.index body past (lines.Given p ∷ []) → IsFetched false n u.fid u.index u.status u.body u.expiry m past → nat_lt c.clock u.expiry ≡ t
+pub fetched_goes : (s : Script) (c : Cell) (past : List Entry) (n p : ℕ) (act : Going) (u : CacheEntry) (body : ReadBody) (m : Message) (t : Bool) → (h : Holds s c past) → Due c h.floors past n p act m → ((code : Code) → m.carried ≡ carried.Refusal code → ⊥) → volume_changed (asked act) ≡ None → is_promised body ≡ true → u.server ≡ the_server → Shows u.fid u.index body past (lines.Given p ∷ []) → IsFetched false n u.fid u.index u.status u.body u.expiry m past → nat_lt c.clock u.expiry ≡ t
     → Goes s past (client_moves c n (cond t (goes_on (Client n) (c.clients n) (read_lines (Client n) p (look_at Fetched u body)) (fetched_walk (c.clients n) c.clock act u body)) (calls_again (Client n) (c.clients n) p act)))
-fetched_goes s c past n p act u body m true h d not shut from shown a lasts = fetched_by (next (fetched_walk (c.clients n) c.clock act u body).act) s c past n p act m u body h d not shut from shown a (ltb-true _ _ lasts) refl
-fetched_goes s c past n p act u body m false h d not shut from shown a lasts = again_goes s c past n p act m h d shut
+fetched_goes s c past n p act u body m true h d not shut kind from shown a lasts = fetched_by (next (fetched_walk (c.clients n) c.clock act u body).act) s c past n p act m u body h d not shut kind from shown a (ltb-true _ _ lasts) refl
+fetched_goes s c past n p act u body m false h d not shut kind from shown a lasts = again_goes s c past n p act m h d shut
 
 -- ---- an answered store
 
@@ -792,7 +804,7 @@ resends_goes s c past n p act m boot h d le runs =
     moves s c past n (h.floors n) (resends_step (Client n) old p act boot) h kind (tt, tt) (told_passes s c past n p m ms h d)
     (subst (λ (k : ℕ). ClientFacts s n (record (view h.floors c n) { known = k }) (e ∷ past)) (sym known) (client_kept s c past n boot e h le (λ f. told_file n p f (actors.Node (Client n)) ms past) (λ f. told_reach n p f (actors.Node (Client n)) ms past) (told_act n p (actors.Node (Client n)) ms past) (λ f. refl)))
     (λ head call f. call_known (view h.floors c n) (boot_of the_server x.boots) head call f)
-    (reply_still n (view h.floors c n) e past (λ f. told_file n p f (actors.Node (Client n)) ms past) (λ f. told_reach n p f (actors.Node (Client n)) ms past) (λ f. refl))
+    (reply_still n (view h.floors c n) e past (λ f. told_file n p f (actors.Node (Client n)) ms past) (λ f. told_reach n p f (actors.Node (Client n)) ms past) (λ f. refl) refl)
     (own_call h.floors c past n (h.floors n) x act (lines.Given p ∷ []) (subst (λ (k : ℕ). k ≤ c.server.lasting.boot) (sym known) le) kind runs ((h.clients n).runs act runs) (same_one s c past n act ms h runs)) (λ a x z. inl x) refl
 
 -- ---- the row, by its cases
@@ -813,22 +825,22 @@ fresh_of false o e q = refl
 
 -- a reading reply is used
 pub entry_goes : (s : Script) (c : Cell) (past : List Entry) (n p : ℕ) (act : Going) (head : Head) (reply : FsReply) (u : CacheEntry) (body : ReadBody) → (h : Holds s c past) → Due c h.floors past n p act (record { head = head; carried = carried.Reply (tell.File reply) }) → is_spent (c.clients n) act ≡ false → volume_changed (asked act) ≡ None
-    → u.server ≡ (c.clients n).callee → Shows u.fid u.index body past (lines.Given p ∷ []) → IsFetched (c.clients n).spoiled n u.fid u.index u.status u.body u.expiry (record { head = head; carried = carried.Reply (tell.File reply) }) past → Goes s past (client_moves c n (takes_entry (Client n) (c.clients n) c.clock p act u body))
-entry_goes s c past n p act head reply u body h d fresh shut at shown fits =
-    fetched_goes s c past n p act u body _ (nat_lt c.clock u.expiry) h d (λ code z. reply_not reply code z) shut (at ∙ (h.own n).callee act d.running) shown
+    → is_promised body ≡ true → u.server ≡ (c.clients n).callee → Shows u.fid u.index body past (lines.Given p ∷ []) → IsFetched (c.clients n).spoiled n u.fid u.index u.status u.body u.expiry (record { head = head; carried = carried.Reply (tell.File reply) }) past → Goes s past (client_moves c n (takes_entry (Client n) (c.clients n) c.clock p act u body))
+entry_goes s c past n p act head reply u body h d fresh shut kind at shown fits =
+    fetched_goes s c past n p act u body _ (nat_lt c.clock u.expiry) h d (λ code z. reply_not reply code z) shut kind (at ∙ (h.own n).callee act d.running) shown
     (subst (λ (sp : Bool). IsFetched sp n u.fid u.index u.status u.body u.expiry (record { head = head; carried = carried.Reply (tell.File reply) }) past) (fresh_of (c.clients n).spoiled (volume_changed (call_of (c.clients n) act)) fresh (ap volume_changed (call_is (c.clients n) act) ∙ shut)) fits) refl
 
 pub data_goes : (s : Script) (c : Cell) (past : List Entry) (n p : ℕ) (act : Going) (call : FsCall) (head : Head) (contents : List ℕ) (status : AfsFetchStatus) (callback : AfsCallBack) (sync : AfsVolSync) → (h : Holds s c past) → Due c h.floors past n p act (record { head = head; carried = carried.Reply (tell.File (replies.FetchData contents status callback sync)) })
     → is_spent (c.clients n) act ≡ false → asked act ≡ call → FitsData (c.clients n).spoiled n (spot (view h.floors c n)) (record { head = head; carried = carried.Reply (tell.File (replies.FetchData contents status callback sync)) }) past contents status callback call → Goes s past (client_moves c n (takes_data (Client n) (c.clients n) c.clock p act contents status callback sync call))
 data_goes s c past n p act (calls.FetchData f pp w) head contents status callback sync h d fresh same fits =
-    entry_goes s c past n p act head (replies.FetchData contents status callback sync) (entry_told (c.clients n).callee f status callback sync (Some (body_told status.file_type contents))) (seen.Contents (body_told status.file_type contents)) h d fresh (ap volume_changed same) refl
+    entry_goes s c past n p act head (replies.FetchData contents status callback sync) (entry_told (c.clients n).callee f status callback sync (Some (body_told status.file_type contents))) (seen.Contents (body_told status.file_type contents)) h d fresh (ap volume_changed same) refl refl
     (subst (λ (b : Body). HasVersion f status.sync_counter b (lines_of past)) (sym fits.held.whole.holds) fits.held.whole.told) fits
 data_goes s c past n p act call head contents status callback sync h d fresh same fits = plain_goes s c past n p act call _ (replies.FetchData contents status callback sync) h d refl same
 
 pub status_goes : (s : Script) (c : Cell) (past : List Entry) (n p : ℕ) (act : Going) (call : FsCall) (head : Head) (status : AfsFetchStatus) (callback : AfsCallBack) (sync : AfsVolSync) → (h : Holds s c past) → Due c h.floors past n p act (record { head = head; carried = carried.Reply (tell.File (replies.FetchStatus status callback sync)) })
     → is_spent (c.clients n) act ≡ false → asked act ≡ call → FitsShown (c.clients n).spoiled n (spot (view h.floors c n)) (record { head = head; carried = carried.Reply (tell.File (replies.FetchStatus status callback sync)) }) past status callback call → Goes s past (client_moves c n (takes_shown (Client n) (c.clients n) c.clock p act status callback sync call))
 status_goes s c past n p act (calls.FetchStatus f) head status callback sync h d fresh same fits =
-    entry_goes s c past n p act head (replies.FetchStatus status callback sync) (entry_told (c.clients n).callee f status callback sync None) (seen.Status (status_told status)) h d fresh (ap volume_changed same) refl
+    entry_goes s c past n p act head (replies.FetchStatus status callback sync) (entry_told (c.clients n).callee f status callback sync None) (seen.Status (status_told status)) h d fresh (ap volume_changed same) refl refl
     ((fits.held.whole.is, fits.held.whole.told), fits.held.whole.been) fits
 status_goes s c past n p act call head status callback sync h d fresh same fits = plain_goes s c past n p act call _ (replies.FetchStatus status callback sync) h d refl same
 
