@@ -2,4 +2,6 @@
 #![tactic(auto)]
 
 #[cfg(test)]
+mod changing;
+#[cfg(test)]
 mod reading;
