@@ -19,3 +19,5 @@ pub mod Soundly
 pub mod Taken
 pub mod Folded
 pub mod Walked
+pub mod Readable
+pub mod AtOnce

@@ -199,10 +199,10 @@ pub bytes_seen : (x : image.Vnode) → IsReadable x → bytes_by (seen x).kind (
 unfolding seen
 bytes_seen x h = bytes_kind (kind_seen x.kind) x h.1.0
 
-few_blocks : (x : image.Vnode) → IsReadable x → FitsImage x → blocks_of (seen x) ≤ 2048
+pub few_blocks : (x : image.Vnode) → IsReadable x → FitsImage x → blocks_of (seen x) ≤ 2048
 few_blocks x h fits = let size : length (bytes_by (seen x).kind (seen x)) ≡ length x.contents = ap length (bytes_seen x h) in let most = fits.contents in omega (arith, size, most)
 
-later_by : (n : ℕ) (x : image.Vnode) (p : ℕ × image.Vnode) (ps : Table image.Vnode) (b : Bool) → nat_eq p.0 n ≡ b → AscendsFrom (p.0 + 1) ps → get n ps ≡ Some x → (if b then Some p.1 else get n ps) ≡ Some x
+pub later_by : (n : ℕ) (x : image.Vnode) (p : ℕ × image.Vnode) (ps : Table image.Vnode) (b : Bool) → nat_eq p.0 n ≡ b → AscendsFrom (p.0 + 1) ps → get n ps ≡ Some x → (if b then Some p.1 else get n ps) ≡ Some x
 later_by n x p ps true is up e = absurd (let gone : get n ps ≡ None = get_below (p.0 + 1) n ps (grind (arith, nat_tests, is)) up in let z : ◌≡◌ {A = Option image.Vnode} None (Some x) = sym gone ∙ e in cc)
 later_by n x p ps false is up e = e
 

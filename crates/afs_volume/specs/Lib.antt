@@ -8,3 +8,4 @@ pub mod Images
 pub mod Seen
 pub mod Taking
 pub mod Assembling
+pub mod Filled

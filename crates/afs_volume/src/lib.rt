@@ -3,6 +3,7 @@
 
 mod amending;
 mod applying;
+mod assembling;
 mod bulk;
 mod callers;
 mod checks;

@@ -52,7 +52,7 @@ fn is_whole_store(contents: &Octets, position: i32, stored: i32, file_length: i3
 }
 
 /// Whether a text is an access list.
-fn is_acl(alloc: Global, text: &[u8]) -> Mem<bool>
+pub fn is_acl(alloc: Global, text: &[u8]) -> Mem<bool>
     ensures { IfOk result (λ b. b ≡ is_acl text.now) }
 {
     match Acl::parse(alloc, text) {

@@ -1,0 +1,24 @@
+use Rattle.std.proofs.Common.{◌≡◌, Bool, true, false, is_some, refl, sym, ap, ◌∙◌}
+use Rattle.std.specs.Prelude.{◌&&◌}
+use Rattle.afs_ideal.specs.Images.{values_of}
+use Rattle.afs_records.specs.Sound.{is_sound}
+use Rattle.afs_volume.specs.Seen.{volume_seen}
+use Rattle.afs_volume.proofs.Readable.{all_read}
+use Rattle.afs_volume.proofs.volume.Volume.assemble.Goals as goal
+
+pub returns-then-not-branch-clause-not_sound : goal.returns-then-not-branch-clause-not_sound
+returns-then-not-branch-clause-not_sound c e = rw (all_read c.args.vnodes.table, ← c.in_ok-are_read.ensures.value, c.if-not-branch.true) refl
+
+pub blocks_in-blocks-requires : goal.blocks_in-blocks-requires
+blocks_in-blocks-requires c = c.in_ok-are_read.ensures.readable c.if-not-branch.false
+
+pub invariant_of-result : goal.invariant_of-result
+invariant_of-result c = record {
+  readable = c.in_ok-are_read.ensures.readable c.if-not-branch.false;
+  counted = c.blocks_in-blocks.ensures;
+  sound = sym c.in_ok-is_sound.ensures ∙ c.if-not-branch-2.false;
+}
+
+pub returns-clause-whole : goal.returns-clause-whole
+returns-clause-whole c =
+    rw (all_read c.args.vnodes.table, ← c.in_ok-are_read.ensures.value, c.if-not-branch.false) (sym c.in_ok-is_sound.ensures ∙ c.if-not-branch-2.false)
