@@ -18,7 +18,7 @@ use Rattle.afs_ideal.proofs.Tables.{ascends_lower}
 use Rattle.afs_records.specs.Durable.{changed_stored}
 use Rattle.afs_records.proofs.Kept.{changed_is}
 use Rattle.afs_records.proofs.Tested.{passes}
-use Rattle.afs_volume.specs.Changes.{after, IsChangeBy}
+use Rattle.afs_volume.specs.Changes.{after, IsChangeBy, IsKeptAs}
 use Rattle.afs_volume.specs.Drawing.{all_freed, all_left, shown_by, without, with_left, IsLeft}
 use Rattle.afs_volume.specs.Giving.{volume_of}
 use Rattle.afs_volume.specs.Seen.{all_seen, seen, IsReadable}
@@ -62,17 +62,20 @@ valued x n time s = subst (λ (y : Vnode). value_of (image_of n time y) ≡ Some
 
 -- ---- the change
 
-pub can_take : (w : volumes.Volume) (caller : Caller) (call : FsCall) (now : ℕ) (es : List Edit) (n : ℕ) (d : Draft) (c : Change) → IsSound (volume_of w) → IsOn w.head.id call → op w.head.id caller call (volume_of w) ≡ changes es n → length (volume_of w).vnodes ≤ most_vnodes
-    → IsDrafted w now es d → c.vnodes ≡ d.vnodes → IsChangeBy w now es n c → CanTakeIn w c
-can_take w caller call now es n d c h on e few draft same is =
+pub is_kept : (w : volumes.Volume) (caller : Caller) (call : FsCall) (now : ℕ) (es : List Edit) (n : ℕ) (d : Draft) (c : Change) → IsSound (volume_of w) → IsOn w.head.id call → op w.head.id caller call (volume_of w) ≡ changes es n → length (volume_of w).vnodes ≤ most_vnodes
+    → IsDrafted w now es d → IsChangeBy w now es n c → IsKeptAs w now es c
+is_kept w caller call now es n d c h on e few draft is =
     let v = volume_of w in
     let id : ℕ = w.head.id in
     let ch = operations_change id caller call v es n h on e in
     let sound = (operations_leave_sound id caller call v es n h e).sound in
-    let kept = changed_is id now es (stored_of w) h.ascending sound.ascending (λ m x k. valued x m now (each_seen w caller call now es n d h on e draft m x k))
-    (few_after id es v ch.one (within id caller call v es n e).fits (ascends_lower 0 1 v.vnodes (omega arith) h.ascending) few) (passes (counted (edited_all id es v)) sound) in
-    record {
-      taken = rw (is.counter, is.unique, is.vnodes, is.removed, kept) refl;
-      read = rw same (each_left (IsLeft now) IsReadable d.vnodes (λ i l. l.readable) draft.images);
-      fits = rw same (each_left (IsLeft now) FitsImage d.vnodes (λ i l. l.fits) draft.images);
-    }
+    rw (is.counter, is.unique, is.vnodes, is.removed)
+    (changed_is id now es (stored_of w) h.ascending sound.ascending (λ m x k. valued x m now (each_seen w caller call now es n d h on e draft m x k))
+    (few_after id es v ch.one (within id caller call v es n e).fits (ascends_lower 0 1 v.vnodes (omega arith) h.ascending) few) (passes (counted (edited_all id es v)) sound))
+
+pub can_take : (w : volumes.Volume) (now : ℕ) (es : List Edit) (d : Draft) (c : Change) → IsDrafted w now es d → c.vnodes ≡ d.vnodes → IsKeptAs w now es c → CanTakeIn w c
+can_take w now es d c draft same kept = record {
+  taken = rw kept refl;
+  read = rw same (each_left (IsLeft now) IsReadable d.vnodes (λ i l. l.readable) draft.images);
+  fits = rw same (each_left (IsLeft now) FitsImage d.vnodes (λ i l. l.fits) draft.images);
+}

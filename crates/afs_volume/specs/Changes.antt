@@ -7,8 +7,10 @@ use Rattle.afs_ideal.specs.Operations as op
 use Rattle.afs_ideal.specs.Operations.{Caller, changed, changes, made_by}
 use Rattle.afs_ideal.specs.Replies.{change_reply, stamped}
 use Rattle.afs_ideal.specs.Volumes as ideal
-use Rattle.afs_records.specs.Changes.{images_left, numbers_gone}
+use Rattle.afs_records.specs.Changes.{images_left, numbers_gone, stored_after}
+use Rattle.afs_records.specs.Durable.{changed_stored}
 use Rattle.afs_volume.specs.Giving.{refusal_of, times_of, volume_of}
+use Rattle.afs_volume.specs.Taking.{stored_of}
 use Rattle.afs_volume.specs.declared.faults.OpFault.{OpFault}
 use Rattle.afs_volume.specs.declared.faults.OpFault.TheVariants as faults
 use Rattle.afs_volume.specs.declared.volume.Volume.{Volume}
@@ -31,9 +33,13 @@ abbrev pub RepliesBy : Volume → Caller → FsCall → ℕ → List ideal.Edit 
 RepliesBy w caller call now es n c =
     change_reply w.head.id caller (stamped now c.versions (times_of w)) (after w es n) n call ≡ Some c.reply
 
+-- A disk that keeps the volume makes of its record the volume after these edits.
+abbrev pub IsKeptAs : Volume → ℕ → List ideal.Edit → Change → Type 0
+IsKeptAs w now es c = changed_stored c.counter c.unique c.vnodes c.removed (stored_of w) ≡ Some (stored_after w.head.id now es (stored_of w))
+
 -- The change that the operation of a call makes, or its refusal.
 abbrev pub Applies : Volume → Caller → FsCall → ℕ → op.Result → Result Change OpFault → Type 0
 Applies w caller call now r (Ok c) =
-    (es : List ideal.Edit) × ((n : ℕ) × ((r ≡ changes es n) × (IsChangeBy w now es n c × RepliesBy w caller call now es n c)))
+    (es : List ideal.Edit) × ((n : ℕ) × ((r ≡ changes es n) × (IsChangeBy w now es n c × (RepliesBy w caller call now es n c × IsKeptAs w now es c))))
 Applies w caller call now r (Err (faults.Code code)) = option_map pos (refusal_of r) ≡ Some code.0
 Applies w caller call now r (Err faults.OutOfMemory) = Unit {0}

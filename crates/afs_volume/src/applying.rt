@@ -5,7 +5,7 @@ ghost use Rattle.std.specs.List.{list_any};
 ghost use Rattle.afs_ideal.specs.Operations.{changes, last_count, op, the_user, IsOn};
 ghost use Rattle.afs_ideal.specs.Soundness.{IsSound};
 ghost use Rattle.afs_ideal.specs.VnodeMaps.{most_vnodes};
-ghost use Rattle.afs_volume.specs.Changes.{Applies, IsChangeBy, RepliesBy};
+ghost use Rattle.afs_volume.specs.Changes.{Applies, IsChangeBy, IsKeptAs, RepliesBy};
 ghost use Rattle.afs_volume.specs.Drawing.{makes_vnode};
 ghost use Rattle.afs_volume.specs.Giving.{caller_seen, edit_seen, edits_seen, is_changing, volume_of, FitsCall};
 ghost use Rattle.afs_volume.specs.Taking.{CanTakeIn};
@@ -59,6 +59,7 @@ impl Volume {
         requires planned { op self.now.head.id (caller_seen caller.now) call.now (volume_of self.now) ≡ changes (edits_seen plan.now.edits) plan.now.shown }
         ensures change { IfOk result (λ c. IsChangeBy self.now now (edits_seen plan.now.edits) plan.now.shown c) }
         ensures reply { IfOk result (λ c. RepliesBy self.now (caller_seen caller.now) call.now now (edits_seen plan.now.edits) plan.now.shown c) }
+        ensures kept { IfOk result (λ c. IsKeptAs self.now now (edits_seen plan.now.edits) c) }
         ensures fits { IfOk result (λ c. CanTakeIn self.now c) }
     {
         let edits = plan.edits.as_slice();

@@ -1,12 +1,12 @@
 use Rattle.std.proofs.Common.{◌≡◌, ◌<◌, ◌+◌, ℕ, List, true, subst, refl, sym, ap, ◌∙◌, arith, if◌then◌else◌}
 use Rattle.std.specs.List.{list_any, AllByRecursion}
 use Rattle.afs_ideal.specs.Operations.{last_count}
-use Rattle.afs_volume.specs.Changes.{IsChangeBy}
+use Rattle.afs_volume.specs.Changes.{IsChangeBy, IsKeptAs}
 use Rattle.afs_volume.specs.Drawing.{all_freed, all_left, all_told, makes_vnode, CanBeDrawn}
 use Rattle.afs_volume.specs.Giving.{caller_seen, edits_seen, volume_of}
 use Rattle.afs_volume.specs.declared.edits.Edit.{Edit}
 use Rattle.afs_volume.proofs.Changed.{change_of, counter_low, drawable, is_change, replies, shown_there, unique_low, IsDrafted}
-use Rattle.afs_volume.proofs.Fitting.{can_take}
+use Rattle.afs_volume.proofs.Fitting.{can_take, is_kept}
 use Rattle.afs_volume.proofs.volume.Volume.changed_by.Goals as goal
 
 pub draft-requires : goal.draft-requires
@@ -53,10 +53,18 @@ changed c =
 pub returns-clause-change : goal.returns-clause-change
 returns-clause-change c = changed c
 
+kept : (c : goal.After-unique_left) → IsKeptAs c.args.self.now c.args.now (edits_seen c.args.plan.now.edits) (change_of c.in_ok-draft.draft (c.args.self.now.head.counter + 1) c.unique_left.result c.in_ok-reply.reply)
+kept c =
+    let w = c.args.self.now in
+    is_kept w (caller_seen c.args.caller.now) c.args.call.now c.args.now (edits_seen c.args.plan.now.edits) c.args.plan.now.shown c.in_ok-draft.draft (change_of c.in_ok-draft.draft (w.head.counter + 1) c.unique_left.result c.in_ok-reply.reply) c.requires.sound c.requires.on c.requires.planned c.requires.few (drafted c) (changed c)
+
+pub returns-clause-kept : goal.returns-clause-kept
+returns-clause-kept c = kept c
+
 pub returns-clause-fits : goal.returns-clause-fits
 returns-clause-fits c =
     let w = c.args.self.now in
-    can_take w (caller_seen c.args.caller.now) c.args.call.now c.args.now (edits_seen c.args.plan.now.edits) c.args.plan.now.shown c.in_ok-draft.draft (change_of c.in_ok-draft.draft (w.head.counter + 1) c.unique_left.result c.in_ok-reply.reply) c.requires.sound c.requires.on c.requires.planned c.requires.few (drafted c) refl (changed c)
+    can_take w c.args.now (edits_seen c.args.plan.now.edits) c.in_ok-draft.draft (change_of c.in_ok-draft.draft (w.head.counter + 1) c.unique_left.result c.in_ok-reply.reply) (drafted c) refl (kept c)
 
 pub returns-clause-reply : goal.returns-clause-reply
 returns-clause-reply c =
