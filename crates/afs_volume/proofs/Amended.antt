@@ -1,12 +1,12 @@
 -- How the image of a vnode after an edit is seen.
-use Rattle.std.proofs.Common.{◌≡◌, ℕ, ◌+◌, List, [], Bool, true, Option, Some, None, Result, Ok, Err, is_ok, refl, sym, ap, subst, ◌∙◌}
+use Rattle.std.proofs.Common.{◌≡◌, ℕ, List, true, Option, Some, None, Result, Ok, Err, is_ok, refl, sym, ap, subst, ◌∙◌}
 use Rattle.std.specs.Option.{option_map}
 use Rattle.afs_num.specs.declared.acls.AccessList.{AccessList}
 use Rattle.afs_num.specs.declared.directories.Name.{Name}
 use Rattle.afs_num.specs.declared.vnodes.Vnode as image
 use Rattle.afs_ideal.specs.AccessLists.{acl_at}
 use Rattle.afs_ideal.specs.Operations.{acl_read}
-use Rattle.afs_ideal.specs.Volumes.{Kind, a_directory, a_file, a_link, Vnode, amended, has_body, or_old, up_if, with_status}
+use Rattle.afs_ideal.specs.Volumes.{Kind, a_directory, a_file, a_link, Vnode, amended, has_body, or_old, with_status}
 use Rattle.afs_volume.specs.Drawing.{HasOwn}
 use Rattle.afs_volume.specs.Giving.{amend_seen, list_given}
 use Rattle.afs_volume.specs.Images.{body_left, list_left, image_amended}

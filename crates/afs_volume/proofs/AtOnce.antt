@@ -1,13 +1,12 @@
 -- A file that is made and then filled is the file that is made with its bytes.
-use Rattle.std.proofs.Common.{◌≡◌, ℕ, ◌+◌, ◌/◌, ◌≤◌, Bool, true, false, not, List, [], ◌∷◌, length, Option, Some, None, Result, Ok, Err, is_some, nat_eq, nat_lt, if◌then◌else◌, refl, sym, ap, subst, ◌∙◌, arith, pos, eq-eqb}
-use Rattle.std.specs.Prelude.{◌&&◌, ◌||◌}
-use Rattle.std.specs.List.{list_all, AllByRecursion}
+use Rattle.std.proofs.Common.{◌≡◌, ℕ, ◌+◌, ◌/◌, Bool, true, false, not, List, [], ◌∷◌, length, Option, Some, None, Ok, Err, is_some, nat_eq, nat_lt, if◌then◌else◌, refl, sym, ap, subst, ◌∙◌, arith, eq-eqb}
+use Rattle.std.specs.Prelude.{◌||◌}
 use Rattle.std.specs.Option.{option_map}
 use Rattle.std.proofs.lemmas.Bool.Decides.{nat_tests}
 use Rattle.afs_num.specs.declared.types.Fid.{Fid}
 use Rattle.afs_num.specs.declared.calls.FsCall.TheVariants as calls
-use Rattle.afs_ideal.specs.Tables.{Table, get, set, AscendsFrom, lowest_free}
-use Rattle.afs_ideal.specs.Volumes.{Kind, a_file, a_directory, a_link, Vnode, Volume, Amend, Edit, amends, makes, frees, amended, amends_at, edited, makes_at, fresh, bytes_by, blocks_of, blocks_in, counted, edited_all, ascending, placed, edit_number, if_unique, vnode_of, with_status}
+use Rattle.afs_ideal.specs.Tables.{Table, get, set, AscendsFrom}
+use Rattle.afs_ideal.specs.Volumes.{Kind, a_file, a_directory, a_link, Vnode, Volume, Amend, Edit, amends, makes, amended, amends_at, edited, makes_at, fresh, bytes_by, blocks_of, blocks_in, counted, edited_all, ascending, placed, edit_number, if_unique, vnode_of, with_status}
 use Rattle.afs_ideal.specs.Operations as ops
 use Rattle.afs_ideal.specs.Operations.{all_rights, changes, creating, name_of, names_in, most_bytes, effect, first_failing, free_number, is_kind, limits, new_file, no_amend, op, tests}
 use Rattle.afs_ideal.specs.SetUp.{all_at_first, at_first, called, laid_by, new_fid, nothing_set, one_at_first, stores_all}

@@ -1,19 +1,17 @@
 -- The change that the edits of an operation make of a sound volume.
 use Rattle.std.proofs.Common.{◌≡◌, ℕ, ◌+◌, ◌<◌, Bool, true, false, List, [], ◌∷◌, map, Option, Some, None, refl, sym, ap, subst, ◌∙◌, ltb-true, if◌then◌else◌}
-use Rattle.std.specs.Prelude.{not, nat_lt, is_some, ◌&&◌, ◌||◌}
+use Rattle.std.specs.Prelude.{not, nat_lt, is_some, ◌||◌}
 use Rattle.std.specs.List.{list_all, list_any, AllByRecursion}
 use Rattle.std.specs.Option.{option_map}
 use Rattle.afs_num.specs.declared.calls.FsCall.{FsCall}
 use Rattle.afs_num.specs.declared.calls.FsReply.{FsReply}
 use Rattle.afs_num.specs.declared.types.Fid.{Fid}
-use Rattle.afs_num.specs.declared.vnodes.Vnode as image
 use Rattle.afs_num.specs.declared.volumes.Change.{Change}
-use Rattle.afs_ideal.specs.Operations as ops
 use Rattle.afs_ideal.specs.Operations.{Caller, changes, edit_fits, is_last_count, last_count, limits, op, IsOn}
-use Rattle.afs_ideal.specs.Replies.{change_reply, stamped, vnode_at, vnode_or_none}
+use Rattle.afs_ideal.specs.Replies.{change_reply, stamped, vnode_at}
 use Rattle.afs_ideal.specs.Soundness.{HasByKind, IsSound}
 use Rattle.afs_ideal.specs.Tables.{Table, get}
-use Rattle.afs_ideal.specs.Volumes.{Kind, a_directory, a_file, a_link, Vnode, Volume, Amend, Edit, amends, makes, frees, amended, amends_at, makes_at, frees_at, counted, edited, edited_all, edit_number, fid_of}
+use Rattle.afs_ideal.specs.Volumes.{Kind, a_directory, a_file, a_link, Vnode, Volume, Amend, Edit, amends, makes, frees, amended, amends_at, makes_at, frees_at, counted, edited, edited_all, fid_of}
 use Rattle.afs_ideal.proofs.Basics.{both}
 use Rattle.afs_ideal.proofs.Preserved.{operations_leave_sound}
 use Rattle.afs_ideal.proofs.Proper.{operations_change}
@@ -21,7 +19,7 @@ use Rattle.afs_ideal.proofs.Scopes.{accepted, all_pass}
 use Rattle.afs_ideal.proofs.Tellings.{Finds, FindEach}
 use Rattle.afs_volume.specs.Changes.{after, IsChangeBy, RepliesBy}
 use Rattle.afs_volume.specs.Drafts.{numbers_shown, volume_drafted, IsLeftIn}
-use Rattle.afs_volume.specs.Drawing.{after_edit, all_freed, all_left, all_told, before_edit, makes_vnode, shown_by, with_left, CanBeDrawn, HasOwn, IsLeft, StandsAt}
+use Rattle.afs_volume.specs.Drawing.{all_freed, all_left, all_told, before_edit, makes_vnode, shown_by, with_left, CanBeDrawn, HasOwn, IsLeft, StandsAt}
 use Rattle.afs_volume.specs.Giving.{edit_seen, edits_seen, times_of, volume_of}
 use Rattle.afs_volume.specs.declared.drafting.Draft.{Draft}
 use Rattle.afs_volume.specs.declared.edits.Edit as code

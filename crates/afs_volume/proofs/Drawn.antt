@@ -1,18 +1,17 @@
 -- What edits of different vnodes leave and tell, each of the volume as it was before all of them, is what they do one after the other.
 use Rattle.std.proofs.Common.{◌≡◌, ℕ, ◌+◌, Bool, true, false, cond, eqb, List, [], ◌∷◌, ◌++◌, map, Option, Some, None, refl, sym, ap, subst, ◌∙◌, eqb-true, eq-eqb, if◌then◌else◌}
-use Rattle.std.specs.Prelude.{not, nat_eq, is_some, filter, ◌||◌, ⊤}
+use Rattle.std.specs.Prelude.{not, nat_eq, is_some}
 use Rattle.std.specs.List.{list_any, AllByRecursion}
 use Rattle.std.specs.Option.{option_map}
 use Rattle.afs_num.specs.declared.histories.Version.{Version}
 use Rattle.afs_ideal.specs.Images.{Image, image_of}
-use Rattle.afs_ideal.specs.Operations.{changes, changed}
 use Rattle.afs_ideal.specs.Replies.{vnode_or_none}
 use Rattle.afs_ideal.specs.Tables.{Table, get}
-use Rattle.afs_ideal.specs.Volumes.{Vnode, Volume, Amend, Edit, amends, makes, frees, amended, fresh, version_at, gone_at, amends_at, makes_at, frees_at, edited, edited_all, versions_by, edit_number, counted}
-use Rattle.afs_ideal.proofs.Looks.{one_edit, look, looks, Distinct, MakesAs, IsNoMake, later_makes, same_next, next_all}
+use Rattle.afs_ideal.specs.Volumes.{Vnode, Volume, Amend, Edit, amends, makes, frees, amended, fresh, version_at, amends_at, makes_at, frees_at, edited, edited_all, versions_by, edit_number}
+use Rattle.afs_ideal.proofs.Looks.{one_edit, look, looks, Distinct, MakesAs, later_makes, same_next, next_all}
 use Rattle.afs_ideal.proofs.Tellings.{Finds, FindEach, AreAs, as_before, same_all}
 use Rattle.afs_records.specs.Changes.{image_left, images_left, gone_between, numbers_gone}
-use Rattle.afs_volume.specs.Drawing.{before_edit, after_edit, left_at, left_by, told_between, told_by, freed_by, all_left, all_told, all_freed, makes_vnode, without, with_left}
+use Rattle.afs_volume.specs.Drawing.{before_edit, after_edit, left_at, told_between, told_by, all_left, all_told, all_freed, makes_vnode, without, with_left}
 
 -- ---- each edit's vnode after all of them
 

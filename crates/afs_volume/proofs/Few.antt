@@ -1,6 +1,6 @@
 -- How many vnodes a volume has after the edits of an operation.
-use Rattle.std.proofs.Common.{◌≡◌, ℕ, ◌+◌, ◌<◌, ◌≤◌, Bool, true, false, List, [], ◌∷◌, length, Option, Some, None, nat_eq, nat_lt, refl, sym, ap, ◌∙◌, arith, eqb-true, ltb-true, if◌then◌else◌}
-use Rattle.std.specs.Prelude.{not, is_some, filter, ◌&&◌, ◌||◌}
+use Rattle.std.proofs.Common.{◌≡◌, ℕ, ◌+◌, ◌<◌, ◌≤◌, Bool, true, false, List, [], ◌∷◌, length, Option, Some, None, nat_eq, nat_lt, refl, sym, ◌∙◌, arith, ltb-true, if◌then◌else◌}
+use Rattle.std.specs.Prelude.{not, ◌||◌}
 use Rattle.std.specs.List.{list_all, list_any, AllByRecursion}
 use Rattle.afs_ideal.specs.Operations.{edit_fits}
 use Rattle.afs_ideal.specs.Tables.{Table, get, set, unset, AscendsFrom}

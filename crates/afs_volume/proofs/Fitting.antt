@@ -1,7 +1,7 @@
 -- The change of an operation is one that its volume takes in.
 use Rattle.std.proofs.Common.{◌≡◌, ℕ, ◌≤◌, Bool, true, false, List, [], ◌∷◌, ◌++◌, length, Option, Some, None, refl, sym, ap, subst, ◌∙◌, arith, if◌then◌else◌}
 use Rattle.std.specs.Prelude.{is_some}
-use Rattle.std.specs.List.{list_all, AllByRecursion}
+use Rattle.std.specs.List.{AllByRecursion}
 use Rattle.afs_num.specs.declared.calls.FsCall.{FsCall}
 use Rattle.afs_num.specs.declared.vnodes.Vnode as image
 use Rattle.afs_num.specs.declared.volumes.Change.{Change}
@@ -11,17 +11,16 @@ use Rattle.afs_ideal.specs.Soundness.{IsSound}
 use Rattle.afs_ideal.specs.Tables.{Table, get}
 use Rattle.afs_ideal.specs.VnodeImage.{FitsImage}
 use Rattle.afs_ideal.specs.VnodeMaps.{most_vnodes}
-use Rattle.afs_ideal.specs.Volumes.{Vnode, Volume, Edit, counted, edited_all}
+use Rattle.afs_ideal.specs.Volumes.{Vnode, Edit, counted, edited_all}
 use Rattle.afs_ideal.proofs.Preserved.{operations_leave_sound}
 use Rattle.afs_ideal.proofs.Proper.{operations_change}
 use Rattle.afs_ideal.proofs.Tables.{ascends_lower}
-use Rattle.afs_records.specs.Durable.{changed_stored}
 use Rattle.afs_records.proofs.Kept.{changed_is}
 use Rattle.afs_records.proofs.Tested.{passes}
-use Rattle.afs_volume.specs.Changes.{after, IsChangeBy, IsKeptAs}
-use Rattle.afs_volume.specs.Drawing.{all_freed, all_left, shown_by, without, with_left, IsLeft}
+use Rattle.afs_volume.specs.Changes.{IsChangeBy, IsKeptAs}
+use Rattle.afs_volume.specs.Drawing.{all_freed, all_left, without, IsLeft}
 use Rattle.afs_volume.specs.Giving.{volume_of}
-use Rattle.afs_volume.specs.Seen.{all_seen, seen, IsReadable}
+use Rattle.afs_volume.specs.Seen.{IsReadable}
 use Rattle.afs_volume.specs.Taking.{stored_of, CanTakeIn}
 use Rattle.afs_volume.specs.declared.drafting.Draft.{Draft}
 use Rattle.afs_volume.specs.declared.volume.Volume as volumes

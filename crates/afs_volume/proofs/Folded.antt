@@ -1,8 +1,7 @@
 -- What a disk keeps of a volume after a change is the volume that took it in.
-use Rattle.std.proofs.Common.{◌≡◌, ℕ, ◌≤◌, ◌<◌, Bool, true, false, not, List, [], ◌∷◌, length, map, Option, Some, None, Result, Ok, Err, is_some, nat_eq, nat_lt, if◌then◌else◌, refl, sym, ap, subst, ◌∙◌, arith}
+use Rattle.std.proofs.Common.{◌≡◌, ℕ, ◌≤◌, Bool, true, false, not, List, [], ◌∷◌, length, Option, Some, None, Result, Ok, Err, is_some, nat_eq, nat_lt, if◌then◌else◌, refl, sym, ap, subst, ◌∙◌, arith}
 use Rattle.std.specs.Prelude.{◌&&◌}
 use Rattle.std.specs.List.{list_all}
-use Rattle.std.proofs.lemmas.Bool.{ltb-false}
 use Rattle.std.proofs.lemmas.Bool.Decides.{nat_tests}
 use Rattle.afs_num.specs.declared.acls.AccessList.{AccessList}
 use Rattle.afs_num.specs.declared.directories.Name.{Name}
@@ -11,8 +10,8 @@ use Rattle.afs_num.specs.declared.volumes.VolumeHead.{VolumeHead}
 use Rattle.afs_shape.specs.Taking.{◌>>=◌}
 use Rattle.afs_ideal.specs.AccessLists.{acl_at, no_acl}
 use Rattle.afs_ideal.specs.Directories.{directory_of}
-use Rattle.afs_ideal.specs.Images.{directory_value, contents_value, kind_of, value_by, value_of, value_of_kind, value_with}
-use Rattle.afs_ideal.specs.Tables.{Table, get, set, unset, AscendsFrom}
+use Rattle.afs_ideal.specs.Images.{directory_value, kind_of, value_by, value_of, value_of_kind, value_with}
+use Rattle.afs_ideal.specs.Tables.{Table, set, unset, AscendsFrom}
 use Rattle.afs_ideal.specs.VnodeMaps.{most_vnodes}
 use Rattle.afs_ideal.specs.Volumes.{Kind, a_file, a_directory, a_link}
 use Rattle.afs_ideal.specs.Volumes as ideal

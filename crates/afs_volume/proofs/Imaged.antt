@@ -4,10 +4,10 @@ use Rattle.std.specs.List.{AllByRecursion}
 use Rattle.afs_num.specs.declared.vnodes.Vnode as image
 use Rattle.afs_ideal.specs.AccessLists.{acl_at}
 use Rattle.afs_ideal.specs.Directories.{directory_bytes}
-use Rattle.afs_ideal.specs.Images.{Image, acl_by, image_of}
-use Rattle.afs_ideal.specs.Volumes.{Kind, a_directory, a_file, a_link, bytes_by, type_of, Vnode}
+use Rattle.afs_ideal.specs.Images.{acl_by, image_of}
+use Rattle.afs_ideal.specs.Volumes.{Kind, a_directory, a_file, a_link, bytes_by, Vnode}
 use Rattle.afs_volume.specs.Drawing.{shown_by, IsLeft}
-use Rattle.afs_volume.specs.Seen.{seen, kind_seen, contents_seen, list_seen, list_spelled, names_seen, names_spelled, text_by, IsReadable}
+use Rattle.afs_volume.specs.Seen.{seen, kind_seen, contents_seen, list_seen, names_seen, names_spelled, text_by, IsReadable}
 use Rattle.afs_volume.proofs.Drawn.{imaged}
 use Rattle.afs_volume.proofs.Texts.{text_is_list}
 

@@ -1,5 +1,5 @@
 -- The vnodes whose statuses a reply has are left by the change.
-use Rattle.std.proofs.Common.{◌≡◌, ℕ, ◌+◌, ◌-◌, Bool, true, false, List, [], ◌∷◌, ◌++◌, Option, Some, None, refl, sym, ap, subst, ◌∙◌, eqb-true, eq-eqb, if◌then◌else◌}
+use Rattle.std.proofs.Common.{◌≡◌, ℕ, ◌+◌, ◌-◌, Bool, true, false, List, [], ◌∷◌, ◌++◌, Option, Some, None, refl, sym, ap, subst, ◌∙◌, eq-eqb, if◌then◌else◌}
 use Rattle.std.specs.Prelude.{nat_eq, nat_lt, is_some, ◌||◌}
 use Rattle.std.specs.List.{list_any, AllByRecursion}
 use Rattle.std.specs.Option.{option_map}
@@ -15,8 +15,8 @@ use Rattle.afs_ideal.specs.Soundness.{IsSound}
 use Rattle.afs_ideal.specs.Tables.{Table, get}
 use Rattle.afs_ideal.specs.Volumes.{a_directory, a_file, a_link, Vnode, Volume, Amend, Edit, amends, makes, frees, amended, fresh, ascending, edit_number, placed, vnode_of}
 use Rattle.afs_ideal.proofs.Looks.{one_edit}
-use Rattle.afs_ideal.proofs.Preserved.{Pass, Renames, renames_by, same_edits}
-use Rattle.afs_ideal.proofs.Scopes.{accepted, all_pass, or_left, or_right, read_is_none, statuses_none}
+use Rattle.afs_ideal.proofs.Preserved.{Pass, renames_by, same_edits}
+use Rattle.afs_ideal.proofs.Scopes.{accepted, all_pass, or_right}
 use Rattle.afs_ideal.proofs.Tellings.{Finds, FindEach}
 use Rattle.afs_volume.specs.Drafts.{numbers_shown, IsLeftIn}
 use Rattle.afs_volume.specs.Drawing.{after_edit, all_left, before_edit, left_at}

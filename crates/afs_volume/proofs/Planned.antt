@@ -1,5 +1,5 @@
 -- What an operation is to do, before its limits and within them.
-use Rattle.std.proofs.Common.{◌≡◌, ℕ, List, Option, Some, None, refl, ap, ◌∙◌}
+use Rattle.std.proofs.Common.{◌≡◌, ℕ, List, Option, Some, None, ap}
 use Rattle.afs_num.specs.declared.calls.FsCall.{FsCall}
 use Rattle.afs_ideal.specs.Operations as ops
 use Rattle.afs_ideal.specs.Operations.{Caller, Result, by_tests, changes, effect, first_failing, limited, limits, op, tests}

@@ -1,7 +1,7 @@
 -- Which vnodes can be read.
-use Rattle.std.proofs.Common.{◌≡◌, ℕ, zero, suc, ◌+◌, ◌*◌, ◌≤◌, Bool, true, false, List, [], ◌∷◌, length, take, Option, Some, None, Result, Ok, Err, is_ok, is_some, nat_eq, slice_get, if◌then◌else◌, refl, sym, ap, subst, ◌∙◌, arith}
+use Rattle.std.proofs.Common.{◌≡◌, ℕ, zero, suc, ◌+◌, ◌≤◌, Bool, true, false, List, [], ◌∷◌, length, take, Option, Some, None, Result, Ok, Err, is_ok, is_some, nat_eq, slice_get, if◌then◌else◌, refl, sym, ap, subst, ◌∙◌, arith}
 use Rattle.std.specs.Prelude.{◌&&◌, ◌||◌}
-use Rattle.std.specs.List.{list_all, AllByRecursion}
+use Rattle.std.specs.List.{AllByRecursion}
 use Rattle.std.proofs.lemmas.Bool.Decides.{nat_tests}
 use Rattle.afs_num.specs.declared.acls.AccessList.{AccessList}
 use Rattle.afs_num.specs.declared.directories.Name.{Name}
@@ -12,9 +12,9 @@ use Rattle.afs_ideal.specs.Images.{directory_value, value_of, values_of, with_va
 use Rattle.afs_ideal.specs.Tables.{Table, get, AscendsFrom}
 use Rattle.afs_ideal.specs.Volumes.{a_directory, blocks_in, blocks_of, Kind}
 use Rattle.afs_ideal.specs.Volumes as ideal
-use Rattle.afs_volume.specs.Assembling.{are_read, blocks_in_place, can_be_read, reads_pair, IsReadablePlace}
+use Rattle.afs_volume.specs.Assembling.{are_read, blocks_in_place, can_be_read, IsReadablePlace}
 use Rattle.afs_volume.proofs.Taken.{later_by}
-use Rattle.afs_volume.specs.Seen.{all_seen, kind_seen, names_spelled, seen, AreReadable, IsReadable}
+use Rattle.afs_volume.specs.Seen.{all_seen, names_spelled, AreReadable, IsReadable}
 
 -- ---- one vnode
 

@@ -1,5 +1,5 @@
 -- Names that are taken away and put in their place, and the way up from a directory.
-use Rattle.std.proofs.Common.{◌≡◌, ◌<◌, ◌≤◌, ◌+◌, ◌-◌, ℕ, zero, suc, List, [], ◌∷◌, ◌++◌, Option, Some, None, Bool, true, false, not, is_some, length, refl, ap, sym, ◌∙◌, arith, nat_lt, if◌then◌else◌, nat_eq, eq-eqb}
+use Rattle.std.proofs.Common.{◌≡◌, ◌<◌, ◌≤◌, ◌+◌, ℕ, zero, suc, List, [], ◌∷◌, ◌++◌, Option, Some, None, Bool, true, false, not, is_some, length, refl, ap, sym, ◌∙◌, arith, nat_lt, if◌then◌else◌, nat_eq, eq-eqb}
 use Rattle.std.specs.Prelude.{◌||◌, ◌&&◌}
 use Rattle.afs_num.specs.Names.{name_ok}
 use Rattle.afs_num.specs.declared.directories.Name.{Name}

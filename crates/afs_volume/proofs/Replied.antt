@@ -1,25 +1,17 @@
 -- The reply to a change: by what the change leaves, as by the volume after it.
-use Rattle.std.proofs.Common.{◌≡◌, ℕ, ◌+◌, Bool, true, false, List, [], ◌∷◌, ◌++◌, Option, Some, None, refl, sym, ap, subst, ◌∙◌, eqb-true, eq-eqb, if◌then◌else◌}
-use Rattle.std.specs.Prelude.{not, nat_eq, nat_lt, is_some, ◌||◌, ◌&&◌}
-use Rattle.std.specs.List.{list_any, AllByRecursion}
-use Rattle.std.specs.Option.{option_map}
+use Rattle.std.proofs.Common.{◌≡◌, ℕ, Bool, true, false, List, [], ◌∷◌, ◌++◌, Option, Some, None, refl, sym, ap, subst, ◌∙◌, eqb-true, eq-eqb, if◌then◌else◌}
+use Rattle.std.specs.Prelude.{nat_eq}
+use Rattle.std.specs.List.{AllByRecursion}
 use Rattle.afs_num.specs.Fids.{same_fid}
-use Rattle.afs_num.specs.declared.acls.AccessList.{AccessList}
-use Rattle.afs_num.specs.declared.calls.AfsFetchStatus.{AfsFetchStatus}
-use Rattle.afs_num.specs.declared.calls.AfsVolSync.{AfsVolSync}
 use Rattle.afs_num.specs.declared.calls.FsCall.{FsCall}
 use Rattle.afs_num.specs.declared.calls.FsCall.TheVariants as calls
-use Rattle.afs_num.specs.declared.calls.FsReply.{FsReply}
-use Rattle.afs_num.specs.declared.calls.FsReply.TheVariants as replies
 use Rattle.afs_num.specs.declared.histories.Version.{Version}
 use Rattle.afs_num.specs.declared.types.Fid.{Fid}
-use Rattle.afs_shape.specs.Rows.{no_callback}
-use Rattle.afs_ideal.specs.AccessLists.{anyuser, rights_of}
-use Rattle.afs_ideal.specs.Operations.{Caller, acl_of, list_for, rights_by}
+use Rattle.afs_ideal.specs.Operations.{Caller, acl_of, list_for}
 use Rattle.afs_ideal.specs.Replies.{change_reply, stamped, status_at, status_of, sync_of, vnode_at, vnode_or_none}
 use Rattle.afs_ideal.specs.Tables.{Table, get}
-use Rattle.afs_ideal.specs.Volumes.{Kind, a_directory, a_file, a_link, Vnode, Volume, Edit, version_at, gone_at, fid_of, edit_number}
-use Rattle.afs_volume.specs.Drafts.{numbers_shown, IsLeftIn}
+use Rattle.afs_ideal.specs.Volumes.{Kind, a_directory, a_file, a_link, Vnode, Volume, Edit, fid_of, edit_number}
+use Rattle.afs_volume.specs.Drafts.{numbers_shown}
 use Rattle.afs_volume.specs.Drawing.{after_edit, all_left, all_told, before_edit, left_at, told_between}
 
 -- ---- volumes that are found alike

@@ -1,5 +1,5 @@
 -- A volume that passes the test of soundness is sound.
-use Rattle.std.proofs.Common.{◌≡◌, ℕ, ◌+◌, true, [], ◌∷◌, Bool, Option, Some, None, Result, Ok, Err, List, is_ok, refl, arith, sym, ap, subst, ◌∙◌, nat_eq}
+use Rattle.std.proofs.Common.{◌≡◌, ℕ, ◌+◌, true, [], ◌∷◌, Option, Some, None, Result, Ok, Err, List, is_ok, refl, arith, sym, subst, ◌∙◌}
 use Rattle.std.specs.Option.{option_map}
 use Rattle.afs_num.specs.declared.acls.AccessList.{AccessList}
 use Rattle.afs_num.specs.declared.directories.Name.{Name}
@@ -7,7 +7,7 @@ use Rattle.afs_num.specs.declared.vnodes.Vnode as image
 use Rattle.afs_num.specs.declared.volumes.VolumeHead.{VolumeHead}
 use Rattle.afs_ideal.specs.AccessLists.{acl_at, Refusal, IsAccessList}
 use Rattle.afs_ideal.specs.Directories.{directory_of, IsDirectory}
-use Rattle.afs_ideal.specs.SetUp.{new_root, new_volume}
+use Rattle.afs_ideal.specs.SetUp.{new_root}
 use Rattle.afs_ideal.specs.Soundness.{IsSound}
 use Rattle.afs_ideal.specs.Tables.{Table, get, AscendsFrom}
 use Rattle.afs_ideal.specs.Volumes.{Kind, a_file, a_directory, a_link}

@@ -1,9 +1,9 @@
 -- The blocks of a volume after edits of different vnodes: those before, without those of the vnodes that are edited, and with theirs.
-use Rattle.std.proofs.Common.{◌≡◌, ℕ, ◌+◌, ◌<◌, ◌≤◌, Bool, true, false, not, cond, eqb, ltb, List, [], ◌∷◌, Option, Some, None, refl, sym, ap, subst, ◌∙◌, arith, eqb-true, leb, leb-true, leb-false, ltb-true, ltb-false, if◌then◌else◌, nat_eq, nat_lt}
+use Rattle.std.proofs.Common.{◌≡◌, ℕ, ◌+◌, ◌<◌, ◌≤◌, Bool, true, false, not, eqb, ltb, List, [], ◌∷◌, Option, Some, None, refl, sym, ap, ◌∙◌, arith, eqb-true, leb, leb-true, leb-false, ltb-true, ltb-false, if◌then◌else◌, nat_eq, nat_lt}
 use Rattle.std.specs.List.{AllByRecursion}
 use Rattle.std.specs.Option.{option_map}
 use Rattle.afs_ideal.specs.Tables.{Table, get, set, unset, AscendsFrom}
-use Rattle.afs_ideal.specs.Volumes.{Kind, a_file, a_directory, a_link, Vnode, Volume, Amend, Edit, amends, makes, frees, amended, fresh, bytes_by, blocks_of, blocks_in, amends_at, makes_at, frees_at, edited, edited_all, edit_number}
+use Rattle.afs_ideal.specs.Volumes.{Kind, a_file, a_directory, a_link, Vnode, Volume, Amend, Edit, amends, makes, frees, amended, fresh, blocks_of, blocks_in, amends_at, makes_at, frees_at, edited, edited_all, edit_number}
 use Rattle.afs_ideal.proofs.Looks.{Distinct, MakesAs, looks}
 use Rattle.afs_ideal.proofs.Tables.{get_below, ascends_set, ascends_unset}
 use Rattle.afs_num.specs.declared.vnodes.Vnode as image

@@ -1,8 +1,7 @@
 -- A change that is taken in: the table after it, the blocks, and what a disk keeps.
-use Rattle.std.proofs.Common.{◌≡◌, ℕ, ◌+◌, ◌*◌, ◌/◌, ◌^◌, ◌<◌, ◌≤◌, Bool, true, false, not, List, [], ◌∷◌, length, map, Option, Some, None, is_some, nat_eq, nat_lt, if◌then◌else◌, refl, sym, ap, subst, ◌∙◌, arith}
+use Rattle.std.proofs.Common.{◌≡◌, ℕ, ◌+◌, ◌*◌, ◌^◌, ◌<◌, ◌≤◌, Bool, true, false, not, List, [], ◌∷◌, length, map, Option, Some, None, is_some, nat_eq, nat_lt, if◌then◌else◌, refl, sym, ap, subst, ◌∙◌, arith}
 use Rattle.std.specs.Prelude.{◌&&◌, ◌||◌}
-use Rattle.std.specs.List.{list_all, list_any, AllByRecursion}
-use Rattle.std.specs.Option.{option_map}
+use Rattle.std.specs.List.{AllByRecursion}
 use Rattle.std.proofs.lemmas.Bool.Decides.{nat_tests}
 use Rattle.afs_num.specs.declared.vnodes.Vnode as image
 use Rattle.afs_ideal.specs.Tables.{Table, get, set, unset, AscendsFrom}
@@ -12,7 +11,6 @@ use Rattle.afs_records.proofs.Kept.{same_tables}
 use Rattle.afs_ideal.specs.Directories.{directory_bytes}
 use Rattle.afs_ideal.specs.VnodeImage.{FitsImage}
 use Rattle.afs_ideal.specs.Volumes.{Kind, a_file, a_directory, a_link, bytes_by, blocks_of, blocks_in}
-use Rattle.afs_ideal.specs.Volumes as ideal
 use Rattle.afs_ideal.proofs.Tables.{get_below}
 use Rattle.afs_vnode.specs.Stores.{AreVnodes}
 use Rattle.afs_volume.specs.Counting.{blocks_at}

@@ -1,18 +1,18 @@
 -- An image that can be seen has what it is seen as for its value.
-use Rattle.std.proofs.Common.{◌≡◌, ℕ, Bool, true, false, List, [], ◌∷◌, length, if◌then◌else◌, Option, Some, None, Result, Ok, Err, is_ok, nat_eq, refl, sym, ap, subst, ◌∙◌, arith}
+use Rattle.std.proofs.Common.{◌≡◌, ℕ, Bool, true, false, List, [], ◌∷◌, if◌then◌else◌, Option, Some, None, Result, Ok, Err, is_ok, nat_eq, refl, sym, ap, ◌∙◌, arith}
 use Rattle.std.specs.Option.{option_map}
 use Rattle.std.specs.List.{AllByRecursion}
 use Rattle.afs_num.specs.declared.acls.AccessList.{AccessList}
 use Rattle.afs_num.specs.declared.directories.Name.{Name}
 use Rattle.afs_num.specs.declared.vnodes.Vnode as image
-use Rattle.afs_ideal.specs.AccessLists.{acl_at, acl_text, no_acl, Refusal}
+use Rattle.afs_ideal.specs.AccessLists.{acl_at, acl_text, Refusal}
 use Rattle.afs_ideal.specs.Directories.{directory_bytes, directory_of}
-use Rattle.afs_ideal.specs.Images.{acl_by, image_of, value_of}
+use Rattle.afs_ideal.specs.Images.{image_of, value_of}
 use Rattle.afs_ideal.specs.Tables.{Table, get}
 use Rattle.afs_ideal.specs.Volumes.{Kind, a_directory, a_file, a_link, Vnode}
 use Rattle.afs_ideal.proofs.DirectoryBytes.{spelled_is_read}
 use Rattle.afs_volume.specs.Drawing.{shown_by}
-use Rattle.afs_volume.specs.Seen.{all_seen, seen, kind_seen, contents_seen, list_read, list_seen, list_spelled, names_read, names_seen, names_spelled, text_by, AreReadable, IsReadable}
+use Rattle.afs_volume.specs.Seen.{all_seen, seen, kind_seen, contents_seen, list_read, list_seen, list_spelled, names_read, names_seen, names_spelled, AreReadable, IsReadable}
 use Rattle.afs_volume.proofs.Tables.{got}
 use Rattle.afs_volume.proofs.Texts.{text_is_list}
 

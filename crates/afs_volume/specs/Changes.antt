@@ -1,5 +1,5 @@
 -- What the call that changes a volume gives.
-use Rattle.std.specs.Prelude.{◌≡◌, ℕ, List, Option, Some, Result, Ok, Err, pos}
+use Rattle.std.specs.Prelude.{◌≡◌, ℕ, List, Some, Result, Ok, Err, pos}
 use Rattle.std.specs.Option.{option_map}
 use Rattle.afs_num.specs.declared.calls.FsCall.{FsCall}
 use Rattle.afs_num.specs.declared.volumes.Change.{Change}

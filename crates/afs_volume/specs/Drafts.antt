@@ -1,8 +1,7 @@
 -- What is drafted of a change.
-use Rattle.std.specs.Prelude.{◌≡◌, ℕ, List, [], ◌∷◌, ◌++◌, map, Option, is_some, true}
+use Rattle.std.specs.Prelude.{◌≡◌, ℕ, List, [], ◌∷◌, ◌++◌, is_some, true}
 use Rattle.std.specs.List.{AllByRecursion}
 use Rattle.afs_num.specs.declared.histories.Version.{Version}
-use Rattle.afs_num.specs.declared.types.Fid.{Fid}
 use Rattle.afs_num.specs.declared.calls.FsCall.{FsCall}
 use Rattle.afs_num.specs.declared.calls.FsCall.TheVariants as calls
 use Rattle.afs_ideal.specs.Tables.{get, Table}

@@ -1,6 +1,6 @@
 -- What set-up lays of a file in one change, where the definition makes it and then stores its bytes.
-use Rattle.std.specs.Prelude.{ℕ, ◌+◌, List, [], ◌∷◌, nat_lt, length, Result, Ok, Err, if◌then◌else◌}
-use Rattle.afs_ideal.specs.Volumes.{Edit, amends, makes, frees, Volume, blocks_in, counted, edited_all}
+use Rattle.std.specs.Prelude.{ℕ, List, [], ◌∷◌, nat_lt, length, Result, Ok, Err, if◌then◌else◌}
+use Rattle.afs_ideal.specs.Volumes.{Edit, makes, Volume, blocks_in, counted, edited_all}
 use Rattle.afs_ideal.specs.Operations.{most_bytes}
 use Rattle.afs_ideal.specs.SetUp.{all_at_first}
 

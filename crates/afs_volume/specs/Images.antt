@@ -1,5 +1,5 @@
 -- The image of a vnode after an edit, but for the words of a status.
-use Rattle.std.specs.Prelude.{◌≡◌, ℕ, ◌+◌, List, Option, Some, None}
+use Rattle.std.specs.Prelude.{ℕ, ◌+◌, List}
 use Rattle.std.specs.Option.{option_map}
 use Rattle.afs_num.specs.declared.vnodes.Vnode as image
 use Rattle.afs_ideal.specs.Volumes.{Kind, a_directory, has_body, or_old, up_if}

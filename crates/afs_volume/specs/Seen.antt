@@ -1,6 +1,6 @@
 -- How a volume in memory is seen as a volume of the definitions: the contents of a directory as its names, an access list by its
 -- text. The times of the server stay in the images of the vnodes.
-use Rattle.std.specs.Prelude.{◌≡◌, ◌≤◌, ℕ, List, [], Bool, true, not, Option, Some, None, Result, Ok, Err, map, length, nat_eq, nat_lt, is_ok, if◌then◌else◌}
+use Rattle.std.specs.Prelude.{◌≡◌, ℕ, List, [], Bool, true, not, Option, Some, None, Result, Ok, Err, map, length, nat_eq, nat_lt, is_ok, if◌then◌else◌}
 use Rattle.afs_num.specs.declared.acls.AccessList.{AccessList}
 use Rattle.afs_num.specs.declared.directories.Name.{Name}
 use Rattle.afs_num.specs.declared.vnodes.Vnode as image

@@ -1,4 +1,4 @@
-use Rattle.std.proofs.Common.{◌≡◌, ◌≤◌, ◌∷◌, Some, slice_get, subst, sym, rules}
+use Rattle.std.proofs.Common.{◌≡◌, ◌≤◌, Some, slice_get, subst, sym, rules}
 use Rattle.std.proofs.Common.{ℕ}
 use Rattle.afs_volume.specs.Assembling.{IsReadablePlace}
 use Rattle.afs_volume.specs.Seen.{IsReadable}

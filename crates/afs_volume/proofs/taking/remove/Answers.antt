@@ -1,7 +1,7 @@
 use Rattle.std.proofs.Common.{◌≡◌, ◌+◌, arith}
 use Rattle.afs_ideal.specs.Volumes.{blocks_in}
 use Rattle.afs_volume.specs.Seen.{all_seen}
-use Rattle.afs_volume.proofs.Taken.{blocks_small, left_counted, left_readable}
+use Rattle.afs_volume.proofs.Taken.{left_counted, left_readable}
 use Rattle.afs_volume.proofs.taking.remove.Goals as goal
 
 sum : (c : goal.After-from) → blocks_in (all_seen c.remove.new.self.table) + c.blocks_at-before.result ≡ c.from.result

@@ -1,8 +1,4 @@
-use Rattle.std.proofs.Common.{◌≡◌, Bool, true, false, is_some, refl, sym, ap, ◌∙◌}
-use Rattle.std.specs.Prelude.{◌&&◌}
-use Rattle.afs_ideal.specs.Images.{values_of}
-use Rattle.afs_records.specs.Sound.{is_sound}
-use Rattle.afs_volume.specs.Seen.{volume_seen}
+use Rattle.std.proofs.Common.{refl, sym, ◌∙◌}
 use Rattle.afs_volume.proofs.Readable.{all_read}
 use Rattle.afs_volume.proofs.volume.Volume.assemble.Goals as goal
 

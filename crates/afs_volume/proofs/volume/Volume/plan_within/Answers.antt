@@ -1,7 +1,6 @@
-use Rattle.std.proofs.Common.{◌≡◌, ◌≤◌, ◌+◌, ◌∙◌, sym, ap, subst, length, List, refl, arith}
+use Rattle.std.proofs.Common.{sym, subst, arith}
 use Rattle.std.proofs.lemmas.List.{length-map}
 use Rattle.afs_ideal.specs.Operations as ops
-use Rattle.afs_ideal.specs.Volumes.{Edit}
 use Rattle.afs_ideal.proofs.Proper.{planned_change}
 use Rattle.afs_volume.specs.Giving.{caller_seen, edit_seen, edits_seen, volume_of, Plans}
 use Rattle.afs_volume.proofs.Planned.{op_limited}

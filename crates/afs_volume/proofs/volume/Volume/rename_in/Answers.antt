@@ -1,4 +1,4 @@
-use Rattle.std.proofs.Common.{◌≡◌, List, Option, ℕ, Some, true, is_some, nat_eq, refl, sym, subst, rules}
+use Rattle.std.proofs.Common.{◌≡◌, List, Option, ℕ, true, is_some, nat_eq, refl, sym, subst, rules}
 use Rattle.std.specs.Prelude.{◌&&◌}
 use Rattle.afs_num.specs.declared.calls.FsCall.TheVariants as calls
 use Rattle.afs_ideal.specs.Operations.{by_tests, effect, is_directory, vnode_in}
