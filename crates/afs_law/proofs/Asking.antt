@@ -130,7 +130,7 @@ moves_back s c past n floor st h kind good p own w q fresh went keeps =
         clients = now;
         sent = more_sent c.sent (replies_of c.server.backs.held) (replies_of c.server.backs.held) (view h.floors c) (views_after h.floors c n floor st.state) c.server.lasting.boot c.server.lasting.boot e past h.sent (le_refl _) now (λ j a. at_mover h.floors c n floor st.state j (λ i v. v.running ≡ Some a → has_begun (Client i) e.lines ≡ false → (running s (Client i) (lines_of past) ≡ Some a) ⊎ Reading (running s (Client i) (lines_of past))) (λ x z. elim (went a x z) [ inl y ↦ inl ((h.clients n).runs a y) | inr y ↦ inr (record { act = y.act; runs = (h.clients n).runs y.act y.runs; read = y.read }) ]) (λ ne x z. inl ((h.clients j).runs a x))) (calls_moved h.floors c n floor st.state c.sent w h.sent.calls)
             (λ j m. at_mover h.floors c n floor st.state j (λ i v. ReplyFact i (view h.floors c i) past m → ReplyFact i v (e ∷ past) m) (q m)
-            (λ ne. reply_over j (view h.floors c j) m e past (λ f. (p.file j ne f).grant) (p.reach j ne) (λ f. stays j f e past (p.file j ne f).grant (last f)))) (λ held. (fresh.news, held));
+            (λ ne. reply_over j (view h.floors c j) m e past (λ f. (p.file j ne f).grant) (p.reach j ne) (λ f. stays j f e past (p.file j ne f).grant (last f)) (p.act j ne).begins)) (λ held. (fresh.news, held));
         down = fallen_over c.down c.server.lasting c.sent st.sent e past h.down;
         clock = p.clock (lines_of past) ∙ h.clock;
         top = λ f i b x. subst (λ (o : Option Version). i ≤ index_in o) (sym (last f)) (h.top f i b (p.back f i b (lines_of past) x));
@@ -232,8 +232,8 @@ client_kept s c past n boot e h le p q t l =
     let d : ClientFacts s n (view h.floors c n) (e ∷ past) = client_still n (view h.floors c n) e past p q t l (h.clients n) in
     record { behind = d.behind; behind_durable = d.behind_durable; lower = d.lower; kept = d.kept; stored = d.stored; known = le; floored = d.floored; holds = d.holds; waits = d.waits; idle = d.idle; made = d.made; current = d.current; runs = d.runs; old = d.old; asked = d.asked; reached = d.reached }
 
-pub reply_still : (j : ℕ) (v : View) (e : Entry) (past : List Entry) → ((f : Fid) → PassesFile j f e past) → ((f : Fid) → PassesReach j f e past) → ((f : Fid) → last_version f (lines_of (e ∷ past)) ≡ last_version f (lines_of past)) → (m : Message) → ReplyFact j v past m → ReplyFact j v (e ∷ past) m
-reply_still j v e past p q l m = reply_over j v m e past (λ f. (p f).grant) q (λ f. stays j f e past (p f).grant (l f))
+pub reply_still : (j : ℕ) (v : View) (e : Entry) (past : List Entry) → ((f : Fid) → PassesFile j f e past) → ((f : Fid) → PassesReach j f e past) → ((f : Fid) → last_version f (lines_of (e ∷ past)) ≡ last_version f (lines_of past)) → has_begun (Client j) e.lines ≡ false → (m : Message) → ReplyFact j v past m → ReplyFact j v (e ∷ past) m
+reply_still j v e past p q l b m = reply_over j v m e past (λ f. (p f).grant) q (λ f. stays j f e past (p f).grant (l f)) b
 
 pub call_known : (v : View) (boot : ℕ) (head : Head) (call : FsCall) → CallFact v head call → CallFact (record v { known = boot }) head call
 call_known v boot head call f = record { behind = f.behind; booted = f.booted; stale = f.stale; own = f.own; safe = f.safe }
@@ -243,7 +243,7 @@ quiet s c past n p m h d =
     let e : Entry = step_entry n (lines.Given p ∷ []) [] in
     moves s c past n (h.floors n) (ignores (c.clients n) p) h (h.own n) (tt, tt) (told_passes s c past n p m [] h d)
     (client_still n (view h.floors c n) e past (λ f. told_file n p f (actors.Node (Client n)) [] past) (λ f. told_reach n p f (actors.Node (Client n)) [] past) (told_act n p (actors.Node (Client n)) [] past) (λ f. refl) (h.clients n))
-    (λ head call f. f) (reply_still n (view h.floors c n) e past (λ f. told_file n p f (actors.Node (Client n)) [] past) (λ f. told_reach n p f (actors.Node (Client n)) [] past) (λ f. refl)) (nothing_new _ _) (λ a x z. inl x) refl
+    (λ head call f. f) (reply_still n (view h.floors c n) e past (λ f. told_file n p f (actors.Node (Client n)) [] past) (λ f. told_reach n p f (actors.Node (Client n)) [] past) (λ f. refl) refl) (nothing_new _ _) (λ a x z. inl x) refl
 
 -- ---- a call is sent
 

@@ -1,4 +1,6 @@
 -- A client is called by its server: it drops what it has cached of the broken promises.
+use Rattle.afs_law.proofs.Facts.{FitsList}
+use Rattle.afs_law.proofs.Passing.{was_onto}
 use Rattle.afs_law.proofs.Apart.{apart_filter, found_filter}
 use Rattle.afs_law.proofs.Asking.{call_is, Passes, Fresh, KeepsSeat, moves_back, moves, old_seat, step_entry, view_after, views_after, Heard, heard_dull, told_passes, quiet, reply_still, safe_cache}
 use Rattle.afs_law.proofs.Basics.{own_seat, same_node-refl, same_fid-true, same_fid-refl, same_node-true, client_number, OfClient, OfServer, ByClient, ByServer, by_server, server_any, LastSeat, some_of, kept_last}
@@ -210,7 +212,7 @@ tells_goes s c past n p m ms h heard fresh =
     let e : Entry = step_entry n (lines.Given p ∷ []) ms in
     moves s c past n (h.floors n) (told_step (c.clients n) p ms) h (h.own n) (tt, tt) (told_passes s c past n p m ms h heard)
     (client_still n (view h.floors c n) e past (λ f. told_file n p f (actors.Node (Client n)) ms past) (λ f. told_reach n p f (actors.Node (Client n)) ms past) (told_act n p (actors.Node (Client n)) ms past) (λ f. refl) (h.clients n))
-    (λ head call f. f) (reply_still n (view h.floors c n) e past (λ f. told_file n p f (actors.Node (Client n)) ms past) (λ f. told_reach n p f (actors.Node (Client n)) ms past) (λ f. refl)) (fresh e (record { up = refl; still = refl; oweless = refl; unchanging = refl })) (λ a x z. inl x) refl
+    (λ head call f. f) (reply_still n (view h.floors c n) e past (λ f. told_file n p f (actors.Node (Client n)) ms past) (λ f. told_reach n p f (actors.Node (Client n)) ms past) (λ f. refl) refl) (fresh e (record { up = refl; still = refl; oweless = refl; unchanging = refl })) (λ a x z. inl x) refl
 
 -- ---- what the client has dropped by then
 
@@ -256,7 +258,7 @@ answers_back s c past n p head user call y h heard to from b is none =
     let k = h.own n in
     moves_back s c past n (h.floors n) (replies_step (c.clients n) p head [] y) h (record { table = k.table; user = k.user; callee = λ a z. k.callee a z; apart = k.apart }) (tt, tt) (told_passes s c past n p _ ms h heard)
     (client_still n (view h.floors c n) e past (λ f. told_file n p f (actors.Node (Client n)) ms past) (λ f. told_reach n p f (actors.Node (Client n)) ms past) (told_act n p (actors.Node (Client n)) ms past) (λ f. refl) (h.clients n))
-    (λ hd call f. f) (reply_still n (view h.floors c n) e past (λ f. told_file n p f (actors.Node (Client n)) ms past) (λ f. told_reach n p f (actors.Node (Client n)) ms past) (λ f. refl)) (reply_fresh c n _ (e ∷ past) reply seated) (λ a x z. inl x) (seat_keeps c n (e ∷ past) (c.clients n) head y from seated)
+    (λ hd call f. f) (reply_still n (view h.floors c n) e past (λ f. told_file n p f (actors.Node (Client n)) ms past) (λ f. told_reach n p f (actors.Node (Client n)) ms past) (λ f. refl) refl) (reply_fresh c n _ (e ∷ past) reply seated) (λ a x z. inl x) (seat_keeps c n (e ∷ past) (c.clients n) head y from seated)
 
 -- ---- breaks on fids
 
@@ -338,9 +340,20 @@ broken_set n p x m status (calls.StoreAcl f acl) fs ms past h = ((body_kept f st
 broken_set n p x m status (calls.StoreStatus f set) fs ms past h = ((body_kept f status.sync_counter (lines_of past) (lines_of (step_entry n (broken_lines n p fs) ms ∷ past)) (λ i b y. (skips n fs).version f i b (lines.Given p ∷ lines_of past) y) h.0.0, inr h.0.1), (h.1.0, (broken_reach n n p fs ms past f).both status.sync_counter h.1.1))
 broken_set n p x m status call fs ms past h = h
 
+pub broken_list : (n p : ℕ) (x : Spot) (m : Message) (text : List ℕ) (status : AfsFetchStatus) (call : FsCall) (fs : List Fid) (ms : List Message) (past : List Entry) → FitsList n x m past text status call → FitsList n x m (step_entry n (broken_lines n p fs) ms ∷ past) text status call
+broken_list n p x m text status (calls.FetchAcl f) fs ms past h = record {
+  is = h.is;
+  told = (skips n fs).version f status.sync_counter h.is (lines.Given p ∷ lines_of past) h.told;
+  been = inr h.been;
+  was = was_onto n f status.sync_counter (broken_lines n p fs) (lines_of past) ((skips n fs).begins (Client n)) h.was;
+  reached = (broken_reach n n p fs ms past f).seen status.sync_counter h.reached;
+}
+broken_list n p x m text status call fs ms past h = h
+
 pub broken_reply : (sp : Bool) (n p : ℕ) (call : FsCall) (x : Spot) (m : Message) (reply : FsReply) (fs : List Fid) (ms : List Message) (past : List Entry) → ((f : Fid) → last_version f (lines_of (step_entry n (broken_lines n p fs) ms ∷ past)) ≡ last_version f (lines_of past))
     → FitsReply sp n call x m past reply → FitsReply (cond (names_call fs call) true sp) n call x m (step_entry n (broken_lines n p fs) ms ∷ past) reply
 broken_reply sp n p call x m (replies.FetchData contents status callback sync) fs ms past last h = broken_data sp n p x m contents status callback call fs ms past last h
+broken_reply sp n p call x m (replies.FetchAcl text status sync) fs ms past last h = broken_list n p x m text status call fs ms past h
 broken_reply sp n p call x m (replies.FetchStatus status callback sync) fs ms past last h = broken_shown sp n p x m status callback call fs ms past last h
 broken_reply sp n p call x m (replies.StoreData status sync) fs ms past last h = broken_set n p x m status call fs ms past h
 broken_reply sp n p call x m (replies.StoreAcl status sync) fs ms past last h = broken_set n p x m status call fs ms past h
@@ -452,20 +465,25 @@ all_set n x m status (calls.StoreAcl f acl) e past v r h = ((body_kept f status.
 all_set n x m status (calls.StoreStatus f set) e past v r h = ((body_kept f status.sync_counter (lines_of past) (lines_of (e ∷ past)) (v f) h.0.0, inr h.0.1), (h.1.0, (r f).both status.sync_counter h.1.1))
 all_set n x m status call e past v r h = h
 
+pub all_list : (n : ℕ) (x : Spot) (m : Message) (text : List ℕ) (status : AfsFetchStatus) (call : FsCall) (e : Entry) (past : List Entry) → ((f : Fid) (i : ℕ) (b : Body) → HasVersion f i b (lines_of past) → HasVersion f i b (lines_of (e ∷ past))) → ((f : Fid) → PassesReach n f e past) → has_begun (Client n) e.lines ≡ false → FitsList n x m past text status call → FitsList n x m (e ∷ past) text status call
+all_list n x m text status (calls.FetchAcl f) e past v r b h = record { is = h.is; told = v f status.sync_counter h.is h.told; been = inr h.been; was = was_onto n f status.sync_counter e.lines (lines_of past) b h.was; reached = (r f).seen status.sync_counter h.reached }
+all_list n x m text status call e past v r b h = h
+
 pub all_reply : (sp : Bool) (n : ℕ) (call : FsCall) (x : Spot) (m : Message) (reply : FsReply) (e : Entry) (past : List Entry) → ((f : Fid) (i : ℕ) (b : Body) → HasVersion f i b (lines_of past) → HasVersion f i b (lines_of (e ∷ past))) → ((f : Fid) → PassesReach n f e past) → ((f : Fid) (i : ℕ) (q : Node) (o : List Line) → IsWithdrawn q (Client n) f o → IsWithdrawn q (Client n) f (onto o e.lines))
-    → ((f : Fid) → last_version f (lines_of (e ∷ past)) ≡ last_version f (lines_of past)) → FitsReply sp n call x m past reply → FitsReply (cond (is_spoiled_by_all call) true sp) n call x m (e ∷ past) reply
-all_reply sp n call x m (replies.FetchData contents status callback sync) e past v r w last h = all_data sp n x m contents status callback call e past v r w last h
-all_reply sp n call x m (replies.FetchStatus status callback sync) e past v r w last h = all_shown sp n x m status callback call e past v r w last h
-all_reply sp n call x m (replies.StoreData status sync) e past v r w last h = all_set n x m status call e past v r h
-all_reply sp n call x m (replies.StoreAcl status sync) e past v r w last h = all_set n x m status call e past v r h
-all_reply sp n call x m (replies.StoreStatus status sync) e past v r w last h = all_set n x m status call e past v r h
-all_reply sp n call x m reply e past v r w last h = h
+    → ((f : Fid) → last_version f (lines_of (e ∷ past)) ≡ last_version f (lines_of past)) → has_begun (Client n) e.lines ≡ false → FitsReply sp n call x m past reply → FitsReply (cond (is_spoiled_by_all call) true sp) n call x m (e ∷ past) reply
+all_reply sp n call x m (replies.FetchData contents status callback sync) e past v r w last b h = all_data sp n x m contents status callback call e past v r w last h
+all_reply sp n call x m (replies.FetchAcl text status sync) e past v r w last b h = all_list n x m text status call e past v r b h
+all_reply sp n call x m (replies.FetchStatus status callback sync) e past v r w last b h = all_shown sp n x m status callback call e past v r w last h
+all_reply sp n call x m (replies.StoreData status sync) e past v r w last b h = all_set n x m status call e past v r h
+all_reply sp n call x m (replies.StoreAcl status sync) e past v r w last b h = all_set n x m status call e past v r h
+all_reply sp n call x m (replies.StoreStatus status sync) e past v r w last b h = all_set n x m status call e past v r h
+all_reply sp n call x m reply e past v r w last b h = h
 
 pub all_fits : (sp : Bool) (n p : ℕ) (call : FsCall) (x : Spot) (boot : ℕ) (m : Message) (c : Carried) (e : Entry) (past : List Entry) → ((f : Fid) (i : ℕ) (b : Body) → HasVersion f i b (lines_of past) → HasVersion f i b (lines_of (e ∷ past))) → ((f : Fid) → PassesReach n f e past) → ((f : Fid) (i : ℕ) (q : Node) (o : List Line) → IsWithdrawn q (Client n) f o → IsWithdrawn q (Client n) f (onto o e.lines))
-    → ((f : Fid) → last_version f (lines_of (e ∷ past)) ≡ last_version f (lines_of past)) → Fits sp n call x boot m c past → Fits (cond (is_spoiled_by_all call) true sp) n call x boot m c (e ∷ past)
-all_fits sp n p call x boot m (carried.Reply (tell.File reply)) e past v r w last h = all_reply sp n call x m reply e past v r w last h
-all_fits sp n p call x boot m (carried.Refusal code) e past v r w last h = h
-all_fits sp n p call x boot m c e past v r w last h = absurd h
+    → ((f : Fid) → last_version f (lines_of (e ∷ past)) ≡ last_version f (lines_of past)) → has_begun (Client n) e.lines ≡ false → Fits sp n call x boot m c past → Fits (cond (is_spoiled_by_all call) true sp) n call x boot m c (e ∷ past)
+all_fits sp n p call x boot m (carried.Reply (tell.File reply)) e past v r w last b h = all_reply sp n call x m reply e past v r w last b h
+all_fits sp n p call x boot m (carried.Refusal code) e past v r w last b h = h
+all_fits sp n p call x boot m c e past v r w last b h = absurd h
 
 pub drops_all_goes : (s : Script) (c : Cell) (past : List Entry) (n p : ℕ) (head : Head) (user : List ℕ) → (h : Holds s c past) → Heard c p (record { head = head; carried = carried.Call user (ask.File calls.InitCallBackState) }) → head.to ≡ Client n → head.from ≡ the_server
     → BackIn c.down c.server.backs.calls c.server.backs.last_call c.server.lasting.boot head user calls.InitCallBackState → Goes s past (client_moves c n (replies_step (without_server (c.clients n) head.from) p head (lines.DropAll (Client n) head.from ∷ []) (done replies.InitCallBackState)))
@@ -487,7 +505,7 @@ drops_all_goes s c past n p head user h heard to from b =
       answers = λ act y z w. let a = f.answers act y z w in record {
         fits = subst (λ (o : Option Going). Fits (cond (is_waiting x head.from o) true x.spoiled) n (asked act) (spot (view h.floors c n)) c.server.lasting.boot m m.carried (e ∷ past)) (sym y)
             (subst (λ (b : Bool). Fits (cond (b && is_spoiled_by_all (call_of x act)) true x.spoiled) n (asked act) (spot (view h.floors c n)) c.server.lasting.boot m m.carried (e ∷ past)) (sym (its act y))
-            (subst (λ (k : FsCall). Fits (cond (is_spoiled_by_all k) true x.spoiled) n (asked act) (spot (view h.floors c n)) c.server.lasting.boot m m.carried (e ∷ past)) (sym (call_is x act)) (all_fits x.spoiled n p (asked act) (spot (view h.floors c n)) c.server.lasting.boot m m.carried e past (λ g i x k. k) r (λ g i q o k. k) (λ g. refl) a.fits)));
+            (subst (λ (k : FsCall). Fits (cond (is_spoiled_by_all k) true x.spoiled) n (asked act) (spot (view h.floors c n)) c.server.lasting.boot m m.carried (e ∷ past)) (sym (call_is x act)) (all_fits x.spoiled n p (asked act) (spot (view h.floors c n)) c.server.lasting.boot m m.carried e past (λ g i x k. k) r (λ g i q o k. k) (λ g. refl) refl a.fits)));
         code = a.code;
         cause = cause_over m a.code (asked act) e past a.cause;
       };

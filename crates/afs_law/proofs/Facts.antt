@@ -9,7 +9,7 @@ use Rattle.afs_rows.specs.Callbacks.{replies_of}
 use Rattle.afs_rows.specs.ClientRow.{boot_of, find_cached, body_told, server_at, status_told}
 use Rattle.afs_rows.specs.Going.{asked, Going, ClientState}
 use Rattle.afs_law.specs.Grants.{fetch_reply, GrantOf, since, IsWithdrawn, IsDropped}
-use Rattle.afs_law.specs.Ideal.{is_zero_code, last_version, IsLast, HasBeen, HasVersion, Accepts, clock_of, user_of, reach, call_under, volume_after}
+use Rattle.afs_law.specs.Ideal.{is_zero_code, last_version, IsLast, WasLast, HasBeen, HasVersion, Accepts, clock_of, user_of, reach, call_under, volume_after}
 use Rattle.afs_law.specs.Legal.{IsNew, Cause, AreGood, AreGoodReplies}
 use Rattle.afs_history.specs.declared.lines.Line.{Line}
 use Rattle.afs_law.specs.Past.{is_of_act, lines_of, sent_of, called_key, running, Called, CalledSince, IsUnheard, Ran}
@@ -287,6 +287,18 @@ abbrev pub FitsShown : Bool → ℕ → Spot → Message → List Entry → AfsF
 FitsShown sp j v m past status callback (calls.FetchStatus f) = IsFetched sp j f status.sync_counter (status_told status) None callback.expiration_time m past
 FitsShown sp j v m past status callback call = FitsPlain v m call
 
+-- rights that were read
+pub record IsGot (j : ℕ) (f : Fid) (index : ℕ) (text : List ℕ) (past : List Entry) : Type 0 where
+  pub is : Body
+  pub told : HasVersion f index is (lines_of past)
+  pub been : HasBeen f index (seen.AccessList text) past
+  pub was : WasLast (Client j) f index (lines_of past)
+  pub reached : Seen j f index past
+
+abbrev pub FitsList : ℕ → Spot → Message → List Entry → List ℕ → AfsFetchStatus → FsCall → Type 0
+FitsList j v m past text status (calls.FetchAcl f) = IsGot j f status.sync_counter text past
+FitsList j v m past text status call = FitsPlain v m call
+
 -- the version has the body of the one before
 pub record IsKeptBody (f : Fid) (index : ℕ) (ls : List Line) : Type 0 where
   pub before : ℕ
@@ -311,6 +323,7 @@ FitsSet j v m past status call = FitsPlain v m call
 
 abbrev pub FitsReply : Bool → ℕ → FsCall → Spot → Message → List Entry → FsReply → Type 0
 FitsReply sp j call v m past (replies.FetchData contents status callback sync) = FitsData sp j v m past contents status callback call
+FitsReply sp j call v m past (replies.FetchAcl text status sync) = FitsList j v m past text status call
 FitsReply sp j call v m past (replies.FetchStatus status callback sync) = FitsShown sp j v m past status callback call
 FitsReply sp j call v m past (replies.StoreData status sync) = FitsSet j v m past status call
 FitsReply sp j call v m past (replies.StoreAcl status sync) = FitsSet j v m past status call

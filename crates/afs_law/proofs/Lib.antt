@@ -18,6 +18,7 @@ pub mod Serving
 pub mod Naming
 pub mod Saving
 pub mod Deciding
+pub mod Nexts
 pub mod Asking
 pub mod Quiet
 pub mod Walking

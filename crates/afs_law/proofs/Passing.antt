@@ -1,3 +1,9 @@
+use Rattle.afs_num.specs.declared.calls.FsReply.TheVariants as replies
+use Rattle.afs_num.specs.declared.messages.Carried.TheVariants as carried
+use Rattle.afs_num.specs.declared.messages.Reply.TheVariants as tell
+use Rattle.afs_num.specs.declared.messages.Call.TheVariants as ask
+use Rattle.afs_num.specs.declared.histories.Body.TheVariants as bodies
+use Rattle.afs_num.specs.declared.calls.FsCall.TheVariants as calls
 use Rattle.afs_num.specs.declared.histories.ReadStatus.{ReadStatus}
 use Rattle.afs_num.specs.declared.scripts.Script.{Script}
 use Rattle.std.proofs.Common.{◌≡◌, ℕ, ◌≤◌, inl, inr, Bool, true, false, cond, List, [], ◌∷◌, ◌++◌, Option, Some, None, ℤ, refl, sym, ap, ◌∙◌, subst, arith, le_of_eq, le_trans, eqb-true}
@@ -13,17 +19,17 @@ use Rattle.afs_num.specs.declared.messages.Message.{Message}
 use Rattle.afs_ideal.specs.Operations.{volume_changed, Result, changes}
 use Rattle.afs_law.proofs.Basics.{Each, IfCall, IfReply, IfNotice, each_more, each_map, if_call, if_reply, if_notice, at_more, ByClient, OfClient, by_client, both, same_node-true, same_node-refl, client_number, OfCall}
 use Rattle.afs_law.proofs.Edits.{index_in}
-use Rattle.afs_law.proofs.Facts.{IsWhole, IsOld, HasOld, FitsShown, IsKeptBody, Seen, IsActs, IsLastCall, View, Spot, spot, Reached, Held, IsNewest, Stands, IsCurrent, IsFetched, Fits, Answers, ReplyFact, AreKept, ClientFacts, CallIn, ReplyIn, Origin, HeldIn, ToClient, SentFacts, HasFallen, Reading, FitsReply, FitsData, FitsSet, WasChanged, WasStored, IsOne, IsNoticed}
+use Rattle.afs_law.proofs.Facts.{IsWhole, IsOld, HasOld, FitsShown, IsKeptBody, Seen, IsActs, IsLastCall, View, Spot, spot, Reached, Held, IsNewest, Stands, IsCurrent, IsFetched, Fits, Answers, ReplyFact, AreKept, ClientFacts, CallIn, ReplyIn, Origin, HeldIn, ToClient, SentFacts, HasFallen, Reading, FitsReply, FitsData, FitsSet, WasChanged, WasStored, IsOne, IsNoticed, FitsList}
 use Rattle.afs_rows.specs.ClientRow.{body_told, find_cached, status_told}
 use Rattle.afs_rows.specs.Going.{asked, Going}
 use Rattle.afs_law.specs.Grants.{has_fetched, fetch_reply, GrantOf, since, IsWithdrawn, IsDropped}
-use Rattle.afs_law.specs.Ideal.{last_version, HasVersion, reach, change_in, call_in, call_under}
+use Rattle.afs_law.specs.Ideal.{last_version, HasVersion, reach, change_in, call_in, call_under, WasBefore, IsLast, WasLast, Unless}
 use Rattle.afs_law.specs.Legal.{IsResult, IsKey, HasChange, Cause, answer_at, IsTold}
 use Rattle.afs_history.specs.declared.lines.Line.{Line}
-use Rattle.afs_law.specs.Past.{onto, lines_of, sent_of, given_message, running, has_begun, Ran, called_key, same_key, is_called, has_sent, is_sent_since, answered_key}
+use Rattle.afs_law.specs.Past.{onto, lines_of, sent_of, given_message, running, has_begun, Ran, called_key, same_key, is_called, has_sent, is_sent_since, answered_key, begins_act}
 use Rattle.afs_rows.specs.Runs.{Entry, Fall, at_rest, in_step, in_boot}
 use Rattle.afs_law.proofs.OneCell.{the_server}
-use Rattle.afs_rows.specs.States.{CacheEntry, Seat, ServerState, Lasting}
+use Rattle.afs_rows.specs.States.{CacheEntry, Seat, Lasting}
 use Rattle.afs_num.specs.declared.histories.Body.{Body}
 use Rattle.afs_num.specs.declared.histories.Version.{Version}
 use Rattle.std.proofs.Math.Nat.{le_refl}
@@ -32,12 +38,6 @@ use Rattle.afs_num.specs.Nodes.{same_node}
 use Rattle.afs_num.specs.declared.calls.FsReply.{FsReply}
 use Rattle.afs_num.specs.declared.calls.AfsFetchStatus.{AfsFetchStatus}
 use Rattle.afs_num.specs.declared.calls.AfsCallBack.{AfsCallBack}
-use Rattle.afs_num.specs.declared.calls.FsReply.TheVariants as replies
-use Rattle.afs_num.specs.declared.messages.Carried.TheVariants as carried
-use Rattle.afs_num.specs.declared.messages.Reply.TheVariants as tell
-use Rattle.afs_num.specs.declared.messages.Call.TheVariants as ask
-use Rattle.afs_num.specs.declared.histories.Body.TheVariants as bodies
-use Rattle.afs_num.specs.declared.calls.FsCall.TheVariants as calls
 
 -- How the facts pass over an entry.
 
@@ -258,6 +258,23 @@ shown_over : (sp : Bool) (j : ℕ) (v : Spot) (m : Message) (e : Entry) (past : 
 shown_over sp j v m e past status callback (calls.FetchStatus f) p r n h = fetched_over j f status.sync_counter (status_told status) None callback.expiration_time m e past (p f) (r f).seen (n f) h
 shown_over sp j v m e past status callback call p r n h = h
 
+-- what was the last since an act began is so over lines that begin none
+was_by : (t rest : Bool) (T : Type 0) → cond t true rest ≡ false → (t ≡ false → rest ≡ false → T) → T
+was_by true rest T e u = absurd cc
+was_by false rest T e u = u refl e
+
+unless_not : (t : Bool) (S : Type 0) → t ≡ false → S → Unless t S
+unless_not true S e h = absurd cc
+unless_not false S e h = h
+
+pub was_onto : (j : ℕ) (f : Fid) (i : ℕ) (ls o : List Line) → has_begun (Client j) ls ≡ false → WasLast (Client j) f i o → WasLast (Client j) f i (onto o ls)
+was_onto j f i [] o e h = h
+was_onto j f i (l ∷ ls) o e h = was_by (begins_act (Client j) l) (has_begun (Client j) ls) _ e (λ t r. was_onto j f i ls (l ∷ o) r (inr (unless_not (begins_act (Client j) l) (IsLast f i o ⊎ WasBefore (Client j) f i o) t h)))
+
+list_over : (j : ℕ) (v : Spot) (m : Message) (e : Entry) (past : List Entry) (text : List ℕ) (status : AfsFetchStatus) (call : FsCall) → ((f : Fid) → PassesGrant j f e past) → ((f : Fid) → PassesReach j f e past) → has_begun (Client j) e.lines ≡ false → FitsList j v m past text status call → FitsList j v m (e ∷ past) text status call
+list_over j v m e past text status (calls.FetchAcl f) p r b h = record { is = h.is; told = (p f).version status.sync_counter h.is (lines_of past) h.told; been = inr h.been; was = was_onto j f status.sync_counter e.lines (lines_of past) b h.was; reached = (r f).seen status.sync_counter h.reached }
+list_over j v m e past text status call p r b h = h
+
 pub body_kept : (f : Fid) (i : ℕ) (ls more : List Line) → ((k : ℕ) (b : Body) → HasVersion f k b ls → HasVersion f k b more) → IsKeptBody f i ls → IsKeptBody f i more
 body_kept f i ls more w h = record { before = h.before; next = h.next; body = h.body; old = w h.before h.body h.old; new = w i h.body h.new }
 
@@ -268,30 +285,31 @@ set_over j v m e past status (calls.StoreAcl f acl) p r h = ((body_kept f status
 set_over j v m e past status (calls.StoreStatus f set) p r h = ((body_kept f status.sync_counter (lines_of past) (lines_of (e ∷ past)) (λ i b x. (p f).version i b (lines_of past) x) h.0.0, inr h.0.1), (h.1.0, (r f).both status.sync_counter h.1.1))
 set_over j v m e past status call p r h = h
 
-reply_fits : (sp : Bool) (j : ℕ) (call : FsCall) (v : Spot) (m : Message) (e : Entry) (past : List Entry) (reply : FsReply) → ((f : Fid) → PassesGrant j f e past) → ((f : Fid) → PassesReach j f e past) → ((f : Fid) → StaysNewest j f e past)
+reply_fits : (sp : Bool) (j : ℕ) (call : FsCall) (v : Spot) (m : Message) (e : Entry) (past : List Entry) (reply : FsReply) → ((f : Fid) → PassesGrant j f e past) → ((f : Fid) → PassesReach j f e past) → ((f : Fid) → StaysNewest j f e past) → has_begun (Client j) e.lines ≡ false
     → FitsReply sp j call v m past reply → FitsReply sp j call v m (e ∷ past) reply
-reply_fits sp j call v m e past (replies.FetchData contents status callback sync) p r n h = data_over sp j v m e past contents status callback call p r n h
-reply_fits sp j call v m e past (replies.FetchStatus status callback sync) p r n h = shown_over sp j v m e past status callback call p r n h
-reply_fits sp j call v m e past (replies.StoreData status sync) p r n h = set_over j v m e past status call p r h
-reply_fits sp j call v m e past (replies.StoreAcl status sync) p r n h = set_over j v m e past status call p r h
-reply_fits sp j call v m e past (replies.StoreStatus status sync) p r n h = set_over j v m e past status call p r h
-reply_fits sp j call v m e past reply p r n h = h
+reply_fits sp j call v m e past (replies.FetchData contents status callback sync) p r n b h = data_over sp j v m e past contents status callback call p r n h
+reply_fits sp j call v m e past (replies.FetchAcl text status sync) p r n b h = list_over j v m e past text status call p r b h
+reply_fits sp j call v m e past (replies.FetchStatus status callback sync) p r n b h = shown_over sp j v m e past status callback call p r n h
+reply_fits sp j call v m e past (replies.StoreData status sync) p r n b h = set_over j v m e past status call p r h
+reply_fits sp j call v m e past (replies.StoreAcl status sync) p r n b h = set_over j v m e past status call p r h
+reply_fits sp j call v m e past (replies.StoreStatus status sync) p r n b h = set_over j v m e past status call p r h
+reply_fits sp j call v m e past reply p r n b h = h
 
-fits_over : (sp : Bool) (j : ℕ) (call : FsCall) (v : Spot) (boot : ℕ) (m : Message) (c : Carried) (e : Entry) (past : List Entry) → ((f : Fid) → PassesGrant j f e past) → ((f : Fid) → PassesReach j f e past) → ((f : Fid) → StaysNewest j f e past)
+fits_over : (sp : Bool) (j : ℕ) (call : FsCall) (v : Spot) (boot : ℕ) (m : Message) (c : Carried) (e : Entry) (past : List Entry) → ((f : Fid) → PassesGrant j f e past) → ((f : Fid) → PassesReach j f e past) → ((f : Fid) → StaysNewest j f e past) → has_begun (Client j) e.lines ≡ false
     → Fits sp j call v boot m c past → Fits sp j call v boot m c (e ∷ past)
-fits_over sp j call v boot m (carried.Reply (tell.File reply)) e past p r n h = reply_fits sp j call v m e past reply p r n h
-fits_over sp j call v boot m (carried.Refusal code) e past p r n h = h
-fits_over sp j call v boot m c e past p r n h = absurd h
+fits_over sp j call v boot m (carried.Reply (tell.File reply)) e past p r n b h = reply_fits sp j call v m e past reply p r n b h
+fits_over sp j call v boot m (carried.Refusal code) e past p r n b h = h
+fits_over sp j call v boot m c e past p r n b h = absurd h
 
-pub answers_over : {sp : Bool} → (j : ℕ) (call : FsCall) (v : Spot) (boot : ℕ) (m : Message) (e : Entry) (past : List Entry) → ((f : Fid) → PassesGrant j f e past) → ((f : Fid) → PassesReach j f e past) → ((f : Fid) → StaysNewest j f e past)
+pub answers_over : {sp : Bool} → (j : ℕ) (call : FsCall) (v : Spot) (boot : ℕ) (m : Message) (e : Entry) (past : List Entry) → ((f : Fid) → PassesGrant j f e past) → ((f : Fid) → PassesReach j f e past) → ((f : Fid) → StaysNewest j f e past) → has_begun (Client j) e.lines ≡ false
     → Answers sp j call v boot m past → Answers sp j call v boot m (e ∷ past)
-answers_over j call v boot m e past p r n h = record { fits = fits_over _ j call v boot m m.carried e past p r n h.fits; code = h.code; cause = cause_over m h.code call e past h.cause }
+answers_over j call v boot m e past p r n b h = record { fits = fits_over _ j call v boot m m.carried e past p r n b h.fits; code = h.code; cause = cause_over m h.code call e past h.cause }
 
 -- ---- a reply, under way or kept
 
-pub reply_over : (j : ℕ) (v : View) (m : Message) (e : Entry) (past : List Entry) → ((f : Fid) → PassesGrant j f e past) → ((f : Fid) → PassesReach j f e past) → ((f : Fid) → StaysNewest j f e past)
+pub reply_over : (j : ℕ) (v : View) (m : Message) (e : Entry) (past : List Entry) → ((f : Fid) → PassesGrant j f e past) → ((f : Fid) → PassesReach j f e past) → ((f : Fid) → StaysNewest j f e past) → has_begun (Client j) e.lines ≡ false
     → ReplyFact j v past m → ReplyFact j v (e ∷ past) m
-reply_over j v m e past p r n h = record { behind = h.behind; booted = h.booted; recent = h.recent; tied = h.tied; answers = λ act x y k. answers_over j (asked act) (spot v) v.boot m e past p r n (h.answers act x y k) }
+reply_over j v m e past p r n b h = record { behind = h.behind; booted = h.booted; recent = h.recent; tied = h.tied; answers = λ act x y k. answers_over j (asked act) (spot v) v.boot m e past p r n b (h.answers act x y k) }
 
 -- kept replies, where all replies pass
 pub kept_over : (j : ℕ) (o : Option Seat) (v w : View) (past newer : List Entry) → ((m : Message) → ReplyFact j v past m → ReplyFact j w newer m) → AreKept j o v past → AreKept j o w newer
@@ -305,7 +323,7 @@ reached_more c f i k past le h = let a : (reach c f past).made ≤ i = h.made in
 pub client_over : {s : Script} → (j : ℕ) (v : View) (e : Entry) (past : List Entry) → ((f : Fid) → PassesFile j f e past) → ((f : Fid) → PassesReach j f e past) → ((f : Fid) → StaysNewest j f e past) → PassesAct j e past
     → ((f : Fid) → index_in (last_version f (lines_of past)) ≤ index_in (last_version f (lines_of (e ∷ past)))) → ClientFacts s j v past → ClientFacts s j v (e ∷ past)
 client_over {s} j v e past p r n q l h =
-    let over : (m : Message) → ReplyFact j v past m → ReplyFact j v (e ∷ past) m = λ m. reply_over j v m e past (λ f. (p f).grant) r n in
+    let over : (m : Message) → ReplyFact j v past m → ReplyFact j v (e ∷ past) m = λ m. reply_over j v m e past (λ f. (p f).grant) r n q.begins in
     record {
       behind = h.behind;
       behind_durable = h.behind_durable;
@@ -459,11 +477,6 @@ more_sent {s} sent held after v w b d e past h le now k c over pass =
       waiting = got.1;
       to_clients = each_more (λ m. OfCall ToClient m.head m.carried) sent e.sent h.to_clients n.to_clients;
     }
-
--- over an entry that changes no file
-pub replies_still : (sent : List Message) (v : ℕ → View) (e : Entry) (past : List Entry) → ((j : ℕ) (f : Fid) → PassesFile j f e past) → ((j : ℕ) (f : Fid) → PassesReach j f e past) → ((f : Fid) → last_version f (lines_of (e ∷ past)) ≡ last_version f (lines_of past))
-    → Each (IfReply (ReplyIn v past)) sent → Each (IfReply (ReplyIn v (e ∷ past))) sent
-replies_still sent v e past p r l h = replies_over sent v v past (e ∷ past) (λ j m. reply_over j (v j) m e past (λ f. (p j f).grant) (r j) (λ f. stays j f e past (p j f).grant (l f))) h
 
 -- a step that was interrupted stays so
 pub fallen_over : (down : Option Fall) (server : Lasting) (sent ms : List Message) (e : Entry) (past : List Entry) → HasFallen down server sent past → HasFallen down server (sent ++ ms) (e ∷ past)

@@ -15,7 +15,7 @@ use Rattle.afs_law.proofs.Backing.{all_lines, is_up, is_still, is_oweless, is_un
 use Rattle.afs_law.proofs.Facts.{server_boot}
 use Rattle.afs_law.proofs.Passing.{PassesGrant}
 use Rattle.afs_rows.specs.Going.{began, read_on}
-use Rattle.afs_law.specs.Grants.{has_fetched, IsWithdrawn, IsDropped}
+use Rattle.afs_law.specs.Grants.{is_promised, has_fetched, IsWithdrawn, IsDropped}
 use Rattle.afs_law.specs.Ideal.{last_version, HasVersion, Accepts, clock_of, Reach, raised, reach_over, reach, is_zero_code, change_key, changed_under, volume_after}
 use Rattle.afs_law.specs.Legal.{IsNew}
 use Rattle.afs_history.specs.declared.lines.Line.{Line}
@@ -175,11 +175,15 @@ quiet_begins n j ne (lines.Read m g k source body ∷ ls) q = quiet_begins n j n
 quiet_begins n j ne (lines.Answer m code ∷ ls) q = quiet_begins n j ne ls q.1
 quiet_begins n j ne (l ∷ ls) q = absurd q.0
 
+not_fetched : (b rest : Bool) → rest ≡ false → cond (b && false) true rest ≡ false
+not_fetched true rest e = e
+not_fetched false rest e = e
+
 pub quiet_fetched : (n j : ℕ) → (n ≡ j → ⊥) → (f : Fid) (ls : List Line) → AreQuiet n ls → has_fetched (Client j) f ls ≡ false
 quiet_fetched n j ne f [] q = refl
 quiet_fetched n j ne f (lines.Begin m a ∷ ls) q = quiet_fetched n j ne f ls q.1
 quiet_fetched n j ne f (lines.Given p ∷ ls) q = quiet_fetched n j ne f ls q.1
-quiet_fetched n j ne f (lines.Read m g k Fetched body ∷ ls) q = is_other n j m ne q.0 (λ t. cond (t && same_fid g f) true (has_fetched (Client j) f ls) ≡ false) (quiet_fetched n j ne f ls q.1)
+quiet_fetched n j ne f (lines.Read m g k Fetched body ∷ ls) q = is_other n j m ne q.0 (λ t. cond (is_promised body && (t && same_fid g f)) true (has_fetched (Client j) f ls) ≡ false) (not_fetched (is_promised body) (has_fetched (Client j) f ls) (quiet_fetched n j ne f ls q.1))
 quiet_fetched n j ne f (lines.Read m g k Cached body ∷ ls) q = quiet_fetched n j ne f ls q.1
 quiet_fetched n j ne f (lines.Answer m code ∷ ls) q = quiet_fetched n j ne f ls q.1
 quiet_fetched n j ne f (l ∷ ls) q = absurd q.0

@@ -109,14 +109,14 @@ rests s b c past e n d armed h boots none p clock heard fallen backs =
       sent = record {
         calls = calls_rested s c n d armed past h;
         replies = replies_over c.sent (view h.floors c) (view h.floors (rested c n d armed)) past (e ∷ past)
-            (λ j m. reply_over j (view h.floors c j) m e past (λ f. (p.file j f).grant) (p.reach j) (λ f. stays j f e past (p.file j f).grant (p.last f (lines_of past)))) h.sent.replies;
+            (λ j m. reply_over j (view h.floors c j) m e past (λ f. (p.file j f).grant) (p.reach j) (λ f. stays j f e past (p.file j f).grant (p.last f (lines_of past))) (p.act j).begins) h.sent.replies;
         notices = h.sent.notices;
         origins = older_origins s c.sent e past h.sent.origins;
         acts = acts_over c.sent e past (view h.floors (rested c n d armed)) (subst (λ (ms : List Message). Each (IfCall (IsLastCall (view h.floors (rested c n d armed)))) ms) (sym none) tt) now (λ j a x z. inl ((h.clients j).runs a x)) (calls_rested s c n d armed past h) h.sent.acts;
         ones = h.sent.ones;
         told = ap (λ (ms : List Message). sent_of past ++ ms) none ∙ (append-nil _ ∙ h.sent.told);
         waiting = waiting_over (replies_of c.server.backs.held) (view h.floors c) (view h.floors (rested c n d armed)) past (e ∷ past)
-            (λ j m. reply_over j (view h.floors c j) m e past (λ f. (p.file j f).grant) (p.reach j) (λ f. stays j f e past (p.file j f).grant (p.last f (lines_of past)))) h.sent.waiting;
+            (λ j m. reply_over j (view h.floors c j) m e past (λ f. (p.file j f).grant) (p.reach j) (λ f. stays j f e past (p.file j f).grant (p.last f (lines_of past))) (p.act j).begins) h.sent.waiting;
         to_clients = h.sent.to_clients;
       };
       down = fallen;

@@ -11,7 +11,7 @@ use Rattle.afs_ideal.specs.Volumes.{or_old, with_status, Amend, Volume, Vnode, K
 use Rattle.afs_law.proofs.Backing.{is_still_to, all_lines, is_up, is_still, is_oweless, is_unchanging, change_back, promised_given, rising_back}
 use Rattle.afs_law.proofs.Basics.{node_apart, Above, up_to_by, same_fid-true, same_node-true, client_number, below_not, up_to_same, own_seat, raised_up_to, some_of, yes_no}
 use Rattle.afs_law.proofs.Edits.{agrees_of, last_of, ones, Ones, index_in, fid_at, Sound, SoundIn, sound_same, Tops, get-set, on_top, Grow, Told, edits_told, counted_sound, rises, tops, touches, untouched, touched_volume, not_touched, there, none_has, live, live_is}
-use Rattle.afs_law.proofs.Facts.{Leaves, HeldIn, Ghost, HoldsAt, server_boot, up_boot, risen, LastStored, IsStored, IsUntrusted, view, Spot, spot, ReplyFact, HasFallen, Reached, Stands, IsCurrent, Fits, Answers, IsReply, AreUnheard, stored_index, Holds, Goes, FitsReply, FitsData, FitsSet, FitsPlain, WasChanged, AreIdeal, AreSound, WasStored, FitsShown}
+use Rattle.afs_law.proofs.Facts.{FitsList, Leaves, HeldIn, Ghost, HoldsAt, server_boot, up_boot, risen, LastStored, IsStored, IsUntrusted, view, Spot, spot, ReplyFact, HasFallen, Reached, Stands, IsCurrent, Fits, Answers, IsReply, AreUnheard, stored_index, Holds, Goes, FitsReply, FitsData, FitsSet, FitsPlain, WasChanged, AreIdeal, AreSound, WasStored, FitsShown}
 use Rattle.afs_law.proofs.Keeping.{volume_put, own_placed}
 use Rattle.afs_law.proofs.Loading.{hits_other, granted_all, onto_granted, left_granted, all_hits, change_loaded, owes_unchanging, all_new, number_front, number_second, left_promised, has_owe, touched_hit, numbers_good, numbers_rise, granted_to_client, owes_to_clients, owes_rising, all_left}
 use Rattle.afs_law.proofs.Naming.{fine_after}
@@ -678,8 +678,13 @@ pub shown_again : (call : FsCall) (sp : Bool) (n : ℕ) (x z : Spot) (m : Messag
 shown_again (calls.FetchStatus f) sp n x z m past newer status callback some none h = absurd (some refl)
 shown_again call sp n x z m past newer status callback some none h = plain_again call x z m some none (volume_changed call) refl h
 
+pub list_again : (call : FsCall) (n : ℕ) (x z : Spot) (m : Message) (past newer : List Entry) (text : List ℕ) (status : AfsFetchStatus) → (volume_changed call ≡ None → ⊥) → (LastStored x → ⊥) → FitsList n x m past text status call → FitsList n z m newer text status call
+list_again (calls.FetchAcl f) n x z m past newer text status some none h = absurd (some refl)
+list_again call n x z m past newer text status some none h = plain_again call x z m some none (volume_changed call) refl h
+
 pub reply_again : (sp : Bool) (reply : FsReply) (n : ℕ) (call : FsCall) (x z : Spot) (m : Message) (past newer : List Entry) → (volume_changed call ≡ None → ⊥) → (LastStored x → ⊥) → FitsReply sp n call x m past reply → FitsReply sp n call z m newer reply
 reply_again sp (replies.FetchData contents status callback sync) n call x z m past newer some none h = data_again sp call n x z m past newer contents status callback some none h
+reply_again sp (replies.FetchAcl text status sync) n call x z m past newer some none h = list_again call n x z m past newer text status some none h
 reply_again sp (replies.FetchStatus status callback sync) n call x z m past newer some none h = shown_again call sp n x z m past newer status callback some none h
 reply_again sp (replies.StoreData status sync) n call x z m past newer some none h = set_again call n x z m past newer status some none h
 reply_again sp (replies.StoreAcl status sync) n call x z m past newer some none h = set_again call n x z m past newer status some none h
@@ -815,7 +820,7 @@ saves_holds y s now c past after armed d n h user call time id st es shown H w q
       home = λ i u z. saves_home y s i k vs r past (home_by (eqb id i) s id i (counted (edited_all id es st.volume)) u (volume_in i c.server.lasting.volumes) (lines_of past) refl (H.home id st.volume q.at) (H.home i u) (sym (volume_put id i (stored_after id time es st) (counted (edited_all id es st.volume)) c.server.lasting.volumes refl) ∙ z));
       new = λ l above. saves_new y k l vs r past (λ same. new_not c n h r l same above) (H.new l (durable_before true c n h r l.node l.epoch l.number w.above_durable above));
       other = λ j ne. client_over j (view fl c j) e past (saves_file y j k vs r past) (λ f. other_reach y j n k vs r past f refl (other j ne)) (λ f. other_newest y j n k vs r past f refl (other j ne)) (saves_act y j k vs r past) (λ f. rises_saved y past k id vs r f grow);
-      other_reply = λ j m ne. reply_over j (view fl c j) m e past (λ f. saves_grant y j k vs r past f) (λ f. other_reach y j n k vs r past f refl (other j ne)) (λ f. other_newest y j n k vs r past f refl (other j ne));
+      other_reply = λ j m ne. reply_over j (view fl c j) m e past (λ f. saves_grant y j k vs r past f) (λ f. other_reach y j n k vs r past f refl (other j ne)) (λ f. other_newest y j n k vs r past f refl (other j ne)) (saves_act y j k vs r past).begins;
       own_answers = λ a m f runs z i. saved_answers fl c past e n h user call (spot (caller_view true fl c n h r)) w some a m f runs z i;
       is_reply = carried_reply (time + promise_ticks) (change_reply id (the_user user) (time_in (stored_after id time es st)) (counted (edited_all id es st.volume)) shown call);
       answer = record {

@@ -1,3 +1,5 @@
+use Rattle.afs_law.proofs.Facts.{IsGot}
+use Rattle.afs_ideal.specs.AccessLists.{acl_text}
 use Rattle.afs_num.specs.declared.histories.ReadBody.{ReadBody}
 use Rattle.std.proofs.Common.{◌≡◌, ℕ, ◌+◌, ◌<◌, ◌≤◌, ◌⊎◌, inl, inr, Bool, true, false, cond, nat_eq, List, [], ◌∷◌, ◌++◌, Option, Some, None, ℤ, pos, refl, sym, ap, subst, ◌∙◌, arith, eqb-true, append-nil, append_assoc, eq-eqb}
 use Rattle.afs_num.specs.declared.directories.Name.{Name}
@@ -134,7 +136,7 @@ noted s now c past armed d e b h boots p clock heard fallen gives backs =
       boots = boots;
       clients = still_;
       sent = more_sent c.sent (replies_of c.server.backs.held) (replies_of b.held) (view h.floors c) (view h.floors c) c.server.lasting.boot c.server.lasting.boot e past h.sent (le_refl _) still_ (λ j a x z. inl ((h.clients j).runs a x)) h.sent.calls
-          (λ j m. reply_over j (view h.floors c j) m e past (λ f. (p.file j f).grant) (p.reach j) (λ f. stays j f e past (p.file j f).grant (p.last f (lines_of past)))) gives;
+          (λ j m. reply_over j (view h.floors c j) m e past (λ f. (p.file j f).grant) (p.reach j) (λ f. stays j f e past (p.file j f).grant (p.last f (lines_of past))) (p.act j).begins) gives;
       down = fallen;
       clock = clock ∙ h.clock;
       top = λ f i b x. subst (λ (o : Option Version). i ≤ index_in o) (sym (p.last f (lines_of past))) (h.top f i b (p.back f i b (lines_of past) x));
@@ -178,7 +180,7 @@ quiet s c past armed p m t h up at dull notes good turns loads =
       volumes = refl;
       holds = noted s (Some c.server.lasting.boot) c past armed None e (pumped the_server c.server.lasting.boot t).backs h (k.boot _ ∙ up_boots s c past h up) rest (k.clock _)
           (unheard_over None c.server.seats c.server.lasting.boot e past m (at_told s c past p m h at) dull (unheard_up c past up h.unheard)) tt
-          (λ held. let x = turns e (λ j r. reply_over j (view h.floors c j) r e past (λ f. (rest.file j f).grant) (rest.reach j) (λ f. stays j f e past (rest.file j f).grant (rest.last f (lines_of past)))) held in
+          (λ held. let x = turns e (λ j r. reply_over j (view h.floors c j) r e past (λ f. (rest.file j f).grant) (rest.reach j) (λ f. stays j f e past (rest.file j f).grant (rest.last f (lines_of past))) (rest.act j).begins) held in
           pumped_news (view h.floors c) c.server.lasting.boot (e ∷ past) c.server.lasting.boot t pump.clients x.sent x.outs x.held) (λ z. pump.backed);
     }
 
@@ -614,8 +616,8 @@ serves_still s c past n h user call x e H w pf pr pa l ideal home new clock top 
       home = home;
       new = new;
       other = λ j ne. client_still j (view H.floors c j) e past (pf j) (pr j) (pa j) l;
-      other_reply = λ j m ne. reply_over j (view H.floors c j) m e past (λ f. (pf j f).grant) (pr j) (λ f. stays j f e past (pf j f).grant (l f));
-      own_answers = λ b m f y z k. answers_over n (asked b) (spot (view H.floors c n)) c.server.lasting.boot m e past (λ g. (pf n g).grant) (pr n) (λ g. stays n g e past (pf n g).grant (l g)) (f.answers b y z k);
+      other_reply = λ j m ne. reply_over j (view H.floors c j) m e past (λ f. (pf j f).grant) (pr j) (λ f. stays j f e past (pf j f).grant (l f)) (pa j).begins;
+      own_answers = λ b m f y z k. answers_over n (asked b) (spot (view H.floors c n)) c.server.lasting.boot m e past (λ g. (pf n g).grant) (pr n) (λ g. stays n g e past (pf n g).grant (l g)) (pa n).begins (f.answers b y z k);
       is_reply = is;
       answer = a;
       acts = pa n;
@@ -767,20 +769,23 @@ IsAmong f (x ∷ xs) = (x ≡ f) ⊎ IsAmong f xs
 -- the reply of a reading call fits it, where each vnode that it promises is fetched
 pub read_fits : (sp : Bool) (n : ℕ) (call : FsCall) (v : Spot) (m : Message) (c : Cell) (past : List Entry) (expiry : ℕ) (r : Reading) → IsRead c call r
     → ((st : Stored) (f : Found) → get f.fid.volume c.server.lasting.volumes ≡ Some st → vnode_of f.fid st.volume ≡ Some f.vnode → IsAmong f r.granted → (b : Option Body) → IsBody b (body_told (type_of f.vnode.kind) (bytes_by f.vnode.kind f.vnode)) → IsFetched sp n f.fid f.vnode.index (shown_status f.vnode) b expiry m past)
+    → ((st : Stored) (f : Found) → get f.fid.volume c.server.lasting.volumes ≡ Some st → vnode_of f.fid st.volume ≡ Some f.vnode → IsGot n f.fid f.vnode.index (acl_text f.vnode.acl) past)
     → FitsReply sp n call v m past (promised_in expiry r.reply)
-read_fits sp n (calls.FetchData g p w) v m c past expiry r x h =
+read_fits sp n (calls.FetchData g p w) v m c past expiry r x h g\' =
     let b : Option Body = Some (body_told (type_of x.found.vnode.kind) (bytes_by x.found.vnode.kind x.found.vnode)) in
     subst (λ (y : Reading). FitsReply sp n (calls.FetchData g p w) v m past (promised_in expiry y.reply)) (sym x.is)
     (subst (λ (z : Fid). IsFetched sp n z x.found.vnode.index (shown_status x.found.vnode) b expiry m past) (sym x.seen.fid) (h x.stored x.found x.seen.at x.seen.found (subst (λ (y : Reading). IsAmong x.found y.granted) (sym x.is) (inl refl)) b refl))
-read_fits sp n (calls.FetchAcl g) v m c past expiry r x h = subst (λ (y : Reading). FitsReply sp n (calls.FetchAcl g) v m past (promised_in expiry y.reply)) (sym x.is) (λ id z. absurd cc)
-read_fits sp n (calls.FetchStatus g) v m c past expiry r x h =
+read_fits sp n (calls.FetchAcl g) v m c past expiry r x h g' =
+    subst (λ (y : Reading). FitsReply sp n (calls.FetchAcl g) v m past (promised_in expiry y.reply)) (sym x.is)
+    (subst (λ (z : Fid). IsGot n z x.found.vnode.index (acl_text x.found.vnode.acl) past) (sym x.seen.fid) (g' x.stored x.found x.seen.at x.seen.found))
+read_fits sp n (calls.FetchStatus g) v m c past expiry r x h g\' =
     subst (λ (y : Reading). FitsReply sp n (calls.FetchStatus g) v m past (promised_in expiry y.reply)) (sym x.is)
     (subst (λ (z : Fid). IsFetched sp n z x.found.vnode.index (shown_status x.found.vnode) None expiry m past) (sym x.seen.fid) (h x.stored x.found x.seen.at x.seen.found (subst (λ (y : Reading). IsAmong x.found y.granted) (sym x.is) (inl refl)) None tt))
-read_fits sp n (calls.GetVolumeStatus k) v m c past expiry r x h = subst (λ (y : Reading). FitsReply sp n (calls.GetVolumeStatus k) v m past (promised_in expiry y.reply)) (sym x.is) (λ id z. absurd cc)
-read_fits sp n (calls.GiveUpCallBacks fids callbacks) v m c past expiry r x h = subst (λ (y : Reading). FitsReply sp n (calls.GiveUpCallBacks fids callbacks) v m past (promised_in expiry y.reply)) (sym x) (λ id z. absurd cc)
-read_fits sp n calls.GetTime v m c past expiry r x h = subst (λ (y : Reading). FitsReply sp n calls.GetTime v m past (promised_in expiry y.reply)) (sym x.is) (λ id z. absurd cc)
-read_fits sp n (calls.BulkStatus fids) v m c past expiry r x h = subst (λ (y : Reading). FitsReply sp n (calls.BulkStatus fids) v m past (promised_in expiry y.reply)) (sym x.is) (λ id z. absurd cc)
-read_fits sp n call v m c past expiry r x h = absurd x
+read_fits sp n (calls.GetVolumeStatus k) v m c past expiry r x h g\' = subst (λ (y : Reading). FitsReply sp n (calls.GetVolumeStatus k) v m past (promised_in expiry y.reply)) (sym x.is) (λ id z. absurd cc)
+read_fits sp n (calls.GiveUpCallBacks fids callbacks) v m c past expiry r x h g\' = subst (λ (y : Reading). FitsReply sp n (calls.GiveUpCallBacks fids callbacks) v m past (promised_in expiry y.reply)) (sym x) (λ id z. absurd cc)
+read_fits sp n calls.GetTime v m c past expiry r x h g\' = subst (λ (y : Reading). FitsReply sp n calls.GetTime v m past (promised_in expiry y.reply)) (sym x.is) (λ id z. absurd cc)
+read_fits sp n (calls.BulkStatus fids) v m c past expiry r x h g\' = subst (λ (y : Reading). FitsReply sp n (calls.BulkStatus fids) v m past (promised_in expiry y.reply)) (sym x.is) (λ id z. absurd cc)
+read_fits sp n call v m c past expiry r x h g\' = absurd x
 
 -- the answer of a call that one volume serves
 pub answer_in : (user : List ℕ) (call : FsCall) (past : List Entry) (id : ℕ) → volume_called call ≡ Some id → answer_at user call past ≡ answer_on user call (Some id) past
@@ -928,6 +933,17 @@ shows_by s c past armed p n h user call r H up at w is code done =
                   };
                   reached = (rest.reach n f.fid).seen f.vnode.index ((reached_at s c past n f.fid (version_at f.fid.volume f.fid.vnode f.vnode) H last).seen);
                   newest = inr (ap (option_map (λ (y : Version). y.index)) (rest.last f.fid (lines_of past) ∙ last));
+                })
+                (λ st f there found.
+                let v : Volume = st.volume in
+                let here : volume_in f.fid.volume c.server.lasting.volumes ≡ Some v = ap (option_map (λ (x : Stored). x.volume)) there in
+                let last : last_version f.fid (lines_of past) ≡ Some (version_at f.fid.volume f.fid.vnode f.vnode) = found_last s c past f.fid v f.vnode H here found in
+                record {
+                  is = body_of f.vnode;
+                  told = ((rest.file n f.fid).grant).version f.vnode.index (body_of f.vnode) (lines_of past) (last_has f.fid (lines_of past) (version_at f.fid.volume f.fid.vnode f.vnode) last);
+                  been = inl (told_there f.fid f.vnode.index (seen.AccessList (acl_text f.vnode.acl)) (volume_after f.fid.volume (e ∷ past)) v f.vnode (sym here ∙ (H.ideal f.fid.volume ∙ sym (rest.ideal f.fid.volume))) found (refl, refl));
+                  was = inl (ap (option_map (λ (y : Version). y.index)) (rest.last f.fid (lines_of past) ∙ last));
+                  reached = (rest.reach n f.fid).seen f.vnode.index ((reached_at s c past n f.fid (version_at f.fid.volume f.fid.vnode f.vnode) H last).seen);
                 });
             code = pos 0;
             cause = cause_now c n h user call z (pos 0) (e ∷ past) run w.origin.own_user tt refl (inl (code, told_still (called_key (client_head n h)) (answer_at user call past) (lines_of (e ∷ past)) done));

@@ -1,3 +1,4 @@
+use Rattle.afs_num.specs.declared.histories.ReadSource.{ReadSource}
 use Rattle.afs_law.proofs.Apart.{apart_used}
 use Rattle.afs_law.proofs.Basics.{some_of}
 use Rattle.afs_num.specs.declared.histories.Body.{Body}
@@ -28,9 +29,9 @@ use Rattle.afs_law.proofs.Passing.{PassesGrant, held_over, onto_front, stays}
 use Rattle.afs_law.proofs.Quiet.{AreQuiet, quiet_more, quiet_grant, quiet_last, quiet_clock, reach_more}
 use Rattle.afs_rows.specs.ClientRow.{body_seen, shown_by, walked_with, find_cached, used_first, Look, Walked, walked, walked_by, walked_at, look_at, looked, is_trusted}
 use Rattle.afs_rows.specs.Going.{reads_status, reads_statuses, reads_rights, gives_back, Going, Need, reads, asks_for, answers, next, with_read}
-use Rattle.afs_law.specs.Grants.{has_fetched, fetch_reply, read_reply, since, IsWithdrawn, IsDropped}
+use Rattle.afs_law.specs.Grants.{is_promised, has_fetched, fetch_reply, read_reply, since, IsWithdrawn, IsDropped}
 use Rattle.afs_law.specs.Ideal.{last_version, HasVersion, IsLast, clock_of, Reach, reach_over, reach, is_zero_code}
-use Rattle.afs_law.specs.Legal.{AreGood, GoodRead, Shows}
+use Rattle.afs_law.specs.Legal.{AreGood, GoodRead, GoodReadBy, Shows}
 use Rattle.afs_history.specs.declared.lines.Line.{Line}
 use Rattle.afs_law.specs.Past.{onto, lines_of, sent_of, given_message, running, IsCallUnder}
 use Rattle.afs_rows.specs.Runs.{Entry}
@@ -154,6 +155,24 @@ ready_good s c past n most ls need u body h q lasts shown r =
     }
 
 -- the act reads an entry
+seen_promised : (b : Option Body) (body : ReadBody) → body_seen b ≡ Some body → is_promised body ≡ true
+seen_promised None body e = absurd cc
+seen_promised (Some k) body e = ap is_promised (sym (some_of (seen.Contents k) body e))
+
+-- what an entry shows is promised
+pub shown_promised : (need : Need) (u : CacheEntry) (body : ReadBody) → shown_by need u ≡ Some body → is_promised body ≡ true
+shown_promised (reads f) u body e = seen_promised u.body body e
+shown_promised (reads_status f) u body e = ap is_promised (sym (some_of (seen.Status u.status) body e))
+shown_promised (reads_statuses fs) u body e = absurd cc
+shown_promised (reads_rights f) u body e = absurd cc
+shown_promised (asks_for call) u body e = absurd cc
+shown_promised gives_back u body e = absurd cc
+shown_promised (answers code) u body e = absurd cc
+
+pub read_by : (t : Bool) (c : Node) (f : Fid) (index : ℕ) (source : ReadSource) (body : ReadBody) (past : List Entry) (own : List Line) → t ≡ true → GoodRead c f index source body past own → GoodReadBy t c f index source body past own
+read_by true c f index source body past own e g = g
+read_by false c f index source body past own e g = absurd cc
+
 pub walks_read : (s : Script) (c : Cell) (past : List Entry) (n most : ℕ) (ls : List Line) (a : Going) (cache : List CacheEntry) (need : Need) (u : CacheEntry) (body : ReadBody) → Holds s c past → Walks s c past n most ls a cache → find_cached u.fid cache ≡ Some u → c.clock < u.expiry → shown_by need u ≡ Some body
     → Walks s c past n most (ls ++ lines.Read (Client n) u.fid u.index Cached body ∷ []) (with_read u.fid body a) (used_first u cache)
 walks_read s c past n most ls a cache need u body h w found lasts shown =
@@ -161,7 +180,7 @@ walks_read s c past n most ls a cache need u body h w found lasts shown =
     let r : Ready n most u.fid u ls past = w.ready u.fid u found lasts in
     let more : (g : Fid) → reach_over (Client n) g past false (reach (Client n) g past) (ls ++ x ∷ []) ≡ reach_over (Client n) g past false (reach_over (Client n) g past false (reach (Client n) g past) ls) (x ∷ []) = λ g. reach_more n (Client n) g past (reach (Client n) g past) ls (x ∷ []) w.quiet in
     record {
-      good = λ tail g. subst (AreGood s (actors.Node (Client n)) past []) (sym (lines_assoc ls tail x)) (w.good (x ∷ tail) ((refl, ready_good s c past n most ls need u body h w.quiet lasts shown r), subst (λ (o : List Line). AreGood s (actors.Node (Client n)) past o tail) (onto_last [] ls x) g));
+      good = λ tail g. subst (AreGood s (actors.Node (Client n)) past []) (sym (lines_assoc ls tail x)) (w.good (x ∷ tail) ((refl, read_by (is_promised body) (Client n) u.fid u.index Cached body past (onto [] ls) (shown_promised need u body shown) (ready_good s c past n most ls need u body h w.quiet lasts shown r)), subst (λ (o : List Line). AreGood s (actors.Node (Client n)) past o tail) (onto_last [] ls x) g));
       quiet = quiet_more n ls (x ∷ []) w.quiet (refl, tt);
       runs = ap (running s (Client n)) (onto_last (lines_of past) ls x) ∙ own_read n u.fid body a (running s (Client n) (onto (lines_of past) ls)) w.runs;
       ready = λ g v at lasts'.

@@ -1,3 +1,5 @@
+use Rattle.afs_num.specs.declared.histories.ReadBody.{ReadBody}
+use Rattle.afs_num.specs.declared.histories.ReadBody.TheVariants as shows
 use Rattle.std.specs.Prelude.{◌≡◌, ℕ, List, [], ◌∷◌, ◌++◌, Bool, true, false, ◌&&◌, Option, Some, None, if◌then◌else◌, ◌⊎◌}
 use Rattle.afs_num.specs.Fids.{same_fid}
 use Rattle.afs_num.specs.Nodes.{same_node}
@@ -17,9 +19,15 @@ use Rattle.afs_history.specs.declared.lines.Line.TheVariants as lines
 
 -- ---- the reply on which a read rests
 
+-- a read of rights comes without a promise
+abbrev pub is_promised : ReadBody → Bool
+is_promised (shows.AccessList text) = false
+is_promised body = true
+
+-- of what is promised
 abbrev pub has_fetched : Node → Fid → List Line → Bool
 has_fetched c f [] = false
-has_fetched c f (lines.Read m g index Fetched body ∷ ls) = if (same_node m c && same_fid g f) then true else has_fetched c f ls
+has_fetched c f (lines.Read m g index Fetched body ∷ ls) = if (is_promised body && (same_node m c && same_fid g f)) then true else has_fetched c f ls
 has_fetched c f (l ∷ ls) = has_fetched c f ls
 
 -- the reply that was given to the client's last entry with a fetched read of f

@@ -6,7 +6,7 @@ use Rattle.afs_ideal.specs.Operations.{the_user, volume_called, changed, op, is_
 use Rattle.afs_ideal.specs.Tables.{Table, get}
 use Rattle.afs_ideal.specs.Volumes.{Vnode, version_at, Volume, body_of, size_of, type_of, vnode_of}
 use Rattle.afs_history.specs.declared.lines.Line.{Line}
-use Rattle.afs_law.specs.Past.{onto, is_of_act, sent_of, is_called}
+use Rattle.afs_law.specs.Past.{begins_act, onto, is_of_act, sent_of, is_called}
 use Rattle.afs_rows.specs.Runs.{Entry, first_volume, first_volumes}
 use Rattle.afs_rows.specs.Scopes.{is_volume}
 use Rattle.std.specs.Prelude.{is_some, ◌≡◌, ℕ, ◌+◌, List, [], ◌∷◌, ◌++◌, Bool, true, false, ◌&&◌, Option, Some, None, codes, max, if◌then◌else◌, ◌⊎◌}
@@ -129,6 +129,18 @@ versions_in (l ∷ older) = told_by (version_in l) (versions_in older)
 -- the last index of the fid
 abbrev pub IsLast : Fid → ℕ → List Line → Type 0
 IsLast f index older = option_map (λ v. v.index) (last_version f older) ≡ Some index
+
+-- it was so at some line since the client began its act
+abbrev pub Unless : Bool → Type 0 → Type 0
+Unless true before = ⊥
+Unless false before = before
+
+abbrev pub WasBefore : Node → Fid → ℕ → List Line → Type 0
+WasBefore c f index [] = ⊥
+WasBefore c f index (l ∷ older) = Unless (begins_act c l) (IsLast f index older ⊎ WasBefore c f index older)
+
+abbrev pub WasLast : Node → Fid → ℕ → List Line → Type 0
+WasLast c f index ls = IsLast f index ls ⊎ WasBefore c f index ls
 
 -- the fid has a version of this index, with this body
 abbrev pub IsThat : Fid → ℕ → Body → Option Version → Type 0 → Type 0

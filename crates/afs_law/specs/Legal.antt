@@ -1,4 +1,4 @@
-use Rattle.std.specs.Prelude.{◌≡◌, ℕ, ◌≤◌, ◌<◌, List, [], ◌∷◌, ◌++◌, false, ◌&&◌, Option, Some, None, ℤ, pos, negsuc, nat_eq, length, ⊤, ◌⊎◌, if◌then◌else◌}
+use Rattle.std.specs.Prelude.{Bool, true, ◌≡◌, ℕ, ◌≤◌, ◌<◌, List, [], ◌∷◌, ◌++◌, false, ◌&&◌, Option, Some, None, ℤ, pos, negsuc, nat_eq, length, ⊤, ◌⊎◌, if◌then◌else◌}
 use Rattle.afs_num.specs.Nodes.{same_node}
 use Rattle.afs_num.specs.declared.types.Code.{Code}
 use Rattle.afs_num.specs.declared.types.Fid.{Fid}
@@ -13,8 +13,8 @@ use Rattle.afs_ideal.specs.Operations.{Caller, the_user, Result, refused, change
 use Rattle.afs_ideal.specs.Volumes.{Volume, Edit, versions_by}
 use Rattle.afs_law.specs.Breaks.{AllOwes, EndedOf, EndedAll, GoodSettle, GoodQuit, live_grant, lines_at, HasOwe, last_number}
 use Rattle.afs_rows.specs.Going.{Going, answers, next, asked}
-use Rattle.afs_law.specs.Grants.{read_reply, GrantOf, since, IsWithdrawn, IsDropped}
-use Rattle.afs_law.specs.Ideal.{set_up, IsLast, HasBeen, HasVersion, Accepts, clock_of, user_of, seen, change_in, change_key, call_under, volume_after}
+use Rattle.afs_law.specs.Grants.{is_promised, read_reply, GrantOf, since, IsWithdrawn, IsDropped}
+use Rattle.afs_law.specs.Ideal.{set_up, IsLast, WasLast, HasBeen, HasVersion, Accepts, clock_of, user_of, seen, change_in, change_key, call_under, volume_after}
 use Rattle.afs_history.specs.declared.lines.Line.{Line}
 use Rattle.afs_law.specs.Past.{lines_of, sent_of, given_message, answered_key, IsReply, running, has_begun, Called, CalledSince, Ran}
 use Rattle.afs_rows.specs.Runs.{Entry}
@@ -57,6 +57,17 @@ pub record GoodRead (c : Node) (f : Fid) (index : ℕ) (source : ReadSource) (bo
   pub lasts : clock_of (own ++ lines_of past) < expiry
   pub kept : IsDropped grant.server c f (own ++ since c f expiry reply past grant) → ⊥
   pub newest : IsWithdrawn grant.server c f (own ++ since c f expiry reply past grant) ⊎ IsLast f index (own ++ lines_of past)
+
+-- Rights are read without a promise: the read is whole, not older than any that the client has seen, and was the newest at some
+-- line since its act began
+pub record GoodRights (c : Node) (f : Fid) (index : ℕ) (body : ReadBody) (past : List Entry) (own : List Line) : Type 0 where
+  pub whole : Shows f index body past own
+  pub not_older : seen c f past own ≤ index
+  pub was : WasLast c f index (own ++ lines_of past)
+
+abbrev pub GoodReadBy : Bool → Node → Fid → ℕ → ReadSource → ReadBody → List Entry → List Line → Type 0
+GoodReadBy true c f index source body past own = GoodRead c f index source body past own
+GoodReadBy false c f index source body past own = GoodRights c f index body past own
 
 -- ---- changes
 
@@ -253,7 +264,7 @@ IsGood s who (lines.Given place) past own next = ⊤
 IsGood s who (lines.Grant server c f index expiry) past own next = who ≡ actors.Node server
 IsGood s who (lines.Change server k count) past own next = (who ≡ actors.Node server) × GoodChange s server k count past own next
 IsGood s who (lines.Version v) past own next = IsUnderChange own
-IsGood s who (lines.Read c f index source body) past own next = (who ≡ actors.Node c) × GoodRead c f index source body past own
+IsGood s who (lines.Read c f index source body) past own next = (who ≡ actors.Node c) × GoodReadBy (is_promised body) c f index source body past own
 IsGood s who (lines.Answer c code) past own next = (who ≡ actors.Node c) × GoodCode s c code past own
 IsGood s who (lines.Timeout c callee epoch number count) past own next = who ≡ actors.Node c
 IsGood s who (lines.Tick n) past own next = who ≡ actors.Clock

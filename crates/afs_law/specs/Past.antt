@@ -85,10 +85,13 @@ running s n (lines.Answer m code ∷ older) = if same_node m n then None else ru
 running s n (lines.Crash m ∷ older) = if same_node m n then None else running s n older
 running s n (l ∷ older) = running s n older
 
+abbrev pub begins_act : Node → Line → Bool
+begins_act n (lines.Begin m act) = same_node m n
+begins_act n l = false
+
 abbrev pub has_begun : Node → List Line → Bool
 has_begun n [] = false
-has_begun n (lines.Begin m act ∷ ls) = if same_node m n then true else has_begun n ls
-has_begun n (l ∷ ls) = has_begun n ls
+has_begun n (l ∷ ls) = if begins_act n l then true else has_begun n ls
 
 -- whether a call of this key is among the messages
 abbrev pub is_called : Key → Head → Carried → Bool

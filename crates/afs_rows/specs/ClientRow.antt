@@ -463,6 +463,7 @@ takes_given me c place act call = takes_plain me c place call
 
 abbrev pub takes : Node → ClientState → ℕ → ℕ → Going → FsCall → FsReply → Step ClientState
 takes me c clock place act call (replies.FetchData contents status callback sync) = takes_data me c clock place act contents status callback sync call
+takes me c clock place act call (replies.FetchAcl text status sync) = takes_list me c clock place act text status sync call
 takes me c clock place act call (replies.FetchStatus status callback sync) = takes_shown me c clock place act status callback sync call
 takes me c clock place act call (replies.StoreData status sync) = takes_set me c clock place status call
 takes me c clock place act call (replies.StoreAcl status sync) = takes_set me c clock place status call
