@@ -36,7 +36,8 @@ use Rattle.afs_law.specs.Ideal.{Reach, HasBeen, raised, is_zero_code, reach, las
 use Rattle.afs_law.specs.Legal.{AreGood, Shows, Cause, code_told, GoodCode}
 use Rattle.afs_history.specs.declared.lines.Line.{Line}
 use Rattle.afs_law.specs.Past.{IsCallUnder, onto, lines_of, sent_of, given_message, answered_key, running, has_begun, CalledSince}
-use Rattle.afs_rows.specs.Runs.{the_server, locations, Moved, Entry, Cell, message_at, client_moves, begun_by}
+use Rattle.afs_rows.specs.Runs.{locations, Entry, message_at}
+use Rattle.afs_law.proofs.OneCell.{the_server, Moved, Cell, client_moves, begun_by}
 use Rattle.afs_rows.specs.Scopes.{is_in_scope}
 use Rattle.afs_rows.specs.States.{KnownBoot, CacheEntry, Location, Seat}
 use Rattle.afs_model.specs.Calls.{call_seat}

@@ -28,7 +28,8 @@ use Rattle.afs_law.specs.Ideal.{last_version, HasVersion, Accepts, clock_of, rea
 use Rattle.afs_law.specs.Legal.{IsNew, AreGood, AreGoodReplies}
 use Rattle.afs_history.specs.declared.lines.Line.{Line}
 use Rattle.afs_law.specs.Past.{onto, lines_of, sent_of, given_message, running, CalledSince, IsCallUnder, has_begun, called_key, is_called, same_key, Sends}
-use Rattle.afs_rows.specs.Runs.{the_server, locations, Entry, Cell, message_at, client_moves}
+use Rattle.afs_rows.specs.Runs.{locations, Entry, message_at}
+use Rattle.afs_law.proofs.OneCell.{the_server, Cell, client_moves}
 use Rattle.afs_rows.specs.Scopes.{is_volume}
 use Rattle.afs_rows.specs.Steps.{Step}
 use Rattle.afs_num.specs.declared.scripts.Script.{Script}

@@ -32,7 +32,8 @@ use Rattle.afs_law.specs.Ideal.{is_zero_code, clock_of, volume_after}
 use Rattle.afs_law.specs.Legal.{IsChanging, code_given, AreGood, IsNew, HasChange, versions_first, IsTold, answer_at, answer_on, GoodRestart, op_on, all_on, statuses_on}
 use Rattle.afs_history.specs.declared.lines.Line.{Line}
 use Rattle.afs_law.specs.Past.{onto, lines_of, sent_of, given_message, called_key, IsCallUnder}
-use Rattle.afs_rows.specs.Runs.{begun_by_disk, Entry, Cell, message_at, Armed, unarmed, Luck, Blow, struck, lowered, Fall, at_rest, in_step, in_boot, settled, Outcome, comes_up, fails_early, fails_midway, is_full, server_rises, server_ends, server_falls, blow_line, server_stopped, server_restarted, server_served, server_given, back_timed, server_timed, server_wakes, Moved, server_moves, the_server}
+use Rattle.afs_rows.specs.Runs.{Entry, message_at, Armed, unarmed, Luck, Blow, struck, lowered, Fall, at_rest, in_step, in_boot, settled, Outcome, comes_up, fails_early, fails_midway, is_full}
+use Rattle.afs_law.proofs.OneCell.{begun_by_disk, Cell, server_rises, server_ends, server_falls, blow_line, server_stopped, server_restarted, server_served, server_given, back_timed, server_timed, server_wakes, Moved, server_moves, the_server}
 use Rattle.afs_rows.specs.ServerRow.{begun_after, begun_before, not_served, serves_call, shows, Reading, no_room, revived, device_calls, promise_ticks, decides, Decision, drops, tells_boot, repeats, refuses, saves, admits, called, hears, boot_told, versioned, Change, decided, in_volume, with_volume, Sight, lasting_started, sights, reading_in, seat_placed, sight_by, sight_in, no_volume, several, saved}
 use Rattle.afs_rows.specs.States.{Seat, ServerState, Backs, Held, BackCall, volume_in, Lasting}
 use Rattle.afs_model.specs.Calls.{Admitted, call_seat, call_seated}

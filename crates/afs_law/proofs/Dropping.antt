@@ -24,7 +24,8 @@ use Rattle.afs_law.specs.Ideal.{last_version, HasVersion, Accepts, clock_of, rea
 use Rattle.afs_law.specs.Legal.{IsNew, AreGood, GoodReply}
 use Rattle.afs_history.specs.declared.lines.Line.{Line}
 use Rattle.afs_law.specs.Past.{onto, lines_of, sent_of, running, has_begun}
-use Rattle.afs_rows.specs.Runs.{the_server, Entry, Cell, client_moves}
+use Rattle.afs_rows.specs.Runs.{Entry}
+use Rattle.afs_law.proofs.OneCell.{the_server, Cell, client_moves}
 use Rattle.afs_rows.specs.States.{CacheEntry, Seat}
 use Rattle.afs_rows.specs.Steps.{Step}
 use Rattle.std.proofs.Common.{◌≡◌, ℕ, ◌≤◌, ◌⊎◌, inl, inr, Bool, true, false, cond, nat_eq, not, List, [], ◌∷◌, map, Option, Some, None, refl, sym, ap, subst, ◌∙◌}

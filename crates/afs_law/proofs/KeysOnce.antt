@@ -12,7 +12,8 @@ use Rattle.afs_history.specs.declared.lines.Line.{Line}
 use Rattle.afs_law.specs.Once.{IsFirst, AreOnce, past_of, ChangesOnce}
 use Rattle.afs_law.specs.Past.{onto, lines_on, lines_of}
 use Rattle.afs_rows.specs.States.{Location}
-use Rattle.afs_rows.specs.Runs.{Entry, Cell, RunsTo}
+use Rattle.afs_rows.specs.Runs.{Entry}
+use Rattle.afs_law.proofs.OneCell.{Cell, RunsTo}
 use Rattle.afs_num.specs.declared.scripts.VolumeLine.{VolumeLine}
 use Rattle.std.specs.Prelude.{is_some, Some, None, false}
 use Rattle.afs_num.specs.declared.histories.Actor.{Actor}

@@ -1,4 +1,5 @@
 pub mod Basics
+pub mod OneCell
 pub mod Edits
 pub mod Keeping
 pub mod Promising
@@ -26,6 +27,8 @@ pub mod Dropping
 pub mod Answering
 pub mod Waiting
 pub mod Law
+pub mod Servers
+pub mod Roomless
 pub mod Unserved
 pub mod Agreeing
 pub mod KeysOnce

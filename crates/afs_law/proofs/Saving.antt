@@ -31,7 +31,8 @@ use Rattle.afs_law.specs.Ideal.{versions_in, Reach, raised, IsLast, clock_of, la
 use Rattle.afs_law.specs.Legal.{code_given, AreGood, code_told, IsNew, HasChange, GoodChange, versions_first, IsTold, answer_at, answer_on, IsUnderChange, IsChanged, op_on}
 use Rattle.afs_history.specs.declared.lines.Line.{Line}
 use Rattle.afs_law.specs.Past.{onto, lines_of, sent_of, given_message, called_key, HasCode, is_of_act, running, has_begun}
-use Rattle.afs_rows.specs.Runs.{Entry, Cell, message_at, Armed, Fall, server_moves, the_server}
+use Rattle.afs_rows.specs.Runs.{Entry, message_at, Armed, Fall}
+use Rattle.afs_law.proofs.OneCell.{Cell, server_moves, the_server}
 use Rattle.afs_rows.specs.Scopes.{is_in_scope, is_volume}
 use Rattle.afs_rows.specs.ServerRow.{granted, granted_in, record_of, carried_by, change_reply_to, replied, stored_by, promise_ticks, saves, runs, told, versioned, Change, made, result, seat_placed}
 use Rattle.afs_rows.specs.States.{CacheEntry, Seat, volume_in, Backs, Held}

@@ -26,7 +26,8 @@ use Rattle.afs_law.specs.Ideal.{shown_status, Tells, TellsIn, TellsOf, volume_af
 use Rattle.afs_law.specs.Legal.{code_given, IsResult, AreGood, code_told, Cause, IsTold, answer_at, answer_on}
 use Rattle.afs_history.specs.declared.lines.Line.{Line}
 use Rattle.afs_law.specs.Past.{IsUnheard, lines_of, sent_of, given_message, called_key, HasCode, IsCallUnder, Ran, onto, same_key, answered_key}
-use Rattle.afs_rows.specs.Runs.{the_server, Entry, Cell, message_at, Armed, Fall, Moved, server_moves}
+use Rattle.afs_rows.specs.Runs.{Entry, message_at, Armed, Fall}
+use Rattle.afs_law.proofs.OneCell.{the_server, Cell, Moved, server_moves}
 use Rattle.afs_rows.specs.ServerRow.{shows, granted_by, granted, Reading, promise_ticks, refuses, reply_head, replied, told, result, Decision, seat_placed, Sight, given_up_read, promised_in, reading_in, statuses_read, time_read}
 use Rattle.afs_rows.specs.States.{Seat, ServerState, volume_in, Backs, Held, BackCall}
 use Rattle.afs_model.specs.Calls.{call_seated, call_seat}

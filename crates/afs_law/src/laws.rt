@@ -1,6 +1,6 @@
 //! Laws about the runs of a script. Each is the contract of a function that does nothing.
 
-ghost use Rattle.afs_law.specs.Laws.{ChangesAreFolded, KeysRunOnce, ReadsAreNewest, RunsAreLegal, RunsAreOne, StartsAreFolded, VolumesAreTold, PairsAreKnown, TrustedIsGood, UnservedAreRefused};
+ghost use Rattle.afs_law.specs.Laws.{ChangesAreFolded, KeysRunOnce, ReadsAreNewest, RunsAreLegal, RunsAreOne, StartsAreFolded, VolumesAreTold, PairsAreKnown, TrustedIsGood, RoomlessAreRefused, UnservedAreRefused};
 
 /// Every run of a script for one server is legal.
 pub fn runs_are_legal()
@@ -37,9 +37,14 @@ pub fn trusted_is_good()
     ensures { TrustedIsGood }
 {}
 
-/// A server tells that a call isn't served exactly where its opcode is none of those that it serves.
+/// A server tells that a call isn't served exactly where its caller is no client, or its opcode none of those that it serves.
 pub fn unserved_are_refused()
     ensures { UnservedAreRefused }
+{}
+
+/// A server tells that there is no room exactly where a change has none.
+pub fn roomless_are_refused()
+    ensures { RoomlessAreRefused }
 {}
 
 /// What a change leaves of a server is the fold of its record.
