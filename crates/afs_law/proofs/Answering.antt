@@ -22,7 +22,7 @@ use Rattle.afs_law.proofs.Dropping.{left_out, called_goes}
 use Rattle.afs_law.proofs.Edits.{Ones, index_in}
 use Rattle.afs_law.proofs.Facts.{ToClient, CallIn, FitsShown, IsOld, IsWhole, IsBody, HasOld, IsClient, IsPlain, IsKeptBody, IsTrusted, Ghost, Seen, IsAged, Spot, spot, LastStored, IsStored, IsSafe, Fits, View, view, last_key, LastRan, Reached, IsNewest, Overtaken, Stands, IsCurrent, HasCurrent, Answers, stored_index, ClientFacts, CallFact, ReplyFact, ReplyIn, Holds, Goes, IsFetched, FitsPlain, FitsData, FitsSet, FitsReply, WasStored, WasChanged, InScope, IsNoticed}
 use Rattle.afs_law.proofs.Owing.{BackIn}
-use Rattle.afs_law.proofs.Passing.{PassesReach, body_kept, old_within, old_over, PassesSeen, PassesGrant, PassesFile, StaysNewest, stays, held_over, fetch_reply_by, current_over, kept_over, cause_behind}
+use Rattle.afs_law.proofs.Passing.{PassesReach, old_within, old_over, PassesSeen, PassesGrant, PassesFile, StaysNewest, stays, held_over, fetch_reply_by, current_over, kept_over, cause_behind}
 use Rattle.afs_law.proofs.Quiet.{quiet_grant, AreQuiet, quiet_more, quiet_passes}
 use Rattle.afs_law.proofs.Resting.{voids}
 use Rattle.afs_law.proofs.Saving.{old_withdrawn}

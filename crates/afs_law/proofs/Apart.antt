@@ -6,7 +6,7 @@ use Rattle.afs_num.specs.Fids.{same_fid}
 use Rattle.afs_num.specs.declared.types.Fid.{Fid}
 use Rattle.afs_num.specs.declared.histories.Body.{Body}
 use Rattle.afs_num.specs.declared.histories.ReadStatus.{ReadStatus}
-use Rattle.afs_law.proofs.Basics.{same_fid-true, found-cached-fid, found-refreshed, found-first}
+use Rattle.afs_law.proofs.Basics.{same_fid-true, found-refreshed}
 use Rattle.afs_law.proofs.Facts.{AreApart}
 use Rattle.afs_rows.specs.ClientRow.{find_cached, used_first, is_trusted, refreshed, joined, put_entry}
 use Rattle.afs_rows.specs.States.{CacheEntry}

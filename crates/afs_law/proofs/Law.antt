@@ -10,7 +10,7 @@ use Rattle.afs_law.proofs.Backing.{all_lines, is_oweless, no_owe, is_still, live
 use Rattle.afs_law.proofs.Basics.{same_fid-refl, same_fid-true, some_of, both}
 use Rattle.afs_law.proofs.Deciding.{server_times, server_wakes_goes, given_goes, stops_goes, restarts_goes}
 use Rattle.afs_law.proofs.Edits.{one_more, Ones, index_in, fid_at, live, SoundIn, sound_same, Tops, get-set, none_has}
-use Rattle.afs_law.proofs.Facts.{IsFine, AreFine, server_boot, Reached, Holds, Goes, AreSound}
+use Rattle.afs_law.proofs.Facts.{IsFine, server_boot, Reached, Holds, Goes}
 use Rattle.afs_law.proofs.Naming.{first_fine}
 use Rattle.afs_law.proofs.Resting.{voids, ticks_goes, stop_set, fail_set}
 use Rattle.afs_law.proofs.Waiting.{waits_goes, client_stops_goes, client_starts_goes}

@@ -1,5 +1,5 @@
 -- What an act needs behind one more read.
-use Rattle.std.proofs.Common.{◌≡◌, ℕ, zero, suc, Bool, true, false, cond, List, [], ◌∷◌, ◌++◌, Option, Some, None, nat_eq, pos, length, refl, sym, ap, subst, ◌∙◌}
+use Rattle.std.proofs.Common.{◌≡◌, ℕ, Bool, true, false, cond, List, [], ◌∷◌, ◌++◌, Option, Some, None, nat_eq, refl, sym, ap, subst, ◌∙◌}
 use Rattle.std.specs.Prelude.{◌&&◌, ◌||◌, ⊤, not}
 use Rattle.afs_ideal.specs.Operations.{volume_changed}
 use Rattle.afs_history.specs.declared.acts.Act.{Act}
@@ -8,7 +8,6 @@ use Rattle.afs_history.specs.declared.acts.Operand.{Operand}
 use Rattle.afs_history.specs.declared.acts.Operand.TheVariants as operands
 use Rattle.afs_history.specs.declared.acts.Path.{Path}
 use Rattle.afs_num.specs.Fids.{same_fid}
-use Rattle.afs_num.specs.declared.calls.FsCall.{FsCall}
 use Rattle.afs_num.specs.declared.calls.FsCall.TheVariants as calls
 use Rattle.afs_num.specs.declared.directories.Name.{Name}
 use Rattle.afs_num.specs.declared.histories.Body.{Body}
@@ -17,7 +16,7 @@ use Rattle.afs_num.specs.declared.histories.ReadBody.{ReadBody}
 use Rattle.afs_num.specs.declared.histories.ReadBody.TheVariants as seen
 use Rattle.afs_num.specs.declared.types.Fid.{Fid}
 use Rattle.afs_law.proofs.Basics.{same_fid-refl}
-use Rattle.afs_rows.specs.Going.{call_for, Need, reads, reads_status, reads_statuses, reads_rights, asks_for, gives_back, answers, Shown, Taken, Going, Homes, Parted, act_needs, next, with_read, first_body, taken_body, by_body, reading, reading_status, by_status, first_status, reading_rights, has_rights, has_rights_by, walk, step_to, looked_up, fid_of, root_of, is_last_name, is_even, to_object, to_parent, at_parent, parted, in_home, in_directory, by_kind, of_one, is_root}
+use Rattle.afs_rows.specs.Going.{call_for, Need, reads, reads_status, reads_statuses, reads_rights, asks_for, gives_back, answers, Shown, Taken, Going, Homes, Parted, act_needs, next, with_read, first_body, taken_body, by_body, reading, by_status, first_status, reading_rights, has_rights, has_rights_by, walk, step_to, looked_up, fid_of, root_of, is_last_name, is_even, to_object, to_parent, at_parent, parted, in_home, in_directory, by_kind, of_one, is_root}
 
 -- the text of rights that were read of this fid
 abbrev pub got : Fid → List ℕ → Shown

@@ -15,7 +15,6 @@ use Rattle.afs_num.specs.declared.types.Fid.{Fid}
 use Rattle.afs_num.specs.declared.types.Node.{Node}
 use Rattle.afs_num.specs.declared.types.Node.TheVariants.{Loc, Server, Client, Admin}
 use Rattle.afs_num.specs.declared.messages.Message.{Message}
-use Rattle.afs_num.specs.declared.messages.Received.TheVariants.{Whole}
 use Rattle.afs_num.specs.declared.scripts.Script.{Script}
 use Rattle.afs_num.specs.declared.scripts.VolumeLine.{VolumeLine}
 use Rattle.afs_num.specs.declared.histories.Body.{Body}
@@ -23,11 +22,11 @@ use Rattle.afs_num.specs.declared.histories.ReadBody.TheVariants as body_shown
 use Rattle.afs_num.specs.declared.histories.ReadSource.TheVariants.{Cached}
 use Rattle.afs_rows.specs.ClientRow.{find_cached}
 use Rattle.afs_rows.specs.Going.{Going}
-use Rattle.afs_rows.specs.Runs.{Entry, Cell, Input, Moved, Blow, Fall, Armed, Luck, Outcome, comes_up, fails_early, fails_midway, is_full, begins, gives, waits, ticks, client_stops, client_starts, stops, starts_again, sets_stop, sets_fail, server_waits, wakes, nothing, moved, voided, if_host, begun_by, waited_by, client_falls, client_rises, client_moves, server_served, server_given, server_stopped, server_ends, server_restarted, server_armed, back_timed, server_timed, server_wakes, given_to, given_at, settled, struck, decided_at, message_at, Leads, start, RunsTo, first_volume, first_volumes, first_server, first_client, placed_at, unless_there, unarmed, volumes_at, begun_by_disk}
+use Rattle.afs_rows.specs.Runs.{Entry, Cell, Input, Moved, Blow, Fall, Armed, Luck, Outcome, comes_up, fails_early, fails_midway, is_full, begins, gives, waits, ticks, client_stops, client_starts, stops, starts_again, sets_stop, sets_fail, server_waits, wakes, nothing, moved, voided, if_host, begun_by, waited_by, server_served, server_given, server_stopped, server_ends, server_restarted, server_armed, back_timed, server_timed, server_wakes, given_to, given_at, settled, struck, decided_at, message_at, Leads, start, RunsTo, first_volume, first_volumes, first_server, first_client, placed_at, unless_there, unarmed, volumes_at, begun_by_disk}
 use Rattle.afs_rows.specs.ServerRow.{Begun, device_calls}
 use Rattle.afs_rows.specs.States.{BackCall, CacheEntry}
 use Rattle.afs_history.specs.declared.lines.Line.{Line}
-use Rattle.std.proofs.Common.{◌≡◌, ℕ, zero, suc, ◌+◌, ◌<◌, ◌≤◌, arith, ltb-true, eqb-true, nat_eq, Bool, true, false, cond, nat_lt, List, [], ◌∷◌, Option, Some, None, refl, sym, ap, subst, ◌∙◌}
+use Rattle.std.proofs.Common.{◌≡◌, ℕ, zero, suc, ◌<◌, arith, ltb-true, eqb-true, nat_eq, Bool, true, false, cond, nat_lt, List, [], ◌∷◌, Option, Some, None, refl, sym, ap, subst, ◌∙◌}
 use Rattle.std.specs.Prelude.{map, is_some}
 use Rattle.afs_history.specs.declared.lines.Line.TheVariants as lines
 

@@ -1,6 +1,6 @@
 -- What a server's disk keeps, and for which such parts it may stand in a cell. The cell has no bytes: that each disk stands
 -- for one of these parts is a promise of the world's code, by the spelling of records.
-use Rattle.std.specs.Prelude.{◌≡◌, ℕ, ◌⊎◌, List, Bool, true, not, ◌&&◌, ◌||◌, nat_eq, Option, Some, None}
+use Rattle.std.specs.Prelude.{◌≡◌, ℕ, ◌⊎◌, Bool, true, not, ◌&&◌, ◌||◌, nat_eq, Option, Some, None}
 use Rattle.afs_rows.specs.Runs.{Blow, Fall, Cell, begun_by_disk}
 use Rattle.afs_rows.specs.States.{durable_of, ServerState}
 use Rattle.afs_records.specs.Durable.{Durable}

@@ -11,7 +11,7 @@ use Rattle.afs_history.specs.declared.lines.Line.{Line}
 use Rattle.afs_rows.specs.ServerRow.{Begun, begun_before, begun_after, decides, device_calls, revived, Decision}
 use Rattle.afs_rows.specs.States.{Location, ServerState, BackCall, Lasting, durable_of}
 use Rattle.afs_rows.specs.Steps.{Step}
-use Rattle.std.specs.Prelude.{Result, Ok, Err, is_some, ◌≡◌, ℕ, zero, suc, ◌+◌, ◌-◌, List, [], ◌∷◌, ◌++◌, Bool, true, false, cond, nat_eq, nat_lt, map, codes, Option, Some, None, if◌then◌else◌}
+use Rattle.std.specs.Prelude.{Result, Ok, Err, is_some, ◌≡◌, ℕ, zero, suc, ◌+◌, ◌-◌, List, [], ◌∷◌, ◌++◌, Bool, true, false, cond, nat_lt, codes, Option, Some, None, if◌then◌else◌}
 use Rattle.std.specs.Option.{option_map}
 use Rattle.afs_num.specs.declared.types.Node.{Node}
 use Rattle.afs_num.specs.declared.types.Node.TheVariants.{Loc, Server, Client, Admin}
