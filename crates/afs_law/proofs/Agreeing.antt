@@ -22,7 +22,8 @@ use Rattle.afs_history.specs.declared.lines.Line.{Line}
 use Rattle.afs_law.specs.Once.{past_of}
 use Rattle.afs_law.specs.OneServer.{IsOneServer}
 use Rattle.afs_law.specs.Past.{HasCode, IsCall}
-use Rattle.afs_rows.specs.Runs.{Entry, Cell, Input, moved, Leads, start, RunsTo}
+use Rattle.afs_rows.specs.Runs.{Entry}
+use Rattle.afs_law.proofs.OneCell.{Cell, Input, moved, Leads, start, RunsTo}
 use Rattle.afs_rows.specs.States.{CacheEntry}
 use Rattle.afs_num.specs.declared.histories.ReadSource.TheVariants.{Cached}
 use Rattle.afs_num.specs.declared.messages.Carried.{Carried}
@@ -33,18 +34,6 @@ use Rattle.afs_num.specs.declared.types.Fid.{Fid}
 use Rattle.afs_num.specs.declared.scripts.Script.{Script}
 
 -- The same inputs make one run; and after every run the versions that were told agree with the volumes.
-
--- ---- one run
-
-pub one_run : (xs : List Input) (c : Cell) (h k : List Entry) (a b : Cell) → Leads c xs h a → Leads c xs k b → (h ≡ k) × (a ≡ b)
-one_run [] c [] [] a b r q = (refl, r ∙ sym q)
-one_run [] c [] (e ∷ k) a b r q = absurd q
-one_run [] c (e ∷ h) k a b r q = absurd r
-one_run (x ∷ xs) c [] k a b r q = absurd r
-one_run (x ∷ xs) c (e ∷ h) [] a b r q = absurd q
-one_run (x ∷ xs) c (e ∷ h) (f ∷ k) a b r q =
-    let rest = one_run xs (moved c x).cell h k a b r.1 q.1 in
-    (ap (λ (y : Entry). y ∷ h) (r.0 ∙ sym q.0) ∙ ap (λ (ys : List Entry). f ∷ ys) rest.0, rest.1)
 
 -- ---- what was told
 
@@ -64,7 +53,7 @@ agrees_by id v (Some u) ls e x =
     let same : u ≡ v = cc in
     subst (λ (w : Volume). Agrees id w (versions_in ls)) same (agrees_of id u ls x)
 
-pub held : (s : Script) (h : List Entry) (end : Cell) → IsOneServer s → RunsTo h s end → (id : ℕ) → IsHeld id end (past_of (set_up s ∷ []) h)
+pub held : (s : Script) (h : List Entry) (end : Cell) → IsOneServer s → RunsTo h s end → (id : ℕ) → IsHeld id end.server.lasting.volumes (past_of (set_up s ∷ []) h)
 held s h end one r id =
     let k : Holds s end (past_of (set_up s ∷ []) h) = at_end s h end one r in
     record {
@@ -74,11 +63,11 @@ held s h end one r id =
 
 -- ---- pairs
 
-call_known : (end : Cell) (fl : ℕ → Ghost) (j : ℕ) (head : Head) (c : Carried) → IsCall c → head.from ≡ Client j → OfCall (ByClient (CallIn (view fl end))) head c → IsKnownTo end j head
+call_known : (end : Cell) (fl : ℕ → Ghost) (j : ℕ) (head : Head) (c : Carried) → IsCall c → head.from ≡ Client j → OfCall (ByClient (CallIn (view fl end))) head c → IsKnownTo (end.clients j) head
 call_known end fl j head (carried.Call user (ask.File call)) is from h =
     let f : CallIn (view fl end) head user call = by_client j head.from (CallIn (view fl end) head user call) from h in
     let one : f.client ≡ j = client_number f.client j (sym f.from ∙ from) in
-    subst (λ (i : ℕ). IsKnownTo end i head) one f.fact.behind
+    subst (λ (i : ℕ). IsKnownTo (end.clients i) head) one f.fact.behind
 call_known end fl j head (carried.Call user (ask.Volume call)) is from h = absurd h
 call_known end fl j head (carried.Call user (ask.Location call)) is from h = absurd h
 call_known end fl j head (carried.Refusal code) is from h = absurd is
@@ -91,14 +80,14 @@ reply_of (carried.Refusal code) X is h = h
 reply_of (carried.Reply reply) X is h = h
 reply_of carried.Notice X is h = absurd is
 
-pub pairs_known : (s : Script) (h : List Entry) (end : Cell) → IsOneServer s → RunsTo h s end → ArePairsKnown end
+pub pairs_known : (s : Script) (h : List Entry) (end : Cell) → IsOneServer s → RunsTo h s end → ArePairsKnown end.sent end.clients
 pairs_known s h end one r =
     let k : Holds s end (past_of (set_up s ∷ []) h) = at_end s h end one r in
     record {
       calls = λ j place m at is from. call_known end k.floors j m.head m.carried is from (each_at (IfCall (CallIn (view k.floors end))) end.sent place m at k.sent.calls);
       replies = λ j place m at is to.
           let f : ReplyIn (view k.floors end) (past_of (set_up s ∷ []) h) m = by_client j m.head.to (ReplyIn (view k.floors end) (past_of (set_up s ∷ []) h) m) to (reply_of m.carried _ is (each_at (IfReply (ReplyIn (view k.floors end) (past_of (set_up s ∷ []) h))) end.sent place m at k.sent.replies)) in
-          subst (λ (i : ℕ). IsKnownTo end i m.head) (client_number f.client j (sym f.to ∙ to)) f.fact.behind;
+          subst (λ (i : ℕ). IsKnownTo (end.clients i) m.head) (client_number f.client j (sym f.to ∙ to)) f.fact.behind;
     }
 
 -- ---- what a client trusts

@@ -1,3 +1,11 @@
+use Rattle.afs_num.specs.declared.histories.Version.{Version}
+use Rattle.afs_law.proofs.Apart.{found_filter, found_out}
+use Rattle.afs_law.proofs.Asking.{Passes, not_client, reads_by_other}
+use Rattle.afs_law.proofs.Facts.{IsGot}
+use Rattle.afs_law.proofs.Nexts.{rights_done}
+use Rattle.afs_law.proofs.Skipping.{AreNone, none_of_other, ideal_still, last_line}
+use Rattle.afs_rows.specs.ClientRow.{dropped, is_older, takes_rights, takes_list, ends_step, read_lines}
+use Rattle.std.specs.Prelude.{◌||◌}
 use Rattle.afs_law.proofs.Facts.{FitsList}
 use Rattle.afs_law.proofs.Walking.{read_by}
 use Rattle.afs_law.specs.Grants.{is_promised}
@@ -14,7 +22,7 @@ use Rattle.afs_law.proofs.Dropping.{left_out, called_goes}
 use Rattle.afs_law.proofs.Edits.{Ones, index_in}
 use Rattle.afs_law.proofs.Facts.{ToClient, CallIn, FitsShown, IsOld, IsWhole, IsBody, HasOld, IsClient, IsPlain, IsKeptBody, IsTrusted, Ghost, Seen, IsAged, Spot, spot, LastStored, IsStored, IsSafe, Fits, View, view, last_key, LastRan, Reached, IsNewest, Overtaken, Stands, IsCurrent, HasCurrent, Answers, stored_index, ClientFacts, CallFact, ReplyFact, ReplyIn, Holds, Goes, IsFetched, FitsPlain, FitsData, FitsSet, FitsReply, WasStored, WasChanged, InScope, IsNoticed}
 use Rattle.afs_law.proofs.Owing.{BackIn}
-use Rattle.afs_law.proofs.Passing.{body_kept, old_within, old_over, PassesSeen, PassesGrant, PassesFile, StaysNewest, stays, held_over, fetch_reply_by, current_over, kept_over, cause_behind}
+use Rattle.afs_law.proofs.Passing.{PassesReach, old_within, old_over, PassesSeen, PassesGrant, PassesFile, StaysNewest, stays, held_over, fetch_reply_by, current_over, kept_over, cause_behind}
 use Rattle.afs_law.proofs.Quiet.{quiet_grant, AreQuiet, quiet_more, quiet_passes}
 use Rattle.afs_law.proofs.Resting.{voids}
 use Rattle.afs_law.proofs.Saving.{old_withdrawn}
@@ -24,15 +32,16 @@ use Rattle.afs_history.specs.declared.acts.Act.{Act}
 use Rattle.afs_rows.specs.ClientRow.{boot_or_first, with_boot, takes_shown, takes_entry, boot_of, read_lines, status_told, entry_told, booted, joined, put_entry, calls_again, asking, is_trusted, goes_on, goes_by, look_at, looked, most_reads, walked, Walked, is_below, dropped_after, left_after, find_cached, used_first, refreshed, call_message, calls_step, zero_code, begin_row, ignores, ended, answers_step, takes_stored, takes, resends_step, counts, is_awaited, awaits, client_row, is_spent, hears, takes_plain, takes_data, takes_set, left_in, given_up_in, body_told, call_of, is_reading}
 use Rattle.afs_rows.specs.Going.{reads_status, reads_statuses, reads_rights, gives_back, asked, Going, Need, next, answers, began, with_read, ClientState, reads, asks_for}
 use Rattle.afs_law.specs.Grants.{has_fetched, fetch_reply, since}
-use Rattle.afs_law.specs.Ideal.{HasBeen, raised, is_zero_code, reach, last_version, HasVersion}
-use Rattle.afs_law.specs.Legal.{Shows, Cause, code_told, GoodCode}
+use Rattle.afs_law.specs.Ideal.{Reach, HasBeen, raised, is_zero_code, reach, last_version, HasVersion}
+use Rattle.afs_law.specs.Legal.{AreGood, Shows, Cause, code_told, GoodCode}
 use Rattle.afs_history.specs.declared.lines.Line.{Line}
 use Rattle.afs_law.specs.Past.{IsCallUnder, onto, lines_of, sent_of, given_message, answered_key, running, has_begun, CalledSince}
-use Rattle.afs_rows.specs.Runs.{the_server, locations, Moved, Entry, Cell, message_at, client_moves, begun_by}
+use Rattle.afs_rows.specs.Runs.{locations, Entry, message_at}
+use Rattle.afs_law.proofs.OneCell.{the_server, Moved, Cell, client_moves, begun_by}
 use Rattle.afs_rows.specs.Scopes.{is_in_scope}
 use Rattle.afs_rows.specs.States.{KnownBoot, CacheEntry, Location, Seat}
 use Rattle.afs_model.specs.Calls.{call_seat}
-use Rattle.std.proofs.Common.{filter, find, ◌+◌, nat_eq, ◌++◌, ◌≡◌, ℕ, ◌<◌, ◌≤◌, inl, inr, Bool, true, false, cond, nat_lt, not, List, [], ◌∷◌, map, Option, Some, None, ℤ, refl, sym, ap, subst, ◌∙◌, eqb-true, ltb-true, lt-ltb, le_of_eq, append-nil, arith}
+use Rattle.std.proofs.Common.{suc, zero, ltb-false, filter, find, ◌+◌, nat_eq, ◌++◌, ◌≡◌, ℕ, ◌<◌, ◌≤◌, inl, inr, Bool, true, false, cond, nat_lt, not, List, [], ◌∷◌, map, Option, Some, None, ℤ, refl, sym, ap, subst, ◌∙◌, eqb-true, ltb-true, lt-ltb, le_of_eq, append-nil, arith}
 use Rattle.std.specs.Option.{option_map}
 use Rattle.afs_num.specs.Fids.{same_fid}
 use Rattle.afs_num.specs.Nodes.{same_node}
@@ -742,12 +751,12 @@ old_refreshed c n f i status b past left old g u found = old_mapped (find_cached
 
 pub takes_saved : (s : Script) (c : Cell) (past : List Entry) (n p : ℕ) (act : Going) (call : FsCall) (f : Fid) (b : Option Body → Option Body) (i : ℕ) (status : ReadStatus) (m : Message) → (h : Holds s c past) → Due c h.floors past n p act m → code_told m.carried ≡ Some (pos 0) → ((code : Code) → m.carried ≡ carried.Refusal code → ⊥)
     → IsStoreBy act call f → stored_index m.carried ≡ Some i → IsStored (spot (view h.floors c n)) m → Reached (Client n) f i past → IsLeft c n f i status b past → Goes s past (client_moves c n (takes_stored (Client n) (c.clients n) c.clock p f i status b))
-takes_saved s c past n p act call f b i status m h d zero not same told kept up left =
+takes_saved s c past n p act call f b i status m h d none not same told kept up left =
     let held : ℕ = (h.floors n).held in
     let cache : List CacheEntry = map (refreshed c.clock f i status b) (c.clients n).cache in
     let e : Entry = step_entry n (answered_lines n p zero_code) [] in
     moves s c past n (holding h.floors n held) (takes_stored (Client n) (c.clients n) c.clock p f i status b) h (client_ended s (c.clients n) cache (h.own n) (apart_refreshed c.clock f i status b (c.clients n).cache (h.own n).apart))
-    (tt, ((refl, good_code s c past n p act m zero_code (lines.Given p ∷ []) h d zero refl refl refl), tt))
+    (tt, ((refl, good_code s c past n p act m zero_code (lines.Given p ∷ []) h d none refl refl refl), tt))
     (answered_passes s c past n p m zero_code h d.heard)
     (ended_facts s c past n cache held e h (h.clients n).holds (own_ended n (running s (Client n) (lines_of past)))
     (λ g u found lasts. stored_of (find_cached g (c.clients n).cache) s c past n p act call f g b m i status u e cache h d kept same told left (answered_file n n p zero_code past) (answered_reach n n p zero_code past f i up).seen
@@ -786,6 +795,127 @@ takes_other s c past n p act m reply h d is =
     (old_over cache (lines_of past) (lines_of (e ∷ past)) (λ k i b z. (skips n zero_code es).version k i b (lines.Given p ∷ lines_of past) z) (old_within x.cache cache (lines_of past) (λ k u z. (left_out (is_in_scope call) k x.cache u z).0) (h.clients n).old))
     (reached_still s c past n e h (drop_reach n n (was_given p) zero_code es past) last))
     (ended_calls s c past n p act m cache held h d (λ code x. absurd (reply_not reply code (sym is ∙ x)))) (ended_reply s c past n cache held e h) (nothing_new _ _) (λ a x z. absurd cc) refl
+
+-- ---- rights that were read
+
+none_first_by : (t : Bool) (m c : Node) (g : Fid) (u : CacheEntry) (rest : Option CacheEntry) (S : Type 0) → same_fid u.fid g ≡ t → cond t (Some u) rest ≡ None → (rest ≡ None → S) → (m ≡ c → u.fid ≡ g → ⊥) × S
+none_first_by true m c g u rest S t e w = absurd cc
+none_first_by false m c g u rest S t e w = ((λ x y. let yes : same_fid u.fid g ≡ true = ap (same_fid u.fid) (sym y) ∙ same_fid-refl u.fid in absurd cc), w e)
+
+-- none of these is of a fid that isn't found among them
+pub none_found : (m c : Node) (g : Fid) (es : List CacheEntry) → find_cached g es ≡ None → AreNone m c g es
+none_found m c g [] e = tt
+none_found m c g (u ∷ es) e = none_first_by (same_fid u.fid g) m c g u (find_cached g es) (AreNone m c g es) refl e (λ z. none_found m c g es z)
+
+abbrev pub rights_read : ℕ → Fid → ℕ → List ℕ → Line
+rights_read n f i text = lines.Read (Client n) f i Fetched (seen.AccessList text)
+
+abbrev pub rights_lines : ℕ → ℕ → Fid → ℕ → List ℕ → List CacheEntry → List Line
+rights_lines n p f i text es = lines.Given p ∷ rights_read n f i text ∷ dropped (Client n) es (last_line n zero_code)
+
+pub rights_file : (n j p : ℕ) (f : Fid) (i : ℕ) (text : List ℕ) (es : List CacheEntry) (past : List Entry) (g : Fid) → AreNone (Client n) (Client j) g es → PassesFile j g (step_entry n (rights_lines n p f i text es) []) past
+rights_file n j p f i text es past g none = record {
+  grant = record {
+    version = λ k b o x. (skips n zero_code es).version g k b (rights_read n f i text ∷ lines.Given p ∷ o) x;
+    dropped = λ q o x. (skips n zero_code es).kept q (Client j) g (rights_read n f i text ∷ lines.Given p ∷ o) none x;
+    withdrawn = λ q o x. (skips n zero_code es).withdrawn q (Client j) g (rights_read n f i text ∷ lines.Given p ∷ o) x;
+  };
+  fetched = (skips n zero_code es).fetched (Client j) g;
+}
+
+-- what the client has seen behind the read
+abbrev pub rights_seen : ℕ → ℕ → Fid → ℕ → Fid → List Entry → Reach
+rights_seen n j f i g past = record (reach (Client j) g past) { seen = raised (same_node (Client n) (Client j) && same_fid f g) i (reach (Client j) g past).seen }
+
+pub rights_reach : (n j p : ℕ) (f : Fid) (i : ℕ) (text : List ℕ) (es : List CacheEntry) (past : List Entry) (g : Fid) (k : ℕ) → (same_node (Client n) (Client j) ≡ true → same_fid f g ≡ true → i ≤ k) → Reached (Client j) g k past → Reached (Client j) g k (step_entry n (rights_lines n p f i text es) [] ∷ past)
+rights_reach n j p f i text es past g k le h =
+    let x = (skips n zero_code es).reaches (Client j) g past (rights_seen n j f i g past) k h.made (raised_up_to (same_node (Client n) (Client j) && same_fid f g) i (reach (Client j) g past).seen k (λ t. let q = both (same_node (Client n) (Client j)) (same_fid f g) t in le q.0 q.1) h.seen) in
+    record { made = x.0; seen = x.1 }
+
+rights_still : (n j p : ℕ) (f : Fid) (i : ℕ) (text : List ℕ) (es : List CacheEntry) (past : List Entry) (g : Fid) → (n ≡ j → ⊥) → PassesReach j g (step_entry n (rights_lines n p f i text es) []) past
+rights_still n j p f i text es past g ne = record {
+  both = λ k h. rights_reach n j p f i text es past g k (λ t u. absurd (not_client n j ne t)) h;
+  seen = λ k h. subst (λ (z : ℕ). z ≤ k) (sym ((skips n zero_code es).sees (Client j) g past (rights_seen n j f i g past))) (raised_up_to (same_node (Client n) (Client j) && is_zero_code zero_code) (reach (Client j) g past).made (rights_seen n j f i g past).seen k (λ t. absurd (not_client n j ne (both (same_node (Client n) (Client j)) (is_zero_code zero_code) t).0))
+      (raised_up_to (same_node (Client n) (Client j) && same_fid f g) i (reach (Client j) g past).seen k (λ t. absurd (not_client n j ne (both (same_node (Client n) (Client j)) (same_fid f g) t).0)) h));
+  made = λ h. (skips n zero_code es).makes (Client j) g past (rights_seen n j f i g past) ∙ h;
+}
+
+rights_passes : (s : Script) (c : Cell) (past : List Entry) (n p : ℕ) (m : Message) (f : Fid) (i : ℕ) (text : List ℕ) (es : List CacheEntry) → Holds s c past → Heard c p m → Passes s n (rights_lines n p f i text es) [] past
+rights_passes s c past n p m f i text es h d = record {
+  file = λ j ne g. rights_file n j p f i text es past g (none_of_other n j g es ne);
+  reach = λ j ne g. rights_still n j p f i text es past g ne;
+  act = λ j ne. record { runs = λ s o. (skips n zero_code es).runs s j (rights_read n f i text ∷ lines.Given p ∷ o) ne ∙ reads_by_other n j f (seen.AccessList text) (running s (Client j) o) ne; begins = (skips n zero_code es).begins (Client j) };
+  last = λ g o. (skips n zero_code es).last g (rights_read n f i text ∷ lines.Given p ∷ o);
+  back = λ g k b o x. (skips n zero_code es).back g k b (rights_read n f i text ∷ lines.Given p ∷ o) x;
+  new = λ key o x. (skips n zero_code es).new key (rights_read n f i text ∷ lines.Given p ∷ o) x;
+  clock = λ o. (skips n zero_code es).clock (rights_read n f i text ∷ lines.Given p ∷ o);
+  home = λ id o x. (skips n zero_code es).home s id (rights_read n f i text ∷ lines.Given p ∷ o) x;
+  boot = λ o. (skips n zero_code es).boot (rights_read n f i text ∷ lines.Given p ∷ o);
+  plain = record { up = (skips n zero_code es).ups; still = (skips n zero_code es).stills; oweless = (skips n zero_code es).owelesss; unchanging = (skips n zero_code es).unchangings };
+  ideal = λ id. ideal_still id (step_entry n (rights_lines n p f i text es) []) past refl (skips n zero_code es).change;
+  dull = heard_dull s c past p m h d;
+}
+
+-- the answer is good behind the drops
+rights_good : (s : Script) (n : ℕ) (a : Going) (past : List Entry) (es : List CacheEntry) (own : List Line) → running s (Client n) (own ++ lines_of past) ≡ Some a → next a ≡ answers 0 → AreGood s (actors.Node (Client n)) past own (dropped (Client n) es (last_line n zero_code))
+rights_good s n a past [] own runs done = ((refl, record { act = a; runs = runs; cause = inr (inl (record { number = 0; is = refl; by = done })) }), tt)
+rights_good s n a past (u ∷ es) own runs done = (refl, rights_good s n a past es (lines.Drop (Client n) u.fid ∷ own) runs done)
+
+walked_done : (k clock : ℕ) (a : Going) (cache : List CacheEntry) (code : ℕ) → next a ≡ answers code → walked k clock a cache ≡ ClientRow.stays a cache
+walked_done zero clock a cache code e = refl
+walked_done (suc k) clock a cache code e = ap (ClientRow.walked_by (walked k clock) clock a cache) e
+
+not_lt : (x i : ℕ) → nat_lt x i ≡ false → i ≤ x
+not_lt x i e = ltb-false x i e
+
+not_older_by : (t b d : Bool) (x i : ℕ) → nat_lt x i ≡ b → t ≡ true → (t && (b || d)) ≡ false → i ≤ x
+not_older_by true true d x i lt e h = absurd cc
+not_older_by true false d x i lt e h = not_lt x i lt
+not_older_by false b d x i lt e h = absurd cc
+
+not_false : (b : Bool) → not b ≡ true → b ≡ false
+not_false true e = absurd cc
+not_false false e = refl
+
+pub rights_goes : (s : Script) (c : Cell) (past : List Entry) (n p : ℕ) (act : Going) (m : Message) (f : Fid) (i release : ℕ) (text : List ℕ) → (h : Holds s c past) → Due c h.floors past n p act m → ((code : Code) → m.carried ≡ carried.Refusal code → ⊥) → asked act ≡ calls.FetchAcl f → IsGot n f i text past → Goes s past (client_moves c n (takes_rights (Client n) (c.clients n) c.clock p act f i release text))
+rights_goes s c past n p act m f i release text h d not_refused asks fits =
+    let x : ClientState = c.clients n in
+    let a : Going = with_read f (seen.AccessList text) act in
+    let done : next a ≡ answers 0 = rights_done act f text asks in
+    let old : CacheEntry → Bool = is_older f i release in
+    let es : List CacheEntry = filter old x.cache in
+    let cache : List CacheEntry = filter (λ e. not (is_older f i release e)) x.cache in
+    let front : List Line → List Line = λ ls. read_lines (Client n) p (record { fid = f; index = i; source = Fetched; body = seen.AccessList text }) (dropped (Client n) es ls) in
+    let e : Entry = step_entry n (rights_lines n p f i text es) [] in
+    let held : ℕ = (h.floors n).held in
+    let g : Ghost = holding h.floors n held in
+    let shut : volume_changed (asked act) ≡ None = ap volume_changed asks in
+    let none : (k : Fid) → (reach (Client n) k past).made ≡ 0 = λ k. (h.clients n).made act d.running k (no_scope (asked act) k shut) (inl shut) in
+    let last : (k : Fid) → last_version k (lines_of (e ∷ past)) ≡ last_version k (lines_of past) = λ k. (skips n zero_code es).last k _ in
+    let same : goes_on (Client n) x front (walked (most_reads a) c.clock a cache) ≡ ends_step (Client n) x cache (λ ls. front (looked (Client n) [] ls)) zero_code = ap (goes_on (Client n) x front) (walked_done (most_reads a) c.clock a cache 0 done) ∙ ap (goes_by (Client n) x front (ClientRow.stays a cache)) done in
+    subst (λ (st : Step ClientState). Goes s past (client_moves c n st)) (sym same)
+    (moves s c past n g (record { state = ended x cache; lines = rights_lines n p f i text es; sent = [] }) h (client_ended s x cache (h.own n) (apart_filter (λ y. not (is_older f i release y)) x.cache (h.own n).apart))
+    (tt, ((refl, record { whole = ((fits.is, fits.told), fits.been); not_older = fits.reached; was = inr fits.was }), rights_good s n a past es (rights_read n f i text ∷ lines.Given p ∷ []) (own_read n f (seen.AccessList text) act (running s (Client n) (lines_of past)) ((h.clients n).runs act d.running)) done))
+    (rights_passes s c past n p m f i text es h d.heard)
+    (ended_facts s c past n cache held e h (h.clients n).holds (ended_running s n zero_code es (rights_read n f i text ∷ lines.Given p ∷ lines_of past))
+    (λ k u found lasts.
+    let was = found_filter (λ y. not (is_older f i release y)) k x.cache u (h.own n).apart found in
+    let young : is_older f i release u ≡ false = not_false (is_older f i release u) was.1 in
+    let own : same_fid u.fid k ≡ true = found-cached-fid k x.cache u was.0 in
+    let file : PassesFile n k e past = rights_file n n p f i text es past k (none_found (Client n) (Client n) k es (found_out old k x.cache u (h.own n).apart was.0 young)) in
+    current_over n k u (view h.floors c n) (view_after c n g (ended x cache)) e past (le_refl _) file
+    (ended_stands h.floors c past n cache g e k u.index
+    (λ y. (rights_reach n n p f i text es past k u.index (λ t z. not_older_by (same_fid u.fid f) (nat_lt u.index i) (nat_lt u.release release) u.index i refl (ap (same_fid u.fid) (same_fid-true f k z ∙ sym (same_fid-true u.fid k own)) ∙ same_fid-refl u.fid) young) (record { made = le_trans (le_of_eq (none k)) (omega arith); seen = y })).seen)
+    (stays n k e past file.grant (last k)) (λ b is sc ran. no_scope (asked b) k (ap (λ (z : Going). volume_changed (asked z)) (some_of b act (sym is ∙ d.running)) ∙ shut) sc))
+    ((h.clients n).current k u was.0 lasts))
+    (old_over cache (lines_of past) (lines_of (e ∷ past)) (λ k j b z. (skips n zero_code es).version k j b (rights_read n f i text ∷ lines.Given p ∷ lines_of past) z) (old_within x.cache cache (lines_of past) (λ k u z. (found_filter (λ y. not (is_older f i release y)) k x.cache u (h.own n).apart z).0) (h.clients n).old))
+    (λ k. subst (λ (o : Option Version). Reached (Client n) k (index_in o) (e ∷ past)) (sym (last k)) (rights_reach n n p f i text es past k (index_in (last_version k (lines_of past))) (λ t z. subst (λ (q : Fid). i ≤ index_in (last_version q (lines_of past))) (same_fid-true f k z) (h.top f i fits.is fits.told)) ((h.clients n).reached k))))
+    (ended_calls s c past n p act m cache held h d (λ code z. absurd (not_refused code z))) (ended_reply s c past n cache held e h) (nothing_new _ _) (λ b y z. absurd cc) refl)
+
+pub list_goes : (s : Script) (c : Cell) (past : List Entry) (n p : ℕ) (act : Going) (call : FsCall) (head : Head) (text : List ℕ) (status : AfsFetchStatus) (sync : AfsVolSync) → (h : Holds s c past) → Due c h.floors past n p act (record { head = head; carried = carried.Reply (tell.File (replies.FetchAcl text status sync)) })
+    → asked act ≡ call → FitsList n (spot (view h.floors c n)) (record { head = head; carried = carried.Reply (tell.File (replies.FetchAcl text status sync)) }) past text status call → Goes s past (client_moves c n (takes_list (Client n) (c.clients n) c.clock p act text status sync call))
+list_goes s c past n p act (calls.FetchAcl f) head text status sync h d same fits = rights_goes s c past n p act _ f status.sync_counter sync.release text h d (λ code z. reply_not (replies.FetchAcl text status sync) code z) same fits
+list_goes s c past n p act call head text status sync h d same fits = subst (λ (k : FsCall). Goes s past (client_moves c n (takes_plain (Client n) (c.clients n) p k))) same (takes_other s c past n p act _ (replies.FetchAcl text status sync) h d refl)
 
 -- ---- a boot notice
 
@@ -888,6 +1018,7 @@ set_goes s c past n p act call status m reply h d is told same fits = plain_goes
 
 pub takes_goes : (s : Script) (c : Cell) (past : List Entry) (n p : ℕ) (act : Going) (call : FsCall) (head : Head) (reply : FsReply) → (h : Holds s c past) → Due c h.floors past n p act (record { head = head; carried = carried.Reply (tell.File reply) }) → is_spent (c.clients n) act ≡ false → asked act ≡ call → Goes s past (client_moves c n (takes (Client n) (c.clients n) c.clock p act call reply))
 takes_goes s c past n p act call head (replies.FetchData contents status callback sync) h d fresh same = data_goes s c past n p act call head contents status callback sync h d fresh same (subst (λ (x : FsCall). FitsData (c.clients n).spoiled n (spot (view h.floors c n)) (record { head = head; carried = carried.Reply (tell.File (replies.FetchData contents status callback sync)) }) past contents status callback x) same d.answers.fits)
+takes_goes s c past n p act call head (replies.FetchAcl text status sync) h d fresh same = list_goes s c past n p act call head text status sync h d same (subst (λ (x : FsCall). FitsList n (spot (view h.floors c n)) (record { head = head; carried = carried.Reply (tell.File (replies.FetchAcl text status sync)) }) past text status x) same d.answers.fits)
 takes_goes s c past n p act call head (replies.FetchStatus status callback sync) h d fresh same = status_goes s c past n p act call head status callback sync h d fresh same (subst (λ (x : FsCall). FitsShown (c.clients n).spoiled n (spot (view h.floors c n)) (record { head = head; carried = carried.Reply (tell.File (replies.FetchStatus status callback sync)) }) past status callback x) same d.answers.fits)
 takes_goes s c past n p act call head (replies.StoreData status sync) h d fresh same = set_goes s c past n p act call status _ (replies.StoreData status sync) h d refl refl same (subst (λ (x : FsCall). FitsSet n (spot (view h.floors c n)) (record { head = head; carried = carried.Reply (tell.File (replies.StoreData status sync)) }) past status x) same d.answers.fits)
 takes_goes s c past n p act call head (replies.StoreAcl status sync) h d fresh same = set_goes s c past n p act call status _ (replies.StoreAcl status sync) h d refl refl same (subst (λ (x : FsCall). FitsSet n (spot (view h.floors c n)) (record { head = head; carried = carried.Reply (tell.File (replies.StoreAcl status sync)) }) past status x) same d.answers.fits)

@@ -6,7 +6,7 @@ use Rattle.afs_num.specs.Fids.{same_fid}
 use Rattle.afs_num.specs.declared.types.Fid.{Fid}
 use Rattle.afs_num.specs.declared.histories.Body.{Body}
 use Rattle.afs_num.specs.declared.histories.ReadStatus.{ReadStatus}
-use Rattle.afs_law.proofs.Basics.{same_fid-true, found-cached-fid, found-refreshed, found-first}
+use Rattle.afs_law.proofs.Basics.{same_fid-true, found-refreshed}
 use Rattle.afs_law.proofs.Facts.{AreApart}
 use Rattle.afs_rows.specs.ClientRow.{find_cached, used_first, is_trusted, refreshed, joined, put_entry}
 use Rattle.afs_rows.specs.States.{CacheEntry}
@@ -103,3 +103,16 @@ refreshed_fid clock f i t b x = refreshed_fid_by (same_fid x.fid f && is_trusted
 pub apart_refreshed : (clock : ℕ) (f : Fid) (i : ℕ) (t : ReadStatus) (b : Option Body → Option Body) (cache : List CacheEntry) → AreApart cache → AreApart (map (refreshed clock f i t b) cache)
 apart_refreshed clock f i t b [] a = tt
 apart_refreshed clock f i t b (x ∷ cache) a = (found-refreshed clock f (refreshed clock f i t b x).fid i t b cache ∙ ap (option_map (refreshed clock f i t b)) (ap (λ (g : Fid). find_cached g cache) (refreshed_fid clock f i t b x) ∙ a.0), apart_refreshed clock f i t b cache a.1)
+
+found_out_by : (t b : Bool) (p : CacheEntry → Bool) (f : Fid) (x u : CacheEntry) (rest old : List CacheEntry) → same_fid x.fid f ≡ t → p x ≡ b → p u ≡ false → find_cached x.fid rest ≡ None → (find_cached f old ≡ Some u → find_cached f rest ≡ None) → cond t (Some x) (find_cached f old) ≡ Some u → find_cached f (cond b (x ∷ rest) rest) ≡ None
+found_out_by true true p f x u rest old t b nay none ih e =
+    let yes : p u ≡ true = subst (λ (o : Option CacheEntry). HoldsOf p o) e b in
+    absurd cc
+found_out_by true false p f x u rest old t b nay none ih e = ap (λ (g : Fid). find_cached g rest) (sym (same_fid-true x.fid f t)) ∙ none
+found_out_by false true p f x u rest old t b nay none ih e = ap (λ (z : Bool). cond z (Some x) (find_cached f rest)) t ∙ ih e
+found_out_by false false p f x u rest old t b nay none ih e = ih e
+
+-- where the entry of a fid isn't among those, none is
+pub found_out : (p : CacheEntry → Bool) (f : Fid) (cache : List CacheEntry) (u : CacheEntry) → AreApart cache → find_cached f cache ≡ Some u → p u ≡ false → find_cached f (filter p cache) ≡ None
+found_out p f [] u a e nay = absurd cc
+found_out p f (x ∷ cache) u a e nay = found_out_by (same_fid x.fid f) (p x) p f x u (filter p cache) cache refl refl nay (none_filter p x.fid cache a.0) (λ z. found_out p f cache u a.1 z nay) e

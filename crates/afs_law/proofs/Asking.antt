@@ -1,10 +1,8 @@
 use Rattle.afs_num.specs.declared.types.Node.{Node}
 use Rattle.afs_rows.specs.States.{Location, Gift, CacheEntry, Seat}
-use Rattle.afs_law.proofs.Basics.{guest, at_put, found-first, Each, IfCall, ByClient, OfClient, by_client, both, same_fid-true, same_node-true, same_node-refl, node_apart, client_number, up_to_same, up_to_next, next_not, below_not, at_puts, each_map, if_call, raised_up_to, some_of, IfBack, IfDone, same_key-refl, OfCall, UpTo}
-use Rattle.afs_history.specs.declared.acts.Act.{Act}
-use Rattle.std.proofs.Common.{◌≡◌, ℕ, ◌+◌, ◌≤◌, ◌⊎◌, inl, inr, Bool, true, false, cond, List, [], ◌∷◌, Option, Some, None, refl, sym, ap, subst, ◌∙◌, arith, nat_eq, eqb-true, ◌++◌}
+use Rattle.afs_law.proofs.Basics.{guest, at_put, found-first, Each, IfCall, ByClient, OfClient, by_client, both, same_node-true, same_node-refl, node_apart, client_number, up_to_same, up_to_next, next_not, below_not, at_puts, each_map, if_call, raised_up_to, some_of, IfBack, IfDone, same_key-refl, OfCall, UpTo}
+use Rattle.std.proofs.Common.{◌≡◌, ℕ, ◌+◌, ◌≤◌, ◌⊎◌, inl, inr, Bool, true, false, cond, List, [], ◌∷◌, Option, Some, None, refl, sym, ap, subst, ◌∙◌, nat_eq, eqb-true, ◌++◌}
 use Rattle.std.specs.Prelude.{◌&&◌}
-use Rattle.afs_num.specs.Fids.{same_fid}
 use Rattle.afs_num.specs.Nodes.{same_node}
 use Rattle.afs_num.specs.declared.types.Code.{Code}
 use Rattle.afs_num.specs.declared.types.Fid.{Fid}
@@ -16,30 +14,29 @@ use Rattle.afs_num.specs.declared.messages.Message.{Message}
 use Rattle.afs_ideal.specs.Operations.{volume_changed}
 use Rattle.afs_law.proofs.Backing.{Plain, backed_plain, seated_over, plain_step}
 use Rattle.afs_law.proofs.Edits.{index_in, fid_at, sound_same}
-use Rattle.afs_law.proofs.Facts.{AreApart, IsClient, back_seat, Ghost, Seen, IsAged, server_boot, View, view_of, view, desk, last_key, LastRan, Reached, ReplyFact, ClientFacts, IsUntrusted, IsSafe, CallFact, CallIn, Holds, Goes, Reading, InScope, IsOne}
+use Rattle.afs_law.proofs.Facts.{AreApart, IsClient, back_seat, Ghost, IsAged, server_boot, View, view_of, view, desk, last_key, LastRan, ReplyFact, ClientFacts, IsUntrusted, IsSafe, CallFact, CallIn, Holds, Goes, Reading, InScope, IsOne}
 use Rattle.afs_law.proofs.Owing.{BackIn, DoneIn, SeatedIn}
-use Rattle.afs_law.proofs.Passing.{old_over, PassesGrant, PassesFile, PassesAct, PassesReach, stays, PassesBoth, PassesSeen, current_over, reply_over, kept_over, client_still, News, more_sent, fallen_over, one_more}
+use Rattle.afs_law.proofs.Passing.{old_over, PassesFile, PassesAct, PassesReach, stays, PassesBoth, PassesSeen, current_over, reply_over, kept_over, client_still, News, more_sent, fallen_over, one_more}
 use Rattle.afs_law.proofs.Serving.{told_file, told_reach, told_act, reached_still}
 use Rattle.afs_law.proofs.Turning.{call_good}
 use Rattle.afs_rows.specs.Callbacks.{put, replies_of}
 use Rattle.afs_rows.specs.ClientRow.{volume_asked, server_at, ended, call_by, boot_of, used_first, find_cached, call_of, call_head, call_message, asking, calls_step, ignores}
-use Rattle.afs_rows.specs.Going.{call_for, Need, reads, reads_status, reads_statuses, reads_rights, asks_for, gives_back, answers, next, asked, Going, began, with_read, read_on, ClientState}
-use Rattle.afs_law.specs.Ideal.{last_version, HasVersion, Accepts, clock_of, reach, raised, is_zero_code, volume_after, call_in, call_under}
+use Rattle.afs_rows.specs.Going.{call_for, Need, reads, reads_status, reads_statuses, reads_rights, asks_for, gives_back, answers, next, asked, Going, with_read, read_on, ClientState}
+use Rattle.afs_law.specs.Ideal.{last_version, HasVersion, Accepts, clock_of, reach, is_zero_code, volume_after, call_in, call_under}
 use Rattle.afs_law.specs.Legal.{IsNew, AreGood, AreGoodReplies}
 use Rattle.afs_history.specs.declared.lines.Line.{Line}
 use Rattle.afs_law.specs.Past.{onto, lines_of, sent_of, given_message, running, CalledSince, IsCallUnder, has_begun, called_key, is_called, same_key, Sends}
-use Rattle.afs_rows.specs.Runs.{the_server, locations, Entry, Cell, message_at, client_moves}
+use Rattle.afs_rows.specs.Runs.{Entry, message_at}
+use Rattle.afs_law.proofs.OneCell.{the_server, Cell, client_moves}
 use Rattle.afs_rows.specs.Scopes.{is_volume}
 use Rattle.afs_rows.specs.Steps.{Step}
 use Rattle.afs_num.specs.declared.scripts.Script.{Script}
 use Rattle.afs_num.specs.declared.histories.Body.{Body}
 use Rattle.afs_num.specs.declared.histories.ReadBody.{ReadBody}
-use Rattle.afs_num.specs.declared.histories.ReadSource.TheVariants.{Cached, Fetched}
 use Rattle.afs_num.specs.declared.histories.Version.{Version}
 use Rattle.std.proofs.Math.Nat.{le_refl}
 use Rattle.afs_num.specs.declared.messages.Carried.{Carried}
 use Rattle.afs_num.specs.declared.histories.Actor.TheVariants as actors
-use Rattle.afs_history.specs.declared.acts.Act.TheVariants as acts
 use Rattle.afs_num.specs.declared.calls.FsCall.TheVariants as calls
 use Rattle.afs_num.specs.declared.messages.Carried.TheVariants as carried
 use Rattle.afs_num.specs.declared.messages.Call.TheVariants as ask

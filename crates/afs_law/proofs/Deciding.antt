@@ -21,18 +21,19 @@ use Rattle.afs_law.proofs.Owing.{BackedIn, IsNumberIn, DoneIn, is_held, WaitedBy
 use Rattle.afs_law.proofs.Passing.{ran_over, kept_over, replies_over, waiting_over, fallen_over}
 use Rattle.afs_law.proofs.Pumping.{no_news, pumped_news, starts_held, news_break}
 use Rattle.afs_law.proofs.Resting.{fall_backed, Rests, fault_rests, full_rests, alone, rests, still, voids, unheard_still, fallen_still, server_crash_rests, cut_entry, cut_rests}
-use Rattle.afs_law.proofs.Saving.{versions_lines, versioned_front, saves_clock, Way, rises_to, faults, fills, saved_lines, saved_sent, saved_entry, given_on, Change', change_at, stock_after, NewEntry, saved_reply, saves_change_good, saves_holds, versions_good, saves_boot, saves_goes, top_number, reply_saved}
+use Rattle.afs_law.proofs.Saving.{versions_lines, versioned_front, saves_clock, Way, rises_to, faults, fills, saved_lines, saved_sent, saved_entry, given_on, Change', change_at, stock_after, NewEntry, saves_change_good, saves_holds, versions_good, saves_boot, saves_goes, top_number, reply_saved}
 use Rattle.afs_law.proofs.Serving.{shows_goes, answered_goes, noticed_goes, nothing_done, quiet, acts_alone, still_loads, given_plain, Loads, up_backed, seats_of, Gives, noted, Dull, at_told, client_head, Now, call_at, taken, seats_after, views_after, ran_now, served_cell, unheard_later, refuses_goes, server_adds, server_does, IsRead, answer_in, AllSeen, IsSeen, IsLook}
 use Rattle.afs_law.proofs.Turning.{Pumps, pumps, put_call, break_good, reply_key}
 use Rattle.afs_law.specs.Breaks.{HasStopped, last_number, AllOwes}
-use Rattle.afs_rows.specs.Callbacks.{retries, quits, Turn, replies_of, pumped, expired, turn_for, no_turn, repeats_by, key_answered, is_seat_of, risen_turn, alls, put, put_at, held_under, asked_again, is_ready, is_reply_to}
+use Rattle.afs_rows.specs.Callbacks.{retries, quits, Turn, replies_of, pumped, expired, turn_for, no_turn, repeats_by, key_answered, is_seat_of, alls, put_at, held_under, asked_again, is_ready, is_reply_to}
 use Rattle.afs_rows.specs.ClientRow.{boot_of}
 use Rattle.afs_rows.specs.Going.{asked}
 use Rattle.afs_law.specs.Ideal.{is_zero_code, clock_of, volume_after}
 use Rattle.afs_law.specs.Legal.{IsChanging, code_given, AreGood, IsNew, HasChange, versions_first, IsTold, answer_at, answer_on, GoodRestart, op_on, all_on, statuses_on}
 use Rattle.afs_history.specs.declared.lines.Line.{Line}
 use Rattle.afs_law.specs.Past.{onto, lines_of, sent_of, given_message, called_key, IsCallUnder}
-use Rattle.afs_rows.specs.Runs.{begun_by_disk, Entry, Cell, message_at, Armed, unarmed, Luck, Blow, struck, lowered, Fall, at_rest, in_step, in_boot, settled, Outcome, comes_up, fails_early, fails_midway, is_full, server_rises, server_ends, server_falls, blow_line, server_stopped, server_restarted, server_served, server_given, back_timed, server_timed, server_wakes, Moved, server_moves, the_server}
+use Rattle.afs_rows.specs.Runs.{Entry, message_at, Armed, unarmed, Luck, Blow, struck, lowered, Fall, at_rest, in_step, in_boot, settled, Outcome, comes_up, fails_early, fails_midway, is_full}
+use Rattle.afs_law.proofs.OneCell.{begun_by_disk, Cell, server_rises, server_ends, server_falls, blow_line, server_stopped, server_restarted, server_served, server_given, back_timed, server_timed, server_wakes, Moved, server_moves, the_server}
 use Rattle.afs_rows.specs.ServerRow.{begun_after, begun_before, not_served, serves_call, shows, Reading, no_room, revived, device_calls, promise_ticks, decides, Decision, drops, tells_boot, repeats, refuses, saves, admits, called, hears, boot_told, versioned, Change, decided, in_volume, with_volume, Sight, lasting_started, sights, reading_in, seat_placed, sight_by, sight_in, no_volume, several, saved}
 use Rattle.afs_rows.specs.States.{Seat, ServerState, Backs, Held, BackCall, volume_in, Lasting}
 use Rattle.afs_model.specs.Calls.{Admitted, call_seat, call_seated}

@@ -3,7 +3,7 @@ use Rattle.afs_law.proofs.Facts.{FitsList}
 use Rattle.afs_law.proofs.Passing.{was_onto}
 use Rattle.afs_law.proofs.Apart.{apart_filter, found_filter}
 use Rattle.afs_law.proofs.Asking.{call_is, Passes, Fresh, KeepsSeat, moves_back, moves, old_seat, step_entry, view_after, views_after, Heard, heard_dull, told_passes, quiet, reply_still, safe_cache}
-use Rattle.afs_law.proofs.Basics.{own_seat, same_node-refl, same_fid-true, same_fid-refl, same_node-true, client_number, OfClient, OfServer, ByClient, ByServer, by_server, server_any, LastSeat, some_of, kept_last}
+use Rattle.afs_law.proofs.Basics.{own_seat, same_node-refl, same_fid-true, same_fid-refl, client_number, OfClient, OfServer, ByClient, ByServer, by_server, server_any, LastSeat, some_of, kept_last}
 use Rattle.afs_law.proofs.Facts.{IsReply, IsFetched, FitsShown, back_seat, IsKnown, View, view, Spot, spot, Fits, ReplyFact, IsAged, IsLastCall, CallIn, Origin, IsActs, ToClient, server_boot, Holds, Goes, FitsData, FitsSet, FitsReply, IsOne}
 use Rattle.afs_law.proofs.Passing.{old_over, old_within, whole_over, body_kept, PassesGrant, PassesFile, PassesReach, current_over, stands_over, stays, kept_over, grant_over, cause_over, onto_front, client_still}
 use Rattle.afs_model.specs.Calls.{call_seat, call_seated, Admitted}
@@ -17,14 +17,15 @@ use Rattle.afs_law.proofs.Pumping.{no_call, no_notice, of_reply_any}
 use Rattle.afs_law.proofs.Serving.{told_file, told_reach, told_act, reached_still}
 use Rattle.afs_law.specs.Breaks.{HasDrop, OweAt, CarriesBreak, NamesIn}
 use Rattle.afs_rows.specs.Callbacks.{breaks_call}
-use Rattle.afs_rows.specs.ClientRow.{find_cached, ignores, is_named, names_act, is_waiting, is_spoiled_by_all, drop_line, done, without_fids, without_server, replies_step, refused_with, told_step, breaks, runs_call, runs_carried, admits_call, called, whole, names_call, body_told, call_of, status_told}
+use Rattle.afs_rows.specs.ClientRow.{find_cached, is_named, names_act, is_waiting, is_spoiled_by_all, drop_line, done, without_fids, without_server, replies_step, refused_with, told_step, breaks, admits_call, called, whole, names_call, body_told, call_of, status_told}
 use Rattle.afs_rows.specs.Going.{Going, asked, ClientState}
 use Rattle.afs_law.specs.Grants.{has_fetched, IsWithdrawn, IsDropped, since}
 use Rattle.afs_law.specs.Ideal.{last_version, HasVersion, Accepts, clock_of, reach, Reach, reach_over, change_key, changed_under, volume_after}
 use Rattle.afs_law.specs.Legal.{IsNew, AreGood, GoodReply}
 use Rattle.afs_history.specs.declared.lines.Line.{Line}
 use Rattle.afs_law.specs.Past.{onto, lines_of, sent_of, running, has_begun}
-use Rattle.afs_rows.specs.Runs.{the_server, Entry, Cell, client_moves}
+use Rattle.afs_rows.specs.Runs.{Entry}
+use Rattle.afs_law.proofs.OneCell.{the_server, Cell, client_moves}
 use Rattle.afs_rows.specs.States.{CacheEntry, Seat}
 use Rattle.afs_rows.specs.Steps.{Step}
 use Rattle.std.proofs.Common.{◌≡◌, ℕ, ◌≤◌, ◌⊎◌, inl, inr, Bool, true, false, cond, nat_eq, not, List, [], ◌∷◌, map, Option, Some, None, refl, sym, ap, subst, ◌∙◌}

@@ -13,7 +13,8 @@ use Rattle.afs_law.specs.Ideal.{is_zero_code, last_version, IsLast, WasLast, Has
 use Rattle.afs_law.specs.Legal.{IsNew, Cause, AreGood, AreGoodReplies}
 use Rattle.afs_history.specs.declared.lines.Line.{Line}
 use Rattle.afs_law.specs.Past.{is_of_act, lines_of, sent_of, called_key, running, Called, CalledSince, IsUnheard, Ran}
-use Rattle.afs_rows.specs.Runs.{the_server, locations, Entry, Cell, Moved, Fall, at_rest, in_step, in_boot, message_at}
+use Rattle.afs_rows.specs.Runs.{locations, Entry, Fall, at_rest, in_step, in_boot, message_at}
+use Rattle.afs_law.proofs.OneCell.{the_server, Cell, Moved}
 use Rattle.afs_rows.specs.Scopes.{is_in_scope}
 use Rattle.afs_rows.specs.ServerRow.{reply_head}
 use Rattle.afs_rows.specs.States.{CacheEntry, Seat, ServerState, Lasting, volume_in}

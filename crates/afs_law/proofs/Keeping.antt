@@ -5,22 +5,22 @@ use Rattle.afs_records.proofs.Kept.{change_kept}
 use Rattle.afs_records.specs.Laws.{CanBeStored}
 use Rattle.afs_num.specs.declared.types.Head.{Head}
 -- What a server's disk keeps: the callers by their numbers, and the volumes with what stands beside them.
-use Rattle.std.proofs.Common.{◌≡◌, ℕ, Bool, true, false, cond, eqb, nat_eq, nat_lt, List, [], ◌∷◌, Option, Some, None, refl, sym, ap, subst, ◌∙◌, arith, eq-eqb, eqb-true, ◌+◌}
-use Rattle.std.specs.Prelude.{◌&&◌, not, filter, map, is_some, ⊤}
-use Rattle.std.specs.List.{list_all, AllByRecursion}
+use Rattle.std.proofs.Common.{◌≡◌, ℕ, Bool, true, false, cond, eqb, nat_eq, nat_lt, List, [], ◌∷◌, Option, Some, refl, sym, ap, subst, ◌∙◌, eq-eqb, eqb-true, ◌+◌}
+use Rattle.std.specs.Prelude.{filter}
+use Rattle.std.specs.List.{AllByRecursion}
 use Rattle.std.specs.Option.{option_map}
 use Rattle.afs_num.specs.Nodes.{same_node, node_number, node_of, IsNode}
 use Rattle.afs_num.specs.declared.types.Node.{Node}
 use Rattle.afs_ideal.specs.Tables.{Table, get, set}
-use Rattle.afs_ideal.specs.Volumes.{Vnode, Volume, Edit, amends, makes, frees, edit_number, edited, edited_all, counted}
-use Rattle.afs_law.proofs.Basics.{same_node-true, same_node-refl, node_apart, some_of}
+use Rattle.afs_ideal.specs.Volumes.{Volume, edited_all, counted}
+use Rattle.afs_law.proofs.Basics.{same_node-true, same_node-refl, some_of}
 use Rattle.afs_law.proofs.Edits.{get-set}
 use Rattle.afs_rows.specs.Runs.{first_stored}
 use Rattle.afs_rows.specs.ServerRow.{seat_placed, is_unflagged, Change, record_of, lasting_after, lasting_started, change_reply_to, key_of, seat_for}
 use Rattle.afs_rows.specs.States.{Seat, kept_of, kept_by_number, volume_in, Lasting, durable_of}
 use Rattle.afs_model.specs.Calls.{call_seat}
 use Rattle.afs_records.specs.Changes.{at_set_up, keeping, boot_record}
-use Rattle.afs_records.specs.Durable.{Stored, Kept, is_flagged, folded}
+use Rattle.afs_records.specs.Durable.{Stored, Kept, folded}
 
 -- ---- callers by their numbers
 

@@ -1,20 +1,16 @@
 use Rattle.afs_law.specs.OneServer.{IsOneServer}
-use Rattle.std.proofs.Common.{◌≡◌, ℕ, Option, List, [], ◌∷◌, ◌++◌, map, refl, sym, ap, subst, ◌∙◌}
+use Rattle.std.proofs.Common.{◌≡◌, Option, List, [], ◌∷◌, ◌++◌, refl, ap, subst, ◌∙◌}
 use Rattle.afs_num.specs.declared.types.Key.{Key}
 use Rattle.afs_num.specs.declared.scripts.Script.{Script}
-use Rattle.afs_ideal.specs.Tables.{Table, get}
-use Rattle.afs_ideal.specs.Volumes.{Volume}
 use Rattle.afs_law.proofs.Law.{legal, first_passed}
-use Rattle.afs_rows.specs.Callbacks.{first_backs}
 use Rattle.afs_law.specs.Ideal.{set_up, change_in}
 use Rattle.afs_law.specs.Legal.{IsNot, IsNew, IsGood, AreGood, LegalAfter, Legal}
 use Rattle.afs_history.specs.declared.lines.Line.{Line}
 use Rattle.afs_law.specs.Once.{IsFirst, AreOnce, past_of, ChangesOnce}
 use Rattle.afs_law.specs.Past.{onto, lines_on, lines_of}
-use Rattle.afs_rows.specs.States.{Location}
-use Rattle.afs_rows.specs.Runs.{Entry, Cell, RunsTo}
-use Rattle.afs_num.specs.declared.scripts.VolumeLine.{VolumeLine}
-use Rattle.std.specs.Prelude.{is_some, Some, None, false}
+use Rattle.afs_rows.specs.Runs.{Entry}
+use Rattle.afs_law.proofs.OneCell.{Cell, RunsTo}
+use Rattle.std.specs.Prelude.{Some, None}
 use Rattle.afs_num.specs.declared.histories.Actor.{Actor}
 use Rattle.afs_history.specs.declared.lines.Line.TheVariants as lines
 

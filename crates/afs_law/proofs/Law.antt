@@ -10,7 +10,7 @@ use Rattle.afs_law.proofs.Backing.{all_lines, is_oweless, no_owe, is_still, live
 use Rattle.afs_law.proofs.Basics.{same_fid-refl, same_fid-true, some_of, both}
 use Rattle.afs_law.proofs.Deciding.{server_times, server_wakes_goes, given_goes, stops_goes, restarts_goes}
 use Rattle.afs_law.proofs.Edits.{one_more, Ones, index_in, fid_at, live, SoundIn, sound_same, Tops, get-set, none_has}
-use Rattle.afs_law.proofs.Facts.{IsFine, AreFine, server_boot, Reached, Holds, Goes, AreSound}
+use Rattle.afs_law.proofs.Facts.{IsFine, server_boot, Reached, Holds, Goes}
 use Rattle.afs_law.proofs.Naming.{first_fine}
 use Rattle.afs_law.proofs.Resting.{voids, ticks_goes, stop_set, fail_set}
 use Rattle.afs_law.proofs.Waiting.{waits_goes, client_stops_goes, client_starts_goes}
@@ -20,7 +20,8 @@ use Rattle.afs_law.specs.Legal.{IsNew, LegalAfter, Legal}
 use Rattle.afs_history.specs.declared.lines.Line.{Line}
 use Rattle.afs_law.specs.OneServer.{AreAtServer, IsOneServer}
 use Rattle.afs_law.specs.Past.{running, onto, lines_of, given_message, IsCallUnder}
-use Rattle.afs_rows.specs.Runs.{locations_in, location_by, the_server, Entry, Cell, message_at, Moved, Armed, Fall, Luck, waits, ticks, client_stops, client_starts, stops, starts_again, sets_stop, sets_fail, server_armed, Input, begins, gives, nothing, moved, given_to, given_at, Leads, start, RunsTo, server_waits, wakes, first_volume, first_volumes, unless_there}
+use Rattle.afs_rows.specs.Runs.{locations_in, location_by, Entry, message_at, Armed, Fall, Luck, first_volume, first_volumes, unless_there}
+use Rattle.afs_law.proofs.OneCell.{the_server, Cell, Moved, waits, ticks, client_stops, client_starts, stops, starts_again, sets_stop, sets_fail, server_armed, Input, begins, gives, nothing, moved, given_to, given_at, Leads, start, RunsTo, server_waits, wakes}
 use Rattle.std.proofs.Common.{find, ◌≡◌, ℕ, ◌+◌, ◌≤◌, ◌⊎◌, inl, inr, Bool, true, false, cond, nat_eq, List, [], ◌∷◌, ◌++◌, Option, Some, None, refl, sym, ap, subst, ◌∙◌, arith, eqb-true, eqb, eq-eqb, le_of_eq}
 use Rattle.std.specs.Prelude.{is_some, ⊤}
 use Rattle.afs_num.specs.Fids.{same_fid}

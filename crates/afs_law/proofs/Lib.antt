@@ -1,4 +1,5 @@
 pub mod Basics
+pub mod OneCell
 pub mod Edits
 pub mod Keeping
 pub mod Promising
@@ -17,6 +18,7 @@ pub mod Serving
 pub mod Naming
 pub mod Saving
 pub mod Deciding
+pub mod Nexts
 pub mod Asking
 pub mod Quiet
 pub mod Walking
@@ -25,6 +27,7 @@ pub mod Dropping
 pub mod Answering
 pub mod Waiting
 pub mod Law
+pub mod Servers
 pub mod Roomless
 pub mod Unserved
 pub mod Agreeing

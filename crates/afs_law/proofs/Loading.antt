@@ -15,16 +15,17 @@ use Rattle.afs_num.specs.declared.calls.FsCall.{FsCall}
 use Rattle.afs_num.specs.declared.messages.Message.{Message}
 use Rattle.afs_ideal.specs.Operations.{Found}
 use Rattle.afs_law.proofs.Backing.{Plain, Stepping, all_lines, is_up, is_still, is_oweless, is_unchanging, is_still_to, grant_back_to, settled_onto, stopped_back, grant_back, front_onto, change_back, no_owe, owes_over, ended_over, calls_same, backed_step, seated_over, plain_step, plain_waits, waits_over, granted_over, owed_over, call_over, backed_plain, promised_over, live_back, numbered_over, zero_back, live_given, before_own, rising_over, rising_back}
-use Rattle.afs_law.proofs.Basics.{both, same_node-true, same_node-refl, same_fid-refl, same_fid-true, client_number, Above, Each, IfBack, IfDone, OfReply, each_map, if_back, if_done, some_of}
+use Rattle.afs_law.proofs.Basics.{both, same_node-true, same_node-refl, same_fid-refl, same_fid-true, Above, Each, IfBack, IfDone, OfReply, each_map, if_back, if_done, some_of}
 use Rattle.afs_law.proofs.Owing.{AllOf, all_map, all_both, all_filter, IsGranted, IsIn, IsNumberIn, AccountedBy, WaitedBy, AllWaitedBy, HeldWaits, IsOwed, CallOut, BackIn, DroppedOwe, DoneIn, BackedIn, Promised, IsPromised, promise_to, Numbered, IsClient, Rising, ToClients, is_held}
 use Rattle.afs_law.proofs.Turning.{loaded, in_filter, put_call, kept_in}
-use Rattle.afs_law.specs.Breaks.{HasSettled, HasTimeout, last_grant, expiry_of, AllOwes, CarriesBreak, GoodSettle, GoodQuit, live_grant, HasOwe, last_number, lines_at, drops_of, HasStopped, OweAt}
-use Rattle.afs_rows.specs.Callbacks.{is_all, alls, numbers, is_reply_to, key_answered, breaks_call, break_message, owe_line, settle_line, quit_line, ends_call, settles, quits, retries, risen_turn, still_owed}
+use Rattle.afs_law.specs.Breaks.{HasSettled, HasTimeout, last_grant, expiry_of, AllOwes, CarriesBreak, GoodQuit, live_grant, HasOwe, last_number, lines_at, drops_of, HasStopped, OweAt}
+use Rattle.afs_rows.specs.Callbacks.{is_all, alls, numbers, is_reply_to, key_answered, breaks_call, break_message, owe_line, settle_line, quit_line, settles, quits, retries, still_owed}
 use Rattle.afs_law.specs.Ideal.{clock_of, change_in}
 use Rattle.afs_law.specs.Legal.{IsNew, IsNot, IsKey, HasChange, AreGood, IsChanged}
 use Rattle.afs_history.specs.declared.lines.Line.{Line}
 use Rattle.afs_law.specs.Past.{onto, lines_of, sent_of, given_message, called_key, IsCallUnder}
-use Rattle.afs_rows.specs.Runs.{Entry, Fall, the_server}
+use Rattle.afs_rows.specs.Runs.{Entry, Fall}
+use Rattle.afs_law.proofs.OneCell.{the_server}
 use Rattle.afs_rows.specs.ServerRow.{granted, promise_ticks}
 use Rattle.afs_rows.specs.States.{Seat, BackCall, Held, Backs}
 use Rattle.afs_model.specs.Calls.{call_seat}

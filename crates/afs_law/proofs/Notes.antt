@@ -18,7 +18,8 @@ use Rattle.afs_law.specs.Ideal.{last_version, HasVersion, Accepts, clock_of, rea
 use Rattle.afs_law.specs.Legal.{IsNew, HasChange, versions_first}
 use Rattle.afs_history.specs.declared.lines.Line.{Line}
 use Rattle.afs_law.specs.Past.{onto, sent_of, given_message, running, has_begun}
-use Rattle.afs_rows.specs.Runs.{Entry, the_server}
+use Rattle.afs_rows.specs.Runs.{Entry}
+use Rattle.afs_law.proofs.OneCell.{the_server}
 use Rattle.afs_rows.specs.ServerRow.{granted}
 use Rattle.afs_num.specs.declared.histories.Actor.TheVariants as actors
 use Rattle.afs_history.specs.declared.lines.Line.TheVariants as lines

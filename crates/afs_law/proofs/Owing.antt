@@ -16,7 +16,8 @@ use Rattle.afs_rows.specs.Callbacks.{key_answered, breaks_call, is_reply_to}
 use Rattle.afs_law.specs.Legal.{HasChange}
 use Rattle.afs_history.specs.declared.lines.Line.{Line}
 use Rattle.afs_law.specs.Past.{onto, lines_of, sent_of, given_message, IsCallUnder}
-use Rattle.afs_rows.specs.Runs.{Entry, Fall, the_server}
+use Rattle.afs_rows.specs.Runs.{Entry, Fall}
+use Rattle.afs_law.proofs.OneCell.{the_server}
 use Rattle.afs_rows.specs.States.{Seat, BackCall, Held, Backs}
 use Rattle.afs_model.specs.Calls.{call_seat}
 use Rattle.afs_history.specs.declared.lines.Line.TheVariants as lines

@@ -21,8 +21,9 @@ use Rattle.afs_law.specs.Ideal.{WasBefore, IsLast, WasLast, Unless, last_version
 use Rattle.afs_law.specs.Legal.{IsResult, IsKey, HasChange, Cause, answer_at, IsTold}
 use Rattle.afs_history.specs.declared.lines.Line.{Line}
 use Rattle.afs_law.specs.Past.{begins_act, onto, lines_of, sent_of, given_message, running, has_begun, Ran, called_key, same_key, is_called, has_sent, is_sent_since, answered_key}
-use Rattle.afs_rows.specs.Runs.{the_server, Entry, Fall, at_rest, in_step, in_boot}
-use Rattle.afs_rows.specs.States.{CacheEntry, Seat, ServerState, Lasting}
+use Rattle.afs_rows.specs.Runs.{Entry, Fall, at_rest, in_step, in_boot}
+use Rattle.afs_law.proofs.OneCell.{the_server}
+use Rattle.afs_rows.specs.States.{CacheEntry, Seat, Lasting}
 use Rattle.afs_num.specs.declared.histories.Body.{Body}
 use Rattle.afs_num.specs.declared.histories.Version.{Version}
 use Rattle.std.proofs.Math.Nat.{le_refl}

@@ -1,8 +1,8 @@
 -- What becomes of promises and owed breaks in a step, told at once: the lists after changes of several fids, after several
 -- promises were given up, and after a restart.
-use Rattle.std.proofs.Common.{◌≡◌, ℕ, ◌+◌, zero, suc, length, List, [], ◌∷◌, ◌++◌, Option, Some, None, refl, sym, ap, subst, ◌∙◌, arith, append-nil}
+use Rattle.std.proofs.Common.{◌≡◌, ℕ, ◌+◌, zero, suc, length, List, [], ◌∷◌, ◌++◌, Some, None, refl, sym, ap, ◌∙◌, arith, append-nil}
 use Rattle.std.proofs.lemmas.List.{append_assoc}
-use Rattle.std.specs.Prelude.{Bool, true, false, filter, map, not}
+use Rattle.std.specs.Prelude.{filter, map, not}
 use Rattle.afs_num.specs.declared.types.Fid.{Fid}
 use Rattle.afs_num.specs.declared.types.Head.{Head}
 use Rattle.afs_num.specs.declared.types.Node.{Node}
@@ -13,7 +13,7 @@ use Rattle.afs_breaks.specs.declared.types.Promise.{Promise}
 use Rattle.afs_breaks.specs.declared.types.OwedBreak.{OwedBreak}
 use Rattle.afs_breaks.specs.Promises as lists
 use Rattle.afs_breaks.specs.Promises.{Lists, is_hit, owes_from, without_promise, without_break, no_lists}
-use Rattle.afs_rows.specs.Callbacks.{Turn, fids_found, gives_up_all, withdraws_all, new_owes, ends_all, ends_call, put_at, replies_turn, turn_for, owe_line, numbers, alls, risen_turn, revived_backs, owed_to_clients}
+use Rattle.afs_rows.specs.Callbacks.{Turn, fids_found, gives_up_all, withdraws_all, new_owes, ends_all, ends_call, put_at, replies_turn, turn_for, owe_line, numbers, alls, risen_turn, owed_to_clients}
 use Rattle.afs_rows.specs.ServerRow.{Change, Reading, saves, shows, made, granted_in, change_reply_to, read_reply_to, promise_ticks}
 use Rattle.afs_rows.specs.States.{Backs, BackCall, ServerState}
 

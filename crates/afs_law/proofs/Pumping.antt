@@ -16,7 +16,8 @@ use Rattle.afs_law.proofs.Facts.{View, HeldIn, IsReply, CallIn, Origin, IsOne, I
 use Rattle.afs_law.proofs.Passing.{News}
 use Rattle.afs_rows.specs.Callbacks.{Turn, Started, is_ready, replies_of, starts, starts_by, pumped, break_message, started_call}
 use Rattle.afs_law.specs.Past.{sent_of}
-use Rattle.afs_rows.specs.Runs.{Entry, the_server}
+use Rattle.afs_rows.specs.Runs.{Entry}
+use Rattle.afs_law.proofs.OneCell.{the_server}
 use Rattle.afs_num.specs.declared.messages.Carried.TheVariants as carried
 
 pub of_reply_any : (P : Type 0) (c : Carried) → P → OfReply P c

@@ -20,7 +20,8 @@ use Rattle.afs_law.specs.Ideal.{last_version, HasVersion, Accepts, clock_of, Rea
 use Rattle.afs_law.specs.Legal.{IsNew}
 use Rattle.afs_history.specs.declared.lines.Line.{Line}
 use Rattle.afs_law.specs.Past.{onto, sent_of, given_message, has_begun, running, IsCallUnder}
-use Rattle.afs_rows.specs.Runs.{the_server, locations, Entry}
+use Rattle.afs_rows.specs.Runs.{locations, Entry}
+use Rattle.afs_law.proofs.OneCell.{the_server}
 use Rattle.afs_history.specs.declared.lines.Line.TheVariants as lines
 
 -- Lines of a client that begins an act, is given a message, reads, or answers: what they leave as it was.

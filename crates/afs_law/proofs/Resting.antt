@@ -21,7 +21,8 @@ use Rattle.afs_law.specs.Ideal.{last_version, HasVersion, Accepts, clock_of, vol
 use Rattle.afs_law.specs.Legal.{IsNew}
 use Rattle.afs_history.specs.declared.lines.Line.{Line}
 use Rattle.afs_law.specs.Past.{onto, lines_of, sent_of, given_message, IsCallUnder}
-use Rattle.afs_rows.specs.Runs.{Entry, Cell, Armed, Fall, voided, ticked, server_set, blow_line, the_server}
+use Rattle.afs_rows.specs.Runs.{Entry, Armed, Fall}
+use Rattle.afs_law.proofs.OneCell.{Cell, voided, ticked, server_set, blow_line, the_server}
 use Rattle.afs_rows.specs.States.{CacheEntry}
 use Rattle.afs_num.specs.declared.histories.Version.{Version}
 use Rattle.afs_num.specs.declared.histories.Actor.TheVariants as actors

@@ -1,6 +1,6 @@
 use Rattle.std.specs.Prelude as outcome
 use Rattle.std.specs.Prelude.{Ok, Err, ◌↔◌, ⊤}
-use Rattle.std.proofs.Common.{◌≡◌, ℕ, Bool, true, false, cond, eqb, List, [], ◌∷◌, Option, Some, None, refl, sym, ap, ◌∙◌}
+use Rattle.std.proofs.Common.{◌≡◌, ℕ, Bool, true, false, cond, eqb, List, [], ◌∷◌, Option, Some, None, refl, ap}
 use Rattle.std.specs.Prelude.{pos}
 use Rattle.afs_num.specs.declared.types.Fid.{Fid}
 use Rattle.afs_num.specs.declared.types.Head.{Head}
@@ -8,13 +8,13 @@ use Rattle.afs_num.specs.declared.calls.FsCall.{FsCall}
 use Rattle.afs_num.specs.declared.calls.FsCall.TheVariants as calls
 use Rattle.afs_num.specs.declared.messages.Carried.TheVariants as carried
 use Rattle.afs_num.specs.declared.messages.Call.TheVariants as ask
-use Rattle.afs_ideal.specs.Operations.{Caller, the_user, Result, refused, reads, changes, no_operation, op, volume_called, by_tests, limited, read_by, shows_status, tests, first_failing}
+use Rattle.afs_ideal.specs.Operations.{Caller, the_user, Result, refused, reads, changes, no_operation, op, volume_called, by_tests, limited, read_by, shows_status}
 use Rattle.afs_ideal.specs.Tables.{Table, get}
 use Rattle.afs_ideal.specs.Volumes.{Vnode, vnode_of}
 use Rattle.afs_law.proofs.Basics.{yes_no}
 use Rattle.afs_law.specs.Laws.{LacksRoom, LacksRoomIn, LacksRoomBy}
 use Rattle.afs_records.specs.Durable.{Stored, has_room}
-use Rattle.afs_rows.specs.ServerRow.{Change, Decision, refuses, shows, saves, no_room, not_served, decided, in_volume, record_of, runs, whole, several, Sight, sight_by, sight_in, sights, statuses_read, reading_in, given_up_read, time_read, is_client, runs_received}
+use Rattle.afs_rows.specs.ServerRow.{Change, refuses, saves, no_room, not_served, decided, in_volume, record_of, runs, whole, several, Sight, sight_by, sight_in, sights, is_client, runs_received}
 use Rattle.afs_rows.specs.States.{ServerState, durable_of}
 use Rattle.afs_shape.specs.Reading.{◌>>=◌}
 

@@ -4,13 +4,13 @@ use Rattle.afs_rows.specs.ServerSteps.{done}
 use Rattle.afs_law.proofs.Promising.{Owed, staying, hits, saves_turn, saves_turn_is}
 use Rattle.afs_num.specs.declared.directories.Name.{Name}
 use Rattle.afs_ideal.specs.Operations.{Found, the_user, Result, changes, op, volume_called, volume_changed, changed}
-use Rattle.afs_ideal.specs.Replies.{stamped, vnode_or_none, change_reply, status_at, status_of}
+use Rattle.afs_ideal.specs.Replies.{vnode_or_none, change_reply, status_at, status_of}
 use Rattle.afs_ideal.specs.Tables.{Table, get, set}
 use Rattle.afs_ideal.specs.Told.{AreNext}
 use Rattle.afs_ideal.specs.Volumes.{or_old, with_status, Amend, Volume, Vnode, Kind, a_file, a_directory, a_link, body_by, body_of, version_at, Edit, versions_by, edited_all, counted, amended, vnode_of, if_unique}
 use Rattle.afs_law.proofs.Backing.{is_still_to, all_lines, is_up, is_still, is_oweless, is_unchanging, change_back, promised_given, rising_back}
-use Rattle.afs_law.proofs.Basics.{node_apart, Above, up_to_by, same_fid-true, same_node-true, client_number, below_not, up_to_same, own_seat, raised_up_to, some_of, yes_no}
-use Rattle.afs_law.proofs.Edits.{agrees_of, last_of, ones, Ones, index_in, fid_at, Sound, SoundIn, sound_same, Tops, get-set, on_top, Grow, Told, edits_told, counted_sound, rises, tops, touches, untouched, touched_volume, not_touched, there, none_has, live, live_is}
+use Rattle.afs_law.proofs.Basics.{node_apart, Above, up_to_by, same_fid-true, same_node-true, client_number, below_not, up_to_same, raised_up_to, some_of, yes_no}
+use Rattle.afs_law.proofs.Edits.{agrees_of, last_of, ones, Ones, index_in, fid_at, Sound, SoundIn, sound_same, Tops, on_top, Grow, Told, edits_told, counted_sound, rises, tops, touches, untouched, touched_volume, not_touched, there, none_has, live, live_is}
 use Rattle.afs_law.proofs.Facts.{FitsList, Leaves, HeldIn, Ghost, HoldsAt, server_boot, up_boot, risen, LastStored, IsStored, IsUntrusted, view, Spot, spot, ReplyFact, HasFallen, Reached, Stands, IsCurrent, Fits, Answers, IsReply, AreUnheard, stored_index, Holds, Goes, FitsReply, FitsData, FitsSet, FitsPlain, WasChanged, AreIdeal, AreSound, WasStored, FitsShown}
 use Rattle.afs_law.proofs.Keeping.{volume_put, own_placed}
 use Rattle.afs_law.proofs.Loading.{hits_other, granted_all, onto_granted, left_granted, all_hits, change_loaded, owes_unchanging, all_new, number_front, number_second, left_promised, has_owe, touched_hit, numbers_good, numbers_rise, granted_to_client, owes_to_clients, owes_rising, all_left}
@@ -23,21 +23,22 @@ use Rattle.afs_law.proofs.Pumping.{no_news, pumped_news}
 use Rattle.afs_law.proofs.Serving.{up_backed, seats_of, Gives, taken_not, up_boots, reached_at, at_told, client_head, Now, call_at, taken, seats_after, Stock, server_after, caller_view, views_after, durable_before, above_before, not_ran, unheard_after, HasRun, cause_now, running_act, stale_none, served_cell, serves, last_has, has_run, server_does, answer_in}
 use Rattle.afs_law.proofs.Turning.{loaded, Pumps, pumps}
 use Rattle.afs_law.specs.Breaks.{live_grant, HasOwe, last_number, lines_at}
-use Rattle.afs_rows.specs.Callbacks.{Turn, pumped, expired, turn_for, new_owes, numbers, alls}
+use Rattle.afs_rows.specs.Callbacks.{Turn, pumped, expired, numbers, alls}
 use Rattle.afs_rows.specs.ClientRow.{status_told}
 use Rattle.afs_rows.specs.Going.{asked, Going, next}
 use Rattle.afs_law.specs.Grants.{IsWithdrawn, has_fetched, fetch_reply, since, change_below, IsByOther, IsDropped}
 use Rattle.afs_law.specs.Ideal.{versions_in, Reach, raised, IsLast, clock_of, last_version, HasVersion, Accepts, reach, volume_after, change_key, call_under, reach_over, applied, applied_by, HasBeen, TellsIn, TellsOf, shown_status}
-use Rattle.afs_law.specs.Legal.{code_given, AreGood, code_told, IsNew, HasChange, GoodChange, versions_first, IsTold, answer_at, answer_on, IsUnderChange, IsChanged, op_on}
+use Rattle.afs_law.specs.Legal.{code_given, AreGood, code_told, IsNew, HasChange, GoodChange, versions_first, IsTold, answer_at, IsUnderChange, IsChanged, op_on}
 use Rattle.afs_history.specs.declared.lines.Line.{Line}
 use Rattle.afs_law.specs.Past.{onto, lines_of, sent_of, given_message, called_key, HasCode, is_of_act, running, has_begun}
-use Rattle.afs_rows.specs.Runs.{Entry, Cell, message_at, Armed, Fall, server_moves, the_server}
+use Rattle.afs_rows.specs.Runs.{Entry, message_at, Armed, Fall}
+use Rattle.afs_law.proofs.OneCell.{Cell, server_moves, the_server}
 use Rattle.afs_rows.specs.Scopes.{is_in_scope, is_volume}
-use Rattle.afs_rows.specs.ServerRow.{granted, granted_in, record_of, carried_by, change_reply_to, replied, stored_by, promise_ticks, saves, runs, told, versioned, Change, made, result, seat_placed}
+use Rattle.afs_rows.specs.ServerRow.{granted, granted_in, record_of, carried_by, replied, stored_by, promise_ticks, saves, runs, told, versioned, Change, seat_placed}
 use Rattle.afs_rows.specs.States.{CacheEntry, Seat, volume_in, Backs, Held}
 use Rattle.afs_records.specs.Changes.{stored_after}
 use Rattle.afs_records.specs.Durable.{Stored, time_in, place_length}
-use Rattle.afs_model.specs.Calls.{call_seated, call_seat}
+use Rattle.afs_model.specs.Calls.{call_seat}
 use Rattle.afs_num.specs.declared.calls.AfsStoreStatus.{AfsStoreStatus}
 use Rattle.std.proofs.Common.{◌≡◌, ℕ, ◌+◌, ◌<◌, ◌≤◌, ◌⊎◌, inl, inr, Bool, true, false, cond, length, List, [], ◌∷◌, ◌++◌, Option, Some, None, pos, refl, sym, ap, subst, ◌∙◌, arith, eq-eqb, eqb-true, eqb}
 use Rattle.std.specs.Prelude.{◌&&◌, not, is_some}

@@ -4,30 +4,30 @@ use Rattle.afs_num.specs.declared.histories.ReadBody.{ReadBody}
 use Rattle.std.proofs.Common.{◌≡◌, ℕ, ◌+◌, ◌<◌, ◌≤◌, ◌⊎◌, inl, inr, Bool, true, false, cond, nat_eq, List, [], ◌∷◌, ◌++◌, Option, Some, None, ℤ, pos, refl, sym, ap, subst, ◌∙◌, arith, eqb-true, append-nil, append_assoc, eq-eqb}
 use Rattle.afs_num.specs.declared.directories.Name.{Name}
 use Rattle.afs_ideal.proofs.DirectoryBytes.{spelled_is_read}
-use Rattle.afs_ideal.specs.Operations.{shows_volume, shows_status, shows_body, Found, reads, Shown, Result, shows_acl, volume_called, Caller, changes}
+use Rattle.afs_ideal.specs.Operations.{shows_volume, shows_status, shows_body, Found, Shown, Result, shows_acl, volume_called, Caller, changes}
 use Rattle.afs_ideal.specs.Tables.{Table, get}
 use Rattle.afs_ideal.specs.Volumes.{type_of, bytes_by, Volume, Vnode, Kind, a_file, a_directory, a_link, body_by, body_of, vnode_of, if_unique, version_at}
 use Rattle.afs_law.proofs.Backing.{Plain, all_lines, is_up, is_oweless, is_unchanging, granted_over, change_back, promised_over, before_own}
 use Rattle.afs_law.proofs.Basics.{Below, UpTo, Above, Each, IfCall, OfReply, above_up, both, same_fid-true, client_number, below_up_to, below_not, up_to_same, own_seat, at_seat, each_map, if_call, some_of, same_node-refl}
-use Rattle.afs_law.proofs.Edits.{Ones, index_in, fid_at, Sound, SoundIn, sound_same, Tops, live_index, there}
+use Rattle.afs_law.proofs.Edits.{Ones, index_in, fid_at, Sound, SoundIn, sound_same, Tops, live_index}
 use Rattle.afs_law.proofs.Facts.{IsBody, back_seat, IsKnown, IsReadable, AreFine, HeldIn, Ghost, HoldsAt, server_boot, up_boot, LastStored, IsActs, View, view_of, view, Spot, spot, LastRan, ReplyFact, IsBehind, AreKept, MayRun, HasFallen, Reached, HasCurrent, Fits, Answers, IsReply, KeptReply, ClientFacts, CallFact, CallIn, Origin, AreHome, AreNew, AreUnheard, Holds, Goes, InScope, IsFetched, FitsReply, AreIdeal, AreSound}
 use Rattle.afs_law.proofs.Loading.{all_promised, all_granted, granted_all, none_loaded, still_backed, known_backed, resent, run_loaded, key_held, no_change, settles_good, settles_backed, gone_promised, gone_granted, granted_to_client, gone_to_clients, own_waited}
 use Rattle.afs_law.proofs.Notes.{granted_notes, AreNotes, Skips, skips, told_entry, told_rests, noted_entry, noted_rests, settle_notes}
-use Rattle.afs_law.proofs.Ops.{IsShown}
 use Rattle.afs_law.proofs.Owing.{AllOf, BackedIn, IsDone, DroppedOwe, IsGranted, DoneIn, Promised, IsClient}
 use Rattle.afs_law.proofs.Passing.{old_over, stands_over, answers_over, reply_over, kept_over, PassesBoth, PassesFile, PassesAct, PassesReach, stays, current_over, client_still, News, more_sent}
 use Rattle.afs_law.proofs.Pumping.{no_news, pumped_news, news_break}
 use Rattle.afs_law.proofs.Resting.{Rests}
 use Rattle.afs_law.proofs.Turning.{loaded, TurnSends, Pumps, pumps, expired_backed, break_good}
-use Rattle.afs_rows.specs.Callbacks.{Turn, replies_of, pumped, expired, turn_for, no_turn, put, settles, settles_by, is_back_awaited, renews, renews_by, turned_by, Started, starts, starts_by, held_after, given_out, if_to, put_at}
+use Rattle.afs_rows.specs.Callbacks.{Turn, replies_of, pumped, expired, turn_for, no_turn, settles, settles_by, is_back_awaited, renews, renews_by, turned_by, Started, starts, starts_by, held_after, given_out, if_to, put_at}
 use Rattle.afs_rows.specs.ClientRow.{names_told, body_told}
 use Rattle.afs_rows.specs.Going.{asked, Going}
 use Rattle.afs_law.specs.Ideal.{shown_status, Tells, TellsIn, TellsOf, volume_after, is_zero_code, version_in, latest, IsThat, user_of, clock_of, last_version, HasVersion, reach, call_under}
 use Rattle.afs_law.specs.Legal.{code_given, IsResult, AreGood, code_told, Cause, IsTold, answer_at, answer_on}
 use Rattle.afs_history.specs.declared.lines.Line.{Line}
 use Rattle.afs_law.specs.Past.{IsUnheard, lines_of, sent_of, given_message, called_key, HasCode, IsCallUnder, Ran, onto, same_key, answered_key}
-use Rattle.afs_rows.specs.Runs.{the_server, Entry, Cell, message_at, Armed, Fall, Moved, server_moves}
-use Rattle.afs_rows.specs.ServerRow.{shows, granted_by, granted, Reading, promise_ticks, refuses, reply_head, replied, told, result, Decision, seat_placed, Sight, given_up_read, promised_in, reading_in, statuses_read, time_read}
+use Rattle.afs_rows.specs.Runs.{Entry, message_at, Armed, Fall}
+use Rattle.afs_law.proofs.OneCell.{the_server, Cell, Moved, server_moves}
+use Rattle.afs_rows.specs.ServerRow.{shows, granted, Reading, promise_ticks, refuses, reply_head, replied, told, result, Decision, seat_placed, Sight, given_up_read, promised_in, reading_in, statuses_read, time_read}
 use Rattle.afs_rows.specs.States.{Seat, ServerState, volume_in, Backs, Held, BackCall}
 use Rattle.afs_model.specs.Calls.{call_seated, call_seat}
 use Rattle.std.specs.Prelude.{◌&&◌, ⊤, map, filter, not}
@@ -38,7 +38,7 @@ use Rattle.afs_num.specs.declared.types.Fid.{Fid}
 use Rattle.afs_num.specs.declared.types.Head.{Head}
 use Rattle.afs_num.specs.declared.types.Key.{Key}
 use Rattle.afs_num.specs.declared.types.Node.{Node}
-use Rattle.afs_num.specs.declared.types.Node.TheVariants.{Client, Loc, Server, Admin}
+use Rattle.afs_num.specs.declared.types.Node.TheVariants.{Client}
 use Rattle.afs_num.specs.declared.calls.FsCall.{FsCall}
 use Rattle.afs_num.specs.declared.messages.Carried.{Carried}
 use Rattle.afs_num.specs.declared.messages.Message.{Message}
@@ -54,7 +54,7 @@ use Rattle.afs_law.specs.Grants.{IsDropped}
 use Rattle.afs_law.specs.Breaks.{lines_at, fids_given_up, has_answer, given_up_in, drops_of, given_up_by, is_told}
 use Rattle.afs_rows.specs.ServerSteps.{stepped, done}
 use Rattle.afs_law.proofs.Keeping.{at_placed}
-use Rattle.afs_records.specs.Durable.{Stored, time_in}
+use Rattle.afs_records.specs.Durable.{Stored}
 use Rattle.afs_num.specs.declared.histories.ReadBody.TheVariants as seen
 use Rattle.std.specs.Prelude as std_result
 use Rattle.afs_num.specs.declared.histories.Actor.TheVariants as actors

@@ -17,7 +17,8 @@ use Rattle.afs_law.specs.Ideal.{raised, last_version, HasVersion, Accepts, clock
 use Rattle.afs_law.specs.Legal.{IsNew, AreGood, GoodCode}
 use Rattle.afs_history.specs.declared.lines.Line.{Line}
 use Rattle.afs_law.specs.Past.{onto, lines_of, sent_of, given_message, has_begun, running, IsCallUnder}
-use Rattle.afs_rows.specs.Runs.{the_server, Entry, Cell, message_at}
+use Rattle.afs_rows.specs.Runs.{Entry, message_at}
+use Rattle.afs_law.proofs.OneCell.{the_server, Cell}
 use Rattle.afs_rows.specs.Scopes.{is_volume}
 use Rattle.afs_rows.specs.States.{CacheEntry}
 use Rattle.std.proofs.Math.Nat.{le_trans}

@@ -13,7 +13,6 @@ use Rattle.afs_num.specs.declared.messages.Carried.TheVariants as carried
 use Rattle.afs_num.specs.declared.messages.Call.TheVariants as ask
 use Rattle.afs_ideal.specs.Operations.{Caller, the_user, Result, refused, reads, changes, no_operation, op, volume_called}
 use Rattle.afs_ideal.specs.Tables.{get}
-use Rattle.afs_ideal.specs.Volumes.{Volume}
 use Rattle.afs_law.proofs.Basics.{yes_no}
 use Rattle.afs_law.proofs.Ops.{op_is}
 use Rattle.afs_rows.specs.ServerRow.{Decision, refuses, shows, saves, not_served, no_room, decided, in_volume, record_of, serves, runs, whole}

@@ -22,7 +22,8 @@ use Rattle.afs_law.specs.Ideal.{last_version, user_of}
 use Rattle.afs_law.specs.Legal.{given_up, AreGood}
 use Rattle.afs_history.specs.declared.lines.Line.{Line}
 use Rattle.afs_law.specs.Past.{lines_of, has_begun, running, CalledSince}
-use Rattle.afs_rows.specs.Runs.{the_server, Entry, Cell, Moved, client_moves, turned, client_falls, client_rises, waited_by}
+use Rattle.afs_rows.specs.Runs.{Entry}
+use Rattle.afs_law.proofs.OneCell.{the_server, Cell, Moved, client_moves, turned, client_falls, client_rises, waited_by}
 use Rattle.afs_rows.specs.States.{CacheEntry}
 use Rattle.std.proofs.Math.Nat.{le_refl}
 use Rattle.afs_num.specs.Nodes.{same_node}

@@ -34,7 +34,8 @@ use Rattle.afs_law.specs.Ideal.{last_version, HasVersion, IsLast, clock_of, Reac
 use Rattle.afs_law.specs.Legal.{AreGood, GoodRead, GoodReadBy, Shows}
 use Rattle.afs_history.specs.declared.lines.Line.{Line}
 use Rattle.afs_law.specs.Past.{onto, lines_of, sent_of, given_message, running, IsCallUnder}
-use Rattle.afs_rows.specs.Runs.{the_server, Entry, Cell}
+use Rattle.afs_rows.specs.Runs.{Entry}
+use Rattle.afs_law.proofs.OneCell.{the_server, Cell}
 use Rattle.afs_rows.specs.States.{CacheEntry}
 use Rattle.afs_rows.specs.ClientRow as ClientRow
 use Rattle.afs_history.specs.declared.lines.Line.TheVariants as lines

@@ -23,7 +23,8 @@ use Rattle.afs_law.proofs.Law.{legal}
 use Rattle.afs_rows.specs.ClientRow.{begin_row, client_row}
 use Rattle.afs_law.specs.Legal.{Legal}
 use Rattle.afs_history.specs.declared.lines.Line.{Line}
-use Rattle.afs_rows.specs.Runs.{first_volume, comes_up, steady, waits, starts_again, sets_stop, ticks, server_waits, Entry, Cell, Input, begins, gives, moved, start, Leads}
+use Rattle.afs_rows.specs.Runs.{first_volume, comes_up, steady, Entry}
+use Rattle.afs_law.proofs.OneCell.{waits, starts_again, sets_stop, ticks, server_waits, Cell, Input, begins, gives, moved, start, Leads}
 use Rattle.afs_model.specs.Messages.{spelled}
 use Rattle.afs_num.specs.Names.{name_ok}
 use Rattle.std.specs.Fmt.{digits}

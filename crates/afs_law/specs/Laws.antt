@@ -1,10 +1,11 @@
+use Rattle.afs_rows.specs.Going.{ClientState}
 use Rattle.afs_ideal.specs.Operations.{Caller, the_user, Result, refused, reads, changes, no_operation, op, volume_called}
 -- Laws about the runs of a script.
 use Rattle.afs_num.specs.declared.histories.ReadSource.TheVariants.{Cached}
 use Rattle.afs_rows.specs.ClientRow.{find_cached}
 use Rattle.afs_num.specs.declared.messages.Message.{Message}
 use Rattle.afs_num.specs.declared.types.Node.TheVariants.{Client}
-use Rattle.afs_ideal.specs.Tables.{get}
+use Rattle.afs_ideal.specs.Tables.{get, Table}
 use Rattle.afs_num.specs.Nodes.{IsNode}
 use Rattle.afs_records.specs.Changes.{boot_record}
 use Rattle.afs_records.specs.Durable.{folded, Stored, has_room}
@@ -25,7 +26,7 @@ use Rattle.afs_rows.specs.States.{CacheEntry, Seat, Lasting, durable_of, volume_
 use Rattle.afs_model.specs.FsRows.{call_number}
 use Rattle.afs_num.specs.declared.messages.Carried.TheVariants as carried
 use Rattle.afs_num.specs.declared.messages.Call.TheVariants as ask
-use Rattle.std.specs.Prelude.{◌⊎◌, ◌≤◌, ◌<◌, None, Some, ◌∷◌, [], ◌≡◌, ◌↔◌, ℕ, List, ◌++◌, false, ◌+◌, ◌&&◌, Option, Bool, true}
+use Rattle.std.specs.Prelude.{◌⊎◌, ◌≤◌, ◌<◌, None, Some, ◌∷◌, [], ◌≡◌, ◌↔◌, ℕ, List, ◌++◌, false, ◌+◌, ◌&&◌, Option, true}
 use Rattle.afs_num.specs.declared.types.Fid.{Fid}
 use Rattle.afs_num.specs.declared.types.Node.{Node}
 use Rattle.afs_num.specs.declared.scripts.Script.{Script}
@@ -49,27 +50,27 @@ abbrev pub RunsAreOne : Type 0
 RunsAreOne = (s : Script) (inputs : List Input) (history other : List Entry) (end last : Cell) → Leads (start s) inputs history end → Leads (start s) inputs other last → (history ≡ other) × (end ≡ last)
 
 -- what the server holds of a volume at the end of a run is the ideal volume, and the versions that were told agree with it
-pub record IsHeld (id : ℕ) (end : Cell) (past : List Entry) : Type 0 where
-  pub ideal : volume_in id end.server.lasting.volumes ≡ volume_after id past
+pub record IsHeld (id : ℕ) (volumes : Table Stored) (past : List Entry) : Type 0 where
+  pub ideal : volume_in id volumes ≡ volume_after id past
   pub told : (v : Volume) → volume_after id past ≡ Some v → Agrees id v (versions_in (lines_of past))
 
 abbrev pub VolumesAreTold : Type 0
-VolumesAreTold = (s : Script) (history : List Entry) (end : Cell) → IsOneServer s → RunsTo history s end → (id : ℕ) → IsHeld id end (past_of (set_up s ∷ []) history)
+VolumesAreTold = (s : Script) (history : List Entry) (end : Cell) → IsOneServer s → RunsTo history s end → (id : ℕ) → IsHeld id (end.hosts 1).state.lasting.volumes (past_of (set_up s ∷ []) history)
 
 -- a pair of epoch and number is not above another
 abbrev pub IsUpTo : ℕ → ℕ → ℕ → ℕ → Type 0
 IsUpTo epoch number d m = (epoch < d) ⊎ ((epoch ≡ d) × (number ≤ m))
 
-abbrev pub IsKnownTo : Cell → ℕ → Head → Type 0
-IsKnownTo end j head = IsUpTo head.epoch head.number (end.clients j).epoch (end.clients j).last
+abbrev pub IsKnownTo : ClientState → Head → Type 0
+IsKnownTo c head = IsUpTo head.epoch head.number c.epoch c.last
 
 -- no call of a client, and no reply to one, has a pair above the client's last call
-pub record ArePairsKnown (end : Cell) : Type 0 where
-  pub calls : (j place : ℕ) (m : Message) → message_at end.sent place ≡ Some m → IsCall m.carried → m.head.from ≡ Client j → IsKnownTo end j m.head
-  pub replies : (j place : ℕ) (m : Message) → message_at end.sent place ≡ Some m → HasCode m.carried → m.head.to ≡ Client j → IsKnownTo end j m.head
+pub record ArePairsKnown (sent : List Message) (clients : ℕ → ClientState) : Type 0 where
+  pub calls : (j place : ℕ) (m : Message) → message_at sent place ≡ Some m → IsCall m.carried → m.head.from ≡ Client j → IsKnownTo (clients j) m.head
+  pub replies : (j place : ℕ) (m : Message) → message_at sent place ≡ Some m → HasCode m.carried → m.head.to ≡ Client j → IsKnownTo (clients j) m.head
 
 abbrev pub PairsAreKnown : Type 0
-PairsAreKnown = (s : Script) (history : List Entry) (end : Cell) → IsOneServer s → RunsTo history s end → ArePairsKnown end
+PairsAreKnown = (s : Script) (history : List Entry) (end : Cell) → IsOneServer s → RunsTo history s end → ArePairsKnown end.sent end.clients
 
 -- what an idle client trusts can be shown: a read of it from the cache would be good
 abbrev pub TrustedIsGood : Type 0

@@ -2,12 +2,12 @@
 use Rattle.std.specs.Prelude.{◌≡◌, List, [], ◌∷◌, ⊤}
 use Rattle.afs_num.specs.declared.scripts.Script.{Script}
 use Rattle.afs_num.specs.declared.scripts.VolumeLine.{VolumeLine}
-use Rattle.afs_rows.specs.Runs.{the_server}
+use Rattle.afs_num.specs.declared.types.Node.TheVariants.{Server}
 
 -- each volume is at the cell's server
 abbrev pub AreAtServer : List VolumeLine → Type 0
 AreAtServer [] = ⊤
-AreAtServer (v ∷ vs) = (v.server ≡ the_server) × AreAtServer vs
+AreAtServer (v ∷ vs) = (v.server ≡ Server 1) × AreAtServer vs
 
 abbrev pub IsOneServer : Script → Type 0
 IsOneServer s = (s.servers ≡ 1) × AreAtServer s.volumes

@@ -232,7 +232,7 @@ act_needs h (acts.Link p q) rs = if is_root q then answers 22 else to_object h.f
 act_needs h (acts.Stat o) rs = to_object h.first o rs (λ f rest. reading_status f rest)
 -- these come later
 act_needs h (acts.StatAll o) rs = answers no_entry
-act_needs h (acts.GetAccessList o) rs = answers no_entry
+act_needs h (acts.GetAccessList o) rs = to_object h.first o rs (λ f rest. reading_rights f rest)
 act_needs h acts.GiveUp rs = answers 0
 
 abbrev pub next : Going → Need

@@ -1,3 +1,4 @@
+use Rattle.afs_num.specs.Nodes.{same_node}
 use Rattle.afs_num.specs.Places.{at_place}
 use Rattle.afs_ideal.specs.SetUp.{new_volume, laid}
 use Rattle.afs_ideal.specs.Tables.{Table, get, set}
@@ -7,10 +8,10 @@ use Rattle.afs_rows.specs.Callbacks.{put, first_backs}
 use Rattle.afs_rows.specs.ClientRow.{begin_row, client_row, timeout_row, new_client, reborn}
 use Rattle.afs_rows.specs.Going.{ClientState, Going}
 use Rattle.afs_history.specs.declared.lines.Line.{Line}
-use Rattle.afs_rows.specs.ServerRow.{Begun, begun_before, begun_after, decides, device_calls, revived}
+use Rattle.afs_rows.specs.ServerRow.{Begun, begun_before, begun_after, decides, device_calls, revived, Decision}
 use Rattle.afs_rows.specs.States.{Location, ServerState, BackCall, Lasting, durable_of}
 use Rattle.afs_rows.specs.Steps.{Step}
-use Rattle.std.specs.Prelude.{Result, Ok, Err, is_some, ◌≡◌, ℕ, zero, suc, ◌+◌, ◌-◌, List, [], ◌∷◌, ◌++◌, Bool, true, false, cond, nat_eq, nat_lt, map, codes, Option, Some, None, if◌then◌else◌}
+use Rattle.std.specs.Prelude.{Result, Ok, Err, is_some, ◌≡◌, ℕ, zero, suc, ◌+◌, ◌-◌, List, [], ◌∷◌, ◌++◌, Bool, true, false, cond, nat_lt, codes, Option, Some, None, if◌then◌else◌}
 use Rattle.std.specs.Option.{option_map}
 use Rattle.afs_num.specs.declared.types.Node.{Node}
 use Rattle.afs_num.specs.declared.types.Node.TheVariants.{Loc, Server, Client, Admin}
@@ -36,7 +37,7 @@ pub record Entry : Type 0 where
   pub sent : List Message
   pub volumes : Table Volume
 
--- ---- the disk of the server, in numbers of its calls
+-- ---- the disk of a server, in numbers of its calls
 
 -- a device call that isn't made: which one of the step, whether the disk was stopped there (it failed, else), and its pick
 pub record Blow : Type 0 where
@@ -104,25 +105,28 @@ pub data Outcome : Type 0 where
   fails_midway : Outcome
   is_full : Outcome
 
--- the one server of the cell
-abbrev pub the_server : Node
-the_server = Server 1
-
--- the server and whether it is down (its state is then that from before the interrupted step), how its disk is set, the
--- clients by their numbers and which of them are down, all messages ever sent, and the clock
-pub record Cell : Type 0 where
-  pub server : ServerState
-  pub count : ℕ
+-- a file server of the cell: its state, whether it is down (its state is then that from before the interrupted step), and how its
+-- disk is set
+pub record Host : Type 0 where
+  pub state : ServerState
   pub down : Option Fall
   pub armed : Armed
+
+-- the servers by their numbers, of which there are so many; as many clients, by theirs, and which of them are down; all messages
+-- ever sent; and the clock
+pub record Cell : Type 0 where
+  pub host_count : ℕ
+  pub hosts : ℕ → Host
+  pub count : ℕ
   pub clients : ℕ → ClientState
   pub away : ℕ → Bool
   pub sent : List Message
   pub clock : ℕ
 
 -- what one node is given: a client an act to begin, or a node the message of a place; a client's call is timed out; the
--- clock rises; a client or the server stops, or begins again, the server before or after the interrupted step; the server's
--- disk is set; or nothing happens
+-- clock rises; a client or a server stops, or begins again, the server before or after the interrupted step; a server's
+-- disk is set; a server's call to a node is timed out; time has passed at a server; or nothing happens. Servers are named by
+-- their numbers
 pub data Input : Type 0 where
   begins : ℕ → Act → Input
   gives : ℕ → Luck → Input
@@ -130,12 +134,12 @@ pub data Input : Type 0 where
   ticks : ℕ → Input
   client_stops : ℕ → Input
   client_starts : ℕ → Input
-  stops : Input
-  starts_again : Bool → Outcome → Input
-  sets_stop : ℕ → ℕ → Input
-  sets_fail : ℕ → Input
-  server_waits : Node → Input
-  wakes : Input
+  stops : ℕ → Input
+  starts_again : ℕ → Bool → Outcome → Input
+  sets_stop : ℕ → ℕ → ℕ → Input
+  sets_fail : ℕ → ℕ → Input
+  server_waits : ℕ → Node → Input
+  wakes : ℕ → Input
   nothing : Input
 
 pub record Moved : Type 0 where
@@ -151,44 +155,58 @@ client_moves c n s = record {
   cell = record c { clients = put n s.state c.clients; sent = c.sent ++ s.sent };
 }
 
-abbrev pub server_moves : Cell → Armed → Step ServerState → Moved
-server_moves c armed s = record {
-  entry = record { actor = actors.Node the_server; lines = s.lines; sent = s.sent; volumes = [] };
-  cell = record c { server = s.state; down = None; armed = armed; sent = c.sent ++ s.sent };
+-- the cell has a server of this number
+abbrev pub has_host : Cell → ℕ → Bool
+has_host c zero = false
+has_host c (suc i) = nat_lt i c.host_count
+
+abbrev pub if_host : Cell → ℕ → Moved → Moved
+if_host c i m = cond (has_host c i) m (voided c)
+
+abbrev pub server_moves : Cell → ℕ → Armed → Step ServerState → Moved
+server_moves c i armed s = record {
+  entry = record { actor = actors.Node (Server i); lines = s.lines; sent = s.sent; volumes = [] };
+  cell = record c { hosts = put i (record { state = s.state; down = None; armed = armed }) c.hosts; sent = c.sent ++ s.sent };
 }
 
--- a step of the server that leaves its state
-abbrev pub server_falls : Cell → List Line → Fall → Moved
-server_falls c ls fall = record {
-  entry = record { actor = actors.Node the_server; lines = ls; sent = []; volumes = [] };
-  cell = record c { down = Some fall; armed = unarmed };
+-- a step of a server that leaves its state
+abbrev pub server_falls : Cell → ℕ → List Line → Fall → Moved
+server_falls c i ls fall = record {
+  entry = record { actor = actors.Node (Server i); lines = ls; sent = []; volumes = [] };
+  cell = record c { hosts = put i (record (c.hosts i) { down = Some fall; armed = unarmed }) c.hosts };
 }
 
-abbrev pub server_set : Cell → Line → Armed → Moved
-server_set c l armed = record { entry = record { actor = actors.Node the_server; lines = l ∷ []; sent = []; volumes = [] }; cell = record c { armed = armed } }
+abbrev pub server_set : Cell → ℕ → Line → Armed → Moved
+server_set c i l armed = record {
+  entry = record { actor = actors.Node (Server i); lines = l ∷ []; sent = []; volumes = [] };
+  cell = record c { hosts = put i (record (c.hosts i) { armed = armed }) c.hosts };
+}
 
 -- the message of a place; the first message sent has place 1
 abbrev pub message_at : List Message → ℕ → Option Message
 message_at ms place = at_place ms place
 
 -- the line of a step that its disk ended
-abbrev pub blow_line : Bool → Line
-blow_line true = lines.Crash the_server
-blow_line false = lines.Fault the_server
+abbrev pub blow_line : ℕ → Bool → Line
+blow_line i true = lines.Crash (Server i)
+blow_line i false = lines.Fault (Server i)
+
+abbrev pub decided_at : Cell → ℕ → Message → Decision
+decided_at c i m = decides (Server i) (c.hosts i).state c.clock (Whole m)
 
 -- a step is done, or its disk ends it
-abbrev pub server_served : Cell → ℕ → Message → Option Blow → Moved
-server_served c place m None =
-    server_moves c (lowered (device_calls (decides the_server c.server c.clock (Whole m))) c.armed) (server_row the_server c.server c.clock place (Whole m))
-server_served c place m (Some b) = server_falls c (lines.Given place ∷ blow_line b.stops ∷ []) (in_step m c.clock)
+abbrev pub server_served : Cell → ℕ → ℕ → Message → Option Blow → Moved
+server_served c i place m None =
+    server_moves c i (lowered (device_calls (decided_at c i m)) (c.hosts i).armed) (server_row (Server i) (c.hosts i).state c.clock place (Whole m))
+server_served c i place m (Some b) = server_falls c i (lines.Given place ∷ blow_line i b.stops ∷ []) (in_step m c.clock)
 
-abbrev pub server_given : Cell → ℕ → Luck → Message → Option Fall → Moved
-server_given c place luck m (Some fall) = voided c
-server_given c place luck m None = server_served c place m (struck c.armed luck (device_calls (decides the_server c.server c.clock (Whole m))))
+abbrev pub server_given : Cell → ℕ → ℕ → Luck → Message → Option Fall → Moved
+server_given c i place luck m (Some fall) = voided c
+server_given c i place luck m None = server_served c i place m (struck (c.hosts i).armed luck (device_calls (decided_at c i m)))
 
 -- a message is given to the node that its header names
 abbrev pub given_to : Cell → ℕ → Luck → Message → Node → Moved
-given_to c place luck m (Server n) = cond (nat_eq n 1) (server_given c place luck m c.down) (voided c)
+given_to c place luck m (Server i) = if_host c i (server_given c i place luck m (c.hosts i).down)
 given_to c place luck m (Client n) = cond (c.away n) (voided c) (client_moves c n (client_row (Client n) (c.clients n) c.clock place (Whole m)))
 given_to c place luck m Loc = voided c
 given_to c place luck m (Admin n) = voided c
@@ -219,33 +237,33 @@ client_falls c n = turned n true (client_moves c n (record { state = reborn (c.c
 abbrev pub client_rises : Cell → ℕ → Moved
 client_rises c n = turned n false (client_moves c n (record { state = c.clients n; lines = lines.Restart (Client n) (c.clients n).epoch ∷ []; sent = [] }))
 
-abbrev pub server_stopped : Cell → Option Fall → Moved
-server_stopped c None = server_falls c (lines.Crash the_server ∷ []) at_rest
-server_stopped c (Some fall) = voided c
+abbrev pub server_stopped : Cell → ℕ → Option Fall → Moved
+server_stopped c i None = server_falls c i (lines.Crash (Server i) ∷ []) at_rest
+server_stopped c i (Some fall) = voided c
 
 -- the state in which a restart finds the disk: before the interrupted step, or after it
-abbrev pub begun_by_disk : ServerState → Bool → Fall → Begun
-begun_by_disk s after at_rest = begun_before s
-begun_by_disk s false (in_step m clock) = begun_before s
-begun_by_disk s true (in_step m clock) = begun_after the_server s clock (decides the_server s clock (Whole m))
-begun_by_disk s false in_boot = begun_before s
-begun_by_disk s true in_boot = begun_before (revived s)
+abbrev pub begun_by_disk : Node → ServerState → Bool → Fall → Begun
+begun_by_disk me s after at_rest = begun_before s
+begun_by_disk me s false (in_step m clock) = begun_before s
+begun_by_disk me s true (in_step m clock) = begun_after me s clock (decides me s clock (Whole m))
+begun_by_disk me s false in_boot = begun_before s
+begun_by_disk me s true in_boot = begun_before (revived s)
 
-abbrev pub server_rises : Cell → Begun → Moved
-server_rises c f = server_moves c unarmed (start_row the_server c.clock c.count f)
+abbrev pub server_rises : Cell → ℕ → Begun → Moved
+server_rises c i f = server_moves c i unarmed (start_row (Server i) c.clock c.count f)
 
 -- the server stays down, in the state that was found
-abbrev pub server_stays : Cell → Begun → Line → Fall → Moved
-server_stays c f l fall = record {
-  entry = record { actor = actors.Node the_server; lines = f.before (l ∷ []); sent = []; volumes = [] };
-  cell = record c { server = f.state; down = Some fall; armed = unarmed };
+abbrev pub server_stays : Cell → ℕ → Begun → Line → Fall → Moved
+server_stays c i f l fall = record {
+  entry = record { actor = actors.Node (Server i); lines = f.before (l ∷ []); sent = []; volumes = [] };
+  cell = record c { hosts = put i (record { state = f.state; down = Some fall; armed = unarmed }) c.hosts };
 }
 
-abbrev pub server_ends : Cell → Begun → Fall → Outcome → Moved
-server_ends c f fall comes_up = server_rises c f
-server_ends c f fall fails_early = server_falls c (lines.Fault the_server ∷ []) fall
-server_ends c f fall fails_midway = server_stays c f (lines.Fault the_server) in_boot
-server_ends c f fall is_full = server_stays c f (lines.Full the_server) at_rest
+abbrev pub server_ends : Cell → ℕ → Begun → Fall → Outcome → Moved
+server_ends c i f fall comes_up = server_rises c i f
+server_ends c i f fall fails_early = server_falls c i (lines.Fault (Server i) ∷ []) fall
+server_ends c i f fall fails_midway = server_stays c i f (lines.Fault (Server i)) in_boot
+server_ends c i f fall is_full = server_stays c i f (lines.Full (Server i)) at_rest
 
 -- a boot record that doesn't fit isn't begun, and none follows the last boot number
 abbrev pub settled : ServerState → Outcome → Outcome
@@ -253,27 +271,28 @@ settled s fails_early = fails_early
 settled s fails_midway = if can_boot (durable_of s.lasting) then fails_midway else is_full
 settled s o = if can_boot (durable_of s.lasting) then comes_up else is_full
 
-abbrev pub server_restarted : Cell → Bool → Outcome → Option Fall → Moved
-server_restarted c after o None = voided c
-server_restarted c after o (Some fall) = server_ends c (begun_by_disk c.server after fall) fall (settled (begun_by_disk c.server after fall).state o)
+abbrev pub server_restarted : Cell → ℕ → Bool → Outcome → Option Fall → Moved
+server_restarted c i after o None = voided c
+server_restarted c i after o (Some fall) =
+    server_ends c i (begun_by_disk (Server i) (c.hosts i).state after fall) fall (settled (begun_by_disk (Server i) (c.hosts i).state after fall).state o)
 
-abbrev pub server_armed : Cell → Line → Armed → Option Fall → Moved
-server_armed c l armed None = server_set c l armed
-server_armed c l armed (Some fall) = voided c
+abbrev pub server_armed : Cell → ℕ → Line → Armed → Option Fall → Moved
+server_armed c i l armed None = server_set c i l armed
+server_armed c i l armed (Some fall) = voided c
 
 -- the server's call to a node is timed out
-abbrev pub back_timed : Cell → Node → Option BackCall → Moved
-back_timed c n None = voided c
-back_timed c n (Some b) = server_moves c c.armed (back_timeout_row the_server c.server c.clock n b)
+abbrev pub back_timed : Cell → ℕ → Node → Option BackCall → Moved
+back_timed c i n None = voided c
+back_timed c i n (Some b) = server_moves c i (c.hosts i).armed (back_timeout_row (Server i) (c.hosts i).state c.clock n b)
 
-abbrev pub server_timed : Cell → Node → Option Fall → Moved
-server_timed c n None = back_timed c n (c.server.backs.calls n)
-server_timed c n (Some fall) = voided c
+abbrev pub server_timed : Cell → ℕ → Node → Option Fall → Moved
+server_timed c i n None = back_timed c i n ((c.hosts i).state.backs.calls n)
+server_timed c i n (Some fall) = voided c
 
 -- time has passed at the server
-abbrev pub server_wakes : Cell → Option Fall → Moved
-server_wakes c None = server_moves c c.armed (wake_row the_server c.server c.clock)
-server_wakes c (Some fall) = voided c
+abbrev pub server_wakes : Cell → ℕ → Option Fall → Moved
+server_wakes c i None = server_moves c i (c.hosts i).armed (wake_row (Server i) (c.hosts i).state c.clock)
+server_wakes c i (Some fall) = voided c
 
 unfoldable pub moved : Cell → Input → Moved
 moved c (begins n act) = cond (c.away n) (voided c) (begun_by c n act (c.clients n).running)
@@ -282,12 +301,12 @@ moved c (waits n) = cond (c.away n) (voided c) (waited_by c n (c.clients n).runn
 moved c (ticks n) = ticked c n
 moved c (client_stops n) = cond (c.away n) (voided c) (client_falls c n)
 moved c (client_starts n) = cond (c.away n) (client_rises c n) (voided c)
-moved c stops = server_stopped c c.down
-moved c (starts_again after o) = server_restarted c after o c.down
-moved c (sets_stop calls pick) = server_armed c (lines.Stop the_server calls pick) (record c.armed { stop = Some (calls, pick) }) c.down
-moved c (sets_fail call) = server_armed c (lines.Fail the_server call) (record c.armed { fail = Some call }) c.down
-moved c (server_waits n) = server_timed c n c.down
-moved c wakes = server_wakes c c.down
+moved c (stops i) = if_host c i (server_stopped c i (c.hosts i).down)
+moved c (starts_again i after o) = if_host c i (server_restarted c i after o (c.hosts i).down)
+moved c (sets_stop i calls pick) = if_host c i (server_armed c i (lines.Stop (Server i) calls pick) (record (c.hosts i).armed { stop = Some (calls, pick) }) (c.hosts i).down)
+moved c (sets_fail i call) = if_host c i (server_armed c i (lines.Fail (Server i) call) (record (c.hosts i).armed { fail = Some call }) (c.hosts i).down)
+moved c (server_waits i n) = if_host c i (server_timed c i n (c.hosts i).down)
+moved c (wakes i) = if_host c i (server_wakes c i (c.hosts i).down)
 moved c nothing = voided c
 
 -- these inputs lead from the first cell to the second by these entries
@@ -319,6 +338,16 @@ unless_there false id v vs = set id v vs
 abbrev pub first_volumes : List VolumeLine → Table Volume
 first_volumes [] = []
 first_volumes (v ∷ vs) = unless_there (is_some (get v.id (first_volumes vs))) v.id (first_volume v) (first_volumes vs)
+
+-- those at one server: of the lines with one volume's number the last counts
+abbrev pub placed_at : Bool → Bool → ℕ → Volume → Table Volume → Table Volume
+placed_at true here id v vs = vs
+placed_at false true id v vs = set id v vs
+placed_at false false id v vs = vs
+
+abbrev pub volumes_at : Node → List VolumeLine → Table Volume
+volumes_at server [] = []
+volumes_at server (v ∷ vs) = placed_at (is_some (get v.id (first_volumes vs))) (same_node v.server server) v.id (first_volume v) (volumes_at server vs)
 
 -- with what stands beside them
 abbrev pub first_stored : Table Volume → Table Stored
@@ -362,12 +391,14 @@ user_at s n = codes "guest"
 abbrev pub first_client : Script → ℕ → ClientState
 first_client s n = new_client 1 (cache_size s) (user_at s n) (locations s)
 
+abbrev pub first_host : Script → ℕ → Host
+first_host s i = record { state = first_server (volumes_at (Server i) s.volumes); down = None; armed = unarmed }
+
 abbrev pub start : Script → Cell
 start s = record {
-  server = first_server (first_volumes s.volumes);
+  host_count = s.servers;
+  hosts = first_host s;
   count = s.clients;
-  down = None;
-  armed = unarmed;
   clients = first_client s;
   away = λ n. false;
   sent = [];

@@ -1,5 +1,5 @@
 -- The steps of a file server, each with its new state, its lines and the messages that it sends.
-use Rattle.std.specs.Prelude.{ℕ, ◌+◌, List, [], ◌∷◌, ◌&&◌}
+use Rattle.std.specs.Prelude.{ℕ, ◌+◌, List, [], ◌∷◌}
 use Rattle.afs_num.specs.declared.types.Node.{Node}
 use Rattle.afs_num.specs.declared.messages.Received.{Received}
 use Rattle.afs_rows.specs.Callbacks.{Turn, expired, no_turn, turned_in, timed, pumped, risen_turn}

@@ -1,5 +1,5 @@
 -- What the nodes keep.
-use Rattle.std.specs.Prelude.{ℕ, List, Option, Bool, [], ◌∷◌, map, Some, None}
+use Rattle.std.specs.Prelude.{ℕ, List, Option, Bool, [], map, Some, None}
 use Rattle.afs_num.specs.declared.types.Fid.{Fid}
 use Rattle.afs_num.specs.declared.types.Node.{Node}
 use Rattle.afs_num.specs.declared.messages.Message.{Message}

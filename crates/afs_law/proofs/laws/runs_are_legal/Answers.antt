@@ -1,5 +1,5 @@
-use Rattle.afs_law.proofs.Law.{legal}
+use Rattle.afs_law.proofs.Servers.{runs_legal}
 use Rattle.afs_law.proofs.laws.runs_are_legal.Goals as goal
 
 pub returns : goal.returns
-returns c = legal
+returns c = runs_legal
