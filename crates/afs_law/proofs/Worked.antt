@@ -8,6 +8,8 @@ use Rattle.afs_num.specs.declared.histories.Actor.TheVariants as actors
 use Rattle.afs_ideal.specs.Volumes.{Volume}
 use Rattle.afs_ideal.specs.Tables.{Table}
 use Rattle.afs_num.specs.declared.histories.Body.{Body}
+use Rattle.afs_num.specs.declared.histories.ReadBody.{ReadBody}
+use Rattle.afs_num.specs.declared.histories.ReadStatus.{ReadStatus}
 use Rattle.afs_num.specs.declared.histories.Actor.{Actor}
 use Rattle.afs_law.proofs.Basics.{yes_no}
 use Rattle.std.specs.Option.{option_map}
@@ -338,3 +340,34 @@ shown_wrong h = elim h.1.1.0.0.0.1.0.1.whole [ inl x ↦ other_fid x.0 | inr y �
 shown_later : Legal (alters 2 (by_lines later_index) (entries (start (script 1)) open_front)) (script 1) → ⊥
 unfolding moved begin_row client_row server_row back_timeout_row wake_row start_row record_bytes head_form volume_form spelled opaque pad word laid_at led name_ok directory_bytes name_bytes rights_of image acl_text digits entry_text
 shown_later h = elim h.1.1.0.0.0.1.0.1.whole [ inl x ↦ other_fid x.0 | inr y ↦ elim y [ inl x ↦ apart_numbers 1 2 refl x.1.0 | inr z ↦ z ] ]
+
+-- a status that the object never had, and a text of rights that it never had
+abbrev stat_front : List Input
+stat_front = begins 1 (acts.Stat (operands.Fid file)) ∷ gives 1 steady ∷ gives 2 steady ∷ []
+
+abbrev rights_front : List Input
+rights_front = begins 1 (acts.GetAccessList (operands.Fid root)) ∷ gives 1 steady ∷ gives 2 steady ∷ []
+
+abbrev linked_twice : ReadBody → ReadBody
+linked_twice (seen.Status t) = seen.Status (record t { link_count = 7 })
+linked_twice b = b
+
+abbrev tells_linked : Line → Line
+tells_linked (lines.Read c f i source b) = lines.Read c f i source (linked_twice b)
+tells_linked l = l
+
+abbrev tells_rights : Line → Line
+tells_rights (lines.Read c f i source b) = lines.Read c f i source (seen.AccessList (codes "x"))
+tells_rights l = l
+
+first_code : List ℕ → ℕ
+first_code [] = 0
+first_code (b ∷ rest) = b
+
+status_wrong : Legal (alters 2 (by_lines tells_linked) (entries (start (script 1)) stat_front)) (script 1) → ⊥
+unfolding moved begin_row client_row server_row back_timeout_row wake_row start_row record_bytes head_form volume_form spelled opaque pad word laid_at led name_ok directory_bytes name_bytes rights_of image acl_text digits entry_text
+status_wrong h = elim h.1.1.0.0.0.1.0.1.whole.1 [ inl x ↦ apart_numbers 1 7 refl (ap (λ (t : ReadStatus). t.link_count) x.1) | inr y ↦ elim y [ inl x ↦ apart_numbers 1 7 refl (ap (λ (t : ReadStatus). t.link_count) x.1) | inr z ↦ elim z [ inl x ↦ apart_numbers 1 7 refl (ap (λ (t : ReadStatus). t.link_count) x.1) | inr w ↦ w ] ] ]
+
+rights_wrong : Legal (alters 2 (by_lines tells_rights) (entries (start (script 1)) rights_front)) (script 1) → ⊥
+unfolding moved begin_row client_row server_row back_timeout_row wake_row start_row record_bytes head_form volume_form spelled opaque pad word laid_at led name_ok directory_bytes name_bytes rights_of image acl_text digits entry_text first_code
+rights_wrong h = elim h.1.1.0.0.0.1.0.1.whole.1 [ inl x ↦ apart_numbers 49 120 refl (ap first_code x.1) | inr y ↦ elim y [ inl x ↦ apart_numbers 49 120 refl (ap first_code x.1) | inr z ↦ elim z [ inl x ↦ apart_numbers 49 120 refl (ap first_code x.1) | inr w ↦ w ] ] ]
