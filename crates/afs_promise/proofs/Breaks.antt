@@ -249,8 +249,8 @@ kept_due_of : (es : Entries) (due more : List (Reverse (ℕ × ℕ))) (os : List
 unfolding AreUnder
 kept_due_of es due more [] moved under all = tt
 kept_due_of es due more (o ∷ os) moved under all = (
-    sym (list_any-IsPermutation (is_at o) (filter (λ d. has_some (lookup (nat_eq d.0.1) es)) due) more moved) ∙ kept_any o (λ d. has_some (lookup (nat_eq d.0.1) es)) due (λ d e. ap (λ (n : ℕ). has_some (lookup (nat_eq n) es)) (number_at o d e) ∙ ap has_some under.0) all.0,
-    kept_due_of es due more os moved under.1 all.1
+  sym (list_any-IsPermutation (is_at o) (filter (λ d. has_some (lookup (nat_eq d.0.1) es)) due) more moved) ∙ kept_any o (λ d. has_some (lookup (nat_eq d.0.1) es)) due (λ d e. ap (λ (n : ℕ). has_some (lookup (nat_eq n) es)) (number_at o d e) ∙ ap has_some under.0) all.0,
+  kept_due_of es due more os moved under.1 all.1,
 )
 
 pub kept_heap : {entries : Entries} {due more : List (Reverse (ℕ × ℕ))} {last count : ℕ} → IsPermutation (filter (λ d. has_some (lookup (nat_eq d.0.1) entries)) due) more → IsOwing entries due last count → IsOwing entries more last count

@@ -16,7 +16,7 @@ use Rattle.afs_promise.proofs.Logs.{removed_log, held_alike}
 use Rattle.afs_promise.proofs.Split.{IsWithout, Split, split, and_both, holding_itself}
 use Rattle.afs_promise.proofs.Hits.{held_by}
 
-from_low : (low high : ℕ) (g : Grant) (log : List Grant) → Rises low high log → IsIn g log → low ≤ g.order
+pub from_low : (low high : ℕ) (g : Grant) (log : List Grant) → Rises low high log → IsIn g log → low ≤ g.order
 from_low low high g [] up i = absurd i
 from_low low high g (x ∷ xs) up (inl e) = subst (λ (y : Grant). low ≤ y.order) e up.0
 from_low low high g (x ∷ xs) up (inr i) = omega (arith, up.0, from_low (x.order + 1) high g xs up.1 i)

@@ -3,4 +3,6 @@ pub mod Ends
 pub mod Held
 pub mod Hits
 pub mod Split
+pub mod Volumes
 pub mod Logs
+pub mod Sorted

@@ -88,7 +88,7 @@ rises_by : (low high : ℕ) (g : Grant) (kept : List Grant) (b : Bool) → low �
 rises_by low high g kept true le up = (le, up)
 rises_by low high g kept false le up = rises_lower low (g.order + 1) high kept (omega (arith, le)) up
 
-rises_filter : (q : Grant → Bool) (low high : ℕ) (log : List Grant) → Rises low high log → Rises low high (filter q log)
+pub rises_filter : (q : Grant → Bool) (low high : ℕ) (log : List Grant) → Rises low high log → Rises low high (filter q log)
 rises_filter q low high [] up = up
 rises_filter q low high (g ∷ gs) up = rises_by low high g (filter q gs) (q g) up.0 (rises_filter q (g.order + 1) high gs up.1)
 
@@ -108,7 +108,7 @@ in_by : (g x : Grant) (kept : List Grant) (b : Bool) → IsIn g kept → IsIn g 
 in_by g x kept true i = inr i
 in_by g x kept false i = i
 
-in_filter : (q : Grant → Bool) (g : Grant) (log : List Grant) → q g ≡ true → IsIn g log → IsIn g (filter q log)
+pub in_filter : (q : Grant → Bool) (g : Grant) (log : List Grant) → q g ≡ true → IsIn g log → IsIn g (filter q log)
 in_filter q g [] is i = i
 in_filter q g (x ∷ xs) is (inl e) = subst (λ (b : Bool). IsIn g (if b then x ∷ filter q xs else filter q xs)) (sym (ap q e ∙ is)) (inl e)
 in_filter q g (x ∷ xs) is (inr i) = in_by g x (filter q xs) (q x) (in_filter q g xs is i)

@@ -1,7 +1,8 @@
 //! The promises that are held, in the order of granting.
 
-ghost use Rattle.std.specs.Prelude.{◌≡◌, ◌+◌, ◌<◌, ◌≤◌, ◌++◌, [], ◌∷◌, length, true, Some, None, is_some, ◌^◌, ◌&&◌, if◌then◌else◌, IsOk, OnOk, IfNone};
+ghost use Rattle.std.specs.Prelude.{◌≡◌, ◌+◌, ◌<◌, ◌≤◌, ◌++◌, [], ◌∷◌, ℕ, length, true, Some, None, is_some, ◌^◌, ◌&&◌, if◌then◌else◌, IsOk, OnOk, IfNone};
 ghost use Rattle.std.specs.List.{list_any, prefix_len};
+ghost use Rattle.std.specs.List.Sorted.{IsPermutation};
 ghost use Rattle.std.specs.Option.{option_to_list};
 ghost use Rattle.std.specs.Vec.{vec_capacity, vec_len};
 ghost use Rattle.indexmap.specs.IndexMap.{get, spare};
@@ -9,7 +10,7 @@ ghost use Rattle.afs_num.specs.Nodes.{same_node};
 ghost use Rattle.afs_num.specs.declared.types.Node.{Node};
 ghost use Rattle.afs_promise.specs.declared.types.Holding.{Holding};
 ghost use Rattle.afs_promise.specs.Promises.{with_promise, without_promise, hits, left, hits_on, left_off, by_fid, lasting};
-ghost use Rattle.afs_promise.specs.Granting.{holding, holding_in, same_holding, is_held, is_held_on, is_due, ends, reach, goes_on, hit_of, earlier, oldest, promises_in, held_on};
+ghost use Rattle.afs_promise.specs.Granting.{holding, holding_in, same_holding, is_held, is_held_on, is_due, ends, reach, goes_on, hit_of, earlier, oldest, promises_in, held_on, Rises};
 
 use crate::holding::holding;
 use crate::types::{Grant, Holding, Promise};
@@ -183,6 +184,15 @@ fn gather(log: &[Grant], latest: &IndexMap<Holding, Grant>, volume: u32, gone: &
     }
 }
 
+/// Puts grants in the order of their fids, those on one fid in the order of granting.
+fn sort_by_fid(gone: &mut Vec<Grant>)
+    ensures moved { IsPermutation gone.old.items gone.new.items }
+    ensures sorted { (high : ℕ) → Rises 0 high gone.old.items → promises_in gone.new.items ≡ by_fid (promises_in gone.old.items) }
+    ensures capacity { vec_capacity gone.new ≡ vec_capacity gone.old }
+{
+    gone.sort_unstable_by_key(|g| (g.promise.fid, g.order));
+}
+
 /// How many grants at the front have an expiry that isn't above the clock.
 fn due_in_front(log: &[Grant], now: u32) -> usize
     ensures value { result ≡ prefix_len (is_due now) log.now }
@@ -334,14 +344,9 @@ impl Grants {
         ensures room_kept { self.new.room ≡ self.old.room }
     {
         gather(&self.log, &self.latest, volume, gone);
-        gone.sort_unstable_by_key(|g| (g.promise.fid, g.order));
+        sort_by_fid(gone);
         for grant in &*gone {
-            remove(
-                &mut self.latest,
-                &mut self.count,
-                grant.promise.client,
-                grant.promise.fid,
-            );
+            self.give_up(grant.promise.client, grant.promise.fid);
         }
     }
 

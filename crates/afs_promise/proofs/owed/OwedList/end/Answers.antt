@@ -11,10 +11,10 @@ end-requires c = λ some. counts_some c.args.number c.self.invariant.0 some
 
 pub invariant_of-self : goal.invariant_of-self
 invariant_of-self c = (
-    subst (λ (es : List (ℕ × Option OwedBreak)). IsOwing es (heap_items c.self.inside.due) c.self.inside.last c.end.new.count) (sym c.end.ensures.entries) (struck_owing c.args.number c.end.ensures.count c.self.invariant.0),
-    c.self.invariant.1,
-    omega (arith, c.self.invariant.2, c.end.ensures.spare),
-    c.self.invariant.3
+  subst (λ (es : List (ℕ × Option OwedBreak)). IsOwing es (heap_items c.self.inside.due) c.self.inside.last c.end.new.count) (sym c.end.ensures.entries) (struck_owing c.args.number c.end.ensures.count c.self.invariant.0),
+  c.self.invariant.1,
+  omega (arith, c.self.invariant.2, c.end.ensures.spare),
+  c.self.invariant.3,
 )
 
 pub returns-clause-breaks : goal.returns-clause-breaks

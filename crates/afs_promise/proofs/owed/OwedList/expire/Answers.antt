@@ -1,22 +1,32 @@
-use Rattle.std.proofs.Common.{rules, ◌≡◌, ◌+◌, ◌<◌, ◌≤◌, ◌++◌, [], ◌∷◌, ℕ, length, true, nat_eq, if◌then◌else◌, IsOk, OnOk, IfNone, IfSome, ◌-◌, ◌*◌, ◌/◌, ◌%◌, Bool, false, nat_lt, List, slice_index_or, slice_set, bit_and, bit_or, Fits, w8, w32, w64, Bor, MutBor}
-use Rattle.std.specs.Iterator.{YieldsFirst, item_count}
-use Rattle.std.specs.List.{AllByRecursion}
-use Rattle.std.specs.List.Sorted.{IsPermutation}
-use Rattle.std.specs.BinaryHeap.{heap_items, heap_len, heap_capacity, IsHeap}
-use Rattle.std.specs.declared.cmp.Reverse.{Reverse}
-use Rattle.indexmap.specs.IndexMap.{get, spare}
-use Rattle.afs_promise.specs.Promises.{without_break, lasting_breaks}
-use Rattle.afs_promise.specs.Owing.{has_break, has_some, is_due, struck, due_order}
+use Rattle.std.proofs.Common.{◌≡◌, ◌+◌, ◌≤◌, ℕ, List, nat_eq, arith, sym, ap, subst, ◌∙◌, if◌then◌else◌}
+use Rattle.std.specs.Map.{lookup}
+use Rattle.std.specs.BinaryHeap.{heap_items}
+use Rattle.afs_promise.specs.Promises.{lasting_breaks}
+use Rattle.afs_promise.specs.Owing.{breaks_in, is_due, struck}
+use Rattle.afs_promise.proofs.Breaks.{counts_some, ends, all_last}
 use Rattle.afs_promise.proofs.owed.OwedList.expire.Goals as goal
 
--- src/owed.rt:238:13
 pub end_due-requires : goal.end_due-requires
-end_due-requires c = ?
+end_due-requires c = λ some. counts_some c.in-Some.number c.loop-number.invariant.owing some
 
--- src/owed.rt:237:9
 pub loop-number-preserved : goal.loop-number-preserved
-loop-number-preserved c = ?
+loop-number-preserved c =
+    let i = c.loop-number.invariant in
+    let s = c.in-Some.ensures.some in
+    let entries = c.loop-number.self-inside.breaks.entries in
+    let e = subst (λ (n : ℕ). c.end_due.new.breaks.entries ≡ (if is_due c.args.now (lookup (nat_eq n) entries) then struck n entries else entries)) (sym s.1) c.end_due.ensures.entries in
+    let sum = subst (λ (n : ℕ). c.end_due.new.count + (if is_due c.args.now (lookup (nat_eq n) entries) then 1 else 0) ≡ c.loop-number.self-inside.count) (sym s.1) c.end_due.ensures.count in
+    let g = ends entries c.end_due.new.breaks.entries (heap_items c.loop-number.self-inside.due) (heap_items c.next_due.new.due) c.args.now c.loop-number.self-inside.last c.loop-number.self-inside.count c.end_due.new.count s.0 s.3 s.2 e sum i.owing in
+    record {
+      owing = g.owing;
+      heap = c.in-Some.ensures.heap;
+      spare = omega (arith, i.spare, c.end_due.ensures.spare);
+      capacity = omega (arith, i.capacity, c.next_due.ensures.len, c.next_due.ensures.capacity);
+      room = i.room;
+      last = i.last;
+      lasts = g.lasts ∙ i.lasts;
+    }
 
--- src/owed.rt:232:5
 pub returns-clause-breaks : goal.returns-clause-breaks
-returns-clause-breaks c = ?
+returns-clause-breaks c =
+    sym (all_last c.args.now (heap_items c.loop-number.self-inside.due) (breaks_in c.loop-number.self-inside.breaks.entries) c.in_default.ensures.none c.loop-number.invariant.owing.covered) ∙ c.loop-number.invariant.lasts
