@@ -1,5 +1,5 @@
 -- How long the lists are after each edit, and what holds of them.
-use Rattle.std.proofs.Common.{◌≡◌, ℕ, ◌+◌, ◌≤◌, Bool, true, false, not, List, [], ◌∷◌, ◌++◌, length, map, filter, if◌then◌else◌, refl, ap, sym, ◌∙◌, arith, length-append}
+use Rattle.std.proofs.Common.{◌≡◌, ℕ, suc, ◌+◌, ◌<◌, ◌≤◌, Bool, true, false, not, List, [], ◌∷◌, ◌++◌, length, filter, drop, get_or, drop-cons, if◌then◌else◌, refl, ap, sym, ◌∙◌, arith, length-append}
 use Rattle.std.specs.Ordering.{is_lt}
 use Rattle.afs_num.specs.Fids.{fid_order}
 use Rattle.afs_num.specs.declared.types.Fid.{Fid}
@@ -48,3 +48,11 @@ promises_long (g ∷ gs) = omega (arith, promises_long gs)
 -- of a volume's promises as many go as were held on it
 pub volume_long : (volume : ℕ) (gs : List Grant) (ps : List Promise) → promises_in gs ≡ by_fid (hits_on volume ps) → length gs + length (left_off volume ps) ≡ length ps
 volume_long volume gs ps e = omega (arith, promises_long gs, ap (λ (l : List Promise). length l) e, by_fid_long (hits_on volume ps), filter_both (is_on volume) ps)
+
+pub next_granted : (client : Node) (expiry i : ℕ) (fids : List Fid) (d : Fid) (ps new all : List Promise) → i < length fids → new ≡ with_promise client expiry (get_or fids i d) ps → with_promises client expiry (drop i fids) ps ≡ all → with_promises client expiry (drop (i + 1) fids) new ≡ all
+next_granted client expiry i fids d ps new all lt e rest =
+    let one : drop (i + 1) fids ≡ drop (suc i) fids = ap (λ (n : ℕ). drop n fids) (let z : i + 1 ≡ suc i = omega arith in z) in
+    ap (λ (l : List Fid). with_promises client expiry l new) one ∙ (ap (with_promises client expiry (drop (suc i) fids)) e ∙ (sym (ap (λ (l : List Fid). with_promises client expiry l ps) (drop-cons fids i d lt)) ∙ rest))
+
+pub next_long : (client : Node) (expiry : ℕ) (fid : Fid) (ps new : List Promise) → new ≡ with_promise client expiry fid ps → length new ≤ length ps + 1
+next_long client expiry fid ps new e = omega (arith, ap (λ (l : List Promise). length l) e, with_few client expiry fid ps)
