@@ -4,5 +4,6 @@ pub mod Held
 pub mod Hits
 pub mod Split
 pub mod Volumes
+pub mod Lists
 pub mod Logs
 pub mod Sorted

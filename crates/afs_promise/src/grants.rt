@@ -326,6 +326,7 @@ impl Grants {
         ensures hits { hits except fid self.old.promises ≡ option_to_list result ++ hits except fid self.new.promises }
         ensures left { left except fid self.new.promises ≡ left except fid self.old.promises }
         ensures none { IfNone result (self.new.promises ≡ left except fid self.old.promises) }
+        ensures last { IfNone result (hits except fid self.old.promises ≡ []) }
         ensures len { length self.new.promises + length (option_to_list result) ≡ length self.old.promises }
         ensures room { self.new.room ≡ self.old.room }
     {

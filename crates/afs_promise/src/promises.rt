@@ -1,20 +1,22 @@
-ghost use Rattle.std.specs.Prelude.{◌≡◌, ◌+◌, ◌<◌, ◌≤◌, length, IsOk, OnOk, OnErr};
+ghost use Rattle.std.specs.Prelude.{◌≡◌, ◌+◌, ◌<◌, ◌≤◌, ◌++◌, length, IfOk, IsOk, OnOk, OnErr};
 ghost use Rattle.std.specs.Vec.{vec_capacity};
-ghost use Rattle.afs_promise.specs.Promises.{no_lists, grants, grants_all, gives_up, owes_all, withdraws, withdraws_volume, ends, expired};
+ghost use Rattle.afs_promise.specs.Granting.{promises_in};
+ghost use Rattle.afs_promise.specs.Promises.{no_lists, grants, grants_all, gives_up, with_promises, owes_all, owes_from, hits, left, withdraws, withdraws_volume, ends, expired};
 
 use crate::grants::Grants;
 use crate::owed::OwedList;
 use crate::types::Grant;
 use afs_num::types::{Fid, Mem, Node};
-use std::alloc::Global;
+use std::alloc::{AllocError, Global};
 use std::marker::Model;
 
 /// What a file server has promised in this boot, and the breaks that it owes.
 ///
-/// A promise that is held has its room among the owed breaks from its grant on, so that it becomes owed without
-/// memory. To grant, to give up and to look for one promise takes constant time on average, and so does a step of
-/// `expire` for each promise that ends, where expiries never fall from one grant to the next; of a break, `settled`,
-/// `quit` and `expire` take time with the logarithm of their number.
+/// A promise has its room among the owed breaks from its grant on, so it becomes owed without memory. To grant, to
+/// give up and to look for one promise takes constant time on average, and so does `expire` for each promise that
+/// ends, where expiries never fall from one grant to the next. `withdraw` looks for a promise of each client, once
+/// for each break and once more. `withdraw_volume` goes through all promises once. Of a break, `settled` and `quit`
+/// take constant time, and to owe and to expire it takes time with the logarithm of the number of breaks.
 #[derive(Drop)]
 pub struct Promises {
     grants: Grants,
@@ -35,6 +37,13 @@ impl Model for Promises {
     ghost invariant = { λ p. (length p.grants.promises ≤ p.owed.room) × (length p.grants.promises ≤ vec_capacity p.gone) × (p.gone.items ≡ []) };
 }
 
+/// So many and so many more; a number without a word of its own is want of memory.
+fn more_than(held: usize, additional: usize) -> Mem<usize>
+    ensures { IfOk result (λ n. n ≡ held + additional) }
+{
+    held.checked_add(additional).ok_or(AllocError)
+}
+
 /// Makes room for so many more promises, and for each that is held then to become owed.
 fn make_room(
     grants: &mut Grants,
@@ -42,7 +51,9 @@ fn make_room(
     gone: &mut Vec<Grant>,
     additional: usize,
 ) -> Mem<()>
-    ensures ok { OnOk result ((additional ≤ grants.new.room) × (length grants.old.promises + additional ≤ owed.new.room) × (length grants.old.promises + additional ≤ vec_capacity gone.new)) }
+    ensures spare { OnOk result (additional ≤ grants.new.room) }
+    ensures owing { OnOk result (length grants.old.promises + additional ≤ owed.new.room) }
+    ensures taking { OnOk result (length grants.old.promises + additional ≤ vec_capacity gone.new) }
     ensures promises { grants.new.promises ≡ grants.old.promises }
     ensures breaks { owed.new.breaks ≡ owed.old.breaks }
     ensures last { owed.new.last ≡ owed.old.last }
@@ -50,10 +61,57 @@ fn make_room(
     ensures gone { gone.new.items ≡ gone.old.items }
     ensures capacity { vec_capacity gone.old ≤ vec_capacity gone.new }
 {
-    let held = grants.len() + additional;
+    let held = more_than(grants.len(), additional)?;
     owed.reserve(held)?;
     gone.reserve(held)?;
     grants.reserve(additional)
+}
+
+/// Grants a promise on each of these fids, in the room that was made for them.
+#[tactic(auto, using(crate::proofs::Lists::with_few))]
+fn put_each(grants: &mut Grants, client: Node, fids: &[Fid], expiry: u32) -> Mem<()>
+    requires { length fids.now ≤ grants.old.room }
+    ensures ok { IsOk result }
+    ensures promises { grants.new.promises ≡ with_promises client expiry fids.now grants.old.promises }
+    ensures grows { length grants.new.promises ≤ length grants.old.promises + length fids.now }
+{
+    for fid in fids {
+        grants.put(client, *fid, expiry)?;
+    }
+    Ok(())
+}
+
+/// Takes the promises on the fid but that of `except`, and owes their breaks, in the room that was made for them.
+fn withdraw_each(grants: &mut Grants, owed: &mut OwedList, fid: Fid, except: Node) -> Mem<()>
+    requires room { length grants.old.promises ≤ owed.old.room }
+    requires number { owed.old.last + length grants.old.promises < 4000000000 }
+    ensures ok { IsOk result }
+    ensures promises { grants.new.promises ≡ left except fid grants.old.promises }
+    ensures breaks { owed.new.breaks ≡ owed.old.breaks ++ owes_from owed.old.last (hits except fid grants.old.promises) }
+    ensures last { owed.new.last ≡ owed.old.last + length (hits except fid grants.old.promises) }
+    ensures room { length grants.new.promises ≤ owed.new.room }
+    ensures fewer { length grants.new.promises ≤ length grants.old.promises }
+{
+    while let Some(promise) = grants.take_hit(fid, except) {
+        owed.owe(promise.client, Some(promise.fid), promise.expiry)?;
+    }
+    Ok(())
+}
+
+/// Owes the breaks of these promises, in the room that was made for them.
+fn owe_each(owed: &mut OwedList, gone: &[Grant]) -> Mem<()>
+    requires room { length gone.now ≤ owed.old.room }
+    requires number { owed.old.last + length gone.now < 4000000000 }
+    ensures ok { IsOk result }
+    ensures breaks { owed.new.breaks ≡ owed.old.breaks ++ owes_from owed.old.last (promises_in gone.now) }
+    ensures last { owed.new.last ≡ owed.old.last + length gone.now }
+    ensures room { owed.new.room + length gone.now ≡ owed.old.room }
+{
+    for grant in gone {
+        let promise = grant.promise;
+        owed.owe(promise.client, Some(promise.fid), promise.expiry)?;
+    }
+    Ok(())
 }
 
 impl Promises {
@@ -74,11 +132,13 @@ impl Promises {
         ensures ok { OnOk result (self.new ≡ owes_all client expiry self.old) }
         ensures err { OnErr result (self.new ≡ self.old) }
     {
-        self.owed.reserve(self.grants.len() + 1)?;
+        let held = more_than(self.grants.len(), 1)?;
+        self.owed.reserve(held)?;
         self.owed.owe(client, None, expiry)
     }
 
     /// Grants a promise on the fid until the clock reaches the expiry.
+    #[tactic(auto, using(crate::proofs::Lists::with_few))]
     pub fn grant(&mut self, client: Node, fid: Fid, expiry: u32) -> Mem<()>
         ensures ok { OnOk result (self.new ≡ grants client expiry fid self.old) }
         ensures err { OnErr result (self.new ≡ self.old) }
@@ -93,14 +153,11 @@ impl Promises {
         ensures err { OnErr result (self.new ≡ self.old) }
     {
         make_room(&mut self.grants, &mut self.owed, &mut self.gone, fids.len())?;
-        for fid in fids {
-            self.grants.put(client, *fid, expiry)?;
-        }
-        Ok(())
+        put_each(&mut self.grants, client, fids, expiry)
     }
 
     /// Makes room for each promise that is held, and for one that is granted next, to become owed. A grant makes its
-    /// own room, so there is nothing to do.
+    /// own room, so nothing is left to do.
     pub fn reserve(&mut self) -> Mem<()>
         ensures ok { IsOk result }
         ensures same { self.new ≡ self.old }
@@ -115,26 +172,19 @@ impl Promises {
         ensures ok { IsOk result }
         ensures lists { self.new ≡ withdraws except fid self.old }
     {
-        while let Some(promise) = self.grants.take_hit(fid, except) {
-            self.owed
-                .owe(promise.client, Some(promise.fid), promise.expiry)?;
-        }
-        Ok(())
+        withdraw_each(&mut self.grants, &mut self.owed, fid, except)
     }
 
     /// Withdraws every promise on the volume: their breaks become owed, by ascending vnode, of one vnode number the
     /// lower unique first, and of one fid in the order of granting. It takes no memory.
+    #[tactic(auto, using(crate::proofs::Lists::volume_long))]
     pub fn withdraw_volume(&mut self, volume: u32) -> Mem<()>
         requires { self.old.last_owed + length self.old.promises < 4000000000 }
         ensures ok { IsOk result }
         ensures lists { self.new ≡ withdraws_volume volume self.old }
     {
         self.grants.take_volume(volume, &mut self.gone);
-        for grant in &self.gone {
-            let promise = &grant.promise;
-            self.owed
-                .owe(promise.client, Some(promise.fid), promise.expiry)?;
-        }
+        owe_each(&mut self.owed, &self.gone)?;
         self.gone.clear();
         Ok(())
     }
@@ -148,6 +198,7 @@ impl Promises {
     }
 
     /// Removes the client's promise on the fid, where it holds one. It takes no memory.
+    #[tactic(auto, using(crate::proofs::Lists::filter_few))]
     pub fn give_up(&mut self, client: Node, fid: Fid)
         ensures { self.new ≡ gives_up client fid self.old }
     {
@@ -169,6 +220,7 @@ impl Promises {
     }
 
     /// Ends each promise and each owed break whose expiry isn't above the clock. It takes no memory.
+    #[tactic(auto, using(crate::proofs::Lists::filter_few))]
     pub fn expire(&mut self, now: u32)
         ensures { self.new ≡ expired now self.old }
     {

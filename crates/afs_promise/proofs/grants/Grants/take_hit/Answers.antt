@@ -1,4 +1,4 @@
-use Rattle.std.proofs.Common.{◌≡◌, ◌∷◌, ◌+◌, List, Option, Some, None, length, refl, sym, ap, subst, ◌∙◌, arith}
+use Rattle.std.proofs.Common.{◌≡◌, ◌∷◌, [], ◌+◌, List, Option, Some, None, length, refl, sym, ap, subst, ◌∙◌, arith}
 use Rattle.std.specs.Option.{IfNone}
 use Rattle.indexmap.specs.IndexMap.{get}
 use Rattle.afs_num.specs.declared.types.Node.{Node}
@@ -17,6 +17,14 @@ returns-in_err-grant-clause-none c =
     subst (λ (v : Granted). v.promises ≡ left c.args.except c.args.fid v.promises) c.self.view_is (all_left (is_hit c.args.except c.args.fid) (held (get same_holding c.self.inside.latest) c.self.inside.log.items) (no_hits c.args.except c.args.fid c.self.invariant.0 none))
     in
     subst (λ (o : Option Promise). IfNone o (c.args.self.now.promises ≡ left c.args.except c.args.fid c.args.self.now.promises)) (sym c.from_residual.ensures) here
+
+pub returns-in_err-grant-clause-last : goal.returns-in_err-grant-clause-last
+returns-in_err-grant-clause-last c =
+    let none : oldest (get same_holding c.self.inside.latest) c.args.except c.args.fid None c.self.inside.clients.items ≡ None =
+      ap (λ (ns : List Node). oldest (get same_holding c.self.inside.latest) c.args.except c.args.fid None ns) (sym c.deref.ensures.value) ∙ sym c.in_err-grant.ensures
+    in
+    let here : hits c.args.except c.args.fid c.args.self.now.promises ≡ [] = subst (λ (v : Granted). hits c.args.except c.args.fid v.promises ≡ []) c.self.view_is (no_hits c.args.except c.args.fid c.self.invariant.0 none) in
+    subst (λ (o : Option Promise). IfNone o (hits c.args.except c.args.fid c.args.self.now.promises ≡ [])) (sym c.from_residual.ensures) here
 
 pub returns-clause-hits : goal.returns-clause-hits
 returns-clause-hits c =

@@ -14,8 +14,13 @@ pub gather-requires : goal.gather-requires
 gather-requires c =
     let few = on_few (get same_holding c.self.inside.latest) c.args.volume c.self.inside.log.items in
     omega (
-        arith, few, c.requires.room, c.args.gone.now.ok.0, ap (λ (gs : List Grant). length gs) c.requires.empty, ap (λ (v : Granted). length v.promises) c.self.view_is,
-        ap (λ (gs : List Grant). length (held_on (get same_holding c.self.inside.latest) c.args.volume gs)) c.deref.ensures.value
+      arith,
+      few,
+      c.requires.room,
+      c.args.gone.now.ok.0,
+      ap (λ (gs : List Grant). length gs) c.requires.empty,
+      ap (λ (v : Granted). length v.promises) c.self.view_is,
+      ap (λ (gs : List Grant). length (held_on (get same_holding c.self.inside.latest) c.args.volume gs)) c.deref.ensures.value,
     )
 
 pub loop-grant-preserved : goal.loop-grant-preserved
@@ -29,7 +34,7 @@ returns-clause-hits c =
     let latest = get same_holding c.self.inside.latest in
     let log = c.self.inside.log.items in
     let gathered : c.gather.new.gone.items ≡ held_on latest c.args.volume log =
-      c.gather.ensures.grants ∙ (ap (λ (gs : List Grant). gs ++ held_on latest c.args.volume c.deref.result.now) c.requires.empty ∙ ap (held_on latest c.args.volume) c.deref.ensures.value)
+    c.gather.ensures.grants ∙ (ap (λ (gs : List Grant). gs ++ held_on latest c.args.volume c.deref.result.now) c.requires.empty ∙ ap (held_on latest c.args.volume) c.deref.ensures.value)
     in
     c.sort_by_fid.ensures.sorted c.self.inside.next (subst (λ (gs : List Grant). Rises 0 c.self.inside.next gs) (sym gathered) (rises_filter _ 0 c.self.inside.next log c.self.invariant.0.rises))
     ∙ (ap (λ (gs : List Grant). by_fid (promises_in gs)) gathered ∙ (ap by_fid (on_promises latest c.args.volume log) ∙ ap (λ (v : Granted). by_fid (hits_on c.args.volume v.promises)) c.self.view_is))
@@ -39,7 +44,7 @@ returns-clause-left c =
     let latest = get same_holding c.self.inside.latest in
     let log = c.self.inside.log.items in
     let gathered : c.gather.new.gone.items ≡ held_on latest c.args.volume log =
-      c.gather.ensures.grants ∙ (ap (λ (gs : List Grant). gs ++ held_on latest c.args.volume c.deref.result.now) c.requires.empty ∙ ap (held_on latest c.args.volume) c.deref.ensures.value)
+    c.gather.ensures.grants ∙ (ap (λ (gs : List Grant). gs ++ held_on latest c.args.volume c.deref.result.now) c.requires.empty ∙ ap (held_on latest c.args.volume) c.deref.ensures.value)
     in
     let moved = subst (λ (gs : List Grant). IsPermutation gs c.sort_by_fid.new.gone.items) gathered c.sort_by_fid.ensures.moved in
     let goes = subst (λ (v : Granted). without_all c.sort_by_fid.new.gone.items v.promises ≡ left_off c.args.volume v.promises) c.self.view_is (volume_goes latest c.args.volume log c.sort_by_fid.new.gone.items moved) in
