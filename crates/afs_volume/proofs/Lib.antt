@@ -21,3 +21,4 @@ pub mod Folded
 pub mod Walked
 pub mod Readable
 pub mod AtOnce
+pub mod AtFirst
