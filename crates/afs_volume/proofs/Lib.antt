@@ -22,3 +22,4 @@ pub mod Walked
 pub mod Readable
 pub mod AtOnce
 pub mod AtFirst
+pub mod Led
