@@ -21,3 +21,5 @@ pub mod Folded
 pub mod Walked
 pub mod Readable
 pub mod AtOnce
+pub mod AtFirst
+pub mod Led
