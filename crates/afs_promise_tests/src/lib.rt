@@ -1,0 +1,5 @@
+//! Tests of the promises of a file server and of the breaks that it owes.
+#![tactic(auto)]
+
+#[cfg(test)]
+mod tests;
