@@ -1,5 +1,5 @@
 -- What stands in memory, as what a disk keeps of it.
-use Rattle.std.proofs.Common.{◌≡◌, ℕ, List, [], ◌∷◌, Bool, true, false, not, zero, suc, Option, Some, None, refl, sym, ap, ◌∙◌, nat_eq, slice_get, filter, if◌then◌else◌, Bor, IfSome, IfNone, arith}
+use Rattle.std.proofs.Common.{◌≡◌, ℕ, [], ◌∷◌, Bool, true, false, not, zero, suc, Option, Some, None, refl, sym, ap, ◌∙◌, nat_eq, slice_get, filter, if◌then◌else◌, Bor, IfSome, IfNone, arith}
 use Rattle.std.proofs.lemmas.Bool.Decides.{nat_tests}
 use Rattle.std.specs.Option.{option_copied, option_map}
 use Rattle.afs_ideal.specs.Tables.{get, set, Table}
