@@ -1,5 +1,5 @@
 -- Items by ascending numbers: what stands at a number's place, and what an edit there makes of the table.
-use Rattle.std.proofs.Common.{◌≡◌, ℕ, zero, suc, ◌+◌, ◌<◌, ◌≤◌, Bool, true, false, not, ◌&&◌, List, [], ◌∷◌, length, get_or, set, Option, Some, None, is_some, nat_eq, nat_lt, slice_get, map, filter, ap, subst, sym, ◌∙◌, arith, refl, if◌then◌else◌}
+use Rattle.std.proofs.Common.{◌≡◌, ℕ, zero, suc, ◌+◌, ◌<◌, ◌≤◌, Bool, true, false, [], ◌∷◌, length, get_or, set, Option, Some, None, nat_eq, nat_lt, slice_get, filter, ap, subst, sym, arith, refl, if◌then◌else◌}
 use Rattle.std.specs.List.{insert}
 use Rattle.std.specs.Option.{option_map}
 use Rattle.std.specs.List.Sorted.{IsPartitionedBy, IsPartitionPoint}

@@ -1,5 +1,5 @@
 -- Items by ascending numbers, in memory.
-use Rattle.std.specs.Prelude.{ℕ, List, Bool, Option, Some, None, false, nat_eq, nat_lt, map}
+use Rattle.std.specs.Prelude.{ℕ, Bool, Option, Some, None, false, nat_eq, nat_lt, map}
 use Rattle.std.specs.List.{prefix_len}
 use Rattle.afs_ideal.specs.Tables.{Table}
 

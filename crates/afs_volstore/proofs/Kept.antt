@@ -1,8 +1,7 @@
 -- What a disk keeps, and what it goes on keeping.
-use Rattle.std.proofs.Common.{◌≡◌, ℕ, List, [], ◌∷◌, Bool, true, false, Option, Some, None, refl, sym, subst, nat_eq, if◌then◌else◌}
+use Rattle.std.proofs.Common.{◌≡◌, ℕ, List, [], ◌∷◌, Bool, true, false, Option, Some, refl, sym, subst, nat_eq, if◌then◌else◌}
 use Rattle.std.specs.Option.{option_map_or}
 use Rattle.afs_ideal.specs.Tables.{get, Table}
-use Rattle.afs_disk.specs.Disk.{LeavesJust}
 use Rattle.afs_records.specs.Durable.{Durable, Stored}
 use Rattle.afs_records.specs.Stands.{Stands}
 use Rattle.afs_volume.specs.declared.volume.Volume.{Volume}

@@ -1,14 +1,14 @@
 -- What stands in memory, as what a disk keeps of it.
-use Rattle.std.proofs.Common.{◌≡◌, ℕ, List, [], ◌∷◌, Bool, true, false, not, zero, suc, Option, Some, None, refl, sym, ap, ◌∙◌, nat_eq, slice_get, filter, if◌then◌else◌, Bor, IfSome, IfNone, arith}
+use Rattle.std.proofs.Common.{◌≡◌, ℕ, [], ◌∷◌, Bool, true, false, not, zero, suc, Option, Some, None, refl, sym, ap, ◌∙◌, nat_eq, slice_get, filter, if◌then◌else◌, Bor, IfSome, IfNone, arith}
 use Rattle.std.proofs.lemmas.Bool.Decides.{nat_tests}
 use Rattle.std.specs.Option.{option_copied, option_map}
-use Rattle.afs_ideal.specs.Tables.{get, Table}
+use Rattle.afs_ideal.specs.Tables.{get, set, Table}
 use Rattle.afs_seats.specs.Seated.{seen_as}
-use Rattle.afs_seats.proofs.Places.{get_seen, filter_seen}
+use Rattle.afs_seats.proofs.Places.{get_seen, filter_seen, set_seen}
 use Rattle.afs_records.specs.Durable.{is_flagged, booted}
 use Rattle.afs_volume.specs.declared.volume.Volume.{Volume}
 use Rattle.afs_volstore.specs.declared.state.KeptReply.{KeptReply}
-use Rattle.afs_volstore.specs.States.{parts_seen, AreNumbered}
+use Rattle.afs_volstore.specs.States.{kept_seen, parts_seen, AreNumbered}
 use Rattle.afs_volstore.specs.Stores.{stored}
 
 -- ---- what is found
@@ -71,3 +71,7 @@ still_numbered t u e are = rw e (numbered_filter (λ p. not (is_flagged (stored 
 pub parts_started : (before boot : ℕ) (t u : Table Volume) (stamps : Table ℕ) (kept : Table KeptReply) → u ≡ filter (λ p. not (is_flagged (stored p.1))) t
     → parts_seen boot u stamps kept ≡ booted boot (parts_seen before t stamps kept)
 parts_started before boot t u stamps kept e = rw e (ap (λ vs. record (parts_seen boot t stamps kept) { volumes = vs }) (sym (filter_seen stored (λ s. not (is_flagged s)) t)))
+
+pub parts_kept : (boot : ℕ) (volumes : Table Volume) (stamps : Table ℕ) (n : ℕ) (k : KeptReply) (t u : Table KeptReply) → u ≡ set n k t
+    → parts_seen boot volumes stamps u ≡ record (parts_seen boot volumes stamps t) { kept = set n (kept_seen k) (seen_as kept_seen t) }
+parts_kept boot volumes stamps n k t u e = rw e (ap (λ ks. record (parts_seen boot volumes stamps t) { kept = ks }) (sym (set_seen kept_seen n k t)))

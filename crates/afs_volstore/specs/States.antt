@@ -1,5 +1,5 @@
 -- What a disk keeps, as it stands in memory.
-use Rattle.std.specs.Prelude.{◌≡◌, ℕ, List, [], ◌∷◌}
+use Rattle.std.specs.Prelude.{◌≡◌, ℕ, [], ◌∷◌}
 use Rattle.afs_ideal.specs.Tables.{Table}
 use Rattle.afs_volume.specs.declared.volume.Volume.{Volume}
 use Rattle.afs_records.specs.Durable.{Durable, Kept}

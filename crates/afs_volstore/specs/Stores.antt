@@ -1,5 +1,5 @@
 -- A server's store, as its callers see it.
-use Rattle.std.specs.Prelude.{◌≡◌, ◌≤◌, ◌<◌, ◌^◌, ◌+◌, ◌⊎◌, ℕ, List, [], Bool, true, false, map, length, Option, Some, None, Result, Ok, Err, IsErrOf, OnOk, IsSome}
+use Rattle.std.specs.Prelude.{◌≡◌, ◌≤◌, ◌⊎◌, ℕ, List, Bool, false, map, Option, Some, Result, Ok, Err, IsErrOf, OnOk}
 use Rattle.afs_num.specs.declared.types.Node.{Node}
 use Rattle.afs_num.specs.declared.faults.StoreFault.{StoreFault}
 use Rattle.afs_num.specs.declared.faults.StoreFault.TheVariants as faults
@@ -9,7 +9,7 @@ use Rattle.afs_ideal.specs.Tables.{Table}
 use Rattle.afs_disk.specs.Disk.{LeavesJust, Rose, Setting, Trips, PassesAll}
 use Rattle.afs_volume.specs.Giving.{volume_of}
 use Rattle.afs_volume.specs.declared.volume.Volume.{Volume}
-use Rattle.afs_records.specs.Durable.{Stored, Durable, Kept, folded, has_room}
+use Rattle.afs_records.specs.Durable.{Stored, Durable, folded, has_room}
 use Rattle.afs_records.specs.Stands.{Stands}
 
 -- A server's store: what it keeps on its disk, the disk, the server, the record that the next commit puts there, whether a

@@ -4,7 +4,7 @@ ghost use Rattle.std.specs.Prelude.{◌≡◌, ◌≤◌, ◌<◌, ◌+◌, None
 ghost use Rattle.std.specs.Option.{option_copied, option_map, option_map_or};
 ghost use Rattle.afs_num.specs.Nodes.{node_number};
 ghost use Rattle.afs_ideal.specs.Tables.{get, set};
-ghost use Rattle.afs_records.specs.Durable.{booted, is_flagged, noted, or_zero, with_reply, with_stamp};
+ghost use Rattle.afs_records.specs.Durable.{booted, is_flagged, noted, or_zero};
 ghost use Rattle.afs_volstore.specs.Stores.{stored};
 ghost use Rattle.afs_volstore.specs.States.{kept_seen};
 
@@ -145,5 +145,54 @@ impl State {
         let volumes = replace(&mut self.volumes, Seats::new(self.alloc));
         self.volumes = unflagged(volumes);
         self.boot = boot;
+    }
+
+    /// Keeps a stamp. It takes no memory.
+    fn note_stamp(&mut self, family: u32, stamp: u32)
+        requires { 0 < self.old.stamps_room }
+        ensures parts { self.new.parts ≡ record self.old.parts { stamps = set family stamp self.old.parts.stamps } }
+        ensures room { self.new.kept_room ≡ self.old.kept_room }
+    {
+        match self.stamps.put(family, stamp) {
+            Ok(()) => {}
+            Err(_) => unreachable!(),
+        }
+    }
+
+    /// Keeps a reply to the caller of this number. It takes no memory.
+    fn note_reply(&mut self, caller: u32, reply: KeptReply)
+        requires { 0 < self.old.kept_room }
+        ensures { self.new.parts ≡ record self.old.parts { kept = set caller (kept_seen reply) self.old.parts.kept } }
+    {
+        match self.kept.put(caller, reply) {
+            Ok(()) => {}
+            Err(_) => unreachable!(),
+        }
+    }
+
+    /// Keeps what a record's head says. It takes no memory.
+    pub(crate) fn note(&mut self, head: RecordHead)
+        requires { (0 < self.old.stamps_room) × (0 < self.old.kept_room) }
+        ensures { self.new.parts ≡ noted head self.old.parts }
+    {
+        let RecordHead {
+            family,
+            stamp,
+            caller,
+            epoch,
+            number,
+            reply,
+        } = head;
+        if stamp != 0 {
+            self.note_stamp(family, stamp);
+        }
+        if let Some(caller) = caller {
+            let kept = KeptReply {
+                epoch,
+                number,
+                reply,
+            };
+            self.note_reply(caller.number(), kept);
+        }
     }
 }

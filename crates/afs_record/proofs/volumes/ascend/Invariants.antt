@@ -1,4 +1,4 @@
-use Rattle.std.proofs.Common.{◌≡◌, drop, ◌≤◌, ◌^◌}
+use Rattle.std.proofs.Common.{◌≡◌, drop}
 use Rattle.afs_records.specs.Records.{ascend_from}
 use Rattle.afs_record.proofs.volumes.ascend.Given as goal
 

@@ -1,4 +1,4 @@
-use Rattle.std.proofs.Common.{rules, not, filter, ap, sym, subst, ◌∙◌, ◌≡◌}
+use Rattle.std.proofs.Common.{rules, not, filter, ap, sym, subst, ◌∙◌}
 use Rattle.std.proofs.lemmas.Fn.{filter_same}
 use Rattle.afs_ideal.specs.Tables.{Table, AscendsFrom}
 use Rattle.afs_seats.proofs.Places.{filter_ascends}

@@ -1,4 +1,4 @@
-use Rattle.std.proofs.Common.{◌≡◌, ◌∙◌, ap, filter, not}
+use Rattle.std.proofs.Common.{◌∙◌, ap, filter, not}
 use Rattle.afs_records.specs.Durable.{is_flagged}
 use Rattle.afs_seats.specs.Seated.{Seated}
 use Rattle.afs_volume.specs.declared.volume.Volume.{Volume}

@@ -1,4 +1,4 @@
-use Rattle.std.proofs.Common.{inl, ap, sym, ◌∙◌, refl}
+use Rattle.std.proofs.Common.{inl, ap}
 use Rattle.afs_journal.specs.Records.{whole_records}
 use Rattle.afs_journal.proofs.Moments.{begins}
 use Rattle.afs_volstore.specs.Opening.{IsSetUpSoFar}
