@@ -1,71 +1,386 @@
-use Rattle.afs_law.specs.OneServer.{IsOneServer}
-use Rattle.std.proofs.Common.{◌≡◌, Option, List, [], ◌∷◌, ◌++◌, refl, ap, subst, ◌∙◌}
+-- A key changes something at most once in a run, whatever servers a cell has: a client makes each call to one server, which runs
+-- it only above that caller's last one that changed something.
+use Rattle.afs_history.specs.declared.acts.Act.{Act}
+use Rattle.afs_law.proofs.Backing.{all_lines, is_unchanging}
+use Rattle.afs_law.proofs.Basics.{Above, Each, IfCall, UpTo, at_put, below_not, below_up_to, both, client_number, each_at, each_map, each_more, if_call, node_apart, same_key-refl, same_node-true, up_to_below, up_to_same}
+use Rattle.afs_law.proofs.Calling.{AreReplies, GoesOn, IsLastOf, IsUncalled, Tame, begins_tame, caller_at, falls_tame, given_tame, rises_tame, uncalled_any, waits_tame}
+use Rattle.afs_law.proofs.Hosting.{Begins, HasOne, HostStep, Hosts, IsCutBy, IsSound, Memory, decides_due, disk_begins, memory_of, serves_step, starts_step, times_step, wakes_step}
+use Rattle.afs_law.specs.Legal.{IsNew}
+use Rattle.afs_law.specs.Once.{AreOnce, ChangesOnce, past_of}
+use Rattle.afs_law.specs.Past.{lines_of, onto, same_key}
+use Rattle.afs_rows.specs.Callbacks.{put, replies_of}
+use Rattle.afs_rows.specs.Going.{ClientState, Going}
+use Rattle.afs_rows.specs.Runs.{Armed, Blow, Cell, Entry, Fall, Host, Input, Leads, Luck, Moved, Outcome, RunsTo, at_rest, back_timed, begins, begun_by, begun_by_disk, blow_line, client_moves, client_starts, client_stops, comes_up, decided_at, fails_early, fails_midway, given_at, given_to, gives, has_host, in_boot, in_step, is_full, message_at, moved, nothing, server_armed, server_ends, server_given, server_moves, server_restarted, server_served, server_stopped, server_timed, server_waits, server_wakes, sets_fail, sets_stop, settled, start, starts_again, stops, struck, ticks, unarmed, voided, waited_by, waits, wakes}
+use Rattle.afs_rows.specs.ServerRow.{Begun, device_calls, key_of}
+use Rattle.afs_rows.specs.States.{BackCall, ServerState}
+use Rattle.afs_rows.specs.Steps.{Step}
+use Rattle.afs_model.specs.Calls.{call_seat}
+use Rattle.std.proofs.Common.{◌≡◌, ℕ, inl, inr, Bool, true, false, cond, eqb-true, nat_eq, List, [], ◌∷◌, ◌++◌, Option, Some, None, refl, sym, ap, subst, ◌∙◌}
+use Rattle.std.specs.Prelude.{⊤, ◌&&◌}
+use Rattle.afs_num.specs.Nodes.{same_node}
+use Rattle.afs_num.specs.declared.types.Head.{Head}
 use Rattle.afs_num.specs.declared.types.Key.{Key}
+use Rattle.afs_num.specs.declared.types.Node.{Node}
+use Rattle.afs_num.specs.declared.types.Node.TheVariants.{Admin, Client, Loc, Server}
+use Rattle.afs_num.specs.declared.messages.Message.{Message}
 use Rattle.afs_num.specs.declared.scripts.Script.{Script}
-use Rattle.afs_law.proofs.Law.{legal, first_passed}
-use Rattle.afs_law.specs.Ideal.{set_up, change_in}
-use Rattle.afs_law.specs.Legal.{IsNot, IsNew, IsGood, AreGood, LegalAfter, Legal}
 use Rattle.afs_history.specs.declared.lines.Line.{Line}
-use Rattle.afs_law.specs.Once.{IsFirst, AreOnce, past_of, ChangesOnce}
-use Rattle.afs_law.specs.Past.{onto, lines_on, lines_of}
-use Rattle.afs_rows.specs.Runs.{Entry}
-use Rattle.afs_law.proofs.OneCell.{Cell, RunsTo}
-use Rattle.std.specs.Prelude.{Some, None}
-use Rattle.afs_num.specs.declared.histories.Actor.{Actor}
 use Rattle.afs_history.specs.declared.lines.Line.TheVariants as lines
 
--- A key changes something at most once in a run.
+-- ---- small laws
 
--- ---- a legal history changes under each key once
+server_number : (i j : ℕ) → Server i ≡ Server j → i ≡ j
+server_number i j e = cc
 
-pub line_once : (s : Script) (who : Actor) (past : List Entry) (own next : List Line) (l : Line) → IsGood s who l past own next → AreOnce (own ++ lines_of past) → AreOnce (l ∷ own ++ lines_of past)
-line_once s who past own next (lines.Change q k n) g h = (g.1.fresh, h)
-line_once s who past own next l g h = h
+abbrev a_key : Node → ℕ → ℕ → Key
+a_key n e k = record { node = n; epoch = e; number = k }
 
-pub entry_once : (s : Script) (who : Actor) (past : List Entry) (own ls : List Line) → AreGood s who past own ls → AreOnce (own ++ lines_of past) → AreOnce (onto (own ++ lines_of past) ls)
-entry_once s who past own [] g h = h
-entry_once s who past own (l ∷ ls) g h = entry_once s who past (l ∷ own) ls g.1 (line_once s who past own ls l g.0 h)
+same_key-true : (k l : Key) → same_key k l ≡ true → k ≡ l
+same_key-true k l e =
+    let p = both (same_node k.node l.node) (nat_eq k.epoch l.epoch && nat_eq k.number l.number) e in
+    let q = both (nat_eq k.epoch l.epoch) (nat_eq k.number l.number) p.1 in
+    ap (λ (n : Node). a_key n k.epoch k.number) (same_node-true k.node l.node p.0) ∙ (ap (λ (x : ℕ). a_key l.node x k.number) (eqb-true _ _ q.0) ∙ ap (a_key l.node l.epoch) (eqb-true _ _ q.1))
 
-pub after_once : (s : Script) (past es : List Entry) → LegalAfter s past es → AreOnce (lines_of past) → AreOnce (lines_of (past_of past es))
-after_once s past [] g h = h
-after_once s past (e ∷ es) g h = after_once s (e ∷ past) es g.1 (entry_once s e.actor past [] e.lines g.0.0.0 h)
+-- ---- the changes among lines
 
--- ---- without the set-up
+abbrev IfChange : (Node → Key → Type 0) → Line → Type 0
+IfChange P (lines.Change q k count) = P q k
+IfChange P l = ⊤
 
-pub onto_front : (a b ls : List Line) → onto (a ++ b) ls ≡ onto a ls ++ b
-onto_front a b [] = refl
-onto_front a b (l ∷ ls) = onto_front (l ∷ a) b ls
+abbrev EachChange : (Node → Key → Type 0) → List Line → Type 0
+EachChange P [] = ⊤
+EachChange P (l ∷ o) = IfChange P l × EachChange P o
 
-pub lines_front : (base : List Line) (past : List Entry) → lines_on base past ≡ lines_of past ++ base
-lines_front base [] = refl
-lines_front base (e ∷ past) = ap (λ (ls : List Line). onto ls e.lines) (lines_front base past) ∙ onto_front (lines_of past) base e.lines
+if_change : (P Q : Node → Key → Type 0) → ((q : Node) (k : Key) → P q k → Q q k) → (l : Line) → IfChange P l → IfChange Q l
+if_change P Q w (lines.Change q k count) h = w q k h
+if_change P Q w l h = tt
 
-pub new_front_by : (k : Key) (o : Option Key) (S T : Type 0) → (S → T) → IsNot k o S → IsNot k o T
-new_front_by k None S T w h = w h
-new_front_by k (Some l) S T w h = (h.0, w h.1)
+each_change : (P Q : Node → Key → Type 0) → ((q : Node) (k : Key) → P q k → Q q k) → (o : List Line) → EachChange P o → EachChange Q o
+each_change P Q w [] h = tt
+each_change P Q w (l ∷ o) h = (if_change P Q w l h.0, each_change P Q w o h.1)
 
-pub new_front : (k : Key) (a b : List Line) → IsNew k (a ++ b) → IsNew k a
-new_front k [] b h = tt
-new_front k (l ∷ a) b h = new_front_by k (change_in l) _ _ (new_front k a b) h
+plain_each : (P : Node → Key → Type 0) (ls o : List Line) → all_lines is_unchanging ls ≡ true → EachChange P o → EachChange P (onto o ls)
+plain_each P [] o p h = h
+plain_each P (lines.Change q k count ∷ ls) o p h = absurd cc
+plain_each P (l ∷ ls) o p h = plain_each P ls (l ∷ o) p (tt, h)
 
-pub once_front_by : (o : Option Key) (a b : List Line) (S T : Type 0) → (S → T) → IsFirst o (a ++ b) S → IsFirst o a T
-once_front_by None a b S T w h = w h
-once_front_by (Some k) a b S T w h = (new_front k a b h.0, w h.1)
+plain_once : (ls o : List Line) → all_lines is_unchanging ls ≡ true → AreOnce o → AreOnce (onto o ls)
+plain_once [] o p h = h
+plain_once (lines.Change q k count ∷ ls) o p h = absurd cc
+plain_once (l ∷ ls) o p h = plain_once ls (l ∷ o) p h
 
-pub once_front : (a b : List Line) → AreOnce (a ++ b) → AreOnce a
-once_front [] b h = tt
-once_front (l ∷ a) b h = once_front_by (change_in l) a b _ _ (once_front a b) h
+one_each : (P : Node → Key → Type 0) (me : Node) (c : Option Key) (ls o : List Line) → HasOne me c ls → ((k : Key) → c ≡ Some k → P me k) → EachChange P o → EachChange P (onto o ls)
+one_each P me c [] o p w h = h
+one_each P me c (lines.Change q k count ∷ ls) o p w h = plain_each P ls (lines.Change q k count ∷ o) p.1.1 (subst (λ (n : Node). P n k) (sym p.0) (w k p.1.0), h)
+one_each P me c (l ∷ ls) o p w h = one_each P me c ls (l ∷ o) p w (tt, h)
 
--- the set-up stands under all entries
-pub set_up_under : (u : Entry) (past es : List Entry) → lines_of (past_of (past ++ u ∷ []) es) ≡ lines_on (lines_of (u ∷ [])) (past_of past es)
-set_up_under u [] [] = refl
-set_up_under u (e ∷ past) [] = ap (λ (ls : List Line). onto ls e.lines) (set_up_under u past [])
-set_up_under u past (e ∷ es) = set_up_under u (e ∷ past) es
+one_once : (me : Node) (c : Option Key) (ls o : List Line) → HasOne me c ls → ((k : Key) → c ≡ Some k → IsNew k o) → AreOnce o → AreOnce (onto o ls)
+one_once me c [] o p w h = h
+one_once me c (lines.Change q k count ∷ ls) o p w h = plain_once ls (lines.Change q k count ∷ o) p.1.1 (w k p.1.0, h)
+one_once me c (l ∷ ls) o p w h = one_once me c ls (l ∷ o) p w h
 
-pub legal_once : (s : Script) (h : List Entry) → Legal h s → ChangesOnce h
-legal_once s h g =
-    once_front (lines_of (past_of [] h)) (lines_of (set_up s ∷ []))
-    (subst AreOnce (set_up_under (set_up s) [] h ∙ lines_front (lines_of (set_up s ∷ [])) (past_of [] h)) (after_once s (set_up s ∷ []) h g (first_passed AreOnce (λ v o h. h) s.volumes [] tt)))
+-- a key that none of them has is new
+new_key : (P : Node → Key → Type 0) (k : Key) (o : List Line) → ((q : Node) (l : Key) → P q l → k ≡ l → ⊥) → EachChange P o → IsNew k o
+new_key P k [] w h = tt
+new_key P k (lines.Change q l count ∷ o) w h = (w q l h.0, new_key P k o w h.1)
+new_key P k (l ∷ o) w h = new_key P k o w h.1
 
-pub once : (s : Script) (h : List Entry) (end : Cell) → IsOneServer s → RunsTo h s end → ChangesOnce h
-once s h end one r = legal_once s h (legal s h end one r)
+-- ---- what holds after every entry
+
+-- a key of a client, not above its last one, whose callee is this
+record IsKnown (callees : Key → Node) (clients : ℕ → ClientState) (to : Node) (k : Key) : Type 0 where
+  client : ℕ
+  node : k.node ≡ Client client
+  called : to ≡ callees k
+  behind : UpTo k.epoch k.number (clients client).epoch (clients client).last
+
+-- it changed something at this server, which keeps it
+record HasRun (callees : Key → Node) (clients : ℕ → ClientState) (hosts : ℕ → Host) (q : Node) (k : Key) : Type 0 where
+  server : ℕ
+  is : q ≡ Server server
+  known : IsKnown callees clients q k
+  ran : Above (call_seat k.node (hosts server).state.lasting.kept) k.epoch k.number → ⊥
+
+abbrev last_of : ℕ → ClientState → Key
+last_of j c = record { node = Client j; epoch = c.epoch; number = c.last }
+
+abbrev HasCut : (Node → Key → Type 0) → Option Fall → Type 0
+HasCut K None = ⊤
+HasCut K (Some fall) = IsCutBy K fall
+
+record Stands (clients : ℕ → ClientState) (hosts : ℕ → Host) (sent : List Message) (o : List Line) : Type 0 where
+  callees : Key → Node
+  own : (j : ℕ) → callees (last_of j (clients j)) ≡ (clients j).callee
+  calls : Each (IfCall (λ h user call. IsKnown callees clients h.to (key_of h))) sent
+  replies : (j : ℕ) → AreReplies (clients j).seats
+  sound : (i : ℕ) → IsSound (memory_of (hosts i).state)
+  held : (i : ℕ) → Each IsUncalled (replies_of (hosts i).state.backs.held)
+  falls : (i : ℕ) → HasCut (IsKnown callees clients) (hosts i).down
+  ran : EachChange (HasRun callees clients hosts) o
+  once : AreOnce o
+
+abbrev StandsIn : Cell → List Line → Type 0
+StandsIn c o = Stands c.clients c.hosts c.sent o
+
+abbrev Keeps : List Line → Moved → Type 0
+Keeps o m = StandsIn m.cell (onto o m.entry.lines)
+
+-- ---- a step of a server
+
+-- what ran at a server is still kept where this one's keys grew
+grown_run : (callees : Key → Node) (clients : ℕ → ClientState) (hosts : ℕ → Host) (i : ℕ) (h : Host) → ((n : Node) (e k : ℕ) → Above (call_seat n h.state.lasting.kept) e k → Above (call_seat n (hosts i).state.lasting.kept) e k) → (q : Node) (k : Key) → HasRun callees clients hosts q k
+    → HasRun callees clients (put i h hosts) q k
+grown_run callees clients hosts i h grows q k r = record {
+  server = r.server;
+  is = r.is;
+  known = r.known;
+  ran = at_put i r.server (λ (x : Host). Above (call_seat k.node x.state.lasting.kept) k.epoch k.number → ⊥) h hosts
+      (λ same a. r.ran (subst (λ (j : ℕ). Above (call_seat k.node (hosts j).state.lasting.kept) k.epoch k.number) same (grows k.node k.epoch k.number a))) (λ other. r.ran);
+}
+
+-- a key that is to run at its callee, above all that is kept of its caller, ran nowhere
+not_run : (callees : Key → Node) (clients : ℕ → ClientState) (hosts : ℕ → Host) (i : ℕ) (k : Key) → IsKnown callees clients (Server i) k → Above (call_seat k.node (hosts i).state.lasting.kept) k.epoch k.number → (q : Node) (l : Key) → HasRun callees clients hosts q l → k ≡ l → ⊥
+not_run callees clients hosts i k known above q l r same =
+    let here : i ≡ r.server = server_number i r.server (known.called ∙ (ap callees same ∙ (sym r.known.called ∙ r.is))) in
+    r.ran (subst (λ (j : ℕ). Above (call_seat l.node (hosts j).state.lasting.kept) l.epoch l.number) here (subst (λ (x : Key). Above (call_seat x.node (hosts i).state.lasting.kept) x.epoch x.number) same above))
+
+host_keeps : (clients : ℕ → ClientState) (hosts : ℕ → Host) (sent more : List Message) (o ls : List Line) (i : ℕ) (h : Host) → (S : Stands clients hosts sent o) → Hosts (IsKnown S.callees clients (Server i)) (Server i) (memory_of (hosts i).state) (memory_of h.state) ls
+    → Each IsUncalled (replies_of h.state.backs.held) → HasCut (IsKnown S.callees clients) h.down → Each (IfCall (λ x user call. IsKnown S.callees clients x.to (key_of x))) more → Stands clients (put i h hosts) more (onto o ls)
+host_keeps clients hosts sent more o ls i h S H held cut calls = record {
+  callees = S.callees;
+  own = S.own;
+  calls = calls;
+  replies = S.replies;
+  sound = λ j. at_put i j (λ (x : Host). IsSound (memory_of x.state)) h hosts (λ same. H.sound) (λ other. S.sound j);
+  held = λ j. at_put i j (λ (x : Host). Each IsUncalled (replies_of x.state.backs.held)) h hosts (λ same. held) (λ other. S.held j);
+  falls = λ j. at_put i j (λ (x : Host). HasCut (IsKnown S.callees clients) x.down) h hosts (λ same. cut) (λ other. S.falls j);
+  ran = one_each (HasRun S.callees clients (put i h hosts)) (Server i) H.changed ls o H.one
+      (λ k e. record {
+        server = i;
+        is = refl;
+        known = H.known k e;
+        ran = at_put i i (λ (x : Host). Above (call_seat k.node x.state.lasting.kept) k.epoch k.number → ⊥) h hosts (λ same. H.ran k e) (λ other. absurd (other refl));
+      })
+      (each_change (HasRun S.callees clients hosts) (HasRun S.callees clients (put i h hosts)) (grown_run S.callees clients hosts i h H.grows) o S.ran);
+  once = one_once (Server i) H.changed ls o H.one (λ k e. new_key (HasRun S.callees clients hosts) k o (not_run S.callees clients hosts i k (H.known k e) (H.new k e)) S.ran) S.once;
+}
+
+-- a step that is done
+moves_keeps : (c : Cell) (o : List Line) (i : ℕ) (armed : Armed) (s : Step ServerState) → (S : StandsIn c o) → HostStep (IsKnown S.callees c.clients (Server i)) (Server i) (c.hosts i).state s → Keeps o (server_moves c i armed s)
+moves_keeps c o i armed s S h =
+    host_keeps c.clients c.hosts c.sent (c.sent ++ s.sent) o s.lines i (record { state = s.state; down = None; armed = armed }) S h.hosts h.held tt
+    (each_more _ c.sent s.sent S.calls (each_map IsUncalled _ (uncalled_any (λ x user call. IsKnown S.callees c.clients x.to (key_of x))) s.sent h.sent))
+
+same_hosts : (K : Key → Type 0) (me : Node) (x : Memory) (ls : List Line) → IsSound x → HasOne me None ls → Hosts K me x x ls
+same_hosts K me x ls s h = record { changed = None; one = h; known = λ k e. absurd cc; new = λ k e. absurd cc; ran = λ k e a. absurd cc; grows = λ n e k a. a; sound = s }
+
+-- one that leaves what it keeps
+falls_keeps : (c : Cell) (o : List Line) (i : ℕ) (down : Option Fall) (armed : Armed) (ls : List Line) → (S : StandsIn c o) → HasOne (Server i) None ls → HasCut (IsKnown S.callees c.clients) down
+    → Stands c.clients (put i (record (c.hosts i) { down = down; armed = armed }) c.hosts) c.sent (onto o ls)
+falls_keeps c o i down armed ls S none cut =
+    host_keeps c.clients c.hosts c.sent c.sent o ls i (record (c.hosts i) { down = down; armed = armed }) S (same_hosts (IsKnown S.callees c.clients (Server i)) (Server i) (memory_of (c.hosts i).state) ls (S.sound i) none) (S.held i) cut S.calls
+
+nothing_keeps : (c : Cell) (o : List Line) → StandsIn c o → Keeps o (voided c)
+nothing_keeps c o S = record { callees = S.callees; own = S.own; calls = S.calls; replies = S.replies; sound = S.sound; held = S.held; falls = S.falls; ran = (tt, S.ran); once = S.once }
+
+either_keeps : (o : List Line) (t : Bool) (m k : Moved) → Keeps o m → Keeps o k → Keeps o (cond t m k)
+either_keeps o true m k a b = a
+either_keeps o false m k a b = b
+
+-- ---- each input of a server
+
+blow_none : (i : ℕ) (t : Bool) → HasOne (Server i) None (blow_line i t ∷ [])
+blow_none i true = refl
+blow_none i false = refl
+
+served_keeps : (c : Cell) (o : List Line) (i place : ℕ) (m : Message) (b : Option Blow) → (S : StandsIn c o) → IfCall (λ h user call. IsKnown S.callees c.clients h.to (key_of h)) m → Keeps o (server_served c i place m b)
+served_keeps c o i place m None S h =
+    moves_keeps c o i _ _ S (serves_step (IsKnown S.callees c.clients (Server i)) i (c.hosts i).state c.clock place m (S.sound i) (S.held i) (decides_due (IsKnown S.callees c.clients) (Server i) (c.hosts i).state c.clock m (S.sound i).seats h))
+served_keeps c o i place m (Some b) S h = falls_keeps c o i (Some (in_step m c.clock)) unarmed (lines.Given place ∷ blow_line i b.stops ∷ []) S (blow_none i b.stops) h
+
+received_keeps : (c : Cell) (o : List Line) (i place : ℕ) (luck : Luck) (m : Message) (d : Option Fall) → (S : StandsIn c o) → IfCall (λ h user call. IsKnown S.callees c.clients h.to (key_of h)) m → Keeps o (server_given c i place luck m d)
+received_keeps c o i place luck m None S h = served_keeps c o i place m (struck (c.hosts i).armed luck (device_calls (decided_at c i m))) S h
+received_keeps c o i place luck m (Some fall) S h = nothing_keeps c o S
+
+stopped_keeps : (c : Cell) (o : List Line) (i : ℕ) (d : Option Fall) → StandsIn c o → Keeps o (server_stopped c i d)
+stopped_keeps c o i None S = falls_keeps c o i (Some at_rest) unarmed (lines.Crash (Server i) ∷ []) S refl tt
+stopped_keeps c o i (Some fall) S = nothing_keeps c o S
+
+ends_keeps : (c : Cell) (o : List Line) (i : ℕ) (f : Begun) (fall : Fall) (out : Outcome) → (S : StandsIn c o) → IsCutBy (IsKnown S.callees c.clients) fall → Begins (IsKnown S.callees c.clients (Server i)) (Server i) (c.hosts i).state f → Keeps o (server_ends c i f fall out)
+ends_keeps c o i f fall comes_up S cut b = moves_keeps c o i unarmed _ S (starts_step (IsKnown S.callees c.clients (Server i)) i (c.hosts i).state c.clock c.count f b)
+ends_keeps c o i f fall fails_early S cut b = falls_keeps c o i (Some fall) unarmed (lines.Fault (Server i) ∷ []) S refl cut
+ends_keeps c o i f fall fails_midway S cut b =
+    host_keeps c.clients c.hosts c.sent c.sent o (f.before (lines.Fault (Server i) ∷ [])) i (record { state = f.state; down = Some in_boot; armed = unarmed }) S (b.hosts (lines.Fault (Server i) ∷ []) refl) b.held tt S.calls
+ends_keeps c o i f fall is_full S cut b =
+    host_keeps c.clients c.hosts c.sent c.sent o (f.before (lines.Full (Server i) ∷ [])) i (record { state = f.state; down = Some at_rest; armed = unarmed }) S (b.hosts (lines.Full (Server i) ∷ []) refl) b.held tt S.calls
+
+restarted_keeps : (c : Cell) (o : List Line) (i : ℕ) (after : Bool) (out : Outcome) (d : Option Fall) → (S : StandsIn c o) → HasCut (IsKnown S.callees c.clients) d → Keeps o (server_restarted c i after out d)
+restarted_keeps c o i after out None S cut = nothing_keeps c o S
+restarted_keeps c o i after out (Some fall) S cut =
+    let f : Begun = begun_by_disk (Server i) (c.hosts i).state after fall in
+    ends_keeps c o i f fall (settled f.state out) S cut (disk_begins (IsKnown S.callees c.clients) (Server i) (c.hosts i).state after fall (S.sound i) (S.held i) cut)
+
+stop_keeps : (c : Cell) (o : List Line) (i calls pick : ℕ) (armed : Armed) (d : Option Fall) → (c.hosts i).down ≡ d → StandsIn c o → Keeps o (server_armed c i (lines.Stop (Server i) calls pick) armed d)
+stop_keeps c o i calls pick armed None e S = falls_keeps c o i (c.hosts i).down armed (lines.Stop (Server i) calls pick ∷ []) S refl (S.falls i)
+stop_keeps c o i calls pick armed (Some fall) e S = nothing_keeps c o S
+
+fail_keeps : (c : Cell) (o : List Line) (i call : ℕ) (armed : Armed) (d : Option Fall) → StandsIn c o → Keeps o (server_armed c i (lines.Fail (Server i) call) armed d)
+fail_keeps c o i call armed None S = falls_keeps c o i (c.hosts i).down armed (lines.Fail (Server i) call ∷ []) S refl (S.falls i)
+fail_keeps c o i call armed (Some fall) S = nothing_keeps c o S
+
+back_keeps : (c : Cell) (o : List Line) (i : ℕ) (n : Node) (b : Option BackCall) → StandsIn c o → Keeps o (back_timed c i n b)
+back_keeps c o i n None S = nothing_keeps c o S
+back_keeps c o i n (Some b) S = moves_keeps c o i _ _ S (times_step (IsKnown S.callees c.clients (Server i)) i (c.hosts i).state c.clock n b (S.sound i) (S.held i))
+
+timed_keeps : (c : Cell) (o : List Line) (i : ℕ) (n : Node) (d : Option Fall) → StandsIn c o → Keeps o (server_timed c i n d)
+timed_keeps c o i n None S = back_keeps c o i n ((c.hosts i).state.backs.calls n) S
+timed_keeps c o i n (Some fall) S = nothing_keeps c o S
+
+woken_keeps : (c : Cell) (o : List Line) (i : ℕ) (d : Option Fall) → StandsIn c o → Keeps o (server_wakes c i d)
+woken_keeps c o i None S = moves_keeps c o i _ _ S (wakes_step (IsKnown S.callees c.clients (Server i)) i (c.hosts i).state c.clock (S.sound i) (S.held i))
+woken_keeps c o i (Some fall) S = nothing_keeps c o S
+
+-- ---- a step of a client
+
+-- the callee of its last call, and of those before
+abbrev with_callee : Key → Node → (Key → Node) → Key → Node
+with_callee key to callees k = cond (same_key k key) to (callees k)
+
+last_key : (n : ℕ) (x y : ClientState) → (y.epoch ≡ x.epoch) × ((y.last ≡ x.last) × (y.callee ≡ x.callee)) → last_of n y ≡ last_of n x
+last_key n x y e = ap (λ (a : ℕ). a_key (Client n) a y.last) e.0 ∙ ap (λ (b : ℕ). a_key (Client n) x.epoch b) e.1.0
+
+-- the callee of a key that was known is the same
+kept_by : (t : Bool) (callees : Key → Node) (n : ℕ) (x y : ClientState) (k : Key) → same_key k (last_of n y) ≡ t → callees (last_of n x) ≡ x.callee → GoesOn (caller_at x) (caller_at y) → (k.node ≡ Client n → UpTo k.epoch k.number x.epoch x.last) → cond t y.callee (callees k) ≡ callees k
+kept_by false callees n x y k t own g behind = refl
+kept_by true callees n x y k t own (inl e) behind = let same : k ≡ last_of n y = same_key-true k (last_of n y) t in e.1.1 ∙ (sym own ∙ ap callees (sym (same ∙ last_key n x y e)))
+kept_by true callees n x y k t own (inr l) behind =
+    let same : k ≡ last_of n y = same_key-true k (last_of n y) t in
+    absurd (below_not x.epoch x.last y.epoch y.last l (subst (λ (z : Key). UpTo z.epoch z.number x.epoch x.last) same (behind (ap (λ (z : Key). z.node) same))))
+
+later_behind : (e k : ℕ) (x y : ClientState) → GoesOn (caller_at x) (caller_at y) → UpTo e k x.epoch x.last → UpTo e k y.epoch y.last
+later_behind e k x y (inl s) h = subst (λ (a : ℕ). UpTo e k a y.last) (sym s.0) (subst (λ (b : ℕ). UpTo e k x.epoch b) (sym s.1.0) h)
+later_behind e k x y (inr l) h = below_up_to e k y.epoch y.last (up_to_below e k x.epoch x.last y.epoch y.last h l)
+
+known_later : (callees : Key → Node) (clients : ℕ → ClientState) (n : ℕ) (y : ClientState) → callees (last_of n (clients n)) ≡ (clients n).callee → GoesOn (caller_at (clients n)) (caller_at y) → (to : Node) (k : Key) → IsKnown callees clients to k
+    → IsKnown (with_callee (last_of n y) y.callee callees) (put n y clients) to k
+known_later callees clients n y own g to k h = record {
+  client = h.client;
+  node = h.node;
+  called = h.called ∙ sym (kept_by (same_key k (last_of n y)) callees n (clients n) y k refl own g
+      (λ is. subst (λ (j : ℕ). UpTo k.epoch k.number (clients j).epoch (clients j).last) (client_number h.client n (sym h.node ∙ is)) h.behind));
+  behind = at_put n h.client (λ (x : ClientState). UpTo k.epoch k.number x.epoch x.last) y clients
+      (λ same. later_behind k.epoch k.number (clients n) y g (subst (λ (j : ℕ). UpTo k.epoch k.number (clients j).epoch (clients j).last) (sym same) h.behind)) (λ other. h.behind);
+}
+
+-- its last call is known
+head_key : (n : ℕ) (y : ClientState) (h : Head) → IsLastOf n (caller_at y) h → key_of h ≡ last_of n y
+head_key n y h l = ap (λ (m : Node). a_key m h.epoch h.number) l.from ∙ (ap (λ (a : ℕ). a_key (Client n) a h.number) l.epoch ∙ ap (λ (b : ℕ). a_key (Client n) y.epoch b) l.number)
+
+own_callee : (key : Key) (to : Node) (callees : Key → Node) → with_callee key to callees key ≡ to
+own_callee key to callees = ap (λ (t : Bool). cond t to (callees key)) (same_key-refl key)
+
+last_known : (callees : Key → Node) (clients : ℕ → ClientState) (n : ℕ) (y : ClientState) (h : Head) → IsLastOf n (caller_at y) h → IsKnown (with_callee (last_of n y) y.callee callees) (put n y clients) h.to (key_of h)
+last_known callees clients n y h l = record {
+  client = n;
+  node = l.from;
+  called = l.to ∙ sym (ap (with_callee (last_of n y) y.callee callees) (head_key n y h l) ∙ own_callee (last_of n y) y.callee callees);
+  behind = at_put n n (λ (x : ClientState). UpTo h.epoch h.number x.epoch x.last) y clients (λ same. up_to_same h.epoch h.number y.epoch y.last l.epoch l.number) (λ other. absurd (other refl));
+}
+
+other_callee : (callees : Key → Node) (n j : ℕ) (x y : ClientState) → (n ≡ j → ⊥) → with_callee (last_of n y) y.callee callees (last_of j x) ≡ callees (last_of j x)
+other_callee callees n j x y ne =
+    ap (λ (t : Bool). cond (t && (nat_eq x.epoch y.epoch && nat_eq x.last y.last)) y.callee (callees (last_of j x))) (node_apart (Client j) (Client n) (λ e. ne (sym (client_number j n e))))
+
+cut_over : (K L : Node → Key → Type 0) → ((q : Node) (k : Key) → K q k → L q k) → (d : Option Fall) → HasCut K d → HasCut L d
+cut_over K L w None h = tt
+cut_over K L w (Some at_rest) h = tt
+cut_over K L w (Some in_boot) h = tt
+cut_over K L w (Some (in_step m clock)) h = if_call (λ x user call. K x.to (key_of x)) (λ x user call. L x.to (key_of x)) (λ x user call. w x.to (key_of x)) m h
+
+run_later : (callees more : Key → Node) (clients then : ℕ → ClientState) (hosts : ℕ → Host) → ((q : Node) (k : Key) → IsKnown callees clients q k → IsKnown more then q k) → (q : Node) (k : Key) → HasRun callees clients hosts q k → HasRun more then hosts q k
+run_later callees more clients then hosts w q k r = record { server = r.server; is = r.is; known = w q k r.known; ran = r.ran }
+
+client_keeps : (c : Cell) (o : List Line) (n : ℕ) (s : Step ClientState) → StandsIn c o → Tame n (caller_at (c.clients n)) s → Keeps o (client_moves c n s)
+client_keeps c o n s S t =
+    let more : Key → Node = with_callee (last_of n s.state) s.state.callee S.callees in
+    let then : ℕ → ClientState = put n s.state c.clients in
+    let w : (q : Node) (k : Key) → IsKnown S.callees c.clients q k → IsKnown more then q k = known_later S.callees c.clients n s.state (S.own n) t.goes in
+    record {
+      callees = more;
+      own = λ j. at_put n j (λ (x : ClientState). more (last_of j x) ≡ x.callee) s.state c.clients
+          (λ same. subst (λ (i : ℕ). more (last_of i s.state) ≡ s.state.callee) same (own_callee (last_of n s.state) s.state.callee S.callees))
+          (λ other. other_callee S.callees n j (c.clients j) s.state other ∙ S.own j);
+      calls = each_more _ c.sent s.sent
+          (each_map _ _ (if_call (λ x user call. IsKnown S.callees c.clients x.to (key_of x)) (λ x user call. IsKnown more then x.to (key_of x)) (λ x user call. w x.to (key_of x))) c.sent S.calls)
+          (each_map _ _ (if_call (λ x user call. IsLastOf n (caller_at s.state) x) (λ x user call. IsKnown more then x.to (key_of x)) (λ x user call. last_known S.callees c.clients n s.state x)) s.sent t.sent);
+      replies = λ j. at_put n j (λ (x : ClientState). AreReplies x.seats) s.state c.clients (λ same. t.kept) (λ other. S.replies j);
+      sound = S.sound;
+      held = S.held;
+      falls = λ i. cut_over (IsKnown S.callees c.clients) (IsKnown more then) w (c.hosts i).down (S.falls i);
+      ran = plain_each (HasRun more then c.hosts) s.lines o t.lines (each_change _ _ (run_later S.callees more c.clients then c.hosts w) o S.ran);
+      once = plain_once s.lines o t.lines S.once;
+    }
+
+-- ---- every input
+
+to_keeps : (c : Cell) (o : List Line) (p : ℕ) (luck : Luck) (m : Message) (to : Node) → (S : StandsIn c o) → IfCall (λ h user call. IsKnown S.callees c.clients h.to (key_of h)) m → Keeps o (given_to c p luck m to)
+to_keeps c o p luck m (Server i) S h = either_keeps o (has_host c i) _ _ (received_keeps c o i p luck m (c.hosts i).down S h) (nothing_keeps c o S)
+to_keeps c o p luck m (Client n) S h = either_keeps o (c.away n) _ _ (nothing_keeps c o S) (client_keeps c o n _ S (given_tame n (c.clients n) c.clock p m (S.replies n)))
+to_keeps c o p luck m Loc S h = nothing_keeps c o S
+to_keeps c o p luck m (Admin n) S h = nothing_keeps c o S
+
+at_keeps : (c : Cell) (o : List Line) (p : ℕ) (luck : Luck) (m : Option Message) → message_at c.sent p ≡ m → StandsIn c o → Keeps o (given_at c p luck m)
+at_keeps c o p luck None e S = nothing_keeps c o S
+at_keeps c o p luck (Some m) e S = to_keeps c o p luck m m.head.to S (each_at _ c.sent p m e S.calls)
+
+begun_keeps : (c : Cell) (o : List Line) (n : ℕ) (act : Act) (g : Option Going) → StandsIn c o → Keeps o (begun_by c n act g)
+begun_keeps c o n act None S = client_keeps c o n _ S (begins_tame n (c.clients n) c.clock act (S.replies n))
+begun_keeps c o n act (Some g) S = nothing_keeps c o S
+
+waited_keeps : (c : Cell) (o : List Line) (n : ℕ) (g : Option Going) → StandsIn c o → Keeps o (waited_by c n g)
+waited_keeps c o n None S = nothing_keeps c o S
+waited_keeps c o n (Some act) S = client_keeps c o n _ S (waits_tame n (c.clients n) act (S.replies n))
+
+ticked_keeps : (c : Cell) (o : List Line) (n : ℕ) → StandsIn c o → Stands c.clients c.hosts c.sent (lines.Tick n ∷ o)
+ticked_keeps c o n S = record { callees = S.callees; own = S.own; calls = S.calls; replies = S.replies; sound = S.sound; held = S.held; falls = S.falls; ran = (tt, S.ran); once = S.once }
+
+moved_keeps : (c : Cell) (o : List Line) (x : Input) → StandsIn c o → Keeps o (moved c x)
+unfolding moved
+moved_keeps c o (begins n act) S = either_keeps o (c.away n) _ _ (nothing_keeps c o S) (begun_keeps c o n act (c.clients n).running S)
+moved_keeps c o (gives p luck) S = at_keeps c o p luck (message_at c.sent p) refl S
+moved_keeps c o (waits n) S = either_keeps o (c.away n) _ _ (nothing_keeps c o S) (waited_keeps c o n (c.clients n).running S)
+moved_keeps c o (ticks n) S = ticked_keeps c o n S
+moved_keeps c o (client_stops n) S = either_keeps o (c.away n) _ _ (nothing_keeps c o S) (client_keeps c o n _ S (falls_tame n (c.clients n)))
+moved_keeps c o (client_starts n) S = either_keeps o (c.away n) _ _ (client_keeps c o n _ S (rises_tame n (c.clients n) (S.replies n))) (nothing_keeps c o S)
+moved_keeps c o (stops i) S = either_keeps o (has_host c i) _ _ (stopped_keeps c o i (c.hosts i).down S) (nothing_keeps c o S)
+moved_keeps c o (starts_again i after out) S = either_keeps o (has_host c i) _ _ (restarted_keeps c o i after out (c.hosts i).down S (S.falls i)) (nothing_keeps c o S)
+moved_keeps c o (sets_stop i calls pick) S = either_keeps o (has_host c i) _ _ (stop_keeps c o i calls pick _ (c.hosts i).down refl S) (nothing_keeps c o S)
+moved_keeps c o (sets_fail i call) S = either_keeps o (has_host c i) _ _ (fail_keeps c o i call _ (c.hosts i).down S) (nothing_keeps c o S)
+moved_keeps c o (server_waits i n) S = either_keeps o (has_host c i) _ _ (timed_keeps c o i n (c.hosts i).down S) (nothing_keeps c o S)
+moved_keeps c o (wakes i) S = either_keeps o (has_host c i) _ _ (woken_keeps c o i (c.hosts i).down S) (nothing_keeps c o S)
+moved_keeps c o nothing S = nothing_keeps c o S
+
+-- ---- a run
+
+run_once : (xs : List Input) (c : Cell) (past es : List Entry) (end : Cell) → StandsIn c (lines_of past) → Leads c xs es end → AreOnce (lines_of (past_of past es))
+run_once [] c past [] end S r = S.once
+run_once [] c past (e ∷ es) end S r = absurd r
+run_once (x ∷ xs) c past [] end S r = absurd r
+run_once (x ∷ xs) c past (e ∷ es) end S r =
+    subst (λ (y : Entry). AreOnce (lines_of (past_of (y ∷ past) es))) (sym r.0) (run_once xs (moved c x).cell ((moved c x).entry ∷ past) es end (moved_keeps c (lines_of past) x S) r.1)
+
+first_stands : (s : Script) → StandsIn (start s) []
+first_stands s = record {
+  callees = λ k. Server 1;
+  own = λ j. refl;
+  calls = tt;
+  replies = λ j n seat m e. absurd cc;
+  sound = λ i. record { seats = λ n seat m e. absurd cc; kept = λ n seat m e. absurd cc; lower = λ n e k a. a };
+  held = λ i. tt;
+  falls = λ i. tt;
+  ran = tt;
+  once = tt;
+}
+
+pub once : (s : Script) (h : List Entry) (end : Cell) → RunsTo h s end → ChangesOnce h
+once s h end r = run_once r.inputs (start s) [] h end (first_stands s) r.leads

@@ -31,5 +31,7 @@ pub mod Servers
 pub mod Roomless
 pub mod Unserved
 pub mod Agreeing
+pub mod Calling
+pub mod Hosting
 pub mod KeysOnce
 pub mod Worked

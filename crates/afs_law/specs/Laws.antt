@@ -41,9 +41,9 @@ use Rattle.afs_num.specs.declared.calls.FsCall.{FsCall}
 abbrev pub RunsAreLegal : Type 0
 RunsAreLegal = (s : Script) (history : List Entry) (end : Cell) → IsOneServer s → RunsTo history s end → Legal history s
 
--- in every run of such a script a key changes something at most once
+-- in every run a key changes something at most once
 abbrev pub KeysRunOnce : Type 0
-KeysRunOnce = (s : Script) (history : List Entry) (end : Cell) → IsOneServer s → RunsTo history s end → ChangesOnce history
+KeysRunOnce = (s : Script) (history : List Entry) (end : Cell) → RunsTo history s end → ChangesOnce history
 
 -- the same inputs make one run: its entries and its end
 abbrev pub RunsAreOne : Type 0
