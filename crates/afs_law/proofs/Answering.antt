@@ -29,7 +29,7 @@ use Rattle.afs_law.proofs.Saving.{old_withdrawn}
 use Rattle.afs_law.proofs.Serving.{told_file, told_reach, told_act, not_ran, stale_none, reached_still}
 use Rattle.afs_law.proofs.Skipping.{none_where, own_ended, skips, drop_lines, was_given, drop_file, drop_reach, drop_seen, drop_passes, ended_running, drops_good}
 use Rattle.afs_history.specs.declared.acts.Act.{Act}
-use Rattle.afs_rows.specs.ClientRow.{boot_or_first, with_boot, takes_shown, takes_entry, boot_of, read_lines, status_told, entry_told, booted, joined, put_entry, calls_again, asking, is_trusted, goes_on, goes_by, look_at, looked, most_reads, walked, Walked, is_below, dropped_after, left_after, find_cached, used_first, refreshed, call_message, calls_step, zero_code, begin_row, ignores, ended, answers_step, takes_stored, takes, resends_step, counts, is_awaited, awaits, client_row, is_spent, hears, takes_plain, takes_data, takes_set, left_in, given_up_in, body_told, call_of, is_reading}
+use Rattle.afs_rows.specs.ClientRow.{boot_or_first, with_boot, takes_shown, takes_entry, boot_of, read_lines, status_told, entry_told, booted, joined, put_entry, calls_again, is_busy_code, most_busy, asking, is_trusted, goes_on, goes_by, look_at, looked, most_reads, walked, Walked, is_below, dropped_after, left_after, find_cached, used_first, refreshed, call_message, calls_step, zero_code, begin_row, ignores, ended, answers_step, takes_stored, takes, resends_step, counts, is_awaited, awaits, client_row, is_spent, hears, takes_plain, takes_data, takes_set, left_in, given_up_in, body_told, call_of, is_reading}
 use Rattle.afs_rows.specs.Going.{reads_status, reads_statuses, reads_rights, gives_back, asked, Going, Need, next, answers, began, with_read, ClientState, reads, asks_for}
 use Rattle.afs_law.specs.Grants.{has_fetched, fetch_reply, since}
 use Rattle.afs_law.specs.Ideal.{Reach, HasBeen, raised, is_zero_code, reach, last_version, HasVersion}
@@ -280,6 +280,10 @@ pub record Due (c : Cell) (fl : ℕ → Ghost) (past : List Entry) (n p : ℕ) (
   pub heard : Heard c p m
   pub at : message_at (sent_of past) p ≡ Some m
 
+neither : (a b : Bool) → (a || b) ≡ false → (a ≡ false) × (b ≡ false)
+neither true b e = absurd cc
+neither false b e = (refl, e)
+
 -- its act is answered with its code
 pub good_code : (s : Script) (c : Cell) (past : List Entry) (n p : ℕ) (act : Going) (m : Message) (code : Code) (own : List Line) → (h : Holds s c past) → Due c h.floors past n p act m → code_told m.carried ≡ Some code.0 → given_message own (sent_of past) ≡ message_at (sent_of past) p
     → has_begun (Client n) own ≡ false → running s (Client n) (own ++ lines_of past) ≡ running s (Client n) (lines_of past) → GoodCode s (Client n) code past own
@@ -423,7 +427,7 @@ pub takes_refused : (s : Script) (c : Cell) (past : List Entry) (n p : ℕ) (act
 takes_refused s c past n p act head code h d =
     let m : Message = record { head = head; carried = carried.Refusal code } in
     let e : Entry = step_entry n (answered_lines n p code) [] in
-    let nz : is_zero_code code ≡ false = d.answers.fits.0 in
+    let nz : is_zero_code code ≡ false = (neither _ _ d.answers.fits.0).0 in
     let held : ℕ = (h.floors n).held in
     moves s c past n (holding h.floors n held) (answers_step (Client n) (c.clients n) p code) h (client_ended s (c.clients n) (c.clients n).cache (h.own n) (h.own n).apart)
     (tt, ((refl, good_code s c past n p act m code (lines.Given p ∷ []) h d refl refl refl refl), tt))
@@ -1029,10 +1033,16 @@ takes_goes s c past n p act call head reply h d fresh same = plain_goes s c past
 pub spent_goes : (s : Script) (c : Cell) (past : List Entry) (n p : ℕ) (act : Going) (m : Message) → (h : Holds s c past) → Due c h.floors past n p act m → is_spent (c.clients n) act ≡ true → Goes s past (client_moves c n (calls_again (Client n) (c.clients n) p act))
 spent_goes s c past n p act m h d e = again_goes s c past n p act m h d (ap volume_changed (sym (call_is (c.clients n) act)) ∙ spent_shut (c.clients n).spoiled (volume_changed (call_of (c.clients n) act)) e)
 
+-- no refusal tells to ask again
+final_goes : (busy : Bool) (s : Script) (c : Cell) (past : List Entry) (n p : ℕ) (act : Going) (head : Head) (code : Code) → (h : Holds s c past) → Due c h.floors past n p act (record { head = head; carried = carried.Refusal code }) → busy ≡ false
+    → Goes s past (client_moves c n (cond (busy && nat_lt (c.clients n).busy most_busy) (calls_again (Client n) (record (c.clients n) { busy = (c.clients n).busy + 1 }) p act) (answers_step (Client n) (c.clients n) p code)))
+final_goes true s c past n p act head code h d e = absurd cc
+final_goes false s c past n p act head code h d e = takes_refused s c past n p act head code h d
+
 pub refused_goes : (s : Script) (c : Cell) (past : List Entry) (n p : ℕ) (act : Going) (head : Head) (code : Code) (t : Bool) → (h : Holds s c past) → Due c h.floors past n p act (record { head = head; carried = carried.Refusal code }) → is_spent (c.clients n) act ≡ t
-    → Goes s past (client_moves c n (cond t (calls_again (Client n) (c.clients n) p act) (answers_step (Client n) (c.clients n) p code)))
+    → Goes s past (client_moves c n (cond t (calls_again (Client n) (c.clients n) p act) (ClientRow.refuses (Client n) (c.clients n) p act code)))
 refused_goes s c past n p act head code true h d e = spent_goes s c past n p act _ h d e
-refused_goes s c past n p act head code false h d e = takes_refused s c past n p act head code h d
+refused_goes s c past n p act head code false h d e = final_goes (is_busy_code code) s c past n p act head code h d (neither _ _ d.answers.fits.0).1
 
 pub replied_goes : (s : Script) (c : Cell) (past : List Entry) (n p : ℕ) (act : Going) (head : Head) (reply : FsReply) (t : Bool) → (h : Holds s c past) → Due c h.floors past n p act (record { head = head; carried = carried.Reply (tell.File reply) }) → is_spent (c.clients n) act ≡ t
     → Goes s past (client_moves c n (cond t (calls_again (Client n) (c.clients n) p act) (takes (Client n) (c.clients n) c.clock p act (call_of (c.clients n) act) reply)))

@@ -1,4 +1,4 @@
-use Rattle.afs_law.proofs.Facts.{IsGot}
+use Rattle.afs_law.proofs.Facts.{is_passing, IsGot}
 use Rattle.afs_ideal.specs.AccessLists.{acl_text}
 use Rattle.afs_num.specs.declared.histories.ReadBody.{ReadBody}
 use Rattle.std.proofs.Common.{◌≡◌, ℕ, ◌+◌, ◌<◌, ◌≤◌, ◌⊎◌, inl, inr, Bool, true, false, cond, nat_eq, List, [], ◌∷◌, ◌++◌, Option, Some, None, ℤ, pos, refl, sym, ap, subst, ◌∙◌, arith, eqb-true, append-nil, append_assoc, eq-eqb}
@@ -21,7 +21,7 @@ use Rattle.afs_law.proofs.Turning.{loaded, TurnSends, Pumps, pumps, expired_back
 use Rattle.afs_rows.specs.Callbacks.{Turn, replies_of, pumped, expired, turn_for, no_turn, settles, settles_by, is_back_awaited, renews, renews_by, turned_by, Started, starts, starts_by, held_after, given_out, if_to, put_at}
 use Rattle.afs_rows.specs.ClientRow.{names_told, body_told}
 use Rattle.afs_rows.specs.Going.{asked, Going}
-use Rattle.afs_law.specs.Ideal.{shown_status, Tells, TellsIn, TellsOf, volume_after, is_zero_code, version_in, latest, IsThat, user_of, clock_of, last_version, HasVersion, reach, call_under}
+use Rattle.afs_law.specs.Ideal.{shown_status, Tells, TellsIn, TellsOf, volume_after, version_in, latest, IsThat, user_of, clock_of, last_version, HasVersion, reach, call_under}
 use Rattle.afs_law.specs.Legal.{code_given, IsResult, AreGood, code_told, Cause, IsTold, answer_at, answer_on}
 use Rattle.afs_history.specs.declared.lines.Line.{Line}
 use Rattle.afs_law.specs.Past.{IsUnheard, lines_of, sent_of, given_message, called_key, HasCode, IsCallUnder, Ran, onto, same_key, answered_key}
@@ -592,7 +592,7 @@ pub reached_still : (s : Script) (c : Cell) (past : List Entry) (j : ℕ) (e : E
     → (f : Fid) → Reached (Client j) f (index_in (last_version f (lines_of (e ∷ past)))) (e ∷ past)
 reached_still s c past j e H r l f = subst (λ (o : Option Version). Reached (Client j) f (index_in o) (e ∷ past)) (sym (l f)) (r f (index_in (last_version f (lines_of past))) ((H.clients j).reached f))
 
-pub refusal_fits : (sp : Bool) (n : ℕ) (call : FsCall) (v : Spot) (boot : ℕ) (m : Message) (code : Code) (past : List Entry) → is_zero_code code ≡ false → (LastStored v → ⊥) → Fits sp n call v boot m (carried.Refusal code) past
+pub refusal_fits : (sp : Bool) (n : ℕ) (call : FsCall) (v : Spot) (boot : ℕ) (m : Message) (code : Code) (past : List Entry) → is_passing code.0 ≡ false → (LastStored v → ⊥) → Fits sp n call v boot m (carried.Refusal code) past
 refusal_fits sp n call v boot m code past nz none = (nz, λ x. absurd (none x))
 
 -- a call above the client's durable seat changed nothing
@@ -648,7 +648,7 @@ run_backed s c past n h user call x e ps H up w is a b d granted clients promise
     (record { client = n; to = refl; from = refl; is_reply = is; under = taken_not c.server.seats n h r }) (own_waited (expired c.clock c.server.backs) c.server.lasting.boot c.server.seats (seats_of c) c.clock c.sent e past (record { reply = r; waits = []; again = false }) B b (λ y. key_held (expired c.clock c.server.backs) c.server.lasting.boot c.server.seats (seats_of c) c.clock c.sent past k B w.above y))
     (λ y. absurd (no_change k (lines_of past) (H.new k w.above_durable) (change_back k e.lines (lines_of past) d y)))
 
-pub refuses_goes : (s : Script) (c : Cell) (past : List Entry) (armed : Armed) (p n : ℕ) (h : Head) (user : List ℕ) (call : FsCall) (code : ℤ) → (H : Holds s c past) → c.down ≡ None → message_at c.sent p ≡ Some (call_at n h user call) → Now s c H.floors past n h user call → is_zero_code (record { 0 = code }) ≡ false
+pub refuses_goes : (s : Script) (c : Cell) (past : List Entry) (armed : Armed) (p n : ℕ) (h : Head) (user : List ℕ) (call : FsCall) (code : ℤ) → (H : Holds s c past) → c.down ≡ None → message_at c.sent p ≡ Some (call_at n h user call) → Now s c H.floors past n h user call → is_passing code ≡ false
     → IsResult code (answer_at user call past) (called_key (client_head n h)) (lines.Given p ∷ []) (lines.Given p ∷ lines_of past) → Goes s past (server_does c armed p (call_at n h user call) (refuses (client_head n h) code))
 refuses_goes s c past armed p n h user call code H up at w nz result =
     let x : Carried = carried.Refusal (record { 0 = code }) in

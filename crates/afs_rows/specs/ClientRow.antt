@@ -482,7 +482,7 @@ most_busy = 8
 
 abbrev pub refuses : Node → ClientState → ℕ → Going → Code → Step ClientState
 refuses me c place act code =
-    answers_step me c place code
+    if (is_busy_code code && nat_lt c.busy most_busy) then calls_again me (record c { busy = c.busy + 1 }) place act else answers_step me c place code
 
 -- ---- the message that answers the unanswered call
 
