@@ -1,3 +1,4 @@
+use Rattle.afs_law.proofs.Facts.{FitsBulk, AreFetched, IsBulk}
 use Rattle.afs_num.specs.declared.histories.Version.{Version}
 use Rattle.afs_law.proofs.Apart.{found_filter, found_out}
 use Rattle.afs_law.proofs.Asking.{Passes, not_client, reads_by_other}
@@ -327,6 +328,10 @@ pub list_safe : (call : FsCall) (n : ℕ) (x : Spot) (m : Message) (past : List 
 list_safe (calls.FetchAcl f) n x m past text status t e l cache aged head fits none = inl refl
 list_safe call n x m past text status t e l cache aged head fits none = plain_safe call x m t e l cache aged head (volume_changed call) refl fits none
 
+pub bulk_safe : (sp : Bool) (call : FsCall) (n : ℕ) (x : Spot) (m : Message) (past : List Entry) (ss : List AfsFetchStatus) (cs : List AfsCallBack) (t e l : ℕ) (cache : List CacheEntry) (aged : Type 0) (head : Head) → FitsBulk sp n x m past ss cs call → (LastStored x → ⊥) → IsSafe t e l None cache aged head call
+bulk_safe sp (calls.BulkStatus fids) n x m past ss cs t e l cache aged head fits none = inl refl
+bulk_safe sp call n x m past ss cs t e l cache aged head fits none = plain_safe call x m t e l cache aged head (volume_changed call) refl fits none
+
 pub reply_safe : (sp : Bool) (reply : FsReply) (n : ℕ) (call : FsCall) (x : Spot) (m : Message) (past : List Entry) (t e l : ℕ) (cache : List CacheEntry) (aged : Type 0) (head : Head) → FitsReply sp n call x m past reply → (LastStored x → ⊥) → IsSafe t e l None cache aged head call
 reply_safe sp (replies.FetchData contents status callback sync) n call x m past t e l cache aged head fits none = data_safe sp call n x m past contents status callback t e l cache aged head fits none
 reply_safe sp (replies.FetchAcl text status sync) n call x m past t e l cache aged head fits none = list_safe call n x m past text status t e l cache aged head fits none
@@ -334,6 +339,7 @@ reply_safe sp (replies.FetchStatus status callback sync) n call x m past t e l c
 reply_safe sp (replies.StoreData status sync) n call x m past t e l cache aged head fits none = set_safe call n x m past status t e l cache aged head fits none
 reply_safe sp (replies.StoreAcl status sync) n call x m past t e l cache aged head fits none = set_safe call n x m past status t e l cache aged head fits none
 reply_safe sp (replies.StoreStatus status sync) n call x m past t e l cache aged head fits none = set_safe call n x m past status t e l cache aged head fits none
+reply_safe sp (replies.BulkStatus statuses callbacks sync) n call x m past t e l cache aged head fits none = bulk_safe sp call n x m past statuses callbacks t e l cache aged head fits none
 reply_safe sp reply n call x m past t e l cache aged head fits none = plain_safe call x m t e l cache aged head (volume_changed call) refl fits none
 
 pub ended_safe : (sp : Bool) (n : ℕ) (call : FsCall) (x : Spot) (boot : ℕ) (m : Message) (c : Carried) (past : List Entry) (t e l : ℕ) (cache : List CacheEntry) (aged : Type 0) (head : Head) → Fits sp n call x boot m c past → (LastStored x → ⊥)

@@ -287,6 +287,19 @@ abbrev pub FitsShown : Bool → ℕ → Spot → Message → List Entry → AfsF
 FitsShown sp j v m past status callback (calls.FetchStatus f) = IsFetched sp j f status.sync_counter (status_told status) None callback.expiration_time m past
 FitsShown sp j v m past status callback call = FitsPlain v m call
 
+-- the statuses that were read of these fids, each under the index that the fid had
+abbrev pub AreFetched : Bool → ℕ → Message → List Entry → (Fid → ℕ) → List Fid → List AfsFetchStatus → List AfsCallBack → Type 0
+AreFetched sp j m past at (f ∷ fs) (s ∷ ss) (c ∷ cs) = ((s.sync_counter ≡ at f) × IsFetched sp j f s.sync_counter (status_told s) None c.expiration_time m past) × AreFetched sp j m past at fs ss cs
+AreFetched sp j m past at fs ss cs = ⊤
+
+pub record IsBulk (sp : Bool) (j : ℕ) (m : Message) (past : List Entry) (fids : List Fid) (statuses : List AfsFetchStatus) (callbacks : List AfsCallBack) : Type 0 where
+  pub at : Fid → ℕ
+  pub all : AreFetched sp j m past at fids statuses callbacks
+
+abbrev pub FitsBulk : Bool → ℕ → Spot → Message → List Entry → List AfsFetchStatus → List AfsCallBack → FsCall → Type 0
+FitsBulk sp j v m past statuses callbacks (calls.BulkStatus fids) = IsBulk sp j m past fids statuses callbacks
+FitsBulk sp j v m past statuses callbacks call = FitsPlain v m call
+
 -- rights that were read
 pub record IsGot (j : ℕ) (f : Fid) (index : ℕ) (text : List ℕ) (past : List Entry) : Type 0 where
   pub is : Body
@@ -328,6 +341,7 @@ FitsReply sp j call v m past (replies.FetchStatus status callback sync) = FitsSh
 FitsReply sp j call v m past (replies.StoreData status sync) = FitsSet j v m past status call
 FitsReply sp j call v m past (replies.StoreAcl status sync) = FitsSet j v m past status call
 FitsReply sp j call v m past (replies.StoreStatus status sync) = FitsSet j v m past status call
+FitsReply sp j call v m past (replies.BulkStatus statuses callbacks sync) = FitsBulk sp j v m past statuses callbacks call
 FitsReply sp j call v m past reply = FitsPlain v m call
 
 -- a code that is none, or tells to ask again: no server refuses with it, for no volume is out of service or busy

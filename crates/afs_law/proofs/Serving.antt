@@ -1,3 +1,7 @@
+use Rattle.afs_law.proofs.Facts.{AreFetched, IsBulk, FitsBulk}
+use Rattle.afs_rows.specs.ServerRow.{sight_status, promise_until}
+use Rattle.afs_shape.specs.Rows.{no_callback}
+use Rattle.afs_num.specs.declared.calls.AfsCallBack.{AfsCallBack}
 use Rattle.afs_law.proofs.Facts.{is_passing, IsGot}
 use Rattle.afs_ideal.specs.AccessLists.{acl_text}
 use Rattle.afs_num.specs.declared.histories.ReadBody.{ReadBody}
@@ -765,6 +769,35 @@ abbrev pub IsAmong : Found → List Found → Type 0
 IsAmong f [] = ⊥
 IsAmong f (x ∷ xs) = (x ≡ f) ⊎ IsAmong f xs
 
+-- the index of what stands under a fid
+abbrev index_of : Option Vnode → ℕ
+index_of None = 0
+index_of (Some x) = x.index
+
+abbrev index_stored : Fid → Option Stored → ℕ
+index_stored f None = 0
+index_stored f (Some st) = index_of (vnode_of f st.volume)
+
+abbrev index_at : Cell → Fid → ℕ
+index_at c f = index_stored f (get f.volume c.server.lasting.volumes)
+
+seen_index : (c : Cell) (f : Fid) (x : Sight) → IsSeen c f x.stored x.found → x.found.vnode.index ≡ index_at c f
+seen_index c f x h = sym (ap (index_at c) h.fid ∙ (ap (index_stored x.found.fid) h.at ∙ ap index_of h.found))
+
+all_fit : (sp : Bool) (n : ℕ) (m : Message) (c : Cell) (past : List Entry) (expiry : ℕ) (caller : Caller) (fids : List Fid) (xs : List Sight) (granted : List Found) → AllSeen c fids xs → ((f : Found) → IsAmong f (map (λ (x : Sight). x.found) xs) → IsAmong f granted)
+    → ((st : Stored) (f : Found) → get f.fid.volume c.server.lasting.volumes ≡ Some st → vnode_of f.fid st.volume ≡ Some f.vnode → IsAmong f granted → (b : Option Body) → IsBody b (body_told (type_of f.vnode.kind) (bytes_by f.vnode.kind f.vnode)) → IsFetched sp n f.fid f.vnode.index (shown_status f.vnode) b expiry m past)
+    → AreFetched sp n m past (index_at c) fids (map (sight_status caller) xs) (map (λ (k : AfsCallBack). promise_until expiry) (map (λ (x : Sight). no_callback) xs))
+all_fit sp n m c past expiry caller [] xs granted seen w h = tt
+all_fit sp n m c past expiry caller (f ∷ fs) [] granted seen w h = absurd seen
+all_fit sp n m c past expiry caller (f ∷ fs) (x ∷ xs) granted seen w h =
+    (
+      (
+        seen_index c f x seen.0,
+        subst (λ (z : Fid). IsFetched sp n z x.found.vnode.index (shown_status x.found.vnode) None expiry m past) (sym seen.0.fid) (h x.stored x.found seen.0.at seen.0.found (w x.found (inl refl)) None tt),
+      ),
+      all_fit sp n m c past expiry caller fs xs granted seen.1 (λ y z. w y (inr z)) h,
+    )
+
 -- the reply of a reading call fits it, where each vnode that it promises is fetched
 pub read_fits : (sp : Bool) (n : ℕ) (call : FsCall) (v : Spot) (m : Message) (c : Cell) (past : List Entry) (expiry : ℕ) (r : Reading) → IsRead c call r
     → ((st : Stored) (f : Found) → get f.fid.volume c.server.lasting.volumes ≡ Some st → vnode_of f.fid st.volume ≡ Some f.vnode → IsAmong f r.granted → (b : Option Body) → IsBody b (body_told (type_of f.vnode.kind) (bytes_by f.vnode.kind f.vnode)) → IsFetched sp n f.fid f.vnode.index (shown_status f.vnode) b expiry m past)
@@ -783,7 +816,8 @@ read_fits sp n (calls.FetchStatus g) v m c past expiry r x h g\' =
 read_fits sp n (calls.GetVolumeStatus k) v m c past expiry r x h g\' = subst (λ (y : Reading). FitsReply sp n (calls.GetVolumeStatus k) v m past (promised_in expiry y.reply)) (sym x.is) (λ id z. absurd cc)
 read_fits sp n (calls.GiveUpCallBacks fids callbacks) v m c past expiry r x h g\' = subst (λ (y : Reading). FitsReply sp n (calls.GiveUpCallBacks fids callbacks) v m past (promised_in expiry y.reply)) (sym x) (λ id z. absurd cc)
 read_fits sp n calls.GetTime v m c past expiry r x h g\' = subst (λ (y : Reading). FitsReply sp n calls.GetTime v m past (promised_in expiry y.reply)) (sym x.is) (λ id z. absurd cc)
-read_fits sp n (calls.BulkStatus fids) v m c past expiry r x h g\' = subst (λ (y : Reading). FitsReply sp n (calls.BulkStatus fids) v m past (promised_in expiry y.reply)) (sym x.is) (λ id z. absurd cc)
+read_fits sp n (calls.BulkStatus fids) v m c past expiry r x h g\' = subst (λ (y : Reading). FitsReply sp n (calls.BulkStatus fids) v m past (promised_in expiry y.reply)) (sym x.is)
+    (record { at = index_at c; all = all_fit sp n m c past expiry x.caller fids x.sights (map (λ (s : Sight). s.found) x.sights) x.seen (λ y z. z) (λ st f at found yes b body. h st f at found (subst (λ (y : Reading). IsAmong f y.granted) (sym x.is) yes) b body) })
 read_fits sp n call v m c past expiry r x h g\' = absurd x
 
 -- the answer of a call that one volume serves
