@@ -1,4 +1,4 @@
-use Rattle.afs_law.proofs.Facts.{AreFetched, IsBulk, FitsBulk}
+use Rattle.afs_law.proofs.Facts.{AreFetched, FitsBulk}
 use Rattle.afs_law.proofs.Passing.{fetched_each}
 use Rattle.std.specs.List.{list_any}
 use Rattle.std.specs.Prelude.{◌||◌}
@@ -366,15 +366,14 @@ broken_each : (b sp : Bool) (n p : ℕ) (m : Message) (at : Fid → ℕ) (gs : L
 broken_each b sp n p m at [] ss cs fs ms past last w h = tt
 broken_each b sp n p m at (g ∷ gs) [] cs fs ms past last w h = tt
 broken_each b sp n p m at (g ∷ gs) (s ∷ ss) [] fs ms past last w h = tt
-broken_each b sp n p m at (g ∷ gs) (s ∷ ss) (c ∷ cs) fs ms past last w h =
-    (
-      (
-        h.0.0,
-        spoils_more sp (is_named g fs) b n g s.sync_counter (status_told s) None c.expiration_time m (step_entry n (broken_lines n p fs) ms ∷ past) (λ z. w (or_left (is_named g fs) (list_any (λ k. is_named k fs) gs) z))
+broken_each b sp n p m at (g ∷ gs) (s ∷ ss) (c ∷ cs) fs ms past last w h = (
+  (
+    h.0.0,
+    spoils_more sp (is_named g fs) b n g s.sync_counter (status_told s) None c.expiration_time m (step_entry n (broken_lines n p fs) ms ∷ past) (λ z. w (or_left (is_named g fs) (list_any (λ k. is_named k fs) gs) z))
         (broken_fetched sp (is_named g fs) n p m g s.sync_counter (status_told s) None c.expiration_time fs ms past refl last h.0.1),
-      ),
-      broken_each b sp n p m at gs ss cs fs ms past last (λ z. w (or_right (is_named g fs) (list_any (λ k. is_named k fs) gs) z)) h.1,
-    )
+  ),
+  broken_each b sp n p m at gs ss cs fs ms past last (λ z. w (or_right (is_named g fs) (list_any (λ k. is_named k fs) gs) z)) h.1,
+)
 
 pub broken_bulk : (sp : Bool) (n p : ℕ) (x : Spot) (m : Message) (ss : List AfsFetchStatus) (cs : List AfsCallBack) (call : FsCall) (fs : List Fid) (ms : List Message) (past : List Entry) → ((f : Fid) → last_version f (lines_of (step_entry n (broken_lines n p fs) ms ∷ past)) ≡ last_version f (lines_of past))
     → FitsBulk sp n x m past ss cs call → FitsBulk (cond (names_call fs call) true sp) n x m (step_entry n (broken_lines n p fs) ms ∷ past) ss cs call

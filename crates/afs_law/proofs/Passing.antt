@@ -1,4 +1,4 @@
-use Rattle.afs_law.proofs.Facts.{AreFetched, IsBulk, FitsBulk}
+use Rattle.afs_law.proofs.Facts.{AreFetched, FitsBulk}
 use Rattle.afs_num.specs.declared.histories.ReadStatus.{ReadStatus}
 use Rattle.afs_num.specs.declared.scripts.Script.{Script}
 use Rattle.std.proofs.Common.{◌≡◌, ℕ, ◌≤◌, inl, inr, Bool, true, false, cond, List, [], ◌∷◌, ◌++◌, Option, Some, None, ℤ, refl, sym, ap, ◌∙◌, subst, arith, le_of_eq, le_trans, eqb-true}

@@ -1,4 +1,4 @@
-use Rattle.afs_law.proofs.Facts.{AreFetched, IsBulk, FitsBulk}
+use Rattle.afs_law.proofs.Facts.{AreFetched}
 use Rattle.afs_rows.specs.ServerRow.{sight_status, promise_until}
 use Rattle.afs_shape.specs.Rows.{no_callback}
 use Rattle.afs_num.specs.declared.calls.AfsCallBack.{AfsCallBack}
@@ -789,14 +789,13 @@ all_fit : (sp : Bool) (n : ℕ) (m : Message) (c : Cell) (past : List Entry) (ex
     → AreFetched sp n m past (index_at c) fids (map (sight_status caller) xs) (map (λ (k : AfsCallBack). promise_until expiry) (map (λ (x : Sight). no_callback) xs))
 all_fit sp n m c past expiry caller [] xs granted seen w h = tt
 all_fit sp n m c past expiry caller (f ∷ fs) [] granted seen w h = absurd seen
-all_fit sp n m c past expiry caller (f ∷ fs) (x ∷ xs) granted seen w h =
-    (
-      (
-        seen_index c f x seen.0,
-        subst (λ (z : Fid). IsFetched sp n z x.found.vnode.index (shown_status x.found.vnode) None expiry m past) (sym seen.0.fid) (h x.stored x.found seen.0.at seen.0.found (w x.found (inl refl)) None tt),
-      ),
-      all_fit sp n m c past expiry caller fs xs granted seen.1 (λ y z. w y (inr z)) h,
-    )
+all_fit sp n m c past expiry caller (f ∷ fs) (x ∷ xs) granted seen w h = (
+  (
+    seen_index c f x seen.0,
+    subst (λ (z : Fid). IsFetched sp n z x.found.vnode.index (shown_status x.found.vnode) None expiry m past) (sym seen.0.fid) (h x.stored x.found seen.0.at seen.0.found (w x.found (inl refl)) None tt),
+  ),
+  all_fit sp n m c past expiry caller fs xs granted seen.1 (λ y z. w y (inr z)) h,
+)
 
 -- the reply of a reading call fits it, where each vnode that it promises is fetched
 pub read_fits : (sp : Bool) (n : ℕ) (call : FsCall) (v : Spot) (m : Message) (c : Cell) (past : List Entry) (expiry : ℕ) (r : Reading) → IsRead c call r

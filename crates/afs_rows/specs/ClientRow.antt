@@ -468,6 +468,7 @@ takes me c clock place act call (replies.FetchStatus status callback sync) = tak
 takes me c clock place act call (replies.StoreData status sync) = takes_set me c clock place status call
 takes me c clock place act call (replies.StoreAcl status sync) = takes_set me c clock place status call
 takes me c clock place act call (replies.StoreStatus status sync) = takes_set me c clock place status call
+takes me c clock place act call (replies.BulkStatus statuses callbacks sync) = takes_bulk me c clock place act statuses callbacks sync call
 takes me c clock place act call reply = takes_plain me c place call
 
 -- ---- refusals
