@@ -52,18 +52,22 @@ fn a_byte_more_is_no_record(rt: HostRuntime) -> Result<(), Fail> {
     Ok(())
 }
 
+// Whether the bytes are no record where the one in this place is one more.
+fn is_refused(alloc: Global, bytes: &[u8], place: usize) -> Result<bool, AllocError> {
+    let mut raised = Vec::from_slice(alloc, bytes)?;
+    if let Some(byte) = raised.get_mut(place) {
+        *byte = byte.wrapping_add(1);
+    }
+    Ok(fault(alloc, &raised) == Some(RecordFault::NoForm))
+}
+
 // The places of the words that, raised by one, make the bytes none.
 fn refused(alloc: Global, bytes: &[u8]) -> Result<Vec<usize>, AllocError> {
     let mut places = Vec::new(alloc);
-    let mut raised = Vec::from_slice(alloc, bytes)?;
-    let mut place = 3;
-    while place < raised.len() {
-        raised[place] = raised[place].wrapping_add(1);
-        if fault(alloc, &raised) == Some(RecordFault::NoForm) {
-            places.push(place - 3)?;
+    for word in 0..bytes.len() / 4 {
+        if is_refused(alloc, bytes, 4 * word + 3)? {
+            places.push(4 * word)?;
         }
-        raised[place] = raised[place].wrapping_sub(1);
-        place += 4;
     }
     Ok(places)
 }
