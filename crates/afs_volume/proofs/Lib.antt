@@ -21,5 +21,3 @@ pub mod Folded
 pub mod Walked
 pub mod Readable
 pub mod AtOnce
-pub mod AtFirst
-pub mod Led

@@ -13,7 +13,6 @@ mod drawing;
 pub mod edits;
 pub mod faults;
 mod finding;
-mod laying;
 mod limits;
 mod making;
 mod naming;

@@ -21,7 +21,7 @@ returns-in_err-grant-clause-none c =
 pub returns-in_err-grant-clause-last : goal.returns-in_err-grant-clause-last
 returns-in_err-grant-clause-last c =
     let none : oldest (get same_holding c.self.inside.latest) c.args.except c.args.fid None c.self.inside.clients.items ≡ None =
-      ap (λ (ns : List Node). oldest (get same_holding c.self.inside.latest) c.args.except c.args.fid None ns) (sym c.deref.ensures.value) ∙ sym c.in_err-grant.ensures
+    ap (λ (ns : List Node). oldest (get same_holding c.self.inside.latest) c.args.except c.args.fid None ns) (sym c.deref.ensures.value) ∙ sym c.in_err-grant.ensures
     in
     let here : hits c.args.except c.args.fid c.args.self.now.promises ≡ [] = subst (λ (v : Granted). hits c.args.except c.args.fid v.promises ≡ []) c.self.view_is (no_hits c.args.except c.args.fid c.self.invariant.0 none) in
     subst (λ (o : Option Promise). IfNone o (hits c.args.except c.args.fid c.args.self.now.promises ≡ [])) (sym c.from_residual.ensures) here

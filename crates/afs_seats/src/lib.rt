@@ -1,6 +1,0 @@
-//! Items by ascending numbers.
-#![tactic(auto)]
-
-mod seats;
-
-pub use seats::Seats;

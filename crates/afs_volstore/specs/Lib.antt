@@ -1,3 +1,0 @@
-pub mod Opening
-pub mod States
-pub mod Stores
