@@ -1,7 +1,7 @@
 mod Appended
 mod Crash
 mod Mended
-pub mod Moments
+mod Moments
 mod Order
 mod Records
 mod Sound

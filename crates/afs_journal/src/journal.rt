@@ -48,7 +48,6 @@ fn fits(used: u64, len: u64, capacity: u64) -> bool
 fn take_up<D: Disk>(alloc: Global, disk: &mut D) -> Result<(Records, u64), JournalFault>
     ensures size { IfOk result (λ r. D.size disk.new ≡ r.1 + 1) }
     ensures counts { IfOk result (λ r. (9 * length r.0 ≤ r.1) × (r.1 < 2 ^ 63)) }
-    ensures few { IfOk result (λ r. length r.0 < 2 ^ 32) }
     ensures found { IfOk result (λ r. (bytes : List ℕ) → D.seen disk.old ≡ Some bytes → r.0 ≡ whole_records bytes) }
     ensures told { OnOk result (IsSome (D.seen disk.new) → IsSome (D.seen disk.old)) }
     ensures done { OnOk result ((bytes : List ℕ) → D.seen disk.old ≡ Some bytes → IsJournal (whole_records bytes) (D.seen disk.new) (D.may_leave disk.new)) }
@@ -128,8 +127,7 @@ impl<D: Disk> Journal<D> {
 
     /// How many records it has: those that `attach` found, and those that were appended since. It takes no memory.
     pub fn count(&self) -> u64
-        ensures value { result ≡ self.now.count }
-        ensures few { self.now.count < 2 ^ 32 }
+        ensures { result ≡ self.now.count }
     {
         self.count
     }
