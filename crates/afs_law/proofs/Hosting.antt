@@ -1,8 +1,8 @@
 -- What the steps of a server do to the keys that it keeps: a key runs above its caller's last one that changed something, and
 -- what the server sends is no call of a client.
 use Rattle.afs_law.proofs.Backing.{all_lines, is_unchanging}
-use Rattle.afs_law.proofs.Basics.{Above, Each, IfCall, OfClient, above_up, at_seat, below_not, below_up_to, each_more, runs_above, same_node-true, some_of, up_to_same}
-use Rattle.afs_law.proofs.Calling.{AreReplies, IsAnswer, IsCallOf, IsUncalled, kept_answer, one_more_reply}
+use Rattle.afs_law.proofs.Basics.{Above, Each, OfClient, above_up, at_seat, below_not, below_up_to, each_more, runs_above, same_node-true, some_of, up_to_same}
+use Rattle.afs_law.proofs.Calling.{AreReplies, IsAnswer, IsCallOf, kept_answer, one_more_reply}
 use Rattle.afs_law.proofs.Keeping.{at_placed}
 use Rattle.afs_law.proofs.Pumping.{each_both, each_filter}
 use Rattle.afs_breaks.specs.declared.types.OwedBreak.{OwedBreak}

@@ -1,13 +1,14 @@
--- A key changes something at most once in a run, whatever servers a cell has: a client makes each call to one server, which runs
--- it only above that caller's last one that changed something.
+-- What holds of keys in a run, whatever servers a cell has: a client makes each call to one server, which runs it only above that
+-- caller's last one that changed something. So a key changes something at most once, and no call or reply has one to come.
 use Rattle.afs_history.specs.declared.acts.Act.{Act}
 use Rattle.afs_law.proofs.Backing.{all_lines, is_unchanging}
-use Rattle.afs_law.proofs.Basics.{Above, Each, IfCall, IfReply, if_reply, UpTo, at_put, below_not, below_up_to, both, client_number, each_at, each_map, each_more, if_call, node_apart, same_key-refl, same_node-true, up_to_below, up_to_same}
-use Rattle.afs_law.proofs.Calling.{AreReplies, IsAnswer, answer_over, GoesOn, IsLastOf, IsUncalled, Tame, begins_tame, caller_at, falls_tame, given_tame, rises_tame, uncalled_any, waits_tame}
+use Rattle.afs_law.proofs.Basics.{Above, Each, IfCall, IfReply, OfClient, OfReply, by_client, if_reply, UpTo, at_put, below_not, below_up_to, both, client_number, each_at, each_map, each_more, if_call, node_apart, same_key-refl, same_node-true, up_to_below, up_to_same}
+use Rattle.afs_law.proofs.Calling.{AreReplies, IsAnswer, IsCallOf, answer_over, GoesOn, IsLastOf, Tame, begins_tame, caller_at, falls_tame, given_tame, rises_tame, uncalled_any, waits_tame}
 use Rattle.afs_law.proofs.Hosting.{Begins, HasOne, HostStep, Hosts, IsCutBy, IsSound, Memory, decides_due, disk_begins, memory_of, serves_step, starts_step, times_step, wakes_step}
+use Rattle.afs_law.specs.Laws.{ArePairsKnown, IsKnownTo}
 use Rattle.afs_law.specs.Legal.{IsNew}
 use Rattle.afs_law.specs.Once.{AreOnce, ChangesOnce, past_of}
-use Rattle.afs_law.specs.Past.{answered_key, lines_of, onto, same_key}
+use Rattle.afs_law.specs.Past.{HasCode, IsCall, answered_key, lines_of, onto, same_key}
 use Rattle.afs_rows.specs.Callbacks.{put, replies_of}
 use Rattle.afs_rows.specs.Going.{ClientState, Going}
 use Rattle.afs_rows.specs.Runs.{Armed, Blow, Cell, Entry, Fall, Host, Input, Leads, Luck, Moved, Outcome, RunsTo, at_rest, back_timed, begins, begun_by, begun_by_disk, blow_line, client_moves, client_starts, client_stops, comes_up, decided_at, fails_early, fails_midway, given_at, given_to, gives, has_host, in_boot, in_step, is_full, message_at, moved, nothing, server_armed, server_ends, server_given, server_moves, server_restarted, server_served, server_stopped, server_timed, server_waits, server_wakes, sets_fail, sets_stop, settled, start, starts_again, stops, struck, ticks, unarmed, voided, waited_by, waits, wakes}
@@ -22,9 +23,12 @@ use Rattle.afs_num.specs.declared.types.Head.{Head}
 use Rattle.afs_num.specs.declared.types.Key.{Key}
 use Rattle.afs_num.specs.declared.types.Node.{Node}
 use Rattle.afs_num.specs.declared.types.Node.TheVariants.{Admin, Client, Loc, Server}
+use Rattle.afs_num.specs.declared.messages.Carried.{Carried}
 use Rattle.afs_num.specs.declared.messages.Message.{Message}
 use Rattle.afs_num.specs.declared.scripts.Script.{Script}
 use Rattle.afs_history.specs.declared.lines.Line.{Line}
+use Rattle.afs_num.specs.declared.messages.Call.TheVariants as ask
+use Rattle.afs_num.specs.declared.messages.Carried.TheVariants as carried
 use Rattle.afs_history.specs.declared.lines.Line.TheVariants as lines
 
 -- ---- small laws
@@ -377,12 +381,12 @@ moved_keeps c o nothing S = nothing_keeps c o S
 
 -- ---- a run
 
-run_once : (xs : List Input) (c : Cell) (past es : List Entry) (end : Cell) → StandsIn c (lines_of past) → Leads c xs es end → AreOnce (lines_of (past_of past es))
-run_once [] c past [] end S r = S.once
-run_once [] c past (e ∷ es) end S r = absurd r
-run_once (x ∷ xs) c past [] end S r = absurd r
-run_once (x ∷ xs) c past (e ∷ es) end S r =
-    subst (λ (y : Entry). AreOnce (lines_of (past_of (y ∷ past) es))) (sym r.0) (run_once xs (moved c x).cell ((moved c x).entry ∷ past) es end (moved_keeps c (lines_of past) x S) r.1)
+run_stands : (xs : List Input) (c : Cell) (past es : List Entry) (end : Cell) → StandsIn c (lines_of past) → Leads c xs es end → StandsIn end (lines_of (past_of past es))
+run_stands [] c past [] end S r = subst (λ (x : Cell). StandsIn x (lines_of past)) (sym r) S
+run_stands [] c past (e ∷ es) end S r = absurd r
+run_stands (x ∷ xs) c past [] end S r = absurd r
+run_stands (x ∷ xs) c past (e ∷ es) end S r =
+    subst (λ (y : Entry). StandsIn end (lines_of (past_of (y ∷ past) es))) (sym r.0) (run_stands xs (moved c x).cell ((moved c x).entry ∷ past) es end (moved_keeps c (lines_of past) x S) r.1)
 
 first_stands : (s : Script) → StandsIn (start s) []
 first_stands s = record {
@@ -399,4 +403,27 @@ first_stands s = record {
 }
 
 pub once : (s : Script) (h : List Entry) (end : Cell) → RunsTo h s end → ChangesOnce h
-once s h end r = run_once r.inputs (start s) [] h end (first_stands s) r.leads
+once s h end r = (run_stands r.inputs (start s) [] h end (first_stands s) r.leads).once
+
+-- ---- the pairs of calls, and of replies
+
+known_pair : (callees : Key → Node) (clients : ℕ → ClientState) (q : Node) (k : Key) (j : ℕ) → k.node ≡ Client j → IsKnown callees clients q k → UpTo k.epoch k.number (clients j).epoch (clients j).last
+known_pair callees clients q k j e h = subst (λ (i : ℕ). UpTo k.epoch k.number (clients i).epoch (clients i).last) (client_number h.client j (sym h.node ∙ e)) h.behind
+
+call_pair : (callees : Key → Node) (clients : ℕ → ClientState) (j : ℕ) (h : Head) (x : Carried) → IsCall x → h.from ≡ Client j → IsCallOf (IsKnown callees clients) h x → IsKnownTo (clients j) h
+call_pair callees clients j h (carried.Call user (ask.File call)) is from w = known_pair callees clients h.to (key_of h) j from (by_client j h.from (IsKnown callees clients h.to (key_of h)) from w)
+call_pair callees clients j h (carried.Call user call) is from w = absurd w
+call_pair callees clients j h x is from w = absurd is
+
+reply_pair : (callees : Key → Node) (clients : ℕ → ClientState) (j : ℕ) (h : Head) (x : Carried) → HasCode x → h.to ≡ Client j → OfReply (OfClient h.to (IsKnown callees clients h.from (answered_key h))) x → IsKnownTo (clients j) h
+reply_pair callees clients j h (carried.Refusal code) is to w = known_pair callees clients h.from (answered_key h) j to (by_client j h.to (IsKnown callees clients h.from (answered_key h)) to w)
+reply_pair callees clients j h (carried.Reply reply) is to w = known_pair callees clients h.from (answered_key h) j to (by_client j h.to (IsKnown callees clients h.from (answered_key h)) to w)
+reply_pair callees clients j h x is to w = absurd is
+
+pub pairs_known : (s : Script) (h : List Entry) (end : Cell) → RunsTo h s end → ArePairsKnown end.sent end.clients
+pairs_known s h end r =
+    let S : StandsIn end (lines_of (past_of [] h)) = run_stands r.inputs (start s) [] h end (first_stands s) r.leads in
+    record {
+      calls = λ j place m at is from. call_pair S.callees end.clients j m.head m.carried is from (each_at _ end.sent place m at S.calls);
+      replies = λ j place m at is to. reply_pair S.callees end.clients j m.head m.carried is to (each_at _ end.sent place m at S.answers);
+    }
