@@ -1,3 +1,15 @@
+use Rattle.afs_law.proofs.Walking.{own_lines, back_again, lines_assoc}
+use Rattle.afs_law.proofs.Quiet.{quiet_grant, quiet_last, quiet_clock, reach_more}
+use Rattle.afs_law.proofs.Facts.{AreApart, Held, IsNewest}
+use Rattle.afs_law.proofs.Passing.{PassesGrant}
+use Rattle.afs_law.specs.Grants.{IsDropped, IsWithdrawn}
+use Rattle.afs_law.specs.Ideal.{IsLast, clock_of, reach_over}
+use Rattle.afs_law.specs.Legal.{GoodRead}
+use Rattle.afs_rows.specs.ClientRow.{entries_told, put_entries, status_look, takes_bulk, with_statuses}
+use Rattle.std.specs.List.{list_any}
+use Rattle.std.specs.Prelude.{⊤}
+use Rattle.std.proofs.Common.{append_assoc}
+use Rattle.afs_law.proofs.Facts.{FitsBulk, AreFetched}
 use Rattle.afs_num.specs.declared.histories.Version.{Version}
 use Rattle.afs_law.proofs.Apart.{found_filter, found_out}
 use Rattle.afs_law.proofs.Asking.{Passes, not_client, reads_by_other}
@@ -29,7 +41,7 @@ use Rattle.afs_law.proofs.Saving.{old_withdrawn}
 use Rattle.afs_law.proofs.Serving.{told_file, told_reach, told_act, not_ran, stale_none, reached_still}
 use Rattle.afs_law.proofs.Skipping.{none_where, own_ended, skips, drop_lines, was_given, drop_file, drop_reach, drop_seen, drop_passes, ended_running, drops_good}
 use Rattle.afs_history.specs.declared.acts.Act.{Act}
-use Rattle.afs_rows.specs.ClientRow.{boot_or_first, with_boot, takes_shown, takes_entry, boot_of, read_lines, status_told, entry_told, booted, joined, put_entry, calls_again, asking, is_trusted, goes_on, goes_by, look_at, looked, most_reads, walked, Walked, is_below, dropped_after, left_after, find_cached, used_first, refreshed, call_message, calls_step, zero_code, begin_row, ignores, ended, answers_step, takes_stored, takes, resends_step, counts, is_awaited, awaits, client_row, is_spent, hears, takes_plain, takes_data, takes_set, left_in, given_up_in, body_told, call_of, is_reading}
+use Rattle.afs_rows.specs.ClientRow.{boot_or_first, with_boot, takes_shown, takes_entry, boot_of, read_lines, status_told, entry_told, booted, joined, put_entry, calls_again, is_busy_code, most_busy, asking, is_trusted, goes_on, goes_by, look_at, looked, most_reads, walked, Walked, is_below, dropped_after, left_after, find_cached, used_first, refreshed, call_message, calls_step, zero_code, begin_row, ignores, ended, answers_step, takes_stored, takes, resends_step, counts, is_awaited, awaits, client_row, is_spent, hears, takes_plain, takes_data, takes_set, left_in, given_up_in, body_told, call_of, is_reading}
 use Rattle.afs_rows.specs.Going.{reads_status, reads_statuses, reads_rights, gives_back, asked, Going, Need, next, answers, began, with_read, ClientState, reads, asks_for}
 use Rattle.afs_law.specs.Grants.{has_fetched, fetch_reply, since}
 use Rattle.afs_law.specs.Ideal.{Reach, HasBeen, raised, is_zero_code, reach, last_version, HasVersion}
@@ -280,6 +292,10 @@ pub record Due (c : Cell) (fl : ℕ → Ghost) (past : List Entry) (n p : ℕ) (
   pub heard : Heard c p m
   pub at : message_at (sent_of past) p ≡ Some m
 
+neither : (a b : Bool) → (a || b) ≡ false → (a ≡ false) × (b ≡ false)
+neither true b e = absurd cc
+neither false b e = (refl, e)
+
 -- its act is answered with its code
 pub good_code : (s : Script) (c : Cell) (past : List Entry) (n p : ℕ) (act : Going) (m : Message) (code : Code) (own : List Line) → (h : Holds s c past) → Due c h.floors past n p act m → code_told m.carried ≡ Some code.0 → given_message own (sent_of past) ≡ message_at (sent_of past) p
     → has_begun (Client n) own ≡ false → running s (Client n) (own ++ lines_of past) ≡ running s (Client n) (lines_of past) → GoodCode s (Client n) code past own
@@ -323,6 +339,10 @@ pub list_safe : (call : FsCall) (n : ℕ) (x : Spot) (m : Message) (past : List 
 list_safe (calls.FetchAcl f) n x m past text status t e l cache aged head fits none = inl refl
 list_safe call n x m past text status t e l cache aged head fits none = plain_safe call x m t e l cache aged head (volume_changed call) refl fits none
 
+pub bulk_safe : (sp : Bool) (call : FsCall) (n : ℕ) (x : Spot) (m : Message) (past : List Entry) (ss : List AfsFetchStatus) (cs : List AfsCallBack) (t e l : ℕ) (cache : List CacheEntry) (aged : Type 0) (head : Head) → FitsBulk sp n x m past ss cs call → (LastStored x → ⊥) → IsSafe t e l None cache aged head call
+bulk_safe sp (calls.BulkStatus fids) n x m past ss cs t e l cache aged head fits none = inl refl
+bulk_safe sp call n x m past ss cs t e l cache aged head fits none = plain_safe call x m t e l cache aged head (volume_changed call) refl fits none
+
 pub reply_safe : (sp : Bool) (reply : FsReply) (n : ℕ) (call : FsCall) (x : Spot) (m : Message) (past : List Entry) (t e l : ℕ) (cache : List CacheEntry) (aged : Type 0) (head : Head) → FitsReply sp n call x m past reply → (LastStored x → ⊥) → IsSafe t e l None cache aged head call
 reply_safe sp (replies.FetchData contents status callback sync) n call x m past t e l cache aged head fits none = data_safe sp call n x m past contents status callback t e l cache aged head fits none
 reply_safe sp (replies.FetchAcl text status sync) n call x m past t e l cache aged head fits none = list_safe call n x m past text status t e l cache aged head fits none
@@ -330,6 +350,7 @@ reply_safe sp (replies.FetchStatus status callback sync) n call x m past t e l c
 reply_safe sp (replies.StoreData status sync) n call x m past t e l cache aged head fits none = set_safe call n x m past status t e l cache aged head fits none
 reply_safe sp (replies.StoreAcl status sync) n call x m past t e l cache aged head fits none = set_safe call n x m past status t e l cache aged head fits none
 reply_safe sp (replies.StoreStatus status sync) n call x m past t e l cache aged head fits none = set_safe call n x m past status t e l cache aged head fits none
+reply_safe sp (replies.BulkStatus statuses callbacks sync) n call x m past t e l cache aged head fits none = bulk_safe sp call n x m past statuses callbacks t e l cache aged head fits none
 reply_safe sp reply n call x m past t e l cache aged head fits none = plain_safe call x m t e l cache aged head (volume_changed call) refl fits none
 
 pub ended_safe : (sp : Bool) (n : ℕ) (call : FsCall) (x : Spot) (boot : ℕ) (m : Message) (c : Carried) (past : List Entry) (t e l : ℕ) (cache : List CacheEntry) (aged : Type 0) (head : Head) → Fits sp n call x boot m c past → (LastStored x → ⊥)
@@ -423,7 +444,7 @@ pub takes_refused : (s : Script) (c : Cell) (past : List Entry) (n p : ℕ) (act
 takes_refused s c past n p act head code h d =
     let m : Message = record { head = head; carried = carried.Refusal code } in
     let e : Entry = step_entry n (answered_lines n p code) [] in
-    let nz : is_zero_code code ≡ false = d.answers.fits.0 in
+    let nz : is_zero_code code ≡ false = (neither _ _ d.answers.fits.0).0 in
     let held : ℕ = (h.floors n).held in
     moves s c past n (holding h.floors n held) (answers_step (Client n) (c.clients n) p code) h (client_ended s (c.clients n) (c.clients n).cache (h.own n) (h.own n).apart)
     (tt, ((refl, good_code s c past n p act m code (lines.Given p ∷ []) h d refl refl refl refl), tt))
@@ -563,45 +584,42 @@ fetched_walks s c past n p act m u body h d shut kind from shown a lt =
       dull = λ tail t k boot y. heard_dull s c past p m h d.heard k boot y;
     }
 
-pub fetched_on : (s : Script) (c : Cell) (past : List Entry) (n p : ℕ) (act : Going) (m : Message) (u : CacheEntry) (body : ReadBody) → (h : Holds s c past) → Due c h.floors past n p act m → volume_changed (asked act) ≡ None → is_promised body ≡ true → u.server ≡ the_server → Shows u.fid u.index body past (lines.Given p ∷ []) → IsFetched false n u.fid u.index u.status u.body u.expiry m past → c.clock < u.expiry
-    → Walks s c past n c.server.lasting.boot (lines.Given p ∷ lines.Read (Client n) u.fid u.index Fetched body ∷ looked (Client n) (fetched_walk (c.clients n) c.clock act u body).looks []) (fetched_walk (c.clients n) c.clock act u body).act (fetched_walk (c.clients n) c.clock act u body).cache
-fetched_on s c past n p act m u body h d shut kind from shown a lt = walks_on (most_reads act) s c past n c.server.lasting.boot (read_now n p u body) (with_read u.fid body act) (put_entry (c.clients n).capacity u (c.clients n).cache) h (fetched_walks s c past n p act m u body h d shut kind from shown a lt)
+-- ---- behind reads of a reply the act goes on: it is answered, or calls
 
-pub fetched_answered : (s : Script) (c : Cell) (past : List Entry) (n p : ℕ) (act : Going) (m : Message) (u : CacheEntry) (body : ReadBody) (k : ℕ) → (h : Holds s c past) → Due c h.floors past n p act m → ((code : Code) → m.carried ≡ carried.Refusal code → ⊥) → volume_changed (asked act) ≡ None → is_promised body ≡ true → u.server ≡ the_server → Shows u.fid u.index body past (lines.Given p ∷ []) → IsFetched false n u.fid u.index u.status u.body u.expiry m past → c.clock < u.expiry
-    → next (fetched_walk (c.clients n) c.clock act u body).act ≡ answers k → Goes s past (client_moves c n (goes_by (Client n) (c.clients n) (read_lines (Client n) p (look_at Fetched u body)) (fetched_walk (c.clients n) c.clock act u body) (answers k)))
-fetched_answered s c past n p act m u body k h d not shut kind from shown a lt is =
+pub gone_answered : (s : Script) (c : Cell) (past : List Entry) (n p : ℕ) (act : Going) (m : Message) (front : List Line → List Line) (F : List Line) (w : Walked) (k : ℕ) → (h : Holds s c past) → Due c h.floors past n p act m → ((code : Code) → m.carried ≡ carried.Refusal code → ⊥) → ((ls : List Line) → front ls ≡ F ++ ls)
+    → Walks s c past n c.server.lasting.boot (F ++ looked (Client n) w.looks []) w.act w.cache → AreApart w.cache → HasOld w.cache (lines_of past) → next w.act ≡ answers k → Goes s past (client_moves c n (goes_by (Client n) (c.clients n) front w (answers k)))
+gone_answered s c past n p act m front F w k h d not same W apart old is =
     let x : ClientState = c.clients n in
-    let w : Walked = fetched_walk x c.clock act u body in
-    let ls : List Line = lines.Given p ∷ lines.Read (Client n) u.fid u.index Fetched body ∷ looked (Client n) w.looks [] in
+    let ls : List Line = F ++ looked (Client n) w.looks [] in
     let tail : List Line = lines.Answer (Client n) (record { 0 = pos k }) ∷ [] in
-    let W : Walks s c past n c.server.lasting.boot ls w.act w.cache = fetched_on s c past n p act m u body h d shut kind from shown a lt in
     let e : Entry = step_entry n (ls ++ tail) [] in
     let t : AreTail n tail = (refl, tt) in
+    let q : AreQuiet n (ls ++ tail) = quiet_more n ls tail W.quiet (tail_quiet n tail t) in
     let ends : EndsReach n tail = ends_answered n (record { 0 = pos k }) in
     let held : ℕ = c.server.lasting.boot in
     let g : Ghost = holding h.floors n held in
-    subst (λ (os : List Line). Goes s past (with_lines c n (ended x w.cache) [] (lines.Given p ∷ lines.Read (Client n) u.fid u.index Fetched body ∷ os))) (sym (looked_more (Client n) w.looks tail))
-    (moves s c past n g (record { state = ended x w.cache; lines = ls ++ tail; sent = [] }) h (client_ended s x w.cache (h.own n) (walked_apart (most_reads act) c.clock (with_read u.fid body act) (put_entry x.capacity u x.cache) (apart_put x.capacity u x.cache (h.own n).apart)))
+    let told : front (looked (Client n) w.looks tail) ≡ ls ++ tail = same (looked (Client n) w.looks tail) ∙ (ap (λ (os : List Line). F ++ os) (looked_more (Client n) w.looks tail) ∙ sym (append_assoc F (looked (Client n) w.looks []) tail)) in
+    subst (λ (os : List Line). Goes s past (with_lines c n (ended x w.cache) [] os)) (sym told)
+    (moves s c past n g (record { state = ended x w.cache; lines = ls ++ tail; sent = [] }) h (client_ended s x w.cache (h.own n) apart)
     (walk_answered s c past n c.server.lasting.boot ls w.act w.cache k W is)
-    (quiet_passes s n (ls ++ tail) [] past (quiet_more n ls tail W.quiet (tail_quiet n tail t)) (W.dull tail t))
+    (quiet_passes s n (ls ++ tail) [] past q (W.dull tail t))
     (ended_facts s c past n w.cache held e h (le_refl _) (ap (running s (Client n)) (onto_last (lines_of past) ls (lines.Answer (Client n) (record { 0 = pos k }))) ∙ own_ended n (running s (Client n) (onto (lines_of past) ls)))
     (λ f v found lasts. walk_current s c past n c.server.lasting.boot ls w.act w.cache tail [] (view_after c n g (ended x w.cache)) f v W t ends (le_refl _) (inr refl) found lasts)
-    (walk_old n (put_entry x.capacity u x.cache) w.cache (ls ++ tail) [] past (quiet_more n ls tail W.quiet (tail_quiet n tail t)) (λ f v z. walked_found (most_reads act) c.clock (with_read u.fid body act) (put_entry x.capacity u x.cache) f v z) (put_old x.capacity u x.cache past (kept_whole u.body (find_cached u.fid x.cache) u.fid u.index u.status x.cache past refl h.one (h.clients n).old a.held.whole) (h.clients n).old))
+    (old_over w.cache (lines_of past) (lines_of (e ∷ past)) (λ f i b y. (quiet_grant n n f (ls ++ tail) [] past q).version i b (lines_of past) y) old)
     (walk_reached s c past n c.server.lasting.boot ls w.act w.cache tail [] W t ends))
     (ended_calls s c past n p act m w.cache held h d (λ code z. absurd (not code z))) (ended_reply s c past n w.cache held e h) (nothing_new _ _) (λ b y z. absurd cc) refl)
 
-pub fetched_calls : (s : Script) (c : Cell) (past : List Entry) (n p : ℕ) (act : Going) (m : Message) (u : CacheEntry) (body : ReadBody) → (h : Holds s c past) → Due c h.floors past n p act m → volume_changed (asked act) ≡ None → is_promised body ≡ true → u.server ≡ the_server → Shows u.fid u.index body past (lines.Given p ∷ []) → IsFetched false n u.fid u.index u.status u.body u.expiry m past → c.clock < u.expiry
-    → Goes s past (client_moves c n (goes_by (Client n) (c.clients n) (read_lines (Client n) p (look_at Fetched u body)) (fetched_walk (c.clients n) c.clock act u body) (asks_for calls.GetTime)))
-fetched_calls s c past n p act m u body h d shut kind from shown a lt =
+pub gone_calls : (s : Script) (c : Cell) (past : List Entry) (n p : ℕ) (act : Going) (m : Message) (front : List Line → List Line) (F : List Line) (w : Walked) → (h : Holds s c past) → Due c h.floors past n p act m → volume_changed (asked act) ≡ None → ((ls : List Line) → front ls ≡ F ++ ls)
+    → Walks s c past n c.server.lasting.boot (F ++ looked (Client n) w.looks []) w.act w.cache → AreApart w.cache → HasOld w.cache (lines_of past) → Goes s past (client_moves c n (goes_by (Client n) (c.clients n) front w (asks_for calls.GetTime)))
+gone_calls s c past n p act m front F w h d shut same W apart old =
     let x : ClientState = c.clients n in
-    let w : Walked = fetched_walk x c.clock act u body in
-    let ls : List Line = lines.Given p ∷ lines.Read (Client n) u.fid u.index Fetched body ∷ looked (Client n) w.looks [] in
-    let W : Walks s c past n c.server.lasting.boot ls w.act w.cache = fetched_on s c past n p act m u body h d shut kind from shown a lt in
+    let ls : List Line = F ++ looked (Client n) w.looks [] in
     let k = h.clients n in
     let y : ClientState = asking (record x { cache = w.cache }) w.act in
-    let its : IsClient s y = client_asking s c past (record x { cache = w.cache }) w.act h (record { table = (h.own n).table; user = (h.own n).user; callee = λ b z. (h.own n).callee b z; apart = walked_apart (most_reads act) c.clock (with_read u.fid body act) (put_entry x.capacity u x.cache) (apart_put x.capacity u x.cache (h.own n).apart) }) in
+    let its : IsClient s y = client_asking s c past (record x { cache = w.cache }) w.act h (record { table = (h.own n).table; user = (h.own n).user; callee = λ b z. (h.own n).callee b z; apart = apart }) in
     let ms : List Message = call_message (Client n) y w.act ∷ [] in
     let e : Entry = step_entry n (ls ++ []) ms in
+    let q : AreQuiet n (ls ++ []) = quiet_more n ls [] W.quiet tt in
     let g : Ghost = record { floor = c.server.lasting.boot; held = c.server.lasting.boot } in
     let v : View = view_after c n g y in
     let never : LastRan v → ⊥ = λ ran. next_not _ _ _ _ (k.behind_durable ran.seat ran.at) ran.epoch ran.number in
@@ -613,10 +631,10 @@ fetched_calls s c past n p act m u body h d shut kind from shown a lt =
       tied = r.tied;
       answers = λ b runs y z. absurd (next_not _ _ _ _ r.behind y z);
     } in
-    subst (λ (os : List Line). Goes s past (with_lines c n y ms os)) (append-nil ls)
+    subst (λ (os : List Line). Goes s past (with_lines c n y ms os)) (append-nil ls ∙ sym (same (looked (Client n) w.looks [])))
     (moves s c past n g (record { state = y; lines = ls ++ []; sent = ms }) h its
     (W.good [] tt)
-    (quiet_passes s n (ls ++ []) ms past (quiet_more n ls [] W.quiet tt) (W.dull [] tt))
+    (quiet_passes s n (ls ++ []) ms past q (W.dull [] tt))
     (record {
       behind = λ seat y. up_to_next _ _ _ _ (k.behind seat y);
       behind_durable = λ seat y. up_to_next _ _ _ _ (k.behind_durable seat y);
@@ -630,7 +648,7 @@ fetched_calls s c past n p act m u body h d shut kind from shown a lt =
       idle = λ y. absurd cc;
       made = λ b y f o z. walk_made s c past n c.server.lasting.boot ls w.act w.cache [] ms f W (ends_here n);
       current = λ f q found lasts. walk_current s c past n c.server.lasting.boot ls w.act w.cache [] ms v f q W tt (ends_here n) (le_refl _) (inl never) found lasts;
-      old = walk_old n (put_entry x.capacity u x.cache) w.cache (ls ++ []) ms past (quiet_more n ls [] W.quiet tt) (λ f v z. walked_found (most_reads act) c.clock (with_read u.fid body act) (put_entry x.capacity u x.cache) f v z) (put_old x.capacity u x.cache past (kept_whole u.body (find_cached u.fid x.cache) u.fid u.index u.status x.cache past refl h.one k.old a.held.whole) k.old);
+      old = old_over w.cache (lines_of past) (lines_of (e ∷ past)) (λ f i b y. (quiet_grant n n f (ls ++ []) ms past q).version i b (lines_of past) y) old;
       runs = λ b y. at ∙ y;
       asked = λ b z. subst (λ (x : Going). CalledSince (last_key n v) guest (asked x) (e ∷ past)) (some_of w.act b z) (inl (refl, inl (refl, carried_is y w.act its.user)));
       reached = walk_reached s c past n c.server.lasting.boot ls w.act w.cache [] ms W tt (ends_here n);
@@ -647,20 +665,268 @@ fetched_calls s c past n p act m u body h d shut kind from shown a lt =
     })
     over (own_call h.floors c past n g y w.act (ls ++ []) k.known its refl at (new_one s c past n y w.act h refl refl)) (λ b x z. inr (record { act = act; runs = d.running; read = shut })) refl)
 
-fetched_by : (need : Need) (s : Script) (c : Cell) (past : List Entry) (n p : ℕ) (act : Going) (m : Message) (u : CacheEntry) (body : ReadBody) → (h : Holds s c past) → Due c h.floors past n p act m → ((code : Code) → m.carried ≡ carried.Refusal code → ⊥) → volume_changed (asked act) ≡ None → is_promised body ≡ true → u.server ≡ the_server → Shows u.fid u.index body past (lines.Given p ∷ []) → IsFetched false n u.fid u.index u.status u.body u.expiry m past → c.clock < u.expiry
-    → next (fetched_walk (c.clients n) c.clock act u body).act ≡ need → Goes s past (client_moves c n (goes_by (Client n) (c.clients n) (read_lines (Client n) p (look_at Fetched u body)) (fetched_walk (c.clients n) c.clock act u body) need))
-fetched_by (answers k) s c past n p act m u body h d not shut kind from shown a lt e = fetched_answered s c past n p act m u body k h d not shut kind from shown a lt e
-fetched_by (reads f) s c past n p act m u body h d not shut kind from shown a lt e = fetched_calls s c past n p act m u body h d shut kind from shown a lt
-fetched_by (reads_status f) s c past n p act m u body h d not shut kind from shown a lt e = fetched_calls s c past n p act m u body h d shut kind from shown a lt
-fetched_by (reads_statuses fs) s c past n p act m u body h d not shut kind from shown a lt e = fetched_calls s c past n p act m u body h d shut kind from shown a lt
-fetched_by (reads_rights f) s c past n p act m u body h d not shut kind from shown a lt e = fetched_calls s c past n p act m u body h d shut kind from shown a lt
-fetched_by (asks_for call) s c past n p act m u body h d not shut kind from shown a lt e = fetched_calls s c past n p act m u body h d shut kind from shown a lt
-fetched_by gives_back s c past n p act m u body h d not shut kind from shown a lt e = fetched_calls s c past n p act m u body h d shut kind from shown a lt
+gone_by : (need : Need) (s : Script) (c : Cell) (past : List Entry) (n p : ℕ) (act : Going) (m : Message) (front : List Line → List Line) (F : List Line) (w : Walked) → (h : Holds s c past) → Due c h.floors past n p act m → ((code : Code) → m.carried ≡ carried.Refusal code → ⊥) → volume_changed (asked act) ≡ None → ((ls : List Line) → front ls ≡ F ++ ls)
+    → Walks s c past n c.server.lasting.boot (F ++ looked (Client n) w.looks []) w.act w.cache → AreApart w.cache → HasOld w.cache (lines_of past) → next w.act ≡ need → Goes s past (client_moves c n (goes_by (Client n) (c.clients n) front w need))
+gone_by (answers k) s c past n p act m front F w h d not shut same W apart old e = gone_answered s c past n p act m front F w k h d not same W apart old e
+gone_by (reads f) s c past n p act m front F w h d not shut same W apart old e = gone_calls s c past n p act m front F w h d shut same W apart old
+gone_by (reads_status f) s c past n p act m front F w h d not shut same W apart old e = gone_calls s c past n p act m front F w h d shut same W apart old
+gone_by (reads_statuses fs) s c past n p act m front F w h d not shut same W apart old e = gone_calls s c past n p act m front F w h d shut same W apart old
+gone_by (reads_rights f) s c past n p act m front F w h d not shut same W apart old e = gone_calls s c past n p act m front F w h d shut same W apart old
+gone_by (asks_for call) s c past n p act m front F w h d not shut same W apart old e = gone_calls s c past n p act m front F w h d shut same W apart old
+gone_by gives_back s c past n p act m front F w h d not shut same W apart old e = gone_calls s c past n p act m front F w h d shut same W apart old
+
+-- from such reads on it reads from the cache
+gone_on : (s : Script) (c : Cell) (past : List Entry) (n p : ℕ) (act : Going) (m : Message) (front : List Line → List Line) (F : List Line) (k : ℕ) (a : Going) (cache : List CacheEntry) → (h : Holds s c past) → Due c h.floors past n p act m → ((code : Code) → m.carried ≡ carried.Refusal code → ⊥) → volume_changed (asked act) ≡ None → ((ls : List Line) → front ls ≡ F ++ ls)
+    → Walks s c past n c.server.lasting.boot F a cache → AreApart cache → HasOld cache (lines_of past) → Goes s past (client_moves c n (goes_on (Client n) (c.clients n) front (walked k c.clock a cache)))
+gone_on s c past n p act m front F k a cache h d not shut same W apart old =
+    gone_by (next (walked k c.clock a cache).act) s c past n p act m front F (walked k c.clock a cache) h d not shut same (walks_on k s c past n c.server.lasting.boot F a cache h W) (walked_apart k c.clock a cache apart) (old_within cache (walked k c.clock a cache).cache (lines_of past) (λ f u z. walked_found k c.clock a cache f u z) old) refl
 
 pub fetched_goes : (s : Script) (c : Cell) (past : List Entry) (n p : ℕ) (act : Going) (u : CacheEntry) (body : ReadBody) (m : Message) (t : Bool) → (h : Holds s c past) → Due c h.floors past n p act m → ((code : Code) → m.carried ≡ carried.Refusal code → ⊥) → volume_changed (asked act) ≡ None → is_promised body ≡ true → u.server ≡ the_server → Shows u.fid u.index body past (lines.Given p ∷ []) → IsFetched false n u.fid u.index u.status u.body u.expiry m past → nat_lt c.clock u.expiry ≡ t
     → Goes s past (client_moves c n (cond t (goes_on (Client n) (c.clients n) (read_lines (Client n) p (look_at Fetched u body)) (fetched_walk (c.clients n) c.clock act u body)) (calls_again (Client n) (c.clients n) p act)))
-fetched_goes s c past n p act u body m true h d not shut kind from shown a lasts = fetched_by (next (fetched_walk (c.clients n) c.clock act u body).act) s c past n p act m u body h d not shut kind from shown a (ltb-true _ _ lasts) refl
+fetched_goes s c past n p act u body m true h d not shut kind from shown a lasts =
+    gone_on s c past n p act m (read_lines (Client n) p (look_at Fetched u body)) (read_now n p u body) (most_reads act) (with_read u.fid body act) (put_entry (c.clients n).capacity u (c.clients n).cache) h d not shut (λ ls. refl) (fetched_walks s c past n p act m u body h d shut kind from shown a (ltb-true _ _ lasts))
+    (apart_put (c.clients n).capacity u (c.clients n).cache (h.own n).apart)
+    (put_old (c.clients n).capacity u (c.clients n).cache past (kept_whole u.body (find_cached u.fid (c.clients n).cache) u.fid u.index u.status (c.clients n).cache past refl h.one (h.clients n).old a.held.whole) (h.clients n).old)
 fetched_goes s c past n p act u body m false h d not shut kind from shown a lasts = again_goes s c past n p act m h d shut
+
+not_same_by : (t : Bool) (f g : Fid) → same_fid f g ≡ t → (f ≡ g → ⊥) → t ≡ false
+not_same_by true f g e ne = absurd (ne (same_fid-true f g e))
+not_same_by false f g e ne = refl
+
+not_same : (f g : Fid) → (f ≡ g → ⊥) → same_fid f g ≡ false
+not_same f g ne = not_same_by (same_fid f g) f g refl ne
+
+not_not : (t : Bool) → not t ≡ false → t ≡ true
+not_not true e = refl
+not_not false e = absurd cc
+
+-- ---- several reads of one reply
+
+cond_or : (t rest : Bool) → cond t true rest ≡ (t || rest)
+cond_or true rest = refl
+cond_or false rest = refl
+
+cond_more : (t a b : Bool) → cond t true (a || b) ≡ (cond t true a || b)
+cond_more true a b = refl
+cond_more false a b = refl
+
+or_none : (a b : Bool) → b ≡ false → (a || b) ≡ a
+or_none true b e = refl
+or_none false b e = e
+
+or_some : (a b : Bool) → b ≡ true → (a || b) ≡ true
+or_some true b e = refl
+or_some false b e = e
+
+or_first : (a b : Bool) → a ≡ true → (a || b) ≡ true
+or_first true b e = refl
+or_first false b e = absurd cc
+
+fetched_more : (c : Node) (g : Fid) (a b : List Line) → has_fetched c g (a ++ b) ≡ (has_fetched c g a || has_fetched c g b)
+fetched_more c g [] b = refl
+fetched_more c g (lines.Read m f i Fetched body ∷ a) b = ap (λ (r : Bool). cond (is_promised body && (same_node m c && same_fid f g)) true r) (fetched_more c g a b) ∙ cond_more (is_promised body && (same_node m c && same_fid f g)) (has_fetched c g a) (has_fetched c g b)
+fetched_more c g (l ∷ a) b = fetched_more c g a b
+
+abbrev pub status_read : ℕ → CacheEntry → Line
+status_read n u = lines.Read (Client n) u.fid u.index Fetched (seen.Status u.status)
+
+line_fetched : (n : ℕ) (g : Fid) (u : CacheEntry) (o : List Line) → has_fetched (Client n) g (status_read n u ∷ o) ≡ (same_fid u.fid g || has_fetched (Client n) g o)
+line_fetched n g u o = ap (λ (t : Bool). cond (t && same_fid u.fid g) true (has_fetched (Client n) g o)) (same_node-refl (Client n)) ∙ cond_or (same_fid u.fid g) (has_fetched (Client n) g o)
+
+or_false : (a : Bool) → (a || false) ≡ a
+or_false true = refl
+or_false false = refl
+
+next_fetched : (n : ℕ) (g : Fid) (u : CacheEntry) (ls : List Line) → has_fetched (Client n) g (ls ++ status_read n u ∷ []) ≡ (has_fetched (Client n) g ls || same_fid u.fid g)
+next_fetched n g u ls = fetched_more (Client n) g ls (status_read n u ∷ []) ∙ ap (λ (t : Bool). has_fetched (Client n) g ls || t) (line_fetched n g u [] ∙ or_false (same_fid u.fid g))
+
+own_fetched : (n : ℕ) (g : Fid) (u : CacheEntry) (ls : List Line) → has_fetched (Client n) g (onto [] (ls ++ status_read n u ∷ [])) ≡ (same_fid u.fid g || has_fetched (Client n) g (onto [] ls))
+own_fetched n g u ls = ap (has_fetched (Client n) g) (onto_last [] ls (status_read n u)) ∙ line_fetched n g u (onto [] ls)
+
+-- the entry of the fid can be read behind these lines, which read of this reply
+pub record ReadyBy (n most : ℕ) (g : Fid) (u : CacheEntry) (m : Message) (ls : List Line) (past : List Entry) : Type 0 where
+  pub reply : Message
+  pub boot : reply.head.boot ≤ most
+  pub from : u.server ≡ the_server
+  pub held : Held false n g u.index u.status u.body u.expiry reply past
+  pub newest : IsNewest held.grant.server n g u.index (since (Client n) g u.expiry reply past held.grant) (lines_of past)
+  pub low : (reach_over (Client n) g past false (reach (Client n) g past) ls).seen ≤ u.index
+  pub fetched : Bool
+  pub own : has_fetched (Client n) g (onto [] ls) ≡ fetched
+  pub all : has_fetched (Client n) g ls ≡ fetched
+  pub by : cond fetched (Some m) (fetch_reply (Client n) g past) ≡ Some reply
+
+pub record Reads (s : Script) (c : Cell) (past : List Entry) (n most : ℕ) (m : Message) (at : Fid → ℕ) (ls : List Line) (a : Going) (cache : List CacheEntry) : Type 0 where
+  pub good : (tail : List Line) → AreGood s (actors.Node (Client n)) past (onto [] ls) tail → AreGood s (actors.Node (Client n)) past [] (ls ++ tail)
+  pub quiet : AreQuiet n ls
+  pub runs : running s (Client n) (onto (lines_of past) ls) ≡ Some a
+  pub ready : (g : Fid) (u : CacheEntry) → find_cached g cache ≡ Some u → c.clock < u.expiry → ReadyBy n most g u m ls past
+  pub low : (g : Fid) (i : ℕ) → Seen n g i past → (has_fetched (Client n) g ls ≡ true → at g ≤ i) → (reach_over (Client n) g past false (reach (Client n) g past) ls).seen ≤ i
+  pub up : (g : Fid) → (reach_over (Client n) g past false (reach (Client n) g past) ls).seen ≤ index_in (last_version g (lines_of past))
+  pub made : (g : Fid) → (reach_over (Client n) g past false (reach (Client n) g past) ls).made ≡ 0
+  pub given : (tail : List Line) → given_message (ls ++ tail) (sent_of past) ≡ Some m
+  pub own : given_message (onto [] ls) (sent_of past) ≡ Some m
+  pub dull : (k : Key) (boot : ℕ) → IsCallUnder the_server k boot (Some m) → ⊥
+  pub apart : AreApart cache
+  pub old : HasOld cache (lines_of past)
+
+-- before the first
+reads_none : (s : Script) (c : Cell) (past : List Entry) (n p : ℕ) (act : Going) (m : Message) (at : Fid → ℕ) → (h : Holds s c past) → Due c h.floors past n p act m → volume_changed (asked act) ≡ None → Reads s c past n c.server.lasting.boot m at (lines.Given p ∷ []) act (c.clients n).cache
+reads_none s c past n p act m at h d shut = record {
+  good = λ tail g. (tt, g);
+  quiet = (tt, tt);
+  runs = (h.clients n).runs act d.running;
+  ready = λ g u found lasts.
+      let cur = (h.clients n).current g u found lasts in
+      let plain : IsPlain n g u.index cur.held.grant.server (since (Client n) g u.expiry cur.reply past cur.held.grant) (c.clients n).running (spot (view h.floors c n)) past = elim cur.state [
+        | inl o ↦ o
+        | inr o ↦ absurd (no_scope (asked o.act) g (ap (λ (y : Going). volume_changed (asked y)) (some_of o.act act (sym o.runs ∙ d.running)) ∙ shut) o.scope)
+      ] in
+      record {
+        reply = cur.reply;
+        boot = le_trans cur.boot (h.clients n).holds;
+        from = cur.from;
+        held = cur.held;
+        newest = plain.newest;
+        low = plain.reached;
+        fetched = false;
+        own = refl;
+        all = refl;
+        by = cur.by;
+      };
+  low = λ g i le w. le;
+  up = λ g. ((h.clients n).reached g).seen;
+  made = λ g. (h.clients n).made act d.running g (no_scope (asked act) g shut) (inl shut);
+  given = λ tail. d.at;
+  own = d.at;
+  dull = λ k boot y. heard_dull s c past p m h d.heard k boot (subst (λ (o : Option Message). IsCallUnder the_server k boot o) (sym d.at) y);
+  apart = (h.own n).apart;
+  old = (h.clients n).old;
+}
+
+-- what was fetched is read well behind them
+reads_good : (s : Script) (c : Cell) (past : List Entry) (n most : ℕ) (m : Message) (at : Fid → ℕ) (ls : List Line) (a : Going) (cache : List CacheEntry) (u : CacheEntry) → (h : Holds s c past) → Reads s c past n most m at ls a cache → u.index ≡ at u.fid → IsFetched false n u.fid u.index u.status u.body u.expiry m past → c.clock < u.expiry
+    → GoodRead (Client n) u.fid u.index Fetched (seen.Status u.status) past (onto [] ls)
+reads_good s c past n most m at ls a cache u h w same f lasts =
+    let p : PassesGrant n u.fid (step_entry n ls []) past = quiet_grant n n u.fid ls [] past w.quiet in
+    let new : List Line = since (Client n) u.fid u.expiry m past f.held.grant in
+    record {
+      whole = ((f.held.whole.is, subst (HasVersion u.fid u.index f.held.whole.is) (own_lines ls (lines_of past)) (p.version u.index f.held.whole.is (lines_of past) f.held.whole.told)), f.held.whole.been);
+      not_older = subst (λ (o : List Line). (reach_over (Client n) u.fid past false (reach (Client n) u.fid past) o).seen ≤ u.index) (sym (back_again ls)) (w.low u.fid u.index f.reached (λ z. le_of_eq (sym same)));
+      reply = m;
+      by = w.own;
+      expiry = u.expiry;
+      grant = f.held.grant;
+      lasts = subst (λ (o : List Line). clock_of o < u.expiry) (own_lines ls (lines_of past)) (subst (λ (t : ℕ). t < u.expiry) (sym (quiet_clock n ls w.quiet (lines_of past) ∙ h.clock)) lasts);
+      kept = λ d. f.held.kept refl (p.dropped f.held.grant.server new (subst (IsDropped f.held.grant.server (Client n) u.fid) (sym (own_lines ls new)) d));
+      newest = elim f.newest [
+        | inl y ↦ inl (subst (IsWithdrawn f.held.grant.server (Client n) u.fid) (own_lines ls new) (p.withdrawn f.held.grant.server new y))
+        | inr y ↦ inr (subst (IsLast u.fid u.index) (own_lines ls (lines_of past)) (ap (option_map (λ (v : Version). v.index)) (quiet_last n u.fid ls w.quiet (lines_of past)) ∙ y))
+      ];
+    }
+
+reads_next : (s : Script) (c : Cell) (past : List Entry) (n k : ℕ) (m : Message) (at : Fid → ℕ) (ls : List Line) (a : Going) (cache : List CacheEntry) (u : CacheEntry) → (h : Holds s c past) → Reads s c past n c.server.lasting.boot m at ls a cache → m.head.boot ≤ c.server.lasting.boot → u.server ≡ the_server → u.index ≡ at u.fid → IsFetched false n u.fid u.index u.status u.body u.expiry m past → c.clock < u.expiry
+    → Reads s c past n c.server.lasting.boot m at (ls ++ status_read n u ∷ []) (with_read u.fid (seen.Status u.status) a) (put_entry k u cache)
+reads_next s c past n k m at ls a cache u h w le from same f lasts =
+    let x : Line = status_read n u in
+    let more : (g : Fid) → reach_over (Client n) g past false (reach (Client n) g past) (ls ++ x ∷ []) ≡ reach_over (Client n) g past false (reach_over (Client n) g past false (reach (Client n) g past) ls) (x ∷ []) = λ g. reach_more n (Client n) g past (reach (Client n) g past) ls (x ∷ []) w.quiet in
+    let rises : (g : Fid) (i : ℕ) → (same_fid u.fid g ≡ true → u.index ≤ i) → (reach_over (Client n) g past false (reach (Client n) g past) ls).seen ≤ i → (reach_over (Client n) g past false (reach (Client n) g past) (ls ++ x ∷ [])).seen ≤ i =
+    λ g i t y. subst (λ (z : Reach). z.seen ≤ i) (sym (more g)) (raised_up_to (same_node (Client n) (Client n) && same_fid u.fid g) u.index (reach_over (Client n) g past false (reach (Client n) g past) ls).seen i (λ z. t (both (same_node (Client n) (Client n)) (same_fid u.fid g) z).1) y) in
+    let one : CacheEntry = joined u cache in
+    let whole : IsWhole u.fid u.index u.status one.body past = kept_whole u.body (find_cached u.fid cache) u.fid u.index u.status cache past refl h.one w.old f.held.whole in
+    let mine : ReadyBy n c.server.lasting.boot u.fid one m (ls ++ x ∷ []) past = record {
+      reply = m;
+      boot = le;
+      from = from;
+      held = record { grant = f.held.grant; server = f.held.server; kept = f.held.kept; whole = whole; base = f.held.base; split = f.held.split; begun = f.held.begun };
+      newest = f.newest;
+      low = rises u.fid u.index (λ z. le_refl _) (w.low u.fid u.index f.reached (λ z. le_of_eq (sym same)));
+      fetched = true;
+      own = own_fetched n u.fid u ls ∙ or_first (same_fid u.fid u.fid) (has_fetched (Client n) u.fid (onto [] ls)) (same_fid-refl u.fid);
+      all = next_fetched n u.fid u ls ∙ or_some (has_fetched (Client n) u.fid ls) (same_fid u.fid u.fid) (same_fid-refl u.fid);
+      by = refl;
+    } in
+    record {
+      good = λ tail g. subst (AreGood s (actors.Node (Client n)) past []) (sym (lines_assoc ls tail x)) (w.good (x ∷ tail) ((refl, reads_good s c past n c.server.lasting.boot m at ls a cache u h w same f lasts), subst (λ (o : List Line). AreGood s (actors.Node (Client n)) past o tail) (onto_last [] ls x) g));
+      quiet = quiet_more n ls (x ∷ []) w.quiet (refl, tt);
+      runs = ap (running s (Client n)) (onto_last (lines_of past) ls x) ∙ own_read n u.fid (seen.Status u.status) a (running s (Client n) (onto (lines_of past) ls)) w.runs;
+      ready = λ g v found lasts'. elim (put_found k g u cache v found) [
+        | inl q ↦ subst (λ (y : CacheEntry). ReadyBy n c.server.lasting.boot g y m (ls ++ x ∷ []) past) q.1 (subst (λ (y : Fid). ReadyBy n c.server.lasting.boot y one m (ls ++ x ∷ []) past) q.0 mine)
+        | inr q ↦
+            let r : ReadyBy n c.server.lasting.boot g v m ls past = w.ready g v q.1 lasts' in
+            let other : same_fid u.fid g ≡ false = not_same u.fid g q.0 in
+            record {
+              reply = r.reply;
+              boot = r.boot;
+              from = r.from;
+              held = r.held;
+              newest = r.newest;
+              low = rises g v.index (λ t. absurd (q.0 (same_fid-true u.fid g t))) r.low;
+              fetched = r.fetched;
+              own = own_fetched n g u ls ∙ (ap (λ (t : Bool). t || has_fetched (Client n) g (onto [] ls)) other ∙ r.own);
+              all = next_fetched n g u ls ∙ (or_none (has_fetched (Client n) g ls) (same_fid u.fid g) other ∙ r.all);
+              by = r.by;
+            }
+      ];
+      low = λ g i y t. rises g i (λ z. subst (λ (j : ℕ). j ≤ i) (sym (same ∙ ap at (same_fid-true u.fid g z))) (t (next_fetched n g u ls ∙ or_some (has_fetched (Client n) g ls) (same_fid u.fid g) z)))
+          (w.low g i y (λ z. t (next_fetched n g u ls ∙ or_first (has_fetched (Client n) g ls) (same_fid u.fid g) z)));
+      up = λ g. rises g (index_in (last_version g (lines_of past))) (λ t. subst (λ (z : Fid). u.index ≤ index_in (last_version z (lines_of past))) (same_fid-true u.fid g t) (h.top u.fid u.index f.held.whole.is f.held.whole.told)) (w.up g);
+      made = λ g. ap (λ (r : Reach). r.made) (more g) ∙ w.made g;
+      given = λ tail. ap (λ (o : List Line). given_message o (sent_of past)) (lines_assoc ls tail x) ∙ w.given (x ∷ tail);
+      own = ap (λ (o : List Line). given_message o (sent_of past)) (onto_last [] ls x) ∙ w.own;
+      dull = w.dull;
+      apart = apart_put k u cache w.apart;
+      old = put_old k u cache past whole w.old;
+    }
+
+-- entries that the reply brought
+abbrev pub AllFetched : ℕ → Message → (Fid → ℕ) → List Entry → List CacheEntry → Type 0
+AllFetched n m at past [] = ⊤
+AllFetched n m at past (u ∷ us) = ((u.server ≡ the_server) × ((u.index ≡ at u.fid) × IsFetched false n u.fid u.index u.status u.body u.expiry m past)) × AllFetched n m at past us
+
+all_last : (clock : ℕ) (u : CacheEntry) (us : List CacheEntry) → list_any (λ e. not (is_trusted clock e)) (u ∷ us) ≡ false → (clock < u.expiry) × (list_any (λ e. not (is_trusted clock e)) us ≡ false)
+all_last clock u us e = let q = neither (not (is_trusted clock u)) (list_any (λ e. not (is_trusted clock e)) us) e in (ltb-true _ _ (not_not (is_trusted clock u) q.0), q.1)
+
+reads_all : (us : List CacheEntry) (s : Script) (c : Cell) (past : List Entry) (n k : ℕ) (m : Message) (at : Fid → ℕ) (ls : List Line) (a : Going) (cache : List CacheEntry) → (h : Holds s c past) → Reads s c past n c.server.lasting.boot m at ls a cache → m.head.boot ≤ c.server.lasting.boot → AllFetched n m at past us → list_any (λ e. not (is_trusted c.clock e)) us ≡ false
+    → Reads s c past n c.server.lasting.boot m at (ls ++ looked (Client n) (map status_look us) []) (with_statuses us a) (put_entries k us cache)
+reads_all [] s c past n k m at ls a cache h w le all last = subst (λ (o : List Line). Reads s c past n c.server.lasting.boot m at o a cache) (sym (append-nil ls)) w
+reads_all (u ∷ us) s c past n k m at ls a cache h w le all last =
+    let q = all_last c.clock u us last in
+    subst (λ (o : List Line). Reads s c past n c.server.lasting.boot m at o (with_statuses us (with_read u.fid (seen.Status u.status) a)) (put_entries k us (put_entry k u cache))) (lines_assoc ls (looked (Client n) (map status_look us) []) (status_read n u))
+    (reads_all us s c past n k m at (ls ++ status_read n u ∷ []) (with_read u.fid (seen.Status u.status) a) (put_entry k u cache) h (reads_next s c past n k m at ls a cache u h w le all.0.0 all.0.1.0 all.0.1.1 q.0) le all.1 q.1)
+
+reply_by : (b t : Bool) (o u : Option Message) (m reply : Message) → b ≡ t → o ≡ Some m → cond t (Some m) u ≡ Some reply → cond b o u ≡ Some reply
+reply_by b t o u m reply e q h = ap (λ (x : Bool). cond x o u) e ∙ (ap (λ (x : Option Message). cond t x u) q ∙ h)
+
+reads_walks : (s : Script) (c : Cell) (past : List Entry) (n most : ℕ) (m : Message) (at : Fid → ℕ) (ls : List Line) (a : Going) (cache : List CacheEntry) → Reads s c past n most m at ls a cache → Walks s c past n most ls a cache
+reads_walks s c past n most m at ls a cache w = record {
+  good = w.good;
+  quiet = w.quiet;
+  runs = w.runs;
+  ready = λ g u found lasts.
+      let r : ReadyBy n most g u m ls past = w.ready g u found lasts in
+      record {
+        reply = r.reply;
+        boot = r.boot;
+        from = r.from;
+        held = r.held;
+        newest = r.newest;
+        low = r.low;
+        by = reply_by (has_fetched (Client n) g (onto [] ls)) r.fetched (given_message (onto [] ls) (sent_of past)) (fetch_reply (Client n) g past) m r.reply r.own w.own r.by;
+        later = λ tail t. reply_by (has_fetched (Client n) g (ls ++ tail)) r.fetched (given_message (ls ++ tail) (sent_of past)) (fetch_reply (Client n) g past) m r.reply (fetched_more (Client n) g ls tail ∙ (or_none (has_fetched (Client n) g ls) (has_fetched (Client n) g tail) (tail_fetched n (Client n) g tail t) ∙ r.all)) (w.given tail) r.by;
+      };
+  up = w.up;
+  made = w.made;
+  dull = λ tail t k boot y. w.dull k boot (subst (λ (o : Option Message). IsCallUnder the_server k boot o) (w.given tail) y);
+}
+
+pub several_goes : (t : Bool) (s : Script) (c : Cell) (past : List Entry) (n p : ℕ) (act : Going) (us : List CacheEntry) (at : Fid → ℕ) (m : Message) → (h : Holds s c past) → Due c h.floors past n p act m → ((code : Code) → m.carried ≡ carried.Refusal code → ⊥) → volume_changed (asked act) ≡ None → AllFetched n m at past us → list_any (λ e. not (is_trusted c.clock e)) us ≡ t
+    → Goes s past (client_moves c n (cond t (calls_again (Client n) (c.clients n) p act) (goes_on (Client n) (c.clients n) (λ ls. lines.Given p ∷ looked (Client n) (map status_look us) ls) (walked (most_reads (with_statuses us act)) c.clock (with_statuses us act) (put_entries (c.clients n).capacity us (c.clients n).cache)))))
+several_goes true s c past n p act us at m h d not shut all last = again_goes s c past n p act m h d shut
+several_goes false s c past n p act us at m h d not shut all last =
+    let R = reads_all us s c past n (c.clients n).capacity m at (lines.Given p ∷ []) act (c.clients n).cache h (reads_none s c past n p act m at h d shut) d.fact.booted all last in
+    gone_on s c past n p act m (λ ls. lines.Given p ∷ looked (Client n) (map status_look us) ls) (lines.Given p ∷ looked (Client n) (map status_look us) []) (most_reads (with_statuses us act)) (with_statuses us act) (put_entries (c.clients n).capacity us (c.clients n).cache) h d not shut
+    (λ ls. ap (λ (o : List Line). lines.Given p ∷ o) (looked_more (Client n) (map status_look us) ls)) (reads_walks s c past n c.server.lasting.boot m at (lines.Given p ∷ looked (Client n) (map status_look us) []) (with_statuses us act) (put_entries (c.clients n).capacity us (c.clients n).cache) R) R.apart R.old
 
 -- ---- an answered store
 
@@ -974,6 +1240,21 @@ status_goes s c past n p act (calls.FetchStatus f) head status callback sync h d
     ((fits.held.whole.is, fits.held.whole.told), fits.held.whole.been) fits
 status_goes s c past n p act call head status callback sync h d fresh same fits = plain_goes s c past n p act call _ (replies.FetchStatus status callback sync) h d refl same
 
+told_fetched : (sp : Bool) (n : ℕ) (m : Message) (past : List Entry) (at : Fid → ℕ) (server : Node) (sync : AfsVolSync) (fids : List Fid) (ss : List AfsFetchStatus) (cs : List AfsCallBack) → sp ≡ false → server ≡ the_server → AreFetched sp n m past at fids ss cs → AllFetched n m at past (entries_told server sync fids ss cs)
+told_fetched sp n m past at server sync [] ss cs fresh is h = tt
+told_fetched sp n m past at server sync (f ∷ fs) [] cs fresh is h = tt
+told_fetched sp n m past at server sync (f ∷ fs) (s ∷ ss) [] fresh is h = tt
+told_fetched sp n m past at server sync (f ∷ fs) (s ∷ ss) (c ∷ cs) fresh is h =
+    ((is, (h.0.0, subst (λ (b : Bool). IsFetched b n f s.sync_counter (status_told s) None c.expiration_time m past) fresh h.0.1)), told_fetched sp n m past at server sync fs ss cs fresh is h.1)
+
+pub bulk_goes : (s : Script) (c : Cell) (past : List Entry) (n p : ℕ) (act : Going) (call : FsCall) (head : Head) (statuses : List AfsFetchStatus) (callbacks : List AfsCallBack) (sync : AfsVolSync) → (h : Holds s c past) → Due c h.floors past n p act (record { head = head; carried = carried.Reply (tell.File (replies.BulkStatus statuses callbacks sync)) })
+    → is_spent (c.clients n) act ≡ false → asked act ≡ call → FitsBulk (c.clients n).spoiled n (spot (view h.floors c n)) (record { head = head; carried = carried.Reply (tell.File (replies.BulkStatus statuses callbacks sync)) }) past statuses callbacks call → Goes s past (client_moves c n (takes_bulk (Client n) (c.clients n) c.clock p act statuses callbacks sync call))
+bulk_goes s c past n p act (calls.BulkStatus fids) head statuses callbacks sync h d fresh same fits =
+    let us : List CacheEntry = entries_told (c.clients n).callee sync fids statuses callbacks in
+    several_goes (list_any (λ e. not (is_trusted c.clock e)) us) s c past n p act us fits.at _ h d (λ code z. reply_not (replies.BulkStatus statuses callbacks sync) code z) (ap volume_changed same)
+    (told_fetched (c.clients n).spoiled n _ past fits.at (c.clients n).callee sync fids statuses callbacks (fresh_of (c.clients n).spoiled (volume_changed (call_of (c.clients n) act)) fresh (ap volume_changed (call_is (c.clients n) act ∙ same))) ((h.own n).callee act d.running) fits.all) refl
+bulk_goes s c past n p act call head statuses callbacks sync h d fresh same fits = plain_goes s c past n p act call _ (replies.BulkStatus statuses callbacks sync) h d refl same
+
 pub data_stored : (t : Bool) (s : Script) (c : Cell) (past : List Entry) (n p : ℕ) (act : Going) (st : AfsStoreStatus) (pp ww ll : ℤ) (f : Fid) (b : List ℕ) (status : AfsFetchStatus) (m : Message) (reply : FsReply) → (h : Holds s c past) → Due c h.floors past n p act m → m.carried ≡ carried.Reply (tell.File reply) → stored_index m.carried ≡ Some status.sync_counter
     → asked act ≡ calls.StoreData f st pp ww ll b → FitsSet n (spot (view h.floors c n)) m past status (calls.StoreData f st pp ww ll b)
     → Goes s past (client_moves c n (cond t (takes_plain (Client n) (c.clients n) p (calls.StoreData f st pp ww ll b)) (takes_stored (Client n) (c.clients n) c.clock p f status.sync_counter (status_told status) (λ body. Some (bodies.File b)))))
@@ -1023,16 +1304,23 @@ takes_goes s c past n p act call head (replies.FetchStatus status callback sync)
 takes_goes s c past n p act call head (replies.StoreData status sync) h d fresh same = set_goes s c past n p act call status _ (replies.StoreData status sync) h d refl refl same (subst (λ (x : FsCall). FitsSet n (spot (view h.floors c n)) (record { head = head; carried = carried.Reply (tell.File (replies.StoreData status sync)) }) past status x) same d.answers.fits)
 takes_goes s c past n p act call head (replies.StoreAcl status sync) h d fresh same = set_goes s c past n p act call status _ (replies.StoreAcl status sync) h d refl refl same (subst (λ (x : FsCall). FitsSet n (spot (view h.floors c n)) (record { head = head; carried = carried.Reply (tell.File (replies.StoreAcl status sync)) }) past status x) same d.answers.fits)
 takes_goes s c past n p act call head (replies.StoreStatus status sync) h d fresh same = set_goes s c past n p act call status _ (replies.StoreStatus status sync) h d refl refl same (subst (λ (x : FsCall). FitsSet n (spot (view h.floors c n)) (record { head = head; carried = carried.Reply (tell.File (replies.StoreStatus status sync)) }) past status x) same d.answers.fits)
+takes_goes s c past n p act call head (replies.BulkStatus statuses callbacks sync) h d fresh same = bulk_goes s c past n p act call head statuses callbacks sync h d fresh same (subst (λ (x : FsCall). FitsBulk (c.clients n).spoiled n (spot (view h.floors c n)) (record { head = head; carried = carried.Reply (tell.File (replies.BulkStatus statuses callbacks sync)) }) past statuses callbacks x) same d.answers.fits)
 takes_goes s c past n p act call head reply h d fresh same = plain_goes s c past n p act call _ reply h d refl same
 
 -- a reply that isn't used
 pub spent_goes : (s : Script) (c : Cell) (past : List Entry) (n p : ℕ) (act : Going) (m : Message) → (h : Holds s c past) → Due c h.floors past n p act m → is_spent (c.clients n) act ≡ true → Goes s past (client_moves c n (calls_again (Client n) (c.clients n) p act))
 spent_goes s c past n p act m h d e = again_goes s c past n p act m h d (ap volume_changed (sym (call_is (c.clients n) act)) ∙ spent_shut (c.clients n).spoiled (volume_changed (call_of (c.clients n) act)) e)
 
+-- no refusal tells to ask again
+final_goes : (busy : Bool) (s : Script) (c : Cell) (past : List Entry) (n p : ℕ) (act : Going) (head : Head) (code : Code) → (h : Holds s c past) → Due c h.floors past n p act (record { head = head; carried = carried.Refusal code }) → busy ≡ false
+    → Goes s past (client_moves c n (cond (busy && nat_lt (c.clients n).busy most_busy) (calls_again (Client n) (record (c.clients n) { busy = (c.clients n).busy + 1 }) p act) (answers_step (Client n) (c.clients n) p code)))
+final_goes true s c past n p act head code h d e = absurd cc
+final_goes false s c past n p act head code h d e = takes_refused s c past n p act head code h d
+
 pub refused_goes : (s : Script) (c : Cell) (past : List Entry) (n p : ℕ) (act : Going) (head : Head) (code : Code) (t : Bool) → (h : Holds s c past) → Due c h.floors past n p act (record { head = head; carried = carried.Refusal code }) → is_spent (c.clients n) act ≡ t
-    → Goes s past (client_moves c n (cond t (calls_again (Client n) (c.clients n) p act) (answers_step (Client n) (c.clients n) p code)))
+    → Goes s past (client_moves c n (cond t (calls_again (Client n) (c.clients n) p act) (ClientRow.refuses (Client n) (c.clients n) p act code)))
 refused_goes s c past n p act head code true h d e = spent_goes s c past n p act _ h d e
-refused_goes s c past n p act head code false h d e = takes_refused s c past n p act head code h d
+refused_goes s c past n p act head code false h d e = final_goes (is_busy_code code) s c past n p act head code h d (neither _ _ d.answers.fits.0).1
 
 pub replied_goes : (s : Script) (c : Cell) (past : List Entry) (n p : ℕ) (act : Going) (head : Head) (reply : FsReply) (t : Bool) → (h : Holds s c past) → Due c h.floors past n p act (record { head = head; carried = carried.Reply (tell.File reply) }) → is_spent (c.clients n) act ≡ t
     → Goes s past (client_moves c n (cond t (calls_again (Client n) (c.clients n) p act) (takes (Client n) (c.clients n) c.clock p act (call_of (c.clients n) act) reply)))

@@ -13,7 +13,7 @@ use Rattle.afs_ideal.specs.Volumes.{Volume, Edit, versions_by, vnode_of}
 use Rattle.afs_law.proofs.Backing.{Plain, all_lines, is_still, is_oweless, backed_fall, granted_over, change_back, no_owe, promised_over, plain_waits}
 use Rattle.afs_law.proofs.Basics.{kept_last, not_above, runs_above, Below, Above, Each, IfCall, IfNotice, if_notice, by_server, IfDone, ByClient, OfClient, client_any, same_node-true, below_not, up_to_same, OfCall, each_map, each_at, if_call, some_of}
 use Rattle.afs_law.proofs.Edits.{on_top, SoundIn}
-use Rattle.afs_law.proofs.Facts.{HeldIn, ToClient, Ghost, HoldsAt, server_boot, up_boot, risen, IsActs, View, view, Spot, spot, ReplyFact, AreKept, HasFallen, IsCut, Fits, Answers, KeptReply, ClientFacts, CallFact, CallIn, Origin, AreUnheard, Holds, Goes, IsNoticed, IsOne}
+use Rattle.afs_law.proofs.Facts.{is_passing, HeldIn, ToClient, Ghost, HoldsAt, server_boot, up_boot, risen, IsActs, View, view, Spot, spot, ReplyFact, AreKept, HasFallen, IsCut, Fits, Answers, KeptReply, ClientFacts, CallFact, CallIn, Origin, AreUnheard, Holds, Goes, IsNoticed, IsOne}
 use Rattle.afs_law.proofs.Loading.{is_tickless, down_later, resent, rise_loaded, run_loaded, no_change, all_waited, quits_good, quits_backed, retries_backed, all_owed, alls_good, all_clients, own_waited}
 use Rattle.afs_law.proofs.Notes.{AreNotes, Skips, skips, told_entry, risen_entry, risen_rests, owe_notes, quit_notes}
 use Rattle.afs_law.proofs.Ops.{IsShown, reads_is, op_code, op_is, IsFoundAs, changes_is}
@@ -28,7 +28,7 @@ use Rattle.afs_law.specs.Breaks.{HasStopped, last_number, AllOwes}
 use Rattle.afs_rows.specs.Callbacks.{retries, quits, Turn, replies_of, pumped, expired, turn_for, no_turn, repeats_by, key_answered, is_seat_of, alls, put_at, held_under, asked_again, is_ready, is_reply_to}
 use Rattle.afs_rows.specs.ClientRow.{boot_of}
 use Rattle.afs_rows.specs.Going.{asked}
-use Rattle.afs_law.specs.Ideal.{is_zero_code, clock_of, volume_after}
+use Rattle.afs_law.specs.Ideal.{clock_of, volume_after}
 use Rattle.afs_law.specs.Legal.{IsChanging, code_given, AreGood, IsNew, HasChange, versions_first, IsTold, answer_at, answer_on, GoodRestart, op_on, all_on, statuses_on}
 use Rattle.afs_history.specs.declared.lines.Line.{Line}
 use Rattle.afs_law.specs.Past.{onto, lines_of, sent_of, given_message, called_key, IsCallUnder}
@@ -85,7 +85,7 @@ pub record IsKept (c : Cell) (reply : Message) : Type 0 where
 pub record JustRefusal (s : Script) (c : Cell) (fl : ℕ → Ghost) (past : List Entry) (msg : Message) (head : Head) (code : ℤ) : Type 0 where
   pub call : FsCall
   pub due : Due s c fl past msg head call
-  pub some : is_zero_code (record { 0 = code }) ≡ false
+  pub some : is_passing code ≡ false
   pub why : ((code_given (answer_at due.user call past) ≡ code) × IsTold (called_key (client_head due.client head)) (answer_at due.user call past) []) ⊎ ((code ≡ no_room) × IsChanging (answer_at due.user call past))
 
 pub record JustReading (s : Script) (c : Cell) (fl : ℕ → Ghost) (past : List Entry) (msg : Message) (head : Head) (r : Reading) : Type 0 where
@@ -201,7 +201,7 @@ more_sights o os = o >>= λ x. (os >>= λ xs. Ok (x ∷ xs))
 pub record OneSight (c : Cell) (f : Fid) (q : Result) (o : outcome.Result Sight ℕ) : Type 0 where
   pub said_so : (os : outcome.Result (List Sight) ℕ) → all_on q (said os) ≡ said (more_sights o os)
   pub seen : (x : Sight) → o ≡ Ok x → IsSeen c f x.stored x.found
-  pub some : (code : ℕ) → o ≡ Err code → is_zero_code (record { 0 = pos code }) ≡ false
+  pub some : (code : ℕ) → o ≡ Err code → is_passing (pos code) ≡ false
 
 said_more : (x : Sight) (os : outcome.Result (List Sight) ℕ) → said os ≡ said (more_sights (Ok x) os)
 said_more x (Ok xs) = refl
@@ -214,7 +214,7 @@ one_by : (c : Cell) (caller : Caller) (f : Fid) (st : Stored) (q : Result) → g
 one_by c caller f st (refused code) at e = record {
   said_so = λ os. refl;
   seen = λ x y. absurd cc;
-  some = λ k y. let same : code ≡ k = cc in subst (λ (i : ℕ). is_zero_code (record { 0 = pos i }) ≡ false) same (op_code f.volume caller (calls.FetchStatus f) st.volume code refl e);
+  some = λ k y. let same : code ≡ k = cc in subst (λ (i : ℕ). is_passing (pos i) ≡ false) same (op_code f.volume caller (calls.FetchStatus f) st.volume code refl e);
 }
 one_by c caller f st (reads (shows_status g)) at e =
     let is = reads_is f.volume caller (calls.FetchStatus f) st.volume (shows_status g) refl e in
@@ -231,7 +231,7 @@ one_by c caller f st (changes es n) at e = absurd (changes_is f.volume caller (c
 one_by c caller f st no_operation at e = absurd (op_is f.volume caller (calls.FetchStatus f) st.volume refl e)
 
 one_in : (c : Cell) (caller : Caller) (f : Fid) (o : Option Stored) → get f.volume c.server.lasting.volumes ≡ o → OneSight c f (op_on f.volume caller (calls.FetchStatus f) (option_map (λ (x : Stored). x.volume) o)) (sight_in caller f o)
-one_in c caller f None at = record { said_so = λ os. refl; seen = λ x y. absurd cc; some = λ k y. let same : no_volume ≡ k = cc in subst (λ (i : ℕ). is_zero_code (record { 0 = pos i }) ≡ false) same refl }
+one_in c caller f None at = record { said_so = λ os. refl; seen = λ x y. absurd cc; some = λ k y. let same : no_volume ≡ k = cc in subst (λ (i : ℕ). is_passing (pos i) ≡ false) same refl }
 one_in c caller f (Some st) at = one_by c caller f st (op f.volume caller (calls.FetchStatus f) st.volume) at refl
 
 one_at : (s : Script) (c : Cell) (past : List Entry) (caller : Caller) (f : Fid) → Holds s c past → OneSight c f (op_on f.volume caller (calls.FetchStatus f) (volume_after f.volume past)) (sight_in caller f (get f.volume c.server.lasting.volumes))
@@ -246,9 +246,9 @@ all_said s c past caller (f ∷ fs) H =
 -- what is known of all of them, or of the refusal
 abbrev pub AreSights : Cell → List Fid → outcome.Result (List Sight) ℕ → Type 0
 AreSights c fs (Ok xs) = AllSeen c fs xs
-AreSights c fs (Err code) = is_zero_code (record { 0 = pos code }) ≡ false
+AreSights c fs (Err code) = is_passing (pos code) ≡ false
 
-more_seen : (c : Cell) (f : Fid) (fs : List Fid) (o : outcome.Result Sight ℕ) (os : outcome.Result (List Sight) ℕ) → ((x : Sight) → o ≡ Ok x → IsSeen c f x.stored x.found) → ((code : ℕ) → o ≡ Err code → is_zero_code (record { 0 = pos code }) ≡ false) → AreSights c fs os → AreSights c (f ∷ fs) (more_sights o os)
+more_seen : (c : Cell) (f : Fid) (fs : List Fid) (o : outcome.Result Sight ℕ) (os : outcome.Result (List Sight) ℕ) → ((x : Sight) → o ≡ Ok x → IsSeen c f x.stored x.found) → ((code : ℕ) → o ≡ Err code → is_passing (pos code) ≡ false) → AreSights c fs os → AreSights c (f ∷ fs) (more_sights o os)
 more_seen c f fs (Err code) os seen some h = some code refl
 more_seen c f fs (Ok x) (Ok xs) seen some h = (seen x refl, h)
 more_seen c f fs (Ok x) (Err code) seen some h = h
@@ -369,7 +369,7 @@ pub told_more : (k : Key) (o : Option Result) (ls : List Line) → IsTold k o []
 told_more k (Some (changes es n)) ls h = absurd h
 told_more k o ls h = tt
 
-pub refuses_by : (s : Script) (c : Cell) (past : List Entry) (armed : Armed) (p n : ℕ) (head : Head) (user : List ℕ) (call : FsCall) (code : ℤ) → (H : Holds s c past) → c.down ≡ None → message_at c.sent p ≡ Some (call_at n head user call) → Now s c H.floors past n head user call → is_zero_code (record { 0 = code }) ≡ false
+pub refuses_by : (s : Script) (c : Cell) (past : List Entry) (armed : Armed) (p n : ℕ) (head : Head) (user : List ℕ) (call : FsCall) (code : ℤ) → (H : Holds s c past) → c.down ≡ None → message_at c.sent p ≡ Some (call_at n head user call) → Now s c H.floors past n head user call → is_passing code ≡ false
     → ((code_given (answer_at user call past) ≡ code) × IsTold (called_key (client_head n head)) (answer_at user call past) []) ⊎ ((code ≡ no_room) × IsChanging (answer_at user call past))
     → Goes s past (server_does c armed p (call_at n head user call) (refuses (client_head n head) code))
 refuses_by s c past armed p n head user call code H up at w nz (inl x) = refuses_goes s c past armed p n head user call code H up at w nz (inl (x.0, told_more (called_key (client_head n head)) (answer_at user call past) (lines.Given p ∷ lines_of past) x.1))

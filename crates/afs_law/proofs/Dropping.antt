@@ -1,3 +1,7 @@
+use Rattle.afs_law.proofs.Facts.{AreFetched, FitsBulk}
+use Rattle.afs_law.proofs.Passing.{fetched_each}
+use Rattle.std.specs.List.{list_any}
+use Rattle.std.specs.Prelude.{◌||◌}
 -- A client is called by its server: it drops what it has cached of the broken promises.
 use Rattle.afs_law.proofs.Facts.{FitsList}
 use Rattle.afs_law.proofs.Passing.{was_onto}
@@ -334,6 +338,48 @@ pub broken_shown : (sp : Bool) (n p : ℕ) (x : Spot) (m : Message) (status : Af
 broken_shown sp n p x m status callback (calls.FetchStatus f) fs ms past last h = broken_fetched sp (is_named f fs) n p m f status.sync_counter (status_told status) None callback.expiration_time fs ms past refl last h
 broken_shown sp n p x m status callback call fs ms past last h = h
 
+or_left : (a b : Bool) → a ≡ true → (a || b) ≡ true
+or_left true b e = refl
+or_left false b e = absurd cc
+
+or_right : (a b : Bool) → b ≡ true → (a || b) ≡ true
+or_right true b e = refl
+or_right false b e = e
+
+-- a reply that is spoiled may be of a fid that was dropped
+spoils : (sp b : Bool) (n : ℕ) (f : Fid) (i : ℕ) (status : ReadStatus) (body : Option Body) (expiry : ℕ) (m : Message) (past : List Entry) → IsFetched sp n f i status body expiry m past → IsFetched (cond b true sp) n f i status body expiry m past
+spoils sp false n f i status body expiry m past h = h
+spoils sp true n f i status body expiry m past h = record {
+  held = record { grant = h.held.grant; server = h.held.server; kept = λ z d. absurd cc; whole = h.held.whole; base = h.held.base; split = h.held.split; begun = h.held.begun };
+  reached = h.reached;
+  newest = h.newest;
+}
+
+spoils_more : (sp a b : Bool) (n : ℕ) (f : Fid) (i : ℕ) (status : ReadStatus) (body : Option Body) (expiry : ℕ) (m : Message) (past : List Entry) → (a ≡ true → b ≡ true) → IsFetched (cond a true sp) n f i status body expiry m past → IsFetched (cond b true sp) n f i status body expiry m past
+spoils_more sp false b n f i status body expiry m past w h = spoils sp b n f i status body expiry m past h
+spoils_more sp true true n f i status body expiry m past w h = h
+spoils_more sp true false n f i status body expiry m past w h = let no_ : false ≡ true = w refl in absurd cc
+
+-- one that was named spoils all
+broken_each : (b sp : Bool) (n p : ℕ) (m : Message) (at : Fid → ℕ) (gs : List Fid) (ss : List AfsFetchStatus) (cs : List AfsCallBack) (fs : List Fid) (ms : List Message) (past : List Entry) → ((f : Fid) → last_version f (lines_of (step_entry n (broken_lines n p fs) ms ∷ past)) ≡ last_version f (lines_of past))
+    → (list_any (λ g. is_named g fs) gs ≡ true → b ≡ true) → AreFetched sp n m past at gs ss cs → AreFetched (cond b true sp) n m (step_entry n (broken_lines n p fs) ms ∷ past) at gs ss cs
+broken_each b sp n p m at [] ss cs fs ms past last w h = tt
+broken_each b sp n p m at (g ∷ gs) [] cs fs ms past last w h = tt
+broken_each b sp n p m at (g ∷ gs) (s ∷ ss) [] fs ms past last w h = tt
+broken_each b sp n p m at (g ∷ gs) (s ∷ ss) (c ∷ cs) fs ms past last w h = (
+  (
+    h.0.0,
+    spoils_more sp (is_named g fs) b n g s.sync_counter (status_told s) None c.expiration_time m (step_entry n (broken_lines n p fs) ms ∷ past) (λ z. w (or_left (is_named g fs) (list_any (λ k. is_named k fs) gs) z))
+        (broken_fetched sp (is_named g fs) n p m g s.sync_counter (status_told s) None c.expiration_time fs ms past refl last h.0.1),
+  ),
+  broken_each b sp n p m at gs ss cs fs ms past last (λ z. w (or_right (is_named g fs) (list_any (λ k. is_named k fs) gs) z)) h.1,
+)
+
+pub broken_bulk : (sp : Bool) (n p : ℕ) (x : Spot) (m : Message) (ss : List AfsFetchStatus) (cs : List AfsCallBack) (call : FsCall) (fs : List Fid) (ms : List Message) (past : List Entry) → ((f : Fid) → last_version f (lines_of (step_entry n (broken_lines n p fs) ms ∷ past)) ≡ last_version f (lines_of past))
+    → FitsBulk sp n x m past ss cs call → FitsBulk (cond (names_call fs call) true sp) n x m (step_entry n (broken_lines n p fs) ms ∷ past) ss cs call
+broken_bulk sp n p x m ss cs (calls.BulkStatus fids) fs ms past last h = record { at = h.at; all = broken_each (list_any (λ f. is_named f fs) fids) sp n p m h.at fids ss cs fs ms past last (λ z. z) h.all }
+broken_bulk sp n p x m ss cs call fs ms past last h = h
+
 pub broken_set : (n p : ℕ) (x : Spot) (m : Message) (status : AfsFetchStatus) (call : FsCall) (fs : List Fid) (ms : List Message) (past : List Entry) → FitsSet n x m past status call → FitsSet n x m (step_entry n (broken_lines n p fs) ms ∷ past) status call
 broken_set n p x m status (calls.StoreData f set position wanted file_length contents) fs ms past h = (((skips n fs).version f status.sync_counter (bodies.File contents) (lines.Given p ∷ lines_of past) h.0.0, inr h.0.1), (h.1.0, (broken_reach n n p fs ms past f).both status.sync_counter h.1.1))
 broken_set n p x m status (calls.StoreAcl f acl) fs ms past h = ((body_kept f status.sync_counter (lines_of past) (lines_of (step_entry n (broken_lines n p fs) ms ∷ past)) (λ i b y. (skips n fs).version f i b (lines.Given p ∷ lines_of past) y) h.0.0, inr h.0.1), (h.1.0, (broken_reach n n p fs ms past f).both status.sync_counter h.1.1))
@@ -358,6 +404,7 @@ broken_reply sp n p call x m (replies.FetchStatus status callback sync) fs ms pa
 broken_reply sp n p call x m (replies.StoreData status sync) fs ms past last h = broken_set n p x m status call fs ms past h
 broken_reply sp n p call x m (replies.StoreAcl status sync) fs ms past last h = broken_set n p x m status call fs ms past h
 broken_reply sp n p call x m (replies.StoreStatus status sync) fs ms past last h = broken_set n p x m status call fs ms past h
+broken_reply sp n p call x m (replies.BulkStatus statuses callbacks sync) fs ms past last h = broken_bulk sp n p x m statuses callbacks call fs ms past last h
 broken_reply sp n p call x m reply fs ms past last h = h
 
 pub broken_fits : (sp : Bool) (n p : ℕ) (call : FsCall) (x : Spot) (boot : ℕ) (m : Message) (c : Carried) (fs : List Fid) (ms : List Message) (past : List Entry) → ((f : Fid) → last_version f (lines_of (step_entry n (broken_lines n p fs) ms ∷ past)) ≡ last_version f (lines_of past))
@@ -459,6 +506,11 @@ pub all_shown : (sp : Bool) (n : ℕ) (x : Spot) (m : Message) (status : AfsFetc
 all_shown sp n x m status callback (calls.FetchStatus f) e past v r w last h = all_fetched sp n m f status.sync_counter (status_told status) None callback.expiration_time e past v r w last h
 all_shown sp n x m status callback call e past v r w last h = h
 
+pub all_bulk : (sp : Bool) (n : ℕ) (x : Spot) (m : Message) (ss : List AfsFetchStatus) (cs : List AfsCallBack) (call : FsCall) (e : Entry) (past : List Entry) → ((f : Fid) (i : ℕ) (b : Body) → HasVersion f i b (lines_of past) → HasVersion f i b (lines_of (e ∷ past))) → ((f : Fid) → PassesReach n f e past) → ((f : Fid) (i : ℕ) (q : Node) (o : List Line) → IsWithdrawn q (Client n) f o → IsWithdrawn q (Client n) f (onto o e.lines))
+    → ((f : Fid) → last_version f (lines_of (e ∷ past)) ≡ last_version f (lines_of past)) → FitsBulk sp n x m past ss cs call → FitsBulk (cond (is_spoiled_by_all call) true sp) n x m (e ∷ past) ss cs call
+all_bulk sp n x m ss cs (calls.BulkStatus fids) e past v r w last h = record { at = h.at; all = fetched_each true n m past (e ∷ past) h.at fids ss cs (λ f i t y z. all_fetched sp n m f i t None y e past v r w last z) h.all }
+all_bulk sp n x m ss cs call e past v r w last h = h
+
 pub all_set : (n : ℕ) (x : Spot) (m : Message) (status : AfsFetchStatus) (call : FsCall) (e : Entry) (past : List Entry) → ((f : Fid) (i : ℕ) (b : Body) → HasVersion f i b (lines_of past) → HasVersion f i b (lines_of (e ∷ past))) → ((f : Fid) → PassesReach n f e past) → FitsSet n x m past status call → FitsSet n x m (e ∷ past) status call
 all_set n x m status (calls.StoreData f set position wanted file_length contents) e past v r h = ((v f status.sync_counter (bodies.File contents) h.0.0, inr h.0.1), (h.1.0, (r f).both status.sync_counter h.1.1))
 all_set n x m status (calls.StoreAcl f acl) e past v r h = ((body_kept f status.sync_counter (lines_of past) (lines_of (e ∷ past)) (v f) h.0.0, inr h.0.1), (h.1.0, (r f).both status.sync_counter h.1.1))
@@ -477,6 +529,7 @@ all_reply sp n call x m (replies.FetchStatus status callback sync) e past v r w 
 all_reply sp n call x m (replies.StoreData status sync) e past v r w last b h = all_set n x m status call e past v r h
 all_reply sp n call x m (replies.StoreAcl status sync) e past v r w last b h = all_set n x m status call e past v r h
 all_reply sp n call x m (replies.StoreStatus status sync) e past v r w last b h = all_set n x m status call e past v r h
+all_reply sp n call x m (replies.BulkStatus statuses callbacks sync) e past v r w last b h = all_bulk sp n x m statuses callbacks call e past v r w last h
 all_reply sp n call x m reply e past v r w last b h = h
 
 pub all_fits : (sp : Bool) (n p : ℕ) (call : FsCall) (x : Spot) (boot : ℕ) (m : Message) (c : Carried) (e : Entry) (past : List Entry) → ((f : Fid) (i : ℕ) (b : Body) → HasVersion f i b (lines_of past) → HasVersion f i b (lines_of (e ∷ past))) → ((f : Fid) → PassesReach n f e past) → ((f : Fid) (i : ℕ) (q : Node) (o : List Line) → IsWithdrawn q (Client n) f o → IsWithdrawn q (Client n) f (onto o e.lines))

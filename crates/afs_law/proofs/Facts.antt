@@ -1,5 +1,5 @@
 use Rattle.afs_ideal.specs.Directories.{IsDirectory, FitNames}
-use Rattle.afs_ideal.specs.Operations.{volume_changed}
+use Rattle.afs_ideal.specs.Operations.{is_number, volume_changed}
 use Rattle.afs_ideal.specs.Tables.{AscendsFrom, Table, get}
 use Rattle.afs_ideal.specs.Volumes.{Vnode, Volume}
 use Rattle.afs_law.proofs.Basics.{Below, UpTo, Above, Each, IfCall, IfReply, IfNotice, OfCall, OfReply, guest}
@@ -9,7 +9,7 @@ use Rattle.afs_rows.specs.Callbacks.{replies_of}
 use Rattle.afs_rows.specs.ClientRow.{boot_of, find_cached, body_told, server_at, status_told}
 use Rattle.afs_rows.specs.Going.{asked, Going, ClientState}
 use Rattle.afs_law.specs.Grants.{fetch_reply, GrantOf, since, IsWithdrawn, IsDropped}
-use Rattle.afs_law.specs.Ideal.{is_zero_code, last_version, IsLast, WasLast, HasBeen, HasVersion, Accepts, clock_of, user_of, reach, call_under, volume_after}
+use Rattle.afs_law.specs.Ideal.{last_version, IsLast, WasLast, HasBeen, HasVersion, Accepts, clock_of, user_of, reach, call_under, volume_after}
 use Rattle.afs_law.specs.Legal.{IsNew, Cause, AreGood, AreGoodReplies}
 use Rattle.afs_history.specs.declared.lines.Line.{Line}
 use Rattle.afs_law.specs.Past.{is_of_act, lines_of, sent_of, called_key, running, Called, CalledSince, IsUnheard, Ran}
@@ -19,7 +19,7 @@ use Rattle.afs_rows.specs.Scopes.{is_in_scope}
 use Rattle.afs_rows.specs.ServerRow.{reply_head}
 use Rattle.afs_rows.specs.States.{CacheEntry, Seat, ServerState, Lasting, volume_in}
 use Rattle.afs_model.specs.Calls.{call_seat}
-use Rattle.std.specs.Prelude.{Bool, true, false, ◌++◌, if◌then◌else◌, ⊤}
+use Rattle.std.specs.Prelude.{Bool, true, false, ◌||◌, ◌++◌, if◌then◌else◌, ⊤}
 use Rattle.afs_num.specs.Nodes.{same_node}
 use Rattle.std.proofs.Common.{◌+◌, ◌≡◌, ℕ, ◌<◌, ◌≤◌, ◌^◌, ◌⊎◌, List, [], ◌∷◌, Option, Some, None, ℤ}
 use Rattle.afs_num.specs.declared.types.Fid.{Fid}
@@ -287,6 +287,19 @@ abbrev pub FitsShown : Bool → ℕ → Spot → Message → List Entry → AfsF
 FitsShown sp j v m past status callback (calls.FetchStatus f) = IsFetched sp j f status.sync_counter (status_told status) None callback.expiration_time m past
 FitsShown sp j v m past status callback call = FitsPlain v m call
 
+-- the statuses that were read of these fids, each under the index that the fid had
+abbrev pub AreFetched : Bool → ℕ → Message → List Entry → (Fid → ℕ) → List Fid → List AfsFetchStatus → List AfsCallBack → Type 0
+AreFetched sp j m past at (f ∷ fs) (s ∷ ss) (c ∷ cs) = ((s.sync_counter ≡ at f) × IsFetched sp j f s.sync_counter (status_told s) None c.expiration_time m past) × AreFetched sp j m past at fs ss cs
+AreFetched sp j m past at fs ss cs = ⊤
+
+pub record IsBulk (sp : Bool) (j : ℕ) (m : Message) (past : List Entry) (fids : List Fid) (statuses : List AfsFetchStatus) (callbacks : List AfsCallBack) : Type 0 where
+  pub at : Fid → ℕ
+  pub all : AreFetched sp j m past at fids statuses callbacks
+
+abbrev pub FitsBulk : Bool → ℕ → Spot → Message → List Entry → List AfsFetchStatus → List AfsCallBack → FsCall → Type 0
+FitsBulk sp j v m past statuses callbacks (calls.BulkStatus fids) = IsBulk sp j m past fids statuses callbacks
+FitsBulk sp j v m past statuses callbacks call = FitsPlain v m call
+
 -- rights that were read
 pub record IsGot (j : ℕ) (f : Fid) (index : ℕ) (text : List ℕ) (past : List Entry) : Type 0 where
   pub is : Body
@@ -328,12 +341,17 @@ FitsReply sp j call v m past (replies.FetchStatus status callback sync) = FitsSh
 FitsReply sp j call v m past (replies.StoreData status sync) = FitsSet j v m past status call
 FitsReply sp j call v m past (replies.StoreAcl status sync) = FitsSet j v m past status call
 FitsReply sp j call v m past (replies.StoreStatus status sync) = FitsSet j v m past status call
+FitsReply sp j call v m past (replies.BulkStatus statuses callbacks sync) = FitsBulk sp j v m past statuses callbacks call
 FitsReply sp j call v m past reply = FitsPlain v m call
 
--- A refusal has a code. A refused call may have changed something since, but in a later boot
+-- a code that is none, or tells to ask again: no server refuses with it, for no volume is out of service or busy
+abbrev pub is_passing : ℤ → Bool
+is_passing code = is_number code 0 || (is_number code 106 || is_number code 110)
+
+-- A refusal has a code, and doesn't tell to ask again. A refused call may have changed something since, but in a later boot
 abbrev pub Fits : Bool → ℕ → FsCall → Spot → ℕ → Message → Carried → List Entry → Type 0
 Fits sp j call v boot m (carried.Reply (tell.File reply)) past = FitsReply sp j call v m past reply
-Fits sp j call v boot m (carried.Refusal code) past = (is_zero_code code ≡ false) × (LastStored v → m.head.boot < boot)
+Fits sp j call v boot m (carried.Refusal code) past = (is_passing code.0 ≡ false) × (LastStored v → m.head.boot < boot)
 Fits sp j call v boot m c past = ⊥
 
 pub record Answers (sp : Bool) (j : ℕ) (call : FsCall) (v : Spot) (boot : ℕ) (m : Message) (past : List Entry) : Type 0 where

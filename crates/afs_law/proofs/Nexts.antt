@@ -16,7 +16,7 @@ use Rattle.afs_num.specs.declared.histories.ReadBody.{ReadBody}
 use Rattle.afs_num.specs.declared.histories.ReadBody.TheVariants as seen
 use Rattle.afs_num.specs.declared.types.Fid.{Fid}
 use Rattle.afs_law.proofs.Basics.{same_fid-refl}
-use Rattle.afs_rows.specs.Going.{call_for, Need, reads, reads_status, reads_statuses, reads_rights, asks_for, gives_back, answers, Shown, Taken, Going, Homes, Parted, act_needs, next, with_read, first_body, taken_body, by_body, reading, by_status, first_status, reading_rights, has_rights, has_rights_by, walk, step_to, looked_up, fid_of, root_of, is_last_name, is_even, to_object, to_parent, at_parent, parted, in_home, in_directory, by_kind, of_one, is_root}
+use Rattle.afs_rows.specs.Going.{by_statuses, reading_statuses, statuses_in, named_first, call_for, Need, reads, reads_status, reads_statuses, reads_rights, asks_for, gives_back, answers, Shown, Taken, Going, Homes, Parted, act_needs, next, with_read, first_body, taken_body, by_body, reading, by_status, first_status, reading_rights, has_rights, has_rights_by, walk, step_to, looked_up, fid_of, root_of, is_last_name, is_even, to_object, to_parent, at_parent, parted, in_home, in_directory, by_kind, of_one, is_root}
 
 -- the text of rights that were read of this fid
 abbrev pub got : Fid → List ℕ → Shown
@@ -109,6 +109,20 @@ status_ends : (g f : Fid) (o : Option (Taken _)) (later : Need) → Ends g (by_s
 status_ends g f None later = tt
 status_ends g f (Some t) later = tt
 
+several_by : (g : Fid) (all : List Fid) (more : List Shown → Need) (o : Option (Taken _)) (later : Need) → ((rest : List Shown) → Ends g (more rest) later) → Ends g (by_statuses all more o) later
+several_by g all more None later w = tt
+several_by g all more (Some t) later w = w t.rest
+
+several_ends : (g : Fid) (all fs : List Fid) (rs : List Shown) (later : Need) → Ends g (reading_statuses all fs rs) later
+several_ends g all [] rs later = tt
+several_ends g all (f ∷ fs) rs later = several_by g all (reading_statuses all fs) (first_status f rs) later (λ rest. several_ends g all fs rest later)
+
+statuses_ends : (g : Fid) (b : Body) (volume : ℕ) (rs : List Shown) (later : Need) → Ends g (statuses_in volume rs b) later
+statuses_ends g (bodies.File k) volume rs later = tt
+statuses_ends g (bodies.Dir k) volume rs later = several_ends g (named_first volume k) (named_first volume k) rs later
+statuses_ends g (bodies.Link k) volume rs later = tt
+statuses_ends g bodies.Gone volume rs later = tt
+
 rights_by : (b : Bool) (g f : Fid) (later : Need) → (f ≡ g → later ≡ answers 0) → Ends g (cond b (answers 0) (reads_rights f)) later
 rights_by true g f later w = tt
 rights_by false g f later w = w
@@ -151,7 +165,7 @@ act_ends g text h (acts.Open o) rs = shows_ends g text 0 21 22 h.first o rs
 act_ends g text h (acts.ListNames o) rs = shows_ends g text 20 0 20 h.first o rs
 act_ends g text h (acts.ReadLink o) rs = shows_ends g text 22 21 0 h.first o rs
 act_ends g text h (acts.Stat o) rs = object_ends g text h.first o rs _ (λ f rest. status_ends g f (first_status f rest) _)
-act_ends g text h (acts.StatAll o) rs = tt
+act_ends g text h (acts.StatAll o) rs = object_ends g text h.first o rs _ (λ f rest. reading_ends g f text rest (λ b later. statuses_in f.volume later b) (λ b later. statuses_ends g b f.volume later _))
 act_ends g text h (acts.Close o contents) rs = object_ends g text h.first o rs _ (λ f rest e. absurd cc)
 act_ends g text h (acts.Make p) rs = parent_ends g text h.first p rs _ (λ f name rest e. absurd cc)
 act_ends g text h (acts.MakeDirectory p) rs = parent_ends g text h.first p rs _ (λ f name rest e. absurd cc)

@@ -6,11 +6,10 @@ use Rattle.afs_ideal.specs.Tables.{get}
 use Rattle.afs_ideal.specs.Volumes.{Kind, a_file, a_directory, a_link, Vnode, Volume, Edit, amends, Amend, vnode_of, if_unique, versions_by, edited_all, amends_at, amended}
 use Rattle.afs_law.proofs.Basics.{both, some_of}
 use Rattle.afs_law.proofs.Edits.{get-set, Grow, touches, touched_volume}
-use Rattle.afs_law.proofs.Facts.{InScope}
-use Rattle.afs_law.specs.Ideal.{is_zero_code}
+use Rattle.afs_law.proofs.Facts.{InScope, is_passing}
 use Rattle.afs_history.specs.declared.lines.Line.{Line}
 use Rattle.afs_rows.specs.Scopes.{is_volume}
-use Rattle.std.proofs.Common.{◌≤◌, ◌≡◌, ℕ, ◌+◌, ◌⊎◌, inl, Bool, true, false, cond, eqb, nat_eq, List, [], ◌∷◌, ◌++◌, Option, Some, None, ℤ, pos, refl, sym, ap, subst, ◌∙◌, eq-eqb, eqb-true}
+use Rattle.std.proofs.Common.{◌≤◌, ◌≡◌, ℕ, ◌+◌, ◌⊎◌, inl, Bool, true, false, cond, nat_eq, List, [], ◌∷◌, ◌++◌, Option, Some, None, ℤ, pos, refl, sym, ap, subst, ◌∙◌, eq-eqb, eqb-true}
 use Rattle.std.specs.Prelude.{⊤, is_some}
 use Rattle.afs_num.specs.declared.types.Fid.{Fid}
 use Rattle.afs_num.specs.declared.calls.AfsStoreStatus.{AfsStoreStatus}
@@ -122,17 +121,17 @@ pub op_is : (id : ℕ) (caller : Caller) (call : FsCall) (v : Volume) → volume
 op_is id caller call v of e =
     subst IsOperation e (tested_operation (first_failing (tests caller call v)) (limited id v (effect caller call v)) (limited_operation id v (effect caller call v) (effect_operation id caller call v of)))
 
--- ---- codes of refusals are none of them 0
+-- ---- codes of refusals are none of them 0, and none asks to come again
 
 abbrev pub AreCodes : List (Bool × ℕ) → Type 0
 AreCodes [] = ⊤
-AreCodes (t ∷ ts) = (eqb t.1 0 ≡ false) × AreCodes ts
+AreCodes (t ∷ ts) = (is_passing (pos t.1) ≡ false) × AreCodes ts
 
-failing_by : (b : Bool) (n code : ℕ) (o : Option ℕ) → eqb n 0 ≡ false → (o ≡ Some code → eqb code 0 ≡ false) → cond b o (Some n) ≡ Some code → eqb code 0 ≡ false
+failing_by : (b : Bool) (n code : ℕ) (o : Option ℕ) → is_passing (pos n) ≡ false → (o ≡ Some code → is_passing (pos code) ≡ false) → cond b o (Some n) ≡ Some code → is_passing (pos code) ≡ false
 failing_by true n code o h w e = w e
-failing_by false n code o h w e = ap (λ (m : ℕ). eqb m 0) (sym (some_of n code e)) ∙ h
+failing_by false n code o h w e = ap (λ (m : ℕ). is_passing (pos m)) (sym (some_of n code e)) ∙ h
 
-failing : (ts : List (Bool × ℕ)) (code : ℕ) → AreCodes ts → first_failing ts ≡ Some code → eqb code 0 ≡ false
+failing : (ts : List (Bool × ℕ)) (code : ℕ) → AreCodes ts → first_failing ts ≡ Some code → is_passing (pos code) ≡ false
 failing [] code h e = absurd cc
 failing (t ∷ ts) code h e = failing_by t.0 t.1 code (first_failing ts) h.0 (failing ts code h.1) e
 
@@ -165,14 +164,14 @@ tests_codes caller (calls.GetVolumeStatus n) v = (refl, tt)
 tests_codes caller call v = tt
 
 abbrev pub IsNone : ℤ → Type 0
-IsNone code = is_zero_code (record { 0 = code }) ≡ false
+IsNone code = is_passing code ≡ false
 
 refused_same : (a b : ℕ) → refused a ≡ refused b → a ≡ b
 refused_same a b e = cc
 
--- what is refused has another code than 0
+-- what is refused has such a code
 abbrev pub IsNoZero : Result → Type 0
-IsNoZero (refused code) = eqb code 0 ≡ false
+IsNoZero (refused code) = is_passing (pos code) ≡ false
 IsNoZero r = ⊤
 
 tested_code : (ts : List (Bool × ℕ)) (o : Option ℕ) (r : Result) → AreCodes ts → first_failing ts ≡ o → IsNoZero r → IsNoZero (by_tests o r)
@@ -189,7 +188,7 @@ read_code : (show : Found → Shown) (f : Fid) (o : Option Vnode) → IsNoZero (
 read_code show f None = refl
 read_code show f (Some x) = tt
 
-more_code : (f : Fid) (o : Option ℕ) (u : Option Vnode) (r : Result) → ((n : ℕ) → o ≡ Some n → eqb n 0 ≡ false) → IsNoZero r → IsNoZero (one_more f o u r)
+more_code : (f : Fid) (o : Option ℕ) (u : Option Vnode) (r : Result) → ((n : ℕ) → o ≡ Some n → is_passing (pos n) ≡ false) → IsNoZero r → IsNoZero (one_more f o u r)
 more_code f (Some n) u r h z = h n refl
 more_code f None None r h z = refl
 more_code f None (Some x) (refused code) h z = z

@@ -1,3 +1,4 @@
+use Rattle.afs_law.proofs.Facts.{AreFetched, FitsBulk}
 use Rattle.afs_num.specs.declared.histories.ReadStatus.{ReadStatus}
 use Rattle.afs_num.specs.declared.scripts.Script.{Script}
 use Rattle.std.proofs.Common.{◌≡◌, ℕ, ◌≤◌, inl, inr, Bool, true, false, cond, List, [], ◌∷◌, ◌++◌, Option, Some, None, ℤ, refl, sym, ap, ◌∙◌, subst, arith, le_of_eq, le_trans, eqb-true}
@@ -258,6 +259,19 @@ shown_over : (sp : Bool) (j : ℕ) (v : Spot) (m : Message) (e : Entry) (past : 
 shown_over sp j v m e past status callback (calls.FetchStatus f) p r n h = fetched_over j f status.sync_counter (status_told status) None callback.expiration_time m e past (p f) (r f).seen (n f) h
 shown_over sp j v m e past status callback call p r n h = h
 
+-- what each of them is, it stays
+pub fetched_each : {sp : Bool} → (tp : Bool) (j : ℕ) (m : Message) (past newer : List Entry) (at : Fid → ℕ) (fs : List Fid) (ss : List AfsFetchStatus) (cs : List AfsCallBack) → ((f : Fid) (i : ℕ) (t : ReadStatus) (x : ℕ) → IsFetched sp j f i t None x m past → IsFetched tp j f i t None x m newer)
+    → AreFetched sp j m past at fs ss cs → AreFetched tp j m newer at fs ss cs
+fetched_each tp j m past newer at [] ss cs w h = tt
+fetched_each tp j m past newer at (f ∷ fs) [] cs w h = tt
+fetched_each tp j m past newer at (f ∷ fs) (s ∷ ss) [] w h = tt
+fetched_each tp j m past newer at (f ∷ fs) (s ∷ ss) (c ∷ cs) w h = ((h.0.0, w f s.sync_counter (status_told s) c.expiration_time h.0.1), fetched_each tp j m past newer at fs ss cs w h.1)
+
+bulk_over : (sp : Bool) (j : ℕ) (v : Spot) (m : Message) (e : Entry) (past : List Entry) (ss : List AfsFetchStatus) (cs : List AfsCallBack) (call : FsCall) → ((f : Fid) → PassesGrant j f e past) → ((f : Fid) → PassesReach j f e past) → ((f : Fid) → StaysNewest j f e past)
+    → FitsBulk sp j v m past ss cs call → FitsBulk sp j v m (e ∷ past) ss cs call
+bulk_over sp j v m e past ss cs (calls.BulkStatus fids) p r n h = record { at = h.at; all = fetched_each sp j m past (e ∷ past) h.at fids ss cs (λ f i t x y. fetched_over j f i t None x m e past (p f) (r f).seen (n f) y) h.all }
+bulk_over sp j v m e past ss cs call p r n h = h
+
 -- what was the last since an act began is so over lines that begin none
 was_by : (t rest : Bool) (T : Type 0) → cond t true rest ≡ false → (t ≡ false → rest ≡ false → T) → T
 was_by true rest T e u = absurd cc
@@ -293,6 +307,7 @@ reply_fits sp j call v m e past (replies.FetchStatus status callback sync) p r n
 reply_fits sp j call v m e past (replies.StoreData status sync) p r n b h = set_over j v m e past status call p r h
 reply_fits sp j call v m e past (replies.StoreAcl status sync) p r n b h = set_over j v m e past status call p r h
 reply_fits sp j call v m e past (replies.StoreStatus status sync) p r n b h = set_over j v m e past status call p r h
+reply_fits sp j call v m e past (replies.BulkStatus statuses callbacks sync) p r n b h = bulk_over sp j v m e past statuses callbacks call p r n h
 reply_fits sp j call v m e past reply p r n b h = h
 
 fits_over : (sp : Bool) (j : ℕ) (call : FsCall) (v : Spot) (boot : ℕ) (m : Message) (c : Carried) (e : Entry) (past : List Entry) → ((f : Fid) → PassesGrant j f e past) → ((f : Fid) → PassesReach j f e past) → ((f : Fid) → StaysNewest j f e past) → has_begun (Client j) e.lines ≡ false

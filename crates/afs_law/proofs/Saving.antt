@@ -1,3 +1,4 @@
+use Rattle.afs_law.proofs.Facts.{FitsBulk}
 use Rattle.afs_breaks.specs.declared.types.Promise.{Promise}
 use Rattle.afs_breaks.specs.Promises.{owes_from}
 use Rattle.afs_rows.specs.ServerSteps.{done}
@@ -682,6 +683,10 @@ pub list_again : (call : FsCall) (n : ℕ) (x z : Spot) (m : Message) (past newe
 list_again (calls.FetchAcl f) n x z m past newer text status some none h = absurd (some refl)
 list_again call n x z m past newer text status some none h = plain_again call x z m some none (volume_changed call) refl h
 
+pub bulk_again : (call : FsCall) (sp : Bool) (n : ℕ) (x z : Spot) (m : Message) (past newer : List Entry) (ss : List AfsFetchStatus) (cs : List AfsCallBack) → (volume_changed call ≡ None → ⊥) → (LastStored x → ⊥) → FitsBulk sp n x m past ss cs call → FitsBulk sp n z m newer ss cs call
+bulk_again (calls.BulkStatus fids) sp n x z m past newer ss cs some none h = absurd (some refl)
+bulk_again call sp n x z m past newer ss cs some none h = plain_again call x z m some none (volume_changed call) refl h
+
 pub reply_again : (sp : Bool) (reply : FsReply) (n : ℕ) (call : FsCall) (x z : Spot) (m : Message) (past newer : List Entry) → (volume_changed call ≡ None → ⊥) → (LastStored x → ⊥) → FitsReply sp n call x m past reply → FitsReply sp n call z m newer reply
 reply_again sp (replies.FetchData contents status callback sync) n call x z m past newer some none h = data_again sp call n x z m past newer contents status callback some none h
 reply_again sp (replies.FetchAcl text status sync) n call x z m past newer some none h = list_again call n x z m past newer text status some none h
@@ -689,6 +694,7 @@ reply_again sp (replies.FetchStatus status callback sync) n call x z m past newe
 reply_again sp (replies.StoreData status sync) n call x z m past newer some none h = set_again call n x z m past newer status some none h
 reply_again sp (replies.StoreAcl status sync) n call x z m past newer some none h = set_again call n x z m past newer status some none h
 reply_again sp (replies.StoreStatus status sync) n call x z m past newer some none h = set_again call n x z m past newer status some none h
+reply_again sp (replies.BulkStatus statuses callbacks sync) n call x z m past newer some none h = bulk_again call sp n x z m past newer statuses callbacks some none h
 reply_again sp reply n call x z m past newer some none h = plain_again call x z m some none (volume_changed call) refl h
 
 pub saved_again : (sp : Bool) (n : ℕ) (call : FsCall) (x z : Spot) (boot : ℕ) (m : Message) (c : Carried) (past newer : List Entry) → (volume_changed call ≡ None → ⊥) → (LastStored x → ⊥) → m.head.boot < boot → Fits sp n call x boot m c past → Fits sp n call z boot m c newer

@@ -1,4 +1,8 @@
-use Rattle.afs_law.proofs.Facts.{IsGot}
+use Rattle.afs_law.proofs.Facts.{AreFetched}
+use Rattle.afs_rows.specs.ServerRow.{sight_status, promise_until}
+use Rattle.afs_shape.specs.Rows.{no_callback}
+use Rattle.afs_num.specs.declared.calls.AfsCallBack.{AfsCallBack}
+use Rattle.afs_law.proofs.Facts.{is_passing, IsGot}
 use Rattle.afs_ideal.specs.AccessLists.{acl_text}
 use Rattle.afs_num.specs.declared.histories.ReadBody.{ReadBody}
 use Rattle.std.proofs.Common.{◌≡◌, ℕ, ◌+◌, ◌<◌, ◌≤◌, ◌⊎◌, inl, inr, Bool, true, false, cond, nat_eq, List, [], ◌∷◌, ◌++◌, Option, Some, None, ℤ, pos, refl, sym, ap, subst, ◌∙◌, arith, eqb-true, append-nil, append_assoc, eq-eqb}
@@ -21,7 +25,7 @@ use Rattle.afs_law.proofs.Turning.{loaded, TurnSends, Pumps, pumps, expired_back
 use Rattle.afs_rows.specs.Callbacks.{Turn, replies_of, pumped, expired, turn_for, no_turn, settles, settles_by, is_back_awaited, renews, renews_by, turned_by, Started, starts, starts_by, held_after, given_out, if_to, put_at}
 use Rattle.afs_rows.specs.ClientRow.{names_told, body_told}
 use Rattle.afs_rows.specs.Going.{asked, Going}
-use Rattle.afs_law.specs.Ideal.{shown_status, Tells, TellsIn, TellsOf, volume_after, is_zero_code, version_in, latest, IsThat, user_of, clock_of, last_version, HasVersion, reach, call_under}
+use Rattle.afs_law.specs.Ideal.{shown_status, Tells, TellsIn, TellsOf, volume_after, version_in, latest, IsThat, user_of, clock_of, last_version, HasVersion, reach, call_under}
 use Rattle.afs_law.specs.Legal.{code_given, IsResult, AreGood, code_told, Cause, IsTold, answer_at, answer_on}
 use Rattle.afs_history.specs.declared.lines.Line.{Line}
 use Rattle.afs_law.specs.Past.{IsUnheard, lines_of, sent_of, given_message, called_key, HasCode, IsCallUnder, Ran, onto, same_key, answered_key}
@@ -592,7 +596,7 @@ pub reached_still : (s : Script) (c : Cell) (past : List Entry) (j : ℕ) (e : E
     → (f : Fid) → Reached (Client j) f (index_in (last_version f (lines_of (e ∷ past)))) (e ∷ past)
 reached_still s c past j e H r l f = subst (λ (o : Option Version). Reached (Client j) f (index_in o) (e ∷ past)) (sym (l f)) (r f (index_in (last_version f (lines_of past))) ((H.clients j).reached f))
 
-pub refusal_fits : (sp : Bool) (n : ℕ) (call : FsCall) (v : Spot) (boot : ℕ) (m : Message) (code : Code) (past : List Entry) → is_zero_code code ≡ false → (LastStored v → ⊥) → Fits sp n call v boot m (carried.Refusal code) past
+pub refusal_fits : (sp : Bool) (n : ℕ) (call : FsCall) (v : Spot) (boot : ℕ) (m : Message) (code : Code) (past : List Entry) → is_passing code.0 ≡ false → (LastStored v → ⊥) → Fits sp n call v boot m (carried.Refusal code) past
 refusal_fits sp n call v boot m code past nz none = (nz, λ x. absurd (none x))
 
 -- a call above the client's durable seat changed nothing
@@ -648,7 +652,7 @@ run_backed s c past n h user call x e ps H up w is a b d granted clients promise
     (record { client = n; to = refl; from = refl; is_reply = is; under = taken_not c.server.seats n h r }) (own_waited (expired c.clock c.server.backs) c.server.lasting.boot c.server.seats (seats_of c) c.clock c.sent e past (record { reply = r; waits = []; again = false }) B b (λ y. key_held (expired c.clock c.server.backs) c.server.lasting.boot c.server.seats (seats_of c) c.clock c.sent past k B w.above y))
     (λ y. absurd (no_change k (lines_of past) (H.new k w.above_durable) (change_back k e.lines (lines_of past) d y)))
 
-pub refuses_goes : (s : Script) (c : Cell) (past : List Entry) (armed : Armed) (p n : ℕ) (h : Head) (user : List ℕ) (call : FsCall) (code : ℤ) → (H : Holds s c past) → c.down ≡ None → message_at c.sent p ≡ Some (call_at n h user call) → Now s c H.floors past n h user call → is_zero_code (record { 0 = code }) ≡ false
+pub refuses_goes : (s : Script) (c : Cell) (past : List Entry) (armed : Armed) (p n : ℕ) (h : Head) (user : List ℕ) (call : FsCall) (code : ℤ) → (H : Holds s c past) → c.down ≡ None → message_at c.sent p ≡ Some (call_at n h user call) → Now s c H.floors past n h user call → is_passing code ≡ false
     → IsResult code (answer_at user call past) (called_key (client_head n h)) (lines.Given p ∷ []) (lines.Given p ∷ lines_of past) → Goes s past (server_does c armed p (call_at n h user call) (refuses (client_head n h) code))
 refuses_goes s c past armed p n h user call code H up at w nz result =
     let x : Carried = carried.Refusal (record { 0 = code }) in
@@ -765,6 +769,34 @@ abbrev pub IsAmong : Found → List Found → Type 0
 IsAmong f [] = ⊥
 IsAmong f (x ∷ xs) = (x ≡ f) ⊎ IsAmong f xs
 
+-- the index of what stands under a fid
+abbrev index_of : Option Vnode → ℕ
+index_of None = 0
+index_of (Some x) = x.index
+
+abbrev index_stored : Fid → Option Stored → ℕ
+index_stored f None = 0
+index_stored f (Some st) = index_of (vnode_of f st.volume)
+
+abbrev index_at : Cell → Fid → ℕ
+index_at c f = index_stored f (get f.volume c.server.lasting.volumes)
+
+seen_index : (c : Cell) (f : Fid) (x : Sight) → IsSeen c f x.stored x.found → x.found.vnode.index ≡ index_at c f
+seen_index c f x h = sym (ap (index_at c) h.fid ∙ (ap (index_stored x.found.fid) h.at ∙ ap index_of h.found))
+
+all_fit : (sp : Bool) (n : ℕ) (m : Message) (c : Cell) (past : List Entry) (expiry : ℕ) (caller : Caller) (fids : List Fid) (xs : List Sight) (granted : List Found) → AllSeen c fids xs → ((f : Found) → IsAmong f (map (λ (x : Sight). x.found) xs) → IsAmong f granted)
+    → ((st : Stored) (f : Found) → get f.fid.volume c.server.lasting.volumes ≡ Some st → vnode_of f.fid st.volume ≡ Some f.vnode → IsAmong f granted → (b : Option Body) → IsBody b (body_told (type_of f.vnode.kind) (bytes_by f.vnode.kind f.vnode)) → IsFetched sp n f.fid f.vnode.index (shown_status f.vnode) b expiry m past)
+    → AreFetched sp n m past (index_at c) fids (map (sight_status caller) xs) (map (λ (k : AfsCallBack). promise_until expiry) (map (λ (x : Sight). no_callback) xs))
+all_fit sp n m c past expiry caller [] xs granted seen w h = tt
+all_fit sp n m c past expiry caller (f ∷ fs) [] granted seen w h = absurd seen
+all_fit sp n m c past expiry caller (f ∷ fs) (x ∷ xs) granted seen w h = (
+  (
+    seen_index c f x seen.0,
+    subst (λ (z : Fid). IsFetched sp n z x.found.vnode.index (shown_status x.found.vnode) None expiry m past) (sym seen.0.fid) (h x.stored x.found seen.0.at seen.0.found (w x.found (inl refl)) None tt),
+  ),
+  all_fit sp n m c past expiry caller fs xs granted seen.1 (λ y z. w y (inr z)) h,
+)
+
 -- the reply of a reading call fits it, where each vnode that it promises is fetched
 pub read_fits : (sp : Bool) (n : ℕ) (call : FsCall) (v : Spot) (m : Message) (c : Cell) (past : List Entry) (expiry : ℕ) (r : Reading) → IsRead c call r
     → ((st : Stored) (f : Found) → get f.fid.volume c.server.lasting.volumes ≡ Some st → vnode_of f.fid st.volume ≡ Some f.vnode → IsAmong f r.granted → (b : Option Body) → IsBody b (body_told (type_of f.vnode.kind) (bytes_by f.vnode.kind f.vnode)) → IsFetched sp n f.fid f.vnode.index (shown_status f.vnode) b expiry m past)
@@ -783,7 +815,8 @@ read_fits sp n (calls.FetchStatus g) v m c past expiry r x h g\' =
 read_fits sp n (calls.GetVolumeStatus k) v m c past expiry r x h g\' = subst (λ (y : Reading). FitsReply sp n (calls.GetVolumeStatus k) v m past (promised_in expiry y.reply)) (sym x.is) (λ id z. absurd cc)
 read_fits sp n (calls.GiveUpCallBacks fids callbacks) v m c past expiry r x h g\' = subst (λ (y : Reading). FitsReply sp n (calls.GiveUpCallBacks fids callbacks) v m past (promised_in expiry y.reply)) (sym x) (λ id z. absurd cc)
 read_fits sp n calls.GetTime v m c past expiry r x h g\' = subst (λ (y : Reading). FitsReply sp n calls.GetTime v m past (promised_in expiry y.reply)) (sym x.is) (λ id z. absurd cc)
-read_fits sp n (calls.BulkStatus fids) v m c past expiry r x h g\' = subst (λ (y : Reading). FitsReply sp n (calls.BulkStatus fids) v m past (promised_in expiry y.reply)) (sym x.is) (λ id z. absurd cc)
+read_fits sp n (calls.BulkStatus fids) v m c past expiry r x h g\' = subst (λ (y : Reading). FitsReply sp n (calls.BulkStatus fids) v m past (promised_in expiry y.reply)) (sym x.is)
+    (record { at = index_at c; all = all_fit sp n m c past expiry x.caller fids x.sights (map (λ (s : Sight). s.found) x.sights) x.seen (λ y z. z) (λ st f at found yes b body. h st f at found (subst (λ (y : Reading). IsAmong f y.granted) (sym x.is) yes) b body) })
 read_fits sp n call v m c past expiry r x h g\' = absurd x
 
 -- the answer of a call that one volume serves

@@ -1,3 +1,4 @@
+use Rattle.std.proofs.Common.{◌≤◌}
 use Rattle.afs_records.specs.Records.{record_bytes, head_form, volume_form}
 use Rattle.afs_rows.specs.ServerSteps.{server_row, back_timeout_row, wake_row, start_row}
 -- Worked runs: breaks that overtake a reply, that are never answered, that wait behind a restart, and those of a change of two versions.
@@ -371,3 +372,59 @@ status_wrong h = elim h.1.1.0.0.0.1.0.1.whole.1 [ inl x ↦ apart_numbers 1 7 re
 rights_wrong : Legal (alters 2 (by_lines tells_rights) (entries (start (script 1)) rights_front)) (script 1) → ⊥
 unfolding moved begin_row client_row server_row back_timeout_row wake_row start_row record_bytes head_form volume_form spelled opaque pad word laid_at led name_ok directory_bytes name_bytes rights_of image acl_text digits entry_text first_code
 rights_wrong h = elim h.1.1.0.0.0.1.0.1.whole.1 [ inl x ↦ apart_numbers 49 120 refl (ap first_code x.1) | inr y ↦ elim y [ inl x ↦ apart_numbers 49 120 refl (ap first_code x.1) | inr z ↦ elim z [ inl x ↦ apart_numbers 49 120 refl (ap first_code x.1) | inr w ↦ w ] ] ]
+
+-- ---- wrong statuses and rights, each for one reason
+
+-- one line more in an entry, behind what is read there
+abbrev reads_too : Line → List Line → List Line
+reads_too l [] = []
+reads_too l (lines.Read c f i source b ∷ ls) = lines.Read c f i source b ∷ l ∷ ls
+reads_too l (k ∷ ls) = k ∷ reads_too l ls
+
+abbrev too : Line → Entry → Entry
+too l e = record e { lines = reads_too l e.lines }
+
+abbrev mode_of_root : Input
+mode_of_root = begins 2 (acts.SetMode (operands.Fid root) 384)
+
+abbrev index_one : Line → Line
+index_one (lines.Read c f i source b) = lines.Read c f 1 source b
+index_one l = l
+
+abbrev number : ℕ → Option ℕ
+number n = Some n
+
+two_one : number 2 ≡ number 1 → ⊥
+two_one e = absurd cc
+
+-- rights of a version that was followed before the act began
+abbrev late_rights : List Input
+late_rights = mode_of_root ∷ gives 1 steady ∷ gives 2 steady ∷ begins 1 (acts.GetAccessList (operands.Fid root)) ∷ gives 3 steady ∷ gives 4 steady ∷ []
+
+rights_too_old : Legal (alters 5 (by_lines index_one) (entries (start (script 2)) late_rights)) (script 2) → ⊥
+unfolding moved begin_row client_row server_row back_timeout_row wake_row start_row record_bytes head_form volume_form spelled opaque pad word laid_at led name_ok directory_bytes name_bytes rights_of image acl_text digits entry_text
+rights_too_old h = elim h.1.1.1.1.1.0.0.0.1.0.1.was [ inl x ↦ two_one x | inr y ↦ elim y [ inl x ↦ two_one x | inr z ↦ elim z [ inl x ↦ two_one x | inr w ↦ w ] ] ]
+
+-- rights that were the last when the act began, behind those of the next version
+abbrev rights_again : List Input
+rights_again = begins 1 (acts.GetAccessList (operands.Fid root)) ∷ mode_of_root ∷ gives 2 steady ∷ gives 1 steady ∷ gives 4 steady ∷ []
+
+rights_go_back : Legal (alters 4 (too (lines.Read (Client 1) root 1 Fetched (seen.AccessList (codes "1\n0\nsystem:anyuser\t127\n")))) (entries (start (script 2)) rights_again)) (script 2) → ⊥
+unfolding moved begin_row client_row server_row back_timeout_row wake_row start_row record_bytes head_form volume_form spelled opaque pad word laid_at led name_ok directory_bytes name_bytes rights_of image acl_text digits entry_text
+rights_go_back h = let e : 2 ≤ 1 = h.1.1.1.1.0.0.0.1.1.0.1.not_older in absurd (omega arith)
+
+-- the status of an older version, behind that of the next; the promise was withdrawn meanwhile
+abbrev stat_again : List Input
+stat_again = begins 1 (acts.Stat (operands.Fid file)) ∷ begins 2 (acts.Close (operands.Fid file) (codes "def")) ∷ gives 2 steady ∷ gives 1 steady ∷ gives 3 steady ∷ begins 2 (acts.Close (operands.Fid file) (codes "xyz")) ∷ gives 5 steady ∷ gives 4 steady ∷ []
+
+status_goes_back : Legal (alters 7 (too (lines.Read (Client 1) file 1 Cached (seen.Status (record { kind = 1; link_count = 1; length = 3; mode = 420 })))) (entries (start (script 2)) stat_again)) (script 2) → ⊥
+unfolding moved begin_row client_row server_row back_timeout_row wake_row start_row record_bytes head_form volume_form spelled opaque pad word laid_at led name_ok directory_bytes name_bytes rights_of image acl_text digits entry_text
+status_goes_back h = let e : 2 ≤ 1 = h.1.1.1.1.1.1.1.0.0.0.1.1.0.1.not_older in absurd (omega arith)
+
+-- a status among those of a directory's names that the object never had
+abbrev statuses_front : List Input
+statuses_front = begins 1 (acts.StatAll (operands.Fid root)) ∷ gives 1 steady ∷ gives 2 steady ∷ gives 3 steady ∷ gives 4 steady ∷ []
+
+statuses_wrong : Legal (alters 4 (by_lines tells_linked) (entries (start (script 1)) statuses_front)) (script 1) → ⊥
+unfolding moved begin_row client_row server_row back_timeout_row wake_row start_row record_bytes head_form volume_form spelled opaque pad word laid_at led name_ok directory_bytes name_bytes rights_of image acl_text digits entry_text directory_of names_at opaque_at word_at counted_at whole_at count_at name_at spelled_at bytes_below
+statuses_wrong h = elim h.1.1.1.1.0.0.0.1.0.1.whole.1 [ inl x ↦ apart_numbers 1 7 refl (ap (λ (t : ReadStatus). t.link_count) x.1) | inr y ↦ elim y [ inl x ↦ apart_numbers 1 7 refl (ap (λ (t : ReadStatus). t.link_count) x.1) | inr z ↦ elim z [ inl x ↦ apart_numbers 1 7 refl (ap (λ (t : ReadStatus). t.link_count) x.1) | inr w ↦ elim w [ inl x ↦ apart_numbers 1 7 refl (ap (λ (t : ReadStatus). t.link_count) x.1) | inr v ↦ elim v [ inl x ↦ apart_numbers 1 7 refl (ap (λ (t : ReadStatus). t.link_count) x.1) | inr u ↦ u ] ] ] ] ]

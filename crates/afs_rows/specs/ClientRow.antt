@@ -468,6 +468,7 @@ takes me c clock place act call (replies.FetchStatus status callback sync) = tak
 takes me c clock place act call (replies.StoreData status sync) = takes_set me c clock place status call
 takes me c clock place act call (replies.StoreAcl status sync) = takes_set me c clock place status call
 takes me c clock place act call (replies.StoreStatus status sync) = takes_set me c clock place status call
+takes me c clock place act call (replies.BulkStatus statuses callbacks sync) = takes_bulk me c clock place act statuses callbacks sync call
 takes me c clock place act call reply = takes_plain me c place call
 
 -- ---- refusals
@@ -482,7 +483,7 @@ most_busy = 8
 
 abbrev pub refuses : Node → ClientState → ℕ → Going → Code → Step ClientState
 refuses me c place act code =
-    answers_step me c place code
+    if (is_busy_code code && nat_lt c.busy most_busy) then calls_again me (record c { busy = c.busy + 1 }) place act else answers_step me c place code
 
 -- ---- the message that answers the unanswered call
 

@@ -230,9 +230,9 @@ act_needs h (acts.RemoveDirectory p) rs = to_parent h.first p rs (λ d name rest
 act_needs h (acts.Move p q) rs = if (is_root p || is_root q) then answers 22 else to_parent h.first p rs (λ d old rest. to_parent h.second q rest (λ e new later. of_one d e (asks_for (calls.Rename d old e new))))
 act_needs h (acts.Link p q) rs = if is_root q then answers 22 else to_object h.first (operands.Path p) rs (λ f rest. to_parent h.second q rest (λ d name later. of_one f d (asks_for (calls.Link d name f))))
 act_needs h (acts.Stat o) rs = to_object h.first o rs (λ f rest. reading_status f rest)
--- these come later
-act_needs h (acts.StatAll o) rs = answers no_entry
+act_needs h (acts.StatAll o) rs = to_object h.first o rs (λ f rest. reading f rest (λ b later. statuses_in f.volume later b))
 act_needs h (acts.GetAccessList o) rs = to_object h.first o rs (λ f rest. reading_rights f rest)
+-- this comes later
 act_needs h acts.GiveUp rs = answers 0
 
 abbrev pub next : Going → Need

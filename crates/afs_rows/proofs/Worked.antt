@@ -1,0 +1,328 @@
+-- Worked runs: what acts tell, breaks that overtake a reply, that are never answered, that wait behind a restart, and those of a
+-- change of two versions.
+use Rattle.afs_history.specs.declared.acts.Path.{Path}
+use Rattle.afs_num.specs.declared.histories.ReadBody.{ReadBody}
+use Rattle.afs_num.specs.declared.histories.ReadBody.TheVariants as seen
+use Rattle.afs_history.specs.declared.acts.Act.TheVariants as acts
+use Rattle.afs_history.specs.declared.acts.Operand.TheVariants as operands
+use Rattle.std.specs.Option.{option_map}
+use Rattle.std.proofs.Common.{Option, negsuc, ◌≡◌, ℕ, List, [], ◌∷◌, ◌++◌, Some, None, pos, refl}
+use Rattle.std.specs.Prelude.{codes, true, false, Bool, filter}
+use Rattle.afs_num.specs.declared.types.Fid.{Fid}
+use Rattle.afs_num.specs.declared.types.Node.TheVariants.{Server, Client}
+use Rattle.afs_ideal.specs.AccessLists.{rights_of, acl_text, entry_text}
+use Rattle.afs_ideal.specs.Directories.{directory_bytes, name_bytes, directory_of, names_at, whole_at, count_at, name_at, spelled_at, bytes_below}
+use Rattle.afs_ideal.specs.SetUp.{laid_at, led}
+use Rattle.afs_ideal.specs.VnodeImage.{image}
+use Rattle.afs_rows.specs.ClientRow.{new_client, begin_row, client_row}
+use Rattle.afs_history.specs.declared.lines.Line.{Line}
+use Rattle.afs_records.specs.Records.{record_bytes, head_form, volume_form}
+use Rattle.afs_rows.specs.ServerSteps.{server_row, back_timeout_row, wake_row, start_row}
+use Rattle.afs_rows.specs.Runs.{locations, comes_up, steady, waits, starts_again, sets_stop, ticks, server_waits, Entry, Cell, Input, begins, gives, moved, start}
+use Rattle.afs_model.specs.Messages.{spelled}
+use Rattle.afs_num.specs.Names.{name_ok}
+use Rattle.std.specs.Fmt.{digits}
+use Rattle.afs_num.specs.declared.scripts.Script.{Script}
+use Rattle.afs_num.specs.declared.scripts.SetupLine.TheVariants as setup
+use Rattle.afs_num.specs.declared.histories.Body.TheVariants as bodies
+use Rattle.afs_history.specs.declared.lines.Line.TheVariants as lines
+use Rattle.afs_num.specs.declared.histories.ReadSource.TheVariants.{Cached, Fetched}
+use Rattle.afs_xdr.specs.Words.{opaque, pad, word, opaque_at, word_at, counted_at}
+
+abbrev pub home : ℕ
+home = 536870912
+
+abbrev pub file : Fid
+file = record { volume = home; vnode = 2; unique = 2 }
+
+abbrev pub root : Fid
+root = record { volume = home; vnode = 1; unique = 1 }
+
+abbrev pub script : ℕ → Script
+script n = record {
+  servers = 1;
+  clients = n;
+  volumes = record { id = home; name = codes "proj"; server = Server 1; quota = 1000; lines = setup.File (codes "a" ∷ []) (codes "abc") ∷ [] } ∷ [];
+  tasks = [];
+  schedule = None;
+}
+
+abbrev pub told : Cell → List Input → List Line
+told c [] = []
+told c (x ∷ xs) = (moved c x).entry.lines ++ told (moved c x).cell xs
+
+abbrev pub answer : ℕ → Line
+answer n = lines.Answer (Client n) (record { 0 = pos 0 })
+
+abbrev pub begun : ℕ → Line
+begun n = lines.Begin (Client n) (acts.Open (operands.Fid file))
+
+abbrev pub stores : ℕ → Line
+stores n = lines.Begin (Client n) (acts.Close (operands.Fid file) (codes "def"))
+
+abbrev pub change : ℕ → List Line
+change n = lines.Change (Server 1) (record { node = Client n; epoch = 1; number = 1 }) 1 ∷ lines.Version (record { fid = file; index = 2; data_version = 2; body = bodies.File (codes "def") }) ∷ []
+
+-- a break before the fetch reply
+abbrev pub six : List Input
+six = begins 1 (acts.Open (operands.Fid file)) ∷ gives 1 steady ∷ begins 2 (acts.Close (operands.Fid file) (codes "def")) ∷ gives 3 steady ∷ gives 4 steady ∷ gives 5 steady ∷ gives 2 steady ∷ gives 6 steady ∷ gives 7 steady ∷ gives 8 steady ∷ []
+
+row_six : told (start (script 2)) six ≡
+    begun 1 ∷ lines.Given 1 ∷ lines.Grant (Server 1) (Client 1) file 1 7200 ∷ stores 2 ∷ lines.Given 3 ∷ (change 2 ++ lines.Owe (Server 1) (Client 1) (Some file) 1 ∷ lines.Given 4 ∷ lines.Drop (Client 1) file ∷ lines.Given 5 ∷ lines.Settle (Server 1) (Client 1) 1
+    ∷ lines.Given 2 ∷ lines.Given 6 ∷ answer 2 ∷ lines.Given 7 ∷ lines.Grant (Server 1) (Client 1) file 2 7200 ∷ lines.Given 8 ∷ lines.Read (Client 1) file 2 Fetched (seen.Contents (bodies.File (codes "def"))) ∷ answer 1 ∷ [])
+unfolding moved begin_row client_row server_row back_timeout_row wake_row start_row record_bytes head_form volume_form spelled opaque pad word laid_at led name_ok directory_bytes name_bytes rights_of image acl_text digits entry_text
+row_six = refl
+
+-- a holder that never answers
+abbrev pub seven : List Input
+seven = begins 1 (acts.Open (operands.Fid file)) ∷ gives 1 steady ∷ gives 2 steady ∷ begins 2 (acts.Close (operands.Fid file) (codes "def")) ∷ gives 3 steady ∷ server_waits 1 (Client 1) ∷ server_waits 1 (Client 1) ∷ server_waits 1 (Client 1) ∷ gives 7 steady ∷ ticks 7199 ∷ begins 1 (acts.Open (operands.Fid file)) ∷ ticks 1 ∷ begins 1 (acts.Open (operands.Fid file)) ∷ gives 8 steady ∷ gives 9 steady ∷ []
+
+row_seven : told (start (script 2)) seven ≡
+    begun 1 ∷ lines.Given 1 ∷ lines.Grant (Server 1) (Client 1) file 1 7200 ∷ lines.Given 2 ∷ lines.Read (Client 1) file 1 Fetched (seen.Contents (bodies.File (codes "abc"))) ∷ answer 1 ∷ stores 2 ∷ lines.Given 3 ∷ (change 2 ++ lines.Owe (Server 1) (Client 1) (Some file) 1
+    ∷ lines.Timeout (Server 1) (Client 1) 1 1 1 ∷ lines.Timeout (Server 1) (Client 1) 1 1 2 ∷ lines.Timeout (Server 1) (Client 1) 1 1 3 ∷ lines.Quit (Server 1) (Client 1) 1 ∷ lines.Given 7 ∷ answer 2
+    ∷ lines.Tick 7199 ∷ begun 1 ∷ lines.Read (Client 1) file 1 Cached (seen.Contents (bodies.File (codes "abc"))) ∷ answer 1 ∷ lines.Tick 1 ∷ begun 1 ∷ lines.Given 8 ∷ lines.Grant (Server 1) (Client 1) file 2 14400 ∷ lines.Given 9 ∷ lines.Read (Client 1) file 2 Fetched (seen.Contents (bodies.File (codes "def"))) ∷ answer 1 ∷ [])
+unfolding moved begin_row client_row server_row back_timeout_row wake_row start_row record_bytes head_form volume_form spelled opaque pad word laid_at led name_ok directory_bytes name_bytes rights_of image acl_text digits entry_text
+row_seven = refl
+
+-- a stop after the gate was written: the kept reply waits for the break on all
+abbrev pub eight : List Input
+eight = begins 1 (acts.Close (operands.Fid file) (codes "def")) ∷ sets_stop 1 3 1 ∷ gives 1 steady ∷ starts_again 1 true comes_up ∷ waits 1 ∷ gives 3 steady ∷ gives 4 steady ∷ gives 5 steady ∷ gives 2 steady ∷ gives 6 steady ∷ gives 7 steady ∷ []
+
+row_eight : told (start (script 1)) eight ≡
+    stores 1 ∷ lines.Stop (Server 1) 3 1 ∷ lines.Given 1 ∷ lines.Crash (Server 1) ∷ (change 1 ++ lines.Restart (Server 1) 2 ∷ lines.Owe (Server 1) (Client 1) None 1 ∷ lines.Timeout (Client 1) (Server 1) 1 1 1 ∷ lines.Given 3 ∷ lines.Given 4 ∷ lines.Given 5
+    ∷ lines.Given 2 ∷ lines.DropAll (Client 1) (Server 1) ∷ lines.Given 6 ∷ lines.Settle (Server 1) (Client 1) 1 ∷ lines.Given 7 ∷ answer 1 ∷ [])
+unfolding moved begin_row client_row server_row back_timeout_row wake_row start_row record_bytes head_form volume_form spelled opaque pad word laid_at led name_ok directory_bytes name_bytes rights_of image acl_text digits entry_text
+row_eight = refl
+
+-- a file that two hold is removed from a directory that one of them holds too: breaks by ascending vnode, then in the order of
+-- granting; the caller's answer waits for all three
+abbrev pub is_told : Line → Bool
+is_told (lines.Owe s c w n) = true
+is_told (lines.Settle s c n) = true
+is_told (lines.Drop c f) = true
+is_told (lines.Answer c code) = true
+is_told l = false
+
+abbrev pub code : ℕ → ℕ → Line
+code n k = lines.Answer (Client n) (record { 0 = pos k })
+
+abbrev pub nine : List Input
+nine = begins 1 (acts.Open (operands.Fid root)) ∷ gives 1 steady ∷ begins 2 (acts.Open (operands.Fid file)) ∷ gives 3 steady ∷ gives 2 steady ∷ begins 1 (acts.Open (operands.Fid file)) ∷ gives 5 steady ∷ begins 3 (acts.Remove (record { volume = codes "proj"; names = codes "a" ∷ [] })) ∷ gives 7 steady ∷ gives 8 steady ∷ gives 9 steady
+    ∷ gives 10 steady ∷ gives 11 steady ∷ gives 12 steady ∷ gives 13 steady ∷ gives 14 steady ∷ gives 6 steady ∷ gives 15 steady ∷ gives 16 steady ∷ []
+
+row_nine : filter is_told (told (start (script 3)) nine) ≡
+    code 1 21 ∷ lines.Owe (Server 1) (Client 1) (Some root) 1 ∷ lines.Owe (Server 1) (Client 2) (Some file) 2 ∷ lines.Owe (Server 1) (Client 1) (Some file) 3
+    ∷ lines.Drop (Client 1) root ∷ lines.Drop (Client 1) file ∷ lines.Drop (Client 2) file ∷ lines.Settle (Server 1) (Client 1) 1 ∷ lines.Settle (Server 1) (Client 1) 3 ∷ lines.Settle (Server 1) (Client 2) 2 ∷ lines.Drop (Client 3) root ∷ code 3 0 ∷ code 1 102 ∷ []
+unfolding moved begin_row client_row server_row back_timeout_row wake_row start_row record_bytes head_form volume_form spelled opaque pad word laid_at led name_ok directory_bytes name_bytes rights_of image acl_text digits entry_text
+row_nine = refl
+
+-- ---- a walk, the last read of which a break overtakes: it is fetched again, and the act ends in one answer
+
+abbrev pub walked : List Input
+walked = begins 1 (acts.Open (operands.Path (record { volume = codes "proj"; names = codes "a" ∷ [] }))) ∷ gives 1 steady ∷ gives 2 steady ∷ gives 3 steady ∷ begins 2 (acts.Close (operands.Fid file) (codes "def")) ∷ gives 5 steady ∷ gives 6 steady ∷ gives 4 steady ∷ gives 7 steady ∷ gives 8 steady ∷ gives 10 steady ∷ []
+
+abbrev pub is_walked : Line → Bool
+is_walked (lines.Given p) = false
+is_walked (lines.Version v) = false
+is_walked l = true
+
+row_walked : filter is_walked (told (start (script 2)) walked) ≡
+    lines.Begin (Client 1) (acts.Open (operands.Path (record { volume = codes "proj"; names = codes "a" ∷ [] }))) ∷ lines.Grant (Server 1) (Client 1) root 1 7200 ∷ lines.Read (Client 1) root 1 Fetched (seen.Contents (bodies.Dir (record { name = codes "a"; vnode = 2; unique = 2 } ∷ [])))
+    ∷ lines.Grant (Server 1) (Client 1) file 1 7200 ∷ stores 2 ∷ lines.Change (Server 1) (record { node = Client 2; epoch = 1; number = 1 }) 1 ∷ lines.Owe (Server 1) (Client 1) (Some file) 1 ∷ lines.Drop (Client 1) file
+    ∷ lines.Settle (Server 1) (Client 1) 1 ∷ lines.Grant (Server 1) (Client 1) file 2 7200 ∷ lines.Read (Client 1) file 2 Fetched (seen.Contents (bodies.File (codes "def"))) ∷ code 1 0 ∷ []
+unfolding moved begin_row client_row server_row back_timeout_row wake_row start_row record_bytes head_form volume_form spelled opaque pad word laid_at led name_ok directory_bytes name_bytes rights_of image acl_text digits entry_text directory_of names_at opaque_at word_at counted_at whole_at count_at name_at spelled_at bytes_below
+row_walked = refl
+
+-- the lines of acts, grants, reads and drops alone
+abbrev pub is_kept : Line → Bool
+is_kept (lines.Begin c a) = true
+is_kept (lines.Grant s c f i x) = true
+is_kept (lines.Read c f i source b) = true
+is_kept (lines.Drop c f) = true
+is_kept (lines.Answer c code) = true
+is_kept l = false
+
+abbrev pub last_entry : Cell → List Input → Option Entry
+last_entry c [] = None
+last_entry c (x ∷ []) = Some (moved c x).entry
+last_entry c (x ∷ y ∷ xs) = last_entry (moved c x).cell (y ∷ xs)
+
+-- ---- a stop before the gate was written, and a call that was given up
+
+-- the disk stops before the change is on it: the restart has none, and the call runs then, once
+abbrev pub nine_before : List Input
+nine_before = begins 1 (acts.Close (operands.Fid file) (codes "def")) ∷ sets_stop 1 3 0 ∷ gives 1 steady ∷ starts_again 1 false comes_up ∷ waits 1 ∷ gives 3 steady ∷ gives 4 steady ∷ gives 5 steady ∷ gives 2 steady ∷ gives 6 steady ∷ gives 7 steady ∷ []
+
+row_nine_before : told (start (script 1)) nine_before ≡
+    stores 1 ∷ lines.Stop (Server 1) 3 0 ∷ lines.Given 1 ∷ lines.Crash (Server 1) ∷ lines.Restart (Server 1) 2 ∷ lines.Owe (Server 1) (Client 1) None 1 ∷ lines.Timeout (Client 1) (Server 1) 1 1 1 ∷ lines.Given 3 ∷ lines.Given 4 ∷ lines.Given 5 ∷ (change 1 ++ lines.Given 2 ∷ lines.DropAll (Client 1) (Server 1)
+    ∷ lines.Given 6 ∷ lines.Settle (Server 1) (Client 1) 1 ∷ lines.Given 7 ∷ answer 1 ∷ [])
+unfolding moved begin_row client_row server_row back_timeout_row wake_row start_row record_bytes head_form volume_form spelled opaque pad word laid_at led name_ok directory_bytes name_bytes rights_of image acl_text digits entry_text
+row_nine_before = refl
+
+-- a store whose reply is lost is given up; an open behind it reads what it left
+abbrev pub ten : List Input
+ten = begins 1 (acts.Close (operands.Fid file) (codes "def")) ∷ gives 1 steady ∷ waits 1 ∷ waits 1 ∷ waits 1 ∷ begins 1 (acts.Open (operands.Fid file)) ∷ gives 5 steady ∷ gives 6 steady ∷ []
+
+row_ten : told (start (script 1)) ten ≡
+    stores 1 ∷ lines.Given 1 ∷ (change 1 ++ lines.Timeout (Client 1) (Server 1) 1 1 1 ∷ lines.Timeout (Client 1) (Server 1) 1 1 2 ∷ lines.Timeout (Client 1) (Server 1) 1 1 3 ∷ lines.Answer (Client 1) (record { 0 = negsuc 0 })
+    ∷ begun 1 ∷ lines.Given 5 ∷ lines.Grant (Server 1) (Client 1) file 2 7200 ∷ lines.Given 6 ∷ lines.Read (Client 1) file 2 Fetched (seen.Contents (bodies.File (codes "def"))) ∷ answer 1 ∷ [])
+unfolding moved begin_row client_row server_row back_timeout_row wake_row start_row record_bytes head_form volume_form spelled opaque pad word laid_at led name_ok directory_bytes name_bytes rights_of image acl_text digits entry_text
+row_ten = refl
+
+-- a store of the mode over an older body: the entry isn't just below the new index, so it is given up
+abbrev pub twenty_two : List Input
+twenty_two = begins 1 (acts.Open (operands.Fid file)) ∷ gives 1 steady ∷ gives 2 steady ∷ begins 2 (acts.Close (operands.Fid file) (codes "def")) ∷ gives 3 steady ∷ server_waits 1 (Client 1) ∷ server_waits 1 (Client 1) ∷ server_waits 1 (Client 1) ∷ gives 7 steady
+    ∷ begins 1 (acts.SetMode (operands.Fid file) 384) ∷ gives 8 steady ∷ gives 9 steady ∷ begins 1 (acts.Open (operands.Fid file)) ∷ gives 10 steady ∷ gives 11 steady ∷ []
+
+row_twenty_two : filter is_kept (told (start (script 2)) twenty_two) ≡
+    begun 1 ∷ lines.Grant (Server 1) (Client 1) file 1 7200 ∷ lines.Read (Client 1) file 1 Fetched (seen.Contents (bodies.File (codes "abc"))) ∷ answer 1 ∷ stores 2 ∷ answer 2
+    ∷ lines.Begin (Client 1) (acts.SetMode (operands.Fid file) 384) ∷ lines.Drop (Client 1) file ∷ answer 1 ∷ begun 1 ∷ lines.Grant (Server 1) (Client 1) file 3 7200 ∷ lines.Read (Client 1) file 3 Fetched (seen.Contents (bodies.File (codes "def"))) ∷ answer 1 ∷ []
+unfolding moved begin_row client_row server_row back_timeout_row wake_row start_row record_bytes head_form volume_form spelled opaque pad word laid_at led name_ok directory_bytes name_bytes rights_of image acl_text digits entry_text
+row_twenty_two = refl
+
+-- an entry just below it is raised, and shown without a message
+abbrev pub raised : List Input
+raised = begins 1 (acts.Open (operands.Fid file)) ∷ gives 1 steady ∷ gives 2 steady ∷ begins 1 (acts.SetMode (operands.Fid file) 384) ∷ gives 3 steady ∷ gives 4 steady ∷ begins 1 (acts.Open (operands.Fid file)) ∷ []
+
+row_raised : filter is_kept (told (start (script 1)) raised) ≡
+    begun 1 ∷ lines.Grant (Server 1) (Client 1) file 1 7200 ∷ lines.Read (Client 1) file 1 Fetched (seen.Contents (bodies.File (codes "abc"))) ∷ answer 1 ∷ lines.Begin (Client 1) (acts.SetMode (operands.Fid file) 384) ∷ answer 1
+    ∷ begun 1 ∷ lines.Read (Client 1) file 2 Cached (seen.Contents (bodies.File (codes "abc"))) ∷ answer 1 ∷ []
+unfolding moved begin_row client_row server_row back_timeout_row wake_row start_row record_bytes head_form volume_form spelled opaque pad word laid_at led name_ok directory_bytes name_bytes rights_of image acl_text digits entry_text
+row_raised = refl
+
+-- a walk that the cache knows whole is one step
+abbrev pub at_once : List Input
+at_once = begins 1 (acts.Open (operands.Path (record { volume = codes "proj"; names = codes "a" ∷ [] }))) ∷ gives 1 steady ∷ gives 2 steady ∷ gives 3 steady ∷ gives 4 steady ∷ begins 1 (acts.Open (operands.Path (record { volume = codes "proj"; names = codes "a" ∷ [] }))) ∷ []
+
+row_at_once : option_map (λ (e : Entry). e.lines) (last_entry (start (script 1)) at_once) ≡
+    Some (lines.Begin (Client 1) (acts.Open (operands.Path (record { volume = codes "proj"; names = codes "a" ∷ [] }))) ∷ lines.Read (Client 1) root 1 Cached (seen.Contents (bodies.Dir (record { name = codes "a"; vnode = 2; unique = 2 } ∷ []))) ∷ lines.Read (Client 1) file 1 Cached (seen.Contents (bodies.File (codes "abc"))) ∷ answer 1 ∷ [])
+unfolding moved begin_row client_row server_row back_timeout_row wake_row start_row record_bytes head_form volume_form spelled opaque pad word laid_at led name_ok directory_bytes name_bytes rights_of image acl_text digits entry_text directory_of names_at opaque_at word_at counted_at whole_at count_at name_at spelled_at bytes_below
+row_at_once = refl
+
+-- ---- acts one by one
+
+-- a file is fetched, and then shown from the cache
+abbrev pub one : List Input
+one = begins 1 (acts.Open (operands.Fid file)) ∷ gives 1 steady ∷ gives 2 steady ∷ begins 1 (acts.Open (operands.Fid file)) ∷ []
+
+row_one : told (start (script 1)) one ≡
+    begun 1 ∷ lines.Given 1 ∷ lines.Grant (Server 1) (Client 1) file 1 7200 ∷ lines.Given 2 ∷ lines.Read (Client 1) file 1 Fetched (seen.Contents (bodies.File (codes "abc"))) ∷ answer 1
+    ∷ begun 1 ∷ lines.Read (Client 1) file 1 Cached (seen.Contents (bodies.File (codes "abc"))) ∷ answer 1 ∷ []
+unfolding moved begin_row client_row server_row back_timeout_row wake_row start_row record_bytes head_form volume_form spelled opaque pad word laid_at led name_ok directory_bytes name_bytes rights_of image acl_text digits entry_text
+row_one = refl
+
+-- a file is emptied, and then fetched
+abbrev pub two : List Input
+two = begins 1 (acts.Close (operands.Fid file) []) ∷ gives 1 steady ∷ gives 2 steady ∷ begins 1 (acts.Open (operands.Fid file)) ∷ gives 3 steady ∷ gives 4 steady ∷ []
+
+row_two : told (start (script 1)) two ≡
+    lines.Begin (Client 1) (acts.Close (operands.Fid file) []) ∷ lines.Given 1 ∷ lines.Change (Server 1) (record { node = Client 1; epoch = 1; number = 1 }) 1 ∷ lines.Version (record { fid = file; index = 2; data_version = 2; body = bodies.File [] }) ∷ lines.Given 2 ∷ answer 1
+    ∷ begun 1 ∷ lines.Given 3 ∷ lines.Grant (Server 1) (Client 1) file 2 7200 ∷ lines.Given 4 ∷ lines.Read (Client 1) file 2 Fetched (seen.Contents (bodies.File [])) ∷ answer 1 ∷ []
+unfolding moved begin_row client_row server_row back_timeout_row wake_row start_row record_bytes head_form volume_form spelled opaque pad word laid_at led name_ok directory_bytes name_bytes rights_of image acl_text digits entry_text
+row_two = refl
+
+-- a call that comes twice runs once, and its second reply ends nothing
+abbrev pub five : List Input
+five = begins 1 (acts.Close (operands.Fid file) (codes "def")) ∷ gives 1 steady ∷ gives 1 steady ∷ gives 2 steady ∷ gives 3 steady ∷ []
+
+row_five : told (start (script 1)) five ≡ stores 1 ∷ lines.Given 1 ∷ (change 1 ++ lines.Given 1 ∷ lines.Given 2 ∷ answer 1 ∷ lines.Given 3 ∷ [])
+unfolding moved begin_row client_row server_row back_timeout_row wake_row start_row record_bytes head_form volume_form spelled opaque pad word laid_at led name_ok directory_bytes name_bytes rights_of image acl_text digits entry_text
+row_five = refl
+
+abbrev pub in_proj : List ℕ → Path
+in_proj name = record { volume = codes "proj"; names = name ∷ [] }
+
+-- a new directory takes the lowest number of its kind; it can't be moved below itself, nor removed as a file
+abbrev pub makes_directory : List Input
+makes_directory = begins 1 (acts.MakeDirectory (in_proj (codes "d"))) ∷ gives 1 steady ∷ gives 2 steady ∷ gives 3 steady ∷ gives 4 steady
+    ∷ begins 1 (acts.Move (in_proj (codes "d")) (record { volume = codes "proj"; names = codes "d" ∷ codes "e" ∷ [] })) ∷ gives 5 steady ∷ gives 6 steady ∷ gives 7 steady ∷ gives 8 steady ∷ gives 9 steady ∷ gives 10 steady
+    ∷ begins 1 (acts.Remove (in_proj (codes "d"))) ∷ gives 11 steady ∷ gives 12 steady ∷ []
+
+abbrev pub is_said : Line → Bool
+is_said (lines.Change s k n) = true
+is_said (lines.Version v) = true
+is_said (lines.Drop c f) = true
+is_said (lines.Answer c code) = true
+is_said l = false
+
+abbrev pub directory : Fid
+directory = record { volume = home; vnode = 3; unique = 3 }
+
+row_makes_directory : filter is_said (told (start (script 1)) makes_directory) ≡
+    lines.Change (Server 1) (record { node = Client 1; epoch = 1; number = 2 }) 2
+    ∷ lines.Version (record { fid = root; index = 2; data_version = 2; body = bodies.Dir (record { name = codes "a"; vnode = 2; unique = 2 } ∷ record { name = codes "d"; vnode = 3; unique = 3 } ∷ []) })
+    ∷ lines.Version (record { fid = directory; index = 1; data_version = 1; body = bodies.Dir [] })
+    ∷ lines.Drop (Client 1) root ∷ code 1 0 ∷ code 1 22 ∷ code 1 21 ∷ []
+unfolding moved begin_row client_row server_row back_timeout_row wake_row start_row record_bytes head_form volume_form spelled opaque pad word laid_at led name_ok directory_bytes name_bytes rights_of image acl_text digits entry_text directory_of names_at opaque_at word_at counted_at whole_at count_at name_at spelled_at bytes_below
+row_makes_directory = refl
+
+-- rights of a newer index than that of the entry: the entry goes behind the read
+abbrev pub twenty_three : List Input
+twenty_three = begins 1 (acts.ListNames (operands.Path (record { volume = codes "proj"; names = [] }))) ∷ gives 1 steady ∷ gives 2 steady ∷ begins 2 (acts.Make (in_proj (codes "b"))) ∷ gives 3 steady ∷ gives 4 steady ∷ gives 5 steady
+    ∷ server_waits 1 (Client 1) ∷ server_waits 1 (Client 1) ∷ server_waits 1 (Client 1) ∷ gives 9 steady ∷ begins 1 (acts.GetAccessList (operands.Path (record { volume = codes "proj"; names = [] }))) ∷ gives 10 steady ∷ gives 11 steady
+    ∷ begins 1 (acts.ListNames (operands.Path (record { volume = codes "proj"; names = [] }))) ∷ gives 12 steady ∷ gives 13 steady ∷ []
+
+row_twenty_three : filter is_kept (told (start (script 2)) twenty_three) ≡
+    lines.Begin (Client 1) (acts.ListNames (operands.Path (record { volume = codes "proj"; names = [] }))) ∷ lines.Grant (Server 1) (Client 1) root 1 7200 ∷ lines.Read (Client 1) root 1 Fetched (seen.Contents (bodies.Dir (record { name = codes "a"; vnode = 2; unique = 2 } ∷ []))) ∷ answer 1
+    ∷ lines.Begin (Client 2) (acts.Make (in_proj (codes "b"))) ∷ lines.Grant (Server 1) (Client 2) root 1 7200 ∷ lines.Read (Client 2) root 1 Fetched (seen.Contents (bodies.Dir (record { name = codes "a"; vnode = 2; unique = 2 } ∷ []))) ∷ lines.Grant (Server 1) (Client 2) (record { volume = home; vnode = 4; unique = 3 }) 1 7200 ∷ lines.Drop (Client 2) root ∷ answer 2
+    ∷ lines.Begin (Client 1) (acts.GetAccessList (operands.Path (record { volume = codes "proj"; names = [] }))) ∷ lines.Read (Client 1) root 2 Fetched (seen.AccessList (codes "1\n0\nsystem:anyuser\t127\n")) ∷ lines.Drop (Client 1) root ∷ answer 1
+    ∷ lines.Begin (Client 1) (acts.ListNames (operands.Path (record { volume = codes "proj"; names = [] }))) ∷ lines.Grant (Server 1) (Client 1) root 2 7200 ∷ lines.Read (Client 1) root 2 Fetched (seen.Contents (bodies.Dir (record { name = codes "a"; vnode = 2; unique = 2 } ∷ record { name = codes "b"; vnode = 4; unique = 3 } ∷ []))) ∷ answer 1 ∷ []
+unfolding moved begin_row client_row server_row back_timeout_row wake_row start_row record_bytes head_form volume_form spelled opaque pad word laid_at led name_ok directory_bytes name_bytes rights_of image acl_text digits entry_text directory_of names_at opaque_at word_at counted_at whole_at count_at name_at spelled_at bytes_below
+row_twenty_three = refl
+
+-- a status is fetched, and shown from the cache; it holds no body, so an open fetches that; and then the status is that entry's
+abbrev pub stats : List Input
+stats = begins 1 (acts.Stat (operands.Fid file)) ∷ gives 1 steady ∷ gives 2 steady ∷ begins 1 (acts.Stat (operands.Fid file)) ∷ begins 1 (acts.Open (operands.Fid file)) ∷ gives 3 steady ∷ gives 4 steady ∷ begins 1 (acts.Stat (operands.Fid file)) ∷ []
+
+abbrev pub is_read : Line → Bool
+is_read (lines.Grant s c f i x) = true
+is_read (lines.Read c f i source b) = true
+is_read (lines.Answer c code) = true
+is_read l = false
+
+abbrev pub three_bytes : ReadBody
+three_bytes = seen.Status (record { kind = 1; link_count = 1; length = 3; mode = 420 })
+
+row_stats : filter is_read (told (start (script 1)) stats) ≡
+    lines.Grant (Server 1) (Client 1) file 1 7200 ∷ lines.Read (Client 1) file 1 Fetched three_bytes ∷ answer 1 ∷ lines.Read (Client 1) file 1 Cached three_bytes ∷ answer 1
+    ∷ lines.Grant (Server 1) (Client 1) file 1 7200 ∷ lines.Read (Client 1) file 1 Fetched (seen.Contents (bodies.File (codes "abc"))) ∷ answer 1 ∷ lines.Read (Client 1) file 1 Cached three_bytes ∷ answer 1 ∷ []
+unfolding moved begin_row client_row server_row back_timeout_row wake_row start_row record_bytes head_form volume_form spelled opaque pad word laid_at led name_ok directory_bytes name_bytes rights_of image acl_text digits entry_text
+row_stats = refl
+
+-- the status of each of a directory's names: the directory is read, then all of them by one call; what it brought is in the cache
+abbrev pub statuses : List Input
+statuses = begins 1 (acts.StatAll (operands.Fid root)) ∷ gives 1 steady ∷ gives 2 steady ∷ gives 3 steady ∷ gives 4 steady ∷ begins 1 (acts.Stat (operands.Fid file)) ∷ []
+
+row_statuses : filter is_read (told (start (script 1)) statuses) ≡
+    lines.Grant (Server 1) (Client 1) root 1 7200 ∷ lines.Read (Client 1) root 1 Fetched (seen.Contents (bodies.Dir (record { name = codes "a"; vnode = 2; unique = 2 } ∷ [])))
+    ∷ lines.Grant (Server 1) (Client 1) file 1 7200 ∷ lines.Read (Client 1) file 1 Fetched three_bytes ∷ answer 1 ∷ lines.Read (Client 1) file 1 Cached three_bytes ∷ answer 1 ∷ []
+unfolding moved begin_row client_row server_row back_timeout_row wake_row start_row record_bytes head_form volume_form spelled opaque pad word laid_at led name_ok directory_bytes name_bytes rights_of image acl_text digits entry_text directory_of names_at opaque_at word_at counted_at whole_at count_at name_at spelled_at bytes_below
+row_statuses = refl
+
+-- a volume that no one knows
+row_unknown : told (start (script 1)) (begins 1 (acts.Open (operands.Path (record { volume = codes "nope"; names = codes "a" ∷ [] }))) ∷ begins 1 (acts.Stat (operands.Fid (record { volume = 7; vnode = 1; unique = 1 }))) ∷ []) ≡
+    lines.Begin (Client 1) (acts.Open (operands.Path (record { volume = codes "nope"; names = codes "a" ∷ [] }))) ∷ code 1 363524
+    ∷ lines.Begin (Client 1) (acts.Stat (operands.Fid (record { volume = 7; vnode = 1; unique = 1 }))) ∷ code 1 363524 ∷ []
+unfolding moved begin_row
+row_unknown = refl
+
+-- a cache of one entry, and two files: each is fetched anew
+abbrev pub two_files : Script
+two_files = record {
+  servers = 1;
+  clients = 1;
+  volumes = record { id = home; name = codes "proj"; server = Server 1; quota = 1000; lines = setup.File (codes "a" ∷ []) (codes "abc") ∷ setup.File (codes "b" ∷ []) (codes "b") ∷ [] } ∷ [];
+  tasks = [];
+  schedule = None;
+}
+
+abbrev pub second : Fid
+second = record { volume = home; vnode = 4; unique = 3 }
+
+row_small_cache : filter is_read (told (record (start two_files) { clients = λ n. new_client 1 1 (codes "guest") (locations two_files) })
+    (begins 1 (acts.Open (operands.Fid file)) ∷ gives 1 steady ∷ gives 2 steady ∷ begins 1 (acts.Open (operands.Fid second)) ∷ gives 3 steady ∷ gives 4 steady ∷ begins 1 (acts.Open (operands.Fid file)) ∷ gives 5 steady ∷ gives 6 steady ∷ [])) ≡
+    lines.Grant (Server 1) (Client 1) file 1 7200 ∷ lines.Read (Client 1) file 1 Fetched (seen.Contents (bodies.File (codes "abc"))) ∷ answer 1
+    ∷ lines.Grant (Server 1) (Client 1) second 1 7200 ∷ lines.Read (Client 1) second 1 Fetched (seen.Contents (bodies.File (codes "b"))) ∷ answer 1
+    ∷ lines.Grant (Server 1) (Client 1) file 1 7200 ∷ lines.Read (Client 1) file 1 Fetched (seen.Contents (bodies.File (codes "abc"))) ∷ answer 1 ∷ []
+unfolding moved begin_row client_row server_row back_timeout_row wake_row start_row record_bytes head_form volume_form spelled opaque pad word laid_at led name_ok directory_bytes name_bytes rights_of image acl_text digits entry_text bytes_below
+row_small_cache = refl
