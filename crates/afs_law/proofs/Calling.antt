@@ -2,7 +2,7 @@
 use Rattle.afs_history.specs.declared.acts.Act.{Act}
 use Rattle.afs_law.proofs.Backing.{all_lines, is_unchanging}
 use Rattle.afs_law.proofs.Basics.{Below, Each, ByClient, IfCall, IfReply, OfCall, OfClient, if_reply, LastSeat, if_call, at_seat, kept_last, some_of}
-use Rattle.afs_rows.specs.ClientRow.{Look, Walked, admits_call, awaits, begin_row, breaks, calls_again, calls_step, client_row, counts, drop_line, dropped, dropped_after, ends_step, given, given_up_in, gives_by, goes_by, hears, ignores, is_awaited, is_older, is_spent, is_trusted, looked, look_at, entry_told, body_told, status_told, read_lines, status_look, with_statuses, put_entry, put_entries, most_reads, dead_code, call_of, timeout_line, refuses, replies_step, reborn, runs_carried, takes, takes_bytes, takes_data, takes_entries, takes_entry, takes_list, takes_plain, takes_rights, takes_set, takes_shown, takes_status, takes_stored, timeout_row, told_step, walked, walks_on, whole}
+use Rattle.afs_rows.specs.ClientRow.{Look, Walked, admits_call, awaits, begin_row, body_told, breaks, call_of, calls_again, calls_step, client_row, counts, dead_code, drop_line, dropped, dropped_after, ends_step, entries_told, entry_told, given, given_up_in, gives_by, goes_by, hears, ignores, is_awaited, is_busy_code, is_older, is_spent, is_trusted, look_at, looked, most_busy, most_reads, put_entries, put_entry, read_lines, reborn, refuses, replies_step, runs_carried, status_look, status_told, takes, takes_bulk, takes_bytes, takes_data, takes_entries, takes_entry, takes_list, takes_plain, takes_rights, takes_set, takes_shown, takes_status, takes_stored, timeout_line, timeout_row, told_step, walked, walks_on, whole, with_statuses}
 use Rattle.afs_rows.specs.Going.{ClientState, Going, Need, answers, began, next, with_read}
 use Rattle.afs_ideal.specs.Operations.{volume_changed}
 use Rattle.afs_law.specs.Past.{answered_key}
@@ -12,8 +12,8 @@ use Rattle.afs_rows.specs.States.{CacheEntry, Gift, Seat}
 use Rattle.afs_rows.specs.Steps.{Step}
 use Rattle.afs_model.specs.Calls as pairs
 use Rattle.afs_model.specs.Calls.{Admitted, CallSeat, admitted, call_seat, call_seated, paired}
-use Rattle.std.proofs.Common.{◌≡◌, ℕ, ◌⊎◌, inl, inr, Bool, true, false, cond, List, [], ◌∷◌, map, Option, Some, None, refl, sym, subst, arith, nat_eq}
-use Rattle.std.specs.Prelude.{not, filter, nat_lt}
+use Rattle.std.proofs.Common.{◌+◌, ◌≡◌, ℕ, ◌⊎◌, inl, inr, Bool, true, false, cond, List, [], ◌∷◌, map, Option, Some, None, refl, sym, subst, arith, nat_eq}
+use Rattle.std.specs.Prelude.{◌&&◌, not, filter, nat_lt}
 use Rattle.std.specs.List.{list_any}
 use Rattle.afs_num.specs.Nodes.{same_node}
 use Rattle.afs_num.specs.declared.types.Code.{Code}
@@ -219,6 +219,11 @@ set_tame K j c clock place status (calls.StoreAcl f acl) k = status_tame K j c c
 set_tame K j c clock place status (calls.StoreStatus f set) k = status_tame K j c clock place f status (calls.StoreStatus f set) k
 set_tame K j c clock place status call k = plain_tame K j c place call k
 
+bulk_tame : (K : Node → Key → Type 0) (j : ℕ) (c : ClientState) (clock place : ℕ) (act : Going) (statuses : List AfsFetchStatus) (callbacks : List AfsCallBack) (sync : AfsVolSync) (call : FsCall) → AreReplies K c.seats
+    → Tame K j (caller_at c) (takes_bulk (Client j) c clock place act statuses callbacks sync call)
+bulk_tame K j c clock place act statuses callbacks sync (calls.BulkStatus fids) k = entries_tame K j c clock place act (entries_told c.callee sync fids statuses callbacks) k
+bulk_tame K j c clock place act statuses callbacks sync call k = plain_tame K j c place call k
+
 takes_tame : (K : Node → Key → Type 0) (j : ℕ) (c : ClientState) (clock place : ℕ) (act : Going) (call : FsCall) (reply : FsReply) → AreReplies K c.seats → Tame K j (caller_at c) (takes (Client j) c clock place act call reply)
 takes_tame K j c clock place act call (replies.FetchData contents status callback sync) k = data_tame K j c clock place act contents status callback sync call k
 takes_tame K j c clock place act call (replies.FetchAcl text status sync) k = list_tame K j c clock place act text status sync call k
@@ -226,10 +231,12 @@ takes_tame K j c clock place act call (replies.FetchStatus status callback sync)
 takes_tame K j c clock place act call (replies.StoreData status sync) k = set_tame K j c clock place status call k
 takes_tame K j c clock place act call (replies.StoreAcl status sync) k = set_tame K j c clock place status call k
 takes_tame K j c clock place act call (replies.StoreStatus status sync) k = set_tame K j c clock place status call k
+takes_tame K j c clock place act call (replies.BulkStatus statuses callbacks sync) k = bulk_tame K j c clock place act statuses callbacks sync call k
 takes_tame K j c clock place act call reply k = plain_tame K j c place call k
 
 refuses_tame : (K : Node → Key → Type 0) (j : ℕ) (c : ClientState) (place : ℕ) (act : Going) (code : Code) → AreReplies K c.seats → Tame K j (caller_at c) (refuses (Client j) c place act code)
-refuses_tame K j c place act code k = ends_tame K j c c.cache (given place) code k (λ ls h. h)
+refuses_tame K j c place act code k =
+    either_tame K (is_busy_code code && nat_lt c.busy most_busy) j (caller_at c) _ _ (again_tame K j (record c { busy = c.busy + 1 }) place act k) (ends_tame K j c c.cache (given place) code k (λ ls h. h))
 
 counts_tame : (K : Node → Key → Type 0) (j : ℕ) (c : ClientState) (clock place : ℕ) (act : Going) (head : Head) (x : Carried) → AreReplies K c.seats → Tame K j (caller_at c) (counts (Client j) c clock place act head x)
 counts_tame K j c clock place act head (carried.Call user call) k = ignores_tame K j c place k
