@@ -5,30 +5,24 @@ use Rattle.afs_num.specs.declared.histories.Body.{Body}
 use Rattle.afs_num.specs.declared.histories.ReadBody.{ReadBody}
 use Rattle.afs_rows.specs.ClientRow.{body_seen}
 use Rattle.afs_num.specs.declared.histories.ReadBody.TheVariants as seen
-use Rattle.afs_num.specs.declared.messages.Call.TheVariants as ask
-use Rattle.afs_num.specs.declared.messages.Carried.TheVariants as carried
 use Rattle.afs_ideal.specs.Told.{Agrees}
 use Rattle.afs_ideal.specs.Volumes.{Volume}
 use Rattle.afs_law.proofs.Answering.{idle_newest, idle_reached}
-use Rattle.afs_law.proofs.Basics.{ByClient, OfReply, OfCall, IfReply, IfCall, each_at, client_number, by_client}
 use Rattle.afs_law.proofs.Edits.{agrees_of, SoundIn}
-use Rattle.afs_law.proofs.Facts.{ReplyIn, CallIn, view, Ghost, Holds}
+use Rattle.afs_law.proofs.Facts.{view, Holds}
 use Rattle.afs_law.proofs.Law.{goes, starts}
 use Rattle.afs_rows.specs.ClientRow.{find_cached}
 use Rattle.afs_law.specs.Ideal.{versions_in, set_up}
-use Rattle.afs_law.specs.Laws.{ArePairsKnown, IsKnownTo, IsHeld}
+use Rattle.afs_law.specs.Laws.{IsHeld}
 use Rattle.afs_law.specs.Legal.{GoodRead}
 use Rattle.afs_history.specs.declared.lines.Line.{Line}
 use Rattle.afs_law.specs.Once.{past_of}
 use Rattle.afs_law.specs.OneServer.{IsOneServer}
-use Rattle.afs_law.specs.Past.{HasCode, IsCall}
 use Rattle.afs_rows.specs.Runs.{Entry}
 use Rattle.afs_law.proofs.OneCell.{Cell, Input, moved, Leads, start, RunsTo}
 use Rattle.afs_rows.specs.States.{CacheEntry}
 use Rattle.afs_num.specs.declared.histories.ReadSource.TheVariants.{Cached}
-use Rattle.afs_num.specs.declared.messages.Carried.{Carried}
 use Rattle.afs_num.specs.declared.types.Node.TheVariants.{Client}
-use Rattle.afs_num.specs.declared.types.Head.{Head}
 use Rattle.std.proofs.Common.{◌<◌, ◌≡◌, ℕ, List, [], ◌∷◌, Option, Some, None, refl, sym, ap, subst, ◌∙◌}
 use Rattle.afs_num.specs.declared.types.Fid.{Fid}
 use Rattle.afs_num.specs.declared.scripts.Script.{Script}
@@ -59,35 +53,6 @@ held s h end one r id =
     record {
       ideal = k.ideal id;
       told = λ v e. agrees_by id v _ _ (k.ideal id ∙ e) (k.sound id);
-    }
-
--- ---- pairs
-
-call_known : (end : Cell) (fl : ℕ → Ghost) (j : ℕ) (head : Head) (c : Carried) → IsCall c → head.from ≡ Client j → OfCall (ByClient (CallIn (view fl end))) head c → IsKnownTo (end.clients j) head
-call_known end fl j head (carried.Call user (ask.File call)) is from h =
-    let f : CallIn (view fl end) head user call = by_client j head.from (CallIn (view fl end) head user call) from h in
-    let one : f.client ≡ j = client_number f.client j (sym f.from ∙ from) in
-    subst (λ (i : ℕ). IsKnownTo (end.clients i) head) one f.fact.behind
-call_known end fl j head (carried.Call user (ask.Volume call)) is from h = absurd h
-call_known end fl j head (carried.Call user (ask.Location call)) is from h = absurd h
-call_known end fl j head (carried.Refusal code) is from h = absurd is
-call_known end fl j head (carried.Reply reply) is from h = absurd is
-call_known end fl j head carried.Notice is from h = absurd is
-
-reply_of : (c : Carried) (X : Type 0) → HasCode c → OfReply X c → X
-reply_of (carried.Call user call) X is h = absurd is
-reply_of (carried.Refusal code) X is h = h
-reply_of (carried.Reply reply) X is h = h
-reply_of carried.Notice X is h = absurd is
-
-pub pairs_known : (s : Script) (h : List Entry) (end : Cell) → IsOneServer s → RunsTo h s end → ArePairsKnown end.sent end.clients
-pairs_known s h end one r =
-    let k : Holds s end (past_of (set_up s ∷ []) h) = at_end s h end one r in
-    record {
-      calls = λ j place m at is from. call_known end k.floors j m.head m.carried is from (each_at (IfCall (CallIn (view k.floors end))) end.sent place m at k.sent.calls);
-      replies = λ j place m at is to.
-          let f : ReplyIn (view k.floors end) (past_of (set_up s ∷ []) h) m = by_client j m.head.to (ReplyIn (view k.floors end) (past_of (set_up s ∷ []) h) m) to (reply_of m.carried _ is (each_at (IfReply (ReplyIn (view k.floors end) (past_of (set_up s ∷ []) h))) end.sent place m at k.sent.replies)) in
-          subst (λ (i : ℕ). IsKnownTo (end.clients i) m.head) (client_number f.client j (sym f.to ∙ to)) f.fact.behind;
     }
 
 -- ---- what a client trusts

@@ -1,18 +1,19 @@
--- A key changes something at most once in a run, whatever servers a cell has: a client makes each call to one server, which runs
--- it only above that caller's last one that changed something.
+-- What holds of keys in a run, whatever servers a cell has: a client makes each call to one server, which runs it only above that
+-- caller's last one that changed something. So a key changes something at most once, and no call or reply has one to come.
 use Rattle.afs_history.specs.declared.acts.Act.{Act}
 use Rattle.afs_law.proofs.Backing.{all_lines, is_unchanging}
-use Rattle.afs_law.proofs.Basics.{Above, Each, IfCall, UpTo, at_put, below_not, below_up_to, both, client_number, each_at, each_map, each_more, if_call, node_apart, same_key-refl, same_node-true, up_to_below, up_to_same}
-use Rattle.afs_law.proofs.Calling.{AreReplies, GoesOn, IsLastOf, IsUncalled, Tame, begins_tame, caller_at, falls_tame, given_tame, rises_tame, uncalled_any, waits_tame}
+use Rattle.afs_law.proofs.Basics.{Above, Each, IfCall, IfReply, OfClient, OfReply, by_client, if_reply, UpTo, at_put, below_not, below_up_to, both, client_number, each_at, each_map, each_more, if_call, node_apart, same_key-refl, same_node-true, up_to_below, up_to_same}
+use Rattle.afs_law.proofs.Calling.{AreReplies, IsAnswer, IsCallOf, answer_over, GoesOn, IsLastOf, Tame, begins_tame, caller_at, falls_tame, given_tame, rises_tame, uncalled_any, waits_tame}
 use Rattle.afs_law.proofs.Hosting.{Begins, HasOne, HostStep, Hosts, IsCutBy, IsSound, Memory, decides_due, disk_begins, memory_of, serves_step, starts_step, times_step, wakes_step}
+use Rattle.afs_law.specs.Laws.{ArePairsKnown, IsKnownTo}
 use Rattle.afs_law.specs.Legal.{IsNew}
 use Rattle.afs_law.specs.Once.{AreOnce, ChangesOnce, past_of}
-use Rattle.afs_law.specs.Past.{lines_of, onto, same_key}
+use Rattle.afs_law.specs.Past.{HasCode, IsCall, answered_key, lines_of, onto, same_key}
 use Rattle.afs_rows.specs.Callbacks.{put, replies_of}
 use Rattle.afs_rows.specs.Going.{ClientState, Going}
 use Rattle.afs_rows.specs.Runs.{Armed, Blow, Cell, Entry, Fall, Host, Input, Leads, Luck, Moved, Outcome, RunsTo, at_rest, back_timed, begins, begun_by, begun_by_disk, blow_line, client_moves, client_starts, client_stops, comes_up, decided_at, fails_early, fails_midway, given_at, given_to, gives, has_host, in_boot, in_step, is_full, message_at, moved, nothing, server_armed, server_ends, server_given, server_moves, server_restarted, server_served, server_stopped, server_timed, server_waits, server_wakes, sets_fail, sets_stop, settled, start, starts_again, stops, struck, ticks, unarmed, voided, waited_by, waits, wakes}
 use Rattle.afs_rows.specs.ServerRow.{Begun, device_calls, key_of}
-use Rattle.afs_rows.specs.States.{BackCall, ServerState}
+use Rattle.afs_rows.specs.States.{Seat, BackCall, ServerState}
 use Rattle.afs_rows.specs.Steps.{Step}
 use Rattle.afs_model.specs.Calls.{call_seat}
 use Rattle.std.proofs.Common.{◌≡◌, ℕ, inl, inr, Bool, true, false, cond, eqb-true, nat_eq, List, [], ◌∷◌, ◌++◌, Option, Some, None, refl, sym, ap, subst, ◌∙◌}
@@ -22,9 +23,12 @@ use Rattle.afs_num.specs.declared.types.Head.{Head}
 use Rattle.afs_num.specs.declared.types.Key.{Key}
 use Rattle.afs_num.specs.declared.types.Node.{Node}
 use Rattle.afs_num.specs.declared.types.Node.TheVariants.{Admin, Client, Loc, Server}
+use Rattle.afs_num.specs.declared.messages.Carried.{Carried}
 use Rattle.afs_num.specs.declared.messages.Message.{Message}
 use Rattle.afs_num.specs.declared.scripts.Script.{Script}
 use Rattle.afs_history.specs.declared.lines.Line.{Line}
+use Rattle.afs_num.specs.declared.messages.Call.TheVariants as ask
+use Rattle.afs_num.specs.declared.messages.Carried.TheVariants as carried
 use Rattle.afs_history.specs.declared.lines.Line.TheVariants as lines
 
 -- ---- small laws
@@ -112,9 +116,10 @@ record Stands (clients : ℕ → ClientState) (hosts : ℕ → Host) (sent : Lis
   callees : Key → Node
   own : (j : ℕ) → callees (last_of j (clients j)) ≡ (clients j).callee
   calls : Each (IfCall (λ h user call. IsKnown callees clients h.to (key_of h))) sent
-  replies : (j : ℕ) → AreReplies (clients j).seats
-  sound : (i : ℕ) → IsSound (memory_of (hosts i).state)
-  held : (i : ℕ) → Each IsUncalled (replies_of (hosts i).state.backs.held)
+  answers : Each (IfReply (λ r. IsKnown callees clients r.head.from (answered_key r.head))) sent
+  replies : (j : ℕ) → AreReplies (IsKnown callees clients) (clients j).seats
+  sound : (i : ℕ) → IsSound (IsKnown callees clients) (memory_of (hosts i).state)
+  held : (i : ℕ) → Each (IsAnswer (IsKnown callees clients)) (replies_of (hosts i).state.backs.held)
   falls : (i : ℕ) → HasCut (IsKnown callees clients) (hosts i).down
   ran : EachChange (HasRun callees clients hosts) o
   once : AreOnce o
@@ -144,15 +149,16 @@ not_run callees clients hosts i k known above q l r same =
     let here : i ≡ r.server = server_number i r.server (known.called ∙ (ap callees same ∙ (sym r.known.called ∙ r.is))) in
     r.ran (subst (λ (j : ℕ). Above (call_seat l.node (hosts j).state.lasting.kept) l.epoch l.number) here (subst (λ (x : Key). Above (call_seat x.node (hosts i).state.lasting.kept) x.epoch x.number) same above))
 
-host_keeps : (clients : ℕ → ClientState) (hosts : ℕ → Host) (sent more : List Message) (o ls : List Line) (i : ℕ) (h : Host) → (S : Stands clients hosts sent o) → Hosts (IsKnown S.callees clients (Server i)) (Server i) (memory_of (hosts i).state) (memory_of h.state) ls
-    → Each IsUncalled (replies_of h.state.backs.held) → HasCut (IsKnown S.callees clients) h.down → Each (IfCall (λ x user call. IsKnown S.callees clients x.to (key_of x))) more → Stands clients (put i h hosts) more (onto o ls)
-host_keeps clients hosts sent more o ls i h S H held cut calls = record {
+host_keeps : (clients : ℕ → ClientState) (hosts : ℕ → Host) (sent more : List Message) (o ls : List Line) (i : ℕ) (h : Host) → (S : Stands clients hosts sent o) → Hosts (IsKnown S.callees clients) (Server i) (memory_of (hosts i).state) (memory_of h.state) ls
+    → Each (IsAnswer (IsKnown S.callees clients)) (replies_of h.state.backs.held) → HasCut (IsKnown S.callees clients) h.down → Each (IfCall (λ x user call. IsKnown S.callees clients x.to (key_of x))) more → Each (IfReply (λ r. IsKnown S.callees clients r.head.from (answered_key r.head))) more → Stands clients (put i h hosts) more (onto o ls)
+host_keeps clients hosts sent more o ls i h S H held cut calls answers = record {
   callees = S.callees;
   own = S.own;
   calls = calls;
+  answers = answers;
   replies = S.replies;
-  sound = λ j. at_put i j (λ (x : Host). IsSound (memory_of x.state)) h hosts (λ same. H.sound) (λ other. S.sound j);
-  held = λ j. at_put i j (λ (x : Host). Each IsUncalled (replies_of x.state.backs.held)) h hosts (λ same. held) (λ other. S.held j);
+  sound = λ j. at_put i j (λ (x : Host). IsSound (IsKnown S.callees clients) (memory_of x.state)) h hosts (λ same. H.sound) (λ other. S.sound j);
+  held = λ j. at_put i j (λ (x : Host). Each (IsAnswer (IsKnown S.callees clients)) (replies_of x.state.backs.held)) h hosts (λ same. held) (λ other. S.held j);
   falls = λ j. at_put i j (λ (x : Host). HasCut (IsKnown S.callees clients) x.down) h hosts (λ same. cut) (λ other. S.falls j);
   ran = one_each (HasRun S.callees clients (put i h hosts)) (Server i) H.changed ls o H.one
       (λ k e. record {
@@ -166,22 +172,23 @@ host_keeps clients hosts sent more o ls i h S H held cut calls = record {
 }
 
 -- a step that is done
-moves_keeps : (c : Cell) (o : List Line) (i : ℕ) (armed : Armed) (s : Step ServerState) → (S : StandsIn c o) → HostStep (IsKnown S.callees c.clients (Server i)) (Server i) (c.hosts i).state s → Keeps o (server_moves c i armed s)
+moves_keeps : (c : Cell) (o : List Line) (i : ℕ) (armed : Armed) (s : Step ServerState) → (S : StandsIn c o) → HostStep (IsKnown S.callees c.clients) (Server i) (c.hosts i).state s → Keeps o (server_moves c i armed s)
 moves_keeps c o i armed s S h =
     host_keeps c.clients c.hosts c.sent (c.sent ++ s.sent) o s.lines i (record { state = s.state; down = None; armed = armed }) S h.hosts h.held tt
-    (each_more _ c.sent s.sent S.calls (each_map IsUncalled _ (uncalled_any (λ x user call. IsKnown S.callees c.clients x.to (key_of x))) s.sent h.sent))
+    (each_more _ c.sent s.sent S.calls (each_map (IsAnswer (IsKnown S.callees c.clients)) _ (λ m a. uncalled_any (λ x user call. IsKnown S.callees c.clients x.to (key_of x)) m a.0) s.sent h.sent))
+    (each_more _ c.sent s.sent S.answers (each_map (IsAnswer (IsKnown S.callees c.clients)) _ (λ m a. a.1) s.sent h.sent))
 
-same_hosts : (K : Key → Type 0) (me : Node) (x : Memory) (ls : List Line) → IsSound x → HasOne me None ls → Hosts K me x x ls
+same_hosts : (K : Node → Key → Type 0) (me : Node) (x : Memory) (ls : List Line) → IsSound K x → HasOne me None ls → Hosts K me x x ls
 same_hosts K me x ls s h = record { changed = None; one = h; known = λ k e. absurd cc; new = λ k e. absurd cc; ran = λ k e a. absurd cc; grows = λ n e k a. a; sound = s }
 
 -- one that leaves what it keeps
 falls_keeps : (c : Cell) (o : List Line) (i : ℕ) (down : Option Fall) (armed : Armed) (ls : List Line) → (S : StandsIn c o) → HasOne (Server i) None ls → HasCut (IsKnown S.callees c.clients) down
     → Stands c.clients (put i (record (c.hosts i) { down = down; armed = armed }) c.hosts) c.sent (onto o ls)
 falls_keeps c o i down armed ls S none cut =
-    host_keeps c.clients c.hosts c.sent c.sent o ls i (record (c.hosts i) { down = down; armed = armed }) S (same_hosts (IsKnown S.callees c.clients (Server i)) (Server i) (memory_of (c.hosts i).state) ls (S.sound i) none) (S.held i) cut S.calls
+    host_keeps c.clients c.hosts c.sent c.sent o ls i (record (c.hosts i) { down = down; armed = armed }) S (same_hosts (IsKnown S.callees c.clients) (Server i) (memory_of (c.hosts i).state) ls (S.sound i) none) (S.held i) cut S.calls S.answers
 
 nothing_keeps : (c : Cell) (o : List Line) → StandsIn c o → Keeps o (voided c)
-nothing_keeps c o S = record { callees = S.callees; own = S.own; calls = S.calls; replies = S.replies; sound = S.sound; held = S.held; falls = S.falls; ran = (tt, S.ran); once = S.once }
+nothing_keeps c o S = record { callees = S.callees; own = S.own; calls = S.calls; answers = S.answers; replies = S.replies; sound = S.sound; held = S.held; falls = S.falls; ran = (tt, S.ran); once = S.once }
 
 either_keeps : (o : List Line) (t : Bool) (m k : Moved) → Keeps o m → Keeps o k → Keeps o (cond t m k)
 either_keeps o true m k a b = a
@@ -195,7 +202,7 @@ blow_none i false = refl
 
 served_keeps : (c : Cell) (o : List Line) (i place : ℕ) (m : Message) (b : Option Blow) → (S : StandsIn c o) → IfCall (λ h user call. IsKnown S.callees c.clients h.to (key_of h)) m → Keeps o (server_served c i place m b)
 served_keeps c o i place m None S h =
-    moves_keeps c o i _ _ S (serves_step (IsKnown S.callees c.clients (Server i)) i (c.hosts i).state c.clock place m (S.sound i) (S.held i) (decides_due (IsKnown S.callees c.clients) (Server i) (c.hosts i).state c.clock m (S.sound i).seats h))
+    moves_keeps c o i _ _ S (serves_step (IsKnown S.callees c.clients) i (c.hosts i).state c.clock place m (S.sound i) (S.held i) (decides_due (IsKnown S.callees c.clients) (Server i) (c.hosts i).state c.clock m (S.sound i).seats h))
 served_keeps c o i place m (Some b) S h = falls_keeps c o i (Some (in_step m c.clock)) unarmed (lines.Given place ∷ blow_line i b.stops ∷ []) S (blow_none i b.stops) h
 
 received_keeps : (c : Cell) (o : List Line) (i place : ℕ) (luck : Luck) (m : Message) (d : Option Fall) → (S : StandsIn c o) → IfCall (λ h user call. IsKnown S.callees c.clients h.to (key_of h)) m → Keeps o (server_given c i place luck m d)
@@ -206,13 +213,13 @@ stopped_keeps : (c : Cell) (o : List Line) (i : ℕ) (d : Option Fall) → Stand
 stopped_keeps c o i None S = falls_keeps c o i (Some at_rest) unarmed (lines.Crash (Server i) ∷ []) S refl tt
 stopped_keeps c o i (Some fall) S = nothing_keeps c o S
 
-ends_keeps : (c : Cell) (o : List Line) (i : ℕ) (f : Begun) (fall : Fall) (out : Outcome) → (S : StandsIn c o) → IsCutBy (IsKnown S.callees c.clients) fall → Begins (IsKnown S.callees c.clients (Server i)) (Server i) (c.hosts i).state f → Keeps o (server_ends c i f fall out)
-ends_keeps c o i f fall comes_up S cut b = moves_keeps c o i unarmed _ S (starts_step (IsKnown S.callees c.clients (Server i)) i (c.hosts i).state c.clock c.count f b)
+ends_keeps : (c : Cell) (o : List Line) (i : ℕ) (f : Begun) (fall : Fall) (out : Outcome) → (S : StandsIn c o) → IsCutBy (IsKnown S.callees c.clients) fall → Begins (IsKnown S.callees c.clients) (Server i) (c.hosts i).state f → Keeps o (server_ends c i f fall out)
+ends_keeps c o i f fall comes_up S cut b = moves_keeps c o i unarmed _ S (starts_step (IsKnown S.callees c.clients) i (c.hosts i).state c.clock c.count f b)
 ends_keeps c o i f fall fails_early S cut b = falls_keeps c o i (Some fall) unarmed (lines.Fault (Server i) ∷ []) S refl cut
 ends_keeps c o i f fall fails_midway S cut b =
-    host_keeps c.clients c.hosts c.sent c.sent o (f.before (lines.Fault (Server i) ∷ [])) i (record { state = f.state; down = Some in_boot; armed = unarmed }) S (b.hosts (lines.Fault (Server i) ∷ []) refl) b.held tt S.calls
+    host_keeps c.clients c.hosts c.sent c.sent o (f.before (lines.Fault (Server i) ∷ [])) i (record { state = f.state; down = Some in_boot; armed = unarmed }) S (b.hosts (lines.Fault (Server i) ∷ []) refl) b.held tt S.calls S.answers
 ends_keeps c o i f fall is_full S cut b =
-    host_keeps c.clients c.hosts c.sent c.sent o (f.before (lines.Full (Server i) ∷ [])) i (record { state = f.state; down = Some at_rest; armed = unarmed }) S (b.hosts (lines.Full (Server i) ∷ []) refl) b.held tt S.calls
+    host_keeps c.clients c.hosts c.sent c.sent o (f.before (lines.Full (Server i) ∷ [])) i (record { state = f.state; down = Some at_rest; armed = unarmed }) S (b.hosts (lines.Full (Server i) ∷ []) refl) b.held tt S.calls S.answers
 
 restarted_keeps : (c : Cell) (o : List Line) (i : ℕ) (after : Bool) (out : Outcome) (d : Option Fall) → (S : StandsIn c o) → HasCut (IsKnown S.callees c.clients) d → Keeps o (server_restarted c i after out d)
 restarted_keeps c o i after out None S cut = nothing_keeps c o S
@@ -230,14 +237,14 @@ fail_keeps c o i call armed (Some fall) S = nothing_keeps c o S
 
 back_keeps : (c : Cell) (o : List Line) (i : ℕ) (n : Node) (b : Option BackCall) → StandsIn c o → Keeps o (back_timed c i n b)
 back_keeps c o i n None S = nothing_keeps c o S
-back_keeps c o i n (Some b) S = moves_keeps c o i _ _ S (times_step (IsKnown S.callees c.clients (Server i)) i (c.hosts i).state c.clock n b (S.sound i) (S.held i))
+back_keeps c o i n (Some b) S = moves_keeps c o i _ _ S (times_step (IsKnown S.callees c.clients) i (c.hosts i).state c.clock n b (S.sound i) (S.held i))
 
 timed_keeps : (c : Cell) (o : List Line) (i : ℕ) (n : Node) (d : Option Fall) → StandsIn c o → Keeps o (server_timed c i n d)
 timed_keeps c o i n None S = back_keeps c o i n ((c.hosts i).state.backs.calls n) S
 timed_keeps c o i n (Some fall) S = nothing_keeps c o S
 
 woken_keeps : (c : Cell) (o : List Line) (i : ℕ) (d : Option Fall) → StandsIn c o → Keeps o (server_wakes c i d)
-woken_keeps c o i None S = moves_keeps c o i _ _ S (wakes_step (IsKnown S.callees c.clients (Server i)) i (c.hosts i).state c.clock (S.sound i) (S.held i))
+woken_keeps c o i None S = moves_keeps c o i _ _ S (wakes_step (IsKnown S.callees c.clients) i (c.hosts i).state c.clock (S.sound i) (S.held i))
 woken_keeps c o i (Some fall) S = nothing_keeps c o S
 
 -- ---- a step of a client
@@ -300,11 +307,22 @@ cut_over K L w (Some (in_step m clock)) h = if_call (λ x user call. K x.to (key
 run_later : (callees more : Key → Node) (clients then : ℕ → ClientState) (hosts : ℕ → Host) → ((q : Node) (k : Key) → IsKnown callees clients q k → IsKnown more then q k) → (q : Node) (k : Key) → HasRun callees clients hosts q k → HasRun more then hosts q k
 run_later callees more clients then hosts w q k r = record { server = r.server; is = r.is; known = w q k r.known; ran = r.ran }
 
-client_keeps : (c : Cell) (o : List Line) (n : ℕ) (s : Step ClientState) → StandsIn c o → Tame n (caller_at (c.clients n)) s → Keeps o (client_moves c n s)
+replies_over : (K L : Node → Key → Type 0) → ((q : Node) (k : Key) → K q k → L q k) → (seats : List Seat) → AreReplies K seats → AreReplies L seats
+replies_over K L w seats h n seat m e r = answer_over K L w m (h n seat m e r)
+
+sound_over : (K L : Node → Key → Type 0) → ((q : Node) (k : Key) → K q k → L q k) → (x : Memory) → IsSound K x → IsSound L x
+sound_over K L w x h = record { seats = replies_over K L w x.seats h.seats; kept = replies_over K L w x.kept h.kept; lower = h.lower }
+
+told_over : (K L : Node → Key → Type 0) → ((q : Node) (k : Key) → K q k → L q k) → (m : Message) → IfReply (λ r. K r.head.from (answered_key r.head)) m → IfReply (λ r. L r.head.from (answered_key r.head)) m
+told_over K L w m h = if_reply (λ r. K r.head.from (answered_key r.head)) (λ r. L r.head.from (answered_key r.head)) (λ r. w r.head.from (answered_key r.head)) m h
+
+client_keeps : (c : Cell) (o : List Line) (n : ℕ) (s : Step ClientState) → (S : StandsIn c o) → Tame (IsKnown S.callees c.clients) n (caller_at (c.clients n)) s → Keeps o (client_moves c n s)
 client_keeps c o n s S t =
     let more : Key → Node = with_callee (last_of n s.state) s.state.callee S.callees in
     let then : ℕ → ClientState = put n s.state c.clients in
-    let w : (q : Node) (k : Key) → IsKnown S.callees c.clients q k → IsKnown more then q k = known_later S.callees c.clients n s.state (S.own n) t.goes in
+    let K : Node → Key → Type 0 = IsKnown S.callees c.clients in
+    let L : Node → Key → Type 0 = IsKnown more then in
+    let w : (q : Node) (k : Key) → K q k → L q k = known_later S.callees c.clients n s.state (S.own n) t.goes in
     record {
       callees = more;
       own = λ j. at_put n j (λ (x : ClientState). more (last_of j x) ≡ x.callee) s.state c.clients
@@ -313,9 +331,10 @@ client_keeps c o n s S t =
       calls = each_more _ c.sent s.sent
           (each_map _ _ (if_call (λ x user call. IsKnown S.callees c.clients x.to (key_of x)) (λ x user call. IsKnown more then x.to (key_of x)) (λ x user call. w x.to (key_of x))) c.sent S.calls)
           (each_map _ _ (if_call (λ x user call. IsLastOf n (caller_at s.state) x) (λ x user call. IsKnown more then x.to (key_of x)) (λ x user call. last_known S.callees c.clients n s.state x)) s.sent t.sent);
-      replies = λ j. at_put n j (λ (x : ClientState). AreReplies x.seats) s.state c.clients (λ same. t.kept) (λ other. S.replies j);
-      sound = S.sound;
-      held = S.held;
+      answers = each_more _ c.sent s.sent (each_map _ _ (told_over K L w) c.sent S.answers) (each_map _ _ (told_over K L w) s.sent t.answers);
+      replies = λ j. at_put n j (λ (x : ClientState). AreReplies L x.seats) s.state c.clients (λ same. replies_over K L w s.state.seats t.kept) (λ other. replies_over K L w (c.clients j).seats (S.replies j));
+      sound = λ i. sound_over K L w (memory_of (c.hosts i).state) (S.sound i);
+      held = λ i. each_map (IsAnswer K) (IsAnswer L) (answer_over K L w) (replies_of (c.hosts i).state.backs.held) (S.held i);
       falls = λ i. cut_over (IsKnown S.callees c.clients) (IsKnown more then) w (c.hosts i).down (S.falls i);
       ran = plain_each (HasRun more then c.hosts) s.lines o t.lines (each_change _ _ (run_later S.callees more c.clients then c.hosts w) o S.ran);
       once = plain_once s.lines o t.lines S.once;
@@ -325,7 +344,7 @@ client_keeps c o n s S t =
 
 to_keeps : (c : Cell) (o : List Line) (p : ℕ) (luck : Luck) (m : Message) (to : Node) → (S : StandsIn c o) → IfCall (λ h user call. IsKnown S.callees c.clients h.to (key_of h)) m → Keeps o (given_to c p luck m to)
 to_keeps c o p luck m (Server i) S h = either_keeps o (has_host c i) _ _ (received_keeps c o i p luck m (c.hosts i).down S h) (nothing_keeps c o S)
-to_keeps c o p luck m (Client n) S h = either_keeps o (c.away n) _ _ (nothing_keeps c o S) (client_keeps c o n _ S (given_tame n (c.clients n) c.clock p m (S.replies n)))
+to_keeps c o p luck m (Client n) S h = either_keeps o (c.away n) _ _ (nothing_keeps c o S) (client_keeps c o n _ S (given_tame (IsKnown S.callees c.clients) n (c.clients n) c.clock p m (S.replies n) h))
 to_keeps c o p luck m Loc S h = nothing_keeps c o S
 to_keeps c o p luck m (Admin n) S h = nothing_keeps c o S
 
@@ -334,15 +353,15 @@ at_keeps c o p luck None e S = nothing_keeps c o S
 at_keeps c o p luck (Some m) e S = to_keeps c o p luck m m.head.to S (each_at _ c.sent p m e S.calls)
 
 begun_keeps : (c : Cell) (o : List Line) (n : ℕ) (act : Act) (g : Option Going) → StandsIn c o → Keeps o (begun_by c n act g)
-begun_keeps c o n act None S = client_keeps c o n _ S (begins_tame n (c.clients n) c.clock act (S.replies n))
+begun_keeps c o n act None S = client_keeps c o n _ S (begins_tame (IsKnown S.callees c.clients) n (c.clients n) c.clock act (S.replies n))
 begun_keeps c o n act (Some g) S = nothing_keeps c o S
 
 waited_keeps : (c : Cell) (o : List Line) (n : ℕ) (g : Option Going) → StandsIn c o → Keeps o (waited_by c n g)
 waited_keeps c o n None S = nothing_keeps c o S
-waited_keeps c o n (Some act) S = client_keeps c o n _ S (waits_tame n (c.clients n) act (S.replies n))
+waited_keeps c o n (Some act) S = client_keeps c o n _ S (waits_tame (IsKnown S.callees c.clients) n (c.clients n) act (S.replies n))
 
 ticked_keeps : (c : Cell) (o : List Line) (n : ℕ) → StandsIn c o → Stands c.clients c.hosts c.sent (lines.Tick n ∷ o)
-ticked_keeps c o n S = record { callees = S.callees; own = S.own; calls = S.calls; replies = S.replies; sound = S.sound; held = S.held; falls = S.falls; ran = (tt, S.ran); once = S.once }
+ticked_keeps c o n S = record { callees = S.callees; own = S.own; calls = S.calls; answers = S.answers; replies = S.replies; sound = S.sound; held = S.held; falls = S.falls; ran = (tt, S.ran); once = S.once }
 
 moved_keeps : (c : Cell) (o : List Line) (x : Input) → StandsIn c o → Keeps o (moved c x)
 unfolding moved
@@ -350,8 +369,8 @@ moved_keeps c o (begins n act) S = either_keeps o (c.away n) _ _ (nothing_keeps 
 moved_keeps c o (gives p luck) S = at_keeps c o p luck (message_at c.sent p) refl S
 moved_keeps c o (waits n) S = either_keeps o (c.away n) _ _ (nothing_keeps c o S) (waited_keeps c o n (c.clients n).running S)
 moved_keeps c o (ticks n) S = ticked_keeps c o n S
-moved_keeps c o (client_stops n) S = either_keeps o (c.away n) _ _ (nothing_keeps c o S) (client_keeps c o n _ S (falls_tame n (c.clients n)))
-moved_keeps c o (client_starts n) S = either_keeps o (c.away n) _ _ (client_keeps c o n _ S (rises_tame n (c.clients n) (S.replies n))) (nothing_keeps c o S)
+moved_keeps c o (client_stops n) S = either_keeps o (c.away n) _ _ (nothing_keeps c o S) (client_keeps c o n _ S (falls_tame (IsKnown S.callees c.clients) n (c.clients n)))
+moved_keeps c o (client_starts n) S = either_keeps o (c.away n) _ _ (client_keeps c o n _ S (rises_tame (IsKnown S.callees c.clients) n (c.clients n) (S.replies n))) (nothing_keeps c o S)
 moved_keeps c o (stops i) S = either_keeps o (has_host c i) _ _ (stopped_keeps c o i (c.hosts i).down S) (nothing_keeps c o S)
 moved_keeps c o (starts_again i after out) S = either_keeps o (has_host c i) _ _ (restarted_keeps c o i after out (c.hosts i).down S (S.falls i)) (nothing_keeps c o S)
 moved_keeps c o (sets_stop i calls pick) S = either_keeps o (has_host c i) _ _ (stop_keeps c o i calls pick _ (c.hosts i).down refl S) (nothing_keeps c o S)
@@ -362,18 +381,19 @@ moved_keeps c o nothing S = nothing_keeps c o S
 
 -- ---- a run
 
-run_once : (xs : List Input) (c : Cell) (past es : List Entry) (end : Cell) → StandsIn c (lines_of past) → Leads c xs es end → AreOnce (lines_of (past_of past es))
-run_once [] c past [] end S r = S.once
-run_once [] c past (e ∷ es) end S r = absurd r
-run_once (x ∷ xs) c past [] end S r = absurd r
-run_once (x ∷ xs) c past (e ∷ es) end S r =
-    subst (λ (y : Entry). AreOnce (lines_of (past_of (y ∷ past) es))) (sym r.0) (run_once xs (moved c x).cell ((moved c x).entry ∷ past) es end (moved_keeps c (lines_of past) x S) r.1)
+run_stands : (xs : List Input) (c : Cell) (past es : List Entry) (end : Cell) → StandsIn c (lines_of past) → Leads c xs es end → StandsIn end (lines_of (past_of past es))
+run_stands [] c past [] end S r = subst (λ (x : Cell). StandsIn x (lines_of past)) (sym r) S
+run_stands [] c past (e ∷ es) end S r = absurd r
+run_stands (x ∷ xs) c past [] end S r = absurd r
+run_stands (x ∷ xs) c past (e ∷ es) end S r =
+    subst (λ (y : Entry). StandsIn end (lines_of (past_of (y ∷ past) es))) (sym r.0) (run_stands xs (moved c x).cell ((moved c x).entry ∷ past) es end (moved_keeps c (lines_of past) x S) r.1)
 
 first_stands : (s : Script) → StandsIn (start s) []
 first_stands s = record {
   callees = λ k. Server 1;
   own = λ j. refl;
   calls = tt;
+  answers = tt;
   replies = λ j n seat m e. absurd cc;
   sound = λ i. record { seats = λ n seat m e. absurd cc; kept = λ n seat m e. absurd cc; lower = λ n e k a. a };
   held = λ i. tt;
@@ -383,4 +403,27 @@ first_stands s = record {
 }
 
 pub once : (s : Script) (h : List Entry) (end : Cell) → RunsTo h s end → ChangesOnce h
-once s h end r = run_once r.inputs (start s) [] h end (first_stands s) r.leads
+once s h end r = (run_stands r.inputs (start s) [] h end (first_stands s) r.leads).once
+
+-- ---- the pairs of calls, and of replies
+
+known_pair : (callees : Key → Node) (clients : ℕ → ClientState) (q : Node) (k : Key) (j : ℕ) → k.node ≡ Client j → IsKnown callees clients q k → UpTo k.epoch k.number (clients j).epoch (clients j).last
+known_pair callees clients q k j e h = subst (λ (i : ℕ). UpTo k.epoch k.number (clients i).epoch (clients i).last) (client_number h.client j (sym h.node ∙ e)) h.behind
+
+call_pair : (callees : Key → Node) (clients : ℕ → ClientState) (j : ℕ) (h : Head) (x : Carried) → IsCall x → h.from ≡ Client j → IsCallOf (IsKnown callees clients) h x → IsKnownTo (clients j) h
+call_pair callees clients j h (carried.Call user (ask.File call)) is from w = known_pair callees clients h.to (key_of h) j from (by_client j h.from (IsKnown callees clients h.to (key_of h)) from w)
+call_pair callees clients j h (carried.Call user call) is from w = absurd w
+call_pair callees clients j h x is from w = absurd is
+
+reply_pair : (callees : Key → Node) (clients : ℕ → ClientState) (j : ℕ) (h : Head) (x : Carried) → HasCode x → h.to ≡ Client j → OfReply (OfClient h.to (IsKnown callees clients h.from (answered_key h))) x → IsKnownTo (clients j) h
+reply_pair callees clients j h (carried.Refusal code) is to w = known_pair callees clients h.from (answered_key h) j to (by_client j h.to (IsKnown callees clients h.from (answered_key h)) to w)
+reply_pair callees clients j h (carried.Reply reply) is to w = known_pair callees clients h.from (answered_key h) j to (by_client j h.to (IsKnown callees clients h.from (answered_key h)) to w)
+reply_pair callees clients j h x is to w = absurd is
+
+pub pairs_known : (s : Script) (h : List Entry) (end : Cell) → RunsTo h s end → ArePairsKnown end.sent end.clients
+pairs_known s h end r =
+    let S : StandsIn end (lines_of (past_of [] h)) = run_stands r.inputs (start s) [] h end (first_stands s) r.leads in
+    record {
+      calls = λ j place m at is from. call_pair S.callees end.clients j m.head m.carried is from (each_at _ end.sent place m at S.calls);
+      replies = λ j place m at is to. reply_pair S.callees end.clients j m.head m.carried is to (each_at _ end.sent place m at S.answers);
+    }

@@ -1,8 +1,8 @@
 use Rattle.afs_law.proofs.OneCell as one
-use Rattle.afs_law.proofs.Agreeing.{held, pairs_known, trusted_good}
+use Rattle.afs_law.proofs.Agreeing.{held, trusted_good}
 use Rattle.afs_law.proofs.Law.{legal}
 use Rattle.afs_law.specs.Ideal.{set_up}
-use Rattle.afs_law.specs.Laws.{ArePairsKnown, IsHeld}
+use Rattle.afs_law.specs.Laws.{IsHeld}
 use Rattle.afs_law.specs.Legal.{GoodRead, Legal}
 use Rattle.afs_law.specs.Once.{past_of}
 use Rattle.afs_law.specs.OneServer.{AreAtServer, IsOneServer}
@@ -238,9 +238,6 @@ runs_legal s h end is r = legal s h (seen_in end) is (run_same s h end is r)
 
 pub run_held : (s : Script) (h : List Entry) (end : Cell) → IsOneServer s → RunsTo h s end → (id : ℕ) → IsHeld id (end.hosts 1).state.lasting.volumes (past_of (set_up s ∷ []) h)
 run_held s h end is r = held s h (seen_in end) is (run_same s h end is r)
-
-pub run_pairs : (s : Script) (h : List Entry) (end : Cell) → IsOneServer s → RunsTo h s end → ArePairsKnown end.sent end.clients
-run_pairs s h end is r = pairs_known s h (seen_in end) is (run_same s h end is r)
 
 pub run_trusted : (s : Script) (h : List Entry) (end : Cell) → IsOneServer s → RunsTo h s end → (j : ℕ) → (end.clients j).running ≡ None → (f : Fid) (e : CacheEntry) → find_cached f (end.clients j).cache ≡ Some e → end.clock < e.expiry
     → ((body : Body) → e.body ≡ Some body → GoodRead (Client j) f e.index Cached (body_shown.Contents body) (past_of (set_up s ∷ []) h) []) × GoodRead (Client j) f e.index Cached (body_shown.Status e.status) (past_of (set_up s ∷ []) h) []

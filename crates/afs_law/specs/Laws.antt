@@ -70,7 +70,7 @@ pub record ArePairsKnown (sent : List Message) (clients : ℕ → ClientState) :
   pub replies : (j place : ℕ) (m : Message) → message_at sent place ≡ Some m → HasCode m.carried → m.head.to ≡ Client j → IsKnownTo (clients j) m.head
 
 abbrev pub PairsAreKnown : Type 0
-PairsAreKnown = (s : Script) (history : List Entry) (end : Cell) → IsOneServer s → RunsTo history s end → ArePairsKnown end.sent end.clients
+PairsAreKnown = (s : Script) (history : List Entry) (end : Cell) → RunsTo history s end → ArePairsKnown end.sent end.clients
 
 -- what an idle client trusts can be shown: a read of it from the cache would be good
 abbrev pub TrustedIsGood : Type 0
