@@ -1,0 +1,2 @@
+pub mod ActText
+pub mod RunText

@@ -7,9 +7,11 @@ macro_rules! row {
     ($first:expr, $($rest:expr),+) => { ($first, row!($($rest),+)) };
 }
 
+mod acts;
 mod bodies;
 mod bytes;
 mod final_part;
 mod lines;
 pub mod pieces;
 pub mod printing;
+mod run_lines;

@@ -13,21 +13,21 @@ use afs_outside::outside::{Failed, Sink};
 // ---- acts, versions, reads and answers
 
 #[tactic(auto, unfolding(afs_model::specs::LineText::begin_text))]
-fn put_begin<K: Sink>(sink: &mut K, node: Node, act: &Act) -> Result<(), Failed>
+pub fn put_begin<K: Sink>(sink: &mut K, node: Node, act: &Act) -> Result<(), Failed>
     ensures { Puts (begin_text node act.now) (K.held sink.old) (K.held sink.new) (K.faults sink.old) (K.faults sink.new) result }
 {
     row!("begin ", node, " ", act, "\n").print(sink)
 }
 
 #[tactic(auto, unfolding(afs_model::specs::LineText::change_text))]
-fn put_change<K: Sink>(sink: &mut K, server: Node, key: Key, count: u32) -> Result<(), Failed>
+pub fn put_change<K: Sink>(sink: &mut K, server: Node, key: Key, count: u32) -> Result<(), Failed>
     ensures { Puts (change_text server key count) (K.held sink.old) (K.held sink.new) (K.faults sink.old) (K.faults sink.new) result }
 {
     row!("change ", server, " ", key, " ", count, "\n").print(sink)
 }
 
 #[tactic(auto, unfolding(afs_model::specs::LineText::version_text))]
-fn put_version<K: Sink>(sink: &mut K, version: &Version) -> Result<(), Failed>
+pub fn put_version<K: Sink>(sink: &mut K, version: &Version) -> Result<(), Failed>
     ensures { Puts (version_text version.now) (K.held sink.old) (K.held sink.new) (K.faults sink.old) (K.faults sink.new) result }
 {
     row!(
@@ -45,7 +45,7 @@ fn put_version<K: Sink>(sink: &mut K, version: &Version) -> Result<(), Failed>
 }
 
 #[tactic(auto, unfolding(afs_model::specs::LineText::read_text))]
-fn put_read<K: Sink>(
+pub fn put_read<K: Sink>(
     sink: &mut K,
     client: Node,
     fid: Fid,
@@ -62,14 +62,14 @@ fn put_read<K: Sink>(
 }
 
 #[tactic(auto, unfolding(afs_model::specs::LineText::answer_text))]
-fn put_answer<K: Sink>(sink: &mut K, node: Node, code: Code) -> Result<(), Failed>
+pub fn put_answer<K: Sink>(sink: &mut K, node: Node, code: Code) -> Result<(), Failed>
     ensures { Puts (answer_text node code) (K.held sink.old) (K.held sink.new) (K.faults sink.old) (K.faults sink.new) result }
 {
     row!("answer ", node, " ", code, "\n").print(sink)
 }
 
 #[tactic(auto, unfolding(afs_model::specs::LineText::given_text))]
-fn put_given<K: Sink>(sink: &mut K, place: u64) -> Result<(), Failed>
+pub fn put_given<K: Sink>(sink: &mut K, place: u64) -> Result<(), Failed>
     ensures { Puts (given_text place) (K.held sink.old) (K.held sink.new) (K.faults sink.old) (K.faults sink.new) result }
 {
     row!("given ", place, "\n").print(sink)
@@ -78,7 +78,7 @@ fn put_given<K: Sink>(sink: &mut K, place: u64) -> Result<(), Failed>
 // ---- promises and breaks
 
 #[tactic(auto, unfolding(afs_model::specs::LineText::grant_text))]
-fn put_grant<K: Sink>(
+pub fn put_grant<K: Sink>(
     sink: &mut K,
     server: Node,
     client: Node,
@@ -95,7 +95,7 @@ fn put_grant<K: Sink>(
 }
 
 #[tactic(auto, unfolding(afs_model::specs::LineText::owe_text))]
-fn put_owe<K: Sink>(
+pub fn put_owe<K: Sink>(
     sink: &mut K,
     server: Node,
     client: Node,
@@ -119,28 +119,38 @@ fn put_owe<K: Sink>(
 }
 
 #[tactic(auto, unfolding(afs_model::specs::LineText::settle_text))]
-fn put_settle<K: Sink>(sink: &mut K, server: Node, client: Node, number: u32) -> Result<(), Failed>
+pub fn put_settle<K: Sink>(
+    sink: &mut K,
+    server: Node,
+    client: Node,
+    number: u32,
+) -> Result<(), Failed>
     ensures { Puts (settle_text server client number) (K.held sink.old) (K.held sink.new) (K.faults sink.old) (K.faults sink.new) result }
 {
     row!("settle ", server, " ", client, " ", number, "\n").print(sink)
 }
 
 #[tactic(auto, unfolding(afs_model::specs::LineText::quit_text))]
-fn put_quit<K: Sink>(sink: &mut K, server: Node, client: Node, number: u32) -> Result<(), Failed>
+pub fn put_quit<K: Sink>(
+    sink: &mut K,
+    server: Node,
+    client: Node,
+    number: u32,
+) -> Result<(), Failed>
     ensures { Puts (quit_text server client number) (K.held sink.old) (K.held sink.new) (K.faults sink.old) (K.faults sink.new) result }
 {
     row!("quit ", server, " ", client, " ", number, "\n").print(sink)
 }
 
 #[tactic(auto, unfolding(afs_model::specs::LineText::drop_text))]
-fn put_drop<K: Sink>(sink: &mut K, client: Node, fid: Fid) -> Result<(), Failed>
+pub fn put_drop<K: Sink>(sink: &mut K, client: Node, fid: Fid) -> Result<(), Failed>
     ensures { Puts (drop_text client fid) (K.held sink.old) (K.held sink.new) (K.faults sink.old) (K.faults sink.new) result }
 {
     row!("drop ", client, " ", fid, "\n").print(sink)
 }
 
 #[tactic(auto, unfolding(afs_model::specs::LineText::drop_all_text))]
-fn put_drop_all<K: Sink>(sink: &mut K, client: Node, server: Node) -> Result<(), Failed>
+pub fn put_drop_all<K: Sink>(sink: &mut K, client: Node, server: Node) -> Result<(), Failed>
     ensures { Puts (drop_all_text client server) (K.held sink.old) (K.held sink.new) (K.faults sink.old) (K.faults sink.new) result }
 {
     row!("drop ", client, " all ", server, "\n").print(sink)
@@ -149,42 +159,42 @@ fn put_drop_all<K: Sink>(sink: &mut K, client: Node, server: Node) -> Result<(),
 // ---- crashes and disks
 
 #[tactic(auto, unfolding(afs_model::specs::LineText::crash_text))]
-fn put_crash<K: Sink>(sink: &mut K, node: Node) -> Result<(), Failed>
+pub fn put_crash<K: Sink>(sink: &mut K, node: Node) -> Result<(), Failed>
     ensures { Puts (crash_text node) (K.held sink.old) (K.held sink.new) (K.faults sink.old) (K.faults sink.new) result }
 {
     row!("crash ", node, "\n").print(sink)
 }
 
 #[tactic(auto, unfolding(afs_model::specs::LineText::fault_text))]
-fn put_fault<K: Sink>(sink: &mut K, node: Node) -> Result<(), Failed>
+pub fn put_fault<K: Sink>(sink: &mut K, node: Node) -> Result<(), Failed>
     ensures { Puts (fault_text node) (K.held sink.old) (K.held sink.new) (K.faults sink.old) (K.faults sink.new) result }
 {
     row!("fault ", node, "\n").print(sink)
 }
 
 #[tactic(auto, unfolding(afs_model::specs::LineText::full_text))]
-fn put_full<K: Sink>(sink: &mut K, node: Node) -> Result<(), Failed>
+pub fn put_full<K: Sink>(sink: &mut K, node: Node) -> Result<(), Failed>
     ensures { Puts (full_text node) (K.held sink.old) (K.held sink.new) (K.faults sink.old) (K.faults sink.new) result }
 {
     row!("full ", node, "\n").print(sink)
 }
 
 #[tactic(auto, unfolding(afs_model::specs::LineText::restart_text))]
-fn put_restart<K: Sink>(sink: &mut K, node: Node, boot: u32) -> Result<(), Failed>
+pub fn put_restart<K: Sink>(sink: &mut K, node: Node, boot: u32) -> Result<(), Failed>
     ensures { Puts (restart_text node boot) (K.held sink.old) (K.held sink.new) (K.faults sink.old) (K.faults sink.new) result }
 {
     row!("restart ", node, " ", boot, "\n").print(sink)
 }
 
 #[tactic(auto, unfolding(afs_model::specs::LineText::stop_text))]
-fn put_stop<K: Sink>(sink: &mut K, node: Node, calls: u32, pick: u8) -> Result<(), Failed>
+pub fn put_stop<K: Sink>(sink: &mut K, node: Node, calls: u32, pick: u8) -> Result<(), Failed>
     ensures { Puts (stop_text node calls pick) (K.held sink.old) (K.held sink.new) (K.faults sink.old) (K.faults sink.new) result }
 {
     row!("stop ", node, " ", calls, " ", pick, "\n").print(sink)
 }
 
 #[tactic(auto, unfolding(afs_model::specs::LineText::fail_text))]
-fn put_fail<K: Sink>(sink: &mut K, node: Node, calls: u32) -> Result<(), Failed>
+pub fn put_fail<K: Sink>(sink: &mut K, node: Node, calls: u32) -> Result<(), Failed>
     ensures { Puts (fail_text node calls) (K.held sink.old) (K.held sink.new) (K.faults sink.old) (K.faults sink.new) result }
 {
     row!("fail ", node, " ", calls, "\n").print(sink)
@@ -193,7 +203,7 @@ fn put_fail<K: Sink>(sink: &mut K, node: Node, calls: u32) -> Result<(), Failed>
 // ---- timeouts and the clock
 
 #[tactic(auto, unfolding(afs_model::specs::LineText::timeout_text))]
-fn put_timeout<K: Sink>(
+pub fn put_timeout<K: Sink>(
     sink: &mut K,
     caller: Node,
     callee: Node,
@@ -210,7 +220,7 @@ fn put_timeout<K: Sink>(
 }
 
 #[tactic(auto, unfolding(afs_model::specs::LineText::tick_text))]
-fn put_tick<K: Sink>(sink: &mut K, ticks: u32) -> Result<(), Failed>
+pub fn put_tick<K: Sink>(sink: &mut K, ticks: u32) -> Result<(), Failed>
     ensures { Puts (tick_text ticks) (K.held sink.old) (K.held sink.new) (K.faults sink.old) (K.faults sink.new) result }
 {
     row!("tick ", ticks, "\n").print(sink)

@@ -1,0 +1,33 @@
+-- The text of the lines of a run whose clients take every act.
+use Rattle.std.specs.Prelude.{ℕ, List, codes}
+use Rattle.std.specs.List.{flat_map}
+use Rattle.afs_model.specs.LineText.{answer_text, change_text, crash_text, drop_all_text, drop_text, fail_text, fault_text, full_text, given_text, grant_text, owe_text, quit_text, read_text, restart_text, settle_text, stop_text, tick_text, timeout_text, version_text}
+use Rattle.afs_history.specs.declared.lines.Line.{Line}
+use Rattle.afs_history.specs.declared.lines.Line.TheVariants as lines
+use Rattle.afs_text.specs.ActText.{begin_text}
+
+unfoldable pub line_text : Line → List ℕ
+line_text (lines.Begin node act) = begin_text node act
+line_text (lines.Given place) = given_text place
+line_text (lines.Grant server client fid index expiry) = grant_text server client fid index expiry
+line_text (lines.Change server key count) = change_text server key count
+line_text (lines.Version version) = version_text version
+line_text (lines.Read client fid index source body) = read_text client fid index source body
+line_text (lines.Answer node code) = answer_text node code
+line_text (lines.Timeout caller callee epoch number count) = timeout_text caller callee epoch number count
+line_text (lines.Tick ticks) = tick_text ticks
+line_text (lines.Stop node calls pick) = stop_text node calls pick
+line_text (lines.Fail node calls) = fail_text node calls
+line_text (lines.Crash node) = crash_text node
+line_text (lines.Fault node) = fault_text node
+line_text (lines.Restart node boot) = restart_text node boot
+line_text (lines.Full node) = full_text node
+line_text (lines.Drop client fid) = drop_text client fid
+line_text (lines.DropAll client server) = drop_all_text client server
+line_text (lines.Owe server client fid number) = owe_text server client fid number
+line_text (lines.Settle server client number) = settle_text server client number
+line_text (lines.Quit server client number) = quit_text server client number
+line_text lines.Void = codes "void\n"
+
+unfoldable pub lines_text : List Line → List ℕ
+lines_text ls = flat_map line_text ls
