@@ -24,6 +24,7 @@ pub mod Quiet
 pub mod Walking
 pub mod Skipping
 pub mod Dropping
+pub mod Giving
 pub mod Answering
 pub mod Waiting
 pub mod Law

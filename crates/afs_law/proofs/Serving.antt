@@ -1,4 +1,4 @@
-use Rattle.afs_law.proofs.Facts.{AreFetched}
+use Rattle.afs_law.proofs.Facts.{AreFetched, its_call}
 use Rattle.afs_rows.specs.ServerRow.{sight_status, promise_until}
 use Rattle.afs_shape.specs.Rows.{no_callback}
 use Rattle.afs_num.specs.declared.calls.AfsCallBack.{AfsCallBack}
@@ -26,7 +26,7 @@ use Rattle.afs_rows.specs.Callbacks.{Turn, replies_of, pumped, expired, turn_for
 use Rattle.afs_rows.specs.ClientRow.{names_told, body_told}
 use Rattle.afs_rows.specs.Going.{asked, Going}
 use Rattle.afs_law.specs.Ideal.{shown_status, Tells, TellsIn, TellsOf, volume_after, version_in, latest, IsThat, user_of, clock_of, last_version, HasVersion, reach, call_under}
-use Rattle.afs_law.specs.Legal.{code_given, IsResult, AreGood, code_told, Cause, IsTold, answer_at, answer_on}
+use Rattle.afs_law.specs.Legal.{code_given, IsResult, AreGood, code_told, Cause, IsTold, answer_at, answer_on, as_asked}
 use Rattle.afs_history.specs.declared.lines.Line.{Line}
 use Rattle.afs_law.specs.Past.{IsUnheard, lines_of, sent_of, given_message, called_key, HasCode, IsCallUnder, Ran, onto, same_key, answered_key}
 use Rattle.afs_rows.specs.Runs.{Entry, message_at, Armed, Fall}
@@ -403,9 +403,9 @@ pub record HasRun (c : Cell) (n : ℕ) (h : Head) (user : List ℕ) (call : FsCa
   pub ideal : AreIdeal c.server.lasting.volumes ran.older
 
 -- the reply has the code of the ideal operation
-pub cause_now : (c : Cell) (n : ℕ) (h : Head) (user : List ℕ) (call : FsCall) (x : Carried) (code : ℤ) (past : List Entry) → (g : HasRun c n h user call past) → user ≡ user_of (Client n)
+abbrev pub cause_now : (c : Cell) (n : ℕ) (h : Head) (user : List ℕ) (call : FsCall) (x : Carried) (code : ℤ) (past : List Entry) → (g : HasRun c n h user call past) → user ≡ user_of (Client n)
     → HasCode x → code_told x ≡ Some code → IsResult code (answer_at user call g.ran.older) (called_key (client_head n h)) g.ran.at.lines (lines_of past)
-    → Cause (replied c.server.lasting.boot (client_head n h) x) code call past []
+    → Cause (replied c.server.lasting.boot (client_head n h) x) code (as_asked call) past []
 cause_now c n h user call x code past g own has told result = record {
   is_reply = (refl, has);
   told = told;
@@ -419,7 +419,7 @@ cause_now c n h user call x code past g own has told result = record {
 }
 
 -- the call whose call ran is the running one, where the client waits for it
-pub running_act : {s : Script} → (good : Bool) (fl : ℕ → Ghost) (c : Cell) (past : List Entry) (n : ℕ) (h : Head) (user : List ℕ) (call : FsCall) → Now s c fl past n h user call → (b : Going) → (c.clients n).running ≡ Some b → h.epoch ≡ (c.clients n).epoch → h.number ≡ (c.clients n).last → call ≡ asked b
+pub running_act : {s : Script} → (good : Bool) (fl : ℕ → Ghost) (c : Cell) (past : List Entry) (n : ℕ) (h : Head) (user : List ℕ) (call : FsCall) → Now s c fl past n h user call → (b : Going) → (c.clients n).running ≡ Some b → h.epoch ≡ (c.clients n).epoch → h.number ≡ (c.clients n).last → call ≡ its_call (c.clients n).gifts b
 running_act {s} good fl c past n h user call w b x y k = w.fact.own b x y k
 
 -- no reply to the client's last call was made where a call below it runs
@@ -461,7 +461,7 @@ pub record Serves (good : Bool) (s : Script) (c : Cell) (fl : ℕ → Ghost) (pa
   pub other : (j : ℕ) → (n ≡ j → ⊥) → ClientFacts s j (view fl c j) past → ClientFacts s j (view fl c j) (e ∷ past)
   pub other_reply : (j : ℕ) (m : Message) → (n ≡ j → ⊥) → ReplyFact j (view fl c j) past m → ReplyFact j (view fl c j) (e ∷ past) m
   pub own_answers : (b : Going) (m : Message) → ReplyFact n (view fl c n) past m → (c.clients n).running ≡ Some b → m.head.epoch ≡ (c.clients n).epoch → m.head.number ≡ (c.clients n).last
-      → Answers (c.clients n).spoiled n (asked b) (spot (caller_view good fl c n h (replied c.server.lasting.boot (client_head n h) x))) c.server.lasting.boot m (e ∷ past)
+      → Answers (c.clients n).spoiled n (its_call (c.clients n).gifts b) (spot (caller_view good fl c n h (replied c.server.lasting.boot (client_head n h) x))) c.server.lasting.boot m (e ∷ past)
   pub is_reply : IsReply x
   pub answer : Answers (c.clients n).spoiled n call (record { durable = own_durable good (taken n h (replied c.server.lasting.boot (client_head n h) x)) (call_seat (Client n) c.server.lasting.kept); epoch = h.epoch; last = h.number }) c.server.lasting.boot (replied c.server.lasting.boot (client_head n h) x) (e ∷ past)
   pub acts : PassesAct n e past
@@ -620,7 +620,7 @@ serves_still s c past n h user call x e H w pf pr pa l ideal home new clock top 
       new = new;
       other = λ j ne. client_still j (view H.floors c j) e past (pf j) (pr j) (pa j) l;
       other_reply = λ j m ne. reply_over j (view H.floors c j) m e past (λ f. (pf j f).grant) (pr j) (λ f. stays j f e past (pf j f).grant (l f)) (pa j).begins;
-      own_answers = λ b m f y z k. answers_over n (asked b) (spot (view H.floors c n)) c.server.lasting.boot m e past (λ g. (pf n g).grant) (pr n) (λ g. stays n g e past (pf n g).grant (l g)) (pa n).begins (f.answers b y z k);
+      own_answers = λ b m f y z k. answers_over n (its_call (c.clients n).gifts b) (spot (view H.floors c n)) c.server.lasting.boot m e past (λ g. (pf n g).grant) (pr n) (λ g. stays n g e past (pf n g).grant (l g)) (pa n).begins (f.answers b y z k);
       is_reply = is;
       answer = a;
       acts = pa n;
@@ -669,6 +669,7 @@ refuses_goes s c past armed p n h user call code H up at w nz result =
             fits = refusal_fits (c.clients n).spoiled n call (spot_at (call_seat (Client n) c.server.lasting.kept) h.epoch h.number) c.server.lasting.boot r (record { 0 = code }) (e ∷ past) nz (not_stored (call_seat (Client n) c.server.lasting.kept) h.epoch h.number w.above_durable);
             code = code;
             cause = cause_now c n h user call x code (e ∷ past) (has_run s c past p n h user call e H up at w refl refl) w.origin.own_user tt refl result;
+            own = refl;
           }))
           (H.boots ∙ ap (λ (d : Option Fall). up_boot d c.server.lasting.boot) up) (unheard_after s c past p n h user call r e H up at w refl) tt (λ own held. pumped_news (views_after false H.floors c n h r) c.server.lasting.boot (e ∷ past) c.server.lasting.boot t pump.clients (no_news _ _ _) (own, tt) held) (λ z. pump.backed);
       replies = pump.good;
@@ -979,6 +980,7 @@ shows_by s c past armed p n h user call r H up at w is code done =
                 });
             code = pos 0;
             cause = cause_now c n h user call z (pos 0) (e ∷ past) run w.origin.own_user tt refl (inl (code, told_still (called_key (client_head n h)) (answer_at user call past) (lines_of (e ∷ past)) done));
+            own = refl;
           }))
           boots (unheard_after s c past p n h user call m e H up at w refl) tt (λ own held. pumped_news (views_after false H.floors c n h m) c.server.lasting.boot (e ∷ past) c.server.lasting.boot turn pump.clients (no_news _ _ _) (own, tt) held) (λ z. pump.backed);
       replies = pump.good;
