@@ -35,4 +35,5 @@ pub mod Agreeing
 pub mod Calling
 pub mod Hosting
 pub mod KeysOnce
+pub mod Standing
 pub mod Worked
