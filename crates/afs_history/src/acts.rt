@@ -17,6 +17,13 @@ pub enum Operand {
     Fid(Fid),
 }
 
+/// Bytes as a script writes them: digit by digit, or as one byte so many times. An act is told as it was written.
+#[derive(Drop)]
+pub enum Written {
+    Hex(Octets),
+    Fill { count: u32, byte: u8 },
+}
+
 /// An act of a client.
 #[derive(Drop)]
 pub enum Act {
@@ -31,7 +38,7 @@ pub enum Act {
     /// The status of each of a directory's first names is shown.
     StatAll { operand: Operand },
     /// A file that was written is stored whole, with these bytes.
-    Close { operand: Operand, contents: Octets },
+    Close { operand: Operand, contents: Written },
     /// A new file.
     Make { path: Path },
     /// A new directory.
@@ -45,11 +52,11 @@ pub enum Act {
     /// A file gets a further name.
     Link { target: Path, path: Path },
     /// A new symbolic link, with this text.
-    Symlink { path: Path, target: Octets },
+    Symlink { path: Path, target: Written },
     /// The mode of Unix is set.
     SetMode { operand: Operand, mode: u32 },
     /// A directory's access list is set to this text.
-    SetAccessList { operand: Operand, text: Octets },
+    SetAccessList { operand: Operand, text: Written },
     /// A directory's access list is shown.
     GetAccessList { operand: Operand },
     /// All that the client trusts is given up, and its servers are told so.

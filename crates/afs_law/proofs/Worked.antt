@@ -6,6 +6,7 @@ use Rattle.afs_rows.specs.ServerSteps.{server_row, back_timeout_row, wake_row, s
 use Rattle.afs_num.specs.declared.histories.ReadBody.TheVariants as seen
 use Rattle.afs_history.specs.declared.acts.Act.TheVariants as acts
 use Rattle.afs_history.specs.declared.acts.Operand.TheVariants as operands
+use Rattle.afs_history.specs.declared.acts.Written.TheVariants.{Hex}
 use Rattle.afs_num.specs.declared.histories.Actor.TheVariants as actors
 use Rattle.afs_ideal.specs.Volumes.{Volume}
 use Rattle.afs_ideal.specs.Tables.{Table}
@@ -68,14 +69,14 @@ abbrev begun : ℕ → Line
 begun n = lines.Begin (Client n) (acts.Open (operands.Fid file))
 
 abbrev stores : ℕ → Line
-stores n = lines.Begin (Client n) (acts.Close (operands.Fid file) (codes "def"))
+stores n = lines.Begin (Client n) (acts.Close (operands.Fid file) (Hex (codes "def")))
 
 abbrev change : ℕ → List Line
 change n = lines.Change (Server 1) (record { node = Client n; epoch = 1; number = 1 }) 1 ∷ lines.Version (record { fid = file; index = 2; data_version = 2; body = bodies.File (codes "def") }) ∷ []
 
 -- a break before the fetch reply
 abbrev six : List Input
-six = begins 1 (acts.Open (operands.Fid file)) ∷ gives 1 steady ∷ begins 2 (acts.Close (operands.Fid file) (codes "def")) ∷ gives 3 steady ∷ gives 4 steady ∷ gives 5 steady ∷ gives 2 steady ∷ gives 6 steady ∷ gives 7 steady ∷ gives 8 steady ∷ []
+six = begins 1 (acts.Open (operands.Fid file)) ∷ gives 1 steady ∷ begins 2 (acts.Close (operands.Fid file) (Hex (codes "def"))) ∷ gives 3 steady ∷ gives 4 steady ∷ gives 5 steady ∷ gives 2 steady ∷ gives 6 steady ∷ gives 7 steady ∷ gives 8 steady ∷ []
 
 row_six : told (start (script 2)) six ≡
     begun 1 ∷ lines.Given 1 ∷ lines.Grant (Server 1) (Client 1) file 1 7200 ∷ stores 2 ∷ lines.Given 3 ∷ (change 2 ++ lines.Owe (Server 1) (Client 1) (Some file) 1 ∷ lines.Given 4 ∷ lines.Drop (Client 1) file ∷ lines.Given 5 ∷ lines.Settle (Server 1) (Client 1) 1
@@ -85,7 +86,7 @@ row_six = refl
 
 -- a holder that never answers
 abbrev seven : List Input
-seven = begins 1 (acts.Open (operands.Fid file)) ∷ gives 1 steady ∷ gives 2 steady ∷ begins 2 (acts.Close (operands.Fid file) (codes "def")) ∷ gives 3 steady ∷ server_waits (Client 1) ∷ server_waits (Client 1) ∷ server_waits (Client 1) ∷ gives 7 steady ∷ ticks 7199 ∷ begins 1 (acts.Open (operands.Fid file)) ∷ ticks 1 ∷ begins 1 (acts.Open (operands.Fid file)) ∷ gives 8 steady ∷ gives 9 steady ∷ []
+seven = begins 1 (acts.Open (operands.Fid file)) ∷ gives 1 steady ∷ gives 2 steady ∷ begins 2 (acts.Close (operands.Fid file) (Hex (codes "def"))) ∷ gives 3 steady ∷ server_waits (Client 1) ∷ server_waits (Client 1) ∷ server_waits (Client 1) ∷ gives 7 steady ∷ ticks 7199 ∷ begins 1 (acts.Open (operands.Fid file)) ∷ ticks 1 ∷ begins 1 (acts.Open (operands.Fid file)) ∷ gives 8 steady ∷ gives 9 steady ∷ []
 
 row_seven : told (start (script 2)) seven ≡
     begun 1 ∷ lines.Given 1 ∷ lines.Grant (Server 1) (Client 1) file 1 7200 ∷ lines.Given 2 ∷ lines.Read (Client 1) file 1 Fetched (seen.Contents (bodies.File (codes "abc"))) ∷ answer 1 ∷ stores 2 ∷ lines.Given 3 ∷ (change 2 ++ lines.Owe (Server 1) (Client 1) (Some file) 1
@@ -96,7 +97,7 @@ row_seven = refl
 
 -- a stop after the gate was written: the kept reply waits for the break on all
 abbrev eight : List Input
-eight = begins 1 (acts.Close (operands.Fid file) (codes "def")) ∷ sets_stop 3 1 ∷ gives 1 steady ∷ starts_again true comes_up ∷ waits 1 ∷ gives 3 steady ∷ gives 4 steady ∷ gives 5 steady ∷ gives 2 steady ∷ gives 6 steady ∷ gives 7 steady ∷ []
+eight = begins 1 (acts.Close (operands.Fid file) (Hex (codes "def"))) ∷ sets_stop 3 1 ∷ gives 1 steady ∷ starts_again true comes_up ∷ waits 1 ∷ gives 3 steady ∷ gives 4 steady ∷ gives 5 steady ∷ gives 2 steady ∷ gives 6 steady ∷ gives 7 steady ∷ []
 
 row_eight : told (start (script 1)) eight ≡
     stores 1 ∷ lines.Stop (Server 1) 3 1 ∷ lines.Given 1 ∷ lines.Crash (Server 1) ∷ (change 1 ++ lines.Restart (Server 1) 2 ∷ lines.Owe (Server 1) (Client 1) None 1 ∷ lines.Timeout (Client 1) (Server 1) 1 1 1 ∷ lines.Given 3 ∷ lines.Given 4 ∷ lines.Given 5
@@ -140,7 +141,7 @@ abbrev without : Entry → Entry
 without e = record e { lines = filter (λ l. not (is_owe l)) e.lines }
 
 abbrev six_front : List Input
-six_front = begins 1 (acts.Open (operands.Fid file)) ∷ gives 1 steady ∷ begins 2 (acts.Close (operands.Fid file) (codes "def")) ∷ gives 3 steady ∷ []
+six_front = begins 1 (acts.Open (operands.Fid file)) ∷ gives 1 steady ∷ begins 2 (acts.Close (operands.Fid file) (Hex (codes "def"))) ∷ gives 3 steady ∷ []
 
 -- with them it is: so far they are told
 owed_is_legal : (c : Cell) → Leads (start (script 2)) six_front (entries (start (script 2)) six_front) c → Legal (entries (start (script 2)) six_front) (script 2)
@@ -151,7 +152,7 @@ unfolding moved begin_row client_row server_row back_timeout_row wake_row start_
 not_owed h = h.1.1.1.0.0.0.1.0.1.owed 1 file 7200 (λ e. absurd cc) (inl refl) refl (omega arith)
 
 abbrev eight_front : List Input
-eight_front = begins 1 (acts.Close (operands.Fid file) (codes "def")) ∷ sets_stop 3 1 ∷ gives 1 steady ∷ starts_again true comes_up ∷ []
+eight_front = begins 1 (acts.Close (operands.Fid file) (Hex (codes "def"))) ∷ sets_stop 3 1 ∷ gives 1 steady ∷ starts_again true comes_up ∷ []
 
 not_all_owed : Legal (map without (entries (start (script 1)) eight_front)) (script 1) → ⊥
 unfolding moved begin_row client_row server_row back_timeout_row wake_row start_row record_bytes head_form volume_form spelled opaque pad word laid_at led name_ok directory_bytes name_bytes rights_of image acl_text digits entry_text
@@ -160,7 +161,7 @@ not_all_owed h = h.1.1.1.0.0.0.1.1.0.1 1 (omega arith) (omega arith)
 -- ---- a walk, the last read of which a break overtakes: it is fetched again, and the act ends in one answer
 
 abbrev walked : List Input
-walked = begins 1 (acts.Open (operands.Path (record { volume = codes "proj"; names = codes "a" ∷ [] }))) ∷ gives 1 steady ∷ gives 2 steady ∷ gives 3 steady ∷ begins 2 (acts.Close (operands.Fid file) (codes "def")) ∷ gives 5 steady ∷ gives 6 steady ∷ gives 4 steady ∷ gives 7 steady ∷ gives 8 steady ∷ gives 10 steady ∷ []
+walked = begins 1 (acts.Open (operands.Path (record { volume = codes "proj"; names = codes "a" ∷ [] }))) ∷ gives 1 steady ∷ gives 2 steady ∷ gives 3 steady ∷ begins 2 (acts.Close (operands.Fid file) (Hex (codes "def"))) ∷ gives 5 steady ∷ gives 6 steady ∷ gives 4 steady ∷ gives 7 steady ∷ gives 8 steady ∷ gives 10 steady ∷ []
 
 abbrev is_walked : Line → Bool
 is_walked (lines.Given p) = false
@@ -192,7 +193,7 @@ last_entry c (x ∷ y ∷ xs) = last_entry (moved c x).cell (y ∷ xs)
 
 -- the disk stops before the change is on it: the restart has none, and the call runs then, once
 abbrev nine_before : List Input
-nine_before = begins 1 (acts.Close (operands.Fid file) (codes "def")) ∷ sets_stop 3 0 ∷ gives 1 steady ∷ starts_again false comes_up ∷ waits 1 ∷ gives 3 steady ∷ gives 4 steady ∷ gives 5 steady ∷ gives 2 steady ∷ gives 6 steady ∷ gives 7 steady ∷ []
+nine_before = begins 1 (acts.Close (operands.Fid file) (Hex (codes "def"))) ∷ sets_stop 3 0 ∷ gives 1 steady ∷ starts_again false comes_up ∷ waits 1 ∷ gives 3 steady ∷ gives 4 steady ∷ gives 5 steady ∷ gives 2 steady ∷ gives 6 steady ∷ gives 7 steady ∷ []
 
 row_nine_before : told (start (script 1)) nine_before ≡
     stores 1 ∷ lines.Stop (Server 1) 3 0 ∷ lines.Given 1 ∷ lines.Crash (Server 1) ∷ lines.Restart (Server 1) 2 ∷ lines.Owe (Server 1) (Client 1) None 1 ∷ lines.Timeout (Client 1) (Server 1) 1 1 1 ∷ lines.Given 3 ∷ lines.Given 4 ∷ lines.Given 5 ∷ (change 1 ++ lines.Given 2 ∷ lines.DropAll (Client 1) (Server 1)
@@ -202,7 +203,7 @@ row_nine_before = refl
 
 -- a store whose reply is lost is given up; an open behind it reads what it left
 abbrev ten : List Input
-ten = begins 1 (acts.Close (operands.Fid file) (codes "def")) ∷ gives 1 steady ∷ waits 1 ∷ waits 1 ∷ waits 1 ∷ begins 1 (acts.Open (operands.Fid file)) ∷ gives 5 steady ∷ gives 6 steady ∷ []
+ten = begins 1 (acts.Close (operands.Fid file) (Hex (codes "def"))) ∷ gives 1 steady ∷ waits 1 ∷ waits 1 ∷ waits 1 ∷ begins 1 (acts.Open (operands.Fid file)) ∷ gives 5 steady ∷ gives 6 steady ∷ []
 
 row_ten : told (start (script 1)) ten ≡
     stores 1 ∷ lines.Given 1 ∷ (change 1 ++ lines.Timeout (Client 1) (Server 1) 1 1 1 ∷ lines.Timeout (Client 1) (Server 1) 1 1 2 ∷ lines.Timeout (Client 1) (Server 1) 1 1 3 ∷ lines.Answer (Client 1) (record { 0 = negsuc 0 })
@@ -212,7 +213,7 @@ row_ten = refl
 
 -- a store of the mode over an older body: the entry isn't just below the new index, so it is given up
 abbrev twenty_two : List Input
-twenty_two = begins 1 (acts.Open (operands.Fid file)) ∷ gives 1 steady ∷ gives 2 steady ∷ begins 2 (acts.Close (operands.Fid file) (codes "def")) ∷ gives 3 steady ∷ server_waits (Client 1) ∷ server_waits (Client 1) ∷ server_waits (Client 1) ∷ gives 7 steady
+twenty_two = begins 1 (acts.Open (operands.Fid file)) ∷ gives 1 steady ∷ gives 2 steady ∷ begins 2 (acts.Close (operands.Fid file) (Hex (codes "def"))) ∷ gives 3 steady ∷ server_waits (Client 1) ∷ server_waits (Client 1) ∷ server_waits (Client 1) ∷ gives 7 steady
     ∷ begins 1 (acts.SetMode (operands.Fid file) 384) ∷ gives 8 steady ∷ gives 9 steady ∷ begins 1 (acts.Open (operands.Fid file)) ∷ gives 10 steady ∷ gives 11 steady ∷ []
 
 row_twenty_two : filter is_kept (told (start (script 2)) twenty_two) ≡
@@ -416,7 +417,7 @@ rights_go_back h = let e : 2 ≤ 1 = h.1.1.1.1.0.0.0.1.1.0.1.not_older in absurd
 
 -- the status of an older version, behind that of the next; the promise was withdrawn meanwhile
 abbrev stat_again : List Input
-stat_again = begins 1 (acts.Stat (operands.Fid file)) ∷ begins 2 (acts.Close (operands.Fid file) (codes "def")) ∷ gives 2 steady ∷ gives 1 steady ∷ gives 3 steady ∷ begins 2 (acts.Close (operands.Fid file) (codes "xyz")) ∷ gives 5 steady ∷ gives 4 steady ∷ []
+stat_again = begins 1 (acts.Stat (operands.Fid file)) ∷ begins 2 (acts.Close (operands.Fid file) (Hex (codes "def"))) ∷ gives 2 steady ∷ gives 1 steady ∷ gives 3 steady ∷ begins 2 (acts.Close (operands.Fid file) (Hex (codes "xyz"))) ∷ gives 5 steady ∷ gives 4 steady ∷ []
 
 status_goes_back : Legal (alters 7 (too (lines.Read (Client 1) file 1 Cached (seen.Status (record { kind = 1; link_count = 1; length = 3; mode = 420 })))) (entries (start (script 2)) stat_again)) (script 2) → ⊥
 unfolding moved begin_row client_row server_row back_timeout_row wake_row start_row record_bytes head_form volume_form spelled opaque pad word laid_at led name_ok directory_bytes name_bytes rights_of image acl_text digits entry_text

@@ -5,6 +5,7 @@ use Rattle.afs_num.specs.declared.histories.ReadBody.{ReadBody}
 use Rattle.afs_num.specs.declared.histories.ReadBody.TheVariants as seen
 use Rattle.afs_history.specs.declared.acts.Act.TheVariants as acts
 use Rattle.afs_history.specs.declared.acts.Operand.TheVariants as operands
+use Rattle.afs_history.specs.declared.acts.Written.TheVariants.{Hex}
 use Rattle.std.specs.Option.{option_map}
 use Rattle.std.proofs.Common.{Option, negsuc, ◌≡◌, ℕ, List, [], ◌∷◌, ◌++◌, Some, None, pos, refl}
 use Rattle.std.specs.Prelude.{codes, true, false, Bool, filter}
@@ -58,14 +59,14 @@ abbrev pub begun : ℕ → Line
 begun n = lines.Begin (Client n) (acts.Open (operands.Fid file))
 
 abbrev pub stores : ℕ → Line
-stores n = lines.Begin (Client n) (acts.Close (operands.Fid file) (codes "def"))
+stores n = lines.Begin (Client n) (acts.Close (operands.Fid file) (Hex (codes "def")))
 
 abbrev pub change : ℕ → List Line
 change n = lines.Change (Server 1) (record { node = Client n; epoch = 1; number = 1 }) 1 ∷ lines.Version (record { fid = file; index = 2; data_version = 2; body = bodies.File (codes "def") }) ∷ []
 
 -- a break before the fetch reply
 abbrev pub six : List Input
-six = begins 1 (acts.Open (operands.Fid file)) ∷ gives 1 steady ∷ begins 2 (acts.Close (operands.Fid file) (codes "def")) ∷ gives 3 steady ∷ gives 4 steady ∷ gives 5 steady ∷ gives 2 steady ∷ gives 6 steady ∷ gives 7 steady ∷ gives 8 steady ∷ []
+six = begins 1 (acts.Open (operands.Fid file)) ∷ gives 1 steady ∷ begins 2 (acts.Close (operands.Fid file) (Hex (codes "def"))) ∷ gives 3 steady ∷ gives 4 steady ∷ gives 5 steady ∷ gives 2 steady ∷ gives 6 steady ∷ gives 7 steady ∷ gives 8 steady ∷ []
 
 row_six : told (start (script 2)) six ≡
     begun 1 ∷ lines.Given 1 ∷ lines.Grant (Server 1) (Client 1) file 1 7200 ∷ stores 2 ∷ lines.Given 3 ∷ (change 2 ++ lines.Owe (Server 1) (Client 1) (Some file) 1 ∷ lines.Given 4 ∷ lines.Drop (Client 1) file ∷ lines.Given 5 ∷ lines.Settle (Server 1) (Client 1) 1
@@ -75,7 +76,7 @@ row_six = refl
 
 -- a holder that never answers
 abbrev pub seven : List Input
-seven = begins 1 (acts.Open (operands.Fid file)) ∷ gives 1 steady ∷ gives 2 steady ∷ begins 2 (acts.Close (operands.Fid file) (codes "def")) ∷ gives 3 steady ∷ server_waits 1 (Client 1) ∷ server_waits 1 (Client 1) ∷ server_waits 1 (Client 1) ∷ gives 7 steady ∷ ticks 7199 ∷ begins 1 (acts.Open (operands.Fid file)) ∷ ticks 1 ∷ begins 1 (acts.Open (operands.Fid file)) ∷ gives 8 steady ∷ gives 9 steady ∷ []
+seven = begins 1 (acts.Open (operands.Fid file)) ∷ gives 1 steady ∷ gives 2 steady ∷ begins 2 (acts.Close (operands.Fid file) (Hex (codes "def"))) ∷ gives 3 steady ∷ server_waits 1 (Client 1) ∷ server_waits 1 (Client 1) ∷ server_waits 1 (Client 1) ∷ gives 7 steady ∷ ticks 7199 ∷ begins 1 (acts.Open (operands.Fid file)) ∷ ticks 1 ∷ begins 1 (acts.Open (operands.Fid file)) ∷ gives 8 steady ∷ gives 9 steady ∷ []
 
 row_seven : told (start (script 2)) seven ≡
     begun 1 ∷ lines.Given 1 ∷ lines.Grant (Server 1) (Client 1) file 1 7200 ∷ lines.Given 2 ∷ lines.Read (Client 1) file 1 Fetched (seen.Contents (bodies.File (codes "abc"))) ∷ answer 1 ∷ stores 2 ∷ lines.Given 3 ∷ (change 2 ++ lines.Owe (Server 1) (Client 1) (Some file) 1
@@ -86,7 +87,7 @@ row_seven = refl
 
 -- a stop after the gate was written: the kept reply waits for the break on all
 abbrev pub eight : List Input
-eight = begins 1 (acts.Close (operands.Fid file) (codes "def")) ∷ sets_stop 1 3 1 ∷ gives 1 steady ∷ starts_again 1 true comes_up ∷ waits 1 ∷ gives 3 steady ∷ gives 4 steady ∷ gives 5 steady ∷ gives 2 steady ∷ gives 6 steady ∷ gives 7 steady ∷ []
+eight = begins 1 (acts.Close (operands.Fid file) (Hex (codes "def"))) ∷ sets_stop 1 3 1 ∷ gives 1 steady ∷ starts_again 1 true comes_up ∷ waits 1 ∷ gives 3 steady ∷ gives 4 steady ∷ gives 5 steady ∷ gives 2 steady ∷ gives 6 steady ∷ gives 7 steady ∷ []
 
 row_eight : told (start (script 1)) eight ≡
     stores 1 ∷ lines.Stop (Server 1) 3 1 ∷ lines.Given 1 ∷ lines.Crash (Server 1) ∷ (change 1 ++ lines.Restart (Server 1) 2 ∷ lines.Owe (Server 1) (Client 1) None 1 ∷ lines.Timeout (Client 1) (Server 1) 1 1 1 ∷ lines.Given 3 ∷ lines.Given 4 ∷ lines.Given 5
@@ -119,7 +120,7 @@ row_nine = refl
 -- ---- a walk, the last read of which a break overtakes: it is fetched again, and the act ends in one answer
 
 abbrev pub walked : List Input
-walked = begins 1 (acts.Open (operands.Path (record { volume = codes "proj"; names = codes "a" ∷ [] }))) ∷ gives 1 steady ∷ gives 2 steady ∷ gives 3 steady ∷ begins 2 (acts.Close (operands.Fid file) (codes "def")) ∷ gives 5 steady ∷ gives 6 steady ∷ gives 4 steady ∷ gives 7 steady ∷ gives 8 steady ∷ gives 10 steady ∷ []
+walked = begins 1 (acts.Open (operands.Path (record { volume = codes "proj"; names = codes "a" ∷ [] }))) ∷ gives 1 steady ∷ gives 2 steady ∷ gives 3 steady ∷ begins 2 (acts.Close (operands.Fid file) (Hex (codes "def"))) ∷ gives 5 steady ∷ gives 6 steady ∷ gives 4 steady ∷ gives 7 steady ∷ gives 8 steady ∷ gives 10 steady ∷ []
 
 abbrev pub is_walked : Line → Bool
 is_walked (lines.Given p) = false
@@ -151,7 +152,7 @@ last_entry c (x ∷ y ∷ xs) = last_entry (moved c x).cell (y ∷ xs)
 
 -- the disk stops before the change is on it: the restart has none, and the call runs then, once
 abbrev pub nine_before : List Input
-nine_before = begins 1 (acts.Close (operands.Fid file) (codes "def")) ∷ sets_stop 1 3 0 ∷ gives 1 steady ∷ starts_again 1 false comes_up ∷ waits 1 ∷ gives 3 steady ∷ gives 4 steady ∷ gives 5 steady ∷ gives 2 steady ∷ gives 6 steady ∷ gives 7 steady ∷ []
+nine_before = begins 1 (acts.Close (operands.Fid file) (Hex (codes "def"))) ∷ sets_stop 1 3 0 ∷ gives 1 steady ∷ starts_again 1 false comes_up ∷ waits 1 ∷ gives 3 steady ∷ gives 4 steady ∷ gives 5 steady ∷ gives 2 steady ∷ gives 6 steady ∷ gives 7 steady ∷ []
 
 row_nine_before : told (start (script 1)) nine_before ≡
     stores 1 ∷ lines.Stop (Server 1) 3 0 ∷ lines.Given 1 ∷ lines.Crash (Server 1) ∷ lines.Restart (Server 1) 2 ∷ lines.Owe (Server 1) (Client 1) None 1 ∷ lines.Timeout (Client 1) (Server 1) 1 1 1 ∷ lines.Given 3 ∷ lines.Given 4 ∷ lines.Given 5 ∷ (change 1 ++ lines.Given 2 ∷ lines.DropAll (Client 1) (Server 1)
@@ -161,7 +162,7 @@ row_nine_before = refl
 
 -- a store whose reply is lost is given up; an open behind it reads what it left
 abbrev pub ten : List Input
-ten = begins 1 (acts.Close (operands.Fid file) (codes "def")) ∷ gives 1 steady ∷ waits 1 ∷ waits 1 ∷ waits 1 ∷ begins 1 (acts.Open (operands.Fid file)) ∷ gives 5 steady ∷ gives 6 steady ∷ []
+ten = begins 1 (acts.Close (operands.Fid file) (Hex (codes "def"))) ∷ gives 1 steady ∷ waits 1 ∷ waits 1 ∷ waits 1 ∷ begins 1 (acts.Open (operands.Fid file)) ∷ gives 5 steady ∷ gives 6 steady ∷ []
 
 row_ten : told (start (script 1)) ten ≡
     stores 1 ∷ lines.Given 1 ∷ (change 1 ++ lines.Timeout (Client 1) (Server 1) 1 1 1 ∷ lines.Timeout (Client 1) (Server 1) 1 1 2 ∷ lines.Timeout (Client 1) (Server 1) 1 1 3 ∷ lines.Answer (Client 1) (record { 0 = negsuc 0 })
@@ -171,7 +172,7 @@ row_ten = refl
 
 -- a store of the mode over an older body: the entry isn't just below the new index, so it is given up
 abbrev pub twenty_two : List Input
-twenty_two = begins 1 (acts.Open (operands.Fid file)) ∷ gives 1 steady ∷ gives 2 steady ∷ begins 2 (acts.Close (operands.Fid file) (codes "def")) ∷ gives 3 steady ∷ server_waits 1 (Client 1) ∷ server_waits 1 (Client 1) ∷ server_waits 1 (Client 1) ∷ gives 7 steady
+twenty_two = begins 1 (acts.Open (operands.Fid file)) ∷ gives 1 steady ∷ gives 2 steady ∷ begins 2 (acts.Close (operands.Fid file) (Hex (codes "def"))) ∷ gives 3 steady ∷ server_waits 1 (Client 1) ∷ server_waits 1 (Client 1) ∷ server_waits 1 (Client 1) ∷ gives 7 steady
     ∷ begins 1 (acts.SetMode (operands.Fid file) 384) ∷ gives 8 steady ∷ gives 9 steady ∷ begins 1 (acts.Open (operands.Fid file)) ∷ gives 10 steady ∷ gives 11 steady ∷ []
 
 row_twenty_two : filter is_kept (told (start (script 2)) twenty_two) ≡
@@ -213,17 +214,17 @@ row_one = refl
 
 -- a file is emptied, and then fetched
 abbrev pub two : List Input
-two = begins 1 (acts.Close (operands.Fid file) []) ∷ gives 1 steady ∷ gives 2 steady ∷ begins 1 (acts.Open (operands.Fid file)) ∷ gives 3 steady ∷ gives 4 steady ∷ []
+two = begins 1 (acts.Close (operands.Fid file) (Hex [])) ∷ gives 1 steady ∷ gives 2 steady ∷ begins 1 (acts.Open (operands.Fid file)) ∷ gives 3 steady ∷ gives 4 steady ∷ []
 
 row_two : told (start (script 1)) two ≡
-    lines.Begin (Client 1) (acts.Close (operands.Fid file) []) ∷ lines.Given 1 ∷ lines.Change (Server 1) (record { node = Client 1; epoch = 1; number = 1 }) 1 ∷ lines.Version (record { fid = file; index = 2; data_version = 2; body = bodies.File [] }) ∷ lines.Given 2 ∷ answer 1
+    lines.Begin (Client 1) (acts.Close (operands.Fid file) (Hex [])) ∷ lines.Given 1 ∷ lines.Change (Server 1) (record { node = Client 1; epoch = 1; number = 1 }) 1 ∷ lines.Version (record { fid = file; index = 2; data_version = 2; body = bodies.File [] }) ∷ lines.Given 2 ∷ answer 1
     ∷ begun 1 ∷ lines.Given 3 ∷ lines.Grant (Server 1) (Client 1) file 2 7200 ∷ lines.Given 4 ∷ lines.Read (Client 1) file 2 Fetched (seen.Contents (bodies.File [])) ∷ answer 1 ∷ []
 unfolding moved begin_row client_row server_row back_timeout_row wake_row start_row record_bytes head_form volume_form spelled opaque pad word laid_at led name_ok directory_bytes name_bytes rights_of image acl_text digits entry_text
 row_two = refl
 
 -- a call that comes twice runs once, and its second reply ends nothing
 abbrev pub five : List Input
-five = begins 1 (acts.Close (operands.Fid file) (codes "def")) ∷ gives 1 steady ∷ gives 1 steady ∷ gives 2 steady ∷ gives 3 steady ∷ []
+five = begins 1 (acts.Close (operands.Fid file) (Hex (codes "def"))) ∷ gives 1 steady ∷ gives 1 steady ∷ gives 2 steady ∷ gives 3 steady ∷ []
 
 row_five : told (start (script 1)) five ≡ stores 1 ∷ lines.Given 1 ∷ (change 1 ++ lines.Given 1 ∷ lines.Given 2 ∷ answer 1 ∷ lines.Given 3 ∷ [])
 unfolding moved begin_row client_row server_row back_timeout_row wake_row start_row record_bytes head_form volume_form spelled opaque pad word laid_at led name_ok directory_bytes name_bytes rights_of image acl_text digits entry_text

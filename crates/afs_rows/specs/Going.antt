@@ -5,6 +5,7 @@ use Rattle.afs_history.specs.declared.acts.Act.{Act}
 use Rattle.afs_history.specs.declared.acts.Operand.{Operand}
 use Rattle.afs_history.specs.declared.acts.Path.{Path}
 use Rattle.afs_history.specs.declared.acts.Operand.TheVariants as operands
+use Rattle.afs_history.specs.Written.{bytes_in}
 use Rattle.afs_rows.specs.States.{CacheEntry, Gift, KnownBoot, Location, Seat}
 use Rattle.afs_history.specs.declared.acts.Act.TheVariants as acts
 use Rattle.std.specs.Prelude.{ℕ, zero, suc, ◌+◌, List, [], ◌∷◌, ◌++◌, Bool, true, false, not, ◌&&◌, ◌||◌, Option, Some, None, pos, nat_eq, find, map, take, length, if◌then◌else◌}
@@ -207,6 +208,10 @@ nothing_set = record { mask = 0; client_mod_time = 0; owner = 0; group = 0; unix
 abbrev pub mode_set : ℕ → AfsStoreStatus
 mode_set mode = record nothing_set { mask = 8; unix_mode_bits = mode }
 
+-- the file gets these bytes, and no others
+abbrev pub stored_whole : Fid → List ℕ → FsCall
+stored_whole f bytes = calls.StoreData f nothing_set (pos 0) (pos (length bytes)) (pos (length bytes)) bytes
+
 -- 22: the two are of different volumes
 abbrev pub of_one : Fid → Fid → Need → Need
 of_one f g need = if nat_eq f.volume g.volume then need else answers 22
@@ -219,12 +224,12 @@ abbrev pub act_needs : Homes → Act → List Shown → Need
 act_needs h (acts.Open o) rs = shows 0 21 22 h.first o rs
 act_needs h (acts.ListNames o) rs = shows 20 0 20 h.first o rs
 act_needs h (acts.ReadLink o) rs = shows 22 21 0 h.first o rs
-act_needs h (acts.Close o contents) rs = to_object h.first o rs (λ f rest. asks_for (calls.StoreData f nothing_set (pos 0) (pos (length contents)) (pos (length contents)) contents))
+act_needs h (acts.Close o contents) rs = to_object h.first o rs (λ f rest. asks_for (stored_whole f (bytes_in contents)))
 act_needs h (acts.SetMode o mode) rs = to_object h.first o rs (λ f rest. asks_for (calls.StoreStatus f (mode_set mode)))
-act_needs h (acts.SetAccessList o text) rs = to_object h.first o rs (λ f rest. asks_for (calls.StoreAcl f text))
+act_needs h (acts.SetAccessList o text) rs = to_object h.first o rs (λ f rest. asks_for (calls.StoreAcl f (bytes_in text)))
 act_needs h (acts.Make p) rs = to_parent h.first p rs (λ d name rest. asks_for (calls.CreateFile d name nothing_set))
 act_needs h (acts.MakeDirectory p) rs = to_parent h.first p rs (λ d name rest. asks_for (calls.MakeDir d name nothing_set))
-act_needs h (acts.Symlink p target) rs = to_parent h.first p rs (λ d name rest. asks_for (calls.Symlink d name target nothing_set))
+act_needs h (acts.Symlink p target) rs = to_parent h.first p rs (λ d name rest. asks_for (calls.Symlink d name (bytes_in target) nothing_set))
 act_needs h (acts.Remove p) rs = to_parent h.first p rs (λ d name rest. asks_for (calls.RemoveFile d name))
 act_needs h (acts.RemoveDirectory p) rs = to_parent h.first p rs (λ d name rest. asks_for (calls.RemoveDir d name))
 act_needs h (acts.Move p q) rs = if (is_root p || is_root q) then answers 22 else to_parent h.first p rs (λ d old rest. to_parent h.second q rest (λ e new later. of_one d e (asks_for (calls.Rename d old e new))))
