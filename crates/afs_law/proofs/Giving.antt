@@ -19,7 +19,7 @@ use Rattle.afs_history.specs.declared.acts.Act.{Act}
 use Rattle.afs_history.specs.declared.lines.Line.{Line}
 use Rattle.afs_history.specs.declared.lines.Line.TheVariants as lines
 use Rattle.afs_ideal.specs.Operations.{volume_changed}
-use Rattle.afs_rows.specs.ClientRow.{begin_row, call_message, asking, calls_step, dropped, ended, ends_step, find_cached, gift_of, gifts_to, gives_by, in_order, is_trusted, trusted_in, untrusted_in, zero_code}
+use Rattle.afs_rows.specs.ClientRow.{begin_row, call_message, asking, calls_step, dropped, ended, ends_step, find_cached, gift_of, gifts_to, gives_all, gives_by, in_order, is_trusted, trusted_in, untrusted_in, zero_code}
 use Rattle.afs_rows.specs.Going.{ClientState, Going, asked, began, gives_back, next}
 use Rattle.afs_rows.specs.Runs.{Entry, locations}
 use Rattle.afs_rows.specs.States.{CacheEntry, Gift, Seat}
@@ -332,8 +332,7 @@ gives_order es (g ∷ gs) s c past n act h none by given is =
     subst (λ (ls : List Line). Goes s past (client_moves c n (record { state = asking (left c n (g ∷ gs)) (began (locations s) act); lines = lines.Begin (Client n) act ∷ ls; sent = call_message (Client n) (asking (left c n (g ∷ gs)) (began (locations s) act)) (began (locations s) act) ∷ [] }))) (sym (dropped_fids n es))
     (gives_some s c past n act (map (λ (e : CacheEntry). e.fid) es) (g ∷ gs) h none (subst AreGifts is (ordered_gifts (map gift_of es) given)))
 
-pub gives_goes : (s : Script) (c : Cell) (past : List Entry) (n : ℕ) (act : Act) → (h : Holds s c past) → (c.clients n).running ≡ None → next (began (locations s) act) ≡ gives_back
-    → Goes s past (client_moves c n (gives_from s c n act (trusted_in c.clock (c.clients n).cache) (in_order (map gift_of (trusted_in c.clock (c.clients n).cache)))))
+pub gives_goes : (s : Script) (c : Cell) (past : List Entry) (n : ℕ) (act : Act) → (h : Holds s c past) → (c.clients n).running ≡ None → next (began (locations s) act) ≡ gives_back → Goes s past (client_moves c n (gives_all (Client n) (unbusied (c.clients n)) c.clock (began (locations s) act) (begin_lines n act)))
 gives_goes s c past n act h none by =
     gives_order (trusted_in c.clock (c.clients n).cache) (in_order (map gift_of (trusted_in c.clock (c.clients n).cache))) s c past n act h none by
     (trusted_gifts c.clock (c.clients n).cache (h.own n).apart (λ g u found lasts. ((h.clients n).current g u found lasts).from)) refl

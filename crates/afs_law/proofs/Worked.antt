@@ -435,7 +435,7 @@ statuses_wrong h = elim h.1.1.1.1.0.0.0.1.0.1.whole.1 [ inl x ↦ apart_numbers 
 
 -- the server is told by a call, and no break is owed by the store after it
 abbrev gave_back : List Input
-gave_back = begins 1 (acts.Open (operands.Fid file)) ∷ gives 1 steady ∷ gives 2 steady ∷ begins 1 acts.GiveUp ∷ gives 3 steady ∷ gives 4 steady ∷ begins 2 (acts.Close (operands.Fid file) (codes "def")) ∷ gives 5 steady ∷ gives 6 steady ∷ []
+gave_back = begins 1 (acts.Open (operands.Fid file)) ∷ gives 1 steady ∷ gives 2 steady ∷ begins 1 acts.GiveUp ∷ gives 3 steady ∷ gives 4 steady ∷ begins 2 (acts.Close (operands.Fid file) (Hex (codes "def"))) ∷ gives 5 steady ∷ gives 6 steady ∷ []
 
 row_gave : told (start (script 2)) gave_back ≡
     begun 1 ∷ lines.Given 1 ∷ lines.Grant (Server 1) (Client 1) file 1 7200 ∷ lines.Given 2 ∷ lines.Read (Client 1) file 1 Fetched (seen.Contents (bodies.File (codes "abc"))) ∷ answer 1 ∷ lines.Begin (Client 1) acts.GiveUp ∷ lines.Drop (Client 1) file ∷ lines.Given 3 ∷ lines.Given 4 ∷ answer 1
