@@ -2,7 +2,7 @@ use Rattle.afs_law.proofs.Giving.{begin_lines, begun_not, gifts_later, gives_goe
 use Rattle.afs_law.proofs.Walking.{own_lines, back_again, lines_assoc}
 use Rattle.afs_law.proofs.Quiet.{quiet_grant, quiet_last, quiet_clock, reach_more}
 use Rattle.afs_law.proofs.Facts.{AreApart, Held, IsNewest, its_call, AreGifts}
-use Rattle.afs_law.proofs.Passing.{PassesGrant}
+use Rattle.afs_law.proofs.Passing.{PassesGrant, ran_over}
 use Rattle.afs_law.specs.Grants.{IsDropped, IsWithdrawn}
 use Rattle.afs_law.specs.Ideal.{IsLast, clock_of, reach_over}
 use Rattle.afs_law.specs.Legal.{GoodRead, as_asked}
@@ -154,7 +154,7 @@ begun_answered s c past n act k h none is =
     let t : AreTail n tail = (refl, tt) in
     let ends : EndsReach n tail = ends_answered n (record { 0 = pos k }) in
     let v : View = view_after c n (h.floors n) y in
-    let over : (m : Message) → ReplyFact n (view h.floors c n) past m → ReplyFact n v (e ∷ past) m = λ m f. idle_reply n (view h.floors c n) v past (e ∷ past) m refl refl refl refl refl refl refl f in
+    let over : (m : Message) → ReplyFact n (view h.floors c n) past m → ReplyFact n v (e ∷ past) m = λ m f. idle_reply n (view h.floors c n) v past e m refl refl refl refl refl refl refl f in
     subst (λ (os : List Line). Goes s past (with_lines c n y [] (lines.Begin (Client n) act ∷ os))) (sym (looked_more (Client n) w.looks tail))
     (moves s c past n (h.floors n) (record { state = y; lines = ls ++ tail; sent = [] }) h kind
     (walk_answered s c past n (h.floors n).held ls w.act w.cache k W is)
@@ -208,6 +208,7 @@ begun_calls s c past n act h none =
     let over : (m : Message) → ReplyFact n (view h.floors c n) past m → ReplyFact n v (e ∷ past) m = λ m f. record {
       behind = up_to_next _ _ _ _ f.behind;
       booted = f.booted;
+      ran = ran_over m.head e past f.ran;
       recent = λ z k. absurd (next_not _ _ _ _ f.behind z k);
       tied = f.tied;
       answers = λ b runs z k. absurd (next_not _ _ _ _ f.behind z k);
@@ -395,7 +396,7 @@ ended_calls s c past n p act m cache held h d w head call f = record {
 }
 
 pub ended_reply : (s : Script) (c : Cell) (past : List Entry) (n : ℕ) (cache : List CacheEntry) (held : ℕ) (e : Entry) → (h : Holds s c past) → (m : Message) → ReplyFact n (view h.floors c n) past m → ReplyFact n (view_after c n (holding h.floors n held) (ended (c.clients n) cache)) (e ∷ past) m
-ended_reply s c past n cache held e h m f = idle_reply n (view h.floors c n) (view_after c n (holding h.floors n held) (ended (c.clients n) cache)) past (e ∷ past) m refl refl refl refl refl refl refl f
+ended_reply s c past n cache held e h m f = idle_reply n (view h.floors c n) (view_after c n (holding h.floors n held) (ended (c.clients n) cache)) past e m refl refl refl refl refl refl refl f
 
 pub ended_facts : (s : Script) (c : Cell) (past : List Entry) (n : ℕ) (cache : List CacheEntry) (held : ℕ) (e : Entry) → (h : Holds s c past) → held ≤ c.server.lasting.boot → running s (Client n) (lines_of (e ∷ past)) ≡ None → HasCurrent n (view_after c n (holding h.floors n held) (ended (c.clients n) cache)) (e ∷ past) → HasOld cache (lines_of (e ∷ past)) → ((f : Fid) → Reached (Client n) f (index_in (last_version f (lines_of (e ∷ past)))) (e ∷ past))
     → ClientFacts s n (view_after c n (holding h.floors n held) (ended (c.clients n) cache)) (e ∷ past)
@@ -634,6 +635,7 @@ gone_calls s c past n p act m front F w h d shut same W apart old =
     let over : (q : Message) → ReplyFact n (view h.floors c n) past q → ReplyFact n v (e ∷ past) q = λ q r. record {
       behind = up_to_next _ _ _ _ r.behind;
       booted = r.booted;
+      ran = ran_over q.head e past r.ran;
       recent = λ y z. absurd (next_not _ _ _ _ r.behind y z);
       tied = r.tied;
       answers = λ b runs y z. absurd (next_not _ _ _ _ r.behind y z);

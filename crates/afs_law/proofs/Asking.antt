@@ -17,7 +17,7 @@ use Rattle.afs_law.proofs.Backing.{Plain, backed_plain, seated_over, plain_step}
 use Rattle.afs_law.proofs.Edits.{index_in, fid_at, sound_same}
 use Rattle.afs_law.proofs.Facts.{AreApart, IsClient, back_seat, Ghost, IsAged, server_boot, View, view_of, view, desk, last_key, LastRan, ReplyFact, ClientFacts, IsUntrusted, IsSafe, CallFact, CallIn, Holds, Goes, Reading, InScope, IsOne, AreGifts, its_call}
 use Rattle.afs_law.proofs.Owing.{BackIn, DoneIn, SeatedIn}
-use Rattle.afs_law.proofs.Passing.{old_over, PassesFile, PassesAct, PassesReach, stays, PassesBoth, PassesSeen, current_over, reply_over, kept_over, client_still, News, more_sent, fallen_over, one_more}
+use Rattle.afs_law.proofs.Passing.{old_over, PassesFile, PassesAct, PassesReach, stays, PassesBoth, PassesSeen, current_over, reply_over, kept_over, client_still, News, more_sent, fallen_over, one_more, ran_over}
 use Rattle.afs_law.proofs.Serving.{told_file, told_reach, told_act, reached_still}
 use Rattle.afs_law.proofs.Turning.{call_good}
 use Rattle.afs_rows.specs.Callbacks.{put, replies_of}
@@ -451,6 +451,7 @@ asks s c past n gs act l h given good p q r none shut at went =
     let over : (m : Message) → ReplyFact n (view h.floors c n) past m → ReplyFact n v (e ∷ past) m = λ m f. record {
       behind = up_to_next _ _ _ _ f.behind;
       booted = f.booted;
+      ran = ran_over m.head e past f.ran;
       recent = λ y k. absurd (next_not _ _ _ _ f.behind y k);
       tied = f.tied;
       answers = λ b runs y k. absurd (next_not _ _ _ _ f.behind y k);

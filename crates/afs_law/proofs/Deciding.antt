@@ -530,7 +530,7 @@ answers_later j call x boot m past h = record { fits = fits_later _ j call x boo
 pub revived_reply : (fl : ℕ → Ghost) (c : Cell) (past : List Entry) (j : ℕ) (m : Message) → ReplyFact j (view fl c j) past m → ReplyFact j (view fl (revived_cell c) j) past m
 revived_reply fl c past j m f =
     let le : m.head.boot ≤ c.server.lasting.boot = f.booted in
-    record { behind = f.behind; booted = omega arith; recent = f.recent; tied = λ q above. absurd (omega arith); answers = λ a x y k. answers_later j (its_call (c.clients j).gifts a) (spot (view fl c j)) c.server.lasting.boot m past (f.answers a x y k) }
+    record { behind = f.behind; booted = omega arith; ran = f.ran; recent = f.recent; tied = λ q above. absurd (omega arith); answers = λ a x y k. answers_later j (its_call (c.clients j).gifts a) (spot (view fl c j)) c.server.lasting.boot m past (f.answers a x y k) }
 
 pub revived_call : (fl : ℕ → Ghost) (c : Cell) (j : ℕ) (head : Head) (call : FsCall) → CallFact (view fl c j) head call → CallFact (view fl (revived_cell c) j) head call
 revived_call fl c j head call f =

@@ -1,5 +1,5 @@
 use Rattle.afs_law.proofs.Facts.{AreFetched, FitsBulk, its_call}
-use Rattle.afs_law.proofs.Passing.{fetched_each}
+use Rattle.afs_law.proofs.Passing.{fetched_each, ran_over}
 use Rattle.std.specs.List.{list_any}
 use Rattle.std.specs.Prelude.{◌||◌}
 -- A client is called by its server: it drops what it has cached of the broken promises.
@@ -426,6 +426,7 @@ drops_goes s c past n p head user fs cbs h heard to from b =
     let over : (m : Message) → ReplyFact n (view h.floors c n) past m → ReplyFact n v (e ∷ past) m = λ m f. record {
       behind = f.behind;
       booted = f.booted;
+      ran = ran_over m.head e past f.ran;
       recent = f.recent;
       tied = f.tied;
       answers = λ act y z w. let a = f.answers act y z w in record {
@@ -554,6 +555,7 @@ drops_all_goes s c past n p head user h heard to from b =
     let over : (m : Message) → ReplyFact n (view h.floors c n) past m → ReplyFact n v (e ∷ past) m = λ m f. record {
       behind = f.behind;
       booted = f.booted;
+      ran = ran_over m.head e past f.ran;
       recent = f.recent;
       tied = f.tied;
       answers = λ act y z w. let a = f.answers act y z w in record {

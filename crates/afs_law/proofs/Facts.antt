@@ -372,7 +372,7 @@ pub record Answers (sp : Bool) (j : ℕ) (call : FsCall) (v : Spot) (boot : ℕ)
   pub cause : Cause m code (as_asked call) past []
   pub own : cause.call ≡ call
 
--- ---- a reply to client j, under way or kept, of whatever boot. It is to a call not above the client's last one; where it
+-- ---- a reply to client j, under way or kept, of whatever boot. Its entry ran the call. It is to a call not above the client's last one; where it
 -- is to the last one, the server made it in no earlier boot than that in which the call was made, and it answers the act
 -- that runs, if one does. In its own boot its call is not new any more
 
@@ -393,6 +393,7 @@ await v = record { floor = v.floor; epoch = v.epoch; last = v.last; running = v.
 pub record ReplyFactIn (j : ℕ) (v : Await) (past : List Entry) (m : Message) : Type 0 where
   pub behind : UpTo m.head.epoch m.head.number v.epoch v.last
   pub booted : m.head.boot ≤ v.boot
+  pub ran : Ran m.head past
   pub recent : m.head.epoch ≡ v.epoch → m.head.number ≡ v.last → v.floor ≤ m.head.boot
   pub tied : m.head.boot ≡ v.boot → Above v.seat m.head.epoch m.head.number → ⊥
   pub answers : (act : Going) → v.running ≡ Some act → m.head.epoch ≡ v.epoch → m.head.number ≡ v.last → Answers v.spoiled j (its_call v.gifts act) (record { durable = v.durable; epoch = v.epoch; last = v.last }) v.boot m past

@@ -33,18 +33,19 @@ use Rattle.afs_law.proofs.Basics.{Above, client_number, guest, next_not, raised_
 use Rattle.afs_law.proofs.Dropping.{Skips, drops_of, skips}
 use Rattle.afs_law.proofs.Facts.{AreApart, AreGifts, CallFact, ClientFacts, Ghost, Goes, HasOld, Holds, IsAged, IsClient, LastRan, ReplyFact, View, its_call, last_key, view}
 use Rattle.afs_law.proofs.OneCell.{the_server, Cell, client_moves}
-use Rattle.afs_law.proofs.Passing.{PassesBoth, kept_over, old_over, old_within}
+use Rattle.afs_law.proofs.Passing.{PassesBoth, kept_over, old_over, old_within, ran_over}
 use Rattle.afs_law.proofs.Quiet.{AreQuiet, quiet_grant, quiet_passes}
 use Rattle.afs_law.proofs.Serving.{reached_still}
 use Rattle.afs_law.proofs.Skipping.{ideal_still, own_ended}
 
 -- a reply to a client that waits for none
-pub idle_reply : (j : ℕ) (v w : View) (past newer : List Entry) (m : Message) → v.epoch ≡ w.epoch → v.last ≡ w.last → v.floor ≡ w.floor → v.boot ≡ w.boot → v.seat ≡ w.seat → v.durable ≡ w.durable → w.running ≡ None → ReplyFact j v past m → ReplyFact j w newer m
-idle_reply j v w past newer m a b c d e g none f = record {
+pub idle_reply : (j : ℕ) (v w : View) (past : List Entry) (e : Entry) (m : Message) → v.epoch ≡ w.epoch → v.last ≡ w.last → v.floor ≡ w.floor → v.boot ≡ w.boot → v.seat ≡ w.seat → v.durable ≡ w.durable → w.running ≡ None → ReplyFact j v past m → ReplyFact j w (e ∷ past) m
+idle_reply j v w past e m a b c d i g none f = record {
   behind = subst (λ (x : ℕ). UpTo m.head.epoch m.head.number x w.last) a (subst (λ (x : ℕ). UpTo m.head.epoch m.head.number v.epoch x) b f.behind);
   booted = subst (λ (x : ℕ). m.head.boot ≤ x) d f.booted;
+  ran = ran_over m.head e past f.ran;
   recent = λ y k. subst (λ (x : ℕ). x ≤ m.head.boot) c (f.recent (y ∙ sym a) (k ∙ sym b));
-  tied = λ q above. f.tied (q ∙ sym d) (subst (λ (o : Option Seat). Above o m.head.epoch m.head.number) (sym e) above);
+  tied = λ q above. f.tied (q ∙ sym d) (subst (λ (o : Option Seat). Above o m.head.epoch m.head.number) (sym i) above);
   answers = λ act y. absurd cc;
 }
 
@@ -217,7 +218,7 @@ gives_nothing s c past n act h none by =
     let q : AreQuiet n ls = (refl, (refl, tt)) in
     let e : Entry = step_entry n ls [] in
     let v : View = view_after c n (h.floors n) y in
-    let over : (m : Message) → ReplyFact n (view h.floors c n) past m → ReplyFact n v (e ∷ past) m = λ m f. idle_reply n (view h.floors c n) v past (e ∷ past) m refl refl refl refl refl refl refl f in
+    let over : (m : Message) → ReplyFact n (view h.floors c n) past m → ReplyFact n v (e ∷ past) m = λ m f. idle_reply n (view h.floors c n) v past e m refl refl refl refl refl refl refl f in
     let both : (f : Fid) → PassesBoth n f e past = λ f i r. record {
       made = zero_below (same_node (Client n) (Client n)) (reach (Client n) f past).made i r.made;
       seen = raised_up_to (same_node (Client n) (Client n) && is_zero_code zero_code) (cond (same_node (Client n) (Client n)) 0 (reach (Client n) f past).made) (reach (Client n) f past).seen i (λ t. zero_below (same_node (Client n) (Client n)) (reach (Client n) f past).made i r.made) r.seen;
@@ -287,6 +288,7 @@ gives_some s c past n act fs gs h none given =
     let over : (m : Message) → ReplyFact n (view h.floors c n) past m → ReplyFact n v (e ∷ past) m = λ m f. record {
       behind = up_to_next _ _ _ _ f.behind;
       booted = f.booted;
+      ran = ran_over m.head e past f.ran;
       recent = λ z k. absurd (next_not _ _ _ _ f.behind z k);
       tied = f.tied;
       answers = λ b runs z k. absurd (next_not _ _ _ _ f.behind z k);

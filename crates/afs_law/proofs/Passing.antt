@@ -325,7 +325,7 @@ answers_over j call v boot m e past p r n b h = record { fits = fits_over _ j ca
 
 pub reply_over : (j : ℕ) (v : View) (m : Message) (e : Entry) (past : List Entry) → ((f : Fid) → PassesGrant j f e past) → ((f : Fid) → PassesReach j f e past) → ((f : Fid) → StaysNewest j f e past) → has_begun (Client j) e.lines ≡ false
     → ReplyFact j v past m → ReplyFact j v (e ∷ past) m
-reply_over j v m e past p r n b h = record { behind = h.behind; booted = h.booted; recent = h.recent; tied = h.tied; answers = λ act x y k. answers_over j (its_call v.gifts act) (spot v) v.boot m e past p r n b (h.answers act x y k) }
+reply_over j v m e past p r n b h = record { behind = h.behind; booted = h.booted; ran = ran_over m.head e past h.ran; recent = h.recent; tied = h.tied; answers = λ act x y k. answers_over j (its_call v.gifts act) (spot v) v.boot m e past p r n b (h.answers act x y k) }
 
 -- kept replies, where all replies pass
 pub kept_over : (j : ℕ) (o : Option Seat) (v w : View) (past newer : List Entry) → ((m : Message) → ReplyFact j v past m → ReplyFact j w newer m) → AreKept j o v past → AreKept j o w newer

@@ -18,7 +18,7 @@ use Rattle.afs_law.proofs.Facts.{IsBody, back_seat, IsKnown, IsReadable, AreFine
 use Rattle.afs_law.proofs.Loading.{all_promised, all_granted, granted_all, none_loaded, still_backed, known_backed, resent, run_loaded, key_held, no_change, settles_good, settles_backed, gone_promised, gone_granted, granted_to_client, gone_to_clients, own_waited}
 use Rattle.afs_law.proofs.Notes.{granted_notes, AreNotes, Skips, skips, told_entry, told_rests, noted_entry, noted_rests, settle_notes}
 use Rattle.afs_law.proofs.Owing.{AllOf, BackedIn, IsDone, DroppedOwe, IsGranted, DoneIn, Promised, IsClient}
-use Rattle.afs_law.proofs.Passing.{old_over, stands_over, answers_over, reply_over, kept_over, PassesBoth, PassesFile, PassesAct, PassesReach, stays, current_over, client_still, News, more_sent}
+use Rattle.afs_law.proofs.Passing.{old_over, stands_over, answers_over, reply_over, kept_over, PassesBoth, PassesFile, PassesAct, PassesReach, stays, current_over, client_still, News, more_sent, ran_over}
 use Rattle.afs_law.proofs.Pumping.{no_news, pumped_news, news_break}
 use Rattle.afs_law.proofs.Resting.{Rests}
 use Rattle.afs_law.proofs.Turning.{loaded, TurnSends, Pumps, pumps, expired_backed, break_good}
@@ -444,6 +444,7 @@ pub reply_now : {s : Script} → (good : Bool) (fl : ℕ → Ghost) (c : Cell) (
 reply_now {s} good fl c past newer n h user call x w le a = record {
   behind = w.fact.behind;
   booted = le_refl _;
+  ran = a.cause.ran;
   recent = λ y k. le;
   tied = λ q above. below_not _ _ _ _ above (up_to_same _ _ _ _ refl refl);
   answers = λ b q y k. subst (λ (z : FsCall). Answers (c.clients n).spoiled n z (spot (caller_view good fl c n h (replied c.server.lasting.boot (client_head n h) x))) c.server.lasting.boot (replied c.server.lasting.boot (client_head n h) x) newer) (running_act good fl c past n h user call w b q y k)
@@ -478,6 +479,7 @@ pub own_reply : (good : Bool) (s : Script) (c : Cell) (fl : ℕ → Ghost) (past
 own_reply good s c fl past n h user call x e st w v m f = record {
   behind = f.behind;
   booted = f.booted;
+  ran = ran_over m.head e past f.ran;
   recent = f.recent;
   tied = λ q above. f.tied q (above_more (call_seat (Client n) c.server.seats) h.epoch h.number m.head.epoch m.head.number w.above above);
   answers = λ b y z k. v.own_answers b m f y z k;

@@ -26,7 +26,7 @@ use Rattle.afs_history.specs.declared.lines.Line.{Line}
 use Rattle.afs_law.specs.Breaks.{AllOwes, live_grant, lines_at}
 use Rattle.afs_law.specs.Grants.{fetch_reply}
 use Rattle.afs_law.specs.Ideal.{set_up}
-use Rattle.afs_law.specs.Laws.{IsAccounted, IsAwaited, IsHandled, IsOwedIn, IsPromisedIn}
+use Rattle.afs_law.specs.Laws.{IsAccounted, IsAwaited, IsHandled, IsOwedIn, IsPromisedIn, AreRan}
 use Rattle.afs_law.specs.Legal.{Cause}
 use Rattle.afs_law.specs.Once.{past_of}
 use Rattle.afs_law.specs.OneServer.{IsOneServer}
@@ -77,6 +77,16 @@ run_caused s h end is r j place m act at code to runs epoch number =
     let fact : ReplyFact j (view k.floors c j) past m = subst (λ (i : ℕ). ReplyFact i (view k.floors c i) past m) (client_number f.client j (sym f.to ∙ to)) f.fact in
     let a = fact.answers act runs epoch number in
     (a.code, subst (λ (q : FsCall). Cause m a.code q past []) (asks_is (end.clients j).gifts act) a.cause)
+
+pub run_ran : (s : Script) (h : List Entry) (end : cells.Cell) → IsOneServer s → cells.RunsTo h s end → AreRan end.sent (end.hosts 1).state.seats (past_of (set_up s ∷ []) h)
+run_ran s h end is r =
+    let past : List Entry = past_of (set_up s ∷ []) h in
+    let c : Cell = seen_in end in
+    let k : Holds s c past = holds_at s h end is r in
+    record {
+      sent = λ j place m at code to. let f : ReplyIn (view k.floors c) past m = reply_in m.carried m.head.to (ReplyIn (view k.floors c) past m) j code to (each_at (IfReply (ReplyIn (view k.floors c) past)) c.sent place m at k.sent.replies) in f.fact.ran;
+      kept = λ j seat m at is. ((k.clients j).kept seat m at is).1.ran;
+    }
 
 -- ---- promises and breaks
 

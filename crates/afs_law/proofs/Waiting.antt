@@ -4,7 +4,7 @@ use Rattle.afs_num.specs.declared.types.Node.{Node}
 use Rattle.afs_law.proofs.Apart.{apart_filter}
 use Rattle.afs_law.proofs.Asking.{client_ended}
 use Rattle.afs_law.proofs.Facts.{AreApart, IsClient, its_call}
-use Rattle.afs_law.proofs.Passing.{old_over, old_within}
+use Rattle.afs_law.proofs.Passing.{old_over, old_within, ran_over}
 use Rattle.std.proofs.Common.{nat_eq, not, ◌≡◌, ℕ, ◌+◌, inl, inr, Bool, true, false, cond, nat_lt, List, [], ◌∷◌, ◌++◌, Option, Some, None, refl, sym, ap, subst, ◌∙◌, arith}
 use Rattle.std.specs.Prelude.{◌&&◌}
 use Rattle.afs_num.specs.declared.histories.Actor.TheVariants as actors
@@ -227,6 +227,7 @@ client_stops_goes s c past n h =
     let over : (m : Message) → ReplyFact n (view h.floors c n) past m → ReplyFact n v (e ∷ past) m = λ m f. record {
       behind = new_epoch _ _ _ _ f.behind;
       booted = f.booted;
+      ran = ran_over m.head e past f.ran;
       recent = λ y k. absurd (not_epoch _ _ _ _ f.behind y);
       tied = f.tied;
       answers = λ b y. absurd cc;

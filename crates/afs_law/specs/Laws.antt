@@ -25,7 +25,7 @@ use Rattle.afs_law.specs.Legal.{GoodRead, Legal, Cause}
 use Rattle.afs_history.specs.declared.lines.Line.{Line}
 use Rattle.afs_law.specs.Once.{past_of, ChangesOnce}
 use Rattle.afs_law.specs.OneServer.{IsOneServer}
-use Rattle.afs_law.specs.Past.{HasCode, IsCall, lines_of, IsUnheard, called_key, answered_key}
+use Rattle.afs_law.specs.Past.{HasCode, IsCall, lines_of, IsUnheard, called_key, answered_key, Ran}
 use Rattle.afs_rows.specs.Runs.{message_at, Leads, start, Input, Entry, Cell, RunsTo, Host}
 use Rattle.afs_rows.specs.ServerRow.{Change, is_client, lasting_after, lasting_started, record_of, serves, runs, refuses, not_served, whole, is_client, no_room}
 use Rattle.afs_rows.specs.States.{CacheEntry, Seat, Lasting, durable_of, volume_in, ServerState, BackCall}
@@ -143,6 +143,14 @@ abbrev pub RepliesAreCaused : Type 0
 RepliesAreCaused =
     (s : Script) (history : List Entry) (end : Cell) → IsOneServer s → RunsTo history s end → (j place : ℕ) (m : Message) (act : Going) → message_at end.sent place ≡ Some m → HasCode m.carried → m.head.to ≡ Client j
     → (end.clients j).running ≡ Some act → m.head.epoch ≡ (end.clients j).epoch → m.head.number ≡ (end.clients j).last → (code : ℤ) × Cause m code (asked act) (past_of (set_up s ∷ []) history) []
+
+-- each reply of the server to a client, under way or kept, is that of the entry that ran its call in the boot that it carries
+pub record AreRan (messages : List Message) (seats : List Seat) (past : List Entry) : Type 0 where
+  pub sent : (j place : ℕ) (m : Message) → message_at messages place ≡ Some m → HasCode m.carried → m.head.to ≡ Client j → Ran m.head past
+  pub kept : (j : ℕ) (seat : Seat) (m : Message) → call_seat (Client j) seats ≡ Some seat → seat.reply ≡ Some m → Ran m.head past
+
+abbrev pub RepliesAreRan : Type 0
+RepliesAreRan = (s : Script) (history : List Entry) (end : Cell) → IsOneServer s → RunsTo history s end → AreRan end.sent (end.hosts 1).state.seats (past_of (set_up s ∷ []) history)
 
 -- the server changed something under this key
 abbrev pub HasChangeBy : Node → Key → List Line → Type 0

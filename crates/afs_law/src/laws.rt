@@ -1,6 +1,6 @@
 //! Laws about the runs of a script. Each is the contract of a function that does nothing.
 
-ghost use Rattle.afs_law.specs.Laws.{ChangesAreFolded, KeysRunOnce, ReadsAreNewest, RunsAreLegal, RunsAreOne, StartsAreFolded, VolumesAreTold, PairsAreKnown, TrustedIsGood, RoomlessAreRefused, UnservedAreRefused, CallsRunOnce, RepliesAreCaused, DurableAreChanges, GrantsAreKept, BreaksAreOwed, RepliesFollowDrops, GivenUpAreUntrusted};
+ghost use Rattle.afs_law.specs.Laws.{ChangesAreFolded, KeysRunOnce, ReadsAreNewest, RunsAreLegal, RunsAreOne, StartsAreFolded, VolumesAreTold, PairsAreKnown, TrustedIsGood, RoomlessAreRefused, UnservedAreRefused, CallsRunOnce, RepliesAreCaused, RepliesAreRan, DurableAreChanges, GrantsAreKept, BreaksAreOwed, RepliesFollowDrops, GivenUpAreUntrusted};
 
 /// Every run of a script for one server is legal.
 pub fn runs_are_legal()
@@ -65,6 +65,11 @@ pub fn calls_run_once()
 /// A reply that counts is that of the entry which ran its call, and tells what the ideal cell made of it there.
 pub fn replies_are_caused()
     ensures { RepliesAreCaused }
+{}
+
+/// Each reply to a client is that of the entry that ran its call in the boot that the reply carries.
+pub fn replies_are_ran()
+    ensures { RepliesAreRan }
 {}
 
 /// What a disk keeps of a caller is its last call that changed something, with the reply to that.
