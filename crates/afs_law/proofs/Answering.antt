@@ -1,20 +1,21 @@
+use Rattle.afs_law.proofs.Giving.{begin_lines, begun_not, gifts_later, gives_goes, idle_reply, unbusied}
 use Rattle.afs_law.proofs.Walking.{own_lines, back_again, lines_assoc}
 use Rattle.afs_law.proofs.Quiet.{quiet_grant, quiet_last, quiet_clock, reach_more}
-use Rattle.afs_law.proofs.Facts.{AreApart, Held, IsNewest}
-use Rattle.afs_law.proofs.Passing.{PassesGrant}
+use Rattle.afs_law.proofs.Facts.{AreApart, Held, IsNewest, its_call, AreGifts}
+use Rattle.afs_law.proofs.Passing.{PassesGrant, ran_over}
 use Rattle.afs_law.specs.Grants.{IsDropped, IsWithdrawn}
 use Rattle.afs_law.specs.Ideal.{IsLast, clock_of, reach_over}
-use Rattle.afs_law.specs.Legal.{GoodRead}
-use Rattle.afs_rows.specs.ClientRow.{entries_told, put_entries, status_look, takes_bulk, with_statuses}
+use Rattle.afs_law.specs.Legal.{GoodRead, as_asked}
+use Rattle.afs_rows.specs.ClientRow.{entries_told, put_entries, status_look, takes_bulk, with_statuses, behind_batch, batch, gives_by, given, takes_given}
 use Rattle.std.specs.List.{list_any}
-use Rattle.std.specs.Prelude.{⊤}
+use Rattle.std.specs.Prelude.{⊤, length, drop}
 use Rattle.std.proofs.Common.{append_assoc}
 use Rattle.afs_law.proofs.Facts.{FitsBulk, AreFetched}
 use Rattle.afs_num.specs.declared.histories.Version.{Version}
 use Rattle.afs_law.proofs.Apart.{found_filter, found_out}
-use Rattle.afs_law.proofs.Asking.{Passes, not_client, reads_by_other}
+use Rattle.afs_law.proofs.Asking.{Passes, not_client, reads_by_other, with_gifts}
 use Rattle.afs_law.proofs.Facts.{IsGot}
-use Rattle.afs_law.proofs.Nexts.{rights_done}
+use Rattle.afs_law.proofs.Nexts.{rights_done, asks_is, asks_changed, asks_scope, asks_just}
 use Rattle.afs_law.proofs.Skipping.{AreNone, none_of_other, ideal_still, last_line}
 use Rattle.afs_rows.specs.ClientRow.{dropped, is_older, takes_rights, takes_list, ends_step, read_lines}
 use Rattle.std.specs.Prelude.{◌||◌}
@@ -51,7 +52,7 @@ use Rattle.afs_law.specs.Past.{IsCallUnder, onto, lines_of, sent_of, given_messa
 use Rattle.afs_rows.specs.Runs.{locations, Entry, message_at}
 use Rattle.afs_law.proofs.OneCell.{the_server, Moved, Cell, client_moves, begun_by}
 use Rattle.afs_rows.specs.Scopes.{is_in_scope}
-use Rattle.afs_rows.specs.States.{KnownBoot, CacheEntry, Location, Seat}
+use Rattle.afs_rows.specs.States.{KnownBoot, CacheEntry, Location, Seat, Gift}
 use Rattle.afs_model.specs.Calls.{call_seat}
 use Rattle.std.proofs.Common.{suc, zero, ltb-false, filter, find, ◌+◌, nat_eq, ◌++◌, ◌≡◌, ℕ, ◌<◌, ◌≤◌, inl, inr, Bool, true, false, cond, nat_lt, not, List, [], ◌∷◌, map, Option, Some, None, ℤ, refl, sym, ap, subst, ◌∙◌, eqb-true, ltb-true, lt-ltb, le_of_eq, append-nil, arith}
 use Rattle.std.specs.Option.{option_map}
@@ -88,16 +89,6 @@ use Rattle.afs_history.specs.declared.lines.Line.TheVariants as lines
 use Rattle.afs_num.specs.declared.calls.FsCall.TheVariants as calls
 
 -- The clients' steps that answer an act.
-
--- a reply to a client that waits for none
-pub idle_reply : (j : ℕ) (v w : View) (past newer : List Entry) (m : Message) → v.epoch ≡ w.epoch → v.last ≡ w.last → v.floor ≡ w.floor → v.boot ≡ w.boot → v.seat ≡ w.seat → v.durable ≡ w.durable → w.running ≡ None → ReplyFact j v past m → ReplyFact j w newer m
-idle_reply j v w past newer m a b c d e g none f = record {
-  behind = subst (λ (x : ℕ). UpTo m.head.epoch m.head.number x w.last) a (subst (λ (x : ℕ). UpTo m.head.epoch m.head.number v.epoch x) b f.behind);
-  booted = subst (λ (x : ℕ). m.head.boot ≤ x) d f.booted;
-  recent = λ y k. subst (λ (x : ℕ). x ≤ m.head.boot) c (f.recent (y ∙ sym a) (k ∙ sym b));
-  tied = λ q above. f.tied (q ∙ sym d) (subst (λ (o : Option Seat). Above o m.head.epoch m.head.number) (sym e) above);
-  answers = λ act y. absurd cc;
-}
 
 -- ---- an act begins
 
@@ -144,13 +135,6 @@ begun_on s c past n act h none = walks_on (most_reads (began (locations s) act))
 pub walk_old : (n : ℕ) (cache less : List CacheEntry) (ls : List Line) (ms : List Message) (past : List Entry) → AreQuiet n ls → ((f : Fid) (u : CacheEntry) → find_cached f less ≡ Some u → find_cached f cache ≡ Some u) → HasOld cache (lines_of past) → HasOld less (lines_of (step_entry n ls ms ∷ past))
 walk_old n cache less ls ms past q w h = old_over less (lines_of past) (lines_of (step_entry n ls ms ∷ past)) (λ f i b x. (quiet_grant n n f ls ms past q).version i b (lines_of past) x) (old_within cache less (lines_of past) w h)
 
--- an act begins with these lines
-abbrev pub begin_lines : ℕ → Act → List Line → List Line
-begin_lines n act ls = lines.Begin (Client n) act ∷ ls
-
-abbrev pub unbusied : ClientState → ClientState
-unbusied x = record x { busy = 0 }
-
 abbrev pub with_lines : Cell → ℕ → ClientState → List Message → List Line → Moved
 with_lines c n x ms ls = client_moves c n (record { state = x; lines = ls; sent = ms })
 
@@ -165,12 +149,12 @@ begun_answered s c past n act k h none is =
     let tail : List Line = lines.Answer (Client n) (record { 0 = pos k }) ∷ [] in
     let W : Walks s c past n (h.floors n).held ls w.act w.cache = begun_on s c past n act h none in
     let y : ClientState = ended (unbusied x) w.cache in
-    let kind : IsClient s y = client_ended s (unbusied x) w.cache (record { table = (h.own n).table; user = (h.own n).user; callee = λ a z. (h.own n).callee a z; apart = (h.own n).apart }) (walked_apart (most_reads (began (locations s) act)) c.clock (began (locations s) act) x.cache (h.own n).apart) in
+    let kind : IsClient s y = client_ended s (unbusied x) w.cache (record { table = (h.own n).table; user = (h.own n).user; callee = λ a z. (h.own n).callee a z; apart = (h.own n).apart; gifts = (h.own n).gifts }) (walked_apart (most_reads (began (locations s) act)) c.clock (began (locations s) act) x.cache (h.own n).apart) in
     let e : Entry = step_entry n (ls ++ tail) [] in
     let t : AreTail n tail = (refl, tt) in
     let ends : EndsReach n tail = ends_answered n (record { 0 = pos k }) in
     let v : View = view_after c n (h.floors n) y in
-    let over : (m : Message) → ReplyFact n (view h.floors c n) past m → ReplyFact n v (e ∷ past) m = λ m f. idle_reply n (view h.floors c n) v past (e ∷ past) m refl refl refl refl refl refl refl f in
+    let over : (m : Message) → ReplyFact n (view h.floors c n) past m → ReplyFact n v (e ∷ past) m = λ m f. idle_reply n (view h.floors c n) v past e m refl refl refl refl refl refl refl f in
     subst (λ (os : List Line). Goes s past (with_lines c n y [] (lines.Begin (Client n) act ∷ os))) (sym (looked_more (Client n) w.looks tail))
     (moves s c past n (h.floors n) (record { state = y; lines = ls ++ tail; sent = [] }) h kind
     (walk_answered s c past n (h.floors n).held ls w.act w.cache k W is)
@@ -203,9 +187,6 @@ begun_answered s c past n act k h none is =
     })
     over (nothing_new _ _) (λ a z r. absurd cc) refl)
 
-begun_not : (n : ℕ) (rest : Bool) (S : Type 0) → cond (same_node (Client n) (Client n)) true rest ≡ false → S
-begun_not n rest S e = let yes : same_node (Client n) (Client n) ≡ true = same_node-refl (Client n) in absurd cc
-
 -- it calls for what is missing
 pub begun_calls : (s : Script) (c : Cell) (past : List Entry) (n : ℕ) (act : Act) → Holds s c past → (c.clients n).running ≡ None
     → Goes s past (client_moves c n (goes_by (Client n) (unbusied (c.clients n)) (begin_lines n act) (begun_walk s (c.clients n) c.clock act) (asks_for calls.GetTime)))
@@ -216,7 +197,7 @@ begun_calls s c past n act h none =
     let ls : List Line = lines.Begin (Client n) act ∷ looked (Client n) w.looks [] in
     let W : Walks s c past n (h.floors n).held ls w.act w.cache = begun_on s c past n act h none in
     let y : ClientState = asking (record (unbusied x) { cache = w.cache }) w.act in
-    let kind : IsClient s y = client_asking s c past (record (unbusied x) { cache = w.cache }) w.act h (record { table = (h.own n).table; user = (h.own n).user; callee = λ a z. (h.own n).callee a z; apart = walked_apart (most_reads (began (locations s) act)) c.clock (began (locations s) act) x.cache (h.own n).apart }) in
+    let kind : IsClient s y = client_asking s c past (record (unbusied x) { cache = w.cache }) w.act h (record { table = (h.own n).table; user = (h.own n).user; callee = λ a z. (h.own n).callee a z; apart = walked_apart (most_reads (began (locations s) act)) c.clock (began (locations s) act) x.cache (h.own n).apart; gifts = (h.own n).gifts }) in
     let ms : List Message = call_message (Client n) y w.act ∷ [] in
     let e : Entry = step_entry n (ls ++ []) ms in
     let g : Ghost = record { floor = c.server.lasting.boot; held = (h.floors n).held } in
@@ -227,6 +208,7 @@ begun_calls s c past n act h none =
     let over : (m : Message) → ReplyFact n (view h.floors c n) past m → ReplyFact n v (e ∷ past) m = λ m f. record {
       behind = up_to_next _ _ _ _ f.behind;
       booted = f.booted;
+      ran = ran_over m.head e past f.ran;
       recent = λ z k. absurd (next_not _ _ _ _ f.behind z k);
       tied = f.tied;
       answers = λ b runs z k. absurd (next_not _ _ _ _ f.behind z k);
@@ -250,7 +232,7 @@ begun_calls s c past n act h none =
       current = λ f u found lasts. walk_current s c past n (h.floors n).held ls w.act w.cache [] ms v f u W tt (ends_here n) (le_refl _) (inl not) found lasts;
       old = walk_old n x.cache w.cache (ls ++ []) ms past (quiet_more n ls [] W.quiet tt) (λ f u z. walked_found (most_reads (began (locations s) act)) c.clock (began (locations s) act) x.cache f u z) d.old;
       runs = λ b z. at ∙ z;
-      asked = λ b z. subst (λ (a : Going). CalledSince (last_key n v) guest (asked a) (e ∷ past)) (some_of w.act b z) (inl (refl, inl (refl, carried_is y w.act kind.user)));
+      asked = λ b z. subst (λ (a : Going). CalledSince (last_key n v) guest (its_call v.gifts a) (e ∷ past)) (some_of w.act b z) (inl (refl, inl (refl, carried_is y w.act kind.user)));
       reached = walk_reached s c past n (h.floors n).held ls w.act w.cache [] ms W tt (ends_here n);
     })
     (λ head call f. record {
@@ -273,12 +255,24 @@ begins_by (reads_rights f) s c past n act h none e = begun_calls s c past n act 
 begins_by (asks_for call) s c past n act h none e = begun_calls s c past n act h none
 begins_by gives_back s c past n act h none e = begun_calls s c past n act h none
 
+walks_first : (s : Script) (c : Cell) (past : List Entry) (n : ℕ) (act : Act) → Holds s c past → (c.clients n).running ≡ None → Goes s past (client_moves c n (ClientRow.walks_on (Client n) (unbusied (c.clients n)) c.clock (begin_lines n act) (began (locations s) act) (c.clients n).cache))
+walks_first s c past n act h none = begins_by (next (begun_walk s (c.clients n) c.clock act).act) s c past n act h none refl
+
+begins_on : (need : Need) (s : Script) (c : Cell) (past : List Entry) (n : ℕ) (act : Act) → Holds s c past → (c.clients n).running ≡ None → next (began (locations s) act) ≡ need
+    → Goes s past (client_moves c n (ClientRow.begins_by (Client n) (unbusied (c.clients n)) c.clock (begin_lines n act) (began (locations s) act) need))
+begins_on (answers k) s c past n act h none e = walks_first s c past n act h none
+begins_on (reads f) s c past n act h none e = walks_first s c past n act h none
+begins_on (reads_status f) s c past n act h none e = walks_first s c past n act h none
+begins_on (reads_statuses fs) s c past n act h none e = walks_first s c past n act h none
+begins_on (reads_rights f) s c past n act h none e = walks_first s c past n act h none
+begins_on (asks_for call) s c past n act h none e = walks_first s c past n act h none
+begins_on gives_back s c past n act h none e = gives_goes s c past n act h none e
+
 pub begins_goes : (s : Script) (c : Cell) (past : List Entry) (n : ℕ) (act : Act) → Holds s c past → (c.clients n).running ≡ None → Goes s past (client_moves c n (begin_row (Client n) (c.clients n) c.clock act))
 unfolding begin_row
 begins_goes s c past n act h none =
     let x : ClientState = c.clients n in
-    subst (λ (t : List Location). Goes s past (client_moves c n (goes_on (Client n) (unbusied x) (begin_lines n act) (walked (most_reads (began t act)) c.clock (began t act) x.cache)))) (sym (h.own n).table)
-    (begins_by (next (begun_walk s x c.clock act).act) s c past n act h none refl)
+    subst (λ (t : List Location). Goes s past (client_moves c n (ClientRow.begins_by (Client n) (unbusied x) c.clock (begin_lines n act) (began t act) (next (began t act))))) (sym (h.own n).table) (begins_on (next (began (locations s) act)) s c past n act h none refl)
 
 -- ---- the reply to the running act
 
@@ -288,7 +282,7 @@ pub record Due (c : Cell) (fl : ℕ → Ghost) (past : List Entry) (n p : ℕ) (
   pub number : m.head.number ≡ (c.clients n).last
   pub fact : ReplyFact n (view fl c n) past m
   pub key : answered_key m.head ≡ last_key n (view fl c n)
-  pub answers : Answers (c.clients n).spoiled n (asked act) (spot (view fl c n)) c.server.lasting.boot m past
+  pub answers : Answers (c.clients n).spoiled n (call_of (c.clients n) act) (spot (view fl c n)) c.server.lasting.boot m past
   pub heard : Heard c p m
   pub at : message_at (sent_of past) p ≡ Some m
 
@@ -296,12 +290,22 @@ neither : (a b : Bool) → (a || b) ≡ false → (a ≡ false) × (b ≡ false)
 neither true b e = absurd cc
 neither false b e = (refl, e)
 
+-- the reply is to this call, and the cause of this code for what an act asks
+pub record Caused (m : Message) (code : ℤ) (asks call : FsCall) (past : List Entry) : Type 0 where
+  pub cause : Cause m code asks past []
+  pub own : cause.call ≡ call
+
+caused_as : (m : Message) (code other : ℤ) (asks to call : FsCall) (past : List Entry) → code ≡ other → asks ≡ to → Caused m code asks call past → Caused m other to call past
+caused_as m code other asks to call past e q h = subst (λ (z : ℤ). Caused m z to call past) e (subst (λ (k : FsCall). Caused m code k call past) q h)
+
 -- its act is answered with its code
 pub good_code : (s : Script) (c : Cell) (past : List Entry) (n p : ℕ) (act : Going) (m : Message) (code : Code) (own : List Line) → (h : Holds s c past) → Due c h.floors past n p act m → code_told m.carried ≡ Some code.0 → given_message own (sent_of past) ≡ message_at (sent_of past) p
     → has_begun (Client n) own ≡ false → running s (Client n) (own ++ lines_of past) ≡ running s (Client n) (lines_of past) → GoodCode s (Client n) code past own
 good_code s c past n p act m code own h d told by none still =
-    let cause : Cause m code.0 (asked act) past [] = subst (λ (z : ℤ). Cause m z (asked act) past []) (some_of _ _ (sym d.answers.cause.told ∙ told)) d.answers.cause in
-    let asked_now : CalledSince (answered_key m.head) guest (asked act) past = subst (λ (k : Key). CalledSince k guest (asked act) past) (sym d.key) ((h.clients n).asked act d.running) in
+    let call : FsCall = call_of (c.clients n) act in
+    let k : Caused m code.0 (asked act) call past =
+    caused_as m d.answers.code code.0 (as_asked call) (asked act) call past (some_of _ _ (sym d.answers.cause.told ∙ told)) (asks_is (c.clients n).gifts act) (record { cause = d.answers.cause; own = d.answers.own }) in
+    let asked_now : CalledSince (answered_key m.head) guest call past = subst (λ (k : Key). CalledSince k guest call past) (sym d.key) ((h.clients n).asked act d.running) in
     record {
       act = act;
       runs = still ∙ (h.clients n).runs act d.running;
@@ -309,9 +313,9 @@ good_code s c past n p act m code own h d told by none still =
         reply = m;
         by = by ∙ d.at;
         to = ap (λ (k : Key). k.node) d.key;
-        cause = cause_behind m code.0 (asked act) past own cause;
+        cause = cause_behind m code.0 (asked act) past own k.cause;
         before = none;
-        called = subst (λ (u : List ℕ). CalledSince (answered_key m.head) u cause.call past) (sym cause.own_user) (subst (λ (x : FsCall). CalledSince (answered_key m.head) guest x past) (sym cause.asks) asked_now);
+        called = subst (λ (u : List ℕ). CalledSince (answered_key m.head) u k.cause.call past) (sym k.cause.own_user) (subst (λ (x : FsCall). CalledSince (answered_key m.head) guest x past) (sym k.own) asked_now);
       });
     }
 
@@ -386,13 +390,13 @@ ended_calls s c past n p act m cache held h d w head call f = record {
   safe = λ q above. elim (up_to_by _ _ _ _ f.behind) [
     | inl l ↦ absurd (stale_none h.floors c past n head call m f q above d.fact d.epoch d.number l)
     | inr same ↦ subst (λ (x : FsCall). IsSafe c.clock (c.clients n).epoch (c.clients n).last None cache (IsAged (view_after c n (holding h.floors n held) (ended (c.clients n) cache)) head) head x) (sym (f.own act d.running same.0 same.1))
-        (ended_safe (c.clients n).spoiled n (asked act) (spot (view h.floors c n)) c.server.lasting.boot m m.carried past c.clock (c.clients n).epoch (c.clients n).last cache (IsAged (view_after c n (holding h.floors n held) (ended (c.clients n) cache)) head) head d.answers.fits (not_ran (view h.floors c n) head.epoch head.number ((h.clients n).lower head.epoch head.number above) f.behind)
+        (ended_safe (c.clients n).spoiled n (call_of (c.clients n) act) (spot (view h.floors c n)) c.server.lasting.boot m m.carried past c.clock (c.clients n).epoch (c.clients n).last cache (IsAged (view_after c n (holding h.floors n held) (ended (c.clients n) cache)) head) head d.answers.fits (not_ran (view h.floors c n) head.epoch head.number ((h.clients n).lower head.epoch head.number above) f.behind)
         (λ code is. (old_held s c past n act m held h d (w code is) (below_boot s c past n act m head h d same.0 same.1 above), λ a y. absurd cc)))
   ];
 }
 
 pub ended_reply : (s : Script) (c : Cell) (past : List Entry) (n : ℕ) (cache : List CacheEntry) (held : ℕ) (e : Entry) → (h : Holds s c past) → (m : Message) → ReplyFact n (view h.floors c n) past m → ReplyFact n (view_after c n (holding h.floors n held) (ended (c.clients n) cache)) (e ∷ past) m
-ended_reply s c past n cache held e h m f = idle_reply n (view h.floors c n) (view_after c n (holding h.floors n held) (ended (c.clients n) cache)) past (e ∷ past) m refl refl refl refl refl refl refl f
+ended_reply s c past n cache held e h m f = idle_reply n (view h.floors c n) (view_after c n (holding h.floors n held) (ended (c.clients n) cache)) past e m refl refl refl refl refl refl refl f
 
 pub ended_facts : (s : Script) (c : Cell) (past : List Entry) (n : ℕ) (cache : List CacheEntry) (held : ℕ) (e : Entry) → (h : Holds s c past) → held ≤ c.server.lasting.boot → running s (Client n) (lines_of (e ∷ past)) ≡ None → HasCurrent n (view_after c n (holding h.floors n held) (ended (c.clients n) cache)) (e ∷ past) → HasOld cache (lines_of (e ∷ past)) → ((f : Fid) → Reached (Client n) f (index_in (last_version f (lines_of (e ∷ past)))) (e ∷ past))
     → ClientFacts s n (view_after c n (holding h.floors n held) (ended (c.clients n) cache)) (e ∷ past)
@@ -464,10 +468,14 @@ takes_refused s c past n p act head code h d =
     (reached_still s c past n e h (answered_reach n n p code past) (λ f. refl)))
     (ended_calls s c past n p act m (c.clients n).cache held h d (λ k is. refl)) (ended_reply s c past n (c.clients n).cache held e h) (nothing_new _ _) (λ a x z. absurd cc) refl
 
--- the client calls again
+-- the client calls again, with these promises to give back
+pub again_with : (s : Script) (c : Cell) (past : List Entry) (n p : ℕ) (gs : List Gift) (act : Going) (m : Message) → (h : Holds s c past) → AreGifts gs → Due c h.floors past n p act m → volume_changed (asked act) ≡ None → Goes s past (client_moves c n (calls_step (Client n) (with_gifts gs (c.clients n)) act (λ ls. lines.Given p ∷ ls)))
+again_with s c past n p gs act m h given d shut =
+    asks s c past n gs act (lines.Given p) h given (tt, tt) (told_passes s c past n p _ _ h d.heard) (λ g. told_file n p g (actors.Node (Client n)) _ past) (λ g. told_reach n p g (actors.Node (Client n)) _ past) (λ g o. (h.clients n).made act d.running g o (inl shut)) (λ b y. ap (λ (z : Going). volume_changed (asked z)) (some_of b act (sym y ∙ d.running)) ∙ shut) ((h.clients n).runs act d.running) (λ z. d.running)
+
+-- as they are
 pub again_goes : (s : Script) (c : Cell) (past : List Entry) (n p : ℕ) (act : Going) (m : Message) → (h : Holds s c past) → Due c h.floors past n p act m → volume_changed (asked act) ≡ None → Goes s past (client_moves c n (calls_again (Client n) (c.clients n) p act))
-again_goes s c past n p act m h d shut =
-    asks s c past n act (lines.Given p) h (tt, tt) (told_passes s c past n p _ _ h d.heard) (λ g. told_file n p g (actors.Node (Client n)) _ past) (λ g. told_reach n p g (actors.Node (Client n)) _ past) (λ g o. (h.clients n).made act d.running g o (inl shut)) (λ b y. ap (λ (z : Going). volume_changed (asked z)) (some_of b act (sym y ∙ d.running)) ∙ shut) ((h.clients n).runs act d.running) (λ z. d.running)
+again_goes s c past n p act m h d shut = again_with s c past n p (c.clients n).gifts act m h (h.own n).gifts d shut
 
 -- ---- what was fetched is read, and the act goes on
 
@@ -616,7 +624,7 @@ gone_calls s c past n p act m front F w h d shut same W apart old =
     let ls : List Line = F ++ looked (Client n) w.looks [] in
     let k = h.clients n in
     let y : ClientState = asking (record x { cache = w.cache }) w.act in
-    let its : IsClient s y = client_asking s c past (record x { cache = w.cache }) w.act h (record { table = (h.own n).table; user = (h.own n).user; callee = λ b z. (h.own n).callee b z; apart = apart }) in
+    let its : IsClient s y = client_asking s c past (record x { cache = w.cache }) w.act h (record { table = (h.own n).table; user = (h.own n).user; callee = λ b z. (h.own n).callee b z; apart = apart; gifts = (h.own n).gifts }) in
     let ms : List Message = call_message (Client n) y w.act ∷ [] in
     let e : Entry = step_entry n (ls ++ []) ms in
     let q : AreQuiet n (ls ++ []) = quiet_more n ls [] W.quiet tt in
@@ -627,6 +635,7 @@ gone_calls s c past n p act m front F w h d shut same W apart old =
     let over : (q : Message) → ReplyFact n (view h.floors c n) past q → ReplyFact n v (e ∷ past) q = λ q r. record {
       behind = up_to_next _ _ _ _ r.behind;
       booted = r.booted;
+      ran = ran_over q.head e past r.ran;
       recent = λ y z. absurd (next_not _ _ _ _ r.behind y z);
       tied = r.tied;
       answers = λ b runs y z. absurd (next_not _ _ _ _ r.behind y z);
@@ -650,7 +659,7 @@ gone_calls s c past n p act m front F w h d shut same W apart old =
       current = λ f q found lasts. walk_current s c past n c.server.lasting.boot ls w.act w.cache [] ms v f q W tt (ends_here n) (le_refl _) (inl never) found lasts;
       old = old_over w.cache (lines_of past) (lines_of (e ∷ past)) (λ f i b y. (quiet_grant n n f (ls ++ []) ms past q).version i b (lines_of past) y) old;
       runs = λ b y. at ∙ y;
-      asked = λ b z. subst (λ (x : Going). CalledSince (last_key n v) guest (asked x) (e ∷ past)) (some_of w.act b z) (inl (refl, inl (refl, carried_is y w.act its.user)));
+      asked = λ b z. subst (λ (x : Going). CalledSince (last_key n v) guest (its_call v.gifts x) (e ∷ past)) (some_of w.act b z) (inl (refl, inl (refl, carried_is y w.act its.user)));
       reached = walk_reached s c past n c.server.lasting.boot ls w.act w.cache [] ms W tt (ends_here n);
     })
     (λ head' call r. record {
@@ -660,7 +669,7 @@ gone_calls s c past n p act m front F w h d shut same W apart old =
       own = λ b y z w. absurd (next_not _ _ _ _ r.behind z w);
       safe = λ q above. elim (up_to_by _ _ _ _ r.behind) [
         | inl l ↦ absurd (stale_none h.floors c past n head' call m r q above d.fact d.epoch d.number l)
-        | inr same ↦ inl (ap volume_changed (r.own act d.running same.0 same.1) ∙ shut)
+        | inr same ↦ inl (ap volume_changed (r.own act d.running same.0 same.1) ∙ (asks_changed x.gifts act ∙ shut))
       ];
     })
     over (own_call h.floors c past n g y w.act (ls ++ []) k.known its refl at (new_one s c past n y w.act h refl refl)) (λ b x z. inr (record { act = act; runs = d.running; read = shut })) refl)
@@ -1037,10 +1046,9 @@ takes_saved s c past n p act call f b i status m h d none not same told kept up 
 reply_not : (reply : FsReply) (code : Code) → carried.Reply (tell.File reply) ≡ carried.Refusal code → ⊥
 reply_not reply code e = absurd cc
 
-pub takes_other : (s : Script) (c : Cell) (past : List Entry) (n p : ℕ) (act : Going) (m : Message) (reply : FsReply) → (h : Holds s c past) → Due c h.floors past n p act m → m.carried ≡ carried.Reply (tell.File reply) → Goes s past (client_moves c n (takes_plain (Client n) (c.clients n) p (asked act)))
-takes_other s c past n p act m reply h d is =
+pub takes_other : (s : Script) (c : Cell) (past : List Entry) (n p : ℕ) (act : Going) (call : FsCall) (m : Message) (reply : FsReply) → (h : Holds s c past) → Due c h.floors past n p act m → m.carried ≡ carried.Reply (tell.File reply) → ((f : Fid) → is_in_scope call f ≡ is_in_scope (asked act) f) → Goes s past (client_moves c n (takes_plain (Client n) (c.clients n) p call))
+takes_other s c past n p act call m reply h d is sc =
     let x : ClientState = c.clients n in
-    let call : FsCall = asked act in
     let cache : List CacheEntry = left_after call x.cache in
     let es : List CacheEntry = dropped_after call x.cache in
     let e : Entry = step_entry n (drop_lines n (was_given p) zero_code es) [] in
@@ -1056,7 +1064,7 @@ takes_other s c past n p act m reply h d is =
     let out : InScope call k → ⊥ = λ z. yes_no (is_in_scope call k) z was.1 in
     let file : PassesFile n k e past = drop_file n n (was_given p) zero_code es past k (none_where (is_in_scope call) (Client n) (Client n) k x.cache was.1) in
     current_over n k u (view h.floors c n) (view_after c n g (ended x cache)) e past (le_refl _) file
-    (ended_stands h.floors c past n cache g e k u.index (λ y. drop_seen n n (was_given p) zero_code es past k u.index (le_trans (le_of_eq ((h.clients n).made act d.running k out (inr (record { entry = u; found = was.0; lasts = lasts })))) (omega arith)) y) (stays n k e past file.grant (last k)) (λ a is sc ran. out (subst (λ (z : Going). InScope (asked z) k) (sym (some_of act a (sym d.running ∙ is))) sc)))
+    (ended_stands h.floors c past n cache g e k u.index (λ y. drop_seen n n (was_given p) zero_code es past k u.index (le_trans (le_of_eq ((h.clients n).made act d.running k (λ z. out (sc k ∙ z)) (inr (record { entry = u; found = was.0; lasts = lasts })))) (omega arith)) y) (stays n k e past file.grant (last k)) (λ a is in_it ran. out (sc k ∙ subst (λ (z : Going). InScope (asked z) k) (sym (some_of act a (sym d.running ∙ is))) in_it)))
     ((h.clients n).current k u was.0 lasts))
     (old_over cache (lines_of past) (lines_of (e ∷ past)) (λ k i b z. (skips n zero_code es).version k i b (lines.Given p ∷ lines_of past) z) (old_within x.cache cache (lines_of past) (λ k u z. (left_out (is_in_scope call) k x.cache u z).0) (h.clients n).old))
     (reached_still s c past n e h (drop_reach n n (was_given p) zero_code es past) last))
@@ -1179,9 +1187,9 @@ rights_goes s c past n p act m f i release text h d not_refused asks fits =
     (ended_calls s c past n p act m cache held h d (λ code z. absurd (not_refused code z))) (ended_reply s c past n cache held e h) (nothing_new _ _) (λ b y z. absurd cc) refl)
 
 pub list_goes : (s : Script) (c : Cell) (past : List Entry) (n p : ℕ) (act : Going) (call : FsCall) (head : Head) (text : List ℕ) (status : AfsFetchStatus) (sync : AfsVolSync) → (h : Holds s c past) → Due c h.floors past n p act (record { head = head; carried = carried.Reply (tell.File (replies.FetchAcl text status sync)) })
-    → asked act ≡ call → FitsList n (spot (view h.floors c n)) (record { head = head; carried = carried.Reply (tell.File (replies.FetchAcl text status sync)) }) past text status call → Goes s past (client_moves c n (takes_list (Client n) (c.clients n) c.clock p act text status sync call))
-list_goes s c past n p act (calls.FetchAcl f) head text status sync h d same fits = rights_goes s c past n p act _ f status.sync_counter sync.release text h d (λ code z. reply_not (replies.FetchAcl text status sync) code z) same fits
-list_goes s c past n p act call head text status sync h d same fits = subst (λ (k : FsCall). Goes s past (client_moves c n (takes_plain (Client n) (c.clients n) p k))) same (takes_other s c past n p act _ (replies.FetchAcl text status sync) h d refl)
+    → call_of (c.clients n) act ≡ call → FitsList n (spot (view h.floors c n)) (record { head = head; carried = carried.Reply (tell.File (replies.FetchAcl text status sync)) }) past text status call → Goes s past (client_moves c n (takes_list (Client n) (c.clients n) c.clock p act text status sync call))
+list_goes s c past n p act (calls.FetchAcl f) head text status sync h d same fits = rights_goes s c past n p act _ f status.sync_counter sync.release text h d (λ code z. reply_not (replies.FetchAcl text status sync) code z) (asks_just (c.clients n).gifts act (calls.FetchAcl f) refl same) fits
+list_goes s c past n p act call head text status sync h d same fits = takes_other s c past n p act call _ (replies.FetchAcl text status sync) h d refl (λ f. ap (λ (k : FsCall). is_in_scope k f) (sym same) ∙ asks_scope (c.clients n).gifts act f)
 
 -- ---- a boot notice
 
@@ -1193,7 +1201,7 @@ pub resends_goes : (s : Script) (c : Cell) (past : List Entry) (n p : ℕ) (act 
 resends_goes s c past n p act m boot h d le runs =
     let old : ClientState = c.clients n in
     let x : ClientState = booted old boot in
-    let kind : IsClient s x = record { table = (h.own n).table; user = (h.own n).user; callee = λ a z. (h.own n).callee a z; apart = (h.own n).apart } in
+    let kind : IsClient s x = record { table = (h.own n).table; user = (h.own n).user; callee = λ a z. (h.own n).callee a z; apart = (h.own n).apart; gifts = (h.own n).gifts } in
     let known : boot_of the_server x.boots ≡ boot = ap (λ (q : Node). boot_of the_server (with_boot q boot old.boots)) ((h.own n).callee act runs) ∙ boot_with the_server boot old.boots in
     let ms : List Message = call_message (Client n) x act ∷ [] in
     let e : Entry = step_entry n (lines.Given p ∷ []) ms in
@@ -1205,8 +1213,8 @@ resends_goes s c past n p act m boot h d le runs =
 
 -- ---- the row, by its cases
 
-pub plain_goes : (s : Script) (c : Cell) (past : List Entry) (n p : ℕ) (act : Going) (call : FsCall) (m : Message) (reply : FsReply) → (h : Holds s c past) → Due c h.floors past n p act m → m.carried ≡ carried.Reply (tell.File reply) → asked act ≡ call → Goes s past (client_moves c n (takes_plain (Client n) (c.clients n) p call))
-plain_goes s c past n p act call m reply h d is same = subst (λ (x : FsCall). Goes s past (client_moves c n (takes_plain (Client n) (c.clients n) p x))) same (takes_other s c past n p act m reply h d is)
+pub plain_goes : (s : Script) (c : Cell) (past : List Entry) (n p : ℕ) (act : Going) (call : FsCall) (m : Message) (reply : FsReply) → (h : Holds s c past) → Due c h.floors past n p act m → m.carried ≡ carried.Reply (tell.File reply) → call_of (c.clients n) act ≡ call → Goes s past (client_moves c n (takes_plain (Client n) (c.clients n) p call))
+plain_goes s c past n p act call m reply h d is same = takes_other s c past n p act call m reply h d is (λ f. ap (λ (k : FsCall). is_in_scope k f) (sym same) ∙ asks_scope (c.clients n).gifts act f)
 
 -- a reply to a reading call that isn't spent isn't spoiled
 pub spent_shut : (sp : Bool) (o : Option ℕ) → (sp && is_reading o) ≡ true → o ≡ None
@@ -1224,19 +1232,19 @@ pub entry_goes : (s : Script) (c : Cell) (past : List Entry) (n p : ℕ) (act : 
     → is_promised body ≡ true → u.server ≡ (c.clients n).callee → Shows u.fid u.index body past (lines.Given p ∷ []) → IsFetched (c.clients n).spoiled n u.fid u.index u.status u.body u.expiry (record { head = head; carried = carried.Reply (tell.File reply) }) past → Goes s past (client_moves c n (takes_entry (Client n) (c.clients n) c.clock p act u body))
 entry_goes s c past n p act head reply u body h d fresh shut kind at shown fits =
     fetched_goes s c past n p act u body _ (nat_lt c.clock u.expiry) h d (λ code z. reply_not reply code z) shut kind (at ∙ (h.own n).callee act d.running) shown
-    (subst (λ (sp : Bool). IsFetched sp n u.fid u.index u.status u.body u.expiry (record { head = head; carried = carried.Reply (tell.File reply) }) past) (fresh_of (c.clients n).spoiled (volume_changed (call_of (c.clients n) act)) fresh (ap volume_changed (call_is (c.clients n) act) ∙ shut)) fits) refl
+    (subst (λ (sp : Bool). IsFetched sp n u.fid u.index u.status u.body u.expiry (record { head = head; carried = carried.Reply (tell.File reply) }) past) (fresh_of (c.clients n).spoiled (volume_changed (call_of (c.clients n) act)) fresh (asks_changed (c.clients n).gifts act ∙ shut)) fits) refl
 
 pub data_goes : (s : Script) (c : Cell) (past : List Entry) (n p : ℕ) (act : Going) (call : FsCall) (head : Head) (contents : List ℕ) (status : AfsFetchStatus) (callback : AfsCallBack) (sync : AfsVolSync) → (h : Holds s c past) → Due c h.floors past n p act (record { head = head; carried = carried.Reply (tell.File (replies.FetchData contents status callback sync)) })
-    → is_spent (c.clients n) act ≡ false → asked act ≡ call → FitsData (c.clients n).spoiled n (spot (view h.floors c n)) (record { head = head; carried = carried.Reply (tell.File (replies.FetchData contents status callback sync)) }) past contents status callback call → Goes s past (client_moves c n (takes_data (Client n) (c.clients n) c.clock p act contents status callback sync call))
+    → is_spent (c.clients n) act ≡ false → call_of (c.clients n) act ≡ call → FitsData (c.clients n).spoiled n (spot (view h.floors c n)) (record { head = head; carried = carried.Reply (tell.File (replies.FetchData contents status callback sync)) }) past contents status callback call → Goes s past (client_moves c n (takes_data (Client n) (c.clients n) c.clock p act contents status callback sync call))
 data_goes s c past n p act (calls.FetchData f pp w) head contents status callback sync h d fresh same fits =
-    entry_goes s c past n p act head (replies.FetchData contents status callback sync) (entry_told (c.clients n).callee f status callback sync (Some (body_told status.file_type contents))) (seen.Contents (body_told status.file_type contents)) h d fresh (ap volume_changed same) refl refl
+    entry_goes s c past n p act head (replies.FetchData contents status callback sync) (entry_told (c.clients n).callee f status callback sync (Some (body_told status.file_type contents))) (seen.Contents (body_told status.file_type contents)) h d fresh (ap volume_changed (asks_just (c.clients n).gifts act (calls.FetchData f pp w) refl same)) refl refl
     (subst (λ (b : Body). HasVersion f status.sync_counter b (lines_of past)) (sym fits.held.whole.holds) fits.held.whole.told) fits
 data_goes s c past n p act call head contents status callback sync h d fresh same fits = plain_goes s c past n p act call _ (replies.FetchData contents status callback sync) h d refl same
 
 pub status_goes : (s : Script) (c : Cell) (past : List Entry) (n p : ℕ) (act : Going) (call : FsCall) (head : Head) (status : AfsFetchStatus) (callback : AfsCallBack) (sync : AfsVolSync) → (h : Holds s c past) → Due c h.floors past n p act (record { head = head; carried = carried.Reply (tell.File (replies.FetchStatus status callback sync)) })
-    → is_spent (c.clients n) act ≡ false → asked act ≡ call → FitsShown (c.clients n).spoiled n (spot (view h.floors c n)) (record { head = head; carried = carried.Reply (tell.File (replies.FetchStatus status callback sync)) }) past status callback call → Goes s past (client_moves c n (takes_shown (Client n) (c.clients n) c.clock p act status callback sync call))
+    → is_spent (c.clients n) act ≡ false → call_of (c.clients n) act ≡ call → FitsShown (c.clients n).spoiled n (spot (view h.floors c n)) (record { head = head; carried = carried.Reply (tell.File (replies.FetchStatus status callback sync)) }) past status callback call → Goes s past (client_moves c n (takes_shown (Client n) (c.clients n) c.clock p act status callback sync call))
 status_goes s c past n p act (calls.FetchStatus f) head status callback sync h d fresh same fits =
-    entry_goes s c past n p act head (replies.FetchStatus status callback sync) (entry_told (c.clients n).callee f status callback sync None) (seen.Status (status_told status)) h d fresh (ap volume_changed same) refl refl
+    entry_goes s c past n p act head (replies.FetchStatus status callback sync) (entry_told (c.clients n).callee f status callback sync None) (seen.Status (status_told status)) h d fresh (ap volume_changed (asks_just (c.clients n).gifts act (calls.FetchStatus f) refl same)) refl refl
     ((fits.held.whole.is, fits.held.whole.told), fits.held.whole.been) fits
 status_goes s c past n p act call head status callback sync h d fresh same fits = plain_goes s c past n p act call _ (replies.FetchStatus status callback sync) h d refl same
 
@@ -1248,19 +1256,19 @@ told_fetched sp n m past at server sync (f ∷ fs) (s ∷ ss) (c ∷ cs) fresh i
     ((is, (h.0.0, subst (λ (b : Bool). IsFetched b n f s.sync_counter (status_told s) None c.expiration_time m past) fresh h.0.1)), told_fetched sp n m past at server sync fs ss cs fresh is h.1)
 
 pub bulk_goes : (s : Script) (c : Cell) (past : List Entry) (n p : ℕ) (act : Going) (call : FsCall) (head : Head) (statuses : List AfsFetchStatus) (callbacks : List AfsCallBack) (sync : AfsVolSync) → (h : Holds s c past) → Due c h.floors past n p act (record { head = head; carried = carried.Reply (tell.File (replies.BulkStatus statuses callbacks sync)) })
-    → is_spent (c.clients n) act ≡ false → asked act ≡ call → FitsBulk (c.clients n).spoiled n (spot (view h.floors c n)) (record { head = head; carried = carried.Reply (tell.File (replies.BulkStatus statuses callbacks sync)) }) past statuses callbacks call → Goes s past (client_moves c n (takes_bulk (Client n) (c.clients n) c.clock p act statuses callbacks sync call))
+    → is_spent (c.clients n) act ≡ false → call_of (c.clients n) act ≡ call → FitsBulk (c.clients n).spoiled n (spot (view h.floors c n)) (record { head = head; carried = carried.Reply (tell.File (replies.BulkStatus statuses callbacks sync)) }) past statuses callbacks call → Goes s past (client_moves c n (takes_bulk (Client n) (c.clients n) c.clock p act statuses callbacks sync call))
 bulk_goes s c past n p act (calls.BulkStatus fids) head statuses callbacks sync h d fresh same fits =
     let us : List CacheEntry = entries_told (c.clients n).callee sync fids statuses callbacks in
-    several_goes (list_any (λ e. not (is_trusted c.clock e)) us) s c past n p act us fits.at _ h d (λ code z. reply_not (replies.BulkStatus statuses callbacks sync) code z) (ap volume_changed same)
-    (told_fetched (c.clients n).spoiled n _ past fits.at (c.clients n).callee sync fids statuses callbacks (fresh_of (c.clients n).spoiled (volume_changed (call_of (c.clients n) act)) fresh (ap volume_changed (call_is (c.clients n) act ∙ same))) ((h.own n).callee act d.running) fits.all) refl
+    several_goes (list_any (λ e. not (is_trusted c.clock e)) us) s c past n p act us fits.at _ h d (λ code z. reply_not (replies.BulkStatus statuses callbacks sync) code z) (ap volume_changed (asks_just (c.clients n).gifts act (calls.BulkStatus fids) refl same))
+    (told_fetched (c.clients n).spoiled n _ past fits.at (c.clients n).callee sync fids statuses callbacks (fresh_of (c.clients n).spoiled (volume_changed (call_of (c.clients n) act)) fresh (ap volume_changed same)) ((h.own n).callee act d.running) fits.all) refl
 bulk_goes s c past n p act call head statuses callbacks sync h d fresh same fits = plain_goes s c past n p act call _ (replies.BulkStatus statuses callbacks sync) h d refl same
 
 pub data_stored : (t : Bool) (s : Script) (c : Cell) (past : List Entry) (n p : ℕ) (act : Going) (st : AfsStoreStatus) (pp ww ll : ℤ) (f : Fid) (b : List ℕ) (status : AfsFetchStatus) (m : Message) (reply : FsReply) → (h : Holds s c past) → Due c h.floors past n p act m → m.carried ≡ carried.Reply (tell.File reply) → stored_index m.carried ≡ Some status.sync_counter
-    → asked act ≡ calls.StoreData f st pp ww ll b → FitsSet n (spot (view h.floors c n)) m past status (calls.StoreData f st pp ww ll b)
+    → call_of (c.clients n) act ≡ calls.StoreData f st pp ww ll b → FitsSet n (spot (view h.floors c n)) m past status (calls.StoreData f st pp ww ll b)
     → Goes s past (client_moves c n (cond t (takes_plain (Client n) (c.clients n) p (calls.StoreData f st pp ww ll b)) (takes_stored (Client n) (c.clients n) c.clock p f status.sync_counter (status_told status) (λ body. Some (bodies.File b)))))
 data_stored true s c past n p act st pp ww ll f b status m reply h d is told same fits = plain_goes s c past n p act (calls.StoreData f st pp ww ll b) m reply h d is same
 data_stored false s c past n p act st pp ww ll f b status m reply h d is told same fits =
-    takes_saved s c past n p act (calls.StoreData f st pp ww ll b) f (λ body. Some (bodies.File b)) status.sync_counter (status_told status) m h d (ap code_told is) (λ code x. absurd (reply_not reply code (sym is ∙ x))) (record { asks = same; scope = λ g. refl; changed = λ k g server newer o older w. w }) told fits.1.0 fits.1.1 (λ x found lasts. record { is = bodies.File b; told = fits.0.0; holds = refl; been = fits.0.1 })
+    takes_saved s c past n p act (calls.StoreData f st pp ww ll b) f (λ body. Some (bodies.File b)) status.sync_counter (status_told status) m h d (ap code_told is) (λ code x. absurd (reply_not reply code (sym is ∙ x))) (record { asks = asks_just (c.clients n).gifts act (calls.StoreData f st pp ww ll b) refl same; scope = λ g. refl; changed = λ k g server newer o older w. w }) told fits.1.0 fits.1.1 (λ x found lasts. record { is = bodies.File b; told = fits.0.0; holds = refl; been = fits.0.1 })
 
 -- the entry stands just below the new index, so its body is that of the version before
 same_body : (b : Option Body) (is body : Body) → IsBody b is → is ≡ body → IsBody b body
@@ -1281,23 +1289,51 @@ left_body s c past n f index status h kept been t x found lasts =
     record { is = kept.body; told = kept.new; holds = same_body x.body w.is kept.body w.holds (sym (h.one f kept.before kept.body w.is kept.old had)); been = been }
 
 pub status_by : (t u : Bool) (s : Script) (c : Cell) (past : List Entry) (n p : ℕ) (act : Going) (call : FsCall) (f : Fid) (index : ℕ) (status : ReadStatus) (m : Message) (reply : FsReply) → (h : Holds s c past) → Due c h.floors past n p act m → m.carried ≡ carried.Reply (tell.File reply) → stored_index m.carried ≡ Some index
-    → IsStoreBy act call f → IsStored (spot (view h.floors c n)) m → Reached (Client n) f index past → IsKeptBody f index (lines_of past) → HasBeen f index (seen.Status status) past → is_below c.clock index (find_cached f (c.clients n).cache) ≡ u
+    → IsStoreBy act call f → call_of (c.clients n) act ≡ call → IsStored (spot (view h.floors c n)) m → Reached (Client n) f index past → IsKeptBody f index (lines_of past) → HasBeen f index (seen.Status status) past → is_below c.clock index (find_cached f (c.clients n).cache) ≡ u
     → Goes s past (client_moves c n (cond (not t && u) (takes_stored (Client n) (c.clients n) c.clock p f index status (λ body. body)) (takes_plain (Client n) (c.clients n) p call)))
-status_by true u s c past n p act call f index status m reply h d is told same stored up kept been below = plain_goes s c past n p act call m reply h d is same.asks
-status_by false false s c past n p act call f index status m reply h d is told same stored up kept been below = plain_goes s c past n p act call m reply h d is same.asks
-status_by false true s c past n p act call f index status m reply h d is told same stored up kept been below =
+status_by true u s c past n p act call f index status m reply h d is told same just stored up kept been below = plain_goes s c past n p act call m reply h d is just
+status_by false false s c past n p act call f index status m reply h d is told same just stored up kept been below = plain_goes s c past n p act call m reply h d is just
+status_by false true s c past n p act call f index status m reply h d is told same just stored up kept been below =
     takes_saved s c past n p act call f (λ body. body) index status m h d (ap code_told is) (λ code x. absurd (reply_not reply code (sym is ∙ x))) same told stored up (left_body s c past n f index status h kept been below)
 
 pub set_goes : (s : Script) (c : Cell) (past : List Entry) (n p : ℕ) (act : Going) (call : FsCall) (status : AfsFetchStatus) (m : Message) (reply : FsReply) → (h : Holds s c past) → Due c h.floors past n p act m → m.carried ≡ carried.Reply (tell.File reply) → stored_index m.carried ≡ Some status.sync_counter
-    → asked act ≡ call → FitsSet n (spot (view h.floors c n)) m past status call → Goes s past (client_moves c n (takes_set (Client n) (c.clients n) c.clock p status call))
+    → call_of (c.clients n) act ≡ call → FitsSet n (spot (view h.floors c n)) m past status call → Goes s past (client_moves c n (takes_set (Client n) (c.clients n) c.clock p status call))
 set_goes s c past n p act (calls.StoreData f st pp ww ll b) status m reply h d is told same fits = data_stored (c.clients n).spoiled s c past n p act st pp ww ll f b status m reply h d is told same fits
 set_goes s c past n p act (calls.StoreAcl f acl) status m reply h d is told same fits =
-    status_by (c.clients n).spoiled (is_below c.clock status.sync_counter (find_cached f (c.clients n).cache)) s c past n p act (calls.StoreAcl f acl) f status.sync_counter (status_told status) m reply h d is told (record { asks = same; scope = λ g. refl; changed = λ k g server newer o older w. w }) fits.1.0 fits.1.1 fits.0.0 fits.0.1 refl
+    status_by (c.clients n).spoiled (is_below c.clock status.sync_counter (find_cached f (c.clients n).cache)) s c past n p act (calls.StoreAcl f acl) f status.sync_counter (status_told status) m reply h d is told (record { asks = asks_just (c.clients n).gifts act _ refl same; scope = λ g. refl; changed = λ k g server newer o older w. w }) same fits.1.0 fits.1.1 fits.0.0 fits.0.1 refl
 set_goes s c past n p act (calls.StoreStatus f st) status m reply h d is told same fits =
-    status_by (c.clients n).spoiled (is_below c.clock status.sync_counter (find_cached f (c.clients n).cache)) s c past n p act (calls.StoreStatus f st) f status.sync_counter (status_told status) m reply h d is told (record { asks = same; scope = λ g. refl; changed = λ k g server newer o older w. w }) fits.1.0 fits.1.1 fits.0.0 fits.0.1 refl
+    status_by (c.clients n).spoiled (is_below c.clock status.sync_counter (find_cached f (c.clients n).cache)) s c past n p act (calls.StoreStatus f st) f status.sync_counter (status_told status) m reply h d is told (record { asks = asks_just (c.clients n).gifts act _ refl same; scope = λ g. refl; changed = λ k g server newer o older w. w }) same fits.1.0 fits.1.1 fits.0.0 fits.0.1 refl
 set_goes s c past n p act call status m reply h d is told same fits = plain_goes s c past n p act call m reply h d is same
 
-pub takes_goes : (s : Script) (c : Cell) (past : List Entry) (n p : ℕ) (act : Going) (call : FsCall) (head : Head) (reply : FsReply) → (h : Holds s c past) → Due c h.floors past n p act (record { head = head; carried = carried.Reply (tell.File reply) }) → is_spent (c.clients n) act ≡ false → asked act ≡ call → Goes s past (client_moves c n (takes (Client n) (c.clients n) c.clock p act call reply))
+-- ---- promises were given back
+
+all_left : (cache : List CacheEntry) → filter (λ (e : CacheEntry). true) cache ≡ cache
+all_left [] = refl
+all_left (u ∷ cache) = ap (λ (es : List CacheEntry). u ∷ es) (all_left cache)
+
+none_dropped : (cache : List CacheEntry) → filter (λ (e : CacheEntry). false) cache ≡ []
+none_dropped [] = refl
+none_dropped (u ∷ cache) = none_dropped cache
+
+not_true : (b : Bool) → (b ≡ true → ⊥) → false ≡ b
+not_true true w = absurd (w refl)
+not_true false w = refl
+
+-- the next ones are, or the act is done
+more_given : (gs : List Gift) (s : Script) (c : Cell) (past : List Entry) (n p : ℕ) (act : Going) (m : Message) (reply : FsReply) → (h : Holds s c past) → AreGifts gs → Due c h.floors past n p act m → m.carried ≡ carried.Reply (tell.File reply) → volume_changed (asked act) ≡ None
+    → Goes s past (client_moves c n (gives_by (Client n) (c.clients n) (given p) act gs))
+more_given [] s c past n p act m reply h some d is shut =
+    subst (λ (cs : List CacheEntry). Goes s past (client_moves c n (ends_step (Client n) (c.clients n) cs (given p) zero_code))) (all_left (c.clients n).cache)
+    (subst (λ (es : List CacheEntry). Goes s past (client_moves c n (ends_step (Client n) (c.clients n) (filter (λ (e : CacheEntry). true) (c.clients n).cache) (λ ls. given p (dropped (Client n) es ls)) zero_code))) (none_dropped (c.clients n).cache)
+    (takes_other s c past n p act calls.GetTime m reply h d is (λ f. not_true (is_in_scope (asked act) f) (no_scope (asked act) f shut))))
+more_given (g ∷ gs) s c past n p act m reply h some d is shut = again_with s c past n p (g ∷ gs) act m h some d shut
+
+given_goes : (s : Script) (c : Cell) (past : List Entry) (n p : ℕ) (act : Going) (call : FsCall) (m : Message) (reply : FsReply) → (h : Holds s c past) → Due c h.floors past n p act m → m.carried ≡ carried.Reply (tell.File reply) → call_of (c.clients n) act ≡ call → Goes s past (client_moves c n (takes_given (Client n) (c.clients n) p act call))
+given_goes s c past n p act (calls.GiveUpCallBacks fids callbacks) m reply h d is same =
+    more_given (behind_batch (c.clients n).gifts) s c past n p act m reply h (gifts_later (length (batch (c.clients n).gifts)) (c.clients n).gifts (h.own n).gifts) d is (sym (asks_changed (c.clients n).gifts act) ∙ ap volume_changed same)
+given_goes s c past n p act call m reply h d is same = plain_goes s c past n p act call m reply h d is same
+
+pub takes_goes : (s : Script) (c : Cell) (past : List Entry) (n p : ℕ) (act : Going) (call : FsCall) (head : Head) (reply : FsReply) → (h : Holds s c past) → Due c h.floors past n p act (record { head = head; carried = carried.Reply (tell.File reply) }) → is_spent (c.clients n) act ≡ false → call_of (c.clients n) act ≡ call → Goes s past (client_moves c n (takes (Client n) (c.clients n) c.clock p act call reply))
 takes_goes s c past n p act call head (replies.FetchData contents status callback sync) h d fresh same = data_goes s c past n p act call head contents status callback sync h d fresh same (subst (λ (x : FsCall). FitsData (c.clients n).spoiled n (spot (view h.floors c n)) (record { head = head; carried = carried.Reply (tell.File (replies.FetchData contents status callback sync)) }) past contents status callback x) same d.answers.fits)
 takes_goes s c past n p act call head (replies.FetchAcl text status sync) h d fresh same = list_goes s c past n p act call head text status sync h d same (subst (λ (x : FsCall). FitsList n (spot (view h.floors c n)) (record { head = head; carried = carried.Reply (tell.File (replies.FetchAcl text status sync)) }) past text status x) same d.answers.fits)
 takes_goes s c past n p act call head (replies.FetchStatus status callback sync) h d fresh same = status_goes s c past n p act call head status callback sync h d fresh same (subst (λ (x : FsCall). FitsShown (c.clients n).spoiled n (spot (view h.floors c n)) (record { head = head; carried = carried.Reply (tell.File (replies.FetchStatus status callback sync)) }) past status callback x) same d.answers.fits)
@@ -1305,11 +1341,12 @@ takes_goes s c past n p act call head (replies.StoreData status sync) h d fresh 
 takes_goes s c past n p act call head (replies.StoreAcl status sync) h d fresh same = set_goes s c past n p act call status _ (replies.StoreAcl status sync) h d refl refl same (subst (λ (x : FsCall). FitsSet n (spot (view h.floors c n)) (record { head = head; carried = carried.Reply (tell.File (replies.StoreAcl status sync)) }) past status x) same d.answers.fits)
 takes_goes s c past n p act call head (replies.StoreStatus status sync) h d fresh same = set_goes s c past n p act call status _ (replies.StoreStatus status sync) h d refl refl same (subst (λ (x : FsCall). FitsSet n (spot (view h.floors c n)) (record { head = head; carried = carried.Reply (tell.File (replies.StoreStatus status sync)) }) past status x) same d.answers.fits)
 takes_goes s c past n p act call head (replies.BulkStatus statuses callbacks sync) h d fresh same = bulk_goes s c past n p act call head statuses callbacks sync h d fresh same (subst (λ (x : FsCall). FitsBulk (c.clients n).spoiled n (spot (view h.floors c n)) (record { head = head; carried = carried.Reply (tell.File (replies.BulkStatus statuses callbacks sync)) }) past statuses callbacks x) same d.answers.fits)
+takes_goes s c past n p act call head replies.GiveUpCallBacks h d fresh same = given_goes s c past n p act call _ replies.GiveUpCallBacks h d refl same
 takes_goes s c past n p act call head reply h d fresh same = plain_goes s c past n p act call _ reply h d refl same
 
 -- a reply that isn't used
 pub spent_goes : (s : Script) (c : Cell) (past : List Entry) (n p : ℕ) (act : Going) (m : Message) → (h : Holds s c past) → Due c h.floors past n p act m → is_spent (c.clients n) act ≡ true → Goes s past (client_moves c n (calls_again (Client n) (c.clients n) p act))
-spent_goes s c past n p act m h d e = again_goes s c past n p act m h d (ap volume_changed (sym (call_is (c.clients n) act)) ∙ spent_shut (c.clients n).spoiled (volume_changed (call_of (c.clients n) act)) e)
+spent_goes s c past n p act m h d e = again_goes s c past n p act m h d (sym (asks_changed (c.clients n).gifts act) ∙ spent_shut (c.clients n).spoiled (volume_changed (call_of (c.clients n) act)) e)
 
 -- no refusal tells to ask again
 final_goes : (busy : Bool) (s : Script) (c : Cell) (past : List Entry) (n p : ℕ) (act : Going) (head : Head) (code : Code) → (h : Holds s c past) → Due c h.floors past n p act (record { head = head; carried = carried.Refusal code }) → busy ≡ false
@@ -1325,7 +1362,7 @@ refused_goes s c past n p act head code false h d e = final_goes (is_busy_code c
 pub replied_goes : (s : Script) (c : Cell) (past : List Entry) (n p : ℕ) (act : Going) (head : Head) (reply : FsReply) (t : Bool) → (h : Holds s c past) → Due c h.floors past n p act (record { head = head; carried = carried.Reply (tell.File reply) }) → is_spent (c.clients n) act ≡ t
     → Goes s past (client_moves c n (cond t (calls_again (Client n) (c.clients n) p act) (takes (Client n) (c.clients n) c.clock p act (call_of (c.clients n) act) reply)))
 replied_goes s c past n p act head reply true h d e = spent_goes s c past n p act _ h d e
-replied_goes s c past n p act head reply false h d e = takes_goes s c past n p act (call_of (c.clients n) act) head reply h d e (sym (call_is (c.clients n) act))
+replied_goes s c past n p act head reply false h d e = takes_goes s c past n p act (call_of (c.clients n) act) head reply h d e refl
 
 -- what is known of a message to the client that may be awaited
 pub record Awaited (c : Cell) (n : ℕ) (act : Going) (m : Message) : Type 0 where

@@ -1,3 +1,4 @@
+use Rattle.afs_law.proofs.Nexts.{as_is, asks_is}
 use Rattle.afs_num.specs.declared.types.Node.{Node}
 use Rattle.afs_rows.specs.States.{Location, Gift, CacheEntry, Seat}
 use Rattle.afs_law.proofs.Basics.{guest, at_put, found-first, Each, IfCall, ByClient, OfClient, by_client, both, same_node-true, same_node-refl, node_apart, client_number, up_to_same, up_to_next, next_not, below_not, at_puts, each_map, if_call, raised_up_to, some_of, IfBack, IfDone, same_key-refl, OfCall, UpTo}
@@ -14,16 +15,16 @@ use Rattle.afs_num.specs.declared.messages.Message.{Message}
 use Rattle.afs_ideal.specs.Operations.{volume_changed}
 use Rattle.afs_law.proofs.Backing.{Plain, backed_plain, seated_over, plain_step}
 use Rattle.afs_law.proofs.Edits.{index_in, fid_at, sound_same}
-use Rattle.afs_law.proofs.Facts.{AreApart, IsClient, back_seat, Ghost, IsAged, server_boot, View, view_of, view, desk, last_key, LastRan, ReplyFact, ClientFacts, IsUntrusted, IsSafe, CallFact, CallIn, Holds, Goes, Reading, InScope, IsOne}
+use Rattle.afs_law.proofs.Facts.{AreApart, IsClient, back_seat, Ghost, IsAged, server_boot, View, view_of, view, desk, last_key, LastRan, ReplyFact, ClientFacts, IsUntrusted, IsSafe, CallFact, CallIn, Holds, Goes, Reading, InScope, IsOne, AreGifts, its_call}
 use Rattle.afs_law.proofs.Owing.{BackIn, DoneIn, SeatedIn}
-use Rattle.afs_law.proofs.Passing.{old_over, PassesFile, PassesAct, PassesReach, stays, PassesBoth, PassesSeen, current_over, reply_over, kept_over, client_still, News, more_sent, fallen_over, one_more}
+use Rattle.afs_law.proofs.Passing.{old_over, PassesFile, PassesAct, PassesReach, stays, PassesBoth, PassesSeen, current_over, reply_over, kept_over, client_still, News, more_sent, fallen_over, one_more, ran_over}
 use Rattle.afs_law.proofs.Serving.{told_file, told_reach, told_act, reached_still}
 use Rattle.afs_law.proofs.Turning.{call_good}
 use Rattle.afs_rows.specs.Callbacks.{put, replies_of}
-use Rattle.afs_rows.specs.ClientRow.{volume_asked, server_at, ended, call_by, boot_of, used_first, find_cached, call_of, call_head, call_message, asking, calls_step, ignores}
+use Rattle.afs_rows.specs.ClientRow.{volume_asked, server_at, ended, call_by, boot_of, used_first, find_cached, call_of, call_head, call_message, asking, calls_step, ignores, callee_by, first_server_of}
 use Rattle.afs_rows.specs.Going.{call_for, Need, reads, reads_status, reads_statuses, reads_rights, asks_for, gives_back, answers, next, asked, Going, with_read, read_on, ClientState}
 use Rattle.afs_law.specs.Ideal.{last_version, HasVersion, Accepts, clock_of, reach, is_zero_code, volume_after, call_in, call_under}
-use Rattle.afs_law.specs.Legal.{IsNew, AreGood, AreGoodReplies}
+use Rattle.afs_law.specs.Legal.{IsNew, AreGood, AreGoodReplies, as_asked}
 use Rattle.afs_history.specs.declared.lines.Line.{Line}
 use Rattle.afs_law.specs.Past.{onto, lines_of, sent_of, given_message, running, CalledSince, IsCallUnder, has_begun, called_key, is_called, same_key, Sends}
 use Rattle.afs_rows.specs.Runs.{Entry, message_at}
@@ -243,34 +244,43 @@ quiet s c past n p m h d =
 
 -- ---- a call is sent
 
-call_by_is : (gifts : List Gift) (need : Need) → call_by gifts need ≡ call_for need
-call_by_is gifts (reads f) = refl
-call_by_is gifts (reads_status f) = refl
-call_by_is gifts (reads_statuses fs) = refl
-call_by_is gifts (reads_rights f) = refl
-call_by_is gifts (asks_for call) = refl
-call_by_is gifts gives_back = refl
-call_by_is gifts (answers code) = refl
-
-pub call_is : (x : ClientState) (act : Going) → call_of x act ≡ asked act
-call_is x act = call_by_is x.gifts (next act)
+pub call_is : (x : ClientState) (act : Going) → as_asked (call_of x act) ≡ asked act
+call_is x act = asks_is x.gifts act
 
 -- what a client's call carries
-pub carried_is : (x : ClientState) (act : Going) → x.user ≡ guest → carried.Call x.user (ask.File (call_of x act)) ≡ carried.Call guest (ask.File (asked act))
-carried_is x act who = ap (λ (u : List ℕ). carried.Call u (ask.File (call_of x act))) who ∙ ap (λ (k : FsCall). carried.Call guest (ask.File k)) (call_is x act)
+pub carried_is : (x : ClientState) (act : Going) → x.user ≡ guest → carried.Call x.user (ask.File (call_of x act)) ≡ carried.Call guest (ask.File (call_of x act))
+carried_is x act who = ap (λ (u : List ℕ). carried.Call u (ask.File (call_of x act))) who
+
+-- whom a client of one server asks
+table_callee : (s : Script) (c : Cell) (past : List Entry) (x : ClientState) (id : ℕ) → Holds s c past → IsClient s x → Server (server_at x.table id) ≡ the_server
+table_callee s c past x id h k = ap Server (ap (λ (t : List Location). server_at t id) k.table ∙ h.servers id)
+
+gifts_callee : (gifts : List Gift) → AreGifts gifts → first_server_of gifts ≡ the_server
+gifts_callee [] h = refl
+gifts_callee (g ∷ gs) h = h.0
+
+callee_is : (need : Need) (s : Script) (c : Cell) (past : List Entry) (x : ClientState) → Holds s c past → IsClient s x → callee_by x need ≡ the_server
+callee_is (reads f) s c past x h k = table_callee s c past x _ h k
+callee_is (reads_status f) s c past x h k = table_callee s c past x _ h k
+callee_is (reads_statuses fs) s c past x h k = table_callee s c past x _ h k
+callee_is (reads_rights f) s c past x h k = table_callee s c past x _ h k
+callee_is (asks_for call) s c past x h k = table_callee s c past x _ h k
+callee_is gives_back s c past x h k = gifts_callee x.gifts k.gifts
+callee_is (answers code) s c past x h k = table_callee s c past x _ h k
 
 -- a client that asks next is still one of the script
 pub client_asking : (s : Script) (c : Cell) (past : List Entry) (x : ClientState) (act : Going) → Holds s c past → IsClient s x → IsClient s (asking x act)
 client_asking s c past x act h k = record {
   table = k.table;
   user = k.user;
-  callee = λ a e. ap Server (ap (λ (t : List Location). server_at t (volume_asked (call_for (next act)))) k.table ∙ h.servers (volume_asked (call_for (next act))));
+  callee = λ a e. callee_is (next act) s c past x h k;
   apart = k.apart;
+  gifts = k.gifts;
 }
 
 -- and so is one whose act ended, or that reads another way
 pub client_ended : (s : Script) (x : ClientState) (cache : List CacheEntry) → IsClient s x → AreApart cache → IsClient s (ended x cache)
-client_ended s x cache k a = record { table = k.table; user = k.user; callee = λ act e. absurd cc; apart = a }
+client_ended s x cache k a = record { table = k.table; user = k.user; callee = λ act e. absurd cc; apart = a; gifts = tt }
 
 -- a call that changes nothing has no fid in its scope
 pub scope_volume : (n : ℕ) (o : Option ℕ) → o ≡ None → is_volume n o ≡ true → ⊥
@@ -300,7 +310,10 @@ safe_cache call t e l running cache other aged head w (inr (inr (inl x))) = inr 
 safe_cache call t e l running cache other aged head w (inr (inr (inr x))) = inr (inr (inr x))
 
 pub safe_own : (x : ClientState) (act : Going) (t e l : ℕ) (running : Option Going) (cache : List CacheEntry) (aged : Type 0) (head : Head) → running ≡ Some act → head.epoch ≡ e → head.number ≡ l → IsSafe t e l running cache aged head (call_of x act)
-safe_own x act t e l running cache aged head r y z = inr (inl (record { act = act; runs = r; asks = call_is x act; epoch' = y; number' = z }))
+safe_own x act t e l running cache aged head r y z = elim (as_is (call_of x act) (asked act) (call_is x act)) [
+  | inl none ↦ inl none
+  | inr asks ↦ inr (inl (record { act = act; runs = r; asks = asks; epoch' = y; number' = z }))
+]
 
 -- ---- the call under the key of one that is sent now
 
@@ -378,7 +391,7 @@ own_call {s} fl c past n floor x act ls le kind runs at one =
                   behind = up_to_same _ _ _ _ refl refl;
                   booted = subst (λ (q : Node). boot_of q x.boots ≤ c.server.lasting.boot) (sym to) le;
                   stale = λ l. absurd (below_not _ _ _ _ l (up_to_same _ _ _ _ refl refl));
-                  own = λ b y e k. call_is x act ∙ ap asked (some_of act b (sym runs ∙ y));
+                  own = λ b y e k. ap (call_of x) (some_of act b (sym runs ∙ y));
                   safe = λ q above. safe_own x act c.clock x.epoch x.last x.running x.cache _ (call_head (Client n) x act) runs refl refl;
                 })
                 (λ ne. absurd (ne refl));
@@ -388,7 +401,7 @@ own_call {s} fl c past n floor x act ls le kind runs at one =
         replies = (tt, tt);
         notices = (tt, tt);
         origins = (record { act = act; called = inl (refl, (inl (refl, refl), at)); own_user = kind.user; own_call = call_is x act }, tt);
-        acts = ((λ t a r. inr (call_is x act ∙ ap asked (some_of act a (sym at ∙ r)))), tt);
+        acts = ((λ t a r. as_is (call_of x act) (asked a) (call_is x act ∙ ap asked (some_of act a (sym at ∙ r)))), tt);
         lasts = (
           record {
             client = n;
@@ -417,16 +430,19 @@ same_one s c past n act ms h runs =
     let x : ClientState = c.clients n in
     one_more k (sent_of past) ms (x.user, call_of x act)
     (subst (λ (u : List ℕ). call_under k (sent_of past) ≡ Some (u, call_of x act)) (sym (h.own n).user)
-    (subst (λ (y : FsCall). call_under k (sent_of past) ≡ Some (guest, y)) (sym (call_is x act))
-    (called_one n k guest (asked act) (sent_of past) past refl ((h.clients n).asked act runs) (subst (λ (S : List Message). Each (IfCall (IsOne S)) S) (sym h.sent.told) h.sent.ones))))
+    (called_one n k guest (call_of x act) (sent_of past) past refl ((h.clients n).asked act runs) (subst (λ (S : List Message). Each (IfCall (IsOne S)) S) (sym h.sent.told) h.sent.ones)))
 
-pub asks : (s : Script) (c : Cell) (past : List Entry) (n : ℕ) (act : Going) (l : Line) → Holds s c past → AreGood s (actors.Node (Client n)) past [] (l ∷ []) → Passes s n (l ∷ []) (call_message (Client n) (asking (c.clients n) act) act ∷ []) past
-    → ((f : Fid) → PassesFile n f (step_entry n (l ∷ []) (call_message (Client n) (asking (c.clients n) act) act ∷ [])) past) → ((f : Fid) → PassesReach n f (step_entry n (l ∷ []) (call_message (Client n) (asking (c.clients n) act) act ∷ [])) past)
-    → ((f : Fid) → (InScope (asked act) f → ⊥) → (reach (Client n) f (step_entry n (l ∷ []) (call_message (Client n) (asking (c.clients n) act) act ∷ []) ∷ past)).made ≡ 0) → ((a : Going) → (c.clients n).running ≡ Some a → volume_changed (asked a) ≡ None) → running s (Client n) (l ∷ lines_of past) ≡ Some act → (has_begun (Client n) (l ∷ []) ≡ false → (c.clients n).running ≡ Some act) → Goes s past (client_moves c n (calls_step (Client n) (c.clients n) act (λ ls. l ∷ ls)))
-asks s c past n act l h good p q r none shut at went =
+-- the client has these promises to give back then
+abbrev pub with_gifts : List Gift → ClientState → ClientState
+with_gifts gs x = record x { gifts = gs }
+
+pub asks : (s : Script) (c : Cell) (past : List Entry) (n : ℕ) (gs : List Gift) (act : Going) (l : Line) → Holds s c past → AreGifts gs → AreGood s (actors.Node (Client n)) past [] (l ∷ []) → Passes s n (l ∷ []) (call_message (Client n) (asking (with_gifts gs (c.clients n)) act) act ∷ []) past
+    → ((f : Fid) → PassesFile n f (step_entry n (l ∷ []) (call_message (Client n) (asking (with_gifts gs (c.clients n)) act) act ∷ [])) past) → ((f : Fid) → PassesReach n f (step_entry n (l ∷ []) (call_message (Client n) (asking (with_gifts gs (c.clients n)) act) act ∷ [])) past)
+    → ((f : Fid) → (InScope (asked act) f → ⊥) → (reach (Client n) f (step_entry n (l ∷ []) (call_message (Client n) (asking (with_gifts gs (c.clients n)) act) act ∷ []) ∷ past)).made ≡ 0) → ((a : Going) → (c.clients n).running ≡ Some a → volume_changed (asked a) ≡ None) → running s (Client n) (l ∷ lines_of past) ≡ Some act → (has_begun (Client n) (l ∷ []) ≡ false → (c.clients n).running ≡ Some act) → Goes s past (client_moves c n (calls_step (Client n) (with_gifts gs (c.clients n)) act (λ ls. l ∷ ls)))
+asks s c past n gs act l h given good p q r none shut at went =
     let d = h.clients n in
-    let x : ClientState = asking (c.clients n) act in
-    let kind : IsClient s x = client_asking s c past (c.clients n) act h (h.own n) in
+    let x : ClientState = asking (with_gifts gs (c.clients n)) act in
+    let kind : IsClient s x = client_asking s c past (with_gifts gs (c.clients n)) act h (record { table = (h.own n).table; user = (h.own n).user; callee = λ a z. (h.own n).callee a z; apart = (h.own n).apart; gifts = given }) in
     let e : Entry = step_entry n (l ∷ []) (call_message (Client n) x act ∷ []) in
     let g : Ghost = record { floor = c.server.lasting.boot; held = (h.floors n).held } in
     let v : View = view_after c n g x in
@@ -435,11 +451,12 @@ asks s c past n act l h good p q r none shut at went =
     let over : (m : Message) → ReplyFact n (view h.floors c n) past m → ReplyFact n v (e ∷ past) m = λ m f. record {
       behind = up_to_next _ _ _ _ f.behind;
       booted = f.booted;
+      ran = ran_over m.head e past f.ran;
       recent = λ y k. absurd (next_not _ _ _ _ f.behind y k);
       tied = f.tied;
       answers = λ b runs y k. absurd (next_not _ _ _ _ f.behind y k);
     } in
-    moves s c past n g (calls_step (Client n) (c.clients n) act (λ ls. l ∷ ls)) h kind good p
+    moves s c past n g (calls_step (Client n) (with_gifts gs (c.clients n)) act (λ ls. l ∷ ls)) h kind good p
     (record {
       behind = λ seat y. up_to_next _ _ _ _ (d.behind seat y);
       behind_durable = λ seat y. up_to_next _ _ _ _ (d.behind_durable seat y);
@@ -458,7 +475,7 @@ asks s c past n act l h good p q r none shut at went =
       ]) (d.current f u found lasts);
       old = old_over (c.clients n).cache (lines_of past) (lines_of (e ∷ past)) (λ f i b y. (q f).grant.version i b (lines_of past) y) d.old;
       runs = λ b y. at ∙ y;
-      asked = λ b y. subst (λ (a : Going). CalledSince (last_key n v) guest (asked a) (e ∷ past)) (some_of act b y) (inl (refl, inl (refl, carried_is x act kind.user)));
+      asked = λ b y. subst (λ (a : Going). CalledSince (last_key n v) guest (its_call v.gifts a) (e ∷ past)) (some_of act b y) (inl (refl, inl (refl, carried_is x act kind.user)));
       reached = reached_still s c past n e h (λ f. (r f).both) last;
     })
     (λ head call f. record {

@@ -2,8 +2,8 @@
 use Rattle.afs_history.specs.declared.acts.Act.{Act}
 use Rattle.afs_law.proofs.Backing.{all_lines, is_unchanging}
 use Rattle.afs_law.proofs.Basics.{Below, Each, ByClient, IfCall, IfReply, OfCall, OfClient, if_reply, LastSeat, if_call, at_seat, kept_last, some_of}
-use Rattle.afs_rows.specs.ClientRow.{Look, Walked, admits_call, awaits, begin_row, body_told, breaks, call_of, calls_again, calls_step, client_row, counts, dead_code, drop_line, dropped, dropped_after, ends_step, entries_told, entry_told, given, given_up_in, gives_by, goes_by, hears, ignores, is_awaited, is_busy_code, is_older, is_spent, is_trusted, look_at, looked, most_busy, most_reads, put_entries, put_entry, read_lines, reborn, refuses, replies_step, runs_carried, status_look, status_told, takes, takes_bulk, takes_bytes, takes_data, takes_entries, takes_entry, takes_list, takes_plain, takes_rights, takes_set, takes_shown, takes_status, takes_stored, timeout_line, timeout_row, told_step, walked, walks_on, whole, with_statuses}
-use Rattle.afs_rows.specs.Going.{ClientState, Going, Need, answers, began, next, with_read}
+use Rattle.afs_rows.specs.ClientRow.{Look, Walked, admits_call, awaits, begin_row, body_told, breaks, call_of, calls_again, calls_step, client_row, counts, dead_code, drop_line, dropped, dropped_after, ends_step, entries_told, entry_told, given, given_up_in, gives_by, goes_by, hears, ignores, is_awaited, is_busy_code, is_older, is_spent, is_trusted, look_at, looked, most_busy, most_reads, put_entries, put_entry, read_lines, reborn, refuses, replies_step, runs_carried, status_look, status_told, takes, takes_bulk, takes_bytes, takes_data, takes_entries, takes_entry, takes_list, takes_plain, takes_rights, takes_set, takes_shown, takes_status, takes_stored, timeout_line, timeout_row, told_step, walked, walks_on, whole, with_statuses, takes_given, behind_batch, begins_by, gives_all, gift_of, in_order, trusted_in, untrusted_in}
+use Rattle.afs_rows.specs.Going.{ClientState, Going, Need, answers, began, next, with_read, reads, reads_status, reads_statuses, reads_rights, asks_for, gives_back}
 use Rattle.afs_ideal.specs.Operations.{volume_changed}
 use Rattle.afs_law.specs.Past.{answered_key}
 use Rattle.afs_num.specs.declared.types.Key.{Key}
@@ -224,6 +224,10 @@ bulk_tame : (K : Node → Key → Type 0) (j : ℕ) (c : ClientState) (clock pla
 bulk_tame K j c clock place act statuses callbacks sync (calls.BulkStatus fids) k = entries_tame K j c clock place act (entries_told c.callee sync fids statuses callbacks) k
 bulk_tame K j c clock place act statuses callbacks sync call k = plain_tame K j c place call k
 
+given_back_tame : (K : Node → Key → Type 0) (j : ℕ) (c : ClientState) (place : ℕ) (act : Going) (call : FsCall) → AreReplies K c.seats → Tame K j (caller_at c) (takes_given (Client j) c place act call)
+given_back_tame K j c place act (calls.GiveUpCallBacks fids callbacks) k = gives_tame K j c (given place) act (behind_batch c.gifts) k (λ ls h. h)
+given_back_tame K j c place act call k = plain_tame K j c place call k
+
 takes_tame : (K : Node → Key → Type 0) (j : ℕ) (c : ClientState) (clock place : ℕ) (act : Going) (call : FsCall) (reply : FsReply) → AreReplies K c.seats → Tame K j (caller_at c) (takes (Client j) c clock place act call reply)
 takes_tame K j c clock place act call (replies.FetchData contents status callback sync) k = data_tame K j c clock place act contents status callback sync call k
 takes_tame K j c clock place act call (replies.FetchAcl text status sync) k = list_tame K j c clock place act text status sync call k
@@ -232,6 +236,7 @@ takes_tame K j c clock place act call (replies.StoreData status sync) k = set_ta
 takes_tame K j c clock place act call (replies.StoreAcl status sync) k = set_tame K j c clock place status call k
 takes_tame K j c clock place act call (replies.StoreStatus status sync) k = set_tame K j c clock place status call k
 takes_tame K j c clock place act call (replies.BulkStatus statuses callbacks sync) k = bulk_tame K j c clock place act statuses callbacks sync call k
+takes_tame K j c clock place act call replies.GiveUpCallBacks k = given_back_tame K j c place act call k
 takes_tame K j c clock place act call reply k = plain_tame K j c place call k
 
 refuses_tame : (K : Node → Key → Type 0) (j : ℕ) (c : ClientState) (place : ℕ) (act : Going) (code : Code) → AreReplies K c.seats → Tame K j (caller_at c) (refuses (Client j) c place act code)
@@ -281,9 +286,13 @@ pub given_tame : (K : Node → Key → Type 0) (j : ℕ) (c : ClientState) (cloc
 unfolding client_row
 given_tame K j c clock place m k w = either_tame K (same_node m.head.to (Client j)) j (caller_at c) _ _ (hears_tame K j c clock place m.head m.carried k w) (ignores_tame K j c place k)
 
+first_tame : (K : Node → Key → Type 0) (j : ℕ) (c : ClientState) (clock : ℕ) (front : List Line → List Line) (act : Going) (need : Need) → AreReplies K c.seats → IsFront front → Tame K j (caller_at c) (begins_by (Client j) c clock front act need)
+first_tame K j c clock front act gives_back k f = gives_tame K j (record c { cache = untrusted_in clock c.cache }) (λ ls. front (dropped (Client j) (trusted_in clock c.cache) ls)) act (in_order (map gift_of (trusted_in clock c.cache))) k (λ ls h. f _ (dropped_front (Client j) (trusted_in clock c.cache) ls h))
+first_tame K j c clock front act need k f = walks_tame K j c clock front act c.cache k f
+
 pub begins_tame : (K : Node → Key → Type 0) (j : ℕ) (c : ClientState) (clock : ℕ) (act : Act) → AreReplies K c.seats → Tame K j (caller_at c) (begin_row (Client j) c clock act)
 unfolding begin_row
-begins_tame K j c clock act k = walks_tame K j (record c { busy = 0 }) clock (λ ls. lines.Begin (Client j) act ∷ ls) (began c.table act) c.cache k (λ ls h. h)
+begins_tame K j c clock act k = first_tame K j (record c { busy = 0 }) clock (λ ls. lines.Begin (Client j) act ∷ ls) (began c.table act) (next (began c.table act)) k (λ ls h. h)
 
 pub waits_tame : (K : Node → Key → Type 0) (j : ℕ) (c : ClientState) (act : Going) → AreReplies K c.seats → Tame K j (caller_at c) (timeout_row (Client j) c act)
 waits_tame K j c act k = either_tame K (nat_lt c.tries 2) j (caller_at c) _ _

@@ -13,7 +13,7 @@ use Rattle.afs_ideal.specs.Volumes.{Volume, Edit, versions_by, vnode_of}
 use Rattle.afs_law.proofs.Backing.{Plain, all_lines, is_still, is_oweless, backed_fall, granted_over, change_back, no_owe, promised_over, plain_waits}
 use Rattle.afs_law.proofs.Basics.{kept_last, not_above, runs_above, Below, Above, Each, IfCall, IfNotice, if_notice, by_server, IfDone, ByClient, OfClient, client_any, same_node-true, below_not, up_to_same, OfCall, each_map, each_at, if_call, some_of}
 use Rattle.afs_law.proofs.Edits.{on_top, SoundIn}
-use Rattle.afs_law.proofs.Facts.{is_passing, HeldIn, ToClient, Ghost, HoldsAt, server_boot, up_boot, risen, IsActs, View, view, Spot, spot, ReplyFact, AreKept, HasFallen, IsCut, Fits, Answers, KeptReply, ClientFacts, CallFact, CallIn, Origin, AreUnheard, Holds, Goes, IsNoticed, IsOne}
+use Rattle.afs_law.proofs.Facts.{is_passing, HeldIn, ToClient, Ghost, HoldsAt, server_boot, up_boot, risen, IsActs, View, view, Spot, spot, ReplyFact, AreKept, HasFallen, IsCut, Fits, Answers, KeptReply, ClientFacts, CallFact, CallIn, Origin, AreUnheard, Holds, Goes, IsNoticed, IsOne, its_call}
 use Rattle.afs_law.proofs.Loading.{is_tickless, down_later, resent, rise_loaded, run_loaded, no_change, all_waited, quits_good, quits_backed, retries_backed, all_owed, alls_good, all_clients, own_waited}
 use Rattle.afs_law.proofs.Notes.{AreNotes, Skips, skips, told_entry, risen_entry, risen_rests, owe_notes, quit_notes}
 use Rattle.afs_law.proofs.Ops.{IsShown, reads_is, op_code, op_is, IsFoundAs, changes_is}
@@ -525,12 +525,12 @@ fits_later sp j call x boot m (carried.Refusal code) past h = (h.0, λ z. let l 
 fits_later sp j call x boot m c past h = absurd h
 
 pub answers_later : {sp : Bool} → (j : ℕ) (call : FsCall) (x : Spot) (boot : ℕ) (m : Message) (past : List Entry) → Answers sp j call x boot m past → Answers sp j call x (boot + 1) m past
-answers_later j call x boot m past h = record { fits = fits_later _ j call x boot m m.carried past h.fits; code = h.code; cause = h.cause }
+answers_later j call x boot m past h = record { fits = fits_later _ j call x boot m m.carried past h.fits; code = h.code; cause = h.cause; own = h.own }
 
 pub revived_reply : (fl : ℕ → Ghost) (c : Cell) (past : List Entry) (j : ℕ) (m : Message) → ReplyFact j (view fl c j) past m → ReplyFact j (view fl (revived_cell c) j) past m
 revived_reply fl c past j m f =
     let le : m.head.boot ≤ c.server.lasting.boot = f.booted in
-    record { behind = f.behind; booted = omega arith; recent = f.recent; tied = λ q above. absurd (omega arith); answers = λ a x y k. answers_later j (asked a) (spot (view fl c j)) c.server.lasting.boot m past (f.answers a x y k) }
+    record { behind = f.behind; booted = omega arith; ran = f.ran; recent = f.recent; tied = λ q above. absurd (omega arith); answers = λ a x y k. answers_later j (its_call (c.clients j).gifts a) (spot (view fl c j)) c.server.lasting.boot m past (f.answers a x y k) }
 
 pub revived_call : (fl : ℕ → Ghost) (c : Cell) (j : ℕ) (head : Head) (call : FsCall) → CallFact (view fl c j) head call → CallFact (view fl (revived_cell c) j) head call
 revived_call fl c j head call f =

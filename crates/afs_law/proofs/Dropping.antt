@@ -1,12 +1,12 @@
-use Rattle.afs_law.proofs.Facts.{AreFetched, FitsBulk}
-use Rattle.afs_law.proofs.Passing.{fetched_each}
+use Rattle.afs_law.proofs.Facts.{AreFetched, FitsBulk, its_call}
+use Rattle.afs_law.proofs.Passing.{fetched_each, ran_over}
 use Rattle.std.specs.List.{list_any}
 use Rattle.std.specs.Prelude.{◌||◌}
 -- A client is called by its server: it drops what it has cached of the broken promises.
 use Rattle.afs_law.proofs.Facts.{FitsList}
 use Rattle.afs_law.proofs.Passing.{was_onto}
 use Rattle.afs_law.proofs.Apart.{apart_filter, found_filter}
-use Rattle.afs_law.proofs.Asking.{call_is, Passes, Fresh, KeepsSeat, moves_back, moves, old_seat, step_entry, view_after, views_after, Heard, heard_dull, told_passes, quiet, reply_still, safe_cache}
+use Rattle.afs_law.proofs.Asking.{Passes, Fresh, KeepsSeat, moves_back, moves, old_seat, step_entry, view_after, views_after, Heard, heard_dull, told_passes, quiet, reply_still, safe_cache}
 use Rattle.afs_law.proofs.Basics.{own_seat, same_node-refl, same_fid-true, same_fid-refl, client_number, OfClient, OfServer, ByClient, ByServer, by_server, server_any, LastSeat, some_of, kept_last}
 use Rattle.afs_law.proofs.Facts.{IsReply, IsFetched, FitsShown, back_seat, IsKnown, View, view, Spot, spot, Fits, ReplyFact, IsAged, IsLastCall, CallIn, Origin, IsActs, ToClient, server_boot, Holds, Goes, FitsData, FitsSet, FitsReply, IsOne}
 use Rattle.afs_law.proofs.Passing.{old_over, old_within, whole_over, body_kept, PassesGrant, PassesFile, PassesReach, current_over, stands_over, stays, kept_over, grant_over, cause_over, onto_front, client_still}
@@ -25,7 +25,7 @@ use Rattle.afs_rows.specs.ClientRow.{find_cached, is_named, names_act, is_waitin
 use Rattle.afs_rows.specs.Going.{Going, asked, ClientState}
 use Rattle.afs_law.specs.Grants.{has_fetched, IsWithdrawn, IsDropped, since}
 use Rattle.afs_law.specs.Ideal.{last_version, HasVersion, Accepts, clock_of, reach, Reach, reach_over, change_key, changed_under, volume_after}
-use Rattle.afs_law.specs.Legal.{IsNew, AreGood, GoodReply}
+use Rattle.afs_law.specs.Legal.{IsNew, AreGood, GoodReply, as_asked}
 use Rattle.afs_history.specs.declared.lines.Line.{Line}
 use Rattle.afs_law.specs.Past.{onto, lines_of, sent_of, running, has_begun}
 use Rattle.afs_rows.specs.Runs.{Entry}
@@ -260,7 +260,7 @@ answers_back s c past n p head user call y h heard to from b is none =
     let e : Entry = step_entry n (lines.Given p ∷ []) ms in
     let seated : SeatedIn c.down c.server.backs.calls c.server.backs.last_call c.server.lasting.boot (e ∷ past) n reply = done_seated c n (e ∷ past) (c.clients n) head y is from to (handled s c past n head user call e h b to refl (λ w o z. absurd (none w z))) in
     let k = h.own n in
-    moves_back s c past n (h.floors n) (replies_step (c.clients n) p head [] y) h (record { table = k.table; user = k.user; callee = λ a z. k.callee a z; apart = k.apart }) (tt, tt) (told_passes s c past n p _ ms h heard)
+    moves_back s c past n (h.floors n) (replies_step (c.clients n) p head [] y) h (record { table = k.table; user = k.user; callee = λ a z. k.callee a z; apart = k.apart; gifts = k.gifts }) (tt, tt) (told_passes s c past n p _ ms h heard)
     (client_still n (view h.floors c n) e past (λ f. told_file n p f (actors.Node (Client n)) ms past) (λ f. told_reach n p f (actors.Node (Client n)) ms past) (told_act n p (actors.Node (Client n)) ms past) (λ f. refl) (h.clients n))
     (λ hd call f. f) (reply_still n (view h.floors c n) e past (λ f. told_file n p f (actors.Node (Client n)) ms past) (λ f. told_reach n p f (actors.Node (Client n)) ms past) (λ f. refl) refl) (reply_fresh c n _ (e ∷ past) reply seated) (λ a x z. inl x) (seat_keeps c n (e ∷ past) (c.clients n) head y from seated)
 
@@ -426,16 +426,18 @@ drops_goes s c past n p head user fs cbs h heard to from b =
     let over : (m : Message) → ReplyFact n (view h.floors c n) past m → ReplyFact n v (e ∷ past) m = λ m f. record {
       behind = f.behind;
       booted = f.booted;
+      ran = ran_over m.head e past f.ran;
       recent = f.recent;
       tied = f.tied;
       answers = λ act y z w. let a = f.answers act y z w in record {
-        fits = subst (λ (o : Option Going). Fits (cond (names_act x fs o) true x.spoiled) n (asked act) (spot (view h.floors c n)) c.server.lasting.boot m m.carried (e ∷ past)) (sym y) (subst (λ (k : FsCall). Fits (cond (names_call fs k) true x.spoiled) n (asked act) (spot (view h.floors c n)) c.server.lasting.boot m m.carried (e ∷ past)) (sym (call_is x act)) (broken_fits (c.clients n).spoiled n p (asked act) (spot (view h.floors c n)) c.server.lasting.boot m m.carried fs (reply ∷ []) past last a.fits));
+        fits = subst (λ (o : Option Going). Fits (cond (names_act x fs o) true x.spoiled) n (its_call x.gifts act) (spot (view h.floors c n)) c.server.lasting.boot m m.carried (e ∷ past)) (sym y) (broken_fits (c.clients n).spoiled n p (its_call x.gifts act) (spot (view h.floors c n)) c.server.lasting.boot m m.carried fs (reply ∷ []) past last a.fits);
         code = a.code;
-        cause = cause_over m a.code (asked act) e past a.cause;
+        cause = cause_over m a.code (as_asked (its_call x.gifts act)) e past a.cause;
+        own = a.own;
       };
     } in
     let seated : SeatedIn c.down c.server.backs.calls c.server.backs.last_call c.server.lasting.boot (e ∷ past) n reply = done_seated c n (e ∷ past) x head (done replies.CallBack) (λ y. y) from to (handled s c past n head user (calls.CallBack fs cbs) e h b to (skips n fs).ups (λ w o z. (skips n fs).drop w (lines.Given p ∷ o) z)) in
-    moves_back s c past n (h.floors n) st h (record { table = (h.own n).table; user = (h.own n).user; callee = λ a z. (h.own n).callee a z; apart = apart_filter (λ y. not (is_named y.fid fs)) x.cache (h.own n).apart }) (tt, (skips n fs).good s past (lines.Given p ∷ [])) (broken_passes s c past n p _ fs (reply ∷ []) h heard)
+    moves_back s c past n (h.floors n) st h (record { table = (h.own n).table; user = (h.own n).user; callee = λ a z. (h.own n).callee a z; apart = apart_filter (λ y. not (is_named y.fid fs)) x.cache (h.own n).apart; gifts = (h.own n).gifts }) (tt, (skips n fs).good s past (lines.Given p ∷ [])) (broken_passes s c past n p _ fs (reply ∷ []) h heard)
     (record {
       behind = d.behind;
       behind_durable = d.behind_durable;
@@ -553,18 +555,20 @@ drops_all_goes s c past n p head user h heard to from b =
     let over : (m : Message) → ReplyFact n (view h.floors c n) past m → ReplyFact n v (e ∷ past) m = λ m f. record {
       behind = f.behind;
       booted = f.booted;
+      ran = ran_over m.head e past f.ran;
       recent = f.recent;
       tied = f.tied;
       answers = λ act y z w. let a = f.answers act y z w in record {
-        fits = subst (λ (o : Option Going). Fits (cond (is_waiting x head.from o) true x.spoiled) n (asked act) (spot (view h.floors c n)) c.server.lasting.boot m m.carried (e ∷ past)) (sym y)
-            (subst (λ (b : Bool). Fits (cond (b && is_spoiled_by_all (call_of x act)) true x.spoiled) n (asked act) (spot (view h.floors c n)) c.server.lasting.boot m m.carried (e ∷ past)) (sym (its act y))
-            (subst (λ (k : FsCall). Fits (cond (is_spoiled_by_all k) true x.spoiled) n (asked act) (spot (view h.floors c n)) c.server.lasting.boot m m.carried (e ∷ past)) (sym (call_is x act)) (all_fits x.spoiled n p (asked act) (spot (view h.floors c n)) c.server.lasting.boot m m.carried e past (λ g i x k. k) r (λ g i q o k. k) (λ g. refl) refl a.fits)));
+        fits = subst (λ (o : Option Going). Fits (cond (is_waiting x head.from o) true x.spoiled) n (its_call x.gifts act) (spot (view h.floors c n)) c.server.lasting.boot m m.carried (e ∷ past)) (sym y)
+            (subst (λ (b : Bool). Fits (cond (b && is_spoiled_by_all (call_of x act)) true x.spoiled) n (its_call x.gifts act) (spot (view h.floors c n)) c.server.lasting.boot m m.carried (e ∷ past)) (sym (its act y))
+            (all_fits x.spoiled n p (its_call x.gifts act) (spot (view h.floors c n)) c.server.lasting.boot m m.carried e past (λ g i x k. k) r (λ g i q o k. k) (λ g. refl) refl a.fits));
         code = a.code;
-        cause = cause_over m a.code (asked act) e past a.cause;
+        cause = cause_over m a.code (as_asked (its_call x.gifts act)) e past a.cause;
+        own = a.own;
       };
     } in
     let seated : SeatedIn c.down c.server.backs.calls c.server.backs.last_call c.server.lasting.boot (e ∷ past) n reply = done_seated c n (e ∷ past) x head (done replies.InitCallBackState) (λ y. y) from to (handled s c past n head user calls.InitCallBackState e h b to refl (λ w o z. inl (refl, from))) in
-    moves_back s c past n (h.floors n) st h (record { table = (h.own n).table; user = (h.own n).user; callee = λ a z. (h.own n).callee a z; apart = apart_filter (λ y. not (same_node y.server head.from)) x.cache (h.own n).apart }) (tt, (refl, tt)) (all_passes s c past n p _ head.from (reply ∷ []) h heard)
+    moves_back s c past n (h.floors n) st h (record { table = (h.own n).table; user = (h.own n).user; callee = λ a z. (h.own n).callee a z; apart = apart_filter (λ y. not (same_node y.server head.from)) x.cache (h.own n).apart; gifts = (h.own n).gifts }) (tt, (refl, tt)) (all_passes s c past n p _ head.from (reply ∷ []) h heard)
     (record {
       behind = d.behind;
       behind_durable = d.behind_durable;

@@ -6,18 +6,18 @@ use Rattle.afs_law.proofs.Basics.{Below, UpTo, Above, Each, IfCall, IfReply, IfN
 use Rattle.afs_law.proofs.Edits.{Ones, index_in, SoundIn, Tops}
 use Rattle.afs_law.proofs.Owing.{BackedIn}
 use Rattle.afs_rows.specs.Callbacks.{replies_of}
-use Rattle.afs_rows.specs.ClientRow.{boot_of, find_cached, body_told, server_at, status_told}
-use Rattle.afs_rows.specs.Going.{asked, Going, ClientState}
+use Rattle.afs_rows.specs.ClientRow.{boot_of, find_cached, body_told, server_at, status_told, call_by}
+use Rattle.afs_rows.specs.Going.{asked, Going, ClientState, next}
 use Rattle.afs_law.specs.Grants.{fetch_reply, GrantOf, since, IsWithdrawn, IsDropped}
 use Rattle.afs_law.specs.Ideal.{last_version, IsLast, WasLast, HasBeen, HasVersion, Accepts, clock_of, user_of, reach, call_under, volume_after}
-use Rattle.afs_law.specs.Legal.{IsNew, Cause, AreGood, AreGoodReplies}
+use Rattle.afs_law.specs.Legal.{IsNew, Cause, AreGood, AreGoodReplies, as_asked}
 use Rattle.afs_history.specs.declared.lines.Line.{Line}
 use Rattle.afs_law.specs.Past.{is_of_act, lines_of, sent_of, called_key, running, Called, CalledSince, IsUnheard, Ran}
 use Rattle.afs_rows.specs.Runs.{locations, Entry, Fall, at_rest, in_step, in_boot, message_at}
 use Rattle.afs_law.proofs.OneCell.{the_server, Cell, Moved}
 use Rattle.afs_rows.specs.Scopes.{is_in_scope}
 use Rattle.afs_rows.specs.ServerRow.{reply_head}
-use Rattle.afs_rows.specs.States.{CacheEntry, Seat, ServerState, Lasting, volume_in}
+use Rattle.afs_rows.specs.States.{CacheEntry, Seat, ServerState, Lasting, volume_in, Gift}
 use Rattle.afs_model.specs.Calls.{call_seat}
 use Rattle.std.specs.Prelude.{Bool, true, false, ◌||◌, ◌++◌, if◌then◌else◌, ⊤}
 use Rattle.afs_num.specs.Nodes.{same_node}
@@ -71,6 +71,7 @@ pub record View : Type 0 where
   pub last : ℕ
   pub known : ℕ
   pub running : Option Going
+  pub gifts : List Gift
   pub cache : List CacheEntry
   pub spoiled : Bool
   pub boot : ℕ
@@ -86,6 +87,7 @@ view_of clock g c d = record {
   last = c.last;
   known = boot_of the_server c.boots;
   running = c.running;
+  gifts = c.gifts;
   cache = c.cache;
   spoiled = c.spoiled;
   boot = d.boot;
@@ -102,12 +104,22 @@ abbrev pub AreApart : List CacheEntry → Type 0
 AreApart [] = ⊤
 AreApart (e ∷ cache) = (find_cached e.fid cache ≡ None) × AreApart cache
 
+-- promises of the server that are given back
+abbrev pub AreGifts : List Gift → Type 0
+AreGifts [] = ⊤
+AreGifts (g ∷ gs) = (g.server ≡ the_server) × AreGifts gs
+
+-- the call that an act waits for
+abbrev pub its_call : List Gift → Going → FsCall
+its_call gifts act = call_by gifts (next act)
+
 -- a client of the script; what it asks, it asks of the server
 pub record IsClient (s : Script) (c : ClientState) : Type 0 where
   pub table : c.table ≡ locations s
   pub user : c.user ≡ guest
   pub callee : (act : Going) → c.running ≡ Some act → c.callee ≡ the_server
   pub apart : AreApart c.cache
+  pub gifts : AreGifts c.gifts
 
 abbrev pub desk : ServerState → ℕ → Desk
 desk s j = record { boot = s.lasting.boot; seat = call_seat (Client j) s.seats; durable = call_seat (Client j) s.lasting.kept }
@@ -357,9 +369,10 @@ Fits sp j call v boot m c past = ⊥
 pub record Answers (sp : Bool) (j : ℕ) (call : FsCall) (v : Spot) (boot : ℕ) (m : Message) (past : List Entry) : Type 0 where
   pub fits : Fits sp j call v boot m m.carried past
   pub code : ℤ
-  pub cause : Cause m code call past []
+  pub cause : Cause m code (as_asked call) past []
+  pub own : cause.call ≡ call
 
--- ---- a reply to client j, under way or kept, of whatever boot. It is to a call not above the client's last one; where it
+-- ---- a reply to client j, under way or kept, of whatever boot. Its entry ran the call. It is to a call not above the client's last one; where it
 -- is to the last one, the server made it in no earlier boot than that in which the call was made, and it answers the act
 -- that runs, if one does. In its own boot its call is not new any more
 
@@ -368,20 +381,22 @@ pub record Await : Type 0 where
   pub epoch : ℕ
   pub last : ℕ
   pub running : Option Going
+  pub gifts : List Gift
   pub spoiled : Bool
   pub boot : ℕ
   pub seat : Option Seat
   pub durable : Option Seat
 
 abbrev pub await : View → Await
-await v = record { floor = v.floor; epoch = v.epoch; last = v.last; running = v.running; spoiled = v.spoiled; boot = v.boot; seat = v.seat; durable = v.durable }
+await v = record { floor = v.floor; epoch = v.epoch; last = v.last; running = v.running; gifts = v.gifts; spoiled = v.spoiled; boot = v.boot; seat = v.seat; durable = v.durable }
 
 pub record ReplyFactIn (j : ℕ) (v : Await) (past : List Entry) (m : Message) : Type 0 where
   pub behind : UpTo m.head.epoch m.head.number v.epoch v.last
   pub booted : m.head.boot ≤ v.boot
+  pub ran : Ran m.head past
   pub recent : m.head.epoch ≡ v.epoch → m.head.number ≡ v.last → v.floor ≤ m.head.boot
   pub tied : m.head.boot ≡ v.boot → Above v.seat m.head.epoch m.head.number → ⊥
-  pub answers : (act : Going) → v.running ≡ Some act → m.head.epoch ≡ v.epoch → m.head.number ≡ v.last → Answers v.spoiled j (asked act) (record { durable = v.durable; epoch = v.epoch; last = v.last }) v.boot m past
+  pub answers : (act : Going) → v.running ≡ Some act → m.head.epoch ≡ v.epoch → m.head.number ≡ v.last → Answers v.spoiled j (its_call v.gifts act) (record { durable = v.durable; epoch = v.epoch; last = v.last }) v.boot m past
 
 abbrev pub ReplyFact : ℕ → View → List Entry → Message → Type 0
 ReplyFact j v past m = ReplyFactIn j (await v) past m
@@ -429,7 +444,7 @@ pub record ClientFacts (s : Script) (j : ℕ) (v : View) (past : List Entry) : T
   pub current : HasCurrent j v past
   pub old : HasOld v.cache (lines_of past)
   pub runs : (act : Going) → v.running ≡ Some act → running s (Client j) (lines_of past) ≡ Some act
-  pub asked : (act : Going) → v.running ≡ Some act → CalledSince (last_key j v) (user_of (Client j)) (asked act) past
+  pub asked : (act : Going) → v.running ≡ Some act → CalledSince (last_key j v) (user_of (Client j)) (its_call v.gifts act) past
   pub reached : (f : Fid) → Reached (Client j) f (index_in (last_version f (lines_of past))) past
 
 -- ---- messages in flight
@@ -460,7 +475,7 @@ pub record CallFact (v : View) (head : Head) (call : FsCall) : Type 0 where
   pub behind : UpTo head.epoch head.number v.epoch v.last
   pub booted : head.boot ≤ v.boot
   pub stale : Below head.epoch head.number v.epoch v.last → head.boot ≤ v.floor
-  pub own : (act : Going) → v.running ≡ Some act → head.epoch ≡ v.epoch → head.number ≡ v.last → call ≡ asked act
+  pub own : (act : Going) → v.running ≡ Some act → head.epoch ≡ v.epoch → head.number ≡ v.last → call ≡ its_call v.gifts act
   pub safe : head.boot ≡ v.boot → Above v.seat head.epoch head.number → IsSafe v.clock v.epoch v.last v.running v.cache (IsAged v head) head call
 
 pub record CallIn (views : ℕ → View) (head : Head) (user : List ℕ) (call : FsCall) : Type 0 where
@@ -504,7 +519,7 @@ pub record Origin (s : Script) (past : List Entry) (head : Head) (user : List �
   pub act : Going
   pub called : Called s (called_key head) user call act past
   pub own_user : user ≡ user_of head.from
-  pub own_call : call ≡ asked act
+  pub own_call : as_asked call ≡ asked act
 
 -- the call is the one under its key
 abbrev pub IsOne : List Message → Head → List ℕ → FsCall → Type 0

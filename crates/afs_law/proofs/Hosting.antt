@@ -1,5 +1,6 @@
 -- What the steps of a server do to the keys that it keeps: a key runs above its caller's last one that changed something, and
 -- what the server sends is no call of a client.
+use Rattle.afs_law.specs.Laws.{seat_key, HasReply}
 use Rattle.afs_law.proofs.Backing.{all_lines, is_unchanging}
 use Rattle.afs_law.proofs.Basics.{Above, Each, OfClient, above_up, at_seat, below_not, below_up_to, each_more, runs_above, same_node-true, some_of, up_to_same}
 use Rattle.afs_law.proofs.Calling.{AreReplies, IsAnswer, IsCallOf, kept_answer, one_more_reply}
@@ -17,7 +18,7 @@ use Rattle.afs_rows.specs.Steps.{Step}
 use Rattle.afs_rows.specs.Runs.{Fall, at_rest, begun_by_disk, in_boot, in_step}
 use Rattle.afs_model.specs.Calls as pairs
 use Rattle.afs_model.specs.Calls.{Admitted, admitted, call_seat, call_seated, paired}
-use Rattle.std.proofs.Common.{◌≡◌, ℕ, ℤ, ◌+◌, Bool, true, false, cond, List, [], ◌∷◌, ◌++◌, map, Option, Some, None, refl, sym, subst, nat_eq}
+use Rattle.std.proofs.Common.{◌≡◌, ℕ, ℤ, ◌+◌, Bool, true, false, cond, List, [], ◌∷◌, ◌++◌, map, Option, Some, None, refl, sym, subst, nat_eq, ◌⊎◌, inl, inr}
 use Rattle.std.specs.Prelude as outcome
 use Rattle.std.specs.Prelude.{⊤, ◌&&◌, not, filter, nat_lt, Ok, Err}
 use Rattle.afs_num.specs.Nodes.{same_node}
@@ -170,10 +171,11 @@ pub record Hosts (K : Node → Key → Type 0) (me : Node) (x y : Memory) (ls : 
   pub new : (k : Key) → changed ≡ Some k → Above (call_seat k.node x.kept) k.epoch k.number
   pub ran : (k : Key) → changed ≡ Some k → Above (call_seat k.node y.kept) k.epoch k.number → ⊥
   pub grows : (n : Node) (e k : ℕ) → Above (call_seat n y.kept) e k → Above (call_seat n x.kept) e k
+  pub stored : (n : Node) (seat : Seat) → call_seat n y.kept ≡ Some seat → (call_seat n x.kept ≡ Some seat) ⊎ ((changed ≡ Some (seat_key n seat)) × HasReply n seat)
   pub sound : IsSound K y
 
 still_hosts : (K : Node → Key → Type 0) (me : Node) (x : Memory) (ls : List Line) → IsSound K x → all_lines is_unchanging ls ≡ true → Hosts K me x x ls
-still_hosts K me x ls s h = record { changed = None; one = has_none me ls h; known = λ k e. absurd cc; new = λ k e. absurd cc; ran = λ k e a. absurd cc; grows = λ n e k a. a; sound = s }
+still_hosts K me x ls s h = record { changed = None; one = has_none me ls h; known = λ k e. absurd cc; new = λ k e. absurd cc; ran = λ k e a. absurd cc; grows = λ n e k a. a; stored = λ n seat e. inl e; sound = s }
 
 -- ---- a caller's seat is taken
 
@@ -189,7 +191,7 @@ seated_sound K x s h r a = record {
 
 seated_hosts : (K : Node → Key → Type 0) (me : Node) (x : Memory) (s : Seat) (ls : List Line) → IsSound K x → ((m : Message) → s.reply ≡ Some m → IsAnswer K m) → Above (call_seat s.caller x.seats) s.epoch s.number → all_lines is_unchanging ls ≡ true
     → Hosts K me x (record { seats = call_seated s x.seats; kept = x.kept }) ls
-seated_hosts K me x s ls h r a p = record { changed = None; one = has_none me ls p; known = λ k e. absurd cc; new = λ k e. absurd cc; ran = λ k e b. absurd cc; grows = λ n e k b. b; sound = seated_sound K x s h r a }
+seated_hosts K me x s ls h r a p = record { changed = None; one = has_none me ls p; known = λ k e. absurd cc; new = λ k e. absurd cc; ran = λ k e b. absurd cc; grows = λ n e k b. b; stored = λ n seat e. inl e; sound = seated_sound K x s h r a }
 
 -- on the disk too
 placed_sound : (K : Node → Key → Type 0) (x : Memory) (s : Seat) → IsSound K x → ((m : Message) → s.reply ≡ Some m → IsAnswer K m) → Above (call_seat s.caller x.seats) s.epoch s.number → IsSound K (record { seats = call_seated s x.seats; kept = seat_placed s x.kept })
@@ -205,9 +207,9 @@ placed_sound K x s h r a = record {
 abbrev key_in : Seat → Key
 key_in s = record { node = s.caller; epoch = s.epoch; number = s.number }
 
-placed_hosts : (K : Node → Key → Type 0) (me : Node) (x : Memory) (s : Seat) (ls : List Line) → IsSound K x → ((m : Message) → s.reply ≡ Some m → IsAnswer K m) → Above (call_seat s.caller x.seats) s.epoch s.number → K me (key_in s) → HasOne me (Some (key_in s)) ls
+placed_hosts : (K : Node → Key → Type 0) (me : Node) (x : Memory) (s : Seat) (ls : List Line) → IsSound K x → ((m : Message) → s.reply ≡ Some m → IsAnswer K m) → Above (call_seat s.caller x.seats) s.epoch s.number → K me (key_in s) → HasReply s.caller s → HasOne me (Some (key_in s)) ls
     → Hosts K me x (record { seats = call_seated s x.seats; kept = seat_placed s x.kept }) ls
-placed_hosts K me x s ls h r a known p = record {
+placed_hosts K me x s ls h r a known told p = record {
   changed = Some (key_in s);
   one = p;
   known = λ k e. subst (K me) (some_of (key_in s) k e) known;
@@ -215,6 +217,8 @@ placed_hosts K me x s ls h r a known p = record {
   ran = λ k e. subst (λ (l : Key). Above (call_seat l.node (seat_placed s x.kept)) l.epoch l.number → ⊥) (some_of (key_in s) k e)
       (at_placed s s.caller x.kept (λ (o : Option Seat). Above o s.epoch s.number → ⊥) (λ own b. below_not s.epoch s.number s.epoch s.number b (up_to_same s.epoch s.number s.epoch s.number refl refl)) (λ other. absurd (other refl)));
   grows = λ n e k. at_placed s n x.kept (λ (o : Option Seat). Above o e k → Above (call_seat n x.kept) e k) (λ own b. lower_by K x s n e k h a own b) (λ other b. b);
+  stored = λ n seat. at_placed s n x.kept (λ (o : Option Seat). o ≡ Some seat → (call_seat n x.kept ≡ Some seat) ⊎ ((Some (key_in s) ≡ Some (seat_key n seat)) × HasReply n seat))
+      (λ own e. let one : s ≡ seat = some_of s seat e in inr (subst (λ (q : Seat). (Some (key_in s) ≡ Some (seat_key n q)) × HasReply n q) one (subst (λ (m : Node). (Some (key_in s) ≡ Some (seat_key m s)) × HasReply m s) own (refl, told)))) (λ other e. inl e);
   sound = placed_sound K x s h r a;
 }
 
@@ -249,7 +253,7 @@ does_hosts K me x clock place (shows head g) ls s d p =
     seated_hosts K me (memory_of x) (seat_for head r) (lines.Given place ∷ granted me head.from (clock + promise_ticks) g.granted ls) s (λ m e. one_reply K head r m (tt, d.0) e) d.1 (granted_plain me head.from (clock + promise_ticks) g.granted ls p)
 does_hosts K me x clock place (saves head c) ls s d p =
     let r : Message = change_reply_to x.lasting.boot head clock c in
-    placed_hosts K me (memory_of x) (seat_for head r) _ s (λ m e. one_reply K head r m (change_answer K x.lasting.boot head clock c d.1.0) e) d.1.1 d.0
+    placed_hosts K me (memory_of x) (seat_for head r) _ s (λ m e. one_reply K head r m (change_answer K x.lasting.boot head clock c d.1.0) e) d.1.1 d.0 (r, (refl, refl))
     (refl, (refl, versioned_plain (made c) _ (granted_plain me head.from (clock + promise_ticks) (granted_in c) ls p)))
 
 -- ---- what it sends, and holds to be sent
@@ -380,7 +384,7 @@ before_begins K me x s h = record { hosts = λ ls p. still_hosts K me (memory_of
 after_begins : (K : Node → Key → Type 0) (me : Node) (x : ServerState) (clock : ℕ) (d : Decision) → IsSound K (memory_of x) → Each (IsAnswer K) (replies_of x.backs.held) → IsDue K me x d → Begins K me x (begun_after me x clock d)
 after_begins K me x clock (saves head c) s h d = record {
   hosts = λ ls p. let r : Message = change_reply_to x.lasting.boot head clock c in
-      placed_hosts K me (memory_of x) (seat_for head r) _ s (λ m e. one_reply K head r m (change_answer K x.lasting.boot head clock c d.1.0) e) d.1.1 d.0 (refl, (refl, versioned_plain (made c) ls p));
+      placed_hosts K me (memory_of x) (seat_for head r) _ s (λ m e. one_reply K head r m (change_answer K x.lasting.boot head clock c d.1.0) e) d.1.1 d.0 (r, (refl, refl)) (refl, (refl, versioned_plain (made c) ls p));
   held = h;
 }
 after_begins K me x clock d s h due = before_begins K me x s h
@@ -390,7 +394,7 @@ revived_sound : (K : Node → Key → Type 0) (x : Memory) → IsSound K x → I
 revived_sound K x s = record { seats = s.kept; kept = s.kept; lower = λ n e k a. a }
 
 revived_hosts : (K : Node → Key → Type 0) (me : Node) (x y : Memory) (ls : List Line) → Hosts K me x y ls → Hosts K me x (record { seats = y.kept; kept = y.kept }) ls
-revived_hosts K me x y ls h = record { changed = h.changed; one = h.one; known = h.known; new = h.new; ran = h.ran; grows = h.grows; sound = revived_sound K y h.sound }
+revived_hosts K me x y ls h = record { changed = h.changed; one = h.one; known = h.known; new = h.new; ran = h.ran; grows = h.grows; stored = h.stored; sound = revived_sound K y h.sound }
 
 revives_begins : (K : Node → Key → Type 0) (me : Node) (x : ServerState) → IsSound K (memory_of x) → Each (IsAnswer K) (replies_of x.backs.held) → Begins K me x (begun_before (revived x))
 revives_begins K me x s h = record { hosts = λ ls p. revived_hosts K me (memory_of x) (memory_of x) ls (still_hosts K me (memory_of x) ls s p); held = h }

@@ -2,10 +2,10 @@
 -- caller's last one that changed something. So a key changes something at most once, and no call or reply has one to come.
 use Rattle.afs_history.specs.declared.acts.Act.{Act}
 use Rattle.afs_law.proofs.Backing.{all_lines, is_unchanging}
-use Rattle.afs_law.proofs.Basics.{Above, Each, IfCall, IfReply, OfClient, OfReply, by_client, if_reply, UpTo, at_put, below_not, below_up_to, both, client_number, each_at, each_map, each_more, if_call, node_apart, same_key-refl, same_node-true, up_to_below, up_to_same}
+use Rattle.afs_law.proofs.Basics.{Above, Each, IfCall, IfReply, OfClient, OfReply, by_client, if_reply, UpTo, at_put, below_not, below_up_to, both, client_number, each_at, each_map, each_more, if_call, node_apart, same_key-refl, same_node-true, up_to_below, up_to_same, below-true, below-false, some_of}
 use Rattle.afs_law.proofs.Calling.{AreReplies, IsAnswer, IsCallOf, answer_over, GoesOn, IsLastOf, Tame, begins_tame, caller_at, falls_tame, given_tame, rises_tame, uncalled_any, waits_tame}
 use Rattle.afs_law.proofs.Hosting.{Begins, HasOne, HostStep, Hosts, IsCutBy, IsSound, Memory, decides_due, disk_begins, memory_of, serves_step, starts_step, times_step, wakes_step}
-use Rattle.afs_law.specs.Laws.{ArePairsKnown, IsKnownTo}
+use Rattle.afs_law.specs.Laws.{ArePairsKnown, IsKnownTo, AreChanges, HasChangeBy, HasReply, seat_key, IsUpTo}
 use Rattle.afs_law.specs.Legal.{IsNew}
 use Rattle.afs_law.specs.Once.{AreOnce, ChangesOnce, past_of}
 use Rattle.afs_law.specs.Past.{HasCode, IsCall, answered_key, lines_of, onto, same_key}
@@ -15,7 +15,7 @@ use Rattle.afs_rows.specs.Runs.{Armed, Blow, Cell, Entry, Fall, Host, Input, Lea
 use Rattle.afs_rows.specs.ServerRow.{Begun, device_calls, key_of}
 use Rattle.afs_rows.specs.States.{Seat, BackCall, ServerState}
 use Rattle.afs_rows.specs.Steps.{Step}
-use Rattle.afs_model.specs.Calls.{call_seat}
+use Rattle.afs_model.specs.Calls.{call_seat, pair_below}
 use Rattle.std.proofs.Common.{◌≡◌, ℕ, inl, inr, Bool, true, false, cond, eqb-true, nat_eq, List, [], ◌∷◌, ◌++◌, Option, Some, None, refl, sym, ap, subst, ◌∙◌}
 use Rattle.std.specs.Prelude.{⊤, ◌&&◌}
 use Rattle.afs_num.specs.Nodes.{same_node}
@@ -89,6 +89,27 @@ new_key P k [] w h = tt
 new_key P k (lines.Change q l count ∷ o) w h = (w q l h.0, new_key P k o w h.1)
 new_key P k (l ∷ o) w h = new_key P k o w h.1
 
+-- ---- a server changed something under a key
+
+by_more : (s : Node) (k : Key) (l : Line) (o : List Line) → HasChangeBy s k o → HasChangeBy s k (l ∷ o)
+by_more s k (lines.Change q m count) o h = inr h
+by_more s k l o h = h
+
+by_onto : (s : Node) (k : Key) (ls o : List Line) → HasChangeBy s k o → HasChangeBy s k (onto o ls)
+by_onto s k [] o h = h
+by_onto s k (l ∷ ls) o h = by_onto s k ls (l ∷ o) (by_more s k l o h)
+
+one_by : (s : Node) (k : Key) (c : Option Key) (ls o : List Line) → HasOne s c ls → c ≡ Some k → HasChangeBy s k (onto o ls)
+one_by s k c [] o p e = let no_ : Some k ≡ None = sym e ∙ p in absurd cc
+one_by s k c (lines.Change q l count ∷ ls) o p e = by_onto s k ls (lines.Change q l count ∷ o) (inl (p.0, some_of l k (sym p.1.0 ∙ e)))
+one_by s k c (l ∷ ls) o p e = one_by s k c ls (l ∷ o) p e
+
+of_change : (P : Node → Key → Type 0) (s : Node) (k : Key) (o : List Line) → HasChangeBy s k o → EachChange P o → P s k
+of_change P s k [] h all = absurd h
+of_change P s k (lines.Change q l count ∷ o) (inl e) all = subst (λ (n : Node). P n k) e.0 (subst (P q) e.1 all.0)
+of_change P s k (lines.Change q l count ∷ o) (inr h) all = of_change P s k o h all.1
+of_change P s k (l ∷ o) h all = of_change P s k o h all.1
+
 -- ---- what holds after every entry
 
 -- a key of a client, not above its last one, whose callee is this
@@ -123,6 +144,7 @@ record Stands (clients : ℕ → ClientState) (hosts : ℕ → Host) (sent : Lis
   falls : (i : ℕ) → HasCut (IsKnown callees clients) (hosts i).down
   ran : EachChange (HasRun callees clients hosts) o
   once : AreOnce o
+  stored : (i : ℕ) (n : Node) (seat : Seat) → call_seat n (hosts i).state.lasting.kept ≡ Some seat → HasChangeBy (Server i) (seat_key n seat) o × HasReply n seat
 
 abbrev StandsIn : Cell → List Line → Type 0
 StandsIn c o = Stands c.clients c.hosts c.sent o
@@ -169,6 +191,12 @@ host_keeps clients hosts sent more o ls i h S H held cut calls answers = record 
       })
       (each_change (HasRun S.callees clients hosts) (HasRun S.callees clients (put i h hosts)) (grown_run S.callees clients hosts i h H.grows) o S.ran);
   once = one_once (Server i) H.changed ls o H.one (λ k e. new_key (HasRun S.callees clients hosts) k o (not_run S.callees clients hosts i k (H.known k e) (H.new k e)) S.ran) S.once;
+  stored = λ j n seat. at_put i j (λ (x : Host). call_seat n x.state.lasting.kept ≡ Some seat → HasChangeBy (Server j) (seat_key n seat) (onto o ls) × HasReply n seat) h hosts
+      (λ same e. elim (H.stored n seat e) [
+        | inl old ↦ let was = S.stored i n seat old in (subst (λ (q : ℕ). HasChangeBy (Server q) (seat_key n seat) (onto o ls)) same (by_onto (Server i) (seat_key n seat) ls o was.0), was.1)
+        | inr new ↦ (subst (λ (q : ℕ). HasChangeBy (Server q) (seat_key n seat) (onto o ls)) same (one_by (Server i) (seat_key n seat) H.changed ls o H.one new.0), new.1)
+      ])
+      (λ other e. let was = S.stored j n seat e in (by_onto (Server j) (seat_key n seat) ls o was.0, was.1));
 }
 
 -- a step that is done
@@ -179,7 +207,7 @@ moves_keeps c o i armed s S h =
     (each_more _ c.sent s.sent S.answers (each_map (IsAnswer (IsKnown S.callees c.clients)) _ (λ m a. a.1) s.sent h.sent))
 
 same_hosts : (K : Node → Key → Type 0) (me : Node) (x : Memory) (ls : List Line) → IsSound K x → HasOne me None ls → Hosts K me x x ls
-same_hosts K me x ls s h = record { changed = None; one = h; known = λ k e. absurd cc; new = λ k e. absurd cc; ran = λ k e a. absurd cc; grows = λ n e k a. a; sound = s }
+same_hosts K me x ls s h = record { changed = None; one = h; known = λ k e. absurd cc; new = λ k e. absurd cc; ran = λ k e a. absurd cc; grows = λ n e k a. a; stored = λ n seat e. inl e; sound = s }
 
 -- one that leaves what it keeps
 falls_keeps : (c : Cell) (o : List Line) (i : ℕ) (down : Option Fall) (armed : Armed) (ls : List Line) → (S : StandsIn c o) → HasOne (Server i) None ls → HasCut (IsKnown S.callees c.clients) down
@@ -188,7 +216,7 @@ falls_keeps c o i down armed ls S none cut =
     host_keeps c.clients c.hosts c.sent c.sent o ls i (record (c.hosts i) { down = down; armed = armed }) S (same_hosts (IsKnown S.callees c.clients) (Server i) (memory_of (c.hosts i).state) ls (S.sound i) none) (S.held i) cut S.calls S.answers
 
 nothing_keeps : (c : Cell) (o : List Line) → StandsIn c o → Keeps o (voided c)
-nothing_keeps c o S = record { callees = S.callees; own = S.own; calls = S.calls; answers = S.answers; replies = S.replies; sound = S.sound; held = S.held; falls = S.falls; ran = (tt, S.ran); once = S.once }
+nothing_keeps c o S = record { callees = S.callees; own = S.own; calls = S.calls; answers = S.answers; replies = S.replies; sound = S.sound; held = S.held; falls = S.falls; ran = (tt, S.ran); once = S.once; stored = S.stored }
 
 either_keeps : (o : List Line) (t : Bool) (m k : Moved) → Keeps o m → Keeps o k → Keeps o (cond t m k)
 either_keeps o true m k a b = a
@@ -338,6 +366,7 @@ client_keeps c o n s S t =
       falls = λ i. cut_over (IsKnown S.callees c.clients) (IsKnown more then) w (c.hosts i).down (S.falls i);
       ran = plain_each (HasRun more then c.hosts) s.lines o t.lines (each_change _ _ (run_later S.callees more c.clients then c.hosts w) o S.ran);
       once = plain_once s.lines o t.lines S.once;
+      stored = λ i m seat e. let was = S.stored i m seat e in (by_onto (Server i) (seat_key m seat) s.lines o was.0, was.1);
     }
 
 -- ---- every input
@@ -361,7 +390,7 @@ waited_keeps c o n None S = nothing_keeps c o S
 waited_keeps c o n (Some act) S = client_keeps c o n _ S (waits_tame (IsKnown S.callees c.clients) n (c.clients n) act (S.replies n))
 
 ticked_keeps : (c : Cell) (o : List Line) (n : ℕ) → StandsIn c o → Stands c.clients c.hosts c.sent (lines.Tick n ∷ o)
-ticked_keeps c o n S = record { callees = S.callees; own = S.own; calls = S.calls; answers = S.answers; replies = S.replies; sound = S.sound; held = S.held; falls = S.falls; ran = (tt, S.ran); once = S.once }
+ticked_keeps c o n S = record { callees = S.callees; own = S.own; calls = S.calls; answers = S.answers; replies = S.replies; sound = S.sound; held = S.held; falls = S.falls; ran = (tt, S.ran); once = S.once; stored = S.stored }
 
 moved_keeps : (c : Cell) (o : List Line) (x : Input) → StandsIn c o → Keeps o (moved c x)
 unfolding moved
@@ -400,6 +429,7 @@ first_stands s = record {
   falls = λ i. tt;
   ran = tt;
   once = tt;
+  stored = λ i n seat e. absurd cc;
 }
 
 pub once : (s : Script) (h : List Entry) (end : Cell) → RunsTo h s end → ChangesOnce h
@@ -426,4 +456,24 @@ pairs_known s h end r =
     record {
       calls = λ j place m at is from. call_pair S.callees end.clients j m.head m.carried is from (each_at _ end.sent place m at S.calls);
       replies = λ j place m at is to. reply_pair S.callees end.clients j m.head m.carried is to (each_at _ end.sent place m at S.answers);
+    }
+
+-- ---- what the disks keep of callers
+
+seat_behind : (t : Bool) (k : Key) (seat : Seat) → pair_below seat.epoch seat.number k.epoch k.number ≡ t → (Above (Some seat) k.epoch k.number → ⊥) → IsUpTo k.epoch k.number seat.epoch seat.number
+seat_behind true k seat e not = absurd (not (below-true seat.epoch seat.number k.epoch k.number e))
+seat_behind false k seat e not = below-false seat.epoch seat.number k.epoch k.number e
+
+seat_of_last : (o : Option Seat) (k : Key) → (Above o k.epoch k.number → ⊥) → (seat : Seat) × ((o ≡ Some seat) × IsUpTo k.epoch k.number seat.epoch seat.number)
+seat_of_last None k not = absurd (not tt)
+seat_of_last (Some seat) k not = (seat, (refl, seat_behind (pair_below seat.epoch seat.number k.epoch k.number) k seat refl not))
+
+pub durable_changes : (s : Script) (h : List Entry) (end : Cell) → RunsTo h s end → (i : ℕ) → AreChanges (Server i) (end.hosts i).state.lasting.kept (lines_of (past_of [] h))
+durable_changes s h end r i =
+    let S : StandsIn end (lines_of (past_of [] h)) = run_stands r.inputs (start s) [] h end (first_stands s) r.leads in
+    record {
+      told = λ n seat e. (S.stored i n seat e).0;
+      reply = λ n seat e. (S.stored i n seat e).1;
+      last = λ k x. let ran : HasRun S.callees end.clients end.hosts (Server i) k = of_change (HasRun S.callees end.clients end.hosts) (Server i) k (lines_of (past_of [] h)) x S.ran in
+          seat_of_last (call_seat k.node (end.hosts i).state.lasting.kept) k (subst (λ (j : ℕ). Above (call_seat k.node (end.hosts j).state.lasting.kept) k.epoch k.number → ⊥) (server_number ran.server i (sym ran.is)) ran.ran);
     }

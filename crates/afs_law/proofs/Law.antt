@@ -20,7 +20,7 @@ use Rattle.afs_law.specs.Legal.{IsNew, LegalAfter, Legal}
 use Rattle.afs_history.specs.declared.lines.Line.{Line}
 use Rattle.afs_law.specs.OneServer.{AreAtServer, IsOneServer}
 use Rattle.afs_law.specs.Past.{running, onto, lines_of, given_message, IsCallUnder}
-use Rattle.afs_rows.specs.Runs.{locations_in, location_by, Entry, message_at, Armed, Fall, Luck, first_volume, first_volumes, unless_there}
+use Rattle.afs_rows.specs.Runs.{locations_in, location_by, Entry, message_at, Armed, Fall, Luck, first_volume, first_volumes, unless_there, counts_later}
 use Rattle.afs_law.proofs.OneCell.{the_server, Cell, Moved, waits, ticks, client_stops, client_starts, stops, starts_again, sets_stop, sets_fail, server_armed, Input, begins, gives, nothing, moved, given_to, given_at, Leads, start, RunsTo, server_waits, wakes}
 use Rattle.std.proofs.Common.{find, ◌≡◌, ℕ, ◌+◌, ◌≤◌, ◌⊎◌, inl, inr, Bool, true, false, cond, nat_eq, List, [], ◌∷◌, ◌++◌, Option, Some, None, refl, sym, ap, subst, ◌∙◌, arith, eqb-true, eqb, eq-eqb, le_of_eq}
 use Rattle.std.specs.Prelude.{is_some, ⊤}
@@ -247,14 +247,14 @@ pub found_by' : (t : Bool) (id other : ℕ) (V u : Volume) (o : Option Volume) (
 found_by' true id other V u o P t h e = inl (eqb-true id other t)
 found_by' false id other V u o P t h e = inr (h e)
 
-pub found_there : (b : Bool) (v : VolumeLine) (t : Table Volume) (id : ℕ) (u : Volume) (P : Type 0) → (get id t ≡ Some u → P) → get id (unless_there b v.id (first_volume v) t) ≡ Some u → (v.id ≡ id) ⊎ P
+pub found_there : (b : Bool) (v : VolumeLine) (t : Table Volume) (id : ℕ) (u : Volume) (P : Type 0) → (get id t ≡ Some u → P) → get id (unless_there b v.id (first_volume v) t) ≡ Some u → ((b ≡ false) × (v.id ≡ id)) ⊎ P
 found_there true v t id u P h e = inr (h e)
-found_there false v t id u P h e = found_by' (eqb v.id id) v.id id (first_volume v) u (get id t) P refl h (sym (get-set v.id id (first_volume v) t) ∙ e)
+found_there false v t id u P h e = elim (found_by' (eqb v.id id) v.id id (first_volume v) u (get id t) P refl h (sym (get-set v.id id (first_volume v) t) ∙ e)) [ inl y ↦ inl (refl, y) | inr y ↦ inr y ]
 
 pub found_home : (vs : List VolumeLine) → AreAtServer vs → (id : ℕ) (u : Volume) → get id (first_volumes vs) ≡ Some u → is_at id the_server vs
 found_home [] one id u x = absurd cc
 found_home (v ∷ vs) one id u x = elim (found_there (is_some (get v.id (first_volumes vs))) v (first_volumes vs) id u (is_at id the_server vs) (found_home vs one.1 id u) x) [
-  | inl y ↦ inl (y, one.0)
+  | inl y ↦ inl (y.0, (y.1, one.0))
   | inr y ↦ inr y
 ]
 
@@ -337,16 +337,17 @@ server_by : (t : Bool) (l : Location) (o : Option Location) → l.server ≡ 1 �
 server_by true l o e h = e
 server_by false l o e h = h
 
-located_by : (v : VolumeLine) (q : Node) (ls : List Location) (id : ℕ) → q ≡ the_server → server_at ls id ≡ 1 → server_at (location_by v q ls) id ≡ 1
-located_by v (Server n) ls id e h = server_by (nat_eq v.id id) (record { name = v.name; id = v.id; server = n }) (find (λ l. nat_eq l.id id) ls) (server_number n 1 e) h
-located_by v (Client n) ls id e h = h
-located_by v (Admin n) ls id e h = h
-located_by v Loc ls id e h = h
+located_by : (t : Bool) (v : VolumeLine) (q : Node) (ls : List Location) (id : ℕ) → q ≡ the_server → server_at ls id ≡ 1 → server_at (location_by t v q ls) id ≡ 1
+located_by true v q ls id e h = h
+located_by false v (Server n) ls id e h = server_by (nat_eq v.id id) (record { name = v.name; id = v.id; server = n }) (find (λ l. nat_eq l.id id) ls) (server_number n 1 e) h
+located_by false v (Client n) ls id e h = h
+located_by false v (Admin n) ls id e h = h
+located_by false v Loc ls id e h = h
 
 -- every volume is at the server
 found_server : (vs : List VolumeLine) → AreAtServer vs → (id : ℕ) → server_at (locations_in vs) id ≡ 1
 found_server [] a id = refl
-found_server (v ∷ vs) a id = located_by v v.server (locations_in vs) id a.0 (found_server vs a.1 id)
+found_server (v ∷ vs) a id = located_by (counts_later v.id vs) v v.server (locations_in vs) id a.0 (found_server vs a.1 id)
 
 pub starts : (s : Script) → IsOneServer s → Holds s (start s) (set_up s ∷ [])
 starts s one =
@@ -354,7 +355,7 @@ starts s one =
     record {
       floors = λ j. record { floor = 1; held = 1 };
       count = refl;
-      own = λ j. record { table = refl; user = refl; callee = λ a z. absurd cc; apart = tt };
+      own = λ j. record { table = refl; user = refl; callee = λ a z. absurd cc; apart = tt; gifts = tt };
       servers = λ id. found_server s.volumes one.1 id;
       ideal = λ id. first_in id (first_volumes s.volumes) ∙ ideal_first s id;
       sound = λ id. subst (λ (o : Option Volume). SoundIn id o (lines_of (set_up s ∷ []))) (sym (first_in id (first_volumes s.volumes))) (facts.sound id);

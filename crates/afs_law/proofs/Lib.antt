@@ -24,6 +24,7 @@ pub mod Quiet
 pub mod Walking
 pub mod Skipping
 pub mod Dropping
+pub mod Giving
 pub mod Answering
 pub mod Waiting
 pub mod Law
@@ -34,4 +35,5 @@ pub mod Agreeing
 pub mod Calling
 pub mod Hosting
 pub mod KeysOnce
+pub mod Standing
 pub mod Worked

@@ -1,7 +1,12 @@
 -- What an act needs behind one more read.
-use Rattle.std.proofs.Common.{◌≡◌, ℕ, Bool, true, false, cond, List, [], ◌∷◌, ◌++◌, Option, Some, None, nat_eq, refl, sym, ap, subst, ◌∙◌}
+use Rattle.afs_num.specs.declared.calls.FsCall.{FsCall}
+use Rattle.afs_law.specs.Legal.{as_asked}
+use Rattle.afs_rows.specs.Scopes.{is_in_scope}
+use Rattle.afs_rows.specs.States.{Gift}
+use Rattle.afs_rows.specs.ClientRow.{call_by}
+use Rattle.std.proofs.Common.{◌≡◌, ℕ, Bool, true, false, cond, List, [], ◌∷◌, ◌++◌, Option, Some, None, nat_eq, refl, sym, ap, subst, ◌∙◌, ◌⊎◌, inl, inr}
 use Rattle.std.specs.Prelude.{◌&&◌, ◌||◌, ⊤, not}
-use Rattle.afs_ideal.specs.Operations.{volume_changed}
+use Rattle.afs_ideal.specs.Operations.{volume_changed, volume_called}
 use Rattle.afs_history.specs.declared.acts.Act.{Act}
 use Rattle.afs_history.specs.declared.acts.Act.TheVariants as acts
 use Rattle.afs_history.specs.declared.acts.Operand.{Operand}
@@ -16,7 +21,7 @@ use Rattle.afs_num.specs.declared.histories.ReadBody.{ReadBody}
 use Rattle.afs_num.specs.declared.histories.ReadBody.TheVariants as seen
 use Rattle.afs_num.specs.declared.types.Fid.{Fid}
 use Rattle.afs_law.proofs.Basics.{same_fid-refl}
-use Rattle.afs_rows.specs.Going.{by_statuses, reading_statuses, statuses_in, named_first, call_for, Need, reads, reads_status, reads_statuses, reads_rights, asks_for, gives_back, answers, Shown, Taken, Going, Homes, Parted, act_needs, next, with_read, first_body, taken_body, by_body, reading, by_status, first_status, reading_rights, has_rights, has_rights_by, walk, step_to, looked_up, fid_of, root_of, is_last_name, is_even, to_object, to_parent, at_parent, parted, in_home, in_directory, by_kind, of_one, is_root}
+use Rattle.afs_rows.specs.Going.{by_statuses, reading_statuses, statuses_in, named_first, call_for, Need, reads, reads_status, reads_statuses, reads_rights, asks_for, gives_back, answers, Shown, Taken, Going, Homes, Parted, act_needs, next, with_read, first_body, taken_body, by_body, reading, by_status, first_status, reading_rights, has_rights, has_rights_by, walk, step_to, looked_up, fid_of, root_of, is_last_name, is_even, to_object, to_parent, at_parent, parted, in_home, in_directory, by_kind, of_one, is_root, asked}
 
 -- the text of rights that were read of this fid
 abbrev pub got : Fid → List ℕ → Shown
@@ -194,3 +199,52 @@ rights_asked (answers code) g later h is = absurd cc
 -- an act that asked for rights is answered with 0 once they are read
 pub rights_done : (a : Going) (g : Fid) (text : List ℕ) → call_for (next a) ≡ calls.FetchAcl g → next (with_read g (seen.AccessList text) a) ≡ answers 0
 rights_done a g text is = rights_asked (next a) g (next (with_read g (seen.AccessList text) a)) (act_ends g text a.homes a.act a.reads) is
+
+-- ---- the call that an act waits for is what it asks, but for the promises that are given back
+
+pub as_is : (call k : FsCall) → as_asked call ≡ k → (volume_changed call ≡ None) ⊎ (call ≡ k)
+as_is (calls.GiveUpCallBacks fids callbacks) k e = inl refl
+as_is call k e = inr e
+
+-- a call on a volume is as its act asks it
+pub served_as : (call : FsCall) (id : ℕ) → volume_called call ≡ Some id → as_asked call ≡ call
+served_as (calls.GiveUpCallBacks fids callbacks) id e = absurd cc
+served_as call id e = refl
+
+as_changed : (call : FsCall) → volume_changed (as_asked call) ≡ volume_changed call
+as_changed (calls.GiveUpCallBacks fids callbacks) = refl
+as_changed call = refl
+
+as_scope : (call : FsCall) (f : Fid) → is_in_scope (as_asked call) f ≡ is_in_scope call f
+as_scope (calls.GiveUpCallBacks fids callbacks) f = refl
+as_scope call f = refl
+
+changing_as : (call : FsCall) → (volume_changed call ≡ None → ⊥) → as_asked call ≡ call
+changing_as (calls.GiveUpCallBacks fids callbacks) w = absurd (w refl)
+changing_as call w = refl
+
+-- what asks for a call asks for a change
+asks_change : (a : Going) (call : FsCall) → next a ≡ asks_for call → volume_changed call ≡ None → ⊥
+asks_change a call e = subst (λ (n : Need). Ends (root_of 0) n (next (with_read (root_of 0) (seen.AccessList []) a))) e (act_ends (root_of 0) [] a.homes a.act a.reads)
+
+by_need : (gifts : List Gift) (need : Need) → ((call : FsCall) → need ≡ asks_for call → volume_changed call ≡ None → ⊥) → as_asked (call_by gifts need) ≡ call_for need
+by_need gifts (reads f) w = refl
+by_need gifts (reads_status f) w = refl
+by_need gifts (reads_statuses fs) w = refl
+by_need gifts (reads_rights f) w = refl
+by_need gifts (asks_for call) w = changing_as call (w call refl)
+by_need gifts gives_back w = refl
+by_need gifts (answers code) w = refl
+
+pub asks_is : (gifts : List Gift) (act : Going) → as_asked (call_by gifts (next act)) ≡ asked act
+asks_is gifts act = by_need gifts (next act) (asks_change act)
+
+pub asks_changed : (gifts : List Gift) (act : Going) → volume_changed (call_by gifts (next act)) ≡ volume_changed (asked act)
+asks_changed gifts act = sym (as_changed (call_by gifts (next act))) ∙ ap volume_changed (asks_is gifts act)
+
+pub asks_scope : (gifts : List Gift) (act : Going) (f : Fid) → is_in_scope (call_by gifts (next act)) f ≡ is_in_scope (asked act) f
+asks_scope gifts act f = sym (as_scope (call_by gifts (next act)) f) ∙ ap (λ (k : FsCall). is_in_scope k f) (asks_is gifts act)
+
+-- and where that is no promise that is given back, just what it asks
+pub asks_just : (gifts : List Gift) (act : Going) (call : FsCall) → as_asked call ≡ call → call_by gifts (next act) ≡ call → asked act ≡ call
+asks_just gifts act call e same = sym (asks_is gifts act) ∙ (ap as_asked same ∙ e)

@@ -1,4 +1,5 @@
-use Rattle.afs_law.proofs.Facts.{AreFetched, FitsBulk}
+use Rattle.afs_law.proofs.Nexts.{as_is, asks_is}
+use Rattle.afs_law.proofs.Facts.{AreFetched, FitsBulk, its_call}
 use Rattle.afs_num.specs.declared.histories.ReadStatus.{ReadStatus}
 use Rattle.afs_num.specs.declared.scripts.Script.{Script}
 use Rattle.std.proofs.Common.{◌≡◌, ℕ, ◌≤◌, inl, inr, Bool, true, false, cond, List, [], ◌∷◌, ◌++◌, Option, Some, None, ℤ, refl, sym, ap, ◌∙◌, subst, arith, le_of_eq, le_trans, eqb-true}
@@ -19,7 +20,7 @@ use Rattle.afs_rows.specs.ClientRow.{body_told, find_cached, status_told}
 use Rattle.afs_rows.specs.Going.{asked, Going}
 use Rattle.afs_law.specs.Grants.{has_fetched, fetch_reply, GrantOf, since, IsWithdrawn, IsDropped}
 use Rattle.afs_law.specs.Ideal.{WasBefore, IsLast, WasLast, Unless, last_version, HasVersion, reach, change_in, call_in, call_under}
-use Rattle.afs_law.specs.Legal.{IsResult, IsKey, HasChange, Cause, answer_at, IsTold}
+use Rattle.afs_law.specs.Legal.{IsResult, IsKey, HasChange, Cause, answer_at, IsTold, as_asked}
 use Rattle.afs_history.specs.declared.lines.Line.{Line}
 use Rattle.afs_law.specs.Past.{begins_act, onto, lines_of, sent_of, given_message, running, has_begun, Ran, called_key, same_key, is_called, has_sent, is_sent_since, answered_key}
 use Rattle.afs_rows.specs.Runs.{Entry, Fall, at_rest, in_step, in_boot}
@@ -133,7 +134,7 @@ change_behind : (k : Key) (ls o : List Line) → HasChange k o → HasChange k (
 change_behind k [] o h = h
 change_behind k (l ∷ ls) o h = change_more k l (ls ++ o) (change_behind k ls o h)
 
-told_onto : (k : Key) (r : Option Result) (ls o : List Line) → IsTold k r o → IsTold k r (onto o ls)
+pub told_onto : (k : Key) (r : Option Result) (ls o : List Line) → IsTold k r o → IsTold k r (onto o ls)
 told_onto k (Some (changes es n)) ls o h = change_onto k ls o h
 told_onto k r ls o h = tt
 
@@ -145,7 +146,7 @@ pub result_by : (code : ℤ) (r : Option Result) (k : Key) (ran ls newer : List 
 result_by code r k ran ls newer w (inl x) = inl (x.0, w x.1)
 result_by code r k ran ls newer w (inr x) = inr x
 
-pub cause_over : (m : Message) (code : ℤ) (call : FsCall) (e : Entry) (past : List Entry) → Cause m code call past [] → Cause m code call (e ∷ past) []
+abbrev pub cause_over : (m : Message) (code : ℤ) (call : FsCall) (e : Entry) (past : List Entry) → Cause m code call past [] → Cause m code call (e ∷ past) []
 cause_over m code call e past h = record {
   is_reply = h.is_reply;
   told = h.told;
@@ -318,13 +319,13 @@ fits_over sp j call v boot m c e past p r n b h = absurd h
 
 pub answers_over : {sp : Bool} → (j : ℕ) (call : FsCall) (v : Spot) (boot : ℕ) (m : Message) (e : Entry) (past : List Entry) → ((f : Fid) → PassesGrant j f e past) → ((f : Fid) → PassesReach j f e past) → ((f : Fid) → StaysNewest j f e past) → has_begun (Client j) e.lines ≡ false
     → Answers sp j call v boot m past → Answers sp j call v boot m (e ∷ past)
-answers_over j call v boot m e past p r n b h = record { fits = fits_over _ j call v boot m m.carried e past p r n b h.fits; code = h.code; cause = cause_over m h.code call e past h.cause }
+answers_over j call v boot m e past p r n b h = record { fits = fits_over _ j call v boot m m.carried e past p r n b h.fits; code = h.code; cause = cause_over m h.code (as_asked call) e past h.cause; own = h.own }
 
 -- ---- a reply, under way or kept
 
 pub reply_over : (j : ℕ) (v : View) (m : Message) (e : Entry) (past : List Entry) → ((f : Fid) → PassesGrant j f e past) → ((f : Fid) → PassesReach j f e past) → ((f : Fid) → StaysNewest j f e past) → has_begun (Client j) e.lines ≡ false
     → ReplyFact j v past m → ReplyFact j v (e ∷ past) m
-reply_over j v m e past p r n b h = record { behind = h.behind; booted = h.booted; recent = h.recent; tied = h.tied; answers = λ act x y k. answers_over j (asked act) (spot v) v.boot m e past p r n b (h.answers act x y k) }
+reply_over j v m e past p r n b h = record { behind = h.behind; booted = h.booted; ran = ran_over m.head e past h.ran; recent = h.recent; tied = h.tied; answers = λ act x y k. answers_over j (its_call v.gifts act) (spot v) v.boot m e past p r n b (h.answers act x y k) }
 
 -- kept replies, where all replies pass
 pub kept_over : (j : ℕ) (o : Option Seat) (v w : View) (past newer : List Entry) → ((m : Message) → ReplyFact j v past m → ReplyFact j w newer m) → AreKept j o v past → AreKept j o w newer
@@ -420,7 +421,7 @@ act_over {s} e past w head user call lasts now k f h of_act act r =
     let one : its.client ≡ f.client = client_number its.client f.client (sym its.from ∙ (from ∙ f.from)) in
     let epoch : head.epoch ≡ (w f.client).epoch = sym (eqb-true _ _ q.0) ∙ (its.epoch ∙ ap (λ (j : ℕ). (w j).epoch) one) in
     let number : head.number ≡ (w f.client).last = sym (eqb-true _ _ q.1) ∙ (its.number ∙ ap (λ (j : ℕ). (w j).last) one) in
-    inr (f.fact.own act runs epoch number))
+    as_is call (asked act) (ap as_asked (f.fact.own act runs epoch number) ∙ asks_is (w f.client).gifts act))
     (λ none old. elim (k f.client act runs (subst (λ (n : Node). has_begun n e.lines ≡ false) f.from none)) [
       | inl x ↦ h (rw (same_node-refl head.from) old) act (subst (λ (n : Node). running s n (lines_of past) ≡ Some act) (sym f.from) x)
       | inr x ↦ elim (h (rw (same_node-refl head.from) old) x.act (subst (λ (n : Node). running s n (lines_of past) ≡ Some x.act) (sym f.from) x.runs)) [ inl y ↦ inl y | inr y ↦ inl (ap volume_changed y ∙ x.read) ]

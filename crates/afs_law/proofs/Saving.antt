@@ -1,4 +1,5 @@
-use Rattle.afs_law.proofs.Facts.{FitsBulk}
+use Rattle.afs_law.proofs.Nexts.{asks_scope, served_as}
+use Rattle.afs_law.proofs.Facts.{FitsBulk, its_call}
 use Rattle.afs_breaks.specs.declared.types.Promise.{Promise}
 use Rattle.afs_breaks.specs.Promises.{owes_from}
 use Rattle.afs_rows.specs.ServerSteps.{done}
@@ -29,7 +30,7 @@ use Rattle.afs_rows.specs.ClientRow.{status_told}
 use Rattle.afs_rows.specs.Going.{asked, Going, next}
 use Rattle.afs_law.specs.Grants.{IsWithdrawn, has_fetched, fetch_reply, since, change_below, IsByOther, IsDropped}
 use Rattle.afs_law.specs.Ideal.{versions_in, Reach, raised, IsLast, clock_of, last_version, HasVersion, Accepts, reach, volume_after, change_key, call_under, reach_over, applied, applied_by, HasBeen, TellsIn, TellsOf, shown_status}
-use Rattle.afs_law.specs.Legal.{code_given, AreGood, code_told, IsNew, HasChange, GoodChange, versions_first, IsTold, answer_at, IsUnderChange, IsChanged, op_on}
+use Rattle.afs_law.specs.Legal.{code_given, AreGood, code_told, IsNew, HasChange, GoodChange, versions_first, IsTold, answer_at, IsUnderChange, IsChanged, op_on, as_asked}
 use Rattle.afs_history.specs.declared.lines.Line.{Line}
 use Rattle.afs_law.specs.Past.{onto, lines_of, sent_of, given_message, called_key, HasCode, is_of_act, running, has_begun}
 use Rattle.afs_rows.specs.Runs.{Entry, message_at, Armed, Fall}
@@ -447,8 +448,8 @@ own_stands {s} false y fl c past n h user call vs r g i server newer w q some sc
       reached = seen_saved y n k vs r past g i a.reached;
       newest = elim a.newest [ inl x ↦ inl ((saves_grant y n k vs r past g).withdrawn server newer x) | inr at ↦ inr (ap (option_map (λ (v : Version). v.index)) (last_kept y k vs r past g none) ∙ at) ];
       before = λ z x sc ran. let one : taken n h r ≡ ran.seat = some_of _ _ ran.at in
-          let same : call ≡ asked z = w.fact.own z x (ap (λ (u : Seat). u.epoch) one ∙ ran.epoch) (ap (λ (u : Seat). u.number) one ∙ ran.number) in
-          absurd (yes_no (is_in_scope call g) (ap (λ (x : FsCall). is_in_scope x g) same ∙ sc) q);
+          let same : call ≡ its_call (c.clients n).gifts z = w.fact.own z x (ap (λ (u : Seat). u.epoch) one ∙ ran.epoch) (ap (λ (u : Seat). u.number) one ∙ ran.number) in
+          absurd (yes_no (is_in_scope call g) (ap (λ (x : FsCall). is_in_scope x g) same ∙ (asks_scope (c.clients n).gifts z g ∙ sc)) q);
     })
 
 pub own_reached : (y : Way) (past : List Entry) (n : ℕ) (k : Key) (id : ℕ) (vs : List Version) (r : Message) (f : Fid) → Grow id vs (base y k (length vs) (lines_of past)) → Reached (Client n) f (index_in (last_version f (lines_of past))) past
@@ -709,16 +710,17 @@ earlier {s} fl c past n h user call m w f e k = elim (eq-or-lt_of_le f.booted) [
 ]
 
 pub saved_answers : {s : Script} → (fl : ℕ → Ghost) (c : Cell) (past : List Entry) (e : Entry) (n : ℕ) (h : Head) (user : List ℕ) (call : FsCall) (z : Spot) → Now s c fl past n h user call → (volume_changed call ≡ None → ⊥) → (a : Going) (m : Message) → ReplyFact n (view fl c n) past m → (c.clients n).running ≡ Some a
-    → m.head.epoch ≡ (c.clients n).epoch → m.head.number ≡ (c.clients n).last → Answers (c.clients n).spoiled n (asked a) z c.server.lasting.boot m (e ∷ past)
+    → m.head.epoch ≡ (c.clients n).epoch → m.head.number ≡ (c.clients n).last → Answers (c.clients n).spoiled n (its_call (c.clients n).gifts a) z c.server.lasting.boot m (e ∷ past)
 saved_answers {s} fl c past e n h user call z w some a m fact runs y k = elim (up_to_by _ _ _ _ w.fact.behind) [
   | inl l ↦ absurd (stale_none fl c past n (client_head n h) call m w.fact w.boot w.above fact y k l)
-  | inr q ↦ let same : call ≡ asked a = running_act true fl c past n h user call w a runs q.0 q.1 in
-      let old : Answers (c.clients n).spoiled n (asked a) (spot (view fl c n)) c.server.lasting.boot m past = fact.answers a runs y k in
+  | inr q ↦ let same : call ≡ its_call (c.clients n).gifts a = running_act true fl c past n h user call w a runs q.0 q.1 in
+      let old : Answers (c.clients n).spoiled n (its_call (c.clients n).gifts a) (spot (view fl c n)) c.server.lasting.boot m past = fact.answers a runs y k in
       record {
         fits = subst (λ (u : FsCall). Fits (c.clients n).spoiled n u z c.server.lasting.boot m m.carried (e ∷ past)) same (saved_again (c.clients n).spoiled n call (spot (view fl c n)) z c.server.lasting.boot m m.carried past (e ∷ past) some (not_ran (view fl c n) h.epoch h.number w.above_durable w.fact.behind)
             (earlier fl c past n h user call m w fact (q.0 ∙ sym y) (q.1 ∙ sym k)) (subst (λ (u : FsCall). Fits (c.clients n).spoiled n u (spot (view fl c n)) c.server.lasting.boot m m.carried past) (sym same) old.fits));
         code = old.code;
-        cause = cause_over m old.code (asked a) e past old.cause;
+        cause = cause_over m old.code (as_asked (its_call (c.clients n).gifts a)) e past old.cause;
+        own = old.own;
       }
 ]
 
@@ -771,7 +773,7 @@ saves_change_good s c past own tail n h user call id v es shown H w q new only h
   called = w.origin.called;
   one = w.one;
   own_user = w.origin.own_user;
-  own_call = w.origin.own_call;
+  own_call = sym (served_as call id q.of_volume) ∙ w.origin.own_call;
   id = id;
   of_volume = q.of_volume;
   before = v;
@@ -833,6 +835,7 @@ saves_holds y s now c past after armed d n h user call time id st es shown H w q
         fits = change_fits (c.clients n).spoiled call y s c past n (client_head n h) user id time (time_in (stored_after id time es st)) st.volume es shown k (record { durable = Some (taken n h r); epoch = h.epoch; last = h.number }) some H q w.one (record { ran = record { seat = taken n h r; at = refl; epoch = refl; number = refl }; kept = refl });
         code = pos 0;
         cause = cause_now c n h user call x (pos 0) (e ∷ past) run w.origin.own_user (carried_code (time + promise_ticks) (change_reply id (the_user user) (time_in (stored_after id time es st)) (counted (edited_all id es st.volume)) shown call)) (carried_zero call time id user (time_in (stored_after id time es st)) st.volume es shown some) (inl (ap code_given result, subst (λ (z : Option Result). IsTold k z (lines_of (e ∷ past))) (sym result) (saves_change y k vs r past)));
+        own = refl;
       };
       acts = saves_act y n k vs r past;
       grows = λ f i b z. (saves_grant y n k vs r past f).version i b (lines_of past) z;

@@ -32,7 +32,7 @@ use Rattle.afs_history.specs.declared.lines.Line.TheVariants as lines
 -- A run of a script with one server is a run of the cell of one server: what holds of those holds of it.
 
 -- what of a cell the cell of one server has
-abbrev seen_in : Cell → one.Cell
+abbrev pub seen_in : Cell → one.Cell
 seen_in c = record {
   server = (c.hosts 1).state;
   count = c.count;
@@ -225,7 +225,7 @@ all_at_one (v ∷ vs) h = placed_same (is_some (get v.id (first_volumes vs))) (s
 abbrev begun_at : Script → Table Volume → one.Cell
 begun_at s volumes = record { server = first_server volumes; count = s.clients; down = None; armed = unarmed; clients = first_client s; away = λ n. false; sent = []; clock = 0 }
 
-run_same : (s : Script) (h : List Entry) (end : Cell) → IsOneServer s → RunsTo h s end → one.RunsTo h s (seen_in end)
+pub run_same : (s : Script) (h : List Entry) (end : Cell) → IsOneServer s → RunsTo h s end → one.RunsTo h s (seen_in end)
 run_same s h end is r = record {
   inputs = map as_one r.inputs;
   leads = subst (λ (vs : Table Volume). one.Leads (begun_at s vs) (map as_one r.inputs) h (seen_in end)) (all_at_one s.volumes is.1) (led_same r.inputs (start s) h end is.0 r.leads);

@@ -1,4 +1,4 @@
-use Rattle.afs_law.proofs.Facts.{AreFetched}
+use Rattle.afs_law.proofs.Facts.{AreFetched, its_call}
 use Rattle.afs_rows.specs.ServerRow.{sight_status, promise_until}
 use Rattle.afs_shape.specs.Rows.{no_callback}
 use Rattle.afs_num.specs.declared.calls.AfsCallBack.{AfsCallBack}
@@ -18,7 +18,7 @@ use Rattle.afs_law.proofs.Facts.{IsBody, back_seat, IsKnown, IsReadable, AreFine
 use Rattle.afs_law.proofs.Loading.{all_promised, all_granted, granted_all, none_loaded, still_backed, known_backed, resent, run_loaded, key_held, no_change, settles_good, settles_backed, gone_promised, gone_granted, granted_to_client, gone_to_clients, own_waited}
 use Rattle.afs_law.proofs.Notes.{granted_notes, AreNotes, Skips, skips, told_entry, told_rests, noted_entry, noted_rests, settle_notes}
 use Rattle.afs_law.proofs.Owing.{AllOf, BackedIn, IsDone, DroppedOwe, IsGranted, DoneIn, Promised, IsClient}
-use Rattle.afs_law.proofs.Passing.{old_over, stands_over, answers_over, reply_over, kept_over, PassesBoth, PassesFile, PassesAct, PassesReach, stays, current_over, client_still, News, more_sent}
+use Rattle.afs_law.proofs.Passing.{old_over, stands_over, answers_over, reply_over, kept_over, PassesBoth, PassesFile, PassesAct, PassesReach, stays, current_over, client_still, News, more_sent, ran_over}
 use Rattle.afs_law.proofs.Pumping.{no_news, pumped_news, news_break}
 use Rattle.afs_law.proofs.Resting.{Rests}
 use Rattle.afs_law.proofs.Turning.{loaded, TurnSends, Pumps, pumps, expired_backed, break_good}
@@ -26,7 +26,7 @@ use Rattle.afs_rows.specs.Callbacks.{Turn, replies_of, pumped, expired, turn_for
 use Rattle.afs_rows.specs.ClientRow.{names_told, body_told}
 use Rattle.afs_rows.specs.Going.{asked, Going}
 use Rattle.afs_law.specs.Ideal.{shown_status, Tells, TellsIn, TellsOf, volume_after, version_in, latest, IsThat, user_of, clock_of, last_version, HasVersion, reach, call_under}
-use Rattle.afs_law.specs.Legal.{code_given, IsResult, AreGood, code_told, Cause, IsTold, answer_at, answer_on}
+use Rattle.afs_law.specs.Legal.{code_given, IsResult, AreGood, code_told, Cause, IsTold, answer_at, answer_on, as_asked}
 use Rattle.afs_history.specs.declared.lines.Line.{Line}
 use Rattle.afs_law.specs.Past.{IsUnheard, lines_of, sent_of, given_message, called_key, HasCode, IsCallUnder, Ran, onto, same_key, answered_key}
 use Rattle.afs_rows.specs.Runs.{Entry, message_at, Armed, Fall}
@@ -403,9 +403,9 @@ pub record HasRun (c : Cell) (n : ℕ) (h : Head) (user : List ℕ) (call : FsCa
   pub ideal : AreIdeal c.server.lasting.volumes ran.older
 
 -- the reply has the code of the ideal operation
-pub cause_now : (c : Cell) (n : ℕ) (h : Head) (user : List ℕ) (call : FsCall) (x : Carried) (code : ℤ) (past : List Entry) → (g : HasRun c n h user call past) → user ≡ user_of (Client n)
+abbrev pub cause_now : (c : Cell) (n : ℕ) (h : Head) (user : List ℕ) (call : FsCall) (x : Carried) (code : ℤ) (past : List Entry) → (g : HasRun c n h user call past) → user ≡ user_of (Client n)
     → HasCode x → code_told x ≡ Some code → IsResult code (answer_at user call g.ran.older) (called_key (client_head n h)) g.ran.at.lines (lines_of past)
-    → Cause (replied c.server.lasting.boot (client_head n h) x) code call past []
+    → Cause (replied c.server.lasting.boot (client_head n h) x) code (as_asked call) past []
 cause_now c n h user call x code past g own has told result = record {
   is_reply = (refl, has);
   told = told;
@@ -419,7 +419,7 @@ cause_now c n h user call x code past g own has told result = record {
 }
 
 -- the call whose call ran is the running one, where the client waits for it
-pub running_act : {s : Script} → (good : Bool) (fl : ℕ → Ghost) (c : Cell) (past : List Entry) (n : ℕ) (h : Head) (user : List ℕ) (call : FsCall) → Now s c fl past n h user call → (b : Going) → (c.clients n).running ≡ Some b → h.epoch ≡ (c.clients n).epoch → h.number ≡ (c.clients n).last → call ≡ asked b
+pub running_act : {s : Script} → (good : Bool) (fl : ℕ → Ghost) (c : Cell) (past : List Entry) (n : ℕ) (h : Head) (user : List ℕ) (call : FsCall) → Now s c fl past n h user call → (b : Going) → (c.clients n).running ≡ Some b → h.epoch ≡ (c.clients n).epoch → h.number ≡ (c.clients n).last → call ≡ its_call (c.clients n).gifts b
 running_act {s} good fl c past n h user call w b x y k = w.fact.own b x y k
 
 -- no reply to the client's last call was made where a call below it runs
@@ -444,6 +444,7 @@ pub reply_now : {s : Script} → (good : Bool) (fl : ℕ → Ghost) (c : Cell) (
 reply_now {s} good fl c past newer n h user call x w le a = record {
   behind = w.fact.behind;
   booted = le_refl _;
+  ran = a.cause.ran;
   recent = λ y k. le;
   tied = λ q above. below_not _ _ _ _ above (up_to_same _ _ _ _ refl refl);
   answers = λ b q y k. subst (λ (z : FsCall). Answers (c.clients n).spoiled n z (spot (caller_view good fl c n h (replied c.server.lasting.boot (client_head n h) x))) c.server.lasting.boot (replied c.server.lasting.boot (client_head n h) x) newer) (running_act good fl c past n h user call w b q y k)
@@ -461,7 +462,7 @@ pub record Serves (good : Bool) (s : Script) (c : Cell) (fl : ℕ → Ghost) (pa
   pub other : (j : ℕ) → (n ≡ j → ⊥) → ClientFacts s j (view fl c j) past → ClientFacts s j (view fl c j) (e ∷ past)
   pub other_reply : (j : ℕ) (m : Message) → (n ≡ j → ⊥) → ReplyFact j (view fl c j) past m → ReplyFact j (view fl c j) (e ∷ past) m
   pub own_answers : (b : Going) (m : Message) → ReplyFact n (view fl c n) past m → (c.clients n).running ≡ Some b → m.head.epoch ≡ (c.clients n).epoch → m.head.number ≡ (c.clients n).last
-      → Answers (c.clients n).spoiled n (asked b) (spot (caller_view good fl c n h (replied c.server.lasting.boot (client_head n h) x))) c.server.lasting.boot m (e ∷ past)
+      → Answers (c.clients n).spoiled n (its_call (c.clients n).gifts b) (spot (caller_view good fl c n h (replied c.server.lasting.boot (client_head n h) x))) c.server.lasting.boot m (e ∷ past)
   pub is_reply : IsReply x
   pub answer : Answers (c.clients n).spoiled n call (record { durable = own_durable good (taken n h (replied c.server.lasting.boot (client_head n h) x)) (call_seat (Client n) c.server.lasting.kept); epoch = h.epoch; last = h.number }) c.server.lasting.boot (replied c.server.lasting.boot (client_head n h) x) (e ∷ past)
   pub acts : PassesAct n e past
@@ -478,6 +479,7 @@ pub own_reply : (good : Bool) (s : Script) (c : Cell) (fl : ℕ → Ghost) (past
 own_reply good s c fl past n h user call x e st w v m f = record {
   behind = f.behind;
   booted = f.booted;
+  ran = ran_over m.head e past f.ran;
   recent = f.recent;
   tied = λ q above. f.tied q (above_more (call_seat (Client n) c.server.seats) h.epoch h.number m.head.epoch m.head.number w.above above);
   answers = λ b y z k. v.own_answers b m f y z k;
@@ -620,7 +622,7 @@ serves_still s c past n h user call x e H w pf pr pa l ideal home new clock top 
       new = new;
       other = λ j ne. client_still j (view H.floors c j) e past (pf j) (pr j) (pa j) l;
       other_reply = λ j m ne. reply_over j (view H.floors c j) m e past (λ f. (pf j f).grant) (pr j) (λ f. stays j f e past (pf j f).grant (l f)) (pa j).begins;
-      own_answers = λ b m f y z k. answers_over n (asked b) (spot (view H.floors c n)) c.server.lasting.boot m e past (λ g. (pf n g).grant) (pr n) (λ g. stays n g e past (pf n g).grant (l g)) (pa n).begins (f.answers b y z k);
+      own_answers = λ b m f y z k. answers_over n (its_call (c.clients n).gifts b) (spot (view H.floors c n)) c.server.lasting.boot m e past (λ g. (pf n g).grant) (pr n) (λ g. stays n g e past (pf n g).grant (l g)) (pa n).begins (f.answers b y z k);
       is_reply = is;
       answer = a;
       acts = pa n;
@@ -669,6 +671,7 @@ refuses_goes s c past armed p n h user call code H up at w nz result =
             fits = refusal_fits (c.clients n).spoiled n call (spot_at (call_seat (Client n) c.server.lasting.kept) h.epoch h.number) c.server.lasting.boot r (record { 0 = code }) (e ∷ past) nz (not_stored (call_seat (Client n) c.server.lasting.kept) h.epoch h.number w.above_durable);
             code = code;
             cause = cause_now c n h user call x code (e ∷ past) (has_run s c past p n h user call e H up at w refl refl) w.origin.own_user tt refl result;
+            own = refl;
           }))
           (H.boots ∙ ap (λ (d : Option Fall). up_boot d c.server.lasting.boot) up) (unheard_after s c past p n h user call r e H up at w refl) tt (λ own held. pumped_news (views_after false H.floors c n h r) c.server.lasting.boot (e ∷ past) c.server.lasting.boot t pump.clients (no_news _ _ _) (own, tt) held) (λ z. pump.backed);
       replies = pump.good;
@@ -979,6 +982,7 @@ shows_by s c past armed p n h user call r H up at w is code done =
                 });
             code = pos 0;
             cause = cause_now c n h user call z (pos 0) (e ∷ past) run w.origin.own_user tt refl (inl (code, told_still (called_key (client_head n h)) (answer_at user call past) (lines_of (e ∷ past)) done));
+            own = refl;
           }))
           boots (unheard_after s c past p n h user call m e H up at w refl) tt (λ own held. pumped_news (views_after false H.floors c n h m) c.server.lasting.boot (e ∷ past) c.server.lasting.boot turn pump.clients (no_news _ _ _) (own, tt) held) (λ z. pump.backed);
       replies = pump.good;

@@ -1,9 +1,10 @@
+use Rattle.afs_law.proofs.Nexts.{asks_is, asks_changed}
 use Rattle.afs_rows.specs.Steps.{Step}
 use Rattle.afs_num.specs.declared.types.Node.{Node}
 use Rattle.afs_law.proofs.Apart.{apart_filter}
 use Rattle.afs_law.proofs.Asking.{client_ended}
-use Rattle.afs_law.proofs.Facts.{AreApart, IsClient}
-use Rattle.afs_law.proofs.Passing.{old_over, old_within}
+use Rattle.afs_law.proofs.Facts.{AreApart, IsClient, its_call}
+use Rattle.afs_law.proofs.Passing.{old_over, old_within, ran_over}
 use Rattle.std.proofs.Common.{nat_eq, not, ◌≡◌, ℕ, ◌+◌, inl, inr, Bool, true, false, cond, nat_lt, List, [], ◌∷◌, ◌++◌, Option, Some, None, refl, sym, ap, subst, ◌∙◌, arith}
 use Rattle.std.specs.Prelude.{◌&&◌}
 use Rattle.afs_num.specs.declared.histories.Actor.TheVariants as actors
@@ -19,7 +20,7 @@ use Rattle.afs_law.proofs.Skipping.{own_ended, last_line, skips, timed, drop_lin
 use Rattle.afs_rows.specs.ClientRow.{boot_of, ends_step, call_of, dead_code, tries_again, dropped, gives_up, call_message, ended, reborn, left_in, given_up_in}
 use Rattle.afs_rows.specs.Going.{asked, Going, ClientState}
 use Rattle.afs_law.specs.Ideal.{last_version, user_of}
-use Rattle.afs_law.specs.Legal.{given_up, AreGood}
+use Rattle.afs_law.specs.Legal.{given_up, AreGood, as_asked}
 use Rattle.afs_history.specs.declared.lines.Line.{Line}
 use Rattle.afs_law.specs.Past.{lines_of, has_begun, running, CalledSince}
 use Rattle.afs_rows.specs.Runs.{Entry}
@@ -68,7 +69,7 @@ tries_goes s c past n act h runs =
     let x : ClientState = c.clients n in
     let q : Node = x.callee in
     let y : ClientState = record x { tries = x.tries + 1 } in
-    let kind : IsClient s y = record { table = (h.own n).table; user = (h.own n).user; callee = λ a z. (h.own n).callee a z; apart = (h.own n).apart } in
+    let kind : IsClient s y = record { table = (h.own n).table; user = (h.own n).user; callee = λ a z. (h.own n).callee a z; apart = (h.own n).apart; gifts = (h.own n).gifts } in
     let ms : List Message = call_message (Client n) x act ∷ [] in
     let e : Entry = step_entry n (lines.Timeout (Client n) q x.epoch x.last (x.tries + 1) ∷ []) ms in
     moves s c past n (h.floors n) (tries_again (Client n) x act) h kind (refl, tt) (timeout_passes s q n x.epoch x.last (x.tries + 1) ms past)
@@ -86,10 +87,10 @@ not_raised false = refl
 -- ---- a call is given up
 
 -- the answer is good behind the drops
-pub dead_good : (s : Script) (n : ℕ) (act : Going) (key : Key) (past : List Entry) (es : List CacheEntry) (own : List Line) → running s (Client n) (own ++ lines_of past) ≡ Some act → given_up (Client n) own ≡ Some key → has_begun (Client n) own ≡ false → CalledSince key (user_of (Client n)) (asked act) past
+pub dead_good : (s : Script) (n : ℕ) (act : Going) (key : Key) (past : List Entry) (es : List CacheEntry) (own : List Line) → running s (Client n) (own ++ lines_of past) ≡ Some act → given_up (Client n) own ≡ Some key → has_begun (Client n) own ≡ false → (call : FsCall) → as_asked call ≡ asked act → CalledSince key (user_of (Client n)) call past
     → AreGood s (actors.Node (Client n)) past own (dropped (Client n) es (last_line n dead_code))
-dead_good s n act key past [] own runs third before called = ((refl, record { act = act; runs = runs; cause = inr (inr (record { is = refl; key = key; third = third; before = before; called = called })) }), tt)
-dead_good s n act key past (u ∷ es) own runs third before called = (refl, dead_good s n act key past es (lines.Drop (Client n) u.fid ∷ own) runs third before called)
+dead_good s n act key past [] own runs third before call asks called = ((refl, record { act = act; runs = runs; cause = inr (inr (inl (record { is = refl; key = key; third = third; before = before; call = call; asks = asks; called = called }))) }), tt)
+dead_good s n act key past (u ∷ es) own runs third before call asks called = (refl, dead_good s n act key past es (lines.Drop (Client n) u.fid ∷ own) runs third before call asks called)
 
 pub dead_safe : (call : FsCall) (t e l : ℕ) (act : Going) (o : Option Going) (cache : List CacheEntry) (aged older : Type 0) (head : Head) → o ≡ Some act → (aged → older) → IsSafe t e l o cache aged head call → IsSafe t e l None (left_in (volume_changed (asked act)) cache) older head call
 dead_safe call t e l act o cache aged older head runs w (inl x) = inl x
@@ -97,15 +98,15 @@ dead_safe call t e l act o cache aged older head runs w (inr (inl x)) = inr (inr
 dead_safe call t e l act o cache aged older head runs w (inr (inr (inl x))) = inr (inr (inl (λ f z u at lasts. x f z u (left_found (volume_changed (asked act)) f cache u at) lasts)))
 dead_safe call t e l act o cache aged older head runs w (inr (inr (inr x))) = inr (inr (inr (w x)))
 
--- the client gives up its call to this callee
-abbrev gives_up_on : Node → ℕ → ClientState → FsCall → Step ClientState
-gives_up_on q n x call = ends_step (Client n) x (left_in (volume_changed call) x.cache) (λ ls. lines.Timeout (Client n) q x.epoch x.last 3 ∷ dropped (Client n) (given_up_in (volume_changed call) x.cache) ls) dead_code
+-- the client gives up its call to this callee, which may have changed this volume
+abbrev gives_up_on : Node → ℕ → ClientState → Option ℕ → Step ClientState
+gives_up_on q n x o = ends_step (Client n) x (left_in o x.cache) (λ ls. lines.Timeout (Client n) q x.epoch x.last 3 ∷ dropped (Client n) (given_up_in o x.cache) ls) dead_code
 
 left_as : (o : Option ℕ) (cache : List CacheEntry) → AreApart cache → AreApart (left_in o cache)
 left_as None cache a = a
 left_as (Some id) cache a = apart_filter (λ e. not (nat_eq e.fid.volume id)) cache a
 
-pub gives_up_by : (s : Script) (c : Cell) (past : List Entry) (n : ℕ) (act : Going) → Holds s c past → (c.clients n).running ≡ Some act → Goes s past (client_moves c n (gives_up_on the_server n (c.clients n) (asked act)))
+pub gives_up_by : (s : Script) (c : Cell) (past : List Entry) (n : ℕ) (act : Going) → Holds s c past → (c.clients n).running ≡ Some act → Goes s past (client_moves c n (gives_up_on the_server n (c.clients n) (volume_changed (asked act))))
 gives_up_by s c past n act h runs =
     let x : ClientState = c.clients n in
     let call : FsCall = asked act in
@@ -115,8 +116,8 @@ gives_up_by s c past n act h runs =
     let last : (f : Fid) → last_version f (lines_of (e ∷ past)) ≡ last_version f (lines_of past) = λ f. (skips n dead_code es).last f _ in
     let held : ℕ = (h.floors n).held in
     let g : Ghost = holding h.floors n held in
-    moves s c past n g (gives_up_on the_server n x call) h (client_ended s x cache (h.own n) (left_as (volume_changed call) x.cache (h.own n).apart))
-    (refl, dead_good s n act (last_key n (view h.floors c n)) past es (lines.Timeout (Client n) the_server x.epoch x.last 3 ∷ []) ((h.clients n).runs act runs) (rw (same_node-refl (Client n)) refl) refl ((h.clients n).asked act runs))
+    moves s c past n g (gives_up_on the_server n x (volume_changed call)) h (client_ended s x cache (h.own n) (left_as (volume_changed call) x.cache (h.own n).apart))
+    (refl, dead_good s n act (last_key n (view h.floors c n)) past es (lines.Timeout (Client n) the_server x.epoch x.last 3 ∷ []) ((h.clients n).runs act runs) (rw (same_node-refl (Client n)) refl) refl (its_call x.gifts act) (asks_is x.gifts act) ((h.clients n).asked act runs))
     (drop_passes s c past n (timed x.epoch x.last) dead_code es (λ k boot y. y))
     (ended_facts s c past n cache held e h (h.clients n).holds (ended_running s n dead_code es (lines.Timeout (Client n) the_server x.epoch x.last 3 ∷ lines_of past))
     (λ k u found lasts.
@@ -133,8 +134,8 @@ gives_up_by s c past n act h runs =
 pub gives_up_goes : (s : Script) (c : Cell) (past : List Entry) (n : ℕ) (act : Going) → Holds s c past → (c.clients n).running ≡ Some act → Goes s past (client_moves c n (gives_up (Client n) (c.clients n) (call_of (c.clients n) act)))
 gives_up_goes s c past n act h runs =
     let x : ClientState = c.clients n in
-    subst (λ (q : Node). Goes s past (client_moves c n (gives_up_on q n x (call_of x act)))) (sym ((h.own n).callee act runs))
-    (subst (λ (k : FsCall). Goes s past (client_moves c n (gives_up_on the_server n x k))) (sym (call_is x act)) (gives_up_by s c past n act h runs))
+    subst (λ (q : Node). Goes s past (client_moves c n (gives_up_on q n x (volume_changed (call_of x act))))) (sym ((h.own n).callee act runs))
+    (subst (λ (o : Option ℕ). Goes s past (client_moves c n (gives_up_on the_server n x o))) (sym (asks_changed x.gifts act)) (gives_up_by s c past n act h runs))
 
 pub timeout_by : (s : Script) (c : Cell) (past : List Entry) (n : ℕ) (act : Going) (t : Bool) → Holds s c past → (c.clients n).running ≡ Some act → Goes s past (client_moves c n (cond t (tries_again (Client n) (c.clients n) act) (gives_up (Client n) (c.clients n) (call_of (c.clients n) act))))
 timeout_by s c past n act true h runs = tries_goes s c past n act h runs
@@ -226,11 +227,12 @@ client_stops_goes s c past n h =
     let over : (m : Message) → ReplyFact n (view h.floors c n) past m → ReplyFact n v (e ∷ past) m = λ m f. record {
       behind = new_epoch _ _ _ _ f.behind;
       booted = f.booted;
+      ran = ran_over m.head e past f.ran;
       recent = λ y k. absurd (not_epoch _ _ _ _ f.behind y);
       tied = f.tied;
       answers = λ b y. absurd cc;
     } in
-    turned_goes s past n true _ (moves_back s c past n g (record { state = x; lines = lines.Crash (Client n) ∷ []; sent = [] }) h (record { table = (h.own n).table; user = (h.own n).user; callee = λ a z. absurd cc; apart = tt }) (refl, tt) (crash_passes s n past)
+    turned_goes s past n true _ (moves_back s c past n g (record { state = x; lines = lines.Crash (Client n) ∷ []; sent = [] }) h (record { table = (h.own n).table; user = (h.own n).user; callee = λ a z. absurd cc; apart = tt; gifts = tt }) (refl, tt) (crash_passes s n past)
     (record {
       behind = λ seat y. new_epoch _ _ _ _ (d.behind seat y);
       behind_durable = λ seat y. new_epoch _ _ _ _ (d.behind_durable seat y);

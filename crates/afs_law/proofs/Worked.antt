@@ -1,4 +1,5 @@
-use Rattle.std.proofs.Common.{◌≤◌}
+use Rattle.afs_rows.specs.Going.{Need, answers, gives_back, next}
+use Rattle.std.proofs.Common.{◌≤◌, sym, ◌∙◌}
 use Rattle.afs_records.specs.Records.{record_bytes, head_form, volume_form}
 use Rattle.afs_rows.specs.ServerSteps.{server_row, back_timeout_row, wake_row, start_row}
 -- Worked runs: breaks that overtake a reply, that are never answered, that wait behind a restart, and those of a change of two versions.
@@ -13,7 +14,7 @@ use Rattle.afs_num.specs.declared.histories.Body.{Body}
 use Rattle.afs_num.specs.declared.histories.ReadBody.{ReadBody}
 use Rattle.afs_num.specs.declared.histories.ReadStatus.{ReadStatus}
 use Rattle.afs_num.specs.declared.histories.Actor.{Actor}
-use Rattle.afs_law.proofs.Basics.{yes_no}
+use Rattle.afs_law.proofs.Basics.{yes_no, some_of}
 use Rattle.std.specs.Option.{option_map}
 use Rattle.std.proofs.Common.{Option, negsuc, suc, zero, eq-eqb, ap, nat_eq, ◌<◌, inl, inr, arith, ◌≡◌, ℕ, List, [], ◌∷◌, ◌++◌, Some, None, pos, refl}
 use Rattle.std.specs.Prelude.{codes, true, false, Bool, filter, map, not}
@@ -429,3 +430,42 @@ statuses_front = begins 1 (acts.StatAll (operands.Fid root)) ∷ gives 1 steady 
 statuses_wrong : Legal (alters 4 (by_lines tells_linked) (entries (start (script 1)) statuses_front)) (script 1) → ⊥
 unfolding moved begin_row client_row server_row back_timeout_row wake_row start_row record_bytes head_form volume_form spelled opaque pad word laid_at led name_ok directory_bytes name_bytes rights_of image acl_text digits entry_text directory_of names_at opaque_at word_at counted_at whole_at count_at name_at spelled_at bytes_below
 statuses_wrong h = elim h.1.1.1.1.0.0.0.1.0.1.whole.1 [ inl x ↦ apart_numbers 1 7 refl (ap (λ (t : ReadStatus). t.link_count) x.1) | inr y ↦ elim y [ inl x ↦ apart_numbers 1 7 refl (ap (λ (t : ReadStatus). t.link_count) x.1) | inr z ↦ elim z [ inl x ↦ apart_numbers 1 7 refl (ap (λ (t : ReadStatus). t.link_count) x.1) | inr w ↦ elim w [ inl x ↦ apart_numbers 1 7 refl (ap (λ (t : ReadStatus). t.link_count) x.1) | inr v ↦ elim v [ inl x ↦ apart_numbers 1 7 refl (ap (λ (t : ReadStatus). t.link_count) x.1) | inr u ↦ u ] ] ] ] ]
+
+-- ---- what a client gives back
+
+-- the server is told by a call, and no break is owed by the store after it
+abbrev gave_back : List Input
+gave_back = begins 1 (acts.Open (operands.Fid file)) ∷ gives 1 steady ∷ gives 2 steady ∷ begins 1 acts.GiveUp ∷ gives 3 steady ∷ gives 4 steady ∷ begins 2 (acts.Close (operands.Fid file) (Hex (codes "def"))) ∷ gives 5 steady ∷ gives 6 steady ∷ []
+
+row_gave : told (start (script 2)) gave_back ≡
+    begun 1 ∷ lines.Given 1 ∷ lines.Grant (Server 1) (Client 1) file 1 7200 ∷ lines.Given 2 ∷ lines.Read (Client 1) file 1 Fetched (seen.Contents (bodies.File (codes "abc"))) ∷ answer 1 ∷ lines.Begin (Client 1) acts.GiveUp ∷ lines.Drop (Client 1) file ∷ lines.Given 3 ∷ lines.Given 4 ∷ answer 1
+    ∷ stores 2 ∷ lines.Given 5 ∷ (change 2 ++ lines.Given 6 ∷ answer 2 ∷ [])
+unfolding moved begin_row client_row server_row back_timeout_row wake_row start_row record_bytes head_form volume_form spelled opaque pad word laid_at led name_ok directory_bytes name_bytes rights_of image acl_text digits entry_text
+row_gave = refl
+
+-- one that has nothing is answered at once
+row_nothing : told (start (script 1)) (begins 1 acts.GiveUp ∷ []) ≡ lines.Begin (Client 1) acts.GiveUp ∷ answer 1 ∷ []
+unfolding moved begin_row client_row server_row back_timeout_row wake_row start_row record_bytes head_form volume_form spelled opaque pad word laid_at led name_ok directory_bytes name_bytes rights_of image acl_text digits entry_text
+row_nothing = refl
+
+-- one that gave something up is not: its server has to be told
+abbrev untold : Entry → Entry
+untold e = record e { lines = e.lines ++ answer 1 ∷ []; sent = [] }
+
+not_answers : (n : ℕ) → gives_back ≡ answers n → ⊥
+not_answers n e = absurd cc
+
+gave_untold : Legal (alters 3 untold (entries (start (script 1)) (begins 1 (acts.Open (operands.Fid file)) ∷ gives 1 steady ∷ gives 2 steady ∷ begins 1 acts.GiveUp ∷ []))) (script 1) → ⊥
+unfolding moved begin_row client_row server_row back_timeout_row wake_row start_row record_bytes head_form volume_form spelled opaque pad word laid_at led name_ok directory_bytes name_bytes rights_of image acl_text digits entry_text
+gave_untold h =
+    let g = h.1.1.1.0.0.0.1.1.0.1 in
+    elim g.cause [
+      | inl x ↦ let e : None ≡ Some x.reply = x.by in absurd cc
+      | inr y ↦ elim y [
+        | inl x ↦ not_answers x.number (ap next (some_of _ _ g.runs) ∙ x.by)
+        | inr z ↦ elim z [
+          | inl x ↦ let e : pos 0 ≡ negsuc 0 = x.is in absurd cc
+          | inr x ↦ let e : true ≡ false = x.none in absurd cc
+        ]
+      ]
+    ]

@@ -7,7 +7,7 @@ use Rattle.afs_ideal.specs.Tables.{Table, get}
 use Rattle.afs_ideal.specs.Volumes.{Vnode, version_at, Volume, body_of, size_of, type_of, vnode_of}
 use Rattle.afs_history.specs.declared.lines.Line.{Line}
 use Rattle.afs_law.specs.Past.{begins_act, onto, is_of_act, sent_of, is_called}
-use Rattle.afs_rows.specs.Runs.{Entry, first_volume, first_volumes}
+use Rattle.afs_rows.specs.Runs.{Entry, first_volume, first_volumes, counts_later}
 use Rattle.afs_rows.specs.Scopes.{is_volume}
 use Rattle.std.specs.Prelude.{is_some, ◌≡◌, ℕ, ◌+◌, List, [], ◌∷◌, ◌++◌, Bool, true, false, ◌&&◌, Option, Some, None, codes, max, if◌then◌else◌, ◌⊎◌}
 use Rattle.std.specs.Option.{option_map}
@@ -46,7 +46,7 @@ unless false a b = b
 
 abbrev pub first_lines : List VolumeLine → List Line
 first_lines [] = []
-first_lines (v ∷ vs) = unless (is_some (get v.id (first_volumes vs))) (first_lines vs) (first_lines vs ++ first_told v.id (first_volume v).vnodes [])
+first_lines (v ∷ vs) = unless (counts_later v.id vs) (first_lines vs) (first_lines vs ++ first_told v.id (first_volume v).vnodes [])
 
 -- the set-up, as an entry before all others
 abbrev pub set_up : Script → Entry
@@ -177,9 +177,10 @@ HasBeen f index body (e ∷ past) = TellsOf f index body (volume_after f.volume 
 
 -- ---- servers and the clock
 
+-- of the lines with one volume's number the last counts
 abbrev pub is_at : ℕ → Node → List VolumeLine → Type 0
 is_at id server [] = ⊥
-is_at id server (v ∷ vs) = ((v.id ≡ id) × (v.server ≡ server)) ⊎ is_at id server vs
+is_at id server (v ∷ vs) = ((counts_later v.id vs ≡ false) × ((v.id ≡ id) × (v.server ≡ server))) ⊎ is_at id server vs
 
 -- The server accepts stores of the volume: at first the script's server does. No line moves a volume yet.
 abbrev pub Accepts : Script → ℕ → Node → List Line → Type 0

@@ -1,10 +1,16 @@
-use Rattle.afs_rows.specs.Going.{ClientState}
-use Rattle.afs_ideal.specs.Operations.{Caller, the_user, Result, refused, reads, changes, no_operation, op, volume_called}
+use Rattle.afs_num.specs.declared.types.Key.{Key}
+use Rattle.afs_breaks.specs.declared.types.Promise.{Promise}
+use Rattle.afs_breaks.specs.declared.types.OwedBreak.{OwedBreak}
+use Rattle.afs_rows.specs.Scopes.{is_in_scope}
+use Rattle.afs_law.specs.Breaks.{AllOwes, EndedBy, Owes, GoodSettle, live_grant, lines_at}
+use Rattle.afs_model.specs.Calls.{admitted, call_seat}
+use Rattle.afs_rows.specs.Going.{ClientState, asked, Going}
+use Rattle.afs_ideal.specs.Operations.{Caller, the_user, Result, refused, reads, changes, no_operation, op, volume_called, volume_changed}
 -- Laws about the runs of a script.
 use Rattle.afs_num.specs.declared.histories.ReadSource.TheVariants.{Cached}
 use Rattle.afs_rows.specs.ClientRow.{find_cached}
 use Rattle.afs_num.specs.declared.messages.Message.{Message}
-use Rattle.afs_num.specs.declared.types.Node.TheVariants.{Client}
+use Rattle.afs_num.specs.declared.types.Node.TheVariants.{Client, Server}
 use Rattle.afs_ideal.specs.Tables.{get, Table}
 use Rattle.afs_num.specs.Nodes.{IsNode}
 use Rattle.afs_records.specs.Changes.{boot_record}
@@ -13,20 +19,22 @@ use Rattle.afs_records.specs.Laws.{CanBeStored}
 use Rattle.std.specs.List.{AllByRecursion}
 use Rattle.afs_ideal.specs.Told.{Agrees}
 use Rattle.afs_ideal.specs.Volumes.{Volume}
-use Rattle.afs_law.specs.Grants.{since, IsOutstanding}
+use Rattle.afs_law.specs.Grants.{since, IsOutstanding, fetch_reply}
 use Rattle.afs_law.specs.Ideal.{versions_in, volume_after, set_up, IsLast}
-use Rattle.afs_law.specs.Legal.{GoodRead, Legal}
+use Rattle.afs_law.specs.Legal.{GoodRead, Legal, Cause}
 use Rattle.afs_history.specs.declared.lines.Line.{Line}
 use Rattle.afs_law.specs.Once.{past_of, ChangesOnce}
 use Rattle.afs_law.specs.OneServer.{IsOneServer}
-use Rattle.afs_law.specs.Past.{HasCode, IsCall, lines_of}
-use Rattle.afs_rows.specs.Runs.{message_at, Leads, start, Input, Entry, Cell, RunsTo}
+use Rattle.afs_law.specs.Past.{HasCode, IsCall, lines_of, IsUnheard, called_key, answered_key, Ran}
+use Rattle.afs_rows.specs.Runs.{message_at, Leads, start, Input, Entry, Cell, RunsTo, Host}
 use Rattle.afs_rows.specs.ServerRow.{Change, is_client, lasting_after, lasting_started, record_of, serves, runs, refuses, not_served, whole, is_client, no_room}
-use Rattle.afs_rows.specs.States.{CacheEntry, Seat, Lasting, durable_of, volume_in, ServerState}
+use Rattle.afs_rows.specs.States.{CacheEntry, Seat, Lasting, durable_of, volume_in, ServerState, BackCall}
 use Rattle.afs_model.specs.FsRows.{call_number}
 use Rattle.afs_num.specs.declared.messages.Carried.TheVariants as carried
 use Rattle.afs_num.specs.declared.messages.Call.TheVariants as ask
-use Rattle.std.specs.Prelude.{◌⊎◌, ◌≤◌, ◌<◌, None, Some, ◌∷◌, [], ◌≡◌, ◌↔◌, ℕ, List, ◌++◌, false, ◌+◌, ◌&&◌, Option, true}
+use Rattle.afs_model.specs.Calls as pairs
+use Rattle.afs_history.specs.declared.lines.Line.TheVariants as lines
+use Rattle.std.specs.Prelude.{◌⊎◌, ◌≤◌, ◌<◌, None, Some, ◌∷◌, [], ◌≡◌, ◌↔◌, ℕ, List, ◌++◌, false, ◌+◌, ◌&&◌, Option, true, ℤ}
 use Rattle.afs_num.specs.declared.types.Fid.{Fid}
 use Rattle.afs_num.specs.declared.types.Node.{Node}
 use Rattle.afs_num.specs.declared.scripts.Script.{Script}
@@ -120,3 +128,95 @@ ChangesAreFolded = (l : Lasting) (head : Head) (clock : ℕ) (c : Change) → ge
 -- what a start leaves is the fold of its record
 abbrev pub StartsAreFolded : Type 0
 StartsAreFolded = (l : Lasting) → folded (boot_record (l.boot + 1)) (durable_of l) ≡ Some (durable_of (lasting_started l))
+
+-- ---- what holds between any two entries of a run
+
+-- a call that its server would run now was never given to it in this boot: a key runs at most once in each
+abbrev pub CallsRunOnce : Type 0
+CallsRunOnce =
+    (s : Script) (history : List Entry) (end : Cell) → IsOneServer s → RunsTo history s end → (end.hosts 1).down ≡ None
+    → (head : Head) → admitted (end.hosts 1).state.lasting.boot (end.hosts 1).state.seats head ≡ pairs.runs → IsUnheard (Server 1) (called_key head) head.boot (past_of (set_up s ∷ []) history)
+
+-- the reply to the call that a client waits for is that of the entry which ran the call in the boot that the reply carries, and
+-- tells what the ideal cell made of it there
+abbrev pub RepliesAreCaused : Type 0
+RepliesAreCaused =
+    (s : Script) (history : List Entry) (end : Cell) → IsOneServer s → RunsTo history s end → (j place : ℕ) (m : Message) (act : Going) → message_at end.sent place ≡ Some m → HasCode m.carried → m.head.to ≡ Client j
+    → (end.clients j).running ≡ Some act → m.head.epoch ≡ (end.clients j).epoch → m.head.number ≡ (end.clients j).last → (code : ℤ) × Cause m code (asked act) (past_of (set_up s ∷ []) history) []
+
+-- each reply of the server to a client, under way or kept, is that of the entry that ran its call in the boot that it carries
+pub record AreRan (messages : List Message) (seats : List Seat) (past : List Entry) : Type 0 where
+  pub sent : (j place : ℕ) (m : Message) → message_at messages place ≡ Some m → HasCode m.carried → m.head.to ≡ Client j → Ran m.head past
+  pub kept : (j : ℕ) (seat : Seat) (m : Message) → call_seat (Client j) seats ≡ Some seat → seat.reply ≡ Some m → Ran m.head past
+
+abbrev pub RepliesAreRan : Type 0
+RepliesAreRan = (s : Script) (history : List Entry) (end : Cell) → IsOneServer s → RunsTo history s end → AreRan end.sent (end.hosts 1).state.seats (past_of (set_up s ∷ []) history)
+
+-- the server changed something under this key
+abbrev pub HasChangeBy : Node → Key → List Line → Type 0
+HasChangeBy s k [] = ⊥
+HasChangeBy s k (lines.Change q l count ∷ ls) = ((q ≡ s) × (l ≡ k)) ⊎ HasChangeBy s k ls
+HasChangeBy s k (l ∷ ls) = HasChangeBy s k ls
+
+abbrev pub seat_key : Node → Seat → Key
+seat_key n seat = record { node = n; epoch = seat.epoch; number = seat.number }
+
+-- what a server's disk keeps of a caller is its last call that changed something, with the reply to that
+-- its reply is kept
+abbrev pub HasReply : Node → Seat → Type 0
+HasReply n seat = (m : Message) × ((seat.reply ≡ Some m) × (answered_key m.head ≡ seat_key n seat))
+
+pub record AreChanges (s : Node) (kept : List Seat) (ls : List Line) : Type 0 where
+  pub told : (n : Node) (seat : Seat) → call_seat n kept ≡ Some seat → HasChangeBy s (seat_key n seat) ls
+  pub reply : (n : Node) (seat : Seat) → call_seat n kept ≡ Some seat → HasReply n seat
+  pub last : (k : Key) → HasChangeBy s k ls → (seat : Seat) × ((call_seat k.node kept ≡ Some seat) × IsUpTo k.epoch k.number seat.epoch seat.number)
+
+abbrev pub DurableAreChanges : Type 0
+DurableAreChanges = (s : Script) (history : List Entry) (end : Cell) → RunsTo history s end → (i : ℕ) → AreChanges (Server i) (end.hosts i).state.lasting.kept (lines_of (past_of [] history))
+
+abbrev pub IsPromisedIn : Promise → List Promise → Type 0
+IsPromisedIn p [] = ⊥
+IsPromisedIn p (q ∷ ps) = (q ≡ p) ⊎ IsPromisedIn p ps
+
+-- a grant that lasts, of which no break became owed and which its client hasn't given back, is promised still
+abbrev pub GrantsAreKept : Type 0
+GrantsAreKept =
+    (s : Script) (history : List Entry) (end : Cell) → IsOneServer s → RunsTo history s end → (c : Node) (f : Fid) (expiry : ℕ) → live_grant (Server 1) c f (lines_at (Server 1) (past_of (set_up s ∷ []) history)) ≡ Some expiry → end.clock < expiry
+    → ((end.hosts 1).down ≡ None) × IsPromisedIn (record { client = c; fid = f; expiry = expiry }) (end.hosts 1).state.backs.lists.promises
+
+abbrev pub IsOwedIn : List OwedBreak → Node → Option Fid → ℕ → Type 0
+IsOwedIn [] c what n = ⊥
+IsOwedIn (o ∷ os) c what n = ((o.client ≡ c) × ((o.what ≡ what) × (o.number ≡ n))) ⊎ IsOwedIn os c what n
+
+-- a break is ended, or the server is up and owes it still
+abbrev pub IsAccounted : Host → ℕ → Owes
+IsAccounted host clock newer at older before after c what n = EndedBy (Server 1) clock newer at older before after c what n ⊎ ((host.down ≡ None) × IsOwedIn host.state.backs.lists.owed c what n)
+
+abbrev pub BreaksAreOwed : Type 0
+BreaksAreOwed = (s : Script) (history : List Entry) (end : Cell) → IsOneServer s → RunsTo history s end → AllOwes (Server 1) (IsAccounted (end.hosts 1) end.clock) (past_of (set_up s ∷ []) history)
+
+-- the client gave up what this break is on
+abbrev pub IsHandled : ℕ → List Entry → OwedBreak → Type 0
+IsHandled j past o = (g : GoodSettle (Server 1) (Client j) o.number past []) × (g.what ≡ o.what)
+
+-- where a client's reply to the call of its server is under way which that waits for, the client gave up all that the call breaks
+abbrev pub RepliesFollowDrops : Type 0
+RepliesFollowDrops =
+    (s : Script) (history : List Entry) (end : Cell) → IsOneServer s → RunsTo history s end → (j place : ℕ) (m : Message) (b : BackCall) → message_at end.sent place ≡ Some m → HasCode m.carried → m.head.to ≡ Server 1 → m.head.from ≡ Client j
+    → (end.hosts 1).down ≡ None → m.head.epoch ≡ (end.hosts 1).state.lasting.boot → (end.hosts 1).state.backs.calls (Client j) ≡ Some b → m.head.number ≡ b.number → AllByRecursion (IsHandled j (past_of (set_up s ∷ []) history)) b.breaks
+
+-- the client waits for the reply to this call
+pub record IsAwaited (c : ClientState) (head : Head) : Type 0 where
+  pub act : Going
+  pub runs : c.running ≡ Some act
+  pub epoch : head.epoch ≡ c.epoch
+  pub number : head.number ≡ c.last
+
+-- A changing call that may still run, and that its client doesn't wait for: what the client trusts of the fids that it may change,
+-- it was promised in an older boot
+abbrev pub GivenUpAreUntrusted : Type 0
+GivenUpAreUntrusted =
+    (s : Script) (history : List Entry) (end : Cell) → IsOneServer s → RunsTo history s end → (j place : ℕ) (head : Head) (user : List ℕ) (call : FsCall) (id : ℕ) → message_at end.sent place ≡ Some (record { head = head; carried = carried.Call user (ask.File call) }) → head.from ≡ Client j
+    → volume_changed call ≡ Some id → admitted (end.hosts 1).state.lasting.boot (end.hosts 1).state.seats head ≡ pairs.runs → (IsAwaited (end.clients j) head → ⊥)
+    → (f : Fid) (e : CacheEntry) → is_in_scope call f ≡ true → find_cached f (end.clients j).cache ≡ Some e → end.clock < e.expiry
+    → (reply : Message) × ((fetch_reply (Client j) f (past_of (set_up s ∷ []) history) ≡ Some reply) × (reply.head.boot < (end.hosts 1).state.lasting.boot))

@@ -12,7 +12,7 @@ use Rattle.afs_num.specs.declared.messages.Message.{Message}
 use Rattle.afs_ideal.specs.Operations.{Caller, the_user, Result, refused, changes, no_operation, op, code_of, volume_called}
 use Rattle.afs_ideal.specs.Volumes.{Volume, Edit, versions_by}
 use Rattle.afs_law.specs.Breaks.{AllOwes, EndedOf, EndedAll, GoodSettle, GoodQuit, live_grant, lines_at, HasOwe, last_number}
-use Rattle.afs_rows.specs.Going.{Going, answers, next, asked}
+use Rattle.afs_rows.specs.Going.{Going, answers, next, asked, gives_back}
 use Rattle.afs_law.specs.Grants.{is_promised, read_reply, GrantOf, since, IsWithdrawn, IsDropped}
 use Rattle.afs_law.specs.Ideal.{set_up, IsLast, WasLast, HasBeen, HasVersion, Accepts, clock_of, user_of, seen, change_in, change_key, call_under, volume_after}
 use Rattle.afs_history.specs.declared.lines.Line.{Line}
@@ -184,6 +184,11 @@ IsChanging r = ⊥
 abbrev pub IsResult : ℤ → Option Result → Key → List Line → List Line → Type 0
 IsResult code r k ran ls = ((code_given r ≡ code) × IsTold k r ls) ⊎ ((code ≡ pos 108) × (IsChanging r × (HasChange k ran → ⊥)))
 
+-- the call as its act asks it: which promises are given back no act tells
+abbrev pub as_asked : FsCall → FsCall
+as_asked (calls.GiveUpCallBacks fids callbacks) = calls.GiveUpCallBacks [] []
+as_asked call = call
+
 -- the reply has this code, and so has the ideal operation where the call ran; the call is the one that the act asks, for
 -- its user; and where the operation makes versions, their change stands before
 pub record Cause (reply : Message) (code : ℤ) (asks_for : FsCall) (past : List Entry) (own : List Line) : Type 0 where
@@ -194,7 +199,7 @@ pub record Cause (reply : Message) (code : ℤ) (asks_for : FsCall) (past : List
   pub call : FsCall
   pub carries : ran.message.carried ≡ carried.Call user (ask.File call)
   pub own_user : user ≡ user_of reply.head.to
-  pub asks : call ≡ asks_for
+  pub asks : as_asked call ≡ asks_for
   pub result : IsResult code (answer_at user call ran.older) (answered_key reply.head) ran.at.lines (own ++ lines_of past)
 
 -- the reply that the answer's entry was given is the cause of the code, and its call is one of this very act: the client
@@ -226,14 +231,29 @@ pub record IsDead (c : Node) (act : Going) (code : ℤ) (past : List Entry) (own
   pub key : Key
   pub third : given_up c own ≡ Some key
   pub before : has_begun c own ≡ false
-  pub called : CalledSince key (user_of c) (asked act) past
+  pub call : FsCall
+  pub asks : as_asked call ≡ asked act
+  pub called : CalledSince key (user_of c) call past
 
--- an act runs, and its answer has its cause: the reply to its call, for 0 that it was done from the cache, or for -1 that
--- its call was given up
+-- the client gave up a fid by itself
+abbrev pub has_dropped : Node → List Line → Bool
+has_dropped c [] = false
+has_dropped c (lines.Drop m f ∷ own) = if same_node m c then true else has_dropped c own
+has_dropped c (l ∷ own) = has_dropped c own
+
+-- the act gives back what its client was promised, and that is nothing: it gives up none in the entry in which it began
+pub record HasNothing (c : Node) (act : Going) (code : ℤ) (own : List Line) : Type 0 where
+  pub is : code ≡ pos 0
+  pub by : next act ≡ gives_back
+  pub begun : has_begun c own ≡ true
+  pub none : has_dropped c own ≡ false
+
+-- an act runs, and its answer has its cause: the reply to its call, for 0 that it was done from the cache or that there was
+-- nothing to give back, or for -1 that its call was given up
 pub record GoodCode (s : Script) (c : Node) (code : Code) (past : List Entry) (own : List Line) : Type 0 where
   pub act : Going
   pub runs : running s c (own ++ lines_of past) ≡ Some act
-  pub cause : IsCaused c act code.0 past own ⊎ (IsDone act code.0 ⊎ IsDead c act code.0 past own)
+  pub cause : IsCaused c act code.0 past own ⊎ (IsDone act code.0 ⊎ (IsDead c act code.0 past own ⊎ HasNothing c act code.0 own))
 
 -- ---- replies that are sent
 

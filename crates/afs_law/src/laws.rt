@@ -1,6 +1,6 @@
 //! Laws about the runs of a script. Each is the contract of a function that does nothing.
 
-ghost use Rattle.afs_law.specs.Laws.{ChangesAreFolded, KeysRunOnce, ReadsAreNewest, RunsAreLegal, RunsAreOne, StartsAreFolded, VolumesAreTold, PairsAreKnown, TrustedIsGood, RoomlessAreRefused, UnservedAreRefused};
+ghost use Rattle.afs_law.specs.Laws.{ChangesAreFolded, KeysRunOnce, ReadsAreNewest, RunsAreLegal, RunsAreOne, StartsAreFolded, VolumesAreTold, PairsAreKnown, TrustedIsGood, RoomlessAreRefused, UnservedAreRefused, CallsRunOnce, RepliesAreCaused, RepliesAreRan, DurableAreChanges, GrantsAreKept, BreaksAreOwed, RepliesFollowDrops, GivenUpAreUntrusted};
 
 /// Every run of a script for one server is legal.
 pub fn runs_are_legal()
@@ -55,4 +55,44 @@ pub fn changes_are_folded()
 /// What a start leaves of a server is the fold of its record.
 pub fn starts_are_folded()
     ensures { StartsAreFolded }
+{}
+
+/// A key runs at most once in a boot of its server.
+pub fn calls_run_once()
+    ensures { CallsRunOnce }
+{}
+
+/// A reply that counts is that of the entry which ran its call, and tells what the ideal cell made of it there.
+pub fn replies_are_caused()
+    ensures { RepliesAreCaused }
+{}
+
+/// Each reply to a client is that of the entry that ran its call in the boot that the reply carries.
+pub fn replies_are_ran()
+    ensures { RepliesAreRan }
+{}
+
+/// What a disk keeps of a caller is its last call that changed something, with the reply to that.
+pub fn durable_are_changes()
+    ensures { DurableAreChanges }
+{}
+
+/// A grant that lasts, and was neither withdrawn nor given back, is promised still.
+pub fn grants_are_kept()
+    ensures { GrantsAreKept }
+{}
+
+/// A break that became owed is ended, or is owed still.
+pub fn breaks_are_owed()
+    ensures { BreaksAreOwed }
+{}
+
+/// A client that answers a break has given up what the break is on.
+pub fn replies_follow_drops()
+    ensures { RepliesFollowDrops }
+{}
+
+/// A client trusts nothing that a call which it gave up may change, but what it was promised in an older boot.
+pub fn given_up_are_untrusted()
+    ensures { GivenUpAreUntrusted }
 {}

@@ -1,6 +1,6 @@
 -- Worked steps of one client, whose replies are given by hand.
 use Rattle.std.proofs.Common.{◌≡◌, ℕ, List, [], ◌∷◌, Option, Some, None, pos, negsuc, refl}
-use Rattle.std.specs.Prelude.{codes, true, false, map}
+use Rattle.std.specs.Prelude.{codes, true, false, Bool, map}
 use Rattle.afs_history.specs.declared.acts.Act.TheVariants as acts
 use Rattle.afs_history.specs.declared.acts.Operand.TheVariants as operands
 use Rattle.afs_history.specs.declared.lines.Line.{Line}
@@ -8,10 +8,13 @@ use Rattle.afs_history.specs.declared.lines.Line.TheVariants as lines
 use Rattle.afs_num.specs.declared.calls.AfsCallBack.{AfsCallBack}
 use Rattle.afs_num.specs.declared.calls.AfsFetchStatus.{AfsFetchStatus}
 use Rattle.afs_num.specs.declared.calls.AfsVolSync.{AfsVolSync}
+use Rattle.afs_num.specs.declared.calls.FsCall.{FsCall}
 use Rattle.afs_num.specs.declared.calls.FsCall.TheVariants as calls
 use Rattle.afs_num.specs.declared.calls.FsReply.{FsReply}
 use Rattle.afs_num.specs.declared.calls.FsReply.TheVariants as replies
+use Rattle.afs_num.specs.declared.directories.Name.{Name}
 use Rattle.afs_num.specs.declared.histories.Body.TheVariants as bodies
+use Rattle.afs_num.specs.declared.histories.ReadBody.{ReadBody}
 use Rattle.afs_num.specs.declared.histories.ReadBody.TheVariants as seen
 use Rattle.afs_num.specs.declared.histories.ReadSource.TheVariants.{Cached, Fetched}
 use Rattle.afs_num.specs.declared.messages.Call.TheVariants as ask
@@ -151,7 +154,34 @@ outdated : (hears (begins (holding (entry 2 1 (Server 1) 0 (Some (codes "abc")) 
 unfolding begin_row client_row
 outdated = refl
 
--- ---- nothing is held that could be given up
+-- ---- all is given up: what is trusted goes, server by server
+
+abbrev gives_up : Step ClientState
+gives_up = begins (holding (entry 2 1 (Server 2) 10 None ∷ entry 4 1 (Server 1) 11 None ∷ entry 6 1 (Server 1) 0 None ∷ entry 8 1 (Server 2) 12 None ∷ [])) acts.GiveUp
+
+given_up : gives_up.lines ≡ lines.Begin me acts.GiveUp ∷ lines.Drop me (at 2) ∷ lines.Drop me (at 4) ∷ lines.Drop me (at 8) ∷ []
+unfolding begin_row
+given_up = refl
+
+kept_untrusted : gives_up.state.cache ≡ entry 6 1 (Server 1) 0 None ∷ []
+unfolding begin_row
+kept_untrusted = refl
+
+first_is_told : calls_of gives_up.sent ≡ carried.Call (codes "guest") (ask.File (calls.GiveUpCallBacks (at 4 ∷ []) (promise 11 ∷ []))) ∷ []
+unfolding begin_row
+first_is_told = refl
+
+second_is_told : calls_of (hears gives_up.state (replies_with replies.GiveUpCallBacks)).sent ≡ carried.Call (codes "guest") (ask.File (calls.GiveUpCallBacks (at 2 ∷ at 8 ∷ []) (promise 10 ∷ promise 12 ∷ []))) ∷ []
+unfolding begin_row client_row
+second_is_told = refl
+
+second_callee : (hears gives_up.state (replies_with replies.GiveUpCallBacks)).state.callee ≡ Server 2
+unfolding begin_row client_row
+second_callee = refl
+
+all_is_given : (hears (hears gives_up.state (replies_with replies.GiveUpCallBacks)).state (replies_with replies.GiveUpCallBacks)).lines ≡ lines.Given 9 ∷ answer 0 ∷ []
+unfolding begin_row client_row
+all_is_given = refl
 
 nothing_to_give : (begins client acts.GiveUp).lines ≡ lines.Begin me acts.GiveUp ∷ answer 0 ∷ []
 unfolding begin_row
@@ -196,6 +226,11 @@ not_spoiled = refl
 spoiled_by_name : (client_row me opens 0 9 (called 204 1 (carried.Call [] (ask.File (calls.CallBack (at 2 ∷ []) (promise 1 ∷ [])))))).state.spoiled ≡ true
 unfolding begin_row client_row
 spoiled_by_name = refl
+
+-- what answers promises that are given back isn't spoiled
+gifts_not_spoiled : (client_row me gives_up.state 0 9 (called 204 1 (carried.Call [] (ask.File (calls.CallBack (at 4 ∷ []) (promise 1 ∷ [])))))).state.spoiled ≡ false
+unfolding begin_row client_row
+gifts_not_spoiled = refl
 
 probed : (client_row me client 0 9 (called 206 1 (carried.Call [] (ask.File calls.Probe)))).sent ≡ replied 1 (ring 206) (carried.Reply (tell.File replies.Probe)) ∷ []
 unfolding client_row

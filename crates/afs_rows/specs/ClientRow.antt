@@ -1,12 +1,12 @@
 -- The row of a client, a cache manager: how an act begins, and what it does with a message.
-use Rattle.std.specs.Prelude.{suc, zero, ◌||◌, Result, Ok, Err, ℕ, ◌+◌, List, [], ◌∷◌, Bool, true, false, not, ◌&&◌, Option, Some, None, ℤ, pos, negsuc, nat_eq, nat_lt, map, filter, find, take, drop, length, if◌then◌else◌}
+use Rattle.std.specs.Prelude.{suc, zero, ◌||◌, Result, Ok, Err, ℕ, ◌+◌, List, [], ◌∷◌, ◌++◌, Bool, true, false, not, ◌&&◌, Option, Some, None, ℤ, pos, negsuc, nat_eq, nat_lt, map, filter, find, take, drop, length, if◌then◌else◌}
 use Rattle.std.specs.List.{list_any, flat_map}
 use Rattle.afs_ideal.specs.Directories.{directory_of}
 use Rattle.afs_ideal.specs.Operations.{volume_called, volume_changed, is_number}
 use Rattle.afs_rows.specs.Going.{reads_of, ClientState, Going, Need, reads, reads_status, gives_back, answers, next, call_for, began, with_read}
 use Rattle.afs_rows.specs.Scopes.{is_in_scope}
 use Rattle.afs_rows.specs.ServerRow.{replied, boot_told, seat_for, not_served, bad_fields}
-use Rattle.afs_rows.specs.States.{CacheEntry, Gift, KnownBoot, Location}
+use Rattle.afs_rows.specs.States.{CacheEntry, Gift, KnownBoot, Location, Seat}
 use Rattle.afs_rows.specs.Steps.{Step}
 use Rattle.afs_history.specs.declared.acts.Act.{Act}
 use Rattle.afs_history.specs.declared.lines.Line.{Line}
@@ -190,13 +190,14 @@ first_server_of (g ∷ gs) = g.server
 -- ---- the client's unanswered call
 
 abbrev pub call_by : List Gift → Need → FsCall
-call_by gifts gives_back = call_for gives_back
+call_by gifts gives_back = gift_call (batch gifts)
 call_by gifts need = call_for need
 
 abbrev pub call_of : ClientState → Going → FsCall
 call_of c act = call_by c.gifts (next act)
 
 abbrev pub callee_by : ClientState → Need → Node
+callee_by c gives_back = first_server_of c.gifts
 callee_by c need = nodes.Server (server_at c.table (volume_asked (call_for need)))
 
 abbrev pub opcode_of : ClientState → Going → ℕ
@@ -339,6 +340,7 @@ gives_all me c clock act front =
 -- ---- an act begins
 
 abbrev pub begins_by : Node → ClientState → ℕ → (List Line → List Line) → Going → Need → Step ClientState
+begins_by me c clock front act gives_back = gives_all me c clock act front
 begins_by me c clock front act need = walks_on me c clock front act c.cache
 
 -- the client `me`, which is idle, begins an act
@@ -465,10 +467,11 @@ abbrev pub takes : Node → ClientState → ℕ → ℕ → Going → FsCall →
 takes me c clock place act call (replies.FetchData contents status callback sync) = takes_data me c clock place act contents status callback sync call
 takes me c clock place act call (replies.FetchAcl text status sync) = takes_list me c clock place act text status sync call
 takes me c clock place act call (replies.FetchStatus status callback sync) = takes_shown me c clock place act status callback sync call
+takes me c clock place act call (replies.BulkStatus statuses callbacks sync) = takes_bulk me c clock place act statuses callbacks sync call
 takes me c clock place act call (replies.StoreData status sync) = takes_set me c clock place status call
 takes me c clock place act call (replies.StoreAcl status sync) = takes_set me c clock place status call
 takes me c clock place act call (replies.StoreStatus status sync) = takes_set me c clock place status call
-takes me c clock place act call (replies.BulkStatus statuses callbacks sync) = takes_bulk me c clock place act statuses callbacks sync call
+takes me c clock place act call replies.GiveUpCallBacks = takes_given me c place act call
 takes me c clock place act call reply = takes_plain me c place call
 
 -- ---- refusals

@@ -237,8 +237,7 @@ act_needs h (acts.Link p q) rs = if is_root q then answers 22 else to_object h.f
 act_needs h (acts.Stat o) rs = to_object h.first o rs (λ f rest. reading_status f rest)
 act_needs h (acts.StatAll o) rs = to_object h.first o rs (λ f rest. reading f rest (λ b later. statuses_in f.volume later b))
 act_needs h (acts.GetAccessList o) rs = to_object h.first o rs (λ f rest. reading_rights f rest)
--- this comes later
-act_needs h acts.GiveUp rs = answers 0
+act_needs h acts.GiveUp rs = gives_back
 
 abbrev pub next : Going → Need
 next g = act_needs g.homes g.act g.reads

@@ -339,7 +339,11 @@ abbrev pub first_volumes : List VolumeLine → Table Volume
 first_volumes [] = []
 first_volumes (v ∷ vs) = unless_there (is_some (get v.id (first_volumes vs))) v.id (first_volume v) (first_volumes vs)
 
--- those at one server: of the lines with one volume's number the last counts
+-- a later line has this volume's number: of the lines with one number the last counts, at the servers and at the clients
+abbrev pub counts_later : ℕ → List VolumeLine → Bool
+counts_later id vs = is_some (get id (first_volumes vs))
+
+-- those at one server
 abbrev pub placed_at : Bool → Bool → ℕ → Volume → Table Volume → Table Volume
 placed_at true here id v vs = vs
 placed_at false true id v vs = set id v vs
@@ -347,7 +351,7 @@ placed_at false false id v vs = vs
 
 abbrev pub volumes_at : Node → List VolumeLine → Table Volume
 volumes_at server [] = []
-volumes_at server (v ∷ vs) = placed_at (is_some (get v.id (first_volumes vs))) (same_node v.server server) v.id (first_volume v) (volumes_at server vs)
+volumes_at server (v ∷ vs) = placed_at (counts_later v.id vs) (same_node v.server server) v.id (first_volume v) (volumes_at server vs)
 
 -- with what stands beside them
 abbrev pub first_stored : Table Volume → Table Stored
@@ -369,13 +373,14 @@ first_lasting volumes = record {
 abbrev pub first_server : Table Volume → ServerState
 first_server volumes = record { lasting = first_lasting (first_stored volumes); seats = []; backs = first_backs }
 
-abbrev pub location_by : VolumeLine → Node → List Location → List Location
-location_by v (Server n) ls = record { name = v.name; id = v.id; server = n } ∷ ls
-location_by v node ls = ls
+abbrev pub location_by : Bool → VolumeLine → Node → List Location → List Location
+location_by true v node ls = ls
+location_by false v (Server n) ls = record { name = v.name; id = v.id; server = n } ∷ ls
+location_by false v node ls = ls
 
 abbrev pub locations_in : List VolumeLine → List Location
 locations_in [] = []
-locations_in (v ∷ vs) = location_by v v.server (locations_in vs)
+locations_in (v ∷ vs) = location_by (counts_later v.id vs) v v.server (locations_in vs)
 
 -- what clients know of the script's volumes, each at a server
 abbrev pub locations : Script → List Location

@@ -1,0 +1,166 @@
+-- What holds between any two entries of a run of one server, as laws: each is one of the facts.
+use Rattle.std.proofs.Common.{◌≡◌, ℕ, ℤ, ◌<◌, ◌≤◌, arith, ◌⊎◌, inl, inr, Bool, true, false, cond, nat_eq, eqb-true, List, [], ◌∷◌, Option, Some, None, refl, sym, ap, subst, ◌∙◌}
+use Rattle.std.specs.List.{AllByRecursion}
+use Rattle.std.specs.Prelude.{◌&&◌}
+use Rattle.afs_breaks.specs.declared.types.OwedBreak.{OwedBreak}
+use Rattle.afs_breaks.specs.declared.types.Promise.{Promise}
+use Rattle.afs_ideal.specs.Operations.{volume_changed}
+use Rattle.afs_model.specs.Calls.{admitted, call_seat, paired}
+use Rattle.afs_model.specs.Calls as pairs
+use Rattle.afs_num.specs.declared.calls.FsCall.{FsCall}
+use Rattle.afs_num.specs.declared.messages.Call.TheVariants as ask
+use Rattle.afs_num.specs.declared.messages.Carried.{Carried}
+use Rattle.afs_num.specs.declared.messages.Carried.TheVariants as carried
+use Rattle.afs_num.specs.declared.messages.Message.{Message}
+use Rattle.afs_num.specs.declared.scripts.Script.{Script}
+use Rattle.afs_num.specs.declared.types.Fid.{Fid}
+use Rattle.afs_num.specs.declared.types.Head.{Head}
+use Rattle.afs_num.specs.declared.types.Node.{Node}
+use Rattle.afs_num.specs.declared.types.Node.TheVariants.{Client, Server}
+use Rattle.afs_rows.specs.ClientRow.{find_cached}
+use Rattle.afs_rows.specs.Going.{Going, asked}
+use Rattle.afs_rows.specs.Runs.{Entry, Fall, message_at}
+use Rattle.afs_rows.specs.Runs as cells
+use Rattle.afs_rows.specs.States.{BackCall, CacheEntry, Seat}
+use Rattle.afs_history.specs.declared.lines.Line.{Line}
+use Rattle.afs_law.specs.Breaks.{AllOwes, live_grant, lines_at}
+use Rattle.afs_law.specs.Grants.{fetch_reply}
+use Rattle.afs_law.specs.Ideal.{set_up}
+use Rattle.afs_law.specs.Laws.{IsAccounted, IsAwaited, IsHandled, IsOwedIn, IsPromisedIn, AreRan}
+use Rattle.afs_law.specs.Legal.{Cause}
+use Rattle.afs_law.specs.Once.{past_of}
+use Rattle.afs_law.specs.OneServer.{IsOneServer}
+use Rattle.afs_law.specs.Past.{HasCode, IsUnheard, called_key, lines_of}
+use Rattle.afs_law.proofs.Agreeing.{at_end}
+use Rattle.afs_law.proofs.Basics.{Above, ByClient, IfCall, IfDone, IfReply, OfCall, OfClient, OfReply, OfServer, by_client, by_server, client_number, each_at, runs_above}
+use Rattle.afs_law.proofs.Facts.{CallFact, MayRun, CallIn, Holds, InScope, IsAged, IsSafe, ReplyFact, ReplyIn, View, view}
+use Rattle.afs_law.proofs.Nexts.{asks_is}
+use Rattle.afs_law.proofs.OneCell.{Cell, RunsTo, the_server}
+use Rattle.afs_law.proofs.Owing.{AccountedBy, AllOf, BackedIn, DoneIn, DroppedOwe, IsIn, IsOpen, IsPromised, promise_to}
+use Rattle.afs_law.proofs.Servers.{run_same, seen_in}
+
+holds_at : (s : Script) (h : List Entry) (end : cells.Cell) → IsOneServer s → cells.RunsTo h s end → Holds s (seen_in end) (past_of (set_up s ∷ []) h)
+holds_at s h end is r = at_end s h (seen_in end) is (run_same s h end is r)
+
+-- ---- a key runs at most once in a boot
+
+-- what a server runs is to its boot, and above its caller's seat
+admitted_by : (t : Bool) (boot : ℕ) (seats : List Seat) (head : Head) → nat_eq head.boot boot ≡ t → cond t (paired head.epoch head.number (call_seat head.from seats)) (pairs.wrong_boot boot) ≡ pairs.runs → (head.boot ≡ boot) × Above (call_seat head.from seats) head.epoch head.number
+admitted_by true boot seats head t e = (eqb-true head.boot boot t, runs_above head.epoch head.number (call_seat head.from seats) e)
+admitted_by false boot seats head t e = absurd cc
+
+pub runs_admitted : (boot : ℕ) (seats : List Seat) (head : Head) → admitted boot seats head ≡ pairs.runs → (head.boot ≡ boot) × Above (call_seat head.from seats) head.epoch head.number
+runs_admitted boot seats head e = admitted_by (nat_eq head.boot boot) boot seats head refl e
+
+unheard_at : (c : Cell) (head : Head) (past : List Entry) (s : Script) → c.down ≡ None → Holds s c past → (head.boot ≡ c.server.lasting.boot) × Above (call_seat head.from c.server.seats) head.epoch head.number → IsUnheard the_server (called_key head) head.boot past
+unheard_at c head past s up h a = h.unheard (called_key head) head.boot (subst (λ (d : Option Fall). MayRun d c.server.lasting.boot (call_seat head.from c.server.seats) (called_key head) head.boot) (sym up) (inr a))
+
+pub run_unheard : (s : Script) (h : List Entry) (end : cells.Cell) → IsOneServer s → cells.RunsTo h s end → (end.hosts 1).down ≡ None → (head : Head) → admitted (end.hosts 1).state.lasting.boot (end.hosts 1).state.seats head ≡ pairs.runs
+    → IsUnheard (Server 1) (called_key head) head.boot (past_of (set_up s ∷ []) h)
+run_unheard s h end is r up head e = unheard_at (seen_in end) head (past_of (set_up s ∷ []) h) s up (holds_at s h end is r) (runs_admitted (end.hosts 1).state.lasting.boot (end.hosts 1).state.seats head e)
+
+-- ---- a reply that counts has its cause
+
+reply_in : (c : Carried) (to : Node) (X : Type 0) (j : ℕ) → HasCode c → to ≡ Client j → OfReply (OfClient to X) c → X
+reply_in (carried.Call user call) to X j is e h = absurd is
+reply_in (carried.Refusal code) to X j is e h = by_client j to X e h
+reply_in (carried.Reply reply) to X j is e h = by_client j to X e h
+reply_in carried.Notice to X j is e h = absurd is
+
+pub run_caused : (s : Script) (h : List Entry) (end : cells.Cell) → IsOneServer s → cells.RunsTo h s end → (j place : ℕ) (m : Message) (act : Going) → message_at end.sent place ≡ Some m → HasCode m.carried → m.head.to ≡ Client j
+    → (end.clients j).running ≡ Some act → m.head.epoch ≡ (end.clients j).epoch → m.head.number ≡ (end.clients j).last → (code : ℤ) × Cause m code (asked act) (past_of (set_up s ∷ []) h) []
+run_caused s h end is r j place m act at code to runs epoch number =
+    let past : List Entry = past_of (set_up s ∷ []) h in
+    let c : Cell = seen_in end in
+    let k : Holds s c past = holds_at s h end is r in
+    let f : ReplyIn (view k.floors c) past m = reply_in m.carried m.head.to (ReplyIn (view k.floors c) past m) j code to (each_at (IfReply (ReplyIn (view k.floors c) past)) c.sent place m at k.sent.replies) in
+    let fact : ReplyFact j (view k.floors c j) past m = subst (λ (i : ℕ). ReplyFact i (view k.floors c i) past m) (client_number f.client j (sym f.to ∙ to)) f.fact in
+    let a = fact.answers act runs epoch number in
+    (a.code, subst (λ (q : FsCall). Cause m a.code q past []) (asks_is (end.clients j).gifts act) a.cause)
+
+pub run_ran : (s : Script) (h : List Entry) (end : cells.Cell) → IsOneServer s → cells.RunsTo h s end → AreRan end.sent (end.hosts 1).state.seats (past_of (set_up s ∷ []) h)
+run_ran s h end is r =
+    let past : List Entry = past_of (set_up s ∷ []) h in
+    let c : Cell = seen_in end in
+    let k : Holds s c past = holds_at s h end is r in
+    record {
+      sent = λ j place m at code to. let f : ReplyIn (view k.floors c) past m = reply_in m.carried m.head.to (ReplyIn (view k.floors c) past m) j code to (each_at (IfReply (ReplyIn (view k.floors c) past)) c.sent place m at k.sent.replies) in f.fact.ran;
+      kept = λ j seat m at is. ((k.clients j).kept seat m at is).1.ran;
+    }
+
+-- ---- promises and breaks
+
+kept_promise : (p : Promise) (ps : List Promise) → IsPromised p ps → IsPromisedIn p ps
+kept_promise p [] h = h
+kept_promise p (q ∷ ps) (inl e) = inl e
+kept_promise p (q ∷ ps) (inr h) = inr (kept_promise p ps h)
+
+pub run_promised : (s : Script) (h : List Entry) (end : cells.Cell) → IsOneServer s → cells.RunsTo h s end → (c : Node) (f : Fid) (expiry : ℕ) → live_grant (Server 1) c f (lines_at (Server 1) (past_of (set_up s ∷ []) h)) ≡ Some expiry → end.clock < expiry
+    → ((end.hosts 1).down ≡ None) × IsPromisedIn (record { client = c; fid = f; expiry = expiry }) (end.hosts 1).state.backs.lists.promises
+run_promised s h end is r c f expiry e lasts =
+    let k : Holds s (seen_in end) (past_of (set_up s ∷ []) h) = holds_at s h end is r in
+    let p = (k.backs refl).promised c f expiry e lasts in
+    (p.0, kept_promise (promise_to c f expiry) (end.hosts 1).state.backs.lists.promises p.1)
+
+owed_by : (os : List OwedBreak) (o : OwedBreak) (c : Node) (what : Option Fid) (n : ℕ) → IsIn o os → o.client ≡ c → o.what ≡ what → o.number ≡ n → IsOwedIn os c what n
+owed_by [] o c what n h a b d = h
+owed_by (x ∷ os) o c what n (inl e) a b d = inl (ap (λ (y : OwedBreak). y.client) e ∙ a, (ap (λ (y : OwedBreak). y.what) e ∙ b, ap (λ (y : OwedBreak). y.number) e ∙ d))
+owed_by (x ∷ os) o c what n (inr h) a b d = inr (owed_by os o c what n h a b d)
+
+pub run_owed : (s : Script) (h : List Entry) (end : cells.Cell) → IsOneServer s → cells.RunsTo h s end → AllOwes (Server 1) (IsAccounted (end.hosts 1) end.clock) (past_of (set_up s ∷ []) h)
+run_owed s h end is r newer at older before after c what n split line =
+    let k : Holds s (seen_in end) (past_of (set_up s ∷ []) h) = holds_at s h end is r in
+    elim ((k.backs refl).accounted newer at older before after c what n split line) [
+      | inl ended ↦ inl ended
+      | inr y ↦ inr (y.0, owed_by (end.hosts 1).state.backs.lists.owed y.1.o c what n y.1.is_in y.1.client y.1.on y.1.number)
+    ]
+
+done_in : (c : Carried) (to : Node) (X : Type 0) → HasCode c → to ≡ Server 1 → OfReply (OfServer to X) c → X
+done_in (carried.Call user call) to X is e h = absurd is
+done_in (carried.Refusal code) to X is e h = by_server 1 to X e h
+done_in (carried.Reply reply) to X is e h = by_server 1 to X e h
+done_in carried.Notice to X is e h = absurd is
+
+handled_all : (j : ℕ) (past : List Entry) (os : List OwedBreak) → AllOf (DroppedOwe (Client j) (lines_of past)) os → AllByRecursion (IsHandled j past) os
+handled_all j past [] h = tt
+handled_all j past (o ∷ os) h = ((record { what = o.what; owe = h.0.owe; dropped = h.0.dropped }, refl), handled_all j past os h.1)
+
+pub run_handled : (s : Script) (h : List Entry) (end : cells.Cell) → IsOneServer s → cells.RunsTo h s end → (j place : ℕ) (m : Message) (b : BackCall) → message_at end.sent place ≡ Some m → HasCode m.carried → m.head.to ≡ Server 1 → m.head.from ≡ Client j
+    → (end.hosts 1).down ≡ None → m.head.epoch ≡ (end.hosts 1).state.lasting.boot → (end.hosts 1).state.backs.calls (Client j) ≡ Some b → m.head.number ≡ b.number → AllByRecursion (IsHandled j (past_of (set_up s ∷ []) h)) b.breaks
+run_handled s h end is r j place m b at code to from up boot call number =
+    let past : List Entry = past_of (set_up s ∷ []) h in
+    let c : Cell = seen_in end in
+    let k : Holds s c past = holds_at s h end is r in
+    let x = k.backs refl in
+    let P : Message → Type 0 = DoneIn c.down c.server.backs.calls c.server.backs.last_call c.server.lasting.boot past in
+    let d : P m = done_in m.carried m.head.to (P m) code to (each_at (IfDone P) c.sent place m at x.dones) in
+    let same : d.client ≡ Client j = sym d.from ∙ from in
+    handled_all j past b.breaks (subst (λ (q : Node). AllOf (DroppedOwe q (lines_of past)) b.breaks) same (d.done.dropped b up boot (ap c.server.backs.calls same ∙ call) number))
+
+-- ---- a call that was given up
+
+untrusted_by : (clock epoch last : ℕ) (running : Option Going) (cache : List CacheEntry) (aged : Type 0) (head : Head) (call : FsCall) (id : ℕ) (f : Fid) (e : CacheEntry) → volume_changed call ≡ Some id
+    → ((act : Going) → running ≡ Some act → head.epoch ≡ epoch → head.number ≡ last → ⊥) → InScope call f → find_cached f cache ≡ Some e → clock < e.expiry → IsSafe clock epoch last running cache aged head call → aged
+untrusted_by clock epoch last running cache aged head call id f e some not scope found lasts (inl none) = absurd cc
+untrusted_by clock epoch last running cache aged head call id f e some not scope found lasts (inr (inl own)) = absurd (not own.act own.runs own.epoch' own.number')
+untrusted_by clock epoch last running cache aged head call id f e some not scope found lasts (inr (inr (inl un))) = absurd (un f scope e found lasts)
+untrusted_by clock epoch last running cache aged head call id f e some not scope found lasts (inr (inr (inr old))) = old
+
+pub run_untrusted : (s : Script) (h : List Entry) (end : cells.Cell) → IsOneServer s → cells.RunsTo h s end → (j place : ℕ) (head : Head) (user : List ℕ) (call : FsCall) (id : ℕ) → message_at end.sent place ≡ Some (record { head = head; carried = carried.Call user (ask.File call) }) → head.from ≡ Client j
+    → volume_changed call ≡ Some id → admitted (end.hosts 1).state.lasting.boot (end.hosts 1).state.seats head ≡ pairs.runs → (IsAwaited (end.clients j) head → ⊥)
+    → (f : Fid) (e : CacheEntry) → InScope call f → find_cached f (end.clients j).cache ≡ Some e → end.clock < e.expiry
+    → (reply : Message) × ((fetch_reply (Client j) f (past_of (set_up s ∷ []) h) ≡ Some reply) × (reply.head.boot < (end.hosts 1).state.lasting.boot))
+run_untrusted s h end is r j place head user call id at from some runs not f e scope found lasts =
+    let past : List Entry = past_of (set_up s ∷ []) h in
+    let c : Cell = seen_in end in
+    let k : Holds s c past = holds_at s h end is r in
+    let x : CallIn (view k.floors c) head user call = by_client j head.from (CallIn (view k.floors c) head user call) from (each_at (IfCall (CallIn (view k.floors c))) c.sent place (record { head = head; carried = carried.Call user (ask.File call) }) at k.sent.calls) in
+    let fact : CallFact (view k.floors c j) head call = subst (λ (i : ℕ). CallFact (view k.floors c i) head call) (client_number x.client j (sym x.from ∙ from)) x.fact in
+    let a = runs_admitted c.server.lasting.boot c.server.seats head runs in
+    let above : Above (call_seat (Client j) c.server.seats) head.epoch head.number = subst (λ (q : Node). Above (call_seat q c.server.seats) head.epoch head.number) from a.1 in
+    let aged : IsAged (view k.floors c j) head =
+    untrusted_by c.clock (c.clients j).epoch (c.clients j).last (c.clients j).running (c.clients j).cache (IsAged (view k.floors c j) head) head call id f e some (λ act y z w. not (record { act = act; runs = y; epoch = z; number = w })) scope found lasts (fact.safe a.0 above) in
+    let cur = (k.clients j).current f e found lasts in
+    let low : cur.reply.head.boot ≤ (k.floors j).held = cur.boot in
+    let high : (k.floors j).held < c.server.lasting.boot = aged.0 in
+    (cur.reply, (cur.by, omega arith))
