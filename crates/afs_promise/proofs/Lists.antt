@@ -4,10 +4,10 @@ use Rattle.std.specs.Ordering.{is_lt}
 use Rattle.afs_num.specs.Fids.{fid_order}
 use Rattle.afs_num.specs.declared.types.Fid.{Fid}
 use Rattle.afs_num.specs.declared.types.Node.{Node}
-use Rattle.afs_promise.specs.declared.types.Promise.{Promise}
-use Rattle.afs_promise.specs.declared.types.OwedBreak.{OwedBreak}
+use Rattle.afs_breaks.specs.declared.types.Promise.{Promise}
+use Rattle.afs_breaks.specs.declared.types.OwedBreak.{OwedBreak}
 use Rattle.afs_promise.specs.declared.types.Grant.{Grant}
-use Rattle.afs_promise.specs.Promises.{is_promise, without_promise, with_promise, with_promises, owes_from, placed, by_fid, hits_on, left_off, is_on, lasting}
+use Rattle.afs_breaks.specs.Promises.{is_promise, without_promise, with_promise, with_promises, owes_from, placed, by_fid, hits_on, left_off, is_on, lasting}
 use Rattle.afs_promise.specs.Granting.{promises_in}
 
 pub filter_few : (q : Promise → Bool) (ps : List Promise) → length (filter q ps) ≤ length ps

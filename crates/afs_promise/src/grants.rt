@@ -1,6 +1,6 @@
 //! The promises that are held, in the order of granting.
 
-ghost use Rattle.std.specs.Prelude.{◌≡◌, ◌+◌, ◌<◌, ◌≤◌, ◌++◌, [], ◌∷◌, ℕ, length, true, Some, None, is_some, ◌^◌, ◌&&◌, if◌then◌else◌, IsOk, OnOk, IfNone};
+ghost use Rattle.std.specs.Prelude.{◌≡◌, ◌+◌, ◌<◌, ◌≤◌, ◌++◌, [], ◌∷◌, ℕ, length, true, Some, None, is_some, ◌^◌, ◌&&◌, if◌then◌else◌, IsOk, OnOk, OnErr, IfNone, List};
 ghost use Rattle.std.specs.List.{list_any, prefix_len};
 ghost use Rattle.std.specs.List.Sorted.{IsPermutation};
 ghost use Rattle.std.specs.Option.{option_to_list};
@@ -8,12 +8,15 @@ ghost use Rattle.std.specs.Vec.{vec_capacity, vec_len};
 ghost use Rattle.indexmap.specs.IndexMap.{get, spare};
 ghost use Rattle.afs_num.specs.Nodes.{same_node};
 ghost use Rattle.afs_num.specs.declared.types.Node.{Node};
+ghost use Rattle.afs_breaks.specs.declared.types.Promise.{Promise};
 ghost use Rattle.afs_promise.specs.declared.types.Holding.{Holding};
-ghost use Rattle.afs_promise.specs.Promises.{with_promise, without_promise, hits, left, hits_on, left_off, by_fid, lasting};
-ghost use Rattle.afs_promise.specs.Granting.{holding, holding_in, same_holding, is_held, is_held_on, is_due, ends, reach, goes_on, hit_of, earlier, oldest, promises_in, held_on, Rises};
+ghost use Rattle.afs_breaks.specs.Promises.{with_promise, without_promise, hits, left, hits_on, left_off, by_fid, lasting};
+ghost use Rattle.afs_promise.specs.Granting.{holding, holding_in, same_holding, is_held, is_held_on, is_due, ends, reach, goes_on, promises_in, held_on, Rises};
 
+use crate::by_client::{add_lasting, oldest};
 use crate::holding::holding;
-use crate::types::{Grant, Holding, Promise};
+use crate::types::{Grant, Holding};
+use afs_breaks::types::Promise;
 use afs_num::types::{Fid, Mem, Node};
 use indexmap::IndexMap;
 use std::alloc::{AllocError, Global};
@@ -61,43 +64,6 @@ fn is_held(latest: &IndexMap<Holding, Grant>, grant: &Grant) -> bool
         Some(last) => last.order == grant.order,
         None => false,
     }
-}
-
-/// What the client holds on the fid, unless it is `except`.
-fn hit_of(latest: &IndexMap<Holding, Grant>, except: Node, fid: Fid, client: Node) -> Option<Grant>
-    ensures { result ≡ hit_of (get same_holding latest.now) except fid client }
-{
-    if client.is(&except) {
-        return None;
-    }
-    latest.get(&holding(client, fid)).copied()
-}
-
-/// That which was granted first.
-fn earlier(one: Option<Grant>, other: Option<Grant>) -> Option<Grant>
-    ensures { result ≡ earlier one other }
-{
-    match (one, other) {
-        (None, _) => other,
-        (_, None) => one,
-        (Some(g), Some(h)) => { if h.order < g.order { other } else { one } }
-    }
-}
-
-/// The promise on the fid that was granted first, of all clients but `except`.
-fn oldest(
-    latest: &IndexMap<Holding, Grant>,
-    clients: &[Node],
-    except: Node,
-    fid: Fid,
-) -> Option<Grant>
-    ensures { result ≡ oldest (get same_holding latest.now) except fid None clients.now }
-{
-    let mut best = None;
-    for client in clients {
-        best = earlier(best, hit_of(latest, except, fid, *client));
-    }
-    best
 }
 
 /// Notes a client, in the room that was made for it.
@@ -330,9 +296,22 @@ impl Grants {
         ensures len { length self.new.promises + length (option_to_list result) ≡ length self.old.promises }
         ensures room { self.new.room ≡ self.old.room }
     {
-        let grant = oldest(&self.latest, &self.clients, except, fid)?;
+        let grant = oldest(&self.latest, &self.clients, except, fid, 0)?;
         self.give_up(grant.promise.client, grant.promise.fid);
         Some(grant.promise)
+    }
+
+    /// Adds the promises on the fid whose expiry is above the clock, of all clients but `except`, in the order of granting.
+    pub fn hits(&self, fid: Fid, except: Node, now: u32, out: &mut Vec<Promise>) -> Mem<()>
+        ensures ok { OnOk result (out.new.items ≡ out.old.items ++ lasting now (hits except fid self.now.promises)) }
+        ensures err { OnErr result ((some : List Promise) × (out.new.items ≡ out.old.items ++ some)) }
+    {
+        let mut from = 0;
+        while let Some(grant) = oldest(&self.latest, &self.clients, except, fid, from) {
+            add_lasting(out, grant.promise, now)?;
+            from = grant.order + 1;
+        }
+        Ok(())
     }
 
     /// Removes every promise on the volume, and gives them by fid, those on one fid in the order of granting.
