@@ -3,6 +3,8 @@
 mod by_client;
 mod grants;
 mod holding;
+mod latest;
+mod log;
 mod owed;
 mod promises;
 mod types;
