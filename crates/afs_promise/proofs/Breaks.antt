@@ -9,10 +9,10 @@ use Rattle.std.specs.declared.cmp.Reverse.{Reverse}
 use Rattle.std.proofs.lemmas.Bool.Decides.{nat_tests}
 use Rattle.std.proofs.lemmas.List.Sorted.{list_any-IsPermutation}
 use Rattle.indexmap.specs.IndexMap.{insert_entry}
-use Rattle.afs_promise.specs.declared.types.OwedBreak.{OwedBreak}
+use Rattle.afs_breaks.specs.declared.types.OwedBreak.{OwedBreak}
 use Rattle.afs_promise.proofs.Split.{and_both}
-use Rattle.afs_promise.specs.Promises.{without_break, lasting_breaks}
-use Rattle.afs_promise.specs.Owing.{has_break, break_before, breaks_in, IsNumbered, Ascends, is_at, AreDue, has_some, is_due, struck, due_order, IsOwing}
+use Rattle.afs_breaks.specs.Promises.{has_break, without_break, lasting_breaks}
+use Rattle.afs_promise.specs.Owing.{break_before, breaks_in, IsNumbered, Ascends, is_at, AreDue, has_some, is_due, struck, due_order, IsOwing}
 
 abbrev Entries : Type 0
 Entries = List (ℕ × Option OwedBreak)

@@ -9,10 +9,10 @@ use Rattle.afs_num.specs.Nodes.{same_node}
 use Rattle.afs_num.specs.declared.types.Fid.{Fid}
 use Rattle.afs_num.specs.declared.types.Node.{Node}
 use Rattle.afs_num.specs.declared.types.Node.TheVariants.{Loc, Server, Client, Admin}
-use Rattle.afs_promise.specs.declared.types.Promise.{Promise}
+use Rattle.afs_breaks.specs.declared.types.Promise.{Promise}
 use Rattle.afs_promise.specs.declared.types.Grant.{Grant}
 use Rattle.afs_promise.specs.declared.types.Holding.{Holding}
-use Rattle.afs_promise.specs.Promises.{is_promise, without_promise, is_on, hits_on, left_off}
+use Rattle.afs_breaks.specs.Promises.{is_promise, without_promise, is_on, hits_on, left_off}
 use Rattle.afs_promise.specs.Granting.{holding, holding_in, same_holding, has_order, is_held, held, promises_in, is_held_on, held_on, IsIn}
 use Rattle.afs_promise.proofs.Hits.{fids_are_one}
 use Rattle.afs_promise.proofs.Logs.{in_filter}
