@@ -2,8 +2,8 @@
 use Rattle.afs_history.specs.declared.acts.Act.{Act}
 use Rattle.afs_law.proofs.Backing.{all_lines, is_unchanging}
 use Rattle.afs_law.proofs.Basics.{Below, Each, ByClient, IfCall, IfReply, OfCall, OfClient, if_reply, LastSeat, if_call, at_seat, kept_last, some_of}
-use Rattle.afs_rows.specs.ClientRow.{Look, Walked, admits_call, awaits, begin_row, body_told, breaks, call_of, calls_again, calls_step, client_row, counts, dead_code, drop_line, dropped, dropped_after, ends_step, entries_told, entry_told, given, given_up_in, gives_by, goes_by, hears, ignores, is_awaited, is_busy_code, is_older, is_spent, is_trusted, look_at, looked, most_busy, most_reads, put_entries, put_entry, read_lines, reborn, refuses, replies_step, runs_carried, status_look, status_told, takes, takes_bulk, takes_bytes, takes_data, takes_entries, takes_entry, takes_list, takes_plain, takes_rights, takes_set, takes_shown, takes_status, takes_stored, timeout_line, timeout_row, told_step, walked, walks_on, whole, with_statuses, takes_given, behind_batch, begins_by, gives_all, gift_of, in_order, trusted_in, untrusted_in}
-use Rattle.afs_rows.specs.Going.{ClientState, Going, Need, answers, began, next, with_read, reads, reads_status, reads_statuses, reads_rights, asks_for, gives_back}
+use Rattle.afs_rows.specs.ClientRow.{Look, Walked, admits_call, awaits, begin_row, body_told, breaks, call_of, calls_again, calls_step, client_row, counts, dead_code, drop_line, dropped, dropped_after, ends_step, entries_told, entry_told, given, given_up_in, gives_by, goes_by, hears, ignores, is_awaited, is_busy_code, is_older, is_spent, is_trusted, look_at, looked, most_busy, most_reads, put_entries, put_entry, read_lines, reborn, refuses, replies_step, runs_carried, status_look, status_told, takes, takes_bulk, takes_bytes, takes_data, takes_entries, takes_entry, takes_list, takes_plain, takes_rights, takes_set, takes_shown, takes_status, takes_stored, timeout_line, timeout_row, told_step, walked, walks_on, whole, with_statuses, takes_given, behind_batch, begins_by, gift_of, in_order, trusted_in, untrusted_in}
+use Rattle.afs_rows.specs.Going.{ClientState, Going, Need, answers, began, next, with_read, gives_back}
 use Rattle.afs_ideal.specs.Operations.{volume_changed}
 use Rattle.afs_law.specs.Past.{answered_key}
 use Rattle.afs_num.specs.declared.types.Key.{Key}
