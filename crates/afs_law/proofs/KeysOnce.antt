@@ -371,8 +371,8 @@ sound_over K L w x h = record { seats = replies_over K L w x.seats h.seats; kept
 told_over : (K L : Node → Key → Type 0) → ((q : Node) (k : Key) → K q k → L q k) → (m : Message) → IfReply (λ r. K r.head.from (answered_key r.head)) m → IfReply (λ r. L r.head.from (answered_key r.head)) m
 told_over K L w m h = if_reply (λ r. K r.head.from (answered_key r.head)) (λ r. L r.head.from (answered_key r.head)) (λ r. w r.head.from (answered_key r.head)) m h
 
-client_keeps : (c : Cell) (o : List Line) (n : ℕ) (s : Step ClientState) → (S : StandsIn c o) → Tame (by_key (IsKnown S.callees c.clients)) any_boot n (caller_at (c.clients n)) s → Keeps o (client_moves c n s)
-client_keeps c o n s S t =
+client_keeps : (c : Cell) (o : List Line) (n : ℕ) (D : Option ℕ) (s : Step ClientState) → (S : StandsIn c o) → Tame (by_key (IsKnown S.callees c.clients)) any_boot D n (caller_at (c.clients n)) s → Keeps o (client_moves c n s)
+client_keeps c o n D s S t =
     let more : Key → Node = with_callee (last_of n s.state) s.state.callee S.callees in
     let then : ℕ → ClientState = put n s.state c.clients in
     let K : Node → Key → Type 0 = IsKnown S.callees c.clients in
@@ -401,7 +401,7 @@ client_keeps c o n s S t =
 
 to_keeps : (c : Cell) (o : List Line) (p : ℕ) (luck : Luck) (m : Message) (to : Node) → (S : StandsIn c o) → IfCall (λ h user call. IsKnown S.callees c.clients h.to (key_of h)) m → Keeps o (given_to c p luck m to)
 to_keeps c o p luck m (Server i) S h = either_keeps o (has_host c i) _ _ (received_keeps c o i p luck m (c.hosts i).down S h) (nothing_keeps c o S)
-to_keeps c o p luck m (Client n) S h = either_keeps o (c.away n) _ _ (nothing_keeps c o S) (client_keeps c o n _ S (given_tame (by_key (IsKnown S.callees c.clients)) any_boot n (c.clients n) c.clock p m (S.replies n) (any_call (by_key (IsKnown S.callees c.clients)) (c.clients n).epoch (c.clients n).seats m.head m.carried h) (any_notice m.carried)))
+to_keeps c o p luck m (Client n) S h = either_keeps o (c.away n) _ _ (nothing_keeps c o S) (client_keeps c o n _ _ S (given_tame (by_key (IsKnown S.callees c.clients)) any_boot n (c.clients n) c.clock p m (S.replies n) (any_call (by_key (IsKnown S.callees c.clients)) (c.clients n).epoch (c.clients n).seats m.head m.carried h) (any_notice m.carried)))
 to_keeps c o p luck m Loc S h = nothing_keeps c o S
 to_keeps c o p luck m (Admin n) S h = nothing_keeps c o S
 
@@ -410,12 +410,12 @@ at_keeps c o p luck None e S = nothing_keeps c o S
 at_keeps c o p luck (Some m) e S = to_keeps c o p luck m m.head.to S (each_at _ c.sent p m e S.calls)
 
 begun_keeps : (c : Cell) (o : List Line) (n : ℕ) (act : Act) (g : Option Going) → StandsIn c o → Keeps o (begun_by c n act g)
-begun_keeps c o n act None S = client_keeps c o n _ S (begins_tame (by_key (IsKnown S.callees c.clients)) any_boot n (c.clients n) c.clock act (S.replies n))
+begun_keeps c o n act None S = client_keeps c o n _ _ S (begins_tame (by_key (IsKnown S.callees c.clients)) any_boot n (c.clients n) c.clock act (S.replies n))
 begun_keeps c o n act (Some g) S = nothing_keeps c o S
 
 waited_keeps : (c : Cell) (o : List Line) (n : ℕ) (g : Option Going) → StandsIn c o → Keeps o (waited_by c n g)
 waited_keeps c o n None S = nothing_keeps c o S
-waited_keeps c o n (Some act) S = client_keeps c o n _ S (waits_tame (by_key (IsKnown S.callees c.clients)) any_boot n (c.clients n) act (S.replies n))
+waited_keeps c o n (Some act) S = client_keeps c o n _ _ S (waits_tame (by_key (IsKnown S.callees c.clients)) any_boot n (c.clients n) act (S.replies n))
 
 ticked_keeps : (c : Cell) (o : List Line) (n : ℕ) → StandsIn c o → Stands c.clients c.hosts c.sent (lines.Tick n ∷ o)
 ticked_keeps c o n S = record { callees = S.callees; own = S.own; calls = S.calls; answers = S.answers; replies = S.replies; sound = S.sound; held = S.held; falls = S.falls; ran = (tt, S.ran); once = S.once; stored = S.stored }
@@ -426,8 +426,8 @@ moved_keeps c o (begins n act) S = either_keeps o (c.away n) _ _ (nothing_keeps 
 moved_keeps c o (gives p luck) S = at_keeps c o p luck (message_at c.sent p) refl S
 moved_keeps c o (waits n) S = either_keeps o (c.away n) _ _ (nothing_keeps c o S) (waited_keeps c o n (c.clients n).running S)
 moved_keeps c o (ticks n) S = ticked_keeps c o n S
-moved_keeps c o (client_stops n) S = either_keeps o (c.away n) _ _ (nothing_keeps c o S) (client_keeps c o n _ S (falls_tame (by_key (IsKnown S.callees c.clients)) any_boot n (c.clients n) (λ q. tt)))
-moved_keeps c o (client_starts n) S = either_keeps o (c.away n) _ _ (client_keeps c o n _ S (rises_tame (by_key (IsKnown S.callees c.clients)) any_boot n (c.clients n) (S.replies n))) (nothing_keeps c o S)
+moved_keeps c o (client_stops n) S = either_keeps o (c.away n) _ _ (nothing_keeps c o S) (client_keeps c o n _ _ S (falls_tame (by_key (IsKnown S.callees c.clients)) any_boot n (c.clients n) (λ q. tt)))
+moved_keeps c o (client_starts n) S = either_keeps o (c.away n) _ _ (client_keeps c o n _ _ S (rises_tame (by_key (IsKnown S.callees c.clients)) any_boot n (c.clients n) (S.replies n))) (nothing_keeps c o S)
 moved_keeps c o (stops i) S = either_keeps o (has_host c i) _ _ (stopped_keeps c o i (c.hosts i).down S) (nothing_keeps c o S)
 moved_keeps c o (starts_again i after out) S = either_keeps o (has_host c i) _ _ (restarted_keeps c o i after out (c.hosts i).down S (S.falls i)) (nothing_keeps c o S)
 moved_keeps c o (sets_stop i calls pick) S = either_keeps o (has_host c i) _ _ (stop_keeps c o i calls pick _ (c.hosts i).down refl S) (nothing_keeps c o S)
