@@ -8,7 +8,7 @@ use Rattle.afs_law.specs.Ideal.{IsLast, clock_of, reach_over}
 use Rattle.afs_law.specs.Legal.{GoodRead, as_asked}
 use Rattle.afs_rows.specs.ClientRow.{entries_told, put_entries, status_look, takes_bulk, with_statuses, behind_batch, batch, gives_by, given, takes_given}
 use Rattle.std.specs.List.{list_any}
-use Rattle.std.specs.Prelude.{⊤, length, drop}
+use Rattle.std.specs.Prelude.{⊤, length}
 use Rattle.std.proofs.Common.{append_assoc}
 use Rattle.afs_law.proofs.Facts.{FitsBulk, AreFetched}
 use Rattle.afs_num.specs.declared.histories.Version.{Version}
@@ -28,9 +28,9 @@ use Rattle.afs_num.specs.declared.histories.ReadStatus.{ReadStatus}
 use Rattle.afs_law.proofs.Apart.{apart_filter, apart_put, apart_refreshed, found_take}
 use Rattle.afs_law.proofs.Walking.{walked_apart, onto_last, looked_more, walk_made, walk_reached, walk_current, walk_answered, walked_found, tail_given, tail_fetched, tail_quiet, ends_answered, ends_here, EndsReach, AreTail, walks_on, Ready, Walks}
 use Rattle.std.specs.Prelude.{◌⊎◌, ◌&&◌, pos, ℤ}
-use Rattle.afs_law.proofs.Basics.{IfCall, ByClient, guest, UpTo, Above, IfReply, IfNotice, OfReply, OfNotice, up_to_by, yes_no, both, same_fid-true, same_fid-refl, same_node-refl, client_number, found-cached-fid, found-first, found-refreshed, OfCall, each_at, some_of, ByServer, OfClient, by_client, IfBack, up_to_next, next_not, raised_up_to}
+use Rattle.afs_law.proofs.Basics.{IfCall, ByClient, guest, Above, IfReply, IfNotice, OfReply, OfNotice, up_to_by, yes_no, both, same_fid-true, same_fid-refl, same_node-refl, client_number, found-cached-fid, found-first, found-refreshed, OfCall, each_at, some_of, ByServer, OfClient, by_client, IfBack, up_to_next, next_not, raised_up_to}
 use Rattle.afs_ideal.specs.Operations.{volume_changed}
-use Rattle.afs_law.proofs.Asking.{carried_is, client_asking, client_ended, own_read, safe_over, client_kept, call_known, reply_still, step_entry, view_after, moves, nothing_new, Heard, told_passes, answered_seen, own_zero, answered_lines, answered_file, answered_reach, answered_passes, quiet, safe_cache, own_call, asks, own_begun, no_scope, same_one, call_is, heard_dull, new_one}
+use Rattle.afs_law.proofs.Asking.{carried_is, client_asking, client_ended, own_read, safe_over, client_kept, call_known, reply_still, step_entry, view_after, moves, nothing_new, Heard, told_passes, answered_seen, own_zero, answered_lines, answered_file, answered_reach, answered_passes, quiet, safe_cache, own_call, asks, own_begun, no_scope, same_one, heard_dull, new_one}
 use Rattle.afs_law.proofs.Dropping.{left_out, called_goes}
 use Rattle.afs_law.proofs.Edits.{Ones, index_in}
 use Rattle.afs_law.proofs.Facts.{ToClient, CallIn, FitsShown, IsOld, IsWhole, IsBody, HasOld, IsClient, IsPlain, IsKeptBody, IsTrusted, Ghost, Seen, IsAged, Spot, spot, LastStored, IsStored, IsSafe, Fits, View, view, last_key, LastRan, Reached, IsNewest, Overtaken, Stands, IsCurrent, HasCurrent, Answers, stored_index, ClientFacts, CallFact, ReplyFact, ReplyIn, Holds, Goes, IsFetched, FitsPlain, FitsData, FitsSet, FitsReply, WasStored, WasChanged, InScope, IsNoticed}

@@ -21,8 +21,8 @@ use Rattle.afs_law.proofs.Passing.{old_over, PassesFile, PassesAct, PassesReach,
 use Rattle.afs_law.proofs.Serving.{told_file, told_reach, told_act, reached_still}
 use Rattle.afs_law.proofs.Turning.{call_good}
 use Rattle.afs_rows.specs.Callbacks.{put, replies_of}
-use Rattle.afs_rows.specs.ClientRow.{volume_asked, server_at, ended, call_by, boot_of, used_first, find_cached, call_of, call_head, call_message, asking, calls_step, ignores, callee_by, first_server_of}
-use Rattle.afs_rows.specs.Going.{call_for, Need, reads, reads_status, reads_statuses, reads_rights, asks_for, gives_back, answers, next, asked, Going, with_read, read_on, ClientState}
+use Rattle.afs_rows.specs.ClientRow.{server_at, ended, boot_of, used_first, find_cached, call_of, call_head, call_message, asking, calls_step, ignores, callee_by, first_server_of}
+use Rattle.afs_rows.specs.Going.{Need, reads, reads_status, reads_statuses, reads_rights, asks_for, gives_back, answers, next, asked, Going, with_read, read_on, ClientState}
 use Rattle.afs_law.specs.Ideal.{last_version, HasVersion, Accepts, clock_of, reach, is_zero_code, volume_after, call_in, call_under}
 use Rattle.afs_law.specs.Legal.{IsNew, AreGood, AreGoodReplies, as_asked}
 use Rattle.afs_history.specs.declared.lines.Line.{Line}

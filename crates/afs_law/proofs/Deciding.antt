@@ -27,7 +27,6 @@ use Rattle.afs_law.proofs.Turning.{Pumps, pumps, put_call, break_good, reply_key
 use Rattle.afs_law.specs.Breaks.{HasStopped, last_number, AllOwes}
 use Rattle.afs_rows.specs.Callbacks.{retries, quits, Turn, replies_of, pumped, expired, turn_for, no_turn, repeats_by, key_answered, is_seat_of, alls, put_at, held_under, asked_again, is_ready, is_reply_to}
 use Rattle.afs_rows.specs.ClientRow.{boot_of}
-use Rattle.afs_rows.specs.Going.{asked}
 use Rattle.afs_law.specs.Ideal.{clock_of, volume_after}
 use Rattle.afs_law.specs.Legal.{IsChanging, code_given, AreGood, IsNew, HasChange, versions_first, IsTold, answer_at, answer_on, GoodRestart, op_on, all_on, statuses_on}
 use Rattle.afs_history.specs.declared.lines.Line.{Line}

@@ -22,7 +22,7 @@ use Rattle.afs_law.proofs.Serving.{told_file, told_reach, told_act, reached_stil
 use Rattle.afs_law.specs.Breaks.{HasDrop, OweAt, CarriesBreak, NamesIn}
 use Rattle.afs_rows.specs.Callbacks.{breaks_call}
 use Rattle.afs_rows.specs.ClientRow.{find_cached, is_named, names_act, is_waiting, is_spoiled_by_all, drop_line, done, without_fids, without_server, replies_step, refused_with, told_step, breaks, admits_call, called, whole, names_call, body_told, call_of, status_told}
-use Rattle.afs_rows.specs.Going.{Going, asked, ClientState}
+use Rattle.afs_rows.specs.Going.{Going, ClientState}
 use Rattle.afs_law.specs.Grants.{has_fetched, IsWithdrawn, IsDropped, since}
 use Rattle.afs_law.specs.Ideal.{last_version, HasVersion, Accepts, clock_of, reach, Reach, reach_over, change_key, changed_under, volume_after}
 use Rattle.afs_law.specs.Legal.{IsNew, AreGood, GoodReply, as_asked}

@@ -1,37 +1,32 @@
 -- A client gives back all that it was promised: how that act begins.
-use Rattle.std.proofs.Common.{suc, zero, inl, inr, ◌≡◌, ℕ, ◌≤◌, ◌<◌, ◌+◌, arith, Bool, true, false, cond, not, nat_lt, List, [], ◌∷◌, ◌++◌, map, filter, Option, Some, None, refl, sym, ap, subst, ◌∙◌, lt-ltb, ltb-true}
-use Rattle.std.specs.Prelude.{⊤, ◌&&◌, drop, pos}
+use Rattle.std.proofs.Common.{suc, zero, inl, inr, ◌≡◌, ℕ, ◌≤◌, ◌<◌, ◌+◌, arith, Bool, true, false, cond, not, nat_lt, List, [], ◌∷◌, ◌++◌, map, Option, Some, None, refl, sym, ap, subst, ◌∙◌, lt-ltb, ltb-true}
+use Rattle.std.specs.Prelude.{◌&&◌, drop}
 use Rattle.std.specs.List.{flat_map}
 use Rattle.std.proofs.Math.Nat.{le_refl}
 use Rattle.afs_num.specs.Fids.{same_fid}
 use Rattle.afs_num.specs.Nodes.{same_node}
 use Rattle.afs_num.specs.declared.types.Fid.{Fid}
-use Rattle.afs_num.specs.declared.types.Head.{Head}
-use Rattle.afs_num.specs.declared.types.Key.{Key}
 use Rattle.afs_num.specs.declared.types.Node.{Node}
 use Rattle.afs_num.specs.declared.types.Node.TheVariants.{Server, Client}
-use Rattle.afs_num.specs.declared.calls.FsCall.{FsCall}
 use Rattle.afs_num.specs.declared.messages.Message.{Message}
 use Rattle.afs_num.specs.declared.scripts.Script.{Script}
 use Rattle.afs_num.specs.declared.histories.Body.{Body}
-use Rattle.afs_num.specs.declared.histories.Actor.TheVariants as actors
 use Rattle.afs_history.specs.declared.acts.Act.{Act}
 use Rattle.afs_history.specs.declared.lines.Line.{Line}
 use Rattle.afs_history.specs.declared.lines.Line.TheVariants as lines
 use Rattle.afs_ideal.specs.Operations.{volume_changed}
-use Rattle.afs_rows.specs.ClientRow.{begin_row, call_message, asking, calls_step, dropped, ended, ends_step, find_cached, gift_of, gifts_to, gives_all, gives_by, in_order, is_trusted, trusted_in, untrusted_in, zero_code}
+use Rattle.afs_rows.specs.ClientRow.{call_message, asking, dropped, ended, ends_step, find_cached, gift_of, gifts_to, gives_all, gives_by, in_order, is_trusted, trusted_in, untrusted_in, zero_code}
 use Rattle.afs_rows.specs.Going.{ClientState, Going, asked, began, gives_back, next}
 use Rattle.afs_rows.specs.Runs.{Entry, locations}
 use Rattle.afs_rows.specs.States.{CacheEntry, Gift, Seat}
 use Rattle.afs_rows.specs.Steps.{Step}
-use Rattle.afs_law.specs.Ideal.{Reach, is_zero_code, reach, last_version, HasVersion, raised}
-use Rattle.afs_law.specs.Legal.{AreGood, GoodCode}
+use Rattle.afs_law.specs.Ideal.{Reach, is_zero_code, reach, HasVersion}
 use Rattle.afs_law.specs.Past.{CalledSince, IsCallUnder, given_message, has_begun, lines_of, onto, running, sent_of}
 use Rattle.afs_law.proofs.Apart.{apart_filter, found_filter}
-use Rattle.afs_law.proofs.Asking.{Passes, asks, call_is, carried_is, client_asking, client_ended, moves, new_one, not_client, nothing_new, other_client, own_begun, own_call, own_zero, reply_still, runs_by_other, safe_cache, safe_over, step_entry, view_after, with_gifts}
+use Rattle.afs_law.proofs.Asking.{Passes, carried_is, client_asking, client_ended, moves, new_one, nothing_new, other_client, own_begun, own_call, own_zero, runs_by_other, safe_cache, safe_over, step_entry, view_after}
 use Rattle.afs_law.proofs.Basics.{Above, client_number, guest, next_not, raised_up_to, same_fid-refl, same_fid-true, same_node-refl, some_of, up_to_next, UpTo}
-use Rattle.afs_law.proofs.Dropping.{Skips, drops_of, skips}
-use Rattle.afs_law.proofs.Facts.{AreApart, AreGifts, CallFact, ClientFacts, Ghost, Goes, HasOld, Holds, IsAged, IsClient, LastRan, ReplyFact, View, its_call, last_key, view}
+use Rattle.afs_law.proofs.Dropping.{drops_of, skips}
+use Rattle.afs_law.proofs.Facts.{AreApart, AreGifts, Ghost, Goes, HasOld, Holds, IsAged, IsClient, LastRan, ReplyFact, View, its_call, last_key, view}
 use Rattle.afs_law.proofs.OneCell.{the_server, Cell, client_moves}
 use Rattle.afs_law.proofs.Passing.{PassesBoth, kept_over, old_over, old_within, ran_over}
 use Rattle.afs_law.proofs.Quiet.{AreQuiet, quiet_grant, quiet_passes}
@@ -223,8 +218,7 @@ gives_nothing s c past n act h none by =
       made = zero_below (same_node (Client n) (Client n)) (reach (Client n) f past).made i r.made;
       seen = raised_up_to (same_node (Client n) (Client n) && is_zero_code zero_code) (cond (same_node (Client n) (Client n)) 0 (reach (Client n) f past).made) (reach (Client n) f past).seen i (λ t. zero_below (same_node (Client n) (Client n)) (reach (Client n) f past).made i r.made) r.seen;
     } in
-    moves s c past n (h.floors n) (record { state = y; lines = ls; sent = [] }) h kind
-    (
+    moves s c past n (h.floors n) (record { state = y; lines = ls; sent = [] }) h kind (
       refl,
       (
         (

@@ -2,9 +2,9 @@
 -- caller's last one that changed something. So a key changes something at most once, and no call or reply has one to come.
 use Rattle.afs_history.specs.declared.acts.Act.{Act}
 use Rattle.afs_law.proofs.Backing.{all_lines, is_unchanging}
-use Rattle.afs_law.proofs.Basics.{Above, Each, IfCall, IfReply, OfClient, OfReply, by_client, if_reply, UpTo, at_put, below_not, below_up_to, both, client_number, each_at, each_map, each_more, if_call, node_apart, same_key-refl, same_node-true, up_to_below, up_to_same, below-true, below-false, some_of}
-use Rattle.afs_law.proofs.Calling.{AreReplies, IsAnswer, IsCallOf, answer_over, GoesOn, IsLastOf, Tame, begins_tame, caller_at, falls_tame, given_tame, rises_tame, uncalled_any, waits_tame}
-use Rattle.afs_law.proofs.Hosting.{Begins, HasOne, HostStep, Hosts, IsCutBy, IsSound, Memory, decides_due, disk_begins, memory_of, serves_step, starts_step, times_step, wakes_step}
+use Rattle.afs_law.proofs.Basics.{Above, Each, IfCall, IfReply, OfClient, OfReply, by_client, if_reply, UpTo, at_put, below_not, below_up_to, both, client_number, each_at, each_map, each_more, if_call, node_apart, same_key-refl, same_node-true, up_to_below, up_to_same, below-true, below-false, some_of, OfNotice, OfCall, ByClient}
+use Rattle.afs_law.proofs.Calling.{AreReplies, IsAnswer, IsCallOf, answer_over, GoesOn, IsLastOf, Tame, begins_tame, caller_at, falls_tame, given_tame, rises_tame, uncalled_any, waits_tame, any_call}
+use Rattle.afs_law.proofs.Hosting.{Begins, HasOne, HostStep, Hosts, IsCutBy, IsSound, Memory, decides_due, disk_begins, memory_of, serves_step, starts_step, times_step, wakes_step, IsRunBy}
 use Rattle.afs_law.specs.Laws.{ArePairsKnown, IsKnownTo, AreChanges, HasChangeBy, HasReply, seat_key, IsUpTo}
 use Rattle.afs_law.specs.Legal.{IsNew}
 use Rattle.afs_law.specs.Once.{AreOnce, ChangesOnce, past_of}
@@ -129,18 +129,45 @@ record HasRun (callees : Key → Node) (clients : ℕ → ClientState) (hosts : 
 abbrev last_of : ℕ → ClientState → Key
 last_of j c = record { node = Client j; epoch = c.epoch; number = c.last }
 
+-- the header is that of a reply under such a key
+abbrev by_key : (Node → Key → Type 0) → Head → Type 0
+by_key K h = K h.from (answered_key h)
+
+-- the key of an interrupted step's message
+abbrev IsCutOf : (Node → Key → Type 0) → Fall → Type 0
+IsCutOf K (in_step m clock) = IfCall (λ x user call. K x.to (key_of x)) m
+IsCutOf K fall = ⊤
+
 abbrev HasCut : (Node → Key → Type 0) → Option Fall → Type 0
 HasCut K None = ⊤
-HasCut K (Some fall) = IsCutBy K fall
+HasCut K (Some fall) = IsCutOf K fall
+
+cut_by : (K : Node → Key → Type 0) (s : ServerState) (fall : Fall) → IsCutOf K fall → IsCutBy (by_key K) s.lasting.boot s.seats fall
+cut_by K s (in_step m clock) h = any_call (by_key K) s.lasting.boot s.seats m.head m.carried h
+cut_by K s at_rest h = tt
+cut_by K s in_boot h = tt
+
+any_notice : (x : Carried) → OfNotice ⊤ x
+any_notice (carried.Call user call) = tt
+any_notice (carried.Refusal code) = tt
+any_notice (carried.Reply reply) = tt
+any_notice carried.Notice = tt
+
+-- any boot number may have been told
+abbrev any_boot : Node → ℕ → Type 0
+any_boot q b = ⊤
+
+run_key : (K : Node → Key → Type 0) (me : Node) (k : Key) → IsRunBy (by_key K) me k → K me k
+run_key K me k r = subst (λ (n : Node). K n k) r.1.0 (subst (K r.0.from) r.1.1.0 r.1.1.1)
 
 record Stands (clients : ℕ → ClientState) (hosts : ℕ → Host) (sent : List Message) (o : List Line) : Type 0 where
   callees : Key → Node
   own : (j : ℕ) → callees (last_of j (clients j)) ≡ (clients j).callee
   calls : Each (IfCall (λ h user call. IsKnown callees clients h.to (key_of h))) sent
   answers : Each (IfReply (λ r. IsKnown callees clients r.head.from (answered_key r.head))) sent
-  replies : (j : ℕ) → AreReplies (IsKnown callees clients) (clients j).seats
-  sound : (i : ℕ) → IsSound (IsKnown callees clients) (memory_of (hosts i).state)
-  held : (i : ℕ) → Each (IsAnswer (IsKnown callees clients)) (replies_of (hosts i).state.backs.held)
+  replies : (j : ℕ) → AreReplies (by_key (IsKnown callees clients)) (clients j).seats
+  sound : (i : ℕ) → IsSound (by_key (IsKnown callees clients)) (memory_of (hosts i).state)
+  held : (i : ℕ) → Each (IsAnswer (by_key (IsKnown callees clients))) (replies_of (hosts i).state.backs.held)
   falls : (i : ℕ) → HasCut (IsKnown callees clients) (hosts i).down
   ran : EachChange (HasRun callees clients hosts) o
   once : AreOnce o
@@ -171,26 +198,26 @@ not_run callees clients hosts i k known above q l r same =
     let here : i ≡ r.server = server_number i r.server (known.called ∙ (ap callees same ∙ (sym r.known.called ∙ r.is))) in
     r.ran (subst (λ (j : ℕ). Above (call_seat l.node (hosts j).state.lasting.kept) l.epoch l.number) here (subst (λ (x : Key). Above (call_seat x.node (hosts i).state.lasting.kept) x.epoch x.number) same above))
 
-host_keeps : (clients : ℕ → ClientState) (hosts : ℕ → Host) (sent more : List Message) (o ls : List Line) (i : ℕ) (h : Host) → (S : Stands clients hosts sent o) → Hosts (IsKnown S.callees clients) (Server i) (memory_of (hosts i).state) (memory_of h.state) ls
-    → Each (IsAnswer (IsKnown S.callees clients)) (replies_of h.state.backs.held) → HasCut (IsKnown S.callees clients) h.down → Each (IfCall (λ x user call. IsKnown S.callees clients x.to (key_of x))) more → Each (IfReply (λ r. IsKnown S.callees clients r.head.from (answered_key r.head))) more → Stands clients (put i h hosts) more (onto o ls)
+host_keeps : (clients : ℕ → ClientState) (hosts : ℕ → Host) (sent more : List Message) (o ls : List Line) (i : ℕ) (h : Host) → (S : Stands clients hosts sent o) → Hosts (by_key (IsKnown S.callees clients)) (Server i) (memory_of (hosts i).state) (memory_of h.state) ls
+    → Each (IsAnswer (by_key (IsKnown S.callees clients))) (replies_of h.state.backs.held) → HasCut (IsKnown S.callees clients) h.down → Each (IfCall (λ x user call. IsKnown S.callees clients x.to (key_of x))) more → Each (IfReply (λ r. IsKnown S.callees clients r.head.from (answered_key r.head))) more → Stands clients (put i h hosts) more (onto o ls)
 host_keeps clients hosts sent more o ls i h S H held cut calls answers = record {
   callees = S.callees;
   own = S.own;
   calls = calls;
   answers = answers;
   replies = S.replies;
-  sound = λ j. at_put i j (λ (x : Host). IsSound (IsKnown S.callees clients) (memory_of x.state)) h hosts (λ same. H.sound) (λ other. S.sound j);
-  held = λ j. at_put i j (λ (x : Host). Each (IsAnswer (IsKnown S.callees clients)) (replies_of x.state.backs.held)) h hosts (λ same. held) (λ other. S.held j);
+  sound = λ j. at_put i j (λ (x : Host). IsSound (by_key (IsKnown S.callees clients)) (memory_of x.state)) h hosts (λ same. H.sound) (λ other. S.sound j);
+  held = λ j. at_put i j (λ (x : Host). Each (IsAnswer (by_key (IsKnown S.callees clients))) (replies_of x.state.backs.held)) h hosts (λ same. held) (λ other. S.held j);
   falls = λ j. at_put i j (λ (x : Host). HasCut (IsKnown S.callees clients) x.down) h hosts (λ same. cut) (λ other. S.falls j);
   ran = one_each (HasRun S.callees clients (put i h hosts)) (Server i) H.changed ls o H.one
       (λ k e. record {
         server = i;
         is = refl;
-        known = H.known k e;
+        known = run_key (IsKnown S.callees clients) (Server i) k (H.known k e);
         ran = at_put i i (λ (x : Host). Above (call_seat k.node x.state.lasting.kept) k.epoch k.number → ⊥) h hosts (λ same. H.ran k e) (λ other. absurd (other refl));
       })
       (each_change (HasRun S.callees clients hosts) (HasRun S.callees clients (put i h hosts)) (grown_run S.callees clients hosts i h H.grows) o S.ran);
-  once = one_once (Server i) H.changed ls o H.one (λ k e. new_key (HasRun S.callees clients hosts) k o (not_run S.callees clients hosts i k (H.known k e) (H.new k e)) S.ran) S.once;
+  once = one_once (Server i) H.changed ls o H.one (λ k e. new_key (HasRun S.callees clients hosts) k o (not_run S.callees clients hosts i k (run_key (IsKnown S.callees clients) (Server i) k (H.known k e)) (H.new k e)) S.ran) S.once;
   stored = λ j n seat. at_put i j (λ (x : Host). call_seat n x.state.lasting.kept ≡ Some seat → HasChangeBy (Server j) (seat_key n seat) (onto o ls) × HasReply n seat) h hosts
       (λ same e. elim (H.stored n seat e) [
         | inl old ↦ let was = S.stored i n seat old in (subst (λ (q : ℕ). HasChangeBy (Server q) (seat_key n seat) (onto o ls)) same (by_onto (Server i) (seat_key n seat) ls o was.0), was.1)
@@ -200,20 +227,20 @@ host_keeps clients hosts sent more o ls i h S H held cut calls answers = record 
 }
 
 -- a step that is done
-moves_keeps : (c : Cell) (o : List Line) (i : ℕ) (armed : Armed) (s : Step ServerState) → (S : StandsIn c o) → HostStep (IsKnown S.callees c.clients) (Server i) (c.hosts i).state s → Keeps o (server_moves c i armed s)
+moves_keeps : (c : Cell) (o : List Line) (i : ℕ) (armed : Armed) (s : Step ServerState) → (S : StandsIn c o) → HostStep (by_key (IsKnown S.callees c.clients)) (Server i) (c.hosts i).state s → Keeps o (server_moves c i armed s)
 moves_keeps c o i armed s S h =
     host_keeps c.clients c.hosts c.sent (c.sent ++ s.sent) o s.lines i (record { state = s.state; down = None; armed = armed }) S h.hosts h.held tt
-    (each_more _ c.sent s.sent S.calls (each_map (IsAnswer (IsKnown S.callees c.clients)) _ (λ m a. uncalled_any (λ x user call. IsKnown S.callees c.clients x.to (key_of x)) m a.0) s.sent h.sent))
-    (each_more _ c.sent s.sent S.answers (each_map (IsAnswer (IsKnown S.callees c.clients)) _ (λ m a. a.1) s.sent h.sent))
+    (each_more _ c.sent s.sent S.calls (each_map (IsAnswer (by_key (IsKnown S.callees c.clients))) _ (λ m a. uncalled_any (λ x user call. IsKnown S.callees c.clients x.to (key_of x)) m a.0) s.sent h.sent))
+    (each_more _ c.sent s.sent S.answers (each_map (IsAnswer (by_key (IsKnown S.callees c.clients))) _ (λ m a. a.1) s.sent h.sent))
 
-same_hosts : (K : Node → Key → Type 0) (me : Node) (x : Memory) (ls : List Line) → IsSound K x → HasOne me None ls → Hosts K me x x ls
+same_hosts : (K : Head → Type 0) (me : Node) (x : Memory) (ls : List Line) → IsSound K x → HasOne me None ls → Hosts K me x x ls
 same_hosts K me x ls s h = record { changed = None; one = h; known = λ k e. absurd cc; new = λ k e. absurd cc; ran = λ k e a. absurd cc; grows = λ n e k a. a; stored = λ n seat e. inl e; sound = s }
 
 -- one that leaves what it keeps
 falls_keeps : (c : Cell) (o : List Line) (i : ℕ) (down : Option Fall) (armed : Armed) (ls : List Line) → (S : StandsIn c o) → HasOne (Server i) None ls → HasCut (IsKnown S.callees c.clients) down
     → Stands c.clients (put i (record (c.hosts i) { down = down; armed = armed }) c.hosts) c.sent (onto o ls)
 falls_keeps c o i down armed ls S none cut =
-    host_keeps c.clients c.hosts c.sent c.sent o ls i (record (c.hosts i) { down = down; armed = armed }) S (same_hosts (IsKnown S.callees c.clients) (Server i) (memory_of (c.hosts i).state) ls (S.sound i) none) (S.held i) cut S.calls S.answers
+    host_keeps c.clients c.hosts c.sent c.sent o ls i (record (c.hosts i) { down = down; armed = armed }) S (same_hosts (by_key (IsKnown S.callees c.clients)) (Server i) (memory_of (c.hosts i).state) ls (S.sound i) none) (S.held i) cut S.calls S.answers
 
 nothing_keeps : (c : Cell) (o : List Line) → StandsIn c o → Keeps o (voided c)
 nothing_keeps c o S = record { callees = S.callees; own = S.own; calls = S.calls; answers = S.answers; replies = S.replies; sound = S.sound; held = S.held; falls = S.falls; ran = (tt, S.ran); once = S.once; stored = S.stored }
@@ -230,7 +257,7 @@ blow_none i false = refl
 
 served_keeps : (c : Cell) (o : List Line) (i place : ℕ) (m : Message) (b : Option Blow) → (S : StandsIn c o) → IfCall (λ h user call. IsKnown S.callees c.clients h.to (key_of h)) m → Keeps o (server_served c i place m b)
 served_keeps c o i place m None S h =
-    moves_keeps c o i _ _ S (serves_step (IsKnown S.callees c.clients) i (c.hosts i).state c.clock place m (S.sound i) (S.held i) (decides_due (IsKnown S.callees c.clients) (Server i) (c.hosts i).state c.clock m (S.sound i).seats h))
+    moves_keeps c o i _ _ S (serves_step (by_key (IsKnown S.callees c.clients)) i (c.hosts i).state c.clock place m (S.sound i) (S.held i) (decides_due (by_key (IsKnown S.callees c.clients)) (Server i) (c.hosts i).state c.clock m (S.sound i).seats (any_call (by_key (IsKnown S.callees c.clients)) (c.hosts i).state.lasting.boot (c.hosts i).state.seats m.head m.carried h)))
 served_keeps c o i place m (Some b) S h = falls_keeps c o i (Some (in_step m c.clock)) unarmed (lines.Given place ∷ blow_line i b.stops ∷ []) S (blow_none i b.stops) h
 
 received_keeps : (c : Cell) (o : List Line) (i place : ℕ) (luck : Luck) (m : Message) (d : Option Fall) → (S : StandsIn c o) → IfCall (λ h user call. IsKnown S.callees c.clients h.to (key_of h)) m → Keeps o (server_given c i place luck m d)
@@ -241,8 +268,8 @@ stopped_keeps : (c : Cell) (o : List Line) (i : ℕ) (d : Option Fall) → Stand
 stopped_keeps c o i None S = falls_keeps c o i (Some at_rest) unarmed (lines.Crash (Server i) ∷ []) S refl tt
 stopped_keeps c o i (Some fall) S = nothing_keeps c o S
 
-ends_keeps : (c : Cell) (o : List Line) (i : ℕ) (f : Begun) (fall : Fall) (out : Outcome) → (S : StandsIn c o) → IsCutBy (IsKnown S.callees c.clients) fall → Begins (IsKnown S.callees c.clients) (Server i) (c.hosts i).state f → Keeps o (server_ends c i f fall out)
-ends_keeps c o i f fall comes_up S cut b = moves_keeps c o i unarmed _ S (starts_step (IsKnown S.callees c.clients) i (c.hosts i).state c.clock c.count f b)
+ends_keeps : (c : Cell) (o : List Line) (i : ℕ) (f : Begun) (fall : Fall) (out : Outcome) → (S : StandsIn c o) → IsCutOf (IsKnown S.callees c.clients) fall → Begins (by_key (IsKnown S.callees c.clients)) (Server i) (c.hosts i).state f → Keeps o (server_ends c i f fall out)
+ends_keeps c o i f fall comes_up S cut b = moves_keeps c o i unarmed _ S (starts_step (by_key (IsKnown S.callees c.clients)) i (c.hosts i).state c.clock c.count f b)
 ends_keeps c o i f fall fails_early S cut b = falls_keeps c o i (Some fall) unarmed (lines.Fault (Server i) ∷ []) S refl cut
 ends_keeps c o i f fall fails_midway S cut b =
     host_keeps c.clients c.hosts c.sent c.sent o (f.before (lines.Fault (Server i) ∷ [])) i (record { state = f.state; down = Some in_boot; armed = unarmed }) S (b.hosts (lines.Fault (Server i) ∷ []) refl) b.held tt S.calls S.answers
@@ -253,7 +280,7 @@ restarted_keeps : (c : Cell) (o : List Line) (i : ℕ) (after : Bool) (out : Out
 restarted_keeps c o i after out None S cut = nothing_keeps c o S
 restarted_keeps c o i after out (Some fall) S cut =
     let f : Begun = begun_by_disk (Server i) (c.hosts i).state after fall in
-    ends_keeps c o i f fall (settled f.state out) S cut (disk_begins (IsKnown S.callees c.clients) (Server i) (c.hosts i).state after fall (S.sound i) (S.held i) cut)
+    ends_keeps c o i f fall (settled f.state out) S cut (disk_begins (by_key (IsKnown S.callees c.clients)) (Server i) (c.hosts i).state after fall (S.sound i) (S.held i) (cut_by (IsKnown S.callees c.clients) (c.hosts i).state fall cut))
 
 stop_keeps : (c : Cell) (o : List Line) (i calls pick : ℕ) (armed : Armed) (d : Option Fall) → (c.hosts i).down ≡ d → StandsIn c o → Keeps o (server_armed c i (lines.Stop (Server i) calls pick) armed d)
 stop_keeps c o i calls pick armed None e S = falls_keeps c o i (c.hosts i).down armed (lines.Stop (Server i) calls pick ∷ []) S refl (S.falls i)
@@ -265,14 +292,14 @@ fail_keeps c o i call armed (Some fall) S = nothing_keeps c o S
 
 back_keeps : (c : Cell) (o : List Line) (i : ℕ) (n : Node) (b : Option BackCall) → StandsIn c o → Keeps o (back_timed c i n b)
 back_keeps c o i n None S = nothing_keeps c o S
-back_keeps c o i n (Some b) S = moves_keeps c o i _ _ S (times_step (IsKnown S.callees c.clients) i (c.hosts i).state c.clock n b (S.sound i) (S.held i))
+back_keeps c o i n (Some b) S = moves_keeps c o i _ _ S (times_step (by_key (IsKnown S.callees c.clients)) i (c.hosts i).state c.clock n b (S.sound i) (S.held i))
 
 timed_keeps : (c : Cell) (o : List Line) (i : ℕ) (n : Node) (d : Option Fall) → StandsIn c o → Keeps o (server_timed c i n d)
 timed_keeps c o i n None S = back_keeps c o i n ((c.hosts i).state.backs.calls n) S
 timed_keeps c o i n (Some fall) S = nothing_keeps c o S
 
 woken_keeps : (c : Cell) (o : List Line) (i : ℕ) (d : Option Fall) → StandsIn c o → Keeps o (server_wakes c i d)
-woken_keeps c o i None S = moves_keeps c o i _ _ S (wakes_step (IsKnown S.callees c.clients) i (c.hosts i).state c.clock (S.sound i) (S.held i))
+woken_keeps c o i None S = moves_keeps c o i _ _ S (wakes_step (by_key (IsKnown S.callees c.clients)) i (c.hosts i).state c.clock (S.sound i) (S.held i))
 woken_keeps c o i (Some fall) S = nothing_keeps c o S
 
 -- ---- a step of a client
@@ -335,22 +362,23 @@ cut_over K L w (Some (in_step m clock)) h = if_call (λ x user call. K x.to (key
 run_later : (callees more : Key → Node) (clients then : ℕ → ClientState) (hosts : ℕ → Host) → ((q : Node) (k : Key) → IsKnown callees clients q k → IsKnown more then q k) → (q : Node) (k : Key) → HasRun callees clients hosts q k → HasRun more then hosts q k
 run_later callees more clients then hosts w q k r = record { server = r.server; is = r.is; known = w q k r.known; ran = r.ran }
 
-replies_over : (K L : Node → Key → Type 0) → ((q : Node) (k : Key) → K q k → L q k) → (seats : List Seat) → AreReplies K seats → AreReplies L seats
+replies_over : (K L : Head → Type 0) → ((h : Head) → K h → L h) → (seats : List Seat) → AreReplies K seats → AreReplies L seats
 replies_over K L w seats h n seat m e r = answer_over K L w m (h n seat m e r)
 
-sound_over : (K L : Node → Key → Type 0) → ((q : Node) (k : Key) → K q k → L q k) → (x : Memory) → IsSound K x → IsSound L x
+sound_over : (K L : Head → Type 0) → ((h : Head) → K h → L h) → (x : Memory) → IsSound K x → IsSound L x
 sound_over K L w x h = record { seats = replies_over K L w x.seats h.seats; kept = replies_over K L w x.kept h.kept; lower = h.lower }
 
 told_over : (K L : Node → Key → Type 0) → ((q : Node) (k : Key) → K q k → L q k) → (m : Message) → IfReply (λ r. K r.head.from (answered_key r.head)) m → IfReply (λ r. L r.head.from (answered_key r.head)) m
 told_over K L w m h = if_reply (λ r. K r.head.from (answered_key r.head)) (λ r. L r.head.from (answered_key r.head)) (λ r. w r.head.from (answered_key r.head)) m h
 
-client_keeps : (c : Cell) (o : List Line) (n : ℕ) (s : Step ClientState) → (S : StandsIn c o) → Tame (IsKnown S.callees c.clients) n (caller_at (c.clients n)) s → Keeps o (client_moves c n s)
-client_keeps c o n s S t =
+client_keeps : (c : Cell) (o : List Line) (n : ℕ) (D : Option ℕ) (s : Step ClientState) → (S : StandsIn c o) → Tame (by_key (IsKnown S.callees c.clients)) any_boot D n (caller_at (c.clients n)) s → Keeps o (client_moves c n s)
+client_keeps c o n D s S t =
     let more : Key → Node = with_callee (last_of n s.state) s.state.callee S.callees in
     let then : ℕ → ClientState = put n s.state c.clients in
     let K : Node → Key → Type 0 = IsKnown S.callees c.clients in
     let L : Node → Key → Type 0 = IsKnown more then in
     let w : (q : Node) (k : Key) → K q k → L q k = known_later S.callees c.clients n s.state (S.own n) t.goes in
+    let wh : (h : Head) → by_key K h → by_key L h = λ h. w h.from (answered_key h) in
     record {
       callees = more;
       own = λ j. at_put n j (λ (x : ClientState). more (last_of j x) ≡ x.callee) s.state c.clients
@@ -360,9 +388,9 @@ client_keeps c o n s S t =
           (each_map _ _ (if_call (λ x user call. IsKnown S.callees c.clients x.to (key_of x)) (λ x user call. IsKnown more then x.to (key_of x)) (λ x user call. w x.to (key_of x))) c.sent S.calls)
           (each_map _ _ (if_call (λ x user call. IsLastOf n (caller_at s.state) x) (λ x user call. IsKnown more then x.to (key_of x)) (λ x user call. last_known S.callees c.clients n s.state x)) s.sent t.sent);
       answers = each_more _ c.sent s.sent (each_map _ _ (told_over K L w) c.sent S.answers) (each_map _ _ (told_over K L w) s.sent t.answers);
-      replies = λ j. at_put n j (λ (x : ClientState). AreReplies L x.seats) s.state c.clients (λ same. replies_over K L w s.state.seats t.kept) (λ other. replies_over K L w (c.clients j).seats (S.replies j));
-      sound = λ i. sound_over K L w (memory_of (c.hosts i).state) (S.sound i);
-      held = λ i. each_map (IsAnswer K) (IsAnswer L) (answer_over K L w) (replies_of (c.hosts i).state.backs.held) (S.held i);
+      replies = λ j. at_put n j (λ (x : ClientState). AreReplies (by_key L) x.seats) s.state c.clients (λ same. replies_over (by_key K) (by_key L) wh s.state.seats t.kept) (λ other. replies_over (by_key K) (by_key L) wh (c.clients j).seats (S.replies j));
+      sound = λ i. sound_over (by_key K) (by_key L) wh (memory_of (c.hosts i).state) (S.sound i);
+      held = λ i. each_map (IsAnswer (by_key K)) (IsAnswer (by_key L)) (answer_over (by_key K) (by_key L) wh) (replies_of (c.hosts i).state.backs.held) (S.held i);
       falls = λ i. cut_over (IsKnown S.callees c.clients) (IsKnown more then) w (c.hosts i).down (S.falls i);
       ran = plain_each (HasRun more then c.hosts) s.lines o t.lines (each_change _ _ (run_later S.callees more c.clients then c.hosts w) o S.ran);
       once = plain_once s.lines o t.lines S.once;
@@ -373,7 +401,7 @@ client_keeps c o n s S t =
 
 to_keeps : (c : Cell) (o : List Line) (p : ℕ) (luck : Luck) (m : Message) (to : Node) → (S : StandsIn c o) → IfCall (λ h user call. IsKnown S.callees c.clients h.to (key_of h)) m → Keeps o (given_to c p luck m to)
 to_keeps c o p luck m (Server i) S h = either_keeps o (has_host c i) _ _ (received_keeps c o i p luck m (c.hosts i).down S h) (nothing_keeps c o S)
-to_keeps c o p luck m (Client n) S h = either_keeps o (c.away n) _ _ (nothing_keeps c o S) (client_keeps c o n _ S (given_tame (IsKnown S.callees c.clients) n (c.clients n) c.clock p m (S.replies n) h))
+to_keeps c o p luck m (Client n) S h = either_keeps o (c.away n) _ _ (nothing_keeps c o S) (client_keeps c o n _ _ S (given_tame (by_key (IsKnown S.callees c.clients)) any_boot n (c.clients n) c.clock p m (S.replies n) (any_call (by_key (IsKnown S.callees c.clients)) (c.clients n).epoch (c.clients n).seats m.head m.carried h) (any_notice m.carried)))
 to_keeps c o p luck m Loc S h = nothing_keeps c o S
 to_keeps c o p luck m (Admin n) S h = nothing_keeps c o S
 
@@ -382,12 +410,12 @@ at_keeps c o p luck None e S = nothing_keeps c o S
 at_keeps c o p luck (Some m) e S = to_keeps c o p luck m m.head.to S (each_at _ c.sent p m e S.calls)
 
 begun_keeps : (c : Cell) (o : List Line) (n : ℕ) (act : Act) (g : Option Going) → StandsIn c o → Keeps o (begun_by c n act g)
-begun_keeps c o n act None S = client_keeps c o n _ S (begins_tame (IsKnown S.callees c.clients) n (c.clients n) c.clock act (S.replies n))
+begun_keeps c o n act None S = client_keeps c o n _ _ S (begins_tame (by_key (IsKnown S.callees c.clients)) any_boot n (c.clients n) c.clock act (S.replies n))
 begun_keeps c o n act (Some g) S = nothing_keeps c o S
 
 waited_keeps : (c : Cell) (o : List Line) (n : ℕ) (g : Option Going) → StandsIn c o → Keeps o (waited_by c n g)
 waited_keeps c o n None S = nothing_keeps c o S
-waited_keeps c o n (Some act) S = client_keeps c o n _ S (waits_tame (IsKnown S.callees c.clients) n (c.clients n) act (S.replies n))
+waited_keeps c o n (Some act) S = client_keeps c o n _ _ S (waits_tame (by_key (IsKnown S.callees c.clients)) any_boot n (c.clients n) act (S.replies n))
 
 ticked_keeps : (c : Cell) (o : List Line) (n : ℕ) → StandsIn c o → Stands c.clients c.hosts c.sent (lines.Tick n ∷ o)
 ticked_keeps c o n S = record { callees = S.callees; own = S.own; calls = S.calls; answers = S.answers; replies = S.replies; sound = S.sound; held = S.held; falls = S.falls; ran = (tt, S.ran); once = S.once; stored = S.stored }
@@ -398,8 +426,8 @@ moved_keeps c o (begins n act) S = either_keeps o (c.away n) _ _ (nothing_keeps 
 moved_keeps c o (gives p luck) S = at_keeps c o p luck (message_at c.sent p) refl S
 moved_keeps c o (waits n) S = either_keeps o (c.away n) _ _ (nothing_keeps c o S) (waited_keeps c o n (c.clients n).running S)
 moved_keeps c o (ticks n) S = ticked_keeps c o n S
-moved_keeps c o (client_stops n) S = either_keeps o (c.away n) _ _ (nothing_keeps c o S) (client_keeps c o n _ S (falls_tame (IsKnown S.callees c.clients) n (c.clients n)))
-moved_keeps c o (client_starts n) S = either_keeps o (c.away n) _ _ (client_keeps c o n _ S (rises_tame (IsKnown S.callees c.clients) n (c.clients n) (S.replies n))) (nothing_keeps c o S)
+moved_keeps c o (client_stops n) S = either_keeps o (c.away n) _ _ (nothing_keeps c o S) (client_keeps c o n _ _ S (falls_tame (by_key (IsKnown S.callees c.clients)) any_boot n (c.clients n) (λ q. tt)))
+moved_keeps c o (client_starts n) S = either_keeps o (c.away n) _ _ (client_keeps c o n _ _ S (rises_tame (by_key (IsKnown S.callees c.clients)) any_boot n (c.clients n) (S.replies n))) (nothing_keeps c o S)
 moved_keeps c o (stops i) S = either_keeps o (has_host c i) _ _ (stopped_keeps c o i (c.hosts i).down S) (nothing_keeps c o S)
 moved_keeps c o (starts_again i after out) S = either_keeps o (has_host c i) _ _ (restarted_keeps c o i after out (c.hosts i).down S (S.falls i)) (nothing_keeps c o S)
 moved_keeps c o (sets_stop i calls pick) S = either_keeps o (has_host c i) _ _ (stop_keeps c o i calls pick _ (c.hosts i).down refl S) (nothing_keeps c o S)
@@ -440,7 +468,7 @@ once s h end r = (run_stands r.inputs (start s) [] h end (first_stands s) r.lead
 known_pair : (callees : Key → Node) (clients : ℕ → ClientState) (q : Node) (k : Key) (j : ℕ) → k.node ≡ Client j → IsKnown callees clients q k → UpTo k.epoch k.number (clients j).epoch (clients j).last
 known_pair callees clients q k j e h = subst (λ (i : ℕ). UpTo k.epoch k.number (clients i).epoch (clients i).last) (client_number h.client j (sym h.node ∙ e)) h.behind
 
-call_pair : (callees : Key → Node) (clients : ℕ → ClientState) (j : ℕ) (h : Head) (x : Carried) → IsCall x → h.from ≡ Client j → IsCallOf (IsKnown callees clients) h x → IsKnownTo (clients j) h
+call_pair : (callees : Key → Node) (clients : ℕ → ClientState) (j : ℕ) (h : Head) (x : Carried) → IsCall x → h.from ≡ Client j → OfCall (ByClient (λ y user call. IsKnown callees clients y.to (key_of y))) h x → IsKnownTo (clients j) h
 call_pair callees clients j h (carried.Call user (ask.File call)) is from w = known_pair callees clients h.to (key_of h) j from (by_client j h.from (IsKnown callees clients h.to (key_of h)) from w)
 call_pair callees clients j h (carried.Call user call) is from w = absurd w
 call_pair callees clients j h x is from w = absurd is

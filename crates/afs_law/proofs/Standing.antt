@@ -1,7 +1,6 @@
 -- What holds between any two entries of a run of one server, as laws: each is one of the facts.
-use Rattle.std.proofs.Common.{◌≡◌, ℕ, ℤ, ◌<◌, ◌≤◌, arith, ◌⊎◌, inl, inr, Bool, true, false, cond, nat_eq, eqb-true, List, [], ◌∷◌, Option, Some, None, refl, sym, ap, subst, ◌∙◌}
+use Rattle.std.proofs.Common.{◌≡◌, ℕ, ℤ, ◌<◌, ◌≤◌, arith, inl, inr, Bool, true, false, cond, nat_eq, eqb-true, List, [], ◌∷◌, Option, Some, None, refl, sym, ap, subst, ◌∙◌}
 use Rattle.std.specs.List.{AllByRecursion}
-use Rattle.std.specs.Prelude.{◌&&◌}
 use Rattle.afs_breaks.specs.declared.types.OwedBreak.{OwedBreak}
 use Rattle.afs_breaks.specs.declared.types.Promise.{Promise}
 use Rattle.afs_ideal.specs.Operations.{volume_changed}
@@ -22,7 +21,6 @@ use Rattle.afs_rows.specs.Going.{Going, asked}
 use Rattle.afs_rows.specs.Runs.{Entry, Fall, message_at}
 use Rattle.afs_rows.specs.Runs as cells
 use Rattle.afs_rows.specs.States.{BackCall, CacheEntry, Seat}
-use Rattle.afs_history.specs.declared.lines.Line.{Line}
 use Rattle.afs_law.specs.Breaks.{AllOwes, live_grant, lines_at}
 use Rattle.afs_law.specs.Grants.{fetch_reply}
 use Rattle.afs_law.specs.Ideal.{set_up}
@@ -32,11 +30,11 @@ use Rattle.afs_law.specs.Once.{past_of}
 use Rattle.afs_law.specs.OneServer.{IsOneServer}
 use Rattle.afs_law.specs.Past.{HasCode, IsUnheard, called_key, lines_of}
 use Rattle.afs_law.proofs.Agreeing.{at_end}
-use Rattle.afs_law.proofs.Basics.{Above, ByClient, IfCall, IfDone, IfReply, OfCall, OfClient, OfReply, OfServer, by_client, by_server, client_number, each_at, runs_above}
-use Rattle.afs_law.proofs.Facts.{CallFact, MayRun, CallIn, Holds, InScope, IsAged, IsSafe, ReplyFact, ReplyIn, View, view}
+use Rattle.afs_law.proofs.Basics.{Above, IfCall, IfDone, IfReply, OfClient, OfReply, OfServer, by_client, by_server, client_number, each_at, runs_above}
+use Rattle.afs_law.proofs.Facts.{CallFact, MayRun, CallIn, Holds, InScope, IsAged, IsSafe, ReplyFact, ReplyIn, view}
 use Rattle.afs_law.proofs.Nexts.{asks_is}
-use Rattle.afs_law.proofs.OneCell.{Cell, RunsTo, the_server}
-use Rattle.afs_law.proofs.Owing.{AccountedBy, AllOf, BackedIn, DoneIn, DroppedOwe, IsIn, IsOpen, IsPromised, promise_to}
+use Rattle.afs_law.proofs.OneCell.{Cell, the_server}
+use Rattle.afs_law.proofs.Owing.{AllOf, DoneIn, DroppedOwe, IsIn, IsPromised, promise_to}
 use Rattle.afs_law.proofs.Servers.{run_same, seen_in}
 
 holds_at : (s : Script) (h : List Entry) (end : cells.Cell) → IsOneServer s → cells.RunsTo h s end → Holds s (seen_in end) (past_of (set_up s ∷ []) h)

@@ -10,7 +10,7 @@ use Rattle.std.specs.Prelude.{◌&&◌}
 use Rattle.afs_num.specs.declared.histories.Actor.TheVariants as actors
 use Rattle.afs_ideal.specs.Operations.{volume_changed}
 use Rattle.afs_law.proofs.Answering.{holding, ended_facts, ended_reply, ended_stands}
-use Rattle.afs_law.proofs.Asking.{moves_back, step_entry, view_after, Passes, moves, nothing_new, runs_by_other, client_kept, call_known, reply_still, own_call, same_one, call_is}
+use Rattle.afs_law.proofs.Asking.{moves_back, step_entry, view_after, Passes, moves, nothing_new, runs_by_other, client_kept, call_known, reply_still, own_call, same_one}
 use Rattle.afs_law.proofs.Basics.{same_node-refl, some_of, UpTo}
 use Rattle.afs_law.proofs.Facts.{Ghost, IsAged, View, view, last_key, IsSafe, ReplyFact, Holds, Goes, InScope}
 use Rattle.afs_law.proofs.Passing.{PassesFile, PassesAct, PassesReach, stays, current_over, kept_over}

@@ -1,5 +1,5 @@
-use Rattle.afs_rows.specs.Going.{Need, answers, gives_back, next}
-use Rattle.std.proofs.Common.{◌≤◌, sym, ◌∙◌}
+use Rattle.afs_rows.specs.Going.{answers, gives_back, next}
+use Rattle.std.proofs.Common.{◌≤◌, ◌∙◌}
 use Rattle.afs_records.specs.Records.{record_bytes, head_form, volume_form}
 use Rattle.afs_rows.specs.ServerSteps.{server_row, back_timeout_row, wake_row, start_row}
 -- Worked runs: breaks that overtake a reply, that are never answered, that wait behind a restart, and those of a change of two versions.

@@ -9,7 +9,7 @@ use Rattle.afs_history.specs.declared.lines.Line.{Line}
 use Rattle.afs_law.specs.Past.{begins_act, onto, is_of_act, sent_of, is_called}
 use Rattle.afs_rows.specs.Runs.{Entry, first_volume, first_volumes, counts_later}
 use Rattle.afs_rows.specs.Scopes.{is_volume}
-use Rattle.std.specs.Prelude.{is_some, ◌≡◌, ℕ, ◌+◌, List, [], ◌∷◌, ◌++◌, Bool, true, false, ◌&&◌, Option, Some, None, codes, max, if◌then◌else◌, ◌⊎◌}
+use Rattle.std.specs.Prelude.{◌≡◌, ℕ, ◌+◌, List, [], ◌∷◌, ◌++◌, Bool, true, false, ◌&&◌, Option, Some, None, codes, max, if◌then◌else◌, ◌⊎◌}
 use Rattle.std.specs.Option.{option_map}
 use Rattle.afs_num.specs.Fids.{same_fid}
 use Rattle.afs_num.specs.Nodes.{same_node}
