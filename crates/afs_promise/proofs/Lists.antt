@@ -1,13 +1,12 @@
 -- How long the lists are after each edit, and what holds of them.
-use Rattle.std.proofs.Common.{◌≡◌, ℕ, suc, ◌+◌, ◌<◌, ◌≤◌, Bool, true, false, not, List, [], ◌∷◌, ◌++◌, length, filter, drop, get_or, drop-cons, if◌then◌else◌, refl, ap, sym, ◌∙◌, arith, length-append}
+use Rattle.std.proofs.Common.{◌≡◌, ℕ, suc, ◌+◌, ◌<◌, ◌≤◌, Bool, true, false, not, List, [], ◌∷◌, length, filter, drop, get_or, drop-cons, if◌then◌else◌, refl, ap, sym, ◌∙◌, arith, length-append}
 use Rattle.std.specs.Ordering.{is_lt}
 use Rattle.afs_num.specs.Fids.{fid_order}
 use Rattle.afs_num.specs.declared.types.Fid.{Fid}
 use Rattle.afs_num.specs.declared.types.Node.{Node}
 use Rattle.afs_breaks.specs.declared.types.Promise.{Promise}
-use Rattle.afs_breaks.specs.declared.types.OwedBreak.{OwedBreak}
 use Rattle.afs_promise.specs.declared.types.Grant.{Grant}
-use Rattle.afs_breaks.specs.Promises.{is_promise, without_promise, with_promise, with_promises, owes_from, is_hit, hits, left, placed, by_fid, hits_on, left_off, is_on, lasting}
+use Rattle.afs_breaks.specs.Promises.{is_promise, without_promise, with_promise, with_promises, is_hit, hits, left, placed, by_fid, hits_on, left_off, is_on}
 use Rattle.afs_promise.specs.Granting.{promises_in}
 
 pub filter_few : (q : Promise → Bool) (ps : List Promise) → length (filter q ps) ≤ length ps

@@ -105,13 +105,7 @@ fn put_promise(out: &mut String, held: &Promise) -> Mem<()> {
 }
 
 /// The promises that a change of the file by the client `except` would then hit, a line for each.
-pub fn hits(
-    alloc: Global,
-    steps: &[Step],
-    file: (u32, u32),
-    except: u8,
-    now: u32,
-) -> Mem<String> {
+pub fn hits(alloc: Global, steps: &[Step], file: (u32, u32), except: u8, now: u32) -> Mem<String> {
     let promises = played(alloc, steps)?;
     let mut all = Vec::new(alloc);
     promises.hits(fid(file), Node::Client(except), now, &mut all)?;

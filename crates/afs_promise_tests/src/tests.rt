@@ -62,7 +62,10 @@ fn a_volume_goes_by_vnode_and_unique(rt: HostRuntime) -> Result<(), Fail> {
         Step::WithdrawVolume(VOLUME),
     ];
     let told = owed(rt.alloc(), &steps)?;
-    assert_eq!(rt; told.as_str(), "1 c2 1.1 7200\n2 c1 1.1 7201\n3 c1 4.3 7201\n4 c2 4.9 7200\n");
+    assert_eq!(rt;
+        told.as_str(),
+        "1 c2 1.1 7200\n2 c1 1.1 7201\n3 c1 4.3 7201\n4 c2 4.9 7200\n"
+    );
     Ok(())
 }
 

@@ -63,13 +63,7 @@ impl Tried {
         Ok(())
     }
 
-    pub fn hits(
-        &self,
-        fid: Fid,
-        except: Node,
-        now: u32,
-        out: &mut Vec<Promise>,
-    ) -> Mem<()> {
+    pub fn hits(&self, fid: Fid, except: Node, now: u32, out: &mut Vec<Promise>) -> Mem<()> {
         self.promises.hits(fid, except, now, out)
     }
 

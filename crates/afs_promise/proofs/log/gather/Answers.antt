@@ -1,4 +1,4 @@
-use Rattle.std.proofs.Common.{◌≡◌, ℕ, ◌<◌, ◌++◌, ◌∷◌, List, Bool, true, length, drop, get_or, suc, Option, sym, ap, ◌∙◌, if◌then◌else◌, drop-cons, arith, length-append}
+use Rattle.std.proofs.Common.{◌≡◌, ℕ, ◌<◌, ◌∷◌, List, Bool, true, length, drop, get_or, suc, Option, sym, ap, ◌∙◌, if◌then◌else◌, drop-cons, arith, length-append}
 use Rattle.indexmap.specs.IndexMap.{get}
 use Rattle.afs_promise.specs.declared.types.Grant.{Grant}
 use Rattle.afs_promise.specs.declared.types.Holding.{Holding}

@@ -1,4 +1,4 @@
-use Rattle.std.proofs.Common.{arith, refl, sym, ap, ◌∙◌}
+use Rattle.std.proofs.Common.{arith, refl, ap, ◌∙◌}
 use Rattle.indexmap.specs.IndexMap.{get}
 use Rattle.afs_promise.specs.Granting.{Granted, holding, same_holding}
 use Rattle.afs_breaks.specs.Promises.{without_promise}

@@ -1,10 +1,10 @@
-use Rattle.std.proofs.Common.{◌≡◌, ◌+◌, ◌++◌, ◌∷◌, [], List, Option, Some, None, refl, sym, ap, subst, ◌∙◌, arith, append_assoc, append-nil}
+use Rattle.std.proofs.Common.{◌+◌, ◌++◌, ◌∷◌, [], List, None, sym, ap, ◌∙◌, arith, append_assoc, append-nil}
 use Rattle.indexmap.specs.IndexMap.{get}
 use Rattle.afs_num.specs.declared.types.Node.{Node}
 use Rattle.afs_breaks.specs.declared.types.Promise.{Promise}
 use Rattle.afs_breaks.specs.Promises.{hits, lasting}
 use Rattle.afs_promise.specs.Granting.{Granted, same_holding, held, since, oldest}
-use Rattle.afs_promise.proofs.Since.{next_hit, no_more, lasting_first, held_from_start}
+use Rattle.afs_promise.proofs.Since.{next_hit, no_more, lasting_first}
 use Rattle.afs_promise.proofs.grants.Grants.hits.Goals as goal
 
 pub overflow_add-from : goal.overflow_add-from

@@ -1,4 +1,4 @@
-use Rattle.std.proofs.Common.{◌≡◌, ◌∷◌, [], ◌+◌, List, Option, Some, None, length, refl, sym, ap, subst, ◌∙◌, arith}
+use Rattle.std.proofs.Common.{◌≡◌, ◌∷◌, [], ◌+◌, List, Option, Some, None, length, sym, ap, subst, ◌∙◌}
 use Rattle.std.specs.Option.{IfNone}
 use Rattle.indexmap.specs.IndexMap.{get}
 use Rattle.afs_num.specs.declared.types.Node.{Node}

@@ -1,4 +1,4 @@
-use Rattle.std.proofs.Common.{◌≡◌, ◌+◌, ◌++◌, ◌∷◌, [], ℕ, List, Option, Some, None, nat_eq, refl, ap, sym, subst, arith, ◌∙◌}
+use Rattle.std.proofs.Common.{◌≡◌, ◌+◌, ◌++◌, ◌∷◌, [], ℕ, List, Option, Some, nat_eq, refl, ap, sym, subst, arith, ◌∙◌}
 use Rattle.std.specs.BinaryHeap.{heap_items}
 use Rattle.indexmap.proofs.CallerLemmas.{insert_entry-new}
 use Rattle.afs_num.specs.declared.types.Fid.{Fid}
