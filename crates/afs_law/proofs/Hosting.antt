@@ -12,7 +12,7 @@ use Rattle.afs_ideal.specs.Operations.{Caller, Found, Result, refused, reads, ch
 use Rattle.afs_ideal.specs.Tables.{get}
 use Rattle.afs_records.specs.Durable.{Stored, has_room}
 use Rattle.afs_rows.specs.Callbacks.{Started, Turn, expired, held_under, is_back_awaited, is_ready, is_seat_of, key_answered, new_owes, no_turn, owe_line, pumped, quit_line, renews_by, repeats_by, replies_of, risen_turn, settle_line, settles_by, starts, starts_by, still_owed, timed, turn_for, turned_by, turned_in}
-use Rattle.afs_rows.specs.ServerRow.{Begun, Change, Decision, admits, begun_after, begun_before, change_reply_to, carried_by, decided, decides, does, drops, granted, hears, in_volume, key_of, made, not_served, promise_ticks, refuses, repeats, revived, saves, seat_for, seat_placed, serves_call, several, shows, sights, tells_boot, record_of, versioned, whole, with_volume, is_client, Sight, no_room, replied, refusal, read_reply_to, granted_in, reply_head}
+use Rattle.afs_rows.specs.ServerRow.{Begun, Change, Decision, admits, begun_after, begun_before, change_reply_to, carried_by, decided, decides, does, drops, granted, hears, in_volume, key_of, made, not_served, promise_ticks, refuses, repeats, revived, saves, seat_for, seat_placed, serves_call, several, shows, sights, tells_boot, record_of, versioned, whole, with_volume, is_client, Sight, no_room, replied, refusal, read_reply_to, granted_in, reply_head, boot_told}
 use Rattle.afs_rows.specs.ServerSteps.{back_timeout_row, server_row, start_row, wake_row}
 use Rattle.afs_rows.specs.States.{BackCall, Backs, Held, Seat, ServerState, durable_of}
 use Rattle.afs_rows.specs.Steps.{Step}
@@ -53,16 +53,16 @@ IsAsked K x head = OfClient head.from (K (reply_head x.lasting.boot head)) × Is
 abbrev pub IsRunBy : (Head → Type 0) → Node → Key → Type 0
 IsRunBy K me k = (r : Head) × ((r.from ≡ me) × ((answered_key r ≡ k) × K r))
 
-abbrev pub IsDue : (Head → Type 0) → (ℕ → Type 0) → Node → ServerState → Decision → Type 0
+abbrev pub IsDue : (Head → Type 0) → (Head → Type 0) → Node → ServerState → Decision → Type 0
 IsDue K L me x drops = ⊤
-IsDue K L me x (tells_boot head) = L x.lasting.boot
+IsDue K L me x (tells_boot head) = L (boot_told x.lasting.boot head).head
 IsDue K L me x (repeats reply) = IsAnswer K L reply
 IsDue K L me x (refuses head code) = IsAsked K x head
 IsDue K L me x (shows head r) = IsAsked K x head
 IsDue K L me x (saves head c) = IsRunBy K me (key_of head) × IsAsked K x head
 
 -- what runs came under this header
-abbrev HasHead : Head → Decision → Type 0
+abbrev pub HasHead : Head → Decision → Type 0
 HasHead head (saves h c) = h ≡ head
 HasHead head (refuses h code) = h ≡ head
 HasHead head (shows h r) = h ≡ head
@@ -93,13 +93,13 @@ several_head : (head : Head) (caller : Caller) (o : outcome.Result (List Sight) 
 several_head head caller (Ok xs) = refl
 several_head head caller (Err code) = refl
 
-served_head : (s : ServerState) (clock : ℕ) (head : Head) (user : List ℕ) (call : FsCall) → HasHead head (serves_call s clock head user call)
+pub served_head : (s : ServerState) (clock : ℕ) (head : Head) (user : List ℕ) (call : FsCall) → HasHead head (serves_call s clock head user call)
 served_head s clock head user (calls.GiveUpCallBacks fids callbacks) = refl
 served_head s clock head user calls.GetTime = refl
 served_head s clock head user (calls.BulkStatus fids) = several_head head (the_user user) (sights s.lasting.volumes (the_user user) fids)
 served_head s clock head user call = with_head s clock head (the_user user) call (volume_called call)
 
-due_by : (K : Head → Type 0) (L : ℕ → Type 0) (me : Node) (x : ServerState) (head : Head) (d : Decision) → HasHead head d → IsRunBy K me (key_of head) → IsAsked K x head → IsDue K L me x d
+due_by : (K : Head → Type 0) (L : Head → Type 0) (me : Node) (x : ServerState) (head : Head) (d : Decision) → HasHead head d → IsRunBy K me (key_of head) → IsAsked K x head → IsDue K L me x d
 due_by K L me x head drops h k a = absurd h
 due_by K L me x head (tells_boot other) h k a = absurd h
 due_by K L me x head (repeats reply) h k a = absurd h
@@ -108,7 +108,7 @@ due_by K L me x head (shows other r) h k a = subst (IsAsked K x) (sym h) a
 due_by K L me x head (saves other c) h k a = subst (λ (y : Head). IsRunBy K me (key_of y) × IsAsked K x y) (sym h) (k, a)
 
 -- a call of a client
-runs_due : (K : Head → Type 0) (L : ℕ → Type 0) (me : Node) (x : ServerState) (clock : ℕ) (head : Head) (user : List ℕ) (call : FsCall) (from : Node) → OfClient from (IsRunBy K me (key_of head)) → IsAsked K x head
+runs_due : (K : Head → Type 0) (L : Head → Type 0) (me : Node) (x : ServerState) (clock : ℕ) (head : Head) (user : List ℕ) (call : FsCall) (from : Node) → OfClient from (IsRunBy K me (key_of head)) → IsAsked K x head
     → IsDue K L me x (cond (is_client from) (serves_call x clock head user call) (refuses head not_served))
 runs_due K L me x clock head user call (Client n) k a = due_by K L me x head (serves_call x clock head user call) (served_head x clock head user call) k a
 runs_due K L me x clock head user call from k a = a
@@ -117,7 +117,7 @@ admitted_above : (t : Bool) (x : ServerState) (head : Head) → cond t (paired h
 admitted_above true x head e = runs_above head.epoch head.number (call_seat head.from x.seats) e
 admitted_above false x head e = absurd cc
 
-admits_due : (K : Head → Type 0) (L : ℕ → Type 0) (me : Node) (x : ServerState) (clock : ℕ) (head : Head) (user : List ℕ) (call : FsCall) (o : Admitted Message) → head.to ≡ me → AreReplies K L x.seats → OfClient head.from (admitted x.lasting.boot x.seats head ≡ pairs.runs → K (reply_head x.lasting.boot head)) → L x.lasting.boot → admitted x.lasting.boot x.seats head ≡ o
+admits_due : (K : Head → Type 0) (L : Head → Type 0) (me : Node) (x : ServerState) (clock : ℕ) (head : Head) (user : List ℕ) (call : FsCall) (o : Admitted Message) → head.to ≡ me → AreReplies K L x.seats → OfClient head.from (admitted x.lasting.boot x.seats head ≡ pairs.runs → K (reply_head x.lasting.boot head)) → (head.to ≡ me → L (boot_told x.lasting.boot head).head) → admitted x.lasting.boot x.seats head ≡ o
     → IsDue K L me x (admits x clock head (whole head (carried.Call user (ask.File call))) o)
 admits_due K L me x clock head user call pairs.runs to r k told e =
     let own : OfClient head.from (K (reply_head x.lasting.boot head)) = of_client head.from (admitted x.lasting.boot x.seats head ≡ pairs.runs → K (reply_head x.lasting.boot head)) (K (reply_head x.lasting.boot head)) (λ f. f e) k in
@@ -125,21 +125,21 @@ admits_due K L me x clock head user call pairs.runs to r k told e =
 admits_due K L me x clock head user call (pairs.kept reply) to r k told e = kept_answer K L x.lasting.boot x.seats head reply r e
 admits_due K L me x clock head user call pairs.in_progress to r k told e = tt
 admits_due K L me x clock head user call pairs.older to r k told e = tt
-admits_due K L me x clock head user call (pairs.wrong_boot boot) to r k told e = told
+admits_due K L me x clock head user call (pairs.wrong_boot boot) to r k told e = told to
 
-called_due : (t : Bool) (K : Head → Type 0) (L : ℕ → Type 0) (me : Node) (x : ServerState) (clock : ℕ) (head : Head) (user : List ℕ) (call : FsCall) → same_node head.to me ≡ t → AreReplies K L x.seats → OfClient head.from (admitted x.lasting.boot x.seats head ≡ pairs.runs → K (reply_head x.lasting.boot head)) → L x.lasting.boot
+called_due : (t : Bool) (K : Head → Type 0) (L : Head → Type 0) (me : Node) (x : ServerState) (clock : ℕ) (head : Head) (user : List ℕ) (call : FsCall) → same_node head.to me ≡ t → AreReplies K L x.seats → OfClient head.from (admitted x.lasting.boot x.seats head ≡ pairs.runs → K (reply_head x.lasting.boot head)) → (head.to ≡ me → L (boot_told x.lasting.boot head).head)
     → IsDue K L me x (cond t (admits x clock head (whole head (carried.Call user (ask.File call))) (admitted x.lasting.boot x.seats head)) drops)
 called_due true K L me x clock head user call e r k told = admits_due K L me x clock head user call (admitted x.lasting.boot x.seats head) (same_node-true head.to me e) r k told refl
 called_due false K L me x clock head user call e r k told = tt
 
-hears_due : (K : Head → Type 0) (L : ℕ → Type 0) (me : Node) (x : ServerState) (clock : ℕ) (head : Head) (c : Carried) → AreReplies K L x.seats → IsCallOf K x.lasting.boot x.seats head c → L x.lasting.boot → IsDue K L me x (hears me x clock head c)
+hears_due : (K : Head → Type 0) (L : Head → Type 0) (me : Node) (x : ServerState) (clock : ℕ) (head : Head) (c : Carried) → AreReplies K L x.seats → IsCallOf K x.lasting.boot x.seats head c → (head.to ≡ me → L (boot_told x.lasting.boot head).head) → IsDue K L me x (hears me x clock head c)
 hears_due K L me x clock head (carried.Call user (ask.File call)) r k told = called_due (same_node head.to me) K L me x clock head user call refl r k told
 hears_due K L me x clock head (carried.Call user call) r k told = absurd k
 hears_due K L me x clock head (carried.Refusal code) r k told = tt
 hears_due K L me x clock head (carried.Reply reply) r k told = tt
 hears_due K L me x clock head carried.Notice r k told = tt
 
-pub decides_due : (K : Head → Type 0) (L : ℕ → Type 0) (me : Node) (x : ServerState) (clock : ℕ) (m : Message) → AreReplies K L x.seats → IsCallOf K x.lasting.boot x.seats m.head m.carried → L x.lasting.boot → IsDue K L me x (decides me x clock (Whole m))
+pub decides_due : (K : Head → Type 0) (L : Head → Type 0) (me : Node) (x : ServerState) (clock : ℕ) (m : Message) → AreReplies K L x.seats → IsCallOf K x.lasting.boot x.seats m.head m.carried → (m.head.to ≡ me → L (boot_told x.lasting.boot m.head).head) → IsDue K L me x (decides me x clock (Whole m))
 decides_due K L me x clock m r k told = hears_due K L me x clock m.head m.carried r k told
 
 -- ---- what it keeps
@@ -153,7 +153,7 @@ abbrev pub memory_of : ServerState → Memory
 memory_of s = record { seats = s.seats; kept = s.lasting.kept }
 
 -- each reply that it keeps is an answer, and its callers' keys in memory are at least those on its disk
-pub record IsSound (K : Head → Type 0) (L : ℕ → Type 0) (x : Memory) : Type 0 where
+pub record IsSound (K : Head → Type 0) (L : Head → Type 0) (x : Memory) : Type 0 where
   pub seats : AreReplies K L x.seats
   pub kept : AreReplies K L x.kept
   pub lower : (n : Node) (e k : ℕ) → Above (call_seat n x.seats) e k → Above (call_seat n x.kept) e k
@@ -170,7 +170,7 @@ has_none me (lines.Change q k count ∷ ls) h = absurd cc
 has_none me (l ∷ ls) h = has_none me ls h
 
 -- what its lines and its keys are after a step: the key that ran was known and new, and is kept
-pub record Hosts (K : Head → Type 0) (L : ℕ → Type 0) (me : Node) (x y : Memory) (ls : List Line) : Type 0 where
+pub record Hosts (K : Head → Type 0) (L : Head → Type 0) (me : Node) (x y : Memory) (ls : List Line) : Type 0 where
   pub changed : Option Key
   pub one : HasOne me changed ls
   pub known : (k : Key) → changed ≡ Some k → IsRunBy K me k
@@ -180,27 +180,27 @@ pub record Hosts (K : Head → Type 0) (L : ℕ → Type 0) (me : Node) (x y : M
   pub stored : (n : Node) (seat : Seat) → call_seat n y.kept ≡ Some seat → (call_seat n x.kept ≡ Some seat) ⊎ ((changed ≡ Some (seat_key n seat)) × HasReply n seat)
   pub sound : IsSound K L y
 
-still_hosts : (K : Head → Type 0) (L : ℕ → Type 0) (me : Node) (x : Memory) (ls : List Line) → IsSound K L x → all_lines is_unchanging ls ≡ true → Hosts K L me x x ls
+still_hosts : (K : Head → Type 0) (L : Head → Type 0) (me : Node) (x : Memory) (ls : List Line) → IsSound K L x → all_lines is_unchanging ls ≡ true → Hosts K L me x x ls
 still_hosts K L me x ls s h = record { changed = None; one = has_none me ls h; known = λ k e. absurd cc; new = λ k e. absurd cc; ran = λ k e a. absurd cc; grows = λ n e k a. a; stored = λ n seat e. inl e; sound = s }
 
 -- ---- a caller's seat is taken
 
-lower_by : (K : Head → Type 0) (L : ℕ → Type 0) (x : Memory) (s : Seat) (n : Node) (e k : ℕ) → IsSound K L x → Above (call_seat s.caller x.seats) s.epoch s.number → s.caller ≡ n → Above (Some s) e k → Above (call_seat n x.kept) e k
+lower_by : (K : Head → Type 0) (L : Head → Type 0) (x : Memory) (s : Seat) (n : Node) (e k : ℕ) → IsSound K L x → Above (call_seat s.caller x.seats) s.epoch s.number → s.caller ≡ n → Above (Some s) e k → Above (call_seat n x.kept) e k
 lower_by K L x s n e k h a own b = above_up (call_seat n x.kept) s.epoch s.number e k (h.lower n s.epoch s.number (subst (λ (m : Node). Above (call_seat m x.seats) s.epoch s.number) own a)) (below_up_to s.epoch s.number e k b)
 
-seated_sound : (K : Head → Type 0) (L : ℕ → Type 0) (x : Memory) (s : Seat) → IsSound K L x → ((m : Message) → s.reply ≡ Some m → IsAnswer K L m) → Above (call_seat s.caller x.seats) s.epoch s.number → IsSound K L (record { seats = call_seated s x.seats; kept = x.kept })
+seated_sound : (K : Head → Type 0) (L : Head → Type 0) (x : Memory) (s : Seat) → IsSound K L x → ((m : Message) → s.reply ≡ Some m → IsAnswer K L m) → Above (call_seat s.caller x.seats) s.epoch s.number → IsSound K L (record { seats = call_seated s x.seats; kept = x.kept })
 seated_sound K L x s h r a = record {
   seats = one_more_reply K L s x.seats r h.seats;
   kept = h.kept;
   lower = λ n e k. at_seat s n x.seats (λ (o : Option Seat). Above o e k → Above (call_seat n x.kept) e k) (λ own b. lower_by K L x s n e k h a own b) (λ other b. h.lower n e k b);
 }
 
-seated_hosts : (K : Head → Type 0) (L : ℕ → Type 0) (me : Node) (x : Memory) (s : Seat) (ls : List Line) → IsSound K L x → ((m : Message) → s.reply ≡ Some m → IsAnswer K L m) → Above (call_seat s.caller x.seats) s.epoch s.number → all_lines is_unchanging ls ≡ true
+seated_hosts : (K : Head → Type 0) (L : Head → Type 0) (me : Node) (x : Memory) (s : Seat) (ls : List Line) → IsSound K L x → ((m : Message) → s.reply ≡ Some m → IsAnswer K L m) → Above (call_seat s.caller x.seats) s.epoch s.number → all_lines is_unchanging ls ≡ true
     → Hosts K L me x (record { seats = call_seated s x.seats; kept = x.kept }) ls
 seated_hosts K L me x s ls h r a p = record { changed = None; one = has_none me ls p; known = λ k e. absurd cc; new = λ k e. absurd cc; ran = λ k e b. absurd cc; grows = λ n e k b. b; stored = λ n seat e. inl e; sound = seated_sound K L x s h r a }
 
 -- on the disk too
-placed_sound : (K : Head → Type 0) (L : ℕ → Type 0) (x : Memory) (s : Seat) → IsSound K L x → ((m : Message) → s.reply ≡ Some m → IsAnswer K L m) → Above (call_seat s.caller x.seats) s.epoch s.number → IsSound K L (record { seats = call_seated s x.seats; kept = seat_placed s x.kept })
+placed_sound : (K : Head → Type 0) (L : Head → Type 0) (x : Memory) (s : Seat) → IsSound K L x → ((m : Message) → s.reply ≡ Some m → IsAnswer K L m) → Above (call_seat s.caller x.seats) s.epoch s.number → IsSound K L (record { seats = call_seated s x.seats; kept = seat_placed s x.kept })
 placed_sound K L x s h r a = record {
   seats = one_more_reply K L s x.seats r h.seats;
   kept = λ n. at_placed s n x.kept (λ (o : Option Seat). (seat : Seat) (m : Message) → o ≡ Some seat → seat.reply ≡ Some m → IsAnswer K L m)
@@ -213,7 +213,7 @@ placed_sound K L x s h r a = record {
 abbrev key_in : Seat → Key
 key_in s = record { node = s.caller; epoch = s.epoch; number = s.number }
 
-placed_hosts : (K : Head → Type 0) (L : ℕ → Type 0) (me : Node) (x : Memory) (s : Seat) (ls : List Line) → IsSound K L x → ((m : Message) → s.reply ≡ Some m → IsAnswer K L m) → Above (call_seat s.caller x.seats) s.epoch s.number → IsRunBy K me (key_in s) → HasReply s.caller s → HasOne me (Some (key_in s)) ls
+placed_hosts : (K : Head → Type 0) (L : Head → Type 0) (me : Node) (x : Memory) (s : Seat) (ls : List Line) → IsSound K L x → ((m : Message) → s.reply ≡ Some m → IsAnswer K L m) → Above (call_seat s.caller x.seats) s.epoch s.number → IsRunBy K me (key_in s) → HasReply s.caller s → HasOne me (Some (key_in s)) ls
     → Hosts K L me x (record { seats = call_seated s x.seats; kept = seat_placed s x.kept }) ls
 placed_hosts K L me x s ls h r a known told p = record {
   changed = Some (key_in s);
@@ -238,17 +238,17 @@ versioned_plain : (vs : List Version) (ls : List Line) → all_lines is_unchangi
 versioned_plain [] ls h = h
 versioned_plain (v ∷ vs) ls h = versioned_plain vs ls h
 
-one_reply : (K : Head → Type 0) (L : ℕ → Type 0) (head : Head) (r m : Message) → IsAnswer K L r → (seat_for head r).reply ≡ Some m → IsAnswer K L m
+one_reply : (K : Head → Type 0) (L : Head → Type 0) (head : Head) (r m : Message) → IsAnswer K L r → (seat_for head r).reply ≡ Some m → IsAnswer K L m
 one_reply K L head r m h e = subst (IsAnswer K L) (some_of r m e) h
 
-carried_answer : (K : Head → Type 0) (L : ℕ → Type 0) (boot : ℕ) (head : Head) (expiry : ℕ) (o : Option FsReply) → OfClient head.from (K (reply_head boot head)) → IsAnswer K L (replied boot head (carried_by expiry o))
+carried_answer : (K : Head → Type 0) (L : Head → Type 0) (boot : ℕ) (head : Head) (expiry : ℕ) (o : Option FsReply) → OfClient head.from (K (reply_head boot head)) → IsAnswer K L (replied boot head (carried_by expiry o))
 carried_answer K L boot head expiry None k = (tt, (k, tt))
 carried_answer K L boot head expiry (Some reply) k = (tt, (k, tt))
 
-change_answer : (K : Head → Type 0) (L : ℕ → Type 0) (boot : ℕ) (head : Head) (clock : ℕ) (c : Change) → OfClient head.from (K (reply_head boot head)) → IsAnswer K L (change_reply_to boot head clock c)
+change_answer : (K : Head → Type 0) (L : Head → Type 0) (boot : ℕ) (head : Head) (clock : ℕ) (c : Change) → OfClient head.from (K (reply_head boot head)) → IsAnswer K L (change_reply_to boot head clock c)
 change_answer K L boot head clock c k = carried_answer K L boot head (clock + promise_ticks) _ k
 
-does_hosts : (K : Head → Type 0) (L : ℕ → Type 0) (me : Node) (x : ServerState) (clock place : ℕ) (d : Decision) (ls : List Line) → IsSound K L (memory_of x) → IsDue K L me x d → all_lines is_unchanging ls ≡ true
+does_hosts : (K : Head → Type 0) (L : Head → Type 0) (me : Node) (x : ServerState) (clock place : ℕ) (d : Decision) (ls : List Line) → IsSound K L (memory_of x) → IsDue K L me x d → all_lines is_unchanging ls ≡ true
     → Hosts K L me (memory_of x) (memory_of (does me x clock place d []).state) (does me x clock place d ls).lines
 does_hosts K L me x clock place drops ls s d p = still_hosts K L me (memory_of x) _ s p
 does_hosts K L me x clock place (tells_boot head) ls s d p = still_hosts K L me (memory_of x) _ s p
@@ -264,21 +264,21 @@ does_hosts K L me x clock place (saves head c) ls s d p =
 
 -- ---- what it sends, and holds to be sent
 
-pub record Turned (K : Head → Type 0) (L : ℕ → Type 0) (t : Turn) : Type 0 where
+pub record Turned (K : Head → Type 0) (L : Head → Type 0) (t : Turn) : Type 0 where
   pub sent : Each (IsAnswer K L) t.sent
   pub outs : Each (IsAnswer K L) (replies_of t.outs)
   pub held : Each (IsAnswer K L) (replies_of t.backs.held)
   pub lines : all_lines is_unchanging t.lines ≡ true
   pub ungiven : (sent : List Message) → given_message t.lines sent ≡ None
 
-none_turned : (K : Head → Type 0) (L : ℕ → Type 0) (b : Backs) → Each (IsAnswer K L) (replies_of b.held) → Turned K L (no_turn b)
+none_turned : (K : Head → Type 0) (L : Head → Type 0) (b : Backs) → Each (IsAnswer K L) (replies_of b.held) → Turned K L (no_turn b)
 none_turned K L b h = record { sent = tt; outs = tt; held = h; lines = refl; ungiven = λ sent. refl }
 
-either_turned : (K : Head → Type 0) (L : ℕ → Type 0) (t : Bool) (a b : Turn) → Turned K L a → Turned K L b → Turned K L (cond t a b)
+either_turned : (K : Head → Type 0) (L : Head → Type 0) (t : Bool) (a b : Turn) → Turned K L a → Turned K L b → Turned K L (cond t a b)
 either_turned K L true a b h k = h
 either_turned K L false a b h k = k
 
-repeats_turned : (K : Head → Type 0) (L : ℕ → Type 0) (b : Backs) (reply : Message) (o : Option Held) (good : Bool) → IsAnswer K L reply → Each (IsAnswer K L) (replies_of b.held) → Turned K L (repeats_by b reply o good)
+repeats_turned : (K : Head → Type 0) (L : Head → Type 0) (b : Backs) (reply : Message) (o : Option Held) (good : Bool) → IsAnswer K L reply → Each (IsAnswer K L) (replies_of b.held) → Turned K L (repeats_by b reply o good)
 repeats_turned K L b reply (Some w) good r h = either_turned K L (w.again && is_ready b.lists.owed w) _ _ (record { sent = tt; outs = (r, tt); held = h; lines = refl; ungiven = λ sent. refl }) (none_turned K L b h)
 repeats_turned K L b reply None true r h = record { sent = tt; outs = (r, tt); held = h; lines = refl; ungiven = λ sent. refl }
 repeats_turned K L b reply None false r h = record { sent = tt; outs = (r, tt); held = h; lines = refl; ungiven = λ sent. refl }
@@ -307,7 +307,7 @@ quits_ungiven : (me n : Node) (os : List OwedBreak) (sent : List Message) → gi
 quits_ungiven me n [] sent = refl
 quits_ungiven me n (o ∷ os) sent = quits_ungiven me n os sent
 
-for_turned : (K : Head → Type 0) (L : ℕ → Type 0) (me : Node) (x : ServerState) (clock : ℕ) (b : Backs) (d : Decision) → IsDue K L me x d → Each (IsAnswer K L) (replies_of b.held) → Turned K L (turn_for me x clock b d)
+for_turned : (K : Head → Type 0) (L : Head → Type 0) (me : Node) (x : ServerState) (clock : ℕ) (b : Backs) (d : Decision) → IsDue K L me x d → Each (IsAnswer K L) (replies_of b.held) → Turned K L (turn_for me x clock b d)
 for_turned K L me x clock b drops d h = none_turned K L b h
 for_turned K L me x clock b (tells_boot head) d h = record { sent = ((tt, (tt, d)), tt); outs = tt; held = h; lines = refl; ungiven = λ sent. refl }
 for_turned K L me x clock b (repeats reply) d h = repeats_turned K L b reply (held_under (key_answered reply) b.held) (is_seat_of reply (call_seat reply.head.to x.lasting.kept)) d h
@@ -315,52 +315,52 @@ for_turned K L me x clock b (refuses head code) d h = record { sent = tt; outs =
 for_turned K L me x clock b (shows head r) d h = record { sent = tt; outs = ((tt, (d.0, tt)), tt); held = h; lines = refl; ungiven = λ sent. refl }
 for_turned K L me x clock b (saves head c) d h = record { sent = tt; outs = (change_answer K L x.lasting.boot head clock c d.1.0, tt); held = h; lines = owes_plain me (new_owes head.from (made c) b.lists); ungiven = λ sent. owes_ungiven me (new_owes head.from (made c) b.lists) sent }
 
-settled_turned : (K : Head → Type 0) (L : ℕ → Type 0) (me : Node) (boot : ℕ) (head : Head) (b : Backs) (o : Option BackCall) → Each (IsAnswer K L) (replies_of b.held) → Turned K L (settles_by me boot head b o)
+settled_turned : (K : Head → Type 0) (L : Head → Type 0) (me : Node) (boot : ℕ) (head : Head) (b : Backs) (o : Option BackCall) → Each (IsAnswer K L) (replies_of b.held) → Turned K L (settles_by me boot head b o)
 settled_turned K L me boot head b None h = none_turned K L b h
 settled_turned K L me boot head b (Some c) h = either_turned K L (is_back_awaited boot c head) _ _ (record { sent = tt; outs = tt; held = h; lines = settles_plain me head.from (still_owed c b); ungiven = λ sent. settles_ungiven me head.from (still_owed c b) sent }) (none_turned K L b h)
 
-renewed_turned : (K : Head → Type 0) (L : ℕ → Type 0) (i boot : ℕ) (head : Head) (b : Backs) (o : Option BackCall) → Each (IsAnswer K L) (replies_of b.held) → Turned K L (renews_by (Server i) boot head b o)
+renewed_turned : (K : Head → Type 0) (L : Head → Type 0) (i boot : ℕ) (head : Head) (b : Backs) (o : Option BackCall) → Each (IsAnswer K L) (replies_of b.held) → Turned K L (renews_by (Server i) boot head b o)
 renewed_turned K L i boot head b None h = none_turned K L b h
 renewed_turned K L i boot head b (Some c) h = either_turned K L (is_back_awaited boot c head) _ _ (record { sent = ((tt, (tt, tt)), tt); outs = tt; held = h; lines = refl; ungiven = λ sent. refl }) (none_turned K L b h)
 
-carried_turned : (K : Head → Type 0) (L : ℕ → Type 0) (i : ℕ) (x : ServerState) (clock : ℕ) (b : Backs) (d : Decision) (head : Head) (c : Carried) → IsDue K L (Server i) x d → Each (IsAnswer K L) (replies_of b.held) → Turned K L (turned_by (Server i) x clock b d head c)
+carried_turned : (K : Head → Type 0) (L : Head → Type 0) (i : ℕ) (x : ServerState) (clock : ℕ) (b : Backs) (d : Decision) (head : Head) (c : Carried) → IsDue K L (Server i) x d → Each (IsAnswer K L) (replies_of b.held) → Turned K L (turned_by (Server i) x clock b d head c)
 carried_turned K L i x clock b d head (carried.Call user call) due h = for_turned K L (Server i) x clock b d due h
 carried_turned K L i x clock b d head (carried.Refusal code) due h = either_turned K L (same_node head.to (Server i)) _ _ (settled_turned K L (Server i) x.lasting.boot head b (b.calls head.from) h) (none_turned K L b h)
 carried_turned K L i x clock b d head (carried.Reply reply) due h = either_turned K L (same_node head.to (Server i)) _ _ (settled_turned K L (Server i) x.lasting.boot head b (b.calls head.from) h) (none_turned K L b h)
 carried_turned K L i x clock b d head carried.Notice due h = either_turned K L (same_node head.to (Server i)) _ _ (renewed_turned K L i x.lasting.boot head b (b.calls head.from) h) (none_turned K L b h)
 
-timed_turned : (K : Head → Type 0) (L : ℕ → Type 0) (i boot : ℕ) (n : Node) (c : BackCall) (b : Backs) → Each (IsAnswer K L) (replies_of b.held) → Turned K L (timed (Server i) boot n c b)
+timed_turned : (K : Head → Type 0) (L : Head → Type 0) (i boot : ℕ) (n : Node) (c : BackCall) (b : Backs) → Each (IsAnswer K L) (replies_of b.held) → Turned K L (timed (Server i) boot n c b)
 timed_turned K L i boot n c b h = either_turned K L (nat_lt c.tries 2) _ _ (record { sent = ((tt, (tt, tt)), tt); outs = tt; held = h; lines = refl; ungiven = λ sent. refl }) (record { sent = tt; outs = tt; held = h; lines = quits_plain (Server i) n (still_owed c b); ungiven = λ sent. quits_ungiven (Server i) n (still_owed c b) sent })
 
 -- ---- the end of a step
 
-start_sent : (K : Head → Type 0) (L : ℕ → Type 0) (i boot : ℕ) (t : Started) (o : OwedBreak) (c : Option BackCall) → Each (IsAnswer K L) t.sent → Each (IsAnswer K L) (starts_by (Server i) boot t o c).sent
+start_sent : (K : Head → Type 0) (L : Head → Type 0) (i boot : ℕ) (t : Started) (o : OwedBreak) (c : Option BackCall) → Each (IsAnswer K L) t.sent → Each (IsAnswer K L) (starts_by (Server i) boot t o c).sent
 start_sent K L i boot t o None h = each_more (IsAnswer K L) t.sent _ h ((tt, (tt, tt)), tt)
 start_sent K L i boot t o (Some c) h = h
 
-starts_sent : (K : Head → Type 0) (L : ℕ → Type 0) (i boot : ℕ) (os : List OwedBreak) (t : Started) → Each (IsAnswer K L) t.sent → Each (IsAnswer K L) (starts (Server i) boot os t).sent
+starts_sent : (K : Head → Type 0) (L : Head → Type 0) (i boot : ℕ) (os : List OwedBreak) (t : Started) → Each (IsAnswer K L) t.sent → Each (IsAnswer K L) (starts (Server i) boot os t).sent
 starts_sent K L i boot [] t h = h
 starts_sent K L i boot (o ∷ os) t h = starts_sent K L i boot os _ (start_sent K L i boot t o (t.backs.calls o.client) h)
 
-start_held : (K : Head → Type 0) (L : ℕ → Type 0) (i boot : ℕ) (t : Started) (o : OwedBreak) (c : Option BackCall) → Each (IsAnswer K L) (replies_of t.backs.held) → Each (IsAnswer K L) (replies_of (starts_by (Server i) boot t o c).backs.held)
+start_held : (K : Head → Type 0) (L : Head → Type 0) (i boot : ℕ) (t : Started) (o : OwedBreak) (c : Option BackCall) → Each (IsAnswer K L) (replies_of t.backs.held) → Each (IsAnswer K L) (replies_of (starts_by (Server i) boot t o c).backs.held)
 start_held K L i boot t o None h = h
 start_held K L i boot t o (Some c) h = h
 
-starts_keep : (K : Head → Type 0) (L : ℕ → Type 0) (i boot : ℕ) (os : List OwedBreak) (t : Started) → Each (IsAnswer K L) (replies_of t.backs.held) → Each (IsAnswer K L) (replies_of (starts (Server i) boot os t).backs.held)
+starts_keep : (K : Head → Type 0) (L : Head → Type 0) (i boot : ℕ) (os : List OwedBreak) (t : Started) → Each (IsAnswer K L) (replies_of t.backs.held) → Each (IsAnswer K L) (replies_of (starts (Server i) boot os t).backs.held)
 starts_keep K L i boot [] t h = h
 starts_keep K L i boot (o ∷ os) t h = starts_keep K L i boot os _ (start_held K L i boot t o (t.backs.calls o.client) h)
 
-pumped_sent : (K : Head → Type 0) (L : ℕ → Type 0) (i boot : ℕ) (t : Turn) → Turned K L t → Each (IsAnswer K L) (pumped (Server i) boot t).sent
+pumped_sent : (K : Head → Type 0) (L : Head → Type 0) (i boot : ℕ) (t : Turn) → Turned K L t → Each (IsAnswer K L) (pumped (Server i) boot t).sent
 pumped_sent K L i boot t h =
     starts_sent K L i boot t.backs.lists.owed _ (each_more (IsAnswer K L) t.sent _ h.sent (each_filter (IsAnswer K L) (is_ready t.backs.lists.owed) (t.outs ++ t.backs.held) (each_both (IsAnswer K L) t.outs t.backs.held h.outs h.held)))
 
-pumped_held : (K : Head → Type 0) (L : ℕ → Type 0) (i boot : ℕ) (t : Turn) → Turned K L t → Each (IsAnswer K L) (replies_of (pumped (Server i) boot t).backs.held)
+pumped_held : (K : Head → Type 0) (L : Head → Type 0) (i boot : ℕ) (t : Turn) → Turned K L t → Each (IsAnswer K L) (replies_of (pumped (Server i) boot t).backs.held)
 pumped_held K L i boot t h =
     starts_keep K L i boot t.backs.lists.owed _ (each_filter (IsAnswer K L) (λ w. not (is_ready t.backs.lists.owed w)) (t.backs.held ++ t.outs) (each_both (IsAnswer K L) t.backs.held t.outs h.held h.outs))
 
 -- ---- its steps
 
-pub record HostStep (K : Head → Type 0) (L : ℕ → Type 0) (D : Option ℕ) (me : Node) (x : ServerState) (s : Step ServerState) : Type 0 where
+pub record HostStep (K : Head → Type 0) (L : Head → Type 0) (D : Option ℕ) (me : Node) (x : ServerState) (s : Step ServerState) : Type 0 where
   pub hosts : Hosts K L me (memory_of x) (memory_of s.state) s.lines
   pub sent : Each (IsAnswer K L) s.sent
   pub held : Each (IsAnswer K L) (replies_of s.state.backs.held)
@@ -374,7 +374,7 @@ does_given me x clock place (refuses head code) ls sent = refl
 does_given me x clock place (shows head r) ls sent = refl
 does_given me x clock place (saves head c) ls sent = refl
 
-pub serves_step : (K : Head → Type 0) (L : ℕ → Type 0) (i : ℕ) (x : ServerState) (clock place : ℕ) (m : Message) → IsSound K L (memory_of x) → Each (IsAnswer K L) (replies_of x.backs.held) → IsDue K L (Server i) x (decides (Server i) x clock (Whole m))
+pub serves_step : (K : Head → Type 0) (L : Head → Type 0) (i : ℕ) (x : ServerState) (clock place : ℕ) (m : Message) → IsSound K L (memory_of x) → Each (IsAnswer K L) (replies_of x.backs.held) → IsDue K L (Server i) x (decides (Server i) x clock (Whole m))
     → HostStep K L (Some place) (Server i) x (server_row (Server i) x clock place (Whole m))
 unfolding server_row
 serves_step K L i x clock place m s h d =
@@ -387,14 +387,14 @@ serves_step K L i x clock place m s h d =
       given = does_given (Server i) x clock place (decides (Server i) x clock (Whole m)) t.lines;
     }
 
-pub times_step : (K : Head → Type 0) (L : ℕ → Type 0) (i : ℕ) (x : ServerState) (clock : ℕ) (n : Node) (c : BackCall) → IsSound K L (memory_of x) → Each (IsAnswer K L) (replies_of x.backs.held) → HostStep K L None (Server i) x (back_timeout_row (Server i) x clock n c)
+pub times_step : (K : Head → Type 0) (L : Head → Type 0) (i : ℕ) (x : ServerState) (clock : ℕ) (n : Node) (c : BackCall) → IsSound K L (memory_of x) → Each (IsAnswer K L) (replies_of x.backs.held) → HostStep K L None (Server i) x (back_timeout_row (Server i) x clock n c)
 unfolding back_timeout_row
 times_step K L i x clock n c s h =
     let t : Turn = timed (Server i) x.lasting.boot n c (expired clock x.backs) in
     let q : Turned K L t = timed_turned K L i x.lasting.boot n c (expired clock x.backs) h in
     record { hosts = still_hosts K L (Server i) (memory_of x) t.lines s q.lines; sent = pumped_sent K L i x.lasting.boot t q; held = pumped_held K L i x.lasting.boot t q; given = q.ungiven }
 
-pub wakes_step : (K : Head → Type 0) (L : ℕ → Type 0) (i : ℕ) (x : ServerState) (clock : ℕ) → IsSound K L (memory_of x) → Each (IsAnswer K L) (replies_of x.backs.held) → HostStep K L None (Server i) x (wake_row (Server i) x clock)
+pub wakes_step : (K : Head → Type 0) (L : Head → Type 0) (i : ℕ) (x : ServerState) (clock : ℕ) → IsSound K L (memory_of x) → Each (IsAnswer K L) (replies_of x.backs.held) → HostStep K L None (Server i) x (wake_row (Server i) x clock)
 unfolding wake_row
 wakes_step K L i x clock s h =
     let q : Turned K L (no_turn (expired clock x.backs)) = none_turned K L (expired clock x.backs) h in
@@ -403,7 +403,7 @@ wakes_step K L i x clock s h =
 -- ---- a restart
 
 -- what it begins with, before further lines
-pub record Begins (K : Head → Type 0) (L : ℕ → Type 0) (me : Node) (x : ServerState) (f : Begun) : Type 0 where
+pub record Begins (K : Head → Type 0) (L : Head → Type 0) (me : Node) (x : ServerState) (f : Begun) : Type 0 where
   pub hosts : (ls : List Line) → all_lines is_unchanging ls ≡ true → Hosts K L me (memory_of x) (memory_of f.state) (f.before ls)
   pub held : Each (IsAnswer K L) (replies_of f.state.backs.held)
   pub ungiven : (ls : List Line) (sent : List Message) → given_message ls sent ≡ None → given_message (f.before ls) sent ≡ None
@@ -412,10 +412,10 @@ versioned_ungiven : (vs : List Version) (ls : List Line) (sent : List Message) �
 versioned_ungiven [] ls sent h = h
 versioned_ungiven (v ∷ vs) ls sent h = versioned_ungiven vs ls sent h
 
-before_begins : (K : Head → Type 0) (L : ℕ → Type 0) (me : Node) (x : ServerState) → IsSound K L (memory_of x) → Each (IsAnswer K L) (replies_of x.backs.held) → Begins K L me x (begun_before x)
+before_begins : (K : Head → Type 0) (L : Head → Type 0) (me : Node) (x : ServerState) → IsSound K L (memory_of x) → Each (IsAnswer K L) (replies_of x.backs.held) → Begins K L me x (begun_before x)
 before_begins K L me x s h = record { hosts = λ ls p. still_hosts K L me (memory_of x) ls s p; held = h; ungiven = λ ls sent e. e }
 
-after_begins : (K : Head → Type 0) (L : ℕ → Type 0) (me : Node) (x : ServerState) (clock : ℕ) (d : Decision) → IsSound K L (memory_of x) → Each (IsAnswer K L) (replies_of x.backs.held) → IsDue K L me x d → Begins K L me x (begun_after me x clock d)
+after_begins : (K : Head → Type 0) (L : Head → Type 0) (me : Node) (x : ServerState) (clock : ℕ) (d : Decision) → IsSound K L (memory_of x) → Each (IsAnswer K L) (replies_of x.backs.held) → IsDue K L me x d → Begins K L me x (begun_after me x clock d)
 after_begins K L me x clock (saves head c) s h d = record {
   hosts = λ ls p. let r : Message = change_reply_to x.lasting.boot head clock c in
       placed_hosts K L me (memory_of x) (seat_for head r) _ s (λ m e. one_reply K L head r m (change_answer K L x.lasting.boot head clock c d.1.0) e) d.1.1 d.0 (r, (refl, refl)) (refl, (refl, versioned_plain (made c) ls p));
@@ -425,13 +425,13 @@ after_begins K L me x clock (saves head c) s h d = record {
 after_begins K L me x clock d s h due = before_begins K L me x s h
 
 -- what is in memory is that on the disk
-revived_sound : (K : Head → Type 0) (L : ℕ → Type 0) (x : Memory) → IsSound K L x → IsSound K L (record { seats = x.kept; kept = x.kept })
+revived_sound : (K : Head → Type 0) (L : Head → Type 0) (x : Memory) → IsSound K L x → IsSound K L (record { seats = x.kept; kept = x.kept })
 revived_sound K L x s = record { seats = s.kept; kept = s.kept; lower = λ n e k a. a }
 
-revived_hosts : (K : Head → Type 0) (L : ℕ → Type 0) (me : Node) (x y : Memory) (ls : List Line) → Hosts K L me x y ls → Hosts K L me x (record { seats = y.kept; kept = y.kept }) ls
+revived_hosts : (K : Head → Type 0) (L : Head → Type 0) (me : Node) (x y : Memory) (ls : List Line) → Hosts K L me x y ls → Hosts K L me x (record { seats = y.kept; kept = y.kept }) ls
 revived_hosts K L me x y ls h = record { changed = h.changed; one = h.one; known = h.known; new = h.new; ran = h.ran; grows = h.grows; stored = h.stored; sound = revived_sound K L y h.sound }
 
-revives_begins : (K : Head → Type 0) (L : ℕ → Type 0) (me : Node) (x : ServerState) → IsSound K L (memory_of x) → Each (IsAnswer K L) (replies_of x.backs.held) → Begins K L me x (begun_before (revived x))
+revives_begins : (K : Head → Type 0) (L : Head → Type 0) (me : Node) (x : ServerState) → IsSound K L (memory_of x) → Each (IsAnswer K L) (replies_of x.backs.held) → Begins K L me x (begun_before (revived x))
 revives_begins K L me x s h = record { hosts = λ ls p. revived_hosts K L me (memory_of x) (memory_of x) ls (still_hosts K L me (memory_of x) ls s p); held = h; ungiven = λ ls sent e. e }
 
 -- the message of an interrupted step
@@ -439,14 +439,14 @@ abbrev pub IsCutBy : (Head → Type 0) → ℕ → List Seat → Fall → Type 0
 IsCutBy K boot seats (in_step m clock) = IsCallOf K boot seats m.head m.carried
 IsCutBy K boot seats fall = ⊤
 
-pub disk_begins : (K : Head → Type 0) (L : ℕ → Type 0) (me : Node) (x : ServerState) (after : Bool) (fall : Fall) → IsSound K L (memory_of x) → Each (IsAnswer K L) (replies_of x.backs.held) → IsCutBy K x.lasting.boot x.seats fall → L x.lasting.boot → Begins K L me x (begun_by_disk me x after fall)
+pub disk_begins : (K : Head → Type 0) (L : Head → Type 0) (me : Node) (x : ServerState) (after : Bool) (fall : Fall) → IsSound K L (memory_of x) → Each (IsAnswer K L) (replies_of x.backs.held) → IsCutBy K x.lasting.boot x.seats fall → ((h : Head) → h.to ≡ me → L (boot_told x.lasting.boot h).head) → Begins K L me x (begun_by_disk me x after fall)
 disk_begins K L me x after at_rest s h c told = before_begins K L me x s h
 disk_begins K L me x false (in_step m clock) s h c told = before_begins K L me x s h
-disk_begins K L me x true (in_step m clock) s h c told = after_begins K L me x clock (decides me x clock (Whole m)) s h (decides_due K L me x clock m s.seats c told)
+disk_begins K L me x true (in_step m clock) s h c told = after_begins K L me x clock (decides me x clock (Whole m)) s h (decides_due K L me x clock m s.seats c (told m.head))
 disk_begins K L me x false in_boot s h c told = before_begins K L me x s h
 disk_begins K L me x true in_boot s h c told = revives_begins K L me x s h
 
-pub starts_step : (K : Head → Type 0) (L : ℕ → Type 0) (i : ℕ) (x : ServerState) (clock count : ℕ) (f : Begun) → Begins K L (Server i) x f → HostStep K L None (Server i) x (start_row (Server i) clock count f)
+pub starts_step : (K : Head → Type 0) (L : Head → Type 0) (i : ℕ) (x : ServerState) (clock count : ℕ) (f : Begun) → Begins K L (Server i) x f → HostStep K L None (Server i) x (start_row (Server i) clock count f)
 unfolding start_row
 starts_step K L i x clock count f b =
     let t : Turn = risen_turn (Server i) clock count in

@@ -153,9 +153,9 @@ any_notice (carried.Refusal code) = tt
 any_notice (carried.Reply reply) = tt
 any_notice carried.Notice = tt
 
--- any boot number may be told
-abbrev any_told : ℕ → Type 0
-any_told b = ⊤
+-- a notice may have any header
+abbrev any_told : Head → Type 0
+any_told h = ⊤
 
 -- any may have been told
 abbrev any_boot : Node → ℕ → Type 0
@@ -237,7 +237,7 @@ moves_keeps c o i D armed s S h =
     (each_more _ c.sent s.sent S.calls (each_map (IsAnswer (by_key (IsKnown S.callees c.clients)) any_told) _ (λ m a. uncalled_any (λ x user call. IsKnown S.callees c.clients x.to (key_of x)) m a.0) s.sent h.sent))
     (each_more _ c.sent s.sent S.answers (each_map (IsAnswer (by_key (IsKnown S.callees c.clients)) any_told) _ (λ m a. a.1.0) s.sent h.sent))
 
-same_hosts : (K : Head → Type 0) (L : ℕ → Type 0) (me : Node) (x : Memory) (ls : List Line) → IsSound K L x → HasOne me None ls → Hosts K L me x x ls
+same_hosts : (K : Head → Type 0) (L : Head → Type 0) (me : Node) (x : Memory) (ls : List Line) → IsSound K L x → HasOne me None ls → Hosts K L me x x ls
 same_hosts K L me x ls s h = record { changed = None; one = h; known = λ k e. absurd cc; new = λ k e. absurd cc; ran = λ k e a. absurd cc; grows = λ n e k a. a; stored = λ n seat e. inl e; sound = s }
 
 -- one that leaves what it keeps
@@ -261,7 +261,7 @@ blow_none i false = refl
 
 served_keeps : (c : Cell) (o : List Line) (i place : ℕ) (m : Message) (b : Option Blow) → (S : StandsIn c o) → IfCall (λ h user call. IsKnown S.callees c.clients h.to (key_of h)) m → Keeps o (server_served c i place m b)
 served_keeps c o i place m None S h =
-    moves_keeps c o i _ _ _ S (serves_step (by_key (IsKnown S.callees c.clients)) any_told i (c.hosts i).state c.clock place m (S.sound i) (S.held i) (decides_due (by_key (IsKnown S.callees c.clients)) any_told (Server i) (c.hosts i).state c.clock m (S.sound i).seats (any_call (by_key (IsKnown S.callees c.clients)) (c.hosts i).state.lasting.boot (c.hosts i).state.seats m.head m.carried h) tt))
+    moves_keeps c o i _ _ _ S (serves_step (by_key (IsKnown S.callees c.clients)) any_told i (c.hosts i).state c.clock place m (S.sound i) (S.held i) (decides_due (by_key (IsKnown S.callees c.clients)) any_told (Server i) (c.hosts i).state c.clock m (S.sound i).seats (any_call (by_key (IsKnown S.callees c.clients)) (c.hosts i).state.lasting.boot (c.hosts i).state.seats m.head m.carried h) (λ to. tt)))
 served_keeps c o i place m (Some b) S h = falls_keeps c o i (Some (in_step m c.clock)) unarmed (lines.Given place ∷ blow_line i b.stops ∷ []) S (blow_none i b.stops) h
 
 received_keeps : (c : Cell) (o : List Line) (i place : ℕ) (luck : Luck) (m : Message) (d : Option Fall) → (S : StandsIn c o) → IfCall (λ h user call. IsKnown S.callees c.clients h.to (key_of h)) m → Keeps o (server_given c i place luck m d)
@@ -284,7 +284,7 @@ restarted_keeps : (c : Cell) (o : List Line) (i : ℕ) (after : Bool) (out : Out
 restarted_keeps c o i after out None S cut = nothing_keeps c o S
 restarted_keeps c o i after out (Some fall) S cut =
     let f : Begun = begun_by_disk (Server i) (c.hosts i).state after fall in
-    ends_keeps c o i f fall (settled f.state out) S cut (disk_begins (by_key (IsKnown S.callees c.clients)) any_told (Server i) (c.hosts i).state after fall (S.sound i) (S.held i) (cut_by (IsKnown S.callees c.clients) (c.hosts i).state fall cut) tt)
+    ends_keeps c o i f fall (settled f.state out) S cut (disk_begins (by_key (IsKnown S.callees c.clients)) any_told (Server i) (c.hosts i).state after fall (S.sound i) (S.held i) (cut_by (IsKnown S.callees c.clients) (c.hosts i).state fall cut) (λ h to. tt))
 
 stop_keeps : (c : Cell) (o : List Line) (i calls pick : ℕ) (armed : Armed) (d : Option Fall) → (c.hosts i).down ≡ d → StandsIn c o → Keeps o (server_armed c i (lines.Stop (Server i) calls pick) armed d)
 stop_keeps c o i calls pick armed None e S = falls_keeps c o i (c.hosts i).down armed (lines.Stop (Server i) calls pick ∷ []) S refl (S.falls i)
@@ -367,7 +367,7 @@ run_later : (callees more : Key → Node) (clients then : ℕ → ClientState) (
 run_later callees more clients then hosts w q k r = record { server = r.server; is = r.is; known = w q k r.known; ran = r.ran }
 
 replies_over : (K L : Head → Type 0) → ((h : Head) → K h → L h) → (seats : List Seat) → AreReplies K any_told seats → AreReplies L any_told seats
-replies_over K L w seats h n seat m e r = answer_over K L any_told w m (h n seat m e r)
+replies_over K L w seats h n seat m e r = answer_over K L any_told any_told w (λ g x. x) m (h n seat m e r)
 
 sound_over : (K L : Head → Type 0) → ((h : Head) → K h → L h) → (x : Memory) → IsSound K any_told x → IsSound L any_told x
 sound_over K L w x h = record { seats = replies_over K L w x.seats h.seats; kept = replies_over K L w x.kept h.kept; lower = h.lower }
@@ -394,7 +394,7 @@ client_keeps c o n D s S t =
       answers = each_more _ c.sent s.sent (each_map _ _ (told_over K L w) c.sent S.answers) (each_map _ _ (told_over K L w) s.sent t.answers);
       replies = λ j. at_put n j (λ (x : ClientState). AreReplies (by_key L) any_told x.seats) s.state c.clients (λ same. replies_over (by_key K) (by_key L) wh s.state.seats t.kept) (λ other. replies_over (by_key K) (by_key L) wh (c.clients j).seats (S.replies j));
       sound = λ i. sound_over (by_key K) (by_key L) wh (memory_of (c.hosts i).state) (S.sound i);
-      held = λ i. each_map (IsAnswer (by_key K) any_told) (IsAnswer (by_key L) any_told) (answer_over (by_key K) (by_key L) any_told wh) (replies_of (c.hosts i).state.backs.held) (S.held i);
+      held = λ i. each_map (IsAnswer (by_key K) any_told) (IsAnswer (by_key L) any_told) (answer_over (by_key K) (by_key L) any_told any_told wh (λ h x. x)) (replies_of (c.hosts i).state.backs.held) (S.held i);
       falls = λ i. cut_over (IsKnown S.callees c.clients) (IsKnown more then) w (c.hosts i).down (S.falls i);
       ran = plain_each (HasRun more then c.hosts) s.lines o t.lines (each_change _ _ (run_later S.callees more c.clients then c.hosts w) o S.ran);
       once = plain_once s.lines o t.lines S.once;
@@ -405,7 +405,7 @@ client_keeps c o n D s S t =
 
 to_keeps : (c : Cell) (o : List Line) (p : ℕ) (luck : Luck) (m : Message) (to : Node) → (S : StandsIn c o) → IfCall (λ h user call. IsKnown S.callees c.clients h.to (key_of h)) m → Keeps o (given_to c p luck m to)
 to_keeps c o p luck m (Server i) S h = either_keeps o (has_host c i) _ _ (received_keeps c o i p luck m (c.hosts i).down S h) (nothing_keeps c o S)
-to_keeps c o p luck m (Client n) S h = either_keeps o (c.away n) _ _ (nothing_keeps c o S) (client_keeps c o n _ _ S (given_tame (by_key (IsKnown S.callees c.clients)) any_told any_boot n (c.clients n) c.clock p m (S.replies n) (any_call (by_key (IsKnown S.callees c.clients)) (c.clients n).epoch (c.clients n).seats m.head m.carried h) (any_notice m.carried)))
+to_keeps c o p luck m (Client n) S h = either_keeps o (c.away n) _ _ (nothing_keeps c o S) (client_keeps c o n _ _ S (given_tame (by_key (IsKnown S.callees c.clients)) any_told any_boot n (c.clients n) c.clock p m (S.replies n) (any_call (by_key (IsKnown S.callees c.clients)) (c.clients n).epoch (c.clients n).seats m.head m.carried h) tt (any_notice m.carried)))
 to_keeps c o p luck m Loc S h = nothing_keeps c o S
 to_keeps c o p luck m (Admin n) S h = nothing_keeps c o S
 
