@@ -366,7 +366,7 @@ pub record HostStep (K : Head → Type 0) (L : Head → Type 0) (D : Option ℕ)
   pub held : Each (IsAnswer K L) (replies_of s.state.backs.held)
   pub given : (sent : List Message) → given_message s.lines sent ≡ placed D sent
 
-does_given : (me : Node) (x : ServerState) (clock place : ℕ) (d : Decision) (ls : List Line) (sent : List Message) → given_message (does me x clock place d ls).lines sent ≡ message_at sent place
+pub does_given : (me : Node) (x : ServerState) (clock place : ℕ) (d : Decision) (ls : List Line) (sent : List Message) → given_message (does me x clock place d ls).lines sent ≡ message_at sent place
 does_given me x clock place drops ls sent = refl
 does_given me x clock place (tells_boot head) ls sent = refl
 does_given me x clock place (repeats reply) ls sent = refl

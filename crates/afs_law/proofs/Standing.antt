@@ -50,13 +50,6 @@ admitted_by false boot seats head t e = absurd cc
 pub runs_admitted : (boot : ℕ) (seats : List Seat) (head : Head) → admitted boot seats head ≡ pairs.runs → (head.boot ≡ boot) × Above (call_seat head.from seats) head.epoch head.number
 runs_admitted boot seats head e = admitted_by (nat_eq head.boot boot) boot seats head refl e
 
-unheard_at : (c : Cell) (head : Head) (past : List Entry) (s : Script) → c.down ≡ None → Holds s c past → (head.boot ≡ c.server.lasting.boot) × Above (call_seat head.from c.server.seats) head.epoch head.number → IsUnheard the_server (called_key head) head.boot past
-unheard_at c head past s up h a = h.unheard (called_key head) head.boot (subst (λ (d : Option Fall). MayRun d c.server.lasting.boot (call_seat head.from c.server.seats) (called_key head) head.boot) (sym up) (inr a))
-
-pub run_unheard : (s : Script) (h : List Entry) (end : cells.Cell) → IsOneServer s → cells.RunsTo h s end → (end.hosts 1).down ≡ None → (head : Head) → admitted (end.hosts 1).state.lasting.boot (end.hosts 1).state.seats head ≡ pairs.runs
-    → IsUnheard (Server 1) (called_key head) head.boot (past_of (set_up s ∷ []) h)
-run_unheard s h end is r up head e = unheard_at (seen_in end) head (past_of (set_up s ∷ []) h) s up (holds_at s h end is r) (runs_admitted (end.hosts 1).state.lasting.boot (end.hosts 1).state.seats head e)
-
 -- ---- a reply that counts has its cause
 
 reply_in : (c : Carried) (to : Node) (X : Type 0) (j : ℕ) → HasCode c → to ≡ Client j → OfReply (OfClient to X) c → X

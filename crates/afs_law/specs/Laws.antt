@@ -131,11 +131,11 @@ StartsAreFolded = (l : Lasting) → folded (boot_record (l.boot + 1)) (durable_o
 
 -- ---- what holds between any two entries of a run
 
--- a call that its server would run now was never given to it in this boot: a key runs at most once in each
+-- a call of a client that a server would run now was never given to it in this boot: a key runs at most once in each
 abbrev pub CallsRunOnce : Type 0
 CallsRunOnce =
-    (s : Script) (history : List Entry) (end : Cell) → IsOneServer s → RunsTo history s end → (end.hosts 1).down ≡ None
-    → (head : Head) → admitted (end.hosts 1).state.lasting.boot (end.hosts 1).state.seats head ≡ pairs.runs → IsUnheard (Server 1) (called_key head) head.boot (past_of (set_up s ∷ []) history)
+    (s : Script) (history : List Entry) (end : Cell) → RunsTo history s end → (i j : ℕ) → (end.hosts i).down ≡ None → (head : Head) → head.from ≡ Client j → admitted (end.hosts i).state.lasting.boot (end.hosts i).state.seats head ≡ pairs.runs
+    → IsUnheard (Server i) (called_key head) head.boot (past_of (set_up s ∷ []) history)
 
 -- the reply to the call that a client waits for is that of the entry which ran the call in the boot that the reply carries, and
 -- tells what the ideal cell made of it there
