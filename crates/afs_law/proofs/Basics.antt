@@ -431,7 +431,7 @@ if_reply P Q w m h = of_reply (OfClient m.head.to (P m)) (OfClient m.head.to (Q 
 pub if_done : (P Q : Message → Type 0) → ((m : Message) → P m → Q m) → (m : Message) → IfDone P m → IfDone Q m
 if_done P Q w m h = of_reply (OfServer m.head.to (P m)) (OfServer m.head.to (Q m)) (of_server m.head.to (P m) (Q m) (w m)) m.carried h
 
-of_notice : (P Q : Type 0) → (P → Q) → (c : Carried) → OfNotice P c → OfNotice Q c
+pub of_notice : (P Q : Type 0) → (P → Q) → (c : Carried) → OfNotice P c → OfNotice Q c
 of_notice P Q w (carried.Call user call) h = tt
 of_notice P Q w (carried.Refusal code) h = tt
 of_notice P Q w (carried.Reply reply) h = tt

@@ -2,13 +2,13 @@
 use Rattle.afs_rows.specs.Runs.{message_at}
 use Rattle.afs_history.specs.declared.acts.Act.{Act}
 use Rattle.afs_law.proofs.Backing.{all_lines, is_unchanging}
-use Rattle.afs_law.proofs.Basics.{Below, Each, ByClient, IfCall, IfReply, OfCall, OfClient, if_reply, LastSeat, if_call, at_seat, kept_last, some_of, OfNotice, of_client, both, same_node-true}
+use Rattle.afs_law.proofs.Basics.{Below, Each, ByClient, IfCall, IfReply, OfCall, OfClient, if_reply, LastSeat, if_call, at_seat, kept_last, some_of, OfNotice, of_client, both, same_node-true, of_notice}
 use Rattle.afs_rows.specs.ClientRow.{Look, Walked, admits_call, awaits, begin_row, body_told, breaks, call_of, calls_again, calls_step, client_row, counts, dead_code, drop_line, dropped, dropped_after, ends_step, entries_told, entry_told, given, given_up_in, gives_by, goes_by, hears, ignores, is_awaited, is_busy_code, is_older, is_spent, is_trusted, look_at, looked, most_busy, most_reads, put_entries, put_entry, read_lines, reborn, refuses, replies_step, runs_carried, status_look, status_told, takes, takes_bulk, takes_bytes, takes_data, takes_entries, takes_entry, takes_list, takes_plain, takes_rights, takes_set, takes_shown, takes_status, takes_stored, timeout_line, timeout_row, told_step, walked, walks_on, whole, with_statuses, takes_given, behind_batch, begins_by, gift_of, in_order, trusted_in, untrusted_in, boot_of, with_boot, boot_or_first}
 use Rattle.afs_rows.specs.Going.{ClientState, Going, Need, answers, began, next, with_read, gives_back}
 use Rattle.afs_ideal.specs.Operations.{volume_changed}
 use Rattle.afs_law.specs.Past.{answered_key, given_message}
 use Rattle.afs_num.specs.declared.types.Key.{Key}
-use Rattle.afs_rows.specs.ServerRow.{key_of, replied, seat_for, reply_head}
+use Rattle.afs_rows.specs.ServerRow.{key_of, replied, seat_for, reply_head, boot_told}
 use Rattle.afs_rows.specs.States.{CacheEntry, Gift, Seat, KnownBoot}
 use Rattle.afs_rows.specs.Steps.{Step}
 use Rattle.afs_model.specs.Calls as pairs
@@ -47,9 +47,9 @@ use Rattle.afs_history.specs.declared.lines.Line.TheVariants as lines
 abbrev pub IsUncalled : Message → Type 0
 IsUncalled m = IfCall (λ head user call. ⊥) m
 
--- it is no call of a client, and a reply to one has such a header
-abbrev pub IsAnswer : (Head → Type 0) → Message → Type 0
-IsAnswer K m = IsUncalled m × IfReply (λ r. K r.head) m
+-- it is no call of a client, a reply to one has such a header, and a notice has such a one
+abbrev pub IsAnswer : (Head → Type 0) → (Head → Type 0) → Message → Type 0
+IsAnswer K L m = IsUncalled m × (IfReply (λ r. K r.head) m × OfNotice (L m.head) m.carried)
 
 -- what is known of a call where it runs: the header of its reply
 abbrev pub IsCallOf : (Head → Type 0) → ℕ → List Seat → Head → Carried → Type 0
@@ -73,23 +73,23 @@ any_call K boot seats head (carried.Reply reply) w = tt
 any_call K boot seats head carried.Notice w = tt
 
 -- the replies that are kept are answers
-abbrev pub AreReplies : (Head → Type 0) → List Seat → Type 0
-AreReplies K seats = (n : Node) (seat : Seat) (m : Message) → call_seat n seats ≡ Some seat → seat.reply ≡ Some m → IsAnswer K m
+abbrev pub AreReplies : (Head → Type 0) → (Head → Type 0) → List Seat → Type 0
+AreReplies K L seats = (n : Node) (seat : Seat) (m : Message) → call_seat n seats ≡ Some seat → seat.reply ≡ Some m → IsAnswer K L m
 
-pub answer_over : (K L : Head → Type 0) → ((h : Head) → K h → L h) → (m : Message) → IsAnswer K m → IsAnswer L m
-answer_over K L w m h = (h.0, if_reply (λ r. K r.head) (λ r. L r.head) (λ r. w r.head) m h.1)
+pub answer_over : (K M L O : Head → Type 0) → ((h : Head) → K h → M h) → ((h : Head) → L h → O h) → (m : Message) → IsAnswer K L m → IsAnswer M O m
+answer_over K M L O w u m h = (h.0, (if_reply (λ r. K r.head) (λ r. M r.head) (λ r. w r.head) m h.1.0, of_notice (L m.head) (O m.head) (u m.head) m.carried h.1.1))
 
-pub one_more_reply : (K : Head → Type 0) (x : Seat) (seats : List Seat) → ((m : Message) → x.reply ≡ Some m → IsAnswer K m) → AreReplies K seats → AreReplies K (call_seated x seats)
-one_more_reply K x seats new old n = at_seat x n seats (λ (o : Option Seat). (seat : Seat) (m : Message) → o ≡ Some seat → seat.reply ≡ Some m → IsAnswer K m)
+pub one_more_reply : (K : Head → Type 0) (L : Head → Type 0) (x : Seat) (seats : List Seat) → ((m : Message) → x.reply ≡ Some m → IsAnswer K L m) → AreReplies K L seats → AreReplies K L (call_seated x seats)
+one_more_reply K L x seats new old n = at_seat x n seats (λ (o : Option Seat). (seat : Seat) (m : Message) → o ≡ Some seat → seat.reply ≡ Some m → IsAnswer K L m)
     (λ own seat m e r. new m (subst (λ (y : Seat). y.reply ≡ Some m) (sym (some_of x seat e)) r)) (λ other seat m e r. old n seat m e r)
 
 -- a kept reply is one of them
-kept_by : (K : Head → Type 0) (t : Bool) (boot : ℕ) (seats : List Seat) (head : Head) (m : Message) → AreReplies K seats → cond t (paired head.epoch head.number (call_seat head.from seats)) (pairs.wrong_boot boot) ≡ pairs.kept m → IsAnswer K m
-kept_by K true boot seats head m h e = let l : LastSeat head.epoch head.number (call_seat head.from seats) m = kept_last head.epoch head.number (call_seat head.from seats) m e in h head.from l.seat m l.at l.reply
-kept_by K false boot seats head m h e = absurd cc
+kept_by : (K : Head → Type 0) (L : Head → Type 0) (t : Bool) (boot : ℕ) (seats : List Seat) (head : Head) (m : Message) → AreReplies K L seats → cond t (paired head.epoch head.number (call_seat head.from seats)) (pairs.wrong_boot boot) ≡ pairs.kept m → IsAnswer K L m
+kept_by K L true boot seats head m h e = let l : LastSeat head.epoch head.number (call_seat head.from seats) m = kept_last head.epoch head.number (call_seat head.from seats) m e in h head.from l.seat m l.at l.reply
+kept_by K L false boot seats head m h e = absurd cc
 
-pub kept_answer : (K : Head → Type 0) (boot : ℕ) (seats : List Seat) (head : Head) (m : Message) → AreReplies K seats → admitted boot seats head ≡ pairs.kept m → IsAnswer K m
-kept_answer K boot seats head m h e = kept_by K (nat_eq head.boot boot) boot seats head m h e
+pub kept_answer : (K : Head → Type 0) (L : Head → Type 0) (boot : ℕ) (seats : List Seat) (head : Head) (m : Message) → AreReplies K L seats → admitted boot seats head ≡ pairs.kept m → IsAnswer K L m
+kept_answer K L boot seats head m h e = kept_by K L (nat_eq head.boot boot) boot seats head m h e
 
 -- what is no call has any property of calls
 pub uncalled_any : (P : Head → List ℕ → FsCall → Type 0) (m : Message) → IsUncalled m → IfCall P m
@@ -134,11 +134,12 @@ AreOf D ls = (all_lines is_unchanging ls ≡ true) × ((sent : List Message) →
 abbrev pub IsFront : Option ℕ → (List Line → List Line) → Type 0
 IsFront D front = (ls : List Line) → AreOf None ls → AreOf D (front ls)
 
-pub record Tame (K : Head → Type 0) (N : Node → ℕ → Type 0) (D : Option ℕ) (j : ℕ) (x : Caller) (s : Step ClientState) : Type 0 where
+pub record Tame (K : Head → Type 0) (L : Head → Type 0) (N : Node → ℕ → Type 0) (D : Option ℕ) (j : ℕ) (x : Caller) (s : Step ClientState) : Type 0 where
   pub goes : GoesOn x (caller_at s.state)
   pub sent : Each (IfCall (λ head user call. IsLastOf j (caller_at s.state) head)) s.sent
   pub answers : Each (IfReply (λ r. K r.head)) s.sent
-  pub kept : AreReplies K s.state.seats
+  pub notices : Each (λ m. OfNotice (L m.head) m.carried) s.sent
+  pub kept : AreReplies K L s.state.seats
   pub lines : all_lines is_unchanging s.lines ≡ true
   pub given : (sent : List Message) → given_message s.lines sent ≡ placed D sent
   -- the boot numbers that it knows are some that were told
@@ -158,124 +159,125 @@ drops_plain n (f ∷ fs) = drops_plain n fs
 
 -- ---- its ends
 
-told_tame : (K : Head → Type 0) (N : Node → ℕ → Type 0) (j : ℕ) (c : ClientState) (place : ℕ) (ms : List Message) → AreReplies K c.seats → Each (IfCall (λ head user call. IsLastOf j (caller_at c) head)) ms → Each (IfReply (λ r. K r.head)) ms → Tame K N (Some place) j (caller_at c) (told_step c place ms)
-told_tame K N j c place ms k h a = record { goes = inl (refl, (refl, refl)); sent = h; answers = a; kept = k; lines = refl; given = λ sent. refl; boots = λ h. h }
+told_tame : (K : Head → Type 0) (L : Head → Type 0) (N : Node → ℕ → Type 0) (j : ℕ) (c : ClientState) (place : ℕ) (ms : List Message) → AreReplies K L c.seats → Each (IfCall (λ head user call. IsLastOf j (caller_at c) head)) ms → Each (IfReply (λ r. K r.head)) ms → Each (λ m. OfNotice (L m.head) m.carried) ms → Tame K L N (Some place) j (caller_at c) (told_step c place ms)
+told_tame K L N j c place ms k h a b = record { goes = inl (refl, (refl, refl)); sent = h; answers = a; notices = b; kept = k; lines = refl; given = λ sent. refl; boots = λ h. h }
 
-ignores_tame : (K : Head → Type 0) (N : Node → ℕ → Type 0) (j : ℕ) (c : ClientState) (place : ℕ) → AreReplies K c.seats → Tame K N (Some place) j (caller_at c) (ignores c place)
-ignores_tame K N j c place k = told_tame K N j c place [] k tt tt
+ignores_tame : (K : Head → Type 0) (L : Head → Type 0) (N : Node → ℕ → Type 0) (j : ℕ) (c : ClientState) (place : ℕ) → AreReplies K L c.seats → Tame K L N (Some place) j (caller_at c) (ignores c place)
+ignores_tame K L N j c place k = told_tame K L N j c place [] k tt tt tt
 
-ends_tame : (K : Head → Type 0) (N : Node → ℕ → Type 0) (D : Option ℕ) (j : ℕ) (c : ClientState) (cache : List CacheEntry) (front : List Line → List Line) (code : Code) → AreReplies K c.seats → IsFront D front → Tame K N D j (caller_at c) (ends_step (Client j) c cache front code)
-ends_tame K N D j c cache front code k f = record { goes = inl (refl, (refl, refl)); sent = tt; answers = tt; kept = k; lines = (f (lines.Answer (Client j) code ∷ []) (refl, λ sent. refl)).0; given = (f (lines.Answer (Client j) code ∷ []) (refl, λ sent. refl)).1; boots = λ h. h }
+ends_tame : (K : Head → Type 0) (L : Head → Type 0) (N : Node → ℕ → Type 0) (D : Option ℕ) (j : ℕ) (c : ClientState) (cache : List CacheEntry) (front : List Line → List Line) (code : Code) → AreReplies K L c.seats → IsFront D front → Tame K L N D j (caller_at c) (ends_step (Client j) c cache front code)
+ends_tame K L N D j c cache front code k f = record { goes = inl (refl, (refl, refl)); sent = tt; answers = tt; notices = tt; kept = k; lines = (f (lines.Answer (Client j) code ∷ []) (refl, λ sent. refl)).0; given = (f (lines.Answer (Client j) code ∷ []) (refl, λ sent. refl)).1; boots = λ h. h }
 
-calls_tame : (K : Head → Type 0) (N : Node → ℕ → Type 0) (D : Option ℕ) (j : ℕ) (c : ClientState) (act : Going) (front : List Line → List Line) → AreReplies K c.seats → IsFront D front → Tame K N D j (caller_at c) (calls_step (Client j) c act front)
-calls_tame K N D j c act front k f = record { goes = inr (inr (refl, omega arith)); sent = (record { from = refl; epoch = refl; number = refl; to = refl; boot = refl }, tt); answers = (tt, tt); kept = k; lines = (f [] (refl, λ sent. refl)).0; given = (f [] (refl, λ sent. refl)).1; boots = λ h. h }
+calls_tame : (K : Head → Type 0) (L : Head → Type 0) (N : Node → ℕ → Type 0) (D : Option ℕ) (j : ℕ) (c : ClientState) (act : Going) (front : List Line → List Line) → AreReplies K L c.seats → IsFront D front → Tame K L N D j (caller_at c) (calls_step (Client j) c act front)
+calls_tame K L N D j c act front k f = record { goes = inr (inr (refl, omega arith)); sent = (record { from = refl; epoch = refl; number = refl; to = refl; boot = refl }, tt); answers = (tt, tt); notices = (tt, tt); kept = k; lines = (f [] (refl, λ sent. refl)).0; given = (f [] (refl, λ sent. refl)).1; boots = λ h. h }
 
-goes_tame : (K : Head → Type 0) (N : Node → ℕ → Type 0) (D : Option ℕ) (j : ℕ) (c : ClientState) (front : List Line → List Line) (w : Walked) (need : Need) → AreReplies K c.seats → IsFront D front → Tame K N D j (caller_at c) (goes_by (Client j) c front w need)
-goes_tame K N D j c front w (answers n) k f = ends_tame K N D j c w.cache (λ ls. front (looked (Client j) w.looks ls)) _ k (λ ls h. f _ (looked_front (Client j) w.looks ls h))
-goes_tame K N D j c front w need k f = calls_tame K N D j (record c { cache = w.cache }) w.act (λ ls. front (looked (Client j) w.looks ls)) k (λ ls h. f _ (looked_front (Client j) w.looks ls h))
+goes_tame : (K : Head → Type 0) (L : Head → Type 0) (N : Node → ℕ → Type 0) (D : Option ℕ) (j : ℕ) (c : ClientState) (front : List Line → List Line) (w : Walked) (need : Need) → AreReplies K L c.seats → IsFront D front → Tame K L N D j (caller_at c) (goes_by (Client j) c front w need)
+goes_tame K L N D j c front w (answers n) k f = ends_tame K L N D j c w.cache (λ ls. front (looked (Client j) w.looks ls)) _ k (λ ls h. f _ (looked_front (Client j) w.looks ls h))
+goes_tame K L N D j c front w need k f = calls_tame K L N D j (record c { cache = w.cache }) w.act (λ ls. front (looked (Client j) w.looks ls)) k (λ ls h. f _ (looked_front (Client j) w.looks ls h))
 
-walks_tame : (K : Head → Type 0) (N : Node → ℕ → Type 0) (D : Option ℕ) (j : ℕ) (c : ClientState) (clock : ℕ) (front : List Line → List Line) (act : Going) (cache : List CacheEntry) → AreReplies K c.seats → IsFront D front → Tame K N D j (caller_at c) (walks_on (Client j) c clock front act cache)
-walks_tame K N D j c clock front act cache k f = let w : Walked = walked (most_reads act) clock act cache in goes_tame K N D j c front w (next w.act) k f
+walks_tame : (K : Head → Type 0) (L : Head → Type 0) (N : Node → ℕ → Type 0) (D : Option ℕ) (j : ℕ) (c : ClientState) (clock : ℕ) (front : List Line → List Line) (act : Going) (cache : List CacheEntry) → AreReplies K L c.seats → IsFront D front → Tame K L N D j (caller_at c) (walks_on (Client j) c clock front act cache)
+walks_tame K L N D j c clock front act cache k f = let w : Walked = walked (most_reads act) clock act cache in goes_tame K L N D j c front w (next w.act) k f
 
-gives_tame : (K : Head → Type 0) (N : Node → ℕ → Type 0) (D : Option ℕ) (j : ℕ) (c : ClientState) (front : List Line → List Line) (act : Going) (gs : List Gift) → AreReplies K c.seats → IsFront D front → Tame K N D j (caller_at c) (gives_by (Client j) c front act gs)
-gives_tame K N D j c front act [] k f = ends_tame K N D j c c.cache front _ k f
-gives_tame K N D j c front act (g ∷ gs) k f = calls_tame K N D j (record c { gifts = g ∷ gs }) act front k f
+gives_tame : (K : Head → Type 0) (L : Head → Type 0) (N : Node → ℕ → Type 0) (D : Option ℕ) (j : ℕ) (c : ClientState) (front : List Line → List Line) (act : Going) (gs : List Gift) → AreReplies K L c.seats → IsFront D front → Tame K L N D j (caller_at c) (gives_by (Client j) c front act gs)
+gives_tame K L N D j c front act [] k f = ends_tame K L N D j c c.cache front _ k f
+gives_tame K L N D j c front act (g ∷ gs) k f = calls_tame K L N D j (record c { gifts = g ∷ gs }) act front k f
 
-replies_tame : (K : Head → Type 0) (N : Node → ℕ → Type 0) (j : ℕ) (c : ClientState) (place : ℕ) (head : Head) (ls : List Line) (x : Carried) → AreReplies K c.seats → IsAnswer K (replied c.epoch head x) → IfCall (λ h user call. IsLastOf j (caller_at c) h) (replied c.epoch head x) → all_lines is_unchanging ls ≡ true
-    → Tame K N (Some place) j (caller_at c) (replies_step c place head ls x)
-replies_tame K N j c place head ls x k own call plain = record {
+replies_tame : (K : Head → Type 0) (L : Head → Type 0) (N : Node → ℕ → Type 0) (j : ℕ) (c : ClientState) (place : ℕ) (head : Head) (ls : List Line) (x : Carried) → AreReplies K L c.seats → IsAnswer K L (replied c.epoch head x) → IfCall (λ h user call. IsLastOf j (caller_at c) h) (replied c.epoch head x) → all_lines is_unchanging ls ≡ true
+    → Tame K L N (Some place) j (caller_at c) (replies_step c place head ls x)
+replies_tame K L N j c place head ls x k own call plain = record {
   goes = inl (refl, (refl, refl));
   sent = (call, tt);
-  answers = (own.1, tt);
-  kept = one_more_reply K (seat_for head (replied c.epoch head x)) c.seats (λ m e. subst (IsAnswer K) (some_of (replied c.epoch head x) m e) own) k;
+  answers = (own.1.0, tt);
+  notices = (own.1.1, tt);
+  kept = one_more_reply K L (seat_for head (replied c.epoch head x)) c.seats (λ m e. subst (IsAnswer K L) (some_of (replied c.epoch head x) m e) own) k;
   lines = plain;
   given = λ sent. refl;
   boots = λ h. h;
 }
 
 -- ---- a step of either kind
-either_tame : (K : Head → Type 0) (N : Node → ℕ → Type 0) (D : Option ℕ) (t : Bool) (j : ℕ) (x : Caller) (a b : Step ClientState) → Tame K N D j x a → Tame K N D j x b → Tame K N D j x (cond t a b)
-either_tame K N D true j x a b h k = h
-either_tame K N D false j x a b h k = k
+either_tame : (K : Head → Type 0) (L : Head → Type 0) (N : Node → ℕ → Type 0) (D : Option ℕ) (t : Bool) (j : ℕ) (x : Caller) (a b : Step ClientState) → Tame K L N D j x a → Tame K L N D j x b → Tame K L N D j x (cond t a b)
+either_tame K L N D true j x a b h k = h
+either_tame K L N D false j x a b h k = k
 
 -- ---- replies to its calls
 
-again_tame : (K : Head → Type 0) (N : Node → ℕ → Type 0) (j : ℕ) (c : ClientState) (place : ℕ) (act : Going) → AreReplies K c.seats → Tame K N (Some place) j (caller_at c) (calls_again (Client j) c place act)
-again_tame K N j c place act k = calls_tame K N (Some place) j c act (given place) k (λ ls h. (h.0, λ sent. refl))
+again_tame : (K : Head → Type 0) (L : Head → Type 0) (N : Node → ℕ → Type 0) (j : ℕ) (c : ClientState) (place : ℕ) (act : Going) → AreReplies K L c.seats → Tame K L N (Some place) j (caller_at c) (calls_again (Client j) c place act)
+again_tame K L N j c place act k = calls_tame K L N (Some place) j c act (given place) k (λ ls h. (h.0, λ sent. refl))
 
-plain_tame : (K : Head → Type 0) (N : Node → ℕ → Type 0) (j : ℕ) (c : ClientState) (place : ℕ) (call : FsCall) → AreReplies K c.seats → Tame K N (Some place) j (caller_at c) (takes_plain (Client j) c place call)
-plain_tame K N j c place call k = ends_tame K N (Some place) j c _ (λ ls. given place (dropped (Client j) (dropped_after call c.cache) ls)) _ k (λ ls h. ((dropped_front (Client j) (dropped_after call c.cache) ls h).0, λ sent. refl))
+plain_tame : (K : Head → Type 0) (L : Head → Type 0) (N : Node → ℕ → Type 0) (j : ℕ) (c : ClientState) (place : ℕ) (call : FsCall) → AreReplies K L c.seats → Tame K L N (Some place) j (caller_at c) (takes_plain (Client j) c place call)
+plain_tame K L N j c place call k = ends_tame K L N (Some place) j c _ (λ ls. given place (dropped (Client j) (dropped_after call c.cache) ls)) _ k (λ ls h. ((dropped_front (Client j) (dropped_after call c.cache) ls h).0, λ sent. refl))
 
-entry_tame : (K : Head → Type 0) (N : Node → ℕ → Type 0) (j : ℕ) (c : ClientState) (clock place : ℕ) (act : Going) (e : CacheEntry) (body : ReadBody) → AreReplies K c.seats → Tame K N (Some place) j (caller_at c) (takes_entry (Client j) c clock place act e body)
-entry_tame K N j c clock place act e body k =
-    either_tame K N (Some place) (is_trusted clock e) j (caller_at c) _ _
-    (walks_tame K N (Some place) j c clock (read_lines (Client j) place (look_at Fetched e body)) (with_read e.fid body act) (put_entry c.capacity e c.cache) k (λ ls h. (h.0, λ sent. refl))) (again_tame K N j c place act k)
+entry_tame : (K : Head → Type 0) (L : Head → Type 0) (N : Node → ℕ → Type 0) (j : ℕ) (c : ClientState) (clock place : ℕ) (act : Going) (e : CacheEntry) (body : ReadBody) → AreReplies K L c.seats → Tame K L N (Some place) j (caller_at c) (takes_entry (Client j) c clock place act e body)
+entry_tame K L N j c clock place act e body k =
+    either_tame K L N (Some place) (is_trusted clock e) j (caller_at c) _ _
+    (walks_tame K L N (Some place) j c clock (read_lines (Client j) place (look_at Fetched e body)) (with_read e.fid body act) (put_entry c.capacity e c.cache) k (λ ls h. (h.0, λ sent. refl))) (again_tame K L N j c place act k)
 
-entries_tame : (K : Head → Type 0) (N : Node → ℕ → Type 0) (j : ℕ) (c : ClientState) (clock place : ℕ) (act : Going) (es : List CacheEntry) → AreReplies K c.seats → Tame K N (Some place) j (caller_at c) (takes_entries (Client j) c clock place act es)
-entries_tame K N j c clock place act es k =
-    either_tame K N (Some place) (list_any (λ e. not (is_trusted clock e)) es) j (caller_at c) _ _ (again_tame K N j c place act k)
-    (walks_tame K N (Some place) j c clock (λ ls. given place (looked (Client j) (map status_look es) ls)) (with_statuses es act) (put_entries c.capacity es c.cache) k (λ ls h. ((looked_front (Client j) (map status_look es) ls h).0, λ sent. refl)))
+entries_tame : (K : Head → Type 0) (L : Head → Type 0) (N : Node → ℕ → Type 0) (j : ℕ) (c : ClientState) (clock place : ℕ) (act : Going) (es : List CacheEntry) → AreReplies K L c.seats → Tame K L N (Some place) j (caller_at c) (takes_entries (Client j) c clock place act es)
+entries_tame K L N j c clock place act es k =
+    either_tame K L N (Some place) (list_any (λ e. not (is_trusted clock e)) es) j (caller_at c) _ _ (again_tame K L N j c place act k)
+    (walks_tame K L N (Some place) j c clock (λ ls. given place (looked (Client j) (map status_look es) ls)) (with_statuses es act) (put_entries c.capacity es c.cache) k (λ ls h. ((looked_front (Client j) (map status_look es) ls h).0, λ sent. refl)))
 
-rights_tame : (K : Head → Type 0) (N : Node → ℕ → Type 0) (j : ℕ) (c : ClientState) (clock place : ℕ) (act : Going) (f : Fid) (index release : ℕ) (text : List ℕ) → AreReplies K c.seats → Tame K N (Some place) j (caller_at c) (takes_rights (Client j) c clock place act f index release text)
-rights_tame K N j c clock place act f index release text k =
+rights_tame : (K : Head → Type 0) (L : Head → Type 0) (N : Node → ℕ → Type 0) (j : ℕ) (c : ClientState) (clock place : ℕ) (act : Going) (f : Fid) (index release : ℕ) (text : List ℕ) → AreReplies K L c.seats → Tame K L N (Some place) j (caller_at c) (takes_rights (Client j) c clock place act f index release text)
+rights_tame K L N j c clock place act f index release text k =
     let look : Look = record { fid = f; index = index; source = Fetched; body = seen.AccessList text } in
-    walks_tame K N (Some place) j c clock (λ ls. read_lines (Client j) place look (dropped (Client j) (filter (is_older f index release) c.cache) ls)) (with_read f (seen.AccessList text) act)
+    walks_tame K L N (Some place) j c clock (λ ls. read_lines (Client j) place look (dropped (Client j) (filter (is_older f index release) c.cache) ls)) (with_read f (seen.AccessList text) act)
     (filter (λ e. not (is_older f index release e)) c.cache) k (λ ls h. ((dropped_front (Client j) (filter (is_older f index release) c.cache) ls h).0, λ sent. refl))
 
-stored_tame : (K : Head → Type 0) (N : Node → ℕ → Type 0) (j : ℕ) (c : ClientState) (clock place : ℕ) (f : Fid) (index : ℕ) (status : ReadStatus) (made : Option Body → Option Body) → AreReplies K c.seats → Tame K N (Some place) j (caller_at c) (takes_stored (Client j) c clock place f index status made)
-stored_tame K N j c clock place f index status made k = ends_tame K N (Some place) j c _ (given place) _ k (λ ls h. (h.0, λ sent. refl))
+stored_tame : (K : Head → Type 0) (L : Head → Type 0) (N : Node → ℕ → Type 0) (j : ℕ) (c : ClientState) (clock place : ℕ) (f : Fid) (index : ℕ) (status : ReadStatus) (made : Option Body → Option Body) → AreReplies K L c.seats → Tame K L N (Some place) j (caller_at c) (takes_stored (Client j) c clock place f index status made)
+stored_tame K L N j c clock place f index status made k = ends_tame K L N (Some place) j c _ (given place) _ k (λ ls h. (h.0, λ sent. refl))
 
-bytes_tame : (K : Head → Type 0) (N : Node → ℕ → Type 0) (j : ℕ) (c : ClientState) (clock place : ℕ) (f : Fid) (status : AfsFetchStatus) (contents : List ℕ) (call : FsCall) → AreReplies K c.seats → Tame K N (Some place) j (caller_at c) (takes_bytes (Client j) c clock place f status contents call)
-bytes_tame K N j c clock place f status contents call k = either_tame K N (Some place) c.spoiled j (caller_at c) _ _ (plain_tame K N j c place call k) (stored_tame K N j c clock place f _ _ _ k)
+bytes_tame : (K : Head → Type 0) (L : Head → Type 0) (N : Node → ℕ → Type 0) (j : ℕ) (c : ClientState) (clock place : ℕ) (f : Fid) (status : AfsFetchStatus) (contents : List ℕ) (call : FsCall) → AreReplies K L c.seats → Tame K L N (Some place) j (caller_at c) (takes_bytes (Client j) c clock place f status contents call)
+bytes_tame K L N j c clock place f status contents call k = either_tame K L N (Some place) c.spoiled j (caller_at c) _ _ (plain_tame K L N j c place call k) (stored_tame K L N j c clock place f _ _ _ k)
 
-status_tame : (K : Head → Type 0) (N : Node → ℕ → Type 0) (j : ℕ) (c : ClientState) (clock place : ℕ) (f : Fid) (status : AfsFetchStatus) (call : FsCall) → AreReplies K c.seats → Tame K N (Some place) j (caller_at c) (takes_status (Client j) c clock place f status call)
-status_tame K N j c clock place f status call k = either_tame K N (Some place) _ j (caller_at c) _ _ (stored_tame K N j c clock place f _ _ _ k) (plain_tame K N j c place call k)
+status_tame : (K : Head → Type 0) (L : Head → Type 0) (N : Node → ℕ → Type 0) (j : ℕ) (c : ClientState) (clock place : ℕ) (f : Fid) (status : AfsFetchStatus) (call : FsCall) → AreReplies K L c.seats → Tame K L N (Some place) j (caller_at c) (takes_status (Client j) c clock place f status call)
+status_tame K L N j c clock place f status call k = either_tame K L N (Some place) _ j (caller_at c) _ _ (stored_tame K L N j c clock place f _ _ _ k) (plain_tame K L N j c place call k)
 
-data_tame : (K : Head → Type 0) (N : Node → ℕ → Type 0) (j : ℕ) (c : ClientState) (clock place : ℕ) (act : Going) (contents : List ℕ) (status : AfsFetchStatus) (callback : AfsCallBack) (sync : AfsVolSync) (call : FsCall) → AreReplies K c.seats
-    → Tame K N (Some place) j (caller_at c) (takes_data (Client j) c clock place act contents status callback sync call)
-data_tame K N j c clock place act contents status callback sync (calls.FetchData f position wanted) k =
-    entry_tame K N j c clock place act (entry_told c.callee f status callback sync (Some (body_told status.file_type contents))) (seen.Contents (body_told status.file_type contents)) k
-data_tame K N j c clock place act contents status callback sync call k = plain_tame K N j c place call k
+data_tame : (K : Head → Type 0) (L : Head → Type 0) (N : Node → ℕ → Type 0) (j : ℕ) (c : ClientState) (clock place : ℕ) (act : Going) (contents : List ℕ) (status : AfsFetchStatus) (callback : AfsCallBack) (sync : AfsVolSync) (call : FsCall) → AreReplies K L c.seats
+    → Tame K L N (Some place) j (caller_at c) (takes_data (Client j) c clock place act contents status callback sync call)
+data_tame K L N j c clock place act contents status callback sync (calls.FetchData f position wanted) k =
+    entry_tame K L N j c clock place act (entry_told c.callee f status callback sync (Some (body_told status.file_type contents))) (seen.Contents (body_told status.file_type contents)) k
+data_tame K L N j c clock place act contents status callback sync call k = plain_tame K L N j c place call k
 
-shown_tame : (K : Head → Type 0) (N : Node → ℕ → Type 0) (j : ℕ) (c : ClientState) (clock place : ℕ) (act : Going) (status : AfsFetchStatus) (callback : AfsCallBack) (sync : AfsVolSync) (call : FsCall) → AreReplies K c.seats
-    → Tame K N (Some place) j (caller_at c) (takes_shown (Client j) c clock place act status callback sync call)
-shown_tame K N j c clock place act status callback sync (calls.FetchStatus f) k = entry_tame K N j c clock place act (entry_told c.callee f status callback sync None) (seen.Status (status_told status)) k
-shown_tame K N j c clock place act status callback sync call k = plain_tame K N j c place call k
+shown_tame : (K : Head → Type 0) (L : Head → Type 0) (N : Node → ℕ → Type 0) (j : ℕ) (c : ClientState) (clock place : ℕ) (act : Going) (status : AfsFetchStatus) (callback : AfsCallBack) (sync : AfsVolSync) (call : FsCall) → AreReplies K L c.seats
+    → Tame K L N (Some place) j (caller_at c) (takes_shown (Client j) c clock place act status callback sync call)
+shown_tame K L N j c clock place act status callback sync (calls.FetchStatus f) k = entry_tame K L N j c clock place act (entry_told c.callee f status callback sync None) (seen.Status (status_told status)) k
+shown_tame K L N j c clock place act status callback sync call k = plain_tame K L N j c place call k
 
-list_tame : (K : Head → Type 0) (N : Node → ℕ → Type 0) (j : ℕ) (c : ClientState) (clock place : ℕ) (act : Going) (text : List ℕ) (status : AfsFetchStatus) (sync : AfsVolSync) (call : FsCall) → AreReplies K c.seats
-    → Tame K N (Some place) j (caller_at c) (takes_list (Client j) c clock place act text status sync call)
-list_tame K N j c clock place act text status sync (calls.FetchAcl f) k = rights_tame K N j c clock place act f _ _ text k
-list_tame K N j c clock place act text status sync call k = plain_tame K N j c place call k
+list_tame : (K : Head → Type 0) (L : Head → Type 0) (N : Node → ℕ → Type 0) (j : ℕ) (c : ClientState) (clock place : ℕ) (act : Going) (text : List ℕ) (status : AfsFetchStatus) (sync : AfsVolSync) (call : FsCall) → AreReplies K L c.seats
+    → Tame K L N (Some place) j (caller_at c) (takes_list (Client j) c clock place act text status sync call)
+list_tame K L N j c clock place act text status sync (calls.FetchAcl f) k = rights_tame K L N j c clock place act f _ _ text k
+list_tame K L N j c clock place act text status sync call k = plain_tame K L N j c place call k
 
-set_tame : (K : Head → Type 0) (N : Node → ℕ → Type 0) (j : ℕ) (c : ClientState) (clock place : ℕ) (status : AfsFetchStatus) (call : FsCall) → AreReplies K c.seats → Tame K N (Some place) j (caller_at c) (takes_set (Client j) c clock place status call)
-set_tame K N j c clock place status (calls.StoreData f set position wanted file_length contents) k = bytes_tame K N j c clock place f status contents (calls.StoreData f set position wanted file_length contents) k
-set_tame K N j c clock place status (calls.StoreAcl f acl) k = status_tame K N j c clock place f status (calls.StoreAcl f acl) k
-set_tame K N j c clock place status (calls.StoreStatus f set) k = status_tame K N j c clock place f status (calls.StoreStatus f set) k
-set_tame K N j c clock place status call k = plain_tame K N j c place call k
+set_tame : (K : Head → Type 0) (L : Head → Type 0) (N : Node → ℕ → Type 0) (j : ℕ) (c : ClientState) (clock place : ℕ) (status : AfsFetchStatus) (call : FsCall) → AreReplies K L c.seats → Tame K L N (Some place) j (caller_at c) (takes_set (Client j) c clock place status call)
+set_tame K L N j c clock place status (calls.StoreData f set position wanted file_length contents) k = bytes_tame K L N j c clock place f status contents (calls.StoreData f set position wanted file_length contents) k
+set_tame K L N j c clock place status (calls.StoreAcl f acl) k = status_tame K L N j c clock place f status (calls.StoreAcl f acl) k
+set_tame K L N j c clock place status (calls.StoreStatus f set) k = status_tame K L N j c clock place f status (calls.StoreStatus f set) k
+set_tame K L N j c clock place status call k = plain_tame K L N j c place call k
 
-bulk_tame : (K : Head → Type 0) (N : Node → ℕ → Type 0) (j : ℕ) (c : ClientState) (clock place : ℕ) (act : Going) (statuses : List AfsFetchStatus) (callbacks : List AfsCallBack) (sync : AfsVolSync) (call : FsCall) → AreReplies K c.seats
-    → Tame K N (Some place) j (caller_at c) (takes_bulk (Client j) c clock place act statuses callbacks sync call)
-bulk_tame K N j c clock place act statuses callbacks sync (calls.BulkStatus fids) k = entries_tame K N j c clock place act (entries_told c.callee sync fids statuses callbacks) k
-bulk_tame K N j c clock place act statuses callbacks sync call k = plain_tame K N j c place call k
+bulk_tame : (K : Head → Type 0) (L : Head → Type 0) (N : Node → ℕ → Type 0) (j : ℕ) (c : ClientState) (clock place : ℕ) (act : Going) (statuses : List AfsFetchStatus) (callbacks : List AfsCallBack) (sync : AfsVolSync) (call : FsCall) → AreReplies K L c.seats
+    → Tame K L N (Some place) j (caller_at c) (takes_bulk (Client j) c clock place act statuses callbacks sync call)
+bulk_tame K L N j c clock place act statuses callbacks sync (calls.BulkStatus fids) k = entries_tame K L N j c clock place act (entries_told c.callee sync fids statuses callbacks) k
+bulk_tame K L N j c clock place act statuses callbacks sync call k = plain_tame K L N j c place call k
 
-given_back_tame : (K : Head → Type 0) (N : Node → ℕ → Type 0) (j : ℕ) (c : ClientState) (place : ℕ) (act : Going) (call : FsCall) → AreReplies K c.seats → Tame K N (Some place) j (caller_at c) (takes_given (Client j) c place act call)
-given_back_tame K N j c place act (calls.GiveUpCallBacks fids callbacks) k = gives_tame K N (Some place) j c (given place) act (behind_batch c.gifts) k (λ ls h. (h.0, λ sent. refl))
-given_back_tame K N j c place act call k = plain_tame K N j c place call k
+given_back_tame : (K : Head → Type 0) (L : Head → Type 0) (N : Node → ℕ → Type 0) (j : ℕ) (c : ClientState) (place : ℕ) (act : Going) (call : FsCall) → AreReplies K L c.seats → Tame K L N (Some place) j (caller_at c) (takes_given (Client j) c place act call)
+given_back_tame K L N j c place act (calls.GiveUpCallBacks fids callbacks) k = gives_tame K L N (Some place) j c (given place) act (behind_batch c.gifts) k (λ ls h. (h.0, λ sent. refl))
+given_back_tame K L N j c place act call k = plain_tame K L N j c place call k
 
-takes_tame : (K : Head → Type 0) (N : Node → ℕ → Type 0) (j : ℕ) (c : ClientState) (clock place : ℕ) (act : Going) (call : FsCall) (reply : FsReply) → AreReplies K c.seats → Tame K N (Some place) j (caller_at c) (takes (Client j) c clock place act call reply)
-takes_tame K N j c clock place act call (replies.FetchData contents status callback sync) k = data_tame K N j c clock place act contents status callback sync call k
-takes_tame K N j c clock place act call (replies.FetchAcl text status sync) k = list_tame K N j c clock place act text status sync call k
-takes_tame K N j c clock place act call (replies.FetchStatus status callback sync) k = shown_tame K N j c clock place act status callback sync call k
-takes_tame K N j c clock place act call (replies.StoreData status sync) k = set_tame K N j c clock place status call k
-takes_tame K N j c clock place act call (replies.StoreAcl status sync) k = set_tame K N j c clock place status call k
-takes_tame K N j c clock place act call (replies.StoreStatus status sync) k = set_tame K N j c clock place status call k
-takes_tame K N j c clock place act call (replies.BulkStatus statuses callbacks sync) k = bulk_tame K N j c clock place act statuses callbacks sync call k
-takes_tame K N j c clock place act call replies.GiveUpCallBacks k = given_back_tame K N j c place act call k
-takes_tame K N j c clock place act call reply k = plain_tame K N j c place call k
+takes_tame : (K : Head → Type 0) (L : Head → Type 0) (N : Node → ℕ → Type 0) (j : ℕ) (c : ClientState) (clock place : ℕ) (act : Going) (call : FsCall) (reply : FsReply) → AreReplies K L c.seats → Tame K L N (Some place) j (caller_at c) (takes (Client j) c clock place act call reply)
+takes_tame K L N j c clock place act call (replies.FetchData contents status callback sync) k = data_tame K L N j c clock place act contents status callback sync call k
+takes_tame K L N j c clock place act call (replies.FetchAcl text status sync) k = list_tame K L N j c clock place act text status sync call k
+takes_tame K L N j c clock place act call (replies.FetchStatus status callback sync) k = shown_tame K L N j c clock place act status callback sync call k
+takes_tame K L N j c clock place act call (replies.StoreData status sync) k = set_tame K L N j c clock place status call k
+takes_tame K L N j c clock place act call (replies.StoreAcl status sync) k = set_tame K L N j c clock place status call k
+takes_tame K L N j c clock place act call (replies.StoreStatus status sync) k = set_tame K L N j c clock place status call k
+takes_tame K L N j c clock place act call (replies.BulkStatus statuses callbacks sync) k = bulk_tame K L N j c clock place act statuses callbacks sync call k
+takes_tame K L N j c clock place act call replies.GiveUpCallBacks k = given_back_tame K L N j c place act call k
+takes_tame K L N j c clock place act call reply k = plain_tame K L N j c place call k
 
-refuses_tame : (K : Head → Type 0) (N : Node → ℕ → Type 0) (j : ℕ) (c : ClientState) (place : ℕ) (act : Going) (code : Code) → AreReplies K c.seats → Tame K N (Some place) j (caller_at c) (refuses (Client j) c place act code)
-refuses_tame K N j c place act code k =
-    either_tame K N (Some place) (is_busy_code code && nat_lt c.busy most_busy) j (caller_at c) _ _ (again_tame K N j (record c { busy = c.busy + 1 }) place act k) (ends_tame K N (Some place) j c c.cache (given place) code k (λ ls h. (h.0, λ sent. refl)))
+refuses_tame : (K : Head → Type 0) (L : Head → Type 0) (N : Node → ℕ → Type 0) (j : ℕ) (c : ClientState) (place : ℕ) (act : Going) (code : Code) → AreReplies K L c.seats → Tame K L N (Some place) j (caller_at c) (refuses (Client j) c place act code)
+refuses_tame K L N j c place act code k =
+    either_tame K L N (Some place) (is_busy_code code && nat_lt c.busy most_busy) j (caller_at c) _ _ (again_tame K L N j (record c { busy = c.busy + 1 }) place act k) (ends_tame K L N (Some place) j c c.cache (given place) code k (λ ls h. (h.0, λ sent. refl)))
 
 kept_boot_by : (a t : Bool) (callee q : Node) (k : KnownBoot) (rest : List KnownBoot) (o : Option KnownBoot) → same_node k.server callee ≡ a → same_node k.server q ≡ t → same_node callee q ≡ false → find (λ (x : KnownBoot). same_node x.server q) rest ≡ o
     → find (λ (x : KnownBoot). same_node x.server q) (cond (not a) (k ∷ rest) rest) ≡ cond t (Some k) o
@@ -296,68 +298,68 @@ told_boot N callee boot boots true q e own h =
 told_boot N callee boot boots false q e own h =
     subst (λ (o : Option KnownBoot). N q (boot_or_first o)) (sym (ap (λ (b : Bool). cond b (Some (record { server = callee; boot = boot })) (find (λ (k : KnownBoot). same_node k.server q) (filter (λ (k : KnownBoot). not (same_node k.server callee)) boots))) e ∙ kept_boot callee q boots e)) h
 
-counts_tame : (K : Head → Type 0) (N : Node → ℕ → Type 0) (j : ℕ) (c : ClientState) (clock place : ℕ) (act : Going) (head : Head) (x : Carried) → AreReplies K c.seats → OfNotice (N c.callee head.boot) x → Tame K N (Some place) j (caller_at c) (counts (Client j) c clock place act head x)
-counts_tame K N j c clock place act head (carried.Call user call) k n = ignores_tame K N j c place k
-counts_tame K N j c clock place act head (carried.Refusal code) k n = either_tame K N (Some place) (is_spent c act) j (caller_at c) _ _ (again_tame K N j c place act k) (refuses_tame K N j c place act code k)
-counts_tame K N j c clock place act head (carried.Reply (tell.File reply)) k n = either_tame K N (Some place) (is_spent c act) j (caller_at c) _ _ (again_tame K N j c place act k) (takes_tame K N j c clock place act _ reply k)
-counts_tame K N j c clock place act head (carried.Reply reply) k n = ignores_tame K N j c place k
-counts_tame K N j c clock place act head carried.Notice k n = record { goes = inl (refl, (refl, refl)); sent = (record { from = refl; epoch = refl; number = refl; to = refl; boot = refl }, tt); answers = (tt, tt); kept = k; lines = refl; given = λ sent. refl; boots = λ h q. told_boot N c.callee head.boot c.boots (same_node c.callee q) q refl n (h q) }
+counts_tame : (K : Head → Type 0) (L : Head → Type 0) (N : Node → ℕ → Type 0) (j : ℕ) (c : ClientState) (clock place : ℕ) (act : Going) (head : Head) (x : Carried) → AreReplies K L c.seats → OfNotice (N c.callee head.boot) x → Tame K L N (Some place) j (caller_at c) (counts (Client j) c clock place act head x)
+counts_tame K L N j c clock place act head (carried.Call user call) k n = ignores_tame K L N j c place k
+counts_tame K L N j c clock place act head (carried.Refusal code) k n = either_tame K L N (Some place) (is_spent c act) j (caller_at c) _ _ (again_tame K L N j c place act k) (refuses_tame K L N j c place act code k)
+counts_tame K L N j c clock place act head (carried.Reply (tell.File reply)) k n = either_tame K L N (Some place) (is_spent c act) j (caller_at c) _ _ (again_tame K L N j c place act k) (takes_tame K L N j c clock place act _ reply k)
+counts_tame K L N j c clock place act head (carried.Reply reply) k n = ignores_tame K L N j c place k
+counts_tame K L N j c clock place act head carried.Notice k n = record { goes = inl (refl, (refl, refl)); sent = (record { from = refl; epoch = refl; number = refl; to = refl; boot = refl }, tt); answers = (tt, tt); notices = (tt, tt); kept = k; lines = refl; given = λ sent. refl; boots = λ h q. told_boot N c.callee head.boot c.boots (same_node c.callee q) q refl n (h q) }
 
-awaited_tame : (K : Head → Type 0) (N : Node → ℕ → Type 0) (t : Bool) (j : ℕ) (c : ClientState) (clock place : ℕ) (act : Going) (head : Head) (x : Carried) → is_awaited c act head ≡ t → AreReplies K c.seats → OfNotice (N head.from head.boot) x → Tame K N (Some place) j (caller_at c) (cond t (counts (Client j) c clock place act head x) (ignores c place))
-awaited_tame K N true j c clock place act head x e k n = counts_tame K N j c clock place act head x k (subst (λ (q : Node). OfNotice (N q head.boot) x) (same_node-true head.from c.callee (both (same_node head.from c.callee) _ e).0) n)
-awaited_tame K N false j c clock place act head x e k n = ignores_tame K N j c place k
+awaited_tame : (K : Head → Type 0) (L : Head → Type 0) (N : Node → ℕ → Type 0) (t : Bool) (j : ℕ) (c : ClientState) (clock place : ℕ) (act : Going) (head : Head) (x : Carried) → is_awaited c act head ≡ t → AreReplies K L c.seats → OfNotice (N head.from head.boot) x → Tame K L N (Some place) j (caller_at c) (cond t (counts (Client j) c clock place act head x) (ignores c place))
+awaited_tame K L N true j c clock place act head x e k n = counts_tame K L N j c clock place act head x k (subst (λ (q : Node). OfNotice (N q head.boot) x) (same_node-true head.from c.callee (both (same_node head.from c.callee) _ e).0) n)
+awaited_tame K L N false j c clock place act head x e k n = ignores_tame K L N j c place k
 
-awaits_tame : (K : Head → Type 0) (N : Node → ℕ → Type 0) (j : ℕ) (c : ClientState) (clock place : ℕ) (head : Head) (x : Carried) (o : Option Going) → AreReplies K c.seats → OfNotice (N head.from head.boot) x → Tame K N (Some place) j (caller_at c) (awaits (Client j) c clock place head x o)
-awaits_tame K N j c clock place head x None k n = ignores_tame K N j c place k
-awaits_tame K N j c clock place head x (Some act) k n = awaited_tame K N (is_awaited c act head) j c clock place act head x refl k n
+awaits_tame : (K : Head → Type 0) (L : Head → Type 0) (N : Node → ℕ → Type 0) (j : ℕ) (c : ClientState) (clock place : ℕ) (head : Head) (x : Carried) (o : Option Going) → AreReplies K L c.seats → OfNotice (N head.from head.boot) x → Tame K L N (Some place) j (caller_at c) (awaits (Client j) c clock place head x o)
+awaits_tame K L N j c clock place head x None k n = ignores_tame K L N j c place k
+awaits_tame K L N j c clock place head x (Some act) k n = awaited_tame K L N (is_awaited c act head) j c clock place act head x refl k n
 
 -- ---- calls to it
 
-breaks_tame : (K : Head → Type 0) (N : Node → ℕ → Type 0) (j : ℕ) (c : ClientState) (place : ℕ) (head : Head) (call : FsCall) → AreReplies K c.seats → OfClient head.from (K (reply_head c.epoch head)) → Tame K N (Some place) j (caller_at c) (breaks (Client j) c place head call)
-breaks_tame K N j c place head (calls.CallBack fs callbacks) k w = replies_tame K N j _ place head _ _ k (tt, w) tt (drops_plain (Client j) fs)
-breaks_tame K N j c place head calls.InitCallBackState k w = replies_tame K N j _ place head _ _ k (tt, w) tt refl
-breaks_tame K N j c place head calls.Probe k w = replies_tame K N j c place head [] _ k (tt, w) tt refl
-breaks_tame K N j c place head call k w = replies_tame K N j c place head [] _ k (tt, w) tt refl
+breaks_tame : (K : Head → Type 0) (L : Head → Type 0) (N : Node → ℕ → Type 0) (j : ℕ) (c : ClientState) (place : ℕ) (head : Head) (call : FsCall) → AreReplies K L c.seats → OfClient head.from (K (reply_head c.epoch head)) → Tame K L N (Some place) j (caller_at c) (breaks (Client j) c place head call)
+breaks_tame K L N j c place head (calls.CallBack fs callbacks) k w = replies_tame K L N j _ place head _ _ k (tt, (w, tt)) tt (drops_plain (Client j) fs)
+breaks_tame K L N j c place head calls.InitCallBackState k w = replies_tame K L N j _ place head _ _ k (tt, (w, tt)) tt refl
+breaks_tame K L N j c place head calls.Probe k w = replies_tame K L N j c place head [] _ k (tt, (w, tt)) tt refl
+breaks_tame K L N j c place head call k w = replies_tame K L N j c place head [] _ k (tt, (w, tt)) tt refl
 
-carried_tame : (K : Head → Type 0) (N : Node → ℕ → Type 0) (j : ℕ) (c : ClientState) (place : ℕ) (head : Head) (x : Carried) → AreReplies K c.seats → OfCall (ByClient (λ h user call. K (reply_head c.epoch h))) head x → Tame K N (Some place) j (caller_at c) (runs_carried (Client j) c place head x)
-carried_tame K N j c place head (carried.Call user (ask.File call)) k w = breaks_tame K N j c place head call k w
-carried_tame K N j c place head (carried.Call user call) k w = absurd w
-carried_tame K N j c place head x k w = ignores_tame K N j c place k
+carried_tame : (K : Head → Type 0) (L : Head → Type 0) (N : Node → ℕ → Type 0) (j : ℕ) (c : ClientState) (place : ℕ) (head : Head) (x : Carried) → AreReplies K L c.seats → OfCall (ByClient (λ h user call. K (reply_head c.epoch h))) head x → Tame K L N (Some place) j (caller_at c) (runs_carried (Client j) c place head x)
+carried_tame K L N j c place head (carried.Call user (ask.File call)) k w = breaks_tame K L N j c place head call k w
+carried_tame K L N j c place head (carried.Call user call) k w = absurd w
+carried_tame K L N j c place head x k w = ignores_tame K L N j c place k
 
-admits_tame : (K : Head → Type 0) (N : Node → ℕ → Type 0) (j : ℕ) (c : ClientState) (place : ℕ) (head : Head) (x : Carried) (o : Admitted Message) → AreReplies K c.seats → IsCallOf K c.epoch c.seats head x → admitted c.epoch c.seats head ≡ o → Tame K N (Some place) j (caller_at c) (admits_call (Client j) c place head (whole head x) o)
-admits_tame K N j c place head x pairs.runs k w e = carried_tame K N j c place head x k (ran_call K c.epoch c.seats head x w e)
-admits_tame K N j c place head x (pairs.kept reply) k w e =
-    let a : IsAnswer K reply = kept_answer K c.epoch c.seats head reply k e in
-    told_tame K N j c place (reply ∷ []) k (uncalled_any (λ h user call. IsLastOf j (caller_at c) h) reply a.0, tt) (a.1, tt)
-admits_tame K N j c place head x pairs.in_progress k w e = ignores_tame K N j c place k
-admits_tame K N j c place head x pairs.older k w e = ignores_tame K N j c place k
-admits_tame K N j c place head x (pairs.wrong_boot boot) k w e = told_tame K N j c place _ k (tt, tt) (tt, tt)
+admits_tame : (K : Head → Type 0) (L : Head → Type 0) (N : Node → ℕ → Type 0) (j : ℕ) (c : ClientState) (place : ℕ) (head : Head) (x : Carried) (o : Admitted Message) → AreReplies K L c.seats → IsCallOf K c.epoch c.seats head x → L (boot_told c.epoch head).head → admitted c.epoch c.seats head ≡ o → Tame K L N (Some place) j (caller_at c) (admits_call (Client j) c place head (whole head x) o)
+admits_tame K L N j c place head x pairs.runs k w told e = carried_tame K L N j c place head x k (ran_call K c.epoch c.seats head x w e)
+admits_tame K L N j c place head x (pairs.kept reply) k w told e =
+    let a : IsAnswer K L reply = kept_answer K L c.epoch c.seats head reply k e in
+    told_tame K L N j c place (reply ∷ []) k (uncalled_any (λ h user call. IsLastOf j (caller_at c) h) reply a.0, tt) (a.1.0, tt) (a.1.1, tt)
+admits_tame K L N j c place head x pairs.in_progress k w told e = ignores_tame K L N j c place k
+admits_tame K L N j c place head x pairs.older k w told e = ignores_tame K L N j c place k
+admits_tame K L N j c place head x (pairs.wrong_boot boot) k w told e = told_tame K L N j c place _ k (tt, tt) (tt, tt) (told, tt)
 
-hears_tame : (K : Head → Type 0) (N : Node → ℕ → Type 0) (j : ℕ) (c : ClientState) (clock place : ℕ) (head : Head) (x : Carried) → AreReplies K c.seats → IsCallOf K c.epoch c.seats head x → OfNotice (N head.from head.boot) x → Tame K N (Some place) j (caller_at c) (hears (Client j) c clock place head x)
-hears_tame K N j c clock place head (carried.Call user call) k w n = admits_tame K N j c place head (carried.Call user call) (admitted c.epoch c.seats head) k w refl
-hears_tame K N j c clock place head x k w n = awaits_tame K N j c clock place head x c.running k n
+hears_tame : (K : Head → Type 0) (L : Head → Type 0) (N : Node → ℕ → Type 0) (j : ℕ) (c : ClientState) (clock place : ℕ) (head : Head) (x : Carried) → AreReplies K L c.seats → IsCallOf K c.epoch c.seats head x → L (boot_told c.epoch head).head → OfNotice (N head.from head.boot) x → Tame K L N (Some place) j (caller_at c) (hears (Client j) c clock place head x)
+hears_tame K L N j c clock place head (carried.Call user call) k w told n = admits_tame K L N j c place head (carried.Call user call) (admitted c.epoch c.seats head) k w told refl
+hears_tame K L N j c clock place head x k w told n = awaits_tame K L N j c clock place head x c.running k n
 
 -- ---- its steps
 
-pub given_tame : (K : Head → Type 0) (N : Node → ℕ → Type 0) (j : ℕ) (c : ClientState) (clock place : ℕ) (m : Message) → AreReplies K c.seats → IsCallOf K c.epoch c.seats m.head m.carried → OfNotice (N m.head.from m.head.boot) m.carried → Tame K N (Some place) j (caller_at c) (client_row (Client j) c clock place (Whole m))
+pub given_tame : (K : Head → Type 0) (L : Head → Type 0) (N : Node → ℕ → Type 0) (j : ℕ) (c : ClientState) (clock place : ℕ) (m : Message) → AreReplies K L c.seats → IsCallOf K c.epoch c.seats m.head m.carried → L (boot_told c.epoch m.head).head → OfNotice (N m.head.from m.head.boot) m.carried → Tame K L N (Some place) j (caller_at c) (client_row (Client j) c clock place (Whole m))
 unfolding client_row
-given_tame K N j c clock place m k w n = either_tame K N (Some place) (same_node m.head.to (Client j)) j (caller_at c) _ _ (hears_tame K N j c clock place m.head m.carried k w n) (ignores_tame K N j c place k)
+given_tame K L N j c clock place m k w told n = either_tame K L N (Some place) (same_node m.head.to (Client j)) j (caller_at c) _ _ (hears_tame K L N j c clock place m.head m.carried k w told n) (ignores_tame K L N j c place k)
 
-first_tame : (K : Head → Type 0) (N : Node → ℕ → Type 0) (D : Option ℕ) (j : ℕ) (c : ClientState) (clock : ℕ) (front : List Line → List Line) (act : Going) (need : Need) → AreReplies K c.seats → IsFront D front → Tame K N D j (caller_at c) (begins_by (Client j) c clock front act need)
-first_tame K N D j c clock front act gives_back k f = gives_tame K N D j (record c { cache = untrusted_in clock c.cache }) (λ ls. front (dropped (Client j) (trusted_in clock c.cache) ls)) act (in_order (map gift_of (trusted_in clock c.cache))) k (λ ls h. f _ (dropped_front (Client j) (trusted_in clock c.cache) ls h))
-first_tame K N D j c clock front act need k f = walks_tame K N D j c clock front act c.cache k f
+first_tame : (K : Head → Type 0) (L : Head → Type 0) (N : Node → ℕ → Type 0) (D : Option ℕ) (j : ℕ) (c : ClientState) (clock : ℕ) (front : List Line → List Line) (act : Going) (need : Need) → AreReplies K L c.seats → IsFront D front → Tame K L N D j (caller_at c) (begins_by (Client j) c clock front act need)
+first_tame K L N D j c clock front act gives_back k f = gives_tame K L N D j (record c { cache = untrusted_in clock c.cache }) (λ ls. front (dropped (Client j) (trusted_in clock c.cache) ls)) act (in_order (map gift_of (trusted_in clock c.cache))) k (λ ls h. f _ (dropped_front (Client j) (trusted_in clock c.cache) ls h))
+first_tame K L N D j c clock front act need k f = walks_tame K L N D j c clock front act c.cache k f
 
-pub begins_tame : (K : Head → Type 0) (N : Node → ℕ → Type 0) (j : ℕ) (c : ClientState) (clock : ℕ) (act : Act) → AreReplies K c.seats → Tame K N None j (caller_at c) (begin_row (Client j) c clock act)
+pub begins_tame : (K : Head → Type 0) (L : Head → Type 0) (N : Node → ℕ → Type 0) (j : ℕ) (c : ClientState) (clock : ℕ) (act : Act) → AreReplies K L c.seats → Tame K L N None j (caller_at c) (begin_row (Client j) c clock act)
 unfolding begin_row
-begins_tame K N j c clock act k = first_tame K N None j (record c { busy = 0 }) clock (λ ls. lines.Begin (Client j) act ∷ ls) (began c.table act) (next (began c.table act)) k (λ ls h. h)
+begins_tame K L N j c clock act k = first_tame K L N None j (record c { busy = 0 }) clock (λ ls. lines.Begin (Client j) act ∷ ls) (began c.table act) (next (began c.table act)) k (λ ls h. h)
 
-pub waits_tame : (K : Head → Type 0) (N : Node → ℕ → Type 0) (j : ℕ) (c : ClientState) (act : Going) → AreReplies K c.seats → Tame K N None j (caller_at c) (timeout_row (Client j) c act)
-waits_tame K N j c act k = either_tame K N None (nat_lt c.tries 2) j (caller_at c) _ _
-    (record { goes = inl (refl, (refl, refl)); sent = (record { from = refl; epoch = refl; number = refl; to = refl; boot = refl }, tt); answers = (tt, tt); kept = k; lines = refl; given = λ sent. refl; boots = λ h. h })
-    (ends_tame K N None j c _ (λ ls. timeout_line (Client j) c 3 ∷ dropped (Client j) (given_up_in (volume_changed (call_of c act)) c.cache) ls) dead_code k (λ ls h. dropped_front (Client j) (given_up_in (volume_changed (call_of c act)) c.cache) ls h))
+pub waits_tame : (K : Head → Type 0) (L : Head → Type 0) (N : Node → ℕ → Type 0) (j : ℕ) (c : ClientState) (act : Going) → AreReplies K L c.seats → Tame K L N None j (caller_at c) (timeout_row (Client j) c act)
+waits_tame K L N j c act k = either_tame K L N None (nat_lt c.tries 2) j (caller_at c) _ _
+    (record { goes = inl (refl, (refl, refl)); sent = (record { from = refl; epoch = refl; number = refl; to = refl; boot = refl }, tt); answers = (tt, tt); notices = (tt, tt); kept = k; lines = refl; given = λ sent. refl; boots = λ h. h })
+    (ends_tame K L N None j c _ (λ ls. timeout_line (Client j) c 3 ∷ dropped (Client j) (given_up_in (volume_changed (call_of c act)) c.cache) ls) dead_code k (λ ls h. dropped_front (Client j) (given_up_in (volume_changed (call_of c act)) c.cache) ls h))
 
-pub falls_tame : (K : Head → Type 0) (N : Node → ℕ → Type 0) (j : ℕ) (c : ClientState) → ((q : Node) → N q 1) → Tame K N None j (caller_at c) (record { state = reborn c; lines = lines.Crash (Client j) ∷ []; sent = [] })
-falls_tame K N j c first = record { goes = inr (inl (omega arith)); sent = tt; answers = tt; kept = λ n seat m e. absurd cc; lines = refl; given = λ sent. refl; boots = λ h. first }
+pub falls_tame : (K : Head → Type 0) (L : Head → Type 0) (N : Node → ℕ → Type 0) (j : ℕ) (c : ClientState) → ((q : Node) → N q 1) → Tame K L N None j (caller_at c) (record { state = reborn c; lines = lines.Crash (Client j) ∷ []; sent = [] })
+falls_tame K L N j c first = record { goes = inr (inl (omega arith)); sent = tt; answers = tt; notices = tt; kept = λ n seat m e. absurd cc; lines = refl; given = λ sent. refl; boots = λ h. first }
 
-pub rises_tame : (K : Head → Type 0) (N : Node → ℕ → Type 0) (j : ℕ) (c : ClientState) → AreReplies K c.seats → Tame K N None j (caller_at c) (record { state = c; lines = lines.Restart (Client j) c.epoch ∷ []; sent = [] })
-rises_tame K N j c k = record { goes = inl (refl, (refl, refl)); sent = tt; answers = tt; kept = k; lines = refl; given = λ sent. refl; boots = λ h. h }
+pub rises_tame : (K : Head → Type 0) (L : Head → Type 0) (N : Node → ℕ → Type 0) (j : ℕ) (c : ClientState) → AreReplies K L c.seats → Tame K L N None j (caller_at c) (record { state = c; lines = lines.Restart (Client j) c.epoch ∷ []; sent = [] })
+rises_tame K L N j c k = record { goes = inl (refl, (refl, refl)); sent = tt; answers = tt; notices = tt; kept = k; lines = refl; given = λ sent. refl; boots = λ h. h }

@@ -153,7 +153,11 @@ any_notice (carried.Refusal code) = tt
 any_notice (carried.Reply reply) = tt
 any_notice carried.Notice = tt
 
--- any boot number may have been told
+-- a notice may have any header
+abbrev any_told : Head → Type 0
+any_told h = ⊤
+
+-- any may have been told
 abbrev any_boot : Node → ℕ → Type 0
 any_boot q b = ⊤
 
@@ -165,9 +169,9 @@ record Stands (clients : ℕ → ClientState) (hosts : ℕ → Host) (sent : Lis
   own : (j : ℕ) → callees (last_of j (clients j)) ≡ (clients j).callee
   calls : Each (IfCall (λ h user call. IsKnown callees clients h.to (key_of h))) sent
   answers : Each (IfReply (λ r. IsKnown callees clients r.head.from (answered_key r.head))) sent
-  replies : (j : ℕ) → AreReplies (by_key (IsKnown callees clients)) (clients j).seats
-  sound : (i : ℕ) → IsSound (by_key (IsKnown callees clients)) (memory_of (hosts i).state)
-  held : (i : ℕ) → Each (IsAnswer (by_key (IsKnown callees clients))) (replies_of (hosts i).state.backs.held)
+  replies : (j : ℕ) → AreReplies (by_key (IsKnown callees clients)) any_told (clients j).seats
+  sound : (i : ℕ) → IsSound (by_key (IsKnown callees clients)) any_told (memory_of (hosts i).state)
+  held : (i : ℕ) → Each (IsAnswer (by_key (IsKnown callees clients)) any_told) (replies_of (hosts i).state.backs.held)
   falls : (i : ℕ) → HasCut (IsKnown callees clients) (hosts i).down
   ran : EachChange (HasRun callees clients hosts) o
   once : AreOnce o
@@ -198,16 +202,16 @@ not_run callees clients hosts i k known above q l r same =
     let here : i ≡ r.server = server_number i r.server (known.called ∙ (ap callees same ∙ (sym r.known.called ∙ r.is))) in
     r.ran (subst (λ (j : ℕ). Above (call_seat l.node (hosts j).state.lasting.kept) l.epoch l.number) here (subst (λ (x : Key). Above (call_seat x.node (hosts i).state.lasting.kept) x.epoch x.number) same above))
 
-host_keeps : (clients : ℕ → ClientState) (hosts : ℕ → Host) (sent more : List Message) (o ls : List Line) (i : ℕ) (h : Host) → (S : Stands clients hosts sent o) → Hosts (by_key (IsKnown S.callees clients)) (Server i) (memory_of (hosts i).state) (memory_of h.state) ls
-    → Each (IsAnswer (by_key (IsKnown S.callees clients))) (replies_of h.state.backs.held) → HasCut (IsKnown S.callees clients) h.down → Each (IfCall (λ x user call. IsKnown S.callees clients x.to (key_of x))) more → Each (IfReply (λ r. IsKnown S.callees clients r.head.from (answered_key r.head))) more → Stands clients (put i h hosts) more (onto o ls)
+host_keeps : (clients : ℕ → ClientState) (hosts : ℕ → Host) (sent more : List Message) (o ls : List Line) (i : ℕ) (h : Host) → (S : Stands clients hosts sent o) → Hosts (by_key (IsKnown S.callees clients)) any_told (Server i) (memory_of (hosts i).state) (memory_of h.state) ls
+    → Each (IsAnswer (by_key (IsKnown S.callees clients)) any_told) (replies_of h.state.backs.held) → HasCut (IsKnown S.callees clients) h.down → Each (IfCall (λ x user call. IsKnown S.callees clients x.to (key_of x))) more → Each (IfReply (λ r. IsKnown S.callees clients r.head.from (answered_key r.head))) more → Stands clients (put i h hosts) more (onto o ls)
 host_keeps clients hosts sent more o ls i h S H held cut calls answers = record {
   callees = S.callees;
   own = S.own;
   calls = calls;
   answers = answers;
   replies = S.replies;
-  sound = λ j. at_put i j (λ (x : Host). IsSound (by_key (IsKnown S.callees clients)) (memory_of x.state)) h hosts (λ same. H.sound) (λ other. S.sound j);
-  held = λ j. at_put i j (λ (x : Host). Each (IsAnswer (by_key (IsKnown S.callees clients))) (replies_of x.state.backs.held)) h hosts (λ same. held) (λ other. S.held j);
+  sound = λ j. at_put i j (λ (x : Host). IsSound (by_key (IsKnown S.callees clients)) any_told (memory_of x.state)) h hosts (λ same. H.sound) (λ other. S.sound j);
+  held = λ j. at_put i j (λ (x : Host). Each (IsAnswer (by_key (IsKnown S.callees clients)) any_told) (replies_of x.state.backs.held)) h hosts (λ same. held) (λ other. S.held j);
   falls = λ j. at_put i j (λ (x : Host). HasCut (IsKnown S.callees clients) x.down) h hosts (λ same. cut) (λ other. S.falls j);
   ran = one_each (HasRun S.callees clients (put i h hosts)) (Server i) H.changed ls o H.one
       (λ k e. record {
@@ -227,20 +231,20 @@ host_keeps clients hosts sent more o ls i h S H held cut calls answers = record 
 }
 
 -- a step that is done
-moves_keeps : (c : Cell) (o : List Line) (i : ℕ) (armed : Armed) (s : Step ServerState) → (S : StandsIn c o) → HostStep (by_key (IsKnown S.callees c.clients)) (Server i) (c.hosts i).state s → Keeps o (server_moves c i armed s)
-moves_keeps c o i armed s S h =
+moves_keeps : (c : Cell) (o : List Line) (i : ℕ) (D : Option ℕ) (armed : Armed) (s : Step ServerState) → (S : StandsIn c o) → HostStep (by_key (IsKnown S.callees c.clients)) any_told D (Server i) (c.hosts i).state s → Keeps o (server_moves c i armed s)
+moves_keeps c o i D armed s S h =
     host_keeps c.clients c.hosts c.sent (c.sent ++ s.sent) o s.lines i (record { state = s.state; down = None; armed = armed }) S h.hosts h.held tt
-    (each_more _ c.sent s.sent S.calls (each_map (IsAnswer (by_key (IsKnown S.callees c.clients))) _ (λ m a. uncalled_any (λ x user call. IsKnown S.callees c.clients x.to (key_of x)) m a.0) s.sent h.sent))
-    (each_more _ c.sent s.sent S.answers (each_map (IsAnswer (by_key (IsKnown S.callees c.clients))) _ (λ m a. a.1) s.sent h.sent))
+    (each_more _ c.sent s.sent S.calls (each_map (IsAnswer (by_key (IsKnown S.callees c.clients)) any_told) _ (λ m a. uncalled_any (λ x user call. IsKnown S.callees c.clients x.to (key_of x)) m a.0) s.sent h.sent))
+    (each_more _ c.sent s.sent S.answers (each_map (IsAnswer (by_key (IsKnown S.callees c.clients)) any_told) _ (λ m a. a.1.0) s.sent h.sent))
 
-same_hosts : (K : Head → Type 0) (me : Node) (x : Memory) (ls : List Line) → IsSound K x → HasOne me None ls → Hosts K me x x ls
-same_hosts K me x ls s h = record { changed = None; one = h; known = λ k e. absurd cc; new = λ k e. absurd cc; ran = λ k e a. absurd cc; grows = λ n e k a. a; stored = λ n seat e. inl e; sound = s }
+same_hosts : (K : Head → Type 0) (L : Head → Type 0) (me : Node) (x : Memory) (ls : List Line) → IsSound K L x → HasOne me None ls → Hosts K L me x x ls
+same_hosts K L me x ls s h = record { changed = None; one = h; known = λ k e. absurd cc; new = λ k e. absurd cc; ran = λ k e a. absurd cc; grows = λ n e k a. a; stored = λ n seat e. inl e; sound = s }
 
 -- one that leaves what it keeps
 falls_keeps : (c : Cell) (o : List Line) (i : ℕ) (down : Option Fall) (armed : Armed) (ls : List Line) → (S : StandsIn c o) → HasOne (Server i) None ls → HasCut (IsKnown S.callees c.clients) down
     → Stands c.clients (put i (record (c.hosts i) { down = down; armed = armed }) c.hosts) c.sent (onto o ls)
 falls_keeps c o i down armed ls S none cut =
-    host_keeps c.clients c.hosts c.sent c.sent o ls i (record (c.hosts i) { down = down; armed = armed }) S (same_hosts (by_key (IsKnown S.callees c.clients)) (Server i) (memory_of (c.hosts i).state) ls (S.sound i) none) (S.held i) cut S.calls S.answers
+    host_keeps c.clients c.hosts c.sent c.sent o ls i (record (c.hosts i) { down = down; armed = armed }) S (same_hosts (by_key (IsKnown S.callees c.clients)) any_told (Server i) (memory_of (c.hosts i).state) ls (S.sound i) none) (S.held i) cut S.calls S.answers
 
 nothing_keeps : (c : Cell) (o : List Line) → StandsIn c o → Keeps o (voided c)
 nothing_keeps c o S = record { callees = S.callees; own = S.own; calls = S.calls; answers = S.answers; replies = S.replies; sound = S.sound; held = S.held; falls = S.falls; ran = (tt, S.ran); once = S.once; stored = S.stored }
@@ -257,7 +261,7 @@ blow_none i false = refl
 
 served_keeps : (c : Cell) (o : List Line) (i place : ℕ) (m : Message) (b : Option Blow) → (S : StandsIn c o) → IfCall (λ h user call. IsKnown S.callees c.clients h.to (key_of h)) m → Keeps o (server_served c i place m b)
 served_keeps c o i place m None S h =
-    moves_keeps c o i _ _ S (serves_step (by_key (IsKnown S.callees c.clients)) i (c.hosts i).state c.clock place m (S.sound i) (S.held i) (decides_due (by_key (IsKnown S.callees c.clients)) (Server i) (c.hosts i).state c.clock m (S.sound i).seats (any_call (by_key (IsKnown S.callees c.clients)) (c.hosts i).state.lasting.boot (c.hosts i).state.seats m.head m.carried h)))
+    moves_keeps c o i _ _ _ S (serves_step (by_key (IsKnown S.callees c.clients)) any_told i (c.hosts i).state c.clock place m (S.sound i) (S.held i) (decides_due (by_key (IsKnown S.callees c.clients)) any_told (Server i) (c.hosts i).state c.clock m (S.sound i).seats (any_call (by_key (IsKnown S.callees c.clients)) (c.hosts i).state.lasting.boot (c.hosts i).state.seats m.head m.carried h) (λ to. tt)))
 served_keeps c o i place m (Some b) S h = falls_keeps c o i (Some (in_step m c.clock)) unarmed (lines.Given place ∷ blow_line i b.stops ∷ []) S (blow_none i b.stops) h
 
 received_keeps : (c : Cell) (o : List Line) (i place : ℕ) (luck : Luck) (m : Message) (d : Option Fall) → (S : StandsIn c o) → IfCall (λ h user call. IsKnown S.callees c.clients h.to (key_of h)) m → Keeps o (server_given c i place luck m d)
@@ -268,8 +272,8 @@ stopped_keeps : (c : Cell) (o : List Line) (i : ℕ) (d : Option Fall) → Stand
 stopped_keeps c o i None S = falls_keeps c o i (Some at_rest) unarmed (lines.Crash (Server i) ∷ []) S refl tt
 stopped_keeps c o i (Some fall) S = nothing_keeps c o S
 
-ends_keeps : (c : Cell) (o : List Line) (i : ℕ) (f : Begun) (fall : Fall) (out : Outcome) → (S : StandsIn c o) → IsCutOf (IsKnown S.callees c.clients) fall → Begins (by_key (IsKnown S.callees c.clients)) (Server i) (c.hosts i).state f → Keeps o (server_ends c i f fall out)
-ends_keeps c o i f fall comes_up S cut b = moves_keeps c o i unarmed _ S (starts_step (by_key (IsKnown S.callees c.clients)) i (c.hosts i).state c.clock c.count f b)
+ends_keeps : (c : Cell) (o : List Line) (i : ℕ) (f : Begun) (fall : Fall) (out : Outcome) → (S : StandsIn c o) → IsCutOf (IsKnown S.callees c.clients) fall → Begins (by_key (IsKnown S.callees c.clients)) any_told (Server i) (c.hosts i).state f → Keeps o (server_ends c i f fall out)
+ends_keeps c o i f fall comes_up S cut b = moves_keeps c o i _ unarmed _ S (starts_step (by_key (IsKnown S.callees c.clients)) any_told i (c.hosts i).state c.clock c.count f b)
 ends_keeps c o i f fall fails_early S cut b = falls_keeps c o i (Some fall) unarmed (lines.Fault (Server i) ∷ []) S refl cut
 ends_keeps c o i f fall fails_midway S cut b =
     host_keeps c.clients c.hosts c.sent c.sent o (f.before (lines.Fault (Server i) ∷ [])) i (record { state = f.state; down = Some in_boot; armed = unarmed }) S (b.hosts (lines.Fault (Server i) ∷ []) refl) b.held tt S.calls S.answers
@@ -280,7 +284,7 @@ restarted_keeps : (c : Cell) (o : List Line) (i : ℕ) (after : Bool) (out : Out
 restarted_keeps c o i after out None S cut = nothing_keeps c o S
 restarted_keeps c o i after out (Some fall) S cut =
     let f : Begun = begun_by_disk (Server i) (c.hosts i).state after fall in
-    ends_keeps c o i f fall (settled f.state out) S cut (disk_begins (by_key (IsKnown S.callees c.clients)) (Server i) (c.hosts i).state after fall (S.sound i) (S.held i) (cut_by (IsKnown S.callees c.clients) (c.hosts i).state fall cut))
+    ends_keeps c o i f fall (settled f.state out) S cut (disk_begins (by_key (IsKnown S.callees c.clients)) any_told (Server i) (c.hosts i).state after fall (S.sound i) (S.held i) (cut_by (IsKnown S.callees c.clients) (c.hosts i).state fall cut) (λ h to. tt))
 
 stop_keeps : (c : Cell) (o : List Line) (i calls pick : ℕ) (armed : Armed) (d : Option Fall) → (c.hosts i).down ≡ d → StandsIn c o → Keeps o (server_armed c i (lines.Stop (Server i) calls pick) armed d)
 stop_keeps c o i calls pick armed None e S = falls_keeps c o i (c.hosts i).down armed (lines.Stop (Server i) calls pick ∷ []) S refl (S.falls i)
@@ -292,14 +296,14 @@ fail_keeps c o i call armed (Some fall) S = nothing_keeps c o S
 
 back_keeps : (c : Cell) (o : List Line) (i : ℕ) (n : Node) (b : Option BackCall) → StandsIn c o → Keeps o (back_timed c i n b)
 back_keeps c o i n None S = nothing_keeps c o S
-back_keeps c o i n (Some b) S = moves_keeps c o i _ _ S (times_step (by_key (IsKnown S.callees c.clients)) i (c.hosts i).state c.clock n b (S.sound i) (S.held i))
+back_keeps c o i n (Some b) S = moves_keeps c o i _ _ _ S (times_step (by_key (IsKnown S.callees c.clients)) any_told i (c.hosts i).state c.clock n b (S.sound i) (S.held i))
 
 timed_keeps : (c : Cell) (o : List Line) (i : ℕ) (n : Node) (d : Option Fall) → StandsIn c o → Keeps o (server_timed c i n d)
 timed_keeps c o i n None S = back_keeps c o i n ((c.hosts i).state.backs.calls n) S
 timed_keeps c o i n (Some fall) S = nothing_keeps c o S
 
 woken_keeps : (c : Cell) (o : List Line) (i : ℕ) (d : Option Fall) → StandsIn c o → Keeps o (server_wakes c i d)
-woken_keeps c o i None S = moves_keeps c o i _ _ S (wakes_step (by_key (IsKnown S.callees c.clients)) i (c.hosts i).state c.clock (S.sound i) (S.held i))
+woken_keeps c o i None S = moves_keeps c o i _ _ _ S (wakes_step (by_key (IsKnown S.callees c.clients)) any_told i (c.hosts i).state c.clock (S.sound i) (S.held i))
 woken_keeps c o i (Some fall) S = nothing_keeps c o S
 
 -- ---- a step of a client
@@ -362,16 +366,16 @@ cut_over K L w (Some (in_step m clock)) h = if_call (λ x user call. K x.to (key
 run_later : (callees more : Key → Node) (clients then : ℕ → ClientState) (hosts : ℕ → Host) → ((q : Node) (k : Key) → IsKnown callees clients q k → IsKnown more then q k) → (q : Node) (k : Key) → HasRun callees clients hosts q k → HasRun more then hosts q k
 run_later callees more clients then hosts w q k r = record { server = r.server; is = r.is; known = w q k r.known; ran = r.ran }
 
-replies_over : (K L : Head → Type 0) → ((h : Head) → K h → L h) → (seats : List Seat) → AreReplies K seats → AreReplies L seats
-replies_over K L w seats h n seat m e r = answer_over K L w m (h n seat m e r)
+replies_over : (K L : Head → Type 0) → ((h : Head) → K h → L h) → (seats : List Seat) → AreReplies K any_told seats → AreReplies L any_told seats
+replies_over K L w seats h n seat m e r = answer_over K L any_told any_told w (λ g x. x) m (h n seat m e r)
 
-sound_over : (K L : Head → Type 0) → ((h : Head) → K h → L h) → (x : Memory) → IsSound K x → IsSound L x
+sound_over : (K L : Head → Type 0) → ((h : Head) → K h → L h) → (x : Memory) → IsSound K any_told x → IsSound L any_told x
 sound_over K L w x h = record { seats = replies_over K L w x.seats h.seats; kept = replies_over K L w x.kept h.kept; lower = h.lower }
 
 told_over : (K L : Node → Key → Type 0) → ((q : Node) (k : Key) → K q k → L q k) → (m : Message) → IfReply (λ r. K r.head.from (answered_key r.head)) m → IfReply (λ r. L r.head.from (answered_key r.head)) m
 told_over K L w m h = if_reply (λ r. K r.head.from (answered_key r.head)) (λ r. L r.head.from (answered_key r.head)) (λ r. w r.head.from (answered_key r.head)) m h
 
-client_keeps : (c : Cell) (o : List Line) (n : ℕ) (D : Option ℕ) (s : Step ClientState) → (S : StandsIn c o) → Tame (by_key (IsKnown S.callees c.clients)) any_boot D n (caller_at (c.clients n)) s → Keeps o (client_moves c n s)
+client_keeps : (c : Cell) (o : List Line) (n : ℕ) (D : Option ℕ) (s : Step ClientState) → (S : StandsIn c o) → Tame (by_key (IsKnown S.callees c.clients)) any_told any_boot D n (caller_at (c.clients n)) s → Keeps o (client_moves c n s)
 client_keeps c o n D s S t =
     let more : Key → Node = with_callee (last_of n s.state) s.state.callee S.callees in
     let then : ℕ → ClientState = put n s.state c.clients in
@@ -388,9 +392,9 @@ client_keeps c o n D s S t =
           (each_map _ _ (if_call (λ x user call. IsKnown S.callees c.clients x.to (key_of x)) (λ x user call. IsKnown more then x.to (key_of x)) (λ x user call. w x.to (key_of x))) c.sent S.calls)
           (each_map _ _ (if_call (λ x user call. IsLastOf n (caller_at s.state) x) (λ x user call. IsKnown more then x.to (key_of x)) (λ x user call. last_known S.callees c.clients n s.state x)) s.sent t.sent);
       answers = each_more _ c.sent s.sent (each_map _ _ (told_over K L w) c.sent S.answers) (each_map _ _ (told_over K L w) s.sent t.answers);
-      replies = λ j. at_put n j (λ (x : ClientState). AreReplies (by_key L) x.seats) s.state c.clients (λ same. replies_over (by_key K) (by_key L) wh s.state.seats t.kept) (λ other. replies_over (by_key K) (by_key L) wh (c.clients j).seats (S.replies j));
+      replies = λ j. at_put n j (λ (x : ClientState). AreReplies (by_key L) any_told x.seats) s.state c.clients (λ same. replies_over (by_key K) (by_key L) wh s.state.seats t.kept) (λ other. replies_over (by_key K) (by_key L) wh (c.clients j).seats (S.replies j));
       sound = λ i. sound_over (by_key K) (by_key L) wh (memory_of (c.hosts i).state) (S.sound i);
-      held = λ i. each_map (IsAnswer (by_key K)) (IsAnswer (by_key L)) (answer_over (by_key K) (by_key L) wh) (replies_of (c.hosts i).state.backs.held) (S.held i);
+      held = λ i. each_map (IsAnswer (by_key K) any_told) (IsAnswer (by_key L) any_told) (answer_over (by_key K) (by_key L) any_told any_told wh (λ h x. x)) (replies_of (c.hosts i).state.backs.held) (S.held i);
       falls = λ i. cut_over (IsKnown S.callees c.clients) (IsKnown more then) w (c.hosts i).down (S.falls i);
       ran = plain_each (HasRun more then c.hosts) s.lines o t.lines (each_change _ _ (run_later S.callees more c.clients then c.hosts w) o S.ran);
       once = plain_once s.lines o t.lines S.once;
@@ -401,7 +405,7 @@ client_keeps c o n D s S t =
 
 to_keeps : (c : Cell) (o : List Line) (p : ℕ) (luck : Luck) (m : Message) (to : Node) → (S : StandsIn c o) → IfCall (λ h user call. IsKnown S.callees c.clients h.to (key_of h)) m → Keeps o (given_to c p luck m to)
 to_keeps c o p luck m (Server i) S h = either_keeps o (has_host c i) _ _ (received_keeps c o i p luck m (c.hosts i).down S h) (nothing_keeps c o S)
-to_keeps c o p luck m (Client n) S h = either_keeps o (c.away n) _ _ (nothing_keeps c o S) (client_keeps c o n _ _ S (given_tame (by_key (IsKnown S.callees c.clients)) any_boot n (c.clients n) c.clock p m (S.replies n) (any_call (by_key (IsKnown S.callees c.clients)) (c.clients n).epoch (c.clients n).seats m.head m.carried h) (any_notice m.carried)))
+to_keeps c o p luck m (Client n) S h = either_keeps o (c.away n) _ _ (nothing_keeps c o S) (client_keeps c o n _ _ S (given_tame (by_key (IsKnown S.callees c.clients)) any_told any_boot n (c.clients n) c.clock p m (S.replies n) (any_call (by_key (IsKnown S.callees c.clients)) (c.clients n).epoch (c.clients n).seats m.head m.carried h) tt (any_notice m.carried)))
 to_keeps c o p luck m Loc S h = nothing_keeps c o S
 to_keeps c o p luck m (Admin n) S h = nothing_keeps c o S
 
@@ -410,12 +414,12 @@ at_keeps c o p luck None e S = nothing_keeps c o S
 at_keeps c o p luck (Some m) e S = to_keeps c o p luck m m.head.to S (each_at _ c.sent p m e S.calls)
 
 begun_keeps : (c : Cell) (o : List Line) (n : ℕ) (act : Act) (g : Option Going) → StandsIn c o → Keeps o (begun_by c n act g)
-begun_keeps c o n act None S = client_keeps c o n _ _ S (begins_tame (by_key (IsKnown S.callees c.clients)) any_boot n (c.clients n) c.clock act (S.replies n))
+begun_keeps c o n act None S = client_keeps c o n _ _ S (begins_tame (by_key (IsKnown S.callees c.clients)) any_told any_boot n (c.clients n) c.clock act (S.replies n))
 begun_keeps c o n act (Some g) S = nothing_keeps c o S
 
 waited_keeps : (c : Cell) (o : List Line) (n : ℕ) (g : Option Going) → StandsIn c o → Keeps o (waited_by c n g)
 waited_keeps c o n None S = nothing_keeps c o S
-waited_keeps c o n (Some act) S = client_keeps c o n _ _ S (waits_tame (by_key (IsKnown S.callees c.clients)) any_boot n (c.clients n) act (S.replies n))
+waited_keeps c o n (Some act) S = client_keeps c o n _ _ S (waits_tame (by_key (IsKnown S.callees c.clients)) any_told any_boot n (c.clients n) act (S.replies n))
 
 ticked_keeps : (c : Cell) (o : List Line) (n : ℕ) → StandsIn c o → Stands c.clients c.hosts c.sent (lines.Tick n ∷ o)
 ticked_keeps c o n S = record { callees = S.callees; own = S.own; calls = S.calls; answers = S.answers; replies = S.replies; sound = S.sound; held = S.held; falls = S.falls; ran = (tt, S.ran); once = S.once; stored = S.stored }
@@ -426,8 +430,8 @@ moved_keeps c o (begins n act) S = either_keeps o (c.away n) _ _ (nothing_keeps 
 moved_keeps c o (gives p luck) S = at_keeps c o p luck (message_at c.sent p) refl S
 moved_keeps c o (waits n) S = either_keeps o (c.away n) _ _ (nothing_keeps c o S) (waited_keeps c o n (c.clients n).running S)
 moved_keeps c o (ticks n) S = ticked_keeps c o n S
-moved_keeps c o (client_stops n) S = either_keeps o (c.away n) _ _ (nothing_keeps c o S) (client_keeps c o n _ _ S (falls_tame (by_key (IsKnown S.callees c.clients)) any_boot n (c.clients n) (λ q. tt)))
-moved_keeps c o (client_starts n) S = either_keeps o (c.away n) _ _ (client_keeps c o n _ _ S (rises_tame (by_key (IsKnown S.callees c.clients)) any_boot n (c.clients n) (S.replies n))) (nothing_keeps c o S)
+moved_keeps c o (client_stops n) S = either_keeps o (c.away n) _ _ (nothing_keeps c o S) (client_keeps c o n _ _ S (falls_tame (by_key (IsKnown S.callees c.clients)) any_told any_boot n (c.clients n) (λ q. tt)))
+moved_keeps c o (client_starts n) S = either_keeps o (c.away n) _ _ (client_keeps c o n _ _ S (rises_tame (by_key (IsKnown S.callees c.clients)) any_told any_boot n (c.clients n) (S.replies n))) (nothing_keeps c o S)
 moved_keeps c o (stops i) S = either_keeps o (has_host c i) _ _ (stopped_keeps c o i (c.hosts i).down S) (nothing_keeps c o S)
 moved_keeps c o (starts_again i after out) S = either_keeps o (has_host c i) _ _ (restarted_keeps c o i after out (c.hosts i).down S (S.falls i)) (nothing_keeps c o S)
 moved_keeps c o (sets_stop i calls pick) S = either_keeps o (has_host c i) _ _ (stop_keeps c o i calls pick _ (c.hosts i).down refl S) (nothing_keeps c o S)

@@ -36,4 +36,5 @@ pub mod Calling
 pub mod Hosting
 pub mod KeysOnce
 pub mod Standing
+pub mod Hearing
 pub mod Worked

@@ -24,11 +24,11 @@ use Rattle.afs_rows.specs.States.{BackCall, CacheEntry, Seat}
 use Rattle.afs_law.specs.Breaks.{AllOwes, live_grant, lines_at}
 use Rattle.afs_law.specs.Grants.{fetch_reply}
 use Rattle.afs_law.specs.Ideal.{set_up}
-use Rattle.afs_law.specs.Laws.{IsAccounted, IsAwaited, IsHandled, IsOwedIn, IsPromisedIn, AreRan}
+use Rattle.afs_law.specs.Laws.{IsAccounted, IsAwaited, IsHandled, IsOwedIn, IsPromisedIn}
 use Rattle.afs_law.specs.Legal.{Cause}
 use Rattle.afs_law.specs.Once.{past_of}
 use Rattle.afs_law.specs.OneServer.{IsOneServer}
-use Rattle.afs_law.specs.Past.{HasCode, IsUnheard, called_key, lines_of}
+use Rattle.afs_law.specs.Past.{HasCode, Ran, lines_of}
 use Rattle.afs_law.proofs.Agreeing.{at_end}
 use Rattle.afs_law.proofs.Basics.{Above, IfCall, IfDone, IfReply, OfClient, OfReply, OfServer, by_client, by_server, client_number, each_at, runs_above}
 use Rattle.afs_law.proofs.Facts.{CallFact, MayRun, CallIn, Holds, InScope, IsAged, IsSafe, ReplyFact, ReplyIn, view}
@@ -50,13 +50,6 @@ admitted_by false boot seats head t e = absurd cc
 pub runs_admitted : (boot : ℕ) (seats : List Seat) (head : Head) → admitted boot seats head ≡ pairs.runs → (head.boot ≡ boot) × Above (call_seat head.from seats) head.epoch head.number
 runs_admitted boot seats head e = admitted_by (nat_eq head.boot boot) boot seats head refl e
 
-unheard_at : (c : Cell) (head : Head) (past : List Entry) (s : Script) → c.down ≡ None → Holds s c past → (head.boot ≡ c.server.lasting.boot) × Above (call_seat head.from c.server.seats) head.epoch head.number → IsUnheard the_server (called_key head) head.boot past
-unheard_at c head past s up h a = h.unheard (called_key head) head.boot (subst (λ (d : Option Fall). MayRun d c.server.lasting.boot (call_seat head.from c.server.seats) (called_key head) head.boot) (sym up) (inr a))
-
-pub run_unheard : (s : Script) (h : List Entry) (end : cells.Cell) → IsOneServer s → cells.RunsTo h s end → (end.hosts 1).down ≡ None → (head : Head) → admitted (end.hosts 1).state.lasting.boot (end.hosts 1).state.seats head ≡ pairs.runs
-    → IsUnheard (Server 1) (called_key head) head.boot (past_of (set_up s ∷ []) h)
-run_unheard s h end is r up head e = unheard_at (seen_in end) head (past_of (set_up s ∷ []) h) s up (holds_at s h end is r) (runs_admitted (end.hosts 1).state.lasting.boot (end.hosts 1).state.seats head e)
-
 -- ---- a reply that counts has its cause
 
 reply_in : (c : Carried) (to : Node) (X : Type 0) (j : ℕ) → HasCode c → to ≡ Client j → OfReply (OfClient to X) c → X
@@ -76,15 +69,8 @@ run_caused s h end is r j place m act at code to runs epoch number =
     let a = fact.answers act runs epoch number in
     (a.code, subst (λ (q : FsCall). Cause m a.code q past []) (asks_is (end.clients j).gifts act) a.cause)
 
-pub run_ran : (s : Script) (h : List Entry) (end : cells.Cell) → IsOneServer s → cells.RunsTo h s end → AreRan end.sent (end.hosts 1).state.seats (past_of (set_up s ∷ []) h)
-run_ran s h end is r =
-    let past : List Entry = past_of (set_up s ∷ []) h in
-    let c : Cell = seen_in end in
-    let k : Holds s c past = holds_at s h end is r in
-    record {
-      sent = λ j place m at code to. let f : ReplyIn (view k.floors c) past m = reply_in m.carried m.head.to (ReplyIn (view k.floors c) past m) j code to (each_at (IfReply (ReplyIn (view k.floors c) past)) c.sent place m at k.sent.replies) in f.fact.ran;
-      kept = λ j seat m at is. ((k.clients j).kept seat m at is).1.ran;
-    }
+pub run_kept : (s : Script) (h : List Entry) (end : cells.Cell) → IsOneServer s → cells.RunsTo h s end → (j : ℕ) (seat : Seat) (m : Message) → call_seat (Client j) (end.hosts 1).state.seats ≡ Some seat → seat.reply ≡ Some m → Ran m.head (past_of (set_up s ∷ []) h)
+run_kept s h end is r j seat m at reply = (((holds_at s h end is r).clients j).kept seat m at reply).1.ran
 
 -- ---- promises and breaks
 

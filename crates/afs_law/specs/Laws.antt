@@ -131,11 +131,11 @@ StartsAreFolded = (l : Lasting) → folded (boot_record (l.boot + 1)) (durable_o
 
 -- ---- what holds between any two entries of a run
 
--- a call that its server would run now was never given to it in this boot: a key runs at most once in each
+-- a call of a client that a server would run now was never given to it in this boot: a key runs at most once in each
 abbrev pub CallsRunOnce : Type 0
 CallsRunOnce =
-    (s : Script) (history : List Entry) (end : Cell) → IsOneServer s → RunsTo history s end → (end.hosts 1).down ≡ None
-    → (head : Head) → admitted (end.hosts 1).state.lasting.boot (end.hosts 1).state.seats head ≡ pairs.runs → IsUnheard (Server 1) (called_key head) head.boot (past_of (set_up s ∷ []) history)
+    (s : Script) (history : List Entry) (end : Cell) → RunsTo history s end → (i j : ℕ) → (end.hosts i).down ≡ None → (head : Head) → head.from ≡ Client j → admitted (end.hosts i).state.lasting.boot (end.hosts i).state.seats head ≡ pairs.runs
+    → IsUnheard (Server i) (called_key head) head.boot (past_of (set_up s ∷ []) history)
 
 -- the reply to the call that a client waits for is that of the entry which ran the call in the boot that the reply carries, and
 -- tells what the ideal cell made of it there
@@ -144,13 +144,15 @@ RepliesAreCaused =
     (s : Script) (history : List Entry) (end : Cell) → IsOneServer s → RunsTo history s end → (j place : ℕ) (m : Message) (act : Going) → message_at end.sent place ≡ Some m → HasCode m.carried → m.head.to ≡ Client j
     → (end.clients j).running ≡ Some act → m.head.epoch ≡ (end.clients j).epoch → m.head.number ≡ (end.clients j).last → (code : ℤ) × Cause m code (asked act) (past_of (set_up s ∷ []) history) []
 
--- each reply of the server to a client, under way or kept, is that of the entry that ran its call in the boot that it carries
-pub record AreRan (messages : List Message) (seats : List Seat) (past : List Entry) : Type 0 where
-  pub sent : (j place : ℕ) (m : Message) → message_at messages place ≡ Some m → HasCode m.carried → m.head.to ≡ Client j → Ran m.head past
-  pub kept : (j : ℕ) (seat : Seat) (m : Message) → call_seat (Client j) seats ≡ Some seat → seat.reply ≡ Some m → Ran m.head past
-
+-- each reply of a server to a client, once sent, is that of the entry that ran its call in the boot that it carries
 abbrev pub RepliesAreRan : Type 0
-RepliesAreRan = (s : Script) (history : List Entry) (end : Cell) → IsOneServer s → RunsTo history s end → AreRan end.sent (end.hosts 1).state.seats (past_of (set_up s ∷ []) history)
+RepliesAreRan =
+    (s : Script) (history : List Entry) (end : Cell) → RunsTo history s end → (i j place : ℕ) (m : Message) → message_at end.sent place ≡ Some m → HasCode m.carried → m.head.from ≡ Server i → m.head.to ≡ Client j → Ran m.head (past_of (set_up s ∷ []) history)
+
+-- and so is each that the server keeps for a client
+abbrev pub KeptAreRan : Type 0
+KeptAreRan =
+    (s : Script) (history : List Entry) (end : Cell) → IsOneServer s → RunsTo history s end → (j : ℕ) (seat : Seat) (m : Message) → call_seat (Client j) (end.hosts 1).state.seats ≡ Some seat → seat.reply ≡ Some m → Ran m.head (past_of (set_up s ∷ []) history)
 
 -- the server changed something under this key
 abbrev pub HasChangeBy : Node → Key → List Line → Type 0

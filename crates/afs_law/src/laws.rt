@@ -1,6 +1,6 @@
 //! Laws about the runs of a script. Each is the contract of a function that does nothing.
 
-ghost use Rattle.afs_law.specs.Laws.{ChangesAreFolded, KeysRunOnce, ReadsAreNewest, RunsAreLegal, RunsAreOne, StartsAreFolded, VolumesAreTold, PairsAreKnown, TrustedIsGood, RoomlessAreRefused, UnservedAreRefused, CallsRunOnce, RepliesAreCaused, RepliesAreRan, DurableAreChanges, GrantsAreKept, BreaksAreOwed, RepliesFollowDrops, GivenUpAreUntrusted};
+ghost use Rattle.afs_law.specs.Laws.{ChangesAreFolded, KeysRunOnce, ReadsAreNewest, RunsAreLegal, RunsAreOne, StartsAreFolded, VolumesAreTold, PairsAreKnown, TrustedIsGood, RoomlessAreRefused, UnservedAreRefused, CallsRunOnce, RepliesAreCaused, RepliesAreRan, KeptAreRan, DurableAreChanges, GrantsAreKept, BreaksAreOwed, RepliesFollowDrops, GivenUpAreUntrusted};
 
 /// Every run of a script for one server is legal.
 pub fn runs_are_legal()
@@ -70,6 +70,11 @@ pub fn replies_are_caused()
 /// Each reply to a client is that of the entry that ran its call in the boot that the reply carries.
 pub fn replies_are_ran()
     ensures { RepliesAreRan }
+{}
+
+/// So is each reply that a server keeps for a client.
+pub fn kept_are_ran()
+    ensures { KeptAreRan }
 {}
 
 /// What a disk keeps of a caller is its last call that changed something, with the reply to that.

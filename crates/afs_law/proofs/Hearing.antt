@@ -1,0 +1,675 @@
+-- What servers hear and answer, however many a cell has: what a server would run it never heard in that boot, and each of its
+-- replies to a client is that of the entry which ran the call.
+use Rattle.afs_history.specs.declared.acts.Act.{Act}
+use Rattle.afs_history.specs.declared.lines.Line.{Line}
+use Rattle.afs_history.specs.declared.lines.Line.TheVariants as lines
+use Rattle.afs_law.proofs.Backing.{all_lines, is_unchanging}
+use Rattle.afs_law.proofs.Basics.{Above, Each, IfCall, IfReply, OfCall, OfClient, OfNotice, OfReply, ByClient, above_up, at_put, at_seat, below_not, below_up_to, by_client, each_at, each_map, each_more, if_call, if_reply, not_above, of_client, of_notice, own_seat, same_node-refl, up_to_same}
+use Rattle.afs_law.proofs.Calling.{AreReplies, IsAnswer, IsCallOf, IsLastOf, Tame, answer_over, begins_tame, caller_at, falls_tame, given_tame, placed, rises_tame, uncalled_any, waits_tame}
+use Rattle.afs_law.proofs.Facts.{MayRun}
+use Rattle.afs_law.proofs.Hosting.{Begins, HasHead, HostStep, IsCutBy, IsDue, IsSound, Memory, decides_due, disk_begins, does_given, memory_of, served_head, serves_step, starts_step, times_step, wakes_step}
+use Rattle.afs_law.proofs.Law.{all_versions, given_first}
+use Rattle.afs_law.proofs.Standing.{runs_admitted}
+use Rattle.afs_law.specs.Ideal.{first_lines, set_up}
+use Rattle.afs_law.specs.Once.{past_of}
+use Rattle.afs_law.specs.Past.{HasCode, IsCall, IsCallUnder, IsUnheard, Ran, answered_key, called_key, given_message, sent_of}
+use Rattle.afs_model.specs.Calls as pairs
+use Rattle.afs_model.specs.Calls.{Admitted, admitted, call_seat, call_seated, paired}
+use Rattle.afs_num.specs.Nodes.{same_node}
+use Rattle.afs_num.specs.declared.calls.FsCall.{FsCall}
+use Rattle.afs_num.specs.declared.histories.Actor.TheVariants as actors
+use Rattle.afs_num.specs.declared.messages.Call.TheVariants as ask
+use Rattle.afs_num.specs.declared.messages.Carried.{Carried}
+use Rattle.afs_num.specs.declared.messages.Carried.TheVariants as carried
+use Rattle.afs_num.specs.declared.messages.Message.{Message}
+use Rattle.afs_num.specs.declared.messages.Received.TheVariants.{Whole}
+use Rattle.afs_num.specs.declared.scripts.Script.{Script}
+use Rattle.afs_num.specs.declared.types.Head.{Head}
+use Rattle.afs_num.specs.declared.types.Key.{Key}
+use Rattle.afs_num.specs.declared.types.Node.{Node}
+use Rattle.afs_num.specs.declared.types.Node.TheVariants.{Admin, Client, Loc, Server}
+use Rattle.afs_rows.specs.Callbacks.{expired, put, replies_of, turned_in}
+use Rattle.afs_rows.specs.ClientRow.{boot_of, client_row}
+use Rattle.afs_rows.specs.Going.{ClientState, Going}
+use Rattle.afs_rows.specs.Runs.{Armed, Blow, Cell, Entry, Fall, Host, Input, Leads, Luck, Moved, Outcome, RunsTo, at_rest, back_timed, begins, begun_by, begun_by_disk, blow_line, client_moves, client_starts, client_stops, comes_up, decided_at, fails_early, fails_midway, given_at, given_to, gives, has_host, in_boot, in_step, is_full, lowered, message_at, moved, nothing, server_armed, server_ends, server_falls, server_given, server_moves, server_restarted, server_served, server_stopped, server_timed, server_waits, server_wakes, sets_fail, sets_stop, settled, start, starts_again, stops, struck, ticks, unarmed, voided, waited_by, waits, wakes}
+use Rattle.afs_rows.specs.ServerRow.{Begun, Decision, admits, begun_after, decides, device_calls, does, drops, hears, is_client, not_served, refuses, repeats, reply_head, saves, seat_for, serves_call, shows, tells_boot, whole}
+use Rattle.afs_rows.specs.ServerSteps.{back_timeout_row, server_row, start_row, wake_row}
+use Rattle.afs_rows.specs.States.{BackCall, Seat, ServerState}
+use Rattle.afs_rows.specs.Steps.{Step}
+use Rattle.std.proofs.Common.{◌≡◌, ℕ, ◌+◌, ◌≤◌, ◌<◌, ◌⊎◌, inl, inr, arith, eq-eqb, Bool, true, false, cond, List, [], ◌∷◌, ◌++◌, Option, Some, None, refl, sym, ap, subst, ◌∙◌}
+use Rattle.std.specs.Prelude.{⊤}
+
+-- ---- boot numbers that were told, and replies that were made
+
+server_is : (i j : ℕ) → Server i ≡ Server j → i ≡ j
+server_is i j e = cc
+
+no_server : (n i : ℕ) → Client n ≡ Server i → ⊥
+no_server n i e = absurd cc
+
+-- that server has begun this boot
+abbrev IsHad : (ℕ → Host) → Node → ℕ → Type 0
+IsHad hosts q b = (i : ℕ) → q ≡ Server i → b ≤ (hosts i).state.lasting.boot
+
+abbrev IsNoted : (ℕ → Host) → Head → Type 0
+IsNoted hosts h = IsHad hosts h.from h.boot
+
+-- a server's reply is that of the entry which ran the call
+abbrev IsRan : List Entry → Head → Type 0
+IsRan past h = (i : ℕ) → h.from ≡ Server i → Ran h past
+
+had_over : (hosts : ℕ → Host) (i : ℕ) (h : Host) → (hosts i).state.lasting.boot ≤ h.state.lasting.boot → (q : Node) (b : ℕ) → IsHad hosts q b → IsHad (put i h hosts) q b
+had_over hosts i h g q b w j e = at_put i j (λ (x : Host). b ≤ x.state.lasting.boot) h hosts
+    (λ same. let was : b ≤ (hosts i).state.lasting.boot = w i (e ∙ ap Server (sym same)) in let more : (hosts i).state.lasting.boot ≤ h.state.lasting.boot = g in omega arith) (λ other. w j e)
+
+own_had : (hosts : ℕ → Host) (i : ℕ) (h : Host) (b : ℕ) → b ≤ h.state.lasting.boot → (q : Node) → q ≡ Server i → IsHad (put i h hosts) q b
+own_had hosts i h b l q e j f = at_put i j (λ (x : Host). b ≤ x.state.lasting.boot) h hosts (λ same. l) (λ other. absurd (other (server_is i j (sym e ∙ f))))
+
+ran_later : (e : Entry) (past : List Entry) (h : Head) → Ran h past → Ran h (e ∷ past)
+ran_later e past h r = record { newer = e ∷ r.newer; at = r.at; older = r.older; split = ap (λ (x : List Entry). e ∷ x) r.split; message = r.message; given = r.given; is_call = r.is_call; key = r.key; boot = r.boot; callee = r.callee; node = r.node; first = r.first }
+
+ran_over : (e : Entry) (past : List Entry) (h : Head) → IsRan past h → IsRan (e ∷ past) h
+ran_over e past h w i q = ran_later e past h (w i q)
+
+-- the entry that is given the call
+ran_here : (e : Entry) (past : List Entry) (m : Message) (i boot : ℕ) → e.actor ≡ actors.Node (Server i) → given_message e.lines (sent_of past) ≡ Some m → IsCall m.carried → m.head.to ≡ Server i → m.head.boot ≡ boot → IsUnheard (Server i) (called_key m.head) boot past
+    → Ran (reply_head boot m.head) (e ∷ past)
+ran_here e past m i boot actor given is to own unheard = record {
+  newer = [];
+  at = e;
+  older = past;
+  split = refl;
+  message = m;
+  given = given;
+  is_call = is;
+  key = refl;
+  boot = own;
+  callee = refl;
+  node = actor ∙ ap actors.Node (sym to);
+  first = subst (λ (q : Node). IsUnheard q (called_key m.head) boot past) (sym to) unheard;
+}
+
+-- ---- what is kept of replies
+
+replies_to : (K M L O : Head → Type 0) → ((h : Head) → K h → M h) → ((h : Head) → L h → O h) → (seats : List Seat) → AreReplies K L seats → AreReplies M O seats
+replies_to K M L O w u seats h n seat m e r = answer_over K M L O w u m (h n seat m e r)
+
+sound_to : (K M L O : Head → Type 0) → ((h : Head) → K h → M h) → ((h : Head) → L h → O h) → (x : Memory) → IsSound K L x → IsSound M O x
+sound_to K M L O w u x h = record { seats = replies_to K M L O w u x.seats h.seats; kept = replies_to K M L O w u x.kept h.kept; lower = h.lower }
+
+cut_by : (K M : Head → Type 0) → ((h : Head) → K h → M h) → (boot : ℕ) (seats : List Seat) (fall : Fall) → IsCutBy K boot seats fall → IsCutBy M boot seats fall
+cut_by K M w boot seats (in_step m clock) h = if_call (λ x user call. admitted boot seats x ≡ pairs.runs → K (reply_head boot x)) (λ x user call. admitted boot seats x ≡ pairs.runs → M (reply_head boot x)) (λ x user call f e. w (reply_head boot x) (f e)) m h
+cut_by K M w boot seats at_rest h = tt
+cut_by K M w boot seats in_boot h = tt
+
+abbrev HasCutAt : (Head → Type 0) → ServerState → Option Fall → Type 0
+HasCutAt K x None = ⊤
+HasCutAt K x (Some fall) = IsCutBy K x.lasting.boot x.seats fall
+
+cut_to : (K M : Head → Type 0) → ((h : Head) → K h → M h) → (x : ServerState) (d : Option Fall) → HasCutAt K x d → HasCutAt M x d
+cut_to K M w x None h = tt
+cut_to K M w x (Some fall) h = cut_by K M w x.lasting.boot x.seats fall h
+
+-- ---- what holds after every entry
+
+-- of clients' keys
+abbrev AreUnheardAt : ℕ → Option Fall → List Seat → ℕ → List Entry → Type 0
+AreUnheardAt i down seats boot past = (j : ℕ) (k : Key) (b : ℕ) → k.node ≡ Client j → MayRun down boot (call_seat k.node seats) k b → IsUnheard (Server i) k b past
+
+record Hears (clients : ℕ → ClientState) (hosts : ℕ → Host) (sent : List Message) (past : List Entry) : Type 0 where
+  told : sent_of past ≡ sent
+  calls : Each (IfCall (λ h user call. IsHad hosts h.to h.boot)) sent
+  notices : Each (λ m. OfNotice (IsNoted hosts m.head) m.carried) sent
+  answers : Each (IfReply (λ r. IsRan past r.head)) sent
+  known : (j : ℕ) (q : Node) → IsHad hosts q (boot_of q (clients j).boots)
+  replies : (j : ℕ) → AreReplies (IsRan past) (IsNoted hosts) (clients j).seats
+  first : (i : ℕ) → 1 ≤ (hosts i).state.lasting.boot
+  unheard : (i : ℕ) → AreUnheardAt i (hosts i).down (hosts i).state.seats (hosts i).state.lasting.boot past
+  sound : (i : ℕ) → IsSound (IsRan past) (IsNoted hosts) (memory_of (hosts i).state)
+  held : (i : ℕ) → Each (IsAnswer (IsRan past) (IsNoted hosts)) (replies_of (hosts i).state.backs.held)
+  falls : (i : ℕ) → HasCutAt (IsRan past) (hosts i).state (hosts i).down
+
+abbrev HearsIn : Cell → List Entry → Type 0
+HearsIn c past = Hears c.clients c.hosts c.sent past
+
+abbrev After : List Entry → Moved → Type 0
+After past m = HearsIn m.cell (m.entry ∷ past)
+
+-- ---- what is given
+
+abbrev GivenTo : Node → Option Message → Type 0
+GivenTo q None = ⊤
+GivenTo q (Some m) = m.head.to ≡ q
+
+not_under : (q s : Node) (k : Key) (b : ℕ) (o : Option Message) → GivenTo q o → (q ≡ s → ⊥) → IsCallUnder s k b o → ⊥
+not_under q s k b None g ne x = x
+not_under q s k b (Some m) g ne x = ne (sym g ∙ x.0.1)
+
+none_under : (s : Node) (k : Key) (b : ℕ) (o : Option Message) → o ≡ None → IsCallUnder s k b o → ⊥
+none_under s k b o e x = subst (λ (y : Option Message). IsCallUnder s k b y) e x
+
+none_given : (q : Node) (o : Option Message) → o ≡ None → GivenTo q o
+none_given q o e = subst (GivenTo q) (sym e) tt
+
+unheard_on : (j : ℕ) (d : Option Fall) (seats : List Seat) (boot : ℕ) (e : Entry) (past : List Entry) → ((k : Key) (b : ℕ) → IsCallUnder (Server j) k b (given_message e.lines (sent_of past)) → ⊥) → AreUnheardAt j d seats boot past → AreUnheardAt j d seats boot (e ∷ past)
+unheard_on j d seats boot e past dull h n k b is may = (dull k b, h n k b is may)
+
+-- of boots to come
+unheard_next : (i : ℕ) (d : Option Fall) (seats : List Seat) (boot : ℕ) (past : List Entry) → AreUnheardAt i d seats boot past → (j : ℕ) (k : Key) (b : ℕ) → k.node ≡ Client j → boot < b → IsUnheard (Server i) k b past
+unheard_next i None seats boot past h j k b is l = h j k b is (inl l)
+unheard_next i (Some fall) seats boot past h j k b is l = h j k b is l
+
+none_more : (ms : List Message) → (ms ++ []) ≡ ms
+none_more [] = refl
+none_more (m ∷ ms) = ap (λ (x : List Message). m ∷ x) (none_more ms)
+
+-- ---- a step of a server
+
+host_hears : (clients : ℕ → ClientState) (hosts : ℕ → Host) (sent more : List Message) (past : List Entry) (e : Entry) (i : ℕ) (h : Host) → Hears clients hosts sent past → (hosts i).state.lasting.boot ≤ h.state.lasting.boot → sent_of (e ∷ past) ≡ more
+    → ((P : Message → Type 0) → Each P sent → Each P e.sent → Each P more) → Each (IsAnswer (IsRan (e ∷ past)) (IsNoted (put i h hosts))) e.sent → IsSound (IsRan (e ∷ past)) (IsNoted (put i h hosts)) (memory_of h.state)
+    → Each (IsAnswer (IsRan (e ∷ past)) (IsNoted (put i h hosts))) (replies_of h.state.backs.held) → HasCutAt (IsRan (e ∷ past)) h.state h.down → GivenTo (Server i) (given_message e.lines (sent_of past)) → AreUnheardAt i h.down h.state.seats h.state.lasting.boot (e ∷ past)
+    → Hears clients (put i h hosts) more (e ∷ past)
+host_hears clients hosts sent more past e i h H grows told over new sound held cut given heard =
+    let then : ℕ → Host = put i h hosts in
+    let w : (x : Head) → IsRan past x → IsRan (e ∷ past) x = ran_over e past in
+    let u : (x : Head) → IsNoted hosts x → IsNoted then x = λ x. had_over hosts i h grows x.from x.boot in
+    record {
+      told = told;
+      calls = over (IfCall (λ x user call. IsHad then x.to x.boot))
+          (each_map _ _ (if_call (λ x user call. IsHad hosts x.to x.boot) (λ x user call. IsHad then x.to x.boot) (λ x user call. had_over hosts i h grows x.to x.boot)) sent H.calls)
+          (each_map (IsAnswer (IsRan (e ∷ past)) (IsNoted then)) _ (λ m a. uncalled_any (λ x user call. IsHad then x.to x.boot) m a.0) e.sent new);
+      notices = over (λ m. OfNotice (IsNoted then m.head) m.carried)
+          (each_map (λ m. OfNotice (IsNoted hosts m.head) m.carried) (λ m. OfNotice (IsNoted then m.head) m.carried) (λ m. of_notice (IsNoted hosts m.head) (IsNoted then m.head) (u m.head) m.carried) sent H.notices)
+          (each_map (IsAnswer (IsRan (e ∷ past)) (IsNoted then)) (λ m. OfNotice (IsNoted then m.head) m.carried) (λ m a. a.1.1) e.sent new);
+      answers = over (IfReply (λ r. IsRan (e ∷ past) r.head))
+          (each_map _ _ (if_reply (λ r. IsRan past r.head) (λ r. IsRan (e ∷ past) r.head) (λ r. w r.head)) sent H.answers)
+          (each_map (IsAnswer (IsRan (e ∷ past)) (IsNoted then)) (IfReply (λ r. IsRan (e ∷ past) r.head)) (λ m a. a.1.0) e.sent new);
+      known = λ j q. had_over hosts i h grows q (boot_of q (clients j).boots) (H.known j q);
+      replies = λ j. replies_to (IsRan past) (IsRan (e ∷ past)) (IsNoted hosts) (IsNoted then) w u (clients j).seats (H.replies j);
+      first = λ j. at_put i j (λ (x : Host). 1 ≤ x.state.lasting.boot) h hosts (λ same. let was : 1 ≤ (hosts i).state.lasting.boot = H.first i in let g : (hosts i).state.lasting.boot ≤ h.state.lasting.boot = grows in omega arith) (λ other. H.first j);
+      unheard = λ j. at_put i j (λ (x : Host). AreUnheardAt j x.down x.state.seats x.state.lasting.boot (e ∷ past)) h hosts
+          (λ same. subst (λ (q : ℕ). AreUnheardAt q h.down h.state.seats h.state.lasting.boot (e ∷ past)) same heard)
+          (λ other. unheard_on j (hosts j).down (hosts j).state.seats (hosts j).state.lasting.boot e past (λ k b. not_under (Server i) (Server j) k b (given_message e.lines (sent_of past)) given (λ z. other (server_is i j z))) (H.unheard j));
+      sound = λ j. at_put i j (λ (x : Host). IsSound (IsRan (e ∷ past)) (IsNoted then) (memory_of x.state)) h hosts (λ same. sound)
+          (λ other. sound_to (IsRan past) (IsRan (e ∷ past)) (IsNoted hosts) (IsNoted then) w u (memory_of (hosts j).state) (H.sound j));
+      held = λ j. at_put i j (λ (x : Host). Each (IsAnswer (IsRan (e ∷ past)) (IsNoted then)) (replies_of x.state.backs.held)) h hosts (λ same. held)
+          (λ other. each_map _ _ (answer_over (IsRan past) (IsRan (e ∷ past)) (IsNoted hosts) (IsNoted then) w u) (replies_of (hosts j).state.backs.held) (H.held j));
+      falls = λ j. at_put i j (λ (x : Host). HasCutAt (IsRan (e ∷ past)) x.state x.down) h hosts (λ same. cut) (λ other. cut_to (IsRan past) (IsRan (e ∷ past)) w (hosts j).state (hosts j).down (H.falls j));
+    }
+
+-- what a server keeps, by what is told after the step
+sound_on : (c : Cell) (past : List Entry) (e : Entry) (i : ℕ) (h : Host) → HearsIn c past → (c.hosts i).state.lasting.boot ≤ h.state.lasting.boot → IsSound (IsRan (e ∷ past)) (IsNoted (put i h c.hosts)) (memory_of (c.hosts i).state)
+sound_on c past e i h H grows = sound_to (IsRan past) (IsRan (e ∷ past)) (IsNoted c.hosts) (IsNoted (put i h c.hosts)) (ran_over e past) (λ x. had_over c.hosts i h grows x.from x.boot) (memory_of (c.hosts i).state) (H.sound i)
+
+held_on : (c : Cell) (past : List Entry) (e : Entry) (i : ℕ) (h : Host) → HearsIn c past → (c.hosts i).state.lasting.boot ≤ h.state.lasting.boot → Each (IsAnswer (IsRan (e ∷ past)) (IsNoted (put i h c.hosts))) (replies_of (c.hosts i).state.backs.held)
+held_on c past e i h H grows = each_map _ _ (answer_over (IsRan past) (IsRan (e ∷ past)) (IsNoted c.hosts) (IsNoted (put i h c.hosts)) (ran_over e past) (λ x. had_over c.hosts i h grows x.from x.boot)) (replies_of (c.hosts i).state.backs.held) (H.held i)
+
+abbrev of_server : ℕ → List Line → List Message → Entry
+of_server i ls sent = record { actor = actors.Node (Server i); lines = ls; sent = sent; volumes = [] }
+
+abbrev up_host : Armed → ServerState → Host
+up_host armed x = record { state = x; down = None; armed = armed }
+
+-- one that is done
+server_hears : (c : Cell) (past : List Entry) (i : ℕ) (D : Option ℕ) (armed : Armed) (s : Step ServerState) → HearsIn c past → (c.hosts i).state.lasting.boot ≤ s.state.lasting.boot
+    → HostStep (IsRan (of_server i s.lines s.sent ∷ past)) (IsNoted (put i (up_host armed s.state) c.hosts)) D (Server i) (c.hosts i).state s → GivenTo (Server i) (placed D (sent_of past)) → AreUnheardAt i None s.state.seats s.state.lasting.boot (of_server i s.lines s.sent ∷ past)
+    → After past (server_moves c i armed s)
+server_hears c past i D armed s H grows h given heard =
+    host_hears c.clients c.hosts c.sent (c.sent ++ s.sent) past (of_server i s.lines s.sent) i (up_host armed s.state) H grows (ap (λ (ms : List Message). ms ++ s.sent) H.told) (λ P. each_more P c.sent s.sent) h.sent h.hosts.sound h.held tt
+    (subst (GivenTo (Server i)) (sym (h.given (sent_of past))) given) heard
+
+-- one that leaves its state
+falls_hears : (c : Cell) (past : List Entry) (i : ℕ) (d : Option Fall) (armed : Armed) (ls : List Line) → HearsIn c past → HasCutAt (IsRan (of_server i ls [] ∷ past)) (c.hosts i).state d → GivenTo (Server i) (given_message ls (sent_of past))
+    → AreUnheardAt i d (c.hosts i).state.seats (c.hosts i).state.lasting.boot (of_server i ls [] ∷ past) → Hears c.clients (put i (record (c.hosts i) { down = d; armed = armed }) c.hosts) c.sent (of_server i ls [] ∷ past)
+falls_hears c past i d armed ls H cut given heard =
+    let h : Host = record (c.hosts i) { down = d; armed = armed } in
+    let same : (c.hosts i).state.lasting.boot ≤ (c.hosts i).state.lasting.boot = omega arith in
+    host_hears c.clients c.hosts c.sent c.sent past (of_server i ls []) i h H same (none_more (sent_of past) ∙ H.told) (λ P a b. a) tt (sound_on c past (of_server i ls []) i h H same) (held_on c past (of_server i ls []) i h H same) cut given heard
+
+-- ---- the seats after a step
+
+does_boot : (me : Node) (x : ServerState) (clock place : ℕ) (d : Decision) (ls : List Line) → (does me x clock place d ls).state.lasting.boot ≡ x.lasting.boot
+does_boot me x clock place drops ls = refl
+does_boot me x clock place (tells_boot head) ls = refl
+does_boot me x clock place (repeats reply) ls = refl
+does_boot me x clock place (refuses head code) ls = refl
+does_boot me x clock place (shows head r) ls = refl
+does_boot me x clock place (saves head c) ls = refl
+
+grow_seat : (x : List Seat) (s : Seat) (n : Node) (e k : ℕ) → Above (call_seat s.caller x) s.epoch s.number → Above (call_seat n (call_seated s x)) e k → Above (call_seat n x) e k
+grow_seat x s n e k a = at_seat s n x (λ (o : Option Seat). Above o e k → Above (call_seat n x) e k)
+    (λ own b. above_up (call_seat n x) s.epoch s.number e k (subst (λ (m : Node). Above (call_seat m x) s.epoch s.number) own a) (below_up_to s.epoch s.number e k b)) (λ other b. b)
+
+-- what is above the seats after it was above those before
+does_grows : (K L : Head → Type 0) (me : Node) (x : ServerState) (clock place : ℕ) (d : Decision) → IsDue K L me x d → (n : Node) (e k : ℕ) → Above (call_seat n (does me x clock place d []).state.seats) e k → Above (call_seat n x.seats) e k
+does_grows K L me x clock place drops due n e k a = a
+does_grows K L me x clock place (tells_boot head) due n e k a = a
+does_grows K L me x clock place (repeats reply) due n e k a = a
+does_grows K L me x clock place (refuses head code) due n e k a = grow_seat x.seats (seat_for head _) n e k due.1 a
+does_grows K L me x clock place (shows head r) due n e k a = grow_seat x.seats (seat_for head _) n e k due.1 a
+does_grows K L me x clock place (saves head c) due n e k a = grow_seat x.seats (seat_for head _) n e k due.1.1 a
+
+-- a call that ran isn't above them
+taken : (x : List Seat) (head h : Head) (r : Message) → h ≡ head → Above (call_seat head.from (call_seated (seat_for h r) x)) head.epoch head.number → ⊥
+taken x head h r e a =
+    let b : Above (call_seat h.from (call_seated (seat_for h r) x)) h.epoch h.number = subst (λ (y : Head). Above (call_seat y.from (call_seated (seat_for h r) x)) y.epoch y.number) (sym e) a in
+    below_not h.epoch h.number h.epoch h.number (subst (λ (o : Option Seat). Above o h.epoch h.number) (own_seat (seat_for h r) x) b) (up_to_same h.epoch h.number h.epoch h.number refl refl)
+
+does_taken : (me : Node) (x : ServerState) (clock place : ℕ) (head : Head) (d : Decision) → HasHead head d → Above (call_seat head.from (does me x clock place d []).state.seats) head.epoch head.number → ⊥
+does_taken me x clock place head drops h a = h
+does_taken me x clock place head (tells_boot other) h a = h
+does_taken me x clock place head (repeats reply) h a = h
+does_taken me x clock place head (refuses other code) h a = taken x.seats head other _ h a
+does_taken me x clock place head (shows other r) h a = taken x.seats head other _ h a
+does_taken me x clock place head (saves other c) h a = taken x.seats head other _ h a
+
+runs_head : (t : Bool) (x : ServerState) (clock : ℕ) (head : Head) (user : List ℕ) (call : FsCall) → HasHead head (cond t (serves_call x clock head user call) (refuses head not_served))
+runs_head true x clock head user call = served_head x clock head user call
+runs_head false x clock head user call = refl
+
+-- nor one that is not to run
+not_admitted : (x : ServerState) (head : Head) (o : Admitted Message) → head.boot ≡ x.lasting.boot → admitted x.lasting.boot x.seats head ≡ o → (o ≡ pairs.runs → ⊥) → Above (call_seat head.from x.seats) head.epoch head.number → ⊥
+not_admitted x head o own e ne = not_above head.epoch head.number (call_seat head.from x.seats)
+    (λ r. ne (sym e ∙ (ap (λ (t : Bool). cond t (paired head.epoch head.number (call_seat head.from x.seats)) (pairs.wrong_boot x.lasting.boot)) (eq-eqb head.boot x.lasting.boot own) ∙ r)))
+
+admits_taken : (me : Node) (x : ServerState) (clock place : ℕ) (head : Head) (user : List ℕ) (call : FsCall) (o : Admitted Message) → head.boot ≡ x.lasting.boot → admitted x.lasting.boot x.seats head ≡ o
+    → Above (call_seat head.from (does me x clock place (admits x clock head (whole head (carried.Call user (ask.File call))) o) []).state.seats) head.epoch head.number → ⊥
+admits_taken me x clock place head user call pairs.runs own e a = does_taken me x clock place head _ (runs_head (is_client head.from) x clock head user call) a
+admits_taken me x clock place head user call (pairs.kept reply) own e a = not_admitted x head (pairs.kept reply) own e (λ z. absurd cc) a
+admits_taken me x clock place head user call pairs.in_progress own e a = not_admitted x head pairs.in_progress own e (λ z. absurd cc) a
+admits_taken me x clock place head user call pairs.older own e a = not_admitted x head pairs.older own e (λ z. absurd cc) a
+admits_taken me x clock place head user call (pairs.wrong_boot boot) own e a = not_admitted x head (pairs.wrong_boot boot) own e (λ z. absurd cc) a
+
+called_taken : (t : Bool) (me : Node) (x : ServerState) (clock place : ℕ) (head : Head) (user : List ℕ) (call : FsCall) → t ≡ true → head.boot ≡ x.lasting.boot
+    → Above (call_seat head.from (does me x clock place (cond t (admits x clock head (whole head (carried.Call user (ask.File call))) (admitted x.lasting.boot x.seats head)) drops) []).state.seats) head.epoch head.number → ⊥
+called_taken true me x clock place head user call e own a = admits_taken me x clock place head user call (admitted x.lasting.boot x.seats head) own refl a
+called_taken false me x clock place head user call e own a = absurd cc
+
+hears_taken : (P : Head → List ℕ → FsCall → Type 0) (me : Node) (x : ServerState) (clock place : ℕ) (head : Head) (c : Carried) → IsCall c → OfCall (ByClient P) head c → head.to ≡ me → head.boot ≡ x.lasting.boot
+    → Above (call_seat head.from (does me x clock place (hears me x clock head c) []).state.seats) head.epoch head.number → ⊥
+hears_taken P me x clock place head (carried.Call user (ask.File call)) is w to own a = called_taken (same_node head.to me) me x clock place head user call (subst (λ (q : Node). same_node head.to q ≡ true) to (same_node-refl head.to)) own a
+hears_taken P me x clock place head (carried.Call user call) is w to own a = absurd w
+hears_taken P me x clock place head c is w to own a = absurd is
+
+-- of a server that was given a message
+served_given : (i : ℕ) (x : ServerState) (clock place : ℕ) (m : Message) (sent : List Message) → given_message (server_row (Server i) x clock place (Whole m)).lines sent ≡ message_at sent place
+unfolding server_row
+served_given i x clock place m sent = does_given (Server i) x clock place (decides (Server i) x clock (Whole m)) (turned_in (Server i) x clock (expired clock x.backs) (decides (Server i) x clock (Whole m)) (Whole m)).lines sent
+
+served_boot : (i : ℕ) (x : ServerState) (clock place : ℕ) (m : Message) → (server_row (Server i) x clock place (Whole m)).state.lasting.boot ≡ x.lasting.boot
+unfolding server_row
+served_boot i x clock place m = does_boot (Server i) x clock place (decides (Server i) x clock (Whole m)) []
+
+served_grows : (K L : Head → Type 0) (i : ℕ) (x : ServerState) (clock place : ℕ) (m : Message) → IsDue K L (Server i) x (decides (Server i) x clock (Whole m)) → (n : Node) (e k : ℕ) → Above (call_seat n (server_row (Server i) x clock place (Whole m)).state.seats) e k → Above (call_seat n x.seats) e k
+unfolding server_row
+served_grows K L i x clock place m due = does_grows K L (Server i) x clock place (decides (Server i) x clock (Whole m)) due
+
+served_taken : (P : Head → List ℕ → FsCall → Type 0) (i : ℕ) (x : ServerState) (clock place : ℕ) (m : Message) → IsCall m.carried → IfCall P m → m.head.to ≡ Server i → m.head.boot ≡ x.lasting.boot
+    → Above (call_seat m.head.from (server_row (Server i) x clock place (Whole m)).state.seats) m.head.epoch m.head.number → ⊥
+unfolding server_row
+served_taken P i x clock place m is w to own a = hears_taken P (Server i) x clock place m.head m.carried is w to own a
+
+-- of the others
+timed_state : (i : ℕ) (x : ServerState) (clock : ℕ) (n : Node) (b : BackCall) → ((back_timeout_row (Server i) x clock n b).state.seats ≡ x.seats) × ((back_timeout_row (Server i) x clock n b).state.lasting.boot ≡ x.lasting.boot)
+unfolding back_timeout_row
+timed_state i x clock n b = (refl, refl)
+
+woken_state : (i : ℕ) (x : ServerState) (clock : ℕ) → ((wake_row (Server i) x clock).state.seats ≡ x.seats) × ((wake_row (Server i) x clock).state.lasting.boot ≡ x.lasting.boot)
+unfolding wake_row
+woken_state i x clock = (refl, refl)
+
+started_boot : (i clock count : ℕ) (f : Begun) → (start_row (Server i) clock count f).state.lasting.boot ≡ f.state.lasting.boot + 1
+unfolding start_row
+started_boot i clock count f = refl
+
+after_boot : (me : Node) (x : ServerState) (clock : ℕ) (d : Decision) → x.lasting.boot ≤ (begun_after me x clock d).state.lasting.boot
+after_boot me x clock drops = omega arith
+after_boot me x clock (tells_boot head) = omega arith
+after_boot me x clock (repeats reply) = omega arith
+after_boot me x clock (refuses head code) = omega arith
+after_boot me x clock (shows head r) = omega arith
+after_boot me x clock (saves head c) = omega arith
+
+disk_boot : (me : Node) (x : ServerState) (after : Bool) (fall : Fall) → x.lasting.boot ≤ (begun_by_disk me x after fall).state.lasting.boot
+disk_boot me x after at_rest = omega arith
+disk_boot me x false (in_step m clock) = omega arith
+disk_boot me x true (in_step m clock) = after_boot me x clock (decides me x clock (Whole m))
+disk_boot me x false in_boot = omega arith
+disk_boot me x true in_boot = omega arith
+
+-- ---- a call that a server is given
+
+of_client_at : (n : Node) (X Y : Type 0) → ((j : ℕ) → n ≡ Client j → X → Y) → OfClient n X → OfClient n Y
+of_client_at (Client j) X Y w h = w j refl h
+of_client_at (Server j) X Y w h = tt
+of_client_at (Admin j) X Y w h = tt
+of_client_at Loc X Y w h = tt
+
+call_is : (P Q : Head → Type 0) (boot : ℕ) (seats : List Seat) (head : Head) (x : Carried) → (IsCall x → (j : ℕ) → head.from ≡ Client j → Q head → admitted boot seats head ≡ pairs.runs → P (reply_head boot head)) → OfCall (ByClient (λ h user call. Q h)) head x → IsCallOf P boot seats head x
+call_is P Q boot seats head (carried.Call user (ask.File call)) w h = of_client_at head.from (Q head) (admitted boot seats head ≡ pairs.runs → P (reply_head boot head)) (w tt) h
+call_is P Q boot seats head (carried.Call user call) w h = absurd h
+call_is P Q boot seats head (carried.Refusal code) w h = tt
+call_is P Q boot seats head (carried.Reply reply) w h = tt
+call_is P Q boot seats head carried.Notice w h = tt
+
+fact_of : (Q : Head → Type 0) (j : ℕ) (head : Head) (x : Carried) → IsCall x → head.from ≡ Client j → OfCall (ByClient (λ h user call. Q h)) head x → Q head
+fact_of Q j head (carried.Call user (ask.File call)) is from w = by_client j head.from (Q head) from w
+fact_of Q j head (carried.Call user call) is from w = absurd w
+fact_of Q j head x is from w = absurd is
+
+call_here : (c : Cell) (past : List Entry) (i : ℕ) (e : Entry) (m : Message) → HearsIn c past → e.actor ≡ actors.Node (Server i) → given_message e.lines (sent_of past) ≡ Some m → m.head.to ≡ Server i → (c.hosts i).down ≡ None → IfCall (λ h user call. IsHad c.hosts h.to h.boot) m
+    → IsCallOf (IsRan (e ∷ past)) (c.hosts i).state.lasting.boot (c.hosts i).state.seats m.head m.carried
+call_here c past i e m H actor given to up w =
+    call_is (IsRan (e ∷ past)) (λ h. IsHad c.hosts h.to h.boot) (c.hosts i).state.lasting.boot (c.hosts i).state.seats m.head m.carried
+    (λ is j from q runs k z. let a = runs_admitted (c.hosts i).state.lasting.boot (c.hosts i).state.seats m.head runs in
+        ran_here e past m i (c.hosts i).state.lasting.boot actor given is to a.0
+        (H.unheard i j (called_key m.head) (c.hosts i).state.lasting.boot from (subst (λ (d : Option Fall). MayRun d (c.hosts i).state.lasting.boot (call_seat m.head.from (c.hosts i).state.seats) (called_key m.head) (c.hosts i).state.lasting.boot) (sym up) (inr (refl, a.1)))))
+    w
+
+-- it is to no boot to come
+not_next : (c : Cell) (i : ℕ) (m : Message) (j : ℕ) (k : Key) (b : ℕ) → m.head.to ≡ Server i → IfCall (λ h user call. IsHad c.hosts h.to h.boot) m → k.node ≡ Client j → (c.hosts i).state.lasting.boot < b → IsCallUnder (Server i) k b (Some m) → ⊥
+not_next c i m j k b to w is l x =
+    let had : m.head.boot ≤ (c.hosts i).state.lasting.boot = fact_of (λ h. IsHad c.hosts h.to h.boot) j m.head m.carried x.0.0 (ap (λ (y : Key). y.node) x.1.0 ∙ is) w i to in
+    let own : m.head.boot ≡ b = x.1.1 in
+    let later : (c.hosts i).state.lasting.boot < b = l in
+    absurd (omega arith)
+
+-- ---- every input of a server
+
+may_back : (d : Option Fall) (boot more : ℕ) (o p : Option Seat) (k : Key) (b : ℕ) → d ≡ None → more ≡ boot → (Above p k.epoch k.number → Above o k.epoch k.number) → MayRun None more p k b → MayRun d boot o k b
+may_back d boot more o p k b up same w (inl l) = subst (λ (y : Option Fall). MayRun y boot o k b) (sym up) (inl (subst (λ (n : ℕ). n < b) same l))
+may_back d boot more o p k b up same w (inr x) = subst (λ (y : Option Fall). MayRun y boot o k b) (sym up) (inr (x.0 ∙ same, w x.1))
+
+not_again : (c : Cell) (i place : ℕ) (m : Message) (j : ℕ) (k : Key) (b : ℕ) → m.head.to ≡ Server i → IfCall (λ h user call. IsHad c.hosts h.to h.boot) m → k.node ≡ Client j
+    → MayRun None (server_row (Server i) (c.hosts i).state c.clock place (Whole m)).state.lasting.boot (call_seat k.node (server_row (Server i) (c.hosts i).state c.clock place (Whole m)).state.seats) k b → IsCallUnder (Server i) k b (Some m) → ⊥
+not_again c i place m j k b to w is (inl l) x = not_next c i m j k b to w is (subst (λ (n : ℕ). n < b) (served_boot i (c.hosts i).state c.clock place m) l) x
+not_again c i place m j k b to w is (inr r) x =
+    served_taken (λ h user call. IsHad c.hosts h.to h.boot) i (c.hosts i).state c.clock place m x.0.0 w to (x.1.1 ∙ (r.0 ∙ served_boot i (c.hosts i).state c.clock place m))
+    (subst (λ (y : Key). Above (call_seat y.node (server_row (Server i) (c.hosts i).state c.clock place (Whole m)).state.seats) y.epoch y.number) (sym x.1.0) r.1)
+
+serves_hears : (c : Cell) (past : List Entry) (i place : ℕ) (armed : Armed) (m : Message) → HearsIn c past → (c.hosts i).down ≡ None → m.head.to ≡ Server i → message_at c.sent place ≡ Some m → After past (server_moves c i armed (server_row (Server i) (c.hosts i).state c.clock place (Whole m)))
+serves_hears c past i place armed m H up to at =
+    let x : ServerState = (c.hosts i).state in
+    let s : Step ServerState = server_row (Server i) x c.clock place (Whole m) in
+    let e : Entry = of_server i s.lines s.sent in
+    let h : Host = up_host armed s.state in
+    let w : IfCall (λ y user call. IsHad c.hosts y.to y.boot) m = each_at (IfCall (λ y user call. IsHad c.hosts y.to y.boot)) c.sent place m at H.calls in
+    let told : message_at (sent_of past) place ≡ Some m = ap (λ (ms : List Message). message_at ms place) H.told ∙ at in
+    let given : given_message s.lines (sent_of past) ≡ Some m = served_given i x c.clock place m (sent_of past) ∙ told in
+    let same : s.state.lasting.boot ≡ x.lasting.boot = served_boot i x c.clock place m in
+    let grows : x.lasting.boot ≤ s.state.lasting.boot = omega arith in
+    let sound : IsSound (IsRan (e ∷ past)) (IsNoted (put i h c.hosts)) (memory_of x) = sound_on c past e i h H grows in
+    let due : IsDue (IsRan (e ∷ past)) (IsNoted (put i h c.hosts)) (Server i) x (decides (Server i) x c.clock (Whole m)) = decides_due (IsRan (e ∷ past)) (IsNoted (put i h c.hosts)) (Server i) x c.clock m sound.seats (call_here c past i e m H refl given to up w) (λ z. own_had c.hosts i h x.lasting.boot grows m.head.to z) in
+    server_hears c past i (Some place) armed s H grows (serves_step (IsRan (e ∷ past)) (IsNoted (put i h c.hosts)) i x c.clock place m sound (held_on c past e i h H grows) due) (subst (GivenTo (Server i)) (sym told) to)
+    (λ j k b is may. (
+      λ u. not_again c i place m j k b to w is may (subst (λ (o : Option Message). IsCallUnder (Server i) k b o) given u),
+      H.unheard i j k b is (may_back (c.hosts i).down x.lasting.boot s.state.lasting.boot (call_seat k.node x.seats) (call_seat k.node s.state.seats) k b up same (served_grows (IsRan (e ∷ past)) (IsNoted (put i h c.hosts)) i x c.clock place m due k.node k.epoch k.number) may),
+    ))
+
+blow_given : (i place : ℕ) (t : Bool) (sent : List Message) → given_message (lines.Given place ∷ blow_line i t ∷ []) sent ≡ message_at sent place
+blow_given i place t sent = refl
+
+cut_hears : (c : Cell) (past : List Entry) (i place : ℕ) (m : Message) (b : Blow) → HearsIn c past → (c.hosts i).down ≡ None → m.head.to ≡ Server i → message_at c.sent place ≡ Some m → After past (server_falls c i (lines.Given place ∷ blow_line i b.stops ∷ []) (in_step m c.clock))
+cut_hears c past i place m b H up to at =
+    let ls : List Line = lines.Given place ∷ blow_line i b.stops ∷ [] in
+    let w : IfCall (λ y user call. IsHad c.hosts y.to y.boot) m = each_at (IfCall (λ y user call. IsHad c.hosts y.to y.boot)) c.sent place m at H.calls in
+    let given : given_message ls (sent_of past) ≡ Some m = ap (λ (ms : List Message). message_at ms place) H.told ∙ at in
+    falls_hears c past i (Some (in_step m c.clock)) unarmed ls H (call_here c past i (of_server i ls []) m H refl given to up w) (subst (GivenTo (Server i)) (sym given) to)
+    (λ j k x is later. (
+      λ u. not_next c i m j k x to w is later (subst (λ (o : Option Message). IsCallUnder (Server i) k x o) given u),
+      unheard_next i (c.hosts i).down (c.hosts i).state.seats (c.hosts i).state.lasting.boot past (H.unheard i) j k x is later,
+    ))
+
+still_hears : (clients : ℕ → ClientState) (hosts : ℕ → Host) (sent : List Message) (past : List Entry) (e : Entry) → Hears clients hosts sent past → e.sent ≡ [] → given_message e.lines (sent_of past) ≡ None → Hears clients hosts sent (e ∷ past)
+still_hears clients hosts sent past e H none given =
+    let w : (x : Head) → IsRan past x → IsRan (e ∷ past) x = ran_over e past in
+    record {
+      told = ap (λ (ms : List Message). sent_of past ++ ms) none ∙ (none_more (sent_of past) ∙ H.told);
+      calls = H.calls;
+      notices = H.notices;
+      answers = each_map _ _ (if_reply (λ r. IsRan past r.head) (λ r. IsRan (e ∷ past) r.head) (λ r. w r.head)) sent H.answers;
+      known = H.known;
+      replies = λ j. replies_to (IsRan past) (IsRan (e ∷ past)) (IsNoted hosts) (IsNoted hosts) w (λ x z. z) (clients j).seats (H.replies j);
+      first = H.first;
+      unheard = λ j. unheard_on j (hosts j).down (hosts j).state.seats (hosts j).state.lasting.boot e past (λ k b. none_under (Server j) k b (given_message e.lines (sent_of past)) given) (H.unheard j);
+      sound = λ j. sound_to (IsRan past) (IsRan (e ∷ past)) (IsNoted hosts) (IsNoted hosts) w (λ x z. z) (memory_of (hosts j).state) (H.sound j);
+      held = λ j. each_map _ _ (answer_over (IsRan past) (IsRan (e ∷ past)) (IsNoted hosts) (IsNoted hosts) w (λ x z. z)) (replies_of (hosts j).state.backs.held) (H.held j);
+      falls = λ j. cut_to (IsRan past) (IsRan (e ∷ past)) w (hosts j).state (hosts j).down (H.falls j);
+    }
+
+void_hears : (c : Cell) (past : List Entry) → HearsIn c past → After past (voided c)
+void_hears c past H = still_hears c.clients c.hosts c.sent past (record { actor = actors.Nobody; lines = lines.Void ∷ []; sent = []; volumes = [] }) H refl refl
+
+either_hears : (past : List Entry) (t : Bool) (m k : Moved) → After past m → After past k → After past (cond t m k)
+either_hears past true m k a b = a
+either_hears past false m k a b = b
+
+served_hears : (c : Cell) (past : List Entry) (i place : ℕ) (m : Message) (b : Option Blow) → HearsIn c past → (c.hosts i).down ≡ None → m.head.to ≡ Server i → message_at c.sent place ≡ Some m → After past (server_served c i place m b)
+served_hears c past i place m None H up to at = serves_hears c past i place _ m H up to at
+served_hears c past i place m (Some b) H up to at = cut_hears c past i place m b H up to at
+
+received_hears : (c : Cell) (past : List Entry) (i place : ℕ) (luck : Luck) (m : Message) (d : Option Fall) → HearsIn c past → (c.hosts i).down ≡ d → m.head.to ≡ Server i → message_at c.sent place ≡ Some m → After past (server_given c i place luck m d)
+received_hears c past i place luck m None H up to at = served_hears c past i place m (struck (c.hosts i).armed luck (device_calls (decided_at c i m))) H up to at
+received_hears c past i place luck m (Some fall) H up to at = void_hears c past H
+
+-- down, where nothing is given
+down_heard : (c : Cell) (past : List Entry) (i : ℕ) (e : Entry) (fall : Fall) (seats : List Seat) (boot : ℕ) → HearsIn c past → given_message e.lines (sent_of past) ≡ None → (c.hosts i).state.lasting.boot ≤ boot → AreUnheardAt i (Some fall) seats boot (e ∷ past)
+down_heard c past i e fall seats boot H none more j k b is later =
+    let l : boot < b = later in let m : (c.hosts i).state.lasting.boot ≤ boot = more in
+    let next : (c.hosts i).state.lasting.boot < b = omega arith in
+    (none_under (Server i) k b (given_message e.lines (sent_of past)) none, unheard_next i (c.hosts i).down (c.hosts i).state.seats (c.hosts i).state.lasting.boot past (H.unheard i) j k b is next)
+
+stopped_hears : (c : Cell) (past : List Entry) (i : ℕ) (d : Option Fall) → HearsIn c past → After past (server_stopped c i d)
+stopped_hears c past i None H =
+    let same : (c.hosts i).state.lasting.boot ≤ (c.hosts i).state.lasting.boot = omega arith in
+    falls_hears c past i (Some at_rest) unarmed (lines.Crash (Server i) ∷ []) H tt tt (down_heard c past i (of_server i (lines.Crash (Server i) ∷ []) []) at_rest (c.hosts i).state.seats (c.hosts i).state.lasting.boot H refl same)
+stopped_hears c past i (Some fall) H = void_hears c past H
+
+-- what a restart begins with, by what is told after it
+abbrev BeginsBy : Cell → List Entry → ℕ → Begun → Type 0
+BeginsBy c past i f = (e : Entry) (h : Host) → (c.hosts i).state.lasting.boot ≤ h.state.lasting.boot → Begins (IsRan (e ∷ past)) (IsNoted (put i h c.hosts)) (Server i) (c.hosts i).state f
+
+-- it stays down
+stays_hears : (c : Cell) (past : List Entry) (i : ℕ) (f : Begun) (l : Line) (fall : Fall) → HearsIn c past → (c.hosts i).state.lasting.boot ≤ f.state.lasting.boot → BeginsBy c past i f → ((sent : List Message) → given_message (l ∷ []) sent ≡ None) → ((K : Head → Type 0) → IsCutBy K f.state.lasting.boot f.state.seats fall)
+    → all_lines is_unchanging (l ∷ []) ≡ true → Hears c.clients (put i (record { state = f.state; down = Some fall; armed = unarmed }) c.hosts) c.sent (of_server i (f.before (l ∷ [])) [] ∷ past)
+stays_hears c past i f l fall H more b none cut plain =
+    let e : Entry = of_server i (f.before (l ∷ [])) [] in
+    let h : Host = record { state = f.state; down = Some fall; armed = unarmed } in
+    let q : Begins (IsRan (e ∷ past)) (IsNoted (put i h c.hosts)) (Server i) (c.hosts i).state f = b e h more in
+    let given : given_message e.lines (sent_of past) ≡ None = q.ungiven (l ∷ []) (sent_of past) (none (sent_of past)) in
+    host_hears c.clients c.hosts c.sent c.sent past e i h H more (none_more (sent_of past) ∙ H.told) (λ P x y. x) tt (q.hosts (l ∷ []) plain).sound q.held (cut (IsRan (e ∷ past))) (none_given (Server i) (given_message e.lines (sent_of past)) given)
+    (down_heard c past i e fall f.state.seats f.state.lasting.boot H given more)
+
+may_next : (boot begun now : ℕ) (o : Option Seat) (k : Key) (b : ℕ) → boot ≤ begun → now ≡ begun + 1 → MayRun None now o k b → boot < b
+may_next boot begun now o k b l e (inl z) = let a : boot ≤ begun = l in let q : now ≡ begun + 1 = e in let y : now < b = z in omega arith
+may_next boot begun now o k b l e (inr z) = let a : boot ≤ begun = l in let q : now ≡ begun + 1 = e in let y : b ≡ now = z.0 in omega arith
+
+-- it comes up
+rises_hears : (c : Cell) (past : List Entry) (i : ℕ) (f : Begun) → HearsIn c past → (c.hosts i).state.lasting.boot ≤ f.state.lasting.boot → BeginsBy c past i f → After past (server_moves c i unarmed (start_row (Server i) c.clock c.count f))
+rises_hears c past i f H more b =
+    let s : Step ServerState = start_row (Server i) c.clock c.count f in
+    let e : Entry = of_server i s.lines s.sent in
+    let h : Host = up_host unarmed s.state in
+    let next : s.state.lasting.boot ≡ f.state.lasting.boot + 1 = started_boot i c.clock c.count f in
+    let m : (c.hosts i).state.lasting.boot ≤ f.state.lasting.boot = more in
+    let grows : (c.hosts i).state.lasting.boot ≤ s.state.lasting.boot = omega arith in
+    let q : HostStep (IsRan (e ∷ past)) (IsNoted (put i h c.hosts)) None (Server i) (c.hosts i).state s = starts_step (IsRan (e ∷ past)) (IsNoted (put i h c.hosts)) i (c.hosts i).state c.clock c.count f (b e h grows) in
+    server_hears c past i None unarmed s H grows q tt
+    (λ j k x is may. (none_under (Server i) k x (given_message s.lines (sent_of past)) (q.given (sent_of past)),
+      unheard_next i (c.hosts i).down (c.hosts i).state.seats (c.hosts i).state.lasting.boot past (H.unheard i) j k x is (may_next (c.hosts i).state.lasting.boot f.state.lasting.boot s.state.lasting.boot (call_seat k.node s.state.seats) k x more next may)))
+
+ends_hears : (c : Cell) (past : List Entry) (i : ℕ) (f : Begun) (fall : Fall) (out : Outcome) → HearsIn c past → IsCutBy (IsRan past) (c.hosts i).state.lasting.boot (c.hosts i).state.seats fall → (c.hosts i).state.lasting.boot ≤ f.state.lasting.boot → BeginsBy c past i f → After past (server_ends c i f fall out)
+ends_hears c past i f fall comes_up H cut more b = rises_hears c past i f H more b
+ends_hears c past i f fall fails_early H cut more b =
+    let e : Entry = of_server i (lines.Fault (Server i) ∷ []) [] in
+    let same : (c.hosts i).state.lasting.boot ≤ (c.hosts i).state.lasting.boot = omega arith in
+    falls_hears c past i (Some fall) unarmed (lines.Fault (Server i) ∷ []) H (cut_by (IsRan past) (IsRan (e ∷ past)) (ran_over e past) (c.hosts i).state.lasting.boot (c.hosts i).state.seats fall cut) tt
+    (down_heard c past i e fall (c.hosts i).state.seats (c.hosts i).state.lasting.boot H refl same)
+ends_hears c past i f fall fails_midway H cut more b = stays_hears c past i f (lines.Fault (Server i)) in_boot H more b (λ sent. refl) (λ K. tt) refl
+ends_hears c past i f fall is_full H cut more b = stays_hears c past i f (lines.Full (Server i)) at_rest H more b (λ sent. refl) (λ K. tt) refl
+
+restarted_hears : (c : Cell) (past : List Entry) (i : ℕ) (after : Bool) (out : Outcome) (d : Option Fall) → HearsIn c past → HasCutAt (IsRan past) (c.hosts i).state d → After past (server_restarted c i after out d)
+restarted_hears c past i after out None H cut = void_hears c past H
+restarted_hears c past i after out (Some fall) H cut =
+    let x : ServerState = (c.hosts i).state in
+    let f : Begun = begun_by_disk (Server i) x after fall in
+    ends_hears c past i f fall (settled f.state out) H cut (disk_boot (Server i) x after fall)
+    (λ e h more. disk_begins (IsRan (e ∷ past)) (IsNoted (put i h c.hosts)) (Server i) x after fall (sound_on c past e i h H more) (held_on c past e i h H more) (cut_by (IsRan past) (IsRan (e ∷ past)) (ran_over e past) x.lasting.boot x.seats fall cut)
+        (λ y to. own_had c.hosts i h x.lasting.boot more y.to to))
+
+-- its disk is set
+set_hears : (c : Cell) (past : List Entry) (i : ℕ) (l : Line) (armed : Armed) (d : Option Fall) → ((sent : List Message) → given_message (l ∷ []) sent ≡ None) → HearsIn c past → After past (server_armed c i l armed d)
+set_hears c past i l armed None none H =
+    let e : Entry = of_server i (l ∷ []) [] in
+    falls_hears c past i (c.hosts i).down armed (l ∷ []) H (cut_to (IsRan past) (IsRan (e ∷ past)) (ran_over e past) (c.hosts i).state (c.hosts i).down (H.falls i)) (none_given (Server i) (given_message (l ∷ []) (sent_of past)) (none (sent_of past)))
+    (unheard_on i (c.hosts i).down (c.hosts i).state.seats (c.hosts i).state.lasting.boot e past (λ k b. none_under (Server i) k b (given_message (l ∷ []) (sent_of past)) (none (sent_of past))) (H.unheard i))
+set_hears c past i l armed (Some fall) none H = void_hears c past H
+
+-- a step on no message, which leaves its seats and its boot number
+quiet_hears : (c : Cell) (past : List Entry) (i : ℕ) (armed : Armed) (s : Step ServerState) → HearsIn c past → (c.hosts i).down ≡ None → (s.state.seats ≡ (c.hosts i).state.seats) × (s.state.lasting.boot ≡ (c.hosts i).state.lasting.boot)
+    → ((K L : Head → Type 0) → IsSound K L (memory_of (c.hosts i).state) → Each (IsAnswer K L) (replies_of (c.hosts i).state.backs.held) → HostStep K L None (Server i) (c.hosts i).state s) → After past (server_moves c i armed s)
+quiet_hears c past i armed s H up same step =
+    let e : Entry = of_server i s.lines s.sent in
+    let h : Host = up_host armed s.state in
+    let boot : s.state.lasting.boot ≡ (c.hosts i).state.lasting.boot = same.1 in
+    let grows : (c.hosts i).state.lasting.boot ≤ s.state.lasting.boot = omega arith in
+    let q : HostStep (IsRan (e ∷ past)) (IsNoted (put i h c.hosts)) None (Server i) (c.hosts i).state s = step (IsRan (e ∷ past)) (IsNoted (put i h c.hosts)) (sound_on c past e i h H grows) (held_on c past e i h H grows) in
+    server_hears c past i None armed s H grows q tt
+    (λ j k b is may. (none_under (Server i) k b (given_message s.lines (sent_of past)) (q.given (sent_of past)),
+      H.unheard i j k b is (may_back (c.hosts i).down (c.hosts i).state.lasting.boot s.state.lasting.boot (call_seat k.node (c.hosts i).state.seats) (call_seat k.node s.state.seats) k b up boot (λ a. subst (λ (x : List Seat). Above (call_seat k.node x) k.epoch k.number) same.0 a) may)))
+
+back_hears : (c : Cell) (past : List Entry) (i : ℕ) (n : Node) (b : Option BackCall) → HearsIn c past → (c.hosts i).down ≡ None → After past (back_timed c i n b)
+back_hears c past i n None H up = void_hears c past H
+back_hears c past i n (Some b) H up = quiet_hears c past i _ _ H up (timed_state i (c.hosts i).state c.clock n b) (λ K L. times_step K L i (c.hosts i).state c.clock n b)
+
+timed_hears : (c : Cell) (past : List Entry) (i : ℕ) (n : Node) (d : Option Fall) → HearsIn c past → (c.hosts i).down ≡ d → After past (server_timed c i n d)
+timed_hears c past i n None H up = back_hears c past i n ((c.hosts i).state.backs.calls n) H up
+timed_hears c past i n (Some fall) H up = void_hears c past H
+
+woken_hears : (c : Cell) (past : List Entry) (i : ℕ) (d : Option Fall) → HearsIn c past → (c.hosts i).down ≡ d → After past (server_wakes c i d)
+woken_hears c past i None H up = quiet_hears c past i _ _ H up (woken_state i (c.hosts i).state c.clock) (λ K L. wakes_step K L i (c.hosts i).state c.clock)
+woken_hears c past i (Some fall) H up = void_hears c past H
+
+-- ---- a step of a client
+
+abbrev of_client_step : ℕ → Step ClientState → Entry
+of_client_step n s = record { actor = actors.Node (Client n); lines = s.lines; sent = s.sent; volumes = [] }
+
+last_had : (hosts : ℕ → Host) (n : ℕ) (y : ClientState) (h : Head) → IsHad hosts y.callee (boot_of y.callee y.boots) → IsLastOf n (caller_at y) h → IsHad hosts h.to h.boot
+last_had hosts n y h w l i q = subst (λ (b : ℕ). b ≤ (hosts i).state.lasting.boot) (sym l.boot) (w i (sym l.to ∙ q))
+
+client_hears : (c : Cell) (past : List Entry) (n : ℕ) (D : Option ℕ) (s : Step ClientState) → HearsIn c past → Tame (IsRan (of_client_step n s ∷ past)) (IsNoted c.hosts) (IsHad c.hosts) D n (caller_at (c.clients n)) s → GivenTo (Client n) (placed D (sent_of past)) → After past (client_moves c n s)
+client_hears c past n D s H t given =
+    let e : Entry = of_client_step n s in
+    let w : (x : Head) → IsRan past x → IsRan (e ∷ past) x = ran_over e past in
+    let known : (q : Node) → IsHad c.hosts q (boot_of q s.state.boots) = t.boots (H.known n) in
+    let to : GivenTo (Client n) (given_message s.lines (sent_of past)) = subst (GivenTo (Client n)) (sym (t.given (sent_of past))) given in
+    record {
+      told = ap (λ (ms : List Message). ms ++ s.sent) H.told;
+      calls = each_more (IfCall (λ x user call. IsHad c.hosts x.to x.boot)) c.sent s.sent H.calls
+          (each_map _ _ (if_call (λ x user call. IsLastOf n (caller_at s.state) x) (λ x user call. IsHad c.hosts x.to x.boot) (λ x user call. last_had c.hosts n s.state x (known s.state.callee))) s.sent t.sent);
+      notices = each_more (λ m. OfNotice (IsNoted c.hosts m.head) m.carried) c.sent s.sent H.notices t.notices;
+      answers = each_more (IfReply (λ r. IsRan (e ∷ past) r.head)) c.sent s.sent (each_map _ _ (if_reply (λ r. IsRan past r.head) (λ r. IsRan (e ∷ past) r.head) (λ r. w r.head)) c.sent H.answers) t.answers;
+      known = λ j. at_put n j (λ (x : ClientState). (q : Node) → IsHad c.hosts q (boot_of q x.boots)) s.state c.clients (λ same. known) (λ other. H.known j);
+      replies = λ j. at_put n j (λ (x : ClientState). AreReplies (IsRan (e ∷ past)) (IsNoted c.hosts) x.seats) s.state c.clients (λ same. t.kept) (λ other. replies_to (IsRan past) (IsRan (e ∷ past)) (IsNoted c.hosts) (IsNoted c.hosts) w (λ x z. z) (c.clients j).seats (H.replies j));
+      first = H.first;
+      unheard = λ j. unheard_on j (c.hosts j).down (c.hosts j).state.seats (c.hosts j).state.lasting.boot e past (λ k b. not_under (Client n) (Server j) k b (given_message s.lines (sent_of past)) to (no_server n j)) (H.unheard j);
+      sound = λ j. sound_to (IsRan past) (IsRan (e ∷ past)) (IsNoted c.hosts) (IsNoted c.hosts) w (λ x z. z) (memory_of (c.hosts j).state) (H.sound j);
+      held = λ j. each_map _ _ (answer_over (IsRan past) (IsRan (e ∷ past)) (IsNoted c.hosts) (IsNoted c.hosts) w (λ x z. z)) (replies_of (c.hosts j).state.backs.held) (H.held j);
+      falls = λ j. cut_to (IsRan past) (IsRan (e ∷ past)) w (c.hosts j).state (c.hosts j).down (H.falls j);
+    }
+
+-- what a client keeps, by what is told after the step
+kept_on : (c : Cell) (past : List Entry) (e : Entry) (n : ℕ) → HearsIn c past → AreReplies (IsRan (e ∷ past)) (IsNoted c.hosts) (c.clients n).seats
+kept_on c past e n H = replies_to (IsRan past) (IsRan (e ∷ past)) (IsNoted c.hosts) (IsNoted c.hosts) (ran_over e past) (λ x z. z) (c.clients n).seats (H.replies n)
+
+-- ---- every input
+
+to_hears : (c : Cell) (past : List Entry) (p : ℕ) (luck : Luck) (m : Message) (to : Node) → HearsIn c past → m.head.to ≡ to → message_at c.sent p ≡ Some m → After past (given_to c p luck m to)
+to_hears c past p luck m (Server i) H to at = either_hears past (has_host c i) _ _ (received_hears c past i p luck m (c.hosts i).down H refl to at) (void_hears c past H)
+to_hears c past p luck m (Client n) H to at =
+    let s : Step ClientState = client_row (Client n) (c.clients n) c.clock p (Whole m) in
+    let e : Entry = of_client_step n s in
+    either_hears past (c.away n) _ _ (void_hears c past H)
+    (client_hears c past n (Some p) s H
+        (given_tame (IsRan (e ∷ past)) (IsNoted c.hosts) (IsHad c.hosts) n (c.clients n) c.clock p m (kept_on c past e n H)
+            (call_is (IsRan (e ∷ past)) (λ h. IsHad c.hosts h.to h.boot) (c.clients n).epoch (c.clients n).seats m.head m.carried (λ is j from q runs i z. absurd (no_server n i (sym to ∙ z))) (each_at (IfCall (λ y user call. IsHad c.hosts y.to y.boot)) c.sent p m at H.calls))
+            (λ i z. absurd (no_server n i (sym to ∙ z))) (each_at (λ y. OfNotice (IsNoted c.hosts y.head) y.carried) c.sent p m at H.notices))
+        (subst (GivenTo (Client n)) (sym (ap (λ (ms : List Message). message_at ms p) H.told ∙ at)) to))
+to_hears c past p luck m Loc H to at = void_hears c past H
+to_hears c past p luck m (Admin n) H to at = void_hears c past H
+
+at_hears : (c : Cell) (past : List Entry) (p : ℕ) (luck : Luck) (m : Option Message) → message_at c.sent p ≡ m → HearsIn c past → After past (given_at c p luck m)
+at_hears c past p luck None e H = void_hears c past H
+at_hears c past p luck (Some m) e H = to_hears c past p luck m m.head.to H refl e
+
+begun_hears : (c : Cell) (past : List Entry) (n : ℕ) (act : Act) (g : Option Going) → HearsIn c past → After past (begun_by c n act g)
+begun_hears c past n act None H = client_hears c past n None _ H (begins_tame _ (IsNoted c.hosts) (IsHad c.hosts) n (c.clients n) c.clock act (kept_on c past _ n H)) tt
+begun_hears c past n act (Some g) H = void_hears c past H
+
+waited_hears : (c : Cell) (past : List Entry) (n : ℕ) (g : Option Going) → HearsIn c past → After past (waited_by c n g)
+waited_hears c past n None H = void_hears c past H
+waited_hears c past n (Some act) H = client_hears c past n None _ H (waits_tame _ (IsNoted c.hosts) (IsHad c.hosts) n (c.clients n) act (kept_on c past _ n H)) tt
+
+-- a client that begins again knows no boot number, and takes each server's to be the first
+first_had : (c : Cell) (past : List Entry) → HearsIn c past → (q : Node) → IsHad c.hosts q 1
+first_had c past H q i e = H.first i
+
+moved_hears : (c : Cell) (past : List Entry) (x : Input) → HearsIn c past → After past (moved c x)
+unfolding moved
+moved_hears c past (begins n act) H = either_hears past (c.away n) _ _ (void_hears c past H) (begun_hears c past n act (c.clients n).running H)
+moved_hears c past (gives p luck) H = at_hears c past p luck (message_at c.sent p) refl H
+moved_hears c past (waits n) H = either_hears past (c.away n) _ _ (void_hears c past H) (waited_hears c past n (c.clients n).running H)
+moved_hears c past (ticks n) H = still_hears c.clients c.hosts c.sent past (record { actor = actors.Clock; lines = lines.Tick n ∷ []; sent = []; volumes = [] }) H refl refl
+moved_hears c past (client_stops n) H = either_hears past (c.away n) _ _ (void_hears c past H) (client_hears c past n None _ H (falls_tame _ (IsNoted c.hosts) (IsHad c.hosts) n (c.clients n) (first_had c past H)) tt)
+moved_hears c past (client_starts n) H = either_hears past (c.away n) _ _ (client_hears c past n None _ H (rises_tame _ (IsNoted c.hosts) (IsHad c.hosts) n (c.clients n) (kept_on c past _ n H)) tt) (void_hears c past H)
+moved_hears c past (stops i) H = either_hears past (has_host c i) _ _ (stopped_hears c past i (c.hosts i).down H) (void_hears c past H)
+moved_hears c past (starts_again i after out) H = either_hears past (has_host c i) _ _ (restarted_hears c past i after out (c.hosts i).down H (H.falls i)) (void_hears c past H)
+moved_hears c past (sets_stop i calls pick) H = either_hears past (has_host c i) _ _ (set_hears c past i (lines.Stop (Server i) calls pick) _ (c.hosts i).down (λ sent. refl) H) (void_hears c past H)
+moved_hears c past (sets_fail i call) H = either_hears past (has_host c i) _ _ (set_hears c past i (lines.Fail (Server i) call) _ (c.hosts i).down (λ sent. refl) H) (void_hears c past H)
+moved_hears c past (server_waits i n) H = either_hears past (has_host c i) _ _ (timed_hears c past i n (c.hosts i).down H refl) (void_hears c past H)
+moved_hears c past (wakes i) H = either_hears past (has_host c i) _ _ (woken_hears c past i (c.hosts i).down H refl) (void_hears c past H)
+moved_hears c past nothing H = void_hears c past H
+
+-- ---- a run
+
+run_hears : (xs : List Input) (c : Cell) (past es : List Entry) (end : Cell) → HearsIn c past → Leads c xs es end → HearsIn end (past_of past es)
+run_hears [] c past [] end H r = subst (λ (x : Cell). HearsIn x past) (sym r) H
+run_hears [] c past (e ∷ es) end H r = absurd r
+run_hears (x ∷ xs) c past [] end H r = absurd r
+run_hears (x ∷ xs) c past (e ∷ es) end H r =
+    subst (λ (y : Entry). HearsIn end (past_of (y ∷ past) es)) (sym r.0) (run_hears xs (moved c x).cell ((moved c x).entry ∷ past) es end (moved_hears c past x H) r.1)
+
+first_hears : (s : Script) → HearsIn (start s) (set_up s ∷ [])
+first_hears s = record {
+  told = refl;
+  calls = tt;
+  notices = tt;
+  answers = tt;
+  known = λ j q i e. omega arith;
+  replies = λ j n seat m e. absurd cc;
+  first = λ i. omega arith;
+  unheard = λ i j k b is may. (none_under (Server i) k b (given_message (first_lines s.volumes) []) (given_first (first_lines s.volumes) [] (all_versions s.volumes)), tt);
+  sound = λ i. record { seats = λ n seat m e. absurd cc; kept = λ n seat m e. absurd cc; lower = λ n e k a. a };
+  held = λ i. tt;
+  falls = λ i. tt;
+}
+
+hears_at : (s : Script) (h : List Entry) (end : Cell) → RunsTo h s end → HearsIn end (past_of (set_up s ∷ []) h)
+hears_at s h end r = run_hears r.inputs (start s) (set_up s ∷ []) h end (first_hears s) r.leads
+
+pub run_unheard : (s : Script) (h : List Entry) (end : Cell) → RunsTo h s end → (i j : ℕ) → (end.hosts i).down ≡ None → (head : Head) → head.from ≡ Client j → admitted (end.hosts i).state.lasting.boot (end.hosts i).state.seats head ≡ pairs.runs
+    → IsUnheard (Server i) (called_key head) head.boot (past_of (set_up s ∷ []) h)
+run_unheard s h end r i j up head from e =
+    let a = runs_admitted (end.hosts i).state.lasting.boot (end.hosts i).state.seats head e in
+    (hears_at s h end r).unheard i j (called_key head) head.boot from (subst (λ (d : Option Fall). MayRun d (end.hosts i).state.lasting.boot (call_seat head.from (end.hosts i).state.seats) (called_key head) head.boot) (sym up) (inr a))
+
+reply_ran : (past : List Entry) (i j : ℕ) (head : Head) (x : Carried) → HasCode x → head.from ≡ Server i → head.to ≡ Client j → OfReply (OfClient head.to (IsRan past head)) x → Ran head past
+reply_ran past i j head (carried.Refusal code) is from to w = by_client j head.to (IsRan past head) to w i from
+reply_ran past i j head (carried.Reply reply) is from to w = by_client j head.to (IsRan past head) to w i from
+reply_ran past i j head x is from to w = absurd is
+
+pub run_answered : (s : Script) (h : List Entry) (end : Cell) → RunsTo h s end → (i j place : ℕ) (m : Message) → message_at end.sent place ≡ Some m → HasCode m.carried → m.head.from ≡ Server i → m.head.to ≡ Client j → Ran m.head (past_of (set_up s ∷ []) h)
+run_answered s h end r i j place m at is from to =
+    let past : List Entry = past_of (set_up s ∷ []) h in
+    reply_ran past i j m.head m.carried is from to (each_at (IfReply (λ y. IsRan past y.head)) end.sent place m at (hears_at s h end r).answers)
