@@ -126,4 +126,19 @@ impl Volume {
             blocks,
         })
     }
+    /// The parts of a volume, which `assemble` takes again, as they are or with other vnodes put in. It takes no memory.
+    #[tactic(auto, using(crate::proofs::Readable::parts_make))]
+    pub fn into_parts(self) -> (VolumeHead, VnodeStore)
+        ensures head { result.0 ≡ self.head }
+        ensures vnodes { result.1 ≡ self.vnodes }
+        ensures whole { make_volume result.0 result.1.table ≡ true }
+    {
+        let Volume {
+            alloc: _,
+            head,
+            vnodes,
+            blocks: _,
+        } = self;
+        (head, vnodes)
+    }
 }

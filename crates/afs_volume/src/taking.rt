@@ -10,7 +10,7 @@ ghost use Rattle.afs_records.specs.Durable.{changed_stored};
 ghost use Rattle.afs_vnode.specs.Stores.{AreVnodes};
 ghost use Rattle.afs_volume.specs.Counting.{blocks_at};
 ghost use Rattle.afs_volume.specs.Seen.{all_seen, AreReadable, IsReadable};
-ghost use Rattle.afs_volume.specs.Taking.{is_among, put_but, stored_of, without_all, CanTakeIn};
+ghost use Rattle.afs_volume.specs.Taking.{is_among, put_but, stored_of, without_all, CanTakeIn, HasRoom};
 
 use crate::Volume;
 use crate::limits::blocks_of;
@@ -113,7 +113,7 @@ fn remove_all(vnodes: &mut VnodeStore, before: u32, removed: &[u32]) -> u32
 impl Volume {
     /// Makes room for one `take_in` of this change.
     pub fn reserve(&mut self, c: &Change) -> Mem<()>
-        ensures room { OnOk result (length c.now.vnodes ≤ self.new.vnodes.room) }
+        ensures room { OnOk result (HasRoom self.new c.now) }
         ensures head { self.new.head ≡ self.old.head }
         ensures vnodes { self.new.vnodes.table ≡ self.old.vnodes.table }
     {
@@ -123,7 +123,7 @@ impl Volume {
     /// The volume after a change for which there is room. It takes no memory.
     pub fn take_in(&mut self, c: Change)
         requires can { CanTakeIn self.old c }
-        requires room { length c.vnodes ≤ self.old.vnodes.room }
+        requires room { HasRoom self.old c }
         ensures head { self.new.head ≡ record self.old.head { counter = c.counter; unique = c.unique } }
         ensures stored { changed_stored c.counter c.unique c.vnodes c.removed (stored_of self.old) ≡ Some (stored_of self.new) }
     {
