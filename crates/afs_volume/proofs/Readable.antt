@@ -75,11 +75,11 @@ pub all_read : (t : Table image.Vnode) → is_some (values_of t) ≡ are_read t
 all_read [] = refl
 all_read (p ∷ ps) = values_by p.0 p.1 (value_of p.1) (values_of ps) ∙ ap (λ (b : Bool). is_some (value_of p.1) && b) (all_read ps)
 
-nothing_taken : (i : ℕ) → take {A = ℕ × image.Vnode} i [] ≡ []
+pub nothing_taken : (i : ℕ) → take {A = ℕ × image.Vnode} i [] ≡ []
 nothing_taken zero = refl
 nothing_taken (suc i) = refl
 
-next_take : (p : ℕ × image.Vnode) (ps : Table image.Vnode) (i : ℕ) → take (suc i + 1) (p ∷ ps) ≡ p ∷ take (i + 1) ps
+pub next_take : (p : ℕ × image.Vnode) (ps : Table image.Vnode) (i : ℕ) → take (suc i + 1) (p ∷ ps) ≡ p ∷ take (i + 1) ps
 next_take p ps i = ap (λ (k : ℕ). take k (p ∷ ps)) (let z : suc i + 1 ≡ suc (i + 1) = omega arith in z)
 
 abbrev pub AllReadable : Table image.Vnode → Type 0
@@ -90,7 +90,7 @@ one_more_readable [] i all one = subst AllReadable (sym (nothing_taken (i + 1)))
 one_more_readable (p ∷ ps) zero all one = (one, tt)
 one_more_readable (p ∷ ps) (suc i) all one = subst AllReadable (sym (next_take p ps i)) (all.0, one_more_readable ps i all.1 one)
 
-whole : (t : Table image.Vnode) (i : ℕ) → length t ≤ i → take i t ≡ t
+pub whole : (t : Table image.Vnode) (i : ℕ) → length t ≤ i → take i t ≡ t
 whole [] i le = nothing_taken i
 whole (p ∷ ps) zero le = absurd (omega (arith, le))
 whole (p ∷ ps) (suc i) le = ap (λ (u : Table image.Vnode). p ∷ u) (whole ps i (omega (arith, le)))
