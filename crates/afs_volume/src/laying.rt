@@ -173,6 +173,7 @@ impl Volume {
         requires { CanBeLaid self.old.head.id (volume_of self.old) (edits_seen edits.now) }
         ensures ok { OnOk result (volume_of self.new ≡ at_once self.old.head.id (edits_seen edits.now) (volume_of self.old)) }
         ensures err { OnErr result ((self.new.head ≡ self.old.head) × (self.new.vnodes.table ≡ self.old.vnodes.table)) }
+        ensures id { self.new.head.id ≡ self.old.head.id }
     {
         let draft = self.draft(edits, 0)?;
         let unique = self.unique_left(edits);
@@ -190,7 +191,8 @@ impl Volume {
     /// Lays a line of set-up, or leaves the volume as it was: 22 where its path has no name, 20 and 2 where it doesn't lead
     /// to a directory, and the refusals of the operations. Indexes, data versions and the counter stay at 1.
     pub fn lay(&mut self, line: &SetupLine) -> Result<(), OpFault>
-        ensures { Lays (laid self.old.head.id line.now (volume_of self.old)) self.old self.new result }
+        ensures lays { Lays (laid self.old.head.id line.now (volume_of self.old)) self.old self.new result }
+        ensures id { self.new.head.id ≡ self.old.head.id }
     {
         match line {
             SetupLine::File { path, contents } => {
