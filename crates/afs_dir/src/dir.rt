@@ -54,6 +54,13 @@ impl Dir {
         self.names.len()
     }
 
+    /// The names in order. It takes no memory.
+    pub fn names(&self) -> &[Name]
+        ensures { result.now ≡ self.now }
+    {
+        self.names.as_slice()
+    }
+
     /// Whether there are no names.
     pub fn is_empty(&self) -> bool
         ensures { result ≡ (length self.now == 0) }

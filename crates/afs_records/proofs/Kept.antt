@@ -16,7 +16,7 @@ use Rattle.afs_ideal.proofs.DirectoryBytes.{spelled_is_read}
 use Rattle.afs_num.specs.declared.records.RecordHead.{RecordHead}
 use Rattle.afs_records.specs.Sound.{is_sound}
 use Rattle.afs_records.specs.Durable.{Stored, Durable, place_length, allowed, with_images, is_there, without_one, without, counted_as, changed_stored, folded, noted, longer}
-use Rattle.afs_records.specs.Changes.{image_left, images_left, gone_between, numbers_gone, change_record, set_times, unset_times, stored_after}
+use Rattle.afs_records.specs.Changes.{image_left, images_left, gone_between, numbers_gone, change_record, set_times, unset_times, stored_after, stored_between}
 use Rattle.afs_records.specs.Laws.{CanBeStored, volume_put}
 
 -- ---- a value that is spelled as an image is read again
@@ -80,7 +80,7 @@ same_tables {A} m n (p ∷ s) (q ∷ t) up down e =
 
 -- ---- what edits leave alone
 
-is_edited : ℕ → List Edit → Bool
+abbrev pub is_edited : ℕ → List Edit → Bool
 is_edited k [] = false
 is_edited k (e ∷ es) = nat_eq (edit_number e) k || is_edited k es
 
@@ -102,8 +102,7 @@ neither : (a b : Bool) → (a || b) ≡ false → (a ≡ false) × (b ≡ false)
 neither true b e = absurd cc
 neither false b e = (refl, e)
 
-all_keep : (id k : ℕ) (es : List Edit) (v : Volume) → is_edited k es ≡ false → get k (edited_all id es v).vnodes ≡ get k v.vnodes
-unfolding is_edited
+pub all_keep : (id k : ℕ) (es : List Edit) (v : Volume) → is_edited k es ≡ false → get k (edited_all id es v).vnodes ≡ get k v.vnodes
 all_keep id k [] v h = refl
 all_keep id k (e ∷ es) v h =
     let both = neither (nat_eq (edit_number e) k) (is_edited k es) h in
@@ -139,7 +138,7 @@ twice false true a o = refl
 twice false false a o = refl
 
 put_gets : (k : ℕ) (es : List Edit) (after : Volume) (t : Table Vnode) → get k (put_left es after t) ≡ cond (is_edited k es) (or_else (get k after.vnodes) (get k t)) (get k t)
-unfolding put_left is_edited
+unfolding put_left
 put_gets k [] after t = refl
 put_gets k (e ∷ es) after t =
     let n = edit_number e in
@@ -185,7 +184,7 @@ gone_twice false true x y o = refl
 gone_twice false false x y o = refl
 
 gone_gets : (k : ℕ) (es : List Edit) (before after : Volume) (t : Table Vnode) → get k (unset_all (numbers_gone es before after) t) ≡ cond (is_edited k es) (gone_or (get k before.vnodes) (get k after.vnodes) (get k t)) (get k t)
-unfolding is_edited unset_all
+unfolding unset_all
 gone_gets k [] before after t = refl
 gone_gets k (e ∷ es) before after t =
     let n = edit_number e in
@@ -234,13 +233,12 @@ unfolding unset_all
 unset_up [] t up = up
 unset_up (n ∷ ns) t up = unset_up ns (unset n t) (ascends_unset 1 n t up)
 
-vnodes_after : (id : ℕ) (es : List Edit) (before : Volume) → AscendsFrom 1 before.vnodes → AscendsFrom 1 (edited_all id es before).vnodes →
-    unset_all (numbers_gone es before (counted (edited_all id es before))) (put_left es (counted (edited_all id es before)) before.vnodes) ≡ (edited_all id es before).vnodes
-vnodes_after id es before up down =
-    let after = counted (edited_all id es before) in
-    same_tables 1 1 (unset_all (numbers_gone es before after) (put_left es after before.vnodes)) (edited_all id es before).vnodes
+vnodes_after : (es : List Edit) (before after : Volume) → AscendsFrom 1 before.vnodes → AscendsFrom 1 after.vnodes → ((k : ℕ) → is_edited k es ≡ false → get k after.vnodes ≡ get k before.vnodes) →
+    unset_all (numbers_gone es before after) (put_left es after before.vnodes) ≡ after.vnodes
+vnodes_after es before after up down keeps =
+    same_tables 1 1 (unset_all (numbers_gone es before after) (put_left es after before.vnodes)) after.vnodes
     (unset_up (numbers_gone es before after) (put_left es after before.vnodes) (put_up es after before.vnodes down up)) down
-    (λ k. leaves_after k es before after (all_keep id k es before))
+    (λ k. leaves_after k es before after (keeps k))
 
 -- ---- the fold of the record
 
@@ -292,30 +290,37 @@ counter_same id n (makes m y) v (Some x) is = rw is refl
 counter_same id n (frees m) v None is = rw is refl
 counter_same id n (frees m) v (Some x) is = rw is refl
 
-same_rest : (id : ℕ) (es : List Edit) (v : Volume) → edited_all id es v ≡ record v { vnodes = (edited_all id es v).vnodes; next = (edited_all id es v).next }
+pub same_rest : (id : ℕ) (es : List Edit) (v : Volume) → edited_all id es v ≡ record v { vnodes = (edited_all id es v).vnodes; next = (edited_all id es v).next }
 same_rest id [] v = refl
 same_rest id (e ∷ es) v = same_rest id es (edited id e v).volume ∙ ap (λ (w : Volume). record w { vnodes = (edited_all id es (edited id e v).volume).vnodes; next = (edited_all id es (edited id e v).volume).next }) (counter_same id 0 e v (get (edit_number e) v.vnodes) refl)
 
 may_be_stored : (s : Stored) → length s.volume.vnodes ≤ most_vnodes → is_sound s.volume ≡ true → allowed s ≡ Some s
 may_be_stored s few sound = rw (le-ltb most_vnodes (length s.volume.vnodes) few, sound) refl
 
+-- a volume that differs in the vnodes of these edits, its counter and its next unique number
+pub changed_for : (time : ℕ) (es : List Edit) (s : Stored) (after : Volume) → AscendsFrom 1 s.volume.vnodes → AscendsFrom 1 after.vnodes → ((k : ℕ) → is_edited k es ≡ false → get k after.vnodes ≡ get k s.volume.vnodes) →
+    after ≡ record s.volume { vnodes = after.vnodes; counter = after.counter; next = after.next } →
+    ((n : ℕ) (x : Vnode) → get n after.vnodes ≡ Some x → value_of (image_of n time x) ≡ Some x) → length after.vnodes ≤ most_vnodes → is_sound after ≡ true →
+    changed_stored after.counter after.next (images_left time es after) (numbers_gone es s.volume after) s ≡ Some (stored_between time es after s)
+unfolding held
+changed_for time es s after up down keeps rest values few sound =
+    let gone = numbers_gone es s.volume after in
+    let images = images_left time es after in
+    let put = held (put_left es after s.volume.vnodes) (set_times images s.times) s in
+    let told = counted_as after.counter after.next put in
+    let left : without gone told ≡ stored_between time es after s =
+    without_is gone told
+    ∙ ap (λ (t : Table Vnode). record s { volume = record s.volume { vnodes = t; counter = after.counter; next = after.next }; times = unset_times gone (set_times images s.times) }) (vnodes_after es s.volume after up down keeps)
+    ∙ ap (λ (v : Volume). record s { volume = v; times = unset_times gone (set_times images s.times) }) (sym rest) in
+    rw (are_there es s after, images_put time es after s values, left) (may_be_stored (stored_between time es after s) few sound)
+
 pub changed_is : (id time : ℕ) (es : List Edit) (s : Stored) → AscendsFrom 1 s.volume.vnodes → AscendsFrom 1 (edited_all id es s.volume).vnodes →
     ((n : ℕ) (x : Vnode) → get n (edited_all id es s.volume).vnodes ≡ Some x → value_of (image_of n time x) ≡ Some x) →
     length (edited_all id es s.volume).vnodes ≤ most_vnodes → is_sound (counted (edited_all id es s.volume)) ≡ true →
     changed_stored (counted (edited_all id es s.volume)).counter (counted (edited_all id es s.volume)).next (images_left time es (counted (edited_all id es s.volume))) (numbers_gone es s.volume (counted (edited_all id es s.volume))) s
     ≡ Some (stored_after id time es s)
-unfolding held
 changed_is id time es s up down values few sound =
-    let after = counted (edited_all id es s.volume) in
-    let gone = numbers_gone es s.volume after in
-    let images = images_left time es after in
-    let put = held (put_left es after s.volume.vnodes) (set_times images s.times) s in
-    let told = counted_as after.counter after.next put in
-    let left : without gone told ≡ stored_after id time es s =
-    without_is gone told
-    ∙ ap (λ (t : Table Vnode). record s { volume = record s.volume { vnodes = t; counter = after.counter; next = after.next }; times = unset_times gone (set_times images s.times) }) (vnodes_after id es s.volume up down)
-    ∙ ap (λ (v : Volume). record s { volume = record v { counter = after.counter }; times = unset_times gone (set_times images s.times) }) (sym (same_rest id es s.volume)) in
-    rw (are_there es s after, images_put time es after s values, left) (may_be_stored (stored_after id time es s) few sound)
+    changed_for time es s (counted (edited_all id es s.volume)) up down (λ k. all_keep id k es s.volume) (ap (λ (v : Volume). record v { counter = (edited_all id es s.volume).counter + 1 }) (same_rest id es s.volume)) values few sound
 
 pub change_kept : (head : RecordHead) (id time : ℕ) (es : List Edit) (s : Stored) (d : Durable) → get id d.volumes ≡ Some s → CanBeStored id es s.volume → is_sound (counted (edited_all id es s.volume)) ≡ true →
     folded (change_record head id time es s.volume) d ≡ Some (longer (place_length (change_record head id time es s.volume)) (noted head (volume_put id (stored_after id time es s) d)))

@@ -14,16 +14,12 @@ use Rattle.afs_ideal.specs.Soundness.{IsSound}
 use Rattle.afs_ideal.specs.Directories.{with_name}
 use Rattle.afs_ideal.proofs.Scopes.{accepted, all_pass}
 use Rattle.afs_ideal.proofs.Tables.{ascends_lower, ascends_set, free_is_free, get_set}
-use Rattle.afs_records.proofs.Kept.{same_tables}
+use Rattle.afs_records.proofs.Kept.{is_edited, same_tables}
 use Rattle.afs_volume.specs.Counting.{blocks_at}
 use Rattle.afs_volume.specs.Filled.{at_once, filled, filled_at_once}
 use Rattle.afs_volume.proofs.Sums.{blocks_set}
 
 -- ---- what set-up leaves as at first
-
-is_edited : ℕ → List Edit → Bool
-is_edited k [] = false
-is_edited k (e ∷ es) = nat_eq (edit_number e) k || is_edited k es
 
 one_first : (k m : ℕ) (o : Option Vnode) (t : Table Vnode) (b : Bool) → get m t ≡ o → nat_eq m k ≡ b → get k (one_at_first m o t) ≡ (if b then option_map at_first (get k t) else get k t)
 one_first k m None t true is same =
@@ -44,8 +40,7 @@ twice_first true true o = again_first o
 twice_first true false o = refl
 twice_first false c o = refl
 
-first_gets : (k : ℕ) (es : List Edit) (t : Table Vnode) → get k (all_at_first es t) ≡ (if is_edited k es then option_map at_first (get k t) else get k t)
-unfolding is_edited
+pub first_gets : (k : ℕ) (es : List Edit) (t : Table Vnode) → get k (all_at_first es t) ≡ (if is_edited k es then option_map at_first (get k t) else get k t)
 first_gets k [] t = refl
 first_gets k (e ∷ es) t =
     let m = edit_number e in
@@ -53,11 +48,11 @@ first_gets k (e ∷ es) t =
     ∙ (ap (λ (o : Option Vnode). if is_edited k es then option_map at_first o else o) (one_first k m (get m t) t (nat_eq m k) refl refl)
     ∙ twice_first (nat_eq m k) (is_edited k es) (get k t))
 
-one_up : (m : ℕ) (o : Option Vnode) (t : Table Vnode) → AscendsFrom 0 t → AscendsFrom 0 (one_at_first m o t)
+pub one_up : (m : ℕ) (o : Option Vnode) (t : Table Vnode) → AscendsFrom 0 t → AscendsFrom 0 (one_at_first m o t)
 one_up m None t up = up
 one_up m (Some x) t up = ascends_set 0 m (at_first x) t (omega arith) up
 
-first_up : (es : List Edit) (t : Table Vnode) → AscendsFrom 0 t → AscendsFrom 0 (all_at_first es t)
+pub first_up : (es : List Edit) (t : Table Vnode) → AscendsFrom 0 t → AscendsFrom 0 (all_at_first es t)
 first_up [] t up = up
 first_up (e ∷ es) t up = first_up es (one_at_first (edit_number e) (get (edit_number e) t) t) (one_up (edit_number e) (get (edit_number e) t) t up)
 
@@ -94,11 +89,11 @@ set_blocks n z t up =
 
 -- ---- a directory's names and what is made, one before the other
 
-two : Bool → ℕ → ℕ → Amend → Vnode → List Edit
+abbrev pub two : Bool → ℕ → ℕ → Amend → Vnode → List Edit
 two true d n a x = makes n x ∷ amends d a ∷ []
 two false d n a x = amends d a ∷ makes n x ∷ []
 
-put_two : Bool → ℕ → ℕ → Vnode → Vnode → Table Vnode → Table Vnode
+abbrev pub put_two : Bool → ℕ → ℕ → Vnode → Vnode → Table Vnode → Table Vnode
 put_two true d n y x t = set d y (set n x t)
 put_two false d n y x t = set n x (set d y t)
 
@@ -119,17 +114,14 @@ turned k d n y x o true false one other apart = refl
 turned k d n y x o false c one other apart = refl
 
 two_edited : (k : ℕ) (b : Bool) (d n : ℕ) (a : Amend) (x : Vnode) → is_edited k (two b d n a x) ≡ (nat_eq d k || nat_eq n k)
-unfolding two is_edited
 two_edited k true d n a x = or_turned (nat_eq n k) (nat_eq d k)
 two_edited k false d n a x = ends_or (nat_eq d k) (nat_eq n k)
 
 two_gets : (k : ℕ) (b : Bool) (d n : ℕ) (y x : Vnode) (t : Table Vnode) → nat_eq d n ≡ false → get k (put_two b d n y x t) ≡ (if nat_eq n k then Some x else (if nat_eq d k then Some y else get k t))
-unfolding put_two
 two_gets k true d n y x t apart = get_set k d y (set n x t) ∙ (ap (λ (o : Option Vnode). if nat_eq d k then Some y else o) (get_set k n x t) ∙ turned k d n y x (get k t) (nat_eq d k) (nat_eq n k) refl refl apart)
 two_gets k false d n y x t apart = get_set k n x (set d y t) ∙ ap (λ (o : Option Vnode). if nat_eq n k then Some x else o) (get_set k d y t)
 
-two_up : (b : Bool) (d n : ℕ) (y x : Vnode) (t : Table Vnode) → AscendsFrom 0 t → AscendsFrom 0 (put_two b d n y x t)
-unfolding put_two
+pub two_up : (b : Bool) (d n : ℕ) (y x : Vnode) (t : Table Vnode) → AscendsFrom 0 t → AscendsFrom 0 (put_two b d n y x t)
 two_up true d n y x t up = ascends_set 0 d y (set n x t) (omega arith) (ascends_set 0 n x t (omega arith) up)
 two_up false d n y x t up = ascends_set 0 n x (set d y t) (omega arith) (ascends_set 0 d y t (omega arith) up)
 
@@ -142,9 +134,8 @@ one_made id n x v free = ap (λ (o : Option Vnode). (makes_at id n x v o).volume
 elsewhere : (k m : ℕ) (y : Vnode) (t : Table Vnode) (o : Option Vnode) → nat_eq m k ≡ false → get k t ≡ o → get k (set m y t) ≡ o
 elsewhere k m y t o other is = get_set k m y t ∙ rw other is
 
-two_made : (id : ℕ) (b : Bool) (d n : ℕ) (a : Amend) (x y : Vnode) (v : Volume) → get d v.vnodes ≡ Some y → get n v.vnodes ≡ None → nat_eq d n ≡ false → nat_eq n d ≡ false
+pub two_made : (id : ℕ) (b : Bool) (d n : ℕ) (a : Amend) (x y : Vnode) (v : Volume) → get d v.vnodes ≡ Some y → get n v.vnodes ≡ None → nat_eq d n ≡ false → nat_eq n d ≡ false
     → edited_all id (two b d n a x) v ≡ record v { vnodes = put_two b d n (amended (v.counter + 1) a y) (fresh (v.counter + 1) v.next x) v.vnodes; next = v.next + 1 }
-unfolding two put_two
 two_made id true d n a x y v there free apart other =
     let w : Volume = record v { vnodes = set n (fresh (v.counter + 1) v.next x) v.vnodes; next = v.next + 1 } in
     ap (λ (u : Volume). (edited id (amends d a) u).volume) (one_made id n x v free) ∙ one_amended id d a y w (elsewhere d n (fresh (v.counter + 1) v.next x) v.vnodes (Some y) other there)
@@ -152,8 +143,7 @@ two_made id false d n a x y v there free apart other =
     let w : Volume = record v { vnodes = set d (amended (v.counter + 1) a y) v.vnodes } in
     ap (λ (u : Volume). (edited id (makes n x) u).volume) (one_amended id d a y v there) ∙ one_made id n x w (elsewhere n d (amended (v.counter + 1) a y) v.vnodes None apart free)
 
-two_filled : (bytes : List ℕ) (b : Bool) (d n : ℕ) (a : Amend) (x : Vnode) → filled bytes (two b d n a x) ≡ two b d n a (record x { contents = bytes })
-unfolding two
+pub two_filled : (bytes : List ℕ) (b : Bool) (d n : ℕ) (a : Amend) (x : Vnode) → filled bytes (two b d n a x) ≡ two b d n a (record x { contents = bytes })
 two_filled bytes true d n a x = refl
 two_filled bytes false d n a x = refl
 
@@ -286,25 +276,24 @@ two_at_once id b d n a x y bytes v there free apart other writable up kind =
     ∙ (called_is ∙ rw (blocks, laid, two_filled bytes b d n a x, is_all) refl)
 
 -- what is known of a name that is accepted
-record Creates (d : Fid) (name : List ℕ) (v : Volume) (es : List Edit) : Type 0 where
-  y : Vnode
-  there : get d.vnode v.vnodes ≡ Some y
-  writable : nat_eq v.kind 0 ≡ true
-  is : es ≡ two (nat_lt (free_number a_file v) d.vnode) d.vnode (free_number a_file v) (record no_amend { names = Some (with_name (name_of name (free_number a_file v) v.next) (names_in (vnode_of d v))) }) (with_status (Some nothing_set) (new_file d))
+pub record Creates (d : Fid) (name : List ℕ) (v : Volume) (es : List Edit) : Type 0 where
+  pub y : Vnode
+  pub there : get d.vnode v.vnodes ≡ Some y
+  pub writable : nat_eq v.kind 0 ≡ true
+  pub is : es ≡ two (nat_lt (free_number a_file v) d.vnode) d.vnode (free_number a_file v) (record no_amend { names = Some (with_name (name_of name (free_number a_file v) v.next) (names_in (vnode_of d v))) }) (with_status (Some nothing_set) (new_file d))
 
 there_by : (u : ℕ) (o : Option Vnode) → is_some (if_unique u o) ≡ true → (y : Vnode) × (o ≡ Some y)
 there_by u None e = absurd cc
 there_by u (Some y) e = (y, refl)
 
-in_order : (b : Bool) (d n : ℕ) (a : Amend) (x : Vnode) → (if b then makes n x ∷ placed (amends d a) [] else amends d a ∷ makes n x ∷ []) ≡ two b d n a x
-unfolding two
+pub in_order : (b : Bool) (d n : ℕ) (a : Amend) (x : Vnode) → (if b then makes n x ∷ placed (amends d a) [] else amends d a ∷ makes n x ∷ []) ≡ two b d n a x
 in_order true d n a x = refl
 in_order false d n a x = refl
 
 changes_of : (es fs : List Edit) (n m : ℕ) → changes es n ≡ changes fs m → es ≡ fs
 changes_of es fs n m e = cc
 
-creates : (id : ℕ) (d : Fid) (name : List ℕ) (v : Volume) (es : List Edit) (m : ℕ) → op id all_rights (calls.CreateFile d name nothing_set) v ≡ changes es m → Creates d name v es
+pub creates : (id : ℕ) (d : Fid) (name : List ℕ) (v : Volume) (es : List Edit) (m : ℕ) → op id all_rights (calls.CreateFile d name nothing_set) v ≡ changes es m → Creates d name v es
 creates id d name v es m e =
     let a = accepted id all_rights (calls.CreateFile d name nothing_set) v es m e in
     let t = all_pass (tests all_rights (calls.CreateFile d name nothing_set) v) a.tested in
@@ -317,11 +306,11 @@ creates id d name v es m e =
       is = sym (changes_of (ascending (creating d name nothing_set None (new_file d) v)) es n m a.effected) ∙ in_order (nat_lt n d.vnode) d.vnode n _ (with_status (Some nothing_set) (new_file d));
     }
 
-apart_by : (d n : ℕ) (t : Table Vnode) (y : Vnode) (b : Bool) → nat_eq d n ≡ b → get d t ≡ Some y → get n t ≡ None → b ≡ false
+pub apart_by : (d n : ℕ) (t : Table Vnode) (y : Vnode) (b : Bool) → nat_eq d n ≡ b → get d t ≡ Some y → get n t ≡ None → b ≡ false
 apart_by d n t y true is there free = absurd (let z : ◌≡◌ {A = Option Vnode} (Some y) None = sym there ∙ (ap (λ (k : ℕ). get k t) (let w : d ≡ n = grind (arith, nat_tests, is) in w) ∙ free) in cc)
 apart_by d n t y false is there free = refl
 
-turn : (d n : ℕ) → nat_eq d n ≡ false → nat_eq n d ≡ false
+pub turn : (d n : ℕ) → nat_eq d n ≡ false → nat_eq n d ≡ false
 turn d n e = grind (arith, nat_tests, e)
 
 pub file_at_once : (id : ℕ) (d : Fid) (name bytes : List ℕ) (v : Volume) (es : List Edit) (m : ℕ) → IsSound v → op id all_rights (calls.CreateFile d name nothing_set) v ≡ changes es m

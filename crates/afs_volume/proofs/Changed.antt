@@ -31,7 +31,7 @@ use Rattle.afs_volume.proofs.Left.{all_there, shown_left}
 
 -- ---- edits that can be drawn
 
-own_by : (k : Kind) (x : Vnode) → HasByKind k x → HasOwn k x
+pub own_by : (k : Kind) (x : Vnode) → HasByKind k x → HasOwn k x
 own_by a_directory x h = h.contents
 own_by a_file x h = (h.names, h.acl)
 own_by a_link x h = (h.names, h.acl)
@@ -49,7 +49,7 @@ each_drawn v later (e ∷ es) low sound fits left finds =
     let two = both (edit_fits v e) (list_all (edit_fits v) es) fits in
     (record { counter = low; fits = two.0; stands = stands_by v later e (before_edit v e) refl sound left.0 finds.0 }, each_drawn v later es low sound two.1 left.1 finds.1)
 
-not_last : (b : Bool) (n : ℕ) → nat_lt n last_count ≡ b → not (not b) ≡ true → n < last_count
+pub not_last : (b : Bool) (n : ℕ) → nat_lt n last_count ≡ b → not (not b) ≡ true → n < last_count
 not_last true n is h = ltb-true n last_count is
 not_last false n is h = absurd cc
 
@@ -73,7 +73,7 @@ next_low_by true v (amends n a) es is fits more h = absurd cc
 next_low_by true v (frees n) es is fits more h = absurd cc
 next_low_by false v e es is fits more h = more h
 
-next_low : (v : Volume) (es : List Edit) → list_all (edit_fits v) es ≡ true → list_any makes_vnode es ≡ true → v.next < last_count
+pub next_low : (v : Volume) (es : List Edit) → list_all (edit_fits v) es ≡ true → list_any makes_vnode es ≡ true → v.next < last_count
 next_low v [] fits h = absurd cc
 next_low v (e ∷ es) fits h =
     let two = both (edit_fits v e) (list_all (edit_fits v) es) fits in

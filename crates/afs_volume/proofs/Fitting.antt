@@ -14,7 +14,9 @@ use Rattle.afs_ideal.specs.VnodeMaps.{most_vnodes}
 use Rattle.afs_ideal.specs.Volumes.{Vnode, Edit, counted, edited_all}
 use Rattle.afs_ideal.proofs.Preserved.{operations_leave_sound}
 use Rattle.afs_ideal.proofs.Proper.{operations_change}
+use Rattle.afs_ideal.proofs.Looks.{Distinct, MakesAs}
 use Rattle.afs_ideal.proofs.Tables.{ascends_lower}
+use Rattle.afs_ideal.proofs.Tellings.{FindEach}
 use Rattle.afs_records.proofs.Kept.{changed_is}
 use Rattle.afs_records.proofs.Tested.{passes}
 use Rattle.afs_volume.specs.Changes.{IsChangeBy, IsKeptAs}
@@ -29,7 +31,7 @@ use Rattle.afs_volume.proofs.Drawn.{get_among, get_without, is_among, sees}
 use Rattle.afs_volume.proofs.Few.{few_after}
 use Rattle.afs_volume.proofs.Values.{seen_is, shown_is, value_again, IsSeenOf}
 
-each_left : (P Q : image.Vnode → Type 0) (xs : List image.Vnode) → ((x : image.Vnode) → P x → Q x) → AllByRecursion P xs → AllByRecursion Q xs
+pub each_left : (P Q : image.Vnode → Type 0) (xs : List image.Vnode) → ((x : image.Vnode) → P x → Q x) → AllByRecursion P xs → AllByRecursion Q xs
 each_left P Q [] f all = tt
 each_left P Q (x ∷ xs) f all = (f x all.0, each_left P Q xs f all.1)
 
@@ -45,18 +47,23 @@ either n s t gone x left other e =
     either_by (get n s) (get n t) (is_among gone n) x left other
     (sym (get_among n s (without gone t) ∙ ap (λ (o : Option Vnode). if is_some (get n s) then get n s else o) (get_without n gone t)) ∙ e)
 
-each_seen : (w : volumes.Volume) (caller : Caller) (call : FsCall) (now : ℕ) (es : List Edit) (n : ℕ) (d : Draft) → IsSound (volume_of w) → IsOn w.head.id call → op w.head.id caller call (volume_of w) ≡ changes es n → IsDrafted w now es d
+pub each_seen_by : (w : volumes.Volume) (now : ℕ) (es : List Edit) (d : Draft) → Distinct es → MakesAs w.head.unique w.head.unique es → FindEach (volume_of w) es → IsDrafted w now es d
     → (m : ℕ) (x : Vnode) → get m (edited_all w.head.id es (volume_of w)).vnodes ≡ Some x → IsSeenOf x
-each_seen w caller call now es n d h on e draft m x is =
+each_seen_by w now es d apart one finds draft m x is =
     let v = volume_of w in
-    let ch = operations_change w.head.id caller call v es n h on e in
     let readable = each_left (IsLeft now) IsReadable d.vnodes (λ i l. l.readable) draft.images in
     either m (all_left v es) v.vnodes (all_freed v es) x
     (λ k. shown_is m d.vnodes x readable (ap (get m) draft.vnodes ∙ k))
     (λ k. seen_is m w.vnodes.table x w.readable k)
-    (sees w.head.id es v m ch.apart ch.one ch.finds ∙ is)
+    (sees w.head.id es v m apart one finds ∙ is)
 
-valued : (x : Vnode) (n time : ℕ) → IsSeenOf x → value_of (image_of n time x) ≡ Some x
+each_seen : (w : volumes.Volume) (caller : Caller) (call : FsCall) (now : ℕ) (es : List Edit) (n : ℕ) (d : Draft) → IsSound (volume_of w) → IsOn w.head.id call → op w.head.id caller call (volume_of w) ≡ changes es n → IsDrafted w now es d
+    → (m : ℕ) (x : Vnode) → get m (edited_all w.head.id es (volume_of w)).vnodes ≡ Some x → IsSeenOf x
+each_seen w caller call now es n d h on e draft m x is =
+    let ch = operations_change w.head.id caller call (volume_of w) es n h on e in
+    each_seen_by w now es d ch.apart ch.one ch.finds draft m x is
+
+pub valued : (x : Vnode) (n time : ℕ) → IsSeenOf x → value_of (image_of n time x) ≡ Some x
 valued x n time s = subst (λ (y : Vnode). value_of (image_of n time y) ≡ Some y) s.1.1 (value_again s.0 s.1.0 n time)
 
 -- ---- the change

@@ -16,7 +16,6 @@ use Rattle.afs_ideal.specs.VnodeMaps.{most_vnodes}
 use Rattle.afs_ideal.specs.Volumes.{Kind, a_file, a_directory, a_link}
 use Rattle.afs_ideal.specs.Volumes as ideal
 use Rattle.afs_ideal.proofs.Tables.{ascends_lower}
-use Rattle.afs_num.specs.declared.volumes.Change.{Change}
 use Rattle.afs_volume.specs.declared.volume.Volume.{Volume}
 use Rattle.afs_volume.proofs.Soundly.{in_order}
 use Rattle.afs_records.specs.Durable.{Stored, allowed, changed_stored, counted_as, is_there, with_image, with_images, without, without_one}
@@ -139,6 +138,6 @@ pub takes : (head : VolumeHead) (counter unique : ℕ) (xs : List image.Vnode) (
 takes head counter unique xs ns t up e =
     takes_by head counter unique xs ns t (put_but ns xs (without_all ns t)) (list_all (is_there (stored_with head t)) ns) (with_images xs (stored_with head t)) refl refl (removed_first ns xs t up) e
 
-pub volume_takes : (v : Volume) (c : Change) → is_some (changed_stored c.counter c.unique c.vnodes c.removed (stored_of v)) ≡ true
-    → IsTaken v.head c.counter c.unique c.vnodes c.removed v.vnodes.table (put_but c.removed c.vnodes (without_all c.removed v.vnodes.table))
-volume_takes v c e = takes v.head c.counter c.unique c.vnodes c.removed v.vnodes.table (ascends_lower 0 1 v.vnodes.table (omega arith) (in_order v.head v.vnodes.table v.readable v.sound)) e
+pub volume_takes : (v : Volume) (counter unique : ℕ) (xs : List image.Vnode) (ns : List ℕ) → is_some (changed_stored counter unique xs ns (stored_of v)) ≡ true
+    → IsTaken v.head counter unique xs ns v.vnodes.table (put_but ns xs (without_all ns v.vnodes.table))
+volume_takes v counter unique xs ns e = takes v.head counter unique xs ns v.vnodes.table (ascends_lower 0 1 v.vnodes.table (omega arith) (in_order v.head v.vnodes.table v.readable v.sound)) e

@@ -21,3 +21,7 @@ pub mod Folded
 pub mod Walked
 pub mod Readable
 pub mod AtOnce
+pub mod AtFirst
+pub mod Led
+pub mod Files
+pub mod Listing

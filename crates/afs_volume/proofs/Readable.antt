@@ -10,11 +10,14 @@ use Rattle.afs_ideal.specs.AccessLists.{acl_at}
 use Rattle.afs_ideal.specs.Directories.{directory_bytes, directory_of}
 use Rattle.afs_ideal.specs.Images.{directory_value, value_of, values_of, with_value}
 use Rattle.afs_ideal.specs.Tables.{Table, get, AscendsFrom}
-use Rattle.afs_ideal.specs.Volumes.{a_directory, blocks_in, blocks_of, Kind}
+use Rattle.afs_ideal.specs.Volumes.{a_directory, a_file, a_link, blocks_in, blocks_of, type_of, Kind}
 use Rattle.afs_ideal.specs.Volumes as ideal
-use Rattle.afs_volume.specs.Assembling.{are_read, blocks_in_place, can_be_read, IsReadablePlace}
+use Rattle.afs_volume.specs.Assembling.{are_read, blocks_in_place, can_be_read, make_volume, IsReadablePlace}
+use Rattle.afs_volume.specs.Seen.{all_seen, kind_seen, names_spelled, text_by, AreReadable, IsReadable}
+use Rattle.afs_volume.specs.declared.volume.Volume as volumes
+use Rattle.afs_volume.proofs.Soundly.{in_order}
 use Rattle.afs_volume.proofs.Taken.{later_by}
-use Rattle.afs_volume.specs.Seen.{all_seen, names_spelled, AreReadable, IsReadable}
+use Rattle.afs_volume.proofs.Values.{names_again}
 
 -- ---- one vnode
 
@@ -72,11 +75,11 @@ pub all_read : (t : Table image.Vnode) → is_some (values_of t) ≡ are_read t
 all_read [] = refl
 all_read (p ∷ ps) = values_by p.0 p.1 (value_of p.1) (values_of ps) ∙ ap (λ (b : Bool). is_some (value_of p.1) && b) (all_read ps)
 
-nothing_taken : (i : ℕ) → take {A = ℕ × image.Vnode} i [] ≡ []
+pub nothing_taken : (i : ℕ) → take {A = ℕ × image.Vnode} i [] ≡ []
 nothing_taken zero = refl
 nothing_taken (suc i) = refl
 
-next_take : (p : ℕ × image.Vnode) (ps : Table image.Vnode) (i : ℕ) → take (suc i + 1) (p ∷ ps) ≡ p ∷ take (i + 1) ps
+pub next_take : (p : ℕ × image.Vnode) (ps : Table image.Vnode) (i : ℕ) → take (suc i + 1) (p ∷ ps) ≡ p ∷ take (i + 1) ps
 next_take p ps i = ap (λ (k : ℕ). take k (p ∷ ps)) (let z : suc i + 1 ≡ suc (i + 1) = omega arith in z)
 
 abbrev pub AllReadable : Table image.Vnode → Type 0
@@ -87,7 +90,7 @@ one_more_readable [] i all one = subst AllReadable (sym (nothing_taken (i + 1)))
 one_more_readable (p ∷ ps) zero all one = (one, tt)
 one_more_readable (p ∷ ps) (suc i) all one = subst AllReadable (sym (next_take p ps i)) (all.0, one_more_readable ps i all.1 one)
 
-whole : (t : Table image.Vnode) (i : ℕ) → length t ≤ i → take i t ≡ t
+pub whole : (t : Table image.Vnode) (i : ℕ) → length t ≤ i → take i t ≡ t
 whole [] i le = nothing_taken i
 whole (p ∷ ps) zero le = absurd (omega (arith, le))
 whole (p ∷ ps) (suc i) le = ap (λ (u : Table image.Vnode). p ∷ u) (whole ps i (omega (arith, le)))
@@ -118,3 +121,28 @@ pub place_readable : (m : ℕ) (t : Table image.Vnode) (i : ℕ) → AscendsFrom
 place_readable m [] i up all = tt
 place_readable m (p ∷ ps) zero up all = all p.0 p.1 (grind (arith, nat_tests))
 place_readable m (p ∷ ps) (suc i) up all = place_readable (p.0 + 1) ps i up.1 (λ n x e. all n x (later_by n x p ps (nat_eq p.0 n) refl up.1 e))
+
+-- ---- the parts of a volume make one again
+
+-- a vnode that has been read is read again
+readable_kind : (k : Kind) (x : image.Vnode) → kind_seen x.kind ≡ k → IsReadable x → can_be_read x ≡ true
+readable_kind a_directory x is h =
+    let kind : x.kind ≡ 2 = sym h.0 ∙ ap type_of is in
+    directory_read x kind ∙ rw (names_again x.contents (h.1.0 is), h.1.1.0 is) refl
+readable_kind a_file x is h =
+    let kind : x.kind ≡ 1 = sym h.0 ∙ ap type_of is in
+    let none : x.acl ≡ [] = sym h.1.1.1 ∙ ap (λ (k : Kind). text_by k x.acl) is in
+    other_read x (rw kind refl) ∙ rw (kind, none) refl
+readable_kind a_link x is h =
+    let kind : x.kind ≡ 3 = sym h.0 ∙ ap type_of is in
+    let none : x.acl ≡ [] = sym h.1.1.1 ∙ ap (λ (k : Kind). text_by k x.acl) is in
+    other_read x (rw kind refl) ∙ rw (kind, none) refl
+
+reads_all : (m : ℕ) (t : Table image.Vnode) → AscendsFrom m t → AreReadable t → are_read t ≡ true
+reads_all m [] up all = refl
+reads_all m (p ∷ ps) up all =
+    rw (readable_kind (kind_seen p.1.kind) p.1 refl (all p.0 p.1 (grind (arith, nat_tests))))
+    (reads_all (p.0 + 1) ps up.1 (λ n x e. all n x (later_by n x p ps (nat_eq p.0 n) refl up.1 e)))
+
+pub parts_make : (v : volumes.Volume) → make_volume v.head v.vnodes.table ≡ true
+parts_make v = rw (all_read v.vnodes.table, reads_all 1 v.vnodes.table (in_order v.head v.vnodes.table v.readable v.sound) v.readable) v.sound

@@ -24,7 +24,7 @@ read_by bytes (Ok names) is spelled = is
 read_by bytes (Err e) is spelled = ap directory_of (sym spelled) ∙ nothing_read
 
 -- bytes that spell the names as which they are read, are read as these
-names_again : (bytes : List ℕ) → directory_bytes (names_spelled bytes) ≡ bytes → directory_of bytes ≡ Ok (names_spelled bytes)
+pub names_again : (bytes : List ℕ) → directory_bytes (names_spelled bytes) ≡ bytes → directory_of bytes ≡ Ok (names_spelled bytes)
 unfolding names_spelled
 names_again bytes spelled = read_by bytes (directory_of bytes) refl spelled
 

@@ -9,3 +9,4 @@ pub mod Seen
 pub mod Taking
 pub mod Assembling
 pub mod Filled
+pub mod Listed

@@ -1,5 +1,5 @@
 -- A change that a volume takes in: what becomes of the table of its vnodes, and what it is as a disk keeps it.
-use Rattle.std.specs.Prelude.{◌≡◌, ℕ, List, [], ◌∷◌, Bool, true, false, is_some, map, nat_eq, if◌then◌else◌}
+use Rattle.std.specs.Prelude.{◌≡◌, ◌≤◌, ℕ, List, [], ◌∷◌, Bool, true, false, is_some, length, map, nat_eq, if◌then◌else◌}
 use Rattle.std.specs.List.{list_any, AllByRecursion}
 use Rattle.afs_num.specs.declared.vnodes.Vnode as image
 use Rattle.afs_num.specs.declared.volumes.VolumeHead.{VolumeHead}
@@ -26,6 +26,10 @@ pub record CanTakeIn (v : Volume) (c : Change) : Type 0 where
   pub taken : is_some (changed_stored c.counter c.unique c.vnodes c.removed (stored_of v)) ≡ true
   pub read : AllByRecursion IsReadable c.vnodes
   pub fits : AllByRecursion FitsImage c.vnodes
+
+-- There is room for the change, as a call that reserves makes it.
+abbrev pub HasRoom : Volume → Change → Type 0
+HasRoom v c = length c.vnodes ≤ v.vnodes.room
 
 abbrev pub is_among : ℕ → List ℕ → Bool
 is_among n ns = list_any (λ (m : ℕ). nat_eq m n) ns

@@ -39,7 +39,7 @@ fn is_new_among(edits: &[Edit]) -> bool
 impl Volume {
     /// The next unique number after edits, of which one at most makes a vnode.
     #[tactic(auto, using(crate::proofs::Changed::any_seen))]
-    fn unique_left(&self, edits: &[Edit]) -> u32
+    pub(crate) fn unique_left(&self, edits: &[Edit]) -> u32
         requires { list_any makes_vnode (edits_seen edits.now) ≡ true → self.now.head.unique < last_count }
         ensures { result ≡ (if list_any makes_vnode (edits_seen edits.now) then self.now.head.unique + 1 else self.now.head.unique) }
     {

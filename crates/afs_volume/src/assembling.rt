@@ -9,6 +9,7 @@ ghost use Rattle.afs_volume.specs.Seen.{all_seen, names_spelled, AreReadable, Is
 ghost use Rattle.afs_volume.specs.declared.faults.AssembleFault.TheVariants.{NotSound};
 
 use crate::Volume;
+use crate::directories::Directories;
 use crate::faults::AssembleFault;
 use crate::finding::{DIRECTORY, FILE, LINK};
 use crate::limits::blocks_of;
@@ -36,7 +37,7 @@ fn is_spelled(alloc: Global, bytes: &[u8]) -> Mem<bool>
 
 /// Whether a vnode can be read: a directory's contents and access list, and what is no directory has no access list.
 #[tactic(auto, using(crate::proofs::Readable::directory_read, crate::proofs::Readable::other_read, crate::proofs::Readable::readable_directory, crate::proofs::Readable::readable_other))]
-fn can_be_read(alloc: Global, x: &Vnode) -> Mem<bool>
+pub fn can_be_read(alloc: Global, x: &Vnode) -> Mem<bool>
     ensures value { IfOk result (λ b. b ≡ can_be_read x.now) }
     ensures readable { IfOk result (λ b. b ≡ true → IsReadable x.now) }
 {
@@ -110,12 +111,13 @@ impl Volume {
         if !are_read(alloc, &vnodes)? {
             return Err(AssembleFault::NotSound);
         }
+        let dirs = Directories::of(alloc, &vnodes)?;
         let parts = Parts {
-            alloc,
             head: &head,
             vnodes: &vnodes,
+            dirs: &dirs,
         };
-        if !parts.is_sound()? {
+        if !parts.is_sound() {
             return Err(AssembleFault::NotSound);
         }
         let blocks = blocks_in(&vnodes);
@@ -125,5 +127,20 @@ impl Volume {
             vnodes,
             blocks,
         })
+    }
+    /// The parts of a volume, which `assemble` takes again, as they are or with other vnodes put in. It takes no memory.
+    #[tactic(auto, using(crate::proofs::Readable::parts_make))]
+    pub fn into_parts(self) -> (VolumeHead, VnodeStore)
+        ensures head { result.0 ≡ self.head }
+        ensures vnodes { result.1 ≡ self.vnodes }
+        ensures whole { make_volume result.0 result.1.table ≡ true }
+    {
+        let Volume {
+            alloc: _,
+            head,
+            vnodes,
+            blocks: _,
+        } = self;
+        (head, vnodes)
     }
 }

@@ -24,7 +24,7 @@ use afs_num::vnodes::Vnode;
 
 impl Volume {
     /// A new vnode and its name, in a directory that the caller may change: 22, 17, 27.
-    fn creates(
+    pub(crate) fn creates(
         &self,
         fid: &Fid,
         d: &Vnode,

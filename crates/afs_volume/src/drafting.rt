@@ -87,9 +87,9 @@ impl Volume {
         }
     }
 
-    /// The version that a vnode has.
+    /// The version that a vnode with this image has in the volume, or would have.
     #[tactic(auto, unfolding(crate::specs::Seen::seen))]
-    fn version_of(&self, x: &Vnode) -> Mem<Version>
+    pub fn version_of(&self, x: &Vnode) -> Mem<Version>
         ensures { IfOk result (λ v. v ≡ version_at self.now.head.id x.now.vnode (seen x.now)) }
     {
         Ok(Version {

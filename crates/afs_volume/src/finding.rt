@@ -194,6 +194,7 @@ impl Volume {
     /// The vnode that a name of a directory names.
     pub(crate) fn named(&self, names: &Dir, name: &[u8]) -> Option<&Vnode>
         ensures seen { option_map seen (option_copied result) ≡ named_vnode (volume_of self.now) (named name.now names.now) }
+        ensures number { IfSome result (λ x. x.now.vnode ≡ number_named (named name.now names.now)) }
         ensures readable { IfSome result (λ x. IsReadable x.now) }
     {
         let (number, unique) = names.find(name)?;

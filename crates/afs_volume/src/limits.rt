@@ -153,7 +153,7 @@ impl Volume {
 
     /// The blocks after the edits are within the quota: those before, without those of the vnodes that are edited, and
     /// with theirs after the edits. No other vnode is looked at.
-    fn is_within_quota(&self, edits: &[Edit]) -> bool
+    pub(crate) fn is_within_quota(&self, edits: &[Edit]) -> bool
         requires apart { Distinct (edits_seen edits.now) }
         requires few { length edits.now ≤ 4 }
         requires ordered { AscendsFrom 0 (volume_of self.now).vnodes }

@@ -21,7 +21,7 @@ use afs_num::types::{Fid, Mem};
 use std::alloc::{AllocError, Global};
 
 /// The most bytes of a file.
-const MOST_BYTES: usize = 65_536;
+pub const MOST_BYTES: usize = 65_536;
 
 /// One edit, of a vnode that the call names.
 fn plan_one(alloc: Global, number: u32, amend: Amend) -> Mem<Plan>

@@ -1,30 +1,32 @@
 //! Whether vnodes make a sound volume.
 
-ghost use Rattle.std.specs.Prelude.{◌≡◌, ◌<◌, ◌^◌, ◌==◌, ◌&&◌, ◌||◌, nat_eq, not, true, length, slice_get, is_some, IfOk};
+ghost use Rattle.std.specs.Prelude.{◌≡◌, ◌<◌, ◌^◌, ◌==◌, ◌&&◌, ◌||◌, nat_eq, not, true, length, slice_get, Some};
 ghost use Rattle.std.specs.List.{list_all};
 ghost use Rattle.std.specs.Option.{option_copied, option_map};
+ghost use Rattle.indexmap.specs.IndexMap as maps;
 ghost use Rattle.afs_ideal.specs.Operations.{is_below, is_kind};
 ghost use Rattle.afs_ideal.specs.Soundness.{names_directory, names_it, names_of, subdirectories};
-ghost use Rattle.afs_ideal.specs.Tables.{get};
+ghost use Rattle.afs_ideal.specs.Tables.{get, AscendsFrom};
 ghost use Rattle.afs_ideal.specs.Volumes.{a_directory};
 ghost use Rattle.afs_records.specs.Sound.{ascends_from, gives_held, gives_one, has_by_kind, has_names, is_held_by, is_named_in, is_placed, is_root, is_sound, is_sound_vnode, kind_is_right};
 ghost use Rattle.afs_volume.specs.Assembling.{is_sound_pair, passes_at};
+ghost use Rattle.afs_volume.specs.Listed.{names_in, Lists};
 ghost use Rattle.afs_volume.specs.Seen.{all_seen, kind_seen, seen, volume_seen};
 
-use crate::finding::{is_directory, names_of};
-use afs_num::directories::{Name, Names};
-use afs_num::types::Mem;
+use crate::directories::Directories;
+use crate::finding::is_directory;
+use afs_num::directories::Name;
 use afs_num::vnodes::Vnode;
 use afs_num::volumes::VolumeHead;
 use afs_vnode::store::VnodeStore;
-use std::alloc::Global;
 
-/// What is to be a volume.
+/// What is to be a volume, with the names of its directories.
 #[derive(Clone, Copy)]
 pub struct Parts<'a> {
-    pub alloc: Global,
     pub head: &'a VolumeHead,
     pub vnodes: &'a VnodeStore,
+    pub dirs: &'a Directories,
+    ghost listed: { Lists (maps.get nat_eq dirs.now.dirs) (all_seen vnodes.now.table) },
 }
 
 /// How many names are those of directories, which have odd numbers.
@@ -97,20 +99,19 @@ impl<'a> Parts<'a> {
     /// The vnode of a number.
     #[tactic(auto, using(crate::proofs::Tables::got))]
     fn get(&self, number: u32) -> Option<&Vnode>
+        ensures value { option_copied result ≡ get number self.now.vnodes.now.table }
         ensures seen { option_map seen (option_copied result) ≡ get number (volume_seen self.now.head.now self.now.vnodes.now.table).vnodes }
     {
         self.vnodes.get(number)
     }
 
-    /// The names of a vnode; what is no directory has none.
-    #[tactic(auto, unfolding(crate::specs::Seen::seen))]
-    fn names(&self, x: &Vnode) -> Mem<Names>
-        ensures { IfOk result (λ names. names ≡ (seen x.now).names) }
+    /// The names of the directory of this number; what is no directory has none.
+    fn names(&self, number: u32) -> &[Name]
+        ensures { result.now ≡ names_in (get number self.now.vnodes.now.table) }
     {
-        if is_directory(x) {
-            names_of(self.alloc, x)?.list()
-        } else {
-            Ok(Names::new(self.alloc))
+        match self.dirs.get(number) {
+            Some(names) => names.names(),
+            None => &[],
         }
     }
 
@@ -126,27 +127,26 @@ impl<'a> Parts<'a> {
         names.iter().all(|name| self.gives_one(d, name))
     }
 
-    /// A vnode has its names in this directory.
+    /// A vnode has its names in its directory.
     #[tactic(auto, unfolding(crate::specs::Seen::seen))]
-    fn is_named_in(&self, d: Option<&Vnode>, x: &Vnode) -> Mem<bool>
-        ensures { IfOk result (λ b. b ≡ is_named_in (option_map seen (option_copied d.entry)) x.now.vnode (seen x.now)) }
+    fn is_named(&self, x: &Vnode) -> bool
+        ensures { result ≡ is_named_in (get x.now.parent_vnode (volume_seen self.now.head.now self.now.vnodes.now.table).vnodes) x.now.vnode (seen x.now) }
     {
-        match d {
+        match self.get(x.parent_vnode) {
             Some(d) if is_directory(d) && d.unique == x.parent_unique => {
-                let names = self.names(d)?;
-                let count = names_of_vnode(x.vnode, x.unique, names.as_slice());
-                Ok(has_names(x, count))
+                let names = self.names(x.parent_vnode);
+                has_names(x, names_of_vnode(x.vnode, x.unique, names))
             }
-            _ => Ok(false),
+            _ => false,
         }
     }
 
     /// The names of a vnode lead to it, and its parents to the root.
     #[tactic(auto, unfolding(crate::specs::Seen::seen))]
-    fn is_placed(&self, x: &Vnode) -> Mem<bool>
-        ensures { IfOk result (λ b. b ≡ is_placed (volume_seen self.now.head.now self.now.vnodes.now.table) x.now.vnode (seen x.now)) }
+    fn is_placed(&self, x: &Vnode) -> bool
+        ensures { result ≡ is_placed (volume_seen self.now.head.now self.now.vnodes.now.table) x.now.vnode (seen x.now) }
     {
-        Ok(self.is_named_in(self.get(x.parent_vnode), x)? && self.reaches_root(x.vnode))
+        self.is_named(x) && self.reaches_root(x.vnode)
     }
 
     /// The way up leads to the root; it has no more steps than there are vnodes.
@@ -166,18 +166,16 @@ impl<'a> Parts<'a> {
     }
 
     #[tactic(auto, unfolding(crate::specs::Seen::seen))]
-    fn is_sound_vnode(&self, x: &Vnode) -> Mem<bool>
-        ensures { IfOk result (λ b. b ≡ is_sound_vnode (volume_seen self.now.head.now self.now.vnodes.now.table) x.now.vnode (seen x.now)) }
+    fn is_sound_vnode(&self, x: &Vnode) -> bool
+        requires { get x.now.vnode self.now.vnodes.now.table ≡ Some x.now }
+        ensures { result ≡ is_sound_vnode (volume_seen self.now.head.now self.now.vnodes.now.table) x.now.vnode (seen x.now) }
     {
-        let names = self.names(x)?;
-        let names = names.as_slice();
-        Ok(
-            kind_is_right(x)
-                && x.unique < self.head.unique
-                && has_links(x, names)
-                && self.gives_all(x, names)
-                && (x.vnode == 1 || self.is_placed(x)?),
-        )
+        let names = self.names(x.vnode);
+        kind_is_right(x)
+            && x.unique < self.head.unique
+            && has_links(x, names)
+            && self.gives_all(x, names)
+            && (x.vnode == 1 || self.is_placed(x))
     }
 
     /// The root is a directory with the unique number 1, and nothing holds it.
@@ -192,12 +190,14 @@ impl<'a> Parts<'a> {
     }
 
     /// The vnode in a place is one of a sound volume, where there is one.
-    fn is_sound_at(&self, place: u32) -> Mem<bool>
-        ensures { IfOk result (λ b. b ≡ passes_at (is_sound_pair self.now.head.now self.now.vnodes.now.table) (slice_get self.now.vnodes.now.table place)) }
+    #[tactic(auto, using(crate::proofs::Listing::place_gets))]
+    fn is_sound_at(&self, place: u32) -> bool
+        requires { AscendsFrom 0 self.now.vnodes.now.table }
+        ensures { result ≡ passes_at (is_sound_pair self.now.head.now self.now.vnodes.now.table) (slice_get self.now.vnodes.now.table place) }
     {
         match self.vnodes.at(place) {
             Some(x) => self.is_sound_vnode(x),
-            None => Ok(true),
+            None => true,
         }
     }
 
@@ -210,22 +210,22 @@ impl<'a> Parts<'a> {
     }
 
     /// Every vnode is one of a sound volume.
-    fn are_sound(&self) -> Mem<bool>
-        ensures { IfOk result (λ b. b ≡ list_all (is_sound_pair self.now.head.now self.now.vnodes.now.table) self.now.vnodes.now.table) }
+    fn are_sound(&self) -> bool
+        ensures { result ≡ list_all (is_sound_pair self.now.head.now self.now.vnodes.now.table) self.now.vnodes.now.table }
     {
         for place in 0..self.vnodes.len() as u32 {
-            if !self.is_sound_at(place)? {
-                return Ok(false);
+            if !self.is_sound_at(place) {
+                return false;
             }
         }
-        Ok(true)
+        true
     }
 
     /// They make a sound volume.
     #[tactic(auto, unfolding(afs_records::specs::Sound::is_sound), using(crate::proofs::Walked::all_seen_pass))]
-    pub fn is_sound(&self) -> Mem<bool>
-        ensures { IfOk result (λ b. b ≡ is_sound (volume_seen self.now.head.now self.now.vnodes.now.table)) }
+    pub fn is_sound(&self) -> bool
+        ensures { result ≡ is_sound (volume_seen self.now.head.now self.now.vnodes.now.table) }
     {
-        Ok(self.has_root() && self.starts_at_one() && self.are_sound()?)
+        self.has_root() && self.starts_at_one() && self.are_sound()
     }
 }

@@ -1,6 +1,6 @@
 //! A change that a volume takes in.
 
-ghost use Rattle.std.specs.Prelude.{◌≡◌, ◌≤◌, ◌<◌, ◌+◌, true, false, length, Some, OnOk};
+ghost use Rattle.std.specs.Prelude.{◌≡◌, ◌≤◌, ◌<◌, ◌+◌, true, false, length, Some, is_some, OnOk};
 ghost use Rattle.std.specs.List.{AllByRecursion};
 ghost use Rattle.afs_ideal.specs.Tables.{get, set, unset};
 ghost use Rattle.afs_ideal.specs.VnodeImage.{FitsImage};
@@ -10,12 +10,12 @@ ghost use Rattle.afs_records.specs.Durable.{changed_stored};
 ghost use Rattle.afs_vnode.specs.Stores.{AreVnodes};
 ghost use Rattle.afs_volume.specs.Counting.{blocks_at};
 ghost use Rattle.afs_volume.specs.Seen.{all_seen, AreReadable, IsReadable};
-ghost use Rattle.afs_volume.specs.Taking.{is_among, put_but, stored_of, without_all, CanTakeIn};
+ghost use Rattle.afs_volume.specs.Taking.{is_among, put_but, stored_of, without_all, CanTakeIn, HasRoom};
 
 use crate::Volume;
 use crate::limits::blocks_of;
 use afs_num::types::Mem;
-use afs_num::vnodes::{Vnode, Vnodes};
+use afs_num::vnodes::{Vnode, VnodeNumbers, Vnodes};
 use afs_num::volumes::Change;
 use afs_vnode::store::VnodeStore;
 
@@ -113,17 +113,44 @@ fn remove_all(vnodes: &mut VnodeStore, before: u32, removed: &[u32]) -> u32
 impl Volume {
     /// Makes room for one `take_in` of this change.
     pub fn reserve(&mut self, c: &Change) -> Mem<()>
-        ensures room { OnOk result (length c.now.vnodes ≤ self.new.vnodes.room) }
+        ensures room { OnOk result (HasRoom self.new c.now) }
         ensures head { self.new.head ≡ self.old.head }
         ensures vnodes { self.new.vnodes.table ≡ self.old.vnodes.table }
+        ensures can { CanTakeIn self.old c.now → CanTakeIn self.new c.now }
+        ensures keeps { (d : Change) → HasRoom self.old d → HasRoom self.new d }
     {
-        self.vnodes.reserve(c.vnodes.len())
+        self.make_room(c.vnodes.len())
+    }
+
+    /// Makes room for so many more vnodes.
+    pub(crate) fn make_room(&mut self, count: usize) -> Mem<()>
+        ensures room { OnOk result (count ≤ self.new.vnodes.room) }
+        ensures head { self.new.head ≡ self.old.head }
+        ensures vnodes { self.new.vnodes.table ≡ self.old.vnodes.table }
+        ensures kept { self.old.vnodes.room ≤ self.new.vnodes.room }
+    {
+        self.vnodes.reserve(count)
+    }
+
+    /// The volume with these vnodes and without those of these numbers, where there is room.
+    pub(crate) fn take(&mut self, vnodes: Vnodes, removed: VnodeNumbers, counter: u32, unique: u32)
+        requires taken { is_some (changed_stored counter unique vnodes removed (stored_of self.old)) ≡ true }
+        requires read { AllByRecursion IsReadable vnodes }
+        requires fits { AllByRecursion FitsImage vnodes }
+        requires room { length vnodes ≤ self.old.vnodes.room }
+        ensures head { self.new.head ≡ record self.old.head { counter = counter; unique = unique } }
+        ensures stored { changed_stored counter unique vnodes removed (stored_of self.old) ≡ Some (stored_of self.new) }
+    {
+        let left = remove_all(&mut self.vnodes, self.blocks, removed.as_slice());
+        self.blocks = put_all(&mut self.vnodes, left, vnodes, removed.as_slice());
+        self.head.counter = counter;
+        self.head.unique = unique;
     }
 
     /// The volume after a change for which there is room. It takes no memory.
     pub fn take_in(&mut self, c: Change)
         requires can { CanTakeIn self.old c }
-        requires room { length c.vnodes ≤ self.old.vnodes.room }
+        requires room { HasRoom self.old c }
         ensures head { self.new.head ≡ record self.old.head { counter = c.counter; unique = c.unique } }
         ensures stored { changed_stored c.counter c.unique c.vnodes c.removed (stored_of self.old) ≡ Some (stored_of self.new) }
     {
@@ -135,9 +162,6 @@ impl Volume {
             unique,
             reply: _,
         } = c;
-        let left = remove_all(&mut self.vnodes, self.blocks, removed.as_slice());
-        self.blocks = put_all(&mut self.vnodes, left, vnodes, removed.as_slice());
-        self.head.counter = counter;
-        self.head.unique = unique;
+        self.take(vnodes, removed, counter, unique);
     }
 }

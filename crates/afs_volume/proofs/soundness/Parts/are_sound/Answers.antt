@@ -3,8 +3,8 @@ use Rattle.afs_volume.specs.Assembling.{is_sound_pair}
 use Rattle.afs_volume.proofs.Walked.{goes_on, stops, walk_end}
 use Rattle.afs_volume.proofs.soundness.Parts.are_sound.Goals as goal
 
-pub returns-then-not-branch : goal.returns-then-not-branch
-returns-then-not-branch c =
+pub returns-then-not-is_sound_at : goal.returns-then-not-is_sound_at
+returns-then-not-is_sound_at c =
     let p = c.args.self.now in
     sym (sym c.loop-place.invariant ∙ stops (is_sound_pair p.head.now p.vnodes.now.table) p.vnodes.now.table c.loop-place.place (search rules))
 

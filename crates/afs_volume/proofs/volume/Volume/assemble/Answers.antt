@@ -12,9 +12,9 @@ pub invariant_of-result : goal.invariant_of-result
 invariant_of-result c = record {
   readable = c.in_ok-are_read.ensures.readable c.if-not-branch.false;
   counted = c.blocks_in-blocks.ensures;
-  sound = sym c.in_ok-is_sound.ensures ∙ c.if-not-branch-2.false;
+  sound = sym c.is_sound.ensures ∙ c.if-not-is_sound.false;
 }
 
 pub returns-clause-whole : goal.returns-clause-whole
 returns-clause-whole c =
-    rw (all_read c.args.vnodes.table, ← c.in_ok-are_read.ensures.value, c.if-not-branch.false) (sym c.in_ok-is_sound.ensures ∙ c.if-not-branch-2.false)
+    rw (all_read c.args.vnodes.table, ← c.in_ok-are_read.ensures.value, c.if-not-branch.false) (sym c.is_sound.ensures ∙ c.if-not-is_sound.false)

@@ -1,4 +1,4 @@
-use Rattle.afs_volume.proofs.volume.Volume.reserve.Goals as goal
+use Rattle.afs_volume.proofs.volume.Volume.make_room.Goals as goal
 
 pub invariant_of-self : goal.invariant_of-self
 invariant_of-self c =

@@ -1,0 +1,119 @@
+-- The names of a volume's directories, listed place by place.
+use Rattle.std.proofs.Common.{◌≡◌, ℕ, zero, suc, ◌+◌, ◌≤◌, ◌<◌, Bool, true, false, List, [], ◌∷◌, length, take, Option, Some, None, Result, Ok, Err, OnOk, nat_eq, slice_get, if◌then◌else◌, refl, sym, ap, subst, ◌∙◌, arith, eq-eqb}
+use Rattle.std.specs.Option.{option_map}
+use Rattle.std.proofs.lemmas.Bool.Decides.{nat_tests}
+use Rattle.afs_num.specs.declared.directories.Name.{Name}
+use Rattle.afs_num.specs.declared.vnodes.Vnode as image
+use Rattle.afs_ideal.specs.Tables.{Table, get, AscendsFrom}
+use Rattle.afs_ideal.specs.Volumes.{Kind, a_directory, a_file, a_link}
+use Rattle.afs_volume.specs.Listed.{listed_as, listed_at, listed_by, names_in, Lists}
+use Rattle.afs_volume.specs.Seen.{all_seen, kind_seen, names_seen, seen}
+use Rattle.afs_volume.proofs.Tables.{got}
+use Rattle.afs_volume.proofs.Readable.{next_take, nothing_taken, whole}
+
+-- the names of what stands there
+abbrev names_of : Option image.Vnode → Option (List Name)
+names_of o = listed_at (option_map seen o)
+
+chosen : (b : Bool) (x : image.Vnode) (o : Option image.Vnode) → names_of (if b then Some x else o) ≡ (if b then listed_as x else names_of o)
+chosen true x o = refl
+chosen false x o = refl
+
+-- what is listed of the vnodes, by what is found among them
+found : (names : ℕ → Option (List Name)) (t : Table image.Vnode) → Lists names (all_seen t) → (n : ℕ) → names n ≡ names_of (get n t)
+found names t all n = all n ∙ ap listed_at (got n t)
+
+listed : (names : ℕ → Option (List Name)) (t : Table image.Vnode) → ((n : ℕ) → names n ≡ names_of (get n t)) → Lists names (all_seen t)
+listed names t all n = all n ∙ ap listed_at (sym (got n t))
+
+-- ---- place by place
+
+later_number : (m : ℕ) (t : Table image.Vnode) (i : ℕ) (p : ℕ × image.Vnode) → AscendsFrom m t → slice_get t i ≡ Some p → m ≤ p.0
+later_number m [] i p up e = absurd cc
+later_number m (q ∷ ps) zero p up e = subst (λ (r : ℕ × image.Vnode). m ≤ r.0) (let z : q ≡ p = cc in z) up.0
+later_number m (q ∷ ps) (suc i) p up e = let later = later_number (q.0 + 1) ps i p up.1 e in omega (arith, up.0, later)
+
+first_of : (b : Bool) (q p : ℕ × image.Vnode) → q ≡ p → (if b then Some q.1 else None) ≡ (if b then Some p.1 else None)
+first_of b q p is = ap (λ (r : ℕ × image.Vnode). if b then Some r.1 else None) is
+
+turned : (n a b : ℕ) (x y : image.Vnode) (o : Option image.Vnode) (c d : Bool) → a < b → nat_eq a n ≡ c → nat_eq b n ≡ d → (if c then Some x else (if d then Some y else o)) ≡ (if d then Some y else (if c then Some x else o))
+turned n a b x y o true true lt one other = absurd (grind (arith, nat_tests, lt, one, other))
+turned n a b x y o true false lt one other = refl
+turned n a b x y o false d lt one other = refl
+
+taken_gets : (m n : ℕ) (t : Table image.Vnode) (i : ℕ) (p : ℕ × image.Vnode) → AscendsFrom m t → slice_get t i ≡ Some p → get n (take (i + 1) t) ≡ (if nat_eq p.0 n then Some p.1 else get n (take i t))
+taken_gets m n [] i p up e = absurd cc
+taken_gets m n (q ∷ ps) zero p up e =
+    let is : q ≡ p = cc in
+    first_of (nat_eq q.0 n) q p is ∙ ap (λ (r : ℕ × image.Vnode). if nat_eq r.0 n then Some p.1 else None) is
+taken_gets m n (q ∷ ps) (suc i) p up e =
+    let later = later_number (q.0 + 1) ps i p up.1 e in
+    ap (get n) (next_take q ps i)
+    ∙ (ap (λ (o : Option image.Vnode). if nat_eq q.0 n then Some q.1 else o) (taken_gets (q.0 + 1) n ps i p up.1 e)
+    ∙ turned n q.0 p.0 q.1 p.1 (get n (take i ps)) (nat_eq q.0 n) (nat_eq p.0 n) (omega (arith, later)) refl refl)
+
+pub one_more : (old new : ℕ → Option (List Name)) (t : Table image.Vnode) (i : ℕ) (x : image.Vnode) → AscendsFrom 0 t → slice_get t i ≡ Some (x.vnode, x) → ((n : ℕ) → new n ≡ (if nat_eq x.vnode n then listed_as x else old n))
+    → Lists old (all_seen (take i t)) → Lists new (all_seen (take (i + 1) t))
+one_more old new t i x up there is all =
+    listed new (take (i + 1) t) (λ n. is n ∙ (ap (λ (o : Option (List Name)). if nat_eq x.vnode n then listed_as x else o) (found old (take i t) all n)
+    ∙ (sym (chosen (nat_eq x.vnode n) x (get n (take i t))) ∙ ap names_of (sym (taken_gets 0 n t i (x.vnode, x) up there)))))
+
+pub one_more_if : {E : Type 0} (old new : ℕ → Option (List Name)) (t : Table image.Vnode) (i : ℕ) (x : image.Vnode) (names : Option (List Name)) (r : Result (Unit {0}) E) → AscendsFrom 0 t → Some (x.vnode, x) ≡ slice_get t i → names ≡ listed_as x
+    → OnOk r ((n : ℕ) → new n ≡ (if nat_eq x.vnode n then names else old n)) → Lists old (all_seen (take i t)) → OnOk r (Lists new (all_seen (take (i + 1) t)))
+one_more_if {E} old new t i x names (Ok done) up there is h all = one_more old new t i x up (sym there) (λ n. h n ∙ ap (λ (o : Option (List Name)). if nat_eq x.vnode n then o else old n) is) all
+one_more_if {E} old new t i x names (Err e) up there is h all = tt
+
+ended : (t : Table image.Vnode) (i : ℕ) → slice_get t i ≡ None → take (i + 1) t ≡ take i t
+ended [] i e = nothing_taken (i + 1) ∙ sym (nothing_taken i)
+ended (p ∷ ps) zero e = absurd cc
+ended (p ∷ ps) (suc i) e = next_take p ps i ∙ ap (λ (u : Table image.Vnode). p ∷ u) (ended ps i e)
+
+pub none_more : (names : ℕ → Option (List Name)) (t : Table image.Vnode) (i : ℕ) → slice_get t i ≡ None → Lists names (all_seen (take i t)) → Lists names (all_seen (take (i + 1) t))
+none_more names t i none all = subst (λ (u : Table image.Vnode). Lists names (all_seen u)) (sym (ended t i none)) all
+
+pub none_yet : (names : ℕ → Option (List Name)) (t : Table image.Vnode) → ((n : ℕ) → names n ≡ None) → Lists names (all_seen (take 0 t))
+unfolding all_seen
+none_yet names [] is = is
+none_yet names (p ∷ ps) is = is
+
+pub all_listed : (names : ℕ → Option (List Name)) (t : Table image.Vnode) (i : ℕ) → length t ≤ i → Lists names (all_seen (take i t)) → Lists names (all_seen t)
+all_listed names t i le all = subst (λ (u : Table image.Vnode). Lists names (all_seen u)) (whole t i le) all
+
+-- ---- what is found by number and by place
+
+some_by : (k : Kind) (x : image.Vnode) (names : List Name) → kind_seen x.kind ≡ k → Some names ≡ listed_by k (names_seen k x.contents) → names ≡ names_seen k x.contents
+some_by a_directory x names is e = cc
+some_by a_file x names is e = absurd cc
+some_by a_link x names is e = absurd cc
+
+none_by : (k : Kind) (x : image.Vnode) → kind_seen x.kind ≡ k → None ≡ listed_by k (names_seen k x.contents) → [] ≡ names_seen k x.contents
+none_by a_directory x is e = absurd cc
+none_by a_file x is e = refl
+none_by a_link x is e = refl
+
+kept_by : (o : Option image.Vnode) (names : List Name) → Some names ≡ names_of o → names ≡ names_in o
+unfolding seen
+kept_by None names e = absurd cc
+kept_by (Some x) names e = some_by (kind_seen x.kind) x names refl e
+
+missing_by : (o : Option image.Vnode) → None ≡ names_of o → [] ≡ names_in o
+unfolding seen
+missing_by None e = refl
+missing_by (Some x) e = none_by (kind_seen x.kind) x refl e
+
+pub kept_names : (names : ℕ → Option (List Name)) (t : Table image.Vnode) (n : ℕ) (d : List Name) → Lists names (all_seen t) → Some d ≡ names n → d ≡ names_in (get n t)
+kept_names names t n d all e = kept_by (get n t) d (e ∙ found names t all n)
+
+pub no_names : (names : ℕ → Option (List Name)) (t : Table image.Vnode) (n : ℕ) → Lists names (all_seen t) → None ≡ names n → [] ≡ names_in (get n t)
+no_names names t n all e = missing_by (get n t) (e ∙ found names t all n)
+
+gets_from : (m : ℕ) (t : Table image.Vnode) (i : ℕ) (p : ℕ × image.Vnode) → AscendsFrom m t → slice_get t i ≡ Some p → get p.0 t ≡ Some p.1
+gets_from m [] i p up e = absurd cc
+gets_from m (q ∷ ps) zero p up e = let is : q ≡ p = cc in subst (λ (r : ℕ × image.Vnode). get r.0 (q ∷ ps) ≡ Some r.1) is (rw (eq-eqb q.0 q.0 refl) refl)
+gets_from m (q ∷ ps) (suc i) p up e =
+    let later = later_number (q.0 + 1) ps i p up.1 e in
+    let other : nat_eq q.0 p.0 ≡ false = grind (arith, nat_tests, later) in
+    rw other (gets_from (q.0 + 1) ps i p up.1 e)
+
+pub place_gets : (t : Table image.Vnode) (i : ℕ) (x : image.Vnode) → AscendsFrom 0 t → Some (x.vnode, x) ≡ slice_get t i → get x.vnode t ≡ Some x
+place_gets t i x up e = gets_from 0 t i (x.vnode, x) up (sym e)

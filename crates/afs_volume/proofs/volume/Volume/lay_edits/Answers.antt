@@ -1,0 +1,36 @@
+use Rattle.std.proofs.Common.{◌≡◌, refl, sym, ap, subst, ◌∙◌}
+use Rattle.std.specs.Prelude.{is_some}
+use Rattle.std.specs.List.{AllByRecursion}
+use Rattle.afs_ideal.specs.VnodeImage.{FitsImage}
+use Rattle.afs_records.specs.Durable.{Stored}
+use Rattle.afs_volume.specs.Giving.{edits_seen, volume_of}
+use Rattle.afs_volume.specs.Seen.{IsReadable}
+use Rattle.afs_volume.proofs.AtFirst.{each_fits, each_readable, laid_now, laid_volume}
+use Rattle.afs_volume.proofs.Changed.{next_low}
+use Rattle.afs_volume.proofs.volume.Volume.lay_edits.Goals as goal
+
+pub draft-requires : goal.draft-requires
+draft-requires c = c.requires.drawn
+
+pub unique_left-unique-requires : goal.unique_left-unique-requires
+unique_left-unique-requires c = next_low (volume_of c.args.self.now) (edits_seen c.args.edits.now) c.requires.fits
+
+pub take-requires-clause-taken : goal.take-requires-clause-taken
+take-requires-clause-taken c =
+    rw (laid_now c.args.self.now c.make_room.new.self (edits_seen c.args.edits.now) c.in_ok-draft.draft c.unique_left-unique.result c.in_ok-vnodes.vnodes c.requires
+    (record { time = c.in_ok-draft.ensures.time; versions = c.in_ok-draft.ensures.versions; vnodes = c.in_ok-draft.ensures.vnodes; removed = c.in_ok-draft.ensures.removed; images = c.in_ok-draft.ensures.images })
+    c.unique_left-unique.ensures c.in_ok-vnodes.ensures c.in_ok-make_room.ensures.head c.in_ok-make_room.ensures.vnodes) refl
+
+pub take-requires-clause-read : goal.take-requires-clause-read
+take-requires-clause-read c = rw c.in_ok-vnodes.ensures (each_readable c.in_ok-draft.draft.vnodes c.in_ok-draft.ensures.images)
+
+pub take-requires-clause-fits : goal.take-requires-clause-fits
+take-requires-clause-fits c = rw c.in_ok-vnodes.ensures (each_fits c.in_ok-draft.draft.vnodes c.in_ok-draft.ensures.images)
+
+pub returns-clause-ok : goal.returns-clause-ok
+returns-clause-ok c =
+    laid_volume c.args.self.now c.take.new.self (edits_seen c.args.edits.now)
+    (sym (laid_now c.args.self.now c.make_room.new.self (edits_seen c.args.edits.now) c.in_ok-draft.draft c.unique_left-unique.result c.in_ok-vnodes.vnodes c.requires
+    (record { time = c.in_ok-draft.ensures.time; versions = c.in_ok-draft.ensures.versions; vnodes = c.in_ok-draft.ensures.vnodes; removed = c.in_ok-draft.ensures.removed; images = c.in_ok-draft.ensures.images })
+    c.unique_left-unique.ensures c.in_ok-vnodes.ensures c.in_ok-make_room.ensures.head c.in_ok-make_room.ensures.vnodes)
+    ∙ c.take.ensures.stored)

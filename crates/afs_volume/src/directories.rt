@@ -1,0 +1,105 @@
+//! The names of the directories of a volume, by the numbers of their vnodes.
+
+ghost use Rattle.std.specs.Prelude.{◌≡◌, ◌+◌, ℕ, Some, None, nat_eq, take, IfOk, OnOk, if◌then◌else◌};
+ghost use Rattle.std.specs.Option.{option_copied};
+ghost use Rattle.indexmap.specs.IndexMap as maps;
+ghost use Rattle.afs_ideal.specs.Tables.{AscendsFrom};
+ghost use Rattle.afs_volume.specs.Listed.{listed_as, Lists};
+ghost use Rattle.afs_volume.specs.Seen.{all_seen};
+
+use crate::finding::{is_directory, names_of};
+use afs_dir::Dir;
+use afs_num::types::Mem;
+use afs_num::vnodes::Vnode;
+use afs_vnode::store::VnodeStore;
+use indexmap::IndexMap;
+use std::alloc::{AllocError, Global};
+
+/// The names of directories by the numbers of their vnodes.
+#[derive(Drop)]
+pub struct Directories {
+    pub dirs: IndexMap<u32, Dir>,
+}
+
+/// The names of a vnode; it has some where it is a directory.
+#[tactic(auto, unfolding(crate::specs::Seen::seen))]
+fn listed_as(alloc: Global, x: &Vnode) -> Mem<Option<Dir>>
+    ensures { IfOk result (λ names. names ≡ listed_as x.now) }
+{
+    if is_directory(x) {
+        Ok(Some(names_of(alloc, x)?))
+    } else {
+        Ok(None)
+    }
+}
+
+impl Directories {
+    /// None yet.
+    fn new(alloc: Global) -> Directories
+        ensures { (n : ℕ) → maps.get nat_eq result.dirs n ≡ None }
+    {
+        Directories {
+            dirs: IndexMap::new(alloc),
+        }
+    }
+
+    /// The names of the directory of this number.
+    pub fn get(&self, number: u32) -> Option<&Dir>
+        ensures { option_copied result ≡ maps.get nat_eq self.now.dirs number }
+    {
+        self.dirs.get(&number)
+    }
+
+    /// The names under a number, in place of those that were there.
+    fn put(&mut self, number: u32, names: Dir) -> Mem<()>
+        ensures { OnOk result ((n : ℕ) → maps.get nat_eq self.new.dirs n ≡ (if nat_eq number n then Some names else maps.get nat_eq self.old.dirs n)) }
+    {
+        match self.dirs.insert(number, names) {
+            Ok(_) => Ok(()),
+            Err(_) => Err(AllocError),
+        }
+    }
+
+    /// No names under a number.
+    fn remove(&mut self, number: u32)
+        ensures { (n : ℕ) → maps.get nat_eq self.new.dirs n ≡ (if nat_eq number n then None else maps.get nat_eq self.old.dirs n) }
+    {
+        self.dirs.swap_remove(&number);
+    }
+
+    /// These names under a number, or none.
+    fn set(&mut self, number: u32, names: Option<Dir>) -> Mem<()>
+        ensures { OnOk result ((n : ℕ) → maps.get nat_eq self.new.dirs n ≡ (if nat_eq number n then names else maps.get nat_eq self.old.dirs n)) }
+    {
+        match names {
+            Some(names) => self.put(number, names),
+            None => {
+                self.remove(number);
+                Ok(())
+            }
+        }
+    }
+
+    /// The names of the vnode in a place besides.
+    fn list_place(&mut self, alloc: Global, vnodes: &VnodeStore, place: u32) -> Mem<()>
+        requires ordered { AscendsFrom 0 vnodes.now.table }
+        requires listed { Lists (maps.get nat_eq self.old.dirs) (all_seen (take place vnodes.now.table)) }
+        ensures { OnOk result (Lists (maps.get nat_eq self.new.dirs) (all_seen (take (place + 1) vnodes.now.table))) }
+    {
+        match vnodes.at(place) {
+            Some(x) => self.set(x.vnode, listed_as(alloc, x)?),
+            None => Ok(()),
+        }
+    }
+
+    /// The names of all directories among vnodes. Each is read once.
+    pub fn of(alloc: Global, vnodes: &VnodeStore) -> Mem<Directories>
+        ensures { IfOk result (λ d. Lists (maps.get nat_eq d.dirs) (all_seen vnodes.now.table)) }
+    {
+        let mut dirs = Directories::new(alloc);
+        for place in 0..vnodes.len() as u32 {
+            dirs.list_place(alloc, vnodes, place)?;
+        }
+        Ok(dirs)
+    }
+}

@@ -1,0 +1,205 @@
+//! Lines of set-up. Each is laid as the operations do by a caller with all rights, and what it changes is as at first.
+
+ghost use Rattle.std.specs.Prelude.{◌≡◌, ◌≤◌, ◌∷◌, true, length, map, Some, None, IfOk, OnOk, OnErr};
+ghost use Rattle.afs_num.specs.declared.calls.FsCall.TheVariants as calls;
+ghost use Rattle.afs_ideal.specs.Operations.{adds_name, all_rights, creating, first_failing, is_kind, most_bytes, names_in, new_file, op};
+ghost use Rattle.afs_ideal.specs.SetUp.{a_file_of, laid, laid_at, laid_in, led, nothing_set};
+ghost use Rattle.afs_ideal.specs.VnodeImage.{most_contents, FitsImage};
+ghost use Rattle.afs_ideal.specs.VnodeMaps.{most_vnodes};
+ghost use Rattle.afs_ideal.specs.Volumes.{a_directory, ascending, vnode_of};
+ghost use Rattle.afs_volume.specs.Filled.{at_once, image_at_first, is_accepted, Accepts, CanBeLaid, IsFilled, Lays, LaysEdits, Leads};
+ghost use Rattle.afs_volume.specs.Giving.{edits_seen, volume_of};
+ghost use Rattle.afs_volume.specs.Seen.{seen, IsReadable};
+
+use crate::Volume;
+use crate::callers::Caller;
+use crate::checks::check;
+use crate::drafting::Draft;
+use crate::edits::{Edit, Edits};
+use crate::faults::OpFault;
+use crate::finding::{is_directory, names_of};
+use crate::making::new_file;
+use crate::operations::MOST_BYTES;
+use afs_num::calls::{AfsStoreStatus, FsCall};
+use afs_num::scripts::SetupLine;
+use afs_num::sequences::Octets;
+use afs_num::types::{Code, Fid, Mem};
+use afs_num::vnodes::{Vnode, Vnodes};
+use std::alloc::{AllocError, Global};
+
+/// A status of which nothing is set.
+fn nothing_set() -> AfsStoreStatus
+    ensures { result ≡ nothing_set }
+{
+    AfsStoreStatus {
+        mask: 0,
+        client_mod_time: 0,
+        owner: 0,
+        group: 0,
+        unix_mode_bits: 0,
+        seg_size: 0,
+    }
+}
+
+/// A vnode as at first.
+fn at_first(x: Vnode) -> Vnode
+    ensures { result ≡ image_at_first x }
+{
+    let mut x = x;
+    x.index = 1;
+    x.data_version = 1;
+    x.change_counter = 1;
+    x
+}
+
+/// Vnodes as at first.
+fn all_at_first(alloc: Global, vnodes: Vnodes) -> Mem<Vnodes>
+    ensures { IfOk result (λ xs. xs ≡ map image_at_first vnodes) }
+{
+    let mut first = Vnodes::new(alloc);
+    for x in vnodes.into_vec() {
+        first.push(at_first(x))?;
+    }
+    Ok(first)
+}
+
+/// A new file with these bytes.
+#[tactic(auto, unfolding(crate::specs::Seen::seen))]
+fn file_of(alloc: Global, d: &Fid, contents: &Octets) -> Mem<Vnode>
+    requires { length contents.now ≤ most_contents }
+    ensures seen { IfOk result (λ x. seen x ≡ record (new_file d.now) { contents = contents.now }) }
+    ensures readable { IfOk result (λ x. IsReadable x) }
+    ensures fits { IfOk result (λ x. FitsImage x) }
+{
+    let mut file = new_file(alloc, d);
+    file.contents = contents.copy(alloc)?;
+    Ok(file)
+}
+
+impl Volume {
+    /// Where names lead from the root: 20 where one is looked for in another kind than a directory, 2 where it isn't there.
+    fn led(&self, path: &[Octets]) -> Result<Fid, OpFault>
+        ensures leads { Leads (led self.now.head.id (volume_of self.now) path.now) result }
+        ensures volume { IfOk result (λ d. d.volume ≡ self.now.head.id) }
+    {
+        let Some(root) = self.get(1) else {
+            return Err(OpFault::Code(Code(102)));
+        };
+        let mut at = root;
+        for name in path {
+            check(is_directory(at), 20)?;
+            let names = names_of(self.alloc, at)?;
+            let Some(x) = self.named(&names, name.as_slice()) else {
+                return Err(OpFault::Code(Code(2)));
+            };
+            at = x;
+        }
+        Ok(Fid {
+            volume: self.head.id,
+            vnode: at.vnode,
+            unique: at.unique,
+        })
+    }
+
+    /// Whether a file of this name may be made in a directory; the refusals are those of CreateFile.
+    fn accepts_file(&self, d: &Fid, name: &Octets) -> Result<(), OpFault>
+        requires { d.now.volume ≡ self.now.head.id }
+        ensures accepts { Accepts (op self.now.head.id all_rights (calls.CreateFile d.now name.now nothing_set) (volume_of self.now)) result }
+        ensures few { OnOk result (length (volume_of self.now).vnodes ≤ most_vnodes) }
+    {
+        let call = FsCall::CreateFile {
+            directory: *d,
+            name: name.copy(self.alloc)?,
+            status: nothing_set(),
+        };
+        self.plan_within(&Caller::AllRights, &call)?;
+        Ok(())
+    }
+
+    /// The edits that make a file, in a directory where one may be made.
+    fn filled_edits(&self, d: &Fid, x: &Vnode, name: &Octets, file: Vnode) -> Mem<Edits>
+        requires found { vnode_of d.now (volume_of self.now) ≡ Some (seen x.now) }
+        requires directory { is_kind (seen x.now).kind a_directory ≡ true }
+        requires readable { IsReadable file }
+        requires fits { FitsImage file }
+        requires passes { first_failing (adds_name name.now (names_in (Some (seen x.now))) true) ≡ None }
+        ensures { IfOk result (λ es. edits_seen es ≡ ascending (creating d.now name.now nothing_set None (seen file) (volume_of self.now))) }
+    {
+        match self.creates(d, x, name.as_slice(), &nothing_set(), None, file) {
+            Ok(plan) => Ok(plan.edits),
+            Err(OpFault::OutOfMemory) => Err(AllocError),
+            Err(_) => unreachable!(),
+        }
+    }
+
+    /// The edits that make a file with these bytes, where CreateFile makes one without.
+    fn file_edits(&self, d: &Fid, name: &Octets, contents: &Octets) -> Mem<Edits>
+        requires accepted { is_accepted (op self.now.head.id all_rights (calls.CreateFile d.now name.now nothing_set) (volume_of self.now)) ≡ true }
+        requires short { length contents.now ≤ most_bytes }
+        ensures { IfOk result (λ es. IsFilled self.now.head.id d.now name.now contents.now (volume_of self.now) (edits_seen es)) }
+    {
+        let file = file_of(self.alloc, d, contents)?;
+        match self.vnode(d) {
+            Some(x) => self.filled_edits(d, x, name, file),
+            None => unreachable!(),
+        }
+    }
+
+    /// The edits that lay a file: it is made as CreateFile does, and its bytes are stored as StoreData does.
+    fn plan_file(&self, d: &Fid, name: &Octets, contents: &Octets) -> Result<Edits, OpFault>
+        requires { d.now.volume ≡ self.now.head.id }
+        ensures { LaysEdits self.now.head.id (volume_of self.now) (laid_in self.now.head.id (volume_of self.now) d.now name.now (a_file_of contents.now)) result }
+    {
+        self.accepts_file(d, name)?;
+        check(contents.len() <= MOST_BYTES, 27)?;
+        let edits = self.file_edits(d, name, contents)?;
+        check(self.is_within_quota(edits.as_slice()), 109)?;
+        Ok(edits)
+    }
+
+    /// The edits that lay a file at a path: 22 where it has no name.
+    fn plan_path(&self, path: &[Octets], contents: &Octets) -> Result<Edits, OpFault>
+        ensures { LaysEdits self.now.head.id (volume_of self.now) (laid_at self.now.head.id path.now (a_file_of contents.now) (volume_of self.now)) result }
+    {
+        let Some(name) = path.last() else {
+            return Err(OpFault::Code(Code(22)));
+        };
+        let d = self.led(&path[..path.len() - 1])?;
+        self.plan_file(&d, name, contents)
+    }
+
+    /// Lays what edits change.
+    fn lay_edits(&mut self, edits: &[Edit]) -> Mem<()>
+        requires { CanBeLaid self.old.head.id (volume_of self.old) (edits_seen edits.now) }
+        ensures ok { OnOk result (volume_of self.new ≡ at_once self.old.head.id (edits_seen edits.now) (volume_of self.old)) }
+        ensures err { OnErr result ((self.new.head ≡ self.old.head) × (self.new.vnodes.table ≡ self.old.vnodes.table)) }
+        ensures id { self.new.head.id ≡ self.old.head.id }
+    {
+        let draft = self.draft(edits, 0)?;
+        let unique = self.unique_left(edits);
+        let Draft {
+            vnodes,
+            removed,
+            ..
+        } = draft;
+        let vnodes = all_at_first(self.alloc, vnodes)?;
+        self.make_room(vnodes.len())?;
+        self.take(vnodes, removed, 1, unique);
+        Ok(())
+    }
+
+    /// Lays a line of set-up, or leaves the volume as it was: 22 where its path has no name, 20 and 2 where it doesn't lead
+    /// to a directory, and the refusals of the operations. Indexes, data versions and the counter stay at 1.
+    pub fn lay(&mut self, line: &SetupLine) -> Result<(), OpFault>
+        ensures lays { Lays (laid self.old.head.id line.now (volume_of self.old)) self.old self.new result }
+        ensures id { self.new.head.id ≡ self.old.head.id }
+    {
+        match line {
+            SetupLine::File { path, contents } => {
+                let edits = self.plan_path(path.as_slice(), contents)?;
+                self.lay_edits(edits.as_slice())?;
+                Ok(())
+            }
+        }
+    }
+}
