@@ -6,13 +6,12 @@ use Rattle.afs_law.proofs.Basics.{Below, Each, ByClient, IfCall, IfReply, OfCall
 use Rattle.afs_rows.specs.ClientRow.{Look, Walked, admits_call, awaits, begin_row, body_told, breaks, call_of, calls_again, calls_step, client_row, counts, dead_code, drop_line, dropped, dropped_after, ends_step, entries_told, entry_told, given, given_up_in, gives_by, goes_by, hears, ignores, is_awaited, is_busy_code, is_older, is_spent, is_trusted, look_at, looked, most_busy, most_reads, put_entries, put_entry, read_lines, reborn, refuses, replies_step, runs_carried, status_look, status_told, takes, takes_bulk, takes_bytes, takes_data, takes_entries, takes_entry, takes_list, takes_plain, takes_rights, takes_set, takes_shown, takes_status, takes_stored, timeout_line, timeout_row, told_step, walked, walks_on, whole, with_statuses, takes_given, behind_batch, begins_by, gift_of, in_order, trusted_in, untrusted_in, boot_of, with_boot, boot_or_first}
 use Rattle.afs_rows.specs.Going.{ClientState, Going, Need, answers, began, next, with_read, gives_back}
 use Rattle.afs_ideal.specs.Operations.{volume_changed}
-use Rattle.afs_law.specs.Past.{answered_key, given_message}
-use Rattle.afs_num.specs.declared.types.Key.{Key}
-use Rattle.afs_rows.specs.ServerRow.{key_of, replied, seat_for, reply_head, boot_told}
+use Rattle.afs_law.specs.Past.{given_message}
+use Rattle.afs_rows.specs.ServerRow.{replied, seat_for, reply_head, boot_told}
 use Rattle.afs_rows.specs.States.{CacheEntry, Gift, Seat, KnownBoot}
 use Rattle.afs_rows.specs.Steps.{Step}
 use Rattle.afs_model.specs.Calls as pairs
-use Rattle.afs_model.specs.Calls.{Admitted, CallSeat, admitted, call_seat, call_seated, paired}
+use Rattle.afs_model.specs.Calls.{Admitted, admitted, call_seat, call_seated, paired}
 use Rattle.std.proofs.Common.{◌+◌, ◌≡◌, ℕ, ◌⊎◌, inl, inr, Bool, true, false, cond, List, [], ◌∷◌, map, Option, Some, None, refl, sym, subst, arith, nat_eq, find, filter, not, ap, ◌∙◌}
 use Rattle.std.specs.Prelude.{◌&&◌, not, filter, nat_lt}
 use Rattle.std.specs.List.{list_any}

@@ -4,7 +4,7 @@ use Rattle.afs_history.specs.declared.acts.Act.{Act}
 use Rattle.afs_history.specs.declared.lines.Line.{Line}
 use Rattle.afs_history.specs.declared.lines.Line.TheVariants as lines
 use Rattle.afs_law.proofs.Backing.{all_lines, is_unchanging}
-use Rattle.afs_law.proofs.Basics.{Above, Each, IfCall, IfReply, OfCall, OfClient, OfNotice, OfReply, ByClient, above_up, at_put, at_seat, below_not, below_up_to, by_client, each_at, each_map, each_more, if_call, if_reply, not_above, of_client, of_notice, own_seat, same_node-refl, up_to_same}
+use Rattle.afs_law.proofs.Basics.{Above, Each, IfCall, IfReply, OfCall, OfClient, OfNotice, OfReply, ByClient, above_up, at_put, at_seat, below_not, below_up_to, by_client, each_at, each_map, each_more, if_call, if_reply, not_above, of_notice, own_seat, same_node-refl, up_to_same}
 use Rattle.afs_law.proofs.Calling.{AreReplies, IsAnswer, IsCallOf, IsLastOf, Tame, answer_over, begins_tame, caller_at, falls_tame, given_tame, placed, rises_tame, uncalled_any, waits_tame}
 use Rattle.afs_law.proofs.Facts.{MayRun}
 use Rattle.afs_law.proofs.Hosting.{Begins, HasHead, HostStep, IsCutBy, IsDue, IsSound, Memory, decides_due, disk_begins, does_given, memory_of, served_head, serves_step, starts_step, times_step, wakes_step}
@@ -12,7 +12,7 @@ use Rattle.afs_law.proofs.Law.{all_versions, given_first}
 use Rattle.afs_law.proofs.Standing.{runs_admitted}
 use Rattle.afs_law.specs.Ideal.{first_lines, set_up}
 use Rattle.afs_law.specs.Once.{past_of}
-use Rattle.afs_law.specs.Past.{HasCode, IsCall, IsCallUnder, IsUnheard, Ran, answered_key, called_key, given_message, sent_of}
+use Rattle.afs_law.specs.Past.{HasCode, IsCall, IsCallUnder, IsUnheard, Ran, called_key, given_message, sent_of}
 use Rattle.afs_model.specs.Calls as pairs
 use Rattle.afs_model.specs.Calls.{Admitted, admitted, call_seat, call_seated, paired}
 use Rattle.afs_num.specs.Nodes.{same_node}
@@ -31,12 +31,12 @@ use Rattle.afs_num.specs.declared.types.Node.TheVariants.{Admin, Client, Loc, Se
 use Rattle.afs_rows.specs.Callbacks.{expired, put, replies_of, turned_in}
 use Rattle.afs_rows.specs.ClientRow.{boot_of, client_row}
 use Rattle.afs_rows.specs.Going.{ClientState, Going}
-use Rattle.afs_rows.specs.Runs.{Armed, Blow, Cell, Entry, Fall, Host, Input, Leads, Luck, Moved, Outcome, RunsTo, at_rest, back_timed, begins, begun_by, begun_by_disk, blow_line, client_moves, client_starts, client_stops, comes_up, decided_at, fails_early, fails_midway, given_at, given_to, gives, has_host, in_boot, in_step, is_full, lowered, message_at, moved, nothing, server_armed, server_ends, server_falls, server_given, server_moves, server_restarted, server_served, server_stopped, server_timed, server_waits, server_wakes, sets_fail, sets_stop, settled, start, starts_again, stops, struck, ticks, unarmed, voided, waited_by, waits, wakes}
+use Rattle.afs_rows.specs.Runs.{Armed, Blow, Cell, Entry, Fall, Host, Input, Leads, Luck, Moved, Outcome, RunsTo, at_rest, back_timed, begins, begun_by, begun_by_disk, blow_line, client_moves, client_starts, client_stops, comes_up, decided_at, fails_early, fails_midway, given_at, given_to, gives, has_host, in_boot, in_step, is_full, message_at, moved, nothing, server_armed, server_ends, server_falls, server_given, server_moves, server_restarted, server_served, server_stopped, server_timed, server_waits, server_wakes, sets_fail, sets_stop, settled, start, starts_again, stops, struck, ticks, unarmed, voided, waited_by, waits, wakes}
 use Rattle.afs_rows.specs.ServerRow.{Begun, Decision, admits, begun_after, decides, device_calls, does, drops, hears, is_client, not_served, refuses, repeats, reply_head, saves, seat_for, serves_call, shows, tells_boot, whole}
 use Rattle.afs_rows.specs.ServerSteps.{back_timeout_row, server_row, start_row, wake_row}
 use Rattle.afs_rows.specs.States.{BackCall, Seat, ServerState}
 use Rattle.afs_rows.specs.Steps.{Step}
-use Rattle.std.proofs.Common.{◌≡◌, ℕ, ◌+◌, ◌≤◌, ◌<◌, ◌⊎◌, inl, inr, arith, eq-eqb, Bool, true, false, cond, List, [], ◌∷◌, ◌++◌, Option, Some, None, refl, sym, ap, subst, ◌∙◌}
+use Rattle.std.proofs.Common.{◌≡◌, ℕ, ◌+◌, ◌≤◌, ◌<◌, inl, inr, arith, eq-eqb, Bool, true, false, cond, List, [], ◌∷◌, ◌++◌, Option, Some, None, refl, sym, ap, subst, ◌∙◌}
 use Rattle.std.specs.Prelude.{⊤}
 
 -- ---- boot numbers that were told, and replies that were made

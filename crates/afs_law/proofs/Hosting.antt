@@ -21,7 +21,7 @@ use Rattle.afs_model.specs.Calls as pairs
 use Rattle.afs_model.specs.Calls.{Admitted, admitted, call_seat, call_seated, paired}
 use Rattle.std.proofs.Common.{◌≡◌, ℕ, ℤ, ◌+◌, Bool, true, false, cond, List, [], ◌∷◌, ◌++◌, map, Option, Some, None, refl, sym, subst, nat_eq, ◌⊎◌, inl, inr}
 use Rattle.std.specs.Prelude as outcome
-use Rattle.std.specs.Prelude.{⊤, ◌&&◌, not, filter, nat_lt, Ok, Err}
+use Rattle.std.specs.Prelude.{⊤, ◌&&◌, not, nat_lt, Ok, Err}
 use Rattle.afs_num.specs.Nodes.{same_node}
 use Rattle.afs_num.specs.declared.types.Head.{Head}
 use Rattle.afs_num.specs.declared.types.Key.{Key}

@@ -18,7 +18,7 @@ use Rattle.afs_num.specs.declared.types.Node.{Node}
 use Rattle.afs_num.specs.declared.types.Node.TheVariants.{Client, Server}
 use Rattle.afs_rows.specs.ClientRow.{find_cached}
 use Rattle.afs_rows.specs.Going.{Going, asked}
-use Rattle.afs_rows.specs.Runs.{Entry, Fall, message_at}
+use Rattle.afs_rows.specs.Runs.{Entry, message_at}
 use Rattle.afs_rows.specs.Runs as cells
 use Rattle.afs_rows.specs.States.{BackCall, CacheEntry, Seat}
 use Rattle.afs_law.specs.Breaks.{AllOwes, live_grant, lines_at}
@@ -31,9 +31,9 @@ use Rattle.afs_law.specs.OneServer.{IsOneServer}
 use Rattle.afs_law.specs.Past.{HasCode, Ran, lines_of}
 use Rattle.afs_law.proofs.Agreeing.{at_end}
 use Rattle.afs_law.proofs.Basics.{Above, IfCall, IfDone, IfReply, OfClient, OfReply, OfServer, by_client, by_server, client_number, each_at, runs_above}
-use Rattle.afs_law.proofs.Facts.{CallFact, MayRun, CallIn, Holds, InScope, IsAged, IsSafe, ReplyFact, ReplyIn, view}
+use Rattle.afs_law.proofs.Facts.{CallFact, CallIn, Holds, InScope, IsAged, IsSafe, ReplyFact, ReplyIn, view}
 use Rattle.afs_law.proofs.Nexts.{asks_is}
-use Rattle.afs_law.proofs.OneCell.{Cell, the_server}
+use Rattle.afs_law.proofs.OneCell.{Cell}
 use Rattle.afs_law.proofs.Owing.{AllOf, DoneIn, DroppedOwe, IsIn, IsPromised, promise_to}
 use Rattle.afs_law.proofs.Servers.{run_same, seen_in}
 

@@ -19,7 +19,7 @@ use Rattle.afs_rows.specs.ClientRow.{new_client, begin_row, client_row}
 use Rattle.afs_history.specs.declared.lines.Line.{Line}
 use Rattle.afs_records.specs.Records.{record_bytes, head_form, volume_form}
 use Rattle.afs_rows.specs.ServerSteps.{server_row, back_timeout_row, wake_row, start_row}
-use Rattle.afs_rows.specs.Runs.{locations, comes_up, steady, waits, starts_again, sets_stop, ticks, server_waits, Entry, Cell, Input, begins, gives, moved, start}
+use Rattle.afs_rows.specs.Runs.{locations, comes_up, steady, stops, waits, starts_again, sets_stop, ticks, server_waits, Entry, Cell, Input, begins, gives, moved, start}
 use Rattle.afs_model.specs.Messages.{spelled}
 use Rattle.afs_num.specs.Names.{name_ok}
 use Rattle.std.specs.Fmt.{digits}
@@ -327,3 +327,34 @@ row_small_cache : filter is_read (told (record (start two_files) { clients = λ 
     ∷ lines.Grant (Server 1) (Client 1) file 1 7200 ∷ lines.Read (Client 1) file 1 Fetched (seen.Contents (bodies.File (codes "abc"))) ∷ answer 1 ∷ []
 unfolding moved begin_row client_row server_row back_timeout_row wake_row start_row record_bytes head_form volume_form spelled opaque pad word laid_at led name_ok directory_bytes name_bytes rights_of image acl_text digits entry_text bytes_below
 row_small_cache = refl
+
+-- two servers: a client's calls have one count for both, each keeps its own, and what one owes by its start is no break of the
+-- other's promises
+abbrev pub away : Fid
+away = record { volume = 536870913; vnode = 2; unique = 2 }
+
+abbrev pub two_servers : Script
+two_servers = record {
+  servers = 2;
+  clients = 1;
+  volumes = record { id = home; name = codes "proj"; server = Server 1; quota = 1000; lines = setup.File (codes "a" ∷ []) (codes "abc") ∷ [] }
+      ∷ record { id = 536870913; name = codes "more"; server = Server 2; quota = 1000; lines = setup.File (codes "b" ∷ []) (codes "b") ∷ [] } ∷ [];
+  tasks = [];
+  schedule = None;
+}
+
+abbrev pub version_two : Fid → Line
+version_two f = lines.Version (record { fid = f; index = 2; data_version = 2; body = bodies.File (codes "def") })
+
+abbrev pub at_two : List Input
+at_two = begins 1 (acts.Close (operands.Fid file) (Hex (codes "def"))) ∷ gives 1 steady ∷ gives 2 steady ∷ begins 1 (acts.Close (operands.Fid away) (Hex (codes "def"))) ∷ gives 3 steady ∷ gives 4 steady ∷ gives 1 steady ∷ gives 3 steady
+    ∷ begins 1 (acts.Open (operands.Fid file)) ∷ gives 7 steady ∷ gives 8 steady ∷ stops 2 ∷ starts_again 2 false comes_up ∷ gives 9 steady ∷ gives 10 steady ∷ begins 1 (acts.Open (operands.Fid file)) ∷ []
+
+row_two_servers : told (start two_servers) at_two ≡
+    stores 1 ∷ lines.Given 1 ∷ lines.Change (Server 1) (record { node = Client 1; epoch = 1; number = 1 }) 1 ∷ version_two file ∷ lines.Given 2 ∷ answer 1
+    ∷ lines.Begin (Client 1) (acts.Close (operands.Fid away) (Hex (codes "def"))) ∷ lines.Given 3 ∷ lines.Change (Server 2) (record { node = Client 1; epoch = 1; number = 2 }) 1 ∷ version_two away ∷ lines.Given 4 ∷ answer 1
+    ∷ lines.Given 1 ∷ lines.Given 3 ∷ begun 1 ∷ lines.Given 7 ∷ lines.Grant (Server 1) (Client 1) file 2 7200 ∷ lines.Given 8 ∷ lines.Read (Client 1) file 2 Fetched (seen.Contents (bodies.File (codes "def"))) ∷ answer 1
+    ∷ lines.Crash (Server 2) ∷ lines.Restart (Server 2) 2 ∷ lines.Owe (Server 2) (Client 1) None 1 ∷ lines.Given 9 ∷ lines.DropAll (Client 1) (Server 2) ∷ lines.Given 10 ∷ lines.Settle (Server 2) (Client 1) 1
+    ∷ begun 1 ∷ lines.Read (Client 1) file 2 Cached (seen.Contents (bodies.File (codes "def"))) ∷ answer 1 ∷ []
+unfolding moved begin_row client_row server_row back_timeout_row wake_row start_row record_bytes head_form volume_form spelled opaque pad word laid_at led name_ok directory_bytes name_bytes rights_of image acl_text digits entry_text bytes_below
+row_two_servers = refl
