@@ -1,18 +1,17 @@
 -- Owed breaks in their map and their heap: what an edit makes of them.
-use Rattle.std.proofs.Common.{◌≡◌, ◌⊎◌, inl, inr, ℕ, zero, suc, ◌+◌, ◌<◌, ◌≤◌, ◌&&◌, ◌||◌, Bool, true, false, not, List, [], ◌∷◌, ◌++◌, length, filter, Option, Some, None, nat_eq, nat_le, nat_lt, is_some, cond, if◌then◌else◌, refl, ap, sym, subst, ◌∙◌, arith, length-append}
+use Rattle.std.proofs.Common.{◌≡◌, ℕ, ◌+◌, ◌<◌, ◌≤◌, ◌&&◌, ◌||◌, Bool, true, false, not, List, [], ◌∷◌, ◌++◌, length, filter, Option, Some, None, nat_eq, nat_le, nat_lt, is_some, cond, if◌then◌else◌, refl, ap, sym, subst, ◌∙◌, arith, length-append}
 use Rattle.std.specs.List.{list_any, AllByRecursion}
 use Rattle.std.specs.List.Sorted.{IsPermutation}
-use Rattle.std.specs.Map.{lookup, set_value}
-use Rattle.std.specs.Ordering.{is_lt, nat_cmp, ordering_then}
+use Rattle.std.specs.Map.{lookup}
+use Rattle.std.specs.Ordering.{is_lt}
 use Rattle.std.specs.BinaryHeap.{IsUpperBound}
 use Rattle.std.specs.declared.cmp.Reverse.{Reverse}
 use Rattle.std.proofs.lemmas.Bool.Decides.{nat_tests}
 use Rattle.std.proofs.lemmas.List.Sorted.{list_any-IsPermutation}
-use Rattle.indexmap.specs.IndexMap.{insert_entry}
-use Rattle.afs_promise.specs.declared.types.OwedBreak.{OwedBreak}
+use Rattle.afs_breaks.specs.declared.types.OwedBreak.{OwedBreak}
 use Rattle.afs_promise.proofs.Split.{and_both}
-use Rattle.afs_promise.specs.Promises.{without_break, lasting_breaks}
-use Rattle.afs_promise.specs.Owing.{has_break, break_before, breaks_in, IsNumbered, Ascends, is_at, AreDue, has_some, is_due, struck, due_order, IsOwing}
+use Rattle.afs_breaks.specs.Promises.{has_break, without_break, lasting_breaks}
+use Rattle.afs_promise.specs.Owing.{break_before, breaks_in, IsNumbered, Ascends, is_at, AreDue, has_some, is_due, struck, due_order, IsOwing}
 
 abbrev Entries : Type 0
 Entries = List (ℕ × Option OwedBreak)

@@ -1,19 +1,18 @@
 -- What is held after those that are due have ended.
-use Rattle.std.proofs.Common.{◌≡◌, inl, inr, ℕ, zero, suc, is_some, ◌+◌, ◌<◌, ◌≤◌, ◌&&◌, Bool, true, false, not, List, [], ◌∷◌, ◌++◌, length, filter, take, drop, get_or, Option, Some, None, nat_eq, nat_le, nat_lt, if◌then◌else◌, refl, ap, sym, subst, ◌∙◌, arith, length-append, take-add}
+use Rattle.std.proofs.Common.{◌≡◌, inl, inr, ℕ, zero, suc, is_some, ◌+◌, ◌<◌, ◌≤◌, ◌&&◌, Bool, true, false, not, List, [], ◌∷◌, ◌++◌, length, filter, take, drop, get_or, Option, Some, None, nat_le, nat_lt, if◌then◌else◌, refl, ap, sym, subst, ◌∙◌, arith, take-add}
 use Rattle.std.specs.List.{prefix_len}
 use Rattle.std.proofs.lemmas.Bool.Decides.{nat_tests}
 use Rattle.std.proofs.lemmas.List.{append-nil, take-append-drop}
 use Rattle.std.proofs.lemmas.List.Elements.{filter-append}
-use Rattle.afs_num.specs.declared.types.Fid.{Fid}
 use Rattle.afs_num.specs.declared.types.Node.{Node}
-use Rattle.afs_promise.specs.declared.types.Promise.{Promise}
+use Rattle.afs_breaks.specs.declared.types.Promise.{Promise}
 use Rattle.afs_promise.specs.declared.types.Grant.{Grant}
 use Rattle.afs_promise.specs.declared.types.Holding.{Holding}
-use Rattle.afs_promise.specs.Promises.{is_promise, without_promise, lasting}
-use Rattle.afs_promise.specs.Granting.{holding, holding_in, same_holding, has_order, is_held, held, IsIn, Rises, DoNotFall, IsLog, is_due, ends, reach}
+use Rattle.afs_breaks.specs.Promises.{is_promise, without_promise, lasting}
+use Rattle.afs_promise.specs.Granting.{holding_in, same_holding, has_order, is_held, held, IsIn, Rises, DoNotFall, IsLog, is_due, ends, reach}
 use Rattle.afs_promise.proofs.Held.{removed}
 use Rattle.afs_promise.proofs.Logs.{removed_log, held_alike}
-use Rattle.afs_promise.proofs.Split.{IsWithout, Split, split, and_both, holding_itself}
+use Rattle.afs_promise.proofs.Split.{IsWithout, split, and_both, holding_itself}
 use Rattle.afs_promise.proofs.Hits.{held_by}
 
 pub from_low : (low high : ℕ) (g : Grant) (log : List Grant) → Rises low high log → IsIn g log → low ≤ g.order

@@ -1,16 +1,16 @@
 -- What is held after an edit of the latest grants.
-use Rattle.std.proofs.Common.{◌≡◌, ◌⊎◌, ℕ, ◌+◌, ◌<◌, ◌≤◌, ◌&&◌, Bool, true, false, not, List, [], ◌∷◌, ◌++◌, length, filter, Option, Some, None, nat_eq, nat_lt, is_some, if◌then◌else◌, refl, ap, sym, ◌∙◌, arith, length-append}
+use Rattle.std.proofs.Common.{◌≡◌, ℕ, ◌+◌, ◌<◌, ◌&&◌, Bool, true, false, List, [], ◌∷◌, ◌++◌, Option, Some, None, nat_eq, if◌then◌else◌, refl, ap, sym, ◌∙◌, arith}
 use Rattle.std.proofs.lemmas.Bool.Decides.{nat_tests}
 use Rattle.afs_num.specs.Fids.{same_fid}
 use Rattle.afs_num.specs.Nodes.{same_node}
 use Rattle.afs_num.specs.declared.types.Fid.{Fid}
 use Rattle.afs_num.specs.declared.types.Node.{Node}
 use Rattle.afs_num.specs.declared.types.Node.TheVariants.{Loc, Server, Client, Admin}
-use Rattle.afs_promise.specs.declared.types.Promise.{Promise}
+use Rattle.afs_breaks.specs.declared.types.Promise.{Promise}
 use Rattle.afs_promise.specs.declared.types.Grant.{Grant}
 use Rattle.afs_promise.specs.declared.types.Holding.{Holding}
-use Rattle.afs_promise.specs.Promises.{is_promise, without_promise}
-use Rattle.afs_promise.specs.Granting.{holding, holding_in, same_holding, has_order, is_held, held, IsIn, Rises}
+use Rattle.afs_breaks.specs.Promises.{is_promise, without_promise}
+use Rattle.afs_promise.specs.Granting.{holding, holding_in, same_holding, has_order, is_held, held, Rises}
 
 nats_flip : (i j : ℕ) → nat_eq i j ≡ nat_eq j i
 nats_flip i j = grind (arith, nat_tests)

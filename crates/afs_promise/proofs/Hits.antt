@@ -1,5 +1,5 @@
 -- The oldest promise that a change withdraws is the first one in the order of granting.
-use Rattle.std.proofs.Common.{◌≡◌, ◌⊎◌, inl, inr, ℕ, ◌+◌, ◌<◌, ◌≤◌, ◌&&◌, ◌||◌, Bool, true, false, not, List, [], ◌∷◌, ◌++◌, length, filter, Option, Some, None, nat_eq, nat_lt, is_some, if◌then◌else◌, refl, ap, sym, subst, ◌∙◌, arith, length-append}
+use Rattle.std.proofs.Common.{◌≡◌, ◌⊎◌, inl, inr, ℕ, ◌+◌, ◌≤◌, ◌||◌, Bool, true, false, not, List, [], ◌∷◌, ◌++◌, length, filter, Option, Some, None, nat_eq, nat_lt, if◌then◌else◌, refl, ap, sym, subst, ◌∙◌, arith, length-append}
 use Rattle.std.specs.List.{list_any}
 use Rattle.std.proofs.lemmas.Bool.Decides.{nat_tests}
 use Rattle.std.proofs.lemmas.List.Elements.{filter-append}
@@ -8,11 +8,11 @@ use Rattle.afs_num.specs.Nodes.{same_node}
 use Rattle.afs_num.specs.declared.types.Fid.{Fid}
 use Rattle.afs_num.specs.declared.types.Node.{Node}
 use Rattle.afs_num.specs.declared.types.Node.TheVariants.{Loc, Server, Client, Admin}
-use Rattle.afs_promise.specs.declared.types.Promise.{Promise}
+use Rattle.afs_breaks.specs.declared.types.Promise.{Promise}
 use Rattle.afs_promise.specs.declared.types.Grant.{Grant}
 use Rattle.afs_promise.specs.declared.types.Holding.{Holding}
-use Rattle.afs_promise.specs.Promises.{is_promise, without_promise, is_hit, hits, left}
-use Rattle.afs_promise.specs.Granting.{holding, holding_in, same_holding, has_order, is_held, held, IsIn, Rises, hit_of, earlier, oldest, IsLog}
+use Rattle.afs_breaks.specs.Promises.{without_promise, is_hit, hits, left}
+use Rattle.afs_promise.specs.Granting.{holding, holding_in, same_holding, has_order, is_held, held, IsIn, hit_of, earlier, oldest, IsLog}
 use Rattle.afs_promise.proofs.Held.{removed, same_key}
 use Rattle.afs_promise.proofs.Split.{IsWithout, Split, split, and_both, holding_itself}
 
@@ -169,7 +169,7 @@ module _ {latest : Holding → Option Grant} {log : List Grant} {clients : List 
   chosen_hit : (c : Node) (h : Grant) → same_node c except ≡ false → latest (holding c fid) ≡ Some h → hit_of latest except fid c ≡ Some h
   chosen_hit c h e f = rw e f
 
-  hit_found : (x : Grant) → is_held latest x ≡ true → is_hit except fid x.promise ≡ true → Found latest except fid x.order (oldest latest except fid None clients)
+  pub hit_found : (x : Grant) → is_held latest x ≡ true → is_hit except fid x.promise ≡ true → Found latest except fid x.order (oldest latest except fid None clients)
   hit_found x e hit =
       let h = held_by latest x e in
       let own = own_client x.promise.client x.promise.fid h.0 (is.found (holding_in x) h.0 h.1.is).1 in

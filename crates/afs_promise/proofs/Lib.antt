@@ -5,5 +5,6 @@ pub mod Hits
 pub mod Split
 pub mod Volumes
 pub mod Lists
+pub mod Since
 pub mod Logs
 pub mod Sorted

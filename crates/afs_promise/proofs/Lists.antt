@@ -1,13 +1,12 @@
 -- How long the lists are after each edit, and what holds of them.
-use Rattle.std.proofs.Common.{◌≡◌, ℕ, suc, ◌+◌, ◌<◌, ◌≤◌, Bool, true, false, not, List, [], ◌∷◌, ◌++◌, length, filter, drop, get_or, drop-cons, if◌then◌else◌, refl, ap, sym, ◌∙◌, arith, length-append}
+use Rattle.std.proofs.Common.{◌≡◌, ℕ, suc, ◌+◌, ◌<◌, ◌≤◌, Bool, true, false, not, List, [], ◌∷◌, length, filter, drop, get_or, drop-cons, if◌then◌else◌, refl, ap, sym, ◌∙◌, arith, length-append}
 use Rattle.std.specs.Ordering.{is_lt}
 use Rattle.afs_num.specs.Fids.{fid_order}
 use Rattle.afs_num.specs.declared.types.Fid.{Fid}
 use Rattle.afs_num.specs.declared.types.Node.{Node}
-use Rattle.afs_promise.specs.declared.types.Promise.{Promise}
-use Rattle.afs_promise.specs.declared.types.OwedBreak.{OwedBreak}
+use Rattle.afs_breaks.specs.declared.types.Promise.{Promise}
 use Rattle.afs_promise.specs.declared.types.Grant.{Grant}
-use Rattle.afs_promise.specs.Promises.{is_promise, without_promise, with_promise, with_promises, owes_from, placed, by_fid, hits_on, left_off, is_on, lasting}
+use Rattle.afs_breaks.specs.Promises.{is_promise, without_promise, with_promise, with_promises, is_hit, hits, left, placed, by_fid, hits_on, left_off, is_on}
 use Rattle.afs_promise.specs.Granting.{promises_in}
 
 pub filter_few : (q : Promise → Bool) (ps : List Promise) → length (filter q ps) ≤ length ps
@@ -56,3 +55,14 @@ next_granted client expiry i fids d ps new all lt e rest =
 
 pub next_long : (client : Node) (expiry : ℕ) (fid : Fid) (ps new : List Promise) → new ≡ with_promise client expiry fid ps → length new ≤ length ps + 1
 next_long client expiry fid ps new e = omega (arith, ap (λ (l : List Promise). length l) e, with_few client expiry fid ps)
+
+-- of a fid's promises as many go as don't stay
+pub hits_both : (except : Node) (fid : Fid) (ps : List Promise) → length (hits except fid ps) + length (left except fid ps) ≡ length ps
+hits_both except fid ps = filter_both (is_hit except fid) ps
+
+pub volume_both : (volume : ℕ) (ps : List Promise) → length (by_fid (hits_on volume ps)) + length (left_off volume ps) ≡ length ps
+volume_both volume ps = omega (arith, by_fid_long (hits_on volume ps), filter_both (is_on volume) ps)
+
+pub with_all_few : (client : Node) (expiry : ℕ) (fids : List Fid) (ps : List Promise) → length (with_promises client expiry fids ps) ≤ length ps + length fids
+with_all_few client expiry [] ps = omega arith
+with_all_few client expiry (fid ∷ fids) ps = omega (arith, with_all_few client expiry fids (with_promise client expiry fid ps), with_few client expiry fid ps)

@@ -1,5 +1,5 @@
 -- The log and the latest grants agree after each edit.
-use Rattle.std.proofs.Common.{◌≡◌, ◌⊎◌, inl, inr, ℕ, zero, suc, ◌+◌, ◌<◌, ◌≤◌, ◌&&◌, Bool, true, false, not, List, [], ◌∷◌, ◌++◌, length, filter, take, Option, Some, None, nat_eq, nat_lt, is_some, if◌then◌else◌, refl, ap, sym, subst, ◌∙◌, arith, length-append}
+use Rattle.std.proofs.Common.{◌≡◌, ◌⊎◌, inl, inr, ℕ, zero, suc, ◌+◌, ◌<◌, ◌≤◌, Bool, true, false, List, [], ◌∷◌, ◌++◌, length, filter, take, Option, Some, None, nat_eq, is_some, if◌then◌else◌, refl, ap, sym, subst, ◌∙◌, arith, length-append}
 use Rattle.std.specs.List.{list_any}
 use Rattle.std.specs.Map.{lookup}
 use Rattle.indexmap.specs.IndexMap.{IndexMap, get}
@@ -8,13 +8,13 @@ use Rattle.std.proofs.lemmas.List.{take-append-le}
 use Rattle.afs_num.specs.Nodes.{same_node}
 use Rattle.afs_num.specs.declared.types.Fid.{Fid}
 use Rattle.afs_num.specs.declared.types.Node.{Node}
-use Rattle.afs_promise.specs.declared.types.Promise.{Promise}
+use Rattle.afs_breaks.specs.declared.types.Promise.{Promise}
 use Rattle.afs_promise.specs.declared.types.Grant.{Grant}
 use Rattle.afs_promise.specs.declared.types.Holding.{Holding}
-use Rattle.afs_promise.specs.Promises.{is_promise, without_promise}
+use Rattle.afs_breaks.specs.Promises.{without_promise}
 use Rattle.afs_promise.specs.Granting.{holding, holding_in, same_holding, has_order, is_held, held, IsIn, Rises, DoNotFall, IsLog, goes_on}
 use Rattle.afs_promise.proofs.Held.{removed, replaced, held_last}
-use Rattle.afs_promise.proofs.Split.{IsWithout, Split, split, holdings_are_one, holding_itself}
+use Rattle.afs_promise.proofs.Split.{IsWithout, split, holdings_are_one, holding_itself}
 
 pub gets_alike : {S : Type 0} (old new : IndexMap Holding Grant S) → new.entries ≡ old.entries → get same_holding new ≡ get same_holding old
 gets_alike old new e = λ i k. lookup (same_holding k) (e i)

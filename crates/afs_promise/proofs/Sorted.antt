@@ -1,5 +1,5 @@
 -- Grants sorted by fid and by their places in the order of granting have their promises by fid.
-use Rattle.std.proofs.Common.{◌≡◌, ◌⊎◌, inl, inr, ℕ, zero, suc, ◌+◌, ◌<◌, ◌≤◌, Bool, true, false, List, [], ◌∷◌, ◌++◌, length, map, get_or, nat_eq, nat_lt, cond, if◌then◌else◌, refl, ap, sym, subst, ◌∙◌, arith}
+use Rattle.std.proofs.Common.{◌≡◌, ◌⊎◌, inl, inr, ℕ, zero, suc, ◌+◌, ◌<◌, Bool, true, false, List, [], ◌∷◌, length, get_or, nat_eq, nat_lt, cond, if◌then◌else◌, refl, ap, sym, subst, ◌∙◌, arith}
 use Rattle.std.specs.Cmp.{IsStrictWeakOrder, IsTotalOrder}
 use Rattle.std.specs.List.{All, AllByRecursion, IsDistinct}
 use Rattle.std.specs.List.Sorted.{IsPermutation, IsSortedBy}
@@ -11,9 +11,9 @@ use Rattle.std.proofs.lemmas.Bool.Decides.{nat_tests}
 use Rattle.std.proofs.lemmas.List.Sorted.{All-permutation, IsPermutation-sym, sorted_far, ranks_by}
 use Rattle.std.proofs.lemmas.Map.Keys.{IsDistinct-IsPermutation}
 use Rattle.afs_num.specs.Fids.{fid_order}
-use Rattle.afs_promise.specs.declared.types.Promise.{Promise}
+use Rattle.afs_breaks.specs.declared.types.Promise.{Promise}
 use Rattle.afs_promise.specs.declared.types.Grant.{Grant}
-use Rattle.afs_promise.specs.Promises.{placed, by_fid}
+use Rattle.afs_breaks.specs.Promises.{placed, by_fid}
 use Rattle.afs_promise.specs.Granting.{promises_in, IsIn, Rises}
 use Rattle.afs_promise.proofs.Ends.{get_in, from_low}
 

@@ -1,5 +1,5 @@
 -- The promises on a volume go.
-use Rattle.std.proofs.Common.{◌≡◌, inl, inr, ℕ, zero, suc, ◌+◌, ◌<◌, ◌≤◌, ◌&&◌, ◌||◌, Bool, true, false, not, List, [], ◌∷◌, length, map, filter, drop, get_or, Option, Some, None, nat_eq, is_some, if◌then◌else◌, refl, ap, sym, subst, ◌∙◌, arith, drop-cons}
+use Rattle.std.proofs.Common.{◌≡◌, inl, inr, ℕ, suc, ◌+◌, ◌<◌, ◌≤◌, ◌&&◌, ◌||◌, Bool, true, false, not, List, [], ◌∷◌, length, filter, drop, get_or, Option, nat_eq, if◌then◌else◌, refl, ap, sym, ◌∙◌, arith, drop-cons}
 use Rattle.std.specs.List.{list_any}
 use Rattle.std.specs.List.Sorted.{IsPermutation}
 use Rattle.std.proofs.lemmas.Bool.Decides.{nat_tests}
@@ -9,11 +9,11 @@ use Rattle.afs_num.specs.Nodes.{same_node}
 use Rattle.afs_num.specs.declared.types.Fid.{Fid}
 use Rattle.afs_num.specs.declared.types.Node.{Node}
 use Rattle.afs_num.specs.declared.types.Node.TheVariants.{Loc, Server, Client, Admin}
-use Rattle.afs_promise.specs.declared.types.Promise.{Promise}
+use Rattle.afs_breaks.specs.declared.types.Promise.{Promise}
 use Rattle.afs_promise.specs.declared.types.Grant.{Grant}
 use Rattle.afs_promise.specs.declared.types.Holding.{Holding}
-use Rattle.afs_promise.specs.Promises.{is_promise, without_promise, is_on, hits_on, left_off}
-use Rattle.afs_promise.specs.Granting.{holding, holding_in, same_holding, has_order, is_held, held, promises_in, is_held_on, held_on, IsIn}
+use Rattle.afs_breaks.specs.Promises.{is_promise, without_promise, is_on, hits_on, left_off}
+use Rattle.afs_promise.specs.Granting.{is_held, held, promises_in, is_held_on, held_on, IsIn}
 use Rattle.afs_promise.proofs.Hits.{fids_are_one}
 use Rattle.afs_promise.proofs.Logs.{in_filter}
 use Rattle.afs_promise.proofs.Sorted.{moved_in}

@@ -5,7 +5,7 @@ use Rattle.afs_num.specs.Nodes.{same_node}
 use Rattle.afs_num.specs.declared.types.Fid.{Fid}
 use Rattle.afs_num.specs.declared.types.Node.{Node}
 use Rattle.afs_num.specs.declared.types.Node.TheVariants.{Loc, Server, Client, Admin}
-use Rattle.afs_promise.specs.declared.types.Promise.{Promise}
+use Rattle.afs_breaks.specs.declared.types.Promise.{Promise}
 use Rattle.afs_promise.specs.declared.types.Grant.{Grant}
 use Rattle.afs_promise.specs.declared.types.Holding.{Holding}
 
@@ -84,6 +84,15 @@ abbrev pub reach : ℕ → Bool → ℕ → List Grant → ℕ
 reach now rising ended log = if rising then ended + prefix_len (is_due now) (drop ended log) else length log
 
 -- ---- the oldest promise that a change withdraws
+
+-- the grant, where it doesn't stand before this place in the order of granting
+abbrev pub from_place : ℕ → Option Grant → Option Grant
+from_place from None = None
+from_place from (Some g) = if nat_le from g.order then Some g else None
+
+-- the latest grants, those at this place and behind it alone
+abbrev pub since : ℕ → (Holding → Option Grant) → Holding → Option Grant
+since from latest k = from_place from (latest k)
 
 abbrev pub hit_of : (Holding → Option Grant) → Node → Fid → Node → Option Grant
 hit_of latest except fid client = if same_node client except then None else latest (holding client fid)

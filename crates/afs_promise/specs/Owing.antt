@@ -1,12 +1,12 @@
 -- How the owed breaks are kept: a map in the order of their numbers, from which those that end are struck out, and a
 -- heap by expiry.
-use Rattle.std.specs.Prelude.{◌≡◌, ℕ, ◌+◌, ◌≤◌, List, [], ◌∷◌, Bool, true, false, Option, Some, None, nat_eq, nat_le, length, ◌&&◌, if◌then◌else◌}
+use Rattle.std.specs.Prelude.{◌≡◌, ℕ, ◌+◌, ◌≤◌, List, [], ◌∷◌, Bool, true, false, Option, Some, None, nat_eq, nat_le, length, ◌&&◌}
 use Rattle.std.specs.List.{list_any}
 use Rattle.std.specs.Map.{set_value}
 use Rattle.std.specs.Ordering.{nat_cmp, ordering_then}
 use Rattle.std.specs.declared.cmp.Ordering.{Ordering}
 use Rattle.std.specs.declared.cmp.Reverse.{Reverse}
-use Rattle.afs_promise.specs.declared.types.OwedBreak.{OwedBreak}
+use Rattle.afs_breaks.specs.declared.types.OwedBreak.{OwedBreak}
 
 -- the breaks that are owed, the last number of one, and how many more can become owed without memory
 pub record Owing : Type 0 where
@@ -17,10 +17,6 @@ pub record Owing : Type 0 where
 -- in the heap the break comes first that ends first
 abbrev pub due_order : Reverse (ℕ × ℕ) → Reverse (ℕ × ℕ) → Ordering
 due_order x y = ordering_then (nat_cmp y.0.0 x.0.0) (nat_cmp y.0.1 x.0.1)
-
-abbrev pub has_break : ℕ → List OwedBreak → Bool
-has_break number [] = false
-has_break number (o ∷ os) = if nat_eq o.number number then true else has_break number os
 
 abbrev pub break_before : Option OwedBreak → List OwedBreak → List OwedBreak
 break_before None os = os

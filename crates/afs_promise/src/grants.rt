@@ -1,19 +1,20 @@
 //! The promises that are held, in the order of granting.
 
-ghost use Rattle.std.specs.Prelude.{◌≡◌, ◌+◌, ◌<◌, ◌≤◌, ◌++◌, [], ◌∷◌, ℕ, length, true, Some, None, is_some, ◌^◌, ◌&&◌, if◌then◌else◌, IsOk, OnOk, IfNone};
-ghost use Rattle.std.specs.List.{list_any, prefix_len};
-ghost use Rattle.std.specs.List.Sorted.{IsPermutation};
+ghost use Rattle.std.specs.Prelude.{◌≡◌, ◌+◌, ◌<◌, ◌≤◌, ◌++◌, [], length, true, IsOk, OnOk, OnErr, IfNone, List};
+ghost use Rattle.std.specs.List.{list_any};
 ghost use Rattle.std.specs.Option.{option_to_list};
 ghost use Rattle.std.specs.Vec.{vec_capacity, vec_len};
-ghost use Rattle.indexmap.specs.IndexMap.{get, spare};
 ghost use Rattle.afs_num.specs.Nodes.{same_node};
 ghost use Rattle.afs_num.specs.declared.types.Node.{Node};
-ghost use Rattle.afs_promise.specs.declared.types.Holding.{Holding};
-ghost use Rattle.afs_promise.specs.Promises.{with_promise, without_promise, hits, left, hits_on, left_off, by_fid, lasting};
-ghost use Rattle.afs_promise.specs.Granting.{holding, holding_in, same_holding, is_held, is_held_on, is_due, ends, reach, goes_on, hit_of, earlier, oldest, promises_in, held_on, Rises};
+ghost use Rattle.afs_breaks.specs.declared.types.Promise.{Promise};
+ghost use Rattle.afs_breaks.specs.Promises.{with_promise, without_promise, hits, left, hits_on, left_off, by_fid, lasting};
+ghost use Rattle.afs_promise.specs.Granting.{promises_in};
 
-use crate::holding::holding;
-use crate::types::{Grant, Holding, Promise};
+use crate::by_client::{add_lasting, oldest};
+use crate::latest::{is_held, note, remove};
+use crate::log::{end_due, gather, goes_on, reach, sort_by_fid};
+use crate::types::{Grant, Holding};
+use afs_breaks::types::Promise;
 use afs_num::types::{Fid, Mem, Node};
 use indexmap::IndexMap;
 use std::alloc::{AllocError, Global};
@@ -53,53 +54,6 @@ impl Model for Grants {
     ghost invariant = { λ g. IsLog (get same_holding g.latest) g.log.items g.clients.items g.ended g.count g.next g.rising g.highest × (vec_len g.log + g.room ≤ vec_capacity g.log) × (vec_len g.clients + g.room ≤ vec_capacity g.clients) × (g.room ≤ spare g.latest) × (g.next + g.room < 2 ^ 64) };
 }
 
-/// Whether the grant is the latest of its client on its fid.
-fn is_held(latest: &IndexMap<Holding, Grant>, grant: &Grant) -> bool
-    ensures { result ≡ is_held (get same_holding latest.now) grant.now }
-{
-    match latest.get(&holding(grant.promise.client, grant.promise.fid)) {
-        Some(last) => last.order == grant.order,
-        None => false,
-    }
-}
-
-/// What the client holds on the fid, unless it is `except`.
-fn hit_of(latest: &IndexMap<Holding, Grant>, except: Node, fid: Fid, client: Node) -> Option<Grant>
-    ensures { result ≡ hit_of (get same_holding latest.now) except fid client }
-{
-    if client.is(&except) {
-        return None;
-    }
-    latest.get(&holding(client, fid)).copied()
-}
-
-/// That which was granted first.
-fn earlier(one: Option<Grant>, other: Option<Grant>) -> Option<Grant>
-    ensures { result ≡ earlier one other }
-{
-    match (one, other) {
-        (None, _) => other,
-        (_, None) => one,
-        (Some(g), Some(h)) => { if h.order < g.order { other } else { one } }
-    }
-}
-
-/// The promise on the fid that was granted first, of all clients but `except`.
-fn oldest(
-    latest: &IndexMap<Holding, Grant>,
-    clients: &[Node],
-    except: Node,
-    fid: Fid,
-) -> Option<Grant>
-    ensures { result ≡ oldest (get same_holding latest.now) except fid None clients.now }
-{
-    let mut best = None;
-    for client in clients {
-        best = earlier(best, hit_of(latest, except, fid, *client));
-    }
-    best
-}
-
 /// Notes a client, in the room that was made for it.
 fn meet(clients: &mut Vec<Node>, client: Node) -> Mem<()>
     requires { vec_len clients.old < vec_capacity clients.old }
@@ -113,118 +67,6 @@ fn meet(clients: &mut Vec<Node>, client: Node) -> Mem<()>
         clients.push(client)?;
     }
     Ok(())
-}
-
-/// Notes what the client holds on the fid now, in the room that was made for it, and counts it where it held nothing.
-fn note(
-    latest: &mut IndexMap<Holding, Grant>,
-    count: &mut usize,
-    client: Node,
-    fid: Fid,
-    grant: Grant,
-) -> Mem<()>
-    requires room { 0 < spare latest.old }
-    requires few { count.old + 1 < 2 ^ 64 }
-    ensures ok { IsOk result }
-    ensures updates { (q : Holding) → get same_holding latest.new q ≡ (if same_holding (holding client fid) q then Some grant else get same_holding latest.old q) }
-    ensures count { count.new + (if is_some (get same_holding latest.old (holding client fid)) then 1 else 0) ≡ count.old + 1 }
-    ensures spare { spare latest.old ≤ spare latest.new + 1 }
-{
-    if latest.insert(holding(client, fid), grant)?.is_none() {
-        *count += 1;
-    }
-    Ok(())
-}
-
-/// Whether expiries don't fall, with this one behind the last.
-fn goes_on(empty: bool, rising: bool, highest: u32, expiry: u32) -> bool
-    ensures { result ≡ goes_on empty rising highest expiry }
-{
-    empty || (rising && highest <= expiry)
-}
-
-/// Removes what the client holds on the fid, if anything, and counts it off.
-fn remove(latest: &mut IndexMap<Holding, Grant>, count: &mut usize, client: Node, fid: Fid)
-    requires { is_some (get same_holding latest.old (holding client fid)) ≡ true → 0 < count.old }
-    ensures updates { (q : Holding) → get same_holding latest.new q ≡ (if same_holding (holding client fid) q then None else get same_holding latest.old q) }
-    ensures count { count.new + (if is_some (get same_holding latest.old (holding client fid)) then 1 else 0) ≡ count.old }
-    ensures room { spare latest.old ≤ spare latest.new }
-{
-    if latest.swap_remove(&holding(client, fid)).is_some() {
-        *count -= 1;
-    }
-}
-
-/// Whether the grant is held, and on this volume.
-fn is_held_on(latest: &IndexMap<Holding, Grant>, volume: u32, grant: &Grant) -> bool
-    ensures { result ≡ is_held_on (get same_holding latest.now) volume grant.now }
-{
-    grant.promise.fid.volume == volume && is_held(latest, grant)
-}
-
-/// Adds a grant, in the room that was made for it.
-fn add(gone: &mut Vec<Grant>, grant: Grant)
-    requires { vec_len gone.old < vec_capacity gone.old }
-    ensures items { gone.new.items ≡ gone.old.items ++ grant ∷ [] }
-    ensures capacity { vec_capacity gone.old ≤ vec_capacity gone.new }
-{
-    let _ = gone.push(grant);
-}
-
-/// Adds the grants that are held on the volume, in the room that was made for them.
-fn gather(log: &[Grant], latest: &IndexMap<Holding, Grant>, volume: u32, gone: &mut Vec<Grant>)
-    requires { vec_len gone.old + length (held_on (get same_holding latest.now) volume log.now) ≤ vec_capacity gone.old }
-    ensures grants { gone.new.items ≡ gone.old.items ++ held_on (get same_holding latest.now) volume log.now }
-    ensures capacity { vec_capacity gone.old ≤ vec_capacity gone.new }
-{
-    for grant in log {
-        if is_held_on(latest, volume, grant) {
-            add(gone, *grant);
-        }
-    }
-}
-
-/// Puts grants in the order of their fids, those on one fid in the order of granting.
-fn sort_by_fid(gone: &mut Vec<Grant>)
-    ensures moved { IsPermutation gone.old.items gone.new.items }
-    ensures sorted { (high : ℕ) → Rises 0 high gone.old.items → promises_in gone.new.items ≡ by_fid (promises_in gone.old.items) }
-    ensures capacity { vec_capacity gone.new ≡ vec_capacity gone.old }
-{
-    gone.sort_unstable_by_key(|g| (g.promise.fid, g.order));
-}
-
-/// How many grants at the front have an expiry that isn't above the clock.
-fn due_in_front(log: &[Grant], now: u32) -> usize
-    ensures value { result ≡ prefix_len (is_due now) log.now }
-    ensures within { result ≤ length log.now }
-{
-    log.iter().take_while(|g| g.promise.expiry <= now).count()
-}
-
-/// The place to which those may stand whose expiry isn't above the clock.
-fn reach(log: &[Grant], rising: bool, ended: usize, now: u32) -> usize
-    requires { ended ≤ length log.now }
-    ensures place { result ≡ reach now rising ended log.now }
-    ensures within { result ≤ length log.now }
-    ensures behind { ended ≤ result }
-{
-    if rising {
-        ended + due_in_front(log.split_at(ended).1, now)
-    } else {
-        log.len()
-    }
-}
-
-/// Ends a grant that is held, where its expiry isn't above the clock.
-fn end_due(latest: &mut IndexMap<Holding, Grant>, count: &mut usize, grant: &Grant, now: u32)
-    requires { is_some (get same_holding latest.old (holding_in grant.now)) ≡ true → 0 < count.old }
-    ensures updates { (q : Holding) → get same_holding latest.new q ≡ (if ends (get same_holding latest.old) now grant.now && same_holding (holding_in grant.now) q then None else get same_holding latest.old q) }
-    ensures count { count.new + (if ends (get same_holding latest.old) now grant.now then 1 else 0) ≡ count.old }
-    ensures room { spare latest.old ≤ spare latest.new }
-{
-    if grant.promise.expiry <= now && is_held(latest, grant) {
-        remove(latest, count, grant.promise.client, grant.promise.fid);
-    }
 }
 
 impl Grants {
@@ -330,9 +172,22 @@ impl Grants {
         ensures len { length self.new.promises + length (option_to_list result) ≡ length self.old.promises }
         ensures room { self.new.room ≡ self.old.room }
     {
-        let grant = oldest(&self.latest, &self.clients, except, fid)?;
+        let grant = oldest(&self.latest, &self.clients, except, fid, 0)?;
         self.give_up(grant.promise.client, grant.promise.fid);
         Some(grant.promise)
+    }
+
+    /// Adds the promises on the fid whose expiry is above the clock, of all clients but `except`, in the order of granting.
+    pub fn hits(&self, fid: Fid, except: Node, now: u32, out: &mut Vec<Promise>) -> Mem<()>
+        ensures ok { OnOk result (out.new.items ≡ out.old.items ++ lasting now (hits except fid self.now.promises)) }
+        ensures err { OnErr result ((some : List Promise) × (out.new.items ≡ out.old.items ++ some)) }
+    {
+        let mut from = 0;
+        while let Some(grant) = oldest(&self.latest, &self.clients, except, fid, from) {
+            add_lasting(out, grant.promise, now)?;
+            from = grant.order + 1;
+        }
+        Ok(())
     }
 
     /// Removes every promise on the volume, and gives them by fid, those on one fid in the order of granting.

@@ -1,11 +1,14 @@
 #![tactic(auto)]
 
+mod by_client;
 mod grants;
 mod holding;
+mod latest;
+mod log;
 mod owed;
 mod promises;
 mod types;
 
+pub use afs_breaks::types::{OwedBreak, Promise};
 pub use owed::{OwedBreaks, OwedList};
 pub use promises::Promises;
-pub use types::{OwedBreak, Promise};

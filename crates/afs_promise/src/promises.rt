@@ -1,11 +1,13 @@
-ghost use Rattle.std.specs.Prelude.{◌≡◌, ◌+◌, ◌<◌, ◌≤◌, ◌++◌, length, IfOk, IsOk, OnOk, OnErr};
+ghost use Rattle.std.specs.Prelude.{◌≡◌, ◌+◌, ◌<◌, ◌≤◌, ◌++◌, List, length, IfOk, IsOk, OnOk, OnErr};
 ghost use Rattle.std.specs.Vec.{vec_capacity};
+ghost use Rattle.afs_breaks.specs.declared.types.Promise.{Promise};
 ghost use Rattle.afs_promise.specs.Granting.{promises_in};
-ghost use Rattle.afs_promise.specs.Promises.{no_lists, grants, grants_all, gives_up, with_promises, owes_all, owes_from, hits, left, withdraws, withdraws_volume, ends, expired};
+ghost use Rattle.afs_breaks.specs.Promises.{no_lists, grants, grants_all, gives_up, with_promises, owes_all, owes_from, hits, left, lasting, withdraws, withdraws_volume, ends, expired};
 
 use crate::grants::Grants;
 use crate::owed::OwedList;
 use crate::types::Grant;
+use afs_breaks::types::Promise;
 use afs_num::types::{Fid, Mem, Node};
 use std::alloc::{AllocError, Global};
 use std::marker::Model;
@@ -28,7 +30,7 @@ pub struct Promises {
 impl Model for Promises {
     ghost use Rattle.std.specs.Prelude.{◌≡◌, ◌≤◌, [], length};
     ghost use Rattle.std.specs.Vec.{vec_capacity};
-    ghost use Rattle.afs_promise.specs.Promises.{Lists};
+    ghost use Rattle.afs_breaks.specs.Promises.{Lists};
 
     ghost Value = { Lists };
 
@@ -163,6 +165,24 @@ impl Promises {
         ensures same { self.new ≡ self.old }
     {
         Ok(())
+    }
+
+    /// How many promises are held. It takes no memory.
+    pub fn held(&self) -> usize
+        ensures { result ≡ length self.now.promises }
+    {
+        self.grants.len()
+    }
+
+    /// Adds the promises that a withdrawal on the fid takes where the clock is at `now`, in the order of granting: those
+    /// of all clients but `except` whose expiry is above it. It looks for a promise of each client, once for each that it
+    /// adds and once more.
+    #[tactic(auto, using(crate::proofs::Since::lasting_hits))]
+    pub fn hits(&self, fid: Fid, except: Node, now: u32, out: &mut Vec<Promise>) -> Mem<()>
+        ensures ok { OnOk result (out.new.items ≡ out.old.items ++ hits except fid (lasting now self.now.promises)) }
+        ensures err { OnErr result ((some : List Promise) × (out.new.items ≡ out.old.items ++ some)) }
+    {
+        self.grants.hits(fid, except, now, out)
     }
 
     /// Withdraws the promises on the fid but that of `except`: their breaks become owed, in the order of granting. It

@@ -1,6 +1,5 @@
 use Rattle.std.proofs.Common.{◌≡◌, ◌≤◌, ◌+◌, drop, length}
-use Rattle.afs_promise.specs.Promises.{with_promises}
-use Rattle.afs_promise.proofs.Lists.{with_few}
+use Rattle.afs_breaks.specs.Promises.{with_promises}
 use Rattle.afs_promise.proofs.promises.put_each.Given as goal
 
 abbrev pub invariant-loop-fid : goal.invariant-loop-fid

@@ -1,11 +1,10 @@
-use Rattle.std.proofs.Common.{◌≡◌, ◌≤◌, ◌<◌, ◌+◌, ◌++◌, ◌∷◌, [], refl, sym, ap, subst, ◌∙◌, arith, true, is_some, length, ℕ, List, take}
+use Rattle.std.proofs.Common.{◌≡◌, ◌<◌, ◌+◌, ◌++◌, ◌∷◌, [], refl, sym, ap, subst, ◌∙◌, arith, length, ℕ, List, take}
 use Rattle.indexmap.specs.IndexMap.{get}
 use Rattle.afs_promise.specs.declared.types.Grant.{Grant}
-use Rattle.afs_promise.specs.declared.types.Promise.{Promise}
-use Rattle.afs_promise.specs.Promises.{lasting}
-use Rattle.afs_promise.specs.Granting.{holding_in, same_holding, held, reach, IsIn}
+use Rattle.afs_breaks.specs.Promises.{lasting}
+use Rattle.afs_promise.specs.Granting.{holding_in, same_holding, held, IsIn}
 use Rattle.afs_promise.proofs.Logs.{is_counted}
-use Rattle.afs_promise.proofs.Ends.{goes, get_in, take_one_more, none_due, rest_lasts, ended_log}
+use Rattle.afs_promise.proofs.Ends.{goes, get_in, take_one_more, rest_lasts, ended_log}
 use Rattle.afs_promise.proofs.grants.Grants.expire.Goals as goal
 
 pub end_due-requires : goal.end_due-requires

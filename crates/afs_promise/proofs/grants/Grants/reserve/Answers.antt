@@ -1,4 +1,4 @@
-use Rattle.std.proofs.Common.{◌≡◌, ◌+◌, ◌≤◌, arith, refl, ap}
+use Rattle.std.proofs.Common.{arith, refl}
 use Rattle.afs_promise.proofs.Logs.{alike_log}
 use Rattle.afs_promise.proofs.grants.Grants.reserve.Goals as goal
 

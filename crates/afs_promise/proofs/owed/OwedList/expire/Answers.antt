@@ -1,7 +1,6 @@
-use Rattle.std.proofs.Common.{◌≡◌, ◌+◌, ◌≤◌, ℕ, List, nat_eq, arith, sym, ap, subst, ◌∙◌, if◌then◌else◌}
+use Rattle.std.proofs.Common.{◌≡◌, ◌+◌, ℕ, nat_eq, arith, sym, subst, ◌∙◌, if◌then◌else◌}
 use Rattle.std.specs.Map.{lookup}
 use Rattle.std.specs.BinaryHeap.{heap_items}
-use Rattle.afs_promise.specs.Promises.{lasting_breaks}
 use Rattle.afs_promise.specs.Owing.{breaks_in, is_due, struck}
 use Rattle.afs_promise.proofs.Breaks.{counts_some, ends, all_last}
 use Rattle.afs_promise.proofs.owed.OwedList.expire.Goals as goal

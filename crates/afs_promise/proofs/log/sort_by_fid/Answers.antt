@@ -2,7 +2,7 @@ use Rattle.std.proofs.Common.{rules}
 use Rattle.std.proofs.lemmas.List.Sorted.{answers_always}
 use Rattle.afs_promise.specs.declared.types.Grant.{Grant}
 use Rattle.afs_promise.proofs.Sorted.{sorted_by_fid}
-use Rattle.afs_promise.proofs.grants.sort_by_fid.Goals as goal
+use Rattle.afs_promise.proofs.log.sort_by_fid.Goals as goal
 
 pub returns-clause-sorted : goal.returns-clause-sorted
 returns-clause-sorted c =

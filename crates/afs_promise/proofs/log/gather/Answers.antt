@@ -1,9 +1,9 @@
-use Rattle.std.proofs.Common.{◌≡◌, ℕ, ◌<◌, ◌++◌, ◌∷◌, List, Bool, true, length, drop, get_or, suc, Option, sym, ap, ◌∙◌, if◌then◌else◌, drop-cons, arith, length-append}
+use Rattle.std.proofs.Common.{◌≡◌, ℕ, ◌<◌, ◌∷◌, List, Bool, true, length, drop, get_or, suc, Option, sym, ap, ◌∙◌, if◌then◌else◌, drop-cons, arith, length-append}
 use Rattle.indexmap.specs.IndexMap.{get}
 use Rattle.afs_promise.specs.declared.types.Grant.{Grant}
 use Rattle.afs_promise.specs.declared.types.Holding.{Holding}
 use Rattle.afs_promise.specs.Granting.{same_holding, is_held_on, held_on}
-use Rattle.afs_promise.proofs.grants.gather.Goals as goal
+use Rattle.afs_promise.proofs.log.gather.Goals as goal
 
 one_to_come : (latest : Holding → Option Grant) (volume i : ℕ) (log : List Grant) (d : Grant) → i < length log → is_held_on latest volume (get_or log i d) ≡ true → 0 < length (held_on latest volume (drop i log))
 one_to_come latest volume i log d lt is =

@@ -2,7 +2,7 @@ use Rattle.std.proofs.Common.{◌≡◌, ◌++◌, ◌≤◌, drop}
 use Rattle.std.specs.Vec.{vec_capacity}
 use Rattle.indexmap.specs.IndexMap.{get}
 use Rattle.afs_promise.specs.Granting.{same_holding, held_on}
-use Rattle.afs_promise.proofs.grants.gather.Given as goal
+use Rattle.afs_promise.proofs.log.gather.Given as goal
 
 abbrev pub invariant-loop-grant : goal.invariant-loop-grant
 invariant-loop-grant l = record {
