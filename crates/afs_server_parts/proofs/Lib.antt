@@ -1,0 +1,9 @@
+pub mod Calls
+pub mod Finding
+pub mod First
+pub mod Keeping
+pub mod Same
+pub mod Sending
+pub mod Spelling
+pub mod Steps
+pub mod Turning

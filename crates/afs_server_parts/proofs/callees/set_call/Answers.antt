@@ -1,0 +1,12 @@
+use Rattle.std.proofs.Common.{List, ap, ◌∙◌}
+use Rattle.afs_rows.specs.Callbacks.{put_at}
+use Rattle.afs_server_parts.specs.Called.{known_to, Callee}
+use Rattle.afs_server_parts.proofs.Calls.{put_again}
+use Rattle.afs_server_parts.proofs.callees.set_call.Goals as goal
+
+pub returns-clause-known : goal.returns-clause-known
+returns-clause-known c =
+    let told = c.known-known.ensures ∙ ap (λ (cs : List Callee). known_to cs c.args.node) c.deref.ensures.value in
+    c.put_callee.ensures.known
+    ∙ (ap (λ (cs : List Callee). put_at c.args.node c.known-known.result (known_to cs)) c.reserve.ensures.items
+    ∙ put_again c.args.node c.known-known.result (known_to c.args.callees.now.items) told)

@@ -1,0 +1,6 @@
+use Rattle.std.proofs.Common.{◌≡◌, drop}
+use Rattle.afs_rows.specs.Callbacks.{waits_none}
+use Rattle.afs_server_parts.proofs.held.waits_none.Given as goal
+
+abbrev pub invariant-loop-number : goal.invariant-loop-number
+invariant-loop-number l = waits_none (drop l.number-index l.numbers) l.owed ≡ waits_none l.numbers l.owed

@@ -1,0 +1,14 @@
+use Rattle.std.proofs.Common.{◌≡◌, ◌≤◌, List, drop}
+use Rattle.afs_breaks.specs.Promises.{Lists}
+use Rattle.afs_rows.specs.Callbacks.{starts}
+use Rattle.afs_rows.specs.States.{Held}
+use Rattle.afs_server_parts.specs.Called.{AreGoodCalls}
+use Rattle.afs_server_parts.specs.Turning.{started_with}
+use Rattle.afs_server_parts.proofs.pumping.start_all.Given as goal
+
+abbrev pub invariant-loop-oldest : goal.invariant-loop-oldest
+invariant-loop-oldest l = record {
+  started : (ls : Lists) (hs : List Held) → ls.owed ≡ l.owed → starts l.server l.boot (drop l.oldest-index l.owed) (started_with ls hs l.calls) ≡ starts l.server l.boot l.owed (started_with ls hs l.fn.calls);
+  good : AreGoodCalls l.server l.fn.calls.callees.items → AreGoodCalls l.server l.calls.callees.items;
+  drawn : l.fn.calls.last ≤ l.calls.last;
+}

@@ -1,0 +1,11 @@
+use Rattle.std.proofs.Common.{sym, ◌∙◌}
+use Rattle.afs_rows.specs.Callbacks.{held_under, key_answered}
+use Rattle.afs_server_parts.specs.Turning.{backs_with}
+use Rattle.afs_server_parts.proofs.Turning.{asks_again}
+use Rattle.afs_server_parts.proofs.turns.Turn.repeat.Goals as goal
+
+pub returns-in_ok-answer-in-Some-clause-turn : goal.returns-in_ok-answer-in-Some-clause-turn
+returns-in_ok-answer-in-Some-clause-turn c l q =
+    let t = c.args.self.now in
+    asks_again c.answer.new.self (backs_with l t.held t.calls) t.owed.items c.args.reply (held_under (key_answered c.args.reply) t.held) c.args.good c.in-Some.waits q
+    (sym c.in_ok-waits.ensures ∙ c.in-Some.is) (c.in_ok-answer-in-Some.ensures.turn l q)

@@ -1,0 +1,4 @@
+pub mod Called
+pub mod Kept
+pub mod Telling
+pub mod Turning

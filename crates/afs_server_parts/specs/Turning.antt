@@ -1,0 +1,48 @@
+-- What a step plans with a server's promises, calls and replies, and the turn of its row that this is.
+use Rattle.std.specs.Prelude.{◌≡◌, ℕ, List, [], ◌∷◌, Bool, true, false, ◌&&◌, Option, Some, None, if◌then◌else◌}
+use Rattle.afs_num.specs.Nodes.{IsNode}
+use Rattle.afs_breaks.specs.Promises.{Lists, without_break}
+use Rattle.afs_breaks.specs.declared.types.OwedBreak.{OwedBreak}
+use Rattle.afs_rows.specs.Callbacks as row
+use Rattle.afs_rows.specs.Callbacks.{Started}
+use Rattle.afs_rows.specs.States.{Backs, Held}
+use Rattle.afs_server_parts.specs.Called.{calls_seen, known_to}
+use Rattle.afs_server_parts.specs.declared.turns.Calls.{Calls}
+use Rattle.afs_server_parts.specs.declared.turns.Turn.{Turn}
+
+-- without the breaks of these numbers
+abbrev pub breaks_left : List OwedBreak → List OwedBreak → List OwedBreak
+breaks_left [] os = os
+breaks_left (b ∷ bs) os = breaks_left bs (without_break b.number os)
+
+-- The promises stay where they are; a plan has the breaks that are owed after the step. With the lists as they then are, it is
+-- the row's.
+abbrev pub backs_with : Lists → List Held → Calls → Backs
+backs_with l held c = record { lists = l; last_call = c.last; calls = calls_seen c.callees.items; known = known_to c.callees.items; held = held }
+
+abbrev pub turn_with : Lists → Turn → row.Turn
+turn_with l t = record { backs = backs_with l t.held t.calls; lines = t.lines; sent = t.calls.sent; outs = t.outs }
+
+abbrev pub started_with : Lists → List Held → Calls → Started
+started_with l held c = record { backs = backs_with l held c; sent = c.sent }
+
+-- the plan is this turn
+pub record IsTurn (turn : row.Turn) (t : Turn) : Type 0 where
+  pub owed : turn.backs.lists.owed ≡ t.owed.items
+  pub same : turn_with turn.backs.lists t ≡ turn
+
+-- nothing has been told, sent or held so far
+pub record IsFresh (t : Turn) : Type 0 where
+  pub lines : t.lines ≡ []
+  pub sent : t.calls.sent ≡ []
+  pub outs : t.outs ≡ []
+
+-- a break of which a node of the cell is told
+abbrev pub IsBreakToNode : OwedBreak → Type 0
+IsBreakToNode o = IsNode o.client
+
+-- for which breaks a kept reply waits that is asked again, if it is given at all
+abbrev pub waits_again : List OwedBreak → Option Held → Bool → Option (List ℕ)
+waits_again os (Some h) good = if (h.again && row.is_ready os h) then Some h.waits else None
+waits_again os None true = Some (row.alls os)
+waits_again os None false = Some []

@@ -1,0 +1,123 @@
+//! What a step answers to the message that it was given.
+
+ghost use Rattle.std.specs.Prelude.{◌≡◌, ◌∷◌, [], IfNone, IfOk, OnOk};
+ghost use Rattle.std.specs.List.{All};
+ghost use Rattle.std.specs.Option.{option_copied};
+ghost use Rattle.afs_num.specs.declared.types.Node.{Node};
+ghost use Rattle.afs_model.specs.Messages.{HasSpelling};
+ghost use Rattle.afs_breaks.specs.Promises.{Lists};
+ghost use Rattle.afs_rows.specs.Callbacks.{alls, held_under, is_reply_to, key_answered, no_turn, repeats_by};
+ghost use Rattle.afs_server_parts.specs.Called.{AreGoodCalls};
+ghost use Rattle.afs_server_parts.specs.Turning.{backs_with, waits_again, IsFresh, IsTurn};
+
+use crate::held::{HeldReply, copy_numbers};
+use crate::owed::alls;
+use crate::spelled::SpelledMessage;
+use crate::turns::Turn;
+use afs_num::messages::Message;
+use afs_num::sequences::Sequence;
+use afs_num::types::{Head, Key, Mem};
+use std::alloc::Global;
+
+/// The call that a reply of this header answers.
+fn key_answered(head: &Head) -> Key
+    ensures { result ≡ record { node = head.now.to; epoch = head.now.epoch; number = head.now.number } }
+{
+    Key {
+        node: head.to,
+        epoch: head.epoch,
+        number: head.number,
+    }
+}
+
+/// Whether the reply answers this call.
+fn is_reply_to(key: &Key, reply: &SpelledMessage) -> bool
+    ensures { result ≡ is_reply_to key.now reply.now }
+{
+    let head = reply.head();
+    head.to.is(&key.node) && (head.epoch == key.epoch && head.number == key.number)
+}
+
+/// The first of the replies that answers this call.
+fn held_under<'a>(key: &Key, replies: &'a [HeldReply]) -> Option<&'a HeldReply>
+    ensures { option_copied result ≡ held_under key.now replies.entry.now }
+{
+    for one in replies {
+        if is_reply_to(key, &one.reply) {
+            return Some(one);
+        }
+    }
+    None
+}
+
+impl Turn {
+    /// A message goes out.
+    pub fn send(&mut self, alloc: Global, message: &Message) -> Mem<()>
+        requires fresh { IsFresh self.old }
+        requires spelling { HasSpelling message.now }
+        ensures turn { OnOk result ((l : Lists) → l.owed ≡ self.old.owed.items → IsTurn (record (no_turn (backs_with l self.old.held self.old.calls)) { sent = message.now ∷ [] }) self.new) }
+        ensures good { self.new.calls.callees ≡ self.old.calls.callees }
+        ensures owed { self.new.owed ≡ self.old.owed }
+    {
+        let message = SpelledMessage::of(alloc, message)?;
+        self.calls.sent.push(message)?;
+        Ok(())
+    }
+
+    /// A reply goes out, now or once the breaks of these numbers have ended.
+    pub fn answer(&mut self, reply: SpelledMessage, waits: Sequence<u32>, again: bool) -> Mem<()>
+        requires fresh { IsFresh self.old }
+        ensures turn { OnOk result ((l : Lists) → l.owed ≡ self.old.owed.items → IsTurn (record (no_turn (backs_with l self.old.held self.old.calls)) { outs = record { reply = reply; waits = waits; again = again } ∷ [] }) self.new) }
+        ensures good { self.new.calls.callees ≡ self.old.calls.callees }
+        ensures owed { self.new.owed ≡ self.old.owed }
+    {
+        self.outs.push(HeldReply {
+            reply,
+            waits,
+            again,
+        })?;
+        Ok(())
+    }
+
+    /// For which breaks a kept reply waits that is asked again, if it is given at all: `good` where its call changed
+    /// something.
+    fn waits_again(
+        &self,
+        alloc: Global,
+        reply: &SpelledMessage,
+        good: bool,
+    ) -> Mem<Option<Sequence<u32>>>
+        ensures { IfOk result (λ w. w ≡ waits_again self.now.owed.items (held_under (key_answered reply.now) self.now.held) good) }
+    {
+        match held_under(&key_answered(reply.head()), self.held.as_slice()) {
+            Some(held) => {
+                if held.again && held.is_ready(&self.owed) {
+                    Ok(Some(copy_numbers(alloc, held.waits.as_slice())?))
+                } else {
+                    Ok(None)
+                }
+            }
+            None => {
+                if good {
+                    Ok(Some(alls(alloc, &self.owed)?))
+                } else {
+                    Ok(Some(Sequence::new(alloc)))
+                }
+            }
+        }
+    }
+
+    /// A kept reply is asked again; `good` where its call changed something.
+    pub fn repeat(&mut self, alloc: Global, reply: SpelledMessage, good: bool) -> Mem<()>
+        requires fresh { IsFresh self.old }
+        ensures turn { OnOk result ((l : Lists) → l.owed ≡ self.old.owed.items → IsTurn (repeats_by (backs_with l self.old.held self.old.calls) reply (held_under (key_answered reply) self.old.held) good) self.new) }
+        ensures good { self.new.calls.callees ≡ self.old.calls.callees }
+        ensures owed { self.new.owed ≡ self.old.owed }
+    {
+        match self.waits_again(alloc, &reply, good)? {
+            Some(waits) => self.answer(reply, waits, true)?,
+            None => {}
+        }
+        Ok(())
+    }
+}

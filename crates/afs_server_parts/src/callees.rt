@@ -1,0 +1,202 @@
+//! The nodes that a server calls, with the calls that they haven't answered.
+
+ghost use Rattle.std.specs.Prelude.{◌≡◌, ◌<◌, ◌+◌, ◌-◌, is_some, length, IfOk, OnOk};
+ghost use Rattle.std.specs.Option.{option_copied, option_map};
+ghost use Rattle.std.specs.Vec.{vec_capacity};
+ghost use Rattle.afs_num.specs.Keyed.{HasRoom};
+ghost use Rattle.afs_num.specs.Nodes.{same_node};
+ghost use Rattle.afs_num.specs.declared.types.Node.{Node};
+ghost use Rattle.afs_rows.specs.Callbacks.{put_at};
+ghost use Rattle.afs_server_parts.specs.Called.{call_seen, call_to, callee_at, calls_seen, known_to, AreGoodCalls, IsGoodOrNone};
+
+use afs_breaks::types::OwedBreak;
+use afs_num::keyed::{Keyed, find_keyed, put_last};
+use afs_num::sequences::Sequence;
+use afs_num::types::{Mem, Node};
+use std::alloc::Global;
+use std::marker::Model;
+
+/// A call of a server to a node that hasn't answered it: the server, the call's number, how often it waited too long, and
+/// the breaks that it carries.
+#[derive(Drop)]
+pub struct BackCall {
+    pub server: Node,
+    pub number: u32,
+    pub tries: u32,
+    pub breaks: Sequence<OwedBreak>,
+}
+
+impl Model for BackCall {
+    ghost use Rattle.afs_server_parts.specs.Called.{Called};
+
+    ghost Value = { Called };
+
+    ghost view = { λ c. record { server = c.server; number = c.number; tries = c.tries; breaks = c.breaks } };
+}
+
+/// A node that was called: its boot number as it is known, and the unanswered call.
+#[derive(Drop)]
+pub struct Callee {
+    pub node: Node,
+    pub known: u32,
+    pub call: Option<BackCall>,
+}
+
+impl Model for Callee {
+    ghost use Rattle.afs_server_parts.specs.Called as seen;
+
+    ghost Value = { seen.Callee };
+
+    ghost view = { λ c. record { node = c.node; known = c.known; call = c.call } };
+}
+
+impl Keyed for Callee {
+    type Key = Node;
+
+    ghost key = { λ c. c.node };
+
+    ghost same = { same_node };
+
+    fn key(&self) -> Node {
+        self.node
+    }
+
+    fn is_under(&self, other: &Node) -> bool {
+        self.node.is(other)
+    }
+}
+
+/// A copy of breaks.
+pub fn copy_breaks(alloc: Global, breaks: &[OwedBreak]) -> Mem<Sequence<OwedBreak>>
+    ensures { IfOk result (λ os. os ≡ breaks.now) }
+{
+    let mut copy = Vec::new(alloc);
+    copy.extend_from_slice(breaks)?;
+    Ok(Sequence::from_vec(copy))
+}
+
+impl BackCall {
+    pub fn copy(&self, alloc: Global) -> Mem<BackCall>
+        ensures { IfOk result (λ c. c ≡ self.now) }
+    {
+        Ok(BackCall {
+            server: self.server,
+            number: self.number,
+            tries: self.tries,
+            breaks: copy_breaks(alloc, self.breaks.as_slice())?,
+        })
+    }
+
+    /// It has waited too long once more.
+    pub fn waited(&self, alloc: Global) -> Mem<BackCall>
+        requires { self.now.tries < 2 }
+        ensures { IfOk result (λ c. c ≡ record self.now { tries = self.now.tries + 1 }) }
+    {
+        Ok(BackCall {
+            server: self.server,
+            number: self.number,
+            tries: self.tries + 1,
+            breaks: copy_breaks(alloc, self.breaks.as_slice())?,
+        })
+    }
+}
+
+fn copy_call(alloc: Global, call: &Option<BackCall>) -> Mem<Option<BackCall>>
+    ensures { IfOk result (λ c. c ≡ call.now) }
+{
+    match call {
+        None => Ok(None),
+        Some(call) => Ok(Some(call.copy(alloc)?)),
+    }
+}
+
+impl Callee {
+    fn copy(&self, alloc: Global) -> Mem<Callee>
+        ensures { IfOk result (λ c. c ≡ self.now) }
+    {
+        Ok(Callee {
+            node: self.node,
+            known: self.known,
+            call: copy_call(alloc, &self.call)?,
+        })
+    }
+}
+
+pub fn copy_callees(alloc: Global, callees: &[Callee]) -> Mem<Vec<Callee>>
+    ensures { IfOk result (λ cs. cs.items ≡ callees.now) }
+{
+    let mut copies = Vec::new(alloc);
+    for one in callees {
+        copies.push(one.copy(alloc)?)?;
+    }
+    Ok(copies)
+}
+
+/// The unanswered call to this node.
+pub fn find_call(callees: &[Callee], node: Node) -> Option<&BackCall>
+    ensures { option_copied result ≡ call_to callees.now node }
+{
+    find_keyed(callees, &node)?.call.as_ref()
+}
+
+/// The boot number of this node, as it is known.
+pub fn known(callees: &[Callee], node: Node) -> u32
+    ensures { result ≡ known_to callees.now node }
+{
+    match find_keyed(callees, &node) {
+        Some(callee) => callee.known,
+        None => 1,
+    }
+}
+
+/// Whether this node has not answered a call.
+pub fn is_waiting(callees: &[Callee], node: Node) -> bool
+    ensures { result ≡ is_some (call_to callees.now node) }
+{
+    find_call(callees, node).is_some()
+}
+
+/// Puts an unanswered call in the place of this node's, or takes that away, with what is known of the node. It takes no
+/// memory; a node's first call needs room for one callee.
+fn put_callee(callees: &mut Vec<Callee>, callee: Callee)
+    requires { HasRoom (callee_at callee.node callees.old.items) (vec_capacity callees.old - length callees.old.items) }
+    ensures calls { calls_seen callees.new.items ≡ put_at callee.node (option_map call_seen callee.call) (calls_seen callees.old.items) }
+    ensures known { known_to callees.new.items ≡ put_at callee.node callee.known (known_to callees.old.items) }
+    ensures good { (me : Node) → AreGoodCalls me callees.old.items → IsGoodOrNone me callee.node callee.call → AreGoodCalls me callees.new.items }
+{
+    put_last(callees, callee);
+}
+
+/// Puts an unanswered call in the place of this node's, or takes that away.
+pub fn set_call(callees: &mut Vec<Callee>, node: Node, call: Option<BackCall>) -> Mem<()>
+    ensures calls { OnOk result (calls_seen callees.new.items ≡ put_at node (option_map call_seen call) (calls_seen callees.old.items)) }
+    ensures known { OnOk result (known_to callees.new.items ≡ known_to callees.old.items) }
+    ensures good { OnOk result ((me : Node) → AreGoodCalls me callees.old.items → IsGoodOrNone me node call → AreGoodCalls me callees.new.items) }
+{
+    let known = known(callees, node);
+    callees.reserve(1)?;
+    put_callee(callees, Callee { node, known, call });
+    Ok(())
+}
+
+/// A copy of the unanswered call to this node.
+pub fn copy_call_to(alloc: Global, callees: &[Callee], node: Node) -> Mem<Option<BackCall>>
+    ensures { IfOk result (λ c. c ≡ call_to callees.now node) }
+{
+    match find_call(callees, node) {
+        None => Ok(None),
+        Some(call) => Ok(Some(call.copy(alloc)?)),
+    }
+}
+
+/// The node's boot number is this one, as the node told.
+pub fn set_known(alloc: Global, callees: &mut Vec<Callee>, node: Node, known: u32) -> Mem<()>
+    ensures calls { OnOk result (calls_seen callees.new.items ≡ calls_seen callees.old.items) }
+    ensures known { OnOk result (known_to callees.new.items ≡ put_at node known (known_to callees.old.items)) }
+    ensures good { OnOk result ((me : Node) → AreGoodCalls me callees.old.items → AreGoodCalls me callees.new.items) }
+{
+    let call = copy_call_to(alloc, callees, node)?;
+    callees.reserve(1)?;
+    put_callee(callees, Callee { node, known, call });
+    Ok(())
+}

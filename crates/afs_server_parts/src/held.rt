@@ -1,0 +1,113 @@
+//! Replies that wait until breaks have ended.
+
+ghost use Rattle.std.specs.Prelude.{◌≡◌, ◌++◌, filter, not, IfOk, OnOk};
+ghost use Rattle.afs_rows.specs.Callbacks.{is_ready, replies_of, waits_none};
+ghost use Rattle.afs_rows.specs.States.{Held};
+
+use crate::owed::has_break;
+use crate::spelled::SpelledMessage;
+use afs_breaks::types::OwedBreak;
+use afs_num::sequences::Sequence;
+use afs_num::types::Mem;
+use std::alloc::Global;
+use std::marker::Model;
+
+/// A reply, the numbers of the breaks for which it waits, and whether it is a kept reply that was asked again.
+#[derive(Drop)]
+pub struct HeldReply {
+    pub reply: SpelledMessage,
+    pub waits: Sequence<u32>,
+    pub again: bool,
+}
+
+impl Model for HeldReply {
+    ghost use Rattle.afs_rows.specs.States.{Held};
+
+    ghost Value = { Held };
+
+    ghost view = { λ h. record { reply = h.reply; waits = h.waits; again = h.again } };
+}
+
+pub fn copy_numbers(alloc: Global, numbers: &[u32]) -> Mem<Sequence<u32>>
+    ensures { IfOk result (λ ns. ns ≡ numbers.now) }
+{
+    let mut copy = Vec::new(alloc);
+    copy.extend_from_slice(numbers)?;
+    Ok(Sequence::from_vec(copy))
+}
+
+/// No break of these numbers is owed.
+fn waits_none(numbers: &[u32], owed: &[OwedBreak]) -> bool
+    ensures { result ≡ waits_none numbers.now owed.now }
+{
+    for number in numbers {
+        if has_break(*number, owed) {
+            return false;
+        }
+    }
+    true
+}
+
+impl HeldReply {
+    fn copy(&self, alloc: Global) -> Mem<HeldReply>
+        ensures { IfOk result (λ h. h ≡ self.now) }
+    {
+        Ok(HeldReply {
+            reply: self.reply.copy(alloc)?,
+            waits: copy_numbers(alloc, self.waits.as_slice())?,
+            again: self.again,
+        })
+    }
+
+    /// Whether it waits no more where these breaks are owed.
+    pub fn is_ready(&self, owed: &[OwedBreak]) -> bool
+        ensures { result ≡ is_ready owed.now self.now }
+    {
+        waits_none(self.waits.as_slice(), owed)
+    }
+}
+
+/// Copies of replies.
+pub fn copy_replies(alloc: Global, replies: &[HeldReply]) -> Mem<Sequence<HeldReply>>
+    ensures { IfOk result (λ hs. hs ≡ replies.now) }
+{
+    let mut copies = Sequence::new(alloc);
+    for one in replies {
+        copies.push(one.copy(alloc)?)?;
+    }
+    Ok(copies)
+}
+
+/// Sends those of the replies that wait no more.
+pub fn send_ready(
+    alloc: Global,
+    sent: &mut Sequence<SpelledMessage>,
+    replies: &[HeldReply],
+    owed: &[OwedBreak],
+) -> Mem<()>
+    ensures { OnOk result (sent.new ≡ sent.old ++ replies_of (filter (is_ready owed.now) replies.now)) }
+{
+    for one in replies {
+        if one.is_ready(owed) {
+            sent.push(one.reply.copy(alloc)?)?;
+        }
+    }
+    Ok(())
+}
+
+/// Adds those of the replies that still wait.
+pub fn keep_waiting(
+    alloc: Global,
+    held: &mut Sequence<HeldReply>,
+    replies: &[HeldReply],
+    owed: &[OwedBreak],
+) -> Mem<()>
+    ensures { OnOk result (held.new ≡ held.old ++ filter (λ (h : Held). not (is_ready owed.now h)) replies.now) }
+{
+    for one in replies {
+        if !one.is_ready(owed) {
+            held.push(one.copy(alloc)?)?;
+        }
+    }
+    Ok(())
+}

@@ -1,0 +1,15 @@
+//! The parts of a file server's memory: its callers, the nodes that it calls, and the replies that wait; and what a step
+//! plans with them before anything is changed.
+#![tactic(auto)]
+
+mod answering;
+pub mod callees;
+pub mod callers;
+pub mod calling;
+pub mod held;
+pub mod owed;
+pub mod pumping;
+pub mod replies;
+pub mod spelled;
+pub mod telling;
+pub mod turns;

@@ -1,0 +1,142 @@
+//! The end of each step: replies whose breaks have ended go out, and then calls for what is owed.
+
+ghost use Rattle.std.specs.Prelude.{◌≡◌, ◌≤◌, ◌+◌, List, None, IfOk, OnOk};
+ghost use Rattle.std.specs.List.{All};
+ghost use Rattle.afs_num.specs.Nodes.{IsNode};
+ghost use Rattle.afs_num.specs.declared.types.Node.{Node};
+ghost use Rattle.afs_breaks.specs.Promises.{Lists};
+ghost use Rattle.afs_rows.specs.Callbacks.{given_out, held_after, pumped, starts, starts_by};
+ghost use Rattle.afs_rows.specs.States.{Held};
+ghost use Rattle.afs_server_parts.specs.Called.{calls_seen, AreGoodCalls};
+ghost use Rattle.afs_server_parts.specs.Turning.{started_with, turn_with, IsBreakToNode};
+
+use crate::callees::{BackCall, is_waiting, known, set_call};
+use crate::calling::{carried, spell_call};
+use crate::held::{keep_waiting, send_ready};
+use crate::turns::{Calls, Turn};
+use afs_breaks::types::OwedBreak;
+use afs_num::sequences::Sequence;
+use afs_num::types::{Mem, Node};
+use std::alloc::{AllocError, Global};
+
+/// The number of the next call. What is left of numbers is never used up: a boot of the server is shorter.
+fn next_number(last: u32) -> Mem<u32>
+    ensures { IfOk result (λ n. n ≡ last + 1) }
+{
+    last.checked_add(1).ok_or(AllocError)
+}
+
+/// Calls the node to which this break is owed, which has no unanswered call.
+fn start(
+    alloc: Global,
+    server: Node,
+    boot: u32,
+    owed: &[OwedBreak],
+    oldest: &OwedBreak,
+    calls: &mut Calls,
+) -> Mem<()>
+    requires server { IsNode server }
+    requires client { IsNode oldest.now.client }
+    ensures started { OnOk result ((l : Lists) (hs : List Held) → l.owed ≡ owed.now → started_with l hs calls.new ≡ starts_by server boot (started_with l hs calls.old) oldest.now None) }
+    ensures good { OnOk result (AreGoodCalls server calls.old.callees.items → AreGoodCalls server calls.new.callees.items) }
+    ensures drawn { OnOk result (calls.old.last ≤ calls.new.last) }
+{
+    let node = oldest.client;
+    let number = next_number(calls.last)?;
+    let call = BackCall {
+        server,
+        number,
+        tries: 0,
+        breaks: carried(alloc, oldest, owed)?,
+    };
+    let message = spell_call(alloc, boot, node, known(&calls.callees, node), &call)?;
+    calls.sent.push(message)?;
+    calls.last = number;
+    set_call(&mut calls.callees, node, Some(call))?;
+    Ok(())
+}
+
+/// Calls the node to which this break is owed, unless it has an unanswered call.
+fn start_by(
+    alloc: Global,
+    server: Node,
+    boot: u32,
+    owed: &[OwedBreak],
+    oldest: &OwedBreak,
+    calls: &mut Calls,
+) -> Mem<()>
+    requires server { IsNode server }
+    requires client { IsNode oldest.now.client }
+    ensures started { OnOk result ((l : Lists) (hs : List Held) → l.owed ≡ owed.now → started_with l hs calls.new ≡ starts_by server boot (started_with l hs calls.old) oldest.now (calls_seen calls.old.callees.items oldest.now.client)) }
+    ensures good { OnOk result (AreGoodCalls server calls.old.callees.items → AreGoodCalls server calls.new.callees.items) }
+    ensures drawn { OnOk result (calls.old.last ≤ calls.new.last) }
+{
+    if is_waiting(&calls.callees, oldest.client) {
+        return Ok(());
+    }
+    start(alloc, server, boot, owed, oldest, calls)?;
+    Ok(())
+}
+
+/// Calls each node to which breaks are owed and which has no unanswered call, the oldest break first.
+fn start_all(
+    alloc: Global,
+    server: Node,
+    boot: u32,
+    owed: &[OwedBreak],
+    calls: &mut Calls,
+) -> Mem<()>
+    requires server { IsNode server }
+    requires clients { All IsBreakToNode owed.now }
+    ensures started { OnOk result ((l : Lists) (hs : List Held) → l.owed ≡ owed.now → started_with l hs calls.new ≡ starts server boot owed.now (started_with l hs calls.old)) }
+    ensures good { OnOk result (AreGoodCalls server calls.old.callees.items → AreGoodCalls server calls.new.callees.items) }
+    ensures drawn { OnOk result (calls.old.last ≤ calls.new.last) }
+{
+    for oldest in owed {
+        start_by(alloc, server, boot, owed, oldest, calls)?;
+    }
+    Ok(())
+}
+
+impl Turn {
+    /// Sends the replies that wait no more.
+    fn release(&mut self, alloc: Global) -> Mem<()>
+        ensures backs { OnOk result ((l : Lists) → l.owed ≡ self.old.owed.items → started_with l self.new.held self.new.calls ≡ record { backs = held_after (turn_with l self.old); sent = given_out (turn_with l self.old) }) }
+        ensures owed { self.new.owed ≡ self.old.owed }
+        ensures callees { self.new.calls.callees ≡ self.old.calls.callees }
+        ensures lines { self.new.lines ≡ self.old.lines }
+        ensures last { self.new.calls.last ≡ self.old.calls.last }
+    {
+        send_ready(
+            alloc,
+            &mut self.calls.sent,
+            self.outs.as_slice(),
+            &self.owed,
+        )?;
+        send_ready(
+            alloc,
+            &mut self.calls.sent,
+            self.held.as_slice(),
+            &self.owed,
+        )?;
+        let mut held = Sequence::new(alloc);
+        keep_waiting(alloc, &mut held, self.held.as_slice(), &self.owed)?;
+        keep_waiting(alloc, &mut held, self.outs.as_slice(), &self.owed)?;
+        self.held = held;
+        Ok(())
+    }
+
+    /// What comes last in each step.
+    pub fn pump(&mut self, alloc: Global, server: Node, boot: u32) -> Mem<()>
+        requires server { IsNode server }
+        requires clients { All IsBreakToNode self.old.owed.items }
+        ensures pumped { OnOk result ((l : Lists) → l.owed ≡ self.old.owed.items → started_with l self.new.held self.new.calls ≡ pumped server boot (turn_with l self.old)) }
+        ensures good { OnOk result (AreGoodCalls server self.old.calls.callees.items → AreGoodCalls server self.new.calls.callees.items) }
+        ensures drawn { OnOk result (self.old.calls.last ≤ self.new.calls.last) }
+        ensures lines { self.new.lines ≡ self.old.lines }
+    {
+        self.release(alloc)?;
+        start_all(alloc, server, boot, &self.owed, &mut self.calls)?;
+        Ok(())
+    }
+}

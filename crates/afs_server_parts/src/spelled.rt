@@ -1,0 +1,86 @@
+//! Messages in their spelling.
+
+ghost use Rattle.std.specs.Prelude.{◌≡◌, ◌∷◌, [], IfOk};
+ghost use Rattle.afs_model.specs.Messages.{messages_spelled, parcels_read, HasSpelling};
+ghost use Rattle.afs_server_parts.specs.Kept.{IsMessage, Spells};
+
+use afs_message::messages::encode_message;
+use afs_num::messages::Message;
+use afs_num::sequences::{Octets, Sequence};
+use afs_num::types::{Head, Mem, Parcel, Parcels};
+use std::alloc::Global;
+use std::marker::Model;
+
+/// A message in its spelling.
+#[derive(Drop)]
+pub struct SpelledMessage {
+    head: Head,
+    bytes: Octets,
+}
+
+impl Model for SpelledMessage {
+    ghost use Rattle.afs_num.specs.declared.messages.Message.{Message};
+    ghost use Rattle.afs_model.specs.Messages.{received};
+    ghost use Rattle.afs_server_parts.specs.Kept.{message_read, IsMessage};
+
+    ghost Value = { Message };
+
+    ghost view = { λ m. message_read m.head (received m.bytes) };
+
+    ghost invariant = { λ m. IsMessage m.head m.bytes };
+}
+
+impl SpelledMessage {
+    /// This message.
+    pub fn of(alloc: Global, message: &Message) -> Mem<SpelledMessage>
+        requires { HasSpelling message.now }
+        ensures { IfOk result (λ m. m ≡ message.now) }
+    {
+        let bytes = encode_message(alloc, message)?;
+        Ok(SpelledMessage {
+            head: message.head,
+            bytes,
+        })
+    }
+
+    pub fn head(&self) -> &Head
+        ensures { result.now ≡ self.now.head }
+    {
+        &self.head
+    }
+
+    pub fn bytes(&self) -> &Octets
+        ensures { Spells self.now result.now }
+    {
+        &self.bytes
+    }
+
+    pub fn copy(&self, alloc: Global) -> Mem<SpelledMessage>
+        ensures { IfOk result (λ m. m ≡ self.now) }
+    {
+        Ok(SpelledMessage {
+            head: self.head,
+            bytes: self.bytes.copy(alloc)?,
+        })
+    }
+
+    /// The message as it is sent. It takes no memory.
+    pub fn into_parcel(self) -> Parcel
+        ensures { parcels_read (result ∷ []) ≡ messages_spelled (self ∷ []) }
+    {
+        let SpelledMessage { head, bytes } = self;
+        Parcel { head, bytes }
+    }
+}
+
+/// Messages as they are sent.
+#[tactic(auto, using(crate::proofs::Sending::sent_more))]
+pub fn parcels(alloc: Global, messages: Sequence<SpelledMessage>) -> Mem<Parcels>
+    ensures { IfOk result (λ ps. parcels_read ps ≡ messages_spelled messages) }
+{
+    let mut parcels = Parcels::new(alloc);
+    for message in messages.into_vec() {
+        parcels.push(message.into_parcel())?;
+    }
+    Ok(parcels)
+}

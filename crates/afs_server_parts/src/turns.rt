@@ -1,0 +1,163 @@
+//! What a step plans with a server's calls, before anything is changed.
+
+ghost use Rattle.std.specs.Prelude.{◌≡◌, ◌<◌, Some, IfOk, OnOk};
+ghost use Rattle.std.specs.List.{All};
+ghost use Rattle.afs_num.specs.Nodes.{IsNode};
+ghost use Rattle.afs_num.specs.declared.types.Node.{Node};
+ghost use Rattle.afs_breaks.specs.Promises.{Lists};
+ghost use Rattle.afs_rows.specs.Callbacks.{quits, renews, retries, settles, timed};
+ghost use Rattle.afs_server_parts.specs.Called.{call_seen, AreGoodCalls, IsGoodCall};
+ghost use Rattle.afs_server_parts.specs.Turning.{backs_with, breaks_left, IsBreakToNode, IsFresh, IsTurn};
+
+use crate::callees::{BackCall, Callee, copy_callees, known, set_call, set_known};
+use crate::calling::spell_call;
+use crate::held::{HeldReply, copy_replies};
+use crate::owed::{end_breaks, still_owed};
+use crate::spelled::SpelledMessage;
+use crate::telling::{tell_quit, tell_settled, tell_timeout};
+use afs_breaks::types::OwedBreak;
+use afs_history::lines::Lines;
+use afs_num::sequences::Sequence;
+use afs_num::types::{Mem, Node};
+use std::alloc::Global;
+
+/// The number of the server's last call, its callees, and the messages that the step sends.
+#[derive(Drop)]
+pub struct Calls {
+    pub last: u32,
+    pub callees: Vec<Callee>,
+    pub sent: Sequence<SpelledMessage>,
+}
+
+/// What a step does: the breaks that are then owed, its calls, the replies that wait, its lines, and replies that are to be
+/// sent now or to wait.
+#[derive(Drop)]
+pub struct Turn {
+    pub owed: Vec<OwedBreak>,
+    pub calls: Calls,
+    pub held: Sequence<HeldReply>,
+    pub lines: Lines,
+    pub outs: Sequence<HeldReply>,
+}
+
+impl Turn {
+    /// Nothing happens.
+    pub fn new(
+        alloc: Global,
+        owed: Vec<OwedBreak>,
+        last: u32,
+        callees: &[Callee],
+        held: &[HeldReply],
+    ) -> Mem<Turn>
+        ensures fresh { IfOk result (λ t. IsFresh t) }
+        ensures owed { IfOk result (λ t. t.owed.items ≡ owed.items) }
+        ensures last { IfOk result (λ t. t.calls.last ≡ last) }
+        ensures callees { IfOk result (λ t. t.calls.callees.items ≡ callees.now) }
+        ensures held { IfOk result (λ t. t.held ≡ held.now) }
+    {
+        Ok(Turn {
+            owed,
+            calls: Calls {
+                last,
+                callees: copy_callees(alloc, callees)?,
+                sent: Sequence::new(alloc),
+            },
+            held: copy_replies(alloc, held)?,
+            lines: Lines::new(alloc),
+            outs: Sequence::new(alloc),
+        })
+    }
+
+    /// The node has answered its call.
+    pub fn settle(&mut self, alloc: Global, server: Node, node: Node, call: &BackCall) -> Mem<()>
+        requires { IsFresh self.old }
+        ensures turn { OnOk result ((l : Lists) → l.owed ≡ self.old.owed.items → IsTurn (settles server node (call_seen call.now) (backs_with l self.old.held self.old.calls)) self.new) }
+        ensures good { OnOk result ((me : Node) → AreGoodCalls me self.old.calls.callees.items → AreGoodCalls me self.new.calls.callees.items) }
+        ensures owed { OnOk result (All IsBreakToNode self.old.owed.items → All IsBreakToNode self.new.owed.items) }
+    {
+        let ended = still_owed(alloc, call.breaks.as_slice(), &self.owed)?;
+        tell_settled(&mut self.lines, server, node, ended.as_slice())?;
+        end_breaks(&mut self.owed, call.breaks.as_slice());
+        set_call(&mut self.calls.callees, node, None)?;
+        Ok(())
+    }
+
+    /// The node told its boot number: its call is sent again.
+    pub fn renew(
+        &mut self,
+        alloc: Global,
+        boot: u32,
+        node: Node,
+        known: u32,
+        call: &BackCall,
+    ) -> Mem<()>
+        requires fresh { IsFresh self.old }
+        requires server { IsNode call.now.server }
+        requires good { IsGoodCall call.now.server node call.now }
+        ensures turn { OnOk result ((l : Lists) → l.owed ≡ self.old.owed.items → IsTurn (renews call.now.server boot node known (call_seen call.now) (backs_with l self.old.held self.old.calls)) self.new) }
+        ensures good { OnOk result ((me : Node) → AreGoodCalls me self.old.calls.callees.items → AreGoodCalls me self.new.calls.callees.items) }
+        ensures owed { OnOk result (All IsBreakToNode self.old.owed.items → All IsBreakToNode self.new.owed.items) }
+    {
+        set_known(alloc, &mut self.calls.callees, node, known)?;
+        let message = spell_call(alloc, boot, node, known, call)?;
+        self.calls.sent.push(message)?;
+        Ok(())
+    }
+
+    /// The call has waited too long: it is sent again.
+    fn retry(&mut self, alloc: Global, boot: u32, node: Node, call: &BackCall) -> Mem<()>
+        requires fresh { IsFresh self.old }
+        requires server { IsNode call.now.server }
+        requires good { IsGoodCall call.now.server node call.now }
+        requires tries { call.now.tries < 2 }
+        ensures turn { OnOk result ((l : Lists) → l.owed ≡ self.old.owed.items → IsTurn (retries call.now.server boot node (call_seen call.now) (backs_with l self.old.held self.old.calls)) self.new) }
+        ensures good { OnOk result (AreGoodCalls call.now.server self.old.calls.callees.items → AreGoodCalls call.now.server self.new.calls.callees.items) }
+        ensures owed { OnOk result (All IsBreakToNode self.old.owed.items → All IsBreakToNode self.new.owed.items) }
+    {
+        let known = known(&self.calls.callees, node);
+        let message = spell_call(alloc, boot, node, known, call)?;
+        self.calls.sent.push(message)?;
+        tell_timeout(
+            &mut self.lines,
+            call.server,
+            boot,
+            node,
+            call.number,
+            call.tries + 1,
+        )?;
+        set_call(&mut self.calls.callees, node, Some(call.waited(alloc)?))?;
+        Ok(())
+    }
+
+    /// The call has waited too long for the last time: its breaks are given up.
+    fn quit(&mut self, alloc: Global, boot: u32, node: Node, call: &BackCall) -> Mem<()>
+        requires { IsFresh self.old }
+        ensures turn { OnOk result ((l : Lists) → l.owed ≡ self.old.owed.items → IsTurn (quits call.now.server boot node (call_seen call.now) (backs_with l self.old.held self.old.calls)) self.new) }
+        ensures good { OnOk result ((me : Node) → AreGoodCalls me self.old.calls.callees.items → AreGoodCalls me self.new.calls.callees.items) }
+        ensures owed { OnOk result (All IsBreakToNode self.old.owed.items → All IsBreakToNode self.new.owed.items) }
+    {
+        tell_timeout(&mut self.lines, call.server, boot, node, call.number, 3)?;
+        let ended = still_owed(alloc, call.breaks.as_slice(), &self.owed)?;
+        tell_quit(&mut self.lines, call.server, node, ended.as_slice())?;
+        end_breaks(&mut self.owed, call.breaks.as_slice());
+        set_call(&mut self.calls.callees, node, None)?;
+        Ok(())
+    }
+
+    /// The call has waited too long.
+    pub fn time_out(&mut self, alloc: Global, boot: u32, node: Node, call: &BackCall) -> Mem<()>
+        requires fresh { IsFresh self.old }
+        requires server { IsNode call.now.server }
+        requires good { IsGoodCall call.now.server node call.now }
+        ensures turn { OnOk result ((l : Lists) → l.owed ≡ self.old.owed.items → IsTurn (timed call.now.server boot node (call_seen call.now) (backs_with l self.old.held self.old.calls)) self.new) }
+        ensures good { OnOk result (AreGoodCalls call.now.server self.old.calls.callees.items → AreGoodCalls call.now.server self.new.calls.callees.items) }
+        ensures owed { OnOk result (All IsBreakToNode self.old.owed.items → All IsBreakToNode self.new.owed.items) }
+    {
+        if call.tries < 2 {
+            self.retry(alloc, boot, node, call)?;
+        } else {
+            self.quit(alloc, boot, node, call)?;
+        }
+        Ok(())
+    }
+}
