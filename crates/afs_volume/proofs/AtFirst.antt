@@ -18,7 +18,7 @@ use Rattle.afs_records.specs.Changes.{gone_between, image_left, images_left, num
 use Rattle.afs_records.specs.Durable.{Stored, changed_stored}
 use Rattle.afs_records.proofs.Kept.{all_keep, changed_for, is_edited, same_rest}
 use Rattle.afs_records.proofs.Tested.{passes}
-use Rattle.afs_volume.specs.Drawing.{all_freed, all_left, makes_vnode, shown_by, IsLeft}
+use Rattle.afs_volume.specs.Drawing.{makes_vnode, IsLeft}
 use Rattle.afs_volume.specs.Filled.{at_once, image_at_first, CanBeLaid}
 use Rattle.afs_volume.specs.Giving.{volume_of}
 use Rattle.afs_volume.specs.Seen.{seen, IsReadable}

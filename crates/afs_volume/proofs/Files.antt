@@ -1,22 +1,21 @@
 -- A file of set-up: the edits that lay it at once.
-use Rattle.std.proofs.Common.{◌≡◌, ℕ, ◌+◌, ◌<◌, ◌≤◌, Bool, true, false, not, List, [], ◌∷◌, length, Option, Some, None, Result, Ok, Err, ℤ, pos, nat_eq, nat_lt, if◌then◌else◌, refl, sym, ap, subst, ◌∙◌, arith}
+use Rattle.std.proofs.Common.{◌≡◌, ℕ, ◌+◌, ◌<◌, ◌≤◌, Bool, true, false, not, List, length, Option, Some, None, Result, Ok, Err, ℤ, pos, nat_eq, nat_lt, if◌then◌else◌, refl, sym, ap, subst, ◌∙◌, arith}
 use Rattle.std.specs.Prelude.{◌&&◌, is_some, IfOk}
 use Rattle.std.specs.List.{list_all, AllByRecursion}
 use Rattle.std.specs.Option.{option_map}
 use Rattle.std.proofs.lemmas.Bool.Decides.{nat_tests}
 use Rattle.afs_num.specs.declared.directories.Name.{Name}
 use Rattle.afs_num.specs.declared.types.Fid.{Fid}
-use Rattle.afs_num.specs.declared.calls.FsCall.{FsCall}
 use Rattle.afs_num.specs.declared.calls.FsCall.TheVariants as calls
 use Rattle.afs_shape.specs.Reading.{◌>>=◌}
 use Rattle.afs_ideal.specs.Directories.{with_name}
 use Rattle.afs_ideal.specs.Operations as ops
 use Rattle.afs_ideal.specs.Operations.{adds_name, all_rights, changes, creating, edit_fits, first_failing, free_number, limits, name_of, names_in, new_file, no_amend, op, tests}
 use Rattle.afs_ideal.specs.SetUp.{a_file_of, called, laid_by, laid_in, new_fid, nothing_set, stores_all}
-use Rattle.afs_ideal.specs.Soundness.{IsSound, HasByKind}
-use Rattle.afs_ideal.specs.Tables.{Table, get, AscendsFrom}
+use Rattle.afs_ideal.specs.Soundness.{IsSound}
+use Rattle.afs_ideal.specs.Tables.{get, AscendsFrom}
 use Rattle.afs_ideal.specs.VnodeMaps.{most_vnodes}
-use Rattle.afs_ideal.specs.Volumes.{Kind, a_directory, a_file, a_link, Vnode, Volume, Amend, Edit, amends, makes, frees, amended, ascending, blocks_in, edited_all, edit_number, if_unique, placed, vnode_of, with_status}
+use Rattle.afs_ideal.specs.Volumes.{Kind, a_directory, a_file, a_link, Vnode, Volume, Amend, Edit, amends, makes, amended, ascending, blocks_in, edited_all, if_unique, vnode_of, with_status}
 use Rattle.afs_ideal.proofs.Laid.{called_sound}
 use Rattle.afs_ideal.proofs.Looks.{Distinct, MakesAs}
 use Rattle.afs_ideal.proofs.Scopes.{accepted, all_pass}
@@ -28,7 +27,7 @@ use Rattle.afs_volume.specs.Giving.{checked, edits_seen, refusal_of}
 use Rattle.afs_volume.specs.declared.edits.Edit as code
 use Rattle.afs_volume.specs.declared.faults.OpFault.{OpFault}
 use Rattle.afs_volume.specs.declared.faults.OpFault.TheVariants as faults
-use Rattle.afs_volume.proofs.AtOnce.{apart_by, creates, file_at_once, in_order, turn, two, two_filled}
+use Rattle.afs_volume.proofs.AtOnce.{apart_by, creates, file_at_once, in_order, two, two_filled}
 use Rattle.afs_volume.proofs.Changed.{own_by, within}
 
 -- ---- the file is made, and then its bytes are stored

@@ -1,5 +1,5 @@
 -- What set-up lays of a file in one change, where the definition makes it and then stores its bytes.
-use Rattle.std.specs.Prelude.{◌≡◌, ◌≤◌, ℕ, ◌+◌, List, [], ◌∷◌, Bool, true, false, pos, Option, Some, None, nat_lt, length, Result, Ok, Err, if◌then◌else◌}
+use Rattle.std.specs.Prelude.{◌≡◌, ◌≤◌, ℕ, List, [], ◌∷◌, Bool, true, false, pos, Option, Some, None, nat_lt, length, Result, Ok, Err, if◌then◌else◌}
 use Rattle.std.specs.List.{list_all, AllByRecursion}
 use Rattle.std.specs.Option.{option_map}
 use Rattle.afs_num.specs.declared.types.Fid.{Fid}
@@ -10,7 +10,7 @@ use Rattle.afs_num.specs.declared.calls.FsCall.TheVariants as calls
 use Rattle.afs_ideal.specs.SetUp.{all_at_first, nothing_set}
 use Rattle.afs_ideal.specs.Soundness.{IsSound}
 use Rattle.afs_ideal.specs.VnodeMaps.{most_vnodes}
-use Rattle.afs_ideal.specs.Volumes.{Edit, amends, makes, frees, Volume, blocks_in, counted, edited_all}
+use Rattle.afs_ideal.specs.Volumes.{Edit, makes, Volume, blocks_in, counted, edited_all}
 use Rattle.afs_ideal.proofs.Looks.{Distinct, MakesAs}
 use Rattle.afs_ideal.proofs.Tellings.{FindEach}
 use Rattle.afs_volume.specs.Drawing.{CanBeDrawn}

@@ -1,10 +1,5 @@
-use Rattle.std.proofs.Common.{◌≡◌, refl, sym, ap, subst, ◌∙◌}
-use Rattle.std.specs.Prelude.{is_some}
-use Rattle.std.specs.List.{AllByRecursion}
-use Rattle.afs_ideal.specs.VnodeImage.{FitsImage}
-use Rattle.afs_records.specs.Durable.{Stored}
+use Rattle.std.proofs.Common.{refl, sym, ◌∙◌}
 use Rattle.afs_volume.specs.Giving.{edits_seen, volume_of}
-use Rattle.afs_volume.specs.Seen.{IsReadable}
 use Rattle.afs_volume.proofs.AtFirst.{each_fits, each_readable, laid_now, laid_volume}
 use Rattle.afs_volume.proofs.Changed.{next_low}
 use Rattle.afs_volume.proofs.volume.Volume.lay_edits.Goals as goal

@@ -1,4 +1,4 @@
-use Rattle.std.proofs.Common.{◌≡◌, ◌∷◌, ◌+◌, ◌∙◌, refl, drop, true, Some, None, ap, sym, subst, rules}
+use Rattle.std.proofs.Common.{◌≡◌, ◌∷◌, ◌+◌, ◌∙◌, refl, drop, true, Some, None, ap, sym, rules}
 use Rattle.afs_ideal.specs.Directories.{named}
 use Rattle.afs_ideal.specs.Operations.{is_kind, named_vnode, number_named}
 use Rattle.afs_ideal.specs.SetUp.{led_to}

@@ -1,4 +1,4 @@
-use Rattle.std.proofs.Common.{◌≡◌, ◌≤◌, ℕ, List, true, false, length, nat_lt, Err, rules, sym, subst, ◌∙◌, arith}
+use Rattle.std.proofs.Common.{◌≡◌, ◌≤◌, List, true, false, length, nat_lt, rules, sym, subst, ◌∙◌, arith}
 use Rattle.std.proofs.lemmas.Bool.Decides.{nat_tests}
 use Rattle.std.proofs.lemmas.List.{length-map}
 use Rattle.afs_ideal.specs.Operations.{most_bytes}
@@ -7,7 +7,6 @@ use Rattle.afs_ideal.specs.Soundness.{IsSound}
 use Rattle.afs_ideal.specs.Volumes.{blocks_in, edited_all}
 use Rattle.afs_ideal.proofs.Looks.{Distinct}
 use Rattle.afs_ideal.proofs.Tables.{ascends_lower}
-use Rattle.afs_volume.specs.Filled.{IsFilled}
 use Rattle.afs_volume.specs.Giving.{edit_seen, edits_seen, volume_of}
 use Rattle.afs_volume.specs.declared.edits.Edit.{Edit}
 use Rattle.afs_volume.specs.declared.volume.Volume.{Volume}

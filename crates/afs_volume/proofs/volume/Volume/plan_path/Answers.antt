@@ -1,6 +1,6 @@
-use Rattle.std.proofs.Common.{◌≡◌, ◌-◌, ℕ, List, pos, length, take, slice_get, Option, Some, None, Result, Err, rules, sym, ap, subst}
+use Rattle.std.proofs.Common.{◌≡◌, ◌-◌, ℕ, pos, length, take, slice_get, Some, None, Result, rules, sym, ap, subst}
 use Rattle.std.specs.Option.{option_map}
-use Rattle.afs_ideal.specs.SetUp.{a_file_of, laid_at, parted}
+use Rattle.afs_ideal.specs.SetUp.{a_file_of, laid_at}
 use Rattle.afs_ideal.specs.Volumes.{Volume}
 use Rattle.afs_volume.specs.Filled.{code_in, LaysEdits}
 use Rattle.afs_volume.specs.Giving.{volume_of}
