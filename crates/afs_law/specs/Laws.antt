@@ -163,11 +163,11 @@ HasChangeBy s k (l ∷ ls) = HasChangeBy s k ls
 abbrev pub seat_key : Node → Seat → Key
 seat_key n seat = record { node = n; epoch = seat.epoch; number = seat.number }
 
--- what a server's disk keeps of a caller is its last call that changed something, with the reply to that
 -- its reply is kept
 abbrev pub HasReply : Node → Seat → Type 0
 HasReply n seat = (m : Message) × ((seat.reply ≡ Some m) × (answered_key m.head ≡ seat_key n seat))
 
+-- what a server's disk keeps of a caller is its last call that changed something, with the reply to that
 pub record AreChanges (s : Node) (kept : List Seat) (ls : List Line) : Type 0 where
   pub told : (n : Node) (seat : Seat) → call_seat n kept ≡ Some seat → HasChangeBy s (seat_key n seat) ls
   pub reply : (n : Node) (seat : Seat) → call_seat n kept ≡ Some seat → HasReply n seat
