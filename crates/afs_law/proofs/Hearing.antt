@@ -362,8 +362,8 @@ call_here : (c : Cell) (past : List Entry) (i : ℕ) (e : Entry) (m : Message) �
 call_here c past i e m H actor given to up w =
     call_is (IsRan (e ∷ past)) (λ h. IsHad c.hosts h.to h.boot) (c.hosts i).state.lasting.boot (c.hosts i).state.seats m.head m.carried
     (λ is j from q runs k z. let a = runs_admitted (c.hosts i).state.lasting.boot (c.hosts i).state.seats m.head runs in
-        ran_here e past m i (c.hosts i).state.lasting.boot actor given is to a.0
-        (H.unheard i j (called_key m.head) (c.hosts i).state.lasting.boot from (subst (λ (d : Option Fall). MayRun d (c.hosts i).state.lasting.boot (call_seat m.head.from (c.hosts i).state.seats) (called_key m.head) (c.hosts i).state.lasting.boot) (sym up) (inr (refl, a.1)))))
+    ran_here e past m i (c.hosts i).state.lasting.boot actor given is to a.0
+    (H.unheard i j (called_key m.head) (c.hosts i).state.lasting.boot from (subst (λ (d : Option Fall). MayRun d (c.hosts i).state.lasting.boot (call_seat m.head.from (c.hosts i).state.seats) (called_key m.head) (c.hosts i).state.lasting.boot) (sym up) (inr (refl, a.1)))))
     w
 
 -- it is to no boot to come
@@ -495,8 +495,10 @@ rises_hears c past i f H more b =
     let grows : (c.hosts i).state.lasting.boot ≤ s.state.lasting.boot = omega arith in
     let q : HostStep (IsRan (e ∷ past)) (IsNoted (put i h c.hosts)) None (Server i) (c.hosts i).state s = starts_step (IsRan (e ∷ past)) (IsNoted (put i h c.hosts)) i (c.hosts i).state c.clock c.count f (b e h grows) in
     server_hears c past i None unarmed s H grows q tt
-    (λ j k x is may. (none_under (Server i) k x (given_message s.lines (sent_of past)) (q.given (sent_of past)),
-      unheard_next i (c.hosts i).down (c.hosts i).state.seats (c.hosts i).state.lasting.boot past (H.unheard i) j k x is (may_next (c.hosts i).state.lasting.boot f.state.lasting.boot s.state.lasting.boot (call_seat k.node s.state.seats) k x more next may)))
+    (λ j k x is may. (
+      none_under (Server i) k x (given_message s.lines (sent_of past)) (q.given (sent_of past)),
+      unheard_next i (c.hosts i).down (c.hosts i).state.seats (c.hosts i).state.lasting.boot past (H.unheard i) j k x is (may_next (c.hosts i).state.lasting.boot f.state.lasting.boot s.state.lasting.boot (call_seat k.node s.state.seats) k x more next may),
+    ))
 
 ends_hears : (c : Cell) (past : List Entry) (i : ℕ) (f : Begun) (fall : Fall) (out : Outcome) → HearsIn c past → IsCutBy (IsRan past) (c.hosts i).state.lasting.boot (c.hosts i).state.seats fall → (c.hosts i).state.lasting.boot ≤ f.state.lasting.boot → BeginsBy c past i f → After past (server_ends c i f fall out)
 ends_hears c past i f fall comes_up H cut more b = rises_hears c past i f H more b
@@ -515,7 +517,7 @@ restarted_hears c past i after out (Some fall) H cut =
     let f : Begun = begun_by_disk (Server i) x after fall in
     ends_hears c past i f fall (settled f.state out) H cut (disk_boot (Server i) x after fall)
     (λ e h more. disk_begins (IsRan (e ∷ past)) (IsNoted (put i h c.hosts)) (Server i) x after fall (sound_on c past e i h H more) (held_on c past e i h H more) (cut_by (IsRan past) (IsRan (e ∷ past)) (ran_over e past) x.lasting.boot x.seats fall cut)
-        (λ y to. own_had c.hosts i h x.lasting.boot more y.to to))
+    (λ y to. own_had c.hosts i h x.lasting.boot more y.to to))
 
 -- its disk is set
 set_hears : (c : Cell) (past : List Entry) (i : ℕ) (l : Line) (armed : Armed) (d : Option Fall) → ((sent : List Message) → given_message (l ∷ []) sent ≡ None) → HearsIn c past → After past (server_armed c i l armed d)
@@ -535,8 +537,10 @@ quiet_hears c past i armed s H up same step =
     let grows : (c.hosts i).state.lasting.boot ≤ s.state.lasting.boot = omega arith in
     let q : HostStep (IsRan (e ∷ past)) (IsNoted (put i h c.hosts)) None (Server i) (c.hosts i).state s = step (IsRan (e ∷ past)) (IsNoted (put i h c.hosts)) (sound_on c past e i h H grows) (held_on c past e i h H grows) in
     server_hears c past i None armed s H grows q tt
-    (λ j k b is may. (none_under (Server i) k b (given_message s.lines (sent_of past)) (q.given (sent_of past)),
-      H.unheard i j k b is (may_back (c.hosts i).down (c.hosts i).state.lasting.boot s.state.lasting.boot (call_seat k.node (c.hosts i).state.seats) (call_seat k.node s.state.seats) k b up boot (λ a. subst (λ (x : List Seat). Above (call_seat k.node x) k.epoch k.number) same.0 a) may)))
+    (λ j k b is may. (
+      none_under (Server i) k b (given_message s.lines (sent_of past)) (q.given (sent_of past)),
+      H.unheard i j k b is (may_back (c.hosts i).down (c.hosts i).state.lasting.boot s.state.lasting.boot (call_seat k.node (c.hosts i).state.seats) (call_seat k.node s.state.seats) k b up boot (λ a. subst (λ (x : List Seat). Above (call_seat k.node x) k.epoch k.number) same.0 a) may),
+    ))
 
 back_hears : (c : Cell) (past : List Entry) (i : ℕ) (n : Node) (b : Option BackCall) → HearsIn c past → (c.hosts i).down ≡ None → After past (back_timed c i n b)
 back_hears c past i n None H up = void_hears c past H
@@ -592,10 +596,10 @@ to_hears c past p luck m (Client n) H to at =
     let e : Entry = of_client_step n s in
     either_hears past (c.away n) _ _ (void_hears c past H)
     (client_hears c past n (Some p) s H
-        (given_tame (IsRan (e ∷ past)) (IsNoted c.hosts) (IsHad c.hosts) n (c.clients n) c.clock p m (kept_on c past e n H)
-            (call_is (IsRan (e ∷ past)) (λ h. IsHad c.hosts h.to h.boot) (c.clients n).epoch (c.clients n).seats m.head m.carried (λ is j from q runs i z. absurd (no_server n i (sym to ∙ z))) (each_at (IfCall (λ y user call. IsHad c.hosts y.to y.boot)) c.sent p m at H.calls))
-            (λ i z. absurd (no_server n i (sym to ∙ z))) (each_at (λ y. OfNotice (IsNoted c.hosts y.head) y.carried) c.sent p m at H.notices))
-        (subst (GivenTo (Client n)) (sym (ap (λ (ms : List Message). message_at ms p) H.told ∙ at)) to))
+    (given_tame (IsRan (e ∷ past)) (IsNoted c.hosts) (IsHad c.hosts) n (c.clients n) c.clock p m (kept_on c past e n H)
+    (call_is (IsRan (e ∷ past)) (λ h. IsHad c.hosts h.to h.boot) (c.clients n).epoch (c.clients n).seats m.head m.carried (λ is j from q runs i z. absurd (no_server n i (sym to ∙ z))) (each_at (IfCall (λ y user call. IsHad c.hosts y.to y.boot)) c.sent p m at H.calls))
+    (λ i z. absurd (no_server n i (sym to ∙ z))) (each_at (λ y. OfNotice (IsNoted c.hosts y.head) y.carried) c.sent p m at H.notices))
+    (subst (GivenTo (Client n)) (sym (ap (λ (ms : List Message). message_at ms p) H.told ∙ at)) to))
 to_hears c past p luck m Loc H to at = void_hears c past H
 to_hears c past p luck m (Admin n) H to at = void_hears c past H
 
