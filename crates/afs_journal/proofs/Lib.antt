@@ -1,7 +1,7 @@
 mod Appended
 mod Crash
 mod Mended
-mod Moments
+pub mod Moments
 mod Order
 mod Records
 mod Sound

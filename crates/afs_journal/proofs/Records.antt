@@ -149,6 +149,11 @@ pub fit-push : (bodies : List (List ℕ)) (number : ℕ) (body : List ℕ) → F
 fit-push [] number body fit small counted = (small, omega arith, tt)
 fit-push (first ∷ bodies) number body fit small counted = (fit.0, fit.1, fit-push bodies (suc number) body fit.2 small (omega arith))
 
+-- the last number fits in four bytes
+pub few : (bodies : List (List ℕ)) (number : ℕ) → number ≤ 2 ^ 32 → Fit number bodies → number + length bodies ≤ 2 ^ 32
+few [] number le fit = omega (arith, le)
+few (body ∷ bodies) number le fit = omega (arith, few bodies (suc number) (omega (arith, fit.1)) fit.2)
+
 pub length-blocks : (bodies : List (List ℕ)) (number : ℕ) → 9 * length bodies ≤ length (blocks number bodies)
 length-blocks [] number = omega arith
 length-blocks (body ∷ bodies) number = omega (arith, length-append (place_of number body) (blocks (suc number) bodies), length-place_of number body, length-blocks bodies (suc number))

@@ -34,6 +34,7 @@ pub record AtRest {D : Type 0} (seen : D → Option (List ℕ)) (size : D → �
 
 pub record IsSoundLog {D : Type 0} (seen : D → Option (List ℕ)) (size : D → ℕ) (may_leave : D → List ℕ → Type 0) (limit : D → ℕ) (log : Log D) : Type 0 where
   pub counts : 9 * log.count ≤ log.gate
+  pub few : log.count < 2 ^ 32
   pub short : log.gate < 2 ^ 63
   pub small : limit log.disk ≤ 268435456
   pub at_rest : log.closed ≡ false → AtRest seen size may_leave log.count log.gate log.disk

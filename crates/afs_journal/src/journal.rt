@@ -48,6 +48,7 @@ fn fits(used: u64, len: u64, capacity: u64) -> bool
 fn take_up<D: Disk>(alloc: Global, disk: &mut D) -> Result<(Records, u64), JournalFault>
     ensures size { IfOk result (λ r. D.size disk.new ≡ r.1 + 1) }
     ensures counts { IfOk result (λ r. (9 * length r.0 ≤ r.1) × (r.1 < 2 ^ 63)) }
+    ensures few { IfOk result (λ r. length r.0 < 2 ^ 32) }
     ensures found { IfOk result (λ r. (bytes : List ℕ) → D.seen disk.old ≡ Some bytes → r.0 ≡ whole_records bytes) }
     ensures told { OnOk result (IsSome (D.seen disk.new) → IsSome (D.seen disk.old)) }
     ensures done { OnOk result ((bytes : List ℕ) → D.seen disk.old ≡ Some bytes → IsJournal (whole_records bytes) (D.seen disk.new) (D.may_leave disk.new)) }
@@ -75,6 +76,7 @@ impl<D: Disk> Journal<D> {
 
         ensures found { IfOk result (λ j. (bytes : List ℕ) → D.seen disk ≡ Some bytes → j.found ≡ whole_records bytes) }
         ensures at_rest { IfOk result (λ j. (bytes : List ℕ) → D.seen disk ≡ Some bytes → IsJournal (whole_records bytes) (D.seen j.disk) (D.may_leave j.disk)) }
+        ensures told { IfOk result (λ j. IsSome (D.seen j.disk) → IsSome (D.seen disk)) }
         ensures counts { IfOk result (λ j. (j.count ≡ length j.found) × (D.size j.disk ≡ j.gate + 1) × (j.closed ≡ false)) }
         ensures any_moment { (bytes : List ℕ) → D.seen disk ≡ Some bytes → MatchResult result
             (λ j. LeavesOnly D.moment D.left_since disk j.disk (StandsAsBefore (D.may_leave disk)))
@@ -127,9 +129,24 @@ impl<D: Disk> Journal<D> {
 
     /// How many records it has: those that `attach` found, and those that were appended since. It takes no memory.
     pub fn count(&self) -> u64
-        ensures { result ≡ self.now.count }
+        ensures value { result ≡ self.now.count }
+        ensures few { self.now.count < 2 ^ 32 }
     {
         self.count
+    }
+
+    /// Whether a device call failed since the disk was attached. It takes no memory.
+    pub fn is_closed(&self) -> bool
+        ensures { result ≡ self.now.closed }
+    {
+        self.closed
+    }
+
+    /// Whether a record of so many bytes fits on the disk, behind those that are there. It takes no memory.
+    pub fn fits(&self, len: u64) -> bool
+        ensures { IsTrue result ↔ (self.now.gate + 1 + len + 9 ≤ D.limit self.now.disk) }
+    {
+        fits(self.gate + 1, len, self.disk.capacity())
     }
 
     /// Makes room, so that the next `append` of at most so many bytes wants no memory. It takes no room away that was
@@ -155,8 +172,11 @@ impl<D: Disk> Journal<D> {
         ensures full_same { (used capacity : ℕ) → IsErrOf result (JournalFault.Full used capacity) → self.new ≡ self.old }
         ensures closed_same { IsErrOf result JournalFault.Closed → self.new ≡ self.old }
         ensures failed { IsErrOf result JournalFault.Failed → self.new.closed ≡ true }
+        ensures stays { IsErrOf result JournalFault.Failed → (self.new.count ≡ self.old.count) × (self.new.gate ≡ self.old.gate) }
         ensures memory { HasRoom D.limit D.space (length rec.now) self.old → IsErrOf result JournalFault.OutOfMemory → ⊥ }
         ensures number { IfOk result (λ n. (n ≡ self.old.count + 1) × (self.new.count ≡ n) × (self.new.gate ≡ self.old.gate + length rec.now + 9) × (self.new.closed ≡ false)) }
+
+        ensures told { OnOk result (IsSome (D.seen self.new.disk) → IsSome (D.seen self.old.disk)) }
 
         // Where the disk tells: every crash leaves the new record too.
         ensures added { OnOk result ((bytes : List ℕ) → D.seen self.old.disk ≡ Some bytes → IsJournal (whole_records bytes ++ rec.now ∷ []) (D.seen self.new.disk) (D.may_leave self.new.disk)) }

@@ -81,6 +81,7 @@ pub(crate) fn settle<D: Disk>(
 
     ensures size { IfOk result (λ r. D.size disk.new ≡ r.1 + 1) }
     ensures counts { IfOk result (λ r. (9 * length r.0 ≤ r.1) × (r.1 < 2 ^ 63)) }
+    ensures few { IfOk result (λ r. length r.0 < 2 ^ 32) }
     ensures found { IfOk result (λ r. r.0 ≡ whole_records bytes.now) }
     ensures told { OnOk result (IsSome (D.seen disk.new) → IsSome (D.seen disk.old)) }
     ensures done { OnOk result (D.seen disk.old ≡ Some bytes.now → LeavesJust bytes.now (D.may_leave disk.old)

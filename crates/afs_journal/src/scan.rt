@@ -1,5 +1,5 @@
 // The whole records of bytes that a crash may have left.
-ghost use Rattle.std.specs.Prelude.{◌≡◌, ◌≤◌, ◌<◌, ◌+◌, ◌*◌, IfOk, IfSome, IfNone, IsTrue, length, None};
+ghost use Rattle.std.specs.Prelude.{◌≡◌, ◌≤◌, ◌<◌, ◌+◌, ◌*◌, ◌^◌, IfOk, IfSome, IfNone, IsTrue, length, None};
 ghost use Rattle.afs_journal.specs.Records.{number_at, is_whole, record_at, whole_records, StartsWith, EndsAt};
 
 use afs_num::sequences::{Octets, Records};
@@ -51,6 +51,7 @@ pub(crate) fn scan(alloc: Global, bytes: &[u8]) -> Result<(Records, u64), AllocE
     ensures ends { IfOk result (λ r. EndsAt r.1 r.0 bytes.now) }
     ensures whole { IfOk result (λ r. r.0 ≡ whole_records bytes.now) }
     ensures counts { IfOk result (λ r. (9 * length r.0 ≤ r.1) × (r.1 < length bytes.now)) }
+    ensures few { IfOk result (λ r. length r.0 < 2 ^ 32) }
 {
     let mut found = Records::new(alloc);
     let mut number = 1;

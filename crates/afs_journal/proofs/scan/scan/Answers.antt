@@ -1,7 +1,7 @@
 use Rattle.std.proofs.Common.{◌≡◌, ◌<◌, ◌≤◌, ◌-◌, ◌*◌, ℕ, suc, List, ◌++◌, [], ◌∷◌, length, None, arith, refl, sym, ◌∙◌, ap, subst, length-append}
 use Rattle.afs_journal.specs.Records.{blocks, record_at, whole_records, Fit, StartsWith, EndsAt}
 use Rattle.afs_journal.proofs.Crash.{ends_whole, ends_counts}
-use Rattle.afs_journal.proofs.Records.{one_found, all_found, fit-push}
+use Rattle.afs_journal.proofs.Records.{one_found, all_found, few, fit-push}
 use Rattle.afs_journal.proofs.scan.scan.Goals as goal
 
 pub loop-body-preserved : goal.loop-body-preserved
@@ -47,3 +47,6 @@ returns-clause-counts c =
       counts c.args.bytes.now c.loop-body.found c.loop-body.rest.now c.loop-body.number so_far.split so_far.more so_far.fit so_far.counted c.in_default.ensures.none,
       below c.args.bytes.now c.loop-body.found c.loop-body.rest.now c.loop-body.number so_far.split so_far.more so_far.fit so_far.counted c.in_default.ensures.none,
     )
+
+pub returns-clause-few : goal.returns-clause-few
+returns-clause-few c = omega (arith, few c.loop-body.found 1 (omega arith) c.loop-body.invariant.fit)

@@ -53,6 +53,7 @@ invariant_of-self-in-Ok g c =
     let spells = spells_next c.deref.result.now c.self.inside.count c.args.rec.now (c.deref.ensures.value ∙ c.in_ok-spell.ensures.is) (omega (arith, fit, c.self.invariant.small, c.capacity-capacity.ensures)) (omega (arith, fit, c.self.invariant.small, c.self.invariant.counts, c.capacity-capacity.ensures)) in
     record {
       counts = omega (arith, c.self.invariant.counts);
+      few = omega (arith, fit, c.self.invariant.counts, c.self.invariant.small, c.capacity-capacity.ensures);
       short = omega (arith, fit, c.self.invariant.small, c.capacity-capacity.ensures);
       small = omega (arith, c.put.ensures.limit, c.make_room.ensures.limit, c.self.invariant.small);
       at_rest = λ rest. record {

@@ -5,6 +5,7 @@ use Rattle.afs_journal.proofs.journal.Journal.attach.Goals as goal
 pub invariant_of-result : goal.invariant_of-result
 invariant_of-result g c = record {
   counts = omega (arith, c.in-Ok.ensures.counts.0, c.len.ensures.value);
+  few = omega (arith, c.in-Ok.ensures.few, c.len.ensures.value);
   short = c.in-Ok.ensures.counts.1;
   small = omega (arith, c.take_up.ensures.limit, c.requires);
   at_rest = λ rest. record {
