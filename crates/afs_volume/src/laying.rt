@@ -170,6 +170,7 @@ impl Volume {
     }
 
     /// Lays what edits change.
+    #[tactic(auto, using(crate::proofs::AtSetUp::still_at_set_up))]
     fn lay_edits(&mut self, edits: &[Edit]) -> Mem<()>
         requires { CanBeLaid self.old.head.id (volume_of self.old) (edits_seen edits.now) }
         ensures ok { OnOk result (volume_of self.new ≡ at_once self.old.head.id (edits_seen edits.now) (volume_of self.old)) }

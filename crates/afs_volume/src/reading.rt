@@ -26,7 +26,8 @@ use afs_vnode::store::VnodeStore;
 fn list_text(d: &Vnode) -> &Octets
     requires readable { IsReadable d.now }
     requires directory { is_kind (seen d.now).kind a_directory ≡ true }
-    ensures { result.now ≡ acl_text (seen d.now).acl }
+    ensures seen { result.now ≡ acl_text (seen d.now).acl }
+    ensures text { result.now ≡ d.now.acl }
 {
     &d.acl
 }

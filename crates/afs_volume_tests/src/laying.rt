@@ -37,3 +37,14 @@ fn no_name_is_laid_twice_nor_below_a_file(rt: HostRuntime) -> Result<(), Fail> {
     assert_eq!(rt; v.told.as_str(), "17\n20\n");
     Ok(())
 }
+
+#[test]
+fn what_is_laid_has_the_time_of_set_up(rt: HostRuntime) -> Result<(), Fail> {
+    let mut v = Tried::new(rt.alloc(), 1_000)?;
+    v.lay(&[b"a"], 3)?;
+    assert_eq!(rt; [v.time((1, 1))?, v.time((2, 2))?], [0, 0]);
+    v.store((2, 2), 4)?;
+    v.lay(&[b"b"], 3)?;
+    assert_eq!(rt; [v.time((1, 1))?, v.time((2, 2))?], [0, 7]);
+    Ok(())
+}

@@ -5,7 +5,7 @@ ghost use Rattle.afs_volume.specs.Taking.{CanTakeIn};
 ghost use Rattle.afs_volume_tests.specs.Calls.{IsCall};
 
 use crate::printing::printed;
-use afs_num::calls::{AfsStoreStatus, FsCall, FsReply};
+use afs_num::calls::{AfsFetchStatus, AfsStoreStatus, FsCall, FsReply};
 use afs_num::scripts::SetupLine;
 use afs_num::sequences::{Octets, Path};
 use afs_num::types::{Code, Fid, Mem};
@@ -205,14 +205,30 @@ impl Tried {
         self.tell(done(self.alloc, laid))
     }
 
-    /// The links of a vnode, as its status tells them.
-    pub fn links(&self, place: Place) -> Result<u32, OpFault> {
+    /// The status of a vnode.
+    fn status(&self, place: Place) -> Result<Option<AfsFetchStatus>, OpFault> {
         match self
             .volume
             .read(&FsCall::FetchStatus { fid: fid(place) }, b"guest")?
         {
-            FsReply::FetchStatus { status, .. } => Ok(status.link_count),
-            _ => Ok(0),
+            FsReply::FetchStatus { status, .. } => Ok(Some(status)),
+            _ => Ok(None),
+        }
+    }
+
+    /// The links of a vnode.
+    pub fn links(&self, place: Place) -> Result<u32, OpFault> {
+        match self.status(place)? {
+            Some(status) => Ok(status.link_count),
+            None => Ok(0),
+        }
+    }
+
+    /// When a vnode was changed last.
+    pub fn time(&self, place: Place) -> Result<u32, OpFault> {
+        match self.status(place)? {
+            Some(status) => Ok(status.server_mod_time),
+            None => Ok(u32::MAX),
         }
     }
 }
