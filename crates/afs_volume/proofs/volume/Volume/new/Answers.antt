@@ -9,17 +9,7 @@ pub invariant_of-result-clause-counted : goal.invariant_of-result-clause-counted
 invariant_of-result-clause-counted c = one_block _ c.in_ok-vnodes.ensures.seen
 
 abbrev head_of : (id family kind flags quota : ℕ) → List ℕ → VolumeHead
-head_of id family kind flags quota name = record {
-  id = id;
-  family = family;
-  name = name;
-  kind = kind;
-  flags = flags;
-  quota = quota;
-  unique = 2;
-  counter = 1;
-  release = 0;
-}
+head_of id family kind flags quota name = record { id = id; family = family; name = name; kind = kind; flags = flags; quota = quota; unique = 2; counter = 1; release = 0 }
 
 pub invariant_of-result-clause-sound : goal.invariant_of-result-clause-sound
 invariant_of-result-clause-sound c = new_sound (head_of c.args.id c.args.family c.args.kind c.args.flags c.args.quota c.in_ok-from_slice.field-0) c.in_ok-vnodes.vnodes.table refl c.in_ok-vnodes.ensures.seen
