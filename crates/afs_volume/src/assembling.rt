@@ -98,7 +98,7 @@ fn blocks_in(vnodes: &VnodeStore) -> u32
 
 impl Volume {
     /// The volume of these parts. `NotSound` where they make no sound volume, or a directory's contents or access list
-    /// can't be read. A refusal gives no part back.
+    /// can't be read. A refusal gives no part back. The head has to be within the limits of a record, as one that was read is.
     pub fn assemble(
         alloc: Global,
         head: VolumeHead,

@@ -193,7 +193,8 @@ impl Volume {
 
     /// Lays a line of set-up, or leaves the volume as it was: 22 where its path has no name, 20 and 2 where it doesn't lead
     /// to a directory, and the refusals of the operations. Indexes, data versions and the counter stay at 1, the times of a
-    /// volume at set-up at 0.
+    /// volume at set-up at 0. On a volume that has changed, what the line changes has index and data version 1 again, and so
+    /// has the counter.
     pub fn lay(&mut self, line: &SetupLine) -> Result<(), OpFault>
         ensures lays { Lays (laid self.old.head.id line.now (volume_of self.old)) self.old self.new result }
         ensures id { self.new.head.id ≡ self.old.head.id }

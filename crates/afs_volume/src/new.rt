@@ -78,7 +78,8 @@ fn new_vnodes(alloc: Global) -> Mem<VnodeStore>
 }
 
 impl Volume {
-    /// A volume with its root alone, which gives everyone all rights.
+    /// A volume with its root alone, which gives everyone all rights. Its kind and its name have to be within the limits of a
+    /// record, so that every volume can be told.
     pub fn new(
         alloc: Global,
         id: u32,

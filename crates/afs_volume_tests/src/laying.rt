@@ -1,50 +1,53 @@
-use crate::tried::Tried;
+use crate::steps::Step::{Create, Head, Lay, Status, Store};
+use crate::tried::told;
 use std::test::Fail;
 
 #[test]
 fn what_is_laid_is_as_at_first(rt: HostRuntime) -> Result<(), Fail> {
-    let mut v = Tried::new(rt.alloc(), 1_000)?;
-    v.lay(&[b"a"], 3)?;
-    let head = v.volume.head();
-    assert_eq!(rt; [head.unique, head.counter, v.volume.blocks()], [3, 1, 2]);
-    v.store((2, 2), 4)?;
-    v.create((1, 1), b"b")?;
-    assert_eq!(rt;
-        v.told.as_str(),
-        "2.2 2 2 f:4\n1.1 2 2 d: a=2.2 b=4.3 \n4.3 1 1 f:0\n"
-    );
-    Ok(())
-}
-
-#[test]
-fn a_line_that_is_refused_lays_nothing(rt: HostRuntime) -> Result<(), Fail> {
-    let mut v = Tried::new(rt.alloc(), 2)?;
-    v.lay(&[], 3)?;
-    v.lay(&[b"x", b"a"], 3)?;
-    v.lay(&[b"a"], 1_025)?;
-    v.lay(&[b"a"], 65_537)?;
-    assert_eq!(rt; v.told.as_str(), "22\n2\n109\n27\n");
-    assert_eq!(rt; [v.volume.head().unique, v.volume.blocks()], [2, 1]);
-    Ok(())
-}
-
-#[test]
-fn no_name_is_laid_twice_nor_below_a_file(rt: HostRuntime) -> Result<(), Fail> {
-    let mut v = Tried::new(rt.alloc(), 2)?;
-    v.lay(&[b"a"], 1_024)?;
-    v.lay(&[b"a"], 3)?;
-    v.lay(&[b"a", b"b"], 3)?;
-    assert_eq!(rt; v.told.as_str(), "17\n20\n");
+    let steps = [
+        Lay(&[b"a"], 3),
+        Head,
+        Store((2, 2), 4),
+        Create((1, 1), b"b"),
+    ];
+    let want = "unique 3 counter 1 blocks 2\n2.2 2 2 f:4\n1.1 2 2 d: a=2.2 b=4.3 \n4.3 1 1 f:0\n";
+    assert_eq!(rt; told(rt.alloc(), 1_000, &[], &steps)?.as_str(), want);
     Ok(())
 }
 
 #[test]
 fn what_is_laid_has_the_time_of_set_up(rt: HostRuntime) -> Result<(), Fail> {
-    let mut v = Tried::new(rt.alloc(), 1_000)?;
-    v.lay(&[b"a"], 3)?;
-    assert_eq!(rt; [v.time((1, 1))?, v.time((2, 2))?], [0, 0]);
-    v.store((2, 2), 4)?;
-    v.lay(&[b"b"], 3)?;
-    assert_eq!(rt; [v.time((1, 1))?, v.time((2, 2))?], [0, 7]);
+    let steps = [
+        Lay(&[b"a"], 3),
+        Status((1, 1)),
+        Status((2, 2)),
+        Store((2, 2), 4),
+        Lay(&[b"b"], 3),
+        Status((1, 1)),
+        Status((2, 2)),
+    ];
+    let want = "links 2 time 0\nlinks 1 time 0\n2.2 2 2 f:4\nlinks 2 time 0\nlinks 1 time 7\n";
+    assert_eq!(rt; told(rt.alloc(), 1_000, &[], &steps)?.as_str(), want);
+    Ok(())
+}
+
+#[test]
+fn a_line_that_is_refused_lays_nothing(rt: HostRuntime) -> Result<(), Fail> {
+    let steps = [
+        Lay(&[], 3),
+        Lay(&[b"x", b"a"], 3),
+        Lay(&[b"a"], 1_025),
+        Lay(&[b"a"], 65_537),
+        Head,
+    ];
+    let want = "22\n2\n109\n27\nunique 2 counter 1 blocks 1\n";
+    assert_eq!(rt; told(rt.alloc(), 2, &[], &steps)?.as_str(), want);
+    Ok(())
+}
+
+#[test]
+fn no_name_is_laid_twice_nor_below_a_file(rt: HostRuntime) -> Result<(), Fail> {
+    let steps = [Lay(&[b"a"], 1_024), Lay(&[b"a"], 3), Lay(&[b"a", b"b"], 3)];
+    assert_eq!(rt; told(rt.alloc(), 2, &[], &steps)?.as_str(), "17\n20\n");
     Ok(())
 }

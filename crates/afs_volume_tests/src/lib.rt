@@ -12,4 +12,6 @@ mod printing;
 #[cfg(test)]
 mod reading;
 #[cfg(test)]
+mod steps;
+#[cfg(test)]
 mod tried;
