@@ -1,19 +1,18 @@
 -- Edits that are laid: what they leave, as at first, is what a disk keeps of a change.
-use Rattle.std.proofs.Common.{◌≡◌, ℕ, ◌+◌, ◌≤◌, Bool, true, false, List, [], ◌∷◌, ◌++◌, map, length, Option, Some, None, is_some, nat_eq, nat_lt, if◌then◌else◌, refl, sym, ap, subst, ◌∙◌, arith, eq-eqb}
+use Rattle.std.proofs.Common.{◌≡◌, ℕ, ◌+◌, ◌≤◌, Bool, true, false, List, [], ◌∷◌, ◌++◌, map, length, Option, Some, None, nat_eq, if◌then◌else◌, refl, sym, ap, subst, ◌∙◌, arith, eq-eqb}
 use Rattle.std.specs.Prelude.{◌||◌}
 use Rattle.std.specs.List.{list_any, AllByRecursion}
 use Rattle.std.specs.Option.{option_map}
-use Rattle.std.proofs.lemmas.Bool.Decides.{nat_tests}
 use Rattle.std.proofs.lemmas.List.{map-append}
 use Rattle.afs_num.specs.declared.vnodes.Vnode as image
 use Rattle.afs_num.specs.declared.volumes.VolumeHead.{VolumeHead}
 use Rattle.afs_ideal.specs.Images.{Image, acl_by, image_of, value_of}
 use Rattle.afs_ideal.specs.SetUp.{all_at_first, at_first, one_at_first}
-use Rattle.afs_ideal.specs.Tables.{Table, get, set, AscendsFrom}
+use Rattle.afs_ideal.specs.Tables.{Table, get, AscendsFrom}
 use Rattle.afs_ideal.specs.VnodeImage.{FitsImage}
 use Rattle.afs_ideal.specs.VnodeMaps.{most_vnodes}
-use Rattle.afs_ideal.specs.Volumes.{Kind, a_file, a_directory, a_link, bytes_by, Vnode, Volume, Amend, Edit, amends, makes, frees, amended, fresh, amends_at, makes_at, frees_at, edited, counted, edited_all, edit_number}
-use Rattle.afs_ideal.proofs.Tables.{ascends_lower, ascends_set, ascends_unset, get_below}
+use Rattle.afs_ideal.specs.Volumes.{Kind, a_file, a_directory, a_link, Vnode, Volume, Edit, edited, counted, edited_all, edit_number}
+use Rattle.afs_ideal.proofs.Tables.{ascends_lower}
 use Rattle.afs_records.specs.Changes.{gone_between, image_left, images_left, numbers_gone, stored_between}
 use Rattle.afs_records.specs.Durable.{Stored, changed_stored}
 use Rattle.afs_records.proofs.Kept.{all_keep, changed_for, is_edited, same_rest}

@@ -1,6 +1,6 @@
 -- A file of set-up: the edits that lay it at once.
-use Rattle.std.proofs.Common.{◌≡◌, ℕ, ◌+◌, ◌<◌, ◌≤◌, Bool, true, false, not, List, length, Option, Some, None, Result, Ok, Err, ℤ, pos, nat_eq, nat_lt, if◌then◌else◌, refl, sym, ap, subst, ◌∙◌, arith}
-use Rattle.std.specs.Prelude.{◌&&◌, is_some, IfOk}
+use Rattle.std.proofs.Common.{◌≡◌, ℕ, ◌+◌, ◌<◌, ◌≤◌, Bool, true, false, not, List, length, Option, Some, None, Result, Ok, Err, pos, nat_eq, nat_lt, if◌then◌else◌, refl, sym, ap, subst, ◌∙◌, arith}
+use Rattle.std.specs.Prelude.{is_some, IfOk}
 use Rattle.std.specs.List.{list_all, AllByRecursion}
 use Rattle.std.specs.Option.{option_map}
 use Rattle.std.proofs.lemmas.Bool.Decides.{nat_tests}
@@ -23,8 +23,8 @@ use Rattle.afs_ideal.proofs.Scopes.{accepted, all_pass}
 use Rattle.afs_ideal.proofs.Tables.{ascends_lower, free_is_free}
 use Rattle.afs_ideal.proofs.Tellings.{FindEach}
 use Rattle.afs_volume.specs.Drawing.{CanBeDrawn, HasOwn}
-use Rattle.afs_volume.specs.Filled.{at_once, code_in, filled, filled_at_once, is_accepted, Accepts, CanBeLaid, IsCodeOf, IsFilled, LaysEdits}
-use Rattle.afs_volume.specs.Giving.{checked, edits_seen, refusal_of}
+use Rattle.afs_volume.specs.Filled.{at_once, code_in, filled, filled_at_once, is_accepted, CanBeLaid, IsCodeOf, IsFilled, LaysEdits}
+use Rattle.afs_volume.specs.Giving.{checked, edits_seen}
 use Rattle.afs_volume.specs.declared.edits.Edit as code
 use Rattle.afs_volume.specs.declared.faults.OpFault.{OpFault}
 use Rattle.afs_volume.specs.declared.faults.OpFault.TheVariants as faults
@@ -36,18 +36,6 @@ use Rattle.afs_volume.proofs.Changed.{own_by, within}
 pub file_laid : (id : ℕ) (d : Fid) (name bytes : List ℕ) (v : Volume) (es : List Edit) (m : ℕ) → IsSound v → op id all_rights (calls.CreateFile d name nothing_set) v ≡ changes es m → laid_in id v d name (a_file_of bytes) ≡ filled_at_once id bytes es v
 file_laid id d name bytes v es m h e =
     ap (λ (r : ops.Result). laid_by id r v >>= λ made. called id (stores_all (new_fid id v) bytes) made) e ∙ file_at_once id d name bytes v es m h e
-
-refused_by : (id : ℕ) (v : Volume) (f : Volume → Result Volume ℕ) (r : ops.Result) (z : ℤ) → option_map pos (refusal_of r) ≡ Some z → option_map pos (code_in (laid_by id r v >>= f)) ≡ Some z
-refused_by id v f (ops.refused code) z e = e
-refused_by id v f (ops.reads shown) z e = absurd cc
-refused_by id v f (ops.changes es n) z e = absurd cc
-refused_by id v f ops.no_operation z e = absurd cc
-
--- ---- the tests of its name pass
-
-first_by : (b : Bool) (code : ℕ) (o : Option ℕ) → (if b then o else Some code) ≡ None → o ≡ None
-first_by true code o e = e
-first_by false code o e = absurd cc
 
 -- ---- its edits
 

@@ -1,5 +1,5 @@
 -- The names of a volume's directories, listed place by place.
-use Rattle.std.proofs.Common.{◌≡◌, ℕ, zero, suc, ◌+◌, ◌≤◌, ◌<◌, Bool, true, false, List, [], ◌∷◌, length, take, Option, Some, None, Result, Ok, Err, OnOk, nat_eq, slice_get, if◌then◌else◌, refl, sym, ap, subst, ◌∙◌, arith, eq-eqb}
+use Rattle.std.proofs.Common.{◌≡◌, ℕ, zero, suc, ◌+◌, ◌≤◌, ◌<◌, Bool, true, false, List, [], ◌∷◌, take, Option, Some, None, Result, Ok, Err, OnOk, nat_eq, slice_get, if◌then◌else◌, refl, sym, ap, subst, ◌∙◌, arith, eq-eqb}
 use Rattle.std.specs.Option.{option_map}
 use Rattle.std.proofs.lemmas.Bool.Decides.{nat_tests}
 use Rattle.afs_num.specs.declared.directories.Name.{Name}
@@ -9,7 +9,7 @@ use Rattle.afs_ideal.specs.Volumes.{Kind, a_directory, a_file, a_link}
 use Rattle.afs_volume.specs.Listed.{listed_as, listed_at, listed_by, names_in, Lists}
 use Rattle.afs_volume.specs.Seen.{all_seen, kind_seen, names_seen, seen}
 use Rattle.afs_volume.proofs.Tables.{got}
-use Rattle.afs_volume.proofs.Readable.{next_take, nothing_taken, whole}
+use Rattle.afs_volume.proofs.Readable.{next_take, nothing_taken}
 
 -- the names of what stands there
 abbrev names_of : Option image.Vnode → Option (List Name)
