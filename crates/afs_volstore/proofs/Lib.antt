@@ -1,0 +1,6 @@
+mod Folding
+mod Held
+mod Kept
+mod Readied
+mod Redone
+mod Waiting
