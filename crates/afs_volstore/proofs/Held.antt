@@ -1,5 +1,5 @@
 -- What stands in memory, as what a disk keeps of it.
-use Rattle.std.proofs.Common.{◌≡◌, ℕ, [], ◌∷◌, Bool, true, false, not, zero, suc, Option, Some, None, refl, sym, ap, ◌∙◌, nat_eq, slice_get, filter, if◌then◌else◌, Bor, IfSome, IfNone, arith}
+use Rattle.std.proofs.Common.{◌≡◌, ℕ, [], ◌∷◌, Bool, true, false, not, zero, suc, Option, Some, None, refl, sym, ap, ◌∙◌, nat_eq, nat_lt, subst, slice_get, filter, if◌then◌else◌, Bor, IfSome, IfNone, arith}
 use Rattle.std.proofs.lemmas.Bool.Decides.{nat_tests}
 use Rattle.std.specs.Option.{option_copied, option_map}
 use Rattle.afs_ideal.specs.Tables.{get, set, Table}
@@ -11,6 +11,7 @@ use Rattle.afs_num.specs.declared.records.RecordHead.{RecordHead}
 use Rattle.afs_records.specs.Durable.{Durable, Kept, booted, is_flagged, kept_by, noted, with_reply}
 use Rattle.afs_volume.specs.declared.volume.Volume.{Volume}
 use Rattle.afs_volstore.specs.declared.memory.KeptReply.{KeptReply}
+use Rattle.afs_volstore.specs.Called.{AreCalled}
 use Rattle.afs_volstore.specs.Numbered.{AreNumbered}
 use Rattle.afs_volstore.specs.States.{kept_in, kept_seen, parts_seen}
 use Rattle.afs_volume.specs.Taking.{stored_of}
@@ -41,8 +42,33 @@ numbered_nth (suc i) (q ∷ qs) p are found = numbered_nth i qs p are.1 found
 pub nth_some : (i : ℕ) (t : Table Volume) (p : ℕ × Volume) → AreNumbered t → Some p ≡ slice_get t i → slice_get (seen_as stored_of t) i ≡ Some (p.1.head.id, stored_of p.1)
 nth_some i t p are e = nth_seen stored_of i t ∙ (ap (option_map (λ (q : ℕ × Volume). (q.0, stored_of q.1))) (sym e) ∙ ap (λ (n : ℕ). Some (n, stored_of p.1)) (sym (numbered_nth i t p are (sym e))))
 
-pub nth_none : (i : ℕ) (t : Table Volume) → None ≡ slice_get t i → slice_get (seen_as stored_of t) i ≡ None
-nth_none i t e = nth_seen stored_of i t ∙ ap (option_map (λ (q : ℕ × Volume). (q.0, stored_of q.1))) (sym e)
+pub nth_none : {A B : Type 0} (f : A → B) (i : ℕ) (t : Table A) → None ≡ slice_get t i → slice_get (seen_as f t) i ≡ None
+nth_none {A} {B} f i t e = nth_seen f i t ∙ ap (option_map (λ (q : ℕ × A). (q.0, f q.1))) (sym e)
+
+called_nth : (i : ℕ) (t : Table KeptReply) (p : ℕ × KeptReply) → AreCalled t → slice_get t i ≡ Some p → node_number p.1.caller ≡ p.0
+called_nth i [] p are found = absurd cc
+called_nth zero (q ∷ qs) p are found = ap (λ (x : ℕ × KeptReply). node_number x.1.caller) (sym (same_item found)) ∙ (are.0 ∙ ap (λ (x : ℕ × KeptReply). x.0) (same_item found))
+  where
+    same_item : Some q ≡ Some p → q ≡ p
+    same_item e = cc
+called_nth (suc i) (q ∷ qs) p are found = called_nth i qs p are.1 found
+
+pub nth_reply : (i : ℕ) (t : Table KeptReply) (p : ℕ × KeptReply) → AreCalled t → Some p ≡ slice_get t i → slice_get (seen_as kept_seen t) i ≡ Some (node_number p.1.caller, kept_seen p.1)
+nth_reply i t p are e = nth_seen kept_seen i t ∙ (ap (option_map (λ (q : ℕ × KeptReply). (q.0, kept_seen q.1))) (sym e) ∙ ap (λ (n : ℕ). Some (n, kept_seen p.1)) (sym (called_nth i t p are (sym e))))
+
+called_by : (n : ℕ) (k : KeptReply) (p : ℕ × KeptReply) (ps rest : Table KeptReply) (same below : Bool) → node_number k.caller ≡ n → node_number p.1.caller ≡ p.0 → AreCalled ps → AreCalled rest
+    → AreCalled (if same then (n, k) ∷ ps else (if below then (n, k) ∷ p ∷ ps else p ∷ rest))
+called_by n k p ps rest true below is own are later = (is, are)
+called_by n k p ps rest false true is own are later = (is, (own, are))
+called_by n k p ps rest false false is own are later = (own, later)
+
+called_set : (n : ℕ) (k : KeptReply) (t : Table KeptReply) → node_number k.caller ≡ n → AreCalled t → AreCalled (set n k t)
+called_set n k [] is are = (is, tt)
+called_set n k (p ∷ ps) is are = called_by n k p ps (set n k ps) (nat_eq p.0 n) (nat_lt n p.0) is are.0 are.1 (called_set n k ps is are.1)
+
+-- a reply is put by its caller's number
+pub still_called : (n : ℕ) (k : KeptReply) (t u : Table KeptReply) → u ≡ set n k t → node_number k.caller ≡ n → AreCalled t → AreCalled u
+still_called n k t u e is are = subst AreCalled (sym e) (called_set n k t is are)
 
 numbered_by : (b : Bool) (n : ℕ) (p : ℕ × Volume) (o : Option Volume) (v : Volume) → nat_eq p.0 n ≡ b → p.1.head.id ≡ p.0 → (o ≡ Some v → v.head.id ≡ n) → (if b then Some p.1 else o) ≡ Some v → v.head.id ≡ n
 numbered_by true n p o v same its later found = ap (λ (x : Volume). x.head.id) (sym (is_first found)) ∙ (its ∙ grind (arith, nat_tests, same))
@@ -79,10 +105,10 @@ parts_started before boot t u stamps kept e = rw e (ap (λ vs. record (parts_see
 -- ---- what a head says
 
 noted_by : (h : RecordHead) (d : Durable) (caller : Option Node) (t : Table KeptReply) → d.kept ≡ seen_as kept_seen t
-    → record d { kept = seen_as kept_seen (kept_in caller (record { epoch = h.epoch; number = h.number; reply = h.reply }) t) } ≡ with_reply caller h d
+    → record d { kept = seen_as kept_seen (kept_in caller h.epoch h.number h.reply t) } ≡ with_reply caller h d
 noted_by h d None t e = ap (λ (ks : Table Kept). record d { kept = ks }) (sym e)
 noted_by h d (Some n) t e =
-    ap (λ (ks : Table Kept). record d { kept = ks }) (sym (set_seen kept_seen (node_number n) (record { epoch = h.epoch; number = h.number; reply = h.reply }) t) ∙ ap (set (node_number n) (kept_by h)) (sym e))
+    ap (λ (ks : Table Kept). record d { kept = ks }) (sym (set_seen kept_seen (node_number n) (record { caller = n; epoch = h.epoch; number = h.number; reply = h.reply }) t) ∙ ap (set (node_number n) (kept_by h)) (sym e))
 
 raised_by : (h : RecordHead) (boot : ℕ) (volumes : Table Volume) (stamps : Table ℕ) (kept : Table KeptReply) (b : Bool)
     → parts_seen boot volumes (if b then stamps else set h.family h.stamp stamps) kept ≡ (if b then parts_seen boot volumes stamps kept else record (parts_seen boot volumes stamps kept) { stamps = set h.family h.stamp stamps })
@@ -90,9 +116,9 @@ raised_by h boot volumes stamps kept true = refl
 raised_by h boot volumes stamps kept false = refl
 
 pub parts_noted : (h : RecordHead) (boot : ℕ) (volumes : Table Volume) (stamps new : Table ℕ) (kept last : Table KeptReply) → new ≡ (if nat_eq h.stamp 0 then stamps else set h.family h.stamp stamps)
-    → last ≡ kept_in h.caller (record { epoch = h.epoch; number = h.number; reply = h.reply }) kept → parts_seen boot volumes new last ≡ noted h (parts_seen boot volumes stamps kept)
+    → last ≡ kept_in h.caller h.epoch h.number h.reply kept → parts_seen boot volumes new last ≡ noted h (parts_seen boot volumes stamps kept)
 parts_noted h boot volumes stamps new kept last e f =
     ap (λ (t : Table KeptReply). parts_seen boot volumes new t) f
-    ∙ (ap (λ (t : Table ℕ). parts_seen boot volumes t (kept_in h.caller (record { epoch = h.epoch; number = h.number; reply = h.reply }) kept)) e
+    ∙ (ap (λ (t : Table ℕ). parts_seen boot volumes t (kept_in h.caller h.epoch h.number h.reply kept)) e
     ∙ (noted_by h (parts_seen boot volumes (if nat_eq h.stamp 0 then stamps else set h.family h.stamp stamps) kept) h.caller kept refl
     ∙ ap (λ (d : Durable). with_reply h.caller h d) (raised_by h boot volumes stamps kept (nat_eq h.stamp 0))))

@@ -1,3 +1,4 @@
+pub mod Called
 pub mod Numbered
 pub mod Opening
 pub mod Preparing

@@ -1,5 +1,5 @@
 -- What a disk keeps, as it stands in memory.
-use Rattle.std.specs.Prelude.{◌≡◌, ◌<◌, ◌≤◌, ℕ, [], length, Option, Some, None}
+use Rattle.std.specs.Prelude.{◌≡◌, ◌<◌, ◌≤◌, ℕ, List, [], length, Option, Some, None}
 use Rattle.afs_num.specs.Nodes.{node_number}
 use Rattle.afs_num.specs.declared.types.Node.{Node}
 use Rattle.afs_num.specs.declared.volumes.Change.{Change}
@@ -18,9 +18,9 @@ abbrev pub kept_seen : KeptReply → Kept
 kept_seen k = record { epoch = k.epoch; number = k.number; reply = k.reply }
 
 -- the replies with one more, where it has a caller
-abbrev pub kept_in : Option Node → KeptReply → Table KeptReply → Table KeptReply
-kept_in None k t = t
-kept_in (Some caller) k t = set (node_number caller) k t
+abbrev pub kept_in : Option Node → ℕ → ℕ → List ℕ → Table KeptReply → Table KeptReply
+kept_in None epoch number reply t = t
+kept_in (Some caller) epoch number reply t = set (node_number caller) (record { caller = caller; epoch = epoch; number = number; reply = reply }) t
 
 -- No record that is taken forwards a volume. The journal's length and the disk's capacity stand elsewhere.
 abbrev pub parts_seen : ℕ → Table Volume → Table ℕ → Table KeptReply → Durable

@@ -10,6 +10,7 @@ ghost use Rattle.afs_volstore.specs.States.{kept_in, kept_seen, parts_of};
 
 use crate::memory::{KeptReply, State};
 use afs_num::records::RecordHead;
+use afs_num::sequences::Octets;
 use afs_num::types::{Mem, Node};
 use afs_seats::Seats;
 use afs_volume::Volume;
@@ -93,6 +94,17 @@ impl State {
         self.kept.get(caller)
     }
 
+    /// The kept reply at this place in order of the callers' numbers, from 0.
+    pub(crate) fn kept_at(&self, place: u32) -> Option<&KeptReply>
+        ensures some { IfSome result (λ k. slice_get (parts_of self.now).kept place ≡ Some (node_number k.now.caller, kept_seen k.now)) }
+        ensures none { IfNone result (slice_get (parts_of self.now).kept place ≡ None) }
+    {
+        match self.kept.at(place as usize) {
+            Some(item) => Some(&item.1),
+            None => None,
+        }
+    }
+
     /// The server to which calls for a volume are to go. No record that is taken forwards one.
     pub(crate) fn forwarding(&self, _id: u32) -> Option<Node>
         ensures { option_map node_number result ≡ get _id (parts_of self.now).forwardings }
@@ -148,13 +160,19 @@ impl State {
     }
 
     /// Keeps a reply, where it has a caller. It takes no memory.
-    fn keep(&mut self, caller: Option<Node>, reply: KeptReply)
+    fn keep(&mut self, caller: Option<Node>, epoch: u32, number: u32, reply: Octets)
         requires { 0 < self.old.kept.room }
-        ensures table { self.new.kept.table ≡ kept_in caller reply self.old.kept.table }
+        ensures table { self.new.kept.table ≡ kept_in caller epoch number reply self.old.kept.table }
         ensures rest { self.new ≡ record self.old { kept = self.new.kept } }
     {
         let Some(caller) = caller else {
             return;
+        };
+        let reply = KeptReply {
+            caller,
+            epoch,
+            number,
+            reply,
         };
         match self.kept.put(caller.number(), reply) {
             Ok(()) => {}
@@ -176,11 +194,6 @@ impl State {
             reply,
         } = head;
         self.raise(family, stamp);
-        let kept = KeptReply {
-            epoch,
-            number,
-            reply,
-        };
-        self.keep(caller, kept);
+        self.keep(caller, epoch, number, reply);
     }
 }

@@ -122,6 +122,24 @@ impl<D: Disk> VolStore<D> {
         }
     }
 
+    /// The kept reply at this place in order of the callers' numbers, from 0, with the key of its call. It takes no memory.
+    pub fn kept_at(&self, place: u32) -> Option<(Key, &[u8])>
+        ensures some { IfSome result (λ k. slice_get self.now.durable.kept place ≡ Some (node_number k.0.node, record { epoch = k.0.epoch; number = k.0.number; reply = k.1.now })) }
+        ensures none { IfNone result (slice_get self.now.durable.kept place ≡ None) }
+    {
+        match self.state.kept_at(place) {
+            Some(kept) => Some((
+                Key {
+                    node: kept.caller,
+                    epoch: kept.epoch,
+                    number: kept.number,
+                },
+                kept.reply.as_slice(),
+            )),
+            None => None,
+        }
+    }
+
     /// Whether the volume is there and is new: made under no stamp, and never yet with flags 0. It takes no memory.
     pub fn is_new(&self, id: u32) -> bool
         ensures { result ≡ option_map_or (λ s. s.is_new) (get id self.now.durable.volumes) false }
