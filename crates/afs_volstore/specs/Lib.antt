@@ -1,4 +1,6 @@
 pub mod Called
+pub mod Changing
+pub mod Folds
 pub mod Numbered
 pub mod Opening
 pub mod Preparing
@@ -6,3 +8,4 @@ pub mod Redoing
 pub mod Redos
 pub mod States
 pub mod Stores
+pub mod Telling

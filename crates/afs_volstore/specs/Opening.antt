@@ -1,10 +1,8 @@
 -- What a disk that is attached, or set up, makes a store of.
-use Rattle.std.specs.Prelude.{◌≡◌, ◌≤◌, ◌⊎◌, ◌&&◌, ℕ, List, [], ◌∷◌, Bool, Option, Some, None, map, min, nat_eq, if◌then◌else◌}
+use Rattle.std.specs.Prelude.{◌≡◌, ◌≤◌, ◌⊎◌, ◌&&◌, ℕ, List, [], ◌∷◌, Bool, Option, Some, None, map, nat_eq, if◌then◌else◌}
 use Rattle.std.specs.Option.{option_map}
 use Rattle.afs_num.specs.declared.types.Node.{Node}
 use Rattle.afs_num.specs.declared.histories.Line.{Line}
-use Rattle.afs_num.specs.declared.histories.Line.TheVariants as lines
-use Rattle.afs_num.specs.declared.histories.Version.{Version}
 use Rattle.afs_num.specs.declared.faults.StoreFault.{StoreFault}
 use Rattle.afs_num.specs.declared.faults.StoreFault.TheVariants as faults
 use Rattle.afs_num.specs.declared.records.Mark.{Mark}
@@ -13,11 +11,11 @@ use Rattle.afs_num.specs.declared.scripts.VolumeLine.{VolumeLine}
 use Rattle.afs_shape.specs.Taking.{◌>>=◌}
 use Rattle.afs_records.specs.Records.{record_at, FitsRecord}
 use Rattle.afs_disk.specs.Disk.{Setting}
-use Rattle.afs_ideal.specs.Operations.{last_count}
 use Rattle.afs_journal.specs.Records.{whole_records}
 use Rattle.afs_records.specs.Changes.{first_record, set_up}
 use Rattle.afs_records.specs.Stands.{Stands}
 use Rattle.afs_records.specs.Durable.{Durable, Effect, effect_of, first_folded, folded, mark_of, nothing_on}
+use Rattle.afs_volstore.specs.Telling.{in_words}
 
 -- ---- the last record
 
@@ -34,16 +32,6 @@ last_effect node capacity (bytes ∷ rest) =
 abbrev pub same_mark : Mark → Mark → Bool
 same_mark a b = nat_eq a.generation b.generation && nat_eq a.records b.records
 
--- A count that has no word is told as the last one. A server changes nothing of which a next count has no word, so this is
--- another line only for a record that no server made.
-abbrev pub version_within : Version → Version
-version_within v = record v { index = min v.index last_count; data_version = min v.data_version last_count }
-
-abbrev pub in_words : Line → Line
-in_words (lines.Change server key count) = lines.Change server key (min count last_count)
-in_words (lines.Version v) = lines.Version (version_within v)
-in_words l = l
-
 -- A restart begins with the lines of the last record where the mark of the disk isn't the one that was told.
 abbrev pub lines_unless_told : Mark → List (List ℕ) → Effect → List Line
 lines_unless_told told records e = if same_mark (mark_of records) told then [] else map in_words e.lines
@@ -53,7 +41,7 @@ lines_begun node told capacity records = option_map (lines_unless_told told reco
 
 -- ---- set-up
 
--- The lines of set-up are accepted, and their record is one that a disk may have.
+-- The lines of set-up are accepted, each volume's name is one that a volume may have, and their record is one that a disk may have.
 pub record CanBeSetUp (ls : List VolumeLine) : Type 0 where
   pub first : StoreRecord
   pub accepted : first_record ls ≡ Some first

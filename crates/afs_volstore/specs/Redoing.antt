@@ -41,6 +41,10 @@ pub record IsChanged (id : ℕ) (c : Change) (old new : Table Volume) : Type 0 w
   pub put : new ≡ set id after old
   pub changed : changed_stored c.counter c.unique c.vnodes c.removed (stored_of before) ≡ Some (stored_of after)
 
+-- the volume of this number, if there is one, can't take the change in
+abbrev pub IsRefused : ℕ → Change → Table Volume → Type 0
+IsRefused id c t = (v : Volume) → get id t ≡ Some v → changed_stored c.counter c.unique c.vnodes c.removed (stored_of v) ≡ None
+
 -- the images that are put are within their limits
 abbrev pub FitsRedo : Redo → Type 0
 FitsRedo (redos.Change id c) = AllByRecursion FitsImage c.vnodes

@@ -21,13 +21,13 @@ use crate::memory::State;
 use crate::prepared::Prepared;
 use crate::readying::prepared;
 use crate::redo::Redo;
+use crate::setup::no_head;
 use crate::store::VolStore;
 use afs_disk::Disk;
 use afs_journal::Journal;
 use afs_num::faults::{JournalFault, StoreFault};
 use afs_num::histories::Lines;
 use afs_num::records::{RecordBody, RecordHead, StoreRecord};
-use afs_num::sequences::Octets;
 use afs_num::types::Mem;
 use afs_records::laws::{one_more_stands, starts_are_kept};
 use std::alloc::Global;
@@ -37,20 +37,12 @@ use std::mem::replace;
 const LAST_BOOT: u32 = u32::MAX;
 
 /// The record of a start with this boot number.
-#[tactic(auto, unfolding(afs_records::specs::Records::head_form))]
 fn start_record(alloc: Global, boot: u32) -> StoreRecord
     ensures record { result ≡ boot_record boot }
     ensures fits { FitsRecord result }
 {
     StoreRecord {
-        head: RecordHead {
-            family: 0,
-            stamp: 0,
-            caller: None,
-            epoch: 0,
-            number: 0,
-            reply: Octets::new(alloc),
-        },
+        head: no_head(alloc),
         body: RecordBody::Boot { boot },
     }
 }
@@ -71,7 +63,7 @@ fn make_room<D: Disk>(journal: &mut Journal<D>, state: &mut State, redo: &Redo, 
 }
 
 /// Makes a record ready, and room for it on the disk and in memory.
-fn make_ready<D: Disk>(
+pub(crate) fn make_ready<D: Disk>(
     alloc: Global,
     journal: &mut Journal<D>,
     state: &mut State,
@@ -134,7 +126,7 @@ fn append<D: Disk>(journal: &mut Journal<D>, bytes: &[u8]) -> Result<(), StoreFa
 }
 
 /// Puts a record on the disk for which there is a place, and gives back what is to be done.
-fn put<D: Disk>(
+pub(crate) fn put<D: Disk>(
     journal: &mut Journal<D>,
     prepared: Prepared,
 ) -> Result<(RecordHead, Redo), StoreFault>

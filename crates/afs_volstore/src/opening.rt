@@ -1,66 +1,34 @@
-//! A store is made of a disk: at set-up, and at a restart.
+//! A store is made of a disk at a restart.
 
-ghost use Rattle.std.specs.Prelude.{◌≡◌, ◌≤◌, ◌+◌, ℕ, List, [], None, Some, false, length, IfOk, IfErr, MatchResult, IsSome, OnOk};
+ghost use Rattle.std.specs.Prelude.{◌≡◌, ◌≤◌, ◌+◌, ℕ, List, None, Some, false, length, IfOk, IfErr, MatchResult, IsSome};
 ghost use Rattle.afs_num.specs.declared.faults.StoreFault.TheVariants as faults;
-ghost use Rattle.afs_disk.specs.Disk.{LeavesJust, LeavesOnly, PassesAll};
+ghost use Rattle.afs_disk.specs.Disk.{LeavesOnly, PassesAll};
 ghost use Rattle.afs_journal.specs.Log.{Rests, StandsAsBefore, Taken};
 ghost use Rattle.afs_journal.specs.Records.{whole_records};
-ghost use Rattle.afs_records.specs.Changes.{first_length, set_up};
 ghost use Rattle.afs_records.specs.Durable.{first_bad};
 ghost use Rattle.afs_records.specs.Stands.{Stands};
-ghost use Rattle.afs_volstore.specs.Opening.{lines_begun, CanBeSetUp, IsAttachFault, IsSetUpFault, IsSetUpSoFar, Moved};
+ghost use Rattle.afs_volstore.specs.Opening.{lines_begun, same_mark, IsAttachFault};
 ghost use Rattle.afs_volstore.specs.Stores.{IsCaused, IsKept};
 
+use crate::replaying::fold;
 use crate::store::VolStore;
+use crate::taking_up::take_up;
 use afs_disk::Disk;
+use afs_journal::Journal;
 use afs_num::faults::StoreFault;
 use afs_num::histories::Lines;
 use afs_num::records::Mark;
-use afs_num::scripts::VolumeLines;
-use afs_num::types::{Mem, Node};
-use std::alloc::{AllocError, Global};
+use afs_num::types::Node;
+use std::alloc::Global;
 
-/// How many bytes the first record of these volumes has.
-pub fn first_length(alloc: Global, volumes: &VolumeLines) -> Mem<u64>
-    requires { CanBeSetUp volumes.now }
-    ensures { IfOk result (λ n. first_length volumes.now ≡ Some n) }
+/// Whether the mark that was told is that of the disk.
+fn is_told<D: Disk>(journal: &Journal<D>, told: Mark) -> bool
+    ensures { result ≡ same_mark (record { generation = 0; records = journal.now.count }) told }
 {
-    let _ = alloc;
-    let _ = volumes;
-    Err(AllocError)
+    told.generation == 0 && told.records as u64 == journal.count()
 }
 
 impl<D: Disk> VolStore<D> {
-    /// Sets a disk up for these volumes of one server: cuts it to nothing, and puts the first record on it. Each refusal
-    /// hands the disk back.
-    pub fn create(
-        alloc: Global,
-        disk: D,
-        node: Node,
-        volumes: &VolumeLines,
-    ) -> Result<VolStore<D>, (StoreFault, D)>
-        requires limit { D.limit disk ≤ 268435456 }
-        requires lines { CanBeSetUp volumes.now }
-        ensures made { IfOk result (λ s. set_up (D.limit disk) volumes.now ≡ Some s.durable) }
-        ensures rest { IfOk result (λ s. s ≡ record { durable = s.durable; disk = s.disk; node = node; prepared = None; closed = false; count = 1; drawn = 0 }) }
-        ensures kept { IfOk result (λ s. IsKept s.durable (D.seen s.disk) (D.may_leave s.disk)) }
-        ensures full { IfErr result (λ e. (used capacity : ℕ) → e.0 ≡ faults.Full used capacity → (used ≡ 1) × ((capacity ≡ D.limit disk) × (set_up (D.limit disk) volumes.now ≡ None))) }
-        ensures refusals { IfErr result (λ e. IsSetUpFault e.0) }
-
-        // On an empty disk a crash at any moment leaves no record, or the first.
-        ensures any_moment { D.seen disk ≡ Some [] → LeavesJust [] (D.may_leave disk) → MatchResult result
-            (λ s. LeavesOnly D.moment D.left_since disk s.disk (IsSetUpSoFar (D.limit disk) volumes.now))
-            (λ e. LeavesOnly D.moment D.left_since disk e.1 (IsSetUpSoFar (D.limit disk) volumes.now)) }
-
-        ensures ok { IfOk result (λ s. Moved D.faults D.own_faults D.calls D.setting D.limit disk s.disk × PassesAll (D.setting disk) (D.calls disk) (D.calls s.disk)) }
-        ensures err { IfErr result (λ e. Moved D.faults D.own_faults D.calls D.setting D.limit disk e.1 × IsCaused (D.setting disk) (D.calls e.1) (D.faults disk) (D.faults e.1) (D.own_faults disk) (D.own_faults e.1) e.0) }
-    {
-        let _ = alloc;
-        let _ = node;
-        let _ = volumes;
-        Err((StoreFault::OutOfMemory, disk))
-    }
-
     /// The first half of a restart: takes the records of a disk one after the other. The lines are the effect lines of the
     /// last record where the disk's mark isn't the one that was told, else none. `BadRecord` with the number of the first
     /// record that can't be taken. Each refusal hands the disk back; a crash at any moment leaves records that one before
@@ -88,9 +56,11 @@ impl<D: Disk> VolStore<D> {
         ensures rests { IfOk result (λ r. (bytes : List ℕ) → D.seen disk ≡ Some bytes → Rests bytes → D.calls r.0.disk ≡ D.calls disk + 2) }
         ensures limit { MatchResult result (λ r. D.limit r.0.disk ≡ D.limit disk) (λ e. D.limit e.1 ≡ D.limit disk) }
     {
-        let _ = alloc;
-        let _ = node;
-        let _ = told;
-        Err((StoreFault::OutOfMemory, disk))
+        let journal = take_up(alloc, disk)?;
+        let wanted = !is_told(&journal, told);
+        match fold(alloc, node, journal.records().as_slice(), wanted) {
+            Ok((state, lines)) => Ok((VolStore::of(alloc, journal, node, state), lines)),
+            Err(fault) => Err((fault, journal.into_disk())),
+        }
     }
 }

@@ -57,7 +57,7 @@ fn put_volume(volumes: &mut Seats<Volume>, volume: Volume) -> bool
 }
 
 /// Puts these volumes, unless there would be too many.
-fn put_volumes(volumes: &mut Seats<Volume>, added: Sequence<Volume>) -> bool
+pub(crate) fn put_volumes(volumes: &mut Seats<Volume>, added: Sequence<Volume>) -> bool
     requires ready { AllByRecursion IsMadeAgain added }
     requires numbered { AreNumbered volumes.old.table }
     requires room { length added ≤ volumes.old.room }

@@ -12,6 +12,7 @@ ghost use Rattle.afs_records.specs.Changes.{boot_record, can_boot};
 ghost use Rattle.afs_records.specs.Durable.{effect_of, folded, has_room, stamp_of};
 ghost use Rattle.afs_records.specs.Laws.{started};
 ghost use Rattle.afs_volume.specs.Taking.{stored_of};
+ghost use Rattle.afs_volstore.specs.States.{parts_of, placed};
 ghost use Rattle.afs_volstore.specs.Stores.{IsEarly, IsFull, IsKept, SameBut, Served, StandsAround};
 
 use crate::memory::State;
@@ -62,6 +63,21 @@ impl<D: Disk> Model for VolStore<D> {
 }
 
 impl<D: Disk> VolStore<D> {
+    /// A store over a journal, with what its records make. It takes no memory.
+    pub(crate) fn of(alloc: Global, journal: Journal<D>, node: Node, state: State) -> VolStore<D>
+        requires { IsKept (placed (journal.gate + 1) (D.limit journal.disk) (parts_of state)) (D.seen journal.disk) (D.may_leave journal.disk) }
+        ensures { result ≡ record { durable = placed (journal.gate + 1) (D.limit journal.disk) (parts_of state); disk = journal.disk; node = node; prepared = None; closed = journal.closed; count = journal.count; drawn = 0 } }
+    {
+        VolStore {
+            alloc,
+            journal,
+            node,
+            state,
+            prepared: None,
+            drawn: 0,
+        }
+    }
+
     /// How many records stand on the disk. It takes no memory.
     pub fn mark(&self) -> Mark
         ensures { result ≡ record { generation = 0; records = self.now.count } }

@@ -91,11 +91,11 @@ puts_by : (head : VolumeHead) (i : image.Vnode) (is : List image.Vnode) (t : Tab
 puts_by head i is t y None value later e = absurd cc
 puts_by head i is t y (Some x) value later e = later (set i.vnode i t) (ap (λ (s : Stored). with_images is s) (sym (one_put head i x t (value_seen i x value))) ∙ e)
 
-puts : (head : VolumeHead) (is : List image.Vnode) (t : Table image.Vnode) (y : Stored) → with_images is (stored_with head t) ≡ Some y → stored_with head (put_each is t) ≡ y
+pub puts : (head : VolumeHead) (is : List image.Vnode) (t : Table image.Vnode) (y : Stored) → with_images is (stored_with head t) ≡ Some y → stored_with head (put_each is t) ≡ y
 puts head [] t y e = some_is (stored_with head t) y e
 puts head (i ∷ is) t y e = puts_by head i is t y (value_of i) refl (λ u. puts head is u y) e
 
-goes : (head : VolumeHead) (ns : List ℕ) (t : Table image.Vnode) → without ns (stored_with head t) ≡ stored_with head (without_all ns t)
+pub goes : (head : VolumeHead) (ns : List ℕ) (t : Table image.Vnode) → without ns (stored_with head t) ≡ stored_with head (without_all ns t)
 goes head [] t = refl
 goes head (n ∷ ns) t = ap (λ (s : Stored). without ns s) (one_gone head n t) ∙ goes head ns (unset n t)
 

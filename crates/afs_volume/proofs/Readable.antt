@@ -125,7 +125,7 @@ place_readable m (p ∷ ps) (suc i) up all = place_readable (p.0 + 1) ps i up.1 
 -- ---- the parts of a volume make one again
 
 -- a vnode that has been read is read again
-readable_kind : (k : Kind) (x : image.Vnode) → kind_seen x.kind ≡ k → IsReadable x → can_be_read x ≡ true
+pub readable_kind : (k : Kind) (x : image.Vnode) → kind_seen x.kind ≡ k → IsReadable x → can_be_read x ≡ true
 readable_kind a_directory x is h =
     let kind : x.kind ≡ 2 = sym h.0 ∙ ap type_of is in
     directory_read x kind ∙ rw (names_again x.contents (h.1.0 is), h.1.1.0 is) refl
@@ -138,7 +138,7 @@ readable_kind a_link x is h =
     let none : x.acl ≡ [] = sym h.1.1.1 ∙ ap (λ (k : Kind). text_by k x.acl) is in
     other_read x (rw kind refl) ∙ rw (kind, none) refl
 
-reads_all : (m : ℕ) (t : Table image.Vnode) → AscendsFrom m t → AreReadable t → are_read t ≡ true
+pub reads_all : (m : ℕ) (t : Table image.Vnode) → AscendsFrom m t → AreReadable t → are_read t ≡ true
 reads_all m [] up all = refl
 reads_all m (p ∷ ps) up all =
     rw (readable_kind (kind_seen p.1.kind) p.1 refl (all p.0 p.1 (grind (arith, nat_tests))))

@@ -1,0 +1,201 @@
+-- The fold of records by one more.
+use Rattle.std.proofs.Common.{◌≡◌, ℕ, suc, ◌+◌, ◌<◌, ◌≤◌, Bool, true, false, List, [], ◌∷◌, ◌++◌, length, Option, Some, None, zero, take, drop, nat_eq, slice_get, refl, sym, ap, subst, ◌∙◌, arith, length-append}
+use Rattle.std.proofs.lemmas.Bool.Decides.{nat_tests}
+use Rattle.std.specs.Option.{option_map}
+use Rattle.afs_num.specs.declared.types.Node.{Node}
+use Rattle.afs_num.specs.declared.histories.Line.{Line}
+use Rattle.afs_num.specs.declared.records.RecordBody.{RecordBody}
+use Rattle.afs_num.specs.declared.records.RecordBody.TheVariants as bodies
+use Rattle.afs_num.specs.declared.records.RecordHead.{RecordHead}
+use Rattle.afs_num.specs.declared.records.StoreRecord.{StoreRecord}
+use Rattle.afs_shape.specs.Taking.{◌>>=◌}
+use Rattle.afs_journal.specs.Records.{blocks, journal_bytes, place_of}
+use Rattle.afs_journal.proofs.Records.{length-place_of}
+use Rattle.afs_records.specs.Records.{record_at}
+use Rattle.afs_records.specs.Durable.{Durable, Effect, bad_by, bad_from, effect_by, effect_of, first_bad, first_folded, fold_all, fold_from, folded, nothing_on}
+use Rattle.afs_volstore.specs.Folds.{fold_front, is_none_yet, places_length, read_taken, taken_as, wanted_lines, IsBadAt, TakesOne, TellsOne}
+use Rattle.afs_volstore.specs.Opening.{last_effect, last_from}
+use Rattle.afs_volstore.specs.States.{placed}
+
+-- ---- lengths
+
+pub one_longer : (pre : List (List ℕ)) (b : List ℕ) → places_length (pre ++ b ∷ []) ≡ places_length pre + (length b + 9)
+one_longer [] b = omega arith
+one_longer (a ∷ pre) b = omega (arith, one_longer pre b)
+
+length_blocks : (n : ℕ) (bs : List (List ℕ)) → length (blocks n bs) ≡ places_length bs
+length_blocks n [] = refl
+length_blocks n (b ∷ bs) = omega (arith, length-append (place_of n b) (blocks (suc n) bs), length-place_of n b, length_blocks (suc n) bs)
+
+pub journal_length : (bs : List (List ℕ)) → length (journal_bytes bs) ≡ places_length bs + 1
+journal_length bs = omega (arith, length-append (blocks 1 bs) (0 ∷ []), length_blocks 1 bs)
+
+-- ---- one more
+
+and_no_more : (o : Option Durable) → (o >>= fold_from []) ≡ o
+and_no_more None = refl
+and_no_more (Some d) = refl
+
+first_alone : (o : Option StoreRecord) (d : Durable) → (o >>= λ r. (first_folded r d >>= fold_from [])) ≡ (o >>= λ r. taken_as true r d)
+first_alone None d = refl
+first_alone (Some r) d = and_no_more (first_folded r d)
+
+later_alone : (o : Option StoreRecord) (d : Durable) → (o >>= λ r. (folded r d >>= fold_from [])) ≡ (o >>= λ r. taken_as false r d)
+later_alone None d = refl
+later_alone (Some r) d = and_no_more (folded r d)
+
+behind_by : (bs : List (List ℕ)) (b : List ℕ) (o : Option Durable) (d : Durable) → ((e : Durable) → fold_from bs e ≡ Some d → fold_from (bs ++ b ∷ []) e ≡ read_taken false b d) → (o >>= fold_from bs) ≡ Some d → (o >>= fold_from (bs ++ b ∷ [])) ≡ read_taken false b d
+behind_by bs b None d later e = absurd cc
+behind_by bs b (Some x) d later e = later x e
+
+behind_read : (bs : List (List ℕ)) (b : List ℕ) (f : StoreRecord → Option Durable) (o : Option StoreRecord) (d : Durable) → ((e : Durable) → fold_from bs e ≡ Some d → fold_from (bs ++ b ∷ []) e ≡ read_taken false b d)
+    → (o >>= λ r. (f r >>= fold_from bs)) ≡ Some d → (o >>= λ r. (f r >>= fold_from (bs ++ b ∷ []))) ≡ read_taken false b d
+behind_read bs b f None d later e = absurd cc
+behind_read bs b f (Some r) d later e = behind_by bs b (f r) d later e
+
+from_behind : (bs : List (List ℕ)) (b : List ℕ) (x d : Durable) → fold_from bs x ≡ Some d → fold_from (bs ++ b ∷ []) x ≡ read_taken false b d
+from_behind [] b x d e = later_alone (record_at b) x ∙ ap (λ (y : Durable). read_taken false b y) (some_is x d e)
+  where
+    some_is : (y z : Durable) → Some y ≡ Some z → y ≡ z
+    some_is y z q = cc
+from_behind (a ∷ bs) b x d e = behind_read bs b (λ r. folded r x) (record_at a) d (λ y. from_behind bs b y d) e
+
+pub front_step : (c : ℕ) (pre : List (List ℕ)) (b : List ℕ) (d : Durable) → fold_front c pre ≡ Some d → fold_all c (pre ++ b ∷ []) ≡ read_taken (is_none_yet pre) b d
+front_step c [] b d e = first_alone (record_at b) (nothing_on c) ∙ ap (λ (y : Durable). read_taken true b y) (some_is (nothing_on c) d e)
+  where
+    some_is : (y z : Durable) → Some y ≡ Some z → y ≡ z
+    some_is y z q = cc
+front_step c (a ∷ pre) b d e = behind_read pre b (λ r. first_folded r (nothing_on c)) (record_at a) d (λ y. from_behind pre b y d) e
+
+pub still_front : (c : ℕ) (pre : List (List ℕ)) (b : List ℕ) → fold_front c (pre ++ b ∷ []) ≡ fold_all c (pre ++ b ∷ [])
+still_front c [] b = refl
+still_front c (a ∷ pre) b = refl
+
+-- ---- which one is bad
+
+bad_here : (n : ℕ) (o : Option StoreRecord) (f : StoreRecord → Option Durable) (next : Durable → Option ℕ) → (o >>= f) ≡ None → bad_by n (o >>= f) next ≡ Some n
+bad_here n o f next e = ap (λ (x : Option Durable). bad_by n x next) e
+
+bad_behind : (n : ℕ) (bs : List (List ℕ)) (o : Option Durable) (d : Durable) (next : Durable → Option ℕ) (m : ℕ) → ((e : Durable) → fold_from bs e ≡ Some d → next e ≡ Some m) → (o >>= fold_from bs) ≡ Some d → bad_by n o next ≡ Some m
+bad_behind n bs None d next m later e = absurd cc
+bad_behind n bs (Some x) d next m later e = later x e
+
+regroup : (bs : List (List ℕ)) (f : StoreRecord → Option Durable) (o : Option StoreRecord) → (o >>= λ r. (f r >>= fold_from bs)) ≡ ((o >>= f) >>= fold_from bs)
+regroup bs f None = refl
+regroup bs f (Some r) = refl
+
+bad_later : (n : ℕ) (bs : List (List ℕ)) (b : List ℕ) (post : List (List ℕ)) (x d : Durable) → fold_from bs x ≡ Some d → read_taken false b d ≡ None → bad_from n (bs ++ b ∷ post) x ≡ Some (n + length bs)
+bad_later n [] b post x d e bad =
+    bad_here n (record_at b) (λ r. folded r x) (bad_from (n + 1) post) (ap (λ (y : Durable). read_taken false b y) (some_is x d e) ∙ bad) ∙ ap (λ (m : ℕ). Some m) (let z : n ≡ n + 0 = omega arith in z)
+  where
+    some_is : (y z : Durable) → Some y ≡ Some z → y ≡ z
+    some_is y z q = cc
+bad_later n (a ∷ bs) b post x d e bad =
+    bad_behind n bs (record_at a >>= λ r. folded r x) d (bad_from (n + 1) (bs ++ b ∷ post)) (n + length (a ∷ bs))
+    (λ y q. bad_later (n + 1) bs b post y d q bad ∙ ap (λ (m : ℕ). Some m) (let z : n + 1 + length bs ≡ n + length (a ∷ bs) = omega arith in z))
+    (sym (regroup bs (λ r. folded r x) (record_at a)) ∙ e)
+
+pub bad_one : (c : ℕ) (pre : List (List ℕ)) (b : List ℕ) (post : List (List ℕ)) (d : Durable) → fold_front c pre ≡ Some d → read_taken (is_none_yet pre) b d ≡ None → first_bad c (pre ++ b ∷ post) ≡ Some (1 + length pre)
+bad_one c [] b post d e bad = bad_here 1 (record_at b) (λ r. first_folded r (nothing_on c)) (bad_from 2 post) (ap (λ (y : Durable). read_taken true b y) (some_is (nothing_on c) d e) ∙ bad)
+  where
+    some_is : (y z : Durable) → Some y ≡ Some z → y ≡ z
+    some_is y z q = cc
+bad_one c (a ∷ pre) b post d e bad =
+    bad_behind 1 pre (record_at a >>= λ r. first_folded r (nothing_on c)) d (bad_from 2 (pre ++ b ∷ post)) (1 + length (a ∷ pre))
+    (λ y q. bad_later 2 pre b post y d q bad ∙ ap (λ (m : ℕ). Some m) (let z : 2 + length pre ≡ 1 + length (a ∷ pre) = omega arith in z))
+    (sym (regroup pre (λ r. first_folded r (nothing_on c)) (record_at a)) ∙ e)
+
+-- ---- what the last one tells
+
+effect_placed_by : (node : Node) (h : RecordHead) (b : RecordBody) (j c : ℕ) (d : Durable) → effect_by node h b (placed j c d) ≡ effect_by node h b d
+effect_placed_by node h (bodies.First vs) j c d = refl
+effect_placed_by node h (bodies.Change id counter unique vnodes removed) j c d = refl
+effect_placed_by node h (bodies.Boot boot) j c d = refl
+effect_placed_by node h (bodies.Create id family name kind flags quota is_new) j c d = refl
+effect_placed_by node h (bodies.Delete id) j c d = refl
+effect_placed_by node h (bodies.Clone source id name kind release) j c d = refl
+effect_placed_by node h (bodies.Restore id dump) j c d = refl
+effect_placed_by node h (bodies.Flags id flags) j c d = refl
+effect_placed_by node h (bodies.Forward id to) j c d = refl
+effect_placed_by node h bodies.Stamp j c d = refl
+
+pub effect_placed : (node : Node) (r : StoreRecord) (j c : ℕ) (d : Durable) → effect_of node r (placed j c d) ≡ effect_of node r d
+effect_placed node r j c d = effect_placed_by node r.head r.body j c d
+
+tells_last : (node : Node) (w : Bool) (b : List ℕ) (ls : List Line) (first : Bool) (o : Option StoreRecord) (d e : Durable) → record_at b ≡ o → TellsOne node w b d ls → (o >>= λ r. taken_as first r d) ≡ Some e
+    → option_map (wanted_lines w) (o >>= λ r. (taken_as first r d >>= λ after. last_from node [] after (effect_of node r d))) ≡ Some ls
+tells_last node w b ls first None d e is tells taken = absurd cc
+tells_last node w b ls first (Some r) d e is tells taken = ap (λ (x : Option Durable). option_map (wanted_lines w) (x >>= λ after. last_from node [] after (effect_of node r d))) taken ∙ ap (λ (l : List Line). Some l) (sym (tells r is))
+
+last_behind : (node : Node) (w : Bool) (ls : List Line) (bs : List (List ℕ)) (b : List ℕ) (x d e : Durable) (f : Effect) → fold_from bs x ≡ Some d → read_taken false b d ≡ Some e → TellsOne node w b d ls → option_map (wanted_lines w) (last_from node (bs ++ b ∷ []) x f) ≡ Some ls
+
+last_over : (node : Node) (w : Bool) (ls : List Line) (bs : List (List ℕ)) (b : List ℕ) (d e : Durable) (g : StoreRecord → Option Durable) (h : StoreRecord → Effect) (o : Option StoreRecord) → (o >>= λ r. (g r >>= fold_from bs)) ≡ Some d → read_taken false b d ≡ Some e → TellsOne node w b d ls
+    → option_map (wanted_lines w) (o >>= λ r. (g r >>= λ after. last_from node (bs ++ b ∷ []) after (h r))) ≡ Some ls
+
+last_one : (node : Node) (w : Bool) (ls : List Line) (bs : List (List ℕ)) (b : List ℕ) (d e : Durable) (f : Effect) (o : Option Durable) → (o >>= fold_from bs) ≡ Some d → read_taken false b d ≡ Some e → TellsOne node w b d ls
+    → option_map (wanted_lines w) (o >>= λ after. last_from node (bs ++ b ∷ []) after f) ≡ Some ls
+last_behind node w ls [] b x d e f folds taken tells =
+    ap (λ (y : Durable). option_map (wanted_lines w) (record_at b >>= λ r. (folded r y >>= λ after. last_from node [] after (effect_of node r y)))) (some_is x d folds) ∙ tells_last node w b ls false (record_at b) d e refl tells taken
+  where
+    some_is : (y z : Durable) → Some y ≡ Some z → y ≡ z
+    some_is y z q = cc
+last_behind node w ls (a ∷ bs) b x d e f folds taken tells = last_over node w ls bs b d e (λ r. folded r x) (λ r. effect_of node r x) (record_at a) folds taken tells
+last_over node w ls bs b d e g h None folds taken tells = absurd cc
+last_over node w ls bs b d e g h (Some r) folds taken tells = last_one node w ls bs b d e (h r) (g r) folds taken tells
+last_one node w ls bs b d e f None folds taken tells = absurd cc
+last_one node w ls bs b d e f (Some y) folds taken tells = last_behind node w ls bs b y d e f folds taken tells
+
+pub tells_the_last : (node : Node) (w : Bool) (ls : List Line) (c : ℕ) (pre : List (List ℕ)) (b : List ℕ) (d e : Durable) → fold_front c pre ≡ Some d → read_taken (is_none_yet pre) b d ≡ Some e → TellsOne node w b d ls
+    → option_map (wanted_lines w) (last_effect node c (pre ++ b ∷ [])) ≡ Some ls
+tells_the_last node w ls c [] b d e folds taken tells =
+    ap (λ (y : Durable). option_map (wanted_lines w) (record_at b >>= λ r. (first_folded r y >>= λ after. last_from node [] after (effect_of node r y)))) (some_is (nothing_on c) d folds) ∙ tells_last node w b ls true (record_at b) d e refl tells taken
+  where
+    some_is : (y z : Durable) → Some y ≡ Some z → y ≡ z
+    some_is y z q = cc
+tells_the_last node w ls c (a ∷ pre) b d e folds taken tells =
+    last_over node w ls pre b d e (λ r. first_folded r (nothing_on c)) (λ r. effect_of node r (nothing_on c)) (record_at a) folds taken tells
+
+-- ---- records gone through by places
+
+pub take_step : {A : Type 0} (xs : List A) (i : ℕ) (x : A) → slice_get xs i ≡ Some x → take (i + 1) xs ≡ take i xs ++ x ∷ []
+take_step {A} [] i x e = absurd cc
+take_step {A} (y ∷ ys) zero x e = ap (λ (z : A). z ∷ []) (let is : y ≡ x = cc in is)
+take_step {A} (y ∷ ys) (suc i) x e = ap (λ (l : List A). y ∷ l) (take_step ys i x e)
+
+pub split_here : {A : Type 0} (xs : List A) (i : ℕ) (x : A) (more : List A) → slice_get xs i ≡ Some x → xs ++ more ≡ take i xs ++ x ∷ (drop (i + 1) xs ++ more)
+split_here {A} [] i x more e = absurd cc
+split_here {A} (y ∷ ys) zero x more e = ap (λ (z : A). z ∷ (ys ++ more)) (let is : y ≡ x = cc in is)
+split_here {A} (y ∷ ys) (suc i) x more e = ap (λ (l : List A). y ∷ l) (split_here ys i x more e)
+
+pub first_of : (pre : List (List ℕ)) → nat_eq (length pre + 1) 1 ≡ is_none_yet pre
+first_of [] = refl
+first_of (a ∷ pre) = grind (arith, nat_tests)
+
+taken_first : (c : ℕ) (pre : List (List ℕ)) (b : List ℕ) (d e : Durable) → TakesOne (nat_eq (length pre + 1) 1) b d e → read_taken (is_none_yet pre) b (placed (1 + places_length pre) c d) ≡ Some (placed (1 + places_length pre + (length b + 9)) c e)
+taken_first c pre b d e takes =
+    subst (λ (first : Bool). read_taken first b (placed (1 + places_length pre) c d) ≡ Some (placed (1 + places_length pre + (length b + 9)) c e)) (first_of pre) (takes (1 + places_length pre) c)
+
+-- one more is taken
+pub all_taken : (c : ℕ) (pre : List (List ℕ)) (b : List ℕ) (d e : Durable) → fold_front c pre ≡ Some (placed (1 + places_length pre) c d) → TakesOne (nat_eq (length pre + 1) 1) b d e
+    → fold_all c (pre ++ b ∷ []) ≡ Some (placed (1 + places_length (pre ++ b ∷ [])) c e)
+all_taken c pre b d e folds takes =
+    front_step c pre b (placed (1 + places_length pre) c d) folds
+    ∙ (taken_first c pre b d e takes ∙ ap (λ (j : ℕ). Some (placed j c e)) (let z : 1 + places_length pre + (length b + 9) ≡ 1 + places_length (pre ++ b ∷ []) = omega (arith, one_longer pre b) in z))
+
+pub front_taken : (c : ℕ) (pre : List (List ℕ)) (b : List ℕ) (d e : Durable) → fold_front c pre ≡ Some (placed (1 + places_length pre) c d) → TakesOne (nat_eq (length pre + 1) 1) b d e
+    → fold_front c (pre ++ b ∷ []) ≡ Some (placed (1 + places_length (pre ++ b ∷ [])) c e)
+front_taken c pre b d e folds takes = still_front c pre b ∙ all_taken c pre b d e folds takes
+
+-- or it is the first that is bad
+pub bad_at : (c : ℕ) (pre : List (List ℕ)) (b : List ℕ) (post : List (List ℕ)) (d : Durable) (n : ℕ) → fold_front c pre ≡ Some (placed (1 + places_length pre) c d) → n ≡ length pre + 1 → IsBadAt (nat_eq (length pre + 1) 1) b d
+    → first_bad c (pre ++ b ∷ post) ≡ Some n
+bad_at c pre b post d n folds is bad =
+    bad_one c pre b post (placed (1 + places_length pre) c d) folds (subst (λ (first : Bool). read_taken first b (placed (1 + places_length pre) c d) ≡ None) (first_of pre) (bad (1 + places_length pre) c))
+    ∙ ap (λ (m : ℕ). Some m) (let z : 1 + length pre ≡ n = omega (arith, is) in z)
+
+-- the last tells its lines
+pub told_last : (node : Node) (w : Bool) (ls : List Line) (c : ℕ) (pre : List (List ℕ)) (b : List ℕ) (d e : Durable) → fold_front c pre ≡ Some (placed (1 + places_length pre) c d) → TakesOne (nat_eq (length pre + 1) 1) b d e → TellsOne node w b d ls
+    → option_map (wanted_lines w) (last_effect node c (pre ++ b ∷ [])) ≡ Some ls
+told_last node w ls c pre b d e folds takes tells =
+    tells_the_last node w ls c pre b (placed (1 + places_length pre) c d) (placed (1 + places_length pre + (length b + 9)) c e) folds (taken_first c pre b d e takes)
+    (λ r is. tells r is ∙ ap (wanted_lines w) (sym (effect_placed node r (1 + places_length pre) c d)))
