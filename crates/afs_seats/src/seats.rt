@@ -142,7 +142,8 @@ impl<T> Seats<T> {
 
     /// The number and the item at a place, from 0. It takes no memory.
     pub fn at(&self, place: usize) -> Option<&(u32, T)>
-        ensures { option_copied result ≡ slice_get self.now.table place }
+        ensures value { option_copied result ≡ slice_get self.now.table place }
+        ensures ascends { AscendsFrom 0 self.now.table }
     {
         self.items.get(place)
     }

@@ -57,4 +57,5 @@ pub are_begun : (node : Node) (told : Mark) (c count : ℕ) (records found : Lis
 are_begun node told c count records found b ls is counted mark tells =
     let same : same_mark (record { generation = 0; records = length records }) told ≡ b =
     ap (λ (n : ℕ). same_mark (record { generation = 0; records = n }) told) (ap length (sym is) ∙ sym counted) ∙ sym mark in
-    rw same (by_mark b (last_effect node c records) ∙ (ap (λ (rs : List (List ℕ)). option_map (wanted_lines (not b)) (last_effect node c rs)) (sym is) ∙ tells c))
+    ap (λ (m : Bool). option_map (λ (e : Effect). if m then [] else map in_words e.lines) (last_effect node c records)) same
+    ∙ (by_mark b (last_effect node c records) ∙ (ap (λ (rs : List (List ℕ)). option_map (wanted_lines (not b)) (last_effect node c rs)) (sym is) ∙ tells c))

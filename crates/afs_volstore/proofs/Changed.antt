@@ -11,7 +11,7 @@ use Rattle.afs_shape.specs.Taking.{◌>>=◌}
 use Rattle.afs_ideal.specs.Images.{value_of, values_of}
 use Rattle.afs_ideal.specs.Volumes.{Vnode}
 use Rattle.afs_ideal.specs.Tables.{Table, get, set, unset, AscendsFrom}
-use Rattle.afs_ideal.specs.VnodeMaps.{most_vnodes}
+use Rattle.afs_ideal.specs.VnodeMaps.{most_vnodes, is_full_for}
 use Rattle.afs_ideal.proofs.Tables.{ascends_set, ascends_unset}
 use Rattle.afs_records.specs.Durable.{Stored, allowed, changed_stored, counted_as, is_there, with_image, with_images, without}
 use Rattle.afs_records.specs.Sound.{is_sound}
@@ -23,7 +23,9 @@ use Rattle.afs_volume.proofs.Folded.{goes, puts}
 use Rattle.afs_volume.proofs.Readable.{all_read, readable_kind, reads_all}
 use Rattle.afs_volume.proofs.Renamed.{same_length}
 use Rattle.afs_volume.proofs.Taken.{put_each, removed_first, set_readable, unset_readable}
+use Rattle.afs_volume.proofs.Soundly.{in_order}
 use Rattle.afs_volstore.specs.Changing.{is_in, CantBeLeft}
+use Rattle.afs_volstore.proofs.Redone.{set_length}
 
 -- ---- each image has its value
 
@@ -101,6 +103,35 @@ but_up ns (x ∷ xs) t up = but_up ns xs (if is_among x.vnode ns then t else set
     one_up true = up
     one_up false = ascends_set 0 x.vnode x t (omega arith) up
 
+-- ---- how many are left
+
+never_fewer : (ns : List ℕ) (xs : List image.Vnode) (t : Table image.Vnode) → AscendsFrom 0 t → length t ≤ length (put_but ns xs t)
+never_fewer ns [] t up = omega arith
+never_fewer ns (x ∷ xs) t up = by_test (is_among x.vnode ns)
+  where
+    by_test : (b : Bool) → length t ≤ length (put_but ns xs (if b then t else set x.vnode x t))
+    by_test true = never_fewer ns xs t up
+    by_test false =
+        let later : length (set x.vnode x t) ≤ length (put_but ns xs (set x.vnode x t)) = never_fewer ns xs (set x.vnode x t) (ascends_set 0 x.vnode x t (omega arith) up) in
+        omega (arith, later, longer (is_some (get x.vnode t)) (length t) (length (set x.vnode x t)) (set_length 0 x.vnode x t up))
+      where
+        longer : (there : Bool) (n k : ℕ) → k ≡ (if there then n else suc n) → n ≤ k
+        longer true n k e = omega (arith, e)
+        longer false n k e = omega (arith, e)
+
+one_too_many : (there : Bool) (n k : ℕ) → k ≡ (if there then n else suc n) → (nat_eq n most_vnodes && not there) ≡ true → most_vnodes < k
+one_too_many true n k e full = absurd (grind (arith, nat_tests, full))
+one_too_many false n k e full = grind (arith, nat_tests, e, full)
+
+pub many_left : (ns : List ℕ) (x : image.Vnode) (rest before changed : List image.Vnode) (t start : Table image.Vnode) → before ≡ x ∷ rest → is_among x.vnode ns ≡ false → is_full_for x.vnode t ≡ true → AscendsFrom 0 t → put_but ns before t ≡ put_but ns changed start
+    → most_vnodes < length (put_but ns changed start)
+many_left ns x rest before changed t start first apart full up so_far =
+    let here : put_but ns before t ≡ put_but ns rest (set x.vnode x t) =
+    ap (λ (b : List image.Vnode). put_but ns b t) first ∙ ap (λ (b : Bool). put_but ns rest (if b then t else set x.vnode x t)) apart in
+    let later : length (set x.vnode x t) ≤ length (put_but ns rest (set x.vnode x t)) = never_fewer ns rest (set x.vnode x t) (ascends_set 0 x.vnode x t (omega arith) up) in
+    let many : most_vnodes < length (set x.vnode x t) = one_too_many (is_some (get x.vnode t)) (length t) (length (set x.vnode x t)) (set_length 0 x.vnode x t up) full in
+    omega (arith, later, many, ap length here, ap length so_far)
+
 pub left_read : (ns : List ℕ) (xs : List image.Vnode) (t : Table image.Vnode) → AscendsFrom 0 t → AreReadable t → AllByRecursion IsReadable xs → are_read (put_but ns xs (without_all ns t)) ≡ true
 left_read ns xs t up all read = reads_all 0 (put_but ns xs (without_all ns t)) (but_up ns xs (without_all ns t) (without_up ns t up)) (but_read ns xs (without_all ns t) read (without_read ns t all))
 
@@ -111,3 +142,51 @@ second false b p e = absurd cc
 -- parts that make no volume make no sound one
 pub no_volume : (head : VolumeHead) (t : Table image.Vnode) → are_read t ≡ true → make_volume head t ≡ false → is_sound (volume_seen head t) ≡ false
 no_volume head t read e = second (is_some (values_of t)) (is_sound (volume_seen head t)) (all_read t ∙ read) e
+
+-- ---- a volume after a change
+
+from_start : {A : Type 0} (m : ℕ) (t : Table A) → AscendsFrom m t → AscendsFrom 0 t
+from_start {A} m [] up = tt
+from_start {A} m (p ∷ ps) up = (omega arith, up.1)
+
+its_order : (v : Volume) → AscendsFrom 0 v.vnodes.table
+its_order v = from_start 1 v.vnodes.table (in_order v.head v.vnodes.table v.readable v.sound)
+
+cant_by : (v : Volume) (c : Change) (b : Bool) → list_all (is_in v.vnodes.table) c.removed ≡ b → AllByRecursion IsReadable c.vnodes → CantBeLeft c.removed c.vnodes v.vnodes.table → changed_stored c.counter c.unique c.vnodes c.removed (stored_of v) ≡ None
+cant_by v c false is read left = none_there v.head c.counter c.unique c.vnodes c.removed v.vnodes.table is
+cant_by v c true is read (inl there) = absurd (no (sym is ∙ there))
+  where
+    no : ◌≡◌ {A = Bool} true false → ⊥
+    no e = cc
+cant_by v c true is read (inr many) =
+    changed_is v.head c.counter c.unique c.vnodes c.removed v.vnodes.table (its_order v) read is
+    ∙ may_not_hold (record v.head { counter = c.counter; unique = c.unique }) (put_but c.removed c.vnodes (without_all c.removed v.vnodes.table)) many
+
+pub cant_be_changed : (v : Volume) (c : Change) (t : Table image.Vnode) → t ≡ v.vnodes.table → AllByRecursion IsReadable c.vnodes → CantBeLeft c.removed c.vnodes t → changed_stored c.counter c.unique c.vnodes c.removed (stored_of v) ≡ None
+cant_be_changed v c t same read left = cant_by v c (list_all (is_in v.vnodes.table) c.removed) refl read (subst (CantBeLeft c.removed c.vnodes) same left)
+
+-- the parts of the volume after a change
+pub record AreLeft (v : Volume) (c : Change) (t u : Table image.Vnode) (h : VolumeHead) : Type 0 where
+  pub vnodes : t ≡ v.vnodes.table
+  pub there : list_all (is_in t) c.removed ≡ true
+  pub table : u ≡ put_but c.removed c.vnodes (without_all c.removed t)
+  pub head : h ≡ record v.head { counter = c.counter; unique = c.unique }
+
+left_allowed : (v : Volume) (c : Change) (t u : Table image.Vnode) (h : VolumeHead) → AllByRecursion IsReadable c.vnodes → AreLeft v c t u h → changed_stored c.counter c.unique c.vnodes c.removed (stored_of v) ≡ allowed (stored_with h u)
+left_allowed v c t u h read left =
+    changed_is v.head c.counter c.unique c.vnodes c.removed v.vnodes.table (its_order v) read (subst (λ (s : Table image.Vnode). list_all (is_in s) c.removed ≡ true) left.vnodes left.there)
+    ∙ (ap (λ (k : VolumeHead). allowed (stored_with k (put_but c.removed c.vnodes (without_all c.removed v.vnodes.table)))) (sym left.head)
+    ∙ ap (λ (s : Table image.Vnode). allowed (stored_with h s)) (sym (left.table ∙ ap (λ (s : Table image.Vnode). put_but c.removed c.vnodes (without_all c.removed s)) left.vnodes)))
+
+pub is_remade : (v w : Volume) (c : Change) (t u : Table image.Vnode) (h : VolumeHead) → AllByRecursion IsReadable c.vnodes → AreLeft v c t u h → length u ≤ most_vnodes → w.head ≡ h → w.vnodes.table ≡ u
+    → changed_stored c.counter c.unique c.vnodes c.removed (stored_of v) ≡ Some (stored_of w)
+is_remade v w c t u h read left few head table =
+    left_allowed v c t u h read left
+    ∙ (ap (λ (k : VolumeHead). allowed (stored_with k u)) (sym head)
+    ∙ (ap (λ (s : Table image.Vnode). allowed (stored_with w.head s)) (sym table) ∙ may_hold w.head w.vnodes.table (subst (λ (s : Table image.Vnode). length s ≤ most_vnodes) (sym table) few) w.sound))
+
+pub isnt_remade : (v : Volume) (c : Change) (t u : Table image.Vnode) (h : VolumeHead) → AllByRecursion IsReadable c.vnodes → AreLeft v c t u h → make_volume h u ≡ false → changed_stored c.counter c.unique c.vnodes c.removed (stored_of v) ≡ None
+isnt_remade v c t u h read left e =
+    let whole : u ≡ put_but c.removed c.vnodes (without_all c.removed v.vnodes.table) = left.table ∙ ap (λ (s : Table image.Vnode). put_but c.removed c.vnodes (without_all c.removed s)) left.vnodes in
+    let readable : are_read u ≡ true = ap are_read whole ∙ left_read c.removed c.vnodes v.vnodes.table (its_order v) v.readable read in
+    left_allowed v c t u h read left ∙ unsound h u (no_volume h u readable e)

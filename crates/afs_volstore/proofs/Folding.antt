@@ -20,7 +20,7 @@ use Rattle.afs_volstore.specs.Redos.{body_of, record_of}
 use Rattle.afs_volstore.specs.States.{placed}
 use Rattle.afs_volstore.specs.declared.prepared.Prepared.{Prepared}
 use Rattle.afs_volstore.specs.declared.redo.Redo.{Redo}
-use Rattle.afs_volstore.specs.Stores.{StandsAround}
+use Rattle.afs_volstore.specs.Stores.{LeftAround, StandsAround}
 
 -- ---- the fold does the same whatever the journal's length and the capacity
 
@@ -113,9 +113,12 @@ has_no_room r gate c d e = room_by (nat_lt c (gate + 1 + place_length r)) c (gat
 
 -- ---- what a crash leaves around a record
 
-pub around : (law : OneMoreStands) (r : StoreRecord) (d e : Durable) (bytes c : List ℕ) → Stands bytes d → FitsRecord r → folded r d ≡ Some e → IsBeforeOrAfter (whole_records bytes) (record_bytes r) c → StandsAround r d c
+around : (law : OneMoreStands) (r : StoreRecord) (d e : Durable) (bytes c : List ℕ) → Stands bytes d → FitsRecord r → folded r d ≡ Some e → IsBeforeOrAfter (whole_records bytes) (record_bytes r) c → StandsAround r d c
 around law r d e bytes c stands fits is (inl before) = inl (subst (λ (rs : List (List ℕ)). StandFor rs d) (sym before) stands)
 around law r d e bytes c stands fits is (inr after) = inr (e, (is, subst (λ (rs : List (List ℕ)). StandFor rs e) (sym after) (law (whole_records bytes) r d e stands fits is)))
+
+pub left_around : (law : OneMoreStands) (r : StoreRecord) (d e : Durable) (bytes c : List ℕ) → Stands bytes d → FitsRecord r → folded r d ≡ Some e → IsBeforeOrAfter (whole_records bytes) (record_bytes r) c → LeftAround (whole_records bytes) r d c
+left_around law r d e bytes c stands fits is left = (left, around law r d e bytes c stands fits is left)
 
 -- ---- a commit
 

@@ -10,8 +10,8 @@ use Rattle.afs_num.specs.declared.records.RecordHead.{RecordHead}
 use Rattle.afs_num.specs.declared.records.StoreRecord.{StoreRecord}
 use Rattle.afs_shape.specs.Taking.{◌>>=◌}
 use Rattle.afs_journal.specs.Records.{blocks, journal_bytes, place_of}
-use Rattle.afs_journal.proofs.Records.{length-place_of}
 use Rattle.afs_records.specs.Records.{record_at}
+use Rattle.afs_xdr.specs.Words.{word}
 use Rattle.afs_records.specs.Durable.{Durable, Effect, bad_by, bad_from, effect_by, effect_of, first_bad, first_folded, fold_all, fold_from, folded, nothing_on}
 use Rattle.afs_volstore.specs.Folds.{fold_front, is_none_yet, places_length, read_taken, taken_as, wanted_lines, IsBadAt, TakesOne, TellsOne}
 use Rattle.afs_volstore.specs.Opening.{last_effect, last_from}
@@ -23,9 +23,16 @@ pub one_longer : (pre : List (List ℕ)) (b : List ℕ) → places_length (pre +
 one_longer [] b = omega arith
 one_longer (a ∷ pre) b = omega (arith, one_longer pre b)
 
+length_word : (n : ℕ) → length (word n) ≡ 4
+unfolding word
+length_word n = refl
+
+length_place : (n : ℕ) (b : List ℕ) → length (place_of n b) ≡ length b + 8
+length_place n b = omega (arith, length-append (word (length b)) (word n ++ b), length-append (word n) b, length_word n, length_word (length b))
+
 length_blocks : (n : ℕ) (bs : List (List ℕ)) → length (blocks n bs) ≡ places_length bs
 length_blocks n [] = refl
-length_blocks n (b ∷ bs) = omega (arith, length-append (place_of n b) (blocks (suc n) bs), length-place_of n b, length_blocks (suc n) bs)
+length_blocks n (b ∷ bs) = omega (arith, length-append (place_of n b) (blocks (suc n) bs), length_place n b, length_blocks (suc n) bs)
 
 pub journal_length : (bs : List (List ℕ)) → length (journal_bytes bs) ≡ places_length bs + 1
 journal_length bs = omega (arith, length-append (blocks 1 bs) (0 ∷ []), length_blocks 1 bs)
@@ -127,45 +134,61 @@ tells_last : (node : Node) (w : Bool) (b : List ℕ) (ls : List Line) (first : B
 tells_last node w b ls first None d e is tells taken = absurd cc
 tells_last node w b ls first (Some r) d e is tells taken = ap (λ (x : Option Durable). option_map (wanted_lines w) (x >>= λ after. last_from node [] after (effect_of node r d))) taken ∙ ap (λ (l : List Line). Some l) (sym (tells r is))
 
-last_behind : (node : Node) (w : Bool) (ls : List Line) (bs : List (List ℕ)) (b : List ℕ) (x d e : Durable) (f : Effect) → fold_from bs x ≡ Some d → read_taken false b d ≡ Some e → TellsOne node w b d ls → option_map (wanted_lines w) (last_from node (bs ++ b ∷ []) x f) ≡ Some ls
-
-last_over : (node : Node) (w : Bool) (ls : List Line) (bs : List (List ℕ)) (b : List ℕ) (d e : Durable) (g : StoreRecord → Option Durable) (h : StoreRecord → Effect) (o : Option StoreRecord) → (o >>= λ r. (g r >>= fold_from bs)) ≡ Some d → read_taken false b d ≡ Some e → TellsOne node w b d ls
-    → option_map (wanted_lines w) (o >>= λ r. (g r >>= λ after. last_from node (bs ++ b ∷ []) after (h r))) ≡ Some ls
-
-last_one : (node : Node) (w : Bool) (ls : List Line) (bs : List (List ℕ)) (b : List ℕ) (d e : Durable) (f : Effect) (o : Option Durable) → (o >>= fold_from bs) ≡ Some d → read_taken false b d ≡ Some e → TellsOne node w b d ls
+last_by : (node : Node) (w : Bool) (ls : List Line) (bs : List (List ℕ)) (b : List ℕ) (d : Durable) (f : Effect) (o : Option Durable) → ((y : Durable) (g : Effect) → fold_from bs y ≡ Some d → option_map (wanted_lines w) (last_from node (bs ++ b ∷ []) y g) ≡ Some ls) → (o >>= fold_from bs) ≡ Some d
     → option_map (wanted_lines w) (o >>= λ after. last_from node (bs ++ b ∷ []) after f) ≡ Some ls
+last_by node w ls bs b d f None later folds = absurd cc
+last_by node w ls bs b d f (Some y) later folds = later y f folds
+
+last_read : (node : Node) (w : Bool) (ls : List Line) (bs : List (List ℕ)) (b : List ℕ) (d : Durable) (g : StoreRecord → Option Durable) (h : StoreRecord → Effect) (o : Option StoreRecord)
+    → ((y : Durable) (f : Effect) → fold_from bs y ≡ Some d → option_map (wanted_lines w) (last_from node (bs ++ b ∷ []) y f) ≡ Some ls) → (o >>= λ r. (g r >>= fold_from bs)) ≡ Some d
+    → option_map (wanted_lines w) (o >>= λ r. (g r >>= λ after. last_from node (bs ++ b ∷ []) after (h r))) ≡ Some ls
+last_read node w ls bs b d g h None later folds = absurd cc
+last_read node w ls bs b d g h (Some r) later folds = last_by node w ls bs b d (h r) (g r) later folds
+
+some_durable : (y z : Durable) → Some y ≡ Some z → y ≡ z
+some_durable y z q = cc
+
+last_behind : (node : Node) (w : Bool) (ls : List Line) (bs : List (List ℕ)) (b : List ℕ) (x d e : Durable) (f : Effect) → fold_from bs x ≡ Some d → read_taken false b d ≡ Some e → TellsOne node w b d ls → option_map (wanted_lines w) (last_from node (bs ++ b ∷ []) x f) ≡ Some ls
 last_behind node w ls [] b x d e f folds taken tells =
-    ap (λ (y : Durable). option_map (wanted_lines w) (record_at b >>= λ r. (folded r y >>= λ after. last_from node [] after (effect_of node r y)))) (some_is x d folds) ∙ tells_last node w b ls false (record_at b) d e refl tells taken
-  where
-    some_is : (y z : Durable) → Some y ≡ Some z → y ≡ z
-    some_is y z q = cc
-last_behind node w ls (a ∷ bs) b x d e f folds taken tells = last_over node w ls bs b d e (λ r. folded r x) (λ r. effect_of node r x) (record_at a) folds taken tells
-last_over node w ls bs b d e g h None folds taken tells = absurd cc
-last_over node w ls bs b d e g h (Some r) folds taken tells = last_one node w ls bs b d e (h r) (g r) folds taken tells
-last_one node w ls bs b d e f None folds taken tells = absurd cc
-last_one node w ls bs b d e f (Some y) folds taken tells = last_behind node w ls bs b y d e f folds taken tells
+    ap (λ (y : Durable). option_map (wanted_lines w) (record_at b >>= λ r. (folded r y >>= λ after. last_from node [] after (effect_of node r y)))) (some_durable x d folds) ∙ tells_last node w b ls false (record_at b) d e refl tells taken
+last_behind node w ls (a ∷ bs) b x d e f folds taken tells =
+    last_read node w ls bs b d (λ r. folded r x) (λ r. effect_of node r x) (record_at a) (λ y g h. last_behind node w ls bs b y d e g h taken tells) folds
 
 pub tells_the_last : (node : Node) (w : Bool) (ls : List Line) (c : ℕ) (pre : List (List ℕ)) (b : List ℕ) (d e : Durable) → fold_front c pre ≡ Some d → read_taken (is_none_yet pre) b d ≡ Some e → TellsOne node w b d ls
     → option_map (wanted_lines w) (last_effect node c (pre ++ b ∷ [])) ≡ Some ls
 tells_the_last node w ls c [] b d e folds taken tells =
-    ap (λ (y : Durable). option_map (wanted_lines w) (record_at b >>= λ r. (first_folded r y >>= λ after. last_from node [] after (effect_of node r y)))) (some_is (nothing_on c) d folds) ∙ tells_last node w b ls true (record_at b) d e refl tells taken
-  where
-    some_is : (y z : Durable) → Some y ≡ Some z → y ≡ z
-    some_is y z q = cc
+    ap (λ (y : Durable). option_map (wanted_lines w) (record_at b >>= λ r. (first_folded r y >>= λ after. last_from node [] after (effect_of node r y)))) (some_durable (nothing_on c) d folds) ∙ tells_last node w b ls true (record_at b) d e refl tells taken
 tells_the_last node w ls c (a ∷ pre) b d e folds taken tells =
-    last_over node w ls pre b d e (λ r. first_folded r (nothing_on c)) (λ r. effect_of node r (nothing_on c)) (record_at a) folds taken tells
+    last_read node w ls pre b d (λ r. first_folded r (nothing_on c)) (λ r. effect_of node r (nothing_on c)) (record_at a) (λ y g h. last_behind node w ls pre b y d e g h taken tells) folds
 
 -- ---- records gone through by places
 
+take_next : {A : Type 0} (xs : List A) (i : ℕ) (x : A) → slice_get xs i ≡ Some x → take (suc i) xs ≡ take i xs ++ x ∷ []
+take_next {A} [] i x e = absurd cc
+take_next {A} (y ∷ ys) zero x e = ap (λ (z : A). z ∷ []) (let is : y ≡ x = cc in is)
+take_next {A} (y ∷ ys) (suc i) x e = ap (λ (l : List A). y ∷ l) (take_next ys i x e)
+
 pub take_step : {A : Type 0} (xs : List A) (i : ℕ) (x : A) → slice_get xs i ≡ Some x → take (i + 1) xs ≡ take i xs ++ x ∷ []
-take_step {A} [] i x e = absurd cc
-take_step {A} (y ∷ ys) zero x e = ap (λ (z : A). z ∷ []) (let is : y ≡ x = cc in is)
-take_step {A} (y ∷ ys) (suc i) x e = ap (λ (l : List A). y ∷ l) (take_step ys i x e)
+take_step {A} xs i x e = ap (λ (j : ℕ). take j xs) (let z : i + 1 ≡ suc i = omega arith in z) ∙ take_next xs i x e
+
+split_next : {A : Type 0} (xs : List A) (i : ℕ) (x : A) (more : List A) → slice_get xs i ≡ Some x → xs ++ more ≡ take i xs ++ x ∷ (drop (suc i) xs ++ more)
+split_next {A} [] i x more e = absurd cc
+split_next {A} (y ∷ ys) zero x more e = ap (λ (z : A). z ∷ (ys ++ more)) (let is : y ≡ x = cc in is)
+split_next {A} (y ∷ ys) (suc i) x more e = ap (λ (l : List A). y ∷ l) (split_next ys i x more e)
 
 pub split_here : {A : Type 0} (xs : List A) (i : ℕ) (x : A) (more : List A) → slice_get xs i ≡ Some x → xs ++ more ≡ take i xs ++ x ∷ (drop (i + 1) xs ++ more)
-split_here {A} [] i x more e = absurd cc
-split_here {A} (y ∷ ys) zero x more e = ap (λ (z : A). z ∷ (ys ++ more)) (let is : y ≡ x = cc in is)
-split_here {A} (y ∷ ys) (suc i) x more e = ap (λ (l : List A). y ∷ l) (split_here ys i x more e)
+split_here {A} xs i x more e = split_next xs i x more e ∙ ap (λ (j : ℕ). take i xs ++ x ∷ (drop j xs ++ more)) (let z : suc i ≡ i + 1 = omega arith in z)
+
+pub taken_length : {A : Type 0} (xs : List A) (i : ℕ) (x : A) → slice_get xs i ≡ Some x → length (take i xs) ≡ i
+taken_length {A} [] i x e = absurd cc
+taken_length {A} (y ∷ ys) zero x e = refl
+taken_length {A} (y ∷ ys) (suc i) x e = ap (λ (n : ℕ). suc n) (taken_length ys i x e)
+
+pub take_whole : {A : Type 0} (xs : List A) (i : ℕ) → length xs ≤ i → take i xs ≡ xs
+take_whole {A} [] zero le = refl
+take_whole {A} [] (suc i) le = refl
+take_whole {A} (y ∷ ys) zero le = absurd (omega (arith, le))
+take_whole {A} (y ∷ ys) (suc i) le = ap (λ (l : List A). y ∷ l) (take_whole ys i (omega (arith, le)))
 
 pub first_of : (pre : List (List ℕ)) → nat_eq (length pre + 1) 1 ≡ is_none_yet pre
 first_of [] = refl

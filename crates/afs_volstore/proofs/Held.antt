@@ -1,17 +1,20 @@
 -- What stands in memory, as what a disk keeps of it.
-use Rattle.std.proofs.Common.{◌≡◌, ℕ, [], ◌∷◌, Bool, true, false, not, zero, suc, Option, Some, None, refl, sym, ap, ◌∙◌, nat_eq, nat_lt, subst, slice_get, filter, if◌then◌else◌, Bor, IfSome, IfNone, arith}
+use Rattle.std.proofs.Common.{◌≡◌, ℕ, [], ◌∷◌, Bool, true, false, not, zero, suc, Option, Some, None, is_some, refl, sym, ap, ◌∙◌, nat_eq, nat_lt, subst, slice_get, filter, if◌then◌else◌, Bor, IfSome, IfNone, arith}
 use Rattle.std.proofs.lemmas.Bool.Decides.{nat_tests}
 use Rattle.std.specs.Option.{option_copied, option_map}
 use Rattle.afs_ideal.specs.Tables.{get, set, Table}
 use Rattle.afs_seats.specs.Seated.{seen_as}
 use Rattle.afs_seats.proofs.Places.{get_seen, filter_seen, set_seen}
-use Rattle.afs_num.specs.Nodes.{node_number}
+use Rattle.afs_num.specs.Nodes.{node_number, node_of}
 use Rattle.afs_num.specs.declared.types.Node.{Node}
 use Rattle.afs_num.specs.declared.records.RecordHead.{RecordHead}
+use Rattle.afs_num.specs.declared.records.StoreRecord.{StoreRecord}
+use Rattle.afs_shape.specs.Taking.{◌>>=◌}
+use Rattle.afs_records.specs.Records.{caller_number, caller_of, head_form, FitsRecord}
 use Rattle.afs_records.specs.Durable.{Durable, Kept, booted, is_flagged, kept_by, noted, with_reply}
 use Rattle.afs_volume.specs.declared.volume.Volume.{Volume}
 use Rattle.afs_volstore.specs.declared.memory.KeptReply.{KeptReply}
-use Rattle.afs_volstore.specs.Called.{AreCalled}
+use Rattle.afs_volstore.specs.Called.{is_known, AreCalled, AreKnown, IsCaller}
 use Rattle.afs_volstore.specs.Numbered.{AreNumbered}
 use Rattle.afs_volstore.specs.States.{kept_in, kept_seen, parts_seen}
 use Rattle.afs_volume.specs.Taking.{stored_of}
@@ -51,24 +54,43 @@ called_nth zero (q ∷ qs) p are found = ap (λ (x : ℕ × KeptReply). node_num
   where
     same_item : Some q ≡ Some p → q ≡ p
     same_item e = cc
-called_nth (suc i) (q ∷ qs) p are found = called_nth i qs p are.1 found
+called_nth (suc i) (q ∷ qs) p are found = called_nth i qs p are.1.1 found
 
 pub nth_reply : (i : ℕ) (t : Table KeptReply) (p : ℕ × KeptReply) → AreCalled t → Some p ≡ slice_get t i → slice_get (seen_as kept_seen t) i ≡ Some (node_number p.1.caller, kept_seen p.1)
 nth_reply i t p are e = nth_seen kept_seen i t ∙ (ap (option_map (λ (q : ℕ × KeptReply). (q.0, kept_seen q.1))) (sym e) ∙ ap (λ (n : ℕ). Some (n, kept_seen p.1)) (sym (called_nth i t p are (sym e))))
 
-called_by : (n : ℕ) (k : KeptReply) (p : ℕ × KeptReply) (ps rest : Table KeptReply) (same below : Bool) → node_number k.caller ≡ n → node_number p.1.caller ≡ p.0 → AreCalled ps → AreCalled rest
+called_by : (n : ℕ) (k : KeptReply) (p : ℕ × KeptReply) (ps rest : Table KeptReply) (same below : Bool) → node_number k.caller ≡ n → is_known n ≡ true → node_number p.1.caller ≡ p.0 → is_known p.0 ≡ true → AreCalled ps → AreCalled rest
     → AreCalled (if same then (n, k) ∷ ps else (if below then (n, k) ∷ p ∷ ps else p ∷ rest))
-called_by n k p ps rest true below is own are later = (is, are)
-called_by n k p ps rest false true is own are later = (is, (own, are))
-called_by n k p ps rest false false is own are later = (own, later)
+called_by n k p ps rest true below is known own its are later = (is, (known, are))
+called_by n k p ps rest false true is known own its are later = (is, (known, (own, (its, are))))
+called_by n k p ps rest false false is known own its are later = (own, (its, later))
 
-called_set : (n : ℕ) (k : KeptReply) (t : Table KeptReply) → node_number k.caller ≡ n → AreCalled t → AreCalled (set n k t)
-called_set n k [] is are = (is, tt)
-called_set n k (p ∷ ps) is are = called_by n k p ps (set n k ps) (nat_eq p.0 n) (nat_lt n p.0) is are.0 are.1 (called_set n k ps is are.1)
+called_set : (n : ℕ) (k : KeptReply) (t : Table KeptReply) → node_number k.caller ≡ n → is_known n ≡ true → AreCalled t → AreCalled (set n k t)
+called_set n k [] is known are = (is, (known, tt))
+called_set n k (p ∷ ps) is known are = called_by n k p ps (set n k ps) (nat_eq p.0 n) (nat_lt n p.0) is known are.0 are.1.0 are.1.1 (called_set n k ps is known are.1.1)
 
 -- a reply is put by its caller's number
-pub still_called : (n : ℕ) (k : KeptReply) (t u : Table KeptReply) → u ≡ set n k t → node_number k.caller ≡ n → AreCalled t → AreCalled u
-still_called n k t u e is are = subst AreCalled (sym e) (called_set n k t is are)
+pub still_called : (n : ℕ) (k : KeptReply) (t u : Table KeptReply) → u ≡ set n k t → node_number k.caller ≡ n → is_known n ≡ true → AreCalled t → AreCalled u
+still_called n k t u e is known are = subst AreCalled (sym e) (called_set n k t is known are)
+
+-- the numbers are those of nodes
+pub all_known : (t : Table KeptReply) → AreCalled t → AreKnown (seen_as kept_seen t)
+all_known [] are = tt
+all_known (p ∷ ps) are = (are.1.0, all_known ps are.1.1)
+
+-- a record within its limits has a caller that is a node
+known_by : (n : Node) (b : Bool) (o : Option Node) → (if b then Some None else (o >>= λ m. Some (Some m))) ≡ Some (Some n) → is_some o ≡ true
+known_by n true o e = absurd cc
+known_by n false None e = absurd cc
+known_by n false (Some m) e = refl
+
+is_caller : (c : Option Node) → caller_of (caller_number c) ≡ Some c → IsCaller c
+is_caller None e = tt
+is_caller (Some n) e = known_by n (nat_eq (node_number n) 0) (node_of (node_number n)) e
+
+pub fits_caller : (r : StoreRecord) → FitsRecord r → IsCaller r.head.caller
+unfolding head_form
+fits_caller r fits = is_caller r.head.caller fits.head.0.1.1.0.1
 
 numbered_by : (b : Bool) (n : ℕ) (p : ℕ × Volume) (o : Option Volume) (v : Volume) → nat_eq p.0 n ≡ b → p.1.head.id ≡ p.0 → (o ≡ Some v → v.head.id ≡ n) → (if b then Some p.1 else o) ≡ Some v → v.head.id ≡ n
 numbered_by true n p o v same its later found = ap (λ (x : Volume). x.head.id) (sym (is_first found)) ∙ (its ∙ grind (arith, nat_tests, same))

@@ -1,5 +1,5 @@
 -- What a disk keeps, and what it goes on keeping.
-use Rattle.std.proofs.Common.{◌≡◌, ℕ, List, [], ◌∷◌, ◌++◌, Bool, true, false, ◌+◌, Option, Some, None, is_some, refl, sym, subst, ap, ◌∙◌, nat_eq, if◌then◌else◌}
+use Rattle.std.proofs.Common.{◌≡◌, ℕ, List, [], ◌∷◌, ◌++◌, Bool, true, false, ◌+◌, Option, Some, None, is_some, inl, length, arith, length-append, refl, sym, subst, ap, ◌∙◌, nat_eq, if◌then◌else◌}
 use Rattle.afs_num.specs.declared.records.StoreRecord.{StoreRecord}
 use Rattle.afs_journal.specs.Log.{IsJournal}
 use Rattle.afs_journal.specs.Records.{journal_bytes, whole_records}
@@ -13,11 +13,14 @@ use Rattle.afs_volume.specs.declared.volume.Volume.{Volume}
 use Rattle.afs_seats.specs.Seated.{seen_as}
 use Rattle.afs_volume.specs.Taking.{stored_of}
 use Rattle.afs_volstore.specs.States.{placed}
-use Rattle.afs_volstore.specs.Stores.{IsKept}
+use Rattle.afs_volstore.specs.Stores.{IsCounted, IsKept, LeftAround}
 
 -- a crash leaves what is kept
 pub stands_now : (d : Durable) (seen : Option (List ℕ)) (may_leave : List ℕ → Type 0) (bytes : List ℕ) → IsKept d seen may_leave → seen ≡ Some bytes → (c : List ℕ) → may_leave c → Stands c d
 stands_now d seen may_leave bytes kept told c left = subst (λ (b : List ℕ). Stands b d) (sym (kept.durable bytes told c left)) (kept.stands bytes told)
+
+pub left_now : (r : StoreRecord) (d : Durable) (seen : Option (List ℕ)) (may_leave : List ℕ → Type 0) (bytes : List ℕ) → IsKept d seen may_leave → seen ≡ Some bytes → (c : List ℕ) → may_leave c → LeftAround (whole_records bytes) r d c
+left_now r d seen may_leave bytes kept told c left = (inl (ap whole_records (kept.durable bytes told c left)), inl (stands_now d seen may_leave bytes kept told c left))
 
 -- no volume in memory is new
 chosen : (b : Bool) (v : Volume) (o : Option Stored) → false ≡ option_map_or (λ (s : Stored). s.is_new) o false → false ≡ option_map_or (λ (s : Stored). s.is_new) (if b then Some (stored_of v) else o) false
@@ -54,6 +57,18 @@ kept_more law r rec d e seen now may_leave leaves kept fits spelled is told adde
       let journal = added was.0 was.1 in
       journal.durable c left ∙ some_is _ bytes (sym journal.now ∙ at);
 }
+  where
+    some_is : (x y : List ℕ) → Some x ≡ Some y → x ≡ y
+    some_is x y q = cc
+
+-- one more is counted
+pub counted_more : (rec : List ℕ) (count more : ℕ) (seen now : Option (List ℕ)) (leaves : List ℕ → Type 0) → IsCounted count seen → more ≡ count + 1 → (is_some now ≡ true → is_some seen ≡ true)
+    → ((content : List ℕ) → seen ≡ Some content → IsJournal (whole_records content ++ rec ∷ []) now leaves) → IsCounted more now
+counted_more rec count more seen now leaves counted is told added bytes at =
+    let was = some_of seen (told (ap is_some at)) in
+    let journal = added was.0 was.1 in
+    let records : whole_records bytes ≡ whole_records was.0 ++ rec ∷ [] = ap whole_records (some_is bytes (journal_bytes (whole_records was.0 ++ rec ∷ [])) (sym at ∙ journal.now)) ∙ journal.stands in
+    ap length records ∙ (let z : length (whole_records was.0 ++ rec ∷ []) ≡ more = omega (arith, length-append (whole_records was.0) (rec ∷ []), counted was.0 was.1, is) in z)
   where
     some_is : (x y : List ℕ) → Some x ≡ Some y → x ≡ y
     some_is x y q = cc

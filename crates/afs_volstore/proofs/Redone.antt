@@ -29,7 +29,7 @@ use Rattle.afs_volstore.specs.States.{HasRoomIn}
 
 -- ---- how many there are
 
-set_length : {A : Type 0} (m n : ℕ) (x : A) (t : Table A) → AscendsFrom m t → length (set n x t) ≡ (if is_some (get n t) then length t else suc (length t))
+pub set_length : {A : Type 0} (m n : ℕ) (x : A) (t : Table A) → AscendsFrom m t → length (set n x t) ≡ (if is_some (get n t) then length t else suc (length t))
 set_length {A} m n x [] up = refl
 set_length {A} m n x (p ∷ ps) up = grind (arith, nat_tests, up.0, up.1, get_below (p.0 + 1) n ps, set_length (p.0 + 1) n x ps up.1)
 
@@ -152,12 +152,12 @@ set_same_by {A} n x p ps rest false true is less later none e = absurd (no (sym 
     no f = cc
 set_same_by {A} n x p ps rest false false is less later none e = ap (λ (r : Table A). p ∷ r) (later e)
 
-set_same : {A : Type 0} (m n : ℕ) (x : A) (t : Table A) → AscendsFrom m t → get n t ≡ Some x → set n x t ≡ t
+pub set_same : {A : Type 0} (m n : ℕ) (x : A) (t : Table A) → AscendsFrom m t → get n t ≡ Some x → set n x t ≡ t
 set_same {A} m n x [] up e = absurd cc
 set_same {A} m n x (p ∷ ps) up e =
     set_same_by n x p ps (set n x ps) (nat_eq p.0 n) (nat_lt n p.0) refl refl (set_same (p.0 + 1) n x ps up.1) (λ b. get_below (p.0 + 1) n ps (grind (arith, nat_tests, b)) up.1) e
 
-seen_up : {A B : Type 0} (f : A → B) (m : ℕ) (t : Table A) → AscendsFrom m t → AscendsFrom m (seen_as f t)
+pub seen_up : {A B : Type 0} (f : A → B) (m : ℕ) (t : Table A) → AscendsFrom m t → AscendsFrom m (seen_as f t)
 seen_up {A} {B} f m [] up = tt
 seen_up {A} {B} f m (p ∷ ps) up = (up.0, seen_up f (p.0 + 1) ps up.1)
 

@@ -1,6 +1,7 @@
 -- What a change tells, vnode by vnode.
 use Rattle.std.proofs.Common.{◌≡◌, ℕ, zero, suc, ◌+◌, ◌<◌, ◌≤◌, Bool, true, false, List, [], ◌∷◌, ◌++◌, length, map, drop, take, Option, Some, None, is_some, min, refl, sym, ap, subst, ◌∙◌, arith, slice_get, append_assoc}
 use Rattle.std.specs.List.{AllByRecursion}
+use Rattle.std.specs.Option.{option_map}
 use Rattle.std.proofs.lemmas.List.{length-map}
 use Rattle.afs_num.specs.declared.histories.Line.{Line}
 use Rattle.afs_num.specs.declared.histories.Line.TheVariants as lines
@@ -11,22 +12,25 @@ use Rattle.afs_num.specs.declared.vnodes.Vnode as image
 use Rattle.afs_ideal.specs.Images.{value_of}
 use Rattle.afs_ideal.specs.Operations.{last_count}
 use Rattle.afs_ideal.specs.Tables.{Table, get, set}
-use Rattle.afs_ideal.specs.Volumes.{Vnode, Volume, version_at}
+use Rattle.afs_ideal.specs.Volumes.{Vnode, Volume, gone_at, version_at}
 use Rattle.afs_records.specs.Durable.{change_lines, gone_versions, outcome_versions, with_outcomes, with_removed}
 use Rattle.afs_seats.specs.Seated.{seen_as}
-use Rattle.afs_seats.proofs.Places.{set_seen}
+use Rattle.afs_seats.proofs.Places.{get_seen, set_seen}
 use Rattle.afs_volume.specs.Assembling.{can_be_read}
-use Rattle.afs_volume.specs.Seen.{kind_seen, seen, IsReadable}
+use Rattle.afs_volume.specs.Seen.{all_seen, kind_seen, seen, IsReadable}
 use Rattle.afs_volume.proofs.Folded.{value_seen}
 use Rattle.afs_volume.proofs.Readable.{readable_kind}
 use Rattle.afs_volstore.specs.Telling.{in_words, outcome_at, outcomes_seen, told_at, value_there, version_within}
 
 -- ---- lists gone through by places
 
+drop_next : {A : Type 0} (xs : List A) (i : ℕ) (x : A) → slice_get xs i ≡ Some x → drop i xs ≡ x ∷ drop (suc i) xs
+drop_next {A} [] i x e = absurd cc
+drop_next {A} (y ∷ ys) zero x e = ap (λ (z : A). z ∷ ys) (let is : y ≡ x = cc in is)
+drop_next {A} (y ∷ ys) (suc i) x e = drop_next ys i x e
+
 pub drop_step : {A : Type 0} (xs : List A) (i : ℕ) (x : A) → slice_get xs i ≡ Some x → drop i xs ≡ x ∷ drop (i + 1) xs
-drop_step {A} [] i x e = absurd cc
-drop_step {A} (y ∷ ys) zero x e = ap (λ (z : A). z ∷ ys) (let is : y ≡ x = cc in is)
-drop_step {A} (y ∷ ys) (suc i) x e = drop_step ys i x e
+drop_step {A} xs i x e = drop_next xs i x e ∙ ap (λ (j : ℕ). x ∷ drop j xs) (let z : suc i ≡ i + 1 = omega arith in z)
 
 pub drop_end : {A : Type 0} (xs : List A) (i : ℕ) → length xs ≤ i → drop i xs ≡ []
 drop_end {A} [] i le = nothing i
@@ -36,6 +40,16 @@ drop_end {A} [] i le = nothing i
     nothing (suc j) = refl
 drop_end {A} (y ∷ ys) zero le = absurd (omega (arith, le))
 drop_end {A} (y ∷ ys) (suc i) le = drop_end ys i (omega (arith, le))
+
+drop_past : {A : Type 0} (xs : List A) (i : ℕ) → slice_get xs i ≡ None → drop (suc i) xs ≡ drop i xs
+drop_past {A} [] zero e = refl
+drop_past {A} [] (suc i) e = refl
+drop_past {A} (y ∷ ys) zero e = absurd cc
+drop_past {A} (y ∷ ys) (suc i) e = drop_past ys i e
+
+-- nothing stands in a place
+pub drop_none : {A : Type 0} (xs : List A) (i : ℕ) → slice_get xs i ≡ None → drop (i + 1) xs ≡ drop i xs
+drop_none {A} xs i e = ap (λ (j : ℕ). drop j xs) (let z : i + 1 ≡ suc i = omega arith in z) ∙ drop_past xs i e
 
 -- ---- the places of images
 
@@ -91,6 +105,18 @@ pub read_there : (is : List image.Vnode) (i : ℕ) (x : image.Vnode) → AllByRe
 read_there [] i x all e = absurd cc
 read_there (y ∷ ys) zero x all e = subst IsReadable (let is : y ≡ x = cc in is) all.0
 read_there (y ∷ ys) (suc i) x all e = read_there ys i x all.1 e
+
+-- what a vnode that is there tells where it goes
+pub told_gone : (id n : ℕ) (t : Table image.Vnode) (x : image.Vnode) → get n t ≡ Some x → gone_versions id n (get n (all_seen t)) ≡ gone_at id n (seen x) ∷ []
+unfolding all_seen
+told_gone id n t x e = ap (λ (o : Option Vnode). gone_versions id n o) (get_seen seen n t ∙ ap (option_map seen) e)
+
+pub told_none : (id n : ℕ) (t : Table image.Vnode) → get n t ≡ None → gone_versions id n (get n (all_seen t)) ≡ []
+unfolding all_seen
+told_none id n t e = ap (λ (o : Option Vnode). gone_versions id n o) (get_seen seen n t ∙ ap (option_map seen) e)
+
+pub outcome_there : (is : List image.Vnode) (i : ℕ) (x : image.Vnode) → AllByRecursion IsReadable is → slice_get is i ≡ Some x → outcome_at is (Some i) ≡ Some (seen x)
+outcome_there is i x all there = ap value_there there ∙ value_is_seen x (read_there is i x all there)
 
 -- ---- lines
 

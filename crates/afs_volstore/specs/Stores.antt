@@ -1,11 +1,13 @@
 -- A server's store, as its callers see it.
-use Rattle.std.specs.Prelude.{◌≡◌, ◌≤◌, ◌⊎◌, ℕ, List, Bool, false, Option, Some, Result, Ok, Err, IsErrOf, OnOk}
+use Rattle.std.specs.Prelude.{◌≡◌, ◌≤◌, ◌⊎◌, ℕ, List, Bool, false, Option, Some, Result, Ok, Err, IsErrOf, OnOk, length}
 use Rattle.afs_num.specs.declared.types.Node.{Node}
 use Rattle.afs_num.specs.declared.faults.StoreFault.{StoreFault}
 use Rattle.afs_num.specs.declared.faults.StoreFault.TheVariants as faults
 use Rattle.afs_num.specs.declared.records.StoreRecord.{StoreRecord}
 use Rattle.afs_disk.specs.Disk.{LeavesJust, Rose, Setting, Trips, PassesAll}
+use Rattle.afs_journal.specs.Records.{whole_records, IsBeforeOrAfter}
 use Rattle.afs_records.specs.Durable.{Durable, folded, has_room}
+use Rattle.afs_records.specs.Records.{record_bytes}
 use Rattle.afs_records.specs.Stands.{Stands}
 
 -- A server's store: what it keeps on its disk, the disk, the server, the record that the next commit puts there, whether a
@@ -30,6 +32,14 @@ pub record IsKept (d : Durable) (seen : Option (List ℕ)) (may_leave : List ℕ
 -- the bytes stand for what was kept before this record, or for what is kept with it
 abbrev pub StandsAround : StoreRecord → Durable → List ℕ → Type 0
 StandsAround r d bytes = Stands bytes d ⊎ ((e : Durable) × ((folded r d ≡ Some e) × Stands bytes e))
+
+-- these records, with this one or without it, and what they stand for
+abbrev pub LeftAround : List (List ℕ) → StoreRecord → Durable → List ℕ → Type 0
+LeftAround records r d bytes = IsBeforeOrAfter records (record_bytes r) bytes × StandsAround r d bytes
+
+-- so many whole records stand on the disk
+abbrev pub IsCounted : ℕ → Option (List ℕ) → Type 0
+IsCounted count seen = (bytes : List ℕ) → seen ≡ Some bytes → length (whole_records bytes) ≡ count
 
 -- ---- refusals
 

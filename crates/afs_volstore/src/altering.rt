@@ -85,13 +85,13 @@ fn counted(head: VolumeHead, counter: u32, unique: u32) -> VolumeHead
 fn vnodes_after(
     vnodes: VnodeStore,
     changed: Vnodes,
-    removed: &VnodeNumbers,
+    removed: VnodeNumbers,
 ) -> Result<VnodeStore, Unfit>
     requires fits { AllByRecursion FitsImage changed }
-    ensures there { IfOk result (λ s. list_all (is_in vnodes.table) removed.now ≡ true) }
-    ensures table { IfOk result (λ s. s.table ≡ put_but removed.now changed (without_all removed.now vnodes.table)) }
+    ensures there { IfOk result (λ s. list_all (is_in vnodes.table) removed ≡ true) }
+    ensures table { IfOk result (λ s. s.table ≡ put_but removed changed (without_all removed vnodes.table)) }
     ensures few { IfOk result (λ s. length s.table ≤ most_vnodes) }
-    ensures bad { result ≡ Err Bad → CantBeLeft removed.now changed vnodes.table }
+    ensures bad { result ≡ Err Bad → CantBeLeft removed changed vnodes.table }
 {
     let numbers = removed.as_slice();
     if !are_in(&vnodes, numbers) {
@@ -120,7 +120,7 @@ fn remade(alloc: Global, volume: Volume, change: Change) -> Result<Volume, Unfit
         reply: _,
     } = change;
     let (head, vnodes) = volume.into_parts();
-    let after = vnodes_after(vnodes, changed, &removed)?;
+    let after = vnodes_after(vnodes, changed, removed)?;
     match Volume::assemble(alloc, counted(head, counter, unique), after) {
         Ok(volume) => Ok(volume),
         Err(AssembleFault::NotSound) => Err(Unfit::Bad),

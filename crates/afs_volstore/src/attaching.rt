@@ -5,6 +5,7 @@ ghost use Rattle.std.specs.Option.{option_map};
 ghost use Rattle.afs_num.specs.declared.faults.StoreFault.TheVariants as faults;
 ghost use Rattle.afs_records.specs.Durable.{body_taken, first_bad, fold_all, is_first, noted};
 ghost use Rattle.afs_records.specs.Records.{record_at, record_bytes, FitsRecord};
+ghost use Rattle.afs_volstore.specs.Called.{IsCaller};
 ghost use Rattle.afs_volstore.specs.Folds.{fold_front, is_none_yet, places_length, read_taken, IsBadAt, TakesNone, TakesOne, TellsLast, TellsOne};
 ghost use Rattle.afs_volstore.specs.Redoing.{FitsRedo};
 ghost use Rattle.afs_volstore.specs.Redos.{body_of, record_of, IsReady};
@@ -53,6 +54,7 @@ impl State {
 
     /// Does what a record says. `Bad` where it can't be taken; then the state may be any.
     fn take(&mut self, head: RecordHead, redo: Redo) -> Result<(), Unfit>
+        requires caller { IsCaller head.caller }
         requires ready { IsReady redo }
         requires images { FitsRedo redo }
         ensures taken { OnOk result (option_map (noted head) (body_taken (body_of redo) (parts_of self.old)) ≡ Some (parts_of self.new)) }

@@ -6,7 +6,7 @@ ghost use Rattle.afs_num.specs.declared.records.StoreRecord as records;
 ghost use Rattle.afs_disk.specs.Disk.{LeavesOnly, SameDisk};
 ghost use Rattle.afs_journal.specs.Log.{HasRoom, IsJournal, KeepsRoom, SameCounts, Unchanged};
 ghost use Rattle.afs_journal.specs.Records.{whole_records, IsBeforeOrAfter};
-ghost use Rattle.afs_records.specs.Records.{FitsRecord};
+ghost use Rattle.afs_records.specs.Records.{record_bytes, FitsRecord};
 ghost use Rattle.afs_records.specs.Changes.{boot_record, can_boot};
 ghost use Rattle.afs_records.specs.Durable.{body_taken, effect_of, folded, has_room};
 ghost use Rattle.afs_records.specs.Laws.{started};
@@ -14,7 +14,7 @@ ghost use Rattle.afs_volstore.specs.Preparing.{HasPlaceOn, IsSpelledOut, IsTooLo
 ghost use Rattle.afs_volstore.specs.Redoing.{KeepsStates};
 ghost use Rattle.afs_volstore.specs.Redos.{record_of};
 ghost use Rattle.afs_volstore.specs.States.{parts_of, HasRoomFor};
-ghost use Rattle.afs_volstore.specs.Stores.{IsEarly, IsFull, IsKept, SameBut, Served, StandsAround};
+ghost use Rattle.afs_volstore.specs.Stores.{IsEarly, IsFull, IsKept, LeftAround, SameBut, Served};
 
 use crate::faults::Unfit;
 use crate::memory::State;
@@ -185,9 +185,12 @@ impl<D: Disk> VolStore<D> {
         // Where the disk tells: every crash leaves what is kept now.
         ensures kept { OnOk result (IsKept self.new.durable (D.seen self.new.disk) (D.may_leave self.new.disk)) }
 
+        // The record stands behind the others.
+        ensures added { OnOk result ((r : records.StoreRecord) → self.old.prepared ≡ Some r → (bytes : List ℕ) → D.seen self.old.disk ≡ Some bytes → IsJournal (whole_records bytes ++ record_bytes r ∷ []) (D.seen self.new.disk) (D.may_leave self.new.disk)) }
+
         // A crash at any moment leaves what was kept before, or what is kept with the record.
         ensures any_moment { self.old.closed ≡ false → (r : records.StoreRecord) → self.old.prepared ≡ Some r → (bytes : List ℕ) → D.seen self.old.disk ≡ Some bytes
-            → LeavesOnly D.moment D.left_since self.old.disk self.new.disk (StandsAround r self.old.durable) }
+            → LeavesOnly D.moment D.left_since self.old.disk self.new.disk (LeftAround (whole_records bytes) r self.old.durable) }
 
         ensures calls { OnOk result (D.calls self.new.disk ≡ D.calls self.old.disk + 4) }
         ensures most { (D.calls self.old.disk ≤ D.calls self.new.disk) × (D.calls self.new.disk ≤ D.calls self.old.disk + 4) }
@@ -218,8 +221,9 @@ impl<D: Disk> VolStore<D> {
         ensures failed { IsErrOf result faults.Failed → self.new ≡ record self.old { disk = self.new.disk; prepared = None; closed = true } }
         ensures never { (IsErrOf result faults.Closed → ⊥) × ((n : ℕ) → IsErrOf result (faults.BadRecord n) → ⊥) }
         ensures kept { OnOk result (IsKept self.new.durable (D.seen self.new.disk) (D.may_leave self.new.disk)) }
+        ensures added { OnOk result ((bytes : List ℕ) → D.seen self.old.disk ≡ Some bytes → IsJournal (whole_records bytes ++ record_bytes (boot_record (self.old.durable.boot + 1)) ∷ []) (D.seen self.new.disk) (D.may_leave self.new.disk)) }
         ensures any_moment { (bytes : List ℕ) → D.seen self.old.disk ≡ Some bytes
-            → LeavesOnly D.moment D.left_since self.old.disk self.new.disk (StandsAround (boot_record (self.old.durable.boot + 1)) self.old.durable) }
+            → LeavesOnly D.moment D.left_since self.old.disk self.new.disk (LeftAround (whole_records bytes) (boot_record (self.old.durable.boot + 1)) self.old.durable) }
         ensures calls { OnOk result (D.calls self.new.disk ≡ D.calls self.old.disk + 4) }
         ensures most { (D.calls self.old.disk ≤ D.calls self.new.disk) × (D.calls self.new.disk ≤ D.calls self.old.disk + 4) }
         ensures served { Served (D.setting self.old.disk) (D.calls self.old.disk) (D.calls self.new.disk) (D.faults self.old.disk) (D.faults self.new.disk) (D.own_faults self.old.disk) (D.own_faults self.new.disk) result }

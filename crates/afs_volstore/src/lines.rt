@@ -1,11 +1,12 @@
 //! The lines of a change, as a restart tells them.
 
-ghost use Rattle.std.specs.Prelude.{◌≡◌, ◌++◌, ◌∷◌, [], Some, None, length, map, min, IfOk, OnOk};
+ghost use Rattle.std.specs.Prelude.{◌≡◌, ◌++◌, ◌∷◌, [], Some, None, length, map, min, slice_get, IfOk, OnOk};
+ghost use Rattle.std.specs.Option.{option_copied};
 ghost use Rattle.std.specs.List.{AllByRecursion};
 ghost use Rattle.afs_ideal.specs.Operations.{last_count};
 ghost use Rattle.afs_ideal.specs.Tables.{get};
 ghost use Rattle.afs_ideal.specs.Volumes.{gone_at, version_at};
-ghost use Rattle.afs_records.specs.Durable.{effect_by, key_in, versions_told, with_outcomes, with_removed};
+ghost use Rattle.afs_records.specs.Durable.{effect_by, key_in, outcome_versions, versions_told, with_outcomes, with_removed};
 ghost use Rattle.afs_volume.specs.Seen.{seen, volume_seen, IsReadable};
 ghost use Rattle.afs_volume.specs.Taking.{stored_of};
 ghost use Rattle.afs_volstore.specs.Redos.{body_of, IsReady};
@@ -23,13 +24,22 @@ use afs_seats::Seats;
 use afs_volume::Volume;
 use std::alloc::Global;
 
+/// The image in a place.
+fn image_at(images: &[Vnode], place: usize) -> Option<&Vnode>
+    ensures { option_copied result ≡ slice_get images.now place }
+{
+    images.get(place)
+}
+
 /// The place of the last image of each vnode.
 fn places(alloc: Global, images: &[Vnode]) -> Mem<Seats<Option<usize>>>
     ensures { IfOk result (λ s. outcomes_seen images.now s.table ≡ with_outcomes images.now []) }
 {
     let mut places = Seats::new(alloc);
     for place in 0..images.len() {
-        places.put(images[place].vnode, Some(place))?;
+        if let Some(image) = image_at(images, place) {
+            places.put(image.vnode, Some(place))?;
+        }
     }
     Ok(places)
 }
@@ -102,7 +112,7 @@ fn tell_one(
     ensures { OnOk result (versions.new ≡ versions.old ++ map version_within (told_at volume.now.head.id (volume_seen volume.now.head volume.now.vnodes.table) number (outcome_at images.now outcome))) }
 {
     match outcome {
-        Some(place) => match images.get(place) {
+        Some(place) => match image_at(images, place) {
             Some(image) => versions.push(version(volume, number, image)?),
             None => tell_gone(volume, number, versions),
         },
@@ -110,18 +120,37 @@ fn tell_one(
     }
 }
 
-/// What becomes of the vnodes of a volume by these images and numbers, in ascending order.
-fn versions_of(alloc: Global, volume: &Volume, images: &[Vnode], removed: &[u32]) -> Mem<Versions>
+/// What becomes of the vnodes of a volume, in ascending order.
+fn all_told(
+    alloc: Global,
+    volume: &Volume,
+    images: &[Vnode],
+    outcomes: &Seats<Option<usize>>,
+) -> Mem<Versions>
+    requires { AllByRecursion IsReadable images.now }
+    ensures { IfOk result (λ vs. vs ≡ map version_within (outcome_versions volume.now.head.id (volume_seen volume.now.head volume.now.vnodes.table) (outcomes_seen images.now outcomes.now.table))) }
+{
+    let mut versions = Versions::new(alloc);
+    for place in 0..outcomes.len() {
+        if let Some(item) = outcomes.at(place) {
+            tell_one(volume, images, item.0, item.1, &mut versions)?;
+        }
+    }
+    Ok(versions)
+}
+
+/// What becomes of the vnodes of a volume by these images and numbers.
+fn versions_of(
+    alloc: Global,
+    volume: &Volume,
+    images: &[Vnode],
+    removed: &[u32],
+) -> Mem<Versions>
     requires { AllByRecursion IsReadable images.now }
     ensures { IfOk result (λ vs. vs ≡ map version_within (versions_told volume.now.head.id images.now removed.now (Some (stored_of volume.now)))) }
 {
     let outcomes = outcomes(alloc, images, removed)?;
-    let mut versions = Versions::new(alloc);
-    for place in 0..outcomes.len() {
-        if let Some((number, outcome)) = outcomes.at(place) {
-            tell_one(volume, images, *number, *outcome, &mut versions)?;
-        }
-    }
+    let versions = all_told(alloc, volume, images, &outcomes)?;
     Ok(versions)
 }
 

@@ -7,6 +7,7 @@ ghost use Rattle.afs_ideal.specs.Tables.{get, set};
 ghost use Rattle.afs_records.specs.Durable.{body_taken, changed_stored, most_volumes, noted};
 ghost use Rattle.afs_seats.specs.Seated.{seen_as};
 ghost use Rattle.afs_volume.specs.Taking.{stored_of, CanTakeIn, HasRoom};
+ghost use Rattle.afs_volstore.specs.Called.{IsCaller};
 ghost use Rattle.afs_volstore.specs.Numbered.{AreNumbered};
 ghost use Rattle.afs_volstore.specs.Redos.{body_of, IsMadeAgain, IsReady};
 ghost use Rattle.afs_volstore.specs.Redoing.{AreKept, AreTooMany, CanChange, FitsRedo, IsChanged, KeepsChanges, KeepsStates, KeepsVolumes, TellsFull};
@@ -170,6 +171,7 @@ impl State {
 
     /// Does what a record says that can be taken, and for which there is room. It takes no memory.
     pub(crate) fn redo(&mut self, head: RecordHead, redo: Redo)
+        requires caller { IsCaller head.caller }
         requires taken { is_some (body_taken (body_of redo) (parts_of self.old)) ≡ true }
         requires ready { IsReady redo }
         requires fits { FitsRedo redo }

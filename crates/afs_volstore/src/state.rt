@@ -3,9 +3,10 @@
 ghost use Rattle.std.specs.Prelude.{◌≡◌, ◌≤◌, ◌<◌, ◌+◌, None, Some, [], length, IfSome, IfNone, OnOk, false, filter, nat_eq, not, slice_get, if◌then◌else◌};
 ghost use Rattle.std.specs.Option.{option_copied, option_map, option_map_or};
 ghost use Rattle.afs_num.specs.Nodes.{node_number};
-ghost use Rattle.afs_ideal.specs.Tables.{get, set};
+ghost use Rattle.afs_ideal.specs.Tables.{get, set, AscendsFrom};
 ghost use Rattle.afs_records.specs.Durable.{booted, is_flagged, noted, or_zero};
 ghost use Rattle.afs_volume.specs.Taking.{stored_of};
+ghost use Rattle.afs_volstore.specs.Called.{AreKnown, IsCaller};
 ghost use Rattle.afs_volstore.specs.States.{kept_in, kept_seen, parts_of};
 
 use crate::memory::{KeptReply, State};
@@ -98,6 +99,8 @@ impl State {
     pub(crate) fn kept_at(&self, place: u32) -> Option<&KeptReply>
         ensures some { IfSome result (λ k. slice_get (parts_of self.now).kept place ≡ Some (node_number k.now.caller, kept_seen k.now)) }
         ensures none { IfNone result (slice_get (parts_of self.now).kept place ≡ None) }
+        ensures ordered { AscendsFrom 0 (parts_of self.now).kept }
+        ensures nodes { AreKnown (parts_of self.now).kept }
     {
         match self.kept.at(place as usize) {
             Some(item) => Some(&item.1),
@@ -124,7 +127,7 @@ impl State {
     /// Makes room for one stamp and one reply more.
     pub(crate) fn reserve_head(&mut self) -> Mem<()>
         ensures room { OnOk result ((0 < self.new.stamps.room) × (0 < self.new.kept.room)) }
-        ensures same { self.new ≡ record self.old { stamps = self.new.stamps; kept = self.new.kept } }
+        ensures same { self.new ≡ record self.old { stamps = self.new.stamps; kept = self.new.kept; called = self.new.called } }
         ensures stamps { self.new.stamps.table ≡ self.old.stamps.table }
         ensures kept { self.new.kept.table ≡ self.old.kept.table }
         ensures grows { (self.old.stamps.room ≤ self.new.stamps.room) × (self.old.kept.room ≤ self.new.kept.room) }
@@ -161,9 +164,10 @@ impl State {
 
     /// Keeps a reply, where it has a caller. It takes no memory.
     fn keep(&mut self, caller: Option<Node>, epoch: u32, number: u32, reply: Octets)
-        requires { 0 < self.old.kept.room }
+        requires caller { IsCaller caller }
+        requires room { 0 < self.old.kept.room }
         ensures table { self.new.kept.table ≡ kept_in caller epoch number reply self.old.kept.table }
-        ensures rest { self.new ≡ record self.old { kept = self.new.kept } }
+        ensures rest { self.new ≡ record self.old { kept = self.new.kept; called = self.new.called } }
     {
         let Some(caller) = caller else {
             return;
@@ -182,7 +186,8 @@ impl State {
 
     /// Keeps what a record's head says. It takes no memory.
     pub(crate) fn note(&mut self, head: RecordHead)
-        requires { (0 < self.old.stamps.room) × (0 < self.old.kept.room) }
+        requires caller { IsCaller head.caller }
+        requires room { (0 < self.old.stamps.room) × (0 < self.old.kept.room) }
         ensures { parts_of self.new ≡ noted head (parts_of self.old) }
     {
         let RecordHead {

@@ -4,7 +4,7 @@ ghost use Rattle.std.specs.Prelude.{◌≡◌, ◌<◌, ◌≤◌, ◌+◌, ◌�
 ghost use Rattle.std.specs.Option.{option_map, option_map_or};
 ghost use Rattle.afs_num.specs.Nodes.{node_number};
 ghost use Rattle.afs_num.specs.declared.records.StoreRecord.{StoreRecord};
-ghost use Rattle.afs_ideal.specs.Tables.{get};
+ghost use Rattle.afs_ideal.specs.Tables.{get, AscendsFrom};
 ghost use Rattle.afs_disk.specs.Disk.{LeavesOnly, SameDisk};
 ghost use Rattle.afs_journal.specs.Log.{SameCounts};
 ghost use Rattle.afs_records.specs.Records.{FitsRecord};
@@ -12,8 +12,9 @@ ghost use Rattle.afs_records.specs.Changes.{boot_record, can_boot};
 ghost use Rattle.afs_records.specs.Durable.{effect_of, folded, has_room, stamp_of};
 ghost use Rattle.afs_records.specs.Laws.{started};
 ghost use Rattle.afs_volume.specs.Taking.{stored_of};
+ghost use Rattle.afs_volstore.specs.Called.{AreKnown};
 ghost use Rattle.afs_volstore.specs.States.{parts_of, placed};
-ghost use Rattle.afs_volstore.specs.Stores.{IsEarly, IsFull, IsKept, SameBut, Served, StandsAround};
+ghost use Rattle.afs_volstore.specs.Stores.{IsCounted, IsEarly, IsFull, IsKept, SameBut, Served, StandsAround};
 
 use crate::memory::State;
 use crate::prepared::Prepared;
@@ -41,7 +42,7 @@ pub struct VolStore<D: Disk> {
 impl<D: Disk> Model for VolStore<D> {
     ghost use Rattle.std.specs.Prelude.{◌≡◌, ◌+◌, ◌<◌, ◌^◌, false};
     ghost use Rattle.afs_volstore.specs.States.{parts_of, placed};
-    ghost use Rattle.afs_volstore.specs.Stores.{IsKept, Store};
+    ghost use Rattle.afs_volstore.specs.Stores.{IsCounted, IsKept, Store};
     ghost use Rattle.afs_volstore.specs.Preparing.{prepared_seen, WaitsReady};
 
     ghost Value = { Store D };
@@ -59,13 +60,15 @@ impl<D: Disk> Model for VolStore<D> {
     ghost invariant = { λ s. record {
       ready : WaitsReady D.limit D.space s.journal s.state s.prepared;
       kept : s.journal.closed ≡ false → IsKept (placed (s.journal.gate + 1) (D.limit s.journal.disk) (parts_of s.state)) (D.seen s.journal.disk) (D.may_leave s.journal.disk);
+      counted : s.journal.closed ≡ false → IsCounted s.journal.count (D.seen s.journal.disk);
     } };
 }
 
 impl<D: Disk> VolStore<D> {
     /// A store over a journal, with what its records make. It takes no memory.
     pub(crate) fn of(alloc: Global, journal: Journal<D>, node: Node, state: State) -> VolStore<D>
-        requires { IsKept (placed (journal.gate + 1) (D.limit journal.disk) (parts_of state)) (D.seen journal.disk) (D.may_leave journal.disk) }
+        requires counted { IsCounted journal.count (D.seen journal.disk) }
+        requires kept { IsKept (placed (journal.gate + 1) (D.limit journal.disk) (parts_of state)) (D.seen journal.disk) (D.may_leave journal.disk) }
         ensures { result ≡ record { durable = placed (journal.gate + 1) (D.limit journal.disk) (parts_of state); disk = journal.disk; node = node; prepared = None; closed = journal.closed; count = journal.count; drawn = 0 } }
     {
         VolStore {
@@ -80,7 +83,10 @@ impl<D: Disk> VolStore<D> {
 
     /// How many records stand on the disk. It takes no memory.
     pub fn mark(&self) -> Mark
-        ensures { result ≡ record { generation = 0; records = self.now.count } }
+        ensures value { result ≡ record { generation = 0; records = self.now.count } }
+        ensures kept { self.now.closed ≡ false → IsKept self.now.durable (D.seen self.now.disk) (D.may_leave self.now.disk) }
+        ensures counted { self.now.closed ≡ false → IsCounted self.now.count (D.seen self.now.disk) }
+        ensures capacity { self.now.durable.capacity ≡ D.limit self.now.disk }
     {
         Mark {
             generation: 0,
@@ -142,6 +148,8 @@ impl<D: Disk> VolStore<D> {
     pub fn kept_at(&self, place: u32) -> Option<(Key, &[u8])>
         ensures some { IfSome result (λ k. slice_get self.now.durable.kept place ≡ Some (node_number k.0.node, record { epoch = k.0.epoch; number = k.0.number; reply = k.1.now })) }
         ensures none { IfNone result (slice_get self.now.durable.kept place ≡ None) }
+        ensures ordered { AscendsFrom 0 self.now.durable.kept }
+        ensures nodes { AreKnown self.now.durable.kept }
     {
         match self.state.kept_at(place) {
             Some(kept) => Some((

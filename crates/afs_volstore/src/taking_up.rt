@@ -1,6 +1,6 @@
 //! A disk is taken up: the records that are found on it.
 
-ghost use Rattle.std.specs.Prelude.{◌≡◌, ◌≤◌, ◌+◌, ◌×◌, ◌⊎◌, ℕ, List, [], Some, false, length, IfErr, IfOk, IsSome, MatchResult};
+ghost use Rattle.std.specs.Prelude.{◌≡◌, ◌≤◌, ◌+◌, ◌⊎◌, ℕ, List, [], Some, false, length, IfErr, IfOk, IsSome, MatchResult};
 ghost use Rattle.afs_num.specs.declared.faults.StoreFault.TheVariants as faults;
 ghost use Rattle.afs_disk.specs.Disk.{LeavesOnly, PassesAll};
 ghost use Rattle.afs_journal.specs.Log.{IsJournal, Rests, StandsAsBefore, Taken};

@@ -10,6 +10,7 @@ pub invariant_of-self : goal.invariant_of-self
 invariant_of-self c = record {
   numbered = still_numbered c.args.self.now.volumes.table c.unflagged.result.table (c.unflagged.ensures ∙ ap (λ (s : Seated Volume). filter (λ p. not (is_flagged (stored_of p.1))) s.table) c.replace-volumes.ensures.value)
       c.args.self.now.numbered;
+  called = c.args.self.now.called;
 }
 
 pub returns-clause-parts : goal.returns-clause-parts

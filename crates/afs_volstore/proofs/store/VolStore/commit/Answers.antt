@@ -7,9 +7,9 @@ use Rattle.afs_records.specs.Durable.{folded}
 use Rattle.afs_volstore.specs.Preparing.{Waits, WaitsReady}
 use Rattle.afs_volstore.specs.Redos.{record_of}
 use Rattle.afs_volstore.specs.States.{parts_of, placed}
-use Rattle.afs_volstore.specs.Stores.{Store, StandsAround}
-use Rattle.afs_volstore.proofs.Folding.{around, body_is_taken, put_folds, record_is, some_durable}
-use Rattle.afs_volstore.proofs.Kept.{kept_more}
+use Rattle.afs_volstore.specs.Stores.{Store, LeftAround}
+use Rattle.afs_volstore.proofs.Folding.{left_around, body_is_taken, put_folds, record_is, some_durable}
+use Rattle.afs_volstore.proofs.Kept.{counted_more, kept_more}
 use Rattle.afs_volstore.proofs.store.VolStore.commit.Goals as goal
 
 pub returns-in_err-head-clause-failed : goal.returns-in_err-head-clause-failed
@@ -26,11 +26,11 @@ returns-in_err-head-clause-any_moment g c = λ shut r has bytes told.
     let after = some_durable (folded (record_of p.head p.redo) d) (body_is_taken (record_of p.head p.redo) (c.self.inside.journal.gate + 1) (g.D.Disk.limit c.self.inside.journal.disk) (parts_of c.self.inside.state) ∙ waits.taken) in
     let shut_not : c.self.inside.journal.closed ≡ false = ap (λ (s : Store g.row.D.Denot). s.closed) c.self.view_is ∙ shut in
     let here : g.D.Disk.seen c.self.inside.journal.disk ≡ Some bytes = ap (λ (s : Store g.row.D.Denot). g.D.Disk.seen s.disk) c.self.view_is ∙ told in
-    let run : LeavesOnly g.D.Disk.moment g.D.Disk.left_since c.self.inside.journal.disk c.put.new.journal.disk (StandsAround (record_of p.head p.redo) d) =
-    weaker g.D.Disk.moment g.D.Disk.left_since c.self.inside.journal.disk c.put.new.journal.disk (StandsAround (record_of p.head p.redo) d) (IsBeforeOrAfter (whole_records bytes) p.bytes) (c.put.ensures.any_moment bytes here)
-    (λ b left. around c.one_more_stands.ensures (record_of p.head p.redo) d after.0 bytes b ((c.self.invariant.kept shut_not).stands bytes here) waits.spelled_out.fits after.1 (subst (λ (rec : List ℕ). IsBeforeOrAfter (whole_records bytes) rec b) (sym waits.spelled_out.spelled) left)) in
-    subst (λ (q : StoreRecord). LeavesOnly g.D.Disk.moment g.D.Disk.left_since c.args.self.now.disk c.put.new.journal.disk (StandsAround q c.args.self.now.durable)) same
-    (subst (λ (s : Store g.row.D.Denot). LeavesOnly g.D.Disk.moment g.D.Disk.left_since s.disk c.put.new.journal.disk (StandsAround (record_of p.head p.redo) s.durable)) c.self.view_is run)
+    let run : LeavesOnly g.D.Disk.moment g.D.Disk.left_since c.self.inside.journal.disk c.put.new.journal.disk (LeftAround (whole_records bytes) (record_of p.head p.redo) d) =
+    weaker g.D.Disk.moment g.D.Disk.left_since c.self.inside.journal.disk c.put.new.journal.disk (LeftAround (whole_records bytes) (record_of p.head p.redo) d) (IsBeforeOrAfter (whole_records bytes) p.bytes) (c.put.ensures.any_moment bytes here)
+    (λ b left. left_around c.one_more_stands.ensures (record_of p.head p.redo) d after.0 bytes b ((c.self.invariant.kept shut_not).stands bytes here) waits.spelled_out.fits after.1 (subst (λ (rec : List ℕ). IsBeforeOrAfter (whole_records bytes) rec b) (sym waits.spelled_out.spelled) left)) in
+    subst (λ (q : StoreRecord). LeavesOnly g.D.Disk.moment g.D.Disk.left_since c.args.self.now.disk c.put.new.journal.disk (LeftAround (whole_records bytes) q c.args.self.now.durable)) same
+    (subst (λ (s : Store g.row.D.Denot). LeavesOnly g.D.Disk.moment g.D.Disk.left_since s.disk c.put.new.journal.disk (LeftAround (whole_records bytes) (record_of p.head p.redo) s.durable)) c.self.view_is run)
 
 pub returns-clause-any_moment : goal.returns-clause-any_moment
 returns-clause-any_moment g c = λ shut r has bytes told.
@@ -42,11 +42,11 @@ returns-clause-any_moment g c = λ shut r has bytes told.
     let after = some_durable (folded (record_of p.head p.redo) d) (body_is_taken (record_of p.head p.redo) (c.self.inside.journal.gate + 1) (g.D.Disk.limit c.self.inside.journal.disk) (parts_of c.self.inside.state) ∙ waits.taken) in
     let shut_not : c.self.inside.journal.closed ≡ false = ap (λ (s : Store g.row.D.Denot). s.closed) c.self.view_is ∙ shut in
     let here : g.D.Disk.seen c.self.inside.journal.disk ≡ Some bytes = ap (λ (s : Store g.row.D.Denot). g.D.Disk.seen s.disk) c.self.view_is ∙ told in
-    let run : LeavesOnly g.D.Disk.moment g.D.Disk.left_since c.self.inside.journal.disk c.put.new.journal.disk (StandsAround (record_of p.head p.redo) d) =
-    weaker g.D.Disk.moment g.D.Disk.left_since c.self.inside.journal.disk c.put.new.journal.disk (StandsAround (record_of p.head p.redo) d) (IsBeforeOrAfter (whole_records bytes) p.bytes) (c.put.ensures.any_moment bytes here)
-    (λ b left. around c.one_more_stands.ensures (record_of p.head p.redo) d after.0 bytes b ((c.self.invariant.kept shut_not).stands bytes here) waits.spelled_out.fits after.1 (subst (λ (rec : List ℕ). IsBeforeOrAfter (whole_records bytes) rec b) (sym waits.spelled_out.spelled) left)) in
-    subst (λ (q : StoreRecord). LeavesOnly g.D.Disk.moment g.D.Disk.left_since c.args.self.now.disk c.put.new.journal.disk (StandsAround q c.args.self.now.durable)) same
-    (subst (λ (s : Store g.row.D.Denot). LeavesOnly g.D.Disk.moment g.D.Disk.left_since s.disk c.put.new.journal.disk (StandsAround (record_of p.head p.redo) s.durable)) c.self.view_is run)
+    let run : LeavesOnly g.D.Disk.moment g.D.Disk.left_since c.self.inside.journal.disk c.put.new.journal.disk (LeftAround (whole_records bytes) (record_of p.head p.redo) d) =
+    weaker g.D.Disk.moment g.D.Disk.left_since c.self.inside.journal.disk c.put.new.journal.disk (LeftAround (whole_records bytes) (record_of p.head p.redo) d) (IsBeforeOrAfter (whole_records bytes) p.bytes) (c.put.ensures.any_moment bytes here)
+    (λ b left. left_around c.one_more_stands.ensures (record_of p.head p.redo) d after.0 bytes b ((c.self.invariant.kept shut_not).stands bytes here) waits.spelled_out.fits after.1 (subst (λ (rec : List ℕ). IsBeforeOrAfter (whole_records bytes) rec b) (sym waits.spelled_out.spelled) left)) in
+    subst (λ (q : StoreRecord). LeavesOnly g.D.Disk.moment g.D.Disk.left_since c.args.self.now.disk c.put.new.journal.disk (LeftAround (whole_records bytes) q c.args.self.now.durable)) same
+    (subst (λ (s : Store g.row.D.Denot). LeavesOnly g.D.Disk.moment g.D.Disk.left_since s.disk c.put.new.journal.disk (LeftAround (whole_records bytes) (record_of p.head p.redo) s.durable)) c.self.view_is run)
 
 pub returns-clause-taken : goal.returns-clause-taken
 returns-clause-taken g c = λ r has.
@@ -73,4 +73,7 @@ pub invariant_of-self-2 : goal.invariant_of-self-2
 invariant_of-self-2 g c = record {
   ready = subst (WaitsReady g.D.Disk.limit g.D.Disk.space c.put.new.journal c.redo.new.self) (sym c.replace.ensures.after) tt;
   kept = λ here. returns-clause-kept g c;
+  counted = λ here.
+      let shut_not : c.self.inside.journal.closed ≡ false = search rules in
+      counted_more c.in-Some.prepared.bytes c.self.inside.journal.count c.put.new.journal.count (g.D.Disk.seen c.self.inside.journal.disk) (g.D.Disk.seen c.put.new.journal.disk) (g.D.Disk.may_leave c.put.new.journal.disk) (c.self.invariant.counted shut_not) c.in_ok-head.ensures.number.0 c.in_ok-head.ensures.seen c.in_ok-head.ensures.added;
 }

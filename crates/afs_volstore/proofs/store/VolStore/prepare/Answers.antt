@@ -22,4 +22,5 @@ invariant_of-self-2 g c =
       kept = λ here.
           kept_on c.self.inside.journal.gate c.make_ready.new.journal.gate (g.D.Disk.limit c.self.inside.journal.disk) (g.D.Disk.limit c.make_ready.new.journal.disk) (parts_of c.self.inside.state) (parts_of c.make_ready.new.state) (g.D.Disk.seen c.self.inside.journal.disk) (g.D.Disk.seen c.make_ready.new.journal.disk) (g.D.Disk.may_leave c.self.inside.journal.disk) (g.D.Disk.may_leave c.make_ready.new.journal.disk)
           c.make_ready.ensures.same.gate c.make_ready.ensures.counts.same_limit c.make_ready.ensures.parts (c.self.invariant.kept (sym c.make_ready.ensures.same.closed ∙ here)) c.make_ready.ensures.same.disk.same_seen c.make_ready.ensures.same.disk.leaves;
+      counted = λ here bytes at. c.self.invariant.counted (sym c.make_ready.ensures.same.closed ∙ here) bytes (sym c.make_ready.ensures.same.disk.same_seen ∙ at) ∙ sym c.make_ready.ensures.same.count;
     }
