@@ -25,12 +25,14 @@ use Rattle.afs_volume.specs.Seen.{seen, IsReadable}
 use Rattle.afs_volume.specs.Taking.{stored_of, stored_with}
 use Rattle.afs_volume.specs.declared.drafting.Draft.{Draft}
 use Rattle.afs_volume.specs.declared.volume.Volume as volumes
-use Rattle.afs_volume.proofs.AtOnce.{first_gets, one_up}
+use Rattle.afs_volume.proofs.AtOnce.{first_gets, one_up, same_bytes}
 use Rattle.afs_volume.proofs.Changed.{IsDrafted}
 use Rattle.afs_volume.proofs.Drawn.{each_leaves, imaged, images_are, next_is, numbers_are}
-use Rattle.afs_volume.proofs.Few.{few_after}
+use Rattle.afs_volume.proofs.Few.{few_after, set_there}
 use Rattle.afs_volume.proofs.Fitting.{each_seen_by, valued}
 use Rattle.afs_volume.proofs.Imaged.{images_again}
+use Rattle.afs_volume.proofs.Folded.{some_is}
+use Rattle.afs_volume.proofs.Sums.{edit_order}
 use Rattle.afs_volume.proofs.Values.{IsSeenOf}
 
 -- ---- images as at first
@@ -40,15 +42,10 @@ acl_first a_file x = refl
 acl_first a_directory x = refl
 acl_first a_link x = refl
 
-bytes_first : (k : Kind) (x : Vnode) → bytes_by k (at_first x) ≡ bytes_by k x
-bytes_first a_file x = refl
-bytes_first a_directory x = refl
-bytes_first a_link x = refl
-
 image_first : (n time : ℕ) (x : Vnode) → image_of n time (at_first x) ≡ image_at_first (image_of n time x)
 image_first n time x =
     ap (λ (text : List ℕ). record (image_of n time (at_first x)) { acl = text }) (acl_first x.kind x)
-    ∙ ap (λ (bytes : List ℕ). record (image_of n time (at_first x)) { acl = acl_by x.kind x; contents = bytes }) (bytes_first x.kind x)
+    ∙ ap (λ (bytes : List ℕ). record (image_of n time (at_first x)) { acl = acl_by x.kind x; contents = bytes }) (same_bytes x.kind x)
 
 one_image : (n time : ℕ) (o p : Option Vnode) → p ≡ option_map at_first o → image_left time n p ≡ map image_at_first (image_left time n o)
 one_image n time None p is = ap (image_left time n) is
@@ -110,40 +107,13 @@ seen_by o x false all e = all x e
 seen_by None x true all e = absurd cc
 seen_by (Some y) x true all e = subst IsSeenOf (let z : at_first y ≡ x = cc in z) (first_seen y (all y refl))
 
-amends_up : (id n : ℕ) (a : Amend) (v : Volume) (o : Option Vnode) → AscendsFrom 0 v.vnodes → AscendsFrom 0 (amends_at id n a v o).volume.vnodes
-amends_up id n a v None up = up
-amends_up id n a v (Some x) up = ascends_set 0 n (amended (v.counter + 1) a x) v.vnodes (omega arith) up
-
-makes_up : (id n : ℕ) (x : Vnode) (v : Volume) (o : Option Vnode) → AscendsFrom 0 v.vnodes → AscendsFrom 0 (makes_at id n x v o).volume.vnodes
-makes_up id n x v None up = ascends_set 0 n (fresh (v.counter + 1) v.next x) v.vnodes (omega arith) up
-makes_up id n x v (Some y) up = up
-
-frees_up : (id n : ℕ) (v : Volume) (o : Option Vnode) → AscendsFrom 0 v.vnodes → AscendsFrom 0 (frees_at id n v o).volume.vnodes
-frees_up id n v None up = up
-frees_up id n v (Some x) up = ascends_unset 0 n v.vnodes up
-
-edit_up : (id : ℕ) (e : Edit) (v : Volume) → AscendsFrom 0 v.vnodes → AscendsFrom 0 (edited id e v).volume.vnodes
-edit_up id (amends n a) v up = amends_up id n a v (get n v.vnodes) up
-edit_up id (makes n x) v up = makes_up id n x v (get n v.vnodes) up
-edit_up id (frees n) v up = frees_up id n v (get n v.vnodes) up
-
 edited_up : (id : ℕ) (es : List Edit) (v : Volume) → AscendsFrom 0 v.vnodes → AscendsFrom 0 (edited_all id es v).vnodes
 edited_up id [] v up = up
-edited_up id (e ∷ es) v up = edited_up id es (edited id e v).volume (edit_up id e v up)
-
-same_by : (n : ℕ) (x : Vnode) (p : ℕ × Vnode) (ps : Table Vnode) (b l : Bool) → (is_some (get n ps) ≡ true → length (set n x ps) ≡ length ps) → is_some (if b then Some p.1 else get n ps) ≡ true → nat_eq p.0 n ≡ b → nat_lt n p.0 ≡ l → AscendsFrom (p.0 + 1) ps
-    → length (if b then (n, x) ∷ ps else (if l then (n, x) ∷ p ∷ ps else p ∷ set n x ps)) ≡ 1 + length ps
-same_by n x p ps true l more there is below up = omega arith
-same_by n x p ps false true more there is below up = absurd (let none : get n ps ≡ None = get_below (p.0 + 1) n ps (grind (arith, nat_tests, below)) up in let z : false ≡ true = ap (λ (o : Option Vnode). is_some o) (sym none) ∙ there in cc)
-same_by n x p ps false false more there is below up = let e = more there in omega (arith, e)
-
-same_size : (m n : ℕ) (x : Vnode) (t : Table Vnode) → AscendsFrom m t → is_some (get n t) ≡ true → length (set n x t) ≡ length t
-same_size m n x [] up there = absurd cc
-same_size m n x (p ∷ ps) up there = let e = same_by n x p ps (nat_eq p.0 n) (nat_lt n p.0) (same_size (p.0 + 1) n x ps up.1) there refl refl up.1 in omega (arith, e)
+edited_up id (e ∷ es) v up = edited_up id es (edited id e v).volume (edit_order id e v up)
 
 one_size : (n : ℕ) (o : Option Vnode) (t : Table Vnode) → AscendsFrom 0 t → get n t ≡ o → length (one_at_first n o t) ≡ length t
 one_size n None t up is = refl
-one_size n (Some x) t up is = same_size 0 n (at_first x) t up (rw is refl)
+one_size n (Some x) t up is = set_there 0 n (at_first x) x t up is
 
 first_size : (es : List Edit) (t : Table Vnode) → AscendsFrom 0 t → length (all_at_first es t) ≡ length t
 first_size [] t up = refl
@@ -181,9 +151,6 @@ laid_now w u es d unique xs can draft next is head table =
     let same : stored_of u ≡ stored_of w = ap (λ (h : VolumeHead). stored_with h u.vnodes.table) head ∙ ap (λ (t : Table image.Vnode). stored_with w.head t) table in
     let number : unique ≡ (at_once w.head.id es (volume_of w)).next = next ∙ sym (next_is w.head.id es (volume_of w) can.apart can.one can.finds) in
     rw (same, number, is) (laid_taken w es d can draft)
-
-some_is : (x y : Stored) → Some x ≡ Some y → x ≡ y
-some_is x y e = cc
 
 pub laid_volume : (w new : volumes.Volume) (es : List Edit) → Some (stored_between 0 es (at_once w.head.id es (volume_of w)) (stored_of w)) ≡ Some (stored_of new) → volume_of new ≡ at_once w.head.id es (volume_of w)
 laid_volume w new es e = sym (ap (λ (s : Stored). s.volume) (let z : stored_between 0 es (at_once w.head.id es (volume_of w)) (stored_of w) ≡ stored_of new = some_is _ _ e in z))

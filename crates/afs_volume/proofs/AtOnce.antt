@@ -58,7 +58,7 @@ first_up (e ∷ es) t up = first_up es (one_at_first (edit_number e) (get (edit_
 
 -- and its blocks
 
-same_bytes : (k : Kind) (x : Vnode) → bytes_by k (at_first x) ≡ bytes_by k x
+pub same_bytes : (k : Kind) (x : Vnode) → bytes_by k (at_first x) ≡ bytes_by k x
 same_bytes a_file x = refl
 same_bytes a_directory x = refl
 same_bytes a_link x = refl

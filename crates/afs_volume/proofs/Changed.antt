@@ -20,13 +20,13 @@ use Rattle.afs_ideal.proofs.Tellings.{Finds, FindEach}
 use Rattle.afs_volume.specs.Changes.{after, IsChangeBy, RepliesBy}
 use Rattle.afs_volume.specs.Drafts.{numbers_shown, volume_drafted, IsLeftIn}
 use Rattle.afs_volume.specs.Drawing.{all_freed, all_left, all_told, before_edit, makes_vnode, shown_by, with_left, CanBeDrawn, HasOwn, IsLeft, StandsAt}
-use Rattle.afs_volume.specs.Giving.{edit_seen, edits_seen, times_of, volume_of}
+use Rattle.afs_volume.specs.Giving.{edit_seen, edits_seen, times_of, volume_of, FitsReply}
 use Rattle.afs_volume.specs.declared.drafting.Draft.{Draft}
 use Rattle.afs_volume.specs.declared.edits.Edit as code
 use Rattle.afs_volume.specs.declared.volume.Volume as volumes
 use Rattle.afs_volume.proofs.Drawn.{counter_all, each_leaves, found_first, imaged, images_are, next_is, numbers_are, sees, versions_are, LeavesIn}
 use Rattle.afs_volume.proofs.Imaged.{images_again}
-use Rattle.afs_volume.proofs.Replied.{reply_same, stamped_left, status_same, vnode_alike, FoundAlike, SameStatus}
+use Rattle.afs_volume.proofs.Replied.{reply_fits, reply_same, stamped_left, status_same, vnode_alike, FoundAlike, SameStatus}
 use Rattle.afs_volume.proofs.Left.{all_there, shown_left}
 
 -- ---- edits that can be drawn
@@ -203,6 +203,10 @@ replies w caller call now es n counter unique d reply h on e draft is =
     let seen : change_reply id caller (λ (f : Fid). d.time) (volume_drafted d w) n call ≡ change_reply id caller (λ (f : Fid). now) (with_left (all_left v es) (all_freed v es) v) n call = rw (draft.time, draft.vnodes, draft.removed) refl in
     ap (λ ws. change_reply id caller (stamped now ws (times_of w)) (after w es n) n call) draft.versions
     ∙ (sym (reply_by id now caller call (times_of w) v es n h on e) ∙ (sym seen ∙ is))
+
+-- and it is within its row
+pub row_fits : (w : volumes.Volume) (caller : Caller) (call : FsCall) (now : ℕ) (es : List Edit) (n : ℕ) (c : Change) → RepliesBy w caller call now es n c → FitsReply c.reply
+row_fits w caller call now es n c is = reply_fits w.head.id caller (stamped now c.versions (times_of w)) (after w es n) n call c.reply is
 
 -- ---- edits of the code
 

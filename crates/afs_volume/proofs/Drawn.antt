@@ -49,10 +49,6 @@ each_leaves id v es apart one = all_leave id v es es apart one (look_own v es ap
 abbrev pub imaged : ℕ → ℕ × Vnode → Image
 imaged time p = image_of p.0 time p.1
 
-image_of_left : (time n : ℕ) (o : Option Vnode) → image_left time n o ≡ map (imaged time) (left_at n o)
-image_of_left time n None = refl
-image_of_left time n (Some x) = refl
-
 left_more : (time n : ℕ) (o : Option Vnode) (t : Table Vnode) → map (imaged time) (left_at n o ++ t) ≡ image_left time n o ++ map (imaged time) t
 left_more time n None t = refl
 left_more time n (Some x) t = refl

@@ -33,7 +33,7 @@ set_there_by false true n x y p ps lt up more e = absurd (none_below n p ps y lt
 set_there_by false false n x y p ps lt up more e = let same = more e in omega (arith, same)
 
 -- one in the place of another
-set_there : (m n : ℕ) (x y : Vnode) (t : Table Vnode) → AscendsFrom m t → get n t ≡ Some y → length (set n x t) ≡ length t
+pub set_there : (m n : ℕ) (x y : Vnode) (t : Table Vnode) → AscendsFrom m t → get n t ≡ Some y → length (set n x t) ≡ length t
 set_there m n x y [] up e = absurd cc
 set_there m n x y (p ∷ ps) up e = set_there_by (nat_eq p.0 n) (nat_lt n p.0) n x y p ps refl up.1 (λ h. set_there (p.0 + 1) n x y ps up.1 h) e
 

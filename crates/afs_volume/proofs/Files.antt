@@ -16,6 +16,7 @@ use Rattle.afs_ideal.specs.Soundness.{IsSound}
 use Rattle.afs_ideal.specs.Tables.{get, AscendsFrom}
 use Rattle.afs_ideal.specs.VnodeMaps.{most_vnodes}
 use Rattle.afs_ideal.specs.Volumes.{Kind, a_directory, a_file, a_link, Vnode, Volume, Amend, Edit, amends, makes, amended, ascending, blocks_in, edited_all, if_unique, vnode_of, with_status}
+use Rattle.afs_ideal.proofs.Basics.{both}
 use Rattle.afs_ideal.proofs.Laid.{called_sound}
 use Rattle.afs_ideal.proofs.Looks.{Distinct, MakesAs}
 use Rattle.afs_ideal.proofs.Scopes.{accepted, all_pass}
@@ -42,24 +43,11 @@ refused_by id v f (ops.reads shown) z e = absurd cc
 refused_by id v f (ops.changes es n) z e = absurd cc
 refused_by id v f ops.no_operation z e = absurd cc
 
-pub file_refused : (id : ℕ) (d : Fid) (name bytes : List ℕ) (v : Volume) (z : ℤ) → option_map pos (refusal_of (op id all_rights (calls.CreateFile d name nothing_set) v)) ≡ Some z → option_map pos (code_in (laid_in id v d name (a_file_of bytes))) ≡ Some z
-file_refused id d name bytes v z e = refused_by id v (λ made. called id (stores_all (new_fid id v) bytes) made) (op id all_rights (calls.CreateFile d name nothing_set) v) z e
-
 -- ---- the tests of its name pass
 
 first_by : (b : Bool) (code : ℕ) (o : Option ℕ) → (if b then o else Some code) ≡ None → o ≡ None
 first_by true code o e = e
 first_by false code o e = absurd cc
-
-pub name_passes : (id : ℕ) (d : Fid) (name : List ℕ) (v : Volume) (es : List Edit) (m : ℕ) → op id all_rights (calls.CreateFile d name nothing_set) v ≡ changes es m → first_failing (adds_name name (names_in (vnode_of d v)) true) ≡ None
-name_passes id d name v es m e =
-    let t = (accepted id all_rights (calls.CreateFile d name nothing_set) v es m e).tested in
-    let named : Option ℕ = first_failing (adds_name name (names_in (vnode_of d v)) true) in
-    let right : Bool = (ops.has_right all_rights 4 v (vnode_of d v)).0 in
-    let writable : Bool = (ops.is_read_write v).0 in
-    let directory : Bool = ops.is_directory (vnode_of d v) in
-    first_by right 13 named (first_by writable 30 (if right then named else Some 13) (first_by directory 20 (if writable then (if right then named else Some 13) else Some 30)
-    (first_by (is_some (vnode_of d v)) 102 (if directory then (if writable then (if right then named else Some 13) else Some 30) else Some 20) t)))
 
 -- ---- its edits
 
@@ -87,10 +75,6 @@ two_found false d n a x y v there free = ((y, there), (free, tt))
 two_fits : (b : Bool) (d n : ℕ) (a : Amend) (x f : Vnode) (v : Volume) → list_all (edit_fits v) (two b d n a x) ≡ true → list_all (edit_fits v) (two b d n a f) ≡ true
 two_fits true d n a x f v e = e
 two_fits false d n a x f v e = e
-
-both : (a b : Bool) → (a && b) ≡ true → (a ≡ true) × (b ≡ true)
-both true b e = (refl, e)
-both false b e = absurd cc
 
 two_drawn : (b : Bool) (d n : ℕ) (a : Amend) (x y : Vnode) (v : Volume) → v.counter < ops.last_count → list_all (edit_fits v) (two b d n a x) ≡ true → get d v.vnodes ≡ Some y → get n v.vnodes ≡ None → HasOwn y.kind (amended (v.counter + 1) a y)
     → AllByRecursion (CanBeDrawn v) (two b d n a x)
@@ -189,14 +173,6 @@ there_accepted id d name v h =
 pub is_there : (id : ℕ) (d : Fid) (name : List ℕ) (v : Volume) → is_accepted (op id all_rights (calls.CreateFile d name nothing_set) v) ≡ true → vnode_of d v ≡ None → ⊥
 is_there id d name v h none = let there = (there_accepted id d name v h).0 in let z : false ≡ true = ap (λ (o : Option Vnode). is_some o) (sym none) ∙ there in cc
 
-pub is_a_directory : (id : ℕ) (d : Fid) (name : List ℕ) (v : Volume) (y : Vnode) → is_accepted (op id all_rights (calls.CreateFile d name nothing_set) v) ≡ true → vnode_of d v ≡ Some y → ops.is_kind y.kind a_directory ≡ true
-is_a_directory id d name v y h is = ap ops.is_directory (sym is) ∙ (there_accepted id d name v h).1
-
-pub takes_name : (id : ℕ) (d : Fid) (name : List ℕ) (v : Volume) (y : Vnode) → is_accepted (op id all_rights (calls.CreateFile d name nothing_set) v) ≡ true → vnode_of d v ≡ Some y → first_failing (adds_name name (names_in (Some y)) true) ≡ None
-takes_name id d name v y h is =
-    let a = accepted_is (op id all_rights (calls.CreateFile d name nothing_set) v) h in
-    ap (λ (o : Option Vnode). first_failing (adds_name name (names_in o) true)) (sym is) ∙ name_passes id d name v a.0 a.1.0 a.1.1
-
 pub is_filled : (id : ℕ) (d : Fid) (name bytes : List ℕ) (v : Volume) (fs : List Edit) (y : Vnode) → is_accepted (op id all_rights (calls.CreateFile d name nothing_set) v) ≡ true → y ≡ record (new_file d) { contents = bytes }
     → fs ≡ ascending (creating d name nothing_set None y v) → IsFilled id d name bytes v fs
 is_filled id d name bytes v fs y h file is =
@@ -204,10 +180,6 @@ is_filled id d name bytes v fs y h file is =
     (a.0, (a.1.0, (a.1.1, is ∙ (ap (λ (x : Vnode). ascending (creating d name nothing_set None x v)) file ∙ same_filled id d name bytes v a.0 a.1.0 a.1.1))))
 
 -- ---- what laying it is answered
-
-pub refused_as : (id : ℕ) (d : Fid) (name bytes : List ℕ) (v : Volume) (e : OpFault) → Accepts (op id all_rights (calls.CreateFile d name nothing_set) v) (Err e) → IsCodeOf (laid_in id v d name (a_file_of bytes)) e
-refused_as id d name bytes v (faults.Code code) h = file_refused id d name bytes v code.0 h
-refused_as id d name bytes v faults.OutOfMemory h = tt
 
 pub long_refused : (id : ℕ) (d : Fid) (name bytes : List ℕ) (v : Volume) → IsSound v → is_accepted (op id all_rights (calls.CreateFile d name nothing_set) v) ≡ true → nat_lt ops.most_bytes (length bytes) ≡ true → laid_in id v d name (a_file_of bytes) ≡ Err 27
 long_refused id d name bytes v sound h long =

@@ -27,7 +27,7 @@ use Rattle.afs_volume.proofs.Taken.{mapped_set, mapped_unset, put_each, removed_
 
 -- ---- an image that has a value is seen as it
 
-some_is : {A : Type 0} (x y : A) → Some x ≡ Some y → x ≡ y
+pub some_is : {A : Type 0} (x y : A) → Some x ≡ Some y → x ≡ y
 some_is {A} x y e = cc
 
 kinds_by : (n : ℕ) (k : Kind) (a b c : Bool) → nat_eq n 1 ≡ a → nat_eq n 2 ≡ b → nat_eq n 3 ≡ c → ◌≡◌ {A = Option Kind} (if a then Some a_file else (if b then Some a_directory else (if c then Some a_link else None))) (Some k)

@@ -45,16 +45,6 @@ pub goes : (id : ℕ) (v : Volume) (name : List ℕ) (names : List (List ℕ)) (
     → led_to id v (name ∷ names) (found_seen id at) ≡ led_to id v names (found_seen id x)
 goes id v name names at x directory is number = step id v name names at directory ∙ goes_by id v names x (named name (seen at).names) is number
 
-ends_by : (id : ℕ) (v : Volume) (names : List (List ℕ)) (o : Option Name) → None ≡ named_vnode v o → from_found (led_to id v names) (found_named id v o) ≡ Err 2
-ends_by id v names None is = refl
-ends_by id v names (Some m) is = ap (λ (p : Option ideal.Vnode). from_found (led_to id v names) (option_map (λ (y : ideal.Vnode). record { fid = fid_of id m.vnode y; vnode = y }) p)) (sym is)
-
-pub ends : (id : ℕ) (v : Volume) (name : List ℕ) (names : List (List ℕ)) (at : image.Vnode) → is_kind (seen at).kind a_directory ≡ true → None ≡ named_vnode v (named name (seen at).names) → led_to id v (name ∷ names) (found_seen id at) ≡ Err 2
-ends id v name names at directory is = step id v name names at directory ∙ ends_by id v names (named name (seen at).names) is
-
-pub no_directory : (id : ℕ) (v : Volume) (name : List ℕ) (names : List (List ℕ)) (at : image.Vnode) → is_kind (seen at).kind a_directory ≡ false → led_to id v (name ∷ names) (found_seen id at) ≡ Err 20
-no_directory id v name names at not = rw not refl
-
 pub begins : (id : ℕ) (v : Volume) (path : List (List ℕ)) (x : image.Vnode) → Some (seen x) ≡ get 1 v.vnodes → x.vnode ≡ 1 → led_to id v path (found_seen id x) ≡ led id v path
 unfolding led
 begins id v path x there number = rw (← there) (ap (led_to id v path) (sym (found_as id 1 x number)))

@@ -25,3 +25,4 @@ pub mod AtFirst
 pub mod Led
 pub mod Files
 pub mod Listing
+pub mod AtSetUp

@@ -76,9 +76,6 @@ unfolding all_seen
 none_yet names [] is = is
 none_yet names (p ∷ ps) is = is
 
-pub all_listed : (names : ℕ → Option (List Name)) (t : Table image.Vnode) (i : ℕ) → length t ≤ i → Lists names (all_seen (take i t)) → Lists names (all_seen t)
-all_listed names t i le all = subst (λ (u : Table image.Vnode). Lists names (all_seen u)) (whole t i le) all
-
 -- ---- what is found by number and by place
 
 some_by : (k : Kind) (x : image.Vnode) (names : List Name) → kind_seen x.kind ≡ k → Some names ≡ listed_by k (names_seen k x.contents) → names ≡ names_seen k x.contents

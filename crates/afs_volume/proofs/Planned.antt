@@ -18,5 +18,3 @@ refused_by None id v r code e = ap (limited id v) e
 refused_by (Some other) id v r code e = e
 
 -- a refusal before the limits is one within them
-pub op_refused : (id : ℕ) (caller : Caller) (call : FsCall) (v : Volume) (code : ℕ) → planned caller call v ≡ ops.refused code → op id caller call v ≡ ops.refused code
-op_refused id caller call v code e = refused_by (first_failing (tests caller call v)) id v (effect caller call v) code e

@@ -114,9 +114,6 @@ one_more_counted [] i = rw (nothing_taken (i + 1), nothing_taken i) refl
 one_more_counted (p ∷ ps) zero = omega arith
 one_more_counted (p ∷ ps) (suc i) = rw (next_take p ps i) (let more = one_more_counted ps i in omega (arith, more))
 
-pub all_counted : (t : Table image.Vnode) (i : ℕ) → length t ≤ i → blocks_in (all_seen (take i t)) ≡ blocks_in (all_seen t)
-all_counted t i le = ap (λ (u : Table image.Vnode). blocks_in (all_seen u)) (whole t i le)
-
 pub place_readable : (m : ℕ) (t : Table image.Vnode) (i : ℕ) → AscendsFrom m t → AreReadable t → IsReadablePlace (slice_get t i)
 place_readable m [] i up all = tt
 place_readable m (p ∷ ps) zero up all = all p.0 p.1 (grind (arith, nat_tests))

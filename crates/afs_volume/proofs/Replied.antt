@@ -5,6 +5,7 @@ use Rattle.std.specs.List.{AllByRecursion}
 use Rattle.afs_num.specs.Fids.{same_fid}
 use Rattle.afs_num.specs.declared.calls.FsCall.{FsCall}
 use Rattle.afs_num.specs.declared.calls.FsCall.TheVariants as calls
+use Rattle.afs_num.specs.declared.calls.FsReply.{FsReply}
 use Rattle.afs_num.specs.declared.histories.Version.{Version}
 use Rattle.afs_num.specs.declared.types.Fid.{Fid}
 use Rattle.afs_ideal.specs.Operations.{Caller, acl_of, list_for}
@@ -12,6 +13,7 @@ use Rattle.afs_ideal.specs.Replies.{change_reply, stamped, status_at, status_of,
 use Rattle.afs_ideal.specs.Tables.{Table, get}
 use Rattle.afs_ideal.specs.Volumes.{Kind, a_directory, a_file, a_link, Vnode, Volume, Edit, fid_of, edit_number}
 use Rattle.afs_volume.specs.Drafts.{numbers_shown}
+use Rattle.afs_volume.specs.Giving.{FitsReply}
 use Rattle.afs_volume.specs.Drawing.{after_edit, all_left, all_told, before_edit, left_at, told_between}
 
 -- ---- volumes that are found alike
@@ -42,6 +44,23 @@ status_same id caller now times v w n h time =
     ∙ (status_alike caller now (vnode_at w n) v w h ∙ ap (λ (t : ℕ). status_of caller w t (vnode_at w n)) (sym time))
 
 -- ---- the reply
+
+-- it has nothing that a message limits
+one_fits : (q r : FsReply) → Some q ≡ Some r → FitsReply q → FitsReply r
+one_fits q r e h = subst FitsReply (let z : q ≡ r = cc in z) h
+
+pub reply_fits : (id : ℕ) (caller : Caller) (times : Fid → ℕ) (v : Volume) (n : ℕ) (call : FsCall) (r : FsReply) → change_reply id caller times v n call ≡ Some r → FitsReply r
+reply_fits id caller times v n (calls.StoreData f status position stored file_length contents) r e = one_fits _ r e tt
+reply_fits id caller times v n (calls.StoreAcl f acl) r e = one_fits _ r e tt
+reply_fits id caller times v n (calls.StoreStatus f status) r e = one_fits _ r e tt
+reply_fits id caller times v n (calls.RemoveFile d name) r e = one_fits _ r e tt
+reply_fits id caller times v n (calls.RemoveDir d name) r e = one_fits _ r e tt
+reply_fits id caller times v n (calls.CreateFile d name status) r e = one_fits _ r e tt
+reply_fits id caller times v n (calls.Symlink d name target status) r e = one_fits _ r e tt
+reply_fits id caller times v n (calls.MakeDir d name status) r e = one_fits _ r e tt
+reply_fits id caller times v n (calls.Link d name f) r e = one_fits _ r e tt
+reply_fits id caller times v n (calls.Rename d old e new) r is = one_fits _ r is tt
+reply_fits id caller times v n call r e = absurd cc
 
 abbrev pub SameStatus : ℕ → Caller → ℕ → (Fid → ℕ) → Volume → Volume → ℕ → Type 0
 SameStatus id caller now times v w m = status_at id caller (λ (f : Fid). now) v m ≡ status_at id caller times w m

@@ -12,8 +12,10 @@ use Rattle.afs_volume.specs.Seen.{seen, names_spelled, volume_seen}
 use Rattle.afs_num.specs.declared.calls.FsCall.{FsCall}
 use Rattle.afs_num.specs.declared.calls.FsCall.TheVariants as calls
 use Rattle.afs_num.specs.declared.calls.FsReply.{FsReply}
+use Rattle.afs_num.specs.declared.calls.FsReply.TheVariants as replies
 use Rattle.afs_num.specs.declared.calls.AfsFetchStatus.{AfsFetchStatus}
 use Rattle.afs_num.specs.declared.types.Fid.{Fid}
+use Rattle.afs_shape.specs.Tables.{IsVolumeKind}
 use Rattle.afs_ideal.specs.Replies.{reading_reply}
 use Rattle.afs_ideal.specs.Tables.{get}
 use Rattle.afs_num.specs.declared.vnodes.Vnode as image
@@ -186,11 +188,24 @@ is_changing (calls.MakeDir d name status) = true
 is_changing (calls.RemoveDir d name) = true
 is_changing call = false
 
--- what the call gives a vnode is within the limits of an image
+-- at most so many fids in a list
+abbrev pub most_fids : ℕ
+most_fids = 50
+
+-- the call is within the limits of its message, as far as the volume rests on them: what it gives a vnode fits an image
 abbrev pub FitsCall : FsCall → Type 0
 FitsCall (calls.StoreAcl f acl) = length acl ≤ most_acl
 FitsCall (calls.Symlink d name target status) = length target ≤ most_contents
+FitsCall (calls.BulkStatus fids) = length fids ≤ most_fids
 FitsCall call = Unit {0}
+
+-- the reply is within the limits of its message
+abbrev pub FitsReply : FsReply → Type 0
+FitsReply (replies.FetchData contents status callback sync) = length contents ≤ most_contents
+FitsReply (replies.FetchAcl acl status sync) = length acl ≤ most_acl
+FitsReply (replies.GetVolumeStatus id kind quota blocks name) = IsVolumeKind kind × (length name ≤ 256)
+FitsReply (replies.BulkStatus statuses callbacks sync) = (length statuses ≤ most_fids) × (length callbacks ≤ most_fids)
+FitsReply reply = Unit {0}
 
 -- ---- Rename
 

@@ -1,6 +1,6 @@
 -- How a volume in memory is seen as a volume of the definitions: the contents of a directory as its names, an access list by its
 -- text. The times of the server stay in the images of the vnodes.
-use Rattle.std.specs.Prelude.{◌≡◌, ℕ, List, [], Bool, true, not, Option, Some, None, Result, Ok, Err, map, length, nat_eq, nat_lt, is_ok, if◌then◌else◌}
+use Rattle.std.specs.Prelude.{◌≡◌, ◌≤◌, ℕ, List, [], Bool, true, not, Option, Some, None, Result, Ok, Err, map, length, nat_eq, nat_lt, is_ok, if◌then◌else◌}
 use Rattle.afs_num.specs.declared.acls.AccessList.{AccessList}
 use Rattle.afs_num.specs.declared.directories.Name.{Name}
 use Rattle.afs_num.specs.declared.vnodes.Vnode as image
@@ -9,6 +9,8 @@ use Rattle.afs_ideal.specs.AccessLists.{acl_at, no_acl}
 use Rattle.afs_ideal.specs.Directories.{directory_of, directory_bytes}
 use Rattle.afs_ideal.specs.Tables.{Table, get}
 use Rattle.afs_ideal.specs.Volumes.{Kind, a_file, a_directory, a_link, type_of, Vnode, Volume}
+use Rattle.afs_records.specs.Records.{most_name}
+use Rattle.afs_shape.specs.Tables.{IsVolumeKind}
 
 -- ---- vnodes
 
@@ -81,6 +83,13 @@ volume_seen head t = record {
   release = head.release;
   vnodes = all_seen t;
 }
+
+-- ---- what the head of every volume keeps
+
+-- a record, a dump and the reply to GetVolumeStatus can tell it
+pub record FitsHead (head : VolumeHead) : Type 0 where
+  pub kind : IsVolumeKind head.kind
+  pub name : length head.name ≤ most_name
 
 -- ---- what every vnode of a volume keeps
 

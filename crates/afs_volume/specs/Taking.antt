@@ -6,6 +6,7 @@ use Rattle.afs_num.specs.declared.volumes.VolumeHead.{VolumeHead}
 use Rattle.afs_num.specs.declared.volumes.Change.{Change}
 use Rattle.afs_ideal.specs.Tables.{Table, set, unset}
 use Rattle.afs_ideal.specs.VnodeImage.{FitsImage}
+use Rattle.afs_records.specs.Changes.{at_set_up}
 use Rattle.afs_records.specs.Durable.{Stored, changed_stored}
 use Rattle.afs_volume.specs.Seen.{volume_seen, IsReadable}
 use Rattle.afs_volume.specs.declared.volume.Volume.{Volume}
@@ -20,6 +21,10 @@ stored_with head t = record { volume = volume_seen head t; times = times_in t; i
 
 abbrev pub stored_of : Volume → Stored
 stored_of v = stored_with v.head v.vnodes.table
+
+-- The volume is as set-up leaves one: all its times are 0.
+abbrev pub IsAtSetUp : Volume → Type 0
+IsAtSetUp v = stored_of v ≡ at_set_up (volume_seen v.head v.vnodes.table)
 
 -- A change that a volume can take in: a disk would take its record, and each vnode has an image that can be read.
 pub record CanTakeIn (v : Volume) (c : Change) : Type 0 where

@@ -7,7 +7,7 @@ ghost use Rattle.afs_ideal.specs.Soundness.{IsSound};
 ghost use Rattle.afs_ideal.specs.VnodeMaps.{most_vnodes};
 ghost use Rattle.afs_volume.specs.Changes.{Applies, IsChangeBy, IsKeptAs, RepliesBy};
 ghost use Rattle.afs_volume.specs.Drawing.{makes_vnode};
-ghost use Rattle.afs_volume.specs.Giving.{caller_seen, edit_seen, edits_seen, is_changing, volume_of, FitsCall};
+ghost use Rattle.afs_volume.specs.Giving.{caller_seen, edit_seen, edits_seen, is_changing, volume_of, FitsCall, FitsReply};
 ghost use Rattle.afs_volume.specs.Taking.{CanTakeIn};
 
 use crate::Volume;
@@ -59,6 +59,7 @@ impl Volume {
         requires planned { op self.now.head.id (caller_seen caller.now) call.now (volume_of self.now) ≡ changes (edits_seen plan.now.edits) plan.now.shown }
         ensures change { IfOk result (λ c. IsChangeBy self.now now (edits_seen plan.now.edits) plan.now.shown c) }
         ensures reply { IfOk result (λ c. RepliesBy self.now (caller_seen caller.now) call.now now (edits_seen plan.now.edits) plan.now.shown c) }
+        ensures row { IfOk result (λ c. FitsReply c.reply) }
         ensures kept { IfOk result (λ c. IsKeptAs self.now now (edits_seen plan.now.edits) c) }
         ensures fits { IfOk result (λ c. CanTakeIn self.now c) }
     {
@@ -92,6 +93,7 @@ impl Volume {
         requires on { IsOn self.now.head.id call.now }
         requires sound { IsSound (volume_of self.now) }
         ensures applies { Applies self.now (caller_seen caller.now) call.now now (op self.now.head.id (caller_seen caller.now) call.now (volume_of self.now)) result }
+        ensures reply { IfOk result (λ c. FitsReply c.reply) }
         ensures fits { IfOk result (λ c. CanTakeIn self.now c) }
     {
         let plan = self.plan_within(caller, call)?;
@@ -107,6 +109,7 @@ impl Volume {
         requires fits { FitsCall call.now }
         requires on { IsOn self.now.head.id call.now }
         ensures applies { Applies self.now (the_user user.now) call.now now (op self.now.head.id (the_user user.now) call.now (volume_of self.now)) result }
+        ensures reply { IfOk result (λ c. FitsReply c.reply) }
         ensures fits { IfOk result (λ c. CanTakeIn self.now c) }
     {
         self.change(&Caller::User(user), call, now)

@@ -5,7 +5,7 @@ ghost use Rattle.std.specs.List.{list_all};
 ghost use Rattle.afs_ideal.specs.Directories.{directory_bytes, directory_of};
 ghost use Rattle.afs_ideal.specs.Volumes.{blocks_in};
 ghost use Rattle.afs_volume.specs.Assembling.{are_read, blocks_in_place, can_be_read, make_volume, passes_at, reads_pair, IsReadablePlace};
-ghost use Rattle.afs_volume.specs.Seen.{all_seen, names_spelled, AreReadable, IsReadable};
+ghost use Rattle.afs_volume.specs.Seen.{all_seen, names_spelled, AreReadable, FitsHead, IsReadable};
 ghost use Rattle.afs_volume.specs.declared.faults.AssembleFault.TheVariants.{NotSound};
 
 use crate::Volume;
@@ -104,6 +104,7 @@ impl Volume {
         head: VolumeHead,
         vnodes: VnodeStore,
     ) -> Result<Volume, AssembleFault>
+        requires { FitsHead head }
         ensures parts { IfOk result (λ v. (v.head ≡ head) × (v.vnodes ≡ vnodes)) }
         ensures whole { OnOk result (make_volume head vnodes.table ≡ true) }
         ensures not_sound { result ≡ Err NotSound → make_volume head vnodes.table ≡ false }
@@ -128,12 +129,14 @@ impl Volume {
             blocks,
         })
     }
+
     /// The parts of a volume, which `assemble` takes again, as they are or with other vnodes put in. It takes no memory.
     #[tactic(auto, using(crate::proofs::Readable::parts_make))]
     pub fn into_parts(self) -> (VolumeHead, VnodeStore)
         ensures head { result.0 ≡ self.head }
         ensures vnodes { result.1 ≡ self.vnodes }
         ensures whole { make_volume result.0 result.1.table ≡ true }
+        ensures fits { FitsHead result.0 }
     {
         let Volume {
             alloc: _,

@@ -1,12 +1,12 @@
 //! Several statuses in one reply.
 
-ghost use Rattle.std.specs.Prelude.{◌≡◌, map, IfErr, IfOk, OnOk};
+ghost use Rattle.std.specs.Prelude.{◌≡◌, ◌≤◌, length, map, IfErr, IfOk, OnOk};
 ghost use Rattle.afs_num.specs.declared.calls.FsCall.TheVariants as calls;
 ghost use Rattle.afs_num.specs.declared.types.Fid.{Fid};
 ghost use Rattle.afs_shape.specs.Rows.{no_callback};
 ghost use Rattle.afs_ideal.specs.Operations.{op, reads, shows_statuses, statuses};
 ghost use Rattle.afs_volume.specs.Bulk.{found_of, refusal_at, status_seen, sync_beside, IsRefusal, IsShown};
-ghost use Rattle.afs_volume.specs.Giving.{caller_seen, refusal_of, volume_of, Replies};
+ghost use Rattle.afs_volume.specs.Giving.{caller_seen, most_fids, refusal_of, volume_of, FitsReply, Replies};
 
 use crate::Volume;
 use crate::callers::Caller;
@@ -69,7 +69,8 @@ impl Volume {
 
     /// BulkStatus: all statuses, or the refusal of the first fid that is refused.
     pub(crate) fn bulk_status(&self, caller: &Caller, fids: &[Fid]) -> Result<FsReply, OpFault>
-        ensures { Replies (caller_seen caller.now) self.now (op self.now.head.id (caller_seen caller.now) (calls.BulkStatus fids.now) (volume_of self.now)) result }
+        ensures replies { Replies (caller_seen caller.now) self.now (op self.now.head.id (caller_seen caller.now) (calls.BulkStatus fids.now) (volume_of self.now)) result }
+        ensures fits { length fids.now ≤ most_fids → IfOk result (λ r. FitsReply r) }
     {
         let statuses = self.statuses(caller, fids)?;
         Ok(FsReply::BulkStatus {

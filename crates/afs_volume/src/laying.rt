@@ -10,6 +10,7 @@ ghost use Rattle.afs_ideal.specs.Volumes.{a_directory, ascending, vnode_of};
 ghost use Rattle.afs_volume.specs.Filled.{at_once, image_at_first, is_accepted, Accepts, CanBeLaid, IsFilled, Lays, LaysEdits, Leads};
 ghost use Rattle.afs_volume.specs.Giving.{edits_seen, volume_of};
 ghost use Rattle.afs_volume.specs.Seen.{seen, IsReadable};
+ghost use Rattle.afs_volume.specs.Taking.{IsAtSetUp};
 
 use crate::Volume;
 use crate::callers::Caller;
@@ -169,11 +170,13 @@ impl Volume {
     }
 
     /// Lays what edits change.
+    #[tactic(auto, using(crate::proofs::AtSetUp::still_at_set_up))]
     fn lay_edits(&mut self, edits: &[Edit]) -> Mem<()>
         requires { CanBeLaid self.old.head.id (volume_of self.old) (edits_seen edits.now) }
         ensures ok { OnOk result (volume_of self.new ≡ at_once self.old.head.id (edits_seen edits.now) (volume_of self.old)) }
         ensures err { OnErr result ((self.new.head ≡ self.old.head) × (self.new.vnodes.table ≡ self.old.vnodes.table)) }
         ensures id { self.new.head.id ≡ self.old.head.id }
+        ensures times { IsAtSetUp self.old → IsAtSetUp self.new }
     {
         let draft = self.draft(edits, 0)?;
         let unique = self.unique_left(edits);
@@ -189,10 +192,12 @@ impl Volume {
     }
 
     /// Lays a line of set-up, or leaves the volume as it was: 22 where its path has no name, 20 and 2 where it doesn't lead
-    /// to a directory, and the refusals of the operations. Indexes, data versions and the counter stay at 1.
+    /// to a directory, and the refusals of the operations. Indexes, data versions and the counter stay at 1, the times of a
+    /// volume at set-up at 0.
     pub fn lay(&mut self, line: &SetupLine) -> Result<(), OpFault>
         ensures lays { Lays (laid self.old.head.id line.now (volume_of self.old)) self.old self.new result }
         ensures id { self.new.head.id ≡ self.old.head.id }
+        ensures times { IsAtSetUp self.old → IsAtSetUp self.new }
     {
         match line {
             SetupLine::File { path, contents } => {

@@ -4,8 +4,11 @@ ghost use Rattle.std.specs.Prelude.{◌≡◌, ◌≤◌, ◌∷◌, [], true, i
 ghost use Rattle.afs_ideal.specs.AccessLists.{acl_at};
 ghost use Rattle.afs_ideal.specs.SetUp.{new_root, new_volume};
 ghost use Rattle.afs_ideal.specs.VnodeImage.{FitsImage};
+ghost use Rattle.afs_records.specs.Records.{most_name};
+ghost use Rattle.afs_shape.specs.Tables.{IsVolumeKind};
 ghost use Rattle.afs_volume.specs.Giving.{volume_of};
 ghost use Rattle.afs_volume.specs.Seen.{all_seen, list_spelled, seen, AreReadable, IsReadable};
+ghost use Rattle.afs_volume.specs.Taking.{times_in, IsAtSetUp};
 
 use crate::Volume;
 use crate::finding::DIRECTORY;
@@ -34,6 +37,7 @@ fn everyone(alloc: Global) -> Mem<Octets>
 fn new_root(alloc: Global) -> Mem<Vnode>
     ensures seen { IfOk result (λ x. seen x ≡ new_root) }
     ensures number { IfOk result (λ x. x.vnode ≡ 1) }
+    ensures time { IfOk result (λ x. x.server_time ≡ 0) }
     ensures readable { IfOk result (λ x. IsReadable x) }
     ensures fits { IfOk result (λ x. FitsImage x) }
 {
@@ -63,6 +67,7 @@ fn new_root(alloc: Global) -> Mem<Vnode>
 #[tactic(auto, unfolding(crate::specs::Seen::all_seen))]
 fn new_vnodes(alloc: Global) -> Mem<VnodeStore>
     ensures seen { IfOk result (λ t. all_seen t.table ≡ (1, new_root) ∷ []) }
+    ensures times { IfOk result (λ t. times_in t.table ≡ (1, 0) ∷ []) }
     ensures readable { IfOk result (λ t. AreReadable t.table) }
 {
     let mut vnodes = VnodeStore::new(alloc);
@@ -83,8 +88,11 @@ impl Volume {
         flags: u32,
         quota: u32,
     ) -> Mem<Volume>
+        requires kind { IsVolumeKind kind }
+        requires name { length name.now ≤ most_name }
         ensures id { IfOk result (λ v. v.head.id ≡ id) }
         ensures value { IfOk result (λ v. volume_of v ≡ new_volume family name.now kind flags quota) }
+        ensures times { IfOk result (λ v. IsAtSetUp v) }
     {
         let vnodes = new_vnodes(alloc)?;
         let head = VolumeHead {

@@ -1,12 +1,12 @@
 //! What a volume shows. Reading calls: the tests in the order of refusals, then the reply.
 
-ghost use Rattle.std.specs.Prelude.{◌≡◌, true};
+ghost use Rattle.std.specs.Prelude.{◌≡◌, true, IfOk};
 ghost use Rattle.afs_num.specs.declared.calls.FsCall.TheVariants as calls;
 ghost use Rattle.afs_ideal.specs.AccessLists.{acl_text};
-ghost use Rattle.afs_ideal.specs.Operations.{is_kind, op, the_user};
+ghost use Rattle.afs_ideal.specs.Operations.{is_kind, op, the_user, IsOn};
 ghost use Rattle.afs_ideal.specs.Volumes.{a_directory, blocks_in};
-ghost use Rattle.afs_volume.specs.Giving.{caller_seen, is_reading, volume_of, Replies};
-ghost use Rattle.afs_volume.specs.Seen.{seen, IsReadable};
+ghost use Rattle.afs_volume.specs.Giving.{caller_seen, is_reading, volume_of, FitsCall, FitsReply, Replies};
+ghost use Rattle.afs_volume.specs.Seen.{seen, FitsHead, IsReadable};
 
 use crate::Volume;
 use crate::callers::Caller;
@@ -26,7 +26,8 @@ use afs_vnode::store::VnodeStore;
 fn list_text(d: &Vnode) -> &Octets
     requires readable { IsReadable d.now }
     requires directory { is_kind (seen d.now).kind a_directory ≡ true }
-    ensures { result.now ≡ acl_text (seen d.now).acl }
+    ensures seen { result.now ≡ acl_text (seen d.now).acl }
+    ensures text { result.now ≡ d.now.acl }
 {
     &d.acl
 }
@@ -34,7 +35,8 @@ fn list_text(d: &Vnode) -> &Octets
 impl Volume {
     /// The head. It takes no memory.
     pub fn head(&self) -> &VolumeHead
-        ensures { result.now ≡ self.now.head }
+        ensures value { result.now ≡ self.now.head }
+        ensures fits { FitsHead result.now }
     {
         &self.head
     }
@@ -69,7 +71,8 @@ impl Volume {
         position: i32,
         length: i32,
     ) -> Result<FsReply, OpFault>
-        ensures { Replies (caller_seen caller.now) self.now (op self.now.head.id (caller_seen caller.now) (calls.FetchData fid.now position length) (volume_of self.now)) result }
+        ensures replies { Replies (caller_seen caller.now) self.now (op self.now.head.id (caller_seen caller.now) (calls.FetchData fid.now position length) (volume_of self.now)) result }
+        ensures fits { IfOk result (λ r. FitsReply r) }
     {
         let x = self.found(fid)?;
         let right = if is_directory(x) { 8 } else { 1 };
@@ -85,7 +88,8 @@ impl Volume {
 
     /// FetchACL: a directory's access list and status.
     fn fetch_acl(&self, caller: &Caller, fid: &Fid) -> Result<FsReply, OpFault>
-        ensures { Replies (caller_seen caller.now) self.now (op self.now.head.id (caller_seen caller.now) (calls.FetchAcl fid.now) (volume_of self.now)) result }
+        ensures replies { Replies (caller_seen caller.now) self.now (op self.now.head.id (caller_seen caller.now) (calls.FetchAcl fid.now) (volume_of self.now)) result }
+        ensures fits { IfOk result (λ r. FitsReply r) }
     {
         let d = self.found(fid)?;
         check(is_directory(d), 20)?;
@@ -99,7 +103,8 @@ impl Volume {
 
     /// FetchStatus.
     fn fetch_status(&self, caller: &Caller, fid: &Fid) -> Result<FsReply, OpFault>
-        ensures { Replies (caller_seen caller.now) self.now (op self.now.head.id (caller_seen caller.now) (calls.FetchStatus fid.now) (volume_of self.now)) result }
+        ensures replies { Replies (caller_seen caller.now) self.now (op self.now.head.id (caller_seen caller.now) (calls.FetchStatus fid.now) (volume_of self.now)) result }
+        ensures fits { IfOk result (λ r. FitsReply r) }
     {
         let x = self.found(fid)?;
         check(self.may(caller, 8, x)?, 13)?;
@@ -112,7 +117,8 @@ impl Volume {
 
     /// GetVolumeStatus, which wants the right to look up at the root.
     fn volume_status(&self, caller: &Caller, id: u32) -> Result<FsReply, OpFault>
-        ensures { Replies (caller_seen caller.now) self.now (op self.now.head.id (caller_seen caller.now) (calls.GetVolumeStatus id) (volume_of self.now)) result }
+        ensures replies { Replies (caller_seen caller.now) self.now (op self.now.head.id (caller_seen caller.now) (calls.GetVolumeStatus id) (volume_of self.now)) result }
+        ensures fits { IfOk result (λ r. FitsReply r) }
     {
         let may = match self.get(1) {
             Some(root) => self.may(caller, 8, root)?,
@@ -131,8 +137,10 @@ impl Volume {
     /// The reply to a reading call, 130 to 132, 149 or 155, all of whose fids are of this volume; or its refusal, by 102,
     /// 20, 13 or 22. Promises to call back are left for the server to fill.
     pub fn read(&self, call: &FsCall, user: &[u8]) -> Result<FsReply, OpFault>
-        requires { is_reading call.now ≡ true }
-        ensures { Replies (the_user user.now) self.now (op self.now.head.id (the_user user.now) call.now (volume_of self.now)) result }
+        requires reading { is_reading call.now ≡ true }
+        requires on { IsOn self.now.head.id call.now }
+        ensures replies { Replies (the_user user.now) self.now (op self.now.head.id (the_user user.now) call.now (volume_of self.now)) result }
+        ensures fits { FitsCall call.now → IfOk result (λ r. FitsReply r) }
     {
         let caller = Caller::User(user);
         match call {

@@ -52,7 +52,8 @@ pub fn no_sync() -> AfsVolSync
 #[tactic(auto, unfolding(crate::specs::Seen::seen))]
 pub fn bytes_of(x: &Vnode) -> &Octets
     requires { IsReadable x.now }
-    ensures { result.now ≡ bytes_by (seen x.now).kind (seen x.now) }
+    ensures seen { result.now ≡ bytes_by (seen x.now).kind (seen x.now) }
+    ensures contents { result.now ≡ x.now.contents }
 {
     &x.contents
 }

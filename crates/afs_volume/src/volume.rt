@@ -1,7 +1,7 @@
 ghost use Rattle.std.specs.Prelude.{◌≡◌, true};
 ghost use Rattle.afs_ideal.specs.Volumes.{blocks_in};
 ghost use Rattle.afs_records.specs.Sound.{is_sound};
-ghost use Rattle.afs_volume.specs.Seen.{all_seen, volume_seen, AreReadable};
+ghost use Rattle.afs_volume.specs.Seen.{all_seen, volume_seen, AreReadable, FitsHead};
 
 use afs_num::volumes::VolumeHead;
 use afs_vnode::store::VnodeStore;
@@ -14,6 +14,7 @@ pub struct Volume {
     pub(crate) head: VolumeHead,
     pub(crate) vnodes: VnodeStore,
     pub(crate) blocks: u32,
+    ghost fits: { FitsHead head },
     ghost readable: { AreReadable vnodes.table },
     ghost counted: { blocks ≡ blocks_in (all_seen vnodes.table) },
     ghost sound: { is_sound (volume_seen head vnodes.table) ≡ true },

@@ -1,5 +1,5 @@
-ghost use Rattle.std.specs.Prelude.{◌≡◌, true};
-ghost use Rattle.afs_volume.specs.Giving.{is_reading};
+ghost use Rattle.std.specs.Prelude.{◌≡◌, IfOk};
+ghost use Rattle.afs_volume_tests.specs.Calls.{AreHere, IsReading};
 
 use afs_num::calls::{AfsFetchStatus, FsCall, FsReply};
 use afs_num::sequences::Sequence;
@@ -11,7 +11,9 @@ use std::test::Fail;
 
 const ID: u32 = 536_870_912;
 
-fn fid(vnode: u32, unique: u32) -> Fid {
+fn fid(vnode: u32, unique: u32) -> Fid
+    ensures { result.volume ≡ 536870912 }
+{
     Fid {
         volume: ID,
         vnode,
@@ -19,29 +21,34 @@ fn fid(vnode: u32, unique: u32) -> Fid {
     }
 }
 
-fn fids(alloc: Global, list: &[Fid]) -> Mem<Sequence<Fid>> {
+// The fids of these vnodes and unique numbers.
+fn fids(alloc: Global, places: &[(u32, u32)]) -> Mem<Sequence<Fid>>
+    ensures { IfOk result (λ fs. AreHere fs) }
+{
     let mut fids = Sequence::new(alloc);
-    for fid in list {
-        fids.push(*fid)?;
+    for place in places {
+        fids.push(fid(place.0, place.1))?;
     }
     Ok(fids)
 }
 
 // A new volume of 1,000 blocks.
-fn proj(alloc: Global) -> Mem<Volume> {
+fn proj(alloc: Global) -> Mem<Volume>
+    ensures { IfOk result (λ v. v.head.id ≡ 536870912) }
+{
     Volume::new(alloc, ID, ID, b"proj", 0, 0, 1_000)
 }
 
 // What a new volume answers to a user of no rights of its own.
 fn answer(alloc: Global, call: &FsCall) -> Result<FsReply, OpFault>
-    requires { is_reading call.now ≡ true }
+    requires { IsReading call.now }
 {
     proj(alloc)?.read(call, b"guest")
 }
 
 // The code of a refusal, and 0 where nothing is refused.
 fn code(alloc: Global, call: &FsCall) -> Result<i32, OpFault>
-    requires { is_reading call.now ≡ true }
+    requires { IsReading call.now }
 {
     match answer(alloc, call) {
         Ok(_) => Ok(0),
@@ -70,7 +77,7 @@ fn words(s: &AfsFetchStatus) -> [u32; 12] {
 
 // The words of a status in a reply.
 fn status(alloc: Global, call: &FsCall) -> Result<Option<[u32; 12]>, OpFault>
-    requires { is_reading call.now ≡ true }
+    requires { IsReading call.now }
 {
     match answer(alloc, call)? {
         FsReply::FetchStatus { status, .. } => Ok(Some(words(&status))),
@@ -124,10 +131,10 @@ fn flags_are_set_alone(rt: HostRuntime) -> Result<(), Fail> {
 fn the_first_fid_that_is_refused_decides(rt: HostRuntime) -> Result<(), Fail> {
     let alloc = rt.alloc();
     for (list, want) in [
-        ([fid(1, 1), fid(1, 1)].as_slice(), 0),
+        ([(1, 1), (1, 1)].as_slice(), 0),
         (&[], 0),
-        (&[fid(1, 1), fid(2, 2)], 102),
-        (&[fid(1, 2), fid(1, 1)], 102),
+        (&[(1, 1), (2, 2)], 102),
+        (&[(1, 2), (1, 1)], 102),
     ] {
         let call = FsCall::BulkStatus {
             fids: fids(alloc, list)?,
@@ -139,16 +146,16 @@ fn the_first_fid_that_is_refused_decides(rt: HostRuntime) -> Result<(), Fail> {
 
 #[test]
 fn parts_of_a_vnode_are_not_fetched(rt: HostRuntime) -> Result<(), Fail> {
-    for (fid, position, length, want) in [
-        (fid(1, 1), 0, 2_147_483_647, 0),
-        (fid(1, 1), 1, 2_147_483_647, 22),
-        (fid(1, 1), 0, 2_147_483_646, 22),
-        (fid(1, 1), -1, 2_147_483_647, 22),
-        (fid(1, 2), 1, 0, 102),
-        (fid(3, 1), 0, 2_147_483_647, 102),
+    for (vnode, unique, position, length, want) in [
+        (1, 1, 0, 2_147_483_647, 0),
+        (1, 1, 1, 2_147_483_647, 22),
+        (1, 1, 0, 2_147_483_646, 22),
+        (1, 1, -1, 2_147_483_647, 22),
+        (1, 2, 1, 0, 102),
+        (3, 1, 0, 2_147_483_647, 102),
     ] {
         let call = FsCall::FetchData {
-            fid,
+            fid: fid(vnode, unique),
             position,
             length,
         };

@@ -5,7 +5,7 @@ use Rattle.afs_volume.specs.Changes.{IsChangeBy, IsKeptAs}
 use Rattle.afs_volume.specs.Drawing.{all_freed, all_left, all_told, makes_vnode, CanBeDrawn}
 use Rattle.afs_volume.specs.Giving.{caller_seen, edits_seen, volume_of}
 use Rattle.afs_volume.specs.declared.edits.Edit.{Edit}
-use Rattle.afs_volume.proofs.Changed.{change_of, counter_low, drawable, is_change, replies, shown_there, unique_low, IsDrafted}
+use Rattle.afs_volume.proofs.Changed.{change_of, counter_low, drawable, is_change, replies, row_fits, shown_there, unique_low, IsDrafted}
 use Rattle.afs_volume.proofs.Fitting.{can_take, is_kept}
 use Rattle.afs_volume.proofs.volume.Volume.changed_by.Goals as goal
 
@@ -70,3 +70,8 @@ pub returns-clause-reply : goal.returns-clause-reply
 returns-clause-reply c =
     let w = c.args.self.now in
     replies w (caller_seen c.args.caller.now) c.args.call.now c.args.now (edits_seen c.args.plan.now.edits) c.args.plan.now.shown (w.head.counter + 1) c.unique_left.result c.in_ok-draft.draft c.in_ok-reply.reply c.requires.sound c.requires.on c.requires.planned (drafted c) c.in_ok-reply.ensures
+
+pub returns-clause-row : goal.returns-clause-row
+returns-clause-row c =
+    let w = c.args.self.now in
+    row_fits w (caller_seen c.args.caller.now) c.args.call.now c.args.now (edits_seen c.args.plan.now.edits) c.args.plan.now.shown (change_of c.in_ok-draft.draft (w.head.counter + 1) c.unique_left.result c.in_ok-reply.reply) (returns-clause-reply c)

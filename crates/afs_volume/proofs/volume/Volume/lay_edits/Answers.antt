@@ -1,6 +1,10 @@
-use Rattle.std.proofs.Common.{refl, sym, ◌∙◌}
+use Rattle.std.proofs.Common.{◌≡◌, Some, refl, sym, ◌∙◌}
+use Rattle.afs_records.specs.Changes.{stored_between}
+use Rattle.afs_volume.specs.Filled.{at_once}
 use Rattle.afs_volume.specs.Giving.{edits_seen, volume_of}
+use Rattle.afs_volume.specs.Taking.{stored_of}
 use Rattle.afs_volume.proofs.AtFirst.{each_fits, each_readable, laid_now, laid_volume}
+use Rattle.afs_volume.proofs.AtSetUp.{laid_at_set_up}
 use Rattle.afs_volume.proofs.Changed.{next_low}
 use Rattle.afs_volume.proofs.volume.Volume.lay_edits.Goals as goal
 
@@ -22,10 +26,15 @@ take-requires-clause-read c = rw c.in_ok-vnodes.ensures (each_readable c.in_ok-d
 pub take-requires-clause-fits : goal.take-requires-clause-fits
 take-requires-clause-fits c = rw c.in_ok-vnodes.ensures (each_fits c.in_ok-draft.draft.vnodes c.in_ok-draft.ensures.images)
 
-pub returns-clause-ok : goal.returns-clause-ok
-returns-clause-ok c =
-    laid_volume c.args.self.now c.take.new.self (edits_seen c.args.edits.now)
-    (sym (laid_now c.args.self.now c.make_room.new.self (edits_seen c.args.edits.now) c.in_ok-draft.draft c.unique_left-unique.result c.in_ok-vnodes.vnodes c.requires
+kept : (c : goal.After-drop-draft-2) → Some (stored_between 0 (edits_seen c.args.edits.now) (at_once c.args.self.now.head.id (edits_seen c.args.edits.now) (volume_of c.args.self.now)) (stored_of c.args.self.now)) ≡ Some (stored_of c.take.new.self)
+kept c =
+    sym (laid_now c.args.self.now c.make_room.new.self (edits_seen c.args.edits.now) c.in_ok-draft.draft c.unique_left-unique.result c.in_ok-vnodes.vnodes c.requires
     (record { time = c.in_ok-draft.ensures.time; versions = c.in_ok-draft.ensures.versions; vnodes = c.in_ok-draft.ensures.vnodes; removed = c.in_ok-draft.ensures.removed; images = c.in_ok-draft.ensures.images })
     c.unique_left-unique.ensures c.in_ok-vnodes.ensures c.in_ok-make_room.ensures.head c.in_ok-make_room.ensures.vnodes)
-    ∙ c.take.ensures.stored)
+    ∙ c.take.ensures.stored
+
+pub returns-clause-ok : goal.returns-clause-ok
+returns-clause-ok c = laid_volume c.args.self.now c.take.new.self (edits_seen c.args.edits.now) (kept c)
+
+pub returns-clause-times : goal.returns-clause-times
+returns-clause-times c = laid_at_set_up c.args.self.now c.take.new.self (edits_seen c.args.edits.now) (kept c)
