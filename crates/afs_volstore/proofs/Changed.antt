@@ -105,19 +105,22 @@ but_up ns (x ∷ xs) t up = but_up ns xs (if is_among x.vnode ns then t else set
 
 -- ---- how many are left
 
+longer_by : (there : Bool) (n k : ℕ) → k ≡ (if there then n else suc n) → n ≤ k
+longer_by true n k e = omega (arith, e)
+longer_by false n k e = omega (arith, e)
+
+set_longer : (n : ℕ) (x : image.Vnode) (t : Table image.Vnode) → AscendsFrom 0 t → length t ≤ length (set n x t)
+set_longer n x t up = longer_by (is_some (get n t)) (length t) (length (set n x t)) (set_length 0 n x t up)
+
+fewer_by : (ns : List ℕ) (x : image.Vnode) (xs : List image.Vnode) (t : Table image.Vnode) (b : Bool) → length t ≤ length (put_but ns xs t) → length (set x.vnode x t) ≤ length (put_but ns xs (set x.vnode x t)) → length t ≤ length (set x.vnode x t)
+    → length t ≤ length (put_but ns xs (if b then t else set x.vnode x t))
+fewer_by ns x xs t true same later longer = same
+fewer_by ns x xs t false same later longer = omega (arith, later, longer)
+
 never_fewer : (ns : List ℕ) (xs : List image.Vnode) (t : Table image.Vnode) → AscendsFrom 0 t → length t ≤ length (put_but ns xs t)
 never_fewer ns [] t up = omega arith
-never_fewer ns (x ∷ xs) t up = by_test (is_among x.vnode ns)
-  where
-    by_test : (b : Bool) → length t ≤ length (put_but ns xs (if b then t else set x.vnode x t))
-    by_test true = never_fewer ns xs t up
-    by_test false =
-        let later : length (set x.vnode x t) ≤ length (put_but ns xs (set x.vnode x t)) = never_fewer ns xs (set x.vnode x t) (ascends_set 0 x.vnode x t (omega arith) up) in
-        omega (arith, later, longer (is_some (get x.vnode t)) (length t) (length (set x.vnode x t)) (set_length 0 x.vnode x t up))
-      where
-        longer : (there : Bool) (n k : ℕ) → k ≡ (if there then n else suc n) → n ≤ k
-        longer true n k e = omega (arith, e)
-        longer false n k e = omega (arith, e)
+never_fewer ns (x ∷ xs) t up =
+    fewer_by ns x xs t (is_among x.vnode ns) (never_fewer ns xs t up) (never_fewer ns xs (set x.vnode x t) (ascends_set 0 x.vnode x t (omega arith) up)) (set_longer x.vnode x t up)
 
 one_too_many : (there : Bool) (n k : ℕ) → k ≡ (if there then n else suc n) → (nat_eq n most_vnodes && not there) ≡ true → most_vnodes < k
 one_too_many true n k e full = absurd (grind (arith, nat_tests, full))

@@ -1,5 +1,5 @@
 -- The fold of records by one more.
-use Rattle.std.proofs.Common.{◌≡◌, ℕ, suc, ◌+◌, ◌<◌, ◌≤◌, Bool, true, false, List, [], ◌∷◌, ◌++◌, length, Option, Some, None, zero, take, drop, nat_eq, slice_get, refl, sym, ap, subst, ◌∙◌, arith, length-append}
+use Rattle.std.proofs.Common.{◌≡◌, ℕ, suc, ◌+◌, ◌<◌, ◌≤◌, Bool, true, false, List, [], ◌∷◌, ◌++◌, length, Option, Some, None, zero, take, drop, nat_eq, slice_get, if◌then◌else◌, refl, sym, ap, subst, ◌∙◌, arith, length-append}
 use Rattle.std.proofs.lemmas.Bool.Decides.{nat_tests}
 use Rattle.std.specs.Option.{option_map}
 use Rattle.afs_num.specs.declared.types.Node.{Node}
@@ -10,12 +10,13 @@ use Rattle.afs_num.specs.declared.records.RecordHead.{RecordHead}
 use Rattle.afs_num.specs.declared.records.StoreRecord.{StoreRecord}
 use Rattle.afs_shape.specs.Taking.{◌>>=◌}
 use Rattle.afs_journal.specs.Records.{blocks, journal_bytes, place_of}
-use Rattle.afs_records.specs.Records.{record_at}
+use Rattle.afs_records.specs.Records.{record_at, record_bytes}
 use Rattle.afs_xdr.specs.Words.{word}
-use Rattle.afs_records.specs.Durable.{Durable, Effect, bad_by, bad_from, effect_by, effect_of, first_bad, first_folded, fold_all, fold_from, folded, nothing_on}
-use Rattle.afs_volstore.specs.Folds.{fold_front, is_none_yet, places_length, read_taken, taken_as, wanted_lines, IsBadAt, TakesOne, TellsOne}
+use Rattle.afs_records.specs.Durable.{Durable, Effect, bad_by, bad_from, body_taken, effect_by, effect_of, first_bad, first_folded, fold_all, fold_from, folded, is_first, longer, noted, nothing_on, place_length}
+use Rattle.afs_volstore.specs.Folds.{fold_front, is_none_yet, places_length, read_taken, taken_as, wanted_lines, IsBadAt, IsFront, TakesOne, TellsOne}
 use Rattle.afs_volstore.specs.Opening.{last_effect, last_from}
 use Rattle.afs_volstore.specs.States.{placed}
+use Rattle.afs_volstore.proofs.Folding.{folded_is, taken_placed}
 
 -- ---- lengths
 
@@ -161,6 +162,32 @@ tells_the_last node w ls c [] b d e folds taken tells =
 tells_the_last node w ls c (a ∷ pre) b d e folds taken tells =
     last_read node w ls pre b d (λ r. first_folded r (nothing_on c)) (λ r. effect_of node r (nothing_on c)) (record_at a) (λ y g h. last_behind node w ls pre b y d e g h taken tells) folds
 
+-- ---- one record
+
+as_first : (first : Bool) (r : StoreRecord) (d : Durable) → (first ≡ true → is_first r.body ≡ true) → taken_as first r d ≡ folded r d
+as_first true r d is = ap (λ (b : Bool). if b then folded r d else None) (is refl)
+as_first false r d is = refl
+
+pub takes_one : (first : Bool) (bytes : List ℕ) (r : StoreRecord) (old new : Durable) → record_at bytes ≡ Some r → record_bytes r ≡ bytes → (first ≡ true → is_first r.body ≡ true) → option_map (noted r.head) (body_taken r.body old) ≡ Some new → TakesOne first bytes old new
+takes_one first bytes r old new read spelled is taken j c =
+    ap (λ (o : Option StoreRecord). o >>= λ x. taken_as first x (placed j c old)) read
+    ∙ (as_first first r (placed j c old) is ∙ (folded_is r j c old new taken ∙ ap (λ (n : ℕ). Some (placed (j + (n + 9)) c new)) (ap length spelled)))
+
+folded_none : (r : StoreRecord) (j c : ℕ) (d : Durable) → body_taken r.body d ≡ None → folded r (placed j c d) ≡ None
+unfolding folded
+folded_none r j c d e = ap (λ (o : Option Durable). o >>= λ x. Some (longer (place_length r) (noted r.head x))) (taken_placed r.body j c d ∙ ap (option_map (placed j c)) e)
+
+none_first : (b : Bool) (o : Option Durable) → o ≡ None → (if b then o else None) ≡ None
+none_first true o e = e
+none_first false o e = refl
+
+none_as : (first : Bool) (r : StoreRecord) (d : Durable) → folded r d ≡ None → taken_as first r d ≡ None
+none_as true r d e = none_first (is_first r.body) (folded r d) e
+none_as false r d e = e
+
+pub bad_alone : (first : Bool) (bytes : List ℕ) (r : StoreRecord) (old : Durable) → record_at bytes ≡ Some r → body_taken r.body old ≡ None → IsBadAt first bytes old
+bad_alone first bytes r old read e j c = ap (λ (o : Option StoreRecord). o >>= λ x. taken_as first x (placed j c old)) read ∙ none_as first r (placed j c old) (folded_none r j c old e)
+
 -- ---- records gone through by places
 
 take_next : {A : Type 0} (xs : List A) (i : ℕ) (x : A) → slice_get xs i ≡ Some x → take (suc i) xs ≡ take i xs ++ x ∷ []
@@ -222,3 +249,24 @@ pub told_last : (node : Node) (w : Bool) (ls : List Line) (c : ℕ) (pre : List 
 told_last node w ls c pre b d e folds takes tells =
     tells_the_last node w ls c pre b (placed (1 + places_length pre) c d) (placed (1 + places_length pre + (length b + 9)) c e) folds (taken_first c pre b d e takes)
     (λ r is. tells r is ∙ ap (wanted_lines w) (sym (effect_placed node r (1 + places_length pre) c d)))
+
+pub behind_none : (rs : List (List ℕ)) (i : ℕ) → slice_get rs i ≡ None → take (i + 1) rs ≡ take i rs
+behind_none rs i e = ap (λ (j : ℕ). take j rs) (let z : i + 1 ≡ suc i = omega arith in z) ∙ past rs i e
+  where
+    past : (ss : List (List ℕ)) (k : ℕ) → slice_get ss k ≡ None → take (suc k) ss ≡ take k ss
+    past [] zero f = refl
+    past [] (suc k) f = refl
+    past (a ∷ ss) zero f = absurd cc
+    past (a ∷ ss) (suc k) f = ap (λ (l : List (List ℕ)). a ∷ l) (past ss k f)
+
+-- ---- one record more, by its place
+
+pub goes_on : (rs : List (List ℕ)) (i : ℕ) (b : List ℕ) (d e : Durable) → slice_get rs i ≡ Some b → IsFront (take i rs) d → TakesOne (nat_eq (i + 1) 1) b d e → IsFront (take (i + 1) rs) e
+goes_on rs i b d e at front takes c =
+    subst (λ (xs : List (List ℕ)). fold_front c xs ≡ Some (placed (1 + places_length xs) c e)) (sym (take_step rs i b at))
+    (front_taken c (take i rs) b d e (front c) (subst (λ (n : ℕ). TakesOne (nat_eq (n + 1) 1) b d e) (sym (taken_length rs i b at)) takes))
+
+pub stops_at : (rs more : List (List ℕ)) (i n : ℕ) (b : List ℕ) (d : Durable) → slice_get rs i ≡ Some b → IsFront (take i rs) d → (n ≡ i + 1) × IsBadAt (nat_eq (i + 1) 1) b d → (c : ℕ) → first_bad c (rs ++ more) ≡ Some n
+stops_at rs more i n b d at front bad c =
+    ap (first_bad c) (split_here rs i b more at)
+    ∙ bad_at c (take i rs) b (drop (i + 1) rs ++ more) d n (front c) (bad.0 ∙ ap (λ (k : ℕ). k + 1) (sym (taken_length rs i b at))) (subst (λ (k : ℕ). IsBadAt (nat_eq (k + 1) 1) b d) (sym (taken_length rs i b at)) bad.1)

@@ -20,7 +20,8 @@ use Rattle.afs_records.specs.Records.{are_listed, ascend_from, listed, marked_fo
 use Rattle.afs_num.specs.declared.records.RecordBody.TheVariants as bodies
 use Rattle.afs_records.specs.Sound.{is_sound}
 use Rattle.afs_volume.specs.Assembling.{make_volume}
-use Rattle.afs_volume.specs.Seen.{all_seen, seen, volume_seen}
+use Rattle.afs_num.specs.Nodes.{is_between}
+use Rattle.afs_volume.specs.Seen.{all_seen, seen, volume_seen, FitsHead}
 use Rattle.afs_volume.specs.Taking.{stored_with, times_in}
 use Rattle.afs_volume.specs.declared.volume.Volume.{Volume}
 use Rattle.afs_volume.proofs.Folded.{value_seen}
@@ -89,6 +90,15 @@ in_order s fits =
       ascend = (both (ascend_from 0 s.vnodes) (list_all was_changed s.vnodes) rest.1).0;
       few = whole_few (map listed s.vnodes) (length s.vnodes) (length-map s.vnodes listed) whole.0;
     }
+
+kind_within : (n : ℕ) (b : Bool) → is_between 0 2 n ≡ b → (if b then Some n else None) ≡ Some n → n ≤ 2
+kind_within n true is e = grind (arith, nat_tests, is)
+kind_within n false is e = absurd cc
+
+-- its head has a spelling
+pub head_fits : (s : StoredVolume) → volume_form.Fits s → FitsHead s.head
+unfolding volume_form
+head_fits s fits = record { kind = kind_within s.head.kind (is_between 0 2 s.head.kind) refl fits.0.1.1.1.1.1.0.1; name = fits.0.0.0 }
 
 -- the values of images are as these are seen
 values_by : (n : ℕ) (i : image.Vnode) (o : Option Vnode) (q : Option (Table Vnode)) (t xs : Table Vnode) → value_of i ≡ o → ((ys : Table Vnode) → q ≡ Some ys → t ≡ ys) → with_value n o q ≡ Some xs → (n, seen i) ∷ t ≡ xs

@@ -1,7 +1,7 @@
 -- What is done to the volumes in memory is what the fold does to them.
 use Rattle.std.proofs.Common.{◌≡◌, ℕ, suc, ◌+◌, Bool, true, false, not, List, [], ◌∷◌, length, map, Option, Some, None, is_some, nat_eq, nat_lt, if◌then◌else◌, refl, sym, ap, subst, ◌∙◌, arith}
 use Rattle.std.specs.List.{list_all, AllByRecursion}
-use Rattle.std.specs.Prelude.{◌&&◌, Result, Ok, Err, IsSome, OnOk}
+use Rattle.std.specs.Prelude.{◌&&◌, Result, Ok, Err, IsSome, IfOk, OnOk}
 use Rattle.std.specs.Option.{option_map}
 use Rattle.std.proofs.lemmas.Bool.Decides.{nat_tests}
 use Rattle.std.proofs.lemmas.List.{length-map}
@@ -23,7 +23,7 @@ use Rattle.afs_volume.specs.declared.volume.Volume.{Volume}
 use Rattle.afs_ideal.specs.VnodeImage.{FitsImage}
 use Rattle.afs_volstore.proofs.Held.{numbered, numbered_filter}
 use Rattle.afs_volstore.specs.Numbered.{AreNumbered}
-use Rattle.afs_volstore.specs.Redoing.{holding, AreKept, AreTooMany, CanChange, IsChanged, KeepsChanges, KeepsVolumes}
+use Rattle.afs_volstore.specs.Redoing.{holding, AreKept, AreTooMany, CanChange, IsChanged, IsRefused, KeepsChanges, KeepsVolumes}
 use Rattle.afs_volstore.specs.Redos.{told, IsMadeAgain}
 use Rattle.afs_volstore.specs.States.{HasRoomIn}
 
@@ -141,6 +141,16 @@ is_taken id c d t u is =
     let there : get id (seen_as stored_of t) ≡ Some (stored_of is.before) = get_seen stored_of id t ∙ ap (option_map stored_of) is.there in
     rw (there, is.changed, is.put) (ap (λ (vs : Table Stored). Some (record d { volumes = vs })) (set_seen stored_of id is.after t))
 
+refused_by : (id : ℕ) (c : Change) (d : Durable) (o : Option Volume) → ((v : Volume) → o ≡ Some v → changed_stored c.counter c.unique c.vnodes c.removed (stored_of v) ≡ None)
+    → (option_map stored_of o >>= λ s. replaced id (changed_stored c.counter c.unique c.vnodes c.removed s) d) ≡ None
+refused_by id c d None none = refl
+refused_by id c d (Some v) none = ap (λ (q : Option Stored). replaced id q d) (none v refl)
+
+-- a change that its volume can't take in is taken into no store with this volume
+pub isnt_taken : (id : ℕ) (c : Change) (d : Durable) (t : Table Volume) → IsRefused id c t → body_taken (bodies.Change id c.counter c.unique c.vnodes c.removed) (holding d t) ≡ None
+isnt_taken id c d t refused =
+    ap (λ (o : Option Stored). o >>= λ s. replaced id (changed_stored c.counter c.unique c.vnodes c.removed s) (holding d t)) (get_seen stored_of id t) ∙ refused_by id c (holding d t) (get id t) refused
+
 -- ---- room for a change
 
 set_same_by : {A : Type 0} (n : ℕ) (x : A) (p : ℕ × A) (ps rest : Table A) (same below : Bool) → nat_eq p.0 n ≡ same → nat_lt n p.0 ≡ below → (get n ps ≡ Some x → rest ≡ ps) → (below ≡ true → get n ps ≡ None)
@@ -193,6 +203,10 @@ its_room n w x t u c put room e =
 pub on_ok : {T E : Type 0} (r : Result T E) (P Q : Type 0) → (P → Q) → OnOk r P → OnOk r Q
 on_ok {T} {E} (Ok x) P Q f p = f p
 on_ok {T} {E} (Err e) P Q f p = tt
+
+pub if_ok : {T E : Type 0} (r : Result T E) (P Q : T → Type 0) → ((x : T) → P x → Q x) → IfOk r P → IfOk r Q
+if_ok {T} {E} (Ok x) P Q f p = f x p
+if_ok {T} {E} (Err e) P Q f p = tt
 
 none_is : {A : Type 0} (x : A) → ◌≡◌ {A = Option A} None (Some x) → ⊥
 none_is {A} x e = cc

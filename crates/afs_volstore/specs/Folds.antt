@@ -33,6 +33,10 @@ abbrev pub is_none_yet : List (List ℕ) → Bool
 is_none_yet [] = true
 is_none_yet (b ∷ bs) = false
 
+-- these records, before a further one, make this, on any disk
+abbrev pub IsFront : List (List ℕ) → Durable → Type 0
+IsFront records d = (capacity : ℕ) → fold_front capacity records ≡ Some (placed (1 + places_length records) capacity d)
+
 -- the lines of a record, where they are wanted
 abbrev pub wanted_lines : Bool → Effect → List Line
 wanted_lines wanted e = if wanted then map in_words e.lines else []

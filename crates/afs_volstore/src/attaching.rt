@@ -108,7 +108,8 @@ pub(crate) fn take_one(
     ensures lines { IfOk result (λ ls. TellsOne server wanted bytes.now (parts_of state.old) ls) }
     ensures bad { result ≡ Err Bad → IsBadAt first bytes.now (parts_of state.old) }
 {
-    let StoreRecord { head, body } = read(alloc, first, bytes)?;
+    let rec = read(alloc, first, bytes)?;
+    let StoreRecord { head, body } = rec;
     let redo = redo_of(alloc, body)?;
     let lines = if wanted {
         state.lines(server, &head, &redo)?

@@ -1,8 +1,9 @@
 //! The lines of a change, as a restart tells them.
 
-ghost use Rattle.std.specs.Prelude.{◌≡◌, ◌++◌, ◌∷◌, [], Some, None, length, map, min, slice_get, IfOk, OnOk};
+ghost use Rattle.std.specs.Prelude.{◌≡◌, ◌++◌, ◌∷◌, ◌+◌, List, [], Some, None, drop, length, map, min, slice_get, IfOk, OnOk};
 ghost use Rattle.std.specs.Option.{option_copied};
 ghost use Rattle.std.specs.List.{AllByRecursion};
+ghost use Rattle.afs_num.specs.declared.vnodes.Vnode as image;
 ghost use Rattle.afs_ideal.specs.Operations.{last_count};
 ghost use Rattle.afs_ideal.specs.Tables.{get};
 ghost use Rattle.afs_ideal.specs.Volumes.{gone_at, version_at};
@@ -31,17 +32,45 @@ fn image_at(images: &[Vnode], place: usize) -> Option<&Vnode>
     images.get(place)
 }
 
+/// Notes the place of an image, if there is one.
+fn place_one(images: &[Vnode], place: usize, places: &mut Seats<Option<usize>>) -> Mem<()>
+    ensures { OnOk result (with_outcomes (drop (place + 1) images.now) (outcomes_seen images.now places.new.table) ≡ with_outcomes (drop place images.now) (outcomes_seen images.now places.old.table)) }
+{
+    match image_at(images, place) {
+        Some(image) => places.put(image.vnode, Some(place)),
+        None => Ok(()),
+    }
+}
+
 /// The place of the last image of each vnode.
 fn places(alloc: Global, images: &[Vnode]) -> Mem<Seats<Option<usize>>>
     ensures { IfOk result (λ s. outcomes_seen images.now s.table ≡ with_outcomes images.now []) }
 {
     let mut places = Seats::new(alloc);
     for place in 0..images.len() {
-        if let Some(image) = image_at(images, place) {
-            places.put(image.vnode, Some(place))?;
-        }
+        place_one(images, place, &mut places)?;
     }
     Ok(places)
+}
+
+/// The number in a place.
+fn number_at(numbers: &[u32], place: usize) -> Option<u32>
+    ensures { result ≡ slice_get numbers.now place }
+{
+    match numbers.get(place) {
+        Some(number) => Some(*number),
+        None => None,
+    }
+}
+
+/// Notes that a vnode goes, if there is a number in this place.
+fn take_away(removed: &[u32], place: usize, outcomes: &mut Seats<Option<usize>>) -> Mem<()>
+    ensures { OnOk result ((images : List image.Vnode) → with_removed (drop (place + 1) removed.now) (outcomes_seen images outcomes.new.table) ≡ with_removed (drop place removed.now) (outcomes_seen images outcomes.old.table)) }
+{
+    match number_at(removed, place) {
+        Some(number) => outcomes.put(number, None),
+        None => Ok(()),
+    }
 }
 
 /// What becomes of each vnode that a change leaves or takes away: the place of its image, or none where it is gone.
@@ -49,8 +78,8 @@ fn outcomes(alloc: Global, images: &[Vnode], removed: &[u32]) -> Mem<Seats<Optio
     ensures { IfOk result (λ s. outcomes_seen images.now s.table ≡ with_removed removed.now (with_outcomes images.now [])) }
 {
     let mut outcomes = places(alloc, images)?;
-    for number in removed {
-        outcomes.put(*number, None)?;
+    for place in 0..removed.len() {
+        take_away(removed, place, &mut outcomes)?;
     }
     Ok(outcomes)
 }
@@ -120,6 +149,23 @@ fn tell_one(
     }
 }
 
+/// Tells what becomes of the vnode in a place, if there is one.
+fn tell_at(
+    volume: &Volume,
+    images: &[Vnode],
+    outcomes: &Seats<Option<usize>>,
+    place: usize,
+    versions: &mut Versions,
+) -> Mem<()>
+    requires { AllByRecursion IsReadable images.now }
+    ensures { OnOk result (versions.new ++ map version_within (outcome_versions volume.now.head.id (volume_seen volume.now.head volume.now.vnodes.table) (outcomes_seen images.now (drop (place + 1) outcomes.now.table))) ≡ versions.old ++ map version_within (outcome_versions volume.now.head.id (volume_seen volume.now.head volume.now.vnodes.table) (outcomes_seen images.now (drop place outcomes.now.table)))) }
+{
+    match outcomes.at(place) {
+        Some(item) => tell_one(volume, images, item.0, item.1, versions),
+        None => Ok(()),
+    }
+}
+
 /// What becomes of the vnodes of a volume, in ascending order.
 fn all_told(
     alloc: Global,
@@ -132,20 +178,13 @@ fn all_told(
 {
     let mut versions = Versions::new(alloc);
     for place in 0..outcomes.len() {
-        if let Some(item) = outcomes.at(place) {
-            tell_one(volume, images, item.0, item.1, &mut versions)?;
-        }
+        tell_at(volume, images, outcomes, place, &mut versions)?;
     }
     Ok(versions)
 }
 
 /// What becomes of the vnodes of a volume by these images and numbers.
-fn versions_of(
-    alloc: Global,
-    volume: &Volume,
-    images: &[Vnode],
-    removed: &[u32],
-) -> Mem<Versions>
+fn versions_of(alloc: Global, volume: &Volume, images: &[Vnode], removed: &[u32]) -> Mem<Versions>
     requires { AllByRecursion IsReadable images.now }
     ensures { IfOk result (λ vs. vs ≡ map version_within (versions_told volume.now.head.id images.now removed.now (Some (stored_of volume.now)))) }
 {

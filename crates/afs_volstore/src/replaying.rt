@@ -1,9 +1,10 @@
 //! All records of a disk, from the first on.
 
-ghost use Rattle.std.specs.Prelude.{◌≡◌, ◌+◌, ◌++◌, ◌∷◌, ℕ, List, [], Some, nat_eq, length, IfErr, IfNone, IfOk, IfSome, OnOk};
+ghost use Rattle.std.specs.Prelude.{◌≡◌, ◌+◌, ◌++◌, ◌∷◌, ◌<◌, ◌^◌, ℕ, List, [], Some, nat_eq, length, IfErr, IfNone, IfOk, IfSome, OnOk, slice_get, take};
+ghost use Rattle.std.specs.Option.{option_copied};
 ghost use Rattle.afs_num.specs.declared.faults.StoreFault.TheVariants as faults;
 ghost use Rattle.afs_records.specs.Durable.{first_bad, fold_all};
-ghost use Rattle.afs_volstore.specs.Folds.{fold_front, places_length, IsBadAt, TakesOne, TellsLast, TellsOne};
+ghost use Rattle.afs_volstore.specs.Folds.{places_length, IsBadAt, IsFront, TakesOne, TellsLast, TellsOne};
 ghost use Rattle.afs_volstore.specs.Opening.{IsAttachFault};
 ghost use Rattle.afs_volstore.specs.States.{parts_of, placed};
 
@@ -37,17 +38,44 @@ fn take_numbered(
     }
 }
 
+/// The record in a place.
+fn record_in(records: &[Octets], place: usize) -> Option<&Octets>
+    ensures { option_copied result ≡ slice_get records.now place }
+{
+    records.get(place)
+}
+
+/// Takes the record in this place, behind those that stand before it.
+fn take_in_place(
+    alloc: Global,
+    server: Node,
+    state: &mut State,
+    records: &[Octets],
+    place: usize,
+) -> Result<(), StoreFault>
+    requires front { IsFront (take place records.now) (parts_of state.old) }
+    requires bound { place < 2 ^ 63 }
+    ensures front { OnOk result (IsFront (take (place + 1) records.now) (parts_of state.new)) }
+    ensures bad { IfErr result (λ e. (n : ℕ) → e ≡ faults.BadRecord n → (capacity : ℕ) (more : List (List ℕ)) → first_bad capacity (records.now ++ more) ≡ Some n) }
+    ensures refusals { IfErr result (λ e. IsAttachFault e) }
+{
+    let Some(bytes) = record_in(records, place) else {
+        return Ok(());
+    };
+    let number = place as u64 + 1;
+    take_numbered(alloc, server, state, number, false, bytes.as_slice())?;
+    Ok(())
+}
+
 /// What records make that stand before another.
 fn fold_front(alloc: Global, server: Node, records: &[Octets]) -> Result<State, StoreFault>
-    ensures folded { IfOk result (λ s. (capacity : ℕ) → fold_front capacity records.now ≡ Some (placed (1 + places_length records.now) capacity (parts_of s))) }
+    ensures folded { IfOk result (λ s. IsFront records.now (parts_of s)) }
     ensures bad { IfErr result (λ e. (n : ℕ) → e ≡ faults.BadRecord n → (capacity : ℕ) (more : List (List ℕ)) → first_bad capacity (records.now ++ more) ≡ Some n) }
     ensures refusals { IfErr result (λ e. IsAttachFault e) }
 {
     let mut state = State::new(alloc);
-    let mut number = 0;
-    for bytes in records {
-        number += 1;
-        take_numbered(alloc, server, &mut state, number, false, bytes.as_slice())?;
+    for place in 0..records.len() {
+        take_in_place(alloc, server, &mut state, records, place)?;
     }
     Ok(state)
 }

@@ -29,3 +29,6 @@ returns-in-Err-NotSound-clause-bad c = λ e.
       head = c.counted.ensures ∙ ap (λ (h : VolumeHead). record h { counter = c.args.change.counter; unique = c.args.change.unique }) c.into_parts-head.ensures.head;
     } in
     isnt_remade c.args.volume c.args.change c.into_parts-head.result.1.table c.in_ok-after.after.table c.counted.result c.requires.read left (c.in-Err-NotSound.ensures.not_sound (search rules))
+
+pub assemble-requires : goal.assemble-requires
+assemble-requires c = rw c.counted.ensures (record { kind = c.into_parts-head.ensures.fits.kind; name = c.into_parts-head.ensures.fits.name })

@@ -3,7 +3,7 @@ use Rattle.afs_records.specs.Durable.{with_outcomes, with_removed}
 use Rattle.afs_volstore.specs.Telling.{outcomes_seen}
 use Rattle.afs_volstore.proofs.lines.outcomes.Given as goal
 
-abbrev pub invariant-loop-number : goal.invariant-loop-number
-invariant-loop-number l = record {
-  left : with_removed (drop l.number-index l.removed) (outcomes_seen l.fn.images l.outcomes.table) ≡ with_removed l.removed (with_outcomes l.fn.images []);
+abbrev pub invariant-loop-place : goal.invariant-loop-place
+invariant-loop-place l = record {
+  left : with_removed (drop l.place l.removed) (outcomes_seen l.fn.images l.outcomes.table) ≡ with_removed l.removed (with_outcomes l.fn.images []);
 }

@@ -1,7 +1,10 @@
 use Rattle.std.proofs.Common.{◌≡◌, ◌++◌, ◌∷◌, [], ◌∙◌, List, refl, ap, sym, map}
 use Rattle.std.specs.Prelude.{OnOk}
 use Rattle.afs_num.specs.declared.histories.Version.{Version}
+use Rattle.afs_num.specs.declared.volumes.VolumeHead.{VolumeHead}
 use Rattle.afs_ideal.specs.Tables.{get}
+use Rattle.afs_ideal.specs.Volumes.{gone_at}
+use Rattle.afs_volume.specs.Seen.{seen}
 use Rattle.afs_vnode.specs.Stores.{Held}
 use Rattle.afs_volstore.specs.Telling.{version_within}
 use Rattle.afs_volstore.proofs.Redone.{on_ok}
@@ -11,7 +14,7 @@ use Rattle.afs_volstore.proofs.lines.tell_gone.Goals as goal
 pub returns-in-Some : goal.returns-in-Some
 returns-in-Some c =
     on_ok c.push.result (c.push.new.self ≡ c.args.versions.now ++ c.gone.result ∷ []) _
-    (λ pushed. pushed ∙ ap (λ (l : List Version). c.args.versions.now ++ l) (ap (λ (v : Version). v ∷ []) c.gone.ensures ∙ sym (ap (map version_within) (told_gone c.args.volume.now.head.id c.args.number c.args.volume.now.vnodes.table c.in-Some.x.now (ap (λ (s : Held). get c.args.number s.table) (sym c.vnodes.ensures) ∙ sym c.in-Some.ensures.value)))))
+    (λ pushed. pushed ∙ ap (λ (l : List Version). c.args.versions.now ++ l) (ap (λ (v : Version). v ∷ []) (c.gone.ensures ∙ ap (λ (h : VolumeHead). version_within (gone_at h.id c.args.number (seen c.in-Some.x.now))) c.head.ensures.value) ∙ sym (ap (map version_within) (told_gone c.args.volume.now.head.id c.args.number c.args.volume.now.vnodes.table c.in-Some.x.now (ap (λ (s : Held). get c.args.number s.table) (sym c.vnodes.ensures) ∙ sym c.in-Some.ensures.value)))))
     c.push.ensures.ok
 
 pub returns-in-None : goal.returns-in-None

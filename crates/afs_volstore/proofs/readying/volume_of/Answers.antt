@@ -1,7 +1,7 @@
 use Rattle.std.proofs.Common.{◌∙◌, ap, sym, rules}
 use Rattle.afs_vnode.specs.Stores.{Held}
 use Rattle.afs_volume.specs.Assembling.{make_volume}
-use Rattle.afs_volstore.proofs.Readied.{in_order, made_again, no_parts, told_again}
+use Rattle.afs_volstore.proofs.Readied.{head_fits, in_order, made_again, no_parts, told_again}
 use Rattle.afs_volstore.proofs.readying.volume_of.Goals as goal
 
 pub store_of-requires-clause-fits : goal.store_of-requires-clause-fits
@@ -24,3 +24,6 @@ returns-in-Ok-clause-again c =
 pub returns-in-Err-NotSound-clause-bad : goal.returns-in-Err-NotSound-clause-bad
 returns-in-Err-NotSound-clause-bad c = λ e.
     no_parts c.args.given (ap (make_volume c.args.given.head) (sym c.in_ok-vnodes.ensures) ∙ c.in-Err-NotSound.ensures.not_sound (search rules))
+
+pub assemble-requires : goal.assemble-requires
+assemble-requires c = head_fits c.args.given c.requires

@@ -3,7 +3,10 @@ use Rattle.afs_disk.specs.Disk.{LeavesOnly}
 use Rattle.afs_journal.specs.Records.{whole_records, IsBeforeOrAfter}
 use Rattle.afs_journal.proofs.Moments.{weaker}
 use Rattle.afs_num.specs.declared.records.StoreRecord.{StoreRecord}
+use Rattle.afs_num.specs.declared.records.RecordHead.{RecordHead}
 use Rattle.afs_records.specs.Durable.{folded}
+use Rattle.afs_volstore.specs.Called.{IsCaller}
+use Rattle.afs_volstore.proofs.Held.{fits_caller}
 use Rattle.afs_volstore.specs.Preparing.{Waits, WaitsReady}
 use Rattle.afs_volstore.specs.Redos.{record_of}
 use Rattle.afs_volstore.specs.States.{parts_of, placed}
@@ -47,6 +50,13 @@ returns-clause-any_moment g c = λ shut r has bytes told.
     (λ b left. left_around c.one_more_stands.ensures (record_of p.head p.redo) d after.0 bytes b ((c.self.invariant.kept shut_not).stands bytes here) waits.spelled_out.fits after.1 (subst (λ (rec : List ℕ). IsBeforeOrAfter (whole_records bytes) rec b) (sym waits.spelled_out.spelled) left)) in
     subst (λ (q : StoreRecord). LeavesOnly g.D.Disk.moment g.D.Disk.left_since c.args.self.now.disk c.put.new.journal.disk (LeftAround (whole_records bytes) q c.args.self.now.durable)) same
     (subst (λ (s : Store g.row.D.Denot). LeavesOnly g.D.Disk.moment g.D.Disk.left_since s.disk c.put.new.journal.disk (LeftAround (whole_records bytes) (record_of p.head p.redo) s.durable)) c.self.view_is run)
+
+pub redo-requires-clause-caller : goal.redo-requires-clause-caller
+redo-requires-clause-caller g c =
+    let p = c.in-Some.prepared in
+    let is : c.self.inside.prepared ≡ Some p = sym c.replace.ensures.value ∙ c.in-Some.is in
+    let waits : Waits g.D.Disk.limit g.D.Disk.space c.self.inside.journal c.self.inside.state p = subst (WaitsReady g.D.Disk.limit g.D.Disk.space c.self.inside.journal c.self.inside.state) is c.self.invariant.ready in
+    subst (λ (h : RecordHead). IsCaller h.caller) (sym c.in_ok-head.ensures.told.0) (fits_caller (record_of p.head p.redo) waits.spelled_out.fits)
 
 pub returns-clause-taken : goal.returns-clause-taken
 returns-clause-taken g c = λ r has.
