@@ -1,7 +1,7 @@
 -- The fold of records by one more.
-use Rattle.std.proofs.Common.{◌≡◌, ℕ, suc, ◌+◌, ◌<◌, ◌≤◌, Bool, true, false, List, [], ◌∷◌, ◌++◌, length, Option, Some, None, zero, take, drop, nat_eq, slice_get, if◌then◌else◌, refl, sym, ap, subst, ◌∙◌, arith, length-append}
+use Rattle.std.proofs.Common.{◌≡◌, ℕ, suc, ◌+◌, ◌<◌, ◌≤◌, Bool, true, false, List, [], ◌∷◌, ◌++◌, length, Option, Some, None, zero, take, drop, nat_eq, slice_get, if◌then◌else◌, refl, sym, ap, subst, ◌∙◌, arith, length-append, Bor}
 use Rattle.std.proofs.lemmas.Bool.Decides.{nat_tests}
-use Rattle.std.specs.Option.{option_map}
+use Rattle.std.specs.Option.{option_copied, option_map}
 use Rattle.afs_num.specs.declared.types.Node.{Node}
 use Rattle.afs_num.specs.declared.histories.Line.{Line}
 use Rattle.afs_num.specs.declared.records.RecordBody.{RecordBody}
@@ -270,3 +270,7 @@ pub stops_at : (rs more : List (List ℕ)) (i n : ℕ) (b : List ℕ) (d : Durab
 stops_at rs more i n b d at front bad c =
     ap (first_bad c) (split_here rs i b more at)
     ∙ bad_at c (take i rs) b (drop (i + 1) rs ++ more) d n (front c) (bad.0 ∙ ap (λ (k : ℕ). k + 1) (sym (taken_length rs i b at))) (subst (λ (k : ℕ). IsBadAt (nat_eq (k + 1) 1) b d) (sym (taken_length rs i b at)) bad.1)
+
+-- nothing was found in a place
+pub is_none_at : (o : Option (Bor (List ℕ))) (rs : List (List ℕ)) (i : ℕ) → option_copied o ≡ slice_get rs i → o ≡ None → slice_get rs i ≡ None
+is_none_at o rs i found e = sym found ∙ ap option_copied e

@@ -1,7 +1,7 @@
 -- What is done to the volumes in memory is what the fold does to them.
 use Rattle.std.proofs.Common.{◌≡◌, ℕ, suc, ◌+◌, Bool, true, false, not, List, [], ◌∷◌, length, map, Option, Some, None, is_some, nat_eq, nat_lt, if◌then◌else◌, refl, sym, ap, subst, ◌∙◌, arith}
 use Rattle.std.specs.List.{list_all, AllByRecursion}
-use Rattle.std.specs.Prelude.{◌&&◌, Result, Ok, Err, IsSome, IfOk, OnOk}
+use Rattle.std.specs.Prelude.{◌&&◌, Result, Ok, Err, IsSome, IfErr, IfOk, OnOk}
 use Rattle.std.specs.Option.{option_map}
 use Rattle.std.proofs.lemmas.Bool.Decides.{nat_tests}
 use Rattle.std.proofs.lemmas.List.{length-map}
@@ -207,6 +207,10 @@ on_ok {T} {E} (Err e) P Q f p = tt
 pub if_ok : {T E : Type 0} (r : Result T E) (P Q : T → Type 0) → ((x : T) → P x → Q x) → IfOk r P → IfOk r Q
 if_ok {T} {E} (Ok x) P Q f p = f x p
 if_ok {T} {E} (Err e) P Q f p = tt
+
+pub if_err : {T E : Type 0} (r : Result T E) (P Q : E → Type 0) → ((x : E) → P x → Q x) → IfErr r P → IfErr r Q
+if_err {T} {E} (Ok x) P Q f p = tt
+if_err {T} {E} (Err e) P Q f p = f e p
 
 none_is : {A : Type 0} (x : A) → ◌≡◌ {A = Option A} None (Some x) → ⊥
 none_is {A} x e = cc

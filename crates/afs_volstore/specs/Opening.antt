@@ -60,6 +60,12 @@ IsSetUpFault faults.Failed = Unit {0}
 IsSetUpFault faults.OutOfMemory = Unit {0}
 IsSetUpFault refusal = ⊥
 
+-- records can't be folded where one of them can't be taken, or memory was wanting
+abbrev pub IsFoldFault : StoreFault → Type 0
+IsFoldFault (faults.BadRecord number) = Unit {0}
+IsFoldFault faults.OutOfMemory = Unit {0}
+IsFoldFault refusal = ⊥
+
 -- a disk can't be taken up where it failed, a record can't be taken or memory was wanting
 abbrev pub IsAttachFault : StoreFault → Type 0
 IsAttachFault (faults.BadRecord number) = Unit {0}

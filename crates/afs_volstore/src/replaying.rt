@@ -5,7 +5,7 @@ ghost use Rattle.std.specs.Option.{option_copied};
 ghost use Rattle.afs_num.specs.declared.faults.StoreFault.TheVariants as faults;
 ghost use Rattle.afs_records.specs.Durable.{first_bad, fold_all};
 ghost use Rattle.afs_volstore.specs.Folds.{places_length, IsBadAt, IsFront, TakesOne, TellsLast, TellsOne};
-ghost use Rattle.afs_volstore.specs.Opening.{IsAttachFault};
+ghost use Rattle.afs_volstore.specs.Opening.{IsFoldFault};
 ghost use Rattle.afs_volstore.specs.States.{parts_of, placed};
 
 use crate::attaching::take_one;
@@ -29,7 +29,7 @@ fn take_numbered(
     ensures taken { OnOk result (TakesOne (nat_eq number 1) bytes.now (parts_of state.old) (parts_of state.new)) }
     ensures lines { IfOk result (λ ls. TellsOne server wanted bytes.now (parts_of state.old) ls) }
     ensures bad { IfErr result (λ e. (n : ℕ) → e ≡ faults.BadRecord n → (n ≡ number) × IsBadAt (nat_eq number 1) bytes.now (parts_of state.old)) }
-    ensures refusals { IfErr result (λ e. IsAttachFault e) }
+    ensures refusals { IfErr result (λ e. IsFoldFault e) }
 {
     match take_one(alloc, server, state, number == 1, wanted, bytes) {
         Ok(lines) => Ok(lines),
@@ -57,7 +57,7 @@ fn take_in_place(
     requires bound { place < 2 ^ 63 }
     ensures front { OnOk result (IsFront (take (place + 1) records.now) (parts_of state.new)) }
     ensures bad { IfErr result (λ e. (n : ℕ) → e ≡ faults.BadRecord n → (capacity : ℕ) (more : List (List ℕ)) → first_bad capacity (records.now ++ more) ≡ Some n) }
-    ensures refusals { IfErr result (λ e. IsAttachFault e) }
+    ensures refusals { IfErr result (λ e. IsFoldFault e) }
 {
     let Some(bytes) = record_in(records, place) else {
         return Ok(());
@@ -71,7 +71,7 @@ fn take_in_place(
 fn fold_front(alloc: Global, server: Node, records: &[Octets]) -> Result<State, StoreFault>
     ensures folded { IfOk result (λ s. IsFront records.now (parts_of s)) }
     ensures bad { IfErr result (λ e. (n : ℕ) → e ≡ faults.BadRecord n → (capacity : ℕ) (more : List (List ℕ)) → first_bad capacity (records.now ++ more) ≡ Some n) }
-    ensures refusals { IfErr result (λ e. IsAttachFault e) }
+    ensures refusals { IfErr result (λ e. IsFoldFault e) }
 {
     let mut state = State::new(alloc);
     for place in 0..records.len() {
@@ -101,7 +101,7 @@ pub(crate) fn fold(
     ensures folded { IfOk result (λ r. (capacity : ℕ) → fold_all capacity records.now ≡ Some (placed (1 + places_length records.now) capacity (parts_of r.0))) }
     ensures lines { IfOk result (λ r. TellsLast server wanted records.now r.1) }
     ensures bad { IfErr result (λ e. (n : ℕ) → e ≡ faults.BadRecord n → (capacity : ℕ) → first_bad capacity records.now ≡ Some n) }
-    ensures refusals { IfErr result (λ e. IsAttachFault e) }
+    ensures refusals { IfErr result (λ e. IsFoldFault e) }
 {
     let Some((front, last)) = split_last(records) else {
         return Err(StoreFault::BadRecord(1));
