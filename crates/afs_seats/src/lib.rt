@@ -1,0 +1,6 @@
+//! Items by ascending numbers.
+#![tactic(auto)]
+
+mod seats;
+
+pub use seats::Seats;

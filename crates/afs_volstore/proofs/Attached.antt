@@ -1,0 +1,109 @@
+-- A store over a journal that was taken up.
+use Rattle.std.proofs.Common.{◌≡◌, ℕ, ◌+◌, Bool, true, false, not, List, [], ◌∷◌, length, map, Option, Some, None, is_some, if◌then◌else◌, refl, sym, ap, subst, ◌∙◌, arith}
+use Rattle.std.specs.Option.{option_map}
+use Rattle.afs_num.specs.declared.faults.StoreFault.{StoreFault}
+use Rattle.afs_num.specs.declared.faults.StoreFault.TheVariants as faults
+use Rattle.afs_num.specs.declared.histories.Line.{Line}
+use Rattle.afs_num.specs.declared.records.Mark.{Mark}
+use Rattle.afs_num.specs.declared.types.Node.{Node}
+use Rattle.afs_disk.specs.Disk.{Setting}
+use Rattle.afs_journal.specs.Log.{IsJournal}
+use Rattle.afs_journal.specs.Records.{journal_bytes, whole_records}
+use Rattle.afs_records.specs.Durable.{Durable, Effect, fold_all, StandFor}
+use Rattle.afs_records.specs.Stands.{Stands}
+use Rattle.afs_volstore.specs.Folds.{places_length, wanted_lines, TellsLast}
+use Rattle.afs_volstore.specs.Opening.{last_effect, lines_begun, lines_unless_told, same_mark, IsAttachFault, IsFoldFault}
+use Rattle.afs_volstore.specs.States.{placed}
+use Rattle.afs_volstore.specs.Stores.{IsCaused, IsCounted, IsKept}
+use Rattle.afs_volstore.specs.Telling.{in_words}
+use Rattle.afs_volstore.proofs.FoldsOn.{journal_length}
+
+some_is : (x y : List ℕ) → Some x ≡ Some y → x ≡ y
+some_is x y q = cc
+
+pub some_bytes : (o : Option (List ℕ)) → is_some o ≡ true → (b : List ℕ) × (o ≡ Some b)
+some_bytes None e = absurd cc
+some_bytes (Some b) e = (b, refl)
+
+-- the journal is as long as its records' places
+pub stands_so : (gate limit size : ℕ) (parts : Durable) (records : List (List ℕ)) → length (journal_bytes records) ≡ size → size ≡ gate + 1 → fold_all limit records ≡ Some (placed (1 + places_length records) limit parts)
+    → StandFor records (placed (gate + 1) limit parts)
+stands_so gate limit size parts records long ends folds =
+    folds ∙ ap (λ (j : ℕ). Some (placed j limit parts)) (let z : 1 + places_length records ≡ gate + 1 = omega (arith, long, ends, journal_length records) in z)
+
+pub kept_so : (gate limit size : ℕ) (parts : Durable) (records : List (List ℕ)) (seen : Option (List ℕ)) (may_leave : List ℕ → Type 0) → IsJournal records seen may_leave → ((bytes : List ℕ) → seen ≡ Some bytes → length bytes ≡ size) → size ≡ gate + 1
+    → fold_all limit records ≡ Some (placed (1 + places_length records) limit parts) → IsKept (placed (gate + 1) limit parts) seen may_leave
+kept_so gate limit size parts records seen may_leave journal measures ends folds = record {
+  stands = λ bytes at.
+      let here : journal_bytes records ≡ bytes = some_is (journal_bytes records) bytes (sym journal.now ∙ at) in
+      subst (λ (rs : List (List ℕ)). StandFor rs (placed (gate + 1) limit parts)) (sym (ap whole_records (sym here) ∙ journal.stands)) (stands_so gate limit size parts records (measures (journal_bytes records) journal.now) ends folds);
+  durable = λ bytes at c left. journal.durable c left ∙ some_is (journal_bytes records) bytes (sym journal.now ∙ at);
+}
+
+-- what is kept where the disk told its bytes before
+pub kept_where : (d : Durable) (seen before : Option (List ℕ)) (may_leave : List ℕ → Type 0) → (is_some seen ≡ true → is_some before ≡ true) → ((bytes : List ℕ) → before ≡ Some bytes → IsKept d seen may_leave) → IsKept d seen may_leave
+kept_where d seen before may_leave told kept = record {
+  stands = λ bytes at. (let was = some_bytes before (told (ap is_some at)) in (kept was.0 was.1).stands bytes at);
+  durable = λ bytes at. (let was = some_bytes before (told (ap is_some at)) in (kept was.0 was.1).durable bytes at);
+}
+
+-- what records that were found make
+pub record AreFolded (found slice : List (List ℕ)) (parts : Durable) : Type 0 where
+  pub same : slice ≡ found
+  pub folds : (c : ℕ) → fold_all c slice ≡ Some (placed (1 + places_length slice) c parts)
+
+pub found_fold : (found slice records : List (List ℕ)) (parts : Durable) (c : ℕ) → AreFolded found slice parts → found ≡ records → fold_all c records ≡ Some (placed (1 + places_length records) c parts)
+found_fold found slice records parts c are is = subst (λ (rs : List (List ℕ)). fold_all c rs ≡ Some (placed (1 + places_length rs) c parts)) (are.same ∙ is) (are.folds c)
+
+pub kept_taken_up : (gate limit size : ℕ) (parts : Durable) (found slice : List (List ℕ)) (before seen : Option (List ℕ)) (may_leave : List ℕ → Type 0) → AreFolded found slice parts → ((bytes : List ℕ) → before ≡ Some bytes → found ≡ whole_records bytes)
+    → ((bytes : List ℕ) → before ≡ Some bytes → IsJournal (whole_records bytes) seen may_leave) → (is_some seen ≡ true → is_some before ≡ true) → ((bytes : List ℕ) → seen ≡ Some bytes → length bytes ≡ size) → size ≡ gate + 1
+    → IsKept (placed (gate + 1) limit parts) seen may_leave
+kept_taken_up gate limit size parts found slice before seen may_leave are is rests told measures ends =
+    kept_where (placed (gate + 1) limit parts) seen before may_leave told
+    (λ bytes at. kept_so gate limit size parts (whole_records bytes) seen may_leave (rests bytes at) measures ends (found_fold found slice (whole_records bytes) parts limit are (is bytes at)))
+
+pub stands_taken_up : (gate limit size : ℕ) (parts : Durable) (found slice : List (List ℕ)) (seen : Option (List ℕ)) (may_leave : List ℕ → Type 0) (bytes : List ℕ) → AreFolded found slice parts → found ≡ whole_records bytes → IsJournal (whole_records bytes) seen may_leave
+    → ((content : List ℕ) → seen ≡ Some content → length content ≡ size) → size ≡ gate + 1 → Stands bytes (placed (gate + 1) limit parts)
+stands_taken_up gate limit size parts found slice seen may_leave bytes are is rests measures ends =
+    stands_so gate limit size parts (whole_records bytes) (measures (journal_bytes (whole_records bytes)) rests.now) ends (found_fold found slice (whole_records bytes) parts limit are is)
+
+-- so many records are found as stand there
+pub counted_taken_up : (count : ℕ) (found : List (List ℕ)) (before seen : Option (List ℕ)) (may_leave : List ℕ → Type 0) → count ≡ length found → ((bytes : List ℕ) → before ≡ Some bytes → found ≡ whole_records bytes)
+    → ((bytes : List ℕ) → before ≡ Some bytes → IsJournal (whole_records bytes) seen may_leave) → (is_some seen ≡ true → is_some before ≡ true) → IsCounted count seen
+counted_taken_up count found before seen may_leave counted is rests told bytes at =
+    let was = some_bytes before (told (ap is_some at)) in
+    let here : whole_records bytes ≡ whole_records was.0 = ap whole_records (some_is bytes (journal_bytes (whole_records was.0)) (sym at ∙ (rests was.0 was.1).now)) ∙ (rests was.0 was.1).stands in
+    ap length here ∙ (ap length (sym (is was.0 was.1)) ∙ sym counted)
+
+-- ---- the lines of a restart
+
+by_mark : (b : Bool) (o : Option Effect) → option_map (λ (e : Effect). if b then [] else map in_words e.lines) o ≡ option_map (wanted_lines (not b)) o
+by_mark true None = refl
+by_mark true (Some e) = refl
+by_mark false None = refl
+by_mark false (Some e) = refl
+
+pub are_begun : (node : Node) (told : Mark) (c count : ℕ) (records found : List (List ℕ)) (b : Bool) (ls : List Line) → found ≡ records → count ≡ length found → b ≡ same_mark (record { generation = 0; records = count }) told → TellsLast node (not b) found ls
+    → lines_begun node told c records ≡ Some ls
+are_begun node told c count records found b ls is counted mark tells =
+    let same : same_mark (record { generation = 0; records = length records }) told ≡ b =
+    ap (λ (n : ℕ). same_mark (record { generation = 0; records = n }) told) (ap length (sym is) ∙ sym counted) ∙ sym mark in
+    ap (λ (m : Bool). option_map (λ (e : Effect). if m then [] else map in_words e.lines) (last_effect node c records)) same
+    ∙ (by_mark b (last_effect node c records) ∙ (ap (λ (rs : List (List ℕ)). option_map (wanted_lines (not b)) (last_effect node c rs)) (sym is) ∙ tells c))
+
+-- ---- faults
+
+-- a fault that isn't the disk's has no cause there
+pub fault_without : (setting : Setting) (last before now own_before own_now : ℕ) (e : StoreFault) → IsFoldFault e → IsCaused setting last before now own_before own_now e
+fault_without setting last before now own_before own_now (faults.Full used capacity) is = tt
+fault_without setting last before now own_before own_now faults.Failed is = absurd is
+fault_without setting last before now own_before own_now faults.Closed is = tt
+fault_without setting last before now own_before own_now (faults.BadRecord n) is = tt
+fault_without setting last before now own_before own_now faults.OutOfMemory is = tt
+
+pub fault_at_attach : (e : StoreFault) → IsFoldFault e → IsAttachFault e
+fault_at_attach (faults.Full used capacity) is = is
+fault_at_attach faults.Failed is = tt
+fault_at_attach faults.Closed is = is
+fault_at_attach (faults.BadRecord n) is = tt
+fault_at_attach faults.OutOfMemory is = tt

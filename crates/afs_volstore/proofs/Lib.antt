@@ -1,0 +1,10 @@
+mod Attached
+mod Changed
+mod Folding
+mod FoldsOn
+mod Held
+mod Kept
+mod Readied
+mod Redone
+mod Told
+mod Waiting

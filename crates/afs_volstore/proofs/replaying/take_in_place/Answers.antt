@@ -1,0 +1,31 @@
+use Rattle.std.proofs.Common.{◌≡◌, ◌+◌, ◌∙◌, ℕ, List, Some, None, ap, sym, subst, slice_get, take, nat_eq, rules}
+use Rattle.std.specs.Prelude.{IfErr}
+use Rattle.afs_num.specs.declared.faults.StoreFault.{StoreFault}
+use Rattle.afs_num.specs.declared.faults.StoreFault.TheVariants as faults
+use Rattle.afs_volstore.specs.Folds.{IsBadAt, IsFront, TakesOne}
+use Rattle.afs_volstore.specs.States.{parts_of}
+use Rattle.afs_volstore.proofs.FoldsOn.{behind_none, goes_on, is_none_at, stops_at}
+use Rattle.afs_volstore.proofs.Redone.{if_err}
+use Rattle.afs_volstore.proofs.replaying.take_in_place.Goals as goal
+
+pub returns-in_default-clause-front : goal.returns-in_default-clause-front
+returns-in_default-clause-front c =
+    let gone : c.record_in.result ≡ None = search rules in
+    let none : slice_get c.args.records.now c.args.place ≡ None = is_none_at c.record_in.result c.args.records.now c.args.place c.record_in.ensures gone in
+    subst (λ (rs : List (List ℕ)). IsFront rs (parts_of c.args.state.now)) (sym (behind_none c.args.records.now c.args.place none)) c.requires.front
+
+pub returns-in_err-take_numbered-clause-bad : goal.returns-in_err-take_numbered-clause-bad
+returns-in_err-take_numbered-clause-bad c =
+    if_err c.from_residual.result
+    (λ (e : StoreFault). (n : ℕ) → e ≡ faults.BadRecord n → (n ≡ c.args.place + 1) × IsBadAt (nat_eq (c.args.place + 1) 1) c.as_slice.result.now (parts_of c.args.state.now))
+    _
+    (λ e bad n is capacity more.
+    stops_at c.args.records.now more c.args.place n c.in-Some.bytes.now (parts_of c.args.state.now) (sym c.in-Some.ensures) c.requires.front
+    ((bad n is).0, subst (λ (b : List ℕ). IsBadAt (nat_eq (c.args.place + 1) 1) b (parts_of c.args.state.now)) c.as_slice.ensures (bad n is).1)
+    capacity)
+    (search rules)
+
+pub returns-clause-front : goal.returns-clause-front
+returns-clause-front c =
+    goes_on c.args.records.now c.args.place c.in-Some.bytes.now (parts_of c.args.state.now) (parts_of c.take_numbered.new.state) (sym c.in-Some.ensures) c.requires.front
+    (subst (λ (b : List ℕ). TakesOne (nat_eq (c.args.place + 1) 1) b (parts_of c.args.state.now) (parts_of c.take_numbered.new.state)) c.as_slice.ensures c.in_ok-take_numbered.ensures.taken)

@@ -1,0 +1,11 @@
+pub mod Called
+pub mod Changing
+pub mod Folds
+pub mod Numbered
+pub mod Opening
+pub mod Preparing
+pub mod Redoing
+pub mod Redos
+pub mod States
+pub mod Stores
+pub mod Telling

@@ -1,0 +1,82 @@
+-- What a disk that is attached, or set up, makes a store of.
+use Rattle.std.specs.Prelude.{◌≡◌, ◌≤◌, ◌⊎◌, ◌&&◌, ℕ, List, [], ◌∷◌, Bool, Option, Some, None, map, nat_eq, if◌then◌else◌}
+use Rattle.std.specs.Option.{option_map}
+use Rattle.afs_num.specs.declared.types.Node.{Node}
+use Rattle.afs_num.specs.declared.histories.Line.{Line}
+use Rattle.afs_num.specs.declared.faults.StoreFault.{StoreFault}
+use Rattle.afs_num.specs.declared.faults.StoreFault.TheVariants as faults
+use Rattle.afs_num.specs.declared.records.Mark.{Mark}
+use Rattle.afs_num.specs.declared.records.StoreRecord.{StoreRecord}
+use Rattle.afs_num.specs.declared.scripts.VolumeLine.{VolumeLine}
+use Rattle.afs_shape.specs.Taking.{◌>>=◌}
+use Rattle.afs_records.specs.Records.{record_at, FitsRecord}
+use Rattle.afs_disk.specs.Disk.{Setting}
+use Rattle.afs_journal.specs.Records.{whole_records}
+use Rattle.afs_records.specs.Changes.{first_record, set_up}
+use Rattle.afs_records.specs.Stands.{Stands}
+use Rattle.afs_records.specs.Durable.{Durable, Effect, effect_of, first_folded, folded, mark_of, nothing_on}
+use Rattle.afs_volstore.specs.Telling.{in_words}
+
+-- ---- the last record
+
+-- what the last of these records tells, each taken after the one before
+abbrev pub last_from : Node → List (List ℕ) → Durable → Effect → Option Effect
+last_from node [] d e = Some e
+last_from node (bytes ∷ rest) d e = record_at bytes >>= λ r. (folded r d >>= λ after. last_from node rest after (effect_of node r d))
+
+abbrev pub last_effect : Node → ℕ → List (List ℕ) → Option Effect
+last_effect node capacity [] = None
+last_effect node capacity (bytes ∷ rest) =
+    record_at bytes >>= λ r. (first_folded r (nothing_on capacity) >>= λ after. last_from node rest after (effect_of node r (nothing_on capacity)))
+
+abbrev pub same_mark : Mark → Mark → Bool
+same_mark a b = nat_eq a.generation b.generation && nat_eq a.records b.records
+
+-- A restart begins with the lines of the last record where the mark of the disk isn't the one that was told.
+abbrev pub lines_unless_told : Mark → List (List ℕ) → Effect → List Line
+lines_unless_told told records e = if same_mark (mark_of records) told then [] else map in_words e.lines
+
+abbrev pub lines_begun : Node → Mark → ℕ → List (List ℕ) → Option (List Line)
+lines_begun node told capacity records = option_map (lines_unless_told told records) (last_effect node capacity records)
+
+-- ---- set-up
+
+-- The lines of set-up are accepted, each volume's name is one that a volume may have, and their record is one that a disk may have.
+pub record CanBeSetUp (ls : List VolumeLine) : Type 0 where
+  pub first : StoreRecord
+  pub accepted : first_record ls ≡ Some first
+  pub fits : FitsRecord first
+  pub after : Durable
+  pub taken : first_folded first (nothing_on 0) ≡ Some after
+
+-- what a disk that was empty stands for while the lines are set up: for nothing, or for all
+abbrev pub IsSetUpSoFar : ℕ → List VolumeLine → List ℕ → Type 0
+IsSetUpSoFar capacity ls bytes = (whole_records bytes ≡ []) ⊎ ((d : Durable) × ((set_up capacity ls ≡ Some d) × Stands bytes d))
+
+-- set-up is refused where the record doesn't fit, the disk failed or memory was wanting
+abbrev pub IsSetUpFault : StoreFault → Type 0
+IsSetUpFault (faults.Full used capacity) = Unit {0}
+IsSetUpFault faults.Failed = Unit {0}
+IsSetUpFault faults.OutOfMemory = Unit {0}
+IsSetUpFault refusal = ⊥
+
+-- records can't be folded where one of them can't be taken, or memory was wanting
+abbrev pub IsFoldFault : StoreFault → Type 0
+IsFoldFault (faults.BadRecord number) = Unit {0}
+IsFoldFault faults.OutOfMemory = Unit {0}
+IsFoldFault refusal = ⊥
+
+-- a disk can't be taken up where it failed, a record can't be taken or memory was wanting
+abbrev pub IsAttachFault : StoreFault → Type 0
+IsAttachFault (faults.BadRecord number) = Unit {0}
+IsAttachFault faults.Failed = Unit {0}
+IsAttachFault faults.OutOfMemory = Unit {0}
+IsAttachFault refusal = ⊥
+
+-- what set-up does to a disk's counts: none falls, and it is set as it was
+pub record Moved {D : Type 0} (faults own_faults calls : D → ℕ) (setting : D → Setting) (limit : D → ℕ) (old new : D) : Type 0 where
+  pub never_falls : faults old ≤ faults new
+  pub own_never_falls : own_faults old ≤ own_faults new
+  pub counted : calls old ≤ calls new
+  pub same_setting : setting new ≡ setting old
+  pub same_limit : limit new ≡ limit old

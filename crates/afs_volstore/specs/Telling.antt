@@ -1,0 +1,39 @@
+-- The lines of a change in words: a count that has no word is told as the last.
+use Rattle.std.specs.Prelude.{ℕ, ◌++◌, List, [], ◌∷◌, Option, Some, None, map, min, slice_get}
+use Rattle.afs_num.specs.declared.histories.Line.{Line}
+use Rattle.afs_num.specs.declared.histories.Line.TheVariants as lines
+use Rattle.afs_num.specs.declared.histories.Version.{Version}
+use Rattle.afs_ideal.specs.Images.{Image, value_of}
+use Rattle.afs_ideal.specs.Operations.{last_count}
+use Rattle.afs_ideal.specs.Tables.{Table, get}
+use Rattle.afs_ideal.specs.Volumes.{Vnode, Volume, version_at}
+use Rattle.afs_records.specs.Durable.{gone_versions}
+
+-- ---- counts
+
+-- A server changes nothing whose next count has no word, so this is another version only for a record that no server made.
+abbrev pub version_within : Version → Version
+version_within v = record v { index = min v.index last_count; data_version = min v.data_version last_count }
+
+abbrev pub in_words : Line → Line
+in_words (lines.Change server key count) = lines.Change server key (min count last_count)
+in_words (lines.Version v) = lines.Version (version_within v)
+in_words l = l
+
+-- ---- what becomes of each vnode, by the place of its image
+
+abbrev pub value_there : Option Image → Option Vnode
+value_there None = None
+value_there (Some x) = value_of x
+
+abbrev pub outcome_at : List Image → Option ℕ → Option Vnode
+outcome_at is None = None
+outcome_at is (Some i) = value_there (slice_get is i)
+
+abbrev pub outcomes_seen : List Image → Table (Option ℕ) → Table (Option Vnode)
+outcomes_seen is t = map (λ (p : ℕ × Option ℕ). (p.0, outcome_at is p.1)) t
+
+-- what one of them tells
+abbrev pub told_at : ℕ → Volume → ℕ → Option Vnode → List Version
+told_at id v n (Some x) = version_at id n x ∷ []
+told_at id v n None = gone_versions id n (get n v.vnodes)

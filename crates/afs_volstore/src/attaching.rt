@@ -1,0 +1,121 @@
+//! The records of a disk, taken one after the other.
+
+ghost use Rattle.std.specs.Prelude.{◌≡◌, ◌+◌, ◌++◌, ◌<◌, ◌^◌, ℕ, List, Err, None, Some, true, length, IfErr, IfOk, OnOk};
+ghost use Rattle.std.specs.Option.{option_map};
+ghost use Rattle.afs_num.specs.declared.faults.StoreFault.TheVariants as faults;
+ghost use Rattle.afs_records.specs.Durable.{body_taken, first_bad, fold_all, is_first, noted};
+ghost use Rattle.afs_records.specs.Records.{record_at, record_bytes, FitsRecord};
+ghost use Rattle.afs_volstore.specs.Called.{IsCaller};
+ghost use Rattle.afs_volstore.specs.Folds.{fold_front, is_none_yet, places_length, read_taken, IsBadAt, TakesNone, TakesOne, TellsLast, TellsOne};
+ghost use Rattle.afs_volstore.specs.Redoing.{FitsRedo};
+ghost use Rattle.afs_volstore.specs.Redos.{body_of, record_of, IsReady};
+ghost use Rattle.afs_volstore.specs.States.{parts_of, placed};
+ghost use Rattle.afs_volstore.specs.declared.faults.Unfit.TheVariants.{Bad};
+
+use crate::altering::change_in;
+use crate::faults::Unfit;
+use crate::memory::State;
+use crate::readying::redo_of;
+use crate::redo::Redo;
+use crate::redoing::put_volumes;
+use afs_num::faults::StoreFault;
+use afs_num::histories::Lines;
+use afs_num::records::{RecordBody, RecordHead, StoreRecord};
+use afs_num::sequences::Octets;
+use afs_num::types::Node;
+use afs_record::faults::RecordFault;
+use afs_record::records::decode_record;
+use std::alloc::Global;
+
+impl State {
+    /// Does what a record's body says. `Bad` where it can't be taken; then the state may be any.
+    fn take_body(&mut self, redo: Redo) -> Result<(), Unfit>
+        requires ready { IsReady redo }
+        requires images { FitsRedo redo }
+        ensures taken { OnOk result (body_taken (body_of redo) (parts_of self.old) ≡ Some (parts_of self.new)) }
+        ensures bad { result ≡ Err Bad → body_taken (body_of redo) (parts_of self.old) ≡ None }
+    {
+        match redo {
+            Redo::Volumes(added) => {
+                self.volumes.reserve(added.len())?;
+                if put_volumes(&mut self.volumes, added) {
+                    Ok(())
+                } else {
+                    Err(Unfit::Bad)
+                }
+            }
+            Redo::Change(id, change) => change_in(self.alloc, &mut self.volumes, id, change),
+            Redo::Start(boot) => {
+                self.start(boot);
+                Ok(())
+            }
+        }
+    }
+
+    /// Does what a record says. `Bad` where it can't be taken; then the state may be any.
+    fn take(&mut self, head: RecordHead, redo: Redo) -> Result<(), Unfit>
+        requires caller { IsCaller head.caller }
+        requires ready { IsReady redo }
+        requires images { FitsRedo redo }
+        ensures taken { OnOk result (option_map (noted head) (body_taken (body_of redo) (parts_of self.old)) ≡ Some (parts_of self.new)) }
+        ensures bad { result ≡ Err Bad → body_taken (body_of redo) (parts_of self.old) ≡ None }
+    {
+        self.take_body(redo)?;
+        self.reserve_head()?;
+        self.note(head);
+        Ok(())
+    }
+}
+
+/// Whether a record tells the volumes of set-up.
+fn is_first(body: &RecordBody) -> bool
+    ensures { result ≡ is_first body.now }
+{
+    match body {
+        RecordBody::First { .. } => true,
+        _ => false,
+    }
+}
+
+/// A record as it is read. `Bad` where the bytes have no form of a record, or the first isn't one of set-up.
+fn read(alloc: Global, first: bool, bytes: &[u8]) -> Result<StoreRecord, Unfit>
+    ensures read { IfOk result (λ r. record_at bytes.now ≡ Some r) }
+    ensures fits { IfOk result (λ r. FitsRecord r × (record_bytes r ≡ bytes.now)) }
+    ensures first { IfOk result (λ r. first ≡ true → is_first r.body ≡ true) }
+    ensures bad { result ≡ Err Bad → TakesNone first bytes.now }
+{
+    let rec = match decode_record(alloc, bytes) {
+        Ok(rec) => rec,
+        Err(RecordFault::NoForm) => return Err(Unfit::Bad),
+        Err(RecordFault::OutOfMemory) => return Err(Unfit::OutOfMemory),
+    };
+    if first && !is_first(&rec.body) {
+        return Err(Unfit::Bad);
+    }
+    Ok(rec)
+}
+
+/// Takes one record more; the lines that it tells, where they are wanted.
+pub(crate) fn take_one(
+    alloc: Global,
+    server: Node,
+    state: &mut State,
+    first: bool,
+    wanted: bool,
+    bytes: &[u8],
+) -> Result<Lines, Unfit>
+    ensures taken { OnOk result (TakesOne first bytes.now (parts_of state.old) (parts_of state.new)) }
+    ensures lines { IfOk result (λ ls. TellsOne server wanted bytes.now (parts_of state.old) ls) }
+    ensures bad { result ≡ Err Bad → IsBadAt first bytes.now (parts_of state.old) }
+{
+    let rec = read(alloc, first, bytes)?;
+    let StoreRecord { head, body } = rec;
+    let redo = redo_of(alloc, body)?;
+    let lines = if wanted {
+        state.lines(server, &head, &redo)?
+    } else {
+        Lines::new(alloc)
+    };
+    state.take(head, redo)?;
+    Ok(lines)
+}

@@ -1,0 +1,22 @@
+//! What a server keeps on its disk: its volumes, its boot number, its stamps and the replies that outlive it.
+#![tactic(auto)]
+
+mod altering;
+mod attaching;
+mod committing;
+mod faults;
+mod fused;
+mod lines;
+mod memory;
+mod opening;
+mod prepared;
+mod readying;
+mod redo;
+mod redoing;
+mod replaying;
+mod setup;
+mod state;
+mod store;
+mod taking_up;
+
+pub use store::VolStore;

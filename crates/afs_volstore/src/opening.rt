@@ -1,0 +1,68 @@
+//! A store is made of a disk at a restart.
+
+ghost use Rattle.std.specs.Prelude.{◌≡◌, ◌≤◌, ◌+◌, ℕ, List, None, Some, false, length, IfOk, IfErr, MatchResult, IsSome};
+ghost use Rattle.afs_num.specs.declared.faults.StoreFault.TheVariants as faults;
+ghost use Rattle.afs_disk.specs.Disk.{LeavesOnly, PassesAll};
+ghost use Rattle.afs_journal.specs.Log.{IsJournal, Rests, StandsAsBefore, Taken};
+ghost use Rattle.afs_journal.specs.Records.{whole_records};
+ghost use Rattle.afs_records.specs.Durable.{first_bad};
+ghost use Rattle.afs_records.specs.Stands.{Stands};
+ghost use Rattle.afs_volstore.specs.Opening.{lines_begun, same_mark, IsAttachFault};
+ghost use Rattle.afs_volstore.specs.Stores.{IsCaused, IsKept};
+
+use crate::replaying::fold;
+use crate::store::VolStore;
+use crate::taking_up::take_up;
+use afs_disk::Disk;
+use afs_journal::Journal;
+use afs_num::faults::StoreFault;
+use afs_num::histories::Lines;
+use afs_num::records::Mark;
+use afs_num::types::Node;
+use std::alloc::Global;
+
+/// Whether the mark that was told is that of the disk.
+fn is_told<D: Disk>(journal: &Journal<D>, told: Mark) -> bool
+    ensures { result ≡ same_mark (record { generation = 0; records = journal.now.count }) told }
+{
+    told.generation == 0 && told.records as u64 == journal.count()
+}
+
+impl<D: Disk> VolStore<D> {
+    /// The first half of a restart: takes the records of a disk one after the other. The lines are the effect lines of the
+    /// last record where the disk's mark isn't the one that was told, else none. `BadRecord` with the number of the first
+    /// record that can't be taken. Each refusal hands the disk back; a crash at any moment leaves records that one before
+    /// the call might have left.
+    pub fn attach(
+        alloc: Global,
+        disk: D,
+        node: Node,
+        told: Mark,
+    ) -> Result<(VolStore<D>, Lines), (StoreFault, D)>
+        requires { D.limit disk ≤ 268435456 }
+        ensures stands { IfOk result (λ r. (bytes : List ℕ) → D.seen disk ≡ Some bytes → Stands bytes r.0.durable) }
+        ensures lines { IfOk result (λ r. (bytes : List ℕ) → D.seen disk ≡ Some bytes → lines_begun node told (D.limit disk) (whole_records bytes) ≡ Some r.1) }
+        ensures at_rest { IfOk result (λ r. (bytes : List ℕ) → D.seen disk ≡ Some bytes → IsJournal (whole_records bytes) (D.seen r.0.disk) (D.may_leave r.0.disk)) }
+        ensures told { IfOk result (λ r. IsSome (D.seen r.0.disk) → IsSome (D.seen disk)) }
+        ensures count { IfOk result (λ r. (bytes : List ℕ) → D.seen disk ≡ Some bytes → r.0.count ≡ length (whole_records bytes)) }
+        ensures rest { IfOk result (λ r. r.0 ≡ record { durable = r.0.durable; disk = r.0.disk; node = node; prepared = None; closed = false; count = r.0.count; drawn = 0 }) }
+        ensures capacity { IfOk result (λ r. r.0.durable.capacity ≡ D.limit disk) }
+        ensures kept { IfOk result (λ r. IsSome (D.seen disk) → IsKept r.0.durable (D.seen r.0.disk) (D.may_leave r.0.disk)) }
+        ensures bad { IfErr result (λ e. (n : ℕ) → e.0 ≡ faults.BadRecord n → (bytes : List ℕ) → D.seen disk ≡ Some bytes → first_bad (D.limit disk) (whole_records bytes) ≡ Some n) }
+        ensures refusals { IfErr result (λ e. IsAttachFault e.0) }
+        ensures any_moment { (bytes : List ℕ) → D.seen disk ≡ Some bytes → MatchResult result
+            (λ r. LeavesOnly D.moment D.left_since disk r.0.disk (StandsAsBefore (D.may_leave disk)))
+            (λ e. LeavesOnly D.moment D.left_since disk e.1 (StandsAsBefore (D.may_leave disk))) }
+        ensures ok { IfOk result (λ r. Taken D.faults D.own_faults D.calls D.setting disk r.0.disk × PassesAll (D.setting disk) (D.calls disk) (D.calls r.0.disk)) }
+        ensures err { IfErr result (λ e. Taken D.faults D.own_faults D.calls D.setting disk e.1 × IsCaused (D.setting disk) (D.calls e.1) (D.faults disk) (D.faults e.1) (D.own_faults disk) (D.own_faults e.1) e.0) }
+        ensures rests { IfOk result (λ r. (bytes : List ℕ) → D.seen disk ≡ Some bytes → Rests bytes → D.calls r.0.disk ≡ D.calls disk + 2) }
+        ensures limit { MatchResult result (λ r. D.limit r.0.disk ≡ D.limit disk) (λ e. D.limit e.1 ≡ D.limit disk) }
+    {
+        let journal = take_up(alloc, disk)?;
+        let wanted = !is_told(&journal, told);
+        match fold(alloc, node, journal.records().as_slice(), wanted) {
+            Ok((state, lines)) => Ok((VolStore::of(alloc, journal, node, state), lines)),
+            Err(fault) => Err((fault, journal.into_disk())),
+        }
+    }
+}
