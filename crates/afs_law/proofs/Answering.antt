@@ -1,12 +1,12 @@
 use Rattle.afs_law.proofs.Giving.{begin_lines, begun_not, gifts_later, gives_goes, idle_reply, unbusied}
 use Rattle.afs_law.proofs.Walking.{own_lines, back_again, lines_assoc}
 use Rattle.afs_law.proofs.Quiet.{quiet_grant, quiet_last, quiet_clock, reach_more}
-use Rattle.afs_law.proofs.Facts.{AreApart, Held, IsNewest, its_call, AreGifts}
+use Rattle.afs_law.proofs.Facts.{AreApart, Held, IsNewest, IsNoRead, IsOpen, its_call, AreGifts}
 use Rattle.afs_law.proofs.Passing.{PassesGrant, ran_over}
 use Rattle.afs_law.specs.Grants.{IsDropped, IsWithdrawn}
 use Rattle.afs_law.specs.Ideal.{IsLast, clock_of, reach_over}
-use Rattle.afs_law.specs.Legal.{GoodRead, as_asked}
-use Rattle.afs_rows.specs.ClientRow.{entries_told, put_entries, status_look, takes_bulk, with_statuses, behind_batch, batch, gives_by, given, takes_given}
+use Rattle.afs_law.specs.Legal.{EndsAct, GoodRead, as_asked}
+use Rattle.afs_rows.specs.ClientRow.{entries_told, put_entries, status_look, takes_bulk, with_statuses, behind_batch, batch, call_by, gives_by, given, takes_given}
 use Rattle.std.specs.List.{list_any}
 use Rattle.std.specs.Prelude.{⊤, length}
 use Rattle.std.proofs.Common.{append_assoc}
@@ -43,7 +43,7 @@ use Rattle.afs_law.proofs.Serving.{told_file, told_reach, told_act, not_ran, sta
 use Rattle.afs_law.proofs.Skipping.{none_where, own_ended, skips, drop_lines, was_given, drop_file, drop_reach, drop_seen, drop_passes, ended_running, drops_good}
 use Rattle.afs_history.specs.declared.acts.Act.{Act}
 use Rattle.afs_rows.specs.ClientRow.{boot_or_first, with_boot, takes_shown, takes_entry, boot_of, read_lines, status_told, entry_told, booted, joined, put_entry, calls_again, is_busy_code, most_busy, asking, is_trusted, goes_on, goes_by, look_at, looked, most_reads, walked, Walked, is_below, dropped_after, left_after, find_cached, used_first, refreshed, call_message, calls_step, zero_code, begin_row, ignores, ended, answers_step, takes_stored, takes, resends_step, counts, is_awaited, awaits, client_row, is_spent, hears, takes_plain, takes_data, takes_set, left_in, given_up_in, body_told, call_of, is_reading}
-use Rattle.afs_rows.specs.Going.{reads_status, reads_statuses, reads_rights, gives_back, asked, Going, Need, next, answers, began, with_read, ClientState, reads, asks_for}
+use Rattle.afs_rows.specs.Going.{call_for, reads_status, reads_statuses, reads_rights, gives_back, asked, Going, Need, next, answers, began, with_read, ClientState, reads, asks_for}
 use Rattle.afs_law.specs.Grants.{has_fetched, fetch_reply, since}
 use Rattle.afs_law.specs.Ideal.{Reach, HasBeen, raised, is_zero_code, reach, last_version, HasVersion}
 use Rattle.afs_law.specs.Legal.{AreGood, Shows, Cause, code_told, GoodCode}
@@ -149,7 +149,7 @@ begun_answered s c past n act k h none is =
     let tail : List Line = lines.Answer (Client n) (record { 0 = pos k }) ∷ [] in
     let W : Walks s c past n (h.floors n).held ls w.act w.cache = begun_on s c past n act h none in
     let y : ClientState = ended (unbusied x) w.cache in
-    let kind : IsClient s y = client_ended s (unbusied x) w.cache (record { table = (h.own n).table; user = (h.own n).user; callee = λ a z. (h.own n).callee a z; apart = (h.own n).apart; gifts = (h.own n).gifts }) (walked_apart (most_reads (began (locations s) act)) c.clock (began (locations s) act) x.cache (h.own n).apart) in
+    let kind : IsClient s y = client_ended s (unbusied x) w.cache (record { table = (h.own n).table; user = (h.own n).user; callee = λ a z. (h.own n).callee a z; needs = λ a z. (h.own n).needs a z; apart = (h.own n).apart; gifts = (h.own n).gifts }) (walked_apart (most_reads (began (locations s) act)) c.clock (began (locations s) act) x.cache (h.own n).apart) in
     let e : Entry = step_entry n (ls ++ tail) [] in
     let t : AreTail n tail = (refl, tt) in
     let ends : EndsReach n tail = ends_answered n (record { 0 = pos k }) in
@@ -188,16 +188,16 @@ begun_answered s c past n act k h none is =
     over (nothing_new _ _) (λ a z r. absurd cc) refl)
 
 -- it calls for what is missing
-pub begun_calls : (s : Script) (c : Cell) (past : List Entry) (n : ℕ) (act : Act) → Holds s c past → (c.clients n).running ≡ None
+pub begun_calls : (s : Script) (c : Cell) (past : List Entry) (n : ℕ) (act : Act) → Holds s c past → (c.clients n).running ≡ None → IsOpen (next (begun_walk s (c.clients n) c.clock act).act)
     → Goes s past (client_moves c n (goes_by (Client n) (unbusied (c.clients n)) (begin_lines n act) (begun_walk s (c.clients n) c.clock act) (asks_for calls.GetTime)))
-begun_calls s c past n act h none =
+begun_calls s c past n act h none going =
     let x : ClientState = c.clients n in
     let d = h.clients n in
     let w : Walked = begun_walk s x c.clock act in
     let ls : List Line = lines.Begin (Client n) act ∷ looked (Client n) w.looks [] in
     let W : Walks s c past n (h.floors n).held ls w.act w.cache = begun_on s c past n act h none in
     let y : ClientState = asking (record (unbusied x) { cache = w.cache }) w.act in
-    let kind : IsClient s y = client_asking s c past (record (unbusied x) { cache = w.cache }) w.act h (record { table = (h.own n).table; user = (h.own n).user; callee = λ a z. (h.own n).callee a z; apart = walked_apart (most_reads (began (locations s) act)) c.clock (began (locations s) act) x.cache (h.own n).apart; gifts = (h.own n).gifts }) in
+    let kind : IsClient s y = client_asking s c past (record (unbusied x) { cache = w.cache }) w.act h going (record { table = (h.own n).table; user = (h.own n).user; callee = λ a z. (h.own n).callee a z; needs = λ a z. (h.own n).needs a z; apart = walked_apart (most_reads (began (locations s) act)) c.clock (began (locations s) act) x.cache (h.own n).apart; gifts = (h.own n).gifts }) in
     let ms : List Message = call_message (Client n) y w.act ∷ [] in
     let e : Entry = step_entry n (ls ++ []) ms in
     let g : Ghost = record { floor = c.server.lasting.boot; held = (h.floors n).held } in
@@ -248,12 +248,12 @@ begun_calls s c past n act h none =
 begins_by : (need : Need) (s : Script) (c : Cell) (past : List Entry) (n : ℕ) (act : Act) → Holds s c past → (c.clients n).running ≡ None → next (begun_walk s (c.clients n) c.clock act).act ≡ need
     → Goes s past (client_moves c n (goes_by (Client n) (unbusied (c.clients n)) (begin_lines n act) (begun_walk s (c.clients n) c.clock act) need))
 begins_by (answers k) s c past n act h none e = begun_answered s c past n act k h none e
-begins_by (reads f) s c past n act h none e = begun_calls s c past n act h none
-begins_by (reads_status f) s c past n act h none e = begun_calls s c past n act h none
-begins_by (reads_statuses fs) s c past n act h none e = begun_calls s c past n act h none
-begins_by (reads_rights f) s c past n act h none e = begun_calls s c past n act h none
-begins_by (asks_for call) s c past n act h none e = begun_calls s c past n act h none
-begins_by gives_back s c past n act h none e = begun_calls s c past n act h none
+begins_by (reads f) s c past n act h none e = begun_calls s c past n act h none (subst IsOpen (sym e) tt)
+begins_by (reads_status f) s c past n act h none e = begun_calls s c past n act h none (subst IsOpen (sym e) tt)
+begins_by (reads_statuses fs) s c past n act h none e = begun_calls s c past n act h none (subst IsOpen (sym e) tt)
+begins_by (reads_rights f) s c past n act h none e = begun_calls s c past n act h none (subst IsOpen (sym e) tt)
+begins_by (asks_for call) s c past n act h none e = begun_calls s c past n act h none (subst IsOpen (sym e) tt)
+begins_by gives_back s c past n act h none e = begun_calls s c past n act h none (subst IsOpen (sym e) tt)
 
 walks_first : (s : Script) (c : Cell) (past : List Entry) (n : ℕ) (act : Act) → Holds s c past → (c.clients n).running ≡ None → Goes s past (client_moves c n (ClientRow.walks_on (Client n) (unbusied (c.clients n)) c.clock (begin_lines n act) (began (locations s) act) (c.clients n).cache))
 walks_first s c past n act h none = begins_by (next (begun_walk s (c.clients n) c.clock act).act) s c past n act h none refl
@@ -298,10 +298,29 @@ pub record Caused (m : Message) (code : ℤ) (asks call : FsCall) (past : List E
 caused_as : (m : Message) (code other : ℤ) (asks to call : FsCall) (past : List Entry) → code ≡ other → asks ≡ to → Caused m code asks call past → Caused m other to call past
 caused_as m code other asks to call past e q h = subst (λ (z : ℤ). Caused m z to call past) e (subst (λ (k : FsCall). Caused m code k call past) q h)
 
+-- an act that isn't at its end, and reads nothing by this call, ends with it
+ends_by : (gifts : List Gift) (need : Need) → IsOpen need → IsNoRead (call_by gifts need) → EndsAct need
+ends_by gifts (reads f) going unread = absurd unread
+ends_by gifts (reads_status f) going unread = absurd unread
+ends_by gifts (reads_statuses fs) going unread = absurd unread
+ends_by gifts (reads_rights f) going unread = absurd unread
+ends_by gifts (asks_for call) going unread = tt
+ends_by gifts gives_back going unread = tt
+ends_by gifts (answers code) going unread = absurd going
+
+ends_for : (need : Need) → IsOpen need → IsNoRead (call_for need) → EndsAct need
+ends_for (reads f) going unread = absurd unread
+ends_for (reads_status f) going unread = absurd unread
+ends_for (reads_statuses fs) going unread = absurd unread
+ends_for (reads_rights f) going unread = absurd unread
+ends_for (asks_for call) going unread = tt
+ends_for gives_back going unread = tt
+ends_for (answers code) going unread = absurd going
+
 -- its act is answered with its code
-pub good_code : (s : Script) (c : Cell) (past : List Entry) (n p : ℕ) (act : Going) (m : Message) (code : Code) (own : List Line) → (h : Holds s c past) → Due c h.floors past n p act m → code_told m.carried ≡ Some code.0 → given_message own (sent_of past) ≡ message_at (sent_of past) p
+pub good_code : (s : Script) (c : Cell) (past : List Entry) (n p : ℕ) (act : Going) (m : Message) (code : Code) (own : List Line) → (h : Holds s c past) → Due c h.floors past n p act m → code_told m.carried ≡ Some code.0 → (code.0 ≡ pos 0 → EndsAct (next act)) → given_message own (sent_of past) ≡ message_at (sent_of past) p
     → has_begun (Client n) own ≡ false → running s (Client n) (own ++ lines_of past) ≡ running s (Client n) (lines_of past) → GoodCode s (Client n) code past own
-good_code s c past n p act m code own h d told by none still =
+good_code s c past n p act m code own h d told ends by none still =
     let call : FsCall = call_of (c.clients n) act in
     let k : Caused m code.0 (asked act) call past =
     caused_as m d.answers.code code.0 (as_asked call) (asked act) call past (some_of _ _ (sym d.answers.cause.told ∙ told)) (asks_is (c.clients n).gifts act) (record { cause = d.answers.cause; own = d.answers.own }) in
@@ -316,6 +335,7 @@ good_code s c past n p act m code own h d told by none still =
         cause = cause_behind m code.0 (asked act) past own k.cause;
         before = none;
         called = subst (λ (u : List ℕ). CalledSince (answered_key m.head) u k.cause.call past) (sym k.cause.own_user) (subst (λ (x : FsCall). CalledSince (answered_key m.head) guest x past) (sym k.own) asked_now);
+        ends = ends;
       });
     }
 
@@ -323,7 +343,7 @@ good_code s c past n p act m code own h d told by none still =
 -- boot: where a reply was made no call below its own may run; its own may only in a later boot, and if it was refused
 pub plain_safe : (call : FsCall) (x : Spot) (m : Message) (t e l : ℕ) (cache : List CacheEntry) (aged : Type 0) (head : Head) (o : Option ℕ) → volume_changed call ≡ o → FitsPlain x m call → (LastStored x → ⊥) → IsSafe t e l None cache aged head call
 plain_safe call x m t e l cache aged head None o fits none = inl o
-plain_safe call x m t e l cache aged head (Some id) o fits none = absurd (none (fits id o).ran)
+plain_safe call x m t e l cache aged head (Some id) o fits none = absurd (none (fits.1 id o).ran)
 
 pub data_safe : (sp : Bool) (call : FsCall) (n : ℕ) (x : Spot) (m : Message) (past : List Entry) (contents : List ℕ) (status : AfsFetchStatus) (callback : AfsCallBack) (t e l : ℕ) (cache : List CacheEntry) (aged : Type 0) (head : Head) → FitsData sp n x m past contents status callback call → (LastStored x → ⊥) → IsSafe t e l None cache aged head call
 data_safe sp (calls.FetchData f p w) n x m past contents status callback t e l cache aged head fits none = inl refl
@@ -444,6 +464,9 @@ refused_stands s c past n p act head code e f u h d cur r g stay (inr o) =
     let l : m.head.boot < c.server.lasting.boot = d.answers.fits.1 o.ran in
     inl (record { reached = r u.index o.was; newest = inl (g.withdrawn _ _ (old_withdrawn s c past n f u h cur (old_held s c past n act m (h.floors n).held h d refl l))); before = λ y x sc ran. absurd cc })
 
+not_zero : (code : Code) → is_zero_code code ≡ false → code.0 ≡ pos 0 → ⊥
+not_zero code e z = let yes : is_zero_code code ≡ true = ap (λ (k : ℤ). is_zero_code (record { 0 = k })) z in absurd cc
+
 pub takes_refused : (s : Script) (c : Cell) (past : List Entry) (n p : ℕ) (act : Going) (head : Head) (code : Code) → (h : Holds s c past) → Due c h.floors past n p act (record { head = head; carried = carried.Refusal code }) → Goes s past (client_moves c n (answers_step (Client n) (c.clients n) p code))
 takes_refused s c past n p act head code h d =
     let m : Message = record { head = head; carried = carried.Refusal code } in
@@ -451,7 +474,7 @@ takes_refused s c past n p act head code h d =
     let nz : is_zero_code code ≡ false = (neither _ _ d.answers.fits.0).0 in
     let held : ℕ = (h.floors n).held in
     moves s c past n (holding h.floors n held) (answers_step (Client n) (c.clients n) p code) h (client_ended s (c.clients n) (c.clients n).cache (h.own n) (h.own n).apart)
-    (tt, ((refl, good_code s c past n p act m code (lines.Given p ∷ []) h d refl refl refl refl), tt))
+    (tt, ((refl, good_code s c past n p act m code (lines.Given p ∷ []) h d refl (λ z. absurd (not_zero code nz z)) refl refl refl), tt))
     (answered_passes s c past n p m code h d.heard)
     (ended_facts s c past n (c.clients n).cache held e h (h.clients n).holds (own_ended n (running s (Client n) (lines_of past)))
     (λ f u found lasts. let cur : IsCurrent n f u (view h.floors c n) past = (h.clients n).current f u found lasts in
@@ -471,7 +494,7 @@ takes_refused s c past n p act head code h d =
 -- the client calls again, with these promises to give back
 pub again_with : (s : Script) (c : Cell) (past : List Entry) (n p : ℕ) (gs : List Gift) (act : Going) (m : Message) → (h : Holds s c past) → AreGifts gs → Due c h.floors past n p act m → volume_changed (asked act) ≡ None → Goes s past (client_moves c n (calls_step (Client n) (with_gifts gs (c.clients n)) act (λ ls. lines.Given p ∷ ls)))
 again_with s c past n p gs act m h given d shut =
-    asks s c past n gs act (lines.Given p) h given (tt, tt) (told_passes s c past n p _ _ h d.heard) (λ g. told_file n p g (actors.Node (Client n)) _ past) (λ g. told_reach n p g (actors.Node (Client n)) _ past) (λ g o. (h.clients n).made act d.running g o (inl shut)) (λ b y. ap (λ (z : Going). volume_changed (asked z)) (some_of b act (sym y ∙ d.running)) ∙ shut) ((h.clients n).runs act d.running) (λ z. d.running)
+    asks s c past n gs act (lines.Given p) h given ((h.own n).needs act d.running) (tt, tt) (told_passes s c past n p _ _ h d.heard) (λ g. told_file n p g (actors.Node (Client n)) _ past) (λ g. told_reach n p g (actors.Node (Client n)) _ past) (λ g o. (h.clients n).made act d.running g o (inl shut)) (λ b y. ap (λ (z : Going). volume_changed (asked z)) (some_of b act (sym y ∙ d.running)) ∙ shut) ((h.clients n).runs act d.running) (λ z. d.running)
 
 -- as they are
 pub again_goes : (s : Script) (c : Cell) (past : List Entry) (n p : ℕ) (act : Going) (m : Message) → (h : Holds s c past) → Due c h.floors past n p act m → volume_changed (asked act) ≡ None → Goes s past (client_moves c n (calls_again (Client n) (c.clients n) p act))
@@ -618,13 +641,13 @@ gone_answered s c past n p act m front F w k h d not same W apart old is =
     (ended_calls s c past n p act m w.cache held h d (λ code z. absurd (not code z))) (ended_reply s c past n w.cache held e h) (nothing_new _ _) (λ b y z. absurd cc) refl)
 
 pub gone_calls : (s : Script) (c : Cell) (past : List Entry) (n p : ℕ) (act : Going) (m : Message) (front : List Line → List Line) (F : List Line) (w : Walked) → (h : Holds s c past) → Due c h.floors past n p act m → volume_changed (asked act) ≡ None → ((ls : List Line) → front ls ≡ F ++ ls)
-    → Walks s c past n c.server.lasting.boot (F ++ looked (Client n) w.looks []) w.act w.cache → AreApart w.cache → HasOld w.cache (lines_of past) → Goes s past (client_moves c n (goes_by (Client n) (c.clients n) front w (asks_for calls.GetTime)))
-gone_calls s c past n p act m front F w h d shut same W apart old =
+    → Walks s c past n c.server.lasting.boot (F ++ looked (Client n) w.looks []) w.act w.cache → AreApart w.cache → HasOld w.cache (lines_of past) → IsOpen (next w.act) → Goes s past (client_moves c n (goes_by (Client n) (c.clients n) front w (asks_for calls.GetTime)))
+gone_calls s c past n p act m front F w h d shut same W apart old going =
     let x : ClientState = c.clients n in
     let ls : List Line = F ++ looked (Client n) w.looks [] in
     let k = h.clients n in
     let y : ClientState = asking (record x { cache = w.cache }) w.act in
-    let its : IsClient s y = client_asking s c past (record x { cache = w.cache }) w.act h (record { table = (h.own n).table; user = (h.own n).user; callee = λ b z. (h.own n).callee b z; apart = apart; gifts = (h.own n).gifts }) in
+    let its : IsClient s y = client_asking s c past (record x { cache = w.cache }) w.act h going (record { table = (h.own n).table; user = (h.own n).user; callee = λ b z. (h.own n).callee b z; needs = λ b z. (h.own n).needs b z; apart = apart; gifts = (h.own n).gifts }) in
     let ms : List Message = call_message (Client n) y w.act ∷ [] in
     let e : Entry = step_entry n (ls ++ []) ms in
     let q : AreQuiet n (ls ++ []) = quiet_more n ls [] W.quiet tt in
@@ -677,12 +700,12 @@ gone_calls s c past n p act m front F w h d shut same W apart old =
 gone_by : (need : Need) (s : Script) (c : Cell) (past : List Entry) (n p : ℕ) (act : Going) (m : Message) (front : List Line → List Line) (F : List Line) (w : Walked) → (h : Holds s c past) → Due c h.floors past n p act m → ((code : Code) → m.carried ≡ carried.Refusal code → ⊥) → volume_changed (asked act) ≡ None → ((ls : List Line) → front ls ≡ F ++ ls)
     → Walks s c past n c.server.lasting.boot (F ++ looked (Client n) w.looks []) w.act w.cache → AreApart w.cache → HasOld w.cache (lines_of past) → next w.act ≡ need → Goes s past (client_moves c n (goes_by (Client n) (c.clients n) front w need))
 gone_by (answers k) s c past n p act m front F w h d not shut same W apart old e = gone_answered s c past n p act m front F w k h d not same W apart old e
-gone_by (reads f) s c past n p act m front F w h d not shut same W apart old e = gone_calls s c past n p act m front F w h d shut same W apart old
-gone_by (reads_status f) s c past n p act m front F w h d not shut same W apart old e = gone_calls s c past n p act m front F w h d shut same W apart old
-gone_by (reads_statuses fs) s c past n p act m front F w h d not shut same W apart old e = gone_calls s c past n p act m front F w h d shut same W apart old
-gone_by (reads_rights f) s c past n p act m front F w h d not shut same W apart old e = gone_calls s c past n p act m front F w h d shut same W apart old
-gone_by (asks_for call) s c past n p act m front F w h d not shut same W apart old e = gone_calls s c past n p act m front F w h d shut same W apart old
-gone_by gives_back s c past n p act m front F w h d not shut same W apart old e = gone_calls s c past n p act m front F w h d shut same W apart old
+gone_by (reads f) s c past n p act m front F w h d not shut same W apart old e = gone_calls s c past n p act m front F w h d shut same W apart old (subst IsOpen (sym e) tt)
+gone_by (reads_status f) s c past n p act m front F w h d not shut same W apart old e = gone_calls s c past n p act m front F w h d shut same W apart old (subst IsOpen (sym e) tt)
+gone_by (reads_statuses fs) s c past n p act m front F w h d not shut same W apart old e = gone_calls s c past n p act m front F w h d shut same W apart old (subst IsOpen (sym e) tt)
+gone_by (reads_rights f) s c past n p act m front F w h d not shut same W apart old e = gone_calls s c past n p act m front F w h d shut same W apart old (subst IsOpen (sym e) tt)
+gone_by (asks_for call) s c past n p act m front F w h d not shut same W apart old e = gone_calls s c past n p act m front F w h d shut same W apart old (subst IsOpen (sym e) tt)
+gone_by gives_back s c past n p act m front F w h d not shut same W apart old e = gone_calls s c past n p act m front F w h d shut same W apart old (subst IsOpen (sym e) tt)
 
 -- from such reads on it reads from the cache
 gone_on : (s : Script) (c : Cell) (past : List Entry) (n p : ℕ) (act : Going) (m : Message) (front : List Line → List Line) (F : List Line) (k : ℕ) (a : Going) (cache : List CacheEntry) → (h : Holds s c past) → Due c h.floors past n p act m → ((code : Code) → m.carried ≡ carried.Refusal code → ⊥) → volume_changed (asked act) ≡ None → ((ls : List Line) → front ls ≡ F ++ ls)
@@ -942,6 +965,7 @@ several_goes false s c past n p act us at m h d not shut all last =
 -- the act's call is a store of the fid: that alone is in its scope, and its reply tells the new index
 pub record IsStoreBy (act : Going) (call : FsCall) (f : Fid) : Type 0 where
   pub asks : asked act ≡ call
+  pub unread : IsNoRead call
   pub scope : (g : Fid) → is_in_scope call g ≡ same_fid f g
   pub changed : (n : ℕ) (g : Fid) (server : Node) (newer : List Line) (reply : Option Message) (past : List Entry) → WasChanged n g server newer reply past call → WasStored n g server newer reply past
 
@@ -1031,7 +1055,7 @@ takes_saved s c past n p act call f b i status m h d none not same told kept up 
     let cache : List CacheEntry = map (refreshed c.clock f i status b) (c.clients n).cache in
     let e : Entry = step_entry n (answered_lines n p zero_code) [] in
     moves s c past n (holding h.floors n held) (takes_stored (Client n) (c.clients n) c.clock p f i status b) h (client_ended s (c.clients n) cache (h.own n) (apart_refreshed c.clock f i status b (c.clients n).cache (h.own n).apart))
-    (tt, ((refl, good_code s c past n p act m zero_code (lines.Given p ∷ []) h d none refl refl refl), tt))
+    (tt, ((refl, good_code s c past n p act m zero_code (lines.Given p ∷ []) h d none (λ z. ends_for (next act) ((h.own n).needs act d.running) (subst IsNoRead (sym same.asks) same.unread)) refl refl refl), tt))
     (answered_passes s c past n p m zero_code h d.heard)
     (ended_facts s c past n cache held e h (h.clients n).holds (own_ended n (running s (Client n) (lines_of past)))
     (λ g u found lasts. stored_of (find_cached g (c.clients n).cache) s c past n p act call f g b m i status u e cache h d kept same told left (answered_file n n p zero_code past) (answered_reach n n p zero_code past f i up).seen
@@ -1046,8 +1070,8 @@ takes_saved s c past n p act call f b i status m h d none not same told kept up 
 reply_not : (reply : FsReply) (code : Code) → carried.Reply (tell.File reply) ≡ carried.Refusal code → ⊥
 reply_not reply code e = absurd cc
 
-pub takes_other : (s : Script) (c : Cell) (past : List Entry) (n p : ℕ) (act : Going) (call : FsCall) (m : Message) (reply : FsReply) → (h : Holds s c past) → Due c h.floors past n p act m → m.carried ≡ carried.Reply (tell.File reply) → ((f : Fid) → is_in_scope call f ≡ is_in_scope (asked act) f) → Goes s past (client_moves c n (takes_plain (Client n) (c.clients n) p call))
-takes_other s c past n p act call m reply h d is sc =
+pub takes_other : (s : Script) (c : Cell) (past : List Entry) (n p : ℕ) (act : Going) (call : FsCall) (m : Message) (reply : FsReply) → (h : Holds s c past) → Due c h.floors past n p act m → m.carried ≡ carried.Reply (tell.File reply) → EndsAct (next act) → ((f : Fid) → is_in_scope call f ≡ is_in_scope (asked act) f) → Goes s past (client_moves c n (takes_plain (Client n) (c.clients n) p call))
+takes_other s c past n p act call m reply h d is ends sc =
     let x : ClientState = c.clients n in
     let cache : List CacheEntry = left_after call x.cache in
     let es : List CacheEntry = dropped_after call x.cache in
@@ -1056,7 +1080,7 @@ takes_other s c past n p act call m reply h d is sc =
     let held : ℕ = (h.floors n).held in
     let g : Ghost = holding h.floors n held in
     moves s c past n g (takes_plain (Client n) x p call) h (client_ended s x cache (h.own n) (apart_filter (λ y. not (is_in_scope call y.fid)) x.cache (h.own n).apart))
-    (tt, drops_good s n p act m past es (lines.Given p ∷ []) (λ own a b r. good_code s c past n p act m zero_code own h d (ap code_told is) a b r) refl refl refl)
+    (tt, drops_good s n p act m past es (lines.Given p ∷ []) (λ own a b r. good_code s c past n p act m zero_code own h d (ap code_told is) (λ z. ends) a b r) refl refl refl)
     (drop_passes s c past n (was_given p) zero_code es (heard_dull s c past p m h d.heard))
     (ended_facts s c past n cache held e h (h.clients n).holds (ended_running s n zero_code es (lines.Given p ∷ lines_of past))
     (λ k u found lasts.
@@ -1189,7 +1213,7 @@ rights_goes s c past n p act m f i release text h d not_refused asks fits =
 pub list_goes : (s : Script) (c : Cell) (past : List Entry) (n p : ℕ) (act : Going) (call : FsCall) (head : Head) (text : List ℕ) (status : AfsFetchStatus) (sync : AfsVolSync) → (h : Holds s c past) → Due c h.floors past n p act (record { head = head; carried = carried.Reply (tell.File (replies.FetchAcl text status sync)) })
     → call_of (c.clients n) act ≡ call → FitsList n (spot (view h.floors c n)) (record { head = head; carried = carried.Reply (tell.File (replies.FetchAcl text status sync)) }) past text status call → Goes s past (client_moves c n (takes_list (Client n) (c.clients n) c.clock p act text status sync call))
 list_goes s c past n p act (calls.FetchAcl f) head text status sync h d same fits = rights_goes s c past n p act _ f status.sync_counter sync.release text h d (λ code z. reply_not (replies.FetchAcl text status sync) code z) (asks_just (c.clients n).gifts act (calls.FetchAcl f) refl same) fits
-list_goes s c past n p act call head text status sync h d same fits = takes_other s c past n p act call _ (replies.FetchAcl text status sync) h d refl (λ f. ap (λ (k : FsCall). is_in_scope k f) (sym same) ∙ asks_scope (c.clients n).gifts act f)
+list_goes s c past n p act call head text status sync h d same fits = takes_other s c past n p act call _ (replies.FetchAcl text status sync) h d refl (ends_by (c.clients n).gifts (next act) ((h.own n).needs act d.running) (subst IsNoRead (sym same) fits.0)) (λ f. ap (λ (k : FsCall). is_in_scope k f) (sym same) ∙ asks_scope (c.clients n).gifts act f)
 
 -- ---- a boot notice
 
@@ -1201,7 +1225,7 @@ pub resends_goes : (s : Script) (c : Cell) (past : List Entry) (n p : ℕ) (act 
 resends_goes s c past n p act m boot h d le runs =
     let old : ClientState = c.clients n in
     let x : ClientState = booted old boot in
-    let kind : IsClient s x = record { table = (h.own n).table; user = (h.own n).user; callee = λ a z. (h.own n).callee a z; apart = (h.own n).apart; gifts = (h.own n).gifts } in
+    let kind : IsClient s x = record { table = (h.own n).table; user = (h.own n).user; callee = λ a z. (h.own n).callee a z; needs = λ a z. (h.own n).needs a z; apart = (h.own n).apart; gifts = (h.own n).gifts } in
     let known : boot_of the_server x.boots ≡ boot = ap (λ (q : Node). boot_of the_server (with_boot q boot old.boots)) ((h.own n).callee act runs) ∙ boot_with the_server boot old.boots in
     let ms : List Message = call_message (Client n) x act ∷ [] in
     let e : Entry = step_entry n (lines.Given p ∷ []) ms in
@@ -1213,8 +1237,8 @@ resends_goes s c past n p act m boot h d le runs =
 
 -- ---- the row, by its cases
 
-pub plain_goes : (s : Script) (c : Cell) (past : List Entry) (n p : ℕ) (act : Going) (call : FsCall) (m : Message) (reply : FsReply) → (h : Holds s c past) → Due c h.floors past n p act m → m.carried ≡ carried.Reply (tell.File reply) → call_of (c.clients n) act ≡ call → Goes s past (client_moves c n (takes_plain (Client n) (c.clients n) p call))
-plain_goes s c past n p act call m reply h d is same = takes_other s c past n p act call m reply h d is (λ f. ap (λ (k : FsCall). is_in_scope k f) (sym same) ∙ asks_scope (c.clients n).gifts act f)
+pub plain_goes : (s : Script) (c : Cell) (past : List Entry) (n p : ℕ) (act : Going) (call : FsCall) (m : Message) (reply : FsReply) → (h : Holds s c past) → Due c h.floors past n p act m → m.carried ≡ carried.Reply (tell.File reply) → call_of (c.clients n) act ≡ call → IsNoRead call → Goes s past (client_moves c n (takes_plain (Client n) (c.clients n) p call))
+plain_goes s c past n p act call m reply h d is same unread = takes_other s c past n p act call m reply h d is (ends_by (c.clients n).gifts (next act) ((h.own n).needs act d.running) (subst IsNoRead (sym same) unread)) (λ f. ap (λ (k : FsCall). is_in_scope k f) (sym same) ∙ asks_scope (c.clients n).gifts act f)
 
 -- a reply to a reading call that isn't spent isn't spoiled
 pub spent_shut : (sp : Bool) (o : Option ℕ) → (sp && is_reading o) ≡ true → o ≡ None
@@ -1239,14 +1263,14 @@ pub data_goes : (s : Script) (c : Cell) (past : List Entry) (n p : ℕ) (act : G
 data_goes s c past n p act (calls.FetchData f pp w) head contents status callback sync h d fresh same fits =
     entry_goes s c past n p act head (replies.FetchData contents status callback sync) (entry_told (c.clients n).callee f status callback sync (Some (body_told status.file_type contents))) (seen.Contents (body_told status.file_type contents)) h d fresh (ap volume_changed (asks_just (c.clients n).gifts act (calls.FetchData f pp w) refl same)) refl refl
     (subst (λ (b : Body). HasVersion f status.sync_counter b (lines_of past)) (sym fits.held.whole.holds) fits.held.whole.told) fits
-data_goes s c past n p act call head contents status callback sync h d fresh same fits = plain_goes s c past n p act call _ (replies.FetchData contents status callback sync) h d refl same
+data_goes s c past n p act call head contents status callback sync h d fresh same fits = plain_goes s c past n p act call _ (replies.FetchData contents status callback sync) h d refl same fits.0
 
 pub status_goes : (s : Script) (c : Cell) (past : List Entry) (n p : ℕ) (act : Going) (call : FsCall) (head : Head) (status : AfsFetchStatus) (callback : AfsCallBack) (sync : AfsVolSync) → (h : Holds s c past) → Due c h.floors past n p act (record { head = head; carried = carried.Reply (tell.File (replies.FetchStatus status callback sync)) })
     → is_spent (c.clients n) act ≡ false → call_of (c.clients n) act ≡ call → FitsShown (c.clients n).spoiled n (spot (view h.floors c n)) (record { head = head; carried = carried.Reply (tell.File (replies.FetchStatus status callback sync)) }) past status callback call → Goes s past (client_moves c n (takes_shown (Client n) (c.clients n) c.clock p act status callback sync call))
 status_goes s c past n p act (calls.FetchStatus f) head status callback sync h d fresh same fits =
     entry_goes s c past n p act head (replies.FetchStatus status callback sync) (entry_told (c.clients n).callee f status callback sync None) (seen.Status (status_told status)) h d fresh (ap volume_changed (asks_just (c.clients n).gifts act (calls.FetchStatus f) refl same)) refl refl
     ((fits.held.whole.is, fits.held.whole.told), fits.held.whole.been) fits
-status_goes s c past n p act call head status callback sync h d fresh same fits = plain_goes s c past n p act call _ (replies.FetchStatus status callback sync) h d refl same
+status_goes s c past n p act call head status callback sync h d fresh same fits = plain_goes s c past n p act call _ (replies.FetchStatus status callback sync) h d refl same fits.0
 
 told_fetched : (sp : Bool) (n : ℕ) (m : Message) (past : List Entry) (at : Fid → ℕ) (server : Node) (sync : AfsVolSync) (fids : List Fid) (ss : List AfsFetchStatus) (cs : List AfsCallBack) → sp ≡ false → server ≡ the_server → AreFetched sp n m past at fids ss cs → AllFetched n m at past (entries_told server sync fids ss cs)
 told_fetched sp n m past at server sync [] ss cs fresh is h = tt
@@ -1261,14 +1285,14 @@ bulk_goes s c past n p act (calls.BulkStatus fids) head statuses callbacks sync 
     let us : List CacheEntry = entries_told (c.clients n).callee sync fids statuses callbacks in
     several_goes (list_any (λ e. not (is_trusted c.clock e)) us) s c past n p act us fits.at _ h d (λ code z. reply_not (replies.BulkStatus statuses callbacks sync) code z) (ap volume_changed (asks_just (c.clients n).gifts act (calls.BulkStatus fids) refl same))
     (told_fetched (c.clients n).spoiled n _ past fits.at (c.clients n).callee sync fids statuses callbacks (fresh_of (c.clients n).spoiled (volume_changed (call_of (c.clients n) act)) fresh (ap volume_changed same)) ((h.own n).callee act d.running) fits.all) refl
-bulk_goes s c past n p act call head statuses callbacks sync h d fresh same fits = plain_goes s c past n p act call _ (replies.BulkStatus statuses callbacks sync) h d refl same
+bulk_goes s c past n p act call head statuses callbacks sync h d fresh same fits = plain_goes s c past n p act call _ (replies.BulkStatus statuses callbacks sync) h d refl same fits.0
 
 pub data_stored : (t : Bool) (s : Script) (c : Cell) (past : List Entry) (n p : ℕ) (act : Going) (st : AfsStoreStatus) (pp ww ll : ℤ) (f : Fid) (b : List ℕ) (status : AfsFetchStatus) (m : Message) (reply : FsReply) → (h : Holds s c past) → Due c h.floors past n p act m → m.carried ≡ carried.Reply (tell.File reply) → stored_index m.carried ≡ Some status.sync_counter
     → call_of (c.clients n) act ≡ calls.StoreData f st pp ww ll b → FitsSet n (spot (view h.floors c n)) m past status (calls.StoreData f st pp ww ll b)
     → Goes s past (client_moves c n (cond t (takes_plain (Client n) (c.clients n) p (calls.StoreData f st pp ww ll b)) (takes_stored (Client n) (c.clients n) c.clock p f status.sync_counter (status_told status) (λ body. Some (bodies.File b)))))
-data_stored true s c past n p act st pp ww ll f b status m reply h d is told same fits = plain_goes s c past n p act (calls.StoreData f st pp ww ll b) m reply h d is same
+data_stored true s c past n p act st pp ww ll f b status m reply h d is told same fits = plain_goes s c past n p act (calls.StoreData f st pp ww ll b) m reply h d is same tt
 data_stored false s c past n p act st pp ww ll f b status m reply h d is told same fits =
-    takes_saved s c past n p act (calls.StoreData f st pp ww ll b) f (λ body. Some (bodies.File b)) status.sync_counter (status_told status) m h d (ap code_told is) (λ code x. absurd (reply_not reply code (sym is ∙ x))) (record { asks = asks_just (c.clients n).gifts act (calls.StoreData f st pp ww ll b) refl same; scope = λ g. refl; changed = λ k g server newer o older w. w }) told fits.1.0 fits.1.1 (λ x found lasts. record { is = bodies.File b; told = fits.0.0; holds = refl; been = fits.0.1 })
+    takes_saved s c past n p act (calls.StoreData f st pp ww ll b) f (λ body. Some (bodies.File b)) status.sync_counter (status_told status) m h d (ap code_told is) (λ code x. absurd (reply_not reply code (sym is ∙ x))) (record { asks = asks_just (c.clients n).gifts act (calls.StoreData f st pp ww ll b) refl same; unread = tt; scope = λ g. refl; changed = λ k g server newer o older w. w }) told fits.1.0 fits.1.1 (λ x found lasts. record { is = bodies.File b; told = fits.0.0; holds = refl; been = fits.0.1 })
 
 -- the entry stands just below the new index, so its body is that of the version before
 same_body : (b : Option Body) (is body : Body) → IsBody b is → is ≡ body → IsBody b body
@@ -1291,8 +1315,8 @@ left_body s c past n f index status h kept been t x found lasts =
 pub status_by : (t u : Bool) (s : Script) (c : Cell) (past : List Entry) (n p : ℕ) (act : Going) (call : FsCall) (f : Fid) (index : ℕ) (status : ReadStatus) (m : Message) (reply : FsReply) → (h : Holds s c past) → Due c h.floors past n p act m → m.carried ≡ carried.Reply (tell.File reply) → stored_index m.carried ≡ Some index
     → IsStoreBy act call f → call_of (c.clients n) act ≡ call → IsStored (spot (view h.floors c n)) m → Reached (Client n) f index past → IsKeptBody f index (lines_of past) → HasBeen f index (seen.Status status) past → is_below c.clock index (find_cached f (c.clients n).cache) ≡ u
     → Goes s past (client_moves c n (cond (not t && u) (takes_stored (Client n) (c.clients n) c.clock p f index status (λ body. body)) (takes_plain (Client n) (c.clients n) p call)))
-status_by true u s c past n p act call f index status m reply h d is told same just stored up kept been below = plain_goes s c past n p act call m reply h d is just
-status_by false false s c past n p act call f index status m reply h d is told same just stored up kept been below = plain_goes s c past n p act call m reply h d is just
+status_by true u s c past n p act call f index status m reply h d is told same just stored up kept been below = plain_goes s c past n p act call m reply h d is just same.unread
+status_by false false s c past n p act call f index status m reply h d is told same just stored up kept been below = plain_goes s c past n p act call m reply h d is just same.unread
 status_by false true s c past n p act call f index status m reply h d is told same just stored up kept been below =
     takes_saved s c past n p act call f (λ body. body) index status m h d (ap code_told is) (λ code x. absurd (reply_not reply code (sym is ∙ x))) same told stored up (left_body s c past n f index status h kept been below)
 
@@ -1300,10 +1324,10 @@ pub set_goes : (s : Script) (c : Cell) (past : List Entry) (n p : ℕ) (act : Go
     → call_of (c.clients n) act ≡ call → FitsSet n (spot (view h.floors c n)) m past status call → Goes s past (client_moves c n (takes_set (Client n) (c.clients n) c.clock p status call))
 set_goes s c past n p act (calls.StoreData f st pp ww ll b) status m reply h d is told same fits = data_stored (c.clients n).spoiled s c past n p act st pp ww ll f b status m reply h d is told same fits
 set_goes s c past n p act (calls.StoreAcl f acl) status m reply h d is told same fits =
-    status_by (c.clients n).spoiled (is_below c.clock status.sync_counter (find_cached f (c.clients n).cache)) s c past n p act (calls.StoreAcl f acl) f status.sync_counter (status_told status) m reply h d is told (record { asks = asks_just (c.clients n).gifts act _ refl same; scope = λ g. refl; changed = λ k g server newer o older w. w }) same fits.1.0 fits.1.1 fits.0.0 fits.0.1 refl
+    status_by (c.clients n).spoiled (is_below c.clock status.sync_counter (find_cached f (c.clients n).cache)) s c past n p act (calls.StoreAcl f acl) f status.sync_counter (status_told status) m reply h d is told (record { asks = asks_just (c.clients n).gifts act _ refl same; unread = tt; scope = λ g. refl; changed = λ k g server newer o older w. w }) same fits.1.0 fits.1.1 fits.0.0 fits.0.1 refl
 set_goes s c past n p act (calls.StoreStatus f st) status m reply h d is told same fits =
-    status_by (c.clients n).spoiled (is_below c.clock status.sync_counter (find_cached f (c.clients n).cache)) s c past n p act (calls.StoreStatus f st) f status.sync_counter (status_told status) m reply h d is told (record { asks = asks_just (c.clients n).gifts act _ refl same; scope = λ g. refl; changed = λ k g server newer o older w. w }) same fits.1.0 fits.1.1 fits.0.0 fits.0.1 refl
-set_goes s c past n p act call status m reply h d is told same fits = plain_goes s c past n p act call m reply h d is same
+    status_by (c.clients n).spoiled (is_below c.clock status.sync_counter (find_cached f (c.clients n).cache)) s c past n p act (calls.StoreStatus f st) f status.sync_counter (status_told status) m reply h d is told (record { asks = asks_just (c.clients n).gifts act _ refl same; unread = tt; scope = λ g. refl; changed = λ k g server newer o older w. w }) same fits.1.0 fits.1.1 fits.0.0 fits.0.1 refl
+set_goes s c past n p act call status m reply h d is told same fits = plain_goes s c past n p act call m reply h d is same fits.0
 
 -- ---- promises were given back
 
@@ -1320,18 +1344,19 @@ not_true true w = absurd (w refl)
 not_true false w = refl
 
 -- the next ones are, or the act is done
-more_given : (gs : List Gift) (s : Script) (c : Cell) (past : List Entry) (n p : ℕ) (act : Going) (m : Message) (reply : FsReply) → (h : Holds s c past) → AreGifts gs → Due c h.floors past n p act m → m.carried ≡ carried.Reply (tell.File reply) → volume_changed (asked act) ≡ None
+more_given : (gs : List Gift) (s : Script) (c : Cell) (past : List Entry) (n p : ℕ) (act : Going) (m : Message) (reply : FsReply) → (h : Holds s c past) → AreGifts gs → Due c h.floors past n p act m → m.carried ≡ carried.Reply (tell.File reply) → volume_changed (asked act) ≡ None → EndsAct (next act)
     → Goes s past (client_moves c n (gives_by (Client n) (c.clients n) (given p) act gs))
-more_given [] s c past n p act m reply h some d is shut =
+more_given [] s c past n p act m reply h some d is shut ends =
     subst (λ (cs : List CacheEntry). Goes s past (client_moves c n (ends_step (Client n) (c.clients n) cs (given p) zero_code))) (all_left (c.clients n).cache)
     (subst (λ (es : List CacheEntry). Goes s past (client_moves c n (ends_step (Client n) (c.clients n) (filter (λ (e : CacheEntry). true) (c.clients n).cache) (λ ls. given p (dropped (Client n) es ls)) zero_code))) (none_dropped (c.clients n).cache)
-    (takes_other s c past n p act calls.GetTime m reply h d is (λ f. not_true (is_in_scope (asked act) f) (no_scope (asked act) f shut))))
-more_given (g ∷ gs) s c past n p act m reply h some d is shut = again_with s c past n p (g ∷ gs) act m h some d shut
+    (takes_other s c past n p act calls.GetTime m reply h d is ends (λ f. not_true (is_in_scope (asked act) f) (no_scope (asked act) f shut))))
+more_given (g ∷ gs) s c past n p act m reply h some d is shut ends = again_with s c past n p (g ∷ gs) act m h some d shut
 
-given_goes : (s : Script) (c : Cell) (past : List Entry) (n p : ℕ) (act : Going) (call : FsCall) (m : Message) (reply : FsReply) → (h : Holds s c past) → Due c h.floors past n p act m → m.carried ≡ carried.Reply (tell.File reply) → call_of (c.clients n) act ≡ call → Goes s past (client_moves c n (takes_given (Client n) (c.clients n) p act call))
-given_goes s c past n p act (calls.GiveUpCallBacks fids callbacks) m reply h d is same =
+given_goes : (s : Script) (c : Cell) (past : List Entry) (n p : ℕ) (act : Going) (call : FsCall) (m : Message) (reply : FsReply) → (h : Holds s c past) → Due c h.floors past n p act m → m.carried ≡ carried.Reply (tell.File reply) → call_of (c.clients n) act ≡ call → IsNoRead call → Goes s past (client_moves c n (takes_given (Client n) (c.clients n) p act call))
+given_goes s c past n p act (calls.GiveUpCallBacks fids callbacks) m reply h d is same unread =
     more_given (behind_batch (c.clients n).gifts) s c past n p act m reply h (gifts_later (length (batch (c.clients n).gifts)) (c.clients n).gifts (h.own n).gifts) d is (sym (asks_changed (c.clients n).gifts act) ∙ ap volume_changed same)
-given_goes s c past n p act call m reply h d is same = plain_goes s c past n p act call m reply h d is same
+    (ends_by (c.clients n).gifts (next act) ((h.own n).needs act d.running) (subst IsNoRead (sym same) unread))
+given_goes s c past n p act call m reply h d is same unread = plain_goes s c past n p act call m reply h d is same unread
 
 pub takes_goes : (s : Script) (c : Cell) (past : List Entry) (n p : ℕ) (act : Going) (call : FsCall) (head : Head) (reply : FsReply) → (h : Holds s c past) → Due c h.floors past n p act (record { head = head; carried = carried.Reply (tell.File reply) }) → is_spent (c.clients n) act ≡ false → call_of (c.clients n) act ≡ call → Goes s past (client_moves c n (takes (Client n) (c.clients n) c.clock p act call reply))
 takes_goes s c past n p act call head (replies.FetchData contents status callback sync) h d fresh same = data_goes s c past n p act call head contents status callback sync h d fresh same (subst (λ (x : FsCall). FitsData (c.clients n).spoiled n (spot (view h.floors c n)) (record { head = head; carried = carried.Reply (tell.File (replies.FetchData contents status callback sync)) }) past contents status callback x) same d.answers.fits)
@@ -1341,8 +1366,8 @@ takes_goes s c past n p act call head (replies.StoreData status sync) h d fresh 
 takes_goes s c past n p act call head (replies.StoreAcl status sync) h d fresh same = set_goes s c past n p act call status _ (replies.StoreAcl status sync) h d refl refl same (subst (λ (x : FsCall). FitsSet n (spot (view h.floors c n)) (record { head = head; carried = carried.Reply (tell.File (replies.StoreAcl status sync)) }) past status x) same d.answers.fits)
 takes_goes s c past n p act call head (replies.StoreStatus status sync) h d fresh same = set_goes s c past n p act call status _ (replies.StoreStatus status sync) h d refl refl same (subst (λ (x : FsCall). FitsSet n (spot (view h.floors c n)) (record { head = head; carried = carried.Reply (tell.File (replies.StoreStatus status sync)) }) past status x) same d.answers.fits)
 takes_goes s c past n p act call head (replies.BulkStatus statuses callbacks sync) h d fresh same = bulk_goes s c past n p act call head statuses callbacks sync h d fresh same (subst (λ (x : FsCall). FitsBulk (c.clients n).spoiled n (spot (view h.floors c n)) (record { head = head; carried = carried.Reply (tell.File (replies.BulkStatus statuses callbacks sync)) }) past statuses callbacks x) same d.answers.fits)
-takes_goes s c past n p act call head replies.GiveUpCallBacks h d fresh same = given_goes s c past n p act call _ replies.GiveUpCallBacks h d refl same
-takes_goes s c past n p act call head reply h d fresh same = plain_goes s c past n p act call _ reply h d refl same
+takes_goes s c past n p act call head replies.GiveUpCallBacks h d fresh same = given_goes s c past n p act call _ replies.GiveUpCallBacks h d refl same (subst IsNoRead same d.answers.fits.0)
+takes_goes s c past n p act call head reply h d fresh same = plain_goes s c past n p act call _ reply h d refl same (subst IsNoRead same d.answers.fits.0)
 
 -- a reply that isn't used
 pub spent_goes : (s : Script) (c : Cell) (past : List Entry) (n p : ℕ) (act : Going) (m : Message) → (h : Holds s c past) → Due c h.floors past n p act m → is_spent (c.clients n) act ≡ true → Goes s past (client_moves c n (calls_again (Client n) (c.clients n) p act))

@@ -15,7 +15,7 @@ use Rattle.afs_num.specs.declared.messages.Message.{Message}
 use Rattle.afs_ideal.specs.Operations.{volume_changed}
 use Rattle.afs_law.proofs.Backing.{Plain, backed_plain, seated_over, plain_step}
 use Rattle.afs_law.proofs.Edits.{index_in, fid_at, sound_same}
-use Rattle.afs_law.proofs.Facts.{AreApart, IsClient, back_seat, Ghost, IsAged, server_boot, View, view_of, view, desk, last_key, LastRan, ReplyFact, ClientFacts, IsUntrusted, IsSafe, CallFact, CallIn, Holds, Goes, Reading, InScope, IsOne, AreGifts, its_call}
+use Rattle.afs_law.proofs.Facts.{AreApart, IsClient, back_seat, Ghost, IsAged, server_boot, View, view_of, view, desk, last_key, LastRan, ReplyFact, ClientFacts, IsUntrusted, IsSafe, CallFact, CallIn, Holds, Goes, Reading, InScope, IsOne, AreGifts, IsOpen, its_call}
 use Rattle.afs_law.proofs.Owing.{BackIn, DoneIn, SeatedIn}
 use Rattle.afs_law.proofs.Passing.{old_over, PassesFile, PassesAct, PassesReach, stays, PassesBoth, PassesSeen, current_over, reply_over, kept_over, client_still, News, more_sent, fallen_over, one_more, ran_over}
 use Rattle.afs_law.proofs.Serving.{told_file, told_reach, told_act, reached_still}
@@ -269,18 +269,19 @@ callee_is gives_back s c past x h k = gifts_callee x.gifts k.gifts
 callee_is (answers code) s c past x h k = table_callee s c past x _ h k
 
 -- a client that asks next is still one of the script
-pub client_asking : (s : Script) (c : Cell) (past : List Entry) (x : ClientState) (act : Going) → Holds s c past → IsClient s x → IsClient s (asking x act)
-client_asking s c past x act h k = record {
+pub client_asking : (s : Script) (c : Cell) (past : List Entry) (x : ClientState) (act : Going) → Holds s c past → IsOpen (next act) → IsClient s x → IsClient s (asking x act)
+client_asking s c past x act h going k = record {
   table = k.table;
   user = k.user;
   callee = λ a e. callee_is (next act) s c past x h k;
+  needs = λ a e. subst (λ (b : Going). IsOpen (next b)) (some_of act a e) going;
   apart = k.apart;
   gifts = k.gifts;
 }
 
 -- and so is one whose act ended, or that reads another way
 pub client_ended : (s : Script) (x : ClientState) (cache : List CacheEntry) → IsClient s x → AreApart cache → IsClient s (ended x cache)
-client_ended s x cache k a = record { table = k.table; user = k.user; callee = λ act e. absurd cc; apart = a; gifts = tt }
+client_ended s x cache k a = record { table = k.table; user = k.user; callee = λ act e. absurd cc; needs = λ act e. absurd cc; apart = a; gifts = tt }
 
 -- a call that changes nothing has no fid in its scope
 pub scope_volume : (n : ℕ) (o : Option ℕ) → o ≡ None → is_volume n o ≡ true → ⊥
@@ -436,13 +437,13 @@ same_one s c past n act ms h runs =
 abbrev pub with_gifts : List Gift → ClientState → ClientState
 with_gifts gs x = record x { gifts = gs }
 
-pub asks : (s : Script) (c : Cell) (past : List Entry) (n : ℕ) (gs : List Gift) (act : Going) (l : Line) → Holds s c past → AreGifts gs → AreGood s (actors.Node (Client n)) past [] (l ∷ []) → Passes s n (l ∷ []) (call_message (Client n) (asking (with_gifts gs (c.clients n)) act) act ∷ []) past
+pub asks : (s : Script) (c : Cell) (past : List Entry) (n : ℕ) (gs : List Gift) (act : Going) (l : Line) → Holds s c past → AreGifts gs → IsOpen (next act) → AreGood s (actors.Node (Client n)) past [] (l ∷ []) → Passes s n (l ∷ []) (call_message (Client n) (asking (with_gifts gs (c.clients n)) act) act ∷ []) past
     → ((f : Fid) → PassesFile n f (step_entry n (l ∷ []) (call_message (Client n) (asking (with_gifts gs (c.clients n)) act) act ∷ [])) past) → ((f : Fid) → PassesReach n f (step_entry n (l ∷ []) (call_message (Client n) (asking (with_gifts gs (c.clients n)) act) act ∷ [])) past)
     → ((f : Fid) → (InScope (asked act) f → ⊥) → (reach (Client n) f (step_entry n (l ∷ []) (call_message (Client n) (asking (with_gifts gs (c.clients n)) act) act ∷ []) ∷ past)).made ≡ 0) → ((a : Going) → (c.clients n).running ≡ Some a → volume_changed (asked a) ≡ None) → running s (Client n) (l ∷ lines_of past) ≡ Some act → (has_begun (Client n) (l ∷ []) ≡ false → (c.clients n).running ≡ Some act) → Goes s past (client_moves c n (calls_step (Client n) (with_gifts gs (c.clients n)) act (λ ls. l ∷ ls)))
-asks s c past n gs act l h given good p q r none shut at went =
+asks s c past n gs act l h given going good p q r none shut at went =
     let d = h.clients n in
     let x : ClientState = asking (with_gifts gs (c.clients n)) act in
-    let kind : IsClient s x = client_asking s c past (with_gifts gs (c.clients n)) act h (record { table = (h.own n).table; user = (h.own n).user; callee = λ a z. (h.own n).callee a z; apart = (h.own n).apart; gifts = given }) in
+    let kind : IsClient s x = client_asking s c past (with_gifts gs (c.clients n)) act h going (record { table = (h.own n).table; user = (h.own n).user; callee = λ a z. (h.own n).callee a z; needs = λ a z. (h.own n).needs a z; apart = (h.own n).apart; gifts = given }) in
     let e : Entry = step_entry n (l ∷ []) (call_message (Client n) x act ∷ []) in
     let g : Ghost = record { floor = c.server.lasting.boot; held = (h.floors n).held } in
     let v : View = view_after c n g x in

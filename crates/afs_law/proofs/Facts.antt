@@ -7,7 +7,7 @@ use Rattle.afs_law.proofs.Edits.{Ones, index_in, SoundIn, Tops}
 use Rattle.afs_law.proofs.Owing.{BackedIn}
 use Rattle.afs_rows.specs.Callbacks.{replies_of}
 use Rattle.afs_rows.specs.ClientRow.{boot_of, find_cached, body_told, server_at, status_told, call_by}
-use Rattle.afs_rows.specs.Going.{asked, Going, ClientState, next}
+use Rattle.afs_rows.specs.Going.{asked, answers, Going, Need, ClientState, next}
 use Rattle.afs_law.specs.Grants.{fetch_reply, GrantOf, since, IsWithdrawn, IsDropped}
 use Rattle.afs_law.specs.Ideal.{last_version, IsLast, WasLast, HasBeen, HasVersion, Accepts, clock_of, user_of, reach, call_under, volume_after}
 use Rattle.afs_law.specs.Legal.{IsNew, Cause, AreGood, AreGoodReplies, as_asked}
@@ -113,11 +113,17 @@ AreGifts (g ∷ gs) = (g.server ≡ the_server) × AreGifts gs
 abbrev pub its_call : List Gift → Going → FsCall
 its_call gifts act = call_by gifts (next act)
 
+-- the act isn't at its end
+abbrev pub IsOpen : Need → Type 0
+IsOpen (answers code) = ⊥
+IsOpen need = ⊤
+
 -- a client of the script; what it asks, it asks of the server
 pub record IsClient (s : Script) (c : ClientState) : Type 0 where
   pub table : c.table ≡ locations s
   pub user : c.user ≡ guest
   pub callee : (act : Going) → c.running ≡ Some act → c.callee ≡ the_server
+  pub needs : (act : Going) → c.running ≡ Some act → IsOpen (next act)
   pub apart : AreApart c.cache
   pub gifts : AreGifts c.gifts
 
@@ -288,8 +294,17 @@ pub record IsStored (x : Spot) (m : Message) : Type 0 where
   pub ran : LastStored x
   pub kept : ran.seat.reply ≡ Some m
 
+-- no call that shows what an act reads
+abbrev pub IsNoRead : FsCall → Type 0
+IsNoRead (calls.FetchData f position wanted) = ⊥
+IsNoRead (calls.FetchAcl f) = ⊥
+IsNoRead (calls.FetchStatus f) = ⊥
+IsNoRead (calls.BulkStatus fids) = ⊥
+IsNoRead call = ⊤
+
+-- a reply that shows nothing: its call reads nothing, and where that is a changing one it is stored
 abbrev pub FitsPlain : Spot → Message → FsCall → Type 0
-FitsPlain v m call = (id : ℕ) → volume_changed call ≡ Some id → IsStored v m
+FitsPlain v m call = IsNoRead call × ((id : ℕ) → volume_changed call ≡ Some id → IsStored v m)
 
 abbrev pub FitsData : Bool → ℕ → Spot → Message → List Entry → List ℕ → AfsFetchStatus → AfsCallBack → FsCall → Type 0
 FitsData sp j v m past contents status callback (calls.FetchData f position wanted) = IsFetched sp j f status.sync_counter (status_told status) (Some (body_told status.file_type contents)) callback.expiration_time m past

@@ -26,7 +26,7 @@ use Rattle.afs_law.proofs.Apart.{apart_filter, found_filter}
 use Rattle.afs_law.proofs.Asking.{Passes, carried_is, client_asking, client_ended, moves, new_one, nothing_new, other_client, own_begun, own_call, own_zero, runs_by_other, safe_cache, safe_over, step_entry, view_after}
 use Rattle.afs_law.proofs.Basics.{Above, client_number, guest, next_not, raised_up_to, same_fid-refl, same_fid-true, same_node-refl, some_of, up_to_next, UpTo}
 use Rattle.afs_law.proofs.Dropping.{drops_of, skips}
-use Rattle.afs_law.proofs.Facts.{AreApart, AreGifts, Ghost, Goes, HasOld, Holds, IsAged, IsClient, LastRan, ReplyFact, View, its_call, last_key, view}
+use Rattle.afs_law.proofs.Facts.{AreApart, AreGifts, IsOpen, Ghost, Goes, HasOld, Holds, IsAged, IsClient, LastRan, ReplyFact, View, its_call, last_key, view}
 use Rattle.afs_law.proofs.OneCell.{the_server, Cell, client_moves}
 use Rattle.afs_law.proofs.Passing.{PassesBoth, kept_over, old_over, old_within, ran_over}
 use Rattle.afs_law.proofs.Quiet.{AreQuiet, quiet_grant, quiet_passes}
@@ -188,6 +188,7 @@ left_client s c past n gs h given = record {
   table = (h.own n).table;
   user = (h.own n).user;
   callee = λ a z. (h.own n).callee a z;
+  needs = λ a z. (h.own n).needs a z;
   apart = apart_filter (λ e. not (is_trusted c.clock e)) (c.clients n).cache (h.own n).apart;
   gifts = given;
 }
@@ -262,15 +263,15 @@ gives_nothing s c past n act h none by =
     over (nothing_new _ _) (λ a z r. absurd cc) refl
 
 -- the server is told
-gives_some : (s : Script) (c : Cell) (past : List Entry) (n : ℕ) (act : Act) (fs : List Fid) (gs : List Gift) → (h : Holds s c past) → (c.clients n).running ≡ None → AreGifts gs
+gives_some : (s : Script) (c : Cell) (past : List Entry) (n : ℕ) (act : Act) (fs : List Fid) (gs : List Gift) → (h : Holds s c past) → (c.clients n).running ≡ None → AreGifts gs → IsOpen (next (began (locations s) act))
     → Goes s past (client_moves c n (record { state = asking (left c n gs) (began (locations s) act); lines = gave n act fs; sent = call_message (Client n) (asking (left c n gs) (began (locations s) act)) (began (locations s) act) ∷ [] }))
-gives_some s c past n act fs gs h none given =
+gives_some s c past n act fs gs h none given going =
     let x : ClientState = c.clients n in
     let d = h.clients n in
     let a : Going = began (locations s) act in
     let cache : List CacheEntry = untrusted_in c.clock x.cache in
     let y : ClientState = asking (left c n gs) a in
-    let kind : IsClient s y = client_asking s c past (left c n gs) a h (left_client s c past n gs h given) in
+    let kind : IsClient s y = client_asking s c past (left c n gs) a h going (left_client s c past n gs h given) in
     let ls : List Line = gave n act fs in
     let ms : List Message = call_message (Client n) y a ∷ [] in
     let e : Entry = step_entry n ls ms in
@@ -326,7 +327,7 @@ gives_order [] [] s c past n act h none by given is = gives_nothing s c past n a
 gives_order (u ∷ es) [] s c past n act h none by given is = absurd (none_ordered (gift_of u) (map gift_of es) given.0 is)
 gives_order es (g ∷ gs) s c past n act h none by given is =
     subst (λ (ls : List Line). Goes s past (client_moves c n (record { state = asking (left c n (g ∷ gs)) (began (locations s) act); lines = lines.Begin (Client n) act ∷ ls; sent = call_message (Client n) (asking (left c n (g ∷ gs)) (began (locations s) act)) (began (locations s) act) ∷ [] }))) (sym (dropped_fids n es))
-    (gives_some s c past n act (map (λ (e : CacheEntry). e.fid) es) (g ∷ gs) h none (subst AreGifts is (ordered_gifts (map gift_of es) given)))
+    (gives_some s c past n act (map (λ (e : CacheEntry). e.fid) es) (g ∷ gs) h none (subst AreGifts is (ordered_gifts (map gift_of es) given)) (subst IsOpen (sym by) tt))
 
 pub gives_goes : (s : Script) (c : Cell) (past : List Entry) (n : ℕ) (act : Act) → (h : Holds s c past) → (c.clients n).running ≡ None → next (began (locations s) act) ≡ gives_back → Goes s past (client_moves c n (gives_all (Client n) (unbusied (c.clients n)) c.clock (began (locations s) act) (begin_lines n act)))
 gives_goes s c past n act h none by =

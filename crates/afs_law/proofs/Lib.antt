@@ -38,3 +38,4 @@ pub mod KeysOnce
 pub mod Standing
 pub mod Hearing
 pub mod Worked
+pub mod Wrong

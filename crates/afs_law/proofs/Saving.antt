@@ -629,13 +629,13 @@ change_fits sp (calls.StoreAcl f acl) y s c past n head user id time times v es 
 change_fits sp (calls.StoreStatus f st) y s c past n head user id time times v es shown k x some H q one is =
     let z = store_fits (calls.StoreStatus f st) f y s c past n head user id time times v es shown k x _ H q refl (some_of f.volume id q.of_volume) refl in
     ((z.0, store_been (calls.StoreStatus f st) f y s c past user id time v es shown k (saved_reply c head time times user (calls.StoreStatus f st) id v es shown) H q one refl (some_of f.volume id q.of_volume) times), (is, z.1))
-change_fits sp (calls.RemoveFile d name) y s c past n head user id time times v es shown k x some H q one is = λ i e. is
-change_fits sp (calls.CreateFile d name st) y s c past n head user id time times v es shown k x some H q one is = λ i e. is
-change_fits sp (calls.Rename d old d' new) y s c past n head user id time times v es shown k x some H q one is = λ i e. is
-change_fits sp (calls.Symlink d name target st) y s c past n head user id time times v es shown k x some H q one is = λ i e. is
-change_fits sp (calls.Link d name f) y s c past n head user id time times v es shown k x some H q one is = λ i e. is
-change_fits sp (calls.MakeDir d name st) y s c past n head user id time times v es shown k x some H q one is = λ i e. is
-change_fits sp (calls.RemoveDir d name) y s c past n head user id time times v es shown k x some H q one is = λ i e. is
+change_fits sp (calls.RemoveFile d name) y s c past n head user id time times v es shown k x some H q one is = (tt, λ i e. is)
+change_fits sp (calls.CreateFile d name st) y s c past n head user id time times v es shown k x some H q one is = (tt, λ i e. is)
+change_fits sp (calls.Rename d old d' new) y s c past n head user id time times v es shown k x some H q one is = (tt, λ i e. is)
+change_fits sp (calls.Symlink d name target st) y s c past n head user id time times v es shown k x some H q one is = (tt, λ i e. is)
+change_fits sp (calls.Link d name f) y s c past n head user id time times v es shown k x some H q one is = (tt, λ i e. is)
+change_fits sp (calls.MakeDir d name st) y s c past n head user id time times v es shown k x some H q one is = (tt, λ i e. is)
+change_fits sp (calls.RemoveDir d name) y s c past n head user id time times v es shown k x some H q one is = (tt, λ i e. is)
 change_fits sp call y s c past n head user id time times v es shown k x some H q one is = absurd (some refl)
 
 -- what a change is answered is a reply with code 0
@@ -664,7 +664,7 @@ carried_zero call time id user times v es shown some = absurd (some refl)
 
 pub plain_again : (call : FsCall) (x z : Spot) (m : Message) → (volume_changed call ≡ None → ⊥) → (LastStored x → ⊥) → (o : Option ℕ) → volume_changed call ≡ o → FitsPlain x m call → FitsPlain z m call
 plain_again call x z m some none None e h = absurd (some e)
-plain_again call x z m some none (Some id) e h = absurd (none (h id e).ran)
+plain_again call x z m some none (Some id) e h = absurd (none (h.1 id e).ran)
 
 pub data_again : (sp : Bool) (call : FsCall) (n : ℕ) (x z : Spot) (m : Message) (past newer : List Entry) (contents : List ℕ) (status : AfsFetchStatus) (callback : AfsCallBack) → (volume_changed call ≡ None → ⊥) → (LastStored x → ⊥) → FitsData sp n x m past contents status callback call → FitsData sp n z m newer contents status callback call
 data_again sp (calls.FetchData f p w) n x z m past newer contents status callback some none h = absurd (some refl)

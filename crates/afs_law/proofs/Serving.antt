@@ -815,9 +815,9 @@ read_fits sp n (calls.FetchAcl g) v m c past expiry r x h g' =
 read_fits sp n (calls.FetchStatus g) v m c past expiry r x h g\' =
     subst (λ (y : Reading). FitsReply sp n (calls.FetchStatus g) v m past (promised_in expiry y.reply)) (sym x.is)
     (subst (λ (z : Fid). IsFetched sp n z x.found.vnode.index (shown_status x.found.vnode) None expiry m past) (sym x.seen.fid) (h x.stored x.found x.seen.at x.seen.found (subst (λ (y : Reading). IsAmong x.found y.granted) (sym x.is) (inl refl)) None tt))
-read_fits sp n (calls.GetVolumeStatus k) v m c past expiry r x h g\' = subst (λ (y : Reading). FitsReply sp n (calls.GetVolumeStatus k) v m past (promised_in expiry y.reply)) (sym x.is) (λ id z. absurd cc)
-read_fits sp n (calls.GiveUpCallBacks fids callbacks) v m c past expiry r x h g\' = subst (λ (y : Reading). FitsReply sp n (calls.GiveUpCallBacks fids callbacks) v m past (promised_in expiry y.reply)) (sym x) (λ id z. absurd cc)
-read_fits sp n calls.GetTime v m c past expiry r x h g\' = subst (λ (y : Reading). FitsReply sp n calls.GetTime v m past (promised_in expiry y.reply)) (sym x.is) (λ id z. absurd cc)
+read_fits sp n (calls.GetVolumeStatus k) v m c past expiry r x h g\' = subst (λ (y : Reading). FitsReply sp n (calls.GetVolumeStatus k) v m past (promised_in expiry y.reply)) (sym x.is) (tt, λ id z. absurd cc)
+read_fits sp n (calls.GiveUpCallBacks fids callbacks) v m c past expiry r x h g\' = subst (λ (y : Reading). FitsReply sp n (calls.GiveUpCallBacks fids callbacks) v m past (promised_in expiry y.reply)) (sym x) (tt, λ id z. absurd cc)
+read_fits sp n calls.GetTime v m c past expiry r x h g\' = subst (λ (y : Reading). FitsReply sp n calls.GetTime v m past (promised_in expiry y.reply)) (sym x.is) (tt, λ id z. absurd cc)
 read_fits sp n (calls.BulkStatus fids) v m c past expiry r x h g\' = subst (λ (y : Reading). FitsReply sp n (calls.BulkStatus fids) v m past (promised_in expiry y.reply)) (sym x.is)
     (record { at = index_at c; all = all_fit sp n m c past expiry x.caller fids x.sights (map (λ (s : Sight). s.found) x.sights) x.seen (λ y z. z) (λ st f at found yes b body. h st f at found (subst (λ (y : Reading). IsAmong f y.granted) (sym x.is) yes) b body) })
 read_fits sp n call v m c past expiry r x h g\' = absurd x

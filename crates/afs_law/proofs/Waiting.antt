@@ -69,7 +69,7 @@ tries_goes s c past n act h runs =
     let x : ClientState = c.clients n in
     let q : Node = x.callee in
     let y : ClientState = record x { tries = x.tries + 1 } in
-    let kind : IsClient s y = record { table = (h.own n).table; user = (h.own n).user; callee = λ a z. (h.own n).callee a z; apart = (h.own n).apart; gifts = (h.own n).gifts } in
+    let kind : IsClient s y = record { table = (h.own n).table; user = (h.own n).user; callee = λ a z. (h.own n).callee a z; needs = λ a z. (h.own n).needs a z; apart = (h.own n).apart; gifts = (h.own n).gifts } in
     let ms : List Message = call_message (Client n) x act ∷ [] in
     let e : Entry = step_entry n (lines.Timeout (Client n) q x.epoch x.last (x.tries + 1) ∷ []) ms in
     moves s c past n (h.floors n) (tries_again (Client n) x act) h kind (refl, tt) (timeout_passes s q n x.epoch x.last (x.tries + 1) ms past)
@@ -232,7 +232,7 @@ client_stops_goes s c past n h =
       tied = f.tied;
       answers = λ b y. absurd cc;
     } in
-    turned_goes s past n true _ (moves_back s c past n g (record { state = x; lines = lines.Crash (Client n) ∷ []; sent = [] }) h (record { table = (h.own n).table; user = (h.own n).user; callee = λ a z. absurd cc; apart = tt; gifts = tt }) (refl, tt) (crash_passes s n past)
+    turned_goes s past n true _ (moves_back s c past n g (record { state = x; lines = lines.Crash (Client n) ∷ []; sent = [] }) h (record { table = (h.own n).table; user = (h.own n).user; callee = λ a z. absurd cc; needs = λ a z. absurd cc; apart = tt; gifts = tt }) (refl, tt) (crash_passes s n past)
     (record {
       behind = λ seat y. new_epoch _ _ _ _ (d.behind seat y);
       behind_durable = λ seat y. new_epoch _ _ _ _ (d.behind_durable seat y);

@@ -40,16 +40,16 @@ use Rattle.afs_history.specs.declared.lines.Line.TheVariants as lines
 use Rattle.afs_num.specs.declared.histories.ReadSource.TheVariants.{Cached, Fetched}
 use Rattle.afs_xdr.specs.Words.{opaque, pad, word, opaque_at, word_at, counted_at}
 
-abbrev home : ℕ
+abbrev pub home : ℕ
 home = 536870912
 
-abbrev file : Fid
+abbrev pub file : Fid
 file = record { volume = home; vnode = 2; unique = 2 }
 
-abbrev root : Fid
+abbrev pub root : Fid
 root = record { volume = home; vnode = 1; unique = 1 }
 
-abbrev script : ℕ → Script
+abbrev pub script : ℕ → Script
 script n = record {
   servers = 1;
   clients = n;
@@ -62,13 +62,13 @@ abbrev told : Cell → List Input → List Line
 told c [] = []
 told c (x ∷ xs) = (moved c x).entry.lines ++ told (moved c x).cell xs
 
-abbrev answer : ℕ → Line
+abbrev pub answer : ℕ → Line
 answer n = lines.Answer (Client n) (record { 0 = pos 0 })
 
-abbrev begun : ℕ → Line
+abbrev pub begun : ℕ → Line
 begun n = lines.Begin (Client n) (acts.Open (operands.Fid file))
 
-abbrev stores : ℕ → Line
+abbrev pub stores : ℕ → Line
 stores n = lines.Begin (Client n) (acts.Close (operands.Fid file) (Hex (codes "def")))
 
 abbrev change : ℕ → List Line
@@ -114,7 +114,7 @@ is_told (lines.Drop c f) = true
 is_told (lines.Answer c code) = true
 is_told l = false
 
-abbrev code : ℕ → ℕ → Line
+abbrev pub code : ℕ → ℕ → Line
 code n k = lines.Answer (Client n) (record { 0 = pos k })
 
 abbrev nine : List Input
@@ -129,7 +129,7 @@ row_nine = refl
 
 -- ---- without their breaks these runs aren't legal
 
-abbrev entries : Cell → List Input → List Entry
+abbrev pub entries : Cell → List Input → List Entry
 entries c [] = []
 entries c (x ∷ xs) = (moved c x).entry ∷ entries (moved c x).cell xs
 
@@ -244,18 +244,18 @@ row_at_once = refl
 -- ---- wrong histories. Each differs from that of a run in one line, or in whose entry it is
 
 -- the first entries of row six with one of them altered
-abbrev alters : ℕ → (Entry → Entry) → List Entry → List Entry
+abbrev pub alters : ℕ → (Entry → Entry) → List Entry → List Entry
 alters n f [] = []
 alters zero f (e ∷ es) = f e ∷ es
 alters (suc n) f (e ∷ es) = e ∷ alters n f es
 
-abbrev by_lines : (Line → Line) → Entry → Entry
+abbrev pub by_lines : (Line → Line) → Entry → Entry
 by_lines f e = record e { lines = map f e.lines }
 
 abbrev six_by : ℕ → (Entry → Entry) → List Entry
 six_by n f = alters n f (entries (start (script 2)) six_front)
 
-apart_numbers : (m n : ℕ) → nat_eq m n ≡ false → m ≡ n → ⊥
+pub apart_numbers : (m n : ℕ) → nat_eq m n ≡ false → m ≡ n → ⊥
 apart_numbers m n e q = yes_no (nat_eq m n) (eq-eqb m n q) e
 
 -- an act begins, or a grant or a change is made, in another's entry

@@ -12,7 +12,7 @@ use Rattle.afs_num.specs.declared.messages.Message.{Message}
 use Rattle.afs_ideal.specs.Operations.{Caller, the_user, Result, refused, changes, no_operation, op, code_of, volume_called}
 use Rattle.afs_ideal.specs.Volumes.{Volume, Edit, versions_by}
 use Rattle.afs_law.specs.Breaks.{AllOwes, EndedOf, EndedAll, GoodSettle, GoodQuit, live_grant, lines_at, HasOwe, last_number}
-use Rattle.afs_rows.specs.Going.{Going, answers, next, asked, gives_back}
+use Rattle.afs_rows.specs.Going.{Going, Need, answers, asks_for, next, asked, gives_back}
 use Rattle.afs_law.specs.Grants.{is_promised, read_reply, GrantOf, since, IsWithdrawn, IsDropped}
 use Rattle.afs_law.specs.Ideal.{set_up, IsLast, WasLast, HasBeen, HasVersion, Accepts, clock_of, user_of, seen, change_in, change_key, call_under, volume_after}
 use Rattle.afs_history.specs.declared.lines.Line.{Line}
@@ -202,8 +202,14 @@ pub record Cause (reply : Message) (code : ℤ) (asks_for : FsCall) (past : List
   pub asks : as_asked call ≡ asks_for
   pub result : IsResult code (answer_at user call ran.older) (answered_key reply.head) ran.at.lines (own ++ lines_of past)
 
+-- the act ends with what it needs next: where the reply to that has code 0, so has the act. What it reads it goes on behind
+abbrev pub EndsAct : Need → Type 0
+EndsAct (asks_for call) = ⊤
+EndsAct gives_back = ⊤
+EndsAct need = ⊥
+
 -- the reply that the answer's entry was given is the cause of the code, and its call is one of this very act: the client
--- sent it since the act began, which was in an entry before
+-- sent it since the act began, which was in an entry before. The code is 0 only where the act ends with this call
 pub record IsCaused (c : Node) (act : Going) (code : ℤ) (past : List Entry) (own : List Line) : Type 0 where
   pub reply : Message
   pub by : given_message own (sent_of past) ≡ Some reply
@@ -211,6 +217,7 @@ pub record IsCaused (c : Node) (act : Going) (code : ℤ) (past : List Entry) (o
   pub cause : Cause reply code (asked act) past own
   pub before : has_begun c own ≡ false
   pub called : CalledSince (answered_key reply.head) cause.user cause.call past
+  pub ends : code ≡ pos 0 → EndsAct (next act)
 
 -- the act needs no more, and answers so by its read lines
 pub record IsDone (act : Going) (code : ℤ) : Type 0 where
