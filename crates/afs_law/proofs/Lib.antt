@@ -37,5 +37,6 @@ pub mod Hosting
 pub mod KeysOnce
 pub mod Standing
 pub mod Hearing
+pub mod Made
 pub mod Worked
 pub mod Wrong

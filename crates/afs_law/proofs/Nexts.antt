@@ -211,7 +211,7 @@ pub served_as : (call : FsCall) (id : ℕ) → volume_called call ≡ Some id �
 served_as (calls.GiveUpCallBacks fids callbacks) id e = absurd cc
 served_as call id e = refl
 
-as_changed : (call : FsCall) → volume_changed (as_asked call) ≡ volume_changed call
+pub as_changed : (call : FsCall) → volume_changed (as_asked call) ≡ volume_changed call
 as_changed (calls.GiveUpCallBacks fids callbacks) = refl
 as_changed call = refl
 

@@ -21,11 +21,11 @@ use Rattle.afs_ideal.specs.Told.{Agrees}
 use Rattle.afs_ideal.specs.Volumes.{Volume}
 use Rattle.afs_law.specs.Grants.{since, IsOutstanding, fetch_reply}
 use Rattle.afs_law.specs.Ideal.{versions_in, volume_after, set_up, IsLast}
-use Rattle.afs_law.specs.Legal.{GoodRead, Legal, Cause}
+use Rattle.afs_law.specs.Legal.{GoodRead, HasChange, Legal, Cause}
 use Rattle.afs_history.specs.declared.lines.Line.{Line}
 use Rattle.afs_law.specs.Once.{past_of, ChangesOnce}
 use Rattle.afs_law.specs.OneServer.{IsOneServer}
-use Rattle.afs_law.specs.Past.{HasCode, IsCall, lines_of, IsUnheard, called_key, answered_key, Ran}
+use Rattle.afs_law.specs.Past.{CalledSince, HasCode, IsCall, lines_of, onto, running, IsUnheard, called_key, answered_key, Ran}
 use Rattle.afs_rows.specs.Runs.{message_at, Leads, start, Input, Entry, Cell, RunsTo, Host}
 use Rattle.afs_rows.specs.ServerRow.{Change, is_client, lasting_after, lasting_started, record_of, serves, runs, refuses, not_served, whole, is_client, no_room}
 use Rattle.afs_rows.specs.States.{CacheEntry, Seat, Lasting, durable_of, volume_in, ServerState, BackCall}
@@ -34,7 +34,10 @@ use Rattle.afs_num.specs.declared.messages.Carried.TheVariants as carried
 use Rattle.afs_num.specs.declared.messages.Call.TheVariants as ask
 use Rattle.afs_model.specs.Calls as pairs
 use Rattle.afs_history.specs.declared.lines.Line.TheVariants as lines
-use Rattle.std.specs.Prelude.{◌⊎◌, ◌≤◌, ◌<◌, None, Some, ◌∷◌, [], ◌≡◌, ◌↔◌, ℕ, List, ◌++◌, false, ◌+◌, ◌&&◌, Option, true, ℤ}
+use Rattle.afs_history.specs.declared.acts.Act.{Act}
+use Rattle.afs_history.specs.declared.acts.Act.TheVariants as acts
+use Rattle.afs_num.specs.declared.types.Code.{Code}
+use Rattle.std.specs.Prelude.{⊤, pos, ◌⊎◌, ◌≤◌, ◌<◌, None, Some, ◌∷◌, [], ◌≡◌, ◌↔◌, ℕ, List, ◌++◌, false, ◌+◌, ◌&&◌, Option, true, ℤ}
 use Rattle.afs_num.specs.declared.types.Fid.{Fid}
 use Rattle.afs_num.specs.declared.types.Node.{Node}
 use Rattle.afs_num.specs.declared.scripts.Script.{Script}
@@ -91,6 +94,36 @@ abbrev pub ReadsAreNewest : Type 0
 ReadsAreNewest =
     (c : Node) (f : Fid) (index : ℕ) (source : ReadSource) (body : ReadBody) (past : List Entry) (own : List Line) (read : GoodRead c f index source body past own)
     → (IsOutstanding read.grant.server c f (own ++ since c f read.expiry read.reply past read.grant) → ⊥) → IsLast f index (own ++ lines_of past)
+
+-- acts that change something where they are answered 0
+abbrev pub IsChangingAct : Act → Type 0
+IsChangingAct (acts.Close o contents) = ⊤
+IsChangingAct (acts.Make p) = ⊤
+IsChangingAct (acts.MakeDirectory p) = ⊤
+IsChangingAct (acts.Remove p) = ⊤
+IsChangingAct (acts.RemoveDirectory p) = ⊤
+IsChangingAct (acts.Move p q) = ⊤
+IsChangingAct (acts.Link p q) = ⊤
+IsChangingAct (acts.Symlink p target) = ⊤
+IsChangingAct (acts.SetMode o mode) = ⊤
+IsChangingAct (acts.SetAccessList o text) = ⊤
+IsChangingAct act = ⊥
+
+-- a call that the client sent since it began its act changed something
+pub record IsMade (c : Node) (past : List Entry) (own : List Line) : Type 0 where
+  pub key : Key
+  pub node : key.node ≡ c
+  pub user : List ℕ
+  pub call : FsCall
+  pub called : CalledSince key user call past
+  pub told : HasChange key (own ++ lines_of past)
+
+-- In a legal history, where an act that changes something is answered 0, one key of that act has a change line. Before the
+-- answer stand the entries `before`, and in its own entry the lines `first`
+abbrev pub AcknowledgedAreMade : Type 0
+AcknowledgedAreMade =
+    (s : Script) (history before after : List Entry) (e : Entry) (first rest : List Line) (c : Node) (code : Code) (act : Going) → Legal history s → history ≡ before ++ (e ∷ after) → e.lines ≡ first ++ lines.Answer c code ∷ rest
+    → running s c (onto [] first ++ lines_of (past_of (set_up s ∷ []) before)) ≡ Some act → IsChangingAct act.act → code.0 ≡ pos 0 → IsMade c (past_of (set_up s ∷ []) before) (onto [] first)
 
 -- a server tells that a call isn't served exactly where its caller is no client, or its opcode none of those that it serves
 abbrev pub UnservedAreRefused : Type 0

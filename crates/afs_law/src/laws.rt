@@ -1,6 +1,6 @@
 //! Laws about the runs of a script. Each is the contract of a function that does nothing.
 
-ghost use Rattle.afs_law.specs.Laws.{ChangesAreFolded, KeysRunOnce, ReadsAreNewest, RunsAreLegal, RunsAreOne, StartsAreFolded, VolumesAreTold, PairsAreKnown, TrustedIsGood, RoomlessAreRefused, UnservedAreRefused, CallsRunOnce, RepliesAreCaused, RepliesAreRan, KeptAreRan, DurableAreChanges, GrantsAreKept, BreaksAreOwed, RepliesFollowDrops, GivenUpAreUntrusted};
+ghost use Rattle.afs_law.specs.Laws.{AcknowledgedAreMade, ChangesAreFolded, KeysRunOnce, ReadsAreNewest, RunsAreLegal, RunsAreOne, StartsAreFolded, VolumesAreTold, PairsAreKnown, TrustedIsGood, RoomlessAreRefused, UnservedAreRefused, CallsRunOnce, RepliesAreCaused, RepliesAreRan, KeptAreRan, DurableAreChanges, GrantsAreKept, BreaksAreOwed, RepliesFollowDrops, GivenUpAreUntrusted};
 
 /// Every run of a script for one server is legal.
 pub fn runs_are_legal()
@@ -15,6 +15,11 @@ pub fn keys_run_once()
 /// A good read shows the newest version, unless its grant was withdrawn and the client has not given it up.
 pub fn reads_are_newest()
     ensures { ReadsAreNewest }
+{}
+
+/// In a legal history an act that changes something is answered 0 only where one of its calls changed it.
+pub fn acknowledged_are_made()
+    ensures { AcknowledgedAreMade }
 {}
 
 /// The same inputs make the same run.
