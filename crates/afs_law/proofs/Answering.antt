@@ -1,11 +1,11 @@
 use Rattle.afs_law.proofs.Giving.{begin_lines, begun_not, gifts_later, gives_goes, idle_reply, unbusied}
-use Rattle.afs_law.proofs.Walking.{own_lines, back_again, lines_assoc}
+use Rattle.afs_law.proofs.Walking.{own_lines, back_again, lines_assoc, looked_begun, looked_given, looked_message}
 use Rattle.afs_law.proofs.Quiet.{quiet_grant, quiet_last, quiet_clock, reach_more}
 use Rattle.afs_law.proofs.Facts.{AreApart, Held, IsNewest, IsNoRead, IsOpen, its_call, AreGifts}
 use Rattle.afs_law.proofs.Passing.{PassesGrant, ran_over}
 use Rattle.afs_law.specs.Grants.{IsDropped, IsWithdrawn}
 use Rattle.afs_law.specs.Ideal.{IsLast, clock_of, reach_over}
-use Rattle.afs_law.specs.Legal.{EndsAct, GoodRead, as_asked}
+use Rattle.afs_law.specs.Legal.{EndsAct, GoodRead, HasUsed, as_asked}
 use Rattle.afs_rows.specs.ClientRow.{entries_told, put_entries, status_look, takes_bulk, with_statuses, behind_batch, batch, call_by, gives_by, given, takes_given}
 use Rattle.std.specs.List.{list_any}
 use Rattle.std.specs.Prelude.{⊤, length}
@@ -39,16 +39,16 @@ use Rattle.afs_law.proofs.Passing.{PassesReach, old_within, old_over, PassesSeen
 use Rattle.afs_law.proofs.Quiet.{quiet_grant, AreQuiet, quiet_more, quiet_passes}
 use Rattle.afs_law.proofs.Resting.{voids}
 use Rattle.afs_law.proofs.Saving.{old_withdrawn}
-use Rattle.afs_law.proofs.Serving.{told_file, told_reach, told_act, not_ran, stale_none, reached_still}
+use Rattle.afs_law.proofs.Serving.{onto_parts, told_file, told_reach, told_act, not_ran, stale_none, reached_still}
 use Rattle.afs_law.proofs.Skipping.{none_where, own_ended, skips, drop_lines, was_given, drop_file, drop_reach, drop_seen, drop_passes, ended_running, drops_good}
 use Rattle.afs_history.specs.declared.acts.Act.{Act}
 use Rattle.afs_rows.specs.ClientRow.{boot_or_first, with_boot, takes_shown, takes_entry, boot_of, read_lines, status_told, entry_told, booted, joined, put_entry, calls_again, is_busy_code, most_busy, asking, is_trusted, goes_on, goes_by, look_at, looked, most_reads, walked, Walked, is_below, dropped_after, left_after, find_cached, used_first, refreshed, call_message, calls_step, zero_code, begin_row, ignores, ended, answers_step, takes_stored, takes, resends_step, counts, is_awaited, awaits, client_row, is_spent, hears, takes_plain, takes_data, takes_set, left_in, given_up_in, body_told, call_of, is_reading}
 use Rattle.afs_rows.specs.Going.{call_for, reads_status, reads_statuses, reads_rights, gives_back, asked, Going, Need, next, answers, began, with_read, ClientState, reads, asks_for}
 use Rattle.afs_law.specs.Grants.{has_fetched, fetch_reply, since}
 use Rattle.afs_law.specs.Ideal.{Reach, HasBeen, raised, is_zero_code, reach, last_version, HasVersion}
-use Rattle.afs_law.specs.Legal.{AreGood, Shows, Cause, code_told, GoodCode}
+use Rattle.afs_law.specs.Legal.{AreGood, Shows, Cause, GoodCode}
 use Rattle.afs_history.specs.declared.lines.Line.{Line}
-use Rattle.afs_law.specs.Past.{IsCallUnder, onto, lines_of, sent_of, given_message, answered_key, running, has_begun, CalledSince}
+use Rattle.afs_law.specs.Past.{code_told, HasCode, IsCallUnder, onto, lines_of, sent_of, given_message, answered_key, running, has_begun, CalledSince}
 use Rattle.afs_rows.specs.Runs.{locations, Entry, message_at}
 use Rattle.afs_law.proofs.OneCell.{the_server, Moved, Cell, client_moves, begun_by}
 use Rattle.afs_rows.specs.Scopes.{is_in_scope}
@@ -138,6 +138,9 @@ walk_old n cache less ls ms past q w h = old_over less (lines_of past) (lines_of
 abbrev pub with_lines : Cell → ℕ → ClientState → List Message → List Line → Moved
 with_lines c n x ms ls = client_moves c n (record { state = x; lines = ls; sent = ms })
 
+begun_now : (n : ℕ) → cond (same_node (Client n) (Client n)) true false ≡ true
+begun_now n = rw (same_node-refl (Client n)) refl
+
 -- all that the act needed was in the cache
 pub begun_answered : (s : Script) (c : Cell) (past : List Entry) (n : ℕ) (act : Act) (k : ℕ) → Holds s c past → (c.clients n).running ≡ None → next (begun_walk s (c.clients n) c.clock act).act ≡ answers k
     → Goes s past (client_moves c n (goes_by (Client n) (unbusied (c.clients n)) (begin_lines n act) (begun_walk s (c.clients n) c.clock act) (answers k)))
@@ -157,7 +160,7 @@ begun_answered s c past n act k h none is =
     let over : (m : Message) → ReplyFact n (view h.floors c n) past m → ReplyFact n v (e ∷ past) m = λ m f. idle_reply n (view h.floors c n) v past e m refl refl refl refl refl refl refl f in
     subst (λ (os : List Line). Goes s past (with_lines c n y [] (lines.Begin (Client n) act ∷ os))) (sym (looked_more (Client n) w.looks tail))
     (moves s c past n (h.floors n) (record { state = y; lines = ls ++ tail; sent = [] }) h kind
-    (walk_answered s c past n (h.floors n).held ls w.act w.cache k W is)
+    (walk_answered s c past n (h.floors n).held ls w.act w.cache k W is (inl (looked_begun (Client n) (Client n) w.looks (lines.Begin (Client n) act ∷ []) ∙ begun_now n, looked_given (Client n) w.looks (lines.Begin (Client n) act ∷ []))))
     (quiet_passes s n (ls ++ tail) [] past (quiet_more n ls tail W.quiet (tail_quiet n tail t)) (W.dull tail t))
     (record {
       behind = d.behind;
@@ -617,9 +620,36 @@ fetched_walks s c past n p act m u body h d shut kind from shown a lt =
 
 -- ---- behind reads of a reply the act goes on: it is answered, or calls
 
-pub gone_answered : (s : Script) (c : Cell) (past : List Entry) (n p : ℕ) (act : Going) (m : Message) (front : List Line → List Line) (F : List Line) (w : Walked) (k : ℕ) → (h : Holds s c past) → Due c h.floors past n p act m → ((code : Code) → m.carried ≡ carried.Refusal code → ⊥) → ((ls : List Line) → front ls ≡ F ++ ls)
+-- these lines were given this message, and begin no act
+pub record IsUsed (n : ℕ) (m : Message) (F : List Line) (past : List Entry) : Type 0 where
+  pub given : given_message (onto [] F) (sent_of past) ≡ Some m
+  pub begun : has_begun (Client n) (onto [] F) ≡ false
+
+onto_front_of : (a b : List Line) → onto [] (a ++ b) ≡ onto (onto [] a) b
+onto_front_of a b = onto_parts [] a b
+
+told_zero : (c : Carried) → HasCode c → ((code : Code) → c ≡ carried.Refusal code → ⊥) → code_told c ≡ Some (pos 0)
+told_zero (carried.Call user call) h not = absurd h
+told_zero (carried.Refusal code) h not = absurd (not code refl)
+told_zero (carried.Reply reply) h not = refl
+told_zero carried.Notice h not = absurd h
+
+-- behind lines that were given the reply it was used
+used_reply_behind : (s : Script) (c : Cell) (past : List Entry) (n p : ℕ) (act : Going) (m : Message) → (h : Holds s c past) → Due c h.floors past n p act m → ((code : Code) → m.carried ≡ carried.Refusal code → ⊥) → (own : List Line) → given_message own (sent_of past) ≡ Some m → has_begun (Client n) own ≡ false → HasUsed (Client n) past own
+used_reply_behind s c past n p act m h d not own by none = record {
+  reply = m;
+  by = by;
+  is_reply = d.answers.cause.is_reply;
+  told = told_zero m.carried d.answers.cause.is_reply.1 not;
+  to = ap (λ (k : Key). k.node) d.key;
+  before = none;
+  call = its_call (c.clients n).gifts act;
+  called = subst (λ (k : Key). CalledSince k guest (its_call (c.clients n).gifts act) past) (sym d.key) ((h.clients n).asked act d.running);
+}
+
+pub gone_answered : (s : Script) (c : Cell) (past : List Entry) (n p : ℕ) (act : Going) (m : Message) (front : List Line → List Line) (F : List Line) (w : Walked) (k : ℕ) → (h : Holds s c past) → Due c h.floors past n p act m → ((code : Code) → m.carried ≡ carried.Refusal code → ⊥) → ((ls : List Line) → front ls ≡ F ++ ls) → IsUsed n m F past
     → Walks s c past n c.server.lasting.boot (F ++ looked (Client n) w.looks []) w.act w.cache → AreApart w.cache → HasOld w.cache (lines_of past) → next w.act ≡ answers k → Goes s past (client_moves c n (goes_by (Client n) (c.clients n) front w (answers k)))
-gone_answered s c past n p act m front F w k h d not same W apart old is =
+gone_answered s c past n p act m front F w k h d not same used W apart old is =
     let x : ClientState = c.clients n in
     let ls : List Line = F ++ looked (Client n) w.looks [] in
     let tail : List Line = lines.Answer (Client n) (record { 0 = pos k }) ∷ [] in
@@ -632,7 +662,7 @@ gone_answered s c past n p act m front F w k h d not same W apart old is =
     let told : front (looked (Client n) w.looks tail) ≡ ls ++ tail = same (looked (Client n) w.looks tail) ∙ (ap (λ (os : List Line). F ++ os) (looked_more (Client n) w.looks tail) ∙ sym (append_assoc F (looked (Client n) w.looks []) tail)) in
     subst (λ (os : List Line). Goes s past (with_lines c n (ended x w.cache) [] os)) (sym told)
     (moves s c past n g (record { state = ended x w.cache; lines = ls ++ tail; sent = [] }) h (client_ended s x w.cache (h.own n) apart)
-    (walk_answered s c past n c.server.lasting.boot ls w.act w.cache k W is)
+    (walk_answered s c past n c.server.lasting.boot ls w.act w.cache k W is (inr (used_reply_behind s c past n p act m h d not (onto [] ls) (ap (λ (o : List Line). given_message o (sent_of past)) (onto_front_of F (looked (Client n) w.looks [])) ∙ (looked_message (Client n) w.looks (onto [] F) (sent_of past) ∙ used.given)) (ap (has_begun (Client n)) (onto_front_of F (looked (Client n) w.looks [])) ∙ (looked_begun (Client n) (Client n) w.looks (onto [] F) ∙ used.begun)))))
     (quiet_passes s n (ls ++ tail) [] past q (W.dull tail t))
     (ended_facts s c past n w.cache held e h (le_refl _) (ap (running s (Client n)) (onto_last (lines_of past) ls (lines.Answer (Client n) (record { 0 = pos k }))) ∙ own_ended n (running s (Client n) (onto (lines_of past) ls)))
     (λ f v found lasts. walk_current s c past n c.server.lasting.boot ls w.act w.cache tail [] (view_after c n g (ended x w.cache)) f v W t ends (le_refl _) (inr refl) found lasts)
@@ -697,26 +727,26 @@ gone_calls s c past n p act m front F w h d shut same W apart old going =
     })
     over (own_call h.floors c past n g y w.act (ls ++ []) k.known its refl at (new_one s c past n y w.act h refl refl)) (λ b x z. inr (record { act = act; runs = d.running; read = shut })) refl)
 
-gone_by : (need : Need) (s : Script) (c : Cell) (past : List Entry) (n p : ℕ) (act : Going) (m : Message) (front : List Line → List Line) (F : List Line) (w : Walked) → (h : Holds s c past) → Due c h.floors past n p act m → ((code : Code) → m.carried ≡ carried.Refusal code → ⊥) → volume_changed (asked act) ≡ None → ((ls : List Line) → front ls ≡ F ++ ls)
+gone_by : (need : Need) (s : Script) (c : Cell) (past : List Entry) (n p : ℕ) (act : Going) (m : Message) (front : List Line → List Line) (F : List Line) (w : Walked) → (h : Holds s c past) → Due c h.floors past n p act m → ((code : Code) → m.carried ≡ carried.Refusal code → ⊥) → volume_changed (asked act) ≡ None → ((ls : List Line) → front ls ≡ F ++ ls) → IsUsed n m F past
     → Walks s c past n c.server.lasting.boot (F ++ looked (Client n) w.looks []) w.act w.cache → AreApart w.cache → HasOld w.cache (lines_of past) → next w.act ≡ need → Goes s past (client_moves c n (goes_by (Client n) (c.clients n) front w need))
-gone_by (answers k) s c past n p act m front F w h d not shut same W apart old e = gone_answered s c past n p act m front F w k h d not same W apart old e
-gone_by (reads f) s c past n p act m front F w h d not shut same W apart old e = gone_calls s c past n p act m front F w h d shut same W apart old (subst IsOpen (sym e) tt)
-gone_by (reads_status f) s c past n p act m front F w h d not shut same W apart old e = gone_calls s c past n p act m front F w h d shut same W apart old (subst IsOpen (sym e) tt)
-gone_by (reads_statuses fs) s c past n p act m front F w h d not shut same W apart old e = gone_calls s c past n p act m front F w h d shut same W apart old (subst IsOpen (sym e) tt)
-gone_by (reads_rights f) s c past n p act m front F w h d not shut same W apart old e = gone_calls s c past n p act m front F w h d shut same W apart old (subst IsOpen (sym e) tt)
-gone_by (asks_for call) s c past n p act m front F w h d not shut same W apart old e = gone_calls s c past n p act m front F w h d shut same W apart old (subst IsOpen (sym e) tt)
-gone_by gives_back s c past n p act m front F w h d not shut same W apart old e = gone_calls s c past n p act m front F w h d shut same W apart old (subst IsOpen (sym e) tt)
+gone_by (answers k) s c past n p act m front F w h d not shut same used W apart old e = gone_answered s c past n p act m front F w k h d not same used W apart old e
+gone_by (reads f) s c past n p act m front F w h d not shut same used W apart old e = gone_calls s c past n p act m front F w h d shut same W apart old (subst IsOpen (sym e) tt)
+gone_by (reads_status f) s c past n p act m front F w h d not shut same used W apart old e = gone_calls s c past n p act m front F w h d shut same W apart old (subst IsOpen (sym e) tt)
+gone_by (reads_statuses fs) s c past n p act m front F w h d not shut same used W apart old e = gone_calls s c past n p act m front F w h d shut same W apart old (subst IsOpen (sym e) tt)
+gone_by (reads_rights f) s c past n p act m front F w h d not shut same used W apart old e = gone_calls s c past n p act m front F w h d shut same W apart old (subst IsOpen (sym e) tt)
+gone_by (asks_for call) s c past n p act m front F w h d not shut same used W apart old e = gone_calls s c past n p act m front F w h d shut same W apart old (subst IsOpen (sym e) tt)
+gone_by gives_back s c past n p act m front F w h d not shut same used W apart old e = gone_calls s c past n p act m front F w h d shut same W apart old (subst IsOpen (sym e) tt)
 
 -- from such reads on it reads from the cache
-gone_on : (s : Script) (c : Cell) (past : List Entry) (n p : ℕ) (act : Going) (m : Message) (front : List Line → List Line) (F : List Line) (k : ℕ) (a : Going) (cache : List CacheEntry) → (h : Holds s c past) → Due c h.floors past n p act m → ((code : Code) → m.carried ≡ carried.Refusal code → ⊥) → volume_changed (asked act) ≡ None → ((ls : List Line) → front ls ≡ F ++ ls)
+gone_on : (s : Script) (c : Cell) (past : List Entry) (n p : ℕ) (act : Going) (m : Message) (front : List Line → List Line) (F : List Line) (k : ℕ) (a : Going) (cache : List CacheEntry) → (h : Holds s c past) → Due c h.floors past n p act m → ((code : Code) → m.carried ≡ carried.Refusal code → ⊥) → volume_changed (asked act) ≡ None → ((ls : List Line) → front ls ≡ F ++ ls) → IsUsed n m F past
     → Walks s c past n c.server.lasting.boot F a cache → AreApart cache → HasOld cache (lines_of past) → Goes s past (client_moves c n (goes_on (Client n) (c.clients n) front (walked k c.clock a cache)))
-gone_on s c past n p act m front F k a cache h d not shut same W apart old =
-    gone_by (next (walked k c.clock a cache).act) s c past n p act m front F (walked k c.clock a cache) h d not shut same (walks_on k s c past n c.server.lasting.boot F a cache h W) (walked_apart k c.clock a cache apart) (old_within cache (walked k c.clock a cache).cache (lines_of past) (λ f u z. walked_found k c.clock a cache f u z) old) refl
+gone_on s c past n p act m front F k a cache h d not shut same used W apart old =
+    gone_by (next (walked k c.clock a cache).act) s c past n p act m front F (walked k c.clock a cache) h d not shut same used (walks_on k s c past n c.server.lasting.boot F a cache h W) (walked_apart k c.clock a cache apart) (old_within cache (walked k c.clock a cache).cache (lines_of past) (λ f u z. walked_found k c.clock a cache f u z) old) refl
 
 pub fetched_goes : (s : Script) (c : Cell) (past : List Entry) (n p : ℕ) (act : Going) (u : CacheEntry) (body : ReadBody) (m : Message) (t : Bool) → (h : Holds s c past) → Due c h.floors past n p act m → ((code : Code) → m.carried ≡ carried.Refusal code → ⊥) → volume_changed (asked act) ≡ None → is_promised body ≡ true → u.server ≡ the_server → Shows u.fid u.index body past (lines.Given p ∷ []) → IsFetched false n u.fid u.index u.status u.body u.expiry m past → nat_lt c.clock u.expiry ≡ t
     → Goes s past (client_moves c n (cond t (goes_on (Client n) (c.clients n) (read_lines (Client n) p (look_at Fetched u body)) (fetched_walk (c.clients n) c.clock act u body)) (calls_again (Client n) (c.clients n) p act)))
 fetched_goes s c past n p act u body m true h d not shut kind from shown a lasts =
-    gone_on s c past n p act m (read_lines (Client n) p (look_at Fetched u body)) (read_now n p u body) (most_reads act) (with_read u.fid body act) (put_entry (c.clients n).capacity u (c.clients n).cache) h d not shut (λ ls. refl) (fetched_walks s c past n p act m u body h d shut kind from shown a (ltb-true _ _ lasts))
+    gone_on s c past n p act m (read_lines (Client n) p (look_at Fetched u body)) (read_now n p u body) (most_reads act) (with_read u.fid body act) (put_entry (c.clients n).capacity u (c.clients n).cache) h d not shut (λ ls. refl) (record { given = d.at; begun = refl }) (fetched_walks s c past n p act m u body h d shut kind from shown a (ltb-true _ _ lasts))
     (apart_put (c.clients n).capacity u (c.clients n).cache (h.own n).apart)
     (put_old (c.clients n).capacity u (c.clients n).cache past (kept_whole u.body (find_cached u.fid (c.clients n).cache) u.fid u.index u.status (c.clients n).cache past refl h.one (h.clients n).old a.held.whole) (h.clients n).old)
 fetched_goes s c past n p act u body m false h d not shut kind from shown a lasts = again_goes s c past n p act m h d shut
@@ -958,7 +988,7 @@ several_goes true s c past n p act us at m h d not shut all last = again_goes s 
 several_goes false s c past n p act us at m h d not shut all last =
     let R = reads_all us s c past n (c.clients n).capacity m at (lines.Given p ∷ []) act (c.clients n).cache h (reads_none s c past n p act m at h d shut) d.fact.booted all last in
     gone_on s c past n p act m (λ ls. lines.Given p ∷ looked (Client n) (map status_look us) ls) (lines.Given p ∷ looked (Client n) (map status_look us) []) (most_reads (with_statuses us act)) (with_statuses us act) (put_entries (c.clients n).capacity us (c.clients n).cache) h d not shut
-    (λ ls. ap (λ (o : List Line). lines.Given p ∷ o) (looked_more (Client n) (map status_look us) ls)) (reads_walks s c past n c.server.lasting.boot m at (lines.Given p ∷ looked (Client n) (map status_look us) []) (with_statuses us act) (put_entries (c.clients n).capacity us (c.clients n).cache) R) R.apart R.old
+    (λ ls. ap (λ (o : List Line). lines.Given p ∷ o) (looked_more (Client n) (map status_look us) ls)) (record { given = looked_message (Client n) (map status_look us) (lines.Given p ∷ []) (sent_of past) ∙ d.at; begun = looked_begun (Client n) (Client n) (map status_look us) (lines.Given p ∷ []) }) (reads_walks s c past n c.server.lasting.boot m at (lines.Given p ∷ looked (Client n) (map status_look us) []) (with_statuses us act) (put_entries (c.clients n).capacity us (c.clients n).cache) R) R.apart R.old
 
 -- ---- an answered store
 
@@ -1155,9 +1185,10 @@ rights_passes s c past n p m f i text es h d = record {
 }
 
 -- the answer is good behind the drops
-rights_good : (s : Script) (n : ℕ) (a : Going) (past : List Entry) (es : List CacheEntry) (own : List Line) → running s (Client n) (own ++ lines_of past) ≡ Some a → next a ≡ answers 0 → AreGood s (actors.Node (Client n)) past own (dropped (Client n) es (last_line n zero_code))
-rights_good s n a past [] own runs done = ((refl, record { act = a; runs = runs; cause = inr (inl (record { number = 0; is = refl; by = done })) }), tt)
-rights_good s n a past (u ∷ es) own runs done = (refl, rights_good s n a past es (lines.Drop (Client n) u.fid ∷ own) runs done)
+rights_good : (s : Script) (n : ℕ) (a : Going) (past : List Entry) (es : List CacheEntry) (own : List Line) → running s (Client n) (own ++ lines_of past) ≡ Some a → next a ≡ answers 0 → HasUsed (Client n) past own → AreGood s (actors.Node (Client n)) past own (dropped (Client n) es (last_line n zero_code))
+rights_good s n a past [] own runs done used = ((refl, record { act = a; runs = runs; cause = inr (inl (record { number = 0; is = refl; by = done; last = inr used })) }), tt)
+rights_good s n a past (u ∷ es) own runs done used =
+    (refl, rights_good s n a past es (lines.Drop (Client n) u.fid ∷ own) runs done (record { reply = used.reply; by = used.by; is_reply = used.is_reply; told = used.told; to = used.to; before = used.before; call = used.call; called = used.called }))
 
 walked_done : (k clock : ℕ) (a : Going) (cache : List CacheEntry) (code : ℕ) → next a ≡ answers code → walked k clock a cache ≡ ClientRow.stays a cache
 walked_done zero clock a cache code e = refl
@@ -1193,7 +1224,7 @@ rights_goes s c past n p act m f i release text h d not_refused asks fits =
     let same : goes_on (Client n) x front (walked (most_reads a) c.clock a cache) ≡ ends_step (Client n) x cache (λ ls. front (looked (Client n) [] ls)) zero_code = ap (goes_on (Client n) x front) (walked_done (most_reads a) c.clock a cache 0 done) ∙ ap (goes_by (Client n) x front (ClientRow.stays a cache)) done in
     subst (λ (st : Step ClientState). Goes s past (client_moves c n st)) (sym same)
     (moves s c past n g (record { state = ended x cache; lines = rights_lines n p f i text es; sent = [] }) h (client_ended s x cache (h.own n) (apart_filter (λ y. not (is_older f i release y)) x.cache (h.own n).apart))
-    (tt, ((refl, record { whole = ((fits.is, fits.told), fits.been); not_older = fits.reached; was = inr fits.was }), rights_good s n a past es (rights_read n f i text ∷ lines.Given p ∷ []) (own_read n f (seen.AccessList text) act (running s (Client n) (lines_of past)) ((h.clients n).runs act d.running)) done))
+    (tt, ((refl, record { whole = ((fits.is, fits.told), fits.been); not_older = fits.reached; was = inr fits.was }), rights_good s n a past es (rights_read n f i text ∷ lines.Given p ∷ []) (own_read n f (seen.AccessList text) act (running s (Client n) (lines_of past)) ((h.clients n).runs act d.running)) done (used_reply_behind s c past n p act m h d not_refused (rights_read n f i text ∷ lines.Given p ∷ []) d.at refl)))
     (rights_passes s c past n p m f i text es h d.heard)
     (ended_facts s c past n cache held e h (h.clients n).holds (ended_running s n zero_code es (rights_read n f i text ∷ lines.Given p ∷ lines_of past))
     (λ k u found lasts.

@@ -90,6 +90,7 @@ ran_over reply e past h = record {
 abbrev pub grant_over : (c : Node) (f : Fid) (x : ℕ) (m : Message) (e : Entry) (past : List Entry) → GrantOf c f x m past → GrantOf c f x m (e ∷ past)
 grant_over c f x m e past h = record {
   is_reply = h.is_reply;
+  told = h.told;
   to = h.to;
   ran = ran_over m.head e past h.ran;
   server = h.server;

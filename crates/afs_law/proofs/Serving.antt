@@ -26,9 +26,9 @@ use Rattle.afs_rows.specs.Callbacks.{Turn, replies_of, pumped, expired, turn_for
 use Rattle.afs_rows.specs.ClientRow.{names_told, body_told}
 use Rattle.afs_rows.specs.Going.{asked, Going}
 use Rattle.afs_law.specs.Ideal.{shown_status, Tells, TellsIn, TellsOf, volume_after, version_in, latest, IsThat, user_of, clock_of, last_version, HasVersion, reach, call_under}
-use Rattle.afs_law.specs.Legal.{code_given, IsResult, AreGood, code_told, Cause, IsTold, answer_at, answer_on, as_asked}
+use Rattle.afs_law.specs.Legal.{code_given, IsResult, AreGood, Cause, IsTold, answer_at, answer_on, as_asked}
 use Rattle.afs_history.specs.declared.lines.Line.{Line}
-use Rattle.afs_law.specs.Past.{IsUnheard, lines_of, sent_of, given_message, called_key, HasCode, IsCallUnder, Ran, onto, same_key, answered_key}
+use Rattle.afs_law.specs.Past.{code_told, IsUnheard, lines_of, sent_of, given_message, called_key, HasCode, IsCallUnder, Ran, onto, same_key, answered_key}
 use Rattle.afs_rows.specs.Runs.{Entry, message_at, Armed, Fall}
 use Rattle.afs_law.proofs.OneCell.{the_server, Cell, Moved, server_moves}
 use Rattle.afs_rows.specs.ServerRow.{shows, granted, Reading, promise_ticks, refuses, reply_head, replied, told, result, Decision, seat_placed, Sight, given_up_read, promised_in, reading_in, statuses_read, time_read}
@@ -875,7 +875,7 @@ grants_boot : (d : Node) (x : ℕ) (fs : List Found) (o : List Line) → server_
 grants_boot d x [] o = refl
 grants_boot d x (g ∷ fs) o = grants_boot d x fs (lines.Grant the_server d g.fid g.vnode.index x ∷ o)
 
-onto_parts : (o a b : List Line) → onto o (a ++ b) ≡ onto (onto o a) b
+pub onto_parts : (o a b : List Line) → onto o (a ++ b) ≡ onto (onto o a) b
 onto_parts o [] b = refl
 onto_parts o (l ∷ a) b = onto_parts (l ∷ o) a b
 
@@ -953,7 +953,7 @@ shows_by s c past armed p n h user call r H up at w is code done =
                 let base : List Line = lines.Grant the_server (Client n) f.fid g.index t ∷ onto (lines_of past) before in
                 record {
                   held = record {
-                    grant = record { is_reply = (refl, tt); to = refl; ran = ran_now s c past p n h user call e H up at w refl refl; server = the_server; node = refl; index = g.index; before = before; after = after; line = g.line };
+                    grant = record { is_reply = (refl, tt); told = refl; to = refl; ran = ran_now s c past p n h user call e H up at w refl refl; server = the_server; node = refl; index = g.index; before = before; after = after; line = g.line };
                     server = refl;
                     kept = λ y d. grants_keep the_server (Client n) (Client n) f.fid t g.after [] d;
                     whole = record {

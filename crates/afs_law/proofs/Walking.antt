@@ -31,9 +31,9 @@ use Rattle.afs_rows.specs.ClientRow.{body_seen, shown_by, walked_with, find_cach
 use Rattle.afs_rows.specs.Going.{reads_status, reads_statuses, reads_rights, gives_back, Going, Need, reads, asks_for, answers, next, with_read}
 use Rattle.afs_law.specs.Grants.{is_promised, has_fetched, fetch_reply, read_reply, since, IsWithdrawn, IsDropped}
 use Rattle.afs_law.specs.Ideal.{last_version, HasVersion, IsLast, clock_of, Reach, reach_over, reach, is_zero_code}
-use Rattle.afs_law.specs.Legal.{AreGood, GoodRead, GoodReadBy, Shows}
+use Rattle.afs_law.specs.Legal.{AreGood, GoodRead, GoodReadBy, HasUsed, IsAtOnce, Shows}
 use Rattle.afs_history.specs.declared.lines.Line.{Line}
-use Rattle.afs_law.specs.Past.{onto, lines_of, sent_of, given_message, running, IsCallUnder}
+use Rattle.afs_law.specs.Past.{has_begun, has_given, onto, lines_of, sent_of, given_message, running, IsCallUnder}
 use Rattle.afs_rows.specs.Runs.{Entry}
 use Rattle.afs_law.proofs.OneCell.{the_server, Cell}
 use Rattle.afs_rows.specs.States.{CacheEntry}
@@ -65,6 +65,19 @@ lines_assoc (k ∷ ls) tail l = ap (λ (o : List Line). k ∷ o) (lines_assoc ls
 pub looked_more : (m : Node) (looks : List Look) (tail : List Line) → looked m looks tail ≡ looked m looks [] ++ tail
 looked_more m [] tail = refl
 looked_more m (l ∷ looks) tail = ap (λ (o : List Line). lines.Read m l.fid l.index l.source l.body ∷ o) (looked_more m looks tail)
+
+-- reads tell of no begin, and of no message
+pub looked_begun : (c m : Node) (looks : List Look) (o : List Line) → has_begun c (onto o (looked m looks [])) ≡ has_begun c o
+looked_begun c m [] o = refl
+looked_begun c m (l ∷ looks) o = looked_begun c m looks (lines.Read m l.fid l.index l.source l.body ∷ o)
+
+pub looked_given : (m : Node) (looks : List Look) (o : List Line) → has_given (onto o (looked m looks [])) ≡ has_given o
+looked_given m [] o = refl
+looked_given m (l ∷ looks) o = looked_given m looks (lines.Read m l.fid l.index l.source l.body ∷ o)
+
+pub looked_message : (m : Node) (looks : List Look) (o : List Line) (sent : List Message) → given_message (onto o (looked m looks [])) sent ≡ given_message o sent
+looked_message m [] o sent = refl
+looked_message m (l ∷ looks) o sent = looked_message m looks (lines.Read m l.fid l.index l.source l.body ∷ o) sent
 
 -- ---- cached reads and an answer
 
@@ -331,6 +344,6 @@ walk_current s c past n most ls a cache tail ms v g u w t ends le free found las
     }
 
 -- an act that needs no more is answered
-pub walk_answered : (s : Script) (c : Cell) (past : List Entry) (n most : ℕ) (ls : List Line) (a : Going) (cache : List CacheEntry) (k : ℕ) → Walks s c past n most ls a cache → next a ≡ answers k → AreGood s (actors.Node (Client n)) past [] (ls ++ lines.Answer (Client n) (record { 0 = pos k }) ∷ [])
-walk_answered s c past n most ls a cache k w e =
-    w.good (lines.Answer (Client n) (record { 0 = pos k }) ∷ []) ((refl, record { act = a; runs = ap (running s (Client n)) (sym (own_lines ls (lines_of past))) ∙ w.runs; cause = inr (inl (record { number = k; is = refl; by = e })) }), tt)
+pub walk_answered : (s : Script) (c : Cell) (past : List Entry) (n most : ℕ) (ls : List Line) (a : Going) (cache : List CacheEntry) (k : ℕ) → Walks s c past n most ls a cache → next a ≡ answers k → IsAtOnce (Client n) (onto [] ls) ⊎ HasUsed (Client n) past (onto [] ls) → AreGood s (actors.Node (Client n)) past [] (ls ++ lines.Answer (Client n) (record { 0 = pos k }) ∷ [])
+walk_answered s c past n most ls a cache k w e last =
+    w.good (lines.Answer (Client n) (record { 0 = pos k }) ∷ []) ((refl, record { act = a; runs = ap (running s (Client n)) (sym (own_lines ls (lines_of past))) ∙ w.runs; cause = inr (inl (record { number = k; is = refl; by = e; last = last })) }), tt)

@@ -12,7 +12,7 @@ use Rattle.afs_ideal.specs.SetUp.{laid_at, led}
 use Rattle.afs_ideal.specs.VnodeImage.{image}
 use Rattle.afs_law.proofs.Basics.{some_of}
 use Rattle.afs_law.proofs.OneCell.{Input, begins, gives, moved, start}
-use Rattle.afs_law.proofs.Worked.{alters, answer, entries, script}
+use Rattle.afs_law.proofs.Worked.{alters, answer, begun, entries, file, root, script}
 use Rattle.afs_law.specs.Legal.{EndsAct, Legal}
 use Rattle.afs_model.specs.Messages.{spelled}
 use Rattle.afs_num.specs.Names.{name_ok}
@@ -21,9 +21,17 @@ use Rattle.afs_rows.specs.ClientRow.{begin_row, client_row}
 use Rattle.afs_rows.specs.Going.{Going, Need, answers, gives_back, next, reads}
 use Rattle.afs_rows.specs.Runs.{Entry, steady}
 use Rattle.afs_xdr.specs.Words.{opaque, pad, word, opaque_at, word_at, counted_at}
-use Rattle.std.proofs.Common.{◌≡◌, ◌∙◌, ℕ, List, [], ◌∷◌, ap, sym, subst, refl, inl, inr, negsuc, pos}
+use Rattle.afs_law.specs.Past.{code_told}
+use Rattle.afs_num.specs.declared.histories.Body.TheVariants as bodies
+use Rattle.afs_num.specs.declared.histories.ReadBody.TheVariants as seen
+use Rattle.afs_num.specs.declared.histories.ReadSource.{ReadSource}
+use Rattle.afs_num.specs.declared.histories.ReadSource.TheVariants.{Cached, Fetched}
+use Rattle.afs_num.specs.declared.messages.Carried.TheVariants as carried
+use Rattle.afs_num.specs.declared.messages.Message.{Message}
+use Rattle.afs_num.specs.declared.types.Node.TheVariants.{Client}
+use Rattle.std.proofs.Common.{◌≡◌, ◌∙◌, true, false, ℕ, ℤ, List, [], ◌∷◌, Option, Some, ap, sym, subst, refl, inl, inr, negsuc, pos}
 use Rattle.std.specs.Fmt.{digits}
-use Rattle.std.specs.Prelude.{codes}
+use Rattle.std.specs.Prelude.{codes, map}
 
 -- an entry with other lines, which sends nothing
 abbrev instead : List Line → Entry → Entry
@@ -54,3 +62,78 @@ closed_by_the_walk h =
         ]
       ]
     ]
+
+-- an open of a directory is acknowledged by its reply, without the line that shows it and without the 21 that is due
+listed_without_a_line : Legal (alters 2 (instead (lines.Given 2 ∷ answer 1 ∷ [])) (entries (start (script 1)) (begins 1 (acts.Open (operands.Fid root)) ∷ gives 1 steady ∷ gives 2 steady ∷ []))) (script 1) → ⊥
+unfolding moved begin_row client_row server_row back_timeout_row wake_row start_row record_bytes head_form volume_form spelled opaque pad word laid_at led name_ok directory_bytes name_bytes rights_of image acl_text digits entry_text directory_of names_at opaque_at word_at counted_at whole_at count_at name_at spelled_at bytes_below
+listed_without_a_line h =
+    let g = h.1.1.0.0.0.1.0.1 in
+    elim g.cause [
+      | inl x ↦ subst (λ (a : Going). EndsAct (next a)) (sym (some_of _ _ g.runs)) (x.ends refl)
+      | inr y ↦ elim y [
+        | inl x ↦ no_answer _ x.number (ap next (some_of _ _ g.runs) ∙ x.by)
+        | inr z ↦ elim z [
+          | inl x ↦ let e : pos 0 ≡ negsuc 0 = x.is in absurd cc
+          | inr x ↦ no_gift _ (ap next (some_of _ _ g.runs) ∙ x.by)
+        ]
+      ]
+    ]
+
+-- ---- what is done by its read lines alone
+
+given_back : (n : ℕ) → answers n ≡ gives_back → ⊥
+given_back n e = absurd cc
+
+of_reply : (o : Option Message) (m k : Message) (code : ℤ) → o ≡ Some m → o ≡ Some k → code_told m.carried ≡ Some code → code_told k.carried ≡ Some (pos 0) → code ≡ pos 0
+of_reply o m k code a b c d = some_of code (pos 0) (sym c ∙ (ap (λ (x : Message). code_told x.carried) (some_of m k (sym a ∙ b)) ∙ d))
+
+-- an open is refused, for its file was removed; the client shows what it held of that all the same
+abbrev removed_front : List Input
+removed_front = begins 1 (acts.Stat (operands.Fid file)) ∷ gives 1 steady ∷ gives 2 steady ∷ begins 2 (acts.Remove (record { volume = codes "proj"; names = codes "a" ∷ [] })) ∷ gives 3 steady ∷ gives 4 steady ∷ gives 5 steady ∷ begins 1 (acts.Open (operands.Fid file)) ∷ gives 7 steady ∷ gives 8 steady ∷ []
+
+abbrev shown : ReadSource → Line
+shown source = lines.Read (Client 1) file 1 source (seen.Contents (bodies.File (codes "abc")))
+
+shown_against_a_refusal : Legal (alters 9 (instead (lines.Given 8 ∷ shown Cached ∷ answer 1 ∷ [])) (entries (start (script 2)) removed_front)) (script 2) → ⊥
+unfolding moved begin_row client_row server_row back_timeout_row wake_row start_row record_bytes head_form volume_form spelled opaque pad word laid_at led name_ok directory_bytes name_bytes rights_of image acl_text digits entry_text directory_of names_at opaque_at word_at counted_at whole_at count_at name_at spelled_at bytes_below
+shown_against_a_refusal h =
+    let g = h.1.1.1.1.1.1.1.1.1.0.0.0.1.1.0.1 in
+    elim g.cause [
+      | inl x ↦ subst (λ (a : Going). EndsAct (next a)) (sym (some_of _ _ g.runs)) (x.ends refl)
+      | inr y ↦ elim y [
+        | inl x ↦ elim x.last [ inl z ↦ let e : false ≡ true = z.0 in absurd cc | inr u ↦ let e : pos 102 ≡ pos 0 = of_reply _ _ u.reply _ refl u.by refl u.told in absurd cc ]
+        | inr z ↦ elim z [
+          | inl x ↦ let e : pos 0 ≡ negsuc 0 = x.is in absurd cc
+          | inr x ↦ given_back _ (ap next (some_of _ _ g.runs) ∙ x.by)
+        ]
+      ]
+    ]
+
+-- a reply is given to an act in the entry in which it begins, and what that shows was in the cache
+abbrev again_front : List Input
+again_front = begins 1 (acts.Open (operands.Fid file)) ∷ gives 1 steady ∷ gives 2 steady ∷ begins 1 (acts.Open (operands.Fid file)) ∷ []
+
+begun_with_a_reply : Legal (alters 3 (instead (begun 1 ∷ lines.Given 2 ∷ shown Cached ∷ answer 1 ∷ [])) (entries (start (script 1)) again_front)) (script 1) → ⊥
+unfolding moved begin_row client_row server_row back_timeout_row wake_row start_row record_bytes head_form volume_form spelled opaque pad word laid_at led name_ok directory_bytes name_bytes rights_of image acl_text digits entry_text directory_of names_at opaque_at word_at counted_at whole_at count_at name_at spelled_at bytes_below
+begun_with_a_reply h =
+    let g = h.1.1.1.0.0.0.1.1.1.0.1 in
+    elim g.cause [
+      | inl x ↦ let e : true ≡ false = x.before in absurd cc
+      | inr y ↦ elim y [
+        | inl x ↦ elim x.last [ inl z ↦ let e : true ≡ false = z.1 in absurd cc | inr u ↦ let e : true ≡ false = u.before in absurd cc ]
+        | inr z ↦ elim z [
+          | inl x ↦ let e : pos 0 ≡ negsuc 0 = x.is in absurd cc
+          | inr x ↦ given_back _ (ap next (some_of _ _ g.runs) ∙ x.by)
+        ]
+      ]
+    ]
+
+-- a grant stands beside a refusal: a read can't rest on it
+abbrev refuses : Entry → Entry
+refuses e = record e { sent = map (λ (m : Message). record m { carried = carried.Refusal (record { 0 = pos 13 }) }) e.sent }
+
+granted_by_a_refusal : Legal (alters 2 (instead (lines.Given 2 ∷ shown Fetched ∷ [])) (alters 1 refuses (entries (start (script 1)) (begins 1 (acts.Open (operands.Fid file)) ∷ gives 1 steady ∷ gives 2 steady ∷ [])))) (script 1) → ⊥
+unfolding moved begin_row client_row server_row back_timeout_row wake_row start_row record_bytes head_form volume_form spelled opaque pad word laid_at led name_ok directory_bytes name_bytes rights_of image acl_text digits entry_text directory_of names_at opaque_at word_at counted_at whole_at count_at name_at spelled_at bytes_below
+granted_by_a_refusal h =
+    let g = h.1.1.0.0.0.1.0.1 in
+    let e : pos 13 ≡ pos 0 = of_reply _ _ g.reply _ refl g.by refl g.grant.told in absurd cc

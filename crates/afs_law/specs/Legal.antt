@@ -16,7 +16,7 @@ use Rattle.afs_rows.specs.Going.{Going, Need, answers, asks_for, next, asked, gi
 use Rattle.afs_law.specs.Grants.{is_promised, read_reply, GrantOf, since, IsWithdrawn, IsDropped}
 use Rattle.afs_law.specs.Ideal.{set_up, IsLast, WasLast, HasBeen, HasVersion, Accepts, clock_of, user_of, seen, change_in, change_key, call_under, volume_after}
 use Rattle.afs_history.specs.declared.lines.Line.{Line}
-use Rattle.afs_law.specs.Past.{lines_of, sent_of, given_message, answered_key, IsReply, running, has_begun, Called, CalledSince, Ran}
+use Rattle.afs_law.specs.Past.{lines_of, sent_of, given_message, answered_key, code_told, IsReply, running, has_begun, has_given, Called, CalledSince, Ran}
 use Rattle.afs_rows.specs.Runs.{Entry}
 use Rattle.afs_num.specs.declared.scripts.Script.{Script}
 use Rattle.afs_num.specs.declared.histories.Actor.{Actor}
@@ -123,12 +123,6 @@ IsUnderChange own = ⊥
 
 -- ---- answers
 
--- the code of a reply
-abbrev pub code_told : Carried → Option ℤ
-code_told (carried.Refusal code) = Some code.0
-code_told (carried.Reply reply) = Some (pos 0)
-code_told c = None
-
 -- a change under this key is among the lines
 abbrev pub IsKey : Key → Option Key → Type 0 → Type 0
 IsKey k None before = before
@@ -219,11 +213,28 @@ pub record IsCaused (c : Node) (act : Going) (code : ℤ) (past : List Entry) (o
   pub called : CalledSince (answered_key reply.head) cause.user cause.call past
   pub ends : code ≡ pos 0 → EndsAct (next act)
 
--- the act needs no more, and answers so by its read lines
-pub record IsDone (act : Going) (code : ℤ) : Type 0 where
+-- the act began in this entry, which was given no message: what it read was in the cache, and it called nobody
+abbrev pub IsAtOnce : Node → List Line → Type 0
+IsAtOnce c own = (has_begun c own ≡ true) × (has_given own ≡ false)
+
+-- the entry was given a reply with code 0, to a call that the client sent since its act began, which was in an entry before
+pub record HasUsed (c : Node) (past : List Entry) (own : List Line) : Type 0 where
+  pub reply : Message
+  pub by : given_message own (sent_of past) ≡ Some reply
+  pub is_reply : IsReply reply
+  pub told : code_told reply.carried ≡ Some (pos 0)
+  pub to : reply.head.to ≡ c
+  pub before : has_begun c own ≡ false
+  pub call : FsCall
+  pub called : CalledSince (answered_key reply.head) (user_of c) call past
+
+-- the act needs no more, and answers so by its read lines; its last read came just now, from the cache in the entry of its
+-- begin, or behind a reply to its call
+pub record IsDone (c : Node) (act : Going) (code : ℤ) (past : List Entry) (own : List Line) : Type 0 where
   pub number : ℕ
   pub is : code ≡ pos number
   pub by : next act ≡ answers number
+  pub last : IsAtOnce c own ⊎ HasUsed c past own
 
 -- the key of the client's call of which the entry has the third timeout
 abbrev pub given_up : Node → List Line → Option Key
@@ -260,7 +271,7 @@ pub record HasNothing (c : Node) (act : Going) (code : ℤ) (own : List Line) : 
 pub record GoodCode (s : Script) (c : Node) (code : Code) (past : List Entry) (own : List Line) : Type 0 where
   pub act : Going
   pub runs : running s c (own ++ lines_of past) ≡ Some act
-  pub cause : IsCaused c act code.0 past own ⊎ (IsDone act code.0 ⊎ (IsDead c act code.0 past own ⊎ HasNothing c act code.0 own))
+  pub cause : IsCaused c act code.0 past own ⊎ (IsDone c act code.0 past own ⊎ (IsDead c act code.0 past own ⊎ HasNothing c act code.0 own))
 
 -- ---- replies that are sent
 

@@ -1,4 +1,4 @@
-use Rattle.std.specs.Prelude.{◌≡◌, ℕ, List, [], ◌∷◌, ◌++◌, Bool, true, false, ◌&&◌, Option, Some, None, nat_eq, if◌then◌else◌, ⊤, ◌⊎◌}
+use Rattle.std.specs.Prelude.{◌≡◌, ℕ, List, [], ◌∷◌, ◌++◌, Bool, true, false, ◌&&◌, Option, Some, None, ℤ, pos, nat_eq, if◌then◌else◌, ⊤, ◌⊎◌}
 use Rattle.afs_num.specs.Nodes.{same_node}
 use Rattle.afs_num.specs.declared.types.Head.{Head}
 use Rattle.afs_num.specs.declared.types.Key.{Key}
@@ -46,6 +46,12 @@ given_message [] sent = None
 given_message (lines.Given place ∷ ls) sent = message_at sent place
 given_message (l ∷ ls) sent = given_message ls sent
 
+-- the entry was given a message
+abbrev pub has_given : List Line → Bool
+has_given [] = false
+has_given (lines.Given place ∷ ls) = true
+has_given (l ∷ ls) = has_given ls
+
 -- the key of a call, by its header
 abbrev pub called_key : Head → Key
 called_key head = record { node = head.from; epoch = head.epoch; number = head.number }
@@ -68,6 +74,12 @@ abbrev pub HasCode : Carried → Type 0
 HasCode (carried.Refusal code) = ⊤
 HasCode (carried.Reply reply) = ⊤
 HasCode c = ⊥
+
+-- the code of a reply
+abbrev pub code_told : Carried → Option ℤ
+code_told (carried.Refusal code) = Some code.0
+code_told (carried.Reply reply) = Some (pos 0)
+code_told c = None
 
 -- a reply, by its header and by what it carries
 abbrev pub IsReply : Message → Type 0
