@@ -128,7 +128,7 @@ moves_back s c past n floor st h kind good p own w q fresh went keeps =
         sent = more_sent c.sent (replies_of c.server.backs.held) (replies_of c.server.backs.held) (view h.floors c) (views_after h.floors c n floor st.state) c.server.lasting.boot c.server.lasting.boot e past h.sent (le_refl _) now (λ j a. at_mover h.floors c n floor st.state j (λ i v. v.running ≡ Some a → has_begun (Client i) e.lines ≡ false → (running s (Client i) (lines_of past) ≡ Some a) ⊎ Reading (running s (Client i) (lines_of past))) (λ x z. elim (went a x z) [ inl y ↦ inl ((h.clients n).runs a y) | inr y ↦ inr (record { act = y.act; runs = (h.clients n).runs y.act y.runs; read = y.read }) ]) (λ ne x z. inl ((h.clients j).runs a x))) (calls_moved h.floors c n floor st.state c.sent w h.sent.calls)
             (λ j m. at_mover h.floors c n floor st.state j (λ i v. ReplyFact i (view h.floors c i) past m → ReplyFact i v (e ∷ past) m) (q m)
             (λ ne. reply_over j (view h.floors c j) m e past (λ f. (p.file j ne f).grant) (p.reach j ne) (λ f. stays j f e past (p.file j ne f).grant (last f)) (p.act j ne).begins)) (λ held. (fresh.news, held));
-        down = fallen_over c.down c.server.lasting c.sent st.sent e past h.down;
+        down = fallen_over c.down c.server.lasting c.sent st.sent e past (λ z. absurd cc) h.down;
         clock = p.clock (lines_of past) ∙ h.clock;
         top = λ f i b x. subst (λ (o : Option Version). i ≤ index_in o) (sym (last f)) (h.top f i b (p.back f i b (lines_of past) x));
         one = λ f i a b x y. h.one f i a b (p.back f i a (lines_of past) x) (p.back f i b (lines_of past) y);

@@ -28,7 +28,7 @@ use Rattle.afs_law.specs.Breaks.{HasStopped, last_number, AllOwes}
 use Rattle.afs_rows.specs.Callbacks.{retries, quits, Turn, replies_of, pumped, expired, turn_for, no_turn, repeats_by, key_answered, is_seat_of, alls, put_at, held_under, asked_again, is_ready, is_reply_to}
 use Rattle.afs_rows.specs.ClientRow.{boot_of}
 use Rattle.afs_law.specs.Ideal.{clock_of, volume_after}
-use Rattle.afs_law.specs.Legal.{IsChanging, code_given, AreGood, IsNew, HasChange, versions_first, IsTold, answer_at, answer_on, GoodRestart, op_on, all_on, statuses_on}
+use Rattle.afs_law.specs.Legal.{EndsBoot, IsChanging, RanBefore, code_given, AreGood, IsNew, HasChange, versions_first, IsTold, answer_at, answer_on, GoodRestart, op_on, all_on, statuses_on}
 use Rattle.afs_history.specs.declared.lines.Line.{Line}
 use Rattle.afs_law.specs.Past.{onto, lines_of, sent_of, given_message, called_key, IsCallUnder}
 use Rattle.afs_rows.specs.Runs.{Entry, message_at, Armed, unarmed, Luck, Blow, struck, lowered, Fall, at_rest, in_step, in_boot, settled, Outcome, comes_up, fails_early, fails_midway, is_full}
@@ -372,7 +372,7 @@ pub refuses_by : (s : Script) (c : Cell) (past : List Entry) (armed : Armed) (p 
     → ((code_given (answer_at user call past) ≡ code) × IsTold (called_key (client_head n head)) (answer_at user call past) []) ⊎ ((code ≡ no_room) × IsChanging (answer_at user call past))
     → Goes s past (server_does c armed p (call_at n head user call) (refuses (client_head n head) code))
 refuses_by s c past armed p n head user call code H up at w nz (inl x) = refuses_goes s c past armed p n head user call code H up at w nz (inl (x.0, told_more (called_key (client_head n head)) (answer_at user call past) (lines.Given p ∷ lines_of past) x.1))
-refuses_by s c past armed p n head user call code H up at w nz (inr x) = refuses_goes s c past armed p n head user call code H up at w nz (inr (x.0, (x.1, λ y. y)))
+refuses_by s c past armed p n head user call code H up at w nz (inr x) = refuses_goes s c past armed p n head user call code H up at w nz (inr (x.0, (x.1, (λ y. y, λ y. y))))
 
 -- what a message does that runs nothing, beside the seats
 pub turned_goes : (s : Script) (c : Cell) (past : List Entry) (armed : Armed) (p : ℕ) (head : Head) (x : Carried) (i : ℕ) → (H : Holds s c past) → c.down ≡ None → message_at c.sent p ≡ Some (record { head = head; carried = x }) → head.to ≡ Server i → Dull c.server.seats c.server.lasting.boot (record { head = head; carried = x })
@@ -688,8 +688,8 @@ rises_as s c past fall h e =
       replies = pump.good;
       volumes = refl;
       good = ((refl, rises_owed s c h), alls_good s (c.clock + promise_ticks) 0 c.count past _ (le_of_eq (down_number s c past fall h e)));
-      holds = revives s (Some b) _ (x ∷ past) (pumped the_server b t).backs (noted s (Some b) c past c.armed c.down x c.server.backs h (sk.boot _ ∙ rises_at s c past fall b h e) (risen_rests s b t.lines (pumped the_server b t).sent past sk) (sk.clock _)
-          (unheard_still c.down c x past (sk.given (sent_of past)) h.unheard) (fallen_over c.down c.server.lasting c.sent (pumped the_server b t).sent x past h.down) (rising_gives _ b _ _ c c.server.backs.held) (λ z. absurd (up_not c fall _ e (sym z)))) (λ fl z. nothing_held b c _ _) (λ z. pump.backed);
+      holds = revives s (Some b) _ (x ∷ past) (pumped the_server b t).backs (noted s (Some b) c past c.armed (Some at_rest) x c.server.backs h (sk.boot _ ∙ rises_at s c past fall b h e) (risen_rests s b t.lines (pumped the_server b t).sent past sk) (sk.clock _)
+          (unheard_still (Some at_rest) c x past (sk.given (sent_of past)) (λ k i l. unheard_later c.down c.server.seats c.server.lasting.boot past h.unheard k i l)) tt (rising_gives _ b _ _ c c.server.backs.held) (λ z. absurd cc)) (λ fl z. nothing_held b c _ _) (λ z. pump.backed);
     }
 
 pub rises_goes : (s : Script) (c : Cell) (past : List Entry) (fall : Fall) → Holds s c past → c.down ≡ Some fall → Goes s past (server_rises c (begun_before c.server))
@@ -709,7 +709,7 @@ pub ends_before : (s : Script) (c : Cell) (past : List Entry) (fall : Fall) (o :
 ends_before s c past fall comes_up h e = rises_goes s c past fall h e
 ends_before s c past fall fails_early h e =
     let x : Entry = alone (actors.Node the_server) (lines.Fault the_server) in
-    record { good = (refl, tt); replies = tt; volumes = refl; holds = stays_before s c past fall (lines.Fault the_server) h (fault_rests s past) refl refl refl (subst (λ (d : Option Fall). HasFallen d c.server.lasting c.sent (x ∷ past)) e (fallen_still c.down c x past h.down)) (λ u. absurd cc) refl refl }
+    record { good = (refl, tt); replies = tt; volumes = refl; holds = stays_before s c past fall (lines.Fault the_server) h (fault_rests s past) refl refl refl (subst (λ (d : Option Fall). HasFallen d c.server.lasting c.sent (x ∷ past)) e (fallen_still c.down c x past (λ z. refl) h.down)) (λ u. absurd cc) refl refl }
 ends_before s c past fall fails_midway h e = record { good = (refl, tt); replies = tt; volumes = refl; holds = stays_before s c past in_boot (lines.Fault the_server) h (fault_rests s past) refl refl refl tt (λ u. absurd cc) refl refl }
 ends_before s c past fall is_full h e = record { good = (refl, tt); replies = tt; volumes = refl; holds = stays_before s c past at_rest (lines.Full the_server) h (full_rests s past) (h.boots ∙ ap (λ (d : Option Fall). up_boot d c.server.lasting.boot) e) refl refl tt (λ u. absurd cc) refl refl }
 
@@ -727,10 +727,29 @@ ends_booted s c past is_full h e =
 pub down_not : (c : Cell) → {fall : Fall} → c.down ≡ Some fall → c.down ≡ None → ⊥
 down_not c e z = absurd cc
 
-pub after_good : (s : Script) (c : Cell) (past : List Entry) (n : ℕ) (h : Head) (user : List ℕ) (call : FsCall) (id : ℕ) (v : Volume) (es : List Edit) (shown : ℕ) (ls : List Line) → (H : Holds s c past) → Now s c H.floors past n h user call → Change' c past user call id v es shown → {fall : Fall} → c.down ≡ Some fall → versions_first ls ≡ []
+boots_behind : (vs : List Version) (ls : List Line) → EndsBoot the_server ls → EndsBoot the_server (versioned vs ls)
+boots_behind [] ls h = h
+boots_behind (v ∷ vs) ls h = boots_behind vs ls h
+
+-- the restart behind an interrupted step is where its change may stand
+ran_before : (c : Cell) (past : List Entry) (n : ℕ) (h : Head) (user : List ℕ) (call : FsCall) (vs : List Version) (ls : List Line) → IsCut c.server.lasting c.sent (call_at n h user call) past → EndsBoot the_server ls → RanBefore the_server (called_key (client_head n h)) past [] (versioned vs ls)
+ran_before c past n h user call vs ls cut boots = record {
+  alone = refl;
+  boots = boots_behind vs ls boots;
+  newer = cut.ran.newer;
+  at = cut.ran.at;
+  older = cut.ran.older;
+  split = cut.ran.split;
+  actor = cut.ran.node ∙ ap (λ (m : Message). actors.Node m.head.to) cut.is;
+  ran = record { boot = c.server.lasting.boot; given = subst (IsCallUnder the_server (called_key (client_head n h)) c.server.lasting.boot) (sym cut.ran.given) ((cut.ran.is_call, cut.ran.callee), (cut.ran.key, cut.ran.boot)); first = cut.ran.first };
+  stopped = cut.stopped;
+  since = cut.since;
+}
+
+pub after_good : (s : Script) (c : Cell) (past : List Entry) (n : ℕ) (h : Head) (user : List ℕ) (call : FsCall) (id : ℕ) (v : Volume) (es : List Edit) (shown : ℕ) (ls : List Line) → (H : Holds s c past) → Now s c H.floors past n h user call → Change' c past user call id v es shown → {fall : Fall} → c.down ≡ Some fall → versions_first ls ≡ [] → IsCut c.server.lasting c.sent (call_at n h user call) past → EndsBoot the_server ls
     → AreGood s (actors.Node the_server) past (on_top (versions_by id es v) (lines.Change the_server (called_key (client_head n h)) (length (versions_by id es v)) ∷ [])) ls → AreGood s (actors.Node the_server) past [] (lines.Change the_server (called_key (client_head n h)) (length (versions_by id es v)) ∷ versioned (versions_by id es v) ls)
-after_good s c past n h user call id v es shown ls H w q down none good =
-    ((refl, saves_change_good s c past [] ls n h user call id v es shown H w q (H.new _ w.above_durable) refl (H.home id v q.at) none (λ j f x ne y l t. absurd (down_not c down ((H.backs refl).promised (Client j) f x l (subst (λ (z : ℕ). z < x) H.clock t)).0))), versions_good s past _ ls (versions_by id es v) tt good)
+after_good s c past n h user call id v es shown ls H w q down none cut boots good =
+    ((refl, saves_change_good s c past [] ls n h user call id v es shown H w q (inr (ran_before c past n h user call (versions_by id es v) ls cut boots)) (H.new _ w.above_durable) refl (H.home id v q.at) none (λ j f x ne y l t. absurd (down_not c down ((H.backs refl).promised (Client j) f x l (subst (λ (z : ℕ). z < x) H.clock t)).0))), versions_good s past _ ls (versions_by id es v) tt good)
 
 pub after_holds : (y : Way) (s : Script) (now : Option ℕ) (c : Cell) (past : List Entry) (after : Backs) (fall : Fall) (n : ℕ) (h : Head) (user : List ℕ) (call : FsCall) (time id : ℕ) (st : Stored) (es : List Edit) (shown : ℕ) → (H : Holds s c past) → Now s c H.floors past n h user call → Change' c past user call id st.volume es shown
     → IsCut c.server.lasting c.sent (call_at n h user call) past → given_message (saved_lines y (called_key (client_head n h)) (versions_by id es st.volume)) (sent_of past) ≡ None
@@ -762,7 +781,7 @@ saved_up s c past fall n h user call time id st es shown H e w q is_cut =
     record {
       replies = pump.good;
       volumes = refl;
-      good = after_good s c past n h user call id st.volume es shown (lines.Restart the_server x ∷ t.lines) H w q e refl ((refl, rises_owed s c H), alls_good s (c.clock + promise_ticks) 0 c.count past _ (le_of_eq (top_number vs (lines.Change the_server key (length vs) ∷ []) (lines_of past) ∙ down_number s c past fall H e)));
+      good = after_good s c past n h user call id st.volume es shown (lines.Restart the_server x ∷ t.lines) H w q e refl is_cut (inl refl) ((refl, rises_owed s c H), alls_good s (c.clock + promise_ticks) 0 c.count past _ (le_of_eq (top_number vs (lines.Change the_server key (length vs) ∷ []) (lines_of past) ∙ down_number s c past fall H e)));
       holds = revives s (Some x) _ _ (pumped the_server x t).backs (after_holds y s (Some x) c past c.server.backs at_rest n h user call time id st es shown H w q is_cut given (λ u z b. tt) (saves_boot y key vs r past ∙ (sk.boot _ ∙ rises_at s c past fall x H e)) (λ own. rising_gives _ x _ _ c c.server.backs.held) (λ z. absurd cc)) (λ fl z. nothing_held x c _ _) (λ z. pump.backed);
     }
 
@@ -774,14 +793,14 @@ ends_saved s c past fall comes_up n h user call time id st es shown H e w q is_c
     (saved_up s c past fall n h user call time id st es shown H e w q is_cut)
 ends_saved s c past fall fails_early n h user call time id st es shown H e w q is_cut = ends_before s c past fall fails_early H e
 ends_saved s c past fall fails_midway n h user call time id st es shown H e w q is_cut = record {
-  good = after_good s c past n h user call id st.volume es shown (lines.Fault the_server ∷ []) H w q e refl (refl, tt);
+  good = after_good s c past n h user call id st.volume es shown (lines.Fault the_server ∷ []) H w q e refl is_cut (inl refl) (refl, tt);
   holds = nothing_less s None _ _ (after_holds faults s None c past c.server.backs in_boot n h user call time id st es shown H w q is_cut (given_on (versions_by id es st.volume) _ (sent_of past)) (λ x y z. tt) (saves_boot faults _ (versions_by id es st.volume) (reply_saved c (client_head n h) time user call id st es shown) past)
       (λ own held. (no_news _ _ _, held)) (λ z. backed_fall c.down in_boot c.server.backs c.server.lasting.boot c.server.seats _ (seats_of c) c.clock c.sent _ past (versions_lines is_oweless (versions_by id es st.volume) (lines.Fault the_server ∷ []) (λ y. refl) refl) (versions_lines is_still (versions_by id es st.volume) (lines.Fault the_server ∷ []) (λ y. refl) refl) (λ u. absurd cc) (H.backs refl)));
   replies = tt;
   volumes = refl;
 }
 ends_saved s c past fall is_full n h user call time id st es shown H e w q is_cut = record {
-  good = after_good s c past n h user call id st.volume es shown (lines.Full the_server ∷ []) H w q e refl (refl, tt);
+  good = after_good s c past n h user call id st.volume es shown (lines.Full the_server ∷ []) H w q e refl is_cut (inl refl) (refl, tt);
   holds = nothing_less s None _ _ (after_holds fills s None c past c.server.backs at_rest n h user call time id st es shown H w q is_cut (given_on (versions_by id es st.volume) _ (sent_of past)) (λ x y z. tt) (saves_boot fills _ (versions_by id es st.volume) (reply_saved c (client_head n h) time user call id st es shown) past ∙ (H.boots ∙ ap (λ (d : Option Fall). up_boot d c.server.lasting.boot) e))
       (λ own held. (no_news _ _ _, held)) (λ z. backed_fall c.down at_rest c.server.backs c.server.lasting.boot c.server.seats _ (seats_of c) c.clock c.sent _ past (versions_lines is_oweless (versions_by id es st.volume) (lines.Full the_server ∷ []) (λ y. refl) refl) (versions_lines is_still (versions_by id es st.volume) (lines.Full the_server ∷ []) (λ y. refl) refl) (λ u. absurd cc) (H.backs refl)));
   replies = tt;
@@ -841,6 +860,10 @@ pub cut_stops : (p : ℕ) (stops : Bool) (o : List Line) → HasStopped the_serv
 cut_stops p true o = inl refl
 cut_stops p false o = inl refl
 
+cut_stopped : (p : ℕ) (stops : Bool) → HasStopped the_server (lines.Given p ∷ blow_line stops ∷ [])
+cut_stopped p true = inl refl
+cut_stopped p false = inl refl
+
 pub cut_clock : (p : ℕ) (stops : Bool) (o : List Line) → clock_of (onto o (lines.Given p ∷ blow_line stops ∷ [])) ≡ clock_of o + 0
 cut_clock p true o = omega arith
 cut_clock p false o = omega arith
@@ -861,7 +884,7 @@ cuts_saved s c past p n h user call stops H up at w =
       volumes = refl;
       holds = still s None (record c { down = Some (in_step m c.clock); armed = unarmed }) (e ∷ past) (rests s None c past e 0 (Some (in_step m c.clock)) unarmed H (cut_boot p stops (lines_of past)) refl (cut_rests s p stops past) (cut_clock p stops (lines_of past))
           (λ k b l. (λ x. let x' : IsCallUnder the_server k b (Some m) = subst (λ (o : Option Message). IsCallUnder the_server k b o) (at_told s c past p m H at) x in let is : h.boot ≡ b = x'.1.1 in absurd (omega arith), unheard_later c.down c.server.seats c.server.lasting.boot past H.unheard k b l))
-          (record { place = p; at = at; ran = ran_now s c past p n h user call e H up at w refl refl; is = refl; ideal = H.ideal }) (λ z. fall_backed s c past e (in_step m c.clock) (cut_oweless p stops) (cut_still p stops) (λ u o. cut_stops p stops o) H));
+          (record { place = p; at = at; ran = ran_now s c past p n h user call e H up at w refl refl; is = refl; stopped = cut_stopped p stops; since = tt; ideal = H.ideal }) (λ z. fall_backed s c past e (in_step m c.clock) (cut_oweless p stops) (cut_still p stops) (λ u o. cut_stops p stops o) H));
     }
 
 abbrev pub IsSave : Decision → Type 0

@@ -10,7 +10,8 @@ use Rattle.afs_rows.specs.ClientRow.{boot_of, find_cached, body_told, server_at,
 use Rattle.afs_rows.specs.Going.{asked, answers, Going, Need, ClientState, next}
 use Rattle.afs_law.specs.Grants.{fetch_reply, GrantOf, since, IsWithdrawn, IsDropped}
 use Rattle.afs_law.specs.Ideal.{last_version, IsLast, WasLast, HasBeen, HasVersion, Accepts, clock_of, user_of, reach, call_under, volume_after}
-use Rattle.afs_law.specs.Legal.{IsNew, Cause, AreGood, AreGoodReplies, as_asked}
+use Rattle.afs_law.specs.Breaks.{HasStopped}
+use Rattle.afs_law.specs.Legal.{AreFailed, IsNew, Cause, AreGood, AreGoodReplies, as_asked}
 use Rattle.afs_history.specs.declared.lines.Line.{Line}
 use Rattle.afs_law.specs.Past.{is_of_act, lines_of, sent_of, called_key, running, Called, CalledSince, IsUnheard, Ran}
 use Rattle.afs_rows.specs.Runs.{locations, Entry, Fall, at_rest, in_step, in_boot, message_at}
@@ -609,6 +610,8 @@ pub record IsCut (kept : Lasting) (sent : List Message) (m : Message) (past : Li
   pub at : message_at sent place ≡ Some m
   pub ran : Ran (reply_head kept.boot m.head) past
   pub is : ran.message ≡ m
+  pub stopped : HasStopped the_server ran.at.lines
+  pub since : AreFailed the_server ran.newer
   pub ideal : AreIdeal kept.volumes ran.older
 
 abbrev pub HasFallen : Option Fall → Lasting → List Message → List Entry → Type 0

@@ -59,13 +59,13 @@ pub at_goes : (s : Script) (c : Cell) (past : List Entry) (p : ℕ) (luck : Luck
 at_goes s c past p luck None h at = voids s c past h
 at_goes s c past p luck (Some m) h at = to_goes s c past p luck m m.head.to h at refl
 
-pub stop_goes : (s : Script) (c : Cell) (past : List Entry) (n pick : ℕ) (armed : Armed) (d : Option Fall) → Holds s c past → Goes s past (server_armed c (lines.Stop the_server n pick) armed d)
-stop_goes s c past n pick armed None h = stop_set s c past n pick armed h
-stop_goes s c past n pick armed (Some fall) h = voids s c past h
+pub stop_goes : (s : Script) (c : Cell) (past : List Entry) (n pick : ℕ) (armed : Armed) (d : Option Fall) → Holds s c past → c.down ≡ d → Goes s past (server_armed c (lines.Stop the_server n pick) armed d)
+stop_goes s c past n pick armed None h up = stop_set s c past n pick armed h up
+stop_goes s c past n pick armed (Some fall) h up = voids s c past h
 
-pub fail_goes : (s : Script) (c : Cell) (past : List Entry) (n : ℕ) (armed : Armed) (d : Option Fall) → Holds s c past → Goes s past (server_armed c (lines.Fail the_server n) armed d)
-fail_goes s c past n armed None h = fail_set s c past n armed h
-fail_goes s c past n armed (Some fall) h = voids s c past h
+pub fail_goes : (s : Script) (c : Cell) (past : List Entry) (n : ℕ) (armed : Armed) (d : Option Fall) → Holds s c past → c.down ≡ d → Goes s past (server_armed c (lines.Fail the_server n) armed d)
+fail_goes s c past n armed None h up = fail_set s c past n armed h up
+fail_goes s c past n armed (Some fall) h up = voids s c past h
 
 pub goes : (s : Script) (c : Cell) (past : List Entry) (x : Input) → Holds s c past → Goes s past (moved c x)
 unfolding moved
@@ -77,8 +77,8 @@ goes s c past (client_stops n) h = either s c past (c.away n) _ _ (voids s c pas
 goes s c past (client_starts n) h = either s c past (c.away n) _ _ (client_starts_goes s c past n h) (voids s c past h)
 goes s c past stops h = stops_goes s c past c.down h refl
 goes s c past (starts_again after o) h = restarts_goes s c past after o c.down h refl
-goes s c past (sets_stop calls pick) h = stop_goes s c past calls pick _ c.down h
-goes s c past (sets_fail call) h = fail_goes s c past call _ c.down h
+goes s c past (sets_stop calls pick) h = stop_goes s c past calls pick _ c.down h refl
+goes s c past (sets_fail call) h = fail_goes s c past call _ c.down h refl
 goes s c past (server_waits n) h = server_times s c past n c.down h refl
 goes s c past wakes h = server_wakes_goes s c past c.down h refl
 goes s c past nothing h = voids s c past h

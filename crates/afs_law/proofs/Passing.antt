@@ -1,3 +1,5 @@
+use Rattle.afs_history.specs.declared.lines.Line.TheVariants as lines
+use Rattle.afs_num.specs.declared.histories.Actor.TheVariants as actors
 use Rattle.afs_law.proofs.Nexts.{as_is, asks_is}
 use Rattle.afs_law.proofs.Facts.{AreFetched, FitsBulk, its_call}
 use Rattle.afs_num.specs.declared.histories.ReadStatus.{ReadStatus}
@@ -143,9 +145,9 @@ pub told_behind : (k : Key) (r : Option Result) (ls o : List Line) → IsTold k 
 told_behind k (Some (changes es n)) ls o h = change_behind k ls o h
 told_behind k r ls o h = tt
 
-pub result_by : (code : ℤ) (r : Option Result) (k : Key) (ran ls newer : List Line) → (IsTold k r ls → IsTold k r newer) → IsResult code r k ran ls → IsResult code r k ran newer
-result_by code r k ran ls newer w (inl x) = inl (x.0, w x.1)
-result_by code r k ran ls newer w (inr x) = inr x
+pub result_by : (server : Node) (code : ℤ) (r : Option Result) (k : Key) (ran ls newer : List Line) → (IsTold k r ls → IsTold k r newer) → IsResult server code r k ran ls → IsResult server code r k ran newer
+result_by server code r k ran ls newer w (inl x) = inl (x.0, w x.1)
+result_by server code r k ran ls newer w (inr x) = inr x
 
 abbrev pub cause_over : (m : Message) (code : ℤ) (call : FsCall) (e : Entry) (past : List Entry) → Cause m code call past [] → Cause m code call (e ∷ past) []
 cause_over m code call e past h = record {
@@ -157,7 +159,7 @@ cause_over m code call e past h = record {
   carries = h.carries;
   own_user = h.own_user;
   asks = h.asks;
-  result = result_by code (answer_at h.user h.call h.ran.older) (answered_key m.head) h.ran.at.lines (lines_of past) (lines_of (e ∷ past)) (told_onto (answered_key m.head) (answer_at h.user h.call h.ran.older) e.lines (lines_of past)) h.result;
+  result = result_by m.head.from code (answer_at h.user h.call h.ran.older) (answered_key m.head) h.ran.at.lines (lines_of past) (lines_of (e ∷ past)) (told_onto (answered_key m.head) (answer_at h.user h.call h.ran.older) e.lines (lines_of past)) h.result;
 }
 
 -- and behind an entry's own lines
@@ -171,7 +173,7 @@ cause_behind m code call past own h = record {
   carries = h.carries;
   own_user = h.own_user;
   asks = h.asks;
-  result = result_by code (answer_at h.user h.call h.ran.older) (answered_key m.head) h.ran.at.lines (lines_of past) (own ++ lines_of past) (told_behind (answered_key m.head) (answer_at h.user h.call h.ran.older) own (lines_of past)) h.result;
+  result = result_by m.head.from code (answer_at h.user h.call h.ran.older) (answered_key m.head) h.ran.at.lines (lines_of past) (own ++ lines_of past) (told_behind (answered_key m.head) (answer_at h.user h.call h.ran.older) own (lines_of past)) h.result;
 }
 
 -- what was the newest is so still, or has its grant withdrawn
@@ -496,8 +498,8 @@ more_sent {s} sent held after v w b d e past h le now k c over pass =
     }
 
 -- a step that was interrupted stays so
-pub fallen_over : (down : Option Fall) (server : Lasting) (sent ms : List Message) (e : Entry) (past : List Entry) → HasFallen down server sent past → HasFallen down server (sent ++ ms) (e ∷ past)
-fallen_over None server sent ms e past h = tt
-fallen_over (Some at_rest) server sent ms e past h = tt
-fallen_over (Some in_boot) server sent ms e past h = tt
-fallen_over (Some (in_step m clock)) server sent ms e past h = record { place = h.place; at = at_more sent ms h.place m h.at; ran = ran_over _ e past h.ran; is = h.is; ideal = h.ideal }
+pub fallen_over : (down : Option Fall) (server : Lasting) (sent ms : List Message) (e : Entry) (past : List Entry) → (e.actor ≡ actors.Node the_server → e.lines ≡ lines.Fault the_server ∷ []) → HasFallen down server sent past → HasFallen down server (sent ++ ms) (e ∷ past)
+fallen_over None server sent ms e past w h = tt
+fallen_over (Some at_rest) server sent ms e past w h = tt
+fallen_over (Some in_boot) server sent ms e past w h = tt
+fallen_over (Some (in_step m clock)) server sent ms e past w h = record { place = h.place; at = at_more sent ms h.place m h.at; ran = ran_over _ e past h.ran; is = h.is; stopped = h.stopped; since = (w, h.since); ideal = h.ideal }

@@ -26,7 +26,7 @@ use Rattle.afs_rows.specs.Callbacks.{Turn, replies_of, pumped, expired, turn_for
 use Rattle.afs_rows.specs.ClientRow.{names_told, body_told}
 use Rattle.afs_rows.specs.Going.{asked, Going}
 use Rattle.afs_law.specs.Ideal.{shown_status, Tells, TellsIn, TellsOf, volume_after, version_in, latest, IsThat, user_of, clock_of, last_version, HasVersion, reach, call_under}
-use Rattle.afs_law.specs.Legal.{code_given, IsResult, AreGood, Cause, IsTold, answer_at, answer_on, as_asked}
+use Rattle.afs_law.specs.Legal.{code_given, IsResult, RunsHere, AreGood, Cause, IsTold, answer_at, answer_on, as_asked}
 use Rattle.afs_history.specs.declared.lines.Line.{Line}
 use Rattle.afs_law.specs.Past.{code_told, IsUnheard, lines_of, sent_of, given_message, called_key, HasCode, IsCallUnder, Ran, onto, same_key, answered_key}
 use Rattle.afs_rows.specs.Runs.{Entry, message_at, Armed, Fall}
@@ -396,6 +396,14 @@ ran_now s c past p n h user call e H up sent w is at = record {
   first = unheard_up c past up H.unheard (record { node = Client n; epoch = h.epoch; number = h.number }) c.server.lasting.boot (inr (refl, w.above));
 }
 
+-- the entry that is given the call runs it, the first in its boot
+pub runs_here : (s : Script) (c : Cell) (past : List Entry) (p n : ℕ) (h : Head) (user : List ℕ) (call : FsCall) → (H : Holds s c past) → c.down ≡ None → message_at c.sent p ≡ Some (call_at n h user call) → Now s c H.floors past n h user call → RunsHere the_server (called_key (client_head n h)) past (lines.Given p ∷ [])
+runs_here s c past p n h user call H up sent w = record {
+  boot = c.server.lasting.boot;
+  given = subst (IsCallUnder the_server (called_key (client_head n h)) c.server.lasting.boot) (sym (at_told s c past p _ H sent)) ((tt, refl), (refl, w.boot));
+  first = unheard_up c past up H.unheard (called_key (client_head n h)) c.server.lasting.boot (inr (refl, w.above));
+}
+
 -- the call ran in this entry, or in one before whose step was done by this one
 pub record HasRun (c : Cell) (n : ℕ) (h : Head) (user : List ℕ) (call : FsCall) (past : List Entry) : Type 0 where
   pub ran : Ran (reply_head c.server.lasting.boot (client_head n h)) past
@@ -404,7 +412,7 @@ pub record HasRun (c : Cell) (n : ℕ) (h : Head) (user : List ℕ) (call : FsCa
 
 -- the reply has the code of the ideal operation
 abbrev pub cause_now : (c : Cell) (n : ℕ) (h : Head) (user : List ℕ) (call : FsCall) (x : Carried) (code : ℤ) (past : List Entry) → (g : HasRun c n h user call past) → user ≡ user_of (Client n)
-    → HasCode x → code_told x ≡ Some code → IsResult code (answer_at user call g.ran.older) (called_key (client_head n h)) g.ran.at.lines (lines_of past)
+    → HasCode x → code_told x ≡ Some code → IsResult the_server code (answer_at user call g.ran.older) (called_key (client_head n h)) g.ran.at.lines (lines_of past)
     → Cause (replied c.server.lasting.boot (client_head n h) x) code (as_asked call) past []
 cause_now c n h user call x code past g own has told result = record {
   is_reply = (refl, has);
@@ -655,7 +663,7 @@ run_backed s c past n h user call x e ps H up w is a b d granted clients promise
     (λ y. absurd (no_change k (lines_of past) (H.new k w.above_durable) (change_back k e.lines (lines_of past) d y)))
 
 pub refuses_goes : (s : Script) (c : Cell) (past : List Entry) (armed : Armed) (p n : ℕ) (h : Head) (user : List ℕ) (call : FsCall) (code : ℤ) → (H : Holds s c past) → c.down ≡ None → message_at c.sent p ≡ Some (call_at n h user call) → Now s c H.floors past n h user call → is_passing code ≡ false
-    → IsResult code (answer_at user call past) (called_key (client_head n h)) (lines.Given p ∷ []) (lines.Given p ∷ lines_of past) → Goes s past (server_does c armed p (call_at n h user call) (refuses (client_head n h) code))
+    → IsResult the_server code (answer_at user call past) (called_key (client_head n h)) (lines.Given p ∷ []) (lines.Given p ∷ lines_of past) → Goes s past (server_does c armed p (call_at n h user call) (refuses (client_head n h) code))
 refuses_goes s c past armed p n h user call code H up at w nz result =
     let x : Carried = carried.Refusal (record { 0 = code }) in
     let r : Message = replied c.server.lasting.boot (client_head n h) x in

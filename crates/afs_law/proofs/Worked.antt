@@ -140,7 +140,7 @@ is_owe l = false
 abbrev without : Entry → Entry
 without e = record e { lines = filter (λ l. not (is_owe l)) e.lines }
 
-abbrev six_front : List Input
+abbrev pub six_front : List Input
 six_front = begins 1 (acts.Open (operands.Fid file)) ∷ gives 1 steady ∷ begins 2 (acts.Close (operands.Fid file) (Hex (codes "def"))) ∷ gives 3 steady ∷ []
 
 -- with them it is: so far they are told

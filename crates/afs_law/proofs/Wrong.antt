@@ -11,27 +11,34 @@ use Rattle.afs_ideal.specs.Directories.{directory_bytes, name_bytes, directory_o
 use Rattle.afs_ideal.specs.SetUp.{laid_at, led}
 use Rattle.afs_ideal.specs.VnodeImage.{image}
 use Rattle.afs_law.proofs.Basics.{some_of}
-use Rattle.afs_law.proofs.OneCell.{Input, begins, gives, moved, start}
-use Rattle.afs_law.proofs.Worked.{alters, answer, begun, entries, file, root, script}
-use Rattle.afs_law.specs.Legal.{EndsAct, Legal}
+use Rattle.afs_law.proofs.OneCell.{Input, begins, gives, moved, sets_stop, start, starts_again}
+use Rattle.afs_law.proofs.Worked.{alters, answer, begun, entries, file, root, script, six_front}
+use Rattle.afs_law.specs.Breaks.{HasStopped}
+use Rattle.afs_law.specs.Legal.{Cause, EndsAct, IsResult, Legal, answer_at, code_given}
 use Rattle.afs_model.specs.Messages.{spelled}
 use Rattle.afs_num.specs.Names.{name_ok}
 use Rattle.afs_num.specs.declared.types.Fid.{Fid}
 use Rattle.afs_rows.specs.ClientRow.{begin_row, client_row}
-use Rattle.afs_rows.specs.Going.{Going, Need, answers, gives_back, next, reads}
-use Rattle.afs_rows.specs.Runs.{Entry, steady}
+use Rattle.afs_rows.specs.Going.{Going, Need, answers, asked, asks_for, gives_back, next, reads, stored_whole}
+use Rattle.afs_rows.specs.Runs.{Entry, comes_up, steady}
 use Rattle.afs_xdr.specs.Words.{opaque, pad, word, opaque_at, word_at, counted_at}
-use Rattle.afs_law.specs.Past.{code_told}
+use Rattle.afs_law.specs.Ideal.{set_up}
+use Rattle.afs_law.specs.Once.{past_of}
+use Rattle.afs_law.specs.Past.{code_told, given_message, lines_of, sent_of}
+use Rattle.afs_num.specs.declared.calls.FsCall.{FsCall}
+use Rattle.afs_num.specs.declared.histories.Actor.TheVariants as actors
+use Rattle.afs_num.specs.declared.messages.Call.TheVariants as ask
+use Rattle.afs_num.specs.declared.types.Half.TheVariants as halves
 use Rattle.afs_num.specs.declared.histories.Body.TheVariants as bodies
 use Rattle.afs_num.specs.declared.histories.ReadBody.TheVariants as seen
 use Rattle.afs_num.specs.declared.histories.ReadSource.{ReadSource}
 use Rattle.afs_num.specs.declared.histories.ReadSource.TheVariants.{Cached, Fetched}
 use Rattle.afs_num.specs.declared.messages.Carried.TheVariants as carried
 use Rattle.afs_num.specs.declared.messages.Message.{Message}
-use Rattle.afs_num.specs.declared.types.Node.TheVariants.{Client}
-use Rattle.std.proofs.Common.{◌≡◌, ◌∙◌, true, false, ℕ, ℤ, List, [], ◌∷◌, Option, Some, ap, sym, subst, refl, inl, inr, negsuc, pos}
+use Rattle.afs_num.specs.declared.types.Node.TheVariants.{Client, Server}
+use Rattle.std.proofs.Common.{◌≡◌, ◌∙◌, true, false, ℕ, ℤ, List, [], ◌∷◌, ◌++◌, ◌⊎◌, Option, None, Some, ap, sym, subst, refl, inl, inr, negsuc, pos}
 use Rattle.std.specs.Fmt.{digits}
-use Rattle.std.specs.Prelude.{codes, map}
+use Rattle.std.specs.Prelude.{codes, drop, map, take}
 
 -- an entry with other lines, which sends nothing
 abbrev instead : List Line → Entry → Entry
@@ -39,6 +46,9 @@ instead ls e = record e { lines = ls; sent = [] }
 
 no_answer : (f : Fid) (n : ℕ) → reads f ≡ answers n → ⊥
 no_answer f n e = absurd cc
+
+no_answer_call : (call : FsCall) (n : ℕ) → asks_for call ≡ answers n → ⊥
+no_answer_call call n e = absurd cc
 
 no_gift : (f : Fid) → reads f ≡ gives_back → ⊥
 no_gift f e = absurd cc
@@ -137,3 +147,106 @@ unfolding moved begin_row client_row server_row back_timeout_row wake_row start_
 granted_by_a_refusal h =
     let g = h.1.1.0.0.0.1.0.1 in
     let e : pos 13 ≡ pos 0 = of_reply _ _ g.reply _ refl g.by refl g.grant.told in absurd cc
+
+-- ---- where a change may stand
+
+-- a store is told one entry after its call was given: the breaks that it owes would hold no reply
+abbrev parted : List Entry → List Entry
+parted [] = []
+parted (e ∷ []) = record e { lines = take 1 e.lines; sent = [] } ∷ record e { lines = drop 1 e.lines } ∷ []
+parted (e ∷ f ∷ es) = e ∷ parted (f ∷ es)
+
+changed_an_entry_late : Legal (parted (entries (start (script 2)) six_front)) (script 2) → ⊥
+unfolding moved begin_row client_row server_row back_timeout_row wake_row start_row record_bytes head_form volume_form spelled opaque pad word laid_at led name_ok directory_bytes name_bytes rights_of image acl_text digits entry_text directory_of names_at opaque_at word_at counted_at whole_at count_at name_at spelled_at bytes_below
+changed_an_entry_late h = let g = h.1.1.1.1.0.0.0.0.1 in elim g.place [ inl x ↦ x.given | inr y ↦ y.boots ]
+
+-- the server stops in a step; the restart tells its store, and a reply of the boot before that there was no room
+abbrev stopped_front : List Input
+stopped_front = begins 1 (acts.Close (operands.Fid file) (Hex (codes "def"))) ∷ sets_stop 3 1 ∷ gives 1 steady ∷ starts_again true comes_up ∷ []
+
+abbrev roomless : Message
+roomless = record {
+  head = record { half = halves.Reply; from = Server 1; to = Client 1; epoch = 1; number = 1; boot = 1; stamp = 0; opcode = 133 };
+  carried = carried.Refusal (record { 0 = pos 108 });
+}
+
+abbrev says_roomless : Entry → Entry
+says_roomless e = record e { sent = roomless ∷ [] }
+
+abbrev told_roomless : Entry
+told_roomless = record { actor = actors.Node (Client 1); lines = lines.Given 2 ∷ lines.Answer (Client 1) (record { 0 = pos 108 }) ∷ []; sent = []; volumes = [] }
+
+-- an entry that is found by a split of the past is one of it
+abbrev Among : (Entry → List Entry → Type 0) → List Entry → Type 0
+Among P [] = ⊥
+Among P (e ∷ past) = P e past ⊎ Among P past
+
+is_among : (P : Entry → List Entry → Type 0) (newer : List Entry) (at : Entry) (older : List Entry) → P at older → Among P (newer ++ (at ∷ older))
+is_among P [] at older x = inl x
+is_among P (e ∷ newer) at older x = inr (is_among P newer at older x)
+
+-- what the cause of that refusal says of the entry that ran the call
+record IsRoomless (ls : List Line) (e : Entry) (older : List Entry) : Type 0 where
+  message : Message
+  given : given_message e.lines (sent_of older) ≡ Some message
+  user : List ℕ
+  call : FsCall
+  carries : message.carried ≡ carried.Call user (ask.File call)
+  result : IsResult (Server 1) (pos 108) (answer_at user call older) (record { node = Client 1; epoch = 1; number = 1 }) e.lines ls
+
+one_user : (u v : List ℕ) (c d : FsCall) → carried.Call u (ask.File c) ≡ carried.Call v (ask.File d) → u ≡ v
+one_user u v c d e = cc
+
+one_call : (u v : List ℕ) (c d : FsCall) → carried.Call u (ask.File c) ≡ carried.Call v (ask.File d) → c ≡ d
+one_call u v c d e = cc
+
+-- the entry that stopped
+stopped_not : (ls : List Line) (e : Entry) (older : List Entry) (m : Message) → given_message e.lines (sent_of older) ≡ Some m → m.carried ≡ carried.Call (codes "guest") (ask.File (stored_whole file (codes "def"))) → code_given (answer_at (codes "guest") (stored_whole file (codes "def")) older) ≡ pos 0 → HasStopped (Server 1) e.lines → IsRoomless ls e older → ⊥
+stopped_not ls e older m given is zero stop x =
+    let same : carried.Call (codes "guest") (ask.File (stored_whole file (codes "def"))) ≡ carried.Call x.user (ask.File x.call) = sym is ∙ (ap (λ (k : Message). k.carried) (some_of m x.message (sym given ∙ x.given)) ∙ x.carries) in
+    elim x.result [
+      | inl y ↦
+          let told : code_given (answer_at (codes "guest") (stored_whole file (codes "def")) older) ≡ pos 108 = subst (λ (u : List ℕ). code_given (answer_at u (stored_whole file (codes "def")) older) ≡ pos 108) (sym (one_user _ _ _ _ same)) (subst (λ (k : FsCall). code_given (answer_at x.user k older) ≡ pos 108) (sym (one_call _ _ _ _ same)) y.0) in
+          let no_ : pos 0 ≡ pos 108 = sym zero ∙ told in absurd cc
+      | inr y ↦ y.1.1.1 stop
+    ]
+
+none_given : (ls : List Line) (e : Entry) (older : List Entry) → given_message e.lines (sent_of older) ≡ None → IsRoomless ls e older → ⊥
+none_given ls e older none x = let no_ : None ≡ Some x.message = sym none ∙ x.given in absurd cc
+
+abbrev stopped_past : List Entry
+stopped_past = past_of (set_up (script 1) ∷ []) (alters 3 says_roomless (entries (start (script 1)) stopped_front))
+
+abbrev roomless_history : List Entry
+roomless_history = alters 3 says_roomless (entries (start (script 1)) stopped_front) ++ told_roomless ∷ []
+
+no_room_but_stored : Legal roomless_history (script 1) → ⊥
+unfolding moved begin_row client_row server_row back_timeout_row wake_row start_row record_bytes head_form volume_form spelled opaque pad word laid_at led name_ok directory_bytes name_bytes rights_of image acl_text digits entry_text directory_of names_at opaque_at word_at counted_at whole_at count_at name_at spelled_at bytes_below
+no_room_but_stored h =
+    let g = h.1.1.1.1.0.0.0.1.0.1 in
+    elim g.cause [
+      | inl x ↦
+          let c : Cause roomless (pos 108) (asked g.act) stopped_past (lines.Given 2 ∷ []) = subst (λ (m : Message). Cause m (pos 108) (asked g.act) stopped_past (lines.Given 2 ∷ [])) (sym (some_of roomless x.reply x.by)) x.cause in
+          let ls : List Line = lines.Given 2 ∷ lines_of stopped_past in
+          let there : Among (IsRoomless ls) stopped_past = subst (Among (IsRoomless ls)) (sym c.ran.split) (is_among (IsRoomless ls) c.ran.newer c.ran.at c.ran.older (record { message = c.ran.message; given = c.ran.given; user = c.user; call = c.call; carries = c.carries; result = c.result })) in
+          elim there [
+            | inl y ↦ none_given _ _ _ refl y
+            | inr z ↦ elim z [
+              | inl y ↦ stopped_not _ _ _ _ refl refl refl (inl refl) y
+              | inr w ↦ elim w [
+                | inl y ↦ none_given _ _ _ refl y
+                | inr v ↦ elim v [
+                  | inl y ↦ none_given _ _ _ refl y
+                  | inr u ↦ elim u [ inl y ↦ none_given _ _ _ refl y | inr t ↦ t ]
+                ]
+              ]
+            ]
+          ]
+      | inr y ↦ elim y [
+        | inl x ↦ no_answer_call _ x.number (ap next (some_of _ _ g.runs) ∙ x.by)
+        | inr z ↦ elim z [
+          | inl x ↦ let e : pos 108 ≡ negsuc 0 = x.is in absurd cc
+          | inr x ↦ let e : pos 108 ≡ pos 0 = x.is in absurd cc
+        ]
+      ]
+    ]

@@ -11,12 +11,12 @@ use Rattle.afs_num.specs.declared.messages.Carried.{Carried}
 use Rattle.afs_num.specs.declared.messages.Message.{Message}
 use Rattle.afs_ideal.specs.Operations.{Caller, the_user, Result, refused, changes, no_operation, op, code_of, volume_called}
 use Rattle.afs_ideal.specs.Volumes.{Volume, Edit, versions_by}
-use Rattle.afs_law.specs.Breaks.{AllOwes, EndedOf, EndedAll, GoodSettle, GoodQuit, live_grant, lines_at, HasOwe, last_number}
+use Rattle.afs_law.specs.Breaks.{AllOwes, HasStopped, EndedOf, EndedAll, GoodSettle, GoodQuit, live_grant, lines_at, HasOwe, last_number}
 use Rattle.afs_rows.specs.Going.{Going, Need, answers, asks_for, next, asked, gives_back}
 use Rattle.afs_law.specs.Grants.{is_promised, read_reply, GrantOf, since, IsWithdrawn, IsDropped}
 use Rattle.afs_law.specs.Ideal.{set_up, IsLast, WasLast, HasBeen, HasVersion, Accepts, clock_of, user_of, seen, change_in, change_key, call_under, volume_after}
 use Rattle.afs_history.specs.declared.lines.Line.{Line}
-use Rattle.afs_law.specs.Past.{lines_of, sent_of, given_message, answered_key, code_told, IsReply, running, has_begun, has_given, Called, CalledSince, Ran}
+use Rattle.afs_law.specs.Past.{lines_of, sent_of, given_message, answered_key, code_told, IsReply, running, has_begun, has_given, Called, CalledSince, IsCallUnder, IsUnheard, Ran}
 use Rattle.afs_rows.specs.Runs.{Entry}
 use Rattle.afs_num.specs.declared.scripts.Script.{Script}
 use Rattle.afs_num.specs.declared.histories.Actor.{Actor}
@@ -89,12 +89,47 @@ abbrev pub IsChanged : Fid → List Version → Type 0
 IsChanged f [] = ⊥
 IsChanged f (v ∷ vs) = (v.fid ≡ f) ⊎ IsChanged f vs
 
--- A change runs a key for the first time, at a server that accepts stores of the volume, and is the only one of its entry.
+-- behind here the server begins again, or its disk fails or has no room for that: these lines end a restart
+abbrev pub EndsBoot : Node → List Line → Type 0
+EndsBoot s [] = ⊥
+EndsBoot s (lines.Restart n boot ∷ next) = (n ≡ s) ⊎ EndsBoot s next
+EndsBoot s (lines.Fault n ∷ next) = (n ≡ s) ⊎ EndsBoot s next
+EndsBoot s (lines.Full n ∷ next) = (n ≡ s) ⊎ EndsBoot s next
+EndsBoot s (l ∷ next) = EndsBoot s next
+
+-- in these entries the server did nothing but begin restarts in which its disk failed at once
+abbrev pub AreFailed : Node → List Entry → Type 0
+AreFailed s [] = ⊤
+AreFailed s (e ∷ past) = (e.actor ≡ actors.Node s → e.lines ≡ lines.Fault s ∷ []) × AreFailed s past
+
+-- this entry was given a call of the key to the server, the first in its boot
+pub record RunsHere (server : Node) (k : Key) (past : List Entry) (own : List Line) : Type 0 where
+  pub boot : ℕ
+  pub given : IsCallUnder server k boot (given_message own (sent_of past))
+  pub first : IsUnheard server k boot past
+
+-- the server stopped in the entry that was given it; and this one is the restart that finds what that step left, which it tells
+-- first
+pub record RanBefore (server : Node) (k : Key) (past : List Entry) (own next : List Line) : Type 0 where
+  pub alone : own ≡ []
+  pub boots : EndsBoot server next
+  pub newer : List Entry
+  pub at : Entry
+  pub older : List Entry
+  pub split : past ≡ newer ++ (at ∷ older)
+  pub actor : at.actor ≡ actors.Node server
+  pub ran : RunsHere server k older at.lines
+  pub stopped : HasStopped server at.lines
+  pub since : AreFailed server newer
+
+-- A change runs a key for the first time, at a server that accepts stores of the volume, and is the only one of its entry. The
+-- entry ran the key's call, or is the restart behind the one that was interrupted in that.
 -- The key's call was sent by its node, for its user, and is that of the act that ran there, with the act's own bytes. The
 -- versions that follow are just those of the ideal operation on the ideal volume. Each other client's last grant on one of their
 -- fids that lasts has a break behind the change
 pub record GoodChange (s : Script) (server : Node) (k : Key) (count : ℕ) (past : List Entry) (own next : List Line) : Type 0 where
   pub fresh : IsNew k (own ++ lines_of past)
+  pub place : RunsHere server k past own ⊎ RanBefore server k past own next
   pub only : change_key own ≡ None
   pub user : List ℕ
   pub call : FsCall
@@ -173,10 +208,11 @@ abbrev pub IsChanging : Option Result → Type 0
 IsChanging (Some (changes es shown)) = ⊤
 IsChanging r = ⊥
 
--- the code is that of the ideal operation, and what that changes was told; or the server had no room for the change, and the
--- entry that ran the call tells none under its key
-abbrev pub IsResult : ℤ → Option Result → Key → List Line → List Line → Type 0
-IsResult code r k ran ls = ((code_given r ≡ code) × IsTold k r ls) ⊎ ((code ≡ pos 108) × (IsChanging r × (HasChange k ran → ⊥)))
+-- The code is that of the ideal operation, and what that changes was told. Or the server had no room for the change: the entry
+-- that ran the call tells none under its key, and wasn't interrupted, so that none was told by a restart either. Whether there
+-- was room no line tells
+abbrev pub IsResult : Node → ℤ → Option Result → Key → List Line → List Line → Type 0
+IsResult server code r k ran ls = ((code_given r ≡ code) × IsTold k r ls) ⊎ ((code ≡ pos 108) × (IsChanging r × ((HasChange k ran → ⊥) × (HasStopped server ran → ⊥))))
 
 -- the call as its act asks it: which promises are given back no act tells
 abbrev pub as_asked : FsCall → FsCall
@@ -194,7 +230,7 @@ pub record Cause (reply : Message) (code : ℤ) (asks_for : FsCall) (past : List
   pub carries : ran.message.carried ≡ carried.Call user (ask.File call)
   pub own_user : user ≡ user_of reply.head.to
   pub asks : as_asked call ≡ asks_for
-  pub result : IsResult code (answer_at user call ran.older) (answered_key reply.head) ran.at.lines (own ++ lines_of past)
+  pub result : IsResult reply.head.from code (answer_at user call ran.older) (answered_key reply.head) ran.at.lines (own ++ lines_of past)
 
 -- the act ends with what it needs next: where the reply to that has code 0, so has the act. What it reads it goes on behind
 abbrev pub EndsAct : Need → Type 0
