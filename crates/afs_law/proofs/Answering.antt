@@ -2,7 +2,7 @@ use Rattle.afs_law.proofs.Giving.{begin_lines, begun_not, gifts_later, gives_goe
 use Rattle.afs_law.proofs.Walking.{own_lines, back_again, lines_assoc, looked_begun, looked_given, looked_message}
 use Rattle.afs_law.proofs.Quiet.{quiet_grant, quiet_last, quiet_clock, reach_more}
 use Rattle.afs_law.proofs.Facts.{AreApart, Held, IsNewest, IsNoRead, IsOpen, its_call, AreGifts}
-use Rattle.afs_law.proofs.Passing.{PassesGrant, ran_over}
+use Rattle.afs_law.proofs.Passing.{tried_idle, tried_kept, tried_new, PassesGrant, ran_over}
 use Rattle.afs_law.specs.Grants.{IsDropped, IsWithdrawn}
 use Rattle.afs_law.specs.Ideal.{IsLast, clock_of, reach_over}
 use Rattle.afs_law.specs.Legal.{EndsAct, GoodRead, HasUsed, as_asked}
@@ -188,7 +188,7 @@ begun_answered s c past n act k h none is =
       safe = λ q above. safe_over call c.clock x.epoch x.last x.epoch x.last x.running None w.cache (IsAged (view h.floors c n) head) (IsAged v head) head (λ b z. let no_ : Some b ≡ None = sym z ∙ none in absurd cc) (λ z. (z.0, λ b r. absurd cc))
           (safe_cache call c.clock x.epoch x.last x.running x.cache w.cache (IsAged (view h.floors c n) head) head (λ g z u at lasts. z u (walked_found (most_reads (began (locations s) act)) c.clock (began (locations s) act) x.cache g u at) lasts) (f.safe q above));
     })
-    over (nothing_new _ _) (λ a z r. absurd cc) refl)
+    over (nothing_new _ _) (λ a z r. absurd cc) refl (tried_idle n _ _ refl))
 
 -- it calls for what is missing
 pub begun_calls : (s : Script) (c : Cell) (past : List Entry) (n : ℕ) (act : Act) → Holds s c past → (c.clients n).running ≡ None → IsOpen (next (begun_walk s (c.clients n) c.clock act).act)
@@ -246,7 +246,7 @@ begun_calls s c past n act h none going =
       safe = λ q above. safe_over call c.clock x.epoch x.last x.epoch (x.last + 1) x.running (Some w.act) w.cache (IsAged (view h.floors c n) head) (IsAged v head) head idle (λ z. (z.0, λ b k u r. next_not _ _ _ _ f.behind u r))
           (safe_cache call c.clock x.epoch x.last x.running x.cache w.cache (IsAged (view h.floors c n) head) head (λ f z u found lasts. z u (walked_found (most_reads (began (locations s) act)) c.clock (began (locations s) act) x.cache f u found) lasts) (f.safe q above));
     })
-    over (own_call h.floors c past n g y w.act (ls ++ []) d.known kind refl at (new_one s c past n y w.act h refl refl)) (λ a z k. begun_not n _ _ k) refl)
+    over (own_call h.floors c past n g y w.act (ls ++ []) d.known kind refl at (new_one s c past n y w.act h refl refl)) (λ a z k. begun_not n _ _ k) refl (tried_new n _ _ refl))
 
 begins_by : (need : Need) (s : Script) (c : Cell) (past : List Entry) (n : ℕ) (act : Act) → Holds s c past → (c.clients n).running ≡ None → next (begun_walk s (c.clients n) c.clock act).act ≡ need
     → Goes s past (client_moves c n (goes_by (Client n) (unbusied (c.clients n)) (begin_lines n act) (begun_walk s (c.clients n) c.clock act) need))
@@ -492,7 +492,7 @@ takes_refused s c past n p act head code h d =
     })
     (old_over (c.clients n).cache (lines_of past) (lines_of (e ∷ past)) (λ f i b z. (answered_file n n p code past f).grant.version i b (lines_of past) z) (h.clients n).old)
     (reached_still s c past n e h (answered_reach n n p code past) (λ f. refl)))
-    (ended_calls s c past n p act m (c.clients n).cache held h d (λ k is. refl)) (ended_reply s c past n (c.clients n).cache held e h) (nothing_new _ _) (λ a x z. absurd cc) refl
+    (ended_calls s c past n p act m (c.clients n).cache held h d (λ k is. refl)) (ended_reply s c past n (c.clients n).cache held e h) (nothing_new _ _) (λ a x z. absurd cc) refl (tried_idle n _ _ refl)
 
 -- the client calls again, with these promises to give back
 pub again_with : (s : Script) (c : Cell) (past : List Entry) (n p : ℕ) (gs : List Gift) (act : Going) (m : Message) → (h : Holds s c past) → AreGifts gs → Due c h.floors past n p act m → volume_changed (asked act) ≡ None → Goes s past (client_moves c n (calls_step (Client n) (with_gifts gs (c.clients n)) act (λ ls. lines.Given p ∷ ls)))
@@ -668,7 +668,7 @@ gone_answered s c past n p act m front F w k h d not same used W apart old is =
     (λ f v found lasts. walk_current s c past n c.server.lasting.boot ls w.act w.cache tail [] (view_after c n g (ended x w.cache)) f v W t ends (le_refl _) (inr refl) found lasts)
     (old_over w.cache (lines_of past) (lines_of (e ∷ past)) (λ f i b y. (quiet_grant n n f (ls ++ tail) [] past q).version i b (lines_of past) y) old)
     (walk_reached s c past n c.server.lasting.boot ls w.act w.cache tail [] W t ends))
-    (ended_calls s c past n p act m w.cache held h d (λ code z. absurd (not code z))) (ended_reply s c past n w.cache held e h) (nothing_new _ _) (λ b y z. absurd cc) refl)
+    (ended_calls s c past n p act m w.cache held h d (λ code z. absurd (not code z))) (ended_reply s c past n w.cache held e h) (nothing_new _ _) (λ b y z. absurd cc) refl (tried_idle n _ _ refl))
 
 pub gone_calls : (s : Script) (c : Cell) (past : List Entry) (n p : ℕ) (act : Going) (m : Message) (front : List Line → List Line) (F : List Line) (w : Walked) → (h : Holds s c past) → Due c h.floors past n p act m → volume_changed (asked act) ≡ None → ((ls : List Line) → front ls ≡ F ++ ls)
     → Walks s c past n c.server.lasting.boot (F ++ looked (Client n) w.looks []) w.act w.cache → AreApart w.cache → HasOld w.cache (lines_of past) → IsOpen (next w.act) → Goes s past (client_moves c n (goes_by (Client n) (c.clients n) front w (asks_for calls.GetTime)))
@@ -725,7 +725,7 @@ gone_calls s c past n p act m front F w h d shut same W apart old going =
         | inr same ↦ inl (ap volume_changed (r.own act d.running same.0 same.1) ∙ (asks_changed x.gifts act ∙ shut))
       ];
     })
-    over (own_call h.floors c past n g y w.act (ls ++ []) k.known its refl at (new_one s c past n y w.act h refl refl)) (λ b x z. inr (record { act = act; runs = d.running; read = shut })) refl)
+    over (own_call h.floors c past n g y w.act (ls ++ []) k.known its refl at (new_one s c past n y w.act h refl refl)) (λ b x z. inr (record { act = act; runs = d.running; read = shut })) refl (tried_new n _ _ refl))
 
 gone_by : (need : Need) (s : Script) (c : Cell) (past : List Entry) (n p : ℕ) (act : Going) (m : Message) (front : List Line → List Line) (F : List Line) (w : Walked) → (h : Holds s c past) → Due c h.floors past n p act m → ((code : Code) → m.carried ≡ carried.Refusal code → ⊥) → volume_changed (asked act) ≡ None → ((ls : List Line) → front ls ≡ F ++ ls) → IsUsed n m F past
     → Walks s c past n c.server.lasting.boot (F ++ looked (Client n) w.looks []) w.act w.cache → AreApart w.cache → HasOld w.cache (lines_of past) → next w.act ≡ need → Goes s past (client_moves c n (goes_by (Client n) (c.clients n) front w need))
@@ -1093,7 +1093,7 @@ takes_saved s c past n p act call f b i status m h d none not same told kept up 
     refl (sym (found-refreshed c.clock f g i status b (c.clients n).cache) ∙ found) lasts)
     (old_over cache (lines_of past) (lines_of (e ∷ past)) (λ k j y z. (answered_file n n p zero_code past k).grant.version j y (lines_of past) z) (old_refreshed c n f i status b past left (h.clients n).old))
     (reached_still s c past n e h (answered_reach n n p zero_code past) (λ g. refl)))
-    (ended_calls s c past n p act m cache held h d (λ code is. absurd (not code is))) (ended_reply s c past n cache held e h) (nothing_new _ _) (λ a x z. absurd cc) refl
+    (ended_calls s c past n p act m cache held h d (λ code is. absurd (not code is))) (ended_reply s c past n cache held e h) (nothing_new _ _) (λ a x z. absurd cc) refl (tried_idle n _ _ refl)
 
 -- ---- any other answered call: the entries of the volume that it may have changed are given up
 
@@ -1122,7 +1122,7 @@ takes_other s c past n p act call m reply h d is ends sc =
     ((h.clients n).current k u was.0 lasts))
     (old_over cache (lines_of past) (lines_of (e ∷ past)) (λ k i b z. (skips n zero_code es).version k i b (lines.Given p ∷ lines_of past) z) (old_within x.cache cache (lines_of past) (λ k u z. (left_out (is_in_scope call) k x.cache u z).0) (h.clients n).old))
     (reached_still s c past n e h (drop_reach n n (was_given p) zero_code es past) last))
-    (ended_calls s c past n p act m cache held h d (λ code x. absurd (reply_not reply code (sym is ∙ x)))) (ended_reply s c past n cache held e h) (nothing_new _ _) (λ a x z. absurd cc) refl
+    (ended_calls s c past n p act m cache held h d (λ code x. absurd (reply_not reply code (sym is ∙ x)))) (ended_reply s c past n cache held e h) (nothing_new _ _) (λ a x z. absurd cc) refl (tried_idle n _ _ refl)
 
 -- ---- rights that were read
 
@@ -1239,7 +1239,7 @@ rights_goes s c past n p act m f i release text h d not_refused asks fits =
     ((h.clients n).current k u was.0 lasts))
     (old_over cache (lines_of past) (lines_of (e ∷ past)) (λ k j b z. (skips n zero_code es).version k j b (rights_read n f i text ∷ lines.Given p ∷ lines_of past) z) (old_within x.cache cache (lines_of past) (λ k u z. (found_filter (λ y. not (is_older f i release y)) k x.cache u (h.own n).apart z).0) (h.clients n).old))
     (λ k. subst (λ (o : Option Version). Reached (Client n) k (index_in o) (e ∷ past)) (sym (last k)) (rights_reach n n p f i text es past k (index_in (last_version k (lines_of past))) (λ t z. subst (λ (q : Fid). i ≤ index_in (last_version q (lines_of past))) (same_fid-true f k z) (h.top f i fits.is fits.told)) ((h.clients n).reached k))))
-    (ended_calls s c past n p act m cache held h d (λ code z. absurd (not_refused code z))) (ended_reply s c past n cache held e h) (nothing_new _ _) (λ b y z. absurd cc) refl)
+    (ended_calls s c past n p act m cache held h d (λ code z. absurd (not_refused code z))) (ended_reply s c past n cache held e h) (nothing_new _ _) (λ b y z. absurd cc) refl (tried_idle n _ _ refl))
 
 pub list_goes : (s : Script) (c : Cell) (past : List Entry) (n p : ℕ) (act : Going) (call : FsCall) (head : Head) (text : List ℕ) (status : AfsFetchStatus) (sync : AfsVolSync) → (h : Holds s c past) → Due c h.floors past n p act (record { head = head; carried = carried.Reply (tell.File (replies.FetchAcl text status sync)) })
     → call_of (c.clients n) act ≡ call → FitsList n (spot (view h.floors c n)) (record { head = head; carried = carried.Reply (tell.File (replies.FetchAcl text status sync)) }) past text status call → Goes s past (client_moves c n (takes_list (Client n) (c.clients n) c.clock p act text status sync call))
@@ -1264,7 +1264,7 @@ resends_goes s c past n p act m boot h d le runs =
     (subst (λ (k : ℕ). ClientFacts s n (record (view h.floors c n) { known = k }) (e ∷ past)) (sym known) (client_kept s c past n boot e h le (λ f. told_file n p f (actors.Node (Client n)) ms past) (λ f. told_reach n p f (actors.Node (Client n)) ms past) (told_act n p (actors.Node (Client n)) ms past) (λ f. refl)))
     (λ head call f. call_known (view h.floors c n) (boot_of the_server x.boots) head call f)
     (reply_still n (view h.floors c n) e past (λ f. told_file n p f (actors.Node (Client n)) ms past) (λ f. told_reach n p f (actors.Node (Client n)) ms past) (λ f. refl) refl)
-    (own_call h.floors c past n (h.floors n) x act (lines.Given p ∷ []) (subst (λ (k : ℕ). k ≤ c.server.lasting.boot) (sym known) le) kind runs ((h.clients n).runs act runs) (same_one s c past n act ms h runs)) (λ a x z. inl x) refl
+    (own_call h.floors c past n (h.floors n) x act (lines.Given p ∷ []) (subst (λ (k : ℕ). k ≤ c.server.lasting.boot) (sym known) le) kind runs ((h.clients n).runs act runs) (same_one s c past n act ms h runs)) (λ a x z. inl x) refl (tried_kept n (c.clients n) _ (lines_of past) (lines.Given p ∷ []) refl refl refl refl (h.tried n))
 
 -- ---- the row, by its cases
 

@@ -15,9 +15,9 @@ use Rattle.afs_num.specs.declared.messages.Message.{Message}
 use Rattle.afs_ideal.specs.Operations.{volume_changed}
 use Rattle.afs_law.proofs.Backing.{Plain, backed_plain, seated_over, plain_step}
 use Rattle.afs_law.proofs.Edits.{index_in, fid_at, sound_same}
-use Rattle.afs_law.proofs.Facts.{AreApart, IsClient, back_seat, Ghost, IsAged, server_boot, View, view_of, view, desk, last_key, LastRan, ReplyFact, ClientFacts, IsUntrusted, IsSafe, CallFact, CallIn, Holds, Goes, Reading, InScope, IsOne, AreGifts, IsOpen, its_call}
+use Rattle.afs_law.proofs.Facts.{AreApart, IsClient, back_seat, Ghost, IsAged, server_boot, View, view_of, view, desk, last_key, LastRan, ReplyFact, ClientFacts, IsUntrusted, IsSafe, CallFact, CallIn, Holds, Goes, Reading, InScope, IsOne, AreGifts, IsOpen, Tried, its_call}
 use Rattle.afs_law.proofs.Owing.{BackIn, DoneIn, SeatedIn}
-use Rattle.afs_law.proofs.Passing.{old_over, PassesFile, PassesAct, PassesReach, stays, PassesBoth, PassesSeen, current_over, reply_over, kept_over, client_still, News, more_sent, fallen_over, one_more, ran_over}
+use Rattle.afs_law.proofs.Passing.{tried_kept, tried_more, tried_new, old_over, PassesFile, PassesAct, PassesReach, stays, PassesBoth, PassesSeen, current_over, reply_over, kept_over, client_still, News, more_sent, fallen_over, one_more, ran_over}
 use Rattle.afs_law.proofs.Serving.{told_file, told_reach, told_act, reached_still}
 use Rattle.afs_law.proofs.Turning.{call_good}
 use Rattle.afs_rows.specs.Callbacks.{put, replies_of}
@@ -101,8 +101,8 @@ pub moves_back : (s : Script) (c : Cell) (past : List Entry) (n : ℕ) (floor : 
     → ClientFacts s n (view_after c n floor st.state) ((client_moves c n st).entry ∷ past)
     → ((head : Head) (call : FsCall) → CallFact (view h.floors c n) head call → CallFact (view_after c n floor st.state) head call)
     → ((m : Message) → ReplyFact n (view h.floors c n) past m → ReplyFact n (view_after c n floor st.state) ((client_moves c n st).entry ∷ past) m)
-    → Fresh s c n (views_after h.floors c n floor st.state) ((client_moves c n st).entry ∷ past) st.sent → ((a : Going) → st.state.running ≡ Some a → has_begun (Client n) st.lines ≡ false → ((c.clients n).running ≡ Some a) ⊎ Reading (c.clients n).running) → KeepsSeat c n (back_seat st.state) ((client_moves c n st).entry ∷ past) → Goes s past (client_moves c n st)
-moves_back s c past n floor st h kind good p own w q fresh went keeps =
+    → Fresh s c n (views_after h.floors c n floor st.state) ((client_moves c n st).entry ∷ past) st.sent → ((a : Going) → st.state.running ≡ Some a → has_begun (Client n) st.lines ≡ false → ((c.clients n).running ≡ Some a) ⊎ Reading (c.clients n).running) → KeepsSeat c n (back_seat st.state) ((client_moves c n st).entry ∷ past) → Tried n st.state (lines_of ((client_moves c n st).entry ∷ past)) → Goes s past (client_moves c n st)
+moves_back s c past n floor st h kind good p own w q fresh went keeps tried =
     let e : Entry = (client_moves c n st).entry in
     let last : (f : Fid) → last_version f (lines_of (e ∷ past)) ≡ last_version f (lines_of past) = λ f. p.last f (lines_of past) in
     let now : (j : ℕ) → ClientFacts s j (views_after h.floors c n floor st.state j) (e ∷ past) = λ j. at_mover h.floors c n floor st.state j (λ i v. ClientFacts s i v (e ∷ past)) own (λ ne. client_still j (view h.floors c j) e past (p.file j ne) (p.reach j ne) (p.act j ne) last (h.clients j)) in
@@ -115,6 +115,7 @@ moves_back s c past n floor st h kind good p own w q fresh went keeps =
         floors = put n floor h.floors;
         count = h.count;
         own = λ j. at_put n j (IsClient s) st.state c.clients (λ e. kind) (λ ne. h.own j);
+        tried = λ j. at_put n j (λ x. Tried j x (lines_of (e ∷ past))) st.state c.clients (λ i. subst (λ (k : ℕ). Tried k st.state (lines_of (e ∷ past))) i tried) (λ ne. tried_more j (c.clients j) (lines_of past) e.lines (h.tried j));
         servers = h.servers;
         ideal = λ id. h.ideal id ∙ sym (p.ideal id);
         fine = h.fine;
@@ -145,8 +146,8 @@ pub moves : (s : Script) (c : Cell) (past : List Entry) (n : ℕ) (floor : Ghost
     → ClientFacts s n (view_after c n floor st.state) ((client_moves c n st).entry ∷ past)
     → ((head : Head) (call : FsCall) → CallFact (view h.floors c n) head call → CallFact (view_after c n floor st.state) head call)
     → ((m : Message) → ReplyFact n (view h.floors c n) past m → ReplyFact n (view_after c n floor st.state) ((client_moves c n st).entry ∷ past) m)
-    → Fresh s c n (views_after h.floors c n floor st.state) ((client_moves c n st).entry ∷ past) st.sent → ((a : Going) → st.state.running ≡ Some a → has_begun (Client n) st.lines ≡ false → ((c.clients n).running ≡ Some a) ⊎ Reading (c.clients n).running) → back_seat st.state ≡ back_seat (c.clients n) → Goes s past (client_moves c n st)
-moves s c past n floor st h kind good p own w q fresh went same = moves_back s c past n floor st h kind good p own w q fresh went (λ seat m x y. old_seat s c past n (client_moves c n st).entry p.plain h seat m (sym same ∙ x) y)
+    → Fresh s c n (views_after h.floors c n floor st.state) ((client_moves c n st).entry ∷ past) st.sent → ((a : Going) → st.state.running ≡ Some a → has_begun (Client n) st.lines ≡ false → ((c.clients n).running ≡ Some a) ⊎ Reading (c.clients n).running) → back_seat st.state ≡ back_seat (c.clients n) → Tried n st.state (lines_of ((client_moves c n st).entry ∷ past)) → Goes s past (client_moves c n st)
+moves s c past n floor st h kind good p own w q fresh went same tried = moves_back s c past n floor st h kind good p own w q fresh went (λ seat m x y. old_seat s c past n (client_moves c n st).entry p.plain h seat m (sym same ∙ x) y) tried
 
 pub nothing_new : {s : Script} → {c : Cell} → {n : ℕ} → (views : ℕ → View) (past : List Entry) → Fresh s c n views past []
 nothing_new {s} views past = record { good = tt; calls = tt; dones = tt; news = record { calls = tt; replies = tt; notices = tt; origins = tt; acts = tt; lasts = tt; ones = tt; to_clients = tt } }
@@ -240,7 +241,7 @@ quiet s c past n p m h d =
     let e : Entry = step_entry n (lines.Given p ∷ []) [] in
     moves s c past n (h.floors n) (ignores (c.clients n) p) h (h.own n) (tt, tt) (told_passes s c past n p m [] h d)
     (client_still n (view h.floors c n) e past (λ f. told_file n p f (actors.Node (Client n)) [] past) (λ f. told_reach n p f (actors.Node (Client n)) [] past) (told_act n p (actors.Node (Client n)) [] past) (λ f. refl) (h.clients n))
-    (λ head call f. f) (reply_still n (view h.floors c n) e past (λ f. told_file n p f (actors.Node (Client n)) [] past) (λ f. told_reach n p f (actors.Node (Client n)) [] past) (λ f. refl) refl) (nothing_new _ _) (λ a x z. inl x) refl
+    (λ head call f. f) (reply_still n (view h.floors c n) e past (λ f. told_file n p f (actors.Node (Client n)) [] past) (λ f. told_reach n p f (actors.Node (Client n)) [] past) (λ f. refl) refl) (nothing_new _ _) (λ a x z. inl x) refl (tried_kept n (c.clients n) _ (lines_of past) (lines.Given p ∷ []) refl refl refl refl (h.tried n))
 
 -- ---- a call is sent
 
@@ -486,7 +487,7 @@ asks s c past n gs act l h given going good p q r none shut at went =
       own = λ b y z w. absurd (next_not _ _ _ _ f.behind z w);
       safe = λ q above. safe_over call c.clock (c.clients n).epoch (c.clients n).last (c.clients n).epoch ((c.clients n).last + 1) (c.clients n).running (Some act) (c.clients n).cache (IsAged (view h.floors c n) head) (IsAged v head) head shut (λ y. (y.0, λ b z w u. next_not _ _ _ _ f.behind w u)) (f.safe q above);
     })
-    over (own_call h.floors c past n g x act (l ∷ []) d.known kind refl at (new_one s c past n x act h refl refl)) (λ a x z. inl (went z ∙ x)) refl
+    over (own_call h.floors c past n g x act (l ∷ []) d.known kind refl at (new_one s c past n x act h refl refl)) (λ a x z. inl (went z ∙ x)) refl (tried_new n _ _ refl)
 
 pub own_begun : (n : ℕ) (act : Going) (o : Option Going) → cond (same_node (Client n) (Client n)) (Some act) o ≡ Some act
 own_begun n act o = rw (same_node-refl (Client n)) refl

@@ -10,7 +10,7 @@ use Rattle.afs_rows.specs.ClientRow.{boot_of, find_cached, body_told, server_at,
 use Rattle.afs_rows.specs.Going.{asked, answers, Going, Need, ClientState, next}
 use Rattle.afs_law.specs.Grants.{fetch_reply, GrantOf, since, IsWithdrawn, IsDropped}
 use Rattle.afs_law.specs.Ideal.{last_version, IsLast, WasLast, HasBeen, HasVersion, Accepts, clock_of, user_of, reach, call_under, volume_after}
-use Rattle.afs_law.specs.Breaks.{HasStopped}
+use Rattle.afs_law.specs.Breaks.{HasStopped, HasTimeout}
 use Rattle.afs_law.specs.Legal.{AreFailed, IsNew, Cause, AreGood, AreGoodReplies, as_asked}
 use Rattle.afs_history.specs.declared.lines.Line.{Line}
 use Rattle.afs_law.specs.Past.{is_of_act, lines_of, sent_of, called_key, running, Called, CalledSince, IsUnheard, Ran}
@@ -620,6 +620,10 @@ HasFallen (Some at_rest) kept sent past = ⊤
 HasFallen (Some in_boot) kept sent past = ⊤
 HasFallen (Some (in_step m clock)) kept sent past = IsCut kept sent m past
 
+-- each timeout of the client's unanswered call was told
+pub record Tried (j : ℕ) (x : ClientState) (ls : List Line) : Type 0 where
+  pub told : (act : Going) → x.running ≡ Some act → (k : ℕ) → 1 ≤ k → k ≤ x.tries → HasTimeout (Client j) the_server x.epoch x.last k ls
+
 -- `now` is the server's boot by the lines
 pub record HoldsAt (s : Script) (now : Option ℕ) (c : Cell) (past : List Entry) : Type 0 where
   pub floors : ℕ → Ghost
@@ -631,6 +635,7 @@ pub record HoldsAt (s : Script) (now : Option ℕ) (c : Cell) (past : List Entry
   pub unheard : AreUnheard c.down c.server.seats c.server.lasting.boot past
   pub count : c.count ≡ s.clients
   pub own : (j : ℕ) → IsClient s (c.clients j)
+  pub tried : (j : ℕ) → Tried j (c.clients j) (lines_of past)
   pub servers : (id : ℕ) → server_at (locations s) id ≡ 1
   pub booted : 1 ≤ c.server.lasting.boot
   pub boots : server_boot the_server (lines_of past) ≡ now

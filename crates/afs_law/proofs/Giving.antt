@@ -28,7 +28,7 @@ use Rattle.afs_law.proofs.Basics.{Above, client_number, guest, next_not, raised_
 use Rattle.afs_law.proofs.Dropping.{drops_of, skips}
 use Rattle.afs_law.proofs.Facts.{AreApart, AreGifts, IsOpen, Ghost, Goes, HasOld, Holds, IsAged, IsClient, LastRan, ReplyFact, View, its_call, last_key, view}
 use Rattle.afs_law.proofs.OneCell.{the_server, Cell, client_moves}
-use Rattle.afs_law.proofs.Passing.{PassesBoth, kept_over, old_over, old_within, ran_over}
+use Rattle.afs_law.proofs.Passing.{tried_idle, tried_new, PassesBoth, kept_over, old_over, old_within, ran_over}
 use Rattle.afs_law.proofs.Quiet.{AreQuiet, quiet_grant, quiet_passes}
 use Rattle.afs_law.proofs.Serving.{reached_still}
 use Rattle.afs_law.proofs.Skipping.{ideal_still, own_ended}
@@ -260,7 +260,7 @@ gives_nothing s c past n act h none by =
       safe = λ q above. safe_over call c.clock x.epoch x.last x.epoch x.last x.running None cache (IsAged (view h.floors c n) head) (IsAged v head) head (λ b z. let no_ : Some b ≡ None = sym z ∙ none in absurd cc) (λ z. (z.0, λ b r. absurd cc))
           (safe_cache call c.clock x.epoch x.last x.running x.cache cache (IsAged (view h.floors c n) head) head (λ g z u at lasts. z u (left_was s c past n h g u at) lasts) (f.safe q above));
     })
-    over (nothing_new _ _) (λ a z r. absurd cc) refl
+    over (nothing_new _ _) (λ a z r. absurd cc) refl (tried_idle n _ _ refl)
 
 -- the server is told
 gives_some : (s : Script) (c : Cell) (past : List Entry) (n : ℕ) (act : Act) (fs : List Fid) (gs : List Gift) → (h : Holds s c past) → (c.clients n).running ≡ None → AreGifts gs → IsOpen (next (began (locations s) act))
@@ -317,7 +317,7 @@ gives_some s c past n act fs gs h none given going =
       safe = λ q above. safe_over call c.clock x.epoch x.last x.epoch (x.last + 1) x.running (Some a) cache (IsAged (view h.floors c n) head) (IsAged v head) head idle (λ z. (z.0, λ b k u r. next_not _ _ _ _ f.behind u r))
           (safe_cache call c.clock x.epoch x.last x.running x.cache cache (IsAged (view h.floors c n) head) head (λ f z u found lasts. z u (left_was s c past n h f u found) lasts) (f.safe q above));
     })
-    over (own_call h.floors c past n g y a ls d.known kind refl at (new_one s c past n y a h refl refl)) (λ b z k. begun_not n _ _ k) refl
+    over (own_call h.floors c past n g y a ls d.known kind refl at (new_one s c past n y a h refl refl)) (λ b z k. begun_not n _ _ k) refl (tried_new n _ _ refl)
 
 abbrev gives_from : Script → Cell → ℕ → Act → List CacheEntry → List Gift → Step ClientState
 gives_from s c n act es order = gives_by (Client n) (record (unbusied (c.clients n)) { cache = untrusted_in c.clock (c.clients n).cache }) (λ ls. begin_lines n act (dropped (Client n) es ls)) (began (locations s) act) order

@@ -356,6 +356,7 @@ starts s one =
       floors = λ j. record { floor = 1; held = 1 };
       count = refl;
       own = λ j. record { table = refl; user = refl; callee = λ a z. absurd cc; needs = λ a z. absurd cc; apart = tt; gifts = tt };
+      tried = λ j. record { told = λ act x. absurd cc };
       servers = λ id. found_server s.volumes one.1 id;
       ideal = λ id. first_in id (first_volumes s.volumes) ∙ ideal_first s id;
       sound = λ id. subst (λ (o : Option Volume). SoundIn id o (lines_of (set_up s ∷ []))) (sym (first_in id (first_volumes s.volumes))) (facts.sound id);

@@ -1,10 +1,11 @@
+use Rattle.afs_law.specs.Breaks.{HasTimeout}
 use Rattle.afs_history.specs.declared.lines.Line.TheVariants as lines
 use Rattle.afs_num.specs.declared.histories.Actor.TheVariants as actors
 use Rattle.afs_law.proofs.Nexts.{as_is, asks_is}
-use Rattle.afs_law.proofs.Facts.{AreFetched, FitsBulk, its_call}
+use Rattle.afs_law.proofs.Facts.{Tried, AreFetched, FitsBulk, its_call}
 use Rattle.afs_num.specs.declared.histories.ReadStatus.{ReadStatus}
 use Rattle.afs_num.specs.declared.scripts.Script.{Script}
-use Rattle.std.proofs.Common.{◌≡◌, ℕ, ◌≤◌, inl, inr, Bool, true, false, cond, List, [], ◌∷◌, ◌++◌, Option, Some, None, ℤ, refl, sym, ap, ◌∙◌, subst, arith, le_of_eq, le_trans, eqb-true}
+use Rattle.std.proofs.Common.{◌+◌, eq-eqb, nat_eq, ◌≡◌, ℕ, ◌≤◌, inl, inr, Bool, true, false, cond, List, [], ◌∷◌, ◌++◌, Option, Some, None, ℤ, refl, sym, ap, ◌∙◌, subst, arith, le_of_eq, le_trans, eqb-true}
 use Rattle.std.specs.Option.{option_map}
 use Rattle.afs_num.specs.declared.types.Fid.{Fid}
 use Rattle.afs_num.specs.declared.types.Head.{Head}
@@ -19,7 +20,7 @@ use Rattle.afs_law.proofs.Basics.{Each, IfCall, IfReply, IfNotice, each_more, ea
 use Rattle.afs_law.proofs.Edits.{index_in}
 use Rattle.afs_law.proofs.Facts.{FitsList, IsWhole, IsOld, HasOld, FitsShown, IsKeptBody, Seen, IsActs, IsLastCall, View, Spot, spot, Reached, Held, IsNewest, Stands, IsCurrent, IsFetched, Fits, Answers, ReplyFact, AreKept, ClientFacts, CallIn, ReplyIn, Origin, HeldIn, ToClient, SentFacts, HasFallen, Reading, FitsReply, FitsData, FitsSet, WasChanged, WasStored, IsOne, IsNoticed}
 use Rattle.afs_rows.specs.ClientRow.{body_told, find_cached, status_told}
-use Rattle.afs_rows.specs.Going.{asked, Going}
+use Rattle.afs_rows.specs.Going.{ClientState, asked, Going}
 use Rattle.afs_law.specs.Grants.{has_fetched, fetch_reply, GrantOf, since, IsWithdrawn, IsDropped}
 use Rattle.afs_law.specs.Ideal.{WasBefore, IsLast, WasLast, Unless, last_version, HasVersion, reach, change_in, call_in, call_under}
 use Rattle.afs_law.specs.Legal.{IsResult, IsKey, HasChange, Cause, answer_at, IsTold, as_asked}
@@ -503,3 +504,38 @@ fallen_over None server sent ms e past w h = tt
 fallen_over (Some at_rest) server sent ms e past w h = tt
 fallen_over (Some in_boot) server sent ms e past w h = tt
 fallen_over (Some (in_step m clock)) server sent ms e past w h = record { place = h.place; at = at_more sent ms h.place m h.at; ran = ran_over _ e past h.ran; is = h.is; stopped = h.stopped; since = (w, h.since); ideal = h.ideal }
+
+-- ---- the timeouts of a client's call
+
+timeout_on : (s c : Node) (e n k : ℕ) (l : Line) (o : List Line) → HasTimeout s c e n k o → HasTimeout s c e n k (l ∷ o)
+timeout_on s c e n k (lines.Timeout q d x m y) o h = inr h
+timeout_on s c e n k l o h = h
+
+pub timeout_onto : (s c : Node) (e n k : ℕ) (o ls : List Line) → HasTimeout s c e n k o → HasTimeout s c e n k (onto o ls)
+timeout_onto s c e n k o [] h = h
+timeout_onto s c e n k o (l ∷ ls) h = timeout_onto s c e n k (l ∷ o) ls (timeout_on s c e n k l o h)
+
+pub tried_more : (j : ℕ) (x : ClientState) (o ls : List Line) → Tried j x o → Tried j x (onto o ls)
+tried_more j x o ls t = record { told = λ act runs k a b. timeout_onto (Client j) the_server x.epoch x.last k o ls (t.told act runs k a b) }
+
+pub tried_kept : (j : ℕ) (x y : ClientState) (o ls : List Line) → y.running ≡ x.running → y.tries ≡ x.tries → y.epoch ≡ x.epoch → y.last ≡ x.last → Tried j x o → Tried j y (onto o ls)
+tried_kept j x y o ls a b d e t = record {
+  told = λ act runs k f g.
+      subst (λ (i : ℕ). HasTimeout (Client j) the_server i y.last k (onto o ls)) (sym d)
+      (subst (λ (i : ℕ). HasTimeout (Client j) the_server x.epoch i k (onto o ls)) (sym e)
+      (timeout_onto (Client j) the_server x.epoch x.last k o ls (t.told act (sym a ∙ runs) k f (subst (λ (i : ℕ). k ≤ i) b g))));
+}
+
+pub tried_idle : (j : ℕ) (x : ClientState) (ls : List Line) → x.running ≡ None → Tried j x ls
+tried_idle j x ls none = record { told = λ act runs k a b. let no_ : None ≡ Some act = sym none ∙ runs in absurd cc }
+
+pub tried_new : (j : ℕ) (x : ClientState) (ls : List Line) → x.tries ≡ 0 → Tried j x ls
+tried_new j x ls zero = record { told = λ act runs k a b. let le : k ≤ x.tries = b in absurd (omega arith) }
+
+-- and one more
+once_by : (j : ℕ) (x : ClientState) (o : List Line) (q : Node) (k : ℕ) (t : Bool) (act : Going) → q ≡ the_server → Tried j x o → x.running ≡ Some act → 1 ≤ k → k ≤ x.tries + 1 → nat_eq k (x.tries + 1) ≡ t → HasTimeout (Client j) the_server x.epoch x.last k (lines.Timeout (Client j) q x.epoch x.last (x.tries + 1) ∷ o)
+once_by j x o q k true act is h runs a b t = inl (refl, (is, (refl, (refl, sym (eqb-true k (x.tries + 1) t)))))
+once_by j x o q k false act is h runs a b t = inr (h.told act runs k a (let ne : k ≡ x.tries + 1 → ⊥ = λ e. (let yes : nat_eq k (x.tries + 1) ≡ true = eq-eqb k (x.tries + 1) e in absurd cc) in omega arith))
+
+pub tried_once : (j : ℕ) (x : ClientState) (o : List Line) (q : Node) → q ≡ the_server → Tried j x o → Tried j (record x { tries = x.tries + 1 }) (lines.Timeout (Client j) q x.epoch x.last (x.tries + 1) ∷ o)
+tried_once j x o q is h = record { told = λ act runs k a b. once_by j x o q k (nat_eq k (x.tries + 1)) act is h runs a b refl }

@@ -13,7 +13,7 @@ use Rattle.afs_law.proofs.Basics.{Each, IfCall, each_map, if_call}
 use Rattle.afs_law.proofs.Edits.{index_in, fid_at, sound_same}
 use Rattle.afs_law.proofs.Facts.{IsKnown, HoldsAt, server_boot, up_boot, IsLastCall, View, view, ClientFacts, IsSafe, CallIn, HasFallen, AreUnheard, Holds, Goes, back_seat}
 use Rattle.afs_law.proofs.Owing.{BackedIn}
-use Rattle.afs_law.proofs.Passing.{waiting_over, PassesFile, PassesAct, PassesReach, client_still, replies_over, reply_over, stays, acts_over, fallen_over, older_origins}
+use Rattle.afs_law.proofs.Passing.{tried_more, waiting_over, PassesFile, PassesAct, PassesReach, client_still, replies_over, reply_over, stays, acts_over, fallen_over, older_origins}
 use Rattle.afs_law.specs.Breaks.{HasStopped}
 use Rattle.afs_rows.specs.Callbacks.{replies_of}
 use Rattle.afs_rows.specs.Going.{Going}
@@ -96,6 +96,7 @@ rests s b c past e n d armed h boots none p clock heard fallen backs =
       floors = h.floors;
       count = h.count;
       own = h.own;
+      tried = λ j. tried_more j (c.clients j) (lines_of past) e.lines (h.tried j);
       servers = h.servers;
       ideal = λ id. h.ideal id ∙ sym (p.ideal id);
       fine = h.fine;

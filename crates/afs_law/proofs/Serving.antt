@@ -18,7 +18,7 @@ use Rattle.afs_law.proofs.Facts.{IsBody, back_seat, IsKnown, IsReadable, AreFine
 use Rattle.afs_law.proofs.Loading.{all_promised, all_granted, granted_all, none_loaded, still_backed, known_backed, resent, run_loaded, key_held, no_change, settles_good, settles_backed, gone_promised, gone_granted, granted_to_client, gone_to_clients, own_waited}
 use Rattle.afs_law.proofs.Notes.{granted_notes, AreNotes, Skips, skips, told_entry, told_rests, noted_entry, noted_rests, settle_notes}
 use Rattle.afs_law.proofs.Owing.{AllOf, BackedIn, IsDone, DroppedOwe, IsGranted, DoneIn, Promised, IsClient}
-use Rattle.afs_law.proofs.Passing.{old_over, stands_over, answers_over, reply_over, kept_over, PassesBoth, PassesFile, PassesAct, PassesReach, stays, current_over, client_still, News, more_sent, ran_over}
+use Rattle.afs_law.proofs.Passing.{tried_more, old_over, stands_over, answers_over, reply_over, kept_over, PassesBoth, PassesFile, PassesAct, PassesReach, stays, current_over, client_still, News, more_sent, ran_over}
 use Rattle.afs_law.proofs.Pumping.{no_news, pumped_news, news_break}
 use Rattle.afs_law.proofs.Resting.{Rests}
 use Rattle.afs_law.proofs.Turning.{loaded, TurnSends, Pumps, pumps, expired_backed, break_good}
@@ -128,6 +128,7 @@ noted s now c past armed d e b h boots p clock heard fallen gives backs =
       floors = h.floors;
       count = h.count;
       own = h.own;
+      tried = λ j. tried_more j (c.clients j) (lines_of past) e.lines (h.tried j);
       servers = h.servers;
       ideal = λ id. h.ideal id ∙ sym (p.ideal id);
       fine = h.fine;
@@ -560,6 +561,7 @@ serves good s b c past n h user call x e st after d armed H w v boots heard fall
       floors = H.floors;
       count = H.count;
       own = H.own;
+      tried = λ j. tried_more j (c.clients j) (lines_of past) e.lines (H.tried j);
       servers = H.servers;
       ideal = v.ideal;
       fine = v.fine;

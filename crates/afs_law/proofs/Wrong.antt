@@ -11,7 +11,7 @@ use Rattle.afs_ideal.specs.Directories.{directory_bytes, name_bytes, directory_o
 use Rattle.afs_ideal.specs.SetUp.{laid_at, led}
 use Rattle.afs_ideal.specs.VnodeImage.{image}
 use Rattle.afs_law.proofs.Basics.{some_of}
-use Rattle.afs_law.proofs.OneCell.{Input, begins, gives, moved, sets_stop, start, starts_again}
+use Rattle.afs_law.proofs.OneCell.{Input, begins, gives, moved, sets_stop, start, starts_again, waits}
 use Rattle.afs_law.proofs.Worked.{alters, answer, begun, entries, file, root, script, six_front}
 use Rattle.afs_law.specs.Breaks.{HasStopped}
 use Rattle.afs_law.specs.Legal.{Cause, EndsAct, IsResult, Legal, answer_at, code_given}
@@ -250,3 +250,27 @@ no_room_but_stored h =
         ]
       ]
     ]
+
+-- ---- a call is dead at its third timeout
+
+dead_at_once : Legal (alters 1 (instead (lines.Timeout (Client 1) (Server 1) 1 1 3 ∷ lines.Answer (Client 1) (record { 0 = negsuc 0 }) ∷ [])) (entries (start (script 1)) (begins 1 (acts.Open (operands.Fid file)) ∷ waits 1 ∷ []))) (script 1) → ⊥
+unfolding moved begin_row client_row server_row back_timeout_row wake_row start_row record_bytes head_form volume_form spelled opaque pad word laid_at led name_ok directory_bytes name_bytes rights_of image acl_text digits entry_text directory_of names_at opaque_at word_at counted_at whole_at count_at name_at spelled_at bytes_below
+dead_at_once h =
+    let g = h.1.0.0.0.1.0.1 in
+    elim g.cause [
+      | inl x ↦ let e : None ≡ Some x.reply = x.by in absurd cc
+      | inr y ↦ elim y [
+        | inl x ↦ let e : negsuc 0 ≡ pos x.number = x.is in absurd cc
+        | inr z ↦ elim z [
+          | inl x ↦ x.first
+          | inr x ↦ let e : negsuc 0 ≡ pos 0 = x.is in absurd cc
+        ]
+      ]
+    ]
+
+-- ---- who promises
+
+-- a client grants itself what it likes
+granted_by_a_client : Legal (alters 0 (instead (begun 1 ∷ lines.Grant (Client 1) (Client 1) file 1 7200 ∷ [])) (entries (start (script 1)) (begins 1 (acts.Open (operands.Fid file)) ∷ []))) (script 1) → ⊥
+unfolding moved begin_row client_row server_row back_timeout_row wake_row start_row record_bytes head_form volume_form spelled opaque pad word laid_at led name_ok directory_bytes name_bytes rights_of image acl_text digits entry_text directory_of names_at opaque_at word_at counted_at whole_at count_at name_at spelled_at bytes_below
+granted_by_a_client h = h.0.0.0.1.0

@@ -11,7 +11,7 @@ use Rattle.afs_num.specs.declared.messages.Carried.{Carried}
 use Rattle.afs_num.specs.declared.messages.Message.{Message}
 use Rattle.afs_ideal.specs.Operations.{Caller, the_user, Result, refused, changes, no_operation, op, code_of, volume_called}
 use Rattle.afs_ideal.specs.Volumes.{Volume, Edit, versions_by}
-use Rattle.afs_law.specs.Breaks.{AllOwes, HasStopped, EndedOf, EndedAll, GoodSettle, GoodQuit, live_grant, lines_at, HasOwe, last_number}
+use Rattle.afs_law.specs.Breaks.{AllOwes, HasStopped, HasTimeout, EndedOf, EndedAll, GoodSettle, GoodQuit, live_grant, lines_at, HasOwe, last_number}
 use Rattle.afs_rows.specs.Going.{Going, Need, answers, asks_for, next, asked, gives_back}
 use Rattle.afs_law.specs.Grants.{is_promised, read_reply, GrantOf, since, IsWithdrawn, IsDropped}
 use Rattle.afs_law.specs.Ideal.{set_up, IsLast, WasLast, HasBeen, HasVersion, Accepts, clock_of, user_of, seen, change_in, change_key, call_under, volume_after}
@@ -272,22 +272,19 @@ pub record IsDone (c : Node) (act : Going) (code : ℤ) (past : List Entry) (own
   pub by : next act ≡ answers number
   pub last : IsAtOnce c own ⊎ HasUsed c past own
 
--- the key of the client's call of which the entry has the third timeout
-abbrev pub given_up : Node → List Line → Option Key
-given_up c [] = None
-given_up c (lines.Timeout m callee epoch number count ∷ own) =
-    if (same_node m c && nat_eq count 3) then Some (record { node = c; epoch = epoch; number = number }) else given_up c own
-given_up c (l ∷ own) = given_up c own
-
--- a call of this very act was given up
+-- a call of this very act was timed out for the third time in this entry, and twice before: it is dead
 pub record IsDead (c : Node) (act : Going) (code : ℤ) (past : List Entry) (own : List Line) : Type 0 where
   pub is : code ≡ negsuc 0
-  pub key : Key
-  pub third : given_up c own ≡ Some key
+  pub callee : Node
+  pub epoch : ℕ
+  pub number : ℕ
+  pub third : HasTimeout c callee epoch number 3 own
+  pub first : HasTimeout c callee epoch number 1 (lines_of past)
+  pub second : HasTimeout c callee epoch number 2 (lines_of past)
   pub before : has_begun c own ≡ false
   pub call : FsCall
   pub asks : as_asked call ≡ asked act
-  pub called : CalledSince key (user_of c) call past
+  pub called : CalledSince (record { node = c; epoch = epoch; number = number }) (user_of c) call past
 
 -- the client gave up a fid by itself
 abbrev pub has_dropped : Node → List Line → Bool
@@ -330,29 +327,38 @@ GoodRestart s n next = ⊤
 
 -- ---- histories
 
--- Each line stands in an entry of its own node: a read, an answer, a drop in one of its client, a change, a grant, a break in
--- one of its server, a tick in the clock's, and that nothing happened in nobody's
+-- it is this client's entry, and this server's
+abbrev pub IsOfClient : Actor → Node → Type 0
+IsOfClient who (Client j) = who ≡ actors.Node (Client j)
+IsOfClient who n = ⊥
+
+abbrev pub IsOfServer : Actor → Node → Type 0
+IsOfServer who (Server i) = who ≡ actors.Node (Server i)
+IsOfServer who n = ⊥
+
+-- Each line stands in an entry of its own node: a begin, a read, an answer, a drop in one of its client, a change, a grant, a
+-- break in one of its server, a tick in the clock's, and that nothing happened in nobody's
 abbrev pub IsGood : Script → Actor → Line → List Entry → List Line → List Line → Type 0
-IsGood s who (lines.Begin c act) past own next = who ≡ actors.Node c
+IsGood s who (lines.Begin c act) past own next = IsOfClient who c
 IsGood s who (lines.Given place) past own next = ⊤
-IsGood s who (lines.Grant server c f index expiry) past own next = who ≡ actors.Node server
-IsGood s who (lines.Change server k count) past own next = (who ≡ actors.Node server) × GoodChange s server k count past own next
+IsGood s who (lines.Grant server c f index expiry) past own next = IsOfServer who server
+IsGood s who (lines.Change server k count) past own next = IsOfServer who server × GoodChange s server k count past own next
 IsGood s who (lines.Version v) past own next = IsUnderChange own
-IsGood s who (lines.Read c f index source body) past own next = (who ≡ actors.Node c) × GoodReadBy (is_promised body) c f index source body past own
-IsGood s who (lines.Answer c code) past own next = (who ≡ actors.Node c) × GoodCode s c code past own
+IsGood s who (lines.Read c f index source body) past own next = IsOfClient who c × GoodReadBy (is_promised body) c f index source body past own
+IsGood s who (lines.Answer c code) past own next = IsOfClient who c × GoodCode s c code past own
 IsGood s who (lines.Timeout c callee epoch number count) past own next = who ≡ actors.Node c
 IsGood s who (lines.Tick n) past own next = who ≡ actors.Clock
-IsGood s who (lines.Stop n calls pick) past own next = who ≡ actors.Node n
-IsGood s who (lines.Fail n call) past own next = who ≡ actors.Node n
+IsGood s who (lines.Stop n calls pick) past own next = IsOfServer who n
+IsGood s who (lines.Fail n call) past own next = IsOfServer who n
 IsGood s who (lines.Crash n) past own next = who ≡ actors.Node n
-IsGood s who (lines.Fault n) past own next = who ≡ actors.Node n
+IsGood s who (lines.Fault n) past own next = IsOfServer who n
 IsGood s who (lines.Restart n boot) past own next = (who ≡ actors.Node n) × GoodRestart s n next
-IsGood s who (lines.Full n) past own next = who ≡ actors.Node n
-IsGood s who (lines.Drop c f) past own next = who ≡ actors.Node c
-IsGood s who (lines.DropAll c server) past own next = who ≡ actors.Node c
-IsGood s who (lines.Owe server c what n) past own next = (who ≡ actors.Node server) × (last_number server (own ++ lines_of past) < n)
-IsGood s who (lines.Settle server c n) past own next = (who ≡ actors.Node server) × GoodSettle server c n past own
-IsGood s who (lines.Quit server c n) past own next = (who ≡ actors.Node server) × GoodQuit server c n past own
+IsGood s who (lines.Full n) past own next = IsOfServer who n
+IsGood s who (lines.Drop c f) past own next = IsOfClient who c
+IsGood s who (lines.DropAll c server) past own next = IsOfClient who c
+IsGood s who (lines.Owe server c what n) past own next = IsOfServer who server × (last_number server (own ++ lines_of past) < n)
+IsGood s who (lines.Settle server c n) past own next = IsOfServer who server × GoodSettle server c n past own
+IsGood s who (lines.Quit server c n) past own next = IsOfServer who server × GoodQuit server c n past own
 IsGood s who lines.Void past own next = who ≡ actors.Nobody
 
 abbrev pub AreGood : Script → Actor → List Entry → List Line → List Line → Type 0
