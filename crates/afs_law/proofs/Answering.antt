@@ -15,7 +15,8 @@ use Rattle.afs_num.specs.declared.histories.Version.{Version}
 use Rattle.afs_law.proofs.Apart.{found_filter, found_out}
 use Rattle.afs_law.proofs.Asking.{Passes, not_client, reads_by_other, with_gifts}
 use Rattle.afs_law.proofs.Facts.{IsGot}
-use Rattle.afs_law.proofs.Nexts.{rights_done, asks_is, asks_changed, asks_scope, asks_just}
+use Rattle.afs_law.proofs.Homes.{home_of}
+use Rattle.afs_law.proofs.Nexts.{rights_need, rights_done, asks_is, asks_changed, asks_scope, asks_just}
 use Rattle.afs_law.proofs.Skipping.{AreNone, none_of_other, ideal_still, last_line}
 use Rattle.afs_rows.specs.ClientRow.{dropped, is_older, takes_rights, takes_list, ends_step, read_lines}
 use Rattle.std.specs.Prelude.{◌||◌}
@@ -44,7 +45,7 @@ use Rattle.afs_law.proofs.Skipping.{none_where, own_ended, skips, drop_lines, wa
 use Rattle.afs_history.specs.declared.acts.Act.{Act}
 use Rattle.afs_rows.specs.ClientRow.{boot_or_first, with_boot, takes_shown, takes_entry, boot_of, read_lines, status_told, entry_told, booted, joined, put_entry, calls_again, is_busy_code, most_busy, asking, is_trusted, goes_on, goes_by, look_at, looked, most_reads, walked, Walked, is_below, dropped_after, left_after, find_cached, used_first, refreshed, call_message, calls_step, zero_code, begin_row, ignores, ended, answers_step, takes_stored, takes, resends_step, counts, is_awaited, awaits, client_row, is_spent, hears, takes_plain, takes_data, takes_set, left_in, given_up_in, body_told, call_of, is_reading}
 use Rattle.afs_rows.specs.Going.{call_for, reads_status, reads_statuses, reads_rights, gives_back, asked, Going, Need, next, answers, began, with_read, ClientState, reads, asks_for}
-use Rattle.afs_law.specs.Grants.{has_fetched, fetch_reply, since}
+use Rattle.afs_law.specs.Grants.{until, has_fetched, fetch_reply, since}
 use Rattle.afs_law.specs.Ideal.{Reach, HasBeen, raised, is_zero_code, reach, last_version, HasVersion}
 use Rattle.afs_law.specs.Legal.{AreGood, Shows, Cause, GoodCode}
 use Rattle.afs_history.specs.declared.lines.Line.{Line}
@@ -515,8 +516,9 @@ fetched_walk x clock act u body = walked (most_reads act) clock (with_read u.fid
 kept_whole_by : (t : Bool) (f : Fid) (i : ℕ) (status : ReadStatus) (b : Option Body) (old : CacheEntry) (past : List Entry) → nat_eq old.index i ≡ t → Ones (lines_of past) → (w : IsWhole f i status None past) → IsOld f old.index old.body (lines_of past) → old.body ≡ b → IsWhole f i status (cond t b None) past
 kept_whole_by true f i status None old past e one w h is = w
 kept_whole_by true f i status (Some k) old past e one w h is =
-    let had : HasVersion f i k (lines_of past) = subst (λ (j : ℕ). HasVersion f j k (lines_of past)) (eqb-true old.index i e) (subst (λ (o : Option Body). IsOld f old.index o (lines_of past)) is h) in
-    record { is = w.is; told = w.told; holds = one f i k w.is had w.told; been = w.been }
+    let kept : IsOld f old.index (Some k) (lines_of past) = subst (λ (o : Option Body). IsOld f old.index o (lines_of past)) is h in
+    let had : HasVersion f i k (lines_of past) = subst (λ (j : ℕ). HasVersion f j k (lines_of past)) (eqb-true old.index i e) kept.0 in
+    record { is = w.is; told = w.told; holds = (one f i k w.is had w.told, kept.1); been = w.been }
 kept_whole_by false f i status b old past e one w h is = w
 
 kept_whole : (b : Option Body) (o : Option CacheEntry) (f : Fid) (i : ℕ) (status : ReadStatus) (cache : List CacheEntry) (past : List Entry) → find_cached f cache ≡ o → Ones (lines_of past) → HasOld cache (lines_of past) → IsWhole f i status b past → IsWhole f i status (ClientRow.body_kept b i o) past
@@ -526,7 +528,7 @@ kept_whole None (Some old) f i status cache past e one h w = kept_whole_by (nat_
 
 old_of : (b : Option Body) (f : Fid) (i : ℕ) (is : Body) (ls : List Line) → IsBody b is → HasVersion f i is ls → IsOld f i b ls
 old_of None f i is ls h told = tt
-old_of (Some k) f i is ls h told = subst (λ (y : Body). HasVersion f i y ls) (sym h) told
+old_of (Some k) f i is ls h told = (subst (λ (y : Body). HasVersion f i y ls) (sym h.0) told, h.1)
 
 pub whole_old : (f : Fid) (i : ℕ) (status : ReadStatus) (b : Option Body) (past : List Entry) → IsWhole f i status b past → IsOld f i b (lines_of past)
 whole_old f i status b past w = old_of b f i w.is (lines_of past) w.holds w.told
@@ -575,14 +577,15 @@ fetched_walks s c past n p act m u body h d shut kind from shown a lt =
         tt,
         (
           (
-            refl,
-            read_by (is_promised body) (Client n) u.fid u.index Fetched body past (lines.Given p ∷ []) kind (record {
+            (refl, record { act = act; runs = (h.clients n).runs act d.running }),
+            read_by s (is_promised body) (Client n) u.fid u.index Fetched body past (lines.Given p ∷ []) kind (record {
               whole = shown;
               not_older = a.reached;
               reply = m;
               by = d.at;
               expiry = u.expiry;
               grant = a.held.grant;
+              home = home_of s c past u.fid u.index (seen.Status u.status) a.held.grant.server h a.held.server a.held.whole.been (until (Client n) u.fid u.expiry m past a.held.grant);
               lasts = subst (λ (t : ℕ). t < u.expiry) (sym h.clock) lt;
               kept = a.held.kept refl;
               newest = a.newest;
@@ -635,7 +638,7 @@ told_zero (carried.Reply reply) h not = refl
 told_zero carried.Notice h not = absurd h
 
 -- behind lines that were given the reply it was used
-used_reply_behind : (s : Script) (c : Cell) (past : List Entry) (n p : ℕ) (act : Going) (m : Message) → (h : Holds s c past) → Due c h.floors past n p act m → ((code : Code) → m.carried ≡ carried.Refusal code → ⊥) → (own : List Line) → given_message own (sent_of past) ≡ Some m → has_begun (Client n) own ≡ false → HasUsed (Client n) past own
+abbrev used_reply_behind : (s : Script) (c : Cell) (past : List Entry) (n p : ℕ) (act : Going) (m : Message) → (h : Holds s c past) → Due c h.floors past n p act m → ((code : Code) → m.carried ≡ carried.Refusal code → ⊥) → (own : List Line) → given_message own (sent_of past) ≡ Some m → has_begun (Client n) own ≡ false → HasUsed (Client n) past own
 used_reply_behind s c past n p act m h d not own by none = record {
   reply = m;
   by = by;
@@ -868,7 +871,7 @@ reads_none s c past n p act m at h d shut = record {
 
 -- what was fetched is read well behind them
 reads_good : (s : Script) (c : Cell) (past : List Entry) (n most : ℕ) (m : Message) (at : Fid → ℕ) (ls : List Line) (a : Going) (cache : List CacheEntry) (u : CacheEntry) → (h : Holds s c past) → Reads s c past n most m at ls a cache → u.index ≡ at u.fid → IsFetched false n u.fid u.index u.status u.body u.expiry m past → c.clock < u.expiry
-    → GoodRead (Client n) u.fid u.index Fetched (seen.Status u.status) past (onto [] ls)
+    → GoodRead s (Client n) u.fid u.index Fetched (seen.Status u.status) past (onto [] ls)
 reads_good s c past n most m at ls a cache u h w same f lasts =
     let p : PassesGrant n u.fid (step_entry n ls []) past = quiet_grant n n u.fid ls [] past w.quiet in
     let new : List Line = since (Client n) u.fid u.expiry m past f.held.grant in
@@ -879,6 +882,7 @@ reads_good s c past n most m at ls a cache u h w same f lasts =
       by = w.own;
       expiry = u.expiry;
       grant = f.held.grant;
+      home = home_of s c past u.fid u.index (seen.Status u.status) f.held.grant.server h f.held.server f.held.whole.been (until (Client n) u.fid u.expiry m past f.held.grant);
       lasts = subst (λ (o : List Line). clock_of o < u.expiry) (own_lines ls (lines_of past)) (subst (λ (t : ℕ). t < u.expiry) (sym (quiet_clock n ls w.quiet (lines_of past) ∙ h.clock)) lasts);
       kept = λ d. f.held.kept refl (p.dropped f.held.grant.server new (subst (IsDropped f.held.grant.server (Client n) u.fid) (sym (own_lines ls new)) d));
       newest = elim f.newest [
@@ -909,7 +913,7 @@ reads_next s c past n k m at ls a cache u h w le from same f lasts =
       by = refl;
     } in
     record {
-      good = λ tail g. subst (AreGood s (actors.Node (Client n)) past []) (sym (lines_assoc ls tail x)) (w.good (x ∷ tail) ((refl, reads_good s c past n c.server.lasting.boot m at ls a cache u h w same f lasts), subst (λ (o : List Line). AreGood s (actors.Node (Client n)) past o tail) (onto_last [] ls x) g));
+      good = λ tail g. subst (AreGood s (actors.Node (Client n)) past []) (sym (lines_assoc ls tail x)) (w.good (x ∷ tail) (((refl, record { act = a; runs = ap (running s (Client n)) (sym (own_lines ls (lines_of past))) ∙ w.runs }), reads_good s c past n c.server.lasting.boot m at ls a cache u h w same f lasts), subst (λ (o : List Line). AreGood s (actors.Node (Client n)) past o tail) (onto_last [] ls x) g));
       quiet = quiet_more n ls (x ∷ []) w.quiet (refl, tt);
       runs = ap (running s (Client n)) (onto_last (lines_of past) ls x) ∙ own_read n u.fid (seen.Status u.status) a (running s (Client n) (onto (lines_of past) ls)) w.runs;
       ready = λ g v found lasts'. elim (put_found k g u cache v found) [
@@ -1206,6 +1210,9 @@ not_false : (b : Bool) → not b ≡ true → b ≡ false
 not_false true e = absurd cc
 not_false false e = refl
 
+by_rights : (gifts : List Gift) (need : Need) → {f : Fid} → need ≡ reads_rights f → call_by gifts need ≡ call_for need
+by_rights gifts need e = ap (call_by gifts) e ∙ sym (ap call_for e)
+
 pub rights_goes : (s : Script) (c : Cell) (past : List Entry) (n p : ℕ) (act : Going) (m : Message) (f : Fid) (i release : ℕ) (text : List ℕ) → (h : Holds s c past) → Due c h.floors past n p act m → ((code : Code) → m.carried ≡ carried.Refusal code → ⊥) → asked act ≡ calls.FetchAcl f → IsGot n f i text past → Goes s past (client_moves c n (takes_rights (Client n) (c.clients n) c.clock p act f i release text))
 rights_goes s c past n p act m f i release text h d not_refused asks fits =
     let x : ClientState = c.clients n in
@@ -1223,8 +1230,26 @@ rights_goes s c past n p act m f i release text h d not_refused asks fits =
     let last : (k : Fid) → last_version k (lines_of (e ∷ past)) ≡ last_version k (lines_of past) = λ k. (skips n zero_code es).last k _ in
     let same : goes_on (Client n) x front (walked (most_reads a) c.clock a cache) ≡ ends_step (Client n) x cache (λ ls. front (looked (Client n) [] ls)) zero_code = ap (goes_on (Client n) x front) (walked_done (most_reads a) c.clock a cache 0 done) ∙ ap (goes_by (Client n) x front (ClientRow.stays a cache)) done in
     subst (λ (st : Step ClientState). Goes s past (client_moves c n st)) (sym same)
-    (moves s c past n g (record { state = ended x cache; lines = rights_lines n p f i text es; sent = [] }) h (client_ended s x cache (h.own n) (apart_filter (λ y. not (is_older f i release y)) x.cache (h.own n).apart))
-    (tt, ((refl, record { whole = ((fits.is, fits.told), fits.been); not_older = fits.reached; was = inr fits.was }), rights_good s n a past es (rights_read n f i text ∷ lines.Given p ∷ []) (own_read n f (seen.AccessList text) act (running s (Client n) (lines_of past)) ((h.clients n).runs act d.running)) done (used_reply_behind s c past n p act m h d not_refused (rights_read n f i text ∷ lines.Given p ∷ []) d.at refl)))
+    (moves s c past n g (record { state = ended x cache; lines = rights_lines n p f i text es; sent = [] }) h (client_ended s x cache (h.own n) (apart_filter (λ y. not (is_older f i release y)) x.cache (h.own n).apart)) (
+      tt,
+      (
+        (
+          (refl, record { act = act; runs = (h.clients n).runs act d.running }),
+          record {
+            fetched = refl;
+            act = act;
+            runs = (h.clients n).runs act d.running;
+            needs = rights_need act f asks;
+            used = used_reply_behind s c past n p act m h d not_refused (lines.Given p ∷ []) d.at refl;
+            asks = by_rights (c.clients n).gifts (next act) (rights_need act f asks);
+            whole = ((fits.is, fits.told), fits.been);
+            not_older = fits.reached;
+            was = inr fits.was;
+          },
+        ),
+        rights_good s n a past es (rights_read n f i text ∷ lines.Given p ∷ []) (own_read n f (seen.AccessList text) act (running s (Client n) (lines_of past)) ((h.clients n).runs act d.running)) done (used_reply_behind s c past n p act m h d not_refused (rights_read n f i text ∷ lines.Given p ∷ []) d.at refl),
+      ),
+    )
     (rights_passes s c past n p m f i text es h d.heard)
     (ended_facts s c past n cache held e h (h.clients n).holds (ended_running s n zero_code es (rights_read n f i text ∷ lines.Given p ∷ lines_of past))
     (λ k u found lasts.
@@ -1293,7 +1318,7 @@ pub data_goes : (s : Script) (c : Cell) (past : List Entry) (n p : ℕ) (act : G
     → is_spent (c.clients n) act ≡ false → call_of (c.clients n) act ≡ call → FitsData (c.clients n).spoiled n (spot (view h.floors c n)) (record { head = head; carried = carried.Reply (tell.File (replies.FetchData contents status callback sync)) }) past contents status callback call → Goes s past (client_moves c n (takes_data (Client n) (c.clients n) c.clock p act contents status callback sync call))
 data_goes s c past n p act (calls.FetchData f pp w) head contents status callback sync h d fresh same fits =
     entry_goes s c past n p act head (replies.FetchData contents status callback sync) (entry_told (c.clients n).callee f status callback sync (Some (body_told status.file_type contents))) (seen.Contents (body_told status.file_type contents)) h d fresh (ap volume_changed (asks_just (c.clients n).gifts act (calls.FetchData f pp w) refl same)) refl refl
-    (subst (λ (b : Body). HasVersion f status.sync_counter b (lines_of past)) (sym fits.held.whole.holds) fits.held.whole.told) fits
+    (fits.held.whole.holds.1, subst (λ (b : Body). HasVersion f status.sync_counter b (lines_of past)) (sym fits.held.whole.holds.0) fits.held.whole.told) fits
 data_goes s c past n p act call head contents status callback sync h d fresh same fits = plain_goes s c past n p act call _ (replies.FetchData contents status callback sync) h d refl same fits.0
 
 pub status_goes : (s : Script) (c : Cell) (past : List Entry) (n p : ℕ) (act : Going) (call : FsCall) (head : Head) (status : AfsFetchStatus) (callback : AfsCallBack) (sync : AfsVolSync) → (h : Holds s c past) → Due c h.floors past n p act (record { head = head; carried = carried.Reply (tell.File (replies.FetchStatus status callback sync)) })
@@ -1323,12 +1348,12 @@ pub data_stored : (t : Bool) (s : Script) (c : Cell) (past : List Entry) (n p : 
     → Goes s past (client_moves c n (cond t (takes_plain (Client n) (c.clients n) p (calls.StoreData f st pp ww ll b)) (takes_stored (Client n) (c.clients n) c.clock p f status.sync_counter (status_told status) (λ body. Some (bodies.File b)))))
 data_stored true s c past n p act st pp ww ll f b status m reply h d is told same fits = plain_goes s c past n p act (calls.StoreData f st pp ww ll b) m reply h d is same tt
 data_stored false s c past n p act st pp ww ll f b status m reply h d is told same fits =
-    takes_saved s c past n p act (calls.StoreData f st pp ww ll b) f (λ body. Some (bodies.File b)) status.sync_counter (status_told status) m h d (ap code_told is) (λ code x. absurd (reply_not reply code (sym is ∙ x))) (record { asks = asks_just (c.clients n).gifts act (calls.StoreData f st pp ww ll b) refl same; unread = tt; scope = λ g. refl; changed = λ k g server newer o older w. w }) told fits.1.0 fits.1.1 (λ x found lasts. record { is = bodies.File b; told = fits.0.0; holds = refl; been = fits.0.1 })
+    takes_saved s c past n p act (calls.StoreData f st pp ww ll b) f (λ body. Some (bodies.File b)) status.sync_counter (status_told status) m h d (ap code_told is) (λ code x. absurd (reply_not reply code (sym is ∙ x))) (record { asks = asks_just (c.clients n).gifts act (calls.StoreData f st pp ww ll b) refl same; unread = tt; scope = λ g. refl; changed = λ k g server newer o older w. w }) told fits.1.0 fits.1.1 (λ x found lasts. record { is = bodies.File b; told = fits.0.0; holds = (refl, tt); been = fits.0.1 })
 
 -- the entry stands just below the new index, so its body is that of the version before
 same_body : (b : Option Body) (is body : Body) → IsBody b is → is ≡ body → IsBody b body
 same_body None is body h e = tt
-same_body (Some k) is body h e = h ∙ e
+same_body (Some k) is body h e = (h.0 ∙ e, h.1)
 
 pub left_body : (s : Script) (c : Cell) (past : List Entry) (n : ℕ) (f : Fid) (index : ℕ) (status : ReadStatus) → (h : Holds s c past) → IsKeptBody f index (lines_of past) → HasBeen f index (seen.Status status) past → is_below c.clock index (find_cached f (c.clients n).cache) ≡ true → IsLeft c n f index status (λ body. body) past
 left_body s c past n f index status h kept been t x found lasts =

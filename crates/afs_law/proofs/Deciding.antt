@@ -16,7 +16,7 @@ use Rattle.afs_law.proofs.Edits.{on_top, SoundIn}
 use Rattle.afs_law.proofs.Facts.{is_passing, HeldIn, ToClient, Ghost, HoldsAt, server_boot, up_boot, risen, IsActs, View, view, Spot, spot, ReplyFact, AreKept, HasFallen, IsCut, Fits, Answers, KeptReply, ClientFacts, CallFact, CallIn, Origin, AreUnheard, Holds, Goes, IsNoticed, IsOne, its_call}
 use Rattle.afs_law.proofs.Loading.{is_tickless, down_later, resent, rise_loaded, run_loaded, no_change, all_waited, quits_good, quits_backed, retries_backed, all_owed, alls_good, all_clients, own_waited}
 use Rattle.afs_law.proofs.Notes.{AreNotes, Skips, skips, told_entry, risen_entry, risen_rests, owe_notes, quit_notes}
-use Rattle.afs_law.proofs.Ops.{IsShown, reads_is, op_code, op_is, IsFoundAs, changes_is}
+use Rattle.afs_law.proofs.Ops.{rights_of_directory, IsShown, reads_is, op_code, op_is, IsFoundAs, changes_is}
 use Rattle.afs_law.proofs.Owing.{BackedIn, IsNumberIn, DoneIn, is_held, WaitedBy, AllWaitedBy, HeldWaits, AllOf}
 use Rattle.afs_law.proofs.Passing.{ran_over, kept_over, replies_over, waiting_over, fallen_over}
 use Rattle.afs_law.proofs.Pumping.{no_news, pumped_news, starts_held, news_break}
@@ -146,7 +146,7 @@ roomed_just s c past n h user call id st es shown false H w q = record { call = 
 pub held_at : (c : Cell) (id : ℕ) (st : Stored) → get id c.server.lasting.volumes ≡ Some st → volume_in id c.server.lasting.volumes ≡ Some st.volume
 held_at c id st at = ap (option_map (λ (x : Stored). x.volume)) at
 
-looked : (c : Cell) (caller : Caller) (g : Fid) (id : ℕ) (st : Stored) (f : Found) (show : Found → Shown) → g.volume ≡ id → get id c.server.lasting.volumes ≡ Some st → IsFoundAs g st.volume f → IsLook c g show (reading_in id caller st (show f))
+abbrev looked : (c : Cell) (caller : Caller) (g : Fid) (id : ℕ) (st : Stored) (f : Found) (show : Found → Shown) → g.volume ≡ id → get id c.server.lasting.volumes ≡ Some st → IsFoundAs g st.volume f → IsLook c g show (reading_in id caller st (show f))
 looked c caller g id st f show of at is = record {
   stored = st;
   found = f;
@@ -156,12 +156,12 @@ looked c caller g id st f show of at is = record {
 }
 
 -- what an operation shows is read
-pub shown_read : (c : Cell) (caller : Caller) (call : FsCall) (id : ℕ) (st : Stored) (shown : Shown) → volume_called call ≡ Some id → get id c.server.lasting.volumes ≡ Some st → IsShown call st.volume shown → IsRead c call (reading_in id caller st shown)
-shown_read c caller (calls.FetchData g p w) id st (shows_body f) of at is = looked c caller g id st f shows_body (some_of g.volume id of) at is
-shown_read c caller (calls.FetchAcl g) id st (shows_acl f) of at is = looked c caller g id st f shows_acl (some_of g.volume id of) at is
-shown_read c caller (calls.FetchStatus g) id st (shows_status f) of at is = looked c caller g id st f shows_status (some_of g.volume id of) at is
-shown_read c caller (calls.GetVolumeStatus k) id st shows_volume of at is = record { stored = st; caller = caller; is = ap (λ (i : ℕ). reading_in i caller st shows_volume) (sym (some_of k id of)) }
-shown_read c caller call id st shown of at is = absurd is
+pub shown_read : (c : Cell) (caller : Caller) (call : FsCall) (id : ℕ) (st : Stored) (shown : Shown) → volume_called call ≡ Some id → get id c.server.lasting.volumes ≡ Some st → IsShown call st.volume shown → op id caller call st.volume ≡ reads shown → IsRead c call (reading_in id caller st shown)
+shown_read c caller (calls.FetchData g p w) id st (shows_body f) of at is done = looked c caller g id st f shows_body (some_of g.volume id of) at is
+shown_read c caller (calls.FetchAcl g) id st (shows_acl f) of at is done = record { look = looked c caller g id st f shows_acl (some_of g.volume id of) at is; kind = rights_of_directory id caller g st.volume (shows_acl f) f.vnode done is.1 }
+shown_read c caller (calls.FetchStatus g) id st (shows_status f) of at is done = looked c caller g id st f shows_status (some_of g.volume id of) at is
+shown_read c caller (calls.GetVolumeStatus k) id st shows_volume of at is done = record { stored = st; caller = caller; is = ap (λ (i : ℕ). reading_in i caller st shows_volume) (sym (some_of k id of)) }
+shown_read c caller call id st shown of at is done = absurd is
 
 pub decided_just : (s : Script) (c : Cell) (past : List Entry) (time : ℕ) (n : ℕ) (h : Head) (user : List ℕ) (call : FsCall) (id : ℕ) (st : Stored) (r : Result) → (H : Holds s c past) → Now s c H.floors past n h user call → volume_called call ≡ Some id → get id c.server.lasting.volumes ≡ Some st → op id (the_user user) call st.volume ≡ r
     → IsJust s c H.floors past (call_at n h user call) (decided c.server time (client_head n h) (the_user user) call id st r)
@@ -171,7 +171,7 @@ decided_just s c past time n h user call id st (reads shown) H w of at e =
     record {
       call = call;
       due = due c H.floors past n h user call w;
-      is = shown_read c (the_user user) call id st shown of at (reads_is id (the_user user) call st.volume shown of e);
+      is = shown_read c (the_user user) call id st shown of at (reads_is id (the_user user) call st.volume shown of e) e;
       code = ap code_given answer;
       told = subst (λ (o : Option Result). IsTold (called_key (client_head n h)) o []) (sym answer) tt;
     }

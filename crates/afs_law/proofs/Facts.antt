@@ -11,7 +11,7 @@ use Rattle.afs_rows.specs.Going.{asked, answers, Going, Need, ClientState, next}
 use Rattle.afs_law.specs.Grants.{fetch_reply, GrantOf, since, IsWithdrawn, IsDropped}
 use Rattle.afs_law.specs.Ideal.{last_version, IsLast, WasLast, HasBeen, HasVersion, Accepts, clock_of, user_of, reach, call_under, volume_after}
 use Rattle.afs_law.specs.Breaks.{HasStopped, HasTimeout}
-use Rattle.afs_law.specs.Legal.{AreFailed, IsNew, Cause, AreGood, AreGoodReplies, as_asked}
+use Rattle.afs_law.specs.Legal.{AreFailed, IsThere, IsNew, Cause, AreGood, AreGoodReplies, as_asked}
 use Rattle.afs_history.specs.declared.lines.Line.{Line}
 use Rattle.afs_law.specs.Past.{is_of_act, lines_of, sent_of, called_key, running, Called, CalledSince, IsUnheard, Ran}
 use Rattle.afs_rows.specs.Runs.{locations, Entry, Fall, at_rest, in_step, in_boot, message_at}
@@ -191,10 +191,10 @@ InScope call f = is_in_scope call f ≡ true
 
 -- ---- what was fetched is whole and was not given up, and is the newest unless its grant is withdrawn
 
--- what is held of a body is this one
+-- what is held of a body is this one, of a vnode that is there
 abbrev pub IsBody : Option Body → Body → Type 0
 IsBody None body = ⊤
-IsBody (Some b) body = b ≡ body
+IsBody (Some b) body = (b ≡ body) × IsThere b
 
 -- the status is one that the fid had under this index, and the body, if one is held, that of its version
 pub record IsWhole (f : Fid) (index : ℕ) (status : ReadStatus) (body : Option Body) (past : List Entry) : Type 0 where
@@ -278,7 +278,7 @@ HasCurrent j v past = (f : Fid) (e : CacheEntry) → find_cached f v.cache ≡ S
 -- what a client holds of a body, trusted or not, is that of a version
 abbrev pub IsOld : Fid → ℕ → Option Body → List Line → Type 0
 IsOld f index None ls = ⊤
-IsOld f index (Some body) ls = HasVersion f index body ls
+IsOld f index (Some body) ls = HasVersion f index body ls × IsThere body
 
 abbrev pub HasOld : List CacheEntry → List Line → Type 0
 HasOld cache ls = (f : Fid) (e : CacheEntry) → find_cached f cache ≡ Some e → IsOld f e.index e.body ls

@@ -21,6 +21,7 @@ pub mod Deciding
 pub mod Nexts
 pub mod Asking
 pub mod Quiet
+pub mod Homes
 pub mod Walking
 pub mod Skipping
 pub mod Dropping

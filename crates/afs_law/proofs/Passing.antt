@@ -235,7 +235,7 @@ stands_over j f i v e past r n server newer q (inr h) = inr (record {
 
 old_by : (f : Fid) (i : ℕ) (b : Option Body) (ls more : List Line) → ((k : Body) → HasVersion f i k ls → HasVersion f i k more) → IsOld f i b ls → IsOld f i b more
 old_by f i None ls more w h = tt
-old_by f i (Some b) ls more w h = w b h
+old_by f i (Some b) ls more w h = (w b h.0, h.1)
 
 -- what is held of bodies stays so
 pub old_over : (cache : List CacheEntry) (ls more : List Line) → ((f : Fid) (i : ℕ) (k : Body) → HasVersion f i k ls → HasVersion f i k more) → HasOld cache ls → HasOld cache more

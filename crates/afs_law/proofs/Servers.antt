@@ -240,7 +240,7 @@ pub run_held : (s : Script) (h : List Entry) (end : Cell) → IsOneServer s → 
 run_held s h end is r = held s h (seen_in end) is (run_same s h end is r)
 
 pub run_trusted : (s : Script) (h : List Entry) (end : Cell) → IsOneServer s → RunsTo h s end → (j : ℕ) → (end.clients j).running ≡ None → (f : Fid) (e : CacheEntry) → find_cached f (end.clients j).cache ≡ Some e → end.clock < e.expiry
-    → ((body : Body) → e.body ≡ Some body → GoodRead (Client j) f e.index Cached (body_shown.Contents body) (past_of (set_up s ∷ []) h) []) × GoodRead (Client j) f e.index Cached (body_shown.Status e.status) (past_of (set_up s ∷ []) h) []
+    → ((body : Body) → e.body ≡ Some body → GoodRead s (Client j) f e.index Cached (body_shown.Contents body) (past_of (set_up s ∷ []) h) []) × GoodRead s (Client j) f e.index Cached (body_shown.Status e.status) (past_of (set_up s ∷ []) h) []
 run_trusted s h end is r = trusted_good s h (seen_in end) is (run_same s h end is r)
 
 -- the same inputs make one run

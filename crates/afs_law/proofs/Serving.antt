@@ -1,3 +1,4 @@
+use Rattle.afs_ideal.specs.Directories.{directory_of}
 use Rattle.afs_law.proofs.Facts.{AreFetched, its_call}
 use Rattle.afs_rows.specs.ServerRow.{sight_status, promise_until}
 use Rattle.afs_shape.specs.Rows.{no_callback}
@@ -26,7 +27,7 @@ use Rattle.afs_rows.specs.Callbacks.{Turn, replies_of, pumped, expired, turn_for
 use Rattle.afs_rows.specs.ClientRow.{names_told, body_told}
 use Rattle.afs_rows.specs.Going.{asked, Going}
 use Rattle.afs_law.specs.Ideal.{shown_status, Tells, TellsIn, TellsOf, volume_after, version_in, latest, IsThat, user_of, clock_of, last_version, HasVersion, reach, call_under}
-use Rattle.afs_law.specs.Legal.{code_given, IsResult, RunsHere, AreGood, Cause, IsTold, answer_at, answer_on, as_asked}
+use Rattle.afs_law.specs.Legal.{IsThere, code_given, IsResult, RunsHere, AreGood, Cause, IsTold, answer_at, answer_on, as_asked}
 use Rattle.afs_history.specs.declared.lines.Line.{Line}
 use Rattle.afs_law.specs.Past.{code_told, IsUnheard, lines_of, sent_of, given_message, called_key, HasCode, IsCallUnder, Ran, onto, same_key, answered_key}
 use Rattle.afs_rows.specs.Runs.{Entry, message_at, Armed, Fall}
@@ -746,6 +747,11 @@ pub record IsLook (c : Cell) (f : Fid) (show : Found → Shown) (r : Reading) : 
   pub caller : Caller
   pub is : r ≡ reading_in f.volume caller stored (show found)
 
+-- rights are read of a directory
+pub record IsRights (c : Cell) (f : Fid) (r : Reading) : Type 0 where
+  pub look : IsLook c f shows_acl r
+  pub kind : look.found.vnode.kind ≡ a_directory
+
 pub record IsTime (r : Reading) : Type 0 where
   pub time : ℕ
   pub is : r ≡ time_read time
@@ -769,7 +775,7 @@ pub record AreLooked (c : Cell) (fs : List Fid) (r : Reading) : Type 0 where
 -- what a reading call is told is what it asks for
 abbrev pub IsRead : Cell → FsCall → Reading → Type 0
 IsRead c (calls.FetchData f position wanted) r = IsLook c f shows_body r
-IsRead c (calls.FetchAcl f) r = IsLook c f shows_acl r
+IsRead c (calls.FetchAcl f) r = IsRights c f r
 IsRead c (calls.FetchStatus f) r = IsLook c f shows_status r
 IsRead c (calls.GetVolumeStatus id) r = IsOfVolume id r
 IsRead c (calls.GiveUpCallBacks fids callbacks) r = r ≡ given_up_read fids
@@ -810,18 +816,27 @@ all_fit sp n m c past expiry caller (f ∷ fs) (x ∷ xs) granted seen w h = (
   all_fit sp n m c past expiry caller fs xs granted seen.1 (λ y z. w y (inr z)) h,
 )
 
+-- what a reply tells of a body is there
+there_by : (t u : Bool) (bytes : List ℕ) → IsThere (cond t (bodies.File bytes) (cond u (bodies.Dir (names_told (directory_of bytes))) (bodies.Link bytes)))
+there_by true u bytes = tt
+there_by false true bytes = tt
+there_by false false bytes = tt
+
+pub body_there : (kind : ℕ) (bytes : List ℕ) → IsThere (body_told kind bytes)
+body_there kind bytes = there_by (nat_eq kind 1) (nat_eq kind 2) bytes
+
 -- the reply of a reading call fits it, where each vnode that it promises is fetched
 pub read_fits : (sp : Bool) (n : ℕ) (call : FsCall) (v : Spot) (m : Message) (c : Cell) (past : List Entry) (expiry : ℕ) (r : Reading) → IsRead c call r
     → ((st : Stored) (f : Found) → get f.fid.volume c.server.lasting.volumes ≡ Some st → vnode_of f.fid st.volume ≡ Some f.vnode → IsAmong f r.granted → (b : Option Body) → IsBody b (body_told (type_of f.vnode.kind) (bytes_by f.vnode.kind f.vnode)) → IsFetched sp n f.fid f.vnode.index (shown_status f.vnode) b expiry m past)
-    → ((st : Stored) (f : Found) → get f.fid.volume c.server.lasting.volumes ≡ Some st → vnode_of f.fid st.volume ≡ Some f.vnode → IsGot n f.fid f.vnode.index (acl_text f.vnode.acl) past)
+    → ((st : Stored) (f : Found) → get f.fid.volume c.server.lasting.volumes ≡ Some st → vnode_of f.fid st.volume ≡ Some f.vnode → f.vnode.kind ≡ a_directory → IsGot n f.fid f.vnode.index (acl_text f.vnode.acl) past)
     → FitsReply sp n call v m past (promised_in expiry r.reply)
 read_fits sp n (calls.FetchData g p w) v m c past expiry r x h g\' =
     let b : Option Body = Some (body_told (type_of x.found.vnode.kind) (bytes_by x.found.vnode.kind x.found.vnode)) in
     subst (λ (y : Reading). FitsReply sp n (calls.FetchData g p w) v m past (promised_in expiry y.reply)) (sym x.is)
-    (subst (λ (z : Fid). IsFetched sp n z x.found.vnode.index (shown_status x.found.vnode) b expiry m past) (sym x.seen.fid) (h x.stored x.found x.seen.at x.seen.found (subst (λ (y : Reading). IsAmong x.found y.granted) (sym x.is) (inl refl)) b refl))
+    (subst (λ (z : Fid). IsFetched sp n z x.found.vnode.index (shown_status x.found.vnode) b expiry m past) (sym x.seen.fid) (h x.stored x.found x.seen.at x.seen.found (subst (λ (y : Reading). IsAmong x.found y.granted) (sym x.is) (inl refl)) b (refl, body_there (type_of x.found.vnode.kind) (bytes_by x.found.vnode.kind x.found.vnode))))
 read_fits sp n (calls.FetchAcl g) v m c past expiry r x h g' =
-    subst (λ (y : Reading). FitsReply sp n (calls.FetchAcl g) v m past (promised_in expiry y.reply)) (sym x.is)
-    (subst (λ (z : Fid). IsGot n z x.found.vnode.index (acl_text x.found.vnode.acl) past) (sym x.seen.fid) (g' x.stored x.found x.seen.at x.seen.found))
+    subst (λ (y : Reading). FitsReply sp n (calls.FetchAcl g) v m past (promised_in expiry y.reply)) (sym x.look.is)
+    (subst (λ (z : Fid). IsGot n z x.look.found.vnode.index (acl_text x.look.found.vnode.acl) past) (sym x.look.seen.fid) (g' x.look.stored x.look.found x.look.seen.at x.look.seen.found x.kind))
 read_fits sp n (calls.FetchStatus g) v m c past expiry r x h g\' =
     subst (λ (y : Reading). FitsReply sp n (calls.FetchStatus g) v m past (promised_in expiry y.reply)) (sym x.is)
     (subst (λ (z : Fid). IsFetched sp n z x.found.vnode.index (shown_status x.found.vnode) None expiry m past) (sym x.seen.fid) (h x.stored x.found x.seen.at x.seen.found (subst (λ (y : Reading). IsAmong x.found y.granted) (sym x.is) (inl refl)) None tt))
@@ -842,7 +857,7 @@ answer_in user call past id of = ap (λ (o : Option ℕ). answer_on user call o 
 -- the fids of which promises end are those that the call gives up
 pub gives_up_as : (c : Cell) (call : FsCall) (r : Reading) → IsRead c call r → r.given_up ≡ fids_given_up call
 gives_up_as c (calls.FetchData g p w) r x = ap (λ (y : Reading). y.given_up) x.is
-gives_up_as c (calls.FetchAcl g) r x = ap (λ (y : Reading). y.given_up) x.is
+gives_up_as c (calls.FetchAcl g) r x = ap (λ (y : Reading). y.given_up) x.look.is
 gives_up_as c (calls.FetchStatus g) r x = ap (λ (y : Reading). y.given_up) x.is
 gives_up_as c (calls.GetVolumeStatus k) r x = ap (λ (y : Reading). y.given_up) x.is
 gives_up_as c (calls.GiveUpCallBacks fids callbacks) r x = ap (λ (y : Reading). y.given_up) x
@@ -979,14 +994,14 @@ shows_by s c past armed p n h user call r H up at w is code done =
                   reached = (rest.reach n f.fid).seen f.vnode.index ((reached_at s c past n f.fid (version_at f.fid.volume f.fid.vnode f.vnode) H last).seen);
                   newest = inr (ap (option_map (λ (y : Version). y.index)) (rest.last f.fid (lines_of past) ∙ last));
                 })
-                (λ st f there found.
+                (λ st f there found dir.
                 let v : Volume = st.volume in
                 let here : volume_in f.fid.volume c.server.lasting.volumes ≡ Some v = ap (option_map (λ (x : Stored). x.volume)) there in
                 let last : last_version f.fid (lines_of past) ≡ Some (version_at f.fid.volume f.fid.vnode f.vnode) = found_last s c past f.fid v f.vnode H here found in
                 record {
                   is = body_of f.vnode;
                   told = ((rest.file n f.fid).grant).version f.vnode.index (body_of f.vnode) (lines_of past) (last_has f.fid (lines_of past) (version_at f.fid.volume f.fid.vnode f.vnode) last);
-                  been = inl (told_there f.fid f.vnode.index (seen.AccessList (acl_text f.vnode.acl)) (volume_after f.fid.volume (e ∷ past)) v f.vnode (sym here ∙ (H.ideal f.fid.volume ∙ sym (rest.ideal f.fid.volume))) found (refl, refl));
+                  been = inl (told_there f.fid f.vnode.index (seen.AccessList (acl_text f.vnode.acl)) (volume_after f.fid.volume (e ∷ past)) v f.vnode (sym here ∙ (H.ideal f.fid.volume ∙ sym (rest.ideal f.fid.volume))) found (refl, (refl, dir)));
                   was = inl (ap (option_map (λ (y : Version). y.index)) (rest.last f.fid (lines_of past) ∙ last));
                   reached = (rest.reach n f.fid).seen f.vnode.index ((reached_at s c past n f.fid (version_at f.fid.volume f.fid.vnode f.vnode) H last).seen);
                 });

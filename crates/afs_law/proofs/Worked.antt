@@ -338,11 +338,11 @@ other_fid e = apart_numbers 1 2 refl (ap (λ (f : Fid). f.vnode) e)
 
 shown_wrong : Legal (alters 2 (by_lines shows_other) (entries (start (script 1)) open_front)) (script 1) → ⊥
 unfolding moved begin_row client_row server_row back_timeout_row wake_row start_row record_bytes head_form volume_form spelled opaque pad word laid_at led name_ok directory_bytes name_bytes rights_of image acl_text digits entry_text
-shown_wrong h = elim h.1.1.0.0.0.1.0.1.whole [ inl x ↦ other_fid x.0 | inr y ↦ elim y [ inl x ↦ other_bytes x.1.1 | inr z ↦ z ] ]
+shown_wrong h = elim h.1.1.0.0.0.1.0.1.whole.1 [ inl x ↦ other_fid x.0 | inr y ↦ elim y [ inl x ↦ other_bytes x.1.1 | inr z ↦ z ] ]
 
 shown_later : Legal (alters 2 (by_lines later_index) (entries (start (script 1)) open_front)) (script 1) → ⊥
 unfolding moved begin_row client_row server_row back_timeout_row wake_row start_row record_bytes head_form volume_form spelled opaque pad word laid_at led name_ok directory_bytes name_bytes rights_of image acl_text digits entry_text
-shown_later h = elim h.1.1.0.0.0.1.0.1.whole [ inl x ↦ other_fid x.0 | inr y ↦ elim y [ inl x ↦ apart_numbers 1 2 refl x.1.0 | inr z ↦ z ] ]
+shown_later h = elim h.1.1.0.0.0.1.0.1.whole.1 [ inl x ↦ other_fid x.0 | inr y ↦ elim y [ inl x ↦ apart_numbers 1 2 refl x.1.0 | inr z ↦ z ] ]
 
 -- a status that the object never had, and a text of rights that it never had
 abbrev stat_front : List Input
@@ -373,7 +373,7 @@ status_wrong h = elim h.1.1.0.0.0.1.0.1.whole.1 [ inl x ↦ apart_numbers 1 7 re
 
 rights_wrong : Legal (alters 2 (by_lines tells_rights) (entries (start (script 1)) rights_front)) (script 1) → ⊥
 unfolding moved begin_row client_row server_row back_timeout_row wake_row start_row record_bytes head_form volume_form spelled opaque pad word laid_at led name_ok directory_bytes name_bytes rights_of image acl_text digits entry_text first_code
-rights_wrong h = elim h.1.1.0.0.0.1.0.1.whole.1 [ inl x ↦ apart_numbers 49 120 refl (ap first_code x.1) | inr y ↦ elim y [ inl x ↦ apart_numbers 49 120 refl (ap first_code x.1) | inr z ↦ elim z [ inl x ↦ apart_numbers 49 120 refl (ap first_code x.1) | inr w ↦ w ] ] ]
+rights_wrong h = elim h.1.1.0.0.0.1.0.1.whole.1 [ inl x ↦ apart_numbers 49 120 refl (ap first_code x.1.0) | inr y ↦ elim y [ inl x ↦ apart_numbers 49 120 refl (ap first_code x.1.0) | inr z ↦ elim z [ inl x ↦ apart_numbers 49 120 refl (ap first_code x.1.0) | inr w ↦ w ] ] ]
 
 -- ---- wrong statuses and rights, each for one reason
 

@@ -11,7 +11,11 @@ use Rattle.afs_ideal.specs.Directories.{directory_bytes, name_bytes, directory_o
 use Rattle.afs_ideal.specs.SetUp.{laid_at, led}
 use Rattle.afs_ideal.specs.VnodeImage.{image}
 use Rattle.afs_law.proofs.Basics.{some_of}
-use Rattle.afs_law.proofs.OneCell.{Input, begins, gives, moved, sets_stop, start, starts_again, waits}
+use Rattle.afs_law.proofs.Homes.{accepts_first}
+use Rattle.afs_law.specs.Grants.{GrantOf, until}
+use Rattle.afs_num.specs.declared.histories.Actor.{Actor}
+use Rattle.afs_num.specs.declared.types.Node.{Node}
+use Rattle.afs_law.proofs.OneCell.{Input, begins, gives, moved, nothing, sets_stop, start, starts_again, waits}
 use Rattle.afs_law.proofs.Worked.{alters, answer, begun, entries, file, root, script, six_front}
 use Rattle.afs_law.specs.Breaks.{HasStopped}
 use Rattle.afs_law.specs.Legal.{Cause, EndsAct, IsResult, Legal, answer_at, code_given}
@@ -274,3 +278,58 @@ dead_at_once h =
 granted_by_a_client : Legal (alters 0 (instead (begun 1 ∷ lines.Grant (Client 1) (Client 1) file 1 7200 ∷ [])) (entries (start (script 1)) (begins 1 (acts.Open (operands.Fid file)) ∷ []))) (script 1) → ⊥
 unfolding moved begin_row client_row server_row back_timeout_row wake_row start_row record_bytes head_form volume_form spelled opaque pad word laid_at led name_ok directory_bytes name_bytes rights_of image acl_text digits entry_text directory_of names_at opaque_at word_at counted_at whole_at count_at name_at spelled_at bytes_below
 granted_by_a_client h = h.0.0.0.1.0
+
+-- another server than that of the volume grants, and a read rests on that
+abbrev by_two : Node → Node
+by_two (Server n) = Server 2
+by_two n = n
+
+abbrev line_by_two : Line → Line
+line_by_two (lines.Grant q c f i x) = lines.Grant (by_two q) c f i x
+line_by_two l = l
+
+abbrev message_by_two : Message → Message
+message_by_two m = record m { head = record m.head { from = by_two m.head.from; to = by_two m.head.to } }
+
+abbrev actor_by_two : Actor → Actor
+actor_by_two (actors.Node n) = actors.Node (by_two n)
+actor_by_two a = a
+
+abbrev entry_by_two : Entry → Entry
+entry_by_two e = record e { actor = actor_by_two e.actor; lines = map line_by_two e.lines; sent = map message_by_two e.sent }
+
+node_of : (a b : Node) → actors.Node a ≡ actors.Node b → a ≡ b
+node_of a b e = cc
+
+-- the grant's server is the sender of the reply on which the read rests
+granter : (c : Node) (f : Fid) (x : ℕ) (reply : Message) (past : List Entry) → (g : GrantOf c f x reply past) → g.server ≡ reply.head.from
+granter c f x reply past g = node_of g.server reply.head.from (sym g.node ∙ (g.ran.node ∙ ap actors.Node g.ran.callee))
+
+granted_by_another_server : Legal (map entry_by_two (entries (start (script 1)) (begins 1 (acts.Open (operands.Fid file)) ∷ gives 1 steady ∷ gives 2 steady ∷ []))) (script 1) → ⊥
+unfolding moved begin_row client_row server_row back_timeout_row wake_row start_row record_bytes head_form volume_form spelled opaque pad word laid_at led name_ok directory_bytes name_bytes rights_of image acl_text digits entry_text directory_of names_at opaque_at word_at counted_at whole_at count_at name_at spelled_at bytes_below
+granted_by_another_server h =
+    let g = h.1.1.0.0.0.1.0.1 in
+    let two : g.grant.server ≡ Server 2 = granter _ _ _ _ _ g.grant ∙ ap (λ (m : Message). m.head.from) (sym (some_of _ _ g.by)) in
+    elim (accepts_first (script 1) file.volume g.grant.server (until _ _ _ _ _ g.grant) g.home) [ inl x ↦ let e : Server 1 ≡ Server 2 = x.1.1 ∙ two in absurd cc | inr x ↦ x ]
+
+-- ---- rights are read by an act that needs them, of a reply to its call
+
+abbrev rights : Line
+rights = lines.Read (Client 1) root 1 Fetched (seen.AccessList (codes "1\n0\nsystem:anyuser\t127\n"))
+
+rights_without_an_act : Legal (alters 0 (λ e. record e { actor = actors.Node (Client 1); lines = rights ∷ [] }) (entries (start (script 1)) (nothing ∷ []))) (script 1) → ⊥
+unfolding moved begin_row client_row server_row back_timeout_row wake_row start_row record_bytes head_form volume_form spelled opaque pad word laid_at led name_ok directory_bytes name_bytes rights_of image acl_text digits entry_text directory_of names_at opaque_at word_at counted_at whole_at count_at name_at spelled_at bytes_below
+rights_without_an_act h = let e : None ≡ Some h.0.0.0.0.0.1.act = h.0.0.0.0.0.1.runs in absurd cc
+
+rights_without_a_reply : Legal (alters 0 (instead (lines.Begin (Client 1) (acts.GetAccessList (operands.Fid root)) ∷ rights ∷ [])) (entries (start (script 1)) (begins 1 (acts.GetAccessList (operands.Fid root)) ∷ []))) (script 1) → ⊥
+unfolding moved begin_row client_row server_row back_timeout_row wake_row start_row record_bytes head_form volume_form spelled opaque pad word laid_at led name_ok directory_bytes name_bytes rights_of image acl_text digits entry_text directory_of names_at opaque_at word_at counted_at whole_at count_at name_at spelled_at bytes_below
+rights_without_a_reply h = let e : true ≡ false = h.0.0.0.1.0.1.used.before in absurd cc
+
+-- ---- what is gone shows nothing
+
+abbrev gone_front : List Input
+gone_front = begins 1 (acts.Open (operands.Fid file)) ∷ gives 1 steady ∷ gives 2 steady ∷ begins 2 (acts.Remove (record { volume = codes "proj"; names = codes "a" ∷ [] })) ∷ gives 3 steady ∷ gives 4 steady ∷ gives 5 steady ∷ begins 1 (acts.ReadLink (operands.Fid file)) ∷ []
+
+read_when_gone : Legal (alters 7 (instead (lines.Begin (Client 1) (acts.ReadLink (operands.Fid file)) ∷ lines.Read (Client 1) file 2 Cached (seen.Contents bodies.Gone) ∷ answer 1 ∷ [])) (entries (start (script 2)) gone_front)) (script 2) → ⊥
+unfolding moved begin_row client_row server_row back_timeout_row wake_row start_row record_bytes head_form volume_form spelled opaque pad word laid_at led name_ok directory_bytes name_bytes rights_of image acl_text digits entry_text directory_of names_at opaque_at word_at counted_at whole_at count_at name_at spelled_at bytes_below
+read_when_gone h = h.1.1.1.1.1.1.1.0.0.0.1.0.1.whole.0

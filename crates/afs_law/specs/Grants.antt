@@ -8,7 +8,7 @@ use Rattle.afs_num.specs.declared.types.Key.{Key}
 use Rattle.afs_num.specs.declared.types.Node.{Node}
 use Rattle.afs_num.specs.declared.messages.Message.{Message}
 use Rattle.afs_history.specs.declared.lines.Line.{Line}
-use Rattle.afs_law.specs.Past.{code_told, onto, lines_on, sent_of, given_message, IsReply, Ran}
+use Rattle.afs_law.specs.Past.{code_told, lines_of, onto, lines_on, sent_of, given_message, IsReply, Ran}
 use Rattle.afs_rows.specs.Runs.{Entry}
 use Rattle.afs_num.specs.declared.histories.Actor.TheVariants as actors
 use Rattle.afs_num.specs.declared.histories.ReadSource.{ReadSource}
@@ -58,6 +58,10 @@ pub record GrantOf (c : Node) (f : Fid) (expiry : ℕ) (reply : Message) (past :
 -- the lines since the grant, the newest first
 abbrev pub since : (c : Node) (f : Fid) (expiry : ℕ) (reply : Message) (past : List Entry) → GrantOf c f expiry reply past → List Line
 since c f expiry reply past grant = lines_on (onto [] grant.after) grant.ran.newer
+
+-- and those before it
+abbrev pub until : (c : Node) (f : Fid) (expiry : ℕ) (reply : Message) (past : List Entry) → GrantOf c f expiry reply past → List Line
+until c f expiry reply past grant = onto (lines_of grant.ran.older) grant.before
 
 -- ---- what became of it, by the lines since then: `newer` are these, the newest first
 

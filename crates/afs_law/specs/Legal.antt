@@ -12,8 +12,8 @@ use Rattle.afs_num.specs.declared.messages.Message.{Message}
 use Rattle.afs_ideal.specs.Operations.{Caller, the_user, Result, refused, changes, no_operation, op, code_of, volume_called}
 use Rattle.afs_ideal.specs.Volumes.{Volume, Edit, versions_by}
 use Rattle.afs_law.specs.Breaks.{AllOwes, HasStopped, HasTimeout, EndedOf, EndedAll, GoodSettle, GoodQuit, live_grant, lines_at, HasOwe, last_number}
-use Rattle.afs_rows.specs.Going.{Going, Need, answers, asks_for, next, asked, gives_back}
-use Rattle.afs_law.specs.Grants.{is_promised, read_reply, GrantOf, since, IsWithdrawn, IsDropped}
+use Rattle.afs_rows.specs.Going.{Going, Need, answers, asks_for, next, asked, gives_back, reads_rights}
+use Rattle.afs_law.specs.Grants.{is_promised, read_reply, GrantOf, since, until, IsWithdrawn, IsDropped}
 use Rattle.afs_law.specs.Ideal.{set_up, IsLast, WasLast, HasBeen, HasVersion, Accepts, clock_of, user_of, seen, change_in, change_key, call_under, volume_after}
 use Rattle.afs_history.specs.declared.lines.Line.{Line}
 use Rattle.afs_law.specs.Past.{lines_of, sent_of, given_message, answered_key, code_told, IsReply, running, has_begun, has_given, Called, CalledSince, IsCallUnder, IsUnheard, Ran}
@@ -22,9 +22,11 @@ use Rattle.afs_num.specs.declared.scripts.Script.{Script}
 use Rattle.afs_num.specs.declared.histories.Actor.{Actor}
 use Rattle.afs_num.specs.declared.histories.Actor.TheVariants as actors
 use Rattle.afs_num.specs.declared.histories.Body.{Body}
+use Rattle.afs_num.specs.declared.histories.Body.TheVariants as bodies
 use Rattle.afs_num.specs.declared.histories.ReadBody.{ReadBody}
 use Rattle.afs_num.specs.declared.histories.ReadBody.TheVariants as shows
 use Rattle.afs_num.specs.declared.histories.ReadSource.{ReadSource}
+use Rattle.afs_num.specs.declared.histories.ReadSource.TheVariants.{Fetched}
 use Rattle.afs_num.specs.declared.histories.Version.{Version}
 use Rattle.afs_num.specs.declared.messages.Carried.TheVariants as carried
 use Rattle.afs_num.specs.declared.messages.Call.TheVariants as ask
@@ -34,40 +36,74 @@ use Rattle.afs_history.specs.declared.lines.Line.TheVariants as lines
 -- `who` is the entry's node, `past` are the entries before, the newest first, `own` the entry's own lines before, the
 -- newest first, and `next` its lines after.
 
+-- ---- acts
+
+-- an act runs at the client
+pub record HasAct (s : Script) (c : Node) (past : List Entry) (own : List Line) : Type 0 where
+  pub act : Going
+  pub runs : running s c (own ++ lines_of past) ≡ Some act
+
+-- the act began in this entry, which was given no message: what it read was in the cache, and it called nobody
+abbrev pub IsAtOnce : Node → List Line → Type 0
+IsAtOnce c own = (has_begun c own ≡ true) × (has_given own ≡ false)
+
+-- the entry was given a reply with code 0, to a call that the client sent since its act began, which was in an entry before
+pub record HasUsed (c : Node) (past : List Entry) (own : List Line) : Type 0 where
+  pub reply : Message
+  pub by : given_message own (sent_of past) ≡ Some reply
+  pub is_reply : IsReply reply
+  pub told : code_told reply.carried ≡ Some (pos 0)
+  pub to : reply.head.to ≡ c
+  pub before : has_begun c own ≡ false
+  pub call : FsCall
+  pub called : CalledSince (answered_key reply.head) (user_of c) call past
+
 -- ---- reads
 
 -- a version of this index was told, whatever its body
 abbrev pub HasIndex : Fid → ℕ → List Line → Type 0
 HasIndex f index ls = (body : Body) × HasVersion f index body ls
 
+-- a vnode that is gone shows nothing
+abbrev pub IsThere : Body → Type 0
+IsThere bodies.Gone = ⊥
+IsThere body = ⊤
+
 -- what a read shows is that of a version: its body, or what its vnode had beside it
 abbrev pub Shows : Fid → ℕ → ReadBody → List Entry → List Line → Type 0
-Shows f index (shows.Contents body) past own = HasVersion f index body (own ++ lines_of past)
+Shows f index (shows.Contents body) past own = IsThere body × HasVersion f index body (own ++ lines_of past)
 Shows f index body past own = HasIndex f index (own ++ lines_of past) × HasBeen f index body past
 
 -- a read is whole: it shows a version; it is not older than any that the client has seen; and it is the newest unless its
--- grant, which lasts and was not given up, was withdrawn
-pub record GoodRead (c : Node) (f : Fid) (index : ℕ) (source : ReadSource) (body : ReadBody) (past : List Entry) (own : List Line) : Type 0 where
+-- grant, which lasts, was not given up, and came from a server that accepted stores of the volume, was withdrawn
+pub record GoodRead (s : Script) (c : Node) (f : Fid) (index : ℕ) (source : ReadSource) (body : ReadBody) (past : List Entry) (own : List Line) : Type 0 where
   pub whole : Shows f index body past own
   pub not_older : seen c f past own ≤ index
   pub reply : Message
   pub by : read_reply c f source past own ≡ Some reply
   pub expiry : ℕ
   pub grant : GrantOf c f expiry reply past
+  pub home : Accepts s f.volume grant.server (until c f expiry reply past grant)
   pub lasts : clock_of (own ++ lines_of past) < expiry
   pub kept : IsDropped grant.server c f (own ++ since c f expiry reply past grant) → ⊥
   pub newest : IsWithdrawn grant.server c f (own ++ since c f expiry reply past grant) ⊎ IsLast f index (own ++ lines_of past)
 
--- Rights are read without a promise: the read is whole, not older than any that the client has seen, and was the newest at some
--- line since its act began
-pub record GoodRights (c : Node) (f : Fid) (index : ℕ) (body : ReadBody) (past : List Entry) (own : List Line) : Type 0 where
+-- Rights are read without a promise: the act needs them, and the entry was given a reply to its call for them. The read is whole,
+-- not older than any that the client has seen, and was the newest at some line since its act began
+pub record GoodRights (s : Script) (c : Node) (f : Fid) (index : ℕ) (source : ReadSource) (body : ReadBody) (past : List Entry) (own : List Line) : Type 0 where
+  pub fetched : source ≡ Fetched
+  pub act : Going
+  pub runs : running s c (own ++ lines_of past) ≡ Some act
+  pub needs : next act ≡ reads_rights f
+  pub used : HasUsed c past own
+  pub asks : used.call ≡ asked act
   pub whole : Shows f index body past own
   pub not_older : seen c f past own ≤ index
   pub was : WasLast c f index (own ++ lines_of past)
 
-abbrev pub GoodReadBy : Bool → Node → Fid → ℕ → ReadSource → ReadBody → List Entry → List Line → Type 0
-GoodReadBy true c f index source body past own = GoodRead c f index source body past own
-GoodReadBy false c f index source body past own = GoodRights c f index body past own
+abbrev pub GoodReadBy : Script → Bool → Node → Fid → ℕ → ReadSource → ReadBody → List Entry → List Line → Type 0
+GoodReadBy s true c f index source body past own = GoodRead s c f index source body past own
+GoodReadBy s false c f index source body past own = GoodRights s c f index source body past own
 
 -- ---- changes
 
@@ -249,21 +285,6 @@ pub record IsCaused (c : Node) (act : Going) (code : ℤ) (past : List Entry) (o
   pub called : CalledSince (answered_key reply.head) cause.user cause.call past
   pub ends : code ≡ pos 0 → EndsAct (next act)
 
--- the act began in this entry, which was given no message: what it read was in the cache, and it called nobody
-abbrev pub IsAtOnce : Node → List Line → Type 0
-IsAtOnce c own = (has_begun c own ≡ true) × (has_given own ≡ false)
-
--- the entry was given a reply with code 0, to a call that the client sent since its act began, which was in an entry before
-pub record HasUsed (c : Node) (past : List Entry) (own : List Line) : Type 0 where
-  pub reply : Message
-  pub by : given_message own (sent_of past) ≡ Some reply
-  pub is_reply : IsReply reply
-  pub told : code_told reply.carried ≡ Some (pos 0)
-  pub to : reply.head.to ≡ c
-  pub before : has_begun c own ≡ false
-  pub call : FsCall
-  pub called : CalledSince (answered_key reply.head) (user_of c) call past
-
 -- the act needs no more, and answers so by its read lines; its last read came just now, from the cache in the entry of its
 -- begin, or behind a reply to its call
 pub record IsDone (c : Node) (act : Going) (code : ℤ) (past : List Entry) (own : List Line) : Type 0 where
@@ -344,7 +365,7 @@ IsGood s who (lines.Given place) past own next = ⊤
 IsGood s who (lines.Grant server c f index expiry) past own next = IsOfServer who server
 IsGood s who (lines.Change server k count) past own next = IsOfServer who server × GoodChange s server k count past own next
 IsGood s who (lines.Version v) past own next = IsUnderChange own
-IsGood s who (lines.Read c f index source body) past own next = IsOfClient who c × GoodReadBy (is_promised body) c f index source body past own
+IsGood s who (lines.Read c f index source body) past own next = (IsOfClient who c × HasAct s c past own) × GoodReadBy s (is_promised body) c f index source body past own
 IsGood s who (lines.Answer c code) past own next = IsOfClient who c × GoodCode s c code past own
 IsGood s who (lines.Timeout c callee epoch number count) past own next = who ≡ actors.Node c
 IsGood s who (lines.Tick n) past own next = who ≡ actors.Clock
