@@ -182,11 +182,6 @@ abbrev pub RepliesAreRan : Type 0
 RepliesAreRan =
     (s : Script) (history : List Entry) (end : Cell) → RunsTo history s end → (i j place : ℕ) (m : Message) → message_at end.sent place ≡ Some m → HasCode m.carried → m.head.from ≡ Server i → m.head.to ≡ Client j → Ran m.head (past_of (set_up s ∷ []) history)
 
--- and so is each that the server keeps for a client
-abbrev pub KeptAreRan : Type 0
-KeptAreRan =
-    (s : Script) (history : List Entry) (end : Cell) → IsOneServer s → RunsTo history s end → (j : ℕ) (seat : Seat) (m : Message) → call_seat (Client j) (end.hosts 1).state.seats ≡ Some seat → seat.reply ≡ Some m → Ran m.head (past_of (set_up s ∷ []) history)
-
 -- the server changed something under this key
 abbrev pub HasChangeBy : Node → Key → List Line → Type 0
 HasChangeBy s k [] = ⊥
@@ -195,6 +190,12 @@ HasChangeBy s k (l ∷ ls) = HasChangeBy s k ls
 
 abbrev pub seat_key : Node → Seat → Key
 seat_key n seat = record { node = n; epoch = seat.epoch; number = seat.number }
+
+-- And so is each that the server keeps for a client, and it answers the call whose pair the seat has
+abbrev pub KeptAreRan : Type 0
+KeptAreRan =
+    (s : Script) (history : List Entry) (end : Cell) → IsOneServer s → RunsTo history s end → (j : ℕ) (seat : Seat) (m : Message) → call_seat (Client j) (end.hosts 1).state.seats ≡ Some seat → seat.reply ≡ Some m
+    → Ran m.head (past_of (set_up s ∷ []) history) × (answered_key m.head ≡ seat_key (Client j) seat)
 
 -- its reply is kept
 abbrev pub HasReply : Node → Seat → Type 0
@@ -213,7 +214,7 @@ abbrev pub IsPromisedIn : Promise → List Promise → Type 0
 IsPromisedIn p [] = ⊥
 IsPromisedIn p (q ∷ ps) = (q ≡ p) ⊎ IsPromisedIn p ps
 
--- a grant that lasts, of which no break became owed and which its client hasn't given back, is promised still
+-- a grant that lasts, of which no break became owed and that its client hasn't dropped, is promised still
 abbrev pub GrantsAreKept : Type 0
 GrantsAreKept =
     (s : Script) (history : List Entry) (end : Cell) → IsOneServer s → RunsTo history s end → (c : Node) (f : Fid) (expiry : ℕ) → live_grant (Server 1) c f (lines_at (Server 1) (past_of (set_up s ∷ []) history)) ≡ Some expiry → end.clock < expiry
@@ -247,10 +248,10 @@ pub record IsAwaited (c : ClientState) (head : Head) : Type 0 where
   pub epoch : head.epoch ≡ c.epoch
   pub number : head.number ≡ c.last
 
--- A changing call that may still run, and that its client doesn't wait for: what the client trusts of the fids that it may change,
--- it was promised in an older boot
-abbrev pub GivenUpAreUntrusted : Type 0
-GivenUpAreUntrusted =
+-- A changing call that may still run, and that its client doesn't wait for, be its act answered or dead: what the client trusts of
+-- the fids that it may change, it was promised in an older boot. So it trusts none of them while the server hasn't stopped
+abbrev pub UnawaitedAreUntrusted : Type 0
+UnawaitedAreUntrusted =
     (s : Script) (history : List Entry) (end : Cell) → IsOneServer s → RunsTo history s end → (j place : ℕ) (head : Head) (user : List ℕ) (call : FsCall) (id : ℕ) → message_at end.sent place ≡ Some (record { head = head; carried = carried.Call user (ask.File call) }) → head.from ≡ Client j
     → volume_changed call ≡ Some id → admitted (end.hosts 1).state.lasting.boot (end.hosts 1).state.seats head ≡ pairs.runs → (IsAwaited (end.clients j) head → ⊥)
     → (f : Fid) (e : CacheEntry) → is_in_scope call f ≡ true → find_cached f (end.clients j).cache ≡ Some e → end.clock < e.expiry
