@@ -1,11 +1,11 @@
 use Rattle.afs_law.proofs.Giving.{begin_lines, begun_not, gifts_later, gives_goes, idle_reply, unbusied}
 use Rattle.afs_law.proofs.Walking.{own_lines, back_again, lines_assoc, looked_begun, looked_given, looked_message}
 use Rattle.afs_law.proofs.Quiet.{quiet_grant, quiet_last, quiet_clock, reach_more}
-use Rattle.afs_law.proofs.Facts.{AreApart, Held, IsNewest, IsNoRead, IsOpen, its_call, AreGifts}
-use Rattle.afs_law.proofs.Passing.{tried_idle, tried_kept, tried_new, PassesGrant, ran_over}
+use Rattle.afs_law.proofs.Facts.{fids_of_gifts, AreApart, Held, IsNewest, IsNoRead, IsOpen, its_call, AreGifts}
+use Rattle.afs_law.proofs.Passing.{all_dropped_own, dropped_rest, all_dropped_onto, tried_idle, tried_kept, tried_new, PassesGrant, ran_over}
 use Rattle.afs_law.specs.Grants.{IsDropped, IsWithdrawn}
 use Rattle.afs_law.specs.Ideal.{IsLast, clock_of, reach_over}
-use Rattle.afs_law.specs.Legal.{EndsAct, GoodRead, HasUsed, as_asked}
+use Rattle.afs_law.specs.Legal.{AreDropped, EndsAct, GoodRead, HasUsed, as_asked}
 use Rattle.afs_rows.specs.ClientRow.{entries_told, put_entries, status_look, takes_bulk, with_statuses, behind_batch, batch, call_by, gives_by, given, takes_given}
 use Rattle.std.specs.List.{list_any}
 use Rattle.std.specs.Prelude.{⊤, length}
@@ -179,6 +179,8 @@ begun_answered s c past n act k h none is =
       old = walk_old n x.cache w.cache (ls ++ tail) [] past (quiet_more n ls tail W.quiet (tail_quiet n tail t)) (λ f u z. walked_found (most_reads (began (locations s) act)) c.clock (began (locations s) act) x.cache f u z) d.old;
       runs = λ b z. absurd cc;
       asked = λ b z. absurd cc;
+      none = λ z. refl;
+      gave = λ b z. absurd cc;
       reached = walk_reached s c past n (h.floors n).held ls w.act w.cache tail [] W t ends;
     })
     (λ head call f. record {
@@ -207,6 +209,7 @@ begun_calls s c past n act h none going =
     let g : Ghost = record { floor = c.server.lasting.boot; held = (h.floors n).held } in
     let v : View = view_after c n g y in
     let not : LastRan v → ⊥ = λ ran. next_not _ _ _ _ (d.behind_durable ran.seat ran.at) ran.epoch ran.number in
+    let gave : AreDropped (Client n) (fids_of_gifts x.gifts) (onto (lines_of past) (ls ++ [])) = subst (λ (gs : List Gift). AreDropped (Client n) (fids_of_gifts gs) (onto (lines_of past) (ls ++ []))) (sym (d.none none)) tt in
     let at : running s (Client n) (onto (lines_of past) (ls ++ [])) ≡ Some w.act = ap (λ (os : List Line). running s (Client n) (onto (lines_of past) os)) (append-nil ls) ∙ W.runs in
     let idle : (a : Going) → x.running ≡ Some a → volume_changed (asked a) ≡ None = λ a z. let no_ : Some a ≡ None = sym z ∙ none in absurd cc in
     let over : (m : Message) → ReplyFact n (view h.floors c n) past m → ReplyFact n v (e ∷ past) m = λ m f. record {
@@ -237,6 +240,8 @@ begun_calls s c past n act h none going =
       old = walk_old n x.cache w.cache (ls ++ []) ms past (quiet_more n ls [] W.quiet tt) (λ f u z. walked_found (most_reads (began (locations s) act)) c.clock (began (locations s) act) x.cache f u z) d.old;
       runs = λ b z. at ∙ z;
       asked = λ b z. subst (λ (a : Going). CalledSince (last_key n v) guest (its_call v.gifts a) (e ∷ past)) (some_of w.act b z) (inl (refl, inl (refl, carried_is y w.act kind.user)));
+      none = λ z. absurd cc;
+      gave = λ b z. gave;
       reached = walk_reached s c past n (h.floors n).held ls w.act w.cache [] ms W tt (ends_here n);
     })
     (λ head call f. record {
@@ -247,7 +252,7 @@ begun_calls s c past n act h none going =
       safe = λ q above. safe_over call c.clock x.epoch x.last x.epoch (x.last + 1) x.running (Some w.act) w.cache (IsAged (view h.floors c n) head) (IsAged v head) head idle (λ z. (z.0, λ b k u r. next_not _ _ _ _ f.behind u r))
           (safe_cache call c.clock x.epoch x.last x.running x.cache w.cache (IsAged (view h.floors c n) head) head (λ f z u found lasts. z u (walked_found (most_reads (began (locations s) act)) c.clock (began (locations s) act) x.cache f u found) lasts) (f.safe q above));
     })
-    over (own_call h.floors c past n g y w.act (ls ++ []) d.known kind refl at (new_one s c past n y w.act h refl refl)) (λ a z k. begun_not n _ _ k) refl (tried_new n _ _ refl))
+    over (own_call h.floors c past n g y w.act (ls ++ []) d.known kind refl at (new_one s c past n y w.act h refl refl) gave) (λ a z k. begun_not n _ _ k) refl (tried_new n _ _ refl))
 
 begins_by : (need : Need) (s : Script) (c : Cell) (past : List Entry) (n : ℕ) (act : Act) → Holds s c past → (c.clients n).running ≡ None → next (begun_walk s (c.clients n) c.clock act).act ≡ need
     → Goes s past (client_moves c n (goes_by (Client n) (unbusied (c.clients n)) (begin_lines n act) (begun_walk s (c.clients n) c.clock act) need))
@@ -443,6 +448,8 @@ ended_facts s c past n cache held e h le idle cur old r =
       old = old;
       runs = λ b y. absurd cc;
       asked = λ b y. absurd cc;
+      none = λ y. refl;
+      gave = λ b y. absurd cc;
       reached = r;
     }
 
@@ -496,13 +503,13 @@ takes_refused s c past n p act head code h d =
     (ended_calls s c past n p act m (c.clients n).cache held h d (λ k is. refl)) (ended_reply s c past n (c.clients n).cache held e h) (nothing_new _ _) (λ a x z. absurd cc) refl (tried_idle n _ _ refl)
 
 -- the client calls again, with these promises to give back
-pub again_with : (s : Script) (c : Cell) (past : List Entry) (n p : ℕ) (gs : List Gift) (act : Going) (m : Message) → (h : Holds s c past) → AreGifts gs → Due c h.floors past n p act m → volume_changed (asked act) ≡ None → Goes s past (client_moves c n (calls_step (Client n) (with_gifts gs (c.clients n)) act (λ ls. lines.Given p ∷ ls)))
-again_with s c past n p gs act m h given d shut =
-    asks s c past n gs act (lines.Given p) h given ((h.own n).needs act d.running) (tt, tt) (told_passes s c past n p _ _ h d.heard) (λ g. told_file n p g (actors.Node (Client n)) _ past) (λ g. told_reach n p g (actors.Node (Client n)) _ past) (λ g o. (h.clients n).made act d.running g o (inl shut)) (λ b y. ap (λ (z : Going). volume_changed (asked z)) (some_of b act (sym y ∙ d.running)) ∙ shut) ((h.clients n).runs act d.running) (λ z. d.running)
+pub again_with : (s : Script) (c : Cell) (past : List Entry) (n p : ℕ) (gs : List Gift) (act : Going) (m : Message) → (h : Holds s c past) → AreGifts gs → AreDropped (Client n) (fids_of_gifts gs) (lines_of past) → Due c h.floors past n p act m → volume_changed (asked act) ≡ None → Goes s past (client_moves c n (calls_step (Client n) (with_gifts gs (c.clients n)) act (λ ls. lines.Given p ∷ ls)))
+again_with s c past n p gs act m h given gave d shut =
+    asks s c past n gs act (lines.Given p) h given refl gave ((h.own n).needs act d.running) (tt, tt) (told_passes s c past n p _ _ h d.heard) (λ g. told_file n p g (actors.Node (Client n)) _ past) (λ g. told_reach n p g (actors.Node (Client n)) _ past) (λ g o. (h.clients n).made act d.running g o (inl shut)) (λ b y. ap (λ (z : Going). volume_changed (asked z)) (some_of b act (sym y ∙ d.running)) ∙ shut) ((h.clients n).runs act d.running) (λ z. d.running)
 
 -- as they are
 pub again_goes : (s : Script) (c : Cell) (past : List Entry) (n p : ℕ) (act : Going) (m : Message) → (h : Holds s c past) → Due c h.floors past n p act m → volume_changed (asked act) ≡ None → Goes s past (client_moves c n (calls_again (Client n) (c.clients n) p act))
-again_goes s c past n p act m h d shut = again_with s c past n p (c.clients n).gifts act m h (h.own n).gifts d shut
+again_goes s c past n p act m h d shut = again_with s c past n p (c.clients n).gifts act m h (h.own n).gifts ((h.clients n).gave act d.running) d shut
 
 -- ---- what was fetched is read, and the act goes on
 
@@ -673,9 +680,9 @@ gone_answered s c past n p act m front F w k h d not same used W apart old is =
     (walk_reached s c past n c.server.lasting.boot ls w.act w.cache tail [] W t ends))
     (ended_calls s c past n p act m w.cache held h d (λ code z. absurd (not code z))) (ended_reply s c past n w.cache held e h) (nothing_new _ _) (λ b y z. absurd cc) refl (tried_idle n _ _ refl))
 
-pub gone_calls : (s : Script) (c : Cell) (past : List Entry) (n p : ℕ) (act : Going) (m : Message) (front : List Line → List Line) (F : List Line) (w : Walked) → (h : Holds s c past) → Due c h.floors past n p act m → volume_changed (asked act) ≡ None → ((ls : List Line) → front ls ≡ F ++ ls)
+pub gone_calls : (s : Script) (c : Cell) (past : List Entry) (n p : ℕ) (act : Going) (m : Message) (front : List Line → List Line) (F : List Line) (w : Walked) → (h : Holds s c past) → Due c h.floors past n p act m → volume_changed (asked act) ≡ None → ((ls : List Line) → front ls ≡ F ++ ls) → IsUsed n m F past
     → Walks s c past n c.server.lasting.boot (F ++ looked (Client n) w.looks []) w.act w.cache → AreApart w.cache → HasOld w.cache (lines_of past) → IsOpen (next w.act) → Goes s past (client_moves c n (goes_by (Client n) (c.clients n) front w (asks_for calls.GetTime)))
-gone_calls s c past n p act m front F w h d shut same W apart old going =
+gone_calls s c past n p act m front F w h d shut same used W apart old going =
     let x : ClientState = c.clients n in
     let ls : List Line = F ++ looked (Client n) w.looks [] in
     let k = h.clients n in
@@ -687,6 +694,8 @@ gone_calls s c past n p act m front F w h d shut same W apart old going =
     let g : Ghost = record { floor = c.server.lasting.boot; held = c.server.lasting.boot } in
     let v : View = view_after c n g y in
     let never : LastRan v → ⊥ = λ ran. next_not _ _ _ _ (k.behind_durable ran.seat ran.at) ran.epoch ran.number in
+    let begun : has_begun (Client n) (onto [] (ls ++ [])) ≡ false = ap (λ (os : List Line). has_begun (Client n) (onto [] os)) (append-nil ls) ∙ (ap (has_begun (Client n)) (onto_front_of F (looked (Client n) w.looks [])) ∙ (looked_begun (Client n) (Client n) w.looks (onto [] F) ∙ used.begun)) in
+    let gave : AreDropped (Client n) (fids_of_gifts x.gifts) (onto (lines_of past) (ls ++ [])) = all_dropped_own (Client n) (fids_of_gifts x.gifts) (ls ++ []) (lines_of past) begun (k.gave act d.running) in
     let at : running s (Client n) (onto (lines_of past) (ls ++ [])) ≡ Some w.act = ap (λ (os : List Line). running s (Client n) (onto (lines_of past) os)) (append-nil ls) ∙ W.runs in
     let over : (q : Message) → ReplyFact n (view h.floors c n) past q → ReplyFact n v (e ∷ past) q = λ q r. record {
       behind = up_to_next _ _ _ _ r.behind;
@@ -716,6 +725,8 @@ gone_calls s c past n p act m front F w h d shut same W apart old going =
       old = old_over w.cache (lines_of past) (lines_of (e ∷ past)) (λ f i b y. (quiet_grant n n f (ls ++ []) ms past q).version i b (lines_of past) y) old;
       runs = λ b y. at ∙ y;
       asked = λ b z. subst (λ (x : Going). CalledSince (last_key n v) guest (its_call v.gifts x) (e ∷ past)) (some_of w.act b z) (inl (refl, inl (refl, carried_is y w.act its.user)));
+      none = λ z. absurd cc;
+      gave = λ b z. gave;
       reached = walk_reached s c past n c.server.lasting.boot ls w.act w.cache [] ms W tt (ends_here n);
     })
     (λ head' call r. record {
@@ -728,17 +739,17 @@ gone_calls s c past n p act m front F w h d shut same W apart old going =
         | inr same ↦ inl (ap volume_changed (r.own act d.running same.0 same.1) ∙ (asks_changed x.gifts act ∙ shut))
       ];
     })
-    over (own_call h.floors c past n g y w.act (ls ++ []) k.known its refl at (new_one s c past n y w.act h refl refl)) (λ b x z. inr (record { act = act; runs = d.running; read = shut })) refl (tried_new n _ _ refl))
+    over (own_call h.floors c past n g y w.act (ls ++ []) k.known its refl at (new_one s c past n y w.act h refl refl) gave) (λ b x z. inr (record { act = act; runs = d.running; read = shut })) refl (tried_new n _ _ refl))
 
 gone_by : (need : Need) (s : Script) (c : Cell) (past : List Entry) (n p : ℕ) (act : Going) (m : Message) (front : List Line → List Line) (F : List Line) (w : Walked) → (h : Holds s c past) → Due c h.floors past n p act m → ((code : Code) → m.carried ≡ carried.Refusal code → ⊥) → volume_changed (asked act) ≡ None → ((ls : List Line) → front ls ≡ F ++ ls) → IsUsed n m F past
     → Walks s c past n c.server.lasting.boot (F ++ looked (Client n) w.looks []) w.act w.cache → AreApart w.cache → HasOld w.cache (lines_of past) → next w.act ≡ need → Goes s past (client_moves c n (goes_by (Client n) (c.clients n) front w need))
 gone_by (answers k) s c past n p act m front F w h d not shut same used W apart old e = gone_answered s c past n p act m front F w k h d not same used W apart old e
-gone_by (reads f) s c past n p act m front F w h d not shut same used W apart old e = gone_calls s c past n p act m front F w h d shut same W apart old (subst IsOpen (sym e) tt)
-gone_by (reads_status f) s c past n p act m front F w h d not shut same used W apart old e = gone_calls s c past n p act m front F w h d shut same W apart old (subst IsOpen (sym e) tt)
-gone_by (reads_statuses fs) s c past n p act m front F w h d not shut same used W apart old e = gone_calls s c past n p act m front F w h d shut same W apart old (subst IsOpen (sym e) tt)
-gone_by (reads_rights f) s c past n p act m front F w h d not shut same used W apart old e = gone_calls s c past n p act m front F w h d shut same W apart old (subst IsOpen (sym e) tt)
-gone_by (asks_for call) s c past n p act m front F w h d not shut same used W apart old e = gone_calls s c past n p act m front F w h d shut same W apart old (subst IsOpen (sym e) tt)
-gone_by gives_back s c past n p act m front F w h d not shut same used W apart old e = gone_calls s c past n p act m front F w h d shut same W apart old (subst IsOpen (sym e) tt)
+gone_by (reads f) s c past n p act m front F w h d not shut same used W apart old e = gone_calls s c past n p act m front F w h d shut same used W apart old (subst IsOpen (sym e) tt)
+gone_by (reads_status f) s c past n p act m front F w h d not shut same used W apart old e = gone_calls s c past n p act m front F w h d shut same used W apart old (subst IsOpen (sym e) tt)
+gone_by (reads_statuses fs) s c past n p act m front F w h d not shut same used W apart old e = gone_calls s c past n p act m front F w h d shut same used W apart old (subst IsOpen (sym e) tt)
+gone_by (reads_rights f) s c past n p act m front F w h d not shut same used W apart old e = gone_calls s c past n p act m front F w h d shut same used W apart old (subst IsOpen (sym e) tt)
+gone_by (asks_for call) s c past n p act m front F w h d not shut same used W apart old e = gone_calls s c past n p act m front F w h d shut same used W apart old (subst IsOpen (sym e) tt)
+gone_by gives_back s c past n p act m front F w h d not shut same used W apart old e = gone_calls s c past n p act m front F w h d shut same used W apart old (subst IsOpen (sym e) tt)
 
 -- from such reads on it reads from the cache
 gone_on : (s : Script) (c : Cell) (past : List Entry) (n p : ℕ) (act : Going) (m : Message) (front : List Line → List Line) (F : List Line) (k : ℕ) (a : Going) (cache : List CacheEntry) → (h : Holds s c past) → Due c h.floors past n p act m → ((code : Code) → m.carried ≡ carried.Refusal code → ⊥) → volume_changed (asked act) ≡ None → ((ls : List Line) → front ls ≡ F ++ ls) → IsUsed n m F past
@@ -1289,7 +1300,7 @@ resends_goes s c past n p act m boot h d le runs =
     (subst (λ (k : ℕ). ClientFacts s n (record (view h.floors c n) { known = k }) (e ∷ past)) (sym known) (client_kept s c past n boot e h le (λ f. told_file n p f (actors.Node (Client n)) ms past) (λ f. told_reach n p f (actors.Node (Client n)) ms past) (told_act n p (actors.Node (Client n)) ms past) (λ f. refl)))
     (λ head call f. call_known (view h.floors c n) (boot_of the_server x.boots) head call f)
     (reply_still n (view h.floors c n) e past (λ f. told_file n p f (actors.Node (Client n)) ms past) (λ f. told_reach n p f (actors.Node (Client n)) ms past) (λ f. refl) refl)
-    (own_call h.floors c past n (h.floors n) x act (lines.Given p ∷ []) (subst (λ (k : ℕ). k ≤ c.server.lasting.boot) (sym known) le) kind runs ((h.clients n).runs act runs) (same_one s c past n act ms h runs)) (λ a x z. inl x) refl (tried_kept n (c.clients n) _ (lines_of past) (lines.Given p ∷ []) refl refl refl refl (h.tried n))
+    (own_call h.floors c past n (h.floors n) x act (lines.Given p ∷ []) (subst (λ (k : ℕ). k ≤ c.server.lasting.boot) (sym known) le) kind runs ((h.clients n).runs act runs) (same_one s c past n act ms h runs) (all_dropped_onto (Client n) (fids_of_gifts old.gifts) (lines.Given p ∷ []) (lines_of past) refl ((h.clients n).gave act runs))) (λ a x z. inl x) refl (tried_kept n (c.clients n) _ (lines_of past) (lines.Given p ∷ []) refl refl refl refl (h.tried n))
 
 -- ---- the row, by its cases
 
@@ -1400,17 +1411,17 @@ not_true true w = absurd (w refl)
 not_true false w = refl
 
 -- the next ones are, or the act is done
-more_given : (gs : List Gift) (s : Script) (c : Cell) (past : List Entry) (n p : ℕ) (act : Going) (m : Message) (reply : FsReply) → (h : Holds s c past) → AreGifts gs → Due c h.floors past n p act m → m.carried ≡ carried.Reply (tell.File reply) → volume_changed (asked act) ≡ None → EndsAct (next act)
+more_given : (gs : List Gift) (s : Script) (c : Cell) (past : List Entry) (n p : ℕ) (act : Going) (m : Message) (reply : FsReply) → (h : Holds s c past) → AreGifts gs → AreDropped (Client n) (fids_of_gifts gs) (lines_of past) → Due c h.floors past n p act m → m.carried ≡ carried.Reply (tell.File reply) → volume_changed (asked act) ≡ None → EndsAct (next act)
     → Goes s past (client_moves c n (gives_by (Client n) (c.clients n) (given p) act gs))
-more_given [] s c past n p act m reply h some d is shut ends =
+more_given [] s c past n p act m reply h some gave d is shut ends =
     subst (λ (cs : List CacheEntry). Goes s past (client_moves c n (ends_step (Client n) (c.clients n) cs (given p) zero_code))) (all_left (c.clients n).cache)
     (subst (λ (es : List CacheEntry). Goes s past (client_moves c n (ends_step (Client n) (c.clients n) (filter (λ (e : CacheEntry). true) (c.clients n).cache) (λ ls. given p (dropped (Client n) es ls)) zero_code))) (none_dropped (c.clients n).cache)
     (takes_other s c past n p act calls.GetTime m reply h d is ends (λ f. not_true (is_in_scope (asked act) f) (no_scope (asked act) f shut))))
-more_given (g ∷ gs) s c past n p act m reply h some d is shut ends = again_with s c past n p (g ∷ gs) act m h some d shut
+more_given (g ∷ gs) s c past n p act m reply h some gave d is shut ends = again_with s c past n p (g ∷ gs) act m h some gave d shut
 
 given_goes : (s : Script) (c : Cell) (past : List Entry) (n p : ℕ) (act : Going) (call : FsCall) (m : Message) (reply : FsReply) → (h : Holds s c past) → Due c h.floors past n p act m → m.carried ≡ carried.Reply (tell.File reply) → call_of (c.clients n) act ≡ call → IsNoRead call → Goes s past (client_moves c n (takes_given (Client n) (c.clients n) p act call))
 given_goes s c past n p act (calls.GiveUpCallBacks fids callbacks) m reply h d is same unread =
-    more_given (behind_batch (c.clients n).gifts) s c past n p act m reply h (gifts_later (length (batch (c.clients n).gifts)) (c.clients n).gifts (h.own n).gifts) d is (sym (asks_changed (c.clients n).gifts act) ∙ ap volume_changed same)
+    more_given (behind_batch (c.clients n).gifts) s c past n p act m reply h (gifts_later (length (batch (c.clients n).gifts)) (c.clients n).gifts (h.own n).gifts) (dropped_rest (Client n) (length (batch (c.clients n).gifts)) (c.clients n).gifts (lines_of past) ((h.clients n).gave act d.running)) d is (sym (asks_changed (c.clients n).gifts act) ∙ ap volume_changed same)
     (ends_by (c.clients n).gifts (next act) ((h.own n).needs act d.running) (subst IsNoRead (sym same) unread))
 given_goes s c past n p act call m reply h d is same unread = plain_goes s c past n p act call m reply h d is same unread
 

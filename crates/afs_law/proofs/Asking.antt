@@ -15,16 +15,16 @@ use Rattle.afs_num.specs.declared.messages.Message.{Message}
 use Rattle.afs_ideal.specs.Operations.{volume_changed}
 use Rattle.afs_law.proofs.Backing.{Plain, backed_plain, seated_over, plain_step}
 use Rattle.afs_law.proofs.Edits.{index_in, fid_at, sound_same}
-use Rattle.afs_law.proofs.Facts.{AreApart, IsClient, back_seat, Ghost, IsAged, server_boot, View, view_of, view, desk, last_key, LastRan, ReplyFact, ClientFacts, IsUntrusted, IsSafe, CallFact, CallIn, Holds, Goes, Reading, InScope, IsOne, AreGifts, IsOpen, Tried, its_call}
+use Rattle.afs_law.proofs.Facts.{fids_of_gifts, AreApart, IsClient, back_seat, Ghost, IsAged, server_boot, View, view_of, view, desk, last_key, LastRan, ReplyFact, ClientFacts, IsUntrusted, IsSafe, CallFact, CallIn, Holds, Goes, Reading, InScope, IsOne, AreGifts, IsOpen, Tried, its_call}
 use Rattle.afs_law.proofs.Owing.{BackIn, DoneIn, SeatedIn}
-use Rattle.afs_law.proofs.Passing.{tried_kept, tried_more, tried_new, old_over, PassesFile, PassesAct, PassesReach, stays, PassesBoth, PassesSeen, current_over, reply_over, kept_over, client_still, News, more_sent, fallen_over, one_more, ran_over}
+use Rattle.afs_law.proofs.Passing.{own_gift, all_dropped_onto, tried_kept, tried_more, tried_new, old_over, PassesFile, PassesAct, PassesReach, stays, PassesBoth, PassesSeen, current_over, reply_over, kept_over, client_still, News, more_sent, fallen_over, one_more, ran_over}
 use Rattle.afs_law.proofs.Serving.{told_file, told_reach, told_act, reached_still}
 use Rattle.afs_law.proofs.Turning.{call_good}
 use Rattle.afs_rows.specs.Callbacks.{put, replies_of}
 use Rattle.afs_rows.specs.ClientRow.{server_at, ended, boot_of, used_first, find_cached, call_of, call_head, call_message, asking, calls_step, ignores, callee_by, first_server_of}
 use Rattle.afs_rows.specs.Going.{Need, reads, reads_status, reads_statuses, reads_rights, asks_for, gives_back, answers, next, asked, Going, with_read, read_on, ClientState}
 use Rattle.afs_law.specs.Ideal.{last_version, HasVersion, Accepts, clock_of, reach, is_zero_code, volume_after, call_in, call_under}
-use Rattle.afs_law.specs.Legal.{IsNew, AreGood, AreGoodReplies, as_asked}
+use Rattle.afs_law.specs.Legal.{AreDropped, IsNew, AreGood, AreGoodSent, as_asked}
 use Rattle.afs_history.specs.declared.lines.Line.{Line}
 use Rattle.afs_law.specs.Past.{onto, lines_of, sent_of, given_message, running, CalledSince, IsCallUnder, has_begun, called_key, is_called, same_key, Sends}
 use Rattle.afs_rows.specs.Runs.{Entry, message_at}
@@ -86,7 +86,7 @@ calls_moved fl c n floor x sent w h = each_map (IfCall (CallIn (view fl c))) (If
 -- what is known of what a client sends, and of what it keeps for the server
 pub record Fresh (s : Script) (c : Cell) (n : ℕ) (views : ℕ → View) (past : List Entry) (ms : List Message) : Type 0 where
   pub news : News s ms views c.server.lasting.boot past
-  pub good : AreGoodReplies past ms
+  pub good : AreGoodSent past ms
   pub calls : Each (IfBack (BackIn c.down c.server.backs.calls c.server.backs.last_call c.server.lasting.boot)) ms
   pub dones : Each (IfDone (DoneIn c.down c.server.backs.calls c.server.backs.last_call c.server.lasting.boot past)) ms
 
@@ -228,7 +228,7 @@ pub client_kept : (s : Script) (c : Cell) (past : List Entry) (n boot : ℕ) (e 
     → ClientFacts s n (record (view h.floors c n) { known = boot }) (e ∷ past)
 client_kept s c past n boot e h le p q t l =
     let d : ClientFacts s n (view h.floors c n) (e ∷ past) = client_still n (view h.floors c n) e past p q t l (h.clients n) in
-    record { behind = d.behind; behind_durable = d.behind_durable; lower = d.lower; kept = d.kept; stored = d.stored; known = le; floored = d.floored; holds = d.holds; waits = d.waits; idle = d.idle; made = d.made; current = d.current; runs = d.runs; old = d.old; asked = d.asked; reached = d.reached }
+    record { behind = d.behind; behind_durable = d.behind_durable; lower = d.lower; kept = d.kept; stored = d.stored; known = le; floored = d.floored; holds = d.holds; waits = d.waits; idle = d.idle; made = d.made; current = d.current; runs = d.runs; old = d.old; asked = d.asked; none = d.none; gave = d.gave; reached = d.reached }
 
 pub reply_still : (j : ℕ) (v : View) (e : Entry) (past : List Entry) → ((f : Fid) → PassesFile j f e past) → ((f : Fid) → PassesReach j f e past) → ((f : Fid) → last_version f (lines_of (e ∷ past)) ≡ last_version f (lines_of past)) → has_begun (Client j) e.lines ≡ false → (m : Message) → ReplyFact j v past m → ReplyFact j v (e ∷ past) m
 reply_still j v e past p q l b m = reply_over j v m e past (λ f. (p f).grant) q (λ f. stays j f e past (p f).grant (l f)) b
@@ -375,11 +375,11 @@ called_one n k user call S (e ∷ past) node (inr x) h = called_one n k user cal
 
 -- the message of a call that the client sends now
 pub own_call : {s : Script} → (fl : ℕ → Ghost) (c : Cell) (past : List Entry) (n : ℕ) (floor : Ghost) (x : ClientState) (act : Going) (ls : List Line) → boot_of the_server x.boots ≤ c.server.lasting.boot → IsClient s x → x.running ≡ Some act → running s (Client n) (onto (lines_of past) ls) ≡ Some act
-    → call_under (called_key (call_head (Client n) x act)) (sent_of past ++ call_message (Client n) x act ∷ []) ≡ Some (x.user, call_of x act) → Fresh s c n (views_after fl c n floor x) (step_entry n ls (call_message (Client n) x act ∷ []) ∷ past) (call_message (Client n) x act ∷ [])
-own_call {s} fl c past n floor x act ls le kind runs at one =
+    → call_under (called_key (call_head (Client n) x act)) (sent_of past ++ call_message (Client n) x act ∷ []) ≡ Some (x.user, call_of x act) → AreDropped (Client n) (fids_of_gifts x.gifts) (onto (lines_of past) ls) → Fresh s c n (views_after fl c n floor x) (step_entry n ls (call_message (Client n) x act ∷ []) ∷ past) (call_message (Client n) x act ∷ [])
+own_call {s} fl c past n floor x act ls le kind runs at one dropped =
     let to : x.callee ≡ the_server = kind.callee act runs in
     record {
-      good = (call_good _ (call_head (Client n) x act) x.user (call_of x act), tt);
+      good = ((call_good _ (call_head (Client n) x act) x.user (call_of x act), own_gift act x.gifts (call_head (Client n) x act) x.user (onto (lines_of past) ls) dropped), tt);
       calls = (tt, tt);
       dones = (tt, tt);
       news = record {
@@ -438,10 +438,10 @@ same_one s c past n act ms h runs =
 abbrev pub with_gifts : List Gift → ClientState → ClientState
 with_gifts gs x = record x { gifts = gs }
 
-pub asks : (s : Script) (c : Cell) (past : List Entry) (n : ℕ) (gs : List Gift) (act : Going) (l : Line) → Holds s c past → AreGifts gs → IsOpen (next act) → AreGood s (actors.Node (Client n)) past [] (l ∷ []) → Passes s n (l ∷ []) (call_message (Client n) (asking (with_gifts gs (c.clients n)) act) act ∷ []) past
+pub asks : (s : Script) (c : Cell) (past : List Entry) (n : ℕ) (gs : List Gift) (act : Going) (l : Line) → Holds s c past → AreGifts gs → has_begun (Client n) (l ∷ []) ≡ false → AreDropped (Client n) (fids_of_gifts gs) (lines_of past) → IsOpen (next act) → AreGood s (actors.Node (Client n)) past [] (l ∷ []) → Passes s n (l ∷ []) (call_message (Client n) (asking (with_gifts gs (c.clients n)) act) act ∷ []) past
     → ((f : Fid) → PassesFile n f (step_entry n (l ∷ []) (call_message (Client n) (asking (with_gifts gs (c.clients n)) act) act ∷ [])) past) → ((f : Fid) → PassesReach n f (step_entry n (l ∷ []) (call_message (Client n) (asking (with_gifts gs (c.clients n)) act) act ∷ [])) past)
     → ((f : Fid) → (InScope (asked act) f → ⊥) → (reach (Client n) f (step_entry n (l ∷ []) (call_message (Client n) (asking (with_gifts gs (c.clients n)) act) act ∷ []) ∷ past)).made ≡ 0) → ((a : Going) → (c.clients n).running ≡ Some a → volume_changed (asked a) ≡ None) → running s (Client n) (l ∷ lines_of past) ≡ Some act → (has_begun (Client n) (l ∷ []) ≡ false → (c.clients n).running ≡ Some act) → Goes s past (client_moves c n (calls_step (Client n) (with_gifts gs (c.clients n)) act (λ ls. l ∷ ls)))
-asks s c past n gs act l h given going good p q r none shut at went =
+asks s c past n gs act l h given begun gave going good p q r none shut at went =
     let d = h.clients n in
     let x : ClientState = asking (with_gifts gs (c.clients n)) act in
     let kind : IsClient s x = client_asking s c past (with_gifts gs (c.clients n)) act h going (record { table = (h.own n).table; user = (h.own n).user; callee = λ a z. (h.own n).callee a z; needs = λ a z. (h.own n).needs a z; apart = (h.own n).apart; gifts = given }) in
@@ -478,6 +478,8 @@ asks s c past n gs act l h given going good p q r none shut at went =
       old = old_over (c.clients n).cache (lines_of past) (lines_of (e ∷ past)) (λ f i b y. (q f).grant.version i b (lines_of past) y) d.old;
       runs = λ b y. at ∙ y;
       asked = λ b y. subst (λ (a : Going). CalledSince (last_key n v) guest (its_call v.gifts a) (e ∷ past)) (some_of act b y) (inl (refl, inl (refl, carried_is x act kind.user)));
+      none = λ y. absurd cc;
+      gave = λ b y. all_dropped_onto (Client n) (fids_of_gifts gs) (l ∷ []) (lines_of past) begun gave;
       reached = reached_still s c past n e h (λ f. (r f).both) last;
     })
     (λ head call f. record {
@@ -487,7 +489,7 @@ asks s c past n gs act l h given going good p q r none shut at went =
       own = λ b y z w. absurd (next_not _ _ _ _ f.behind z w);
       safe = λ q above. safe_over call c.clock (c.clients n).epoch (c.clients n).last (c.clients n).epoch ((c.clients n).last + 1) (c.clients n).running (Some act) (c.clients n).cache (IsAged (view h.floors c n) head) (IsAged v head) head shut (λ y. (y.0, λ b z w u. next_not _ _ _ _ f.behind w u)) (f.safe q above);
     })
-    over (own_call h.floors c past n g x act (l ∷ []) d.known kind refl at (new_one s c past n x act h refl refl)) (λ a x z. inl (went z ∙ x)) refl (tried_new n _ _ refl)
+    over (own_call h.floors c past n g x act (l ∷ []) d.known kind refl at (new_one s c past n x act h refl refl) (all_dropped_onto (Client n) (fids_of_gifts gs) (l ∷ []) (lines_of past) begun gave)) (λ a x z. inl (went z ∙ x)) refl (tried_new n _ _ refl)
 
 pub own_begun : (n : ℕ) (act : Going) (o : Option Going) → cond (same_node (Client n) (Client n)) (Some act) o ≡ Some act
 own_begun n act o = rw (same_node-refl (Client n)) refl

@@ -491,7 +491,7 @@ does_goes s c past armed p m drops i H up at to j = turned_goes s c past armed p
 does_goes s c past armed p m (tells_boot head) i H up at to j =
     subst (λ (x : Message). Goes s past (server_does c armed p x (tells_boot head))) (sym j.is)
     (quiet s c past armed p (called_at m.head j.user j.call) (turn_for the_server c.server c.clock (expired c.clock c.server.backs) (tells_boot head)) H up (at ∙ ap Some j.is) (subst (λ (x : Message). Dull c.server.seats c.server.lasting.boot x) j.is j.idle) tt tt
-    (λ e over held. record { notes = tt; sent = record { calls = (tt, tt); replies = (tt, tt); notices = (client_any head.from _ (le_refl _), tt); origins = (tt, tt); acts = (tt, tt); lasts = (tt, tt); ones = (tt, tt); to_clients = (tt, tt) }; outs = tt; held = held }) (λ e q. still_loads s c past e (boot_told c.server.lasting.boot head ∷ []) H up (given_plain p e _ q) (record { good = ((λ is nought k from. absurd is.1), tt); calls = (tt, tt); dones = (tt, tt) })))
+    (λ e over held. record { notes = tt; sent = record { calls = (tt, tt); replies = (tt, tt); notices = (client_any head.from _ (le_refl _), tt); origins = (tt, tt); acts = (tt, tt); lasts = (tt, tt); ones = (tt, tt); to_clients = (tt, tt) }; outs = tt; held = held }) (λ e q. still_loads s c past e (boot_told c.server.lasting.boot head ∷ []) H up (given_plain p e _ q) (record { good = (((λ is nought k from. absurd is.1), tt), tt); calls = (tt, tt); dones = (tt, tt) })))
 does_goes s c past armed p m (repeats reply) i H up at to j =
     subst (λ (x : Message). Goes s past (server_does c armed p x (repeats reply))) (sym j.call.is)
     (repeats_goes s c past armed p (called_at m.head j.call.user j.call.call) reply (held_under (key_answered reply) (expired c.clock c.server.backs).held) (is_seat_of reply (call_seat reply.head.to c.server.lasting.kept)) H up (at ∙ ap Some j.call.is) (subst (λ (x : Message). Dull c.server.seats c.server.lasting.boot x) j.call.is j.call.idle) j.kept refl refl)
@@ -558,6 +558,8 @@ revived_client {s} fl c past j h =
       old = h.old;
       runs = h.runs;
       asked = h.asked;
+      none = h.none;
+      gave = h.gave;
       reached = h.reached;
     }
 
@@ -922,7 +924,7 @@ timed_goes s c past n b true H up at e =
     acts_alone s c past c.armed (retries the_server c.server.lasting.boot n b x) H up (tt, tt) (refl, tt) (λ k held. record { notes = (tt, tt); sent = news_break _ _ _ c.server.lasting.boot n (x.known n) b ((up_backed s c past H up).outs refl n b at).client; outs = tt; held = held })
     (λ k q. let old = up_backed s c past H up in record {
       backed = retries_backed x c.server.lasting.boot c.server.seats (seats_of c) c.clock c.sent k past n b at (ap (λ (y : Entry). y.lines) q) old;
-      sends = record { good = (break_good (k ∷ past) c.server.lasting.boot n (x.known n) b, tt); calls = resent x c.server.lasting.boot c.server.seats (seats_of c) c.clock c.sent past (k ∷ past) n (x.known n) b (put_at n (Some (record b { tries = b.tries + 1 })) x.calls) old at (λ y w. put_call n n (record b { tries = b.tries + 1 }) y x.calls _ w (λ u v. ap (λ (z : BackCall). z.breaks) (sym v)) (λ u. ap (λ (z : BackCall). z.breaks) (some_of y b (sym u ∙ at)))); dones = (tt, tt) };
+      sends = record { good = break_good (k ∷ past) c.server.lasting.boot n (x.known n) b; calls = resent x c.server.lasting.boot c.server.seats (seats_of c) c.clock c.sent past (k ∷ past) n (x.known n) b (put_at n (Some (record b { tries = b.tries + 1 })) x.calls) old at (λ y w. put_call n n (record b { tries = b.tries + 1 }) y x.calls _ w (λ u v. ap (λ (z : BackCall). z.breaks) (sym v)) (λ u. ap (λ (z : BackCall). z.breaks) (some_of y b (sym u ∙ at)))); dones = (tt, tt) };
     })
 timed_goes s c past n b false H up at e =
     let x : Backs = expired c.clock c.server.backs in

@@ -1,5 +1,6 @@
-use Rattle.afs_law.proofs.Facts.{AreFetched, FitsBulk, its_call}
-use Rattle.afs_law.proofs.Passing.{tried_kept, fetched_each, ran_over}
+use Rattle.afs_law.proofs.Turning.{reply_gift}
+use Rattle.afs_law.proofs.Facts.{fids_of_gifts, AreFetched, FitsBulk, its_call}
+use Rattle.afs_law.proofs.Passing.{all_dropped_onto, tried_kept, fetched_each, ran_over}
 use Rattle.std.specs.List.{list_any}
 use Rattle.std.specs.Prelude.{◌||◌}
 -- A client is called by its server: it drops what it has cached of the broken promises.
@@ -197,7 +198,7 @@ reply_fresh {s} c n views past m x = record {
     ones = (no_call (ByClient (IsOne (sent_of past))) m.head m.carried x.is_reply, tt);
     to_clients = (no_call ToClient m.head m.carried x.is_reply, tt);
   };
-  good = (not_good past m n x.from, tt);
+  good = ((not_good past m n x.from, reply_gift m.head m.carried (lines_of past) x.is_reply), tt);
   calls = (no_call (ByServer (BackIn c.down c.server.backs.calls c.server.backs.last_call c.server.lasting.boot)) m.head m.carried x.is_reply, tt);
   dones = (of_reply_any _ m.carried (server_any m.head.to _ (record { client = Client n; from = x.from; done = x.done })), tt);
 }
@@ -205,7 +206,7 @@ reply_fresh {s} c n views past m x = record {
 pub notice_fresh : {s : Script} → (c : Cell) (n : ℕ) (views : ℕ → View) (past : List Entry) (boot : ℕ) (head : Head) → head.from ≡ the_server → Fresh s c n views past (boot_told boot head ∷ [])
 notice_fresh {s} c n views past boot head e = record {
   news = record { calls = (tt, tt); replies = (tt, tt); notices = (client_none head.from 1 _ e, tt); origins = (tt, tt); acts = (tt, tt); lasts = (tt, tt); ones = (tt, tt); to_clients = (tt, tt) };
-  good = ((λ is nought i from. absurd is.1), tt);
+  good = (((λ is nought i from. absurd is.1), tt), tt);
   calls = (tt, tt);
   dones = (tt, tt);
 }
@@ -457,6 +458,8 @@ drops_goes s c past n p head user fs cbs h heard to from b =
       old = old_over st.state.cache (lines_of past) (lines_of (e ∷ past)) (λ f i b y. (skips n fs).version f i b (lines.Given p ∷ lines_of past) y) (old_within x.cache st.state.cache (lines_of past) (λ f u y. (left_out (λ z. is_named z fs) f x.cache u y).0) d.old);
       runs = λ act y. (skips n fs).runs s (Client n) (lines.Given p ∷ lines_of past) ∙ d.runs act y;
       asked = λ act y. inr ((skips n fs).begins (Client n), d.asked act y);
+      none = d.none;
+      gave = λ act y. all_dropped_onto (Client n) (fids_of_gifts x.gifts) e.lines (lines_of past) ((skips n fs).begins (Client n)) (d.gave act y);
       reached = reached_still s c past n e h (λ f. (broken_reach n n p fs (reply ∷ []) past f).both) last;
     })
     (λ hd call f. record { behind = f.behind; booted = f.booted; stale = f.stale; own = f.own; safe = λ q above. safe_cache call c.clock (c.clients n).epoch (c.clients n).last (c.clients n).running (c.clients n).cache st.state.cache (IsAged (view h.floors c n) hd) hd (λ g y u at lasts. y u (left_out (λ x. is_named x fs) g (c.clients n).cache u at).0 lasts) (f.safe q above) })
@@ -589,6 +592,8 @@ drops_all_goes s c past n p head user h heard to from b =
       old = old_over st.state.cache (lines_of past) (lines_of (e ∷ past)) (λ f i b y. y) (old_within x.cache st.state.cache (lines_of past) (λ f u y. (gone f u y).0) d.old);
       runs = d.runs;
       asked = λ act y. inr (refl, d.asked act y);
+      none = d.none;
+      gave = λ act y. all_dropped_onto (Client n) (fids_of_gifts x.gifts) e.lines (lines_of past) refl (d.gave act y);
       reached = reached_still s c past n e h (λ f. (r f).both) (λ f. refl);
     })
     (λ hd call f. record { behind = f.behind; booted = f.booted; stale = f.stale; own = f.own; safe = λ q above. safe_cache call c.clock (c.clients n).epoch (c.clients n).last (c.clients n).running (c.clients n).cache st.state.cache (IsAged (view h.floors c n) hd) hd (λ g y u at lasts. y u (gone g u at).0 lasts) (f.safe q above) })

@@ -11,7 +11,7 @@ use Rattle.afs_rows.specs.Going.{asked, answers, Going, Need, ClientState, next}
 use Rattle.afs_law.specs.Grants.{fetch_reply, GrantOf, since, IsWithdrawn, IsDropped}
 use Rattle.afs_law.specs.Ideal.{last_version, IsLast, WasLast, HasBeen, HasVersion, Accepts, clock_of, user_of, reach, call_under, volume_after}
 use Rattle.afs_law.specs.Breaks.{HasStopped, HasTimeout}
-use Rattle.afs_law.specs.Legal.{AreFailed, IsThere, IsNew, Cause, AreGood, AreGoodReplies, as_asked}
+use Rattle.afs_law.specs.Legal.{AreDropped, AreFailed, IsThere, IsNew, Cause, AreGood, AreGoodSent, as_asked}
 use Rattle.afs_history.specs.declared.lines.Line.{Line}
 use Rattle.afs_law.specs.Past.{is_of_act, lines_of, sent_of, called_key, running, Called, CalledSince, IsUnheard, Ran}
 use Rattle.afs_rows.specs.Runs.{locations, Entry, Fall, at_rest, in_step, in_boot, message_at}
@@ -20,7 +20,7 @@ use Rattle.afs_rows.specs.Scopes.{is_in_scope}
 use Rattle.afs_rows.specs.ServerRow.{reply_head}
 use Rattle.afs_rows.specs.States.{CacheEntry, Seat, ServerState, Lasting, volume_in, Gift}
 use Rattle.afs_model.specs.Calls.{call_seat}
-use Rattle.std.specs.Prelude.{Bool, true, false, ◌||◌, ◌++◌, if◌then◌else◌, ⊤}
+use Rattle.std.specs.Prelude.{map, Bool, true, false, ◌||◌, ◌++◌, if◌then◌else◌, ⊤}
 use Rattle.afs_num.specs.Nodes.{same_node}
 use Rattle.std.proofs.Common.{◌+◌, ◌≡◌, ℕ, ◌<◌, ◌≤◌, ◌^◌, ◌⊎◌, List, [], ◌∷◌, Option, Some, None, ℤ}
 use Rattle.afs_num.specs.declared.types.Fid.{Fid}
@@ -109,6 +109,9 @@ AreApart (e ∷ cache) = (find_cached e.fid cache ≡ None) × AreApart cache
 abbrev pub AreGifts : List Gift → Type 0
 AreGifts [] = ⊤
 AreGifts (g ∷ gs) = (g.server ≡ the_server) × AreGifts gs
+
+abbrev pub fids_of_gifts : List Gift → List Fid
+fids_of_gifts gs = map (λ g. g.fid) gs
 
 -- the call that an act waits for
 abbrev pub its_call : List Gift → Going → FsCall
@@ -461,6 +464,8 @@ pub record ClientFacts (s : Script) (j : ℕ) (v : View) (past : List Entry) : T
   pub old : HasOld v.cache (lines_of past)
   pub runs : (act : Going) → v.running ≡ Some act → running s (Client j) (lines_of past) ≡ Some act
   pub asked : (act : Going) → v.running ≡ Some act → CalledSince (last_key j v) (user_of (Client j)) (its_call v.gifts act) past
+  pub none : v.running ≡ None → v.gifts ≡ []
+  pub gave : (act : Going) → v.running ≡ Some act → AreDropped (Client j) (fids_of_gifts v.gifts) (lines_of past)
   pub reached : (f : Fid) → Reached (Client j) f (index_in (last_version f (lines_of past))) past
 
 -- ---- messages in flight
@@ -653,6 +658,6 @@ Holds s c past = HoldsAt s (up_boot c.down c.server.lasting.boot) c past
 
 pub record Goes (s : Script) (past : List Entry) (m : Moved) : Type 0 where
   pub good : AreGood s m.entry.actor past [] m.entry.lines
-  pub replies : AreGoodReplies (m.entry ∷ past) m.entry.sent
+  pub replies : AreGoodSent (m.entry ∷ past) m.entry.sent
   pub volumes : m.entry.volumes ≡ []
   pub holds : Holds s m.cell (m.entry ∷ past)

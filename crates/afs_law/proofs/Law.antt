@@ -383,6 +383,8 @@ starts s one =
         current = λ f e x lasts. absurd cc;
         runs = λ act x. absurd cc;
         asked = λ act x. absurd cc;
+        none = λ x. refl;
+        gave = λ act x. absurd cc;
         reached = λ f. reached_first (Client j) f _ s;
       };
       sent = record { calls = tt; replies = tt; notices = tt; origins = tt; acts = tt; ones = tt; told = refl; waiting = tt; to_clients = tt };

@@ -237,7 +237,7 @@ changing_as (calls.GiveUpCallBacks fids callbacks) w = absurd (w refl)
 changing_as call w = refl
 
 -- what asks for a call asks for a change
-asks_change : (a : Going) (call : FsCall) → next a ≡ asks_for call → volume_changed call ≡ None → ⊥
+pub asks_change : (a : Going) (call : FsCall) → next a ≡ asks_for call → volume_changed call ≡ None → ⊥
 asks_change a call e = subst (λ (n : Need). Ends (root_of 0) n (next (with_read (root_of 0) (seen.AccessList []) a))) e (act_ends (root_of 0) [] a.homes a.act a.reads)
 
 by_need : (gifts : List Gift) (need : Need) → ((call : FsCall) → need ≡ asks_for call → volume_changed call ≡ None → ⊥) → as_asked (call_by gifts need) ≡ call_for need

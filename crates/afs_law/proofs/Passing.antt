@@ -1,11 +1,11 @@
 use Rattle.afs_law.specs.Breaks.{HasTimeout}
 use Rattle.afs_history.specs.declared.lines.Line.TheVariants as lines
 use Rattle.afs_num.specs.declared.histories.Actor.TheVariants as actors
-use Rattle.afs_law.proofs.Nexts.{as_is, asks_is}
-use Rattle.afs_law.proofs.Facts.{Tried, AreFetched, FitsBulk, its_call}
+use Rattle.afs_law.proofs.Nexts.{asks_change, as_is, asks_is}
+use Rattle.afs_law.proofs.Facts.{fids_of_gifts, Tried, AreFetched, FitsBulk, its_call}
 use Rattle.afs_num.specs.declared.histories.ReadStatus.{ReadStatus}
 use Rattle.afs_num.specs.declared.scripts.Script.{Script}
-use Rattle.std.proofs.Common.{◌+◌, eq-eqb, nat_eq, ◌≡◌, ℕ, ◌≤◌, inl, inr, Bool, true, false, cond, List, [], ◌∷◌, ◌++◌, Option, Some, None, ℤ, refl, sym, ap, ◌∙◌, subst, arith, le_of_eq, le_trans, eqb-true}
+use Rattle.std.proofs.Common.{zero, suc, ◌+◌, eq-eqb, nat_eq, ◌≡◌, ℕ, ◌≤◌, inl, inr, Bool, true, false, cond, List, [], ◌∷◌, ◌++◌, Option, Some, None, ℤ, refl, sym, ap, ◌∙◌, subst, arith, le_of_eq, le_trans, eqb-true}
 use Rattle.std.specs.Option.{option_map}
 use Rattle.afs_num.specs.declared.types.Fid.{Fid}
 use Rattle.afs_num.specs.declared.types.Head.{Head}
@@ -19,20 +19,20 @@ use Rattle.afs_ideal.specs.Operations.{volume_changed, Result, changes}
 use Rattle.afs_law.proofs.Basics.{Each, IfCall, IfReply, IfNotice, each_more, each_map, if_call, if_reply, if_notice, at_more, ByClient, OfClient, by_client, both, same_node-true, same_node-refl, client_number, OfCall}
 use Rattle.afs_law.proofs.Edits.{index_in}
 use Rattle.afs_law.proofs.Facts.{FitsList, IsWhole, IsOld, HasOld, FitsShown, IsKeptBody, Seen, IsActs, IsLastCall, View, Spot, spot, Reached, Held, IsNewest, Stands, IsCurrent, IsFetched, Fits, Answers, ReplyFact, AreKept, ClientFacts, CallIn, ReplyIn, Origin, HeldIn, ToClient, SentFacts, HasFallen, Reading, FitsReply, FitsData, FitsSet, WasChanged, WasStored, IsOne, IsNoticed}
-use Rattle.afs_rows.specs.ClientRow.{body_told, find_cached, status_told}
-use Rattle.afs_rows.specs.Going.{ClientState, asked, Going}
+use Rattle.afs_rows.specs.ClientRow.{batch, batch_to, most_given, call_by, body_told, find_cached, status_told}
+use Rattle.afs_rows.specs.Going.{Need, next, reads, reads_status, reads_statuses, reads_rights, asks_for, gives_back, answers, ClientState, asked, Going}
 use Rattle.afs_law.specs.Grants.{has_fetched, fetch_reply, GrantOf, since, IsWithdrawn, IsDropped}
 use Rattle.afs_law.specs.Ideal.{WasBefore, IsLast, WasLast, Unless, last_version, HasVersion, reach, change_in, call_in, call_under}
-use Rattle.afs_law.specs.Legal.{IsResult, IsKey, HasChange, Cause, answer_at, IsTold, as_asked}
+use Rattle.afs_law.specs.Legal.{AreDropped, HasDropped, GoodGift, IsResult, IsKey, HasChange, Cause, answer_at, IsTold, as_asked}
 use Rattle.afs_history.specs.declared.lines.Line.{Line}
 use Rattle.afs_law.specs.Past.{begins_act, onto, lines_of, sent_of, given_message, running, has_begun, Ran, called_key, same_key, is_called, has_sent, is_sent_since, answered_key}
 use Rattle.afs_rows.specs.Runs.{Entry, Fall, at_rest, in_step, in_boot}
 use Rattle.afs_law.proofs.OneCell.{the_server}
-use Rattle.afs_rows.specs.States.{CacheEntry, Seat, Lasting}
+use Rattle.afs_rows.specs.States.{Gift, CacheEntry, Seat, Lasting}
 use Rattle.afs_num.specs.declared.histories.Body.{Body}
 use Rattle.afs_num.specs.declared.histories.Version.{Version}
 use Rattle.std.proofs.Math.Nat.{le_refl}
-use Rattle.std.specs.Prelude.{⊤, ◌⊎◌}
+use Rattle.std.specs.Prelude.{drop, ⊤, ◌⊎◌}
 use Rattle.afs_num.specs.Nodes.{same_node}
 use Rattle.afs_num.specs.declared.calls.FsReply.{FsReply}
 use Rattle.afs_num.specs.declared.calls.AfsFetchStatus.{AfsFetchStatus}
@@ -335,6 +335,73 @@ reply_over j v m e past p r n b h = record { behind = h.behind; booted = h.boote
 pub kept_over : (j : ℕ) (o : Option Seat) (v w : View) (past newer : List Entry) → ((m : Message) → ReplyFact j v past m → ReplyFact j w newer m) → AreKept j o v past → AreKept j o w newer
 kept_over j o v w past newer over h seat m x y = ((h seat m x y).0, over m (h seat m x y).1)
 
+-- ---- what a client dropped in its act
+
+dropped_by : (t rest : Bool) (X : Type 0) → cond t true rest ≡ false → (t ≡ false → rest ≡ false → X) → X
+dropped_by true rest X e w = absurd cc
+dropped_by false rest X e w = w refl e
+
+unless_same : (t : Bool) (X : Type 0) → t ≡ false → X → Unless t X
+unless_same true X e h = absurd cc
+unless_same false X e h = h
+
+dropped_on : (c : Node) (f : Fid) (l : Line) (o : List Line) → begins_act c l ≡ false → HasDropped c f o → HasDropped c f (l ∷ o)
+dropped_on c f (lines.Drop m g) o e h = inr h
+dropped_on c f (lines.Begin m act) o e h = unless_same (same_node m c) (HasDropped c f o) e h
+dropped_on c f l o e h = h
+
+pub dropped_onto : (c : Node) (f : Fid) (ls o : List Line) → has_begun c ls ≡ false → HasDropped c f o → HasDropped c f (onto o ls)
+dropped_onto c f [] o e h = h
+dropped_onto c f (l ∷ ls) o e h = dropped_by (begins_act c l) (has_begun c ls) (HasDropped c f (onto (l ∷ o) ls)) e (λ a b. dropped_onto c f ls (l ∷ o) b (dropped_on c f l o a h))
+
+pub all_dropped_onto : (c : Node) (fs : List Fid) (ls o : List Line) → has_begun c ls ≡ false → AreDropped c fs o → AreDropped c fs (onto o ls)
+all_dropped_onto c [] ls o e h = tt
+all_dropped_onto c (f ∷ fs) ls o e h = (dropped_onto c f ls o e h.0, all_dropped_onto c fs ls o e h.1)
+
+dropped_behind : (c : Node) (f : Fid) (a o : List Line) → has_begun c a ≡ false → HasDropped c f o → HasDropped c f (a ++ o)
+dropped_behind c f [] o e h = h
+dropped_behind c f (l ∷ a) o e h = dropped_by (begins_act c l) (has_begun c a) (HasDropped c f (l ∷ (a ++ o))) e (λ t b. dropped_on c f l (a ++ o) t (dropped_behind c f a o b h))
+
+all_dropped_behind : (c : Node) (fs : List Fid) (a o : List Line) → has_begun c a ≡ false → AreDropped c fs o → AreDropped c fs (a ++ o)
+all_dropped_behind c [] a o e h = tt
+all_dropped_behind c (f ∷ fs) a o e h = (dropped_behind c f a o e h.0, all_dropped_behind c fs a o e h.1)
+
+-- by the entry's own lines, the newest first
+pub all_dropped_own : (c : Node) (fs : List Fid) (ls o : List Line) → has_begun c (onto [] ls) ≡ false → AreDropped c fs o → AreDropped c fs (onto o ls)
+all_dropped_own c fs ls o e h = subst (AreDropped c fs) (sym (onto_front [] o ls)) (all_dropped_behind c fs (onto [] ls) o e h)
+
+pub dropped_rest : (c : Node) (k : ℕ) (gs : List Gift) (ls : List Line) → AreDropped c (fids_of_gifts gs) ls → AreDropped c (fids_of_gifts (drop k gs)) ls
+dropped_rest c zero gs ls h = h
+dropped_rest c (suc k) [] ls h = tt
+dropped_rest c (suc k) (g ∷ gs) ls h = dropped_rest c k gs ls h.1
+
+dropped_if : (t : Bool) (c : Node) (g : Gift) (rest : List Gift) (ls : List Line) → HasDropped c g.fid ls → AreDropped c (fids_of_gifts rest) ls → AreDropped c (fids_of_gifts (cond t (g ∷ rest) [])) ls
+dropped_if true c g rest ls h k = (h, k)
+dropped_if false c g rest ls h k = tt
+
+dropped_batch_to : (c : Node) (server : Node) (k : ℕ) (gs : List Gift) (ls : List Line) → AreDropped c (fids_of_gifts gs) ls → AreDropped c (fids_of_gifts (batch_to server k gs)) ls
+dropped_batch_to c server zero gs ls h = tt
+dropped_batch_to c server (suc k) [] ls h = tt
+dropped_batch_to c server (suc k) (g ∷ gs) ls h = dropped_if (same_node g.server server) c g (batch_to server k gs) ls h.0 (dropped_batch_to c server k gs ls h.1)
+
+dropped_batch : (c : Node) (gs : List Gift) (ls : List Line) → AreDropped c (fids_of_gifts gs) ls → AreDropped c (fids_of_gifts (batch gs)) ls
+dropped_batch c [] ls h = tt
+dropped_batch c (g ∷ gs) ls h = dropped_batch_to c g.server most_given (g ∷ gs) ls h
+
+-- a client's call gives back what it dropped
+gift_by : (need : Need) (gs : List Gift) (head : Head) (user : List ℕ) (ls : List Line) → ((call : FsCall) → need ≡ asks_for call → volume_changed call ≡ None → ⊥) → AreDropped head.from (fids_of_gifts gs) ls → GoodGift head (carried.Call user (ask.File (call_by gs need))) ls
+gift_by (reads f) gs head user ls w h = tt
+gift_by (reads_status f) gs head user ls w h = tt
+gift_by (reads_statuses fs) gs head user ls w h = tt
+gift_by (reads_rights f) gs head user ls w h = tt
+gift_by (asks_for (calls.GiveUpCallBacks fids callbacks)) gs head user ls w h = absurd (w (calls.GiveUpCallBacks fids callbacks) refl refl)
+gift_by (asks_for call) gs head user ls w h = tt
+gift_by gives_back gs head user ls w h = dropped_batch head.from gs ls h
+gift_by (answers code) gs head user ls w h = tt
+
+pub own_gift : (act : Going) (gs : List Gift) (head : Head) (user : List ℕ) (ls : List Line) → AreDropped head.from (fids_of_gifts gs) ls → GoodGift head (carried.Call user (ask.File (call_by gs (next act)))) ls
+own_gift act gs head user ls h = gift_by (next act) gs head user ls (asks_change act) h
+
 -- ---- a client that doesn't move
 
 pub reached_more : (c : Node) (f : Fid) (i k : ℕ) (past : List Entry) → i ≤ k → Reached c f i past → Reached c f k past
@@ -360,6 +427,8 @@ client_over {s} j v e past p r n q l h =
       old = old_over v.cache (lines_of past) (lines_of (e ∷ past)) (λ f i k x. (p f).grant.version i k (lines_of past) x) h.old;
       runs = λ act x. q.runs s (lines_of past) ∙ h.runs act x;
       asked = λ act x. inr (q.begins, h.asked act x);
+      none = h.none;
+      gave = λ act x. all_dropped_onto (Client j) (fids_of_gifts v.gifts) e.lines (lines_of past) q.begins (h.gave act x);
       reached = λ f. reached_more (Client j) f (index_in (last_version f (lines_of past))) (index_in (last_version f (lines_of (e ∷ past)))) (e ∷ past) (l f) ((r f).both (index_in (last_version f (lines_of past))) (h.reached f));
     }
 
@@ -530,7 +599,7 @@ pub tried_idle : (j : ℕ) (x : ClientState) (ls : List Line) → x.running ≡ 
 tried_idle j x ls none = record { told = λ act runs k a b. let no_ : None ≡ Some act = sym none ∙ runs in absurd cc }
 
 pub tried_new : (j : ℕ) (x : ClientState) (ls : List Line) → x.tries ≡ 0 → Tried j x ls
-tried_new j x ls zero = record { told = λ act runs k a b. let le : k ≤ x.tries = b in absurd (omega arith) }
+tried_new j x ls none = record { told = λ act runs k a b. let le : k ≤ x.tries = b in absurd (omega arith) }
 
 -- and one more
 once_by : (j : ℕ) (x : ClientState) (o : List Line) (q : Node) (k : ℕ) (t : Bool) (act : Going) → q ≡ the_server → Tried j x o → x.running ≡ Some act → 1 ≤ k → k ≤ x.tries + 1 → nat_eq k (x.tries + 1) ≡ t → HasTimeout (Client j) the_server x.epoch x.last k (lines.Timeout (Client j) q x.epoch x.last (x.tries + 1) ∷ o)

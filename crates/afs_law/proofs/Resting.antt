@@ -73,6 +73,8 @@ later_client {s} n j v past h = record {
   old = h.old;
   runs = h.runs;
   asked = h.asked;
+  none = h.none;
+  gave = h.gave;
   reached = h.reached;
 }
 

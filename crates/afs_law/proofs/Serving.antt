@@ -1,5 +1,5 @@
 use Rattle.afs_ideal.specs.Directories.{directory_of}
-use Rattle.afs_law.proofs.Facts.{AreFetched, its_call}
+use Rattle.afs_law.proofs.Facts.{fids_of_gifts, AreFetched, its_call}
 use Rattle.afs_rows.specs.ServerRow.{sight_status, promise_until}
 use Rattle.afs_shape.specs.Rows.{no_callback}
 use Rattle.afs_num.specs.declared.calls.AfsCallBack.{AfsCallBack}
@@ -13,13 +13,13 @@ use Rattle.afs_ideal.specs.Operations.{shows_volume, shows_status, shows_body, F
 use Rattle.afs_ideal.specs.Tables.{Table, get}
 use Rattle.afs_ideal.specs.Volumes.{type_of, bytes_by, Volume, Vnode, Kind, a_file, a_directory, a_link, body_by, body_of, vnode_of, if_unique, version_at}
 use Rattle.afs_law.proofs.Backing.{Plain, all_lines, is_up, is_oweless, is_unchanging, granted_over, change_back, promised_over, before_own}
-use Rattle.afs_law.proofs.Basics.{Below, UpTo, Above, Each, IfCall, OfReply, above_up, both, same_fid-true, client_number, below_up_to, below_not, up_to_same, own_seat, at_seat, each_map, if_call, some_of, same_node-refl}
+use Rattle.afs_law.proofs.Basics.{same_node-true, Below, UpTo, Above, Each, IfCall, OfReply, above_up, both, same_fid-true, client_number, below_up_to, below_not, up_to_same, own_seat, at_seat, each_map, if_call, some_of, same_node-refl}
 use Rattle.afs_law.proofs.Edits.{Ones, index_in, fid_at, Sound, SoundIn, sound_same, Tops, live_index}
 use Rattle.afs_law.proofs.Facts.{IsBody, back_seat, IsKnown, IsReadable, AreFine, HeldIn, Ghost, HoldsAt, server_boot, up_boot, LastStored, IsActs, View, view_of, view, Spot, spot, LastRan, ReplyFact, IsBehind, AreKept, MayRun, HasFallen, Reached, HasCurrent, Fits, Answers, IsReply, KeptReply, ClientFacts, CallFact, CallIn, Origin, AreHome, AreNew, AreUnheard, Holds, Goes, InScope, IsFetched, FitsReply, AreIdeal, AreSound}
 use Rattle.afs_law.proofs.Loading.{all_promised, all_granted, granted_all, none_loaded, still_backed, known_backed, resent, run_loaded, key_held, no_change, settles_good, settles_backed, gone_promised, gone_granted, granted_to_client, gone_to_clients, own_waited}
 use Rattle.afs_law.proofs.Notes.{granted_notes, AreNotes, Skips, skips, told_entry, told_rests, noted_entry, noted_rests, settle_notes}
 use Rattle.afs_law.proofs.Owing.{AllOf, BackedIn, IsDone, DroppedOwe, IsGranted, DoneIn, Promised, IsClient}
-use Rattle.afs_law.proofs.Passing.{tried_more, old_over, stands_over, answers_over, reply_over, kept_over, PassesBoth, PassesFile, PassesAct, PassesReach, stays, current_over, client_still, News, more_sent, ran_over}
+use Rattle.afs_law.proofs.Passing.{all_dropped_onto, tried_more, old_over, stands_over, answers_over, reply_over, kept_over, PassesBoth, PassesFile, PassesAct, PassesReach, stays, current_over, client_still, News, more_sent, ran_over}
 use Rattle.afs_law.proofs.Pumping.{no_news, pumped_news, news_break}
 use Rattle.afs_law.proofs.Resting.{Rests}
 use Rattle.afs_law.proofs.Turning.{loaded, TurnSends, Pumps, pumps, expired_backed, break_good}
@@ -29,7 +29,7 @@ use Rattle.afs_rows.specs.Going.{asked, Going}
 use Rattle.afs_law.specs.Ideal.{shown_status, Tells, TellsIn, TellsOf, volume_after, version_in, latest, IsThat, user_of, clock_of, last_version, HasVersion, reach, call_under}
 use Rattle.afs_law.specs.Legal.{IsThere, code_given, IsResult, RunsHere, AreGood, Cause, IsTold, answer_at, answer_on, as_asked}
 use Rattle.afs_history.specs.declared.lines.Line.{Line}
-use Rattle.afs_law.specs.Past.{code_told, IsUnheard, lines_of, sent_of, given_message, called_key, HasCode, IsCallUnder, Ran, onto, same_key, answered_key}
+use Rattle.afs_law.specs.Past.{IsCall, code_told, IsUnheard, lines_of, sent_of, given_message, called_key, HasCode, IsCallUnder, Ran, onto, same_key, answered_key}
 use Rattle.afs_rows.specs.Runs.{Entry, message_at, Armed, Fall}
 use Rattle.afs_law.proofs.OneCell.{the_server, Cell, Moved, server_moves}
 use Rattle.afs_rows.specs.ServerRow.{shows, granted, Reading, promise_ticks, refuses, reply_head, replied, told, result, Decision, seat_placed, Sight, given_up_read, promised_in, reading_in, statuses_read, time_read}
@@ -56,7 +56,7 @@ use Rattle.afs_num.specs.Nodes.{same_node}
 use Rattle.afs_breaks.specs.declared.types.Promise.{Promise}
 use Rattle.afs_law.proofs.Promising.{Owed, without_promises, shows_turn, shows_turn_is}
 use Rattle.afs_law.specs.Grants.{IsDropped}
-use Rattle.afs_law.specs.Breaks.{lines_at, fids_given_up, has_answer, given_up_in, drops_of, given_up_by, is_told}
+use Rattle.afs_law.specs.Breaks.{returned_in, returned_by, is_unheard, is_call_under, is_call, lines_at, fids_given_up, has_answer, drops_of, is_told}
 use Rattle.afs_rows.specs.ServerSteps.{stepped, done}
 use Rattle.afs_law.proofs.Keeping.{at_placed}
 use Rattle.afs_records.specs.Durable.{Stored}
@@ -261,7 +261,7 @@ renewed_goes s c past armed p n m k true H up at j is =
     (λ x over held. record { notes = tt; sent = news_break _ _ _ c.server.lasting.boot n m.head.boot k ((up_backed s c past H up).outs refl n k is).client; outs = tt; held = held })
     (λ x z. let old = still_backed b c.server.lasting.boot c.server.seats (seats_of c) c.clock c.sent x past (given_plain p x _ z) (up_backed s c past H up) in record {
       backed = none_loaded None (record b { known = put_at n m.head.boot b.known }) c.server.lasting.boot c.server.seats (seats_of c) c.clock c.sent (x ∷ past) (known_backed b (put_at n m.head.boot b.known) c.server.lasting.boot c.server.seats (seats_of c) c.clock c.sent (x ∷ past) old);
-      sends = record { good = (break_good (x ∷ past) c.server.lasting.boot n m.head.boot k, tt); calls = resent b c.server.lasting.boot c.server.seats (seats_of c) c.clock c.sent (x ∷ past) (x ∷ past) n m.head.boot k b.calls old is (λ y w. ap (λ (u : BackCall). u.breaks) (some_of y k (sym w ∙ is))); dones = (tt, tt) };
+      sends = record { good = break_good (x ∷ past) c.server.lasting.boot n m.head.boot k; calls = resent b c.server.lasting.boot c.server.seats (seats_of c) c.clock c.sent (x ∷ past) (x ∷ past) n m.head.boot k b.calls old is (λ y w. ap (λ (u : BackCall). u.breaks) (some_of y k (sym w ∙ is))); dones = (tt, tt) };
     })
 
 pub renews_goes : (s : Script) (c : Cell) (past : List Entry) (armed : Armed) (p : ℕ) (m : Message) (o : Option BackCall) → (H : Holds s c past) → c.down ≡ None → message_at c.sent p ≡ Some m → Dull c.server.seats c.server.lasting.boot m → c.server.backs.calls m.head.from ≡ o
@@ -538,6 +538,8 @@ caller_after good s c past n h user call x e st H w v =
       old = old_over (c.clients n).cache (lines_of past) (lines_of (e ∷ past)) v.grows d.old;
       runs = λ b y. v.acts.runs s (lines_of past) ∙ d.runs b y;
       asked = λ b y. inr (v.acts.begins, d.asked b y);
+      none = d.none;
+      gave = λ b y. all_dropped_onto (Client n) (fids_of_gifts (c.clients n).gifts) e.lines (lines_of past) v.acts.begins (d.gave b y);
       reached = v.reached;
     }
 
@@ -935,6 +937,39 @@ first_answer boot (o ∷ os) k t h = first_answer boot os k _ (by_answer boot k 
 pub told_there : (f : Fid) (index : ℕ) (body : ReadBody) (o : Option Volume) (v : Volume) (x : Vnode) → Some v ≡ o → vnode_of f v ≡ Some x → Tells index body x → TellsOf f index body o
 told_there f index body o v x at found h = subst (TellsOf f index body) at (subst (TellsIn index body) (sym found) h)
 
+and_true : (a b : Bool) → a ≡ true → b ≡ true → (a && b) ≡ true
+and_true true b e h = h
+and_true false b e h = absurd cc
+
+call_is : (c : Carried) → is_call c ≡ true → IsCall c
+call_is (carried.Call user call) e = tt
+call_is (carried.Refusal code) e = absurd cc
+call_is (carried.Reply reply) e = absurd cc
+call_is carried.Notice e = absurd cc
+
+key_is : (k l : Key) → same_key k l ≡ true → k ≡ l
+key_is k l t =
+    let a = both (same_node k.node l.node) _ t in
+    let b = both (nat_eq k.epoch l.epoch) _ a.1 in
+    ap (λ (n : Node). record { node = n; epoch = k.epoch; number = k.number }) (same_node-true k.node l.node a.0)
+    ∙ (ap (λ (e : ℕ). record { node = l.node; epoch = e; number = k.number }) (eqb-true _ _ b.0) ∙ ap (λ (n : ℕ). record { node = l.node; epoch = l.epoch; number = n }) (eqb-true _ _ b.1))
+
+under_is : (s : Node) (k : Key) (boot : ℕ) (m : Message) → is_call_under s k boot (Some m) ≡ true → IsCallUnder s k boot (Some m)
+under_is s k boot m e =
+    let a = both (is_call m.carried && same_node m.head.to s) _ e in
+    let b = both (is_call m.carried) _ a.0 in
+    let d = both (same_key (called_key m.head) k) _ a.1 in
+    ((call_is m.carried b.0, same_node-true m.head.to s b.1), (key_is (called_key m.head) k d.0, eqb-true m.head.boot boot d.1))
+
+under_not : (t : Bool) (s : Node) (k : Key) (boot : ℕ) (o : Option Message) → is_call_under s k boot o ≡ t → (IsCallUnder s k boot o → ⊥) → not t ≡ true
+under_not false s k boot o e w = refl
+under_not true s k boot None e w = absurd cc
+under_not true s k boot (Some m) e w = absurd (w (under_is s k boot m e))
+
+unheard_is : (s : Node) (k : Key) (boot : ℕ) (past : List Entry) → IsUnheard s k boot past → is_unheard s k boot past ≡ true
+unheard_is s k boot [] h = refl
+unheard_is s k boot (e ∷ past) h = and_true (not (is_call_under s k boot (given_message e.lines (sent_of past)))) (is_unheard s k boot past) (under_not (is_call_under s k boot (given_message e.lines (sent_of past))) s k boot (given_message e.lines (sent_of past)) refl h.0) (unheard_is s k boot past h.1)
+
 shows_by : (s : Script) (c : Cell) (past : List Entry) (armed : Armed) (p n : ℕ) (h : Head) (user : List ℕ) (call : FsCall) (r : Reading) → (H : Holds s c past) → c.down ≡ None → message_at c.sent p ≡ Some (call_at n h user call) → Now s c H.floors past n h user call
     → IsRead c call r → code_given (answer_at user call past) ≡ pos 0 → IsTold (called_key (client_head n h)) (answer_at user call past) [] → Goes s past (server_moves c armed (done the_server c.server c.clock p (shows (client_head n h) r) (shows_turn the_server c.server c.clock (expired c.clock c.server.backs) (client_head n h) r)))
 shows_by s c past armed p n h user call r H up at w is code done =
@@ -952,8 +987,10 @@ shows_by s c past armed p n h user call r H up at w is code done =
     let B = up_backed s c past H up in
     let ps : List Promise = (expired c.clock c.server.backs).lists.promises in
     let boots : server_boot the_server (lines_of (e ∷ past)) ≡ Some c.server.lasting.boot = k.boot (lines.Given p ∷ lines_of past) ∙ up_boots s c past H up in
-    let gave : given_up_in the_server ms (given_message e.lines (sent_of past)) ≡ drops_of (Client n) r.given_up =
-    ap (given_up_in the_server ms) (at_told s c past p _ H at) ∙ (ap (λ (b : Bool). given_up_by the_server b (client_head n h) (carried.Call user (ask.File call))) (first_answer c.server.lasting.boot turn.backs.lists.owed (called_key (client_head n h)) (record { backs = held_after turn; sent = given_out turn }) (rw (same_node-refl (Client n), eq-eqb h.epoch h.epoch refl, eq-eqb h.number h.number refl) refl))
+    let answered : has_answer (called_key (client_head n h)) ms ≡ true = first_answer c.server.lasting.boot turn.backs.lists.owed (called_key (client_head n h)) (record { backs = held_after turn; sent = given_out turn }) (rw (same_node-refl (Client n), eq-eqb h.epoch h.epoch refl, eq-eqb h.number h.number refl) refl) in
+    let first : is_unheard the_server (called_key (client_head n h)) (client_head n h).boot past ≡ true = unheard_is the_server (called_key (client_head n h)) (client_head n h).boot past (subst (λ (b : ℕ). IsUnheard the_server (called_key (client_head n h)) b past) (sym w.boot) (unheard_up c past up H.unheard (called_key (client_head n h)) c.server.lasting.boot (inr (refl, w.above)))) in
+    let gave : returned_in the_server e (given_message e.lines (sent_of past)) past ≡ drops_of (Client n) r.given_up =
+    ap (λ (o : Option Message). returned_in the_server e o past) (at_told s c past p _ H at) ∙ (ap (λ (b : Bool). returned_by the_server b (client_head n h) (carried.Call user (ask.File call))) (and_true _ _ first answered)
     ∙ ap (λ (gs : List Fid). drops_of (Client n) gs) (sym (gives_up_as c call r is))) in
     let given : Promised None (without_promises (Client n) r.given_up ps) c.clock (before_own e past) = subst (λ (ds : List Line). Promised None (without_promises (Client n) r.given_up ps) c.clock (onto (lines_at the_server past) ds)) (sym gave) (gone_promised (Client n) c.clock r.given_up (lines_at the_server past) ps B.promised) in
     let pump : Pumps c.server.lasting.boot (seats_after c n h m) (seats_of c) c.clock c.sent (e ∷ past) turn = pumps c.server.lasting.boot (seats_after c n h m) (seats_of c) c.clock c.sent e past turn refl (k.clock (lines.Given p ∷ lines_of past) ∙ H.clock)

@@ -21,7 +21,7 @@ use Rattle.afs_law.proofs.Owing.{AllOf, all_map, all_both, all_filter, IsGranted
 use Rattle.afs_law.specs.Breaks.{HasCome, AllOwes, EndedBy, EndedOf, EndedAll, CarriesBreak, NamesIn, WasSent}
 use Rattle.afs_rows.specs.Callbacks.{put_at, Turn, Started, expired, is_all, waits_none, is_ready, is_reply_to, key_answered, fids_of, breaks_call, fid_before, call_for, break_message, first_of, is_for, most_breaks, carries_for, started_call, starts_by, starts, replies_of, held_after, given_out, pumped}
 use Rattle.afs_law.specs.Ideal.{clock_of}
-use Rattle.afs_law.specs.Legal.{HasChange, GoodReply, AreGoodReplies}
+use Rattle.afs_law.specs.Legal.{GoodGift, HasChange, GoodReply, AreGoodSent}
 use Rattle.afs_history.specs.declared.lines.Line.{Line}
 use Rattle.afs_law.specs.Past.{lines_of, sent_of, given_message, answered_key, IsCallUnder, Sends}
 use Rattle.afs_rows.specs.Runs.{Entry}
@@ -188,15 +188,22 @@ reply_good b boot seats cs clock sent past h B time w ready is nought i from =
       ]),
     ))
 
-good_by : (t : Bool) (past : List Entry) (h : Held) (rest : List Held) → (t ≡ true → GoodReply past h.reply) → AreGoodReplies past (replies_of rest) → AreGoodReplies past (replies_of (cond t (h ∷ rest) rest))
-good_by true past h rest a b = (a refl, b)
-good_by false past h rest a b = b
+-- what is no call gives nothing back
+pub reply_gift : (head : Head) (c : Carried) (ls : List Line) → (OfReply ⊥ c → ⊥) → GoodGift head c ls
+reply_gift head (carried.Call user call) ls h = absurd (h tt)
+reply_gift head (carried.Refusal code) ls h = tt
+reply_gift head (carried.Reply reply) ls h = tt
+reply_gift head carried.Notice ls h = tt
 
-replies_good : (b : Backs) (boot : ℕ) (seats : List Seat) (cs : ℕ → Option Seat) (clock : ℕ) (sent : List Message) (past : List Entry) (hs : List Held) → BackedIn None b boot seats cs clock sent past → clock_of (lines_of past) ≡ clock → AllOf (HeldWaits seats clock past) hs → AreGoodReplies past (replies_of (filter (is_ready b.lists.owed) hs))
+good_by : (t : Bool) (past : List Entry) (h : Held) (rest : List Held) → (t ≡ true → GoodReply past h.reply) → (OfReply ⊥ h.reply.carried → ⊥) → AreGoodSent past (replies_of rest) → AreGoodSent past (replies_of (cond t (h ∷ rest) rest))
+good_by true past h rest a is b = ((a refl, reply_gift h.reply.head h.reply.carried (lines_of past) is), b)
+good_by false past h rest a is b = b
+
+replies_good : (b : Backs) (boot : ℕ) (seats : List Seat) (cs : ℕ → Option Seat) (clock : ℕ) (sent : List Message) (past : List Entry) (hs : List Held) → BackedIn None b boot seats cs clock sent past → clock_of (lines_of past) ≡ clock → AllOf (HeldWaits seats clock past) hs → AreGoodSent past (replies_of (filter (is_ready b.lists.owed) hs))
 replies_good b boot seats cs clock sent past [] B time w = tt
-replies_good b boot seats cs clock sent past (h ∷ hs) B time w = good_by (is_ready b.lists.owed h) past h (filter (is_ready b.lists.owed) hs) (λ e. reply_good b boot seats cs clock sent past h B time w.0 e) (replies_good b boot seats cs clock sent past hs B time w.1)
+replies_good b boot seats cs clock sent past (h ∷ hs) B time w = good_by (is_ready b.lists.owed h) past h (filter (is_ready b.lists.owed) hs) (λ e. reply_good b boot seats cs clock sent past h B time w.0 e) w.0.is_reply (replies_good b boot seats cs clock sent past hs B time w.1)
 
-pub good_more : (past : List Entry) (a b : List Message) → AreGoodReplies past a → AreGoodReplies past b → AreGoodReplies past (a ++ b)
+pub good_more : (past : List Entry) (a b : List Message) → AreGoodSent past a → AreGoodSent past b → AreGoodSent past (a ++ b)
 good_more past [] b h k = k
 good_more past (m ∷ a) b h k = (h.0, good_more past a b h.1 k)
 
@@ -369,7 +376,7 @@ started_all boot seats cs clock sent past (o ∷ os) t h is to was =
 
 -- what a step sends by itself: no reply of the server, and calls of its own
 pub record TurnSends (b : Backs) (boot : ℕ) (past : List Entry) (ms : List Message) : Type 0 where
-  pub good : AreGoodReplies past ms
+  pub good : AreGoodSent past ms
   pub calls : Each (IfBack (BackIn None b.calls b.last_call boot)) ms
   pub dones : Each (IfDone (DoneIn None b.calls b.last_call boot past)) ms
 
@@ -412,17 +419,26 @@ released boot seats cs clock sent past t h s =
       seated = h.seated;
     }
 
-good_by_call : (boot : ℕ) (past : List Entry) (t : Started) (o : Owed) (x : Option BackCall) → AreGoodReplies past t.sent → AreGoodReplies past (starts_by the_server boot t o x).sent
-good_by_call boot past t o None h = let m : Message = break_message the_server boot o.client (t.backs.known o.client) (started_call t.backs o) in good_more past t.sent (m ∷ []) h (call_good past m.head [] (breaks_call (started_call t.backs o).breaks), tt)
+on_gift : (what : Option Fid) (os : List Owed) (head : Head) (ls : List Line) → GoodGift head (carried.Call [] (ask.File (call_for what os))) ls
+on_gift None os head ls = tt
+on_gift (Some f) os head ls = tt
+
+-- and no break does
+pub break_gift : (os : List Owed) (head : Head) (ls : List Line) → GoodGift head (carried.Call [] (ask.File (breaks_call os))) ls
+break_gift [] head ls = tt
+break_gift (o ∷ os) head ls = on_gift o.what (o ∷ os) head ls
+
+good_by_call : (boot : ℕ) (past : List Entry) (t : Started) (o : Owed) (x : Option BackCall) → AreGoodSent past t.sent → AreGoodSent past (starts_by the_server boot t o x).sent
+good_by_call boot past t o None h = let m : Message = break_message the_server boot o.client (t.backs.known o.client) (started_call t.backs o) in good_more past t.sent (m ∷ []) h ((call_good past m.head [] (breaks_call (started_call t.backs o).breaks), break_gift (started_call t.backs o).breaks m.head (lines_of past)), tt)
 good_by_call boot past t o (Some c) h = h
 
-calls_good : (boot : ℕ) (past : List Entry) (os : List Owed) (t : Started) → AreGoodReplies past t.sent → AreGoodReplies past (starts the_server boot os t).sent
+calls_good : (boot : ℕ) (past : List Entry) (os : List Owed) (t : Started) → AreGoodSent past t.sent → AreGoodSent past (starts the_server boot os t).sent
 calls_good boot past [] t h = h
 calls_good boot past (o ∷ os) t h = calls_good boot past os (starts_by the_server boot t o (t.backs.calls o.client)) (good_by_call boot past t o (t.backs.calls o.client) h)
 
 -- the whole end: `past` begins with the entry, which sends all this
 pub record Pumps (boot : ℕ) (seats : List Seat) (cs : ℕ → Option Seat) (clock : ℕ) (sent : List Message) (past : List Entry) (t : Turn) : Type 0 where
-  pub good : AreGoodReplies past (pumped the_server boot t).sent
+  pub good : AreGoodSent past (pumped the_server boot t).sent
   pub clients : AllOf (λ (o : Owed). IsClient o.client) t.backs.lists.owed
   pub backed : BackedIn None (pumped the_server boot t).backs boot seats cs clock (sent ++ (pumped the_server boot t).sent) past
 
@@ -438,5 +454,5 @@ pumps boot seats cs clock sent e past t is time h s =
       backed = started_all boot seats cs clock sent (e ∷ past) t.backs.lists.owed _ (released boot seats cs clock sent (e ∷ past) t h s) (h.owing refl) (h.clients refl).owed (λ k user call x. was_sent e past k user call (subst (λ (ms : List Message). Sends k user call ms) (sym is) x));
     }
 
-pub break_good : (past : List Entry) (boot : ℕ) (n : Node) (known : ℕ) (c : BackCall) → GoodReply past (break_message the_server boot n known c)
-break_good past boot n known c = let m : Message = break_message the_server boot n known c in call_good past m.head [] (breaks_call c.breaks)
+pub break_good : (past : List Entry) (boot : ℕ) (n : Node) (known : ℕ) (c : BackCall) → AreGoodSent past (break_message the_server boot n known c ∷ [])
+break_good past boot n known c = let m : Message = break_message the_server boot n known c in ((call_good past m.head [] (breaks_call c.breaks), break_gift c.breaks m.head (lines_of past)), tt)

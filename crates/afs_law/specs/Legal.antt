@@ -2,6 +2,7 @@ use Rattle.std.specs.Prelude.{Bool, true, ◌≡◌, ℕ, ◌≤◌, ◌<◌, Li
 use Rattle.afs_num.specs.Nodes.{same_node}
 use Rattle.afs_num.specs.declared.types.Code.{Code}
 use Rattle.afs_num.specs.declared.types.Fid.{Fid}
+use Rattle.afs_num.specs.declared.types.Head.{Head}
 use Rattle.afs_num.specs.declared.types.Key.{Key}
 use Rattle.afs_num.specs.declared.types.Node.{Node}
 use Rattle.afs_num.specs.declared.types.Node.TheVariants.{Server, Client}
@@ -14,7 +15,7 @@ use Rattle.afs_ideal.specs.Volumes.{Volume, Edit, versions_by}
 use Rattle.afs_law.specs.Breaks.{AllOwes, HasStopped, HasTimeout, EndedOf, EndedAll, GoodSettle, GoodQuit, live_grant, lines_at, HasOwe, last_number}
 use Rattle.afs_rows.specs.Going.{Going, Need, answers, asks_for, next, asked, gives_back, reads_rights}
 use Rattle.afs_law.specs.Grants.{is_promised, read_reply, GrantOf, since, until, IsWithdrawn, IsDropped}
-use Rattle.afs_law.specs.Ideal.{set_up, IsLast, WasLast, HasBeen, HasVersion, Accepts, clock_of, user_of, seen, change_in, change_key, call_under, volume_after}
+use Rattle.afs_law.specs.Ideal.{Unless, set_up, IsLast, WasLast, HasBeen, HasVersion, Accepts, clock_of, user_of, seen, change_in, change_key, call_under, volume_after}
 use Rattle.afs_history.specs.declared.lines.Line.{Line}
 use Rattle.afs_law.specs.Past.{lines_of, sent_of, given_message, answered_key, code_told, IsReply, running, has_begun, has_given, Called, CalledSince, IsCallUnder, IsUnheard, Ran}
 use Rattle.afs_rows.specs.Runs.{Entry}
@@ -327,7 +328,23 @@ pub record GoodCode (s : Script) (c : Node) (code : Code) (past : List Entry) (o
   pub runs : running s c (own ++ lines_of past) ≡ Some act
   pub cause : IsCaused c act code.0 past own ⊎ (IsDone c act code.0 past own ⊎ (IsDead c act code.0 past own ⊎ HasNothing c act code.0 own))
 
--- ---- replies that are sent
+-- ---- messages that are sent
+
+-- the client dropped the fid since it last began an act, by these lines, the newest first
+abbrev pub HasDropped : Node → Fid → List Line → Type 0
+HasDropped c f [] = ⊥
+HasDropped c f (lines.Drop m g ∷ older) = ((m ≡ c) × (g ≡ f)) ⊎ HasDropped c f older
+HasDropped c f (lines.Begin m act ∷ older) = Unless (same_node m c) (HasDropped c f older)
+HasDropped c f (l ∷ older) = HasDropped c f older
+
+abbrev pub AreDropped : Node → List Fid → List Line → Type 0
+AreDropped c [] ls = ⊤
+AreDropped c (f ∷ fs) ls = HasDropped c f ls × AreDropped c fs ls
+
+-- who tells that promises are given back dropped each of their fids in the same act
+abbrev pub GoodGift : Head → Carried → List Line → Type 0
+GoodGift head (carried.Call user (ask.File (calls.GiveUpCallBacks fids callbacks))) ls = AreDropped head.from fids ls
+GoodGift head c ls = ⊤
 
 -- A reply with code 0 of a server: every break is ended that the server owes in an entry that ran its key; and where that key
 -- changed something, every one on all. `past` begins with the entry that sends it
@@ -335,9 +352,9 @@ abbrev pub GoodReply : List Entry → Message → Type 0
 GoodReply past m = IsReply m → code_told m.carried ≡ Some (pos 0) → (i : ℕ) → m.head.from ≡ Server i
     → AllOwes m.head.from (EndedOf m.head.from (answered_key m.head) (clock_of (lines_of past))) past × (HasChange (answered_key m.head) (lines_of past) → AllOwes m.head.from (EndedAll m.head.from (clock_of (lines_of past))) past)
 
-abbrev pub AreGoodReplies : List Entry → List Message → Type 0
-AreGoodReplies past [] = ⊤
-AreGoodReplies past (m ∷ ms) = GoodReply past m × AreGoodReplies past ms
+abbrev pub AreGoodSent : List Entry → List Message → Type 0
+AreGoodSent past [] = ⊤
+AreGoodSent past (m ∷ ms) = (GoodReply past m × GoodGift m.head m.carried (lines_of past)) × AreGoodSent past ms
 
 -- ---- restarts
 
@@ -389,7 +406,7 @@ AreGood s who past own (l ∷ next) = IsGood s who l past own next × AreGood s 
 -- an entry lays no volumes, for the set-up alone does
 abbrev pub LegalAfter : Script → List Entry → List Entry → Type 0
 LegalAfter s past [] = ⊤
-LegalAfter s past (e ∷ es) = ((AreGood s e.actor past [] e.lines × AreGoodReplies (e ∷ past) e.sent) × (e.volumes ≡ [])) × LegalAfter s (e ∷ past) es
+LegalAfter s past (e ∷ es) = ((AreGood s e.actor past [] e.lines × AreGoodSent (e ∷ past) e.sent) × (e.volumes ≡ [])) × LegalAfter s (e ∷ past) es
 
 abbrev pub Legal : List Entry → Script → Type 0
 Legal history s = LegalAfter s (set_up s ∷ []) history
