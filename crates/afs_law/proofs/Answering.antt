@@ -485,7 +485,7 @@ takes_refused s c past n p act head code h d =
     let nz : is_zero_code code ≡ false = (neither _ _ d.answers.fits.0).0 in
     let held : ℕ = (h.floors n).held in
     moves s c past n (holding h.floors n held) (answers_step (Client n) (c.clients n) p code) h (client_ended s (c.clients n) (c.clients n).cache (h.own n) (h.own n).apart)
-    (tt, ((refl, good_code s c past n p act m code (lines.Given p ∷ []) h d refl (λ z. absurd (not_zero code nz z)) refl refl refl), tt))
+    (refl, ((refl, good_code s c past n p act m code (lines.Given p ∷ []) h d refl (λ z. absurd (not_zero code nz z)) refl refl refl), tt))
     (answered_passes s c past n p m code h d.heard)
     (ended_facts s c past n (c.clients n).cache held e h (h.clients n).holds (own_ended n (running s (Client n) (lines_of past)))
     (λ f u found lasts. let cur : IsCurrent n f u (view h.floors c n) past = (h.clients n).current f u found lasts in
@@ -505,7 +505,7 @@ takes_refused s c past n p act head code h d =
 -- the client calls again, with these promises to give back
 pub again_with : (s : Script) (c : Cell) (past : List Entry) (n p : ℕ) (gs : List Gift) (act : Going) (m : Message) → (h : Holds s c past) → AreGifts gs → AreDropped (Client n) (fids_of_gifts gs) (lines_of past) → Due c h.floors past n p act m → volume_changed (asked act) ≡ None → Goes s past (client_moves c n (calls_step (Client n) (with_gifts gs (c.clients n)) act (λ ls. lines.Given p ∷ ls)))
 again_with s c past n p gs act m h given gave d shut =
-    asks s c past n gs act (lines.Given p) h given refl gave ((h.own n).needs act d.running) (tt, tt) (told_passes s c past n p _ _ h d.heard) (λ g. told_file n p g (actors.Node (Client n)) _ past) (λ g. told_reach n p g (actors.Node (Client n)) _ past) (λ g o. (h.clients n).made act d.running g o (inl shut)) (λ b y. ap (λ (z : Going). volume_changed (asked z)) (some_of b act (sym y ∙ d.running)) ∙ shut) ((h.clients n).runs act d.running) (λ z. d.running)
+    asks s c past n gs act (lines.Given p) h given refl gave ((h.own n).needs act d.running) (refl, tt) (told_passes s c past n p _ _ h d.heard) (λ g. told_file n p g (actors.Node (Client n)) _ past) (λ g. told_reach n p g (actors.Node (Client n)) _ past) (λ g o. (h.clients n).made act d.running g o (inl shut)) (λ b y. ap (λ (z : Going). volume_changed (asked z)) (some_of b act (sym y ∙ d.running)) ∙ shut) ((h.clients n).runs act d.running) (λ z. d.running)
 
 -- as they are
 pub again_goes : (s : Script) (c : Cell) (past : List Entry) (n p : ℕ) (act : Going) (m : Message) → (h : Holds s c past) → Due c h.floors past n p act m → volume_changed (asked act) ≡ None → Goes s past (client_moves c n (calls_again (Client n) (c.clients n) p act))
@@ -581,7 +581,7 @@ fetched_walks s c past n p act m u body h d shut kind from shown a lt =
     } in
     record {
       good = λ tail g. (
-        tt,
+        refl,
         (
           (
             (refl, record { act = act; runs = (h.clients n).runs act d.running }),
@@ -849,7 +849,7 @@ pub record Reads (s : Script) (c : Cell) (past : List Entry) (n most : ℕ) (m :
 -- before the first
 reads_none : (s : Script) (c : Cell) (past : List Entry) (n p : ℕ) (act : Going) (m : Message) (at : Fid → ℕ) → (h : Holds s c past) → Due c h.floors past n p act m → volume_changed (asked act) ≡ None → Reads s c past n c.server.lasting.boot m at (lines.Given p ∷ []) act (c.clients n).cache
 reads_none s c past n p act m at h d shut = record {
-  good = λ tail g. (tt, g);
+  good = λ tail g. (refl, g);
   quiet = (tt, tt);
   runs = (h.clients n).runs act d.running;
   ready = λ g u found lasts.
@@ -1100,7 +1100,7 @@ takes_saved s c past n p act call f b i status m h d none not same told kept up 
     let cache : List CacheEntry = map (refreshed c.clock f i status b) (c.clients n).cache in
     let e : Entry = step_entry n (answered_lines n p zero_code) [] in
     moves s c past n (holding h.floors n held) (takes_stored (Client n) (c.clients n) c.clock p f i status b) h (client_ended s (c.clients n) cache (h.own n) (apart_refreshed c.clock f i status b (c.clients n).cache (h.own n).apart))
-    (tt, ((refl, good_code s c past n p act m zero_code (lines.Given p ∷ []) h d none (λ z. ends_for (next act) ((h.own n).needs act d.running) (subst IsNoRead (sym same.asks) same.unread)) refl refl refl), tt))
+    (refl, ((refl, good_code s c past n p act m zero_code (lines.Given p ∷ []) h d none (λ z. ends_for (next act) ((h.own n).needs act d.running) (subst IsNoRead (sym same.asks) same.unread)) refl refl refl), tt))
     (answered_passes s c past n p m zero_code h d.heard)
     (ended_facts s c past n cache held e h (h.clients n).holds (own_ended n (running s (Client n) (lines_of past)))
     (λ g u found lasts. stored_of (find_cached g (c.clients n).cache) s c past n p act call f g b m i status u e cache h d kept same told left (answered_file n n p zero_code past) (answered_reach n n p zero_code past f i up).seen
@@ -1125,7 +1125,7 @@ takes_other s c past n p act call m reply h d is ends sc =
     let held : ℕ = (h.floors n).held in
     let g : Ghost = holding h.floors n held in
     moves s c past n g (takes_plain (Client n) x p call) h (client_ended s x cache (h.own n) (apart_filter (λ y. not (is_in_scope call y.fid)) x.cache (h.own n).apart))
-    (tt, drops_good s n p act m past es (lines.Given p ∷ []) (λ own a b r. good_code s c past n p act m zero_code own h d (ap code_told is) (λ z. ends) a b r) refl refl refl)
+    (refl, drops_good s n p act m past es (lines.Given p ∷ []) (λ own a b r. good_code s c past n p act m zero_code own h d (ap code_told is) (λ z. ends) a b r) refl refl refl)
     (drop_passes s c past n (was_given p) zero_code es (heard_dull s c past p m h d.heard))
     (ended_facts s c past n cache held e h (h.clients n).holds (ended_running s n zero_code es (lines.Given p ∷ lines_of past))
     (λ k u found lasts.
@@ -1242,7 +1242,7 @@ rights_goes s c past n p act m f i release text h d not_refused asks fits =
     let same : goes_on (Client n) x front (walked (most_reads a) c.clock a cache) ≡ ends_step (Client n) x cache (λ ls. front (looked (Client n) [] ls)) zero_code = ap (goes_on (Client n) x front) (walked_done (most_reads a) c.clock a cache 0 done) ∙ ap (goes_by (Client n) x front (ClientRow.stays a cache)) done in
     subst (λ (st : Step ClientState). Goes s past (client_moves c n st)) (sym same)
     (moves s c past n g (record { state = ended x cache; lines = rights_lines n p f i text es; sent = [] }) h (client_ended s x cache (h.own n) (apart_filter (λ y. not (is_older f i release y)) x.cache (h.own n).apart)) (
-      tt,
+      refl,
       (
         (
           (refl, record { act = act; runs = (h.clients n).runs act d.running }),
@@ -1296,7 +1296,7 @@ resends_goes s c past n p act m boot h d le runs =
     let known : boot_of the_server x.boots ≡ boot = ap (λ (q : Node). boot_of the_server (with_boot q boot old.boots)) ((h.own n).callee act runs) ∙ boot_with the_server boot old.boots in
     let ms : List Message = call_message (Client n) x act ∷ [] in
     let e : Entry = step_entry n (lines.Given p ∷ []) ms in
-    moves s c past n (h.floors n) (resends_step (Client n) old p act boot) h kind (tt, tt) (told_passes s c past n p m ms h d)
+    moves s c past n (h.floors n) (resends_step (Client n) old p act boot) h kind (refl, tt) (told_passes s c past n p m ms h d)
     (subst (λ (k : ℕ). ClientFacts s n (record (view h.floors c n) { known = k }) (e ∷ past)) (sym known) (client_kept s c past n boot e h le (λ f. told_file n p f (actors.Node (Client n)) ms past) (λ f. told_reach n p f (actors.Node (Client n)) ms past) (told_act n p (actors.Node (Client n)) ms past) (λ f. refl)))
     (λ head call f. call_known (view h.floors c n) (boot_of the_server x.boots) head call f)
     (reply_still n (view h.floors c n) e past (λ f. told_file n p f (actors.Node (Client n)) ms past) (λ f. told_reach n p f (actors.Node (Client n)) ms past) (λ f. refl) refl)

@@ -239,7 +239,7 @@ call_known v boot head call f = record { behind = f.behind; booted = f.booted; s
 pub quiet : (s : Script) (c : Cell) (past : List Entry) (n p : ℕ) (m : Message) → Holds s c past → Heard c p m → Goes s past (client_moves c n (ignores (c.clients n) p))
 quiet s c past n p m h d =
     let e : Entry = step_entry n (lines.Given p ∷ []) [] in
-    moves s c past n (h.floors n) (ignores (c.clients n) p) h (h.own n) (tt, tt) (told_passes s c past n p m [] h d)
+    moves s c past n (h.floors n) (ignores (c.clients n) p) h (h.own n) (refl, tt) (told_passes s c past n p m [] h d)
     (client_still n (view h.floors c n) e past (λ f. told_file n p f (actors.Node (Client n)) [] past) (λ f. told_reach n p f (actors.Node (Client n)) [] past) (told_act n p (actors.Node (Client n)) [] past) (λ f. refl) (h.clients n))
     (λ head call f. f) (reply_still n (view h.floors c n) e past (λ f. told_file n p f (actors.Node (Client n)) [] past) (λ f. told_reach n p f (actors.Node (Client n)) [] past) (λ f. refl) refl) (nothing_new _ _) (λ a x z. inl x) refl (tried_kept n (c.clients n) _ (lines_of past) (lines.Given p ∷ []) refl refl refl refl (h.tried n))
 

@@ -849,8 +849,8 @@ stops_goes s c past None h e =
 stops_goes s c past (Some fall) h e = voids s c past h
 
 pub cut_good : (s : Script) (past : List Entry) (p : ℕ) (stops : Bool) → AreGood s (actors.Node the_server) past [] (lines.Given p ∷ blow_line stops ∷ [])
-cut_good s past p true = (tt, (refl, tt))
-cut_good s past p false = (tt, (refl, tt))
+cut_good s past p true = (refl, (refl, tt))
+cut_good s past p false = (refl, (refl, tt))
 
 pub cut_oweless : (p : ℕ) (stops : Bool) → all_lines is_oweless (lines.Given p ∷ blow_line stops ∷ []) ≡ true
 cut_oweless p true = refl

@@ -215,7 +215,7 @@ notice_fresh {s} c n views past boot head e = record {
 pub tells_goes : (s : Script) (c : Cell) (past : List Entry) (n p : ℕ) (m : Message) (ms : List Message) → (h : Holds s c past) → Heard c p m → ((e : Entry) → Plain e.lines → Fresh s c n (views_after h.floors c n (h.floors n) (c.clients n)) (e ∷ past) ms) → Goes s past (client_moves c n (told_step (c.clients n) p ms))
 tells_goes s c past n p m ms h heard fresh =
     let e : Entry = step_entry n (lines.Given p ∷ []) ms in
-    moves s c past n (h.floors n) (told_step (c.clients n) p ms) h (h.own n) (tt, tt) (told_passes s c past n p m ms h heard)
+    moves s c past n (h.floors n) (told_step (c.clients n) p ms) h (h.own n) (refl, tt) (told_passes s c past n p m ms h heard)
     (client_still n (view h.floors c n) e past (λ f. told_file n p f (actors.Node (Client n)) ms past) (λ f. told_reach n p f (actors.Node (Client n)) ms past) (told_act n p (actors.Node (Client n)) ms past) (λ f. refl) (h.clients n))
     (λ head call f. f) (reply_still n (view h.floors c n) e past (λ f. told_file n p f (actors.Node (Client n)) ms past) (λ f. told_reach n p f (actors.Node (Client n)) ms past) (λ f. refl) refl) (fresh e (record { up = refl; still = refl; oweless = refl; unchanging = refl })) (λ a x z. inl x) refl (tried_kept n (c.clients n) _ (lines_of past) (lines.Given p ∷ []) refl refl refl refl (h.tried n))
 
@@ -261,7 +261,7 @@ answers_back s c past n p head user call y h heard to from b is none =
     let e : Entry = step_entry n (lines.Given p ∷ []) ms in
     let seated : SeatedIn c.down c.server.backs.calls c.server.backs.last_call c.server.lasting.boot (e ∷ past) n reply = done_seated c n (e ∷ past) (c.clients n) head y is from to (handled s c past n head user call e h b to refl (λ w o z. absurd (none w z))) in
     let k = h.own n in
-    moves_back s c past n (h.floors n) (replies_step (c.clients n) p head [] y) h (record { table = k.table; user = k.user; callee = λ a z. k.callee a z; needs = λ a z. k.needs a z; apart = k.apart; gifts = k.gifts }) (tt, tt) (told_passes s c past n p _ ms h heard)
+    moves_back s c past n (h.floors n) (replies_step (c.clients n) p head [] y) h (record { table = k.table; user = k.user; callee = λ a z. k.callee a z; needs = λ a z. k.needs a z; apart = k.apart; gifts = k.gifts }) (refl, tt) (told_passes s c past n p _ ms h heard)
     (client_still n (view h.floors c n) e past (λ f. told_file n p f (actors.Node (Client n)) ms past) (λ f. told_reach n p f (actors.Node (Client n)) ms past) (told_act n p (actors.Node (Client n)) ms past) (λ f. refl) (h.clients n))
     (λ hd call f. f) (reply_still n (view h.floors c n) e past (λ f. told_file n p f (actors.Node (Client n)) ms past) (λ f. told_reach n p f (actors.Node (Client n)) ms past) (λ f. refl) refl) (reply_fresh c n _ (e ∷ past) reply seated) (λ a x z. inl x) (seat_keeps c n (e ∷ past) (c.clients n) head y from seated) (tried_kept n (c.clients n) _ (lines_of past) (lines.Given p ∷ []) refl refl refl refl (h.tried n))
 
@@ -438,7 +438,7 @@ drops_goes s c past n p head user fs cbs h heard to from b =
       };
     } in
     let seated : SeatedIn c.down c.server.backs.calls c.server.backs.last_call c.server.lasting.boot (e ∷ past) n reply = done_seated c n (e ∷ past) x head (done replies.CallBack) (λ y. y) from to (handled s c past n head user (calls.CallBack fs cbs) e h b to (skips n fs).ups (λ w o z. (skips n fs).drop w (lines.Given p ∷ o) z)) in
-    moves_back s c past n (h.floors n) st h (record { table = (h.own n).table; user = (h.own n).user; callee = λ a z. (h.own n).callee a z; needs = λ a z. (h.own n).needs a z; apart = apart_filter (λ y. not (is_named y.fid fs)) x.cache (h.own n).apart; gifts = (h.own n).gifts }) (tt, (skips n fs).good s past (lines.Given p ∷ [])) (broken_passes s c past n p _ fs (reply ∷ []) h heard)
+    moves_back s c past n (h.floors n) st h (record { table = (h.own n).table; user = (h.own n).user; callee = λ a z. (h.own n).callee a z; needs = λ a z. (h.own n).needs a z; apart = apart_filter (λ y. not (is_named y.fid fs)) x.cache (h.own n).apart; gifts = (h.own n).gifts }) (refl, (skips n fs).good s past (lines.Given p ∷ [])) (broken_passes s c past n p _ fs (reply ∷ []) h heard)
     (record {
       behind = d.behind;
       behind_durable = d.behind_durable;
@@ -571,7 +571,7 @@ drops_all_goes s c past n p head user h heard to from b =
       };
     } in
     let seated : SeatedIn c.down c.server.backs.calls c.server.backs.last_call c.server.lasting.boot (e ∷ past) n reply = done_seated c n (e ∷ past) x head (done replies.InitCallBackState) (λ y. y) from to (handled s c past n head user calls.InitCallBackState e h b to refl (λ w o z. inl (refl, from))) in
-    moves_back s c past n (h.floors n) st h (record { table = (h.own n).table; user = (h.own n).user; callee = λ a z. (h.own n).callee a z; needs = λ a z. (h.own n).needs a z; apart = apart_filter (λ y. not (same_node y.server head.from)) x.cache (h.own n).apart; gifts = (h.own n).gifts }) (tt, (refl, tt)) (all_passes s c past n p _ head.from (reply ∷ []) h heard)
+    moves_back s c past n (h.floors n) st h (record { table = (h.own n).table; user = (h.own n).user; callee = λ a z. (h.own n).callee a z; needs = λ a z. (h.own n).needs a z; apart = apart_filter (λ y. not (same_node y.server head.from)) x.cache (h.own n).apart; gifts = (h.own n).gifts }) (refl, (refl, tt)) (all_passes s c past n p _ head.from (reply ∷ []) h heard)
     (record {
       behind = d.behind;
       behind_durable = d.behind_durable;

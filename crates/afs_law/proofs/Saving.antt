@@ -978,7 +978,7 @@ saves_by_turn s c past armed p n h user call id st es shown H up at w q =
     let pump : Pumps c.server.lasting.boot (seats_after c n h r) (seats_of c) c.clock c.sent (e ∷ past) t = pumps c.server.lasting.boot (seats_after c n h r) (seats_of c) c.clock c.sent e past t refl (saves_clock y k vs r past ∙ H.clock) loads (record { good = tt; calls = tt; dones = tt }) in
     record {
       good = (
-        tt,
+        refl,
         (
           (
             refl,

@@ -180,7 +180,7 @@ quiet s c past armed p m t h up at dull notes good turns loads =
     let rest : Rests s e past = told_rests s p t.lines ms past k in
     let pump : Pumps c.server.lasting.boot c.server.seats (seats_of c) c.clock c.sent (e ∷ past) t = let l = loads e refl in pumps c.server.lasting.boot c.server.seats (seats_of c) c.clock c.sent e past t refl (k.clock _ ∙ h.clock) l.backed l.sends in
     record {
-      good = (tt, good);
+      good = (refl, good);
       replies = pump.good;
       volumes = refl;
       holds = noted s (Some c.server.lasting.boot) c past armed None e (pumped the_server c.server.lasting.boot t).backs h (k.boot _ ∙ up_boots s c past h up) rest (k.clock _)
@@ -677,7 +677,7 @@ refuses_goes s c past armed p n h user call code H up at w nz result =
     let e : Entry = record { actor = actors.Node the_server; lines = lines.Given p ∷ []; sent = ms; volumes = [] } in
     let pump : Pumps c.server.lasting.boot (seats_after c n h r) (seats_of c) c.clock c.sent (e ∷ past) t = pumps c.server.lasting.boot (seats_after c n h r) (seats_of c) c.clock c.sent e past t refl H.clock (run_backed s c past n h user call x e (expired c.clock c.server.backs).lists.promises H up w (λ y. y) refl refl refl (granted_over e past (expired c.clock c.server.backs).lists.promises refl ((up_backed s c past H up).granted refl)) ((up_backed s c past H up).clients refl).promised (promised_over None (expired c.clock c.server.backs).lists.promises c.clock c.clock e past refl (le_refl _) (up_backed s c past H up).promised)) (record { good = tt; calls = tt; dones = tt }) in
     record {
-      good = (tt, tt);
+      good = (refl, tt);
       holds = serves false s (Some c.server.lasting.boot) c past n h user call x e (stock c.server) (pumped the_server c.server.lasting.boot t).backs None armed H w
           (serves_still s c past n h user call x e H w (λ j f. told_file j p f (actors.Node the_server) ms past) (λ j f. told_reach j p f (actors.Node the_server) ms past) (λ j. told_act j p (actors.Node the_server) ms past) (λ f. refl) H.ideal H.home H.new H.clock H.top H.one (λ y. y)
           (record {
@@ -999,7 +999,7 @@ shows_by s c past armed p n h user call r H up at w is code done =
     (granted_to_client t n fs (without_promises (Client n) r.given_up ps) (gone_to_clients (Client n) r.given_up ps (B.clients refl).promised))
     (all_promised (Client n) t c.clock fs (lines.Given p ∷ before_own e past) (without_promises (Client n) r.given_up ps) given)) (record { good = tt; calls = tt; dones = tt }) in
     record {
-      good = (tt, granted_good s past (lines.Given p ∷ []) (Client n) t fs);
+      good = (refl, granted_good s past (lines.Given p ∷ []) (Client n) t fs);
       holds = serves false s (Some c.server.lasting.boot) c past n h user call z e (stock c.server) (pumped the_server c.server.lasting.boot turn).backs None armed H w
           (serves_still s c past n h user call z e H w rest.file rest.reach rest.act (λ g. rest.last g (lines_of past)) (λ id. H.ideal id ∙ sym (rest.ideal id)) (λ id v found. rest.home id (lines_of past) (H.home id v found)) (λ key above. rest.new key (lines_of past) (H.new key above)) (k.clock (lines.Given p ∷ lines_of past) ∙ H.clock)
           (λ f i b x. subst (λ (o : Option Version). i ≤ index_in o) (sym (rest.last f (lines_of past))) (H.top f i b (rest.back f i b (lines_of past) x))) (λ f i a b x y. H.one f i a b (rest.back f i a (lines_of past) x) (rest.back f i b (lines_of past) y)) (λ y. y)

@@ -285,7 +285,7 @@ counted_wrong h = apart_numbers 2 1 refl h.1.1.1.0.0.0.1.0.1.number
 
 -- a version under no change
 abbrev no_change : Line → Line
-no_change (lines.Change s k n) = lines.Given 3
+no_change (lines.Change s k n) = lines.Fail s 1
 no_change l = l
 
 unchanged : Legal (six_by 3 (by_lines no_change)) (script 2) → ⊥

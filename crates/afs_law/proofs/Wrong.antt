@@ -340,3 +340,9 @@ read_when_gone h = h.1.1.1.1.1.1.1.0.0.0.1.0.1.whole.0
 gave_back_and_kept : Legal (alters 3 (λ e. record e { lines = lines.Begin (Client 1) acts.GiveUp ∷ [] }) (entries (start (script 1)) (begins 1 (acts.Open (operands.Fid file)) ∷ gives 1 steady ∷ gives 2 steady ∷ begins 1 acts.GiveUp ∷ []))) (script 1) → ⊥
 unfolding moved begin_row client_row server_row back_timeout_row wake_row start_row record_bytes head_form volume_form spelled opaque pad word laid_at led name_ok directory_bytes name_bytes rights_of image acl_text digits entry_text directory_of names_at opaque_at word_at counted_at whole_at count_at name_at spelled_at bytes_below
 gave_back_and_kept h = h.1.1.1.0.0.1.0.1.0
+
+-- ---- an entry is given one message
+
+given_two : Legal (alters 2 (instead (lines.Given 2 ∷ lines.Given 2 ∷ [])) (entries (start (script 1)) (begins 1 (acts.Open (operands.Fid file)) ∷ gives 1 steady ∷ gives 2 steady ∷ []))) (script 1) → ⊥
+unfolding moved begin_row client_row server_row back_timeout_row wake_row start_row record_bytes head_form volume_form spelled opaque pad word laid_at led name_ok directory_bytes name_bytes rights_of image acl_text digits entry_text directory_of names_at opaque_at word_at counted_at whole_at count_at name_at spelled_at bytes_below
+given_two h = let e : true ≡ false = h.1.1.0.0.0.1.0 in absurd cc

@@ -374,11 +374,11 @@ abbrev pub IsOfServer : Actor → Node → Type 0
 IsOfServer who (Server i) = who ≡ actors.Node (Server i)
 IsOfServer who n = ⊥
 
--- Each line stands in an entry of its own node: a begin, a read, an answer, a drop in one of its client, a change, a grant, a
+-- An entry is given one message at most, and each line stands in an entry of its own node: a begin, a read, an answer, a drop in one of its client, a change, a grant, a
 -- break in one of its server, a tick in the clock's, and that nothing happened in nobody's
 abbrev pub IsGood : Script → Actor → Line → List Entry → List Line → List Line → Type 0
 IsGood s who (lines.Begin c act) past own next = IsOfClient who c
-IsGood s who (lines.Given place) past own next = ⊤
+IsGood s who (lines.Given place) past own next = has_given own ≡ false
 IsGood s who (lines.Grant server c f index expiry) past own next = IsOfServer who server
 IsGood s who (lines.Change server k count) past own next = IsOfServer who server × GoodChange s server k count past own next
 IsGood s who (lines.Version v) past own next = IsUnderChange own
