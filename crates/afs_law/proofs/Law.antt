@@ -21,8 +21,8 @@ use Rattle.afs_history.specs.declared.lines.Line.{Line}
 use Rattle.afs_law.specs.OneServer.{AreAtServer, IsOneServer}
 use Rattle.afs_law.specs.Past.{running, onto, lines_of, given_message, IsCallUnder}
 use Rattle.afs_rows.specs.Runs.{locations_in, location_by, Entry, message_at, Armed, Fall, Luck, first_volume, first_volumes, unless_there, counts_later}
-use Rattle.afs_law.proofs.OneCell.{the_server, Cell, Moved, waits, ticks, client_stops, client_starts, stops, starts_again, sets_stop, sets_fail, server_armed, Input, begins, gives, nothing, moved, given_to, given_at, Leads, start, RunsTo, server_waits, wakes}
-use Rattle.std.proofs.Common.{find, ◌≡◌, ℕ, ◌+◌, ◌≤◌, ◌⊎◌, inl, inr, Bool, true, false, cond, nat_eq, List, [], ◌∷◌, ◌++◌, Option, Some, None, refl, sym, ap, subst, ◌∙◌, arith, eqb-true, eqb, eq-eqb, le_of_eq}
+use Rattle.afs_law.proofs.OneCell.{is_away, the_server, Cell, Moved, waits, ticks, client_stops, client_starts, stops, starts_again, sets_stop, sets_fail, server_armed, Input, begins, gives, nothing, moved, given_to, given_at, Leads, start, RunsTo, server_waits, wakes}
+use Rattle.std.proofs.Common.{zero, suc, find, ◌≡◌, ℕ, ◌+◌, ◌≤◌, ◌⊎◌, inl, inr, Bool, true, false, cond, nat_eq, List, [], ◌∷◌, ◌++◌, Option, Some, None, refl, sym, ap, subst, ◌∙◌, arith, eqb-true, eqb, eq-eqb, le_of_eq}
 use Rattle.std.specs.Prelude.{is_some, ⊤}
 use Rattle.afs_num.specs.Fids.{same_fid}
 use Rattle.afs_num.specs.declared.types.Fid.{Fid}
@@ -51,7 +51,7 @@ either s c past false m k a b = b
 
 pub to_goes : (s : Script) (c : Cell) (past : List Entry) (p : ℕ) (luck : Luck) (m : Message) (to : Node) → Holds s c past → message_at c.sent p ≡ Some m → m.head.to ≡ to → Goes s past (given_to c p luck m to)
 to_goes s c past p luck m (Server n) h at to = either s c past (nat_eq n 1) _ _ (given_goes s c past p luck m c.down n h refl at to) (voids s c past h)
-to_goes s c past p luck m (Client n) h at to = either s c past (c.away n) _ _ (voids s c past h) (client_goes s c past n p m h at to)
+to_goes s c past p luck m (Client n) h at to = either s c past (is_away c n) _ _ (voids s c past h) (client_goes s c past n p m h at to)
 to_goes s c past p luck m Loc h at to = voids s c past h
 to_goes s c past p luck m (Admin n) h at to = voids s c past h
 
@@ -69,11 +69,12 @@ fail_goes s c past n armed (Some fall) h up = voids s c past h
 
 pub goes : (s : Script) (c : Cell) (past : List Entry) (x : Input) → Holds s c past → Goes s past (moved c x)
 unfolding moved
-goes s c past (begins n act) h = either s c past (c.away n) _ _ (voids s c past h) (begun_goes s c past n act (c.clients n).running h refl)
+goes s c past (begins n act) h = either s c past (is_away c n) _ _ (voids s c past h) (begun_goes s c past n act (c.clients n).running h refl)
 goes s c past (gives p luck) h = at_goes s c past p luck (message_at c.sent p) h refl
-goes s c past (waits n) h = either s c past (c.away n) _ _ (voids s c past h) (waits_goes s c past n (c.clients n).running h refl)
-goes s c past (ticks n) h = ticks_goes s c past n h
-goes s c past (client_stops n) h = either s c past (c.away n) _ _ (voids s c past h) (client_stops_goes s c past n h)
+goes s c past (waits n) h = either s c past (is_away c n) _ _ (voids s c past h) (waits_goes s c past n (c.clients n).running h refl)
+goes s c past (ticks zero) h = voids s c past h
+goes s c past (ticks (suc n)) h = ticks_goes s c past (suc n) h
+goes s c past (client_stops n) h = either s c past (is_away c n) _ _ (voids s c past h) (client_stops_goes s c past n h)
 goes s c past (client_starts n) h = either s c past (c.away n) _ _ (client_starts_goes s c past n h) (voids s c past h)
 goes s c past stops h = stops_goes s c past c.down h refl
 goes s c past (starts_again after o) h = restarts_goes s c past after o c.down h refl
