@@ -13,7 +13,7 @@ use Rattle.afs_ideal.specs.Volumes.{Volume, Edit, versions_by, vnode_of}
 use Rattle.afs_law.proofs.Backing.{Plain, all_lines, is_still, is_oweless, backed_fall, granted_over, change_back, no_owe, promised_over, plain_waits}
 use Rattle.afs_law.proofs.Basics.{kept_last, not_above, runs_above, Below, Above, Each, IfCall, IfNotice, if_notice, by_server, IfDone, ByClient, OfClient, client_any, same_node-true, below_not, up_to_same, OfCall, each_map, each_at, if_call, some_of}
 use Rattle.afs_law.proofs.Edits.{on_top, SoundIn}
-use Rattle.afs_law.proofs.Facts.{is_passing, HeldIn, ToClient, Ghost, HoldsAt, server_boot, up_boot, risen, IsActs, View, view, Spot, spot, ReplyFact, AreKept, HasFallen, IsCut, Fits, Answers, KeptReply, ClientFacts, CallFact, CallIn, Origin, AreUnheard, Holds, Goes, IsNoticed, IsOne, its_call}
+use Rattle.afs_law.proofs.Facts.{is_passing, HeldIn, ToClient, Ghost, HoldsAt, up_boot, IsActs, View, view, Spot, spot, ReplyFact, AreKept, HasFallen, IsCut, Fits, Answers, KeptReply, ClientFacts, CallFact, CallIn, Origin, AreUnheard, Holds, Goes, IsNoticed, IsOne, its_call}
 use Rattle.afs_law.proofs.Loading.{is_tickless, down_later, resent, rise_loaded, run_loaded, no_change, all_waited, quits_good, quits_backed, retries_backed, all_owed, alls_good, all_clients, own_waited}
 use Rattle.afs_law.proofs.Notes.{AreNotes, Skips, skips, told_entry, risen_entry, risen_rests, owe_notes, quit_notes}
 use Rattle.afs_law.proofs.Ops.{rights_of_directory, IsShown, reads_is, op_code, op_is, IsFoundAs, changes_is}
@@ -22,7 +22,7 @@ use Rattle.afs_law.proofs.Passing.{ran_over, kept_over, replies_over, waiting_ov
 use Rattle.afs_law.proofs.Pumping.{no_news, pumped_news, starts_held, news_break}
 use Rattle.afs_law.proofs.Resting.{fall_backed, Rests, fault_rests, full_rests, alone, rests, still, voids, unheard_still, fallen_still, server_crash_rests, cut_entry, cut_rests}
 use Rattle.afs_law.proofs.Saving.{versions_lines, versioned_front, saves_clock, Way, rises_to, faults, fills, saved_lines, saved_sent, saved_entry, given_on, Change', change_at, stock_after, NewEntry, saves_change_good, saves_holds, versions_good, saves_boot, saves_goes, top_number, reply_saved}
-use Rattle.afs_law.proofs.Serving.{shows_goes, answered_goes, noticed_goes, nothing_done, quiet, acts_alone, still_loads, given_plain, Loads, up_backed, seats_of, Gives, noted, Dull, at_told, client_head, Now, call_at, taken, seats_after, views_after, ran_now, served_cell, unheard_later, refuses_goes, server_adds, server_does, IsRead, answer_in, AllSeen, IsSeen, IsLook}
+use Rattle.afs_law.proofs.Serving.{up_boots, shows_goes, answered_goes, noticed_goes, nothing_done, quiet, acts_alone, still_loads, given_plain, Loads, up_backed, seats_of, Gives, noted, Dull, at_told, client_head, Now, call_at, taken, seats_after, views_after, ran_now, served_cell, unheard_later, refuses_goes, server_adds, server_does, IsRead, answer_in, AllSeen, IsSeen, IsLook}
 use Rattle.afs_law.proofs.Turning.{Pumps, pumps, put_call, break_good, reply_key}
 use Rattle.afs_law.specs.Breaks.{HasStopped, last_number, AllOwes}
 use Rattle.afs_rows.specs.Callbacks.{retries, quits, Turn, replies_of, pumped, expired, turn_for, no_turn, repeats_by, key_answered, is_seat_of, alls, put_at, held_under, asked_again, is_ready, is_reply_to}
@@ -30,7 +30,7 @@ use Rattle.afs_rows.specs.ClientRow.{boot_of}
 use Rattle.afs_law.specs.Ideal.{clock_of, volume_after}
 use Rattle.afs_law.specs.Legal.{EndsBoot, IsChanging, RanBefore, code_given, AreGood, IsNew, HasChange, versions_first, IsTold, answer_at, answer_on, GoodRestart, op_on, all_on, statuses_on}
 use Rattle.afs_history.specs.declared.lines.Line.{Line}
-use Rattle.afs_law.specs.Past.{onto, lines_of, sent_of, given_message, called_key, IsCallUnder}
+use Rattle.afs_law.specs.Past.{risen, server_boot, onto, lines_of, sent_of, given_message, called_key, IsCallUnder}
 use Rattle.afs_rows.specs.Runs.{Entry, message_at, Armed, unarmed, Luck, Blow, struck, lowered, Fall, at_rest, in_step, in_boot, settled, Outcome, comes_up, fails_early, fails_midway, is_full}
 use Rattle.afs_law.proofs.OneCell.{begun_by_disk, Cell, server_rises, server_ends, server_falls, blow_line, server_stopped, server_restarted, server_served, server_given, back_timed, server_timed, server_wakes, Moved, server_moves, the_server}
 use Rattle.afs_rows.specs.ServerRow.{begun_after, begun_before, not_served, serves_call, shows, Reading, no_room, revived, device_calls, promise_ticks, decides, Decision, drops, tells_boot, repeats, refuses, saves, admits, called, hears, boot_told, versioned, Change, decided, in_volume, with_volume, Sight, lasting_started, sights, reading_in, seat_placed, sight_by, sight_in, no_volume, several, saved}
@@ -745,7 +745,7 @@ ran_before c past n h user call vs ls cut boots = record {
   older = cut.ran.older;
   split = cut.ran.split;
   actor = cut.ran.node ∙ ap (λ (m : Message). actors.Node m.head.to) cut.is;
-  ran = record { boot = c.server.lasting.boot; given = subst (IsCallUnder the_server (called_key (client_head n h)) c.server.lasting.boot) (sym cut.ran.given) ((cut.ran.is_call, cut.ran.callee), (cut.ran.key, cut.ran.boot)); first = cut.ran.first };
+  ran = record { boot = c.server.lasting.boot; up = cut.up; given = subst (IsCallUnder the_server (called_key (client_head n h)) c.server.lasting.boot) (sym cut.ran.given) ((cut.ran.is_call, cut.ran.callee), (cut.ran.key, cut.ran.boot)); first = cut.ran.first };
   stopped = cut.stopped;
   since = cut.since;
 }
@@ -763,7 +763,7 @@ pub after_holds : (y : Way) (s : Script) (now : Option ℕ) (c : Cell) (past : L
     → (now ≡ None → BackedIn (Some fall) after c.server.lasting.boot (seats_after c n h (reply_saved c (client_head n h) time user call id st es shown)) (seats_of c) c.clock (c.sent ++ saved_sent y (reply_saved c (client_head n h) time user call id st es shown)) (NewEntry y n h (versions_by id es st.volume) (reply_saved c (client_head n h) time user call id st es shown) ∷ past))
     → HoldsAt s now (served_cell true c n h (reply_saved c (client_head n h) time user call id st es shown) (stock_after c (client_head n h) time (change_at id user call st es shown)) after (Some fall) unarmed (saved_sent y (reply_saved c (client_head n h) time user call id st es shown))) (NewEntry y n h (versions_by id es st.volume) (reply_saved c (client_head n h) time user call id st es shown) ∷ past)
 after_holds y s now c past after fall n h user call time id st es shown H w q is_cut none fallen boots gives backs =
-    saves_holds y s now c past after unarmed (Some fall) n h user call time id st es shown H w q (record { ran = ran_over _ _ past is_cut.ran; is = is_cut.is; ideal = is_cut.ideal }) boots
+    saves_holds y s now c past after unarmed (Some fall) n h user call time id st es shown H w q (record { ran = ran_over _ _ past is_cut.ran; is = is_cut.is; up = is_cut.up; ideal = is_cut.ideal }) boots
     (λ k x l. (λ z. subst (λ (o : Option Message). IsCallUnder the_server k x o) none z, unheard_later c.down c.server.seats c.server.lasting.boot past H.unheard k x l)) (fallen _ _ _) gives backs
 
 saved_up : (s : Script) (c : Cell) (past : List Entry) (fall : Fall) (n : ℕ) (h : Head) (user : List ℕ) (call : FsCall) (time id : ℕ) (st : Stored) (es : List Edit) (shown : ℕ) → (H : Holds s c past) → c.down ≡ Some fall → Now s c H.floors past n h user call → Change' c past user call id st.volume es shown
@@ -888,7 +888,7 @@ cuts_saved s c past p n h user call stops H up at w =
       volumes = refl;
       holds = still s None (record c { down = Some (in_step m c.clock); armed = unarmed }) (e ∷ past) (rests s None c past e 0 (Some (in_step m c.clock)) unarmed H (cut_boot p stops (lines_of past)) refl (cut_rests s p stops past) (cut_clock p stops (lines_of past))
           (λ k b l. (λ x. let x' : IsCallUnder the_server k b (Some m) = subst (λ (o : Option Message). IsCallUnder the_server k b o) (at_told s c past p m H at) x in let is : h.boot ≡ b = x'.1.1 in absurd (omega arith), unheard_later c.down c.server.seats c.server.lasting.boot past H.unheard k b l))
-          (record { place = p; at = at; ran = ran_now s c past p n h user call e H up at w refl refl; is = refl; stopped = cut_stopped p stops; since = tt; ideal = H.ideal }) (λ z. fall_backed s c past e (in_step m c.clock) (cut_oweless p stops) (cut_still p stops) (λ u o. cut_stops p stops o) H));
+          (record { place = p; at = at; ran = ran_now s c past p n h user call e H up at w refl refl; is = refl; up = up_boots s c past H up; stopped = cut_stopped p stops; since = tt; ideal = H.ideal }) (λ z. fall_backed s c past e (in_step m c.clock) (cut_oweless p stops) (cut_still p stops) (λ u o. cut_stops p stops o) H));
     }
 
 abbrev pub IsSave : Decision → Type 0

@@ -9,7 +9,7 @@ use Rattle.afs_law.proofs.Passing.{was_onto}
 use Rattle.afs_law.proofs.Apart.{apart_filter, found_filter}
 use Rattle.afs_law.proofs.Asking.{Passes, Fresh, KeepsSeat, moves_back, moves, old_seat, step_entry, view_after, views_after, Heard, heard_dull, told_passes, quiet, reply_still, safe_cache}
 use Rattle.afs_law.proofs.Basics.{own_seat, same_node-refl, same_fid-true, same_fid-refl, client_number, OfClient, OfServer, ByClient, ByServer, by_server, server_any, LastSeat, some_of, kept_last}
-use Rattle.afs_law.proofs.Facts.{IsReply, IsFetched, FitsShown, back_seat, IsKnown, View, view, Spot, spot, Fits, ReplyFact, IsAged, IsLastCall, CallIn, Origin, IsActs, ToClient, server_boot, Holds, Goes, FitsData, FitsSet, FitsReply, IsOne}
+use Rattle.afs_law.proofs.Facts.{IsReply, IsFetched, FitsShown, back_seat, IsKnown, View, view, Spot, spot, Fits, ReplyFact, IsAged, IsLastCall, CallIn, Origin, IsActs, ToClient, Holds, Goes, FitsData, FitsSet, FitsReply, IsOne}
 use Rattle.afs_law.proofs.Passing.{old_over, old_within, whole_over, body_kept, PassesGrant, PassesFile, PassesReach, current_over, stands_over, stays, kept_over, grant_over, cause_over, onto_front, client_still}
 use Rattle.afs_model.specs.Calls.{call_seat, call_seated, Admitted}
 use Rattle.afs_num.specs.declared.histories.ReadStatus.{ReadStatus}
@@ -28,7 +28,7 @@ use Rattle.afs_law.specs.Grants.{has_fetched, IsWithdrawn, IsDropped, since}
 use Rattle.afs_law.specs.Ideal.{last_version, HasVersion, Accepts, clock_of, reach, Reach, reach_over, change_key, changed_under, volume_after}
 use Rattle.afs_law.specs.Legal.{IsNew, AreGood, GoodReply, as_asked}
 use Rattle.afs_history.specs.declared.lines.Line.{Line}
-use Rattle.afs_law.specs.Past.{onto, lines_of, sent_of, running, has_begun}
+use Rattle.afs_law.specs.Past.{server_boot, onto, lines_of, sent_of, running, has_begun}
 use Rattle.afs_rows.specs.Runs.{Entry}
 use Rattle.afs_law.proofs.OneCell.{the_server, Cell, client_moves}
 use Rattle.afs_rows.specs.States.{CacheEntry, Seat}

@@ -13,7 +13,7 @@ use Rattle.afs_law.specs.Ideal.{last_version, IsLast, WasLast, HasBeen, HasVersi
 use Rattle.afs_law.specs.Breaks.{HasStopped, HasTimeout}
 use Rattle.afs_law.specs.Legal.{AreDropped, AreFailed, IsThere, IsNew, Cause, AreGood, AreGoodSent, as_asked}
 use Rattle.afs_history.specs.declared.lines.Line.{Line}
-use Rattle.afs_law.specs.Past.{is_of_act, lines_of, sent_of, called_key, running, Called, CalledSince, IsUnheard, Ran}
+use Rattle.afs_law.specs.Past.{server_boot, is_of_act, lines_of, sent_of, called_key, running, Called, CalledSince, IsUnheard, Ran}
 use Rattle.afs_rows.specs.Runs.{locations, Entry, Fall, at_rest, in_step, in_boot, message_at}
 use Rattle.afs_law.proofs.OneCell.{the_server, Cell, Moved}
 use Rattle.afs_rows.specs.Scopes.{is_in_scope}
@@ -170,18 +170,7 @@ pub record Reached (c : Node) (f : Fid) (index : ℕ) (past : List Entry) : Type
 abbrev pub Seen : ℕ → Fid → ℕ → List Entry → Type 0
 Seen j f index past = (reach (Client j) f past).seen ≤ index
 
--- ---- the boot of the server, by its lines: none while it is down
-
-abbrev pub risen : Option ℕ → ℕ → Option ℕ
-risen None boot = Some boot
-risen (Some old) boot = Some old
-
-abbrev pub server_boot : Node → List Line → Option ℕ
-server_boot s [] = Some 1
-server_boot s (lines.Crash n ∷ older) = if same_node n s then None else server_boot s older
-server_boot s (lines.Fault n ∷ older) = if same_node n s then None else server_boot s older
-server_boot s (lines.Restart n boot ∷ older) = if same_node n s then risen (server_boot s older) boot else server_boot s older
-server_boot s (l ∷ older) = server_boot s older
+-- ---- the boot of the server: none while it is down
 
 abbrev pub up_boot : Option Fall → ℕ → Option ℕ
 up_boot None boot = Some boot
@@ -615,6 +604,7 @@ pub record IsCut (kept : Lasting) (sent : List Message) (m : Message) (past : Li
   pub at : message_at sent place ≡ Some m
   pub ran : Ran (reply_head kept.boot m.head) past
   pub is : ran.message ≡ m
+  pub up : server_boot the_server (lines_of ran.older) ≡ Some kept.boot
   pub stopped : HasStopped the_server ran.at.lines
   pub since : AreFailed the_server ran.newer
   pub ideal : AreIdeal kept.volumes ran.older

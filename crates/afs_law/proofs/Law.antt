@@ -10,7 +10,7 @@ use Rattle.afs_law.proofs.Backing.{all_lines, is_oweless, no_owe, is_still, live
 use Rattle.afs_law.proofs.Basics.{same_fid-refl, same_fid-true, some_of, both}
 use Rattle.afs_law.proofs.Deciding.{server_times, server_wakes_goes, given_goes, stops_goes, restarts_goes}
 use Rattle.afs_law.proofs.Edits.{one_more, Ones, index_in, fid_at, live, SoundIn, sound_same, Tops, get-set, none_has}
-use Rattle.afs_law.proofs.Facts.{IsFine, server_boot, Reached, Holds, Goes}
+use Rattle.afs_law.proofs.Facts.{IsFine, Reached, Holds, Goes}
 use Rattle.afs_law.proofs.Naming.{first_fine}
 use Rattle.afs_law.proofs.Resting.{voids, ticks_goes, stop_set, fail_set}
 use Rattle.afs_law.proofs.Waiting.{waits_goes, client_stops_goes, client_starts_goes}
@@ -19,7 +19,7 @@ use Rattle.afs_law.specs.Ideal.{first_told, last_version, HasVersion, Accepts, c
 use Rattle.afs_law.specs.Legal.{IsNew, LegalAfter, Legal}
 use Rattle.afs_history.specs.declared.lines.Line.{Line}
 use Rattle.afs_law.specs.OneServer.{AreAtServer, IsOneServer}
-use Rattle.afs_law.specs.Past.{running, onto, lines_of, given_message, IsCallUnder}
+use Rattle.afs_law.specs.Past.{server_boot, running, onto, lines_of, given_message, IsCallUnder}
 use Rattle.afs_rows.specs.Runs.{locations_in, location_by, Entry, message_at, Armed, Fall, Luck, first_volume, first_volumes, unless_there, counts_later}
 use Rattle.afs_law.proofs.OneCell.{is_away, the_server, Cell, Moved, waits, ticks, client_stops, client_starts, stops, starts_again, sets_stop, sets_fail, server_armed, Input, begins, gives, nothing, moved, given_to, given_at, Leads, start, RunsTo, server_waits, wakes}
 use Rattle.std.proofs.Common.{zero, suc, find, ◌≡◌, ℕ, ◌+◌, ◌≤◌, ◌⊎◌, inl, inr, Bool, true, false, cond, nat_eq, List, [], ◌∷◌, ◌++◌, Option, Some, None, refl, sym, ap, subst, ◌∙◌, arith, eqb-true, eqb, eq-eqb, le_of_eq}

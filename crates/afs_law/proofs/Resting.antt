@@ -11,7 +11,7 @@ use Rattle.afs_num.specs.declared.histories.Body.{Body}
 use Rattle.afs_law.proofs.Backing.{Plain, all_lines, is_up, is_still, is_oweless, is_unchanging, backed_plain, backed_fall, plain_step, seated_over}
 use Rattle.afs_law.proofs.Basics.{Each, IfCall, each_map, if_call}
 use Rattle.afs_law.proofs.Edits.{index_in, fid_at, sound_same}
-use Rattle.afs_law.proofs.Facts.{IsKnown, HoldsAt, server_boot, up_boot, IsLastCall, View, view, ClientFacts, IsSafe, CallIn, HasFallen, AreUnheard, Holds, Goes, back_seat}
+use Rattle.afs_law.proofs.Facts.{IsKnown, HoldsAt, up_boot, IsLastCall, View, view, ClientFacts, IsSafe, CallIn, HasFallen, AreUnheard, Holds, Goes, back_seat}
 use Rattle.afs_law.proofs.Owing.{BackedIn}
 use Rattle.afs_law.proofs.Passing.{tried_more, waiting_over, PassesFile, PassesAct, PassesReach, client_still, replies_over, reply_over, stays, acts_over, fallen_over, older_origins}
 use Rattle.afs_law.specs.Breaks.{HasStopped}
@@ -20,7 +20,7 @@ use Rattle.afs_rows.specs.Going.{Going}
 use Rattle.afs_law.specs.Ideal.{last_version, HasVersion, Accepts, clock_of, volume_after}
 use Rattle.afs_law.specs.Legal.{IsNew}
 use Rattle.afs_history.specs.declared.lines.Line.{Line}
-use Rattle.afs_law.specs.Past.{onto, lines_of, sent_of, given_message, IsCallUnder}
+use Rattle.afs_law.specs.Past.{server_boot, onto, lines_of, sent_of, given_message, IsCallUnder}
 use Rattle.afs_rows.specs.Runs.{Entry, Armed, Fall}
 use Rattle.afs_law.proofs.OneCell.{Cell, voided, ticked, server_set, blow_line, the_server}
 use Rattle.afs_rows.specs.States.{CacheEntry}

@@ -13,7 +13,7 @@ use Rattle.afs_ideal.specs.Volumes.{or_old, with_status, Amend, Volume, Vnode, K
 use Rattle.afs_law.proofs.Backing.{is_still_to, all_lines, is_up, is_still, is_oweless, is_unchanging, change_back, promised_given, rising_back}
 use Rattle.afs_law.proofs.Basics.{node_apart, Above, up_to_by, same_fid-true, same_node-true, client_number, below_not, up_to_same, raised_up_to, some_of, yes_no}
 use Rattle.afs_law.proofs.Edits.{agrees_of, last_of, ones, Ones, index_in, fid_at, Sound, SoundIn, sound_same, Tops, on_top, Grow, Told, edits_told, counted_sound, rises, tops, touches, untouched, touched_volume, not_touched, there, none_has, live, live_is}
-use Rattle.afs_law.proofs.Facts.{FitsList, Leaves, HeldIn, Ghost, HoldsAt, server_boot, up_boot, risen, LastStored, IsStored, IsUntrusted, view, Spot, spot, ReplyFact, HasFallen, Reached, Stands, IsCurrent, Fits, Answers, IsReply, AreUnheard, stored_index, Holds, Goes, FitsReply, FitsData, FitsSet, FitsPlain, WasChanged, AreIdeal, AreSound, WasStored, FitsShown}
+use Rattle.afs_law.proofs.Facts.{FitsList, Leaves, HeldIn, Ghost, HoldsAt, up_boot, LastStored, IsStored, IsUntrusted, view, Spot, spot, ReplyFact, HasFallen, Reached, Stands, IsCurrent, Fits, Answers, IsReply, AreUnheard, stored_index, Holds, Goes, FitsReply, FitsData, FitsSet, FitsPlain, WasChanged, AreIdeal, AreSound, WasStored, FitsShown}
 use Rattle.afs_law.proofs.Keeping.{volume_put, own_placed}
 use Rattle.afs_law.proofs.Loading.{hits_other, granted_all, onto_granted, left_granted, all_hits, change_loaded, owes_unchanging, all_new, number_front, number_second, left_promised, has_owe, touched_hit, numbers_good, numbers_rise, granted_to_client, owes_to_clients, owes_rising, all_left}
 use Rattle.afs_law.proofs.Naming.{fine_after}
@@ -32,7 +32,7 @@ use Rattle.afs_law.specs.Grants.{IsWithdrawn, has_fetched, fetch_reply, since, c
 use Rattle.afs_law.specs.Ideal.{versions_in, Reach, raised, IsLast, clock_of, last_version, HasVersion, Accepts, reach, volume_after, change_key, call_under, reach_over, applied, applied_by, HasBeen, TellsIn, TellsOf, shown_status}
 use Rattle.afs_law.specs.Legal.{RanBefore, RunsHere, code_given, AreGood, IsNew, HasChange, GoodChange, versions_first, IsTold, answer_at, IsUnderChange, IsChanged, op_on, as_asked}
 use Rattle.afs_history.specs.declared.lines.Line.{Line}
-use Rattle.afs_law.specs.Past.{code_told, onto, lines_of, sent_of, given_message, called_key, HasCode, is_of_act, running, has_begun}
+use Rattle.afs_law.specs.Past.{risen, server_boot, code_told, onto, lines_of, sent_of, given_message, called_key, HasCode, is_of_act, running, has_begun}
 use Rattle.afs_rows.specs.Runs.{Entry, message_at, Armed, Fall}
 use Rattle.afs_law.proofs.OneCell.{Cell, server_moves, the_server}
 use Rattle.afs_rows.specs.Scopes.{is_in_scope, is_volume}

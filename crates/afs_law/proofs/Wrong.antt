@@ -164,6 +164,19 @@ changed_an_entry_late : Legal (parted (entries (start (script 2)) six_front)) (s
 unfolding moved begin_row client_row server_row back_timeout_row wake_row start_row record_bytes head_form volume_form spelled opaque pad word laid_at led name_ok directory_bytes name_bytes rights_of image acl_text digits entry_text directory_of names_at opaque_at word_at counted_at whole_at count_at name_at spelled_at bytes_below
 changed_an_entry_late h = let g = h.1.1.1.1.0.0.0.0.1 in elim g.place [ inl x ↦ x.given | inr y ↦ y.boots ]
 
+-- a server runs a call that is to another boot than its own
+abbrev to_boot_two : Entry → Entry
+to_boot_two e = record e { sent = map (λ (m : Message). record m { head = record m.head { boot = 2 } }) e.sent }
+
+run_in_another_boot : Legal (alters 0 to_boot_two (entries (start (script 1)) (begins 1 (acts.Close (operands.Fid file) (Hex (codes "def"))) ∷ gives 1 steady ∷ []))) (script 1) → ⊥
+unfolding moved begin_row client_row server_row back_timeout_row wake_row start_row record_bytes head_form volume_form spelled opaque pad word laid_at led name_ok directory_bytes name_bytes rights_of image acl_text digits entry_text directory_of names_at opaque_at word_at counted_at whole_at count_at name_at spelled_at bytes_below
+run_in_another_boot h =
+    let g = h.1.0.0.0.1.0.1 in
+    elim g.place [
+      | inl x ↦ let e : 2 ≡ 1 = x.given.1.1 ∙ sym (some_of 1 x.boot x.up) in absurd cc
+      | inr y ↦ y.boots
+    ]
+
 -- the server stops in a step; the restart tells its store, and a reply of the boot before that there was no room
 abbrev stopped_front : List Input
 stopped_front = begins 1 (acts.Close (operands.Fid file) (Hex (codes "def"))) ∷ sets_stop 3 1 ∷ gives 1 steady ∷ starts_again true comes_up ∷ []

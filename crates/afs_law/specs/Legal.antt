@@ -17,7 +17,7 @@ use Rattle.afs_rows.specs.Going.{Going, Need, answers, asks_for, next, asked, gi
 use Rattle.afs_law.specs.Grants.{is_promised, read_reply, GrantOf, since, until, IsWithdrawn, IsDropped}
 use Rattle.afs_law.specs.Ideal.{Unless, set_up, IsLast, WasLast, HasBeen, HasVersion, Accepts, clock_of, user_of, seen, change_in, change_key, call_under, volume_after}
 use Rattle.afs_history.specs.declared.lines.Line.{Line}
-use Rattle.afs_law.specs.Past.{lines_of, sent_of, given_message, answered_key, code_told, IsReply, running, has_begun, has_given, Called, CalledSince, IsCallUnder, IsUnheard, Ran}
+use Rattle.afs_law.specs.Past.{lines_of, sent_of, given_message, answered_key, code_told, IsReply, running, has_begun, has_given, Called, CalledSince, IsCallUnder, IsUnheard, Ran, server_boot}
 use Rattle.afs_rows.specs.Runs.{Entry}
 use Rattle.afs_num.specs.declared.scripts.Script.{Script}
 use Rattle.afs_num.specs.declared.histories.Actor.{Actor}
@@ -139,9 +139,10 @@ abbrev pub AreFailed : Node → List Entry → Type 0
 AreFailed s [] = ⊤
 AreFailed s (e ∷ past) = (e.actor ≡ actors.Node s → e.lines ≡ lines.Fault s ∷ []) × AreFailed s past
 
--- this entry was given a call of the key to the server, the first in its boot
+-- this entry was given a call of the key to the server and to the boot in which that is, the first in that boot
 pub record RunsHere (server : Node) (k : Key) (past : List Entry) (own : List Line) : Type 0 where
   pub boot : ℕ
+  pub up : server_boot server (lines_of past) ≡ Some boot
   pub given : IsCallUnder server k boot (given_message own (sent_of past))
   pub first : IsUnheard server k boot past
 
@@ -256,12 +257,13 @@ abbrev pub as_asked : FsCall → FsCall
 as_asked (calls.GiveUpCallBacks fids callbacks) = calls.GiveUpCallBacks [] []
 as_asked call = call
 
--- the reply has this code, and so has the ideal operation where the call ran; the call is the one that the act asks, for
--- its user; and where the operation makes versions, their change stands before
+-- the reply has this code, and so has the ideal operation where the call ran, in the boot in which its server then was; the call
+-- is the one that the act asks, for its user; and where the operation makes versions, their change stands before
 pub record Cause (reply : Message) (code : ℤ) (asks_for : FsCall) (past : List Entry) (own : List Line) : Type 0 where
   pub is_reply : IsReply reply
   pub told : code_told reply.carried ≡ Some code
   pub ran : Ran reply.head past
+  pub up : server_boot reply.head.from (lines_of ran.older) ≡ Some reply.head.boot
   pub user : List ℕ
   pub call : FsCall
   pub carries : ran.message.carried ≡ carried.Call user (ask.File call)

@@ -140,6 +140,19 @@ CalledSince k user call [] = ⊥
 CalledSince k user call (e ∷ past) =
     ((e.actor ≡ actors.Node k.node) × Sends k user call e.sent) ⊎ ((has_begun k.node e.lines ≡ false) × CalledSince k user call past)
 
+-- ---- the boot of a server, by its lines, the newest first: none while it is down
+
+abbrev pub risen : Option ℕ → ℕ → Option ℕ
+risen None boot = Some boot
+risen (Some old) boot = Some old
+
+abbrev pub server_boot : Node → List Line → Option ℕ
+server_boot s [] = Some 1
+server_boot s (lines.Crash n ∷ older) = if same_node n s then None else server_boot s older
+server_boot s (lines.Fault n ∷ older) = if same_node n s then None else server_boot s older
+server_boot s (lines.Restart n boot ∷ older) = if same_node n s then risen (server_boot s older) boot else server_boot s older
+server_boot s (l ∷ older) = server_boot s older
+
 -- ---- the entry that ran a call
 
 -- a call to this callee under this key, to this boot
