@@ -20,8 +20,7 @@ use Rattle.afs_rows.specs.Scopes.{is_in_scope}
 use Rattle.afs_rows.specs.ServerRow.{reply_head}
 use Rattle.afs_rows.specs.States.{CacheEntry, Seat, ServerState, Lasting, volume_in, Gift}
 use Rattle.afs_model.specs.Calls.{call_seat}
-use Rattle.std.specs.Prelude.{map, Bool, true, false, ◌||◌, ◌++◌, if◌then◌else◌, ⊤}
-use Rattle.afs_num.specs.Nodes.{same_node}
+use Rattle.std.specs.Prelude.{map, Bool, true, false, ◌||◌, ◌++◌, ⊤}
 use Rattle.std.proofs.Common.{◌+◌, ◌≡◌, ℕ, ◌<◌, ◌≤◌, ◌^◌, ◌⊎◌, List, [], ◌∷◌, Option, Some, None, ℤ}
 use Rattle.afs_num.specs.declared.types.Fid.{Fid}
 use Rattle.afs_num.specs.declared.types.Head.{Head}
@@ -40,7 +39,6 @@ use Rattle.afs_num.specs.declared.calls.AfsCallBack.{AfsCallBack}
 use Rattle.afs_law.proofs.Keeping.{unflagged}
 use Rattle.afs_records.specs.Durable.{Stored}
 use Rattle.afs_num.specs.declared.histories.ReadBody.TheVariants as seen
-use Rattle.afs_history.specs.declared.lines.Line.TheVariants as lines
 use Rattle.afs_num.specs.declared.calls.FsCall.TheVariants as calls
 use Rattle.afs_num.specs.declared.calls.FsReply.TheVariants as replies
 use Rattle.afs_num.specs.declared.messages.Carried.TheVariants as carried

@@ -29,7 +29,7 @@ use Rattle.afs_law.proofs.Basics.{Above, client_number, guest, next_not, raised_
 use Rattle.afs_law.proofs.Dropping.{drops_of, skips}
 use Rattle.afs_law.proofs.Facts.{fids_of_gifts, AreApart, AreGifts, IsOpen, Ghost, Goes, HasOld, Holds, IsAged, IsClient, LastRan, ReplyFact, View, its_call, last_key, view}
 use Rattle.afs_law.proofs.OneCell.{the_server, Cell, client_moves}
-use Rattle.afs_law.proofs.Passing.{all_dropped_onto, tried_idle, tried_new, PassesBoth, kept_over, old_over, old_within, ran_over}
+use Rattle.afs_law.proofs.Passing.{tried_idle, tried_new, PassesBoth, kept_over, old_over, old_within, ran_over}
 use Rattle.afs_law.proofs.Quiet.{AreQuiet, quiet_grant, quiet_passes}
 use Rattle.afs_law.proofs.Serving.{reached_still}
 use Rattle.afs_law.proofs.Skipping.{ideal_still, own_ended}

@@ -1,5 +1,5 @@
 -- Whatever was read is of a volume that the server has.
-use Rattle.std.proofs.Common.{◌≡◌, ◌∙◌, Bool, true, false, cond, ℕ, List, [], ◌∷◌, Option, Some, None, inl, inr, refl, sym, ap, subst}
+use Rattle.std.proofs.Common.{◌≡◌, ◌∙◌, Bool, true, false, ℕ, List, [], ◌∷◌, Option, Some, None, inl, inr, refl, sym, subst}
 use Rattle.std.specs.Prelude.{is_some}
 use Rattle.afs_ideal.specs.Tables.{Table, get}
 use Rattle.afs_ideal.specs.Volumes.{Volume}

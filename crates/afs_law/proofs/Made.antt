@@ -1,5 +1,5 @@
 -- Where an act that changes something is answered 0, one of its calls changed it.
-use Rattle.std.proofs.Common.{◌≡◌, ℕ, ℤ, Bool, true, false, cond, List, [], ◌∷◌, ◌++◌, Option, Some, None, nat_eq, pos, negsuc, refl, sym, ap, subst, ◌∙◌, ◌⊎◌, inl, inr}
+use Rattle.std.proofs.Common.{◌≡◌, ℕ, ℤ, Bool, true, false, cond, List, [], ◌∷◌, ◌++◌, Option, Some, None, nat_eq, pos, negsuc, refl, sym, ap, subst, ◌∙◌, inl, inr}
 use Rattle.std.specs.Prelude.{◌&&◌, ◌||◌, ⊤, not}
 use Rattle.afs_history.specs.declared.acts.Act.{Act}
 use Rattle.afs_history.specs.declared.acts.Act.TheVariants as acts
@@ -27,10 +27,10 @@ use Rattle.afs_law.proofs.Nexts.{as_changed}
 use Rattle.afs_law.proofs.Ops.{op_code, op_is, reads_is, shown_reads}
 use Rattle.afs_law.specs.Ideal.{set_up, volume_after}
 use Rattle.afs_law.specs.Laws.{IsChangingAct, IsMade}
-use Rattle.afs_law.specs.Legal.{AreGood, EndsAct, GoodCode, HasChange, IsGood, IsTold, Legal, LegalAfter, answer_at, answer_on, as_asked, code_given, op_on}
+use Rattle.afs_law.specs.Legal.{AreGood, EndsAct, GoodCode, HasChange, IsGood, IsTold, Legal, LegalAfter, answer_at, answer_on, code_given, op_on}
 use Rattle.afs_law.specs.Once.{past_of}
 use Rattle.afs_law.specs.Past.{answered_key, lines_of, onto, running}
-use Rattle.afs_rows.specs.Going.{Going, Homes, Need, Parted, Shown, Taken, act_needs, answers, asks_for, at_parent, by_body, call_for, fid_of, first_body, gives_back, in_directory, in_home, is_even, is_last_name, is_root, looked_up, next, of_one, parted, reading, reads, reads_rights, reads_status, reads_statuses, root_of, step_to, to_object, to_parent, walk}
+use Rattle.afs_rows.specs.Going.{Going, Homes, Need, Parted, Shown, Taken, act_needs, answers, asks_for, at_parent, by_body, call_for, fid_of, first_body, gives_back, in_directory, in_home, is_even, is_last_name, is_root, looked_up, next, parted, reads, reads_rights, reads_status, reads_statuses, root_of, step_to, to_object, to_parent, walk}
 use Rattle.afs_rows.specs.Runs.{Entry}
 
 -- ---- what an act needs that changes something: at its end a change, and no answer 0 before

@@ -11,8 +11,8 @@ use Rattle.afs_num.specs.declared.histories.Actor.TheVariants as actors
 use Rattle.afs_ideal.specs.Operations.{volume_changed}
 use Rattle.afs_law.proofs.Answering.{holding, ended_facts, ended_reply, ended_stands}
 use Rattle.afs_law.proofs.Asking.{moves_back, step_entry, view_after, Passes, moves, nothing_new, runs_by_other, client_kept, call_known, reply_still, own_call, same_one}
-use Rattle.afs_law.proofs.Basics.{same_node-refl, some_of, UpTo}
-use Rattle.afs_law.proofs.Facts.{Ghost, IsAged, View, view, last_key, IsSafe, ReplyFact, Holds, Goes, InScope}
+use Rattle.afs_law.proofs.Basics.{some_of, UpTo}
+use Rattle.afs_law.proofs.Facts.{Ghost, IsAged, View, view, IsSafe, ReplyFact, Holds, Goes, InScope}
 use Rattle.afs_law.proofs.Passing.{PassesFile, PassesAct, PassesReach, stays, current_over, kept_over}
 use Rattle.afs_law.proofs.Resting.{voids}
 use Rattle.afs_law.proofs.Serving.{reached_still}
@@ -31,7 +31,6 @@ use Rattle.std.proofs.Math.Nat.{le_refl}
 use Rattle.afs_num.specs.Nodes.{same_node}
 use Rattle.afs_num.specs.declared.types.Fid.{Fid}
 use Rattle.afs_num.specs.declared.types.Head.{Head}
-use Rattle.afs_num.specs.declared.types.Key.{Key}
 use Rattle.afs_num.specs.declared.types.Node.TheVariants.{Client}
 use Rattle.afs_num.specs.declared.calls.FsCall.{FsCall}
 use Rattle.afs_num.specs.declared.messages.Message.{Message}
