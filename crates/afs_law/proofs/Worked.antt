@@ -310,7 +310,7 @@ no_table p ps e = absurd cc
 
 brought_one : Legal (six_by 2 brings) (script 2) → ⊥
 unfolding moved begin_row client_row server_row back_timeout_row wake_row start_row record_bytes head_form volume_form spelled opaque pad word laid_at led name_ok directory_bytes name_bytes rights_of image acl_text digits entry_text
-brought_one h = no_table _ _ h.1.1.0.1
+brought_one h = no_table _ _ h.1.1.0.1.0
 
 -- what is read isn't what its version holds; or it has another index
 abbrev open_front : List Input

@@ -358,6 +358,11 @@ abbrev pub AreGoodSent : List Entry → List Message → Type 0
 AreGoodSent past [] = ⊤
 AreGoodSent past (m ∷ ms) = (GoodReply past m × GoodGift m.head m.carried (lines_of past)) × AreGoodSent past ms
 
+-- what is sent as a server's reply to a client is that of the entry which ran its call: one before, or the one that sends it
+abbrev pub AreRan : List Entry → List Message → Type 0
+AreRan past [] = ⊤
+AreRan past (m ∷ ms) = ((i j : ℕ) → IsReply m → m.head.from ≡ Server i → m.head.to ≡ Client j → Ran m.head past) × AreRan past ms
+
 -- ---- restarts
 
 -- a server that begins again owes every client a break on all
@@ -408,7 +413,7 @@ AreGood s who past own (l ∷ next) = IsGood s who l past own next × AreGood s 
 -- an entry lays no volumes, for the set-up alone does
 abbrev pub LegalAfter : Script → List Entry → List Entry → Type 0
 LegalAfter s past [] = ⊤
-LegalAfter s past (e ∷ es) = ((AreGood s e.actor past [] e.lines × AreGoodSent (e ∷ past) e.sent) × (e.volumes ≡ [])) × LegalAfter s (e ∷ past) es
+LegalAfter s past (e ∷ es) = ((AreGood s e.actor past [] e.lines × AreGoodSent (e ∷ past) e.sent) × ((e.volumes ≡ []) × AreRan (e ∷ past) e.sent)) × LegalAfter s (e ∷ past) es
 
 abbrev pub Legal : List Entry → Script → Type 0
 Legal history s = LegalAfter s (set_up s ∷ []) history
