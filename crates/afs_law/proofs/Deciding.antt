@@ -687,11 +687,11 @@ rises_as s c past fall h e =
     let sk : Skips t.lines = skips t.lines (rising_notes c) in
     let x : Entry = risen_entry b t.lines (pumped the_server b t).sent in
     let pump : Pumps b c.server.lasting.kept (seats_of c) c.clock c.sent (x ∷ past) t = pumps b c.server.lasting.kept (seats_of c) c.clock c.sent x past t refl (sk.clock _ ∙ h.clock)
-    (rise_loaded c.count c.down c.server.backs c.server.lasting.boot c.server.seats c.server.lasting.kept (seats_of c) c.clock c.sent x past (lines.Restart the_server b ∷ []) (λ z. absurd cc) (h.backs refl) h.clock refl refl refl refl (sk.given (sent_of past))) (record { good = tt; calls = tt; dones = tt }) in
+    (rise_loaded c.count c.down c.server.backs c.server.lasting.boot c.server.seats c.server.lasting.kept (seats_of c) c.clock c.sent x past (lines.Restart the_server b ∷ []) (λ z. absurd cc) (h.backs refl) h.clock refl refl refl refl (sk.given (sent_of past))) (record { good = tt; calls = tt; dones = tt }) (sk.boot _ ∙ rises_at s c past fall b h e) in
     record {
       replies = pump.good;
       volumes = refl;
-      good = ((refl, rises_owed s c h), alls_good s (c.clock + promise_ticks) 0 c.count past _ (le_of_eq (down_number s c past fall h e)));
+      good = ((refl, rises_owed s c h), alls_good s (c.clock + promise_ticks) 0 c.count past _ (le_of_eq (down_number s c past fall h e)) (inl refl));
       holds = revives s (Some b) _ (x ∷ past) (pumped the_server b t).backs (noted s (Some b) c past c.armed (Some at_rest) x c.server.backs h (sk.boot _ ∙ rises_at s c past fall b h e) (risen_rests s b t.lines (pumped the_server b t).sent past sk) (sk.clock _)
           (unheard_still (Some at_rest) c x past (sk.given (sent_of past)) (λ k i l. unheard_later c.down c.server.seats c.server.lasting.boot past h.unheard k i l)) tt (rising_gives _ b _ _ c c.server.backs.held) (λ z. absurd cc)) (λ fl z. nothing_held b c _ _) (λ z. pump.backed);
     }
@@ -753,7 +753,7 @@ ran_before c past n h user call vs ls cut boots = record {
 pub after_good : (s : Script) (c : Cell) (past : List Entry) (n : ℕ) (h : Head) (user : List ℕ) (call : FsCall) (id : ℕ) (v : Volume) (es : List Edit) (shown : ℕ) (ls : List Line) → (H : Holds s c past) → Now s c H.floors past n h user call → Change' c past user call id v es shown → {fall : Fall} → c.down ≡ Some fall → versions_first ls ≡ [] → IsCut c.server.lasting c.sent (call_at n h user call) past → EndsBoot the_server ls
     → AreGood s (actors.Node the_server) past (on_top (versions_by id es v) (lines.Change the_server (called_key (client_head n h)) (length (versions_by id es v)) ∷ [])) ls → AreGood s (actors.Node the_server) past [] (lines.Change the_server (called_key (client_head n h)) (length (versions_by id es v)) ∷ versioned (versions_by id es v) ls)
 after_good s c past n h user call id v es shown ls H w q down none cut boots good =
-    ((refl, saves_change_good s c past [] ls n h user call id v es shown H w q (inr (ran_before c past n h user call (versions_by id es v) ls cut boots)) (H.new _ w.above_durable) refl (H.home id v q.at) none (λ j f x ne y l t. absurd (down_not c down ((H.backs refl).promised (Client j) f x l (subst (λ (z : ℕ). z < x) H.clock t)).0))), versions_good s past _ ls (versions_by id es v) tt good)
+    ((refl, saves_change_good s c past [] ls n h user call id v es shown H w q (inr (ran_before c past n h user call (versions_by id es v) ls cut boots)) (H.new _ w.above_durable) (λ z. z) refl (H.home id v q.at) none (λ j f x ne y l t. absurd (down_not c down ((H.backs refl).promised (Client j) f x l (subst (λ (z : ℕ). z < x) H.clock t)).0))), versions_good s past _ ls (versions_by id es v) tt good)
 
 pub after_holds : (y : Way) (s : Script) (now : Option ℕ) (c : Cell) (past : List Entry) (after : Backs) (fall : Fall) (n : ℕ) (h : Head) (user : List ℕ) (call : FsCall) (time id : ℕ) (st : Stored) (es : List Edit) (shown : ℕ) → (H : Holds s c past) → Now s c H.floors past n h user call → Change' c past user call id st.volume es shown
     → IsCut c.server.lasting c.sent (call_at n h user call) past → given_message (saved_lines y (called_key (client_head n h)) (versions_by id es st.volume)) (sent_of past) ≡ None
@@ -781,11 +781,11 @@ saved_up s c past fall n h user call time id st es shown H e w q is_cut =
     let given : given_message k.lines (sent_of past) ≡ None = given_on vs (lines.Restart the_server x ∷ t.lines) (sent_of past) ∙ sk.given (sent_of past) in
     let pump : Pumps x (seat_placed (taken n h r) c.server.lasting.kept) (seats_of c) c.clock c.sent (k ∷ past) t = pumps x (seat_placed (taken n h r) c.server.lasting.kept) (seats_of c) c.clock c.sent k past t refl (saves_clock y key vs r past ∙ H.clock)
     (rise_loaded c.count c.down c.server.backs c.server.lasting.boot c.server.seats (seat_placed (taken n h r) c.server.lasting.kept) (seats_of c) c.clock c.sent k past (lines.Change the_server key (length vs) ∷ versioned vs (lines.Restart the_server x ∷ [])) (λ z. absurd cc) (H.backs refl) H.clock
-    (ap (λ (ls : List Line). lines.Change the_server key (length vs) ∷ ls) (versioned_front vs (lines.Restart the_server x ∷ []) t.lines)) (versions_lines is_oweless vs (lines.Restart the_server x ∷ []) (λ z. refl) refl) (versions_lines is_tickless vs (lines.Restart the_server x ∷ []) (λ z. refl) refl) (versions_lines is_still vs (lines.Restart the_server x ∷ []) (λ z. refl) refl) given) (record { good = tt; calls = tt; dones = tt }) in
+    (ap (λ (ls : List Line). lines.Change the_server key (length vs) ∷ ls) (versioned_front vs (lines.Restart the_server x ∷ []) t.lines)) (versions_lines is_oweless vs (lines.Restart the_server x ∷ []) (λ z. refl) refl) (versions_lines is_tickless vs (lines.Restart the_server x ∷ []) (λ z. refl) refl) (versions_lines is_still vs (lines.Restart the_server x ∷ []) (λ z. refl) refl) given) (record { good = tt; calls = tt; dones = tt }) (saves_boot y key vs r past ∙ (sk.boot _ ∙ rises_at s c past fall x H e)) in
     record {
       replies = pump.good;
       volumes = refl;
-      good = after_good s c past n h user call id st.volume es shown (lines.Restart the_server x ∷ t.lines) H w q e refl is_cut (inl refl) ((refl, rises_owed s c H), alls_good s (c.clock + promise_ticks) 0 c.count past _ (le_of_eq (top_number vs (lines.Change the_server key (length vs) ∷ []) (lines_of past) ∙ down_number s c past fall H e)));
+      good = after_good s c past n h user call id st.volume es shown (lines.Restart the_server x ∷ t.lines) H w q e refl is_cut (inl refl) ((refl, rises_owed s c H), alls_good s (c.clock + promise_ticks) 0 c.count past _ (le_of_eq (top_number vs (lines.Change the_server key (length vs) ∷ []) (lines_of past) ∙ down_number s c past fall H e)) (inl refl));
       holds = revives s (Some x) _ _ (pumped the_server x t).backs (after_holds y s (Some x) c past c.server.backs at_rest n h user call time id st es shown H w q is_cut given (λ u z b. tt) (saves_boot y key vs r past ∙ (sk.boot _ ∙ rises_at s c past fall x H e)) (λ own. rising_gives _ x _ _ c c.server.backs.held) (λ z. absurd cc)) (λ fl z. nothing_held x c _ _) (λ z. pump.backed);
     }
 

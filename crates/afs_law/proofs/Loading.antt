@@ -1,4 +1,6 @@
 -- What each step of the server makes of promises, breaks, calls and replies that wait.
+use Rattle.afs_law.specs.Grants.{IsWithdrawn}
+use Rattle.afs_law.proofs.Edits.{touches}
 use Rattle.afs_breaks.specs.declared.types.Promise.{Promise}
 use Rattle.afs_breaks.specs.Promises.{is_promise, with_promise, is_hit, owes_from, has_break, without_break}
 use Rattle.afs_law.proofs.Promising.{Owed, hits, staying, with_promises, without_promises, owes_all, risen_as, without_all, ended_call, ended_is}
@@ -21,7 +23,7 @@ use Rattle.afs_law.proofs.Turning.{loaded, in_filter, put_call, kept_in}
 use Rattle.afs_law.specs.Breaks.{HasSettled, HasTimeout, last_grant, expiry_of, AllOwes, CarriesBreak, GoodQuit, live_grant, HasOwe, last_number, lines_at, drops_of, HasStopped, OweAt}
 use Rattle.afs_rows.specs.Callbacks.{is_all, alls, numbers, is_reply_to, key_answered, breaks_call, break_message, owe_line, settle_line, quit_line, settles, quits, retries, still_owed}
 use Rattle.afs_law.specs.Ideal.{clock_of, change_in}
-use Rattle.afs_law.specs.Legal.{IsNew, IsNot, IsKey, HasChange, AreGood, IsChanged}
+use Rattle.afs_law.specs.Legal.{HasRisen, IsNew, IsNot, IsKey, HasChange, AreGood, IsChanged}
 use Rattle.afs_history.specs.declared.lines.Line.{Line}
 use Rattle.afs_law.specs.Past.{onto, lines_of, sent_of, given_message, called_key, IsCallUnder}
 use Rattle.afs_rows.specs.Runs.{Entry, Fall}
@@ -649,6 +651,28 @@ pub hits_other : (n : Node) (vs : List Version) (ps : List Promise) → AllOf (I
 hits_other n [] ps = tt
 hits_other n (v ∷ vs) ps = all_both (IsOfOther n) (filter (is_hit n v.fid) ps) (hits n vs (filter (λ p. not (is_hit n v.fid p)) ps)) (hit_other n v.fid ps) (hits_other n vs (filter (λ p. not (is_hit n v.fid p)) ps))
 
+that_one : (P : Promise → Type 0) (t : Bool) (p : Promise) (ps : List Promise) → (t ≡ true → P p) → AllOf P ps → AllOf P (cond t (p ∷ ps) ps)
+that_one P true p ps w h = (w refl, h)
+that_one P false p ps w h = h
+
+-- and on what changed
+abbrev pub IsHit : Node → List Version → Promise → Type 0
+IsHit n vs p = (touches p.fid vs ≡ true) × IsOfOther n p
+
+hit_here : (n : Node) (v : Version) (vs : List Version) (ps : List Promise) → AllOf (IsHit n (v ∷ vs)) (filter (is_hit n v.fid) ps)
+hit_here n v vs [] = tt
+hit_here n v vs (p ∷ ps) = that_one (IsHit n (v ∷ vs)) (is_hit n v.fid p) p (filter (is_hit n v.fid) ps)
+    (λ t. (let e : p.fid ≡ v.fid = same_fid-true p.fid v.fid (both (same_fid p.fid v.fid) (not (same_node p.client n)) t).0 in rw (ap (λ (f : Fid). same_fid v.fid f) e ∙ same_fid-refl v.fid) refl, other_by (same_fid p.fid v.fid) (same_node p.client n) n p refl t)) (hit_here n v vs ps)
+
+touched_more : (t : Bool) (u : Bool) → u ≡ true → cond t true u ≡ true
+touched_more true u e = refl
+touched_more false u e = e
+
+pub hits_hit : (n : Node) (vs : List Version) (ps : List Promise) → AllOf (IsHit n vs) (hits n vs ps)
+hits_hit n [] ps = tt
+hits_hit n (v ∷ vs) ps = all_both (IsHit n (v ∷ vs)) (filter (is_hit n v.fid) ps) (hits n vs (filter (λ p. not (is_hit n v.fid p)) ps)) (hit_here n v vs ps)
+    (all_map (IsHit n vs) (IsHit n (v ∷ vs)) (λ p x. (touched_more (same_fid v.fid p.fid) (touches p.fid vs) x.0, x.1)) (hits n vs (filter (λ p. not (is_hit n v.fid p)) ps)) (hits_hit n vs (filter (λ p. not (is_hit n v.fid p)) ps)))
+
 pub record NewOwe (n : Node) (ls : List Line) (o : Owed) : Type 0 where
   pub other : o.client ≡ n → ⊥
   pub fid : Fid
@@ -914,9 +938,9 @@ change_loaded who b ps more boot seats now cs clock sent e past pre os hd m h gr
     (λ j seat k x y. seated_over None None b after boot clock clock e past s j k (h.seated j seat k x y)))
 
 -- numbers of new breaks
-pub numbers_good : (s : Script) (k : ℕ) (ps : List Promise) (past : List Entry) (own : List Line) → last_number the_server (own ++ lines_of past) ≤ k → AreGood s (actors.Node the_server) past own (map (owe_line the_server) (owes_from k ps))
-numbers_good s k [] past own h = tt
-numbers_good s k (p ∷ ps) past own h = ((refl, omega arith), numbers_good s (k + 1) ps past (lines.Owe the_server p.client (Some p.fid) (k + 1) ∷ own) (le_refl _))
+pub numbers_good : (s : Script) (k : ℕ) (ps : List Promise) (past : List Entry) (own : List Line) → last_number the_server (own ++ lines_of past) ≤ k → AllOf (λ (p : Promise). IsWithdrawn the_server p.client p.fid own) ps → AreGood s (actors.Node the_server) past own (map (owe_line the_server) (owes_from k ps))
+numbers_good s k [] past own h w = tt
+numbers_good s k (p ∷ ps) past own h w = ((refl, (omega arith, w.0)), numbers_good s (k + 1) ps past (lines.Owe the_server p.client (Some p.fid) (k + 1) ∷ own) (le_refl _) w.1)
 
 pub numbers_rise : (k : ℕ) (ps : List Promise) (base : List Line) → last_number the_server base ≤ k → last_number the_server (onto base (map (owe_line the_server) (owes_from k ps))) ≤ k + length (owes_from k ps)
 numbers_rise k [] base h = omega arith
@@ -930,9 +954,9 @@ alls_rising : (x k m : ℕ) (base : List Line) → last_number the_server base �
 alls_rising x k zero base le h = h
 alls_rising x k (suc m) base le h = alls_rising x (k + 1) m (lines.Owe the_server (Client (k + 1)) None (k + 1) ∷ base) (le_refl _) (λ e. omega arith, h)
 
-pub alls_good : (s : Script) (x k m : ℕ) (past : List Entry) (own : List Line) → last_number the_server (own ++ lines_of past) ≤ k → AreGood s (actors.Node the_server) past own (map (owe_line the_server) (owes_all x k m))
-alls_good s x k zero past own h = tt
-alls_good s x k (suc m) past own h = ((refl, omega arith), alls_good s x (k + 1) m past (lines.Owe the_server (Client (k + 1)) None (k + 1) ∷ own) (le_refl _))
+pub alls_good : (s : Script) (x k m : ℕ) (past : List Entry) (own : List Line) → last_number the_server (own ++ lines_of past) ≤ k → HasRisen the_server own → AreGood s (actors.Node the_server) past own (map (owe_line the_server) (owes_all x k m))
+alls_good s x k zero past own h w = tt
+alls_good s x k (suc m) past own h w = ((refl, (omega arith, w)), alls_good s x (k + 1) m past (lines.Owe the_server (Client (k + 1)) None (k + 1) ∷ own) (le_refl _) w)
 
 pub alls_rise : (x k m : ℕ) (base : List Line) → last_number the_server base ≤ k → last_number the_server (onto base (map (owe_line the_server) (owes_all x k m))) ≤ k + m
 alls_rise x k zero base h = omega arith

@@ -15,22 +15,22 @@ use Rattle.afs_law.proofs.Basics.{node_apart, Above, up_to_by, same_fid-true, sa
 use Rattle.afs_law.proofs.Edits.{agrees_of, last_of, ones, Ones, index_in, fid_at, Sound, SoundIn, sound_same, Tops, on_top, Grow, Told, edits_told, counted_sound, rises, tops, touches, untouched, touched_volume, not_touched, there, none_has, live, live_is}
 use Rattle.afs_law.proofs.Facts.{FitsList, Leaves, HeldIn, Ghost, HoldsAt, up_boot, LastStored, IsStored, IsUntrusted, view, Spot, spot, ReplyFact, HasFallen, Reached, Stands, IsCurrent, Fits, Answers, IsReply, AreUnheard, stored_index, Holds, Goes, FitsReply, FitsData, FitsSet, FitsPlain, WasChanged, AreIdeal, AreSound, WasStored, FitsShown}
 use Rattle.afs_law.proofs.Keeping.{volume_put, own_placed}
-use Rattle.afs_law.proofs.Loading.{hits_other, granted_all, onto_granted, left_granted, all_hits, change_loaded, owes_unchanging, all_new, number_front, number_second, left_promised, has_owe, touched_hit, numbers_good, numbers_rise, granted_to_client, owes_to_clients, owes_rising, all_left}
+use Rattle.afs_law.proofs.Loading.{hits_hit, IsHit, hits_other, granted_all, onto_granted, left_granted, all_hits, change_loaded, owes_unchanging, all_new, number_front, number_second, left_promised, has_owe, touched_hit, numbers_good, numbers_rise, granted_to_client, owes_to_clients, owes_rising, all_left}
 use Rattle.afs_law.proofs.Naming.{fine_after}
 use Rattle.afs_law.proofs.Notes.{granted_notes, AreNotes, Skips, skips, owe_notes, no_versions}
 use Rattle.afs_law.proofs.Ops.{stored_kind, stored_fid, amend_of, in_scope, changes_is, Storing, storing, stored_vnode}
-use Rattle.afs_law.proofs.Owing.{BackedIn, IsGranted, Rising, IsClient}
+use Rattle.afs_law.proofs.Owing.{all_map, BackedIn, IsGranted, Rising, IsClient}
 use Rattle.afs_law.proofs.Passing.{reply_over, PassesBoth, PassesSeen, held_over, fetch_reply_by, cause_over, PassesFile, PassesAct, PassesReach, StaysNewest, client_over, PassesGrant}
 use Rattle.afs_law.proofs.Pumping.{no_news, pumped_news}
-use Rattle.afs_law.proofs.Serving.{runs_here, up_backed, seats_of, Gives, taken_not, up_boots, reached_at, at_told, client_head, Now, call_at, taken, seats_after, Stock, server_after, caller_view, views_after, durable_before, above_before, not_ran, unheard_after, HasRun, cause_now, running_act, stale_none, served_cell, serves, last_has, has_run, server_does, answer_in}
+use Rattle.afs_law.proofs.Serving.{grant_more, runs_here, up_backed, seats_of, Gives, taken_not, up_boots, reached_at, at_told, client_head, Now, call_at, taken, seats_after, Stock, server_after, caller_view, views_after, durable_before, above_before, not_ran, unheard_after, HasRun, cause_now, running_act, stale_none, served_cell, serves, last_has, has_run, server_does, answer_in}
 use Rattle.afs_law.proofs.Turning.{loaded, Pumps, pumps}
-use Rattle.afs_law.specs.Breaks.{live_grant, HasOwe, last_number, lines_at}
+use Rattle.afs_law.specs.Breaks.{HasStopped, live_grant, HasOwe, last_number, lines_at}
 use Rattle.afs_rows.specs.Callbacks.{Turn, pumped, expired, numbers, alls}
 use Rattle.afs_rows.specs.ClientRow.{status_told}
 use Rattle.afs_rows.specs.Going.{Going, next}
 use Rattle.afs_law.specs.Grants.{IsWithdrawn, has_fetched, fetch_reply, since, change_below, IsByOther, IsDropped}
 use Rattle.afs_law.specs.Ideal.{versions_in, Reach, raised, IsLast, clock_of, last_version, HasVersion, Accepts, reach, volume_after, change_key, call_under, reach_over, applied, applied_by, HasBeen, TellsIn, TellsOf, shown_status}
-use Rattle.afs_law.specs.Legal.{RanBefore, RunsHere, code_given, AreGood, IsNew, HasChange, GoodChange, versions_first, IsTold, answer_at, IsUnderChange, IsChanged, op_on, as_asked}
+use Rattle.afs_law.specs.Legal.{GoodGrant, RanBefore, RunsHere, code_given, AreGood, IsNew, HasChange, GoodChange, versions_first, IsTold, answer_at, IsUnderChange, IsChanged, op_on, as_asked}
 use Rattle.afs_history.specs.declared.lines.Line.{Line}
 use Rattle.afs_law.specs.Past.{risen, server_boot, code_told, onto, lines_of, sent_of, given_message, called_key, HasCode, is_of_act, running, has_begun}
 use Rattle.afs_rows.specs.Runs.{Entry, message_at, Armed, Fall}
@@ -762,11 +762,12 @@ new_not c n h r l same above =
     below_not h.epoch h.number h.epoch h.number (subst (λ (o : Option Seat). Above o h.epoch h.number) (own_placed (taken n h r) c.server.lasting.kept) own) (up_to_same h.epoch h.number h.epoch h.number refl refl)
 
 pub saves_change_good : (s : Script) (c : Cell) (past : List Entry) (own tail : List Line) (n : ℕ) (h : Head) (user : List ℕ) (call : FsCall) (id : ℕ) (v : Volume) (es : List Edit) (shown : ℕ) → (H : Holds s c past) → Now s c H.floors past n h user call → Change' c past user call id v es shown
-    → RunsHere the_server (called_key (client_head n h)) past own ⊎ RanBefore the_server (called_key (client_head n h)) past own (versioned (versions_by id es v) tail) → IsNew (called_key (client_head n h)) (own ++ lines_of past) → change_key own ≡ None → Accepts s id the_server (own ++ lines_of past) → versions_first tail ≡ [] → ((j : ℕ) (f : Fid) (x : ℕ) → (Client j ≡ Client n → ⊥) → IsChanged f (versions_by id es v) → live_grant the_server (Client j) f (own ++ lines_at the_server past) ≡ Some x → clock_of (own ++ lines_of past) < x → HasOwe the_server (Client j) (Some f) (versioned (versions_by id es v) tail))
+    → RunsHere the_server (called_key (client_head n h)) past own ⊎ RanBefore the_server (called_key (client_head n h)) past own (versioned (versions_by id es v) tail) → IsNew (called_key (client_head n h)) (own ++ lines_of past) → (HasStopped the_server own → ⊥) → change_key own ≡ None → Accepts s id the_server (own ++ lines_of past) → versions_first tail ≡ [] → ((j : ℕ) (f : Fid) (x : ℕ) → (Client j ≡ Client n → ⊥) → IsChanged f (versions_by id es v) → live_grant the_server (Client j) f (own ++ lines_at the_server past) ≡ Some x → clock_of (own ++ lines_of past) < x → HasOwe the_server (Client j) (Some f) (versioned (versions_by id es v) tail))
     → GoodChange s the_server (called_key (client_head n h)) (length (versions_by id es v)) past own (versioned (versions_by id es v) tail)
-saves_change_good s c past own tail n h user call id v es shown H w q place new only home none owed = record {
+saves_change_good s c past own tail n h user call id v es shown H w q place new going only home none owed = record {
   fresh = new;
   place = place;
+  going = going;
   only = only;
   user = user;
   call = call;
@@ -917,9 +918,21 @@ pub owe_granted : (c : Node) (what : Option Fid) (n x : ℕ) (fs : List Found) (
 owe_granted c what n x [] tail h = h
 owe_granted c what n x (f ∷ fs) tail h = owe_granted c what n x fs tail h
 
-pub granted_then : (s : Script) (past : List Entry) (own : List Line) (n x : ℕ) (fs : List Found) (tail : List Line) → AreGood s (actors.Node the_server) past (onto own (granted the_server (Client n) x fs [])) tail → AreGood s (actors.Node the_server) past own (granted the_server (Client n) x fs tail)
-granted_then s past own n x [] tail h = h
-granted_then s past own n x (f ∷ fs) tail h = (refl, granted_then s past (lines.Grant the_server (Client n) f.fid f.vnode.index x ∷ own) n x fs tail h)
+top_clock : (vs : List Version) (own o : List Line) → clock_of (on_top vs own ++ o) ≡ clock_of (own ++ o)
+top_clock [] own o = refl
+top_clock (v ∷ vs) own o = top_clock vs (lines.Version v ∷ own) o
+
+top_stopped : (vs : List Version) (own : List Line) → HasStopped the_server (on_top vs own) → HasStopped the_server own
+top_stopped [] own h = h
+top_stopped (v ∷ vs) own h = top_stopped vs (lines.Version v ∷ own) h
+
+top_runs : (k : Key) (past : List Entry) (vs : List Version) (own : List Line) → RunsHere the_server k past own → RunsHere the_server k past (on_top vs own)
+top_runs k past [] own r = r
+top_runs k past (v ∷ vs) own r = top_runs k past vs (lines.Version v ∷ own) (record { boot = r.boot; up = r.up; given = r.given; first = r.first })
+
+pub granted_then : (s : Script) (past : List Entry) (own : List Line) (n x : ℕ) (fs : List Found) (tail : List Line) → GoodGrant the_server (Client n) x past own → AreGood s (actors.Node the_server) past (onto own (granted the_server (Client n) x fs [])) tail → AreGood s (actors.Node the_server) past own (granted the_server (Client n) x fs tail)
+granted_then s past own n x [] tail g h = h
+granted_then s past own n x (f ∷ fs) tail g h = ((refl, g), granted_then s past (lines.Grant the_server (Client n) f.fid f.vnode.index x ∷ own) n x fs tail (grant_more (Client n) f.fid f.vnode.index x past own g) h)
 
 on_rising : (vs : List Version) (o : List Line) → Rising o → Rising (on_top vs o)
 on_rising [] o h = h
@@ -975,19 +988,29 @@ saves_by_turn s c past armed p n h user call id st es shown H up at w q =
       own = λ i z. number_front i (numbers os) (alls b0.lists.owed) z;
       all = λ i z. number_second i (numbers os) (alls b0.lists.owed) z;
     }) in
-    let pump : Pumps c.server.lasting.boot (seats_after c n h r) (seats_of c) c.clock c.sent (e ∷ past) t = pumps c.server.lasting.boot (seats_after c n h r) (seats_of c) c.clock c.sent e past t refl (saves_clock y k vs r past ∙ H.clock) loads (record { good = tt; calls = tt; dones = tt }) in
+    let pump : Pumps c.server.lasting.boot (seats_after c n h r) (seats_of c) c.clock c.sent (e ∷ past) t = pumps c.server.lasting.boot (seats_after c n h r) (seats_of c) c.clock c.sent e past t refl (saves_clock y k vs r past ∙ H.clock) loads (record { good = tt; calls = tt; dones = tt }) (saves_boot y k vs r past ∙ (sk.boot _ ∙ up_boots s c past H up)) in
     record {
       good = (
         refl,
         (
           (
             refl,
-            saves_change_good s c past (lines.Given p ∷ []) tl n h user call id st.volume es shown H w q (inl (runs_here s c past p n h user call H up at w)) (H.new _ w.above_durable) refl (H.home id st.volume q.at) (no_versions tl notes)
+            saves_change_good s c past (lines.Given p ∷ []) tl n h user call id st.volume es shown H w q (inl (runs_here s c past p n h user call H up at w)) (H.new _ w.above_durable) (λ z. z) refl (H.home id st.volume q.at) (no_versions tl notes)
                 (λ j f z ne d l u. owe_behind (Client j) (Some f) vs tl (owe_granted (Client j) (Some f) n x fs t.lines (has_owe (Client j) f z b0.lists.last_owed (hits (Client n) vs b0.lists.promises) (touched_hit (Client n) (Client j) f z vs b0.lists.promises ne d (B.promised (Client j) f z l (subst (λ (i : ℕ). i < z) H.clock u)).1)))),
           ),
           versions_good s past _ tl vs tt (granted_then s past (on_top vs (lines.Change the_server k (length vs) ∷ lines.Given p ∷ [])) n x fs t.lines
+              (record {
+                key = k;
+                node = refl;
+                ran = let r0 = runs_here s c past p n h user call H up at w in top_runs k past vs (lines.Change the_server k (length vs) ∷ lines.Given p ∷ []) (record { boot = r0.boot; up = r0.up; given = r0.given; first = r0.first });
+                going = λ z. top_stopped vs (lines.Change the_server k (length vs) ∷ lines.Given p ∷ []) z;
+                lasts = ap (λ (i : ℕ). i + promise_ticks) (sym (top_clock vs (lines.Change the_server k (length vs) ∷ lines.Given p ∷ []) (lines_of past) ∙ H.clock));
+              })
               (numbers_good s b0.lists.last_owed (hits (Client n) vs b0.lists.promises) past (onto (on_top vs (lines.Change the_server k (length vs) ∷ lines.Given p ∷ [])) (granted the_server (Client n) x fs []))
-              (subst (λ (i : ℕ). i ≤ b0.lists.last_owed) (sym (granted_top n x fs (on_top vs (lines.Change the_server k (length vs) ∷ lines.Given p ∷ [])) (lines_of past) ∙ top_number vs (lines.Change the_server k (length vs) ∷ lines.Given p ∷ []) (lines_of past))) B.numbered))),
+              (subst (λ (i : ℕ). i ≤ b0.lists.last_owed) (sym (granted_top n x fs (on_top vs (lines.Change the_server k (length vs) ∷ lines.Given p ∷ [])) (lines_of past) ∙ top_number vs (lines.Change the_server k (length vs) ∷ lines.Given p ∷ []) (lines_of past))) B.numbered)
+              (all_map (IsHit (Client n) vs) (λ (o : Promise). IsWithdrawn the_server o.client o.fid (onto (on_top vs (lines.Change the_server k (length vs) ∷ lines.Given p ∷ [])) (granted the_server (Client n) x fs [])))
+              (λ o z. (skips (granted the_server (Client n) x fs []) (granted_notes (Client n) x fs [] tt)).withdrawn the_server o.client o.fid (on_top vs (lines.Change the_server k (length vs) ∷ lines.Given p ∷ [])) (on_breaks the_server o.client o.fid vs (lines.Change the_server k (length vs) ∷ lines.Given p ∷ []) (refl, λ q. z.1 (sym q)) z.0))
+              (hits (Client n) vs b0.lists.promises) (hits_hit (Client n) vs b0.lists.promises)))),
         ),
       );
       holds = saves_holds y s (Some c.server.lasting.boot) c past (pumped the_server c.server.lasting.boot t).backs armed None n h user call c.clock id st es shown H w q (has_run s c past p n h user call e H up at w refl refl) (saves_boot y k vs r past ∙ (sk.boot _ ∙ up_boots s c past H up)) (unheard_after s c past p n h user call r e H up at w refl) tt

@@ -27,7 +27,7 @@ use Rattle.afs_rows.specs.Callbacks.{Turn, replies_of, pumped, expired, turn_for
 use Rattle.afs_rows.specs.ClientRow.{names_told, body_told}
 use Rattle.afs_rows.specs.Going.{asked, Going}
 use Rattle.afs_law.specs.Ideal.{shown_status, Tells, TellsIn, TellsOf, volume_after, version_in, latest, IsThat, user_of, clock_of, last_version, HasVersion, reach, call_under}
-use Rattle.afs_law.specs.Legal.{IsThere, code_given, IsResult, RunsHere, AreGood, Cause, IsTold, answer_at, answer_on, as_asked}
+use Rattle.afs_law.specs.Legal.{GoodGrant, IsThere, code_given, IsResult, RunsHere, AreGood, Cause, IsTold, answer_at, answer_on, as_asked}
 use Rattle.afs_history.specs.declared.lines.Line.{Line}
 use Rattle.afs_law.specs.Past.{server_boot, IsCall, code_told, IsUnheard, lines_of, sent_of, given_message, called_key, HasCode, IsCallUnder, Ran, onto, same_key, answered_key}
 use Rattle.afs_rows.specs.Runs.{Entry, message_at, Armed, Fall}
@@ -178,7 +178,7 @@ quiet s c past armed p m t h up at dull notes good turns loads =
     let e : Entry = told_entry p t.lines ms in
     let k : Skips t.lines = skips t.lines notes in
     let rest : Rests s e past = told_rests s p t.lines ms past k in
-    let pump : Pumps c.server.lasting.boot c.server.seats (seats_of c) c.clock c.sent (e ∷ past) t = let l = loads e refl in pumps c.server.lasting.boot c.server.seats (seats_of c) c.clock c.sent e past t refl (k.clock _ ∙ h.clock) l.backed l.sends in
+    let pump : Pumps c.server.lasting.boot c.server.seats (seats_of c) c.clock c.sent (e ∷ past) t = let l = loads e refl in pumps c.server.lasting.boot c.server.seats (seats_of c) c.clock c.sent e past t refl (k.clock _ ∙ h.clock) l.backed l.sends (k.boot _ ∙ up_boots s c past h up) in
     record {
       good = (refl, good);
       replies = pump.good;
@@ -198,7 +198,7 @@ acts_alone s c past armed t h up notes good turns loads =
     let e : Entry = noted_entry t.lines ms in
     let k : Skips t.lines = skips t.lines notes in
     let rest : Rests s e past = noted_rests s t.lines ms past k in
-    let pump : Pumps c.server.lasting.boot c.server.seats (seats_of c) c.clock c.sent (e ∷ past) t = let l = loads e refl in pumps c.server.lasting.boot c.server.seats (seats_of c) c.clock c.sent e past t refl (k.clock _ ∙ h.clock) l.backed l.sends in
+    let pump : Pumps c.server.lasting.boot c.server.seats (seats_of c) c.clock c.sent (e ∷ past) t = let l = loads e refl in pumps c.server.lasting.boot c.server.seats (seats_of c) c.clock c.sent e past t refl (k.clock _ ∙ h.clock) l.backed l.sends (k.boot _ ∙ up_boots s c past h up) in
     record {
       good = good;
       replies = pump.good;
@@ -678,7 +678,7 @@ refuses_goes s c past armed p n h user call code H up at w nz result =
     let t : Turn = turn_for the_server c.server c.clock (expired c.clock c.server.backs) (refuses (client_head n h) code) in
     let ms : List Message = (pumped the_server c.server.lasting.boot t).sent in
     let e : Entry = record { actor = actors.Node the_server; lines = lines.Given p ∷ []; sent = ms; volumes = [] } in
-    let pump : Pumps c.server.lasting.boot (seats_after c n h r) (seats_of c) c.clock c.sent (e ∷ past) t = pumps c.server.lasting.boot (seats_after c n h r) (seats_of c) c.clock c.sent e past t refl H.clock (run_backed s c past n h user call x e (expired c.clock c.server.backs).lists.promises H up w (λ y. y) refl refl refl (granted_over e past (expired c.clock c.server.backs).lists.promises refl ((up_backed s c past H up).granted refl)) ((up_backed s c past H up).clients refl).promised (promised_over None (expired c.clock c.server.backs).lists.promises c.clock c.clock e past refl (le_refl _) (up_backed s c past H up).promised)) (record { good = tt; calls = tt; dones = tt }) in
+    let pump : Pumps c.server.lasting.boot (seats_after c n h r) (seats_of c) c.clock c.sent (e ∷ past) t = pumps c.server.lasting.boot (seats_after c n h r) (seats_of c) c.clock c.sent e past t refl H.clock (run_backed s c past n h user call x e (expired c.clock c.server.backs).lists.promises H up w (λ y. y) refl refl refl (granted_over e past (expired c.clock c.server.backs).lists.promises refl ((up_backed s c past H up).granted refl)) ((up_backed s c past H up).clients refl).promised (promised_over None (expired c.clock c.server.backs).lists.promises c.clock c.clock e past refl (le_refl _) (up_backed s c past H up).promised)) (record { good = tt; calls = tt; dones = tt }) (up_boots s c past H up) in
     record {
       good = (refl, tt);
       holds = serves false s (Some c.server.lasting.boot) c past n h user call x e (stock c.server) (pumped the_server c.server.lasting.boot t).backs None armed H w
@@ -730,10 +730,13 @@ own_found u (Some y) x e = own_found_by (nat_eq y.unique u) y x e
 pub body_same : (a b : Found) → shows_body a ≡ shows_body b → a ≡ b
 body_same a b e = cc
 
--- grants are always good
-pub granted_good : (s : Script) (past : List Entry) (own : List Line) (c : Node) (x : ℕ) (fs : List Found) → AreGood s (actors.Node the_server) past own (granted the_server c x fs [])
-granted_good s past own c x [] = tt
-granted_good s past own c x (f ∷ fs) = (refl, granted_good s past (lines.Grant the_server c f.fid f.vnode.index x ∷ own) c x fs)
+-- grants are good where a call of the client runs
+pub grant_more : (c : Node) (f : Fid) (i x : ℕ) (past : List Entry) (own : List Line) → GoodGrant the_server c x past own → GoodGrant the_server c x past (lines.Grant the_server c f i x ∷ own)
+grant_more c f i x past own g = record { key = g.key; node = g.node; ran = record { boot = g.ran.boot; up = g.ran.up; given = g.ran.given; first = g.ran.first }; going = g.going; lasts = g.lasts }
+
+pub granted_good : (s : Script) (past : List Entry) (own : List Line) (c : Node) (x : ℕ) (fs : List Found) → GoodGrant the_server c x past own → AreGood s (actors.Node the_server) past own (granted the_server c x fs [])
+granted_good s past own c x [] g = tt
+granted_good s past own c x (f ∷ fs) g = ((refl, g), granted_good s past (lines.Grant the_server c f.fid f.vnode.index x ∷ own) c x fs (grant_more c f.fid f.vnode.index x past own g))
 
 pub version_fid : (f : Fid) (v : Volume) (x : Vnode) → vnode_of f v ≡ Some x → (version_at f.volume f.vnode x).fid ≡ f
 version_fid f v x e = ap (λ (u : ℕ). fid_at f.volume f.vnode u) (own_unique f.unique (get f.vnode v.vnodes) x e)
@@ -1000,9 +1003,9 @@ shows_by s c past armed p n h user call r H up at w is code done =
     (run_backed s c past n h user call z e turn.backs.lists.promises H up w (λ y. y) (granted_all is_up (Client n) t fs (λ f i. refl)) (granted_all is_oweless (Client n) t fs (λ f i. refl)) (granted_all is_unchanging (Client n) t fs (λ f i. refl))
     (all_granted (Client n) t fs (lines.Given p ∷ lines_of past) (without_promises (Client n) r.given_up ps) (gone_granted (Client n) r.given_up (lines_of past) ps (B.granted refl)))
     (granted_to_client t n fs (without_promises (Client n) r.given_up ps) (gone_to_clients (Client n) r.given_up ps (B.clients refl).promised))
-    (all_promised (Client n) t c.clock fs (lines.Given p ∷ before_own e past) (without_promises (Client n) r.given_up ps) given)) (record { good = tt; calls = tt; dones = tt }) in
+    (all_promised (Client n) t c.clock fs (lines.Given p ∷ before_own e past) (without_promises (Client n) r.given_up ps) given)) (record { good = tt; calls = tt; dones = tt }) boots in
     record {
-      good = (refl, granted_good s past (lines.Given p ∷ []) (Client n) t fs);
+      good = (refl, granted_good s past (lines.Given p ∷ []) (Client n) t fs (record { key = called_key (client_head n h); node = refl; ran = runs_here s c past p n h user call H up at w; going = λ z. z; lasts = ap (λ (i : ℕ). i + promise_ticks) (sym H.clock) }));
       holds = serves false s (Some c.server.lasting.boot) c past n h user call z e (stock c.server) (pumped the_server c.server.lasting.boot turn).backs None armed H w
           (serves_still s c past n h user call z e H w rest.file rest.reach rest.act (λ g. rest.last g (lines_of past)) (λ id. H.ideal id ∙ sym (rest.ideal id)) (λ id v found. rest.home id (lines_of past) (H.home id v found)) (λ key above. rest.new key (lines_of past) (H.new key above)) (k.clock (lines.Given p ∷ lines_of past) ∙ H.clock)
           (λ f i b x. subst (λ (o : Option Version). i ≤ index_in o) (sym (rest.last f (lines_of past))) (H.top f i b (rest.back f i b (lines_of past) x))) (λ f i a b x y. H.one f i a b (rest.back f i a (lines_of past) x) (rest.back f i b (lines_of past) y)) (λ y. y)

@@ -23,7 +23,7 @@ use Rattle.afs_rows.specs.Callbacks.{put_at, Turn, Started, expired, is_all, wai
 use Rattle.afs_law.specs.Ideal.{clock_of}
 use Rattle.afs_law.specs.Legal.{GoodGift, HasChange, GoodReply, AreGoodSent}
 use Rattle.afs_history.specs.declared.lines.Line.{Line}
-use Rattle.afs_law.specs.Past.{lines_of, sent_of, given_message, answered_key, IsCallUnder, Sends}
+use Rattle.afs_law.specs.Past.{server_boot, lines_of, sent_of, given_message, answered_key, IsCallUnder, Sends}
 use Rattle.afs_rows.specs.Runs.{Entry}
 use Rattle.afs_law.proofs.OneCell.{the_server}
 use Rattle.afs_rows.specs.States.{Seat, BackCall, Held, Backs}
@@ -174,19 +174,21 @@ held_all P (x ∷ xs) ys h = let q = held_all P xs ys h.1 in ((h.0, q.0), q.1)
 ready_not : (n : ℕ) (o : Owed) (ks : List ℕ) (os : List Owed) (X : Type 0) → IsNumberIn n ks → IsIn o os → o.number ≡ n → waits_none ks os ≡ true → X
 ready_not n o ks os X a b c e = let x : waits_none ks os ≡ false = not_ready n ks os a (number_in n o os b c) in absurd cc
 
-reply_good : (b : Backs) (boot : ℕ) (seats : List Seat) (cs : ℕ → Option Seat) (clock : ℕ) (sent : List Message) (past : List Entry) (h : Held) → BackedIn None b boot seats cs clock sent past → clock_of (lines_of past) ≡ clock → HeldWaits seats clock past h → is_ready b.lists.owed h ≡ true → GoodReply past h.reply
-reply_good b boot seats cs clock sent past h B time w ready is nought i from =
-    subst (λ (s : Node). AllOwes s (EndedOf s (answered_key h.reply.head) (clock_of (lines_of past))) past × (HasChange (answered_key h.reply.head) (lines_of past) → AllOwes s (EndedAll s (clock_of (lines_of past))) past)) (sym w.from)
-    (subst (λ (t : ℕ). AllOwes the_server (EndedOf the_server (answered_key h.reply.head) t) past × (HasChange (answered_key h.reply.head) (lines_of past) → AllOwes the_server (EndedAll the_server t) past)) (sym time) (
-      (λ newer at older before after c what n split line k y. elim (B.accounted newer at older before after c what n split line) [
-        | inl x ↦ x
-        | inr x ↦ elim (w.own newer at older before after c what n split line k y) [ inl z ↦ z | inr z ↦ ready_not n x.1.o h.waits b.lists.owed _ z x.1.is_in x.1.number ready ]
-      ]),
-      (λ changed newer at older before after c what n split line all. elim (B.accounted newer at older before after c what n split line) [
-        | inl x ↦ x
-        | inr x ↦ elim (w.all changed newer at older before after c what n split line all) [ inl z ↦ z | inr z ↦ ready_not n x.1.o h.waits b.lists.owed _ z x.1.is_in x.1.number ready ]
-      ]),
-    ))
+reply_good : (b : Backs) (boot : ℕ) (seats : List Seat) (cs : ℕ → Option Seat) (clock : ℕ) (sent : List Message) (past : List Entry) (h : Held) → BackedIn None b boot seats cs clock sent past → clock_of (lines_of past) ≡ clock → HeldWaits seats clock past h → is_ready b.lists.owed h ≡ true → server_boot the_server (lines_of past) ≡ Some boot → GoodReply past h.reply
+reply_good b boot seats cs clock sent past h B time w ready up is nought i from = (
+  subst (λ (s : Node). AllOwes s (EndedOf s (answered_key h.reply.head) (clock_of (lines_of past))) past × (HasChange (answered_key h.reply.head) (lines_of past) → AllOwes s (EndedAll s (clock_of (lines_of past))) past)) (sym w.from)
+      (subst (λ (t : ℕ). AllOwes the_server (EndedOf the_server (answered_key h.reply.head) t) past × (HasChange (answered_key h.reply.head) (lines_of past) → AllOwes the_server (EndedAll the_server t) past)) (sym time) (
+        (λ newer at older before after c what n split line k y. elim (B.accounted newer at older before after c what n split line) [
+          | inl x ↦ x
+          | inr x ↦ elim (w.own newer at older before after c what n split line k y) [ inl z ↦ z | inr z ↦ ready_not n x.1.o h.waits b.lists.owed _ z x.1.is_in x.1.number ready ]
+        ]),
+        (λ changed newer at older before after c what n split line all. elim (B.accounted newer at older before after c what n split line) [
+          | inl x ↦ x
+          | inr x ↦ elim (w.all changed newer at older before after c what n split line all) [ inl z ↦ z | inr z ↦ ready_not n x.1.o h.waits b.lists.owed _ z x.1.is_in x.1.number ready ]
+        ]),
+      )),
+  λ down. let e : None ≡ Some boot = sym (subst (λ (q : Node). server_boot q (lines_of past) ≡ None) w.from down) ∙ up in absurd cc,
+)
 
 -- what is no call gives nothing back
 pub reply_gift : (head : Head) (c : Carried) (ls : List Line) → (OfReply ⊥ c → ⊥) → GoodGift head c ls
@@ -199,9 +201,9 @@ good_by : (t : Bool) (past : List Entry) (h : Held) (rest : List Held) → (t �
 good_by true past h rest a is b = ((a refl, reply_gift h.reply.head h.reply.carried (lines_of past) is), b)
 good_by false past h rest a is b = b
 
-replies_good : (b : Backs) (boot : ℕ) (seats : List Seat) (cs : ℕ → Option Seat) (clock : ℕ) (sent : List Message) (past : List Entry) (hs : List Held) → BackedIn None b boot seats cs clock sent past → clock_of (lines_of past) ≡ clock → AllOf (HeldWaits seats clock past) hs → AreGoodSent past (replies_of (filter (is_ready b.lists.owed) hs))
-replies_good b boot seats cs clock sent past [] B time w = tt
-replies_good b boot seats cs clock sent past (h ∷ hs) B time w = good_by (is_ready b.lists.owed h) past h (filter (is_ready b.lists.owed) hs) (λ e. reply_good b boot seats cs clock sent past h B time w.0 e) w.0.is_reply (replies_good b boot seats cs clock sent past hs B time w.1)
+replies_good : (b : Backs) (boot : ℕ) (seats : List Seat) (cs : ℕ → Option Seat) (clock : ℕ) (sent : List Message) (past : List Entry) (hs : List Held) → BackedIn None b boot seats cs clock sent past → clock_of (lines_of past) ≡ clock → AllOf (HeldWaits seats clock past) hs → server_boot the_server (lines_of past) ≡ Some boot → AreGoodSent past (replies_of (filter (is_ready b.lists.owed) hs))
+replies_good b boot seats cs clock sent past [] B time w up = tt
+replies_good b boot seats cs clock sent past (h ∷ hs) B time w up = good_by (is_ready b.lists.owed h) past h (filter (is_ready b.lists.owed) hs) (λ e. reply_good b boot seats cs clock sent past h B time w.0 e up) w.0.is_reply (replies_good b boot seats cs clock sent past hs B time w.1 up)
 
 pub good_more : (past : List Entry) (a b : List Message) → AreGoodSent past a → AreGoodSent past b → AreGoodSent past (a ++ b)
 good_more past [] b h k = k
@@ -445,11 +447,11 @@ pub record Pumps (boot : ℕ) (seats : List Seat) (cs : ℕ → Option Seat) (cl
 was_sent : (e : Entry) (past : List Entry) (k : Key) (user : List ℕ) (call : FsCall) → Sends k user call e.sent → WasSent k user call (e ∷ past)
 was_sent e past k user call h = inl h
 
-pub pumps : (boot : ℕ) (seats : List Seat) (cs : ℕ → Option Seat) (clock : ℕ) (sent : List Message) (e : Entry) (past : List Entry) (t : Turn) → e.sent ≡ (pumped the_server boot t).sent → clock_of (lines_of (e ∷ past)) ≡ clock → BackedIn None (loaded t) boot seats cs clock sent (e ∷ past) → TurnSends (loaded t) boot (e ∷ past) t.sent → Pumps boot seats cs clock sent (e ∷ past) t
-pumps boot seats cs clock sent e past t is time h s =
+pub pumps : (boot : ℕ) (seats : List Seat) (cs : ℕ → Option Seat) (clock : ℕ) (sent : List Message) (e : Entry) (past : List Entry) (t : Turn) → e.sent ≡ (pumped the_server boot t).sent → clock_of (lines_of (e ∷ past)) ≡ clock → BackedIn None (loaded t) boot seats cs clock sent (e ∷ past) → TurnSends (loaded t) boot (e ∷ past) t.sent → server_boot the_server (lines_of (e ∷ past)) ≡ Some boot → Pumps boot seats cs clock sent (e ∷ past) t
+pumps boot seats cs clock sent e past t is time h s up =
     let q = held_all (HeldWaits seats clock (e ∷ past)) t.backs.held t.outs (h.waiting refl) in
     record {
-      good = calls_good boot (e ∷ past) t.backs.lists.owed _ (good_more (e ∷ past) t.sent _ s.good (replies_good (loaded t) boot seats cs clock sent (e ∷ past) (t.outs ++ t.backs.held) h time (all_both (HeldWaits seats clock (e ∷ past)) t.outs t.backs.held q.1 q.0)));
+      good = calls_good boot (e ∷ past) t.backs.lists.owed _ (good_more (e ∷ past) t.sent _ s.good (replies_good (loaded t) boot seats cs clock sent (e ∷ past) (t.outs ++ t.backs.held) h time (all_both (HeldWaits seats clock (e ∷ past)) t.outs t.backs.held q.1 q.0) up));
       clients = (h.clients refl).owed;
       backed = started_all boot seats cs clock sent (e ∷ past) t.backs.lists.owed _ (released boot seats cs clock sent (e ∷ past) t h s) (h.owing refl) (h.clients refl).owed (λ k user call x. was_sent e past k user call (subst (λ (ms : List Message). Sends k user call ms) (sym is) x));
     }

@@ -268,7 +268,7 @@ begun_elsewhere h = let e : actors.Node (Client 2) ≡ actors.Node (Client 1) = 
 
 granted_elsewhere : Legal (six_by 1 (moved_to (actors.Node (Client 1)))) (script 2) → ⊥
 unfolding moved begin_row client_row server_row back_timeout_row wake_row start_row record_bytes head_form volume_form spelled opaque pad word laid_at led name_ok directory_bytes name_bytes rights_of image acl_text digits entry_text
-granted_elsewhere h = let e : actors.Node (Client 1) ≡ actors.Node (Server 1) = h.1.0.0.0.1.0 in absurd cc
+granted_elsewhere h = let e : actors.Node (Client 1) ≡ actors.Node (Server 1) = h.1.0.0.0.1.0.0 in absurd cc
 
 changed_by_nobody : Legal (six_by 3 (moved_to actors.Nobody)) (script 2) → ⊥
 unfolding moved begin_row client_row server_row back_timeout_row wake_row start_row record_bytes head_form volume_form spelled opaque pad word laid_at led name_ok directory_bytes name_bytes rights_of image acl_text digits entry_text
@@ -299,7 +299,7 @@ nought l = l
 
 owed_nought : Legal (six_by 3 (by_lines nought)) (script 2) → ⊥
 unfolding moved begin_row client_row server_row back_timeout_row wake_row start_row record_bytes head_form volume_form spelled opaque pad word laid_at led name_ok directory_bytes name_bytes rights_of image acl_text digits entry_text
-owed_nought h = let e : 0 < 0 = h.1.1.1.0.0.0.1.1.1.0.1 in absurd (omega arith)
+owed_nought h = let e : 0 < 0 = h.1.1.1.0.0.0.1.1.1.0.1.0 in absurd (omega arith)
 
 -- an entry that brings a volume
 abbrev brings : Entry → Entry

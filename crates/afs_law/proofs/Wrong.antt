@@ -1,4 +1,6 @@
 -- Histories that are wrong for one reason each: a run, altered in one entry, of which just one condition isn't met.
+use Rattle.afs_num.specs.declared.types.Key.{Key}
+use Rattle.afs_num.specs.declared.types.Head.{Head}
 use Rattle.afs_records.specs.Records.{record_bytes, head_form, volume_form}
 use Rattle.afs_rows.specs.ServerSteps.{server_row, back_timeout_row, wake_row, start_row}
 use Rattle.afs_history.specs.declared.acts.Act.TheVariants as acts
@@ -28,7 +30,7 @@ use Rattle.afs_rows.specs.Runs.{Entry, comes_up, steady}
 use Rattle.afs_xdr.specs.Words.{opaque, pad, word, opaque_at, word_at, counted_at}
 use Rattle.afs_law.specs.Ideal.{set_up}
 use Rattle.afs_law.specs.Once.{past_of}
-use Rattle.afs_law.specs.Past.{code_told, given_message, lines_of, sent_of}
+use Rattle.afs_law.specs.Past.{IsUnheard, IsCallUnder, Ran, answered_key, code_told, given_message, lines_of, sent_of}
 use Rattle.afs_num.specs.declared.calls.FsCall.{FsCall}
 use Rattle.afs_num.specs.declared.histories.Actor.TheVariants as actors
 use Rattle.afs_num.specs.declared.messages.Call.TheVariants as ask
@@ -164,6 +166,78 @@ changed_an_entry_late : Legal (parted (entries (start (script 2)) six_front)) (s
 unfolding moved begin_row client_row server_row back_timeout_row wake_row start_row record_bytes head_form volume_form spelled opaque pad word laid_at led name_ok directory_bytes name_bytes rights_of image acl_text digits entry_text directory_of names_at opaque_at word_at counted_at whole_at count_at name_at spelled_at bytes_below
 changed_an_entry_late h = let g = h.1.1.1.1.0.0.0.0.1 in elim g.place [ inl x ↦ x.given | inr y ↦ y.boots ]
 
+-- a break becomes owed an entry before the change that it is for: that change then owes nobody
+abbrev owes_ahead : List Entry → List Entry
+owes_ahead [] = []
+owes_ahead (e ∷ []) = record e { lines = drop 3 e.lines; sent = [] } ∷ record e { lines = take 3 e.lines } ∷ []
+owes_ahead (e ∷ f ∷ es) = e ∷ owes_ahead (f ∷ es)
+
+owed_ahead : Legal (owes_ahead (entries (start (script 2)) six_front)) (script 2) → ⊥
+unfolding moved begin_row client_row server_row back_timeout_row wake_row start_row record_bytes head_form volume_form spelled opaque pad word laid_at led name_ok directory_bytes name_bytes rights_of image acl_text digits entry_text directory_of names_at opaque_at word_at counted_at whole_at count_at name_at spelled_at bytes_below
+owed_ahead h = h.1.1.1.0.0.0.0.1.1
+
+-- a promise beside no call, which ends at once: the one before it would seem to be over
+abbrev promises_nothing : List Entry → List Entry
+promises_nothing [] = []
+promises_nothing (e ∷ []) = record e { lines = lines.Grant (Server 1) (Client 1) file 1 0 ∷ []; sent = [] } ∷ record e { lines = take 3 e.lines } ∷ []
+promises_nothing (e ∷ f ∷ es) = e ∷ promises_nothing (f ∷ es)
+
+granted_beside_no_call : Legal (promises_nothing (entries (start (script 2)) six_front)) (script 2) → ⊥
+unfolding moved begin_row client_row server_row back_timeout_row wake_row start_row record_bytes head_form volume_form spelled opaque pad word laid_at led name_ok directory_bytes name_bytes rights_of image acl_text digits entry_text directory_of names_at opaque_at word_at counted_at whole_at count_at name_at spelled_at bytes_below
+granted_beside_no_call h = h.1.1.1.0.0.0.0.1.ran.given
+
+-- one that ends before its time
+abbrev shortly : Entry → Entry
+shortly e = record e { lines = lines.Given 1 ∷ lines.Grant (Server 1) (Client 1) file 1 0 ∷ [] }
+
+granted_shortly : Legal (alters 1 shortly (entries (start (script 1)) (begins 1 (acts.Open (operands.Fid file)) ∷ gives 1 steady ∷ []))) (script 1) → ⊥
+unfolding moved begin_row client_row server_row back_timeout_row wake_row start_row record_bytes head_form volume_form spelled opaque pad word laid_at led name_ok directory_bytes name_bytes rights_of image acl_text digits entry_text directory_of names_at opaque_at word_at counted_at whole_at count_at name_at spelled_at bytes_below
+granted_shortly h = let e : 0 ≡ 7200 = h.1.0.0.0.1.0.1.lasts in absurd cc
+
+-- a store is answered an entry before its call runs: what that owes holds back nothing
+abbrev store_front : List Input
+store_front = begins 1 (acts.Close (operands.Fid file) (Hex (codes "def"))) ∷ gives 1 steady ∷ []
+
+abbrev answers_ahead : List Entry → List Entry
+answers_ahead [] = []
+answers_ahead (e ∷ []) = record e { lines = [] } ∷ record e { sent = [] } ∷ []
+answers_ahead (e ∷ f ∷ es) = e ∷ answers_ahead (f ∷ es)
+
+heard_in : (newer : List Entry) (at : Entry) (older : List Entry) (s : Node) (k : Key) (boot : ℕ) → IsUnheard s k boot (newer ++ (at ∷ older)) → IsCallUnder s k boot (given_message at.lines (sent_of older)) → ⊥
+heard_in [] at older s k boot h x = h.0 x
+heard_in (e ∷ newer) at older s k boot h x = heard_in newer at older s k boot h.1 x
+
+-- who ran a call was given it
+ran_heard : (reply : Head) (past : List Entry) → Ran reply past → IsUnheard reply.from (answered_key reply) reply.boot past → ⊥
+ran_heard reply past r h = heard_in r.newer r.at r.older reply.from (answered_key reply) reply.boot (subst (IsUnheard reply.from (answered_key reply) reply.boot) r.split h) (subst (IsCallUnder reply.from (answered_key reply) reply.boot) (sym r.given) ((r.is_call, r.callee), (r.key, r.boot)))
+
+answered_ahead : Legal (answers_ahead (entries (start (script 1)) store_front)) (script 1) → ⊥
+unfolding moved begin_row client_row server_row back_timeout_row wake_row start_row record_bytes head_form volume_form spelled opaque pad word laid_at led name_ok directory_bytes name_bytes rights_of image acl_text digits entry_text directory_of names_at opaque_at word_at counted_at whole_at count_at name_at spelled_at bytes_below
+answered_ahead h = ran_heard _ _ (h.1.0.1.1.0 1 1 (refl, tt) refl refl) ((λ x. x), ((λ x. x), ((λ x. x), tt)))
+
+-- the server stops behind the change, and answers in the same entry
+abbrev stops_there : Entry → Entry
+stops_there e = record e { lines = e.lines ++ lines.Crash (Server 1) ∷ [] }
+
+answered_when_down : Legal (alters 1 stops_there (entries (start (script 1)) store_front)) (script 1) → ⊥
+unfolding moved begin_row client_row server_row back_timeout_row wake_row start_row record_bytes head_form volume_form spelled opaque pad word laid_at led name_ok directory_bytes name_bytes rights_of image acl_text digits entry_text directory_of names_at opaque_at word_at counted_at whole_at count_at name_at spelled_at bytes_below
+answered_when_down h = (h.1.0.0.1.0.0 (refl, tt) refl 1 refl).1 refl
+
+-- a server that is down runs a call
+abbrev after_a_stop : List Entry → List Entry
+after_a_stop [] = []
+after_a_stop (e ∷ []) = record e { lines = lines.Crash (Server 1) ∷ []; sent = [] } ∷ e ∷ []
+after_a_stop (e ∷ f ∷ es) = e ∷ after_a_stop (f ∷ es)
+
+run_when_down : Legal (after_a_stop (entries (start (script 1)) store_front)) (script 1) → ⊥
+unfolding moved begin_row client_row server_row back_timeout_row wake_row start_row record_bytes head_form volume_form spelled opaque pad word laid_at led name_ok directory_bytes name_bytes rights_of image acl_text digits entry_text directory_of names_at opaque_at word_at counted_at whole_at count_at name_at spelled_at bytes_below
+run_when_down h =
+    let g = h.1.1.0.0.0.1.0.1 in
+    elim g.place [
+      | inl x ↦ let e : None ≡ Some x.boot = x.up in absurd cc
+      | inr y ↦ y.boots
+    ]
+
 -- a server runs a call that is to another boot than its own
 abbrev to_boot_two : Entry → Entry
 to_boot_two e = record e { sent = map (λ (m : Message). record m { head = record m.head { boot = 2 } }) e.sent }
@@ -290,7 +364,7 @@ dead_at_once h =
 -- a client grants itself what it likes
 granted_by_a_client : Legal (alters 0 (instead (begun 1 ∷ lines.Grant (Client 1) (Client 1) file 1 7200 ∷ [])) (entries (start (script 1)) (begins 1 (acts.Open (operands.Fid file)) ∷ []))) (script 1) → ⊥
 unfolding moved begin_row client_row server_row back_timeout_row wake_row start_row record_bytes head_form volume_form spelled opaque pad word laid_at led name_ok directory_bytes name_bytes rights_of image acl_text digits entry_text directory_of names_at opaque_at word_at counted_at whole_at count_at name_at spelled_at bytes_below
-granted_by_a_client h = h.0.0.0.1.0
+granted_by_a_client h = h.0.0.0.1.0.0
 
 -- another server than that of the volume grants, and a read rests on that
 abbrev by_two : Node → Node

@@ -1,4 +1,5 @@
-use Rattle.std.specs.Prelude.{Bool, true, ◌≡◌, ℕ, ◌≤◌, ◌<◌, List, [], ◌∷◌, ◌++◌, false, Option, Some, None, ℤ, pos, negsuc, length, ⊤, ◌⊎◌, if◌then◌else◌}
+use Rattle.afs_rows.specs.ServerRow.{promise_ticks}
+use Rattle.std.specs.Prelude.{◌+◌, Bool, true, ◌≡◌, ℕ, ◌≤◌, ◌<◌, List, [], ◌∷◌, ◌++◌, false, Option, Some, None, ℤ, pos, negsuc, length, ⊤, ◌⊎◌, if◌then◌else◌}
 use Rattle.afs_num.specs.Nodes.{same_node}
 use Rattle.afs_num.specs.declared.types.Code.{Code}
 use Rattle.afs_num.specs.declared.types.Fid.{Fid}
@@ -168,6 +169,7 @@ pub record RanBefore (server : Node) (k : Key) (past : List Entry) (own next : L
 pub record GoodChange (s : Script) (server : Node) (k : Key) (count : ℕ) (past : List Entry) (own next : List Line) : Type 0 where
   pub fresh : IsNew k (own ++ lines_of past)
   pub place : RunsHere server k past own ⊎ RanBefore server k past own next
+  pub going : HasStopped server own → ⊥
   pub only : change_key own ≡ None
   pub user : List ℕ
   pub call : FsCall
@@ -187,6 +189,25 @@ pub record GoodChange (s : Script) (server : Node) (k : Key) (count : ℕ) (past
   pub number : count ≡ length (versions_first next)
   pub owed : (j : ℕ) (f : Fid) (x : ℕ) → (Client j ≡ k.node → ⊥) → IsChanged f (versions_first next) → live_grant server (Client j) f (own ++ lines_at server past) ≡ Some x → clock_of (own ++ lines_of past) < x → HasOwe server (Client j) (Some f) next
   pub home : Accepts s id server (own ++ lines_of past)
+
+-- the server grants in the entry that runs a call of the client, and so long
+pub record GoodGrant (server c : Node) (expiry : ℕ) (past : List Entry) (own : List Line) : Type 0 where
+  pub key : Key
+  pub node : key.node ≡ c
+  pub ran : RunsHere server key past own
+  pub going : HasStopped server own → ⊥
+  pub lasts : expiry ≡ clock_of (own ++ lines_of past) + promise_ticks
+
+-- the server began again in this entry
+abbrev pub HasRisen : Node → List Line → Type 0
+HasRisen s [] = ⊥
+HasRisen s (lines.Restart n boot ∷ own) = (n ≡ s) ⊎ HasRisen s own
+HasRisen s (l ∷ own) = HasRisen s own
+
+-- a break becomes owed where a fid changes, or where the server began again
+abbrev pub GoodOwe : Node → Node → Option Fid → List Line → Type 0
+GoodOwe s c None own = HasRisen s own
+GoodOwe s c (Some f) own = IsWithdrawn s c f own
 
 -- a version stands under its change; that these are not too many is said of the change
 abbrev pub IsUnderChange : List Line → Type 0
@@ -349,10 +370,10 @@ GoodGift head (carried.Call user (ask.File (calls.GiveUpCallBacks fids callbacks
 GoodGift head c ls = ⊤
 
 -- A reply with code 0 of a server: every break is ended that the server owes in an entry that ran its key; and where that key
--- changed something, every one on all. `past` begins with the entry that sends it
+-- changed something, every one on all; and the server is up. `past` begins with the entry that sends it
 abbrev pub GoodReply : List Entry → Message → Type 0
 GoodReply past m = IsReply m → code_told m.carried ≡ Some (pos 0) → (i : ℕ) → m.head.from ≡ Server i
-    → AllOwes m.head.from (EndedOf m.head.from (answered_key m.head) (clock_of (lines_of past))) past × (HasChange (answered_key m.head) (lines_of past) → AllOwes m.head.from (EndedAll m.head.from (clock_of (lines_of past))) past)
+    → (AllOwes m.head.from (EndedOf m.head.from (answered_key m.head) (clock_of (lines_of past))) past × (HasChange (answered_key m.head) (lines_of past) → AllOwes m.head.from (EndedAll m.head.from (clock_of (lines_of past))) past)) × (server_boot m.head.from (lines_of past) ≡ None → ⊥)
 
 abbrev pub AreGoodSent : List Entry → List Message → Type 0
 AreGoodSent past [] = ⊤
@@ -386,7 +407,7 @@ IsOfServer who n = ⊥
 abbrev pub IsGood : Script → Actor → Line → List Entry → List Line → List Line → Type 0
 IsGood s who (lines.Begin c act) past own next = IsOfClient who c
 IsGood s who (lines.Given place) past own next = has_given own ≡ false
-IsGood s who (lines.Grant server c f index expiry) past own next = IsOfServer who server
+IsGood s who (lines.Grant server c f index expiry) past own next = IsOfServer who server × GoodGrant server c expiry past own
 IsGood s who (lines.Change server k count) past own next = IsOfServer who server × GoodChange s server k count past own next
 IsGood s who (lines.Version v) past own next = IsUnderChange own
 IsGood s who (lines.Read c f index source body) past own next = (IsOfClient who c × HasAct s c past own) × GoodReadBy s (is_promised body) c f index source body past own
@@ -401,7 +422,7 @@ IsGood s who (lines.Restart n boot) past own next = (who ≡ actors.Node n) × G
 IsGood s who (lines.Full n) past own next = IsOfServer who n
 IsGood s who (lines.Drop c f) past own next = IsOfClient who c
 IsGood s who (lines.DropAll c server) past own next = IsOfClient who c
-IsGood s who (lines.Owe server c what n) past own next = IsOfServer who server × (last_number server (own ++ lines_of past) < n)
+IsGood s who (lines.Owe server c what n) past own next = IsOfServer who server × ((last_number server (own ++ lines_of past) < n) × GoodOwe server c what own)
 IsGood s who (lines.Settle server c n) past own next = IsOfServer who server × GoodSettle server c n past own
 IsGood s who (lines.Quit server c n) past own next = IsOfServer who server × GoodQuit server c n past own
 IsGood s who lines.Void past own next = who ≡ actors.Nobody
