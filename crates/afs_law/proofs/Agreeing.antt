@@ -10,7 +10,7 @@ use Rattle.afs_num.specs.declared.histories.ReadBody.TheVariants as seen
 use Rattle.afs_ideal.specs.Told.{Agrees}
 use Rattle.afs_ideal.specs.Volumes.{Volume}
 use Rattle.afs_law.proofs.Answering.{idle_newest, idle_reached}
-use Rattle.afs_law.proofs.Edits.{agrees_of, SoundIn}
+use Rattle.afs_law.proofs.Edits.{granted_in, agrees_of, SoundIn}
 use Rattle.afs_law.proofs.Facts.{view, Holds}
 use Rattle.afs_law.proofs.Law.{goes, starts}
 use Rattle.afs_rows.specs.ClientRow.{find_cached}
@@ -73,6 +73,7 @@ trusted_shown s h end one r j none f e found lasts body shows =
       expiry = e.expiry;
       grant = cur.held.grant;
       home = home_of s end past f e.index (seen.Status e.status) cur.held.grant.server k cur.held.server cur.held.whole.been (until (Client j) f e.expiry cur.reply past cur.held.grant);
+      granted = λ v y. granted_in _ v e.index cur.held.least y;
       lasts = subst (λ (t : ℕ). t < e.expiry) (sym k.clock) lasts;
       kept = cur.held.kept refl;
       newest = idle_newest j f e.index _ _ (view k.floors end j) past none cur.state;

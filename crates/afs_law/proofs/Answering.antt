@@ -33,7 +33,7 @@ use Rattle.afs_law.proofs.Basics.{IfCall, ByClient, guest, Above, IfReply, IfNot
 use Rattle.afs_ideal.specs.Operations.{volume_changed}
 use Rattle.afs_law.proofs.Asking.{carried_is, client_asking, client_ended, own_read, safe_over, client_kept, call_known, reply_still, step_entry, view_after, moves, nothing_new, Heard, told_passes, answered_seen, own_zero, answered_lines, answered_file, answered_reach, answered_passes, quiet, safe_cache, own_call, asks, own_begun, no_scope, same_one, heard_dull, new_one}
 use Rattle.afs_law.proofs.Dropping.{left_out, called_goes}
-use Rattle.afs_law.proofs.Edits.{Ones, index_in}
+use Rattle.afs_law.proofs.Edits.{granted_in, Ones, index_in}
 use Rattle.afs_law.proofs.Facts.{ToClient, CallIn, FitsShown, IsOld, IsWhole, IsBody, HasOld, IsClient, IsPlain, IsKeptBody, IsTrusted, Ghost, Seen, IsAged, Spot, spot, LastStored, IsStored, IsSafe, Fits, View, view, last_key, LastRan, Reached, IsNewest, Overtaken, Stands, IsCurrent, HasCurrent, Answers, stored_index, ClientFacts, CallFact, ReplyFact, ReplyIn, Holds, Goes, IsFetched, FitsPlain, FitsData, FitsSet, FitsReply, WasStored, WasChanged, InScope, IsNoticed}
 use Rattle.afs_law.proofs.Owing.{BackIn}
 use Rattle.afs_law.proofs.Passing.{PassesReach, old_within, old_over, PassesSeen, PassesGrant, PassesFile, StaysNewest, stays, held_over, fetch_reply_by, current_over, kept_over, cause_behind}
@@ -573,7 +573,7 @@ fetched_walks s c past n p act m u body h d shut kind from shown a lt =
       reply = m;
       boot = d.fact.booted;
       from = from;
-      held = record { grant = a.held.grant; server = a.held.server; kept = a.held.kept; whole = whole; base = a.held.base; split = a.held.split; begun = a.held.begun };
+      held = record { grant = a.held.grant; server = a.held.server; kept = a.held.kept; whole = whole; base = a.held.base; split = a.held.split; begun = a.held.begun; least = a.held.least };
       newest = a.newest;
       low = raised_by u.fid u.index (λ t. le_refl _) a.reached;
       by = used_reply (is_promised body) n u.fid false (message_at (sent_of past) p) (fetch_reply (Client n) u.fid past) kind ∙ d.at;
@@ -593,6 +593,7 @@ fetched_walks s c past n p act m u body h d shut kind from shown a lt =
               expiry = u.expiry;
               grant = a.held.grant;
               home = home_of s c past u.fid u.index (seen.Status u.status) a.held.grant.server h a.held.server a.held.whole.been (until (Client n) u.fid u.expiry m past a.held.grant);
+              granted = λ v e. granted_in _ v u.index a.held.least e;
               lasts = subst (λ (t : ℕ). t < u.expiry) (sym h.clock) lt;
               kept = a.held.kept refl;
               newest = a.newest;
@@ -894,6 +895,7 @@ reads_good s c past n most m at ls a cache u h w same f lasts =
       expiry = u.expiry;
       grant = f.held.grant;
       home = home_of s c past u.fid u.index (seen.Status u.status) f.held.grant.server h f.held.server f.held.whole.been (until (Client n) u.fid u.expiry m past f.held.grant);
+      granted = λ v e. granted_in _ v u.index f.held.least e;
       lasts = subst (λ (o : List Line). clock_of o < u.expiry) (own_lines ls (lines_of past)) (subst (λ (t : ℕ). t < u.expiry) (sym (quiet_clock n ls w.quiet (lines_of past) ∙ h.clock)) lasts);
       kept = λ d. f.held.kept refl (p.dropped f.held.grant.server new (subst (IsDropped f.held.grant.server (Client n) u.fid) (sym (own_lines ls new)) d));
       newest = elim f.newest [
@@ -915,7 +917,7 @@ reads_next s c past n k m at ls a cache u h w le from same f lasts =
       reply = m;
       boot = le;
       from = from;
-      held = record { grant = f.held.grant; server = f.held.server; kept = f.held.kept; whole = whole; base = f.held.base; split = f.held.split; begun = f.held.begun };
+      held = record { grant = f.held.grant; server = f.held.server; kept = f.held.kept; whole = whole; base = f.held.base; split = f.held.split; begun = f.held.begun; least = f.held.least };
       newest = f.newest;
       low = rises u.fid u.index (λ z. le_refl _) (w.low u.fid u.index f.reached (λ z. le_of_eq (sym same)));
       fetched = true;
@@ -1012,7 +1014,7 @@ pub record IsStoreBy (act : Going) (call : FsCall) (f : Fid) : Type 0 where
   pub asks : asked act ≡ call
   pub unread : IsNoRead call
   pub scope : (g : Fid) → is_in_scope call g ≡ same_fid f g
-  pub changed : (n : ℕ) (g : Fid) (server : Node) (newer : List Line) (reply : Option Message) (past : List Entry) → WasChanged n g server newer reply past call → WasStored n g server newer reply past
+  pub changed : (n : ℕ) (g : Fid) (old : ℕ) (server : Node) (newer : List Line) (reply : Option Message) (past : List Entry) → WasChanged n g old server newer reply past call → WasStored n g old server newer reply past
 
 -- what the store made of the body of the client's entry was told
 abbrev pub IsLeft : Cell → ℕ → Fid → ℕ → ReadStatus → (Option Body → Option Body) → List Entry → Type 0
@@ -1025,7 +1027,7 @@ pub stored_state : (fl : ℕ → Ghost) (c : Cell) (past : List Entry) (n p : �
 stored_state fl c past n p act call f b m index i server newer e cache d is same told r stay q (inl a) = absurd (a.before act d.running (ap (λ (z : FsCall). is_in_scope z f) same.asks ∙ (same.scope f ∙ same_fid-refl f)) is.ran)
 stored_state fl c past n p act call f b m index i server newer e cache d is same told r stay q (inr o) =
     let one : o.act ≡ act = some_of o.act act (sym o.runs ∙ d.running) in
-    let w : WasStored n f server newer o.ran.seat.reply past = same.changed n f server newer o.ran.seat.reply past (subst (λ (z : FsCall). WasChanged n f server newer o.ran.seat.reply past z) (ap asked one ∙ same.asks) o.changed) in
+    let w : WasStored n f i server newer o.ran.seat.reply past = same.changed n f i server newer o.ran.seat.reply past (subst (λ (z : FsCall). WasChanged n f i server newer o.ran.seat.reply past z) (ap asked one ∙ same.asks) o.changed) in
     let is_reply : m ≡ w.reply = one_reply (spot (view fl c n)) is.ran o.ran m w.reply is.kept w.kept in
     let same_index : w.index ≡ index = some_of _ _ (sym w.told ∙ (ap (λ (x : Message). stored_index x.carried) (sym is_reply) ∙ told)) in
     inl (record {
@@ -1033,6 +1035,17 @@ stored_state fl c past n p act call f b m index i server newer e cache d is same
       newest = subst (λ (k : ℕ). IsNewest server n f k (onto newer e.lines) (lines_of (e ∷ past))) same_index (stay server w.index newer q w.newest);
       before = λ y x sc ran. absurd cc;
     })
+
+-- and its index is above that of the entry
+stored_above : (fl : ℕ → Ghost) (c : Cell) (past : List Entry) (n p : ℕ) (act : Going) (call : FsCall) (f : Fid) (m : Message) (index i : ℕ) (server : Node) (newer : List Line) → Due c fl past n p act m → IsStored (spot (view fl c n)) m → IsStoreBy act call f → stored_index m.carried ≡ Some index
+    → Stands n f i server newer (view fl c n) past → i ≤ index
+stored_above fl c past n p act call f m index i server newer d is same told (inl a) = absurd (a.before act d.running (ap (λ (z : FsCall). is_in_scope z f) same.asks ∙ (same.scope f ∙ same_fid-refl f)) is.ran)
+stored_above fl c past n p act call f m index i server newer d is same told (inr o) =
+    let one : o.act ≡ act = some_of o.act act (sym o.runs ∙ d.running) in
+    let w : WasStored n f i server newer o.ran.seat.reply past = same.changed n f i server newer o.ran.seat.reply past (subst (λ (z : FsCall). WasChanged n f i server newer o.ran.seat.reply past z) (ap asked one ∙ same.asks) o.changed) in
+    let is_reply : m ≡ w.reply = one_reply (spot (view fl c n)) is.ran o.ran m w.reply is.kept w.kept in
+    let same_index : w.index ≡ index = some_of _ _ (sym w.told ∙ (ap (λ (x : Message). stored_index x.carried) (sym is_reply) ∙ told)) in
+    subst (λ (k : ℕ). i ≤ k) same_index w.above
 
 -- that of the file
 pub stored_own : (s : Script) (c : Cell) (past : List Entry) (n p : ℕ) (act : Going) (call : FsCall) (f : Fid) (b : Option Body → Option Body) (m : Message) (index : ℕ) (status : ReadStatus) (x : CacheEntry) (e : Entry) (cache : List CacheEntry) → (h : Holds s c past) → Due c h.floors past n p act m → IsStored (spot (view h.floors c n)) m → IsStoreBy act call f → stored_index m.carried ≡ Some index
@@ -1043,7 +1056,7 @@ stored_own s c past n p act call f b m index status x e cache h d is same told w
   boot = cur.boot;
   by = fetch_reply_by (has_fetched (Client n) f e.lines) (given_message e.lines (sent_of past)) (fetch_reply (Client n) f past) pass.fetched ∙ cur.by;
   from = cur.from;
-  held = held_over n f index status (b x.body) x.expiry cur.reply e past pass.grant (record { grant = cur.held.grant; server = cur.held.server; kept = cur.held.kept; whole = whole; base = cur.held.base; split = cur.held.split; begun = cur.held.begun });
+  held = held_over n f index status (b x.body) x.expiry cur.reply e past pass.grant (record { grant = cur.held.grant; server = cur.held.server; kept = cur.held.kept; whole = whole; base = cur.held.base; split = cur.held.split; begun = cur.held.begun; least = le_trans cur.held.least (stored_above h.floors c past n p act call f m index x.index cur.held.grant.server (since (Client n) f x.expiry cur.reply past cur.held.grant) d is same told cur.state) });
   state = stored_state h.floors c past n p act call f b m index x.index cur.held.grant.server (since (Client n) f x.expiry cur.reply past cur.held.grant) e cache d is same told r stay cur.held.server cur.state;
 }
 
@@ -1359,7 +1372,7 @@ pub data_stored : (t : Bool) (s : Script) (c : Cell) (past : List Entry) (n p : 
     → Goes s past (client_moves c n (cond t (takes_plain (Client n) (c.clients n) p (calls.StoreData f st pp ww ll b)) (takes_stored (Client n) (c.clients n) c.clock p f status.sync_counter (status_told status) (λ body. Some (bodies.File b)))))
 data_stored true s c past n p act st pp ww ll f b status m reply h d is told same fits = plain_goes s c past n p act (calls.StoreData f st pp ww ll b) m reply h d is same tt
 data_stored false s c past n p act st pp ww ll f b status m reply h d is told same fits =
-    takes_saved s c past n p act (calls.StoreData f st pp ww ll b) f (λ body. Some (bodies.File b)) status.sync_counter (status_told status) m h d (ap code_told is) (λ code x. absurd (reply_not reply code (sym is ∙ x))) (record { asks = asks_just (c.clients n).gifts act (calls.StoreData f st pp ww ll b) refl same; unread = tt; scope = λ g. refl; changed = λ k g server newer o older w. w }) told fits.1.0 fits.1.1 (λ x found lasts. record { is = bodies.File b; told = fits.0.0; holds = (refl, tt); been = fits.0.1 })
+    takes_saved s c past n p act (calls.StoreData f st pp ww ll b) f (λ body. Some (bodies.File b)) status.sync_counter (status_told status) m h d (ap code_told is) (λ code x. absurd (reply_not reply code (sym is ∙ x))) (record { asks = asks_just (c.clients n).gifts act (calls.StoreData f st pp ww ll b) refl same; unread = tt; scope = λ g. refl; changed = λ k g old server newer o older w. w }) told fits.1.0 fits.1.1 (λ x found lasts. record { is = bodies.File b; told = fits.0.0; holds = (refl, tt); been = fits.0.1 })
 
 -- the entry stands just below the new index, so its body is that of the version before
 same_body : (b : Option Body) (is body : Body) → IsBody b is → is ≡ body → IsBody b body
@@ -1391,9 +1404,9 @@ pub set_goes : (s : Script) (c : Cell) (past : List Entry) (n p : ℕ) (act : Go
     → call_of (c.clients n) act ≡ call → FitsSet n (spot (view h.floors c n)) m past status call → Goes s past (client_moves c n (takes_set (Client n) (c.clients n) c.clock p status call))
 set_goes s c past n p act (calls.StoreData f st pp ww ll b) status m reply h d is told same fits = data_stored (c.clients n).spoiled s c past n p act st pp ww ll f b status m reply h d is told same fits
 set_goes s c past n p act (calls.StoreAcl f acl) status m reply h d is told same fits =
-    status_by (c.clients n).spoiled (is_below c.clock status.sync_counter (find_cached f (c.clients n).cache)) s c past n p act (calls.StoreAcl f acl) f status.sync_counter (status_told status) m reply h d is told (record { asks = asks_just (c.clients n).gifts act _ refl same; unread = tt; scope = λ g. refl; changed = λ k g server newer o older w. w }) same fits.1.0 fits.1.1 fits.0.0 fits.0.1 refl
+    status_by (c.clients n).spoiled (is_below c.clock status.sync_counter (find_cached f (c.clients n).cache)) s c past n p act (calls.StoreAcl f acl) f status.sync_counter (status_told status) m reply h d is told (record { asks = asks_just (c.clients n).gifts act _ refl same; unread = tt; scope = λ g. refl; changed = λ k g old server newer o older w. w }) same fits.1.0 fits.1.1 fits.0.0 fits.0.1 refl
 set_goes s c past n p act (calls.StoreStatus f st) status m reply h d is told same fits =
-    status_by (c.clients n).spoiled (is_below c.clock status.sync_counter (find_cached f (c.clients n).cache)) s c past n p act (calls.StoreStatus f st) f status.sync_counter (status_told status) m reply h d is told (record { asks = asks_just (c.clients n).gifts act _ refl same; unread = tt; scope = λ g. refl; changed = λ k g server newer o older w. w }) same fits.1.0 fits.1.1 fits.0.0 fits.0.1 refl
+    status_by (c.clients n).spoiled (is_below c.clock status.sync_counter (find_cached f (c.clients n).cache)) s c past n p act (calls.StoreStatus f st) f status.sync_counter (status_told status) m reply h d is told (record { asks = asks_just (c.clients n).gifts act _ refl same; unread = tt; scope = λ g. refl; changed = λ k g old server newer o older w. w }) same fits.1.0 fits.1.1 fits.0.0 fits.0.1 refl
 set_goes s c past n p act call status m reply h d is told same fits = plain_goes s c past n p act call m reply h d is same fits.0
 
 -- ---- promises were given back

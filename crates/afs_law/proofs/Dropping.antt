@@ -324,6 +324,7 @@ broken_fetched sp t n p m f i status body expiry fs ms past named last h =
         base = h.held.base;
         split = ap (λ (o : List Line). onto o e.lines) h.held.split ∙ onto_front new h.held.base e.lines;
         begun = h.held.begun;
+        least = h.held.least;
       };
       reached = (broken_reach n n p fs ms past f).seen i h.reached;
       newest = elim h.newest [ inl w ↦ inl ((skips n fs).withdrawn h.held.grant.server (Client n) f (lines.Given p ∷ new) w) | inr at ↦ inr (ap (option_map (λ (v : Version). v.index)) (last f) ∙ at) ];
@@ -351,7 +352,7 @@ or_right false b e = e
 spoils : (sp b : Bool) (n : ℕ) (f : Fid) (i : ℕ) (status : ReadStatus) (body : Option Body) (expiry : ℕ) (m : Message) (past : List Entry) → IsFetched sp n f i status body expiry m past → IsFetched (cond b true sp) n f i status body expiry m past
 spoils sp false n f i status body expiry m past h = h
 spoils sp true n f i status body expiry m past h = record {
-  held = record { grant = h.held.grant; server = h.held.server; kept = λ z d. absurd cc; whole = h.held.whole; base = h.held.base; split = h.held.split; begun = h.held.begun };
+  held = record { grant = h.held.grant; server = h.held.server; kept = λ z d. absurd cc; whole = h.held.whole; base = h.held.base; split = h.held.split; begun = h.held.begun; least = h.held.least };
   reached = h.reached;
   newest = h.newest;
 }
@@ -496,6 +497,7 @@ all_fetched sp n m f i status body expiry e past v r w last h =
         base = h.held.base;
         split = ap (λ (o : List Line). onto o e.lines) h.held.split ∙ onto_front new h.held.base e.lines;
         begun = h.held.begun;
+        least = h.held.least;
       };
       reached = (r f).seen i h.reached;
       newest = elim h.newest [ inl y ↦ inl (w f 0 h.held.grant.server new y) | inr at ↦ inr (ap (option_map (λ (v : Version). v.index)) (last f) ∙ at) ];

@@ -8,7 +8,7 @@ use Rattle.afs_law.proofs.Owing.{BackedIn}
 use Rattle.afs_rows.specs.Callbacks.{replies_of}
 use Rattle.afs_rows.specs.ClientRow.{boot_of, find_cached, body_told, server_at, status_told, call_by}
 use Rattle.afs_rows.specs.Going.{asked, answers, Going, Need, ClientState, next}
-use Rattle.afs_law.specs.Grants.{fetch_reply, GrantOf, since, IsWithdrawn, IsDropped}
+use Rattle.afs_law.specs.Grants.{until, fetch_reply, GrantOf, since, IsWithdrawn, IsDropped}
 use Rattle.afs_law.specs.Ideal.{last_version, IsLast, WasLast, HasBeen, HasVersion, Accepts, clock_of, user_of, reach, call_under, volume_after}
 use Rattle.afs_law.specs.Breaks.{HasStopped, HasTimeout}
 use Rattle.afs_law.specs.Legal.{AreDropped, AreFailed, IsThere, IsNew, Cause, AreGood, AreGoodSent, as_asked}
@@ -201,6 +201,7 @@ pub record Held (sp : Bool) (j : ℕ) (f : Fid) (index : ℕ) (status : ReadStat
   pub base : List Line
   pub split : lines_of past ≡ since (Client j) f expiry reply past grant ++ base
   pub begun : server_boot the_server base ≡ Some reply.head.boot
+  pub least : index_in (last_version f (until (Client j) f expiry reply past grant)) ≤ index
 
 abbrev pub IsNewest : Node → ℕ → Fid → ℕ → List Line → List Line → Type 0
 IsNewest server j f index newer older = IsWithdrawn server (Client j) f newer ⊎ IsLast f index older
@@ -220,20 +221,21 @@ stored_index (carried.Reply (tell.File (replies.StoreAcl status sync))) = Some s
 stored_index (carried.Reply (tell.File (replies.StoreStatus status sync))) = Some status.sync_counter
 stored_index c = None
 
-pub record WasStored (j : ℕ) (f : Fid) (server : Node) (newer : List Line) (kept_reply : Option Message) (past : List Entry) : Type 0 where
+pub record WasStored (j : ℕ) (f : Fid) (old : ℕ) (server : Node) (newer : List Line) (kept_reply : Option Message) (past : List Entry) : Type 0 where
   pub index : ℕ
   pub reply : Message
   pub kept : kept_reply ≡ Some reply
   pub told : stored_index reply.carried ≡ Some index
+  pub above : old ≤ index
   pub reached : Seen j f index past
   pub newest : IsNewest server j f index newer (lines_of past)
 
 -- after a store the reply tells the new index; after any other change the entry will be given up
-abbrev pub WasChanged : ℕ → Fid → Node → List Line → Option Message → List Entry → FsCall → Type 0
-WasChanged j f server newer reply past (calls.StoreData g status position wanted file_length contents) = WasStored j f server newer reply past
-WasChanged j f server newer reply past (calls.StoreAcl g acl) = WasStored j f server newer reply past
-WasChanged j f server newer reply past (calls.StoreStatus g status) = WasStored j f server newer reply past
-WasChanged j f server newer reply past call = ⊤
+abbrev pub WasChanged : ℕ → Fid → ℕ → Node → List Line → Option Message → List Entry → FsCall → Type 0
+WasChanged j f old server newer reply past (calls.StoreData g status position wanted file_length contents) = WasStored j f old server newer reply past
+WasChanged j f old server newer reply past (calls.StoreAcl g acl) = WasStored j f old server newer reply past
+WasChanged j f old server newer reply past (calls.StoreStatus g status) = WasStored j f old server newer reply past
+WasChanged j f old server newer reply past call = ⊤
 
 -- an entry whose client waits for the reply to its own call, which ran and may have changed that
 pub record IsOvertaken (j : ℕ) (f : Fid) (old : ℕ) (server : Node) (newer : List Line) (running : Option Going) (x : Spot) (past : List Entry) : Type 0 where
@@ -242,7 +244,7 @@ pub record IsOvertaken (j : ℕ) (f : Fid) (old : ℕ) (server : Node) (newer : 
   pub runs : running ≡ Some act
   pub scope : InScope (asked act) f
   pub ran : LastStored x
-  pub changed : WasChanged j f server newer ran.seat.reply past (asked act)
+  pub changed : WasChanged j f old server newer ran.seat.reply past (asked act)
 
 abbrev pub Overtaken : ℕ → Fid → ℕ → Node → List Line → View → List Entry → Type 0
 Overtaken j f old server newer v past = IsOvertaken j f old server newer v.running (spot v) past

@@ -120,6 +120,7 @@ held_over j f i t b x m e past p h = record {
   base = h.base;
   split = ap (λ (o : List Line). onto o e.lines) h.split ∙ onto_front (since (Client j) f x m past h.grant) h.base e.lines;
   begun = h.begun;
+  least = h.least;
 }
 
 -- a change stays told
@@ -205,22 +206,23 @@ current_over j f u v w e past le p st h = record {
   state = st h.held.grant.server (since (Client j) f u.expiry h.reply past h.held.grant) h.held.server h.state;
 }
 
-stored_over : (j : ℕ) (f : Fid) (server : Node) (newer : List Line) (reply : Option Message) (e : Entry) (past : List Entry) → PassesSeen j f e past → StaysNewest j f e past → server ≡ the_server → WasStored j f server newer reply past → WasStored j f server (onto newer e.lines) reply (e ∷ past)
-stored_over j f server newer reply e past r n q h = record {
+stored_over : (j : ℕ) (f : Fid) (old : ℕ) (server : Node) (newer : List Line) (reply : Option Message) (e : Entry) (past : List Entry) → PassesSeen j f e past → StaysNewest j f e past → server ≡ the_server → WasStored j f old server newer reply past → WasStored j f old server (onto newer e.lines) reply (e ∷ past)
+stored_over j f old server newer reply e past r n q h = record {
   index = h.index;
   reply = h.reply;
   kept = h.kept;
   told = h.told;
+  above = h.above;
   reached = r h.index h.reached;
   newest = n server h.index newer q h.newest;
 }
 
-was_over : (j : ℕ) (f : Fid) (server : Node) (newer : List Line) (reply : Option Message) (e : Entry) (past : List Entry) (call : FsCall) → PassesSeen j f e past → StaysNewest j f e past → server ≡ the_server
-    → WasChanged j f server newer reply past call → WasChanged j f server (onto newer e.lines) reply (e ∷ past) call
-was_over j f server newer reply e past (calls.StoreData g status position wanted file_length contents) r n q h = stored_over j f server newer reply e past r n q h
-was_over j f server newer reply e past (calls.StoreAcl g acl) r n q h = stored_over j f server newer reply e past r n q h
-was_over j f server newer reply e past (calls.StoreStatus g status) r n q h = stored_over j f server newer reply e past r n q h
-was_over j f server newer reply e past call r n q h = tt
+was_over : (j : ℕ) (f : Fid) (old : ℕ) (server : Node) (newer : List Line) (reply : Option Message) (e : Entry) (past : List Entry) (call : FsCall) → PassesSeen j f e past → StaysNewest j f e past → server ≡ the_server
+    → WasChanged j f old server newer reply past call → WasChanged j f old server (onto newer e.lines) reply (e ∷ past) call
+was_over j f old server newer reply e past (calls.StoreData g status position wanted file_length contents) r n q h = stored_over j f old server newer reply e past r n q h
+was_over j f old server newer reply e past (calls.StoreAcl g acl) r n q h = stored_over j f old server newer reply e past r n q h
+was_over j f old server newer reply e past (calls.StoreStatus g status) r n q h = stored_over j f old server newer reply e past r n q h
+was_over j f old server newer reply e past call r n q h = tt
 
 -- where the view stays
 pub stands_over : (j : ℕ) (f : Fid) (i : ℕ) (v : View) (e : Entry) (past : List Entry) → PassesSeen j f e past → StaysNewest j f e past
@@ -232,7 +234,7 @@ stands_over j f i v e past r n server newer q (inr h) = inr (record {
   runs = h.runs;
   scope = h.scope;
   ran = h.ran;
-  changed = was_over j f server newer h.ran.seat.reply e past (asked h.act) r n q h.changed;
+  changed = was_over j f i server newer h.ran.seat.reply e past (asked h.act) r n q h.changed;
 })
 
 old_by : (f : Fid) (i : ℕ) (b : Option Body) (ls more : List Line) → ((k : Body) → HasVersion f i k ls → HasVersion f i k more) → IsOld f i b ls → IsOld f i b more

@@ -414,7 +414,7 @@ abbrev pub NewEntry : Way → ℕ → Head → List Version → Message → Entr
 NewEntry y n h vs r = saved_entry y (called_key (client_head n h)) vs r
 
 pub own_stands : {s : Script} → (t : Bool) (y : Way) (fl : ℕ → Ghost) (c : Cell) (past : List Entry) (n : ℕ) (h : Head) (user : List ℕ) (call : FsCall) (vs : List Version) (r : Message) (g : Fid) (i : ℕ) (server : Node) (newer : List Line)
-    → Now s c fl past n h user call → is_in_scope call g ≡ t → (volume_changed call ≡ None → ⊥) → (touches g vs ≡ true → is_in_scope call g ≡ true) → (is_in_scope call g ≡ true → WasChanged n g server (onto newer (NewEntry y n h vs r).lines) (Some r) (NewEntry y n h vs r ∷ past) call)
+    → Now s c fl past n h user call → is_in_scope call g ≡ t → (volume_changed call ≡ None → ⊥) → (touches g vs ≡ true → is_in_scope call g ≡ true) → (is_in_scope call g ≡ true → WasChanged n g i server (onto newer (NewEntry y n h vs r).lines) (Some r) (NewEntry y n h vs r ∷ past) call)
     → (IsUntrusted c.clock g (c.clients n).cache → ⊥) → ((fl n).held < c.server.lasting.boot → IsWithdrawn server (Client n) g newer) → Stands n g i server newer (view fl c n) past
     → Stands n g i server (onto newer (NewEntry y n h vs r).lines) (caller_view true fl c n h r) (NewEntry y n h vs r ∷ past)
 own_stands {s} t y fl c past n h user call vs r g i server newer w q some scope changed there aged (inr o) = absurd (not_ran (view fl c n) h.epoch h.number w.above_durable w.fact.behind o.ran)
@@ -429,7 +429,7 @@ own_stands {s} true y fl c past n h user call vs r g i server newer w q some sco
           runs = own.runs;
           scope = subst (λ (x : FsCall). is_in_scope x g ≡ true) own.asks q;
           ran = record { seat = taken n h r; at = refl; epoch = own.epoch'; number = own.number' };
-          changed = subst (λ (x : FsCall). WasChanged n g server (onto newer (NewEntry y n h vs r).lines) (Some r) (NewEntry y n h vs r ∷ past) x) own.asks (changed q);
+          changed = subst (λ (x : FsCall). WasChanged n g i server (onto newer (NewEntry y n h vs r).lines) (Some r) (NewEntry y n h vs r ∷ past) x) own.asks (changed q);
         })
         | inr third ↦ elim third [
           | inl none ↦ absurd (there (none g q))
@@ -513,31 +513,33 @@ saved_reply c head time times user call id v es shown = replied c.server.lasting
 abbrev pub reply_saved : Cell → Head → ℕ → List ℕ → FsCall → ℕ → Stored → List Edit → ℕ → Message
 reply_saved c head time user call id st es shown = saved_reply c head time (time_in (stored_after id time es st)) user call id st.volume es shown
 
-pub was_stored : (call : FsCall) (f : Fid) (y : Way) (s : Script) (c : Cell) (past : List Entry) (n : ℕ) (head : Head) (user : List ℕ) (id time : ℕ) (times : Fid → ℕ) (v : Volume) (es : List Edit) (shown : ℕ) (k : Key) (g : Fid) (server : Node) (newer : List Line) → Holds s c past → Change' c past user call id v es shown → stored_fid call ≡ Some f → f.volume ≡ id → f ≡ g
-    → WasStored n g server newer (Some (saved_reply c head time times user call id v es shown)) (saved_entry y k (versions_by id es v) (saved_reply c head time times user call id v es shown) ∷ past)
-was_stored call f y s c past n head user id time times v es shown k g server newer H q is at fg =
+pub was_stored : (call : FsCall) (f : Fid) (y : Way) (s : Script) (c : Cell) (past : List Entry) (n : ℕ) (head : Head) (user : List ℕ) (id time : ℕ) (times : Fid → ℕ) (v : Volume) (es : List Edit) (shown : ℕ) (k : Key) (g : Fid) (old : ℕ) (server : Node) (newer : List Line) → Holds s c past → Change' c past user call id v es shown → stored_fid call ≡ Some f → f.volume ≡ id → f ≡ g → old ≤ index_in (last_version g (lines_of past))
+    → WasStored n g old server newer (Some (saved_reply c head time times user call id v es shown)) (saved_entry y k (versions_by id es v) (saved_reply c head time times user call id v es shown) ∷ past)
+was_stored call f y s c past n head user id time times v es shown k g old server newer H q is at fg above =
     let r : Message = saved_reply c head time times user call id v es shown in
     let x : Storing f (amend_of call) v es shown = storing id (the_user user) call f v es shown is q.result in
     let last = store_last y s c past user call f (amend_of call) id v es shown k r H q at x in
     let before = store_before s c past user call f (amend_of call) id v es shown H q at x in
     let low : (reach (Client n) f past).seen ≤ x.vnode.index = (reached_at s c past n f (version_at id f.vnode x.vnode) H before).seen in
-    subst (λ (z : Fid). WasStored n z server newer (Some r) (saved_entry y k (versions_by id es v) r ∷ past)) fg
+    let old_low : old ≤ x.vnode.index = subst (λ (o : Option Version). old ≤ index_in o) before (subst (λ (z : Fid). old ≤ index_in (last_version z (lines_of past))) (sym fg) above) in
+    subst (λ (z : Fid). WasStored n z old server newer (Some r) (saved_entry y k (versions_by id es v) r ∷ past)) fg
     (record {
       index = x.vnode.index + 1;
       reply = r;
       kept = refl;
       told = store_told call id time user times f v es shown is x;
+      above = omega arith;
       reached = seen_saved y n k (versions_by id es v) r past f (x.vnode.index + 1) (omega arith);
       newest = inr (ap (option_map (λ (z : Version). z.index)) last);
     })
 
 -- an entry that the caller's own change has overtaken
-pub was_changed : (call : FsCall) (y : Way) (s : Script) (c : Cell) (past : List Entry) (n : ℕ) (head : Head) (user : List ℕ) (id time : ℕ) (times : Fid → ℕ) (v : Volume) (es : List Edit) (shown : ℕ) (k : Key) (g : Fid) (server : Node) (newer : List Line) → Holds s c past → Change' c past user call id v es shown → is_in_scope call g ≡ true
-    → WasChanged n g server newer (Some (saved_reply c head time times user call id v es shown)) (saved_entry y k (versions_by id es v) (saved_reply c head time times user call id v es shown) ∷ past) call
-was_changed (calls.StoreData f st p w l b) y s c past n head user id time times v es shown k g server newer H q scope = was_stored (calls.StoreData f st p w l b) f y s c past n head user id time times v es shown k g server newer H q refl (some_of f.volume id q.of_volume) (same_fid-true f g scope)
-was_changed (calls.StoreAcl f acl) y s c past n head user id time times v es shown k g server newer H q scope = was_stored (calls.StoreAcl f acl) f y s c past n head user id time times v es shown k g server newer H q refl (some_of f.volume id q.of_volume) (same_fid-true f g scope)
-was_changed (calls.StoreStatus f st) y s c past n head user id time times v es shown k g server newer H q scope = was_stored (calls.StoreStatus f st) f y s c past n head user id time times v es shown k g server newer H q refl (some_of f.volume id q.of_volume) (same_fid-true f g scope)
-was_changed call y s c past n head user id time times v es shown k g server newer H q scope = tt
+pub was_changed : (call : FsCall) (y : Way) (s : Script) (c : Cell) (past : List Entry) (n : ℕ) (head : Head) (user : List ℕ) (id time : ℕ) (times : Fid → ℕ) (v : Volume) (es : List Edit) (shown : ℕ) (k : Key) (g : Fid) (old : ℕ) (server : Node) (newer : List Line) → Holds s c past → Change' c past user call id v es shown → old ≤ index_in (last_version g (lines_of past)) → is_in_scope call g ≡ true
+    → WasChanged n g old server newer (Some (saved_reply c head time times user call id v es shown)) (saved_entry y k (versions_by id es v) (saved_reply c head time times user call id v es shown) ∷ past) call
+was_changed (calls.StoreData f st p w l b) y s c past n head user id time times v es shown k g old server newer H q above scope = was_stored (calls.StoreData f st p w l b) f y s c past n head user id time times v es shown k g old server newer H q refl (some_of f.volume id q.of_volume) (same_fid-true f g scope) above
+was_changed (calls.StoreAcl f acl) y s c past n head user id time times v es shown k g old server newer H q above scope = was_stored (calls.StoreAcl f acl) f y s c past n head user id time times v es shown k g old server newer H q refl (some_of f.volume id q.of_volume) (same_fid-true f g scope) above
+was_changed (calls.StoreStatus f st) y s c past n head user id time times v es shown k g old server newer H q above scope = was_stored (calls.StoreStatus f st) f y s c past n head user id time times v es shown k g old server newer H q refl (some_of f.volume id q.of_volume) (same_fid-true f g scope) above
+was_changed call y s c past n head user id time times v es shown k g old server newer H q above scope = tt
 
 pub stored_reach : (y : Way) (past : List Entry) (n : ℕ) (k : Key) (id : ℕ) (vs : List Version) (r : Message) (f : Fid) (w : Version) → last_version f (lines_of (saved_entry y k vs r ∷ past)) ≡ Some w → Grow id vs (base y k (length vs) (lines_of past)) → Reached (Client n) f (index_in (last_version f (lines_of past))) past
     → Reached (Client n) f w.index (saved_entry y k vs r ∷ past)
@@ -849,7 +851,7 @@ saves_holds y s now c past after armed d n h user call time id st es shown H w q
             from = cur.from;
             held = held_over n f u.index u.status u.body u.expiry cur.reply e past (saves_grant y n k vs r past f) cur.held;
             state = own_stands (is_in_scope call f) y fl c past n h user call vs r f u.index cur.held.grant.server (since (Client n) f u.expiry cur.reply past cur.held.grant) w refl some (scope f u.index cur.held.whole.is cur.held.whole.told)
-                (λ t. was_changed call y s c past n (client_head n h) user id time (time_in (stored_after id time es st)) st.volume es shown k f cur.held.grant.server (onto (since (Client n) f u.expiry cur.reply past cur.held.grant) e.lines) H q t) (λ z. z u found lasts) (old_withdrawn s c past n f u H cur) cur.state;
+                (λ t. was_changed call y s c past n (client_head n h) user id time (time_in (stored_after id time es st)) st.volume es shown k f u.index cur.held.grant.server (onto (since (Client n) f u.expiry cur.reply past cur.held.grant) e.lines) H q (H.top f u.index cur.held.whole.is cur.held.whole.told) t) (λ z. z u found lasts) (old_withdrawn s c past n f u H cur) cur.state;
           };
       made = λ a runs f o known. made_saved y n k vs r past f (λ z. no_touch' (touches f vs) (λ t. elim (w.acts z a ((H.clients n).runs a runs)) [
         | inl none ↦ some none

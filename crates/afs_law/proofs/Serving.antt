@@ -6,7 +6,7 @@ use Rattle.afs_num.specs.declared.calls.AfsCallBack.{AfsCallBack}
 use Rattle.afs_law.proofs.Facts.{is_passing, IsGot}
 use Rattle.afs_ideal.specs.AccessLists.{acl_text}
 use Rattle.afs_num.specs.declared.histories.ReadBody.{ReadBody}
-use Rattle.std.proofs.Common.{◌≡◌, ℕ, ◌+◌, ◌<◌, ◌≤◌, ◌⊎◌, inl, inr, Bool, true, false, cond, nat_eq, List, [], ◌∷◌, ◌++◌, Option, Some, None, ℤ, pos, refl, sym, ap, subst, ◌∙◌, arith, eqb-true, append-nil, append_assoc, eq-eqb}
+use Rattle.std.proofs.Common.{le_of_eq, ◌≡◌, ℕ, ◌+◌, ◌<◌, ◌≤◌, ◌⊎◌, inl, inr, Bool, true, false, cond, nat_eq, List, [], ◌∷◌, ◌++◌, Option, Some, None, ℤ, pos, refl, sym, ap, subst, ◌∙◌, arith, eqb-true, append-nil, append_assoc, eq-eqb}
 use Rattle.afs_num.specs.declared.directories.Name.{Name}
 use Rattle.afs_ideal.proofs.DirectoryBytes.{spelled_is_read}
 use Rattle.afs_ideal.specs.Operations.{shows_volume, shows_status, shows_body, Found, Shown, Result, shows_acl, volume_called, Caller, changes}
@@ -730,6 +730,10 @@ own_found u (Some y) x e = own_found_by (nat_eq y.unique u) y x e
 pub body_same : (a b : Found) → shows_body a ≡ shows_body b → a ≡ b
 body_same a b e = cc
 
+grants_last : (c : Node) (x : ℕ) (fs : List Found) (f : Fid) (o : List Line) → last_version f (onto o (granted the_server c x fs [])) ≡ last_version f o
+grants_last c x [] f o = refl
+grants_last c x (g ∷ fs) f o = grants_last c x fs f (lines.Grant the_server c g.fid g.vnode.index x ∷ o)
+
 -- grants are good where a call of the client runs
 pub grant_more : (c : Node) (f : Fid) (i x : ℕ) (past : List Entry) (own : List Line) → GoodGrant the_server c x past own → GoodGrant the_server c x past (lines.Grant the_server c f i x ∷ own)
 grant_more c f i x past own g = record { key = g.key; node = g.node; ran = record { boot = g.ran.boot; up = g.ran.up; given = g.ran.given; first = g.ran.first }; going = g.going; lasts = g.lasts }
@@ -1033,6 +1037,7 @@ shows_by s c past armed p n h user call r H up at w is code done =
                     base = base;
                     split = ap (onto (lines_of past)) g.line ∙ (onto_parts (lines_of past) before (lines.Grant the_server (Client n) f.fid g.index t ∷ after) ∙ onto_front base after);
                     begun = grants_boot (Client n) t g.before (lines.Given p ∷ lines_of past) ∙ up_boots s c past H up;
+                    least = le_of_eq (ap index_in (grants_last (Client n) t g.before f.fid (lines.Given p ∷ lines_of past) ∙ last));
                   };
                   reached = (rest.reach n f.fid).seen f.vnode.index ((reached_at s c past n f.fid (version_at f.fid.volume f.fid.vnode f.vnode) H last).seen);
                   newest = inr (ap (option_map (λ (y : Version). y.index)) (rest.last f.fid (lines_of past) ∙ last));

@@ -23,7 +23,7 @@ use Rattle.afs_num.specs.declared.histories.Version.{Version}
 use Rattle.afs_num.specs.declared.histories.ReadSource.TheVariants.{Cached, Fetched}
 use Rattle.afs_law.proofs.Asking.{same_entry, own_read, used_found, step_entry}
 use Rattle.afs_law.proofs.Basics.{same_fid-true, found-cached-fid, raised_up_to, both}
-use Rattle.afs_law.proofs.Edits.{index_in}
+use Rattle.afs_law.proofs.Edits.{granted_in, index_in}
 use Rattle.afs_law.proofs.Facts.{AreApart, IsBody, IsWhole, Held, IsNewest, IsCurrent, View, Reached, LastRan, Holds}
 use Rattle.afs_law.proofs.Homes.{home_of}
 use Rattle.afs_law.proofs.Passing.{PassesGrant, held_over, onto_front, stays}
@@ -161,6 +161,7 @@ ready_good s c past n most ls need u body h q lasts shown r =
       expiry = u.expiry;
       grant = r.held.grant;
       home = home_of s c past u.fid u.index (seen.Status u.status) r.held.grant.server h r.held.server r.held.whole.been (until (Client n) u.fid u.expiry r.reply past r.held.grant);
+      granted = λ v e. granted_in _ v u.index r.held.least e;
       lasts = subst (λ (o : List Line). clock_of o < u.expiry) (own_lines ls (lines_of past)) (subst (λ (t : ℕ). t < u.expiry) (sym (quiet_clock n ls q (lines_of past) ∙ h.clock)) lasts);
       kept = λ d. r.held.kept refl (p.dropped r.held.grant.server new (subst (IsDropped r.held.grant.server (Client n) u.fid) (sym (own_lines ls new)) d));
       newest = elim r.newest [

@@ -16,7 +16,7 @@ use Rattle.afs_ideal.specs.Volumes.{Volume, Edit, versions_by}
 use Rattle.afs_law.specs.Breaks.{AllOwes, HasStopped, HasTimeout, EndedOf, EndedAll, GoodSettle, GoodQuit, live_grant, lines_at, HasOwe, last_number}
 use Rattle.afs_rows.specs.Going.{Going, Need, answers, asks_for, next, asked, gives_back, reads_rights}
 use Rattle.afs_law.specs.Grants.{is_promised, read_reply, GrantOf, since, until, IsWithdrawn, IsDropped}
-use Rattle.afs_law.specs.Ideal.{Unless, set_up, IsLast, WasLast, HasBeen, HasVersion, Accepts, clock_of, user_of, seen, change_in, change_key, call_under, volume_after}
+use Rattle.afs_law.specs.Ideal.{last_version, Unless, set_up, IsLast, WasLast, HasBeen, HasVersion, Accepts, clock_of, user_of, seen, change_in, change_key, call_under, volume_after}
 use Rattle.afs_history.specs.declared.lines.Line.{Line}
 use Rattle.afs_law.specs.Past.{lines_of, sent_of, given_message, answered_key, code_told, IsReply, running, has_begun, has_given, Called, CalledSince, IsCallUnder, IsUnheard, Ran, server_boot}
 use Rattle.afs_rows.specs.Runs.{Entry}
@@ -86,6 +86,7 @@ pub record GoodRead (s : Script) (c : Node) (f : Fid) (index : ℕ) (source : Re
   pub expiry : ℕ
   pub grant : GrantOf c f expiry reply past
   pub home : Accepts s f.volume grant.server (until c f expiry reply past grant)
+  pub granted : (v : Version) → last_version f (until c f expiry reply past grant) ≡ Some v → v.index ≤ index
   pub lasts : clock_of (own ++ lines_of past) < expiry
   pub kept : IsDropped grant.server c f (own ++ since c f expiry reply past grant) → ⊥
   pub newest : IsWithdrawn grant.server c f (own ++ since c f expiry reply past grant) ⊎ IsLast f index (own ++ lines_of past)
