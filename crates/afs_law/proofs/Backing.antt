@@ -15,7 +15,7 @@ use Rattle.afs_num.specs.declared.types.Node.TheVariants.{Client}
 use Rattle.afs_num.specs.declared.calls.FsCall.{FsCall}
 use Rattle.afs_num.specs.declared.messages.Message.{Message}
 use Rattle.afs_law.proofs.Basics.{both, same_node-refl, Above, Each, IfBack, IfDone, each_more, each_map, if_back, if_done}
-use Rattle.afs_law.proofs.Owing.{AllOf, all_map, IsGranted, IsIn, IsNumberIn, AccountedBy, WaitedBy, AllWaitedBy, HeldWaits, IsOwed, CallOut, BackIn, DroppedOwe, IsDone, DoneIn, SeatedIn, BackedIn, Promised, Numbered, Rising, ToClients, is_held}
+use Rattle.afs_law.proofs.Owing.{CarriedOwe, AllOf, all_map, IsGranted, IsIn, IsNumberIn, AccountedBy, WaitedBy, AllWaitedBy, HeldWaits, IsOwed, CallOut, BackIn, DroppedOwe, IsDone, DoneIn, SeatedIn, BackedIn, Promised, Numbered, Rising, ToClients, is_held}
 use Rattle.afs_law.specs.Breaks.{returned_in, returned_by, is_unheard, is_entry_of, HasStopped, HasSettled, HasDrop, HasTimeout, last_grant, HasCome, Owes, AllOwes, EndedBy, OweAt, live_grant, is_on, last_number, lines_at, drops_of, fids_given_up, has_answer}
 use Rattle.afs_rows.specs.Callbacks.{key_answered, breaks_call}
 use Rattle.afs_law.specs.Legal.{HasChange}
@@ -237,8 +237,8 @@ pub call_over : (j : Node) (c : BackCall) (last more boot : ℕ) (e : Entry) (pa
 call_over j c last more boot e past le up h = record {
   number = le_trans h.number le;
   client = h.client;
-  owes = all_map (IsOwed j (lines_of past)) (IsOwed j (lines_of (e ∷ past))) (λ o x. owe_over j o.what o.number e past up x) c.breaks h.owes;
-  tries = λ t a b. timeout_onto the_server j boot c.number t e.lines (lines_of past) (h.tries t a b);
+  owes = all_map (CarriedOwe j c.number c.tries boot (lines_of past)) (CarriedOwe j c.number c.tries boot (lines_of (e ∷ past)))
+      (λ o x. record { owe = owe_over j o.what o.number e past up x.owe; tries = λ t a b. timeout_onto the_server j boot c.number t e.lines x.owe.newer (x.tries t a b) }) c.breaks h.owes;
   sent = inr h.sent;
   carries = h.carries;
 }

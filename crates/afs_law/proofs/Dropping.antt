@@ -17,7 +17,7 @@ use Rattle.afs_rows.specs.ServerRow.{not_served, replied, seat_for, boot_told}
 use Rattle.std.specs.Prelude.{◌&&◌, filter}
 use Rattle.afs_num.specs.declared.calls.AfsFetchStatus.{AfsFetchStatus}
 use Rattle.afs_law.proofs.Backing.{Plain, all_lines, is_up, is_still, is_oweless, is_unchanging, drop_onto, owe_over}
-use Rattle.afs_law.proofs.Owing.{AllOf, IsOwed, CallOut, BackIn, DroppedOwe, IsDone, SeatedIn}
+use Rattle.afs_law.proofs.Owing.{CarriedOwe, AllOf, IsOwed, CallOut, BackIn, DroppedOwe, IsDone, SeatedIn}
 use Rattle.afs_law.proofs.Pumping.{no_call, no_notice, of_reply_any}
 use Rattle.afs_law.proofs.Serving.{told_file, told_reach, told_act, reached_still}
 use Rattle.afs_law.specs.Breaks.{HasDrop, OweAt, CarriesBreak, NamesIn}
@@ -236,8 +236,8 @@ handled s c past n head user call e h b to up drop =
       dropped = λ k x y at q.
           let is : call ≡ breaks_call k.breaks = b.is k x y (ap c.server.backs.calls one ∙ at) q in
           let out : CallOut (Client n) k c.server.backs.last_call c.server.lasting.boot past = (h.backs refl).outs x (Client n) k at in
-          all_two (IsOwed (Client n) (lines_of past)) (λ (o : Owed). CarriesBreak (breaks_call k.breaks) o.what) (DroppedOwe (Client n) (lines_of (e ∷ past)))
-          (λ o z w. let owe : OweAt the_server (Client n) o.what o.number (lines_of past) = z in record { owe = owe_over (Client n) o.what o.number e past up owe; dropped = drop o.what owe.newer (subst (λ (u : FsCall). CarriesBreak u o.what) (sym is) w) }) k.breaks out.owes out.carries;
+          all_two (CarriedOwe (Client n) k.number k.tries c.server.lasting.boot (lines_of past)) (λ (o : Owed). CarriesBreak (breaks_call k.breaks) o.what) (DroppedOwe (Client n) (lines_of (e ∷ past)))
+          (λ o z w. let owe : OweAt the_server (Client n) o.what o.number (lines_of past) = z.owe in record { owe = owe_over (Client n) o.what o.number e past up owe; dropped = drop o.what owe.newer (subst (λ (u : FsCall). CarriesBreak u o.what) (sym is) w) }) k.breaks out.owes out.carries;
     }
 
 pub done_seated : (c : Cell) (n : ℕ) (past : List Entry) (x : ClientState) (head : Head) (y : Carried) → IsReply y → head.from ≡ the_server → head.to ≡ Client n → IsDone c.down c.server.backs.calls c.server.backs.last_call c.server.lasting.boot past (Client n) head.epoch head.number → SeatedIn c.down c.server.backs.calls c.server.backs.last_call c.server.lasting.boot past n (replied x.epoch head y)

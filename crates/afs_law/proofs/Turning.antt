@@ -17,7 +17,7 @@ use Rattle.afs_num.specs.declared.messages.Carried.{Carried}
 use Rattle.afs_num.specs.declared.messages.Message.{Message}
 use Rattle.afs_law.proofs.Backing.{back_pass, done_pass, CallsPass}
 use Rattle.afs_law.proofs.Basics.{both, same_node-true, Each, IfBack, IfDone, OfCall, OfReply, OfServer, ByServer, each_more, each_map, if_back, if_done, some_of}
-use Rattle.afs_law.proofs.Owing.{AllOf, all_map, all_both, all_filter, IsGranted, IsIn, IsNumberIn, HeldWaits, IsOwed, CallOut, BackIn, DoneIn, BackedIn, IsPromised, promise_to, IsClient, is_held}
+use Rattle.afs_law.proofs.Owing.{CarriedOwe, AllOf, all_map, all_both, all_filter, IsGranted, IsIn, IsNumberIn, HeldWaits, IsOwed, CallOut, BackIn, DoneIn, BackedIn, IsPromised, promise_to, IsClient, is_held}
 use Rattle.afs_law.specs.Breaks.{HasCome, AllOwes, EndedBy, EndedOf, EndedAll, CarriesBreak, NamesIn, WasSent}
 use Rattle.afs_rows.specs.Callbacks.{put_at, Turn, Started, expired, is_all, waits_none, is_ready, is_reply_to, key_answered, fids_of, breaks_call, fid_before, call_for, break_message, first_of, is_for, most_breaks, carries_for, started_call, starts_by, starts, replies_of, held_after, given_out, pumped}
 use Rattle.afs_law.specs.Ideal.{clock_of}
@@ -284,7 +284,7 @@ are_carried (Some f) o ls owed e h k =
     record { owes = all_map (IsPick o.client ls) (IsOwed o.client ls) (λ x y. y.owed) os p; carries = all_carried os (all_map (IsPick o.client ls) IsOnFid (λ x y. y.fid) os p) }
 
 call_more : (j : Node) (c : BackCall) (last more boot : ℕ) (past : List Entry) → last ≤ more → CallOut j c last boot past → CallOut j c more boot past
-call_more j c last more boot past le h = record { client = h.client; number = le_trans h.number le; owes = h.owes; tries = h.tries; sent = h.sent; carries = h.carries }
+call_more j c last more boot past le h = record { client = h.client; number = le_trans h.number le; owes = h.owes; sent = h.sent; carries = h.carries }
 
 put_by : (t : Bool) (j k : Node) (n c : BackCall) (o : Option BackCall) (X : Type 0) → same_node j k ≡ t → cond t (Some n) o ≡ Some c → (j ≡ k → n ≡ c → X) → (o ≡ Some c → X) → X
 put_by true j k n c o X e at a b = a (same_node-true j k e) (some_of n c at)
@@ -330,8 +330,7 @@ started_backed boot seats cs clock sent past t o None h is to was =
           (λ e q. subst (λ (k : Node). CallOut k c (last + 1) boot past) e (subst (λ (z : BackCall). CallOut o.client z (last + 1) boot past) q (record {
             number = le_refl _;
             client = to;
-            owes = carried_.owes;
-            tries = λ k a b. absurd (omega arith);
+            owes = all_map (IsOwed o.client (lines_of past)) (CarriedOwe o.client n.number n.tries boot (lines_of past)) (λ z w. record { owe = w; tries = λ k a b. absurd (omega arith) }) n.breaks carried_.owes;
             sent = was n refl (sends_last _ _ _ t.sent m (inl (refl, refl))) refl;
             carries = carried_.carries;
           })))

@@ -203,15 +203,15 @@ abbrev pub WasSent : Key → List ℕ → FsCall → List Entry → Type 0
 WasSent k user call [] = ⊥
 WasSent k user call (e ∷ past) = Sends k user call e.sent ⊎ WasSent k user call past
 
--- a call that carried the break was timed out for the third time in this entry, and twice before
+-- a call that carries the break was timed out for the third time in this entry, and twice since the break became owed
 pub record GoodQuit (s c : Node) (n : ℕ) (past : List Entry) (own : List Line) : Type 0 where
   pub what : Option Fid
   pub owe : OweAt s c what n (lines_of past)
   pub epoch : ℕ
   pub number : ℕ
   pub third : HasTimeout s c epoch number 3 own
-  pub first : HasTimeout s c epoch number 1 (lines_of past)
-  pub second : HasTimeout s c epoch number 2 (lines_of past)
+  pub first : HasTimeout s c epoch number 1 owe.newer
+  pub second : HasTimeout s c epoch number 2 owe.newer
   pub user : List ℕ
   pub call : FsCall
   pub called : WasSent (record { node = s; epoch = epoch; number = number }) user call past
