@@ -1,4 +1,5 @@
 -- Histories that are wrong for one reason each: a run, altered in one entry, of which just one condition isn't met.
+use Rattle.afs_law.proofs.Backing.{all_lines, is_oweless, no_owe}
 use Rattle.afs_num.specs.declared.types.Key.{Key}
 use Rattle.afs_num.specs.declared.types.Head.{Head}
 use Rattle.afs_records.specs.Records.{record_bytes, head_form, volume_form}
@@ -17,9 +18,9 @@ use Rattle.afs_law.proofs.Homes.{accepts_first}
 use Rattle.afs_law.specs.Grants.{GrantOf, until}
 use Rattle.afs_num.specs.declared.histories.Actor.{Actor}
 use Rattle.afs_num.specs.declared.types.Node.{Node}
-use Rattle.afs_law.proofs.OneCell.{Input, begins, gives, moved, nothing, sets_stop, start, starts_again, waits}
+use Rattle.afs_law.proofs.OneCell.{the_server, server_waits, Input, begins, gives, moved, nothing, sets_stop, start, starts_again, waits}
 use Rattle.afs_law.proofs.Worked.{alters, answer, begun, entries, file, root, script, six_front}
-use Rattle.afs_law.specs.Breaks.{HasStopped}
+use Rattle.afs_law.specs.Breaks.{HasTimeout, HasStopped}
 use Rattle.afs_law.specs.Legal.{Cause, EndsAct, IsResult, Legal, answer_at, code_given}
 use Rattle.afs_model.specs.Messages.{spelled}
 use Rattle.afs_num.specs.Names.{name_ok}
@@ -175,6 +176,21 @@ owes_ahead (e ∷ f ∷ es) = e ∷ owes_ahead (f ∷ es)
 owed_ahead : Legal (owes_ahead (entries (start (script 2)) six_front)) (script 2) → ⊥
 unfolding moved begin_row client_row server_row back_timeout_row wake_row start_row record_bytes head_form volume_form spelled opaque pad word laid_at led name_ok directory_bytes name_bytes rights_of image acl_text digits entry_text directory_of names_at opaque_at word_at counted_at whole_at count_at name_at spelled_at bytes_below
 owed_ahead h = h.1.1.1.0.0.0.0.1.1
+
+-- a break is given up by timeouts of before it became owed
+abbrev timeouts_first : List Entry → List Entry
+timeouts_first (a ∷ b ∷ c ∷ d ∷ e ∷ f ∷ es) = a ∷ b ∷ c ∷ e ∷ f ∷ d ∷ es
+timeouts_first es = es
+
+only_owe : (newer base ls : List Line) (l : Line) (c : Node) (what : Option Fid) (n : ℕ) → all_lines is_oweless ls ≡ true → l ∷ ls ≡ newer ++ (lines.Owe the_server c what n ∷ base) → newer ≡ []
+only_owe [] base ls l c what n none e = refl
+only_owe (x ∷ newer) base ls l c what n none e = let rest : ls ≡ newer ++ (lines.Owe the_server c what n ∷ base) = cc in absurd (no_owe ls newer base the_server c what n none rest)
+
+quit_ahead : Legal (timeouts_first (entries (start (script 2)) (begins 1 (acts.Open (operands.Fid file)) ∷ gives 1 steady ∷ begins 2 (acts.Close (operands.Fid file) (Hex (codes "def"))) ∷ gives 3 steady ∷ server_waits (Client 1) ∷ server_waits (Client 1) ∷ server_waits (Client 1) ∷ []))) (script 2) → ⊥
+unfolding moved begin_row client_row server_row back_timeout_row wake_row start_row record_bytes head_form volume_form spelled opaque pad word laid_at led name_ok directory_bytes name_bytes rights_of image acl_text digits entry_text directory_of names_at opaque_at word_at counted_at whole_at count_at name_at spelled_at bytes_below
+quit_ahead h =
+    let g = h.1.1.1.1.1.1.0.0.0.1.0.1 in
+    subst (HasTimeout (Server 1) (Client 1) g.epoch g.number 1) (only_owe g.owe.newer g.owe.base _ _ (Client 1) g.what 1 refl g.owe.split) g.first
 
 -- a promise beside no call, which ends at once: the one before it would seem to be over
 abbrev promises_nothing : List Entry → List Entry

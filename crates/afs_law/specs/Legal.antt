@@ -310,8 +310,8 @@ pub record IsCaused (c : Node) (act : Going) (code : ℤ) (past : List Entry) (o
   pub called : CalledSince (answered_key reply.head) cause.user cause.call past
   pub ends : code ≡ pos 0 → EndsAct (next act)
 
--- the act needs no more, and answers so by its read lines; its last read came just now, from the cache in the entry of its
--- begin, or behind a reply to its call
+-- the act needs no more, and answers so by its read lines; it began in this entry, which was given nothing, or the entry was
+-- given a reply with code 0 to its call
 pub record IsDone (c : Node) (act : Going) (code : ℤ) (past : List Entry) (own : List Line) : Type 0 where
   pub number : ℕ
   pub is : code ≡ pos number
