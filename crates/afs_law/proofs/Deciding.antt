@@ -21,7 +21,7 @@ use Rattle.afs_law.proofs.Owing.{BackedIn, IsNumberIn, DoneIn, is_held, WaitedBy
 use Rattle.afs_law.proofs.Passing.{ran_over, kept_over, replies_over, waiting_over}
 use Rattle.afs_law.proofs.Pumping.{no_news, pumped_news, starts_held, news_break}
 use Rattle.afs_law.proofs.Resting.{fall_backed, Rests, fault_rests, full_rests, alone, rests, still, voids, unheard_still, fallen_still, server_crash_rests, cut_entry, cut_rests}
-use Rattle.afs_law.proofs.Saving.{versions_lines, versioned_front, saves_clock, Way, rises_to, faults, fills, saved_lines, saved_sent, saved_entry, given_on, Change', change_at, stock_after, NewEntry, saves_change_good, saves_holds, versions_good, saves_boot, saves_goes, top_number, reply_saved}
+use Rattle.afs_law.proofs.Saving.{changed_later, versions_lines, versioned_front, saves_clock, Way, rises_to, faults, fills, saved_lines, saved_sent, saved_entry, given_on, Change', change_at, stock_after, NewEntry, saves_change_good, saves_holds, versions_good, saves_boot, saves_goes, top_number, reply_saved}
 use Rattle.afs_law.proofs.Serving.{up_boots, shows_goes, answered_goes, noticed_goes, nothing_done, quiet, acts_alone, still_loads, given_plain, Loads, up_backed, seats_of, Gives, noted, Dull, at_told, client_head, Now, call_at, taken, seats_after, views_after, ran_now, served_cell, unheard_later, refuses_goes, server_adds, server_does, IsRead, answer_in, AllSeen, IsSeen, IsLook}
 use Rattle.afs_law.proofs.Turning.{Pumps, pumps, put_call, break_good, reply_key}
 use Rattle.afs_law.specs.Breaks.{HasStopped, last_number, AllOwes}
@@ -753,7 +753,7 @@ ran_before c past n h user call vs ls cut boots = record {
 pub after_good : (s : Script) (c : Cell) (past : List Entry) (n : ℕ) (h : Head) (user : List ℕ) (call : FsCall) (id : ℕ) (v : Volume) (es : List Edit) (shown : ℕ) (ls : List Line) → (H : Holds s c past) → Now s c H.floors past n h user call → Change' c past user call id v es shown → {fall : Fall} → c.down ≡ Some fall → versions_first ls ≡ [] → IsCut c.server.lasting c.sent (call_at n h user call) past → EndsBoot the_server ls
     → AreGood s (actors.Node the_server) past (on_top (versions_by id es v) (lines.Change the_server (called_key (client_head n h)) (length (versions_by id es v)) ∷ [])) ls → AreGood s (actors.Node the_server) past [] (lines.Change the_server (called_key (client_head n h)) (length (versions_by id es v)) ∷ versioned (versions_by id es v) ls)
 after_good s c past n h user call id v es shown ls H w q down none cut boots good =
-    ((refl, saves_change_good s c past [] ls n h user call id v es shown H w q (inr (ran_before c past n h user call (versions_by id es v) ls cut boots)) (H.new _ w.above_durable) (λ z. z) refl (H.home id v q.at) none (λ j f x ne y l t. absurd (down_not c down ((H.backs refl).promised (Client j) f x l (subst (λ (z : ℕ). z < x) H.clock t)).0))), versions_good s past _ ls (versions_by id es v) tt good)
+    ((refl, saves_change_good s c past [] ls n h user call id v es shown H w q (inr (ran_before c past n h user call (versions_by id es v) ls cut boots)) (H.new _ w.above_durable) (changed_later s c past n h user call H w) (λ z. z) refl (H.home id v q.at) none (λ j f x ne y l t. absurd (down_not c down ((H.backs refl).promised (Client j) f x l (subst (λ (z : ℕ). z < x) H.clock t)).0))), versions_good s past _ ls (versions_by id es v) tt good)
 
 pub after_holds : (y : Way) (s : Script) (now : Option ℕ) (c : Cell) (past : List Entry) (after : Backs) (fall : Fall) (n : ℕ) (h : Head) (user : List ℕ) (call : FsCall) (time id : ℕ) (st : Stored) (es : List Edit) (shown : ℕ) → (H : Holds s c past) → Now s c H.floors past n h user call → Change' c past user call id st.volume es shown
     → IsCut c.server.lasting c.sent (call_at n h user call) past → given_message (saved_lines y (called_key (client_head n h)) (versions_by id es st.volume)) (sent_of past) ≡ None

@@ -5,8 +5,8 @@ use Rattle.afs_law.proofs.Backing.{all_lines, is_unchanging}
 use Rattle.afs_law.proofs.Basics.{Above, Each, IfCall, IfReply, OfClient, OfReply, by_client, if_reply, UpTo, at_put, below_not, below_up_to, both, client_number, each_at, each_map, each_more, if_call, node_apart, same_key-refl, same_node-true, up_to_below, up_to_same, below-true, below-false, some_of, OfNotice, OfCall, ByClient}
 use Rattle.afs_law.proofs.Calling.{AreReplies, IsAnswer, answer_over, GoesOn, IsLastOf, Tame, begins_tame, caller_at, falls_tame, given_tame, rises_tame, uncalled_any, waits_tame, any_call}
 use Rattle.afs_law.proofs.Hosting.{Begins, HasOne, HostStep, Hosts, IsCutBy, IsSound, Memory, decides_due, disk_begins, memory_of, serves_step, starts_step, times_step, wakes_step, IsRunBy}
-use Rattle.afs_law.specs.Laws.{ArePairsKnown, IsKnownTo, AreChanges, HasChangeBy, HasReply, seat_key, IsUpTo}
-use Rattle.afs_law.specs.Legal.{IsNew}
+use Rattle.afs_law.specs.Laws.{ArePairsKnown, IsKnownTo, AreChanges, HasReply, seat_key, IsUpTo}
+use Rattle.afs_law.specs.Legal.{HasChangeBy, IsNew}
 use Rattle.afs_law.specs.Once.{AreOnce, ChangesOnce, past_of}
 use Rattle.afs_law.specs.Past.{HasCode, IsCall, answered_key, lines_of, onto, same_key}
 use Rattle.afs_rows.specs.Callbacks.{put, replies_of}

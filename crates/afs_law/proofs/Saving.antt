@@ -11,11 +11,11 @@ use Rattle.afs_ideal.specs.Tables.{Table, get, set}
 use Rattle.afs_ideal.specs.Told.{AreNext}
 use Rattle.afs_ideal.specs.Volumes.{or_old, with_status, Amend, Volume, Vnode, Kind, a_file, a_directory, a_link, body_by, body_of, version_at, Edit, versions_by, edited_all, counted, amended, vnode_of, if_unique}
 use Rattle.afs_law.proofs.Backing.{is_still_to, all_lines, is_up, is_still, is_oweless, is_unchanging, change_back, promised_given, rising_back}
-use Rattle.afs_law.proofs.Basics.{node_apart, Above, up_to_by, same_fid-true, same_node-true, client_number, below_not, up_to_same, raised_up_to, some_of, yes_no}
+use Rattle.afs_law.proofs.Basics.{Below, below-true, below-false, up_to_below, node_apart, Above, up_to_by, same_fid-true, same_node-true, client_number, below_not, up_to_same, raised_up_to, some_of, yes_no}
 use Rattle.afs_law.proofs.Edits.{agrees_of, last_of, ones, Ones, index_in, fid_at, Sound, SoundIn, sound_same, Tops, on_top, Grow, Told, edits_told, counted_sound, rises, tops, touches, untouched, touched_volume, not_touched, there, none_has, live, live_is}
 use Rattle.afs_law.proofs.Facts.{FitsList, Leaves, HeldIn, Ghost, HoldsAt, up_boot, LastStored, IsStored, IsUntrusted, view, Spot, spot, ReplyFact, HasFallen, Reached, Stands, IsCurrent, Fits, Answers, IsReply, AreUnheard, stored_index, Holds, Goes, FitsReply, FitsData, FitsSet, FitsPlain, WasChanged, AreIdeal, AreSound, WasStored, FitsShown}
 use Rattle.afs_law.proofs.Keeping.{volume_put, own_placed}
-use Rattle.afs_law.proofs.Loading.{hits_hit, IsHit, hits_other, granted_all, onto_granted, left_granted, all_hits, change_loaded, owes_unchanging, all_new, number_front, number_second, left_promised, has_owe, touched_hit, numbers_good, numbers_rise, granted_to_client, owes_to_clients, owes_rising, all_left}
+use Rattle.afs_law.proofs.Loading.{no_change, hits_hit, IsHit, hits_other, granted_all, onto_granted, left_granted, all_hits, change_loaded, owes_unchanging, all_new, number_front, number_second, left_promised, has_owe, touched_hit, numbers_good, numbers_rise, granted_to_client, owes_to_clients, owes_rising, all_left}
 use Rattle.afs_law.proofs.Naming.{fine_after}
 use Rattle.afs_law.proofs.Notes.{granted_notes, AreNotes, Skips, skips, owe_notes, no_versions}
 use Rattle.afs_law.proofs.Ops.{stored_kind, stored_fid, amend_of, in_scope, changes_is, Storing, storing, stored_vnode}
@@ -30,7 +30,7 @@ use Rattle.afs_rows.specs.ClientRow.{status_told}
 use Rattle.afs_rows.specs.Going.{Going, next}
 use Rattle.afs_law.specs.Grants.{IsWithdrawn, has_fetched, fetch_reply, since, change_below, IsByOther, IsDropped}
 use Rattle.afs_law.specs.Ideal.{versions_in, Reach, raised, IsLast, clock_of, last_version, HasVersion, Accepts, reach, volume_after, change_key, call_under, reach_over, applied, applied_by, HasBeen, TellsIn, TellsOf, shown_status}
-use Rattle.afs_law.specs.Legal.{GoodGrant, RanBefore, RunsHere, code_given, AreGood, IsNew, HasChange, GoodChange, versions_first, IsTold, answer_at, IsUnderChange, IsChanged, op_on, as_asked}
+use Rattle.afs_law.specs.Legal.{HasChangeBy, IsLater, GoodGrant, RanBefore, RunsHere, code_given, AreGood, IsNew, HasChange, GoodChange, versions_first, IsTold, answer_at, IsUnderChange, IsChanged, op_on, as_asked}
 use Rattle.afs_history.specs.declared.lines.Line.{Line}
 use Rattle.afs_law.specs.Past.{risen, server_boot, code_told, onto, lines_of, sent_of, given_message, called_key, HasCode, is_of_act, running, has_begun}
 use Rattle.afs_rows.specs.Runs.{Entry, message_at, Armed, Fall}
@@ -40,7 +40,7 @@ use Rattle.afs_rows.specs.ServerRow.{granted, granted_in, record_of, carried_by,
 use Rattle.afs_rows.specs.States.{CacheEntry, Seat, volume_in, Backs, Held}
 use Rattle.afs_records.specs.Changes.{stored_after}
 use Rattle.afs_records.specs.Durable.{Stored, time_in, place_length}
-use Rattle.afs_model.specs.Calls.{call_seat}
+use Rattle.afs_model.specs.Calls.{CallSeat, pair_below, call_seat}
 use Rattle.afs_num.specs.declared.calls.AfsStoreStatus.{AfsStoreStatus}
 use Rattle.std.proofs.Common.{◌≡◌, ℕ, ◌+◌, ◌<◌, ◌≤◌, ◌⊎◌, inl, inr, Bool, true, false, cond, length, List, [], ◌∷◌, ◌++◌, Option, Some, None, pos, refl, sym, ap, subst, ◌∙◌, arith, eq-eqb, eqb-true, eqb}
 use Rattle.std.specs.Prelude.{◌&&◌, not, is_some}
@@ -763,11 +763,32 @@ new_not c n h r l same above =
     let own : Above (call_seat (Client n) (seat_placed (taken n h r) c.server.lasting.kept)) h.epoch h.number = subst (λ (x : Key). Above (call_seat x.node (seat_placed (taken n h r) c.server.lasting.kept)) x.epoch x.number) same above in
     below_not h.epoch h.number h.epoch h.number (subst (λ (o : Option Seat). Above o h.epoch h.number) (own_placed (taken n h r) c.server.lasting.kept) own) (up_to_same h.epoch h.number h.epoch h.number refl refl)
 
+any_change : (s : Node) (l : Key) (ls : List Line) → HasChangeBy s l ls → HasChange l ls
+any_change s l [] h = absurd h
+any_change s l (lines.Change q k count ∷ ls) (inl x) = inl x.1
+any_change s l (lines.Change q k count ∷ ls) (inr h) = inr (any_change s l ls h)
+any_change s l (x ∷ ls) h = any_change s l ls h
+
+later_seat : (t : Bool) (e n : ℕ) (k l : Key) → pair_below e n l.epoch l.number ≡ t → Below e n k.epoch k.number → (Below e n l.epoch l.number → ⊥) → IsLater k l
+later_seat true e n k l t a not = absurd (not (below-true e n l.epoch l.number t))
+later_seat false e n k l t a not = up_to_below l.epoch l.number e n k.epoch k.number (below-false e n l.epoch l.number t) a
+
+-- what isn't above a seat is below what is
+later_by : {R : Type 0} → (o : Option (CallSeat R)) (k l : Key) → Above o k.epoch k.number → (Above o l.epoch l.number → ⊥) → IsLater k l
+later_by None k l a not = absurd (not tt)
+later_by (Some seat) k l a not = later_seat (pair_below seat.epoch seat.number l.epoch l.number) seat.epoch seat.number k l refl a not
+
+-- what the server changed for the client it did under keys that are not above the durable one
+pub changed_later : (s : Script) (c : Cell) (past : List Entry) (n : ℕ) (h : Head) (user : List ℕ) (call : FsCall) → (H : Holds s c past) → Now s c H.floors past n h user call → (l : Key) → HasChangeBy the_server l (lines_of past) → l.node ≡ Client n → IsLater (called_key (client_head n h)) l
+changed_later s c past n h user call H w l has same = later_by (call_seat (Client n) c.server.lasting.kept) (called_key (client_head n h)) l w.above_durable
+    (λ above. no_change l (lines_of past) (H.new l (subst (λ (m : Node). Above (call_seat m c.server.lasting.kept) l.epoch l.number) (sym same) above)) (any_change the_server l (lines_of past) has))
+
 pub saves_change_good : (s : Script) (c : Cell) (past : List Entry) (own tail : List Line) (n : ℕ) (h : Head) (user : List ℕ) (call : FsCall) (id : ℕ) (v : Volume) (es : List Edit) (shown : ℕ) → (H : Holds s c past) → Now s c H.floors past n h user call → Change' c past user call id v es shown
-    → RunsHere the_server (called_key (client_head n h)) past own ⊎ RanBefore the_server (called_key (client_head n h)) past own (versioned (versions_by id es v) tail) → IsNew (called_key (client_head n h)) (own ++ lines_of past) → (HasStopped the_server own → ⊥) → change_key own ≡ None → Accepts s id the_server (own ++ lines_of past) → versions_first tail ≡ [] → ((j : ℕ) (f : Fid) (x : ℕ) → (Client j ≡ Client n → ⊥) → IsChanged f (versions_by id es v) → live_grant the_server (Client j) f (own ++ lines_at the_server past) ≡ Some x → clock_of (own ++ lines_of past) < x → HasOwe the_server (Client j) (Some f) (versioned (versions_by id es v) tail))
+    → RunsHere the_server (called_key (client_head n h)) past own ⊎ RanBefore the_server (called_key (client_head n h)) past own (versioned (versions_by id es v) tail) → IsNew (called_key (client_head n h)) (own ++ lines_of past) → ((l : Key) → HasChangeBy the_server l (own ++ lines_of past) → l.node ≡ Client n → IsLater (called_key (client_head n h)) l) → (HasStopped the_server own → ⊥) → change_key own ≡ None → Accepts s id the_server (own ++ lines_of past) → versions_first tail ≡ [] → ((j : ℕ) (f : Fid) (x : ℕ) → (Client j ≡ Client n → ⊥) → IsChanged f (versions_by id es v) → live_grant the_server (Client j) f (own ++ lines_at the_server past) ≡ Some x → clock_of (own ++ lines_of past) < x → HasOwe the_server (Client j) (Some f) (versioned (versions_by id es v) tail))
     → GoodChange s the_server (called_key (client_head n h)) (length (versions_by id es v)) past own (versioned (versions_by id es v) tail)
-saves_change_good s c past own tail n h user call id v es shown H w q place new going only home none owed = record {
+saves_change_good s c past own tail n h user call id v es shown H w q place new latest going only home none owed = record {
   fresh = new;
+  latest = latest;
   place = place;
   going = going;
   only = only;
@@ -997,7 +1018,7 @@ saves_by_turn s c past armed p n h user call id st es shown H up at w q =
         (
           (
             refl,
-            saves_change_good s c past (lines.Given p ∷ []) tl n h user call id st.volume es shown H w q (inl (runs_here s c past p n h user call H up at w)) (H.new _ w.above_durable) (λ z. z) refl (H.home id st.volume q.at) (no_versions tl notes)
+            saves_change_good s c past (lines.Given p ∷ []) tl n h user call id st.volume es shown H w q (inl (runs_here s c past p n h user call H up at w)) (H.new _ w.above_durable) (changed_later s c past n h user call H w) (λ z. z) refl (H.home id st.volume q.at) (no_versions tl notes)
                 (λ j f z ne d l u. owe_behind (Client j) (Some f) vs tl (owe_granted (Client j) (Some f) n x fs t.lines (has_owe (Client j) f z b0.lists.last_owed (hits (Client n) vs b0.lists.promises) (touched_hit (Client n) (Client j) f z vs b0.lists.promises ne d (B.promised (Client j) f z l (subst (λ (i : ℕ). i < z) H.clock u)).1)))),
           ),
           versions_good s past _ tl vs tt (granted_then s past (on_top vs (lines.Change the_server k (length vs) ∷ lines.Given p ∷ [])) n x fs t.lines

@@ -43,7 +43,7 @@ use Rattle.afs_num.specs.declared.histories.ReadSource.TheVariants.{Cached, Fetc
 use Rattle.afs_num.specs.declared.messages.Carried.TheVariants as carried
 use Rattle.afs_num.specs.declared.messages.Message.{Message}
 use Rattle.afs_num.specs.declared.types.Node.TheVariants.{Client, Server}
-use Rattle.std.proofs.Common.{◌≡◌, ◌∙◌, true, false, ℕ, ℤ, List, [], ◌∷◌, ◌++◌, ◌⊎◌, Option, None, Some, ap, sym, subst, refl, inl, inr, negsuc, pos}
+use Rattle.std.proofs.Common.{arith, ◌<◌, ◌≡◌, ◌∙◌, true, false, ℕ, ℤ, List, [], ◌∷◌, ◌++◌, ◌⊎◌, Option, None, Some, ap, sym, subst, refl, inl, inr, negsuc, pos}
 use Rattle.std.specs.Fmt.{digits}
 use Rattle.std.specs.Prelude.{codes, drop, map, take}
 
@@ -252,6 +252,22 @@ run_when_down h =
     elim g.place [
       | inl x ↦ let e : None ≡ Some x.boot = x.up in absurd cc
       | inr y ↦ y.boots
+    ]
+
+-- a dead store runs behind a later one, which was answered
+abbrev key_of_one : ℕ → Key
+key_of_one n = record { node = Client 1; epoch = 1; number = n }
+
+abbrev late_front : List Input
+late_front = begins 1 (acts.Close (operands.Fid file) (Hex (codes "def"))) ∷ waits 1 ∷ waits 1 ∷ waits 1 ∷ begins 1 (acts.Close (operands.Fid file) (Hex (codes "xyz"))) ∷ gives 4 steady ∷ gives 1 steady ∷ []
+
+changed_behind_a_later_one : Legal (alters 6 (instead (lines.Given 1 ∷ lines.Change (Server 1) (key_of_one 1) 1 ∷ lines.Version (record { fid = file; index = 3; version = 3; body = bodies.File (codes "def") }) ∷ [])) (entries (start (script 1)) late_front)) (script 1) → ⊥
+unfolding moved begin_row client_row server_row back_timeout_row wake_row start_row record_bytes head_form volume_form spelled opaque pad word laid_at led name_ok directory_bytes name_bytes rights_of image acl_text digits entry_text directory_of names_at opaque_at word_at counted_at whole_at count_at name_at spelled_at bytes_below
+changed_behind_a_later_one h =
+    let g = h.1.1.1.1.1.1.0.0.0.1.0.1 in
+    elim (g.latest (key_of_one 2) (inl (refl, refl)) refl) [
+      | inl x ↦ let e : 1 < 1 = x in absurd (omega arith)
+      | inr x ↦ let e : 2 < 1 = x.1 in absurd (omega arith)
     ]
 
 -- a server runs a call that is to another boot than its own

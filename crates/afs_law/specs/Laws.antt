@@ -21,7 +21,7 @@ use Rattle.afs_ideal.specs.Told.{Agrees}
 use Rattle.afs_ideal.specs.Volumes.{Volume}
 use Rattle.afs_law.specs.Grants.{since, IsOutstanding, fetch_reply}
 use Rattle.afs_law.specs.Ideal.{versions_in, volume_after, set_up, IsLast}
-use Rattle.afs_law.specs.Legal.{GoodRead, HasChange, Legal, Cause}
+use Rattle.afs_law.specs.Legal.{HasChangeBy, GoodRead, HasChange, Legal, Cause}
 use Rattle.afs_history.specs.declared.lines.Line.{Line}
 use Rattle.afs_law.specs.Once.{past_of, ChangesOnce}
 use Rattle.afs_law.specs.OneServer.{IsOneServer}
@@ -181,12 +181,6 @@ RepliesAreCaused =
 abbrev pub RepliesAreRan : Type 0
 RepliesAreRan =
     (s : Script) (history : List Entry) (end : Cell) → RunsTo history s end → (i j place : ℕ) (m : Message) → message_at end.sent place ≡ Some m → HasCode m.carried → m.head.from ≡ Server i → m.head.to ≡ Client j → Ran m.head (past_of (set_up s ∷ []) history)
-
--- the server changed something under this key
-abbrev pub HasChangeBy : Node → Key → List Line → Type 0
-HasChangeBy s k [] = ⊥
-HasChangeBy s k (lines.Change q l count ∷ ls) = ((q ≡ s) × (l ≡ k)) ⊎ HasChangeBy s k ls
-HasChangeBy s k (l ∷ ls) = HasChangeBy s k ls
 
 abbrev pub seat_key : Node → Seat → Key
 seat_key n seat = record { node = n; epoch = seat.epoch; number = seat.number }

@@ -119,6 +119,16 @@ abbrev pub IsNew : Key → List Line → Type 0
 IsNew k [] = ⊤
 IsNew k (l ∷ older) = IsNot k (change_in l) (IsNew k older)
 
+-- the server changed something under this key
+abbrev pub HasChangeBy : Node → Key → List Line → Type 0
+HasChangeBy s k [] = ⊥
+HasChangeBy s k (lines.Change q l count ∷ ls) = ((q ≡ s) × (l ≡ k)) ⊎ HasChangeBy s k ls
+HasChangeBy s k (l ∷ ls) = HasChangeBy s k ls
+
+-- a node's key of a later call
+abbrev pub IsLater : Key → Key → Type 0
+IsLater k l = (l.epoch < k.epoch) ⊎ ((l.epoch ≡ k.epoch) × (l.number < k.number))
+
 -- the versions that stand first
 abbrev pub versions_first : List Line → List Version
 versions_first (lines.Version v ∷ ls) = v ∷ versions_first ls
@@ -162,13 +172,14 @@ pub record RanBefore (server : Node) (k : Key) (past : List Entry) (own next : L
   pub stopped : HasStopped server at.lines
   pub since : AreFailed server newer
 
--- A change runs a key for the first time, at a server that accepts stores of the volume, and is the only one of its entry. The
--- entry ran the key's call, or is the restart behind the one that was interrupted in that.
+-- A change runs a key for the first time, at a server that accepts stores of the volume, and is the only one of its entry. What
+-- the server changed before for the same node it did under keys of earlier calls. The entry ran the key's call, or is the restart behind the one that was interrupted in that.
 -- The key's call was sent by its node, for its user, and is that of the act that ran there, with the act's own bytes. The
 -- versions that follow are just those of the ideal operation on the ideal volume. Each other client's last grant on one of their
 -- fids that lasts has a break behind the change
 pub record GoodChange (s : Script) (server : Node) (k : Key) (count : ℕ) (past : List Entry) (own next : List Line) : Type 0 where
   pub fresh : IsNew k (own ++ lines_of past)
+  pub latest : (l : Key) → HasChangeBy server l (own ++ lines_of past) → l.node ≡ k.node → IsLater k l
   pub place : RunsHere server k past own ⊎ RanBefore server k past own next
   pub going : HasStopped server own → ⊥
   pub only : change_key own ≡ None
