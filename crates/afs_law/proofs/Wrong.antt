@@ -261,7 +261,7 @@ key_of_one n = record { node = Client 1; epoch = 1; number = n }
 abbrev late_front : List Input
 late_front = begins 1 (acts.Close (operands.Fid file) (Hex (codes "def"))) ∷ waits 1 ∷ waits 1 ∷ waits 1 ∷ begins 1 (acts.Close (operands.Fid file) (Hex (codes "xyz"))) ∷ gives 4 steady ∷ gives 1 steady ∷ []
 
-changed_behind_a_later_one : Legal (alters 6 (instead (lines.Given 1 ∷ lines.Change (Server 1) (key_of_one 1) 1 ∷ lines.Version (record { fid = file; index = 3; version = 3; body = bodies.File (codes "def") }) ∷ [])) (entries (start (script 1)) late_front)) (script 1) → ⊥
+changed_behind_a_later_one : Legal (alters 6 (instead (lines.Given 1 ∷ lines.Change (Server 1) (key_of_one 1) 1 ∷ lines.Version (record { fid = file; index = 3; data_version = 3; body = bodies.File (codes "def") }) ∷ [])) (entries (start (script 1)) late_front)) (script 1) → ⊥
 unfolding moved begin_row client_row server_row back_timeout_row wake_row start_row record_bytes head_form volume_form spelled opaque pad word laid_at led name_ok directory_bytes name_bytes rights_of image acl_text digits entry_text directory_of names_at opaque_at word_at counted_at whole_at count_at name_at spelled_at bytes_below
 changed_behind_a_later_one h =
     let g = h.1.1.1.1.1.1.0.0.0.1.0.1 in
