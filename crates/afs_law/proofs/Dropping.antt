@@ -17,7 +17,7 @@ use Rattle.afs_rows.specs.ServerRow.{not_served, replied, seat_for, boot_told}
 use Rattle.std.specs.Prelude.{◌&&◌, filter}
 use Rattle.afs_num.specs.declared.calls.AfsFetchStatus.{AfsFetchStatus}
 use Rattle.afs_law.proofs.Backing.{Plain, all_lines, is_up, is_still, is_oweless, is_unchanging, drop_onto, owe_over}
-use Rattle.afs_law.proofs.Owing.{CarriedOwe, AllOf, IsOwed, CallOut, BackIn, DroppedOwe, IsDone, SeatedIn}
+use Rattle.afs_law.proofs.Owing.{CarriedOwe, AllOf, CallOut, BackIn, DroppedOwe, IsDone, SeatedIn}
 use Rattle.afs_law.proofs.Pumping.{no_call, no_notice, of_reply_any}
 use Rattle.afs_law.proofs.Serving.{told_file, told_reach, told_act, reached_still}
 use Rattle.afs_law.specs.Breaks.{HasDrop, OweAt, CarriesBreak, NamesIn}
