@@ -1,3 +1,5 @@
+use Rattle.afs_law.proofs.Homes.{home_of}
+use Rattle.afs_law.specs.Grants.{until}
 use Rattle.afs_law.proofs.Facts.{IsWhole}
 use Rattle.afs_law.proofs.Walking.{body_shows}
 use Rattle.afs_law.specs.Legal.{Shows}
@@ -8,7 +10,7 @@ use Rattle.afs_num.specs.declared.histories.ReadBody.TheVariants as seen
 use Rattle.afs_ideal.specs.Told.{Agrees}
 use Rattle.afs_ideal.specs.Volumes.{Volume}
 use Rattle.afs_law.proofs.Answering.{idle_newest, idle_reached}
-use Rattle.afs_law.proofs.Edits.{agrees_of, SoundIn}
+use Rattle.afs_law.proofs.Edits.{granted_in, agrees_of, SoundIn}
 use Rattle.afs_law.proofs.Facts.{view, Holds}
 use Rattle.afs_law.proofs.Law.{goes, starts}
 use Rattle.afs_rows.specs.ClientRow.{find_cached}
@@ -58,7 +60,7 @@ held s h end one r id =
 -- ---- what a client trusts
 
 pub trusted_shown : (s : Script) (h : List Entry) (end : Cell) → IsOneServer s → RunsTo h s end → (j : ℕ) → (end.clients j).running ≡ None → (f : Fid) (e : CacheEntry) → find_cached f (end.clients j).cache ≡ Some e → end.clock < e.expiry
-    → (body : ReadBody) → (IsWhole f e.index e.status e.body (past_of (set_up s ∷ []) h) → Shows f e.index body (past_of (set_up s ∷ []) h) []) → GoodRead (Client j) f e.index Cached body (past_of (set_up s ∷ []) h) []
+    → (body : ReadBody) → (IsWhole f e.index e.status e.body (past_of (set_up s ∷ []) h) → Shows f e.index body (past_of (set_up s ∷ []) h) []) → GoodRead s (Client j) f e.index Cached body (past_of (set_up s ∷ []) h) []
 trusted_shown s h end one r j none f e found lasts body shows =
     let k : Holds s end (past_of (set_up s ∷ []) h) = at_end s h end one r in
     let past : List Entry = past_of (set_up s ∷ []) h in
@@ -70,13 +72,15 @@ trusted_shown s h end one r j none f e found lasts body shows =
       by = cur.by;
       expiry = e.expiry;
       grant = cur.held.grant;
+      home = home_of s end past f e.index (seen.Status e.status) cur.held.grant.server k cur.held.server cur.held.whole.been (until (Client j) f e.expiry cur.reply past cur.held.grant);
+      granted = λ v y. granted_in _ v e.index cur.held.least y;
       lasts = subst (λ (t : ℕ). t < e.expiry) (sym k.clock) lasts;
       kept = cur.held.kept refl;
       newest = idle_newest j f e.index _ _ (view k.floors end j) past none cur.state;
     }
 
 pub trusted_good : (s : Script) (h : List Entry) (end : Cell) → IsOneServer s → RunsTo h s end → (j : ℕ) → (end.clients j).running ≡ None → (f : Fid) (e : CacheEntry) → find_cached f (end.clients j).cache ≡ Some e → end.clock < e.expiry
-    → ((body : Body) → e.body ≡ Some body → GoodRead (Client j) f e.index Cached (seen.Contents body) (past_of (set_up s ∷ []) h) []) × GoodRead (Client j) f e.index Cached (seen.Status e.status) (past_of (set_up s ∷ []) h) []
+    → ((body : Body) → e.body ≡ Some body → GoodRead s (Client j) f e.index Cached (seen.Contents body) (past_of (set_up s ∷ []) h) []) × GoodRead s (Client j) f e.index Cached (seen.Status e.status) (past_of (set_up s ∷ []) h) []
 trusted_good s h end one r j none f e found lasts =
     let past : List Entry = past_of (set_up s ∷ []) h in (
       λ body has. trusted_shown s h end one r j none f e found lasts (seen.Contents body) (λ w. body_shows e.body f e.index w.is (seen.Contents body) past [] w.holds w.told (ap body_seen has)),

@@ -1,12 +1,12 @@
 use Rattle.afs_law.proofs.Giving.{begin_lines, begun_not, gifts_later, gives_goes, idle_reply, unbusied}
-use Rattle.afs_law.proofs.Walking.{own_lines, back_again, lines_assoc}
+use Rattle.afs_law.proofs.Walking.{own_lines, back_again, lines_assoc, looked_begun, looked_given, looked_message}
 use Rattle.afs_law.proofs.Quiet.{quiet_grant, quiet_last, quiet_clock, reach_more}
-use Rattle.afs_law.proofs.Facts.{AreApart, Held, IsNewest, its_call, AreGifts}
-use Rattle.afs_law.proofs.Passing.{PassesGrant, ran_over}
+use Rattle.afs_law.proofs.Facts.{fids_of_gifts, AreApart, Held, IsNewest, IsNoRead, IsOpen, its_call, AreGifts}
+use Rattle.afs_law.proofs.Passing.{all_dropped_own, dropped_rest, all_dropped_onto, tried_idle, tried_kept, tried_new, PassesGrant, ran_over}
 use Rattle.afs_law.specs.Grants.{IsDropped, IsWithdrawn}
 use Rattle.afs_law.specs.Ideal.{IsLast, clock_of, reach_over}
-use Rattle.afs_law.specs.Legal.{GoodRead, as_asked}
-use Rattle.afs_rows.specs.ClientRow.{entries_told, put_entries, status_look, takes_bulk, with_statuses, behind_batch, batch, gives_by, given, takes_given}
+use Rattle.afs_law.specs.Legal.{AreDropped, EndsAct, GoodRead, HasUsed, as_asked}
+use Rattle.afs_rows.specs.ClientRow.{entries_told, put_entries, status_look, takes_bulk, with_statuses, behind_batch, batch, call_by, gives_by, given, takes_given}
 use Rattle.std.specs.List.{list_any}
 use Rattle.std.specs.Prelude.{⊤, length}
 use Rattle.std.proofs.Common.{append_assoc}
@@ -15,7 +15,8 @@ use Rattle.afs_num.specs.declared.histories.Version.{Version}
 use Rattle.afs_law.proofs.Apart.{found_filter, found_out}
 use Rattle.afs_law.proofs.Asking.{Passes, not_client, reads_by_other, with_gifts}
 use Rattle.afs_law.proofs.Facts.{IsGot}
-use Rattle.afs_law.proofs.Nexts.{rights_done, asks_is, asks_changed, asks_scope, asks_just}
+use Rattle.afs_law.proofs.Homes.{home_of}
+use Rattle.afs_law.proofs.Nexts.{rights_need, rights_done, asks_is, asks_changed, asks_scope, asks_just}
 use Rattle.afs_law.proofs.Skipping.{AreNone, none_of_other, ideal_still, last_line}
 use Rattle.afs_rows.specs.ClientRow.{dropped, is_older, takes_rights, takes_list, ends_step, read_lines}
 use Rattle.std.specs.Prelude.{◌||◌}
@@ -32,23 +33,23 @@ use Rattle.afs_law.proofs.Basics.{IfCall, ByClient, guest, Above, IfReply, IfNot
 use Rattle.afs_ideal.specs.Operations.{volume_changed}
 use Rattle.afs_law.proofs.Asking.{carried_is, client_asking, client_ended, own_read, safe_over, client_kept, call_known, reply_still, step_entry, view_after, moves, nothing_new, Heard, told_passes, answered_seen, own_zero, answered_lines, answered_file, answered_reach, answered_passes, quiet, safe_cache, own_call, asks, own_begun, no_scope, same_one, heard_dull, new_one}
 use Rattle.afs_law.proofs.Dropping.{left_out, called_goes}
-use Rattle.afs_law.proofs.Edits.{Ones, index_in}
+use Rattle.afs_law.proofs.Edits.{granted_in, Ones, index_in}
 use Rattle.afs_law.proofs.Facts.{ToClient, CallIn, FitsShown, IsOld, IsWhole, IsBody, HasOld, IsClient, IsPlain, IsKeptBody, IsTrusted, Ghost, Seen, IsAged, Spot, spot, LastStored, IsStored, IsSafe, Fits, View, view, last_key, LastRan, Reached, IsNewest, Overtaken, Stands, IsCurrent, HasCurrent, Answers, stored_index, ClientFacts, CallFact, ReplyFact, ReplyIn, Holds, Goes, IsFetched, FitsPlain, FitsData, FitsSet, FitsReply, WasStored, WasChanged, InScope, IsNoticed}
 use Rattle.afs_law.proofs.Owing.{BackIn}
 use Rattle.afs_law.proofs.Passing.{PassesReach, old_within, old_over, PassesSeen, PassesGrant, PassesFile, StaysNewest, stays, held_over, fetch_reply_by, current_over, kept_over, cause_behind}
 use Rattle.afs_law.proofs.Quiet.{quiet_grant, AreQuiet, quiet_more, quiet_passes}
 use Rattle.afs_law.proofs.Resting.{voids}
 use Rattle.afs_law.proofs.Saving.{old_withdrawn}
-use Rattle.afs_law.proofs.Serving.{told_file, told_reach, told_act, not_ran, stale_none, reached_still}
+use Rattle.afs_law.proofs.Serving.{onto_parts, told_file, told_reach, told_act, not_ran, stale_none, reached_still}
 use Rattle.afs_law.proofs.Skipping.{none_where, own_ended, skips, drop_lines, was_given, drop_file, drop_reach, drop_seen, drop_passes, ended_running, drops_good}
 use Rattle.afs_history.specs.declared.acts.Act.{Act}
 use Rattle.afs_rows.specs.ClientRow.{boot_or_first, with_boot, takes_shown, takes_entry, boot_of, read_lines, status_told, entry_told, booted, joined, put_entry, calls_again, is_busy_code, most_busy, asking, is_trusted, goes_on, goes_by, look_at, looked, most_reads, walked, Walked, is_below, dropped_after, left_after, find_cached, used_first, refreshed, call_message, calls_step, zero_code, begin_row, ignores, ended, answers_step, takes_stored, takes, resends_step, counts, is_awaited, awaits, client_row, is_spent, hears, takes_plain, takes_data, takes_set, left_in, given_up_in, body_told, call_of, is_reading}
-use Rattle.afs_rows.specs.Going.{reads_status, reads_statuses, reads_rights, gives_back, asked, Going, Need, next, answers, began, with_read, ClientState, reads, asks_for}
-use Rattle.afs_law.specs.Grants.{has_fetched, fetch_reply, since}
+use Rattle.afs_rows.specs.Going.{call_for, reads_status, reads_statuses, reads_rights, gives_back, asked, Going, Need, next, answers, began, with_read, ClientState, reads, asks_for}
+use Rattle.afs_law.specs.Grants.{until, has_fetched, fetch_reply, since}
 use Rattle.afs_law.specs.Ideal.{Reach, HasBeen, raised, is_zero_code, reach, last_version, HasVersion}
-use Rattle.afs_law.specs.Legal.{AreGood, Shows, Cause, code_told, GoodCode}
+use Rattle.afs_law.specs.Legal.{AreGood, Shows, Cause, GoodCode}
 use Rattle.afs_history.specs.declared.lines.Line.{Line}
-use Rattle.afs_law.specs.Past.{IsCallUnder, onto, lines_of, sent_of, given_message, answered_key, running, has_begun, CalledSince}
+use Rattle.afs_law.specs.Past.{code_told, HasCode, IsCallUnder, onto, lines_of, sent_of, given_message, answered_key, running, has_begun, CalledSince}
 use Rattle.afs_rows.specs.Runs.{locations, Entry, message_at}
 use Rattle.afs_law.proofs.OneCell.{the_server, Moved, Cell, client_moves, begun_by}
 use Rattle.afs_rows.specs.Scopes.{is_in_scope}
@@ -138,6 +139,9 @@ walk_old n cache less ls ms past q w h = old_over less (lines_of past) (lines_of
 abbrev pub with_lines : Cell → ℕ → ClientState → List Message → List Line → Moved
 with_lines c n x ms ls = client_moves c n (record { state = x; lines = ls; sent = ms })
 
+begun_now : (n : ℕ) → cond (same_node (Client n) (Client n)) true false ≡ true
+begun_now n = rw (same_node-refl (Client n)) refl
+
 -- all that the act needed was in the cache
 pub begun_answered : (s : Script) (c : Cell) (past : List Entry) (n : ℕ) (act : Act) (k : ℕ) → Holds s c past → (c.clients n).running ≡ None → next (begun_walk s (c.clients n) c.clock act).act ≡ answers k
     → Goes s past (client_moves c n (goes_by (Client n) (unbusied (c.clients n)) (begin_lines n act) (begun_walk s (c.clients n) c.clock act) (answers k)))
@@ -149,7 +153,7 @@ begun_answered s c past n act k h none is =
     let tail : List Line = lines.Answer (Client n) (record { 0 = pos k }) ∷ [] in
     let W : Walks s c past n (h.floors n).held ls w.act w.cache = begun_on s c past n act h none in
     let y : ClientState = ended (unbusied x) w.cache in
-    let kind : IsClient s y = client_ended s (unbusied x) w.cache (record { table = (h.own n).table; user = (h.own n).user; callee = λ a z. (h.own n).callee a z; apart = (h.own n).apart; gifts = (h.own n).gifts }) (walked_apart (most_reads (began (locations s) act)) c.clock (began (locations s) act) x.cache (h.own n).apart) in
+    let kind : IsClient s y = client_ended s (unbusied x) w.cache (record { table = (h.own n).table; user = (h.own n).user; callee = λ a z. (h.own n).callee a z; needs = λ a z. (h.own n).needs a z; apart = (h.own n).apart; gifts = (h.own n).gifts }) (walked_apart (most_reads (began (locations s) act)) c.clock (began (locations s) act) x.cache (h.own n).apart) in
     let e : Entry = step_entry n (ls ++ tail) [] in
     let t : AreTail n tail = (refl, tt) in
     let ends : EndsReach n tail = ends_answered n (record { 0 = pos k }) in
@@ -157,7 +161,7 @@ begun_answered s c past n act k h none is =
     let over : (m : Message) → ReplyFact n (view h.floors c n) past m → ReplyFact n v (e ∷ past) m = λ m f. idle_reply n (view h.floors c n) v past e m refl refl refl refl refl refl refl f in
     subst (λ (os : List Line). Goes s past (with_lines c n y [] (lines.Begin (Client n) act ∷ os))) (sym (looked_more (Client n) w.looks tail))
     (moves s c past n (h.floors n) (record { state = y; lines = ls ++ tail; sent = [] }) h kind
-    (walk_answered s c past n (h.floors n).held ls w.act w.cache k W is)
+    (walk_answered s c past n (h.floors n).held ls w.act w.cache k W is (inl (looked_begun (Client n) (Client n) w.looks (lines.Begin (Client n) act ∷ []) ∙ begun_now n, looked_given (Client n) w.looks (lines.Begin (Client n) act ∷ []))))
     (quiet_passes s n (ls ++ tail) [] past (quiet_more n ls tail W.quiet (tail_quiet n tail t)) (W.dull tail t))
     (record {
       behind = d.behind;
@@ -175,6 +179,8 @@ begun_answered s c past n act k h none is =
       old = walk_old n x.cache w.cache (ls ++ tail) [] past (quiet_more n ls tail W.quiet (tail_quiet n tail t)) (λ f u z. walked_found (most_reads (began (locations s) act)) c.clock (began (locations s) act) x.cache f u z) d.old;
       runs = λ b z. absurd cc;
       asked = λ b z. absurd cc;
+      none = λ z. refl;
+      gave = λ b z. absurd cc;
       reached = walk_reached s c past n (h.floors n).held ls w.act w.cache tail [] W t ends;
     })
     (λ head call f. record {
@@ -185,24 +191,25 @@ begun_answered s c past n act k h none is =
       safe = λ q above. safe_over call c.clock x.epoch x.last x.epoch x.last x.running None w.cache (IsAged (view h.floors c n) head) (IsAged v head) head (λ b z. let no_ : Some b ≡ None = sym z ∙ none in absurd cc) (λ z. (z.0, λ b r. absurd cc))
           (safe_cache call c.clock x.epoch x.last x.running x.cache w.cache (IsAged (view h.floors c n) head) head (λ g z u at lasts. z u (walked_found (most_reads (began (locations s) act)) c.clock (began (locations s) act) x.cache g u at) lasts) (f.safe q above));
     })
-    over (nothing_new _ _) (λ a z r. absurd cc) refl)
+    over (nothing_new _ _) (λ a z r. absurd cc) refl (tried_idle n _ _ refl))
 
 -- it calls for what is missing
-pub begun_calls : (s : Script) (c : Cell) (past : List Entry) (n : ℕ) (act : Act) → Holds s c past → (c.clients n).running ≡ None
+pub begun_calls : (s : Script) (c : Cell) (past : List Entry) (n : ℕ) (act : Act) → Holds s c past → (c.clients n).running ≡ None → IsOpen (next (begun_walk s (c.clients n) c.clock act).act)
     → Goes s past (client_moves c n (goes_by (Client n) (unbusied (c.clients n)) (begin_lines n act) (begun_walk s (c.clients n) c.clock act) (asks_for calls.GetTime)))
-begun_calls s c past n act h none =
+begun_calls s c past n act h none going =
     let x : ClientState = c.clients n in
     let d = h.clients n in
     let w : Walked = begun_walk s x c.clock act in
     let ls : List Line = lines.Begin (Client n) act ∷ looked (Client n) w.looks [] in
     let W : Walks s c past n (h.floors n).held ls w.act w.cache = begun_on s c past n act h none in
     let y : ClientState = asking (record (unbusied x) { cache = w.cache }) w.act in
-    let kind : IsClient s y = client_asking s c past (record (unbusied x) { cache = w.cache }) w.act h (record { table = (h.own n).table; user = (h.own n).user; callee = λ a z. (h.own n).callee a z; apart = walked_apart (most_reads (began (locations s) act)) c.clock (began (locations s) act) x.cache (h.own n).apart; gifts = (h.own n).gifts }) in
+    let kind : IsClient s y = client_asking s c past (record (unbusied x) { cache = w.cache }) w.act h going (record { table = (h.own n).table; user = (h.own n).user; callee = λ a z. (h.own n).callee a z; needs = λ a z. (h.own n).needs a z; apart = walked_apart (most_reads (began (locations s) act)) c.clock (began (locations s) act) x.cache (h.own n).apart; gifts = (h.own n).gifts }) in
     let ms : List Message = call_message (Client n) y w.act ∷ [] in
     let e : Entry = step_entry n (ls ++ []) ms in
     let g : Ghost = record { floor = c.server.lasting.boot; held = (h.floors n).held } in
     let v : View = view_after c n g y in
     let not : LastRan v → ⊥ = λ ran. next_not _ _ _ _ (d.behind_durable ran.seat ran.at) ran.epoch ran.number in
+    let gave : AreDropped (Client n) (fids_of_gifts x.gifts) (onto (lines_of past) (ls ++ [])) = subst (λ (gs : List Gift). AreDropped (Client n) (fids_of_gifts gs) (onto (lines_of past) (ls ++ []))) (sym (d.none none)) tt in
     let at : running s (Client n) (onto (lines_of past) (ls ++ [])) ≡ Some w.act = ap (λ (os : List Line). running s (Client n) (onto (lines_of past) os)) (append-nil ls) ∙ W.runs in
     let idle : (a : Going) → x.running ≡ Some a → volume_changed (asked a) ≡ None = λ a z. let no_ : Some a ≡ None = sym z ∙ none in absurd cc in
     let over : (m : Message) → ReplyFact n (view h.floors c n) past m → ReplyFact n v (e ∷ past) m = λ m f. record {
@@ -233,6 +240,8 @@ begun_calls s c past n act h none =
       old = walk_old n x.cache w.cache (ls ++ []) ms past (quiet_more n ls [] W.quiet tt) (λ f u z. walked_found (most_reads (began (locations s) act)) c.clock (began (locations s) act) x.cache f u z) d.old;
       runs = λ b z. at ∙ z;
       asked = λ b z. subst (λ (a : Going). CalledSince (last_key n v) guest (its_call v.gifts a) (e ∷ past)) (some_of w.act b z) (inl (refl, inl (refl, carried_is y w.act kind.user)));
+      none = λ z. absurd cc;
+      gave = λ b z. gave;
       reached = walk_reached s c past n (h.floors n).held ls w.act w.cache [] ms W tt (ends_here n);
     })
     (λ head call f. record {
@@ -243,17 +252,17 @@ begun_calls s c past n act h none =
       safe = λ q above. safe_over call c.clock x.epoch x.last x.epoch (x.last + 1) x.running (Some w.act) w.cache (IsAged (view h.floors c n) head) (IsAged v head) head idle (λ z. (z.0, λ b k u r. next_not _ _ _ _ f.behind u r))
           (safe_cache call c.clock x.epoch x.last x.running x.cache w.cache (IsAged (view h.floors c n) head) head (λ f z u found lasts. z u (walked_found (most_reads (began (locations s) act)) c.clock (began (locations s) act) x.cache f u found) lasts) (f.safe q above));
     })
-    over (own_call h.floors c past n g y w.act (ls ++ []) d.known kind refl at (new_one s c past n y w.act h refl refl)) (λ a z k. begun_not n _ _ k) refl)
+    over (own_call h.floors c past n g y w.act (ls ++ []) d.known kind refl at (new_one s c past n y w.act h refl refl) gave) (λ a z k. begun_not n _ _ k) refl (tried_new n _ _ refl))
 
 begins_by : (need : Need) (s : Script) (c : Cell) (past : List Entry) (n : ℕ) (act : Act) → Holds s c past → (c.clients n).running ≡ None → next (begun_walk s (c.clients n) c.clock act).act ≡ need
     → Goes s past (client_moves c n (goes_by (Client n) (unbusied (c.clients n)) (begin_lines n act) (begun_walk s (c.clients n) c.clock act) need))
 begins_by (answers k) s c past n act h none e = begun_answered s c past n act k h none e
-begins_by (reads f) s c past n act h none e = begun_calls s c past n act h none
-begins_by (reads_status f) s c past n act h none e = begun_calls s c past n act h none
-begins_by (reads_statuses fs) s c past n act h none e = begun_calls s c past n act h none
-begins_by (reads_rights f) s c past n act h none e = begun_calls s c past n act h none
-begins_by (asks_for call) s c past n act h none e = begun_calls s c past n act h none
-begins_by gives_back s c past n act h none e = begun_calls s c past n act h none
+begins_by (reads f) s c past n act h none e = begun_calls s c past n act h none (subst IsOpen (sym e) tt)
+begins_by (reads_status f) s c past n act h none e = begun_calls s c past n act h none (subst IsOpen (sym e) tt)
+begins_by (reads_statuses fs) s c past n act h none e = begun_calls s c past n act h none (subst IsOpen (sym e) tt)
+begins_by (reads_rights f) s c past n act h none e = begun_calls s c past n act h none (subst IsOpen (sym e) tt)
+begins_by (asks_for call) s c past n act h none e = begun_calls s c past n act h none (subst IsOpen (sym e) tt)
+begins_by gives_back s c past n act h none e = begun_calls s c past n act h none (subst IsOpen (sym e) tt)
 
 walks_first : (s : Script) (c : Cell) (past : List Entry) (n : ℕ) (act : Act) → Holds s c past → (c.clients n).running ≡ None → Goes s past (client_moves c n (ClientRow.walks_on (Client n) (unbusied (c.clients n)) c.clock (begin_lines n act) (began (locations s) act) (c.clients n).cache))
 walks_first s c past n act h none = begins_by (next (begun_walk s (c.clients n) c.clock act).act) s c past n act h none refl
@@ -298,10 +307,29 @@ pub record Caused (m : Message) (code : ℤ) (asks call : FsCall) (past : List E
 caused_as : (m : Message) (code other : ℤ) (asks to call : FsCall) (past : List Entry) → code ≡ other → asks ≡ to → Caused m code asks call past → Caused m other to call past
 caused_as m code other asks to call past e q h = subst (λ (z : ℤ). Caused m z to call past) e (subst (λ (k : FsCall). Caused m code k call past) q h)
 
+-- an act that isn't at its end, and reads nothing by this call, ends with it
+ends_by : (gifts : List Gift) (need : Need) → IsOpen need → IsNoRead (call_by gifts need) → EndsAct need
+ends_by gifts (reads f) going unread = absurd unread
+ends_by gifts (reads_status f) going unread = absurd unread
+ends_by gifts (reads_statuses fs) going unread = absurd unread
+ends_by gifts (reads_rights f) going unread = absurd unread
+ends_by gifts (asks_for call) going unread = tt
+ends_by gifts gives_back going unread = tt
+ends_by gifts (answers code) going unread = absurd going
+
+ends_for : (need : Need) → IsOpen need → IsNoRead (call_for need) → EndsAct need
+ends_for (reads f) going unread = absurd unread
+ends_for (reads_status f) going unread = absurd unread
+ends_for (reads_statuses fs) going unread = absurd unread
+ends_for (reads_rights f) going unread = absurd unread
+ends_for (asks_for call) going unread = tt
+ends_for gives_back going unread = tt
+ends_for (answers code) going unread = absurd going
+
 -- its act is answered with its code
-pub good_code : (s : Script) (c : Cell) (past : List Entry) (n p : ℕ) (act : Going) (m : Message) (code : Code) (own : List Line) → (h : Holds s c past) → Due c h.floors past n p act m → code_told m.carried ≡ Some code.0 → given_message own (sent_of past) ≡ message_at (sent_of past) p
+pub good_code : (s : Script) (c : Cell) (past : List Entry) (n p : ℕ) (act : Going) (m : Message) (code : Code) (own : List Line) → (h : Holds s c past) → Due c h.floors past n p act m → code_told m.carried ≡ Some code.0 → (code.0 ≡ pos 0 → EndsAct (next act)) → given_message own (sent_of past) ≡ message_at (sent_of past) p
     → has_begun (Client n) own ≡ false → running s (Client n) (own ++ lines_of past) ≡ running s (Client n) (lines_of past) → GoodCode s (Client n) code past own
-good_code s c past n p act m code own h d told by none still =
+good_code s c past n p act m code own h d told ends by none still =
     let call : FsCall = call_of (c.clients n) act in
     let k : Caused m code.0 (asked act) call past =
     caused_as m d.answers.code code.0 (as_asked call) (asked act) call past (some_of _ _ (sym d.answers.cause.told ∙ told)) (asks_is (c.clients n).gifts act) (record { cause = d.answers.cause; own = d.answers.own }) in
@@ -316,6 +344,7 @@ good_code s c past n p act m code own h d told by none still =
         cause = cause_behind m code.0 (asked act) past own k.cause;
         before = none;
         called = subst (λ (u : List ℕ). CalledSince (answered_key m.head) u k.cause.call past) (sym k.cause.own_user) (subst (λ (x : FsCall). CalledSince (answered_key m.head) guest x past) (sym k.own) asked_now);
+        ends = ends;
       });
     }
 
@@ -323,7 +352,7 @@ good_code s c past n p act m code own h d told by none still =
 -- boot: where a reply was made no call below its own may run; its own may only in a later boot, and if it was refused
 pub plain_safe : (call : FsCall) (x : Spot) (m : Message) (t e l : ℕ) (cache : List CacheEntry) (aged : Type 0) (head : Head) (o : Option ℕ) → volume_changed call ≡ o → FitsPlain x m call → (LastStored x → ⊥) → IsSafe t e l None cache aged head call
 plain_safe call x m t e l cache aged head None o fits none = inl o
-plain_safe call x m t e l cache aged head (Some id) o fits none = absurd (none (fits id o).ran)
+plain_safe call x m t e l cache aged head (Some id) o fits none = absurd (none (fits.1 id o).ran)
 
 pub data_safe : (sp : Bool) (call : FsCall) (n : ℕ) (x : Spot) (m : Message) (past : List Entry) (contents : List ℕ) (status : AfsFetchStatus) (callback : AfsCallBack) (t e l : ℕ) (cache : List CacheEntry) (aged : Type 0) (head : Head) → FitsData sp n x m past contents status callback call → (LastStored x → ⊥) → IsSafe t e l None cache aged head call
 data_safe sp (calls.FetchData f p w) n x m past contents status callback t e l cache aged head fits none = inl refl
@@ -419,6 +448,8 @@ ended_facts s c past n cache held e h le idle cur old r =
       old = old;
       runs = λ b y. absurd cc;
       asked = λ b y. absurd cc;
+      none = λ y. refl;
+      gave = λ b y. absurd cc;
       reached = r;
     }
 
@@ -444,6 +475,9 @@ refused_stands s c past n p act head code e f u h d cur r g stay (inr o) =
     let l : m.head.boot < c.server.lasting.boot = d.answers.fits.1 o.ran in
     inl (record { reached = r u.index o.was; newest = inl (g.withdrawn _ _ (old_withdrawn s c past n f u h cur (old_held s c past n act m (h.floors n).held h d refl l))); before = λ y x sc ran. absurd cc })
 
+not_zero : (code : Code) → is_zero_code code ≡ false → code.0 ≡ pos 0 → ⊥
+not_zero code e z = let yes : is_zero_code code ≡ true = ap (λ (k : ℤ). is_zero_code (record { 0 = k })) z in absurd cc
+
 pub takes_refused : (s : Script) (c : Cell) (past : List Entry) (n p : ℕ) (act : Going) (head : Head) (code : Code) → (h : Holds s c past) → Due c h.floors past n p act (record { head = head; carried = carried.Refusal code }) → Goes s past (client_moves c n (answers_step (Client n) (c.clients n) p code))
 takes_refused s c past n p act head code h d =
     let m : Message = record { head = head; carried = carried.Refusal code } in
@@ -451,7 +485,7 @@ takes_refused s c past n p act head code h d =
     let nz : is_zero_code code ≡ false = (neither _ _ d.answers.fits.0).0 in
     let held : ℕ = (h.floors n).held in
     moves s c past n (holding h.floors n held) (answers_step (Client n) (c.clients n) p code) h (client_ended s (c.clients n) (c.clients n).cache (h.own n) (h.own n).apart)
-    (tt, ((refl, good_code s c past n p act m code (lines.Given p ∷ []) h d refl refl refl refl), tt))
+    (refl, ((refl, good_code s c past n p act m code (lines.Given p ∷ []) h d refl (λ z. absurd (not_zero code nz z)) refl refl refl), tt))
     (answered_passes s c past n p m code h d.heard)
     (ended_facts s c past n (c.clients n).cache held e h (h.clients n).holds (own_ended n (running s (Client n) (lines_of past)))
     (λ f u found lasts. let cur : IsCurrent n f u (view h.floors c n) past = (h.clients n).current f u found lasts in
@@ -466,16 +500,16 @@ takes_refused s c past n p act head code h d =
     })
     (old_over (c.clients n).cache (lines_of past) (lines_of (e ∷ past)) (λ f i b z. (answered_file n n p code past f).grant.version i b (lines_of past) z) (h.clients n).old)
     (reached_still s c past n e h (answered_reach n n p code past) (λ f. refl)))
-    (ended_calls s c past n p act m (c.clients n).cache held h d (λ k is. refl)) (ended_reply s c past n (c.clients n).cache held e h) (nothing_new _ _) (λ a x z. absurd cc) refl
+    (ended_calls s c past n p act m (c.clients n).cache held h d (λ k is. refl)) (ended_reply s c past n (c.clients n).cache held e h) (nothing_new _ _) (λ a x z. absurd cc) refl (tried_idle n _ _ refl)
 
 -- the client calls again, with these promises to give back
-pub again_with : (s : Script) (c : Cell) (past : List Entry) (n p : ℕ) (gs : List Gift) (act : Going) (m : Message) → (h : Holds s c past) → AreGifts gs → Due c h.floors past n p act m → volume_changed (asked act) ≡ None → Goes s past (client_moves c n (calls_step (Client n) (with_gifts gs (c.clients n)) act (λ ls. lines.Given p ∷ ls)))
-again_with s c past n p gs act m h given d shut =
-    asks s c past n gs act (lines.Given p) h given (tt, tt) (told_passes s c past n p _ _ h d.heard) (λ g. told_file n p g (actors.Node (Client n)) _ past) (λ g. told_reach n p g (actors.Node (Client n)) _ past) (λ g o. (h.clients n).made act d.running g o (inl shut)) (λ b y. ap (λ (z : Going). volume_changed (asked z)) (some_of b act (sym y ∙ d.running)) ∙ shut) ((h.clients n).runs act d.running) (λ z. d.running)
+pub again_with : (s : Script) (c : Cell) (past : List Entry) (n p : ℕ) (gs : List Gift) (act : Going) (m : Message) → (h : Holds s c past) → AreGifts gs → AreDropped (Client n) (fids_of_gifts gs) (lines_of past) → Due c h.floors past n p act m → volume_changed (asked act) ≡ None → Goes s past (client_moves c n (calls_step (Client n) (with_gifts gs (c.clients n)) act (λ ls. lines.Given p ∷ ls)))
+again_with s c past n p gs act m h given gave d shut =
+    asks s c past n gs act (lines.Given p) h given refl gave ((h.own n).needs act d.running) (refl, tt) (told_passes s c past n p _ _ h d.heard) (λ g. told_file n p g (actors.Node (Client n)) _ past) (λ g. told_reach n p g (actors.Node (Client n)) _ past) (λ g o. (h.clients n).made act d.running g o (inl shut)) (λ b y. ap (λ (z : Going). volume_changed (asked z)) (some_of b act (sym y ∙ d.running)) ∙ shut) ((h.clients n).runs act d.running) (λ z. d.running)
 
 -- as they are
 pub again_goes : (s : Script) (c : Cell) (past : List Entry) (n p : ℕ) (act : Going) (m : Message) → (h : Holds s c past) → Due c h.floors past n p act m → volume_changed (asked act) ≡ None → Goes s past (client_moves c n (calls_again (Client n) (c.clients n) p act))
-again_goes s c past n p act m h d shut = again_with s c past n p (c.clients n).gifts act m h (h.own n).gifts d shut
+again_goes s c past n p act m h d shut = again_with s c past n p (c.clients n).gifts act m h (h.own n).gifts ((h.clients n).gave act d.running) d shut
 
 -- ---- what was fetched is read, and the act goes on
 
@@ -489,8 +523,9 @@ fetched_walk x clock act u body = walked (most_reads act) clock (with_read u.fid
 kept_whole_by : (t : Bool) (f : Fid) (i : ℕ) (status : ReadStatus) (b : Option Body) (old : CacheEntry) (past : List Entry) → nat_eq old.index i ≡ t → Ones (lines_of past) → (w : IsWhole f i status None past) → IsOld f old.index old.body (lines_of past) → old.body ≡ b → IsWhole f i status (cond t b None) past
 kept_whole_by true f i status None old past e one w h is = w
 kept_whole_by true f i status (Some k) old past e one w h is =
-    let had : HasVersion f i k (lines_of past) = subst (λ (j : ℕ). HasVersion f j k (lines_of past)) (eqb-true old.index i e) (subst (λ (o : Option Body). IsOld f old.index o (lines_of past)) is h) in
-    record { is = w.is; told = w.told; holds = one f i k w.is had w.told; been = w.been }
+    let kept : IsOld f old.index (Some k) (lines_of past) = subst (λ (o : Option Body). IsOld f old.index o (lines_of past)) is h in
+    let had : HasVersion f i k (lines_of past) = subst (λ (j : ℕ). HasVersion f j k (lines_of past)) (eqb-true old.index i e) kept.0 in
+    record { is = w.is; told = w.told; holds = (one f i k w.is had w.told, kept.1); been = w.been }
 kept_whole_by false f i status b old past e one w h is = w
 
 kept_whole : (b : Option Body) (o : Option CacheEntry) (f : Fid) (i : ℕ) (status : ReadStatus) (cache : List CacheEntry) (past : List Entry) → find_cached f cache ≡ o → Ones (lines_of past) → HasOld cache (lines_of past) → IsWhole f i status b past → IsWhole f i status (ClientRow.body_kept b i o) past
@@ -500,7 +535,7 @@ kept_whole None (Some old) f i status cache past e one h w = kept_whole_by (nat_
 
 old_of : (b : Option Body) (f : Fid) (i : ℕ) (is : Body) (ls : List Line) → IsBody b is → HasVersion f i is ls → IsOld f i b ls
 old_of None f i is ls h told = tt
-old_of (Some k) f i is ls h told = subst (λ (y : Body). HasVersion f i y ls) (sym h) told
+old_of (Some k) f i is ls h told = (subst (λ (y : Body). HasVersion f i y ls) (sym h.0) told, h.1)
 
 pub whole_old : (f : Fid) (i : ℕ) (status : ReadStatus) (b : Option Body) (past : List Entry) → IsWhole f i status b past → IsOld f i b (lines_of past)
 whole_old f i status b past w = old_of b f i w.is (lines_of past) w.holds w.told
@@ -538,7 +573,7 @@ fetched_walks s c past n p act m u body h d shut kind from shown a lt =
       reply = m;
       boot = d.fact.booted;
       from = from;
-      held = record { grant = a.held.grant; server = a.held.server; kept = a.held.kept; whole = whole; base = a.held.base; split = a.held.split; begun = a.held.begun };
+      held = record { grant = a.held.grant; server = a.held.server; kept = a.held.kept; whole = whole; base = a.held.base; split = a.held.split; begun = a.held.begun; least = a.held.least };
       newest = a.newest;
       low = raised_by u.fid u.index (λ t. le_refl _) a.reached;
       by = used_reply (is_promised body) n u.fid false (message_at (sent_of past) p) (fetch_reply (Client n) u.fid past) kind ∙ d.at;
@@ -546,17 +581,19 @@ fetched_walks s c past n p act m u body h d shut kind from shown a lt =
     } in
     record {
       good = λ tail g. (
-        tt,
+        refl,
         (
           (
-            refl,
-            read_by (is_promised body) (Client n) u.fid u.index Fetched body past (lines.Given p ∷ []) kind (record {
+            (refl, record { act = act; runs = (h.clients n).runs act d.running }),
+            read_by s (is_promised body) (Client n) u.fid u.index Fetched body past (lines.Given p ∷ []) kind (record {
               whole = shown;
               not_older = a.reached;
               reply = m;
               by = d.at;
               expiry = u.expiry;
               grant = a.held.grant;
+              home = home_of s c past u.fid u.index (seen.Status u.status) a.held.grant.server h a.held.server a.held.whole.been (until (Client n) u.fid u.expiry m past a.held.grant);
+              granted = λ v e. granted_in _ v u.index a.held.least e;
               lasts = subst (λ (t : ℕ). t < u.expiry) (sym h.clock) lt;
               kept = a.held.kept refl;
               newest = a.newest;
@@ -594,9 +631,36 @@ fetched_walks s c past n p act m u body h d shut kind from shown a lt =
 
 -- ---- behind reads of a reply the act goes on: it is answered, or calls
 
-pub gone_answered : (s : Script) (c : Cell) (past : List Entry) (n p : ℕ) (act : Going) (m : Message) (front : List Line → List Line) (F : List Line) (w : Walked) (k : ℕ) → (h : Holds s c past) → Due c h.floors past n p act m → ((code : Code) → m.carried ≡ carried.Refusal code → ⊥) → ((ls : List Line) → front ls ≡ F ++ ls)
+-- these lines were given this message, and begin no act
+pub record IsUsed (n : ℕ) (m : Message) (F : List Line) (past : List Entry) : Type 0 where
+  pub given : given_message (onto [] F) (sent_of past) ≡ Some m
+  pub begun : has_begun (Client n) (onto [] F) ≡ false
+
+onto_front_of : (a b : List Line) → onto [] (a ++ b) ≡ onto (onto [] a) b
+onto_front_of a b = onto_parts [] a b
+
+told_zero : (c : Carried) → HasCode c → ((code : Code) → c ≡ carried.Refusal code → ⊥) → code_told c ≡ Some (pos 0)
+told_zero (carried.Call user call) h not = absurd h
+told_zero (carried.Refusal code) h not = absurd (not code refl)
+told_zero (carried.Reply reply) h not = refl
+told_zero carried.Notice h not = absurd h
+
+-- behind lines that were given the reply it was used
+abbrev used_reply_behind : (s : Script) (c : Cell) (past : List Entry) (n p : ℕ) (act : Going) (m : Message) → (h : Holds s c past) → Due c h.floors past n p act m → ((code : Code) → m.carried ≡ carried.Refusal code → ⊥) → (own : List Line) → given_message own (sent_of past) ≡ Some m → has_begun (Client n) own ≡ false → HasUsed (Client n) past own
+used_reply_behind s c past n p act m h d not own by none = record {
+  reply = m;
+  by = by;
+  is_reply = d.answers.cause.is_reply;
+  told = told_zero m.carried d.answers.cause.is_reply.1 not;
+  to = ap (λ (k : Key). k.node) d.key;
+  before = none;
+  call = its_call (c.clients n).gifts act;
+  called = subst (λ (k : Key). CalledSince k guest (its_call (c.clients n).gifts act) past) (sym d.key) ((h.clients n).asked act d.running);
+}
+
+pub gone_answered : (s : Script) (c : Cell) (past : List Entry) (n p : ℕ) (act : Going) (m : Message) (front : List Line → List Line) (F : List Line) (w : Walked) (k : ℕ) → (h : Holds s c past) → Due c h.floors past n p act m → ((code : Code) → m.carried ≡ carried.Refusal code → ⊥) → ((ls : List Line) → front ls ≡ F ++ ls) → IsUsed n m F past
     → Walks s c past n c.server.lasting.boot (F ++ looked (Client n) w.looks []) w.act w.cache → AreApart w.cache → HasOld w.cache (lines_of past) → next w.act ≡ answers k → Goes s past (client_moves c n (goes_by (Client n) (c.clients n) front w (answers k)))
-gone_answered s c past n p act m front F w k h d not same W apart old is =
+gone_answered s c past n p act m front F w k h d not same used W apart old is =
     let x : ClientState = c.clients n in
     let ls : List Line = F ++ looked (Client n) w.looks [] in
     let tail : List Line = lines.Answer (Client n) (record { 0 = pos k }) ∷ [] in
@@ -609,28 +673,30 @@ gone_answered s c past n p act m front F w k h d not same W apart old is =
     let told : front (looked (Client n) w.looks tail) ≡ ls ++ tail = same (looked (Client n) w.looks tail) ∙ (ap (λ (os : List Line). F ++ os) (looked_more (Client n) w.looks tail) ∙ sym (append_assoc F (looked (Client n) w.looks []) tail)) in
     subst (λ (os : List Line). Goes s past (with_lines c n (ended x w.cache) [] os)) (sym told)
     (moves s c past n g (record { state = ended x w.cache; lines = ls ++ tail; sent = [] }) h (client_ended s x w.cache (h.own n) apart)
-    (walk_answered s c past n c.server.lasting.boot ls w.act w.cache k W is)
+    (walk_answered s c past n c.server.lasting.boot ls w.act w.cache k W is (inr (used_reply_behind s c past n p act m h d not (onto [] ls) (ap (λ (o : List Line). given_message o (sent_of past)) (onto_front_of F (looked (Client n) w.looks [])) ∙ (looked_message (Client n) w.looks (onto [] F) (sent_of past) ∙ used.given)) (ap (has_begun (Client n)) (onto_front_of F (looked (Client n) w.looks [])) ∙ (looked_begun (Client n) (Client n) w.looks (onto [] F) ∙ used.begun)))))
     (quiet_passes s n (ls ++ tail) [] past q (W.dull tail t))
     (ended_facts s c past n w.cache held e h (le_refl _) (ap (running s (Client n)) (onto_last (lines_of past) ls (lines.Answer (Client n) (record { 0 = pos k }))) ∙ own_ended n (running s (Client n) (onto (lines_of past) ls)))
     (λ f v found lasts. walk_current s c past n c.server.lasting.boot ls w.act w.cache tail [] (view_after c n g (ended x w.cache)) f v W t ends (le_refl _) (inr refl) found lasts)
     (old_over w.cache (lines_of past) (lines_of (e ∷ past)) (λ f i b y. (quiet_grant n n f (ls ++ tail) [] past q).version i b (lines_of past) y) old)
     (walk_reached s c past n c.server.lasting.boot ls w.act w.cache tail [] W t ends))
-    (ended_calls s c past n p act m w.cache held h d (λ code z. absurd (not code z))) (ended_reply s c past n w.cache held e h) (nothing_new _ _) (λ b y z. absurd cc) refl)
+    (ended_calls s c past n p act m w.cache held h d (λ code z. absurd (not code z))) (ended_reply s c past n w.cache held e h) (nothing_new _ _) (λ b y z. absurd cc) refl (tried_idle n _ _ refl))
 
-pub gone_calls : (s : Script) (c : Cell) (past : List Entry) (n p : ℕ) (act : Going) (m : Message) (front : List Line → List Line) (F : List Line) (w : Walked) → (h : Holds s c past) → Due c h.floors past n p act m → volume_changed (asked act) ≡ None → ((ls : List Line) → front ls ≡ F ++ ls)
-    → Walks s c past n c.server.lasting.boot (F ++ looked (Client n) w.looks []) w.act w.cache → AreApart w.cache → HasOld w.cache (lines_of past) → Goes s past (client_moves c n (goes_by (Client n) (c.clients n) front w (asks_for calls.GetTime)))
-gone_calls s c past n p act m front F w h d shut same W apart old =
+pub gone_calls : (s : Script) (c : Cell) (past : List Entry) (n p : ℕ) (act : Going) (m : Message) (front : List Line → List Line) (F : List Line) (w : Walked) → (h : Holds s c past) → Due c h.floors past n p act m → volume_changed (asked act) ≡ None → ((ls : List Line) → front ls ≡ F ++ ls) → IsUsed n m F past
+    → Walks s c past n c.server.lasting.boot (F ++ looked (Client n) w.looks []) w.act w.cache → AreApart w.cache → HasOld w.cache (lines_of past) → IsOpen (next w.act) → Goes s past (client_moves c n (goes_by (Client n) (c.clients n) front w (asks_for calls.GetTime)))
+gone_calls s c past n p act m front F w h d shut same used W apart old going =
     let x : ClientState = c.clients n in
     let ls : List Line = F ++ looked (Client n) w.looks [] in
     let k = h.clients n in
     let y : ClientState = asking (record x { cache = w.cache }) w.act in
-    let its : IsClient s y = client_asking s c past (record x { cache = w.cache }) w.act h (record { table = (h.own n).table; user = (h.own n).user; callee = λ b z. (h.own n).callee b z; apart = apart; gifts = (h.own n).gifts }) in
+    let its : IsClient s y = client_asking s c past (record x { cache = w.cache }) w.act h going (record { table = (h.own n).table; user = (h.own n).user; callee = λ b z. (h.own n).callee b z; needs = λ b z. (h.own n).needs b z; apart = apart; gifts = (h.own n).gifts }) in
     let ms : List Message = call_message (Client n) y w.act ∷ [] in
     let e : Entry = step_entry n (ls ++ []) ms in
     let q : AreQuiet n (ls ++ []) = quiet_more n ls [] W.quiet tt in
     let g : Ghost = record { floor = c.server.lasting.boot; held = c.server.lasting.boot } in
     let v : View = view_after c n g y in
     let never : LastRan v → ⊥ = λ ran. next_not _ _ _ _ (k.behind_durable ran.seat ran.at) ran.epoch ran.number in
+    let begun : has_begun (Client n) (onto [] (ls ++ [])) ≡ false = ap (λ (os : List Line). has_begun (Client n) (onto [] os)) (append-nil ls) ∙ (ap (has_begun (Client n)) (onto_front_of F (looked (Client n) w.looks [])) ∙ (looked_begun (Client n) (Client n) w.looks (onto [] F) ∙ used.begun)) in
+    let gave : AreDropped (Client n) (fids_of_gifts x.gifts) (onto (lines_of past) (ls ++ [])) = all_dropped_own (Client n) (fids_of_gifts x.gifts) (ls ++ []) (lines_of past) begun (k.gave act d.running) in
     let at : running s (Client n) (onto (lines_of past) (ls ++ [])) ≡ Some w.act = ap (λ (os : List Line). running s (Client n) (onto (lines_of past) os)) (append-nil ls) ∙ W.runs in
     let over : (q : Message) → ReplyFact n (view h.floors c n) past q → ReplyFact n v (e ∷ past) q = λ q r. record {
       behind = up_to_next _ _ _ _ r.behind;
@@ -660,6 +726,8 @@ gone_calls s c past n p act m front F w h d shut same W apart old =
       old = old_over w.cache (lines_of past) (lines_of (e ∷ past)) (λ f i b y. (quiet_grant n n f (ls ++ []) ms past q).version i b (lines_of past) y) old;
       runs = λ b y. at ∙ y;
       asked = λ b z. subst (λ (x : Going). CalledSince (last_key n v) guest (its_call v.gifts x) (e ∷ past)) (some_of w.act b z) (inl (refl, inl (refl, carried_is y w.act its.user)));
+      none = λ z. absurd cc;
+      gave = λ b z. gave;
       reached = walk_reached s c past n c.server.lasting.boot ls w.act w.cache [] ms W tt (ends_here n);
     })
     (λ head' call r. record {
@@ -672,28 +740,28 @@ gone_calls s c past n p act m front F w h d shut same W apart old =
         | inr same ↦ inl (ap volume_changed (r.own act d.running same.0 same.1) ∙ (asks_changed x.gifts act ∙ shut))
       ];
     })
-    over (own_call h.floors c past n g y w.act (ls ++ []) k.known its refl at (new_one s c past n y w.act h refl refl)) (λ b x z. inr (record { act = act; runs = d.running; read = shut })) refl)
+    over (own_call h.floors c past n g y w.act (ls ++ []) k.known its refl at (new_one s c past n y w.act h refl refl) gave) (λ b x z. inr (record { act = act; runs = d.running; read = shut })) refl (tried_new n _ _ refl))
 
-gone_by : (need : Need) (s : Script) (c : Cell) (past : List Entry) (n p : ℕ) (act : Going) (m : Message) (front : List Line → List Line) (F : List Line) (w : Walked) → (h : Holds s c past) → Due c h.floors past n p act m → ((code : Code) → m.carried ≡ carried.Refusal code → ⊥) → volume_changed (asked act) ≡ None → ((ls : List Line) → front ls ≡ F ++ ls)
+gone_by : (need : Need) (s : Script) (c : Cell) (past : List Entry) (n p : ℕ) (act : Going) (m : Message) (front : List Line → List Line) (F : List Line) (w : Walked) → (h : Holds s c past) → Due c h.floors past n p act m → ((code : Code) → m.carried ≡ carried.Refusal code → ⊥) → volume_changed (asked act) ≡ None → ((ls : List Line) → front ls ≡ F ++ ls) → IsUsed n m F past
     → Walks s c past n c.server.lasting.boot (F ++ looked (Client n) w.looks []) w.act w.cache → AreApart w.cache → HasOld w.cache (lines_of past) → next w.act ≡ need → Goes s past (client_moves c n (goes_by (Client n) (c.clients n) front w need))
-gone_by (answers k) s c past n p act m front F w h d not shut same W apart old e = gone_answered s c past n p act m front F w k h d not same W apart old e
-gone_by (reads f) s c past n p act m front F w h d not shut same W apart old e = gone_calls s c past n p act m front F w h d shut same W apart old
-gone_by (reads_status f) s c past n p act m front F w h d not shut same W apart old e = gone_calls s c past n p act m front F w h d shut same W apart old
-gone_by (reads_statuses fs) s c past n p act m front F w h d not shut same W apart old e = gone_calls s c past n p act m front F w h d shut same W apart old
-gone_by (reads_rights f) s c past n p act m front F w h d not shut same W apart old e = gone_calls s c past n p act m front F w h d shut same W apart old
-gone_by (asks_for call) s c past n p act m front F w h d not shut same W apart old e = gone_calls s c past n p act m front F w h d shut same W apart old
-gone_by gives_back s c past n p act m front F w h d not shut same W apart old e = gone_calls s c past n p act m front F w h d shut same W apart old
+gone_by (answers k) s c past n p act m front F w h d not shut same used W apart old e = gone_answered s c past n p act m front F w k h d not same used W apart old e
+gone_by (reads f) s c past n p act m front F w h d not shut same used W apart old e = gone_calls s c past n p act m front F w h d shut same used W apart old (subst IsOpen (sym e) tt)
+gone_by (reads_status f) s c past n p act m front F w h d not shut same used W apart old e = gone_calls s c past n p act m front F w h d shut same used W apart old (subst IsOpen (sym e) tt)
+gone_by (reads_statuses fs) s c past n p act m front F w h d not shut same used W apart old e = gone_calls s c past n p act m front F w h d shut same used W apart old (subst IsOpen (sym e) tt)
+gone_by (reads_rights f) s c past n p act m front F w h d not shut same used W apart old e = gone_calls s c past n p act m front F w h d shut same used W apart old (subst IsOpen (sym e) tt)
+gone_by (asks_for call) s c past n p act m front F w h d not shut same used W apart old e = gone_calls s c past n p act m front F w h d shut same used W apart old (subst IsOpen (sym e) tt)
+gone_by gives_back s c past n p act m front F w h d not shut same used W apart old e = gone_calls s c past n p act m front F w h d shut same used W apart old (subst IsOpen (sym e) tt)
 
 -- from such reads on it reads from the cache
-gone_on : (s : Script) (c : Cell) (past : List Entry) (n p : ℕ) (act : Going) (m : Message) (front : List Line → List Line) (F : List Line) (k : ℕ) (a : Going) (cache : List CacheEntry) → (h : Holds s c past) → Due c h.floors past n p act m → ((code : Code) → m.carried ≡ carried.Refusal code → ⊥) → volume_changed (asked act) ≡ None → ((ls : List Line) → front ls ≡ F ++ ls)
+gone_on : (s : Script) (c : Cell) (past : List Entry) (n p : ℕ) (act : Going) (m : Message) (front : List Line → List Line) (F : List Line) (k : ℕ) (a : Going) (cache : List CacheEntry) → (h : Holds s c past) → Due c h.floors past n p act m → ((code : Code) → m.carried ≡ carried.Refusal code → ⊥) → volume_changed (asked act) ≡ None → ((ls : List Line) → front ls ≡ F ++ ls) → IsUsed n m F past
     → Walks s c past n c.server.lasting.boot F a cache → AreApart cache → HasOld cache (lines_of past) → Goes s past (client_moves c n (goes_on (Client n) (c.clients n) front (walked k c.clock a cache)))
-gone_on s c past n p act m front F k a cache h d not shut same W apart old =
-    gone_by (next (walked k c.clock a cache).act) s c past n p act m front F (walked k c.clock a cache) h d not shut same (walks_on k s c past n c.server.lasting.boot F a cache h W) (walked_apart k c.clock a cache apart) (old_within cache (walked k c.clock a cache).cache (lines_of past) (λ f u z. walked_found k c.clock a cache f u z) old) refl
+gone_on s c past n p act m front F k a cache h d not shut same used W apart old =
+    gone_by (next (walked k c.clock a cache).act) s c past n p act m front F (walked k c.clock a cache) h d not shut same used (walks_on k s c past n c.server.lasting.boot F a cache h W) (walked_apart k c.clock a cache apart) (old_within cache (walked k c.clock a cache).cache (lines_of past) (λ f u z. walked_found k c.clock a cache f u z) old) refl
 
 pub fetched_goes : (s : Script) (c : Cell) (past : List Entry) (n p : ℕ) (act : Going) (u : CacheEntry) (body : ReadBody) (m : Message) (t : Bool) → (h : Holds s c past) → Due c h.floors past n p act m → ((code : Code) → m.carried ≡ carried.Refusal code → ⊥) → volume_changed (asked act) ≡ None → is_promised body ≡ true → u.server ≡ the_server → Shows u.fid u.index body past (lines.Given p ∷ []) → IsFetched false n u.fid u.index u.status u.body u.expiry m past → nat_lt c.clock u.expiry ≡ t
     → Goes s past (client_moves c n (cond t (goes_on (Client n) (c.clients n) (read_lines (Client n) p (look_at Fetched u body)) (fetched_walk (c.clients n) c.clock act u body)) (calls_again (Client n) (c.clients n) p act)))
 fetched_goes s c past n p act u body m true h d not shut kind from shown a lasts =
-    gone_on s c past n p act m (read_lines (Client n) p (look_at Fetched u body)) (read_now n p u body) (most_reads act) (with_read u.fid body act) (put_entry (c.clients n).capacity u (c.clients n).cache) h d not shut (λ ls. refl) (fetched_walks s c past n p act m u body h d shut kind from shown a (ltb-true _ _ lasts))
+    gone_on s c past n p act m (read_lines (Client n) p (look_at Fetched u body)) (read_now n p u body) (most_reads act) (with_read u.fid body act) (put_entry (c.clients n).capacity u (c.clients n).cache) h d not shut (λ ls. refl) (record { given = d.at; begun = refl }) (fetched_walks s c past n p act m u body h d shut kind from shown a (ltb-true _ _ lasts))
     (apart_put (c.clients n).capacity u (c.clients n).cache (h.own n).apart)
     (put_old (c.clients n).capacity u (c.clients n).cache past (kept_whole u.body (find_cached u.fid (c.clients n).cache) u.fid u.index u.status (c.clients n).cache past refl h.one (h.clients n).old a.held.whole) (h.clients n).old)
 fetched_goes s c past n p act u body m false h d not shut kind from shown a lasts = again_goes s c past n p act m h d shut
@@ -782,7 +850,7 @@ pub record Reads (s : Script) (c : Cell) (past : List Entry) (n most : ℕ) (m :
 -- before the first
 reads_none : (s : Script) (c : Cell) (past : List Entry) (n p : ℕ) (act : Going) (m : Message) (at : Fid → ℕ) → (h : Holds s c past) → Due c h.floors past n p act m → volume_changed (asked act) ≡ None → Reads s c past n c.server.lasting.boot m at (lines.Given p ∷ []) act (c.clients n).cache
 reads_none s c past n p act m at h d shut = record {
-  good = λ tail g. (tt, g);
+  good = λ tail g. (refl, g);
   quiet = (tt, tt);
   runs = (h.clients n).runs act d.running;
   ready = λ g u found lasts.
@@ -815,7 +883,7 @@ reads_none s c past n p act m at h d shut = record {
 
 -- what was fetched is read well behind them
 reads_good : (s : Script) (c : Cell) (past : List Entry) (n most : ℕ) (m : Message) (at : Fid → ℕ) (ls : List Line) (a : Going) (cache : List CacheEntry) (u : CacheEntry) → (h : Holds s c past) → Reads s c past n most m at ls a cache → u.index ≡ at u.fid → IsFetched false n u.fid u.index u.status u.body u.expiry m past → c.clock < u.expiry
-    → GoodRead (Client n) u.fid u.index Fetched (seen.Status u.status) past (onto [] ls)
+    → GoodRead s (Client n) u.fid u.index Fetched (seen.Status u.status) past (onto [] ls)
 reads_good s c past n most m at ls a cache u h w same f lasts =
     let p : PassesGrant n u.fid (step_entry n ls []) past = quiet_grant n n u.fid ls [] past w.quiet in
     let new : List Line = since (Client n) u.fid u.expiry m past f.held.grant in
@@ -826,6 +894,8 @@ reads_good s c past n most m at ls a cache u h w same f lasts =
       by = w.own;
       expiry = u.expiry;
       grant = f.held.grant;
+      home = home_of s c past u.fid u.index (seen.Status u.status) f.held.grant.server h f.held.server f.held.whole.been (until (Client n) u.fid u.expiry m past f.held.grant);
+      granted = λ v e. granted_in _ v u.index f.held.least e;
       lasts = subst (λ (o : List Line). clock_of o < u.expiry) (own_lines ls (lines_of past)) (subst (λ (t : ℕ). t < u.expiry) (sym (quiet_clock n ls w.quiet (lines_of past) ∙ h.clock)) lasts);
       kept = λ d. f.held.kept refl (p.dropped f.held.grant.server new (subst (IsDropped f.held.grant.server (Client n) u.fid) (sym (own_lines ls new)) d));
       newest = elim f.newest [
@@ -847,7 +917,7 @@ reads_next s c past n k m at ls a cache u h w le from same f lasts =
       reply = m;
       boot = le;
       from = from;
-      held = record { grant = f.held.grant; server = f.held.server; kept = f.held.kept; whole = whole; base = f.held.base; split = f.held.split; begun = f.held.begun };
+      held = record { grant = f.held.grant; server = f.held.server; kept = f.held.kept; whole = whole; base = f.held.base; split = f.held.split; begun = f.held.begun; least = f.held.least };
       newest = f.newest;
       low = rises u.fid u.index (λ z. le_refl _) (w.low u.fid u.index f.reached (λ z. le_of_eq (sym same)));
       fetched = true;
@@ -856,7 +926,7 @@ reads_next s c past n k m at ls a cache u h w le from same f lasts =
       by = refl;
     } in
     record {
-      good = λ tail g. subst (AreGood s (actors.Node (Client n)) past []) (sym (lines_assoc ls tail x)) (w.good (x ∷ tail) ((refl, reads_good s c past n c.server.lasting.boot m at ls a cache u h w same f lasts), subst (λ (o : List Line). AreGood s (actors.Node (Client n)) past o tail) (onto_last [] ls x) g));
+      good = λ tail g. subst (AreGood s (actors.Node (Client n)) past []) (sym (lines_assoc ls tail x)) (w.good (x ∷ tail) (((refl, record { act = a; runs = ap (running s (Client n)) (sym (own_lines ls (lines_of past))) ∙ w.runs }), reads_good s c past n c.server.lasting.boot m at ls a cache u h w same f lasts), subst (λ (o : List Line). AreGood s (actors.Node (Client n)) past o tail) (onto_last [] ls x) g));
       quiet = quiet_more n ls (x ∷ []) w.quiet (refl, tt);
       runs = ap (running s (Client n)) (onto_last (lines_of past) ls x) ∙ own_read n u.fid (seen.Status u.status) a (running s (Client n) (onto (lines_of past) ls)) w.runs;
       ready = λ g v found lasts'. elim (put_found k g u cache v found) [
@@ -935,15 +1005,16 @@ several_goes true s c past n p act us at m h d not shut all last = again_goes s 
 several_goes false s c past n p act us at m h d not shut all last =
     let R = reads_all us s c past n (c.clients n).capacity m at (lines.Given p ∷ []) act (c.clients n).cache h (reads_none s c past n p act m at h d shut) d.fact.booted all last in
     gone_on s c past n p act m (λ ls. lines.Given p ∷ looked (Client n) (map status_look us) ls) (lines.Given p ∷ looked (Client n) (map status_look us) []) (most_reads (with_statuses us act)) (with_statuses us act) (put_entries (c.clients n).capacity us (c.clients n).cache) h d not shut
-    (λ ls. ap (λ (o : List Line). lines.Given p ∷ o) (looked_more (Client n) (map status_look us) ls)) (reads_walks s c past n c.server.lasting.boot m at (lines.Given p ∷ looked (Client n) (map status_look us) []) (with_statuses us act) (put_entries (c.clients n).capacity us (c.clients n).cache) R) R.apart R.old
+    (λ ls. ap (λ (o : List Line). lines.Given p ∷ o) (looked_more (Client n) (map status_look us) ls)) (record { given = looked_message (Client n) (map status_look us) (lines.Given p ∷ []) (sent_of past) ∙ d.at; begun = looked_begun (Client n) (Client n) (map status_look us) (lines.Given p ∷ []) }) (reads_walks s c past n c.server.lasting.boot m at (lines.Given p ∷ looked (Client n) (map status_look us) []) (with_statuses us act) (put_entries (c.clients n).capacity us (c.clients n).cache) R) R.apart R.old
 
 -- ---- an answered store
 
 -- the act's call is a store of the fid: that alone is in its scope, and its reply tells the new index
 pub record IsStoreBy (act : Going) (call : FsCall) (f : Fid) : Type 0 where
   pub asks : asked act ≡ call
+  pub unread : IsNoRead call
   pub scope : (g : Fid) → is_in_scope call g ≡ same_fid f g
-  pub changed : (n : ℕ) (g : Fid) (server : Node) (newer : List Line) (reply : Option Message) (past : List Entry) → WasChanged n g server newer reply past call → WasStored n g server newer reply past
+  pub changed : (n : ℕ) (g : Fid) (old : ℕ) (server : Node) (newer : List Line) (reply : Option Message) (past : List Entry) → WasChanged n g old server newer reply past call → WasStored n g old server newer reply past
 
 -- what the store made of the body of the client's entry was told
 abbrev pub IsLeft : Cell → ℕ → Fid → ℕ → ReadStatus → (Option Body → Option Body) → List Entry → Type 0
@@ -956,7 +1027,7 @@ pub stored_state : (fl : ℕ → Ghost) (c : Cell) (past : List Entry) (n p : �
 stored_state fl c past n p act call f b m index i server newer e cache d is same told r stay q (inl a) = absurd (a.before act d.running (ap (λ (z : FsCall). is_in_scope z f) same.asks ∙ (same.scope f ∙ same_fid-refl f)) is.ran)
 stored_state fl c past n p act call f b m index i server newer e cache d is same told r stay q (inr o) =
     let one : o.act ≡ act = some_of o.act act (sym o.runs ∙ d.running) in
-    let w : WasStored n f server newer o.ran.seat.reply past = same.changed n f server newer o.ran.seat.reply past (subst (λ (z : FsCall). WasChanged n f server newer o.ran.seat.reply past z) (ap asked one ∙ same.asks) o.changed) in
+    let w : WasStored n f i server newer o.ran.seat.reply past = same.changed n f i server newer o.ran.seat.reply past (subst (λ (z : FsCall). WasChanged n f i server newer o.ran.seat.reply past z) (ap asked one ∙ same.asks) o.changed) in
     let is_reply : m ≡ w.reply = one_reply (spot (view fl c n)) is.ran o.ran m w.reply is.kept w.kept in
     let same_index : w.index ≡ index = some_of _ _ (sym w.told ∙ (ap (λ (x : Message). stored_index x.carried) (sym is_reply) ∙ told)) in
     inl (record {
@@ -964,6 +1035,17 @@ stored_state fl c past n p act call f b m index i server newer e cache d is same
       newest = subst (λ (k : ℕ). IsNewest server n f k (onto newer e.lines) (lines_of (e ∷ past))) same_index (stay server w.index newer q w.newest);
       before = λ y x sc ran. absurd cc;
     })
+
+-- and its index is above that of the entry
+stored_above : (fl : ℕ → Ghost) (c : Cell) (past : List Entry) (n p : ℕ) (act : Going) (call : FsCall) (f : Fid) (m : Message) (index i : ℕ) (server : Node) (newer : List Line) → Due c fl past n p act m → IsStored (spot (view fl c n)) m → IsStoreBy act call f → stored_index m.carried ≡ Some index
+    → Stands n f i server newer (view fl c n) past → i ≤ index
+stored_above fl c past n p act call f m index i server newer d is same told (inl a) = absurd (a.before act d.running (ap (λ (z : FsCall). is_in_scope z f) same.asks ∙ (same.scope f ∙ same_fid-refl f)) is.ran)
+stored_above fl c past n p act call f m index i server newer d is same told (inr o) =
+    let one : o.act ≡ act = some_of o.act act (sym o.runs ∙ d.running) in
+    let w : WasStored n f i server newer o.ran.seat.reply past = same.changed n f i server newer o.ran.seat.reply past (subst (λ (z : FsCall). WasChanged n f i server newer o.ran.seat.reply past z) (ap asked one ∙ same.asks) o.changed) in
+    let is_reply : m ≡ w.reply = one_reply (spot (view fl c n)) is.ran o.ran m w.reply is.kept w.kept in
+    let same_index : w.index ≡ index = some_of _ _ (sym w.told ∙ (ap (λ (x : Message). stored_index x.carried) (sym is_reply) ∙ told)) in
+    subst (λ (k : ℕ). i ≤ k) same_index w.above
 
 -- that of the file
 pub stored_own : (s : Script) (c : Cell) (past : List Entry) (n p : ℕ) (act : Going) (call : FsCall) (f : Fid) (b : Option Body → Option Body) (m : Message) (index : ℕ) (status : ReadStatus) (x : CacheEntry) (e : Entry) (cache : List CacheEntry) → (h : Holds s c past) → Due c h.floors past n p act m → IsStored (spot (view h.floors c n)) m → IsStoreBy act call f → stored_index m.carried ≡ Some index
@@ -974,7 +1056,7 @@ stored_own s c past n p act call f b m index status x e cache h d is same told w
   boot = cur.boot;
   by = fetch_reply_by (has_fetched (Client n) f e.lines) (given_message e.lines (sent_of past)) (fetch_reply (Client n) f past) pass.fetched ∙ cur.by;
   from = cur.from;
-  held = held_over n f index status (b x.body) x.expiry cur.reply e past pass.grant (record { grant = cur.held.grant; server = cur.held.server; kept = cur.held.kept; whole = whole; base = cur.held.base; split = cur.held.split; begun = cur.held.begun });
+  held = held_over n f index status (b x.body) x.expiry cur.reply e past pass.grant (record { grant = cur.held.grant; server = cur.held.server; kept = cur.held.kept; whole = whole; base = cur.held.base; split = cur.held.split; begun = cur.held.begun; least = le_trans cur.held.least (stored_above h.floors c past n p act call f m index x.index cur.held.grant.server (since (Client n) f x.expiry cur.reply past cur.held.grant) d is same told cur.state) });
   state = stored_state h.floors c past n p act call f b m index x.index cur.held.grant.server (since (Client n) f x.expiry cur.reply past cur.held.grant) e cache d is same told r stay cur.held.server cur.state;
 }
 
@@ -1031,7 +1113,7 @@ takes_saved s c past n p act call f b i status m h d none not same told kept up 
     let cache : List CacheEntry = map (refreshed c.clock f i status b) (c.clients n).cache in
     let e : Entry = step_entry n (answered_lines n p zero_code) [] in
     moves s c past n (holding h.floors n held) (takes_stored (Client n) (c.clients n) c.clock p f i status b) h (client_ended s (c.clients n) cache (h.own n) (apart_refreshed c.clock f i status b (c.clients n).cache (h.own n).apart))
-    (tt, ((refl, good_code s c past n p act m zero_code (lines.Given p ∷ []) h d none refl refl refl), tt))
+    (refl, ((refl, good_code s c past n p act m zero_code (lines.Given p ∷ []) h d none (λ z. ends_for (next act) ((h.own n).needs act d.running) (subst IsNoRead (sym same.asks) same.unread)) refl refl refl), tt))
     (answered_passes s c past n p m zero_code h d.heard)
     (ended_facts s c past n cache held e h (h.clients n).holds (own_ended n (running s (Client n) (lines_of past)))
     (λ g u found lasts. stored_of (find_cached g (c.clients n).cache) s c past n p act call f g b m i status u e cache h d kept same told left (answered_file n n p zero_code past) (answered_reach n n p zero_code past f i up).seen
@@ -1039,15 +1121,15 @@ takes_saved s c past n p act call f b i status m h d none not same told kept up 
     refl (sym (found-refreshed c.clock f g i status b (c.clients n).cache) ∙ found) lasts)
     (old_over cache (lines_of past) (lines_of (e ∷ past)) (λ k j y z. (answered_file n n p zero_code past k).grant.version j y (lines_of past) z) (old_refreshed c n f i status b past left (h.clients n).old))
     (reached_still s c past n e h (answered_reach n n p zero_code past) (λ g. refl)))
-    (ended_calls s c past n p act m cache held h d (λ code is. absurd (not code is))) (ended_reply s c past n cache held e h) (nothing_new _ _) (λ a x z. absurd cc) refl
+    (ended_calls s c past n p act m cache held h d (λ code is. absurd (not code is))) (ended_reply s c past n cache held e h) (nothing_new _ _) (λ a x z. absurd cc) refl (tried_idle n _ _ refl)
 
 -- ---- any other answered call: the entries of the volume that it may have changed are given up
 
 reply_not : (reply : FsReply) (code : Code) → carried.Reply (tell.File reply) ≡ carried.Refusal code → ⊥
 reply_not reply code e = absurd cc
 
-pub takes_other : (s : Script) (c : Cell) (past : List Entry) (n p : ℕ) (act : Going) (call : FsCall) (m : Message) (reply : FsReply) → (h : Holds s c past) → Due c h.floors past n p act m → m.carried ≡ carried.Reply (tell.File reply) → ((f : Fid) → is_in_scope call f ≡ is_in_scope (asked act) f) → Goes s past (client_moves c n (takes_plain (Client n) (c.clients n) p call))
-takes_other s c past n p act call m reply h d is sc =
+pub takes_other : (s : Script) (c : Cell) (past : List Entry) (n p : ℕ) (act : Going) (call : FsCall) (m : Message) (reply : FsReply) → (h : Holds s c past) → Due c h.floors past n p act m → m.carried ≡ carried.Reply (tell.File reply) → EndsAct (next act) → ((f : Fid) → is_in_scope call f ≡ is_in_scope (asked act) f) → Goes s past (client_moves c n (takes_plain (Client n) (c.clients n) p call))
+takes_other s c past n p act call m reply h d is ends sc =
     let x : ClientState = c.clients n in
     let cache : List CacheEntry = left_after call x.cache in
     let es : List CacheEntry = dropped_after call x.cache in
@@ -1056,7 +1138,7 @@ takes_other s c past n p act call m reply h d is sc =
     let held : ℕ = (h.floors n).held in
     let g : Ghost = holding h.floors n held in
     moves s c past n g (takes_plain (Client n) x p call) h (client_ended s x cache (h.own n) (apart_filter (λ y. not (is_in_scope call y.fid)) x.cache (h.own n).apart))
-    (tt, drops_good s n p act m past es (lines.Given p ∷ []) (λ own a b r. good_code s c past n p act m zero_code own h d (ap code_told is) a b r) refl refl refl)
+    (refl, drops_good s n p act m past es (lines.Given p ∷ []) (λ own a b r. good_code s c past n p act m zero_code own h d (ap code_told is) (λ z. ends) a b r) refl refl refl)
     (drop_passes s c past n (was_given p) zero_code es (heard_dull s c past p m h d.heard))
     (ended_facts s c past n cache held e h (h.clients n).holds (ended_running s n zero_code es (lines.Given p ∷ lines_of past))
     (λ k u found lasts.
@@ -1068,7 +1150,7 @@ takes_other s c past n p act call m reply h d is sc =
     ((h.clients n).current k u was.0 lasts))
     (old_over cache (lines_of past) (lines_of (e ∷ past)) (λ k i b z. (skips n zero_code es).version k i b (lines.Given p ∷ lines_of past) z) (old_within x.cache cache (lines_of past) (λ k u z. (left_out (is_in_scope call) k x.cache u z).0) (h.clients n).old))
     (reached_still s c past n e h (drop_reach n n (was_given p) zero_code es past) last))
-    (ended_calls s c past n p act m cache held h d (λ code x. absurd (reply_not reply code (sym is ∙ x)))) (ended_reply s c past n cache held e h) (nothing_new _ _) (λ a x z. absurd cc) refl
+    (ended_calls s c past n p act m cache held h d (λ code x. absurd (reply_not reply code (sym is ∙ x)))) (ended_reply s c past n cache held e h) (nothing_new _ _) (λ a x z. absurd cc) refl (tried_idle n _ _ refl)
 
 -- ---- rights that were read
 
@@ -1131,9 +1213,10 @@ rights_passes s c past n p m f i text es h d = record {
 }
 
 -- the answer is good behind the drops
-rights_good : (s : Script) (n : ℕ) (a : Going) (past : List Entry) (es : List CacheEntry) (own : List Line) → running s (Client n) (own ++ lines_of past) ≡ Some a → next a ≡ answers 0 → AreGood s (actors.Node (Client n)) past own (dropped (Client n) es (last_line n zero_code))
-rights_good s n a past [] own runs done = ((refl, record { act = a; runs = runs; cause = inr (inl (record { number = 0; is = refl; by = done })) }), tt)
-rights_good s n a past (u ∷ es) own runs done = (refl, rights_good s n a past es (lines.Drop (Client n) u.fid ∷ own) runs done)
+rights_good : (s : Script) (n : ℕ) (a : Going) (past : List Entry) (es : List CacheEntry) (own : List Line) → running s (Client n) (own ++ lines_of past) ≡ Some a → next a ≡ answers 0 → HasUsed (Client n) past own → AreGood s (actors.Node (Client n)) past own (dropped (Client n) es (last_line n zero_code))
+rights_good s n a past [] own runs done used = ((refl, record { act = a; runs = runs; cause = inr (inl (record { number = 0; is = refl; by = done; last = inr used })) }), tt)
+rights_good s n a past (u ∷ es) own runs done used =
+    (refl, rights_good s n a past es (lines.Drop (Client n) u.fid ∷ own) runs done (record { reply = used.reply; by = used.by; is_reply = used.is_reply; told = used.told; to = used.to; before = used.before; call = used.call; called = used.called }))
 
 walked_done : (k clock : ℕ) (a : Going) (cache : List CacheEntry) (code : ℕ) → next a ≡ answers code → walked k clock a cache ≡ ClientRow.stays a cache
 walked_done zero clock a cache code e = refl
@@ -1150,6 +1233,9 @@ not_older_by false b d x i lt e h = absurd cc
 not_false : (b : Bool) → not b ≡ true → b ≡ false
 not_false true e = absurd cc
 not_false false e = refl
+
+by_rights : (gifts : List Gift) (need : Need) → {f : Fid} → need ≡ reads_rights f → call_by gifts need ≡ call_for need
+by_rights gifts need e = ap (call_by gifts) e ∙ sym (ap call_for e)
 
 pub rights_goes : (s : Script) (c : Cell) (past : List Entry) (n p : ℕ) (act : Going) (m : Message) (f : Fid) (i release : ℕ) (text : List ℕ) → (h : Holds s c past) → Due c h.floors past n p act m → ((code : Code) → m.carried ≡ carried.Refusal code → ⊥) → asked act ≡ calls.FetchAcl f → IsGot n f i text past → Goes s past (client_moves c n (takes_rights (Client n) (c.clients n) c.clock p act f i release text))
 rights_goes s c past n p act m f i release text h d not_refused asks fits =
@@ -1168,8 +1254,26 @@ rights_goes s c past n p act m f i release text h d not_refused asks fits =
     let last : (k : Fid) → last_version k (lines_of (e ∷ past)) ≡ last_version k (lines_of past) = λ k. (skips n zero_code es).last k _ in
     let same : goes_on (Client n) x front (walked (most_reads a) c.clock a cache) ≡ ends_step (Client n) x cache (λ ls. front (looked (Client n) [] ls)) zero_code = ap (goes_on (Client n) x front) (walked_done (most_reads a) c.clock a cache 0 done) ∙ ap (goes_by (Client n) x front (ClientRow.stays a cache)) done in
     subst (λ (st : Step ClientState). Goes s past (client_moves c n st)) (sym same)
-    (moves s c past n g (record { state = ended x cache; lines = rights_lines n p f i text es; sent = [] }) h (client_ended s x cache (h.own n) (apart_filter (λ y. not (is_older f i release y)) x.cache (h.own n).apart))
-    (tt, ((refl, record { whole = ((fits.is, fits.told), fits.been); not_older = fits.reached; was = inr fits.was }), rights_good s n a past es (rights_read n f i text ∷ lines.Given p ∷ []) (own_read n f (seen.AccessList text) act (running s (Client n) (lines_of past)) ((h.clients n).runs act d.running)) done))
+    (moves s c past n g (record { state = ended x cache; lines = rights_lines n p f i text es; sent = [] }) h (client_ended s x cache (h.own n) (apart_filter (λ y. not (is_older f i release y)) x.cache (h.own n).apart)) (
+      refl,
+      (
+        (
+          (refl, record { act = act; runs = (h.clients n).runs act d.running }),
+          record {
+            fetched = refl;
+            act = act;
+            runs = (h.clients n).runs act d.running;
+            needs = rights_need act f asks;
+            used = used_reply_behind s c past n p act m h d not_refused (lines.Given p ∷ []) d.at refl;
+            asks = by_rights (c.clients n).gifts (next act) (rights_need act f asks);
+            whole = ((fits.is, fits.told), fits.been);
+            not_older = fits.reached;
+            was = inr fits.was;
+          },
+        ),
+        rights_good s n a past es (rights_read n f i text ∷ lines.Given p ∷ []) (own_read n f (seen.AccessList text) act (running s (Client n) (lines_of past)) ((h.clients n).runs act d.running)) done (used_reply_behind s c past n p act m h d not_refused (rights_read n f i text ∷ lines.Given p ∷ []) d.at refl),
+      ),
+    )
     (rights_passes s c past n p m f i text es h d.heard)
     (ended_facts s c past n cache held e h (h.clients n).holds (ended_running s n zero_code es (rights_read n f i text ∷ lines.Given p ∷ lines_of past))
     (λ k u found lasts.
@@ -1184,12 +1288,12 @@ rights_goes s c past n p act m f i release text h d not_refused asks fits =
     ((h.clients n).current k u was.0 lasts))
     (old_over cache (lines_of past) (lines_of (e ∷ past)) (λ k j b z. (skips n zero_code es).version k j b (rights_read n f i text ∷ lines.Given p ∷ lines_of past) z) (old_within x.cache cache (lines_of past) (λ k u z. (found_filter (λ y. not (is_older f i release y)) k x.cache u (h.own n).apart z).0) (h.clients n).old))
     (λ k. subst (λ (o : Option Version). Reached (Client n) k (index_in o) (e ∷ past)) (sym (last k)) (rights_reach n n p f i text es past k (index_in (last_version k (lines_of past))) (λ t z. subst (λ (q : Fid). i ≤ index_in (last_version q (lines_of past))) (same_fid-true f k z) (h.top f i fits.is fits.told)) ((h.clients n).reached k))))
-    (ended_calls s c past n p act m cache held h d (λ code z. absurd (not_refused code z))) (ended_reply s c past n cache held e h) (nothing_new _ _) (λ b y z. absurd cc) refl)
+    (ended_calls s c past n p act m cache held h d (λ code z. absurd (not_refused code z))) (ended_reply s c past n cache held e h) (nothing_new _ _) (λ b y z. absurd cc) refl (tried_idle n _ _ refl))
 
 pub list_goes : (s : Script) (c : Cell) (past : List Entry) (n p : ℕ) (act : Going) (call : FsCall) (head : Head) (text : List ℕ) (status : AfsFetchStatus) (sync : AfsVolSync) → (h : Holds s c past) → Due c h.floors past n p act (record { head = head; carried = carried.Reply (tell.File (replies.FetchAcl text status sync)) })
     → call_of (c.clients n) act ≡ call → FitsList n (spot (view h.floors c n)) (record { head = head; carried = carried.Reply (tell.File (replies.FetchAcl text status sync)) }) past text status call → Goes s past (client_moves c n (takes_list (Client n) (c.clients n) c.clock p act text status sync call))
 list_goes s c past n p act (calls.FetchAcl f) head text status sync h d same fits = rights_goes s c past n p act _ f status.sync_counter sync.release text h d (λ code z. reply_not (replies.FetchAcl text status sync) code z) (asks_just (c.clients n).gifts act (calls.FetchAcl f) refl same) fits
-list_goes s c past n p act call head text status sync h d same fits = takes_other s c past n p act call _ (replies.FetchAcl text status sync) h d refl (λ f. ap (λ (k : FsCall). is_in_scope k f) (sym same) ∙ asks_scope (c.clients n).gifts act f)
+list_goes s c past n p act call head text status sync h d same fits = takes_other s c past n p act call _ (replies.FetchAcl text status sync) h d refl (ends_by (c.clients n).gifts (next act) ((h.own n).needs act d.running) (subst IsNoRead (sym same) fits.0)) (λ f. ap (λ (k : FsCall). is_in_scope k f) (sym same) ∙ asks_scope (c.clients n).gifts act f)
 
 -- ---- a boot notice
 
@@ -1201,20 +1305,20 @@ pub resends_goes : (s : Script) (c : Cell) (past : List Entry) (n p : ℕ) (act 
 resends_goes s c past n p act m boot h d le runs =
     let old : ClientState = c.clients n in
     let x : ClientState = booted old boot in
-    let kind : IsClient s x = record { table = (h.own n).table; user = (h.own n).user; callee = λ a z. (h.own n).callee a z; apart = (h.own n).apart; gifts = (h.own n).gifts } in
+    let kind : IsClient s x = record { table = (h.own n).table; user = (h.own n).user; callee = λ a z. (h.own n).callee a z; needs = λ a z. (h.own n).needs a z; apart = (h.own n).apart; gifts = (h.own n).gifts } in
     let known : boot_of the_server x.boots ≡ boot = ap (λ (q : Node). boot_of the_server (with_boot q boot old.boots)) ((h.own n).callee act runs) ∙ boot_with the_server boot old.boots in
     let ms : List Message = call_message (Client n) x act ∷ [] in
     let e : Entry = step_entry n (lines.Given p ∷ []) ms in
-    moves s c past n (h.floors n) (resends_step (Client n) old p act boot) h kind (tt, tt) (told_passes s c past n p m ms h d)
+    moves s c past n (h.floors n) (resends_step (Client n) old p act boot) h kind (refl, tt) (told_passes s c past n p m ms h d)
     (subst (λ (k : ℕ). ClientFacts s n (record (view h.floors c n) { known = k }) (e ∷ past)) (sym known) (client_kept s c past n boot e h le (λ f. told_file n p f (actors.Node (Client n)) ms past) (λ f. told_reach n p f (actors.Node (Client n)) ms past) (told_act n p (actors.Node (Client n)) ms past) (λ f. refl)))
     (λ head call f. call_known (view h.floors c n) (boot_of the_server x.boots) head call f)
     (reply_still n (view h.floors c n) e past (λ f. told_file n p f (actors.Node (Client n)) ms past) (λ f. told_reach n p f (actors.Node (Client n)) ms past) (λ f. refl) refl)
-    (own_call h.floors c past n (h.floors n) x act (lines.Given p ∷ []) (subst (λ (k : ℕ). k ≤ c.server.lasting.boot) (sym known) le) kind runs ((h.clients n).runs act runs) (same_one s c past n act ms h runs)) (λ a x z. inl x) refl
+    (own_call h.floors c past n (h.floors n) x act (lines.Given p ∷ []) (subst (λ (k : ℕ). k ≤ c.server.lasting.boot) (sym known) le) kind runs ((h.clients n).runs act runs) (same_one s c past n act ms h runs) (all_dropped_onto (Client n) (fids_of_gifts old.gifts) (lines.Given p ∷ []) (lines_of past) refl ((h.clients n).gave act runs))) (λ a x z. inl x) refl (tried_kept n (c.clients n) _ (lines_of past) (lines.Given p ∷ []) refl refl refl refl (h.tried n))
 
 -- ---- the row, by its cases
 
-pub plain_goes : (s : Script) (c : Cell) (past : List Entry) (n p : ℕ) (act : Going) (call : FsCall) (m : Message) (reply : FsReply) → (h : Holds s c past) → Due c h.floors past n p act m → m.carried ≡ carried.Reply (tell.File reply) → call_of (c.clients n) act ≡ call → Goes s past (client_moves c n (takes_plain (Client n) (c.clients n) p call))
-plain_goes s c past n p act call m reply h d is same = takes_other s c past n p act call m reply h d is (λ f. ap (λ (k : FsCall). is_in_scope k f) (sym same) ∙ asks_scope (c.clients n).gifts act f)
+pub plain_goes : (s : Script) (c : Cell) (past : List Entry) (n p : ℕ) (act : Going) (call : FsCall) (m : Message) (reply : FsReply) → (h : Holds s c past) → Due c h.floors past n p act m → m.carried ≡ carried.Reply (tell.File reply) → call_of (c.clients n) act ≡ call → IsNoRead call → Goes s past (client_moves c n (takes_plain (Client n) (c.clients n) p call))
+plain_goes s c past n p act call m reply h d is same unread = takes_other s c past n p act call m reply h d is (ends_by (c.clients n).gifts (next act) ((h.own n).needs act d.running) (subst IsNoRead (sym same) unread)) (λ f. ap (λ (k : FsCall). is_in_scope k f) (sym same) ∙ asks_scope (c.clients n).gifts act f)
 
 -- a reply to a reading call that isn't spent isn't spoiled
 pub spent_shut : (sp : Bool) (o : Option ℕ) → (sp && is_reading o) ≡ true → o ≡ None
@@ -1238,15 +1342,15 @@ pub data_goes : (s : Script) (c : Cell) (past : List Entry) (n p : ℕ) (act : G
     → is_spent (c.clients n) act ≡ false → call_of (c.clients n) act ≡ call → FitsData (c.clients n).spoiled n (spot (view h.floors c n)) (record { head = head; carried = carried.Reply (tell.File (replies.FetchData contents status callback sync)) }) past contents status callback call → Goes s past (client_moves c n (takes_data (Client n) (c.clients n) c.clock p act contents status callback sync call))
 data_goes s c past n p act (calls.FetchData f pp w) head contents status callback sync h d fresh same fits =
     entry_goes s c past n p act head (replies.FetchData contents status callback sync) (entry_told (c.clients n).callee f status callback sync (Some (body_told status.file_type contents))) (seen.Contents (body_told status.file_type contents)) h d fresh (ap volume_changed (asks_just (c.clients n).gifts act (calls.FetchData f pp w) refl same)) refl refl
-    (subst (λ (b : Body). HasVersion f status.sync_counter b (lines_of past)) (sym fits.held.whole.holds) fits.held.whole.told) fits
-data_goes s c past n p act call head contents status callback sync h d fresh same fits = plain_goes s c past n p act call _ (replies.FetchData contents status callback sync) h d refl same
+    (fits.held.whole.holds.1, subst (λ (b : Body). HasVersion f status.sync_counter b (lines_of past)) (sym fits.held.whole.holds.0) fits.held.whole.told) fits
+data_goes s c past n p act call head contents status callback sync h d fresh same fits = plain_goes s c past n p act call _ (replies.FetchData contents status callback sync) h d refl same fits.0
 
 pub status_goes : (s : Script) (c : Cell) (past : List Entry) (n p : ℕ) (act : Going) (call : FsCall) (head : Head) (status : AfsFetchStatus) (callback : AfsCallBack) (sync : AfsVolSync) → (h : Holds s c past) → Due c h.floors past n p act (record { head = head; carried = carried.Reply (tell.File (replies.FetchStatus status callback sync)) })
     → is_spent (c.clients n) act ≡ false → call_of (c.clients n) act ≡ call → FitsShown (c.clients n).spoiled n (spot (view h.floors c n)) (record { head = head; carried = carried.Reply (tell.File (replies.FetchStatus status callback sync)) }) past status callback call → Goes s past (client_moves c n (takes_shown (Client n) (c.clients n) c.clock p act status callback sync call))
 status_goes s c past n p act (calls.FetchStatus f) head status callback sync h d fresh same fits =
     entry_goes s c past n p act head (replies.FetchStatus status callback sync) (entry_told (c.clients n).callee f status callback sync None) (seen.Status (status_told status)) h d fresh (ap volume_changed (asks_just (c.clients n).gifts act (calls.FetchStatus f) refl same)) refl refl
     ((fits.held.whole.is, fits.held.whole.told), fits.held.whole.been) fits
-status_goes s c past n p act call head status callback sync h d fresh same fits = plain_goes s c past n p act call _ (replies.FetchStatus status callback sync) h d refl same
+status_goes s c past n p act call head status callback sync h d fresh same fits = plain_goes s c past n p act call _ (replies.FetchStatus status callback sync) h d refl same fits.0
 
 told_fetched : (sp : Bool) (n : ℕ) (m : Message) (past : List Entry) (at : Fid → ℕ) (server : Node) (sync : AfsVolSync) (fids : List Fid) (ss : List AfsFetchStatus) (cs : List AfsCallBack) → sp ≡ false → server ≡ the_server → AreFetched sp n m past at fids ss cs → AllFetched n m at past (entries_told server sync fids ss cs)
 told_fetched sp n m past at server sync [] ss cs fresh is h = tt
@@ -1261,19 +1365,19 @@ bulk_goes s c past n p act (calls.BulkStatus fids) head statuses callbacks sync 
     let us : List CacheEntry = entries_told (c.clients n).callee sync fids statuses callbacks in
     several_goes (list_any (λ e. not (is_trusted c.clock e)) us) s c past n p act us fits.at _ h d (λ code z. reply_not (replies.BulkStatus statuses callbacks sync) code z) (ap volume_changed (asks_just (c.clients n).gifts act (calls.BulkStatus fids) refl same))
     (told_fetched (c.clients n).spoiled n _ past fits.at (c.clients n).callee sync fids statuses callbacks (fresh_of (c.clients n).spoiled (volume_changed (call_of (c.clients n) act)) fresh (ap volume_changed same)) ((h.own n).callee act d.running) fits.all) refl
-bulk_goes s c past n p act call head statuses callbacks sync h d fresh same fits = plain_goes s c past n p act call _ (replies.BulkStatus statuses callbacks sync) h d refl same
+bulk_goes s c past n p act call head statuses callbacks sync h d fresh same fits = plain_goes s c past n p act call _ (replies.BulkStatus statuses callbacks sync) h d refl same fits.0
 
 pub data_stored : (t : Bool) (s : Script) (c : Cell) (past : List Entry) (n p : ℕ) (act : Going) (st : AfsStoreStatus) (pp ww ll : ℤ) (f : Fid) (b : List ℕ) (status : AfsFetchStatus) (m : Message) (reply : FsReply) → (h : Holds s c past) → Due c h.floors past n p act m → m.carried ≡ carried.Reply (tell.File reply) → stored_index m.carried ≡ Some status.sync_counter
     → call_of (c.clients n) act ≡ calls.StoreData f st pp ww ll b → FitsSet n (spot (view h.floors c n)) m past status (calls.StoreData f st pp ww ll b)
     → Goes s past (client_moves c n (cond t (takes_plain (Client n) (c.clients n) p (calls.StoreData f st pp ww ll b)) (takes_stored (Client n) (c.clients n) c.clock p f status.sync_counter (status_told status) (λ body. Some (bodies.File b)))))
-data_stored true s c past n p act st pp ww ll f b status m reply h d is told same fits = plain_goes s c past n p act (calls.StoreData f st pp ww ll b) m reply h d is same
+data_stored true s c past n p act st pp ww ll f b status m reply h d is told same fits = plain_goes s c past n p act (calls.StoreData f st pp ww ll b) m reply h d is same tt
 data_stored false s c past n p act st pp ww ll f b status m reply h d is told same fits =
-    takes_saved s c past n p act (calls.StoreData f st pp ww ll b) f (λ body. Some (bodies.File b)) status.sync_counter (status_told status) m h d (ap code_told is) (λ code x. absurd (reply_not reply code (sym is ∙ x))) (record { asks = asks_just (c.clients n).gifts act (calls.StoreData f st pp ww ll b) refl same; scope = λ g. refl; changed = λ k g server newer o older w. w }) told fits.1.0 fits.1.1 (λ x found lasts. record { is = bodies.File b; told = fits.0.0; holds = refl; been = fits.0.1 })
+    takes_saved s c past n p act (calls.StoreData f st pp ww ll b) f (λ body. Some (bodies.File b)) status.sync_counter (status_told status) m h d (ap code_told is) (λ code x. absurd (reply_not reply code (sym is ∙ x))) (record { asks = asks_just (c.clients n).gifts act (calls.StoreData f st pp ww ll b) refl same; unread = tt; scope = λ g. refl; changed = λ k g old server newer o older w. w }) told fits.1.0 fits.1.1 (λ x found lasts. record { is = bodies.File b; told = fits.0.0; holds = (refl, tt); been = fits.0.1 })
 
 -- the entry stands just below the new index, so its body is that of the version before
 same_body : (b : Option Body) (is body : Body) → IsBody b is → is ≡ body → IsBody b body
 same_body None is body h e = tt
-same_body (Some k) is body h e = h ∙ e
+same_body (Some k) is body h e = (h.0 ∙ e, h.1)
 
 pub left_body : (s : Script) (c : Cell) (past : List Entry) (n : ℕ) (f : Fid) (index : ℕ) (status : ReadStatus) → (h : Holds s c past) → IsKeptBody f index (lines_of past) → HasBeen f index (seen.Status status) past → is_below c.clock index (find_cached f (c.clients n).cache) ≡ true → IsLeft c n f index status (λ body. body) past
 left_body s c past n f index status h kept been t x found lasts =
@@ -1291,8 +1395,8 @@ left_body s c past n f index status h kept been t x found lasts =
 pub status_by : (t u : Bool) (s : Script) (c : Cell) (past : List Entry) (n p : ℕ) (act : Going) (call : FsCall) (f : Fid) (index : ℕ) (status : ReadStatus) (m : Message) (reply : FsReply) → (h : Holds s c past) → Due c h.floors past n p act m → m.carried ≡ carried.Reply (tell.File reply) → stored_index m.carried ≡ Some index
     → IsStoreBy act call f → call_of (c.clients n) act ≡ call → IsStored (spot (view h.floors c n)) m → Reached (Client n) f index past → IsKeptBody f index (lines_of past) → HasBeen f index (seen.Status status) past → is_below c.clock index (find_cached f (c.clients n).cache) ≡ u
     → Goes s past (client_moves c n (cond (not t && u) (takes_stored (Client n) (c.clients n) c.clock p f index status (λ body. body)) (takes_plain (Client n) (c.clients n) p call)))
-status_by true u s c past n p act call f index status m reply h d is told same just stored up kept been below = plain_goes s c past n p act call m reply h d is just
-status_by false false s c past n p act call f index status m reply h d is told same just stored up kept been below = plain_goes s c past n p act call m reply h d is just
+status_by true u s c past n p act call f index status m reply h d is told same just stored up kept been below = plain_goes s c past n p act call m reply h d is just same.unread
+status_by false false s c past n p act call f index status m reply h d is told same just stored up kept been below = plain_goes s c past n p act call m reply h d is just same.unread
 status_by false true s c past n p act call f index status m reply h d is told same just stored up kept been below =
     takes_saved s c past n p act call f (λ body. body) index status m h d (ap code_told is) (λ code x. absurd (reply_not reply code (sym is ∙ x))) same told stored up (left_body s c past n f index status h kept been below)
 
@@ -1300,10 +1404,10 @@ pub set_goes : (s : Script) (c : Cell) (past : List Entry) (n p : ℕ) (act : Go
     → call_of (c.clients n) act ≡ call → FitsSet n (spot (view h.floors c n)) m past status call → Goes s past (client_moves c n (takes_set (Client n) (c.clients n) c.clock p status call))
 set_goes s c past n p act (calls.StoreData f st pp ww ll b) status m reply h d is told same fits = data_stored (c.clients n).spoiled s c past n p act st pp ww ll f b status m reply h d is told same fits
 set_goes s c past n p act (calls.StoreAcl f acl) status m reply h d is told same fits =
-    status_by (c.clients n).spoiled (is_below c.clock status.sync_counter (find_cached f (c.clients n).cache)) s c past n p act (calls.StoreAcl f acl) f status.sync_counter (status_told status) m reply h d is told (record { asks = asks_just (c.clients n).gifts act _ refl same; scope = λ g. refl; changed = λ k g server newer o older w. w }) same fits.1.0 fits.1.1 fits.0.0 fits.0.1 refl
+    status_by (c.clients n).spoiled (is_below c.clock status.sync_counter (find_cached f (c.clients n).cache)) s c past n p act (calls.StoreAcl f acl) f status.sync_counter (status_told status) m reply h d is told (record { asks = asks_just (c.clients n).gifts act _ refl same; unread = tt; scope = λ g. refl; changed = λ k g old server newer o older w. w }) same fits.1.0 fits.1.1 fits.0.0 fits.0.1 refl
 set_goes s c past n p act (calls.StoreStatus f st) status m reply h d is told same fits =
-    status_by (c.clients n).spoiled (is_below c.clock status.sync_counter (find_cached f (c.clients n).cache)) s c past n p act (calls.StoreStatus f st) f status.sync_counter (status_told status) m reply h d is told (record { asks = asks_just (c.clients n).gifts act _ refl same; scope = λ g. refl; changed = λ k g server newer o older w. w }) same fits.1.0 fits.1.1 fits.0.0 fits.0.1 refl
-set_goes s c past n p act call status m reply h d is told same fits = plain_goes s c past n p act call m reply h d is same
+    status_by (c.clients n).spoiled (is_below c.clock status.sync_counter (find_cached f (c.clients n).cache)) s c past n p act (calls.StoreStatus f st) f status.sync_counter (status_told status) m reply h d is told (record { asks = asks_just (c.clients n).gifts act _ refl same; unread = tt; scope = λ g. refl; changed = λ k g old server newer o older w. w }) same fits.1.0 fits.1.1 fits.0.0 fits.0.1 refl
+set_goes s c past n p act call status m reply h d is told same fits = plain_goes s c past n p act call m reply h d is same fits.0
 
 -- ---- promises were given back
 
@@ -1320,18 +1424,19 @@ not_true true w = absurd (w refl)
 not_true false w = refl
 
 -- the next ones are, or the act is done
-more_given : (gs : List Gift) (s : Script) (c : Cell) (past : List Entry) (n p : ℕ) (act : Going) (m : Message) (reply : FsReply) → (h : Holds s c past) → AreGifts gs → Due c h.floors past n p act m → m.carried ≡ carried.Reply (tell.File reply) → volume_changed (asked act) ≡ None
+more_given : (gs : List Gift) (s : Script) (c : Cell) (past : List Entry) (n p : ℕ) (act : Going) (m : Message) (reply : FsReply) → (h : Holds s c past) → AreGifts gs → AreDropped (Client n) (fids_of_gifts gs) (lines_of past) → Due c h.floors past n p act m → m.carried ≡ carried.Reply (tell.File reply) → volume_changed (asked act) ≡ None → EndsAct (next act)
     → Goes s past (client_moves c n (gives_by (Client n) (c.clients n) (given p) act gs))
-more_given [] s c past n p act m reply h some d is shut =
+more_given [] s c past n p act m reply h some gave d is shut ends =
     subst (λ (cs : List CacheEntry). Goes s past (client_moves c n (ends_step (Client n) (c.clients n) cs (given p) zero_code))) (all_left (c.clients n).cache)
     (subst (λ (es : List CacheEntry). Goes s past (client_moves c n (ends_step (Client n) (c.clients n) (filter (λ (e : CacheEntry). true) (c.clients n).cache) (λ ls. given p (dropped (Client n) es ls)) zero_code))) (none_dropped (c.clients n).cache)
-    (takes_other s c past n p act calls.GetTime m reply h d is (λ f. not_true (is_in_scope (asked act) f) (no_scope (asked act) f shut))))
-more_given (g ∷ gs) s c past n p act m reply h some d is shut = again_with s c past n p (g ∷ gs) act m h some d shut
+    (takes_other s c past n p act calls.GetTime m reply h d is ends (λ f. not_true (is_in_scope (asked act) f) (no_scope (asked act) f shut))))
+more_given (g ∷ gs) s c past n p act m reply h some gave d is shut ends = again_with s c past n p (g ∷ gs) act m h some gave d shut
 
-given_goes : (s : Script) (c : Cell) (past : List Entry) (n p : ℕ) (act : Going) (call : FsCall) (m : Message) (reply : FsReply) → (h : Holds s c past) → Due c h.floors past n p act m → m.carried ≡ carried.Reply (tell.File reply) → call_of (c.clients n) act ≡ call → Goes s past (client_moves c n (takes_given (Client n) (c.clients n) p act call))
-given_goes s c past n p act (calls.GiveUpCallBacks fids callbacks) m reply h d is same =
-    more_given (behind_batch (c.clients n).gifts) s c past n p act m reply h (gifts_later (length (batch (c.clients n).gifts)) (c.clients n).gifts (h.own n).gifts) d is (sym (asks_changed (c.clients n).gifts act) ∙ ap volume_changed same)
-given_goes s c past n p act call m reply h d is same = plain_goes s c past n p act call m reply h d is same
+given_goes : (s : Script) (c : Cell) (past : List Entry) (n p : ℕ) (act : Going) (call : FsCall) (m : Message) (reply : FsReply) → (h : Holds s c past) → Due c h.floors past n p act m → m.carried ≡ carried.Reply (tell.File reply) → call_of (c.clients n) act ≡ call → IsNoRead call → Goes s past (client_moves c n (takes_given (Client n) (c.clients n) p act call))
+given_goes s c past n p act (calls.GiveUpCallBacks fids callbacks) m reply h d is same unread =
+    more_given (behind_batch (c.clients n).gifts) s c past n p act m reply h (gifts_later (length (batch (c.clients n).gifts)) (c.clients n).gifts (h.own n).gifts) (dropped_rest (Client n) (length (batch (c.clients n).gifts)) (c.clients n).gifts (lines_of past) ((h.clients n).gave act d.running)) d is (sym (asks_changed (c.clients n).gifts act) ∙ ap volume_changed same)
+    (ends_by (c.clients n).gifts (next act) ((h.own n).needs act d.running) (subst IsNoRead (sym same) unread))
+given_goes s c past n p act call m reply h d is same unread = plain_goes s c past n p act call m reply h d is same unread
 
 pub takes_goes : (s : Script) (c : Cell) (past : List Entry) (n p : ℕ) (act : Going) (call : FsCall) (head : Head) (reply : FsReply) → (h : Holds s c past) → Due c h.floors past n p act (record { head = head; carried = carried.Reply (tell.File reply) }) → is_spent (c.clients n) act ≡ false → call_of (c.clients n) act ≡ call → Goes s past (client_moves c n (takes (Client n) (c.clients n) c.clock p act call reply))
 takes_goes s c past n p act call head (replies.FetchData contents status callback sync) h d fresh same = data_goes s c past n p act call head contents status callback sync h d fresh same (subst (λ (x : FsCall). FitsData (c.clients n).spoiled n (spot (view h.floors c n)) (record { head = head; carried = carried.Reply (tell.File (replies.FetchData contents status callback sync)) }) past contents status callback x) same d.answers.fits)
@@ -1341,8 +1446,8 @@ takes_goes s c past n p act call head (replies.StoreData status sync) h d fresh 
 takes_goes s c past n p act call head (replies.StoreAcl status sync) h d fresh same = set_goes s c past n p act call status _ (replies.StoreAcl status sync) h d refl refl same (subst (λ (x : FsCall). FitsSet n (spot (view h.floors c n)) (record { head = head; carried = carried.Reply (tell.File (replies.StoreAcl status sync)) }) past status x) same d.answers.fits)
 takes_goes s c past n p act call head (replies.StoreStatus status sync) h d fresh same = set_goes s c past n p act call status _ (replies.StoreStatus status sync) h d refl refl same (subst (λ (x : FsCall). FitsSet n (spot (view h.floors c n)) (record { head = head; carried = carried.Reply (tell.File (replies.StoreStatus status sync)) }) past status x) same d.answers.fits)
 takes_goes s c past n p act call head (replies.BulkStatus statuses callbacks sync) h d fresh same = bulk_goes s c past n p act call head statuses callbacks sync h d fresh same (subst (λ (x : FsCall). FitsBulk (c.clients n).spoiled n (spot (view h.floors c n)) (record { head = head; carried = carried.Reply (tell.File (replies.BulkStatus statuses callbacks sync)) }) past statuses callbacks x) same d.answers.fits)
-takes_goes s c past n p act call head replies.GiveUpCallBacks h d fresh same = given_goes s c past n p act call _ replies.GiveUpCallBacks h d refl same
-takes_goes s c past n p act call head reply h d fresh same = plain_goes s c past n p act call _ reply h d refl same
+takes_goes s c past n p act call head replies.GiveUpCallBacks h d fresh same = given_goes s c past n p act call _ replies.GiveUpCallBacks h d refl same (subst IsNoRead same d.answers.fits.0)
+takes_goes s c past n p act call head reply h d fresh same = plain_goes s c past n p act call _ reply h d refl same (subst IsNoRead same d.answers.fits.0)
 
 -- a reply that isn't used
 pub spent_goes : (s : Script) (c : Cell) (past : List Entry) (n p : ℕ) (act : Going) (m : Message) → (h : Holds s c past) → Due c h.floors past n p act m → is_spent (c.clients n) act ≡ true → Goes s past (client_moves c n (calls_again (Client n) (c.clients n) p act))

@@ -15,18 +15,18 @@ use Rattle.afs_num.specs.declared.messages.Message.{Message}
 use Rattle.afs_ideal.specs.Operations.{volume_changed}
 use Rattle.afs_law.proofs.Backing.{Plain, backed_plain, seated_over, plain_step}
 use Rattle.afs_law.proofs.Edits.{index_in, fid_at, sound_same}
-use Rattle.afs_law.proofs.Facts.{AreApart, IsClient, back_seat, Ghost, IsAged, server_boot, View, view_of, view, desk, last_key, LastRan, ReplyFact, ClientFacts, IsUntrusted, IsSafe, CallFact, CallIn, Holds, Goes, Reading, InScope, IsOne, AreGifts, its_call}
+use Rattle.afs_law.proofs.Facts.{fids_of_gifts, AreApart, IsClient, back_seat, Ghost, IsAged, View, view_of, view, desk, last_key, LastRan, ReplyFact, ClientFacts, IsUntrusted, IsSafe, CallFact, CallIn, Holds, Goes, Reading, InScope, IsOne, AreGifts, IsOpen, Tried, its_call}
 use Rattle.afs_law.proofs.Owing.{BackIn, DoneIn, SeatedIn}
-use Rattle.afs_law.proofs.Passing.{old_over, PassesFile, PassesAct, PassesReach, stays, PassesBoth, PassesSeen, current_over, reply_over, kept_over, client_still, News, more_sent, fallen_over, one_more, ran_over}
+use Rattle.afs_law.proofs.Passing.{own_gift, all_dropped_onto, tried_kept, tried_more, tried_new, old_over, PassesFile, PassesAct, PassesReach, stays, PassesBoth, PassesSeen, current_over, reply_over, kept_over, client_still, News, more_sent, fallen_over, one_more, ran_over}
 use Rattle.afs_law.proofs.Serving.{told_file, told_reach, told_act, reached_still}
 use Rattle.afs_law.proofs.Turning.{call_good}
 use Rattle.afs_rows.specs.Callbacks.{put, replies_of}
 use Rattle.afs_rows.specs.ClientRow.{server_at, ended, boot_of, used_first, find_cached, call_of, call_head, call_message, asking, calls_step, ignores, callee_by, first_server_of}
 use Rattle.afs_rows.specs.Going.{Need, reads, reads_status, reads_statuses, reads_rights, asks_for, gives_back, answers, next, asked, Going, with_read, read_on, ClientState}
 use Rattle.afs_law.specs.Ideal.{last_version, HasVersion, Accepts, clock_of, reach, is_zero_code, volume_after, call_in, call_under}
-use Rattle.afs_law.specs.Legal.{IsNew, AreGood, AreGoodReplies, as_asked}
+use Rattle.afs_law.specs.Legal.{AreDropped, IsNew, AreGood, AreGoodSent, as_asked}
 use Rattle.afs_history.specs.declared.lines.Line.{Line}
-use Rattle.afs_law.specs.Past.{onto, lines_of, sent_of, given_message, running, CalledSince, IsCallUnder, has_begun, called_key, is_called, same_key, Sends}
+use Rattle.afs_law.specs.Past.{server_boot, onto, lines_of, sent_of, given_message, running, CalledSince, IsCallUnder, has_begun, called_key, is_called, same_key, Sends}
 use Rattle.afs_rows.specs.Runs.{Entry, message_at}
 use Rattle.afs_law.proofs.OneCell.{the_server, Cell, client_moves}
 use Rattle.afs_rows.specs.Scopes.{is_volume}
@@ -86,7 +86,7 @@ calls_moved fl c n floor x sent w h = each_map (IfCall (CallIn (view fl c))) (If
 -- what is known of what a client sends, and of what it keeps for the server
 pub record Fresh (s : Script) (c : Cell) (n : ℕ) (views : ℕ → View) (past : List Entry) (ms : List Message) : Type 0 where
   pub news : News s ms views c.server.lasting.boot past
-  pub good : AreGoodReplies past ms
+  pub good : AreGoodSent past ms
   pub calls : Each (IfBack (BackIn c.down c.server.backs.calls c.server.backs.last_call c.server.lasting.boot)) ms
   pub dones : Each (IfDone (DoneIn c.down c.server.backs.calls c.server.backs.last_call c.server.lasting.boot past)) ms
 
@@ -101,8 +101,8 @@ pub moves_back : (s : Script) (c : Cell) (past : List Entry) (n : ℕ) (floor : 
     → ClientFacts s n (view_after c n floor st.state) ((client_moves c n st).entry ∷ past)
     → ((head : Head) (call : FsCall) → CallFact (view h.floors c n) head call → CallFact (view_after c n floor st.state) head call)
     → ((m : Message) → ReplyFact n (view h.floors c n) past m → ReplyFact n (view_after c n floor st.state) ((client_moves c n st).entry ∷ past) m)
-    → Fresh s c n (views_after h.floors c n floor st.state) ((client_moves c n st).entry ∷ past) st.sent → ((a : Going) → st.state.running ≡ Some a → has_begun (Client n) st.lines ≡ false → ((c.clients n).running ≡ Some a) ⊎ Reading (c.clients n).running) → KeepsSeat c n (back_seat st.state) ((client_moves c n st).entry ∷ past) → Goes s past (client_moves c n st)
-moves_back s c past n floor st h kind good p own w q fresh went keeps =
+    → Fresh s c n (views_after h.floors c n floor st.state) ((client_moves c n st).entry ∷ past) st.sent → ((a : Going) → st.state.running ≡ Some a → has_begun (Client n) st.lines ≡ false → ((c.clients n).running ≡ Some a) ⊎ Reading (c.clients n).running) → KeepsSeat c n (back_seat st.state) ((client_moves c n st).entry ∷ past) → Tried n st.state (lines_of ((client_moves c n st).entry ∷ past)) → Goes s past (client_moves c n st)
+moves_back s c past n floor st h kind good p own w q fresh went keeps tried =
     let e : Entry = (client_moves c n st).entry in
     let last : (f : Fid) → last_version f (lines_of (e ∷ past)) ≡ last_version f (lines_of past) = λ f. p.last f (lines_of past) in
     let now : (j : ℕ) → ClientFacts s j (views_after h.floors c n floor st.state j) (e ∷ past) = λ j. at_mover h.floors c n floor st.state j (λ i v. ClientFacts s i v (e ∷ past)) own (λ ne. client_still j (view h.floors c j) e past (p.file j ne) (p.reach j ne) (p.act j ne) last (h.clients j)) in
@@ -115,6 +115,7 @@ moves_back s c past n floor st h kind good p own w q fresh went keeps =
         floors = put n floor h.floors;
         count = h.count;
         own = λ j. at_put n j (IsClient s) st.state c.clients (λ e. kind) (λ ne. h.own j);
+        tried = λ j. at_put n j (λ x. Tried j x (lines_of (e ∷ past))) st.state c.clients (λ i. subst (λ (k : ℕ). Tried k st.state (lines_of (e ∷ past))) i tried) (λ ne. tried_more j (c.clients j) (lines_of past) e.lines (h.tried j));
         servers = h.servers;
         ideal = λ id. h.ideal id ∙ sym (p.ideal id);
         fine = h.fine;
@@ -128,7 +129,7 @@ moves_back s c past n floor st h kind good p own w q fresh went keeps =
         sent = more_sent c.sent (replies_of c.server.backs.held) (replies_of c.server.backs.held) (view h.floors c) (views_after h.floors c n floor st.state) c.server.lasting.boot c.server.lasting.boot e past h.sent (le_refl _) now (λ j a. at_mover h.floors c n floor st.state j (λ i v. v.running ≡ Some a → has_begun (Client i) e.lines ≡ false → (running s (Client i) (lines_of past) ≡ Some a) ⊎ Reading (running s (Client i) (lines_of past))) (λ x z. elim (went a x z) [ inl y ↦ inl ((h.clients n).runs a y) | inr y ↦ inr (record { act = y.act; runs = (h.clients n).runs y.act y.runs; read = y.read }) ]) (λ ne x z. inl ((h.clients j).runs a x))) (calls_moved h.floors c n floor st.state c.sent w h.sent.calls)
             (λ j m. at_mover h.floors c n floor st.state j (λ i v. ReplyFact i (view h.floors c i) past m → ReplyFact i v (e ∷ past) m) (q m)
             (λ ne. reply_over j (view h.floors c j) m e past (λ f. (p.file j ne f).grant) (p.reach j ne) (λ f. stays j f e past (p.file j ne f).grant (last f)) (p.act j ne).begins)) (λ held. (fresh.news, held));
-        down = fallen_over c.down c.server.lasting c.sent st.sent e past h.down;
+        down = fallen_over c.down c.server.lasting c.sent st.sent e past (λ z. absurd cc) h.down;
         clock = p.clock (lines_of past) ∙ h.clock;
         top = λ f i b x. subst (λ (o : Option Version). i ≤ index_in o) (sym (last f)) (h.top f i b (p.back f i b (lines_of past) x));
         one = λ f i a b x y. h.one f i a b (p.back f i a (lines_of past) x) (p.back f i b (lines_of past) y);
@@ -145,8 +146,8 @@ pub moves : (s : Script) (c : Cell) (past : List Entry) (n : ℕ) (floor : Ghost
     → ClientFacts s n (view_after c n floor st.state) ((client_moves c n st).entry ∷ past)
     → ((head : Head) (call : FsCall) → CallFact (view h.floors c n) head call → CallFact (view_after c n floor st.state) head call)
     → ((m : Message) → ReplyFact n (view h.floors c n) past m → ReplyFact n (view_after c n floor st.state) ((client_moves c n st).entry ∷ past) m)
-    → Fresh s c n (views_after h.floors c n floor st.state) ((client_moves c n st).entry ∷ past) st.sent → ((a : Going) → st.state.running ≡ Some a → has_begun (Client n) st.lines ≡ false → ((c.clients n).running ≡ Some a) ⊎ Reading (c.clients n).running) → back_seat st.state ≡ back_seat (c.clients n) → Goes s past (client_moves c n st)
-moves s c past n floor st h kind good p own w q fresh went same = moves_back s c past n floor st h kind good p own w q fresh went (λ seat m x y. old_seat s c past n (client_moves c n st).entry p.plain h seat m (sym same ∙ x) y)
+    → Fresh s c n (views_after h.floors c n floor st.state) ((client_moves c n st).entry ∷ past) st.sent → ((a : Going) → st.state.running ≡ Some a → has_begun (Client n) st.lines ≡ false → ((c.clients n).running ≡ Some a) ⊎ Reading (c.clients n).running) → back_seat st.state ≡ back_seat (c.clients n) → Tried n st.state (lines_of ((client_moves c n st).entry ∷ past)) → Goes s past (client_moves c n st)
+moves s c past n floor st h kind good p own w q fresh went same tried = moves_back s c past n floor st h kind good p own w q fresh went (λ seat m x y. old_seat s c past n (client_moves c n st).entry p.plain h seat m (sym same ∙ x) y) tried
 
 pub nothing_new : {s : Script} → {c : Cell} → {n : ℕ} → (views : ℕ → View) (past : List Entry) → Fresh s c n views past []
 nothing_new {s} views past = record { good = tt; calls = tt; dones = tt; news = record { calls = tt; replies = tt; notices = tt; origins = tt; acts = tt; lasts = tt; ones = tt; to_clients = tt } }
@@ -227,7 +228,7 @@ pub client_kept : (s : Script) (c : Cell) (past : List Entry) (n boot : ℕ) (e 
     → ClientFacts s n (record (view h.floors c n) { known = boot }) (e ∷ past)
 client_kept s c past n boot e h le p q t l =
     let d : ClientFacts s n (view h.floors c n) (e ∷ past) = client_still n (view h.floors c n) e past p q t l (h.clients n) in
-    record { behind = d.behind; behind_durable = d.behind_durable; lower = d.lower; kept = d.kept; stored = d.stored; known = le; floored = d.floored; holds = d.holds; waits = d.waits; idle = d.idle; made = d.made; current = d.current; runs = d.runs; old = d.old; asked = d.asked; reached = d.reached }
+    record { behind = d.behind; behind_durable = d.behind_durable; lower = d.lower; kept = d.kept; stored = d.stored; known = le; floored = d.floored; holds = d.holds; waits = d.waits; idle = d.idle; made = d.made; current = d.current; runs = d.runs; old = d.old; asked = d.asked; none = d.none; gave = d.gave; reached = d.reached }
 
 pub reply_still : (j : ℕ) (v : View) (e : Entry) (past : List Entry) → ((f : Fid) → PassesFile j f e past) → ((f : Fid) → PassesReach j f e past) → ((f : Fid) → last_version f (lines_of (e ∷ past)) ≡ last_version f (lines_of past)) → has_begun (Client j) e.lines ≡ false → (m : Message) → ReplyFact j v past m → ReplyFact j v (e ∷ past) m
 reply_still j v e past p q l b m = reply_over j v m e past (λ f. (p f).grant) q (λ f. stays j f e past (p f).grant (l f)) b
@@ -238,9 +239,9 @@ call_known v boot head call f = record { behind = f.behind; booted = f.booted; s
 pub quiet : (s : Script) (c : Cell) (past : List Entry) (n p : ℕ) (m : Message) → Holds s c past → Heard c p m → Goes s past (client_moves c n (ignores (c.clients n) p))
 quiet s c past n p m h d =
     let e : Entry = step_entry n (lines.Given p ∷ []) [] in
-    moves s c past n (h.floors n) (ignores (c.clients n) p) h (h.own n) (tt, tt) (told_passes s c past n p m [] h d)
+    moves s c past n (h.floors n) (ignores (c.clients n) p) h (h.own n) (refl, tt) (told_passes s c past n p m [] h d)
     (client_still n (view h.floors c n) e past (λ f. told_file n p f (actors.Node (Client n)) [] past) (λ f. told_reach n p f (actors.Node (Client n)) [] past) (told_act n p (actors.Node (Client n)) [] past) (λ f. refl) (h.clients n))
-    (λ head call f. f) (reply_still n (view h.floors c n) e past (λ f. told_file n p f (actors.Node (Client n)) [] past) (λ f. told_reach n p f (actors.Node (Client n)) [] past) (λ f. refl) refl) (nothing_new _ _) (λ a x z. inl x) refl
+    (λ head call f. f) (reply_still n (view h.floors c n) e past (λ f. told_file n p f (actors.Node (Client n)) [] past) (λ f. told_reach n p f (actors.Node (Client n)) [] past) (λ f. refl) refl) (nothing_new _ _) (λ a x z. inl x) refl (tried_kept n (c.clients n) _ (lines_of past) (lines.Given p ∷ []) refl refl refl refl (h.tried n))
 
 -- ---- a call is sent
 
@@ -269,18 +270,19 @@ callee_is gives_back s c past x h k = gifts_callee x.gifts k.gifts
 callee_is (answers code) s c past x h k = table_callee s c past x _ h k
 
 -- a client that asks next is still one of the script
-pub client_asking : (s : Script) (c : Cell) (past : List Entry) (x : ClientState) (act : Going) → Holds s c past → IsClient s x → IsClient s (asking x act)
-client_asking s c past x act h k = record {
+pub client_asking : (s : Script) (c : Cell) (past : List Entry) (x : ClientState) (act : Going) → Holds s c past → IsOpen (next act) → IsClient s x → IsClient s (asking x act)
+client_asking s c past x act h going k = record {
   table = k.table;
   user = k.user;
   callee = λ a e. callee_is (next act) s c past x h k;
+  needs = λ a e. subst (λ (b : Going). IsOpen (next b)) (some_of act a e) going;
   apart = k.apart;
   gifts = k.gifts;
 }
 
 -- and so is one whose act ended, or that reads another way
 pub client_ended : (s : Script) (x : ClientState) (cache : List CacheEntry) → IsClient s x → AreApart cache → IsClient s (ended x cache)
-client_ended s x cache k a = record { table = k.table; user = k.user; callee = λ act e. absurd cc; apart = a; gifts = tt }
+client_ended s x cache k a = record { table = k.table; user = k.user; callee = λ act e. absurd cc; needs = λ act e. absurd cc; apart = a; gifts = tt }
 
 -- a call that changes nothing has no fid in its scope
 pub scope_volume : (n : ℕ) (o : Option ℕ) → o ≡ None → is_volume n o ≡ true → ⊥
@@ -373,11 +375,11 @@ called_one n k user call S (e ∷ past) node (inr x) h = called_one n k user cal
 
 -- the message of a call that the client sends now
 pub own_call : {s : Script} → (fl : ℕ → Ghost) (c : Cell) (past : List Entry) (n : ℕ) (floor : Ghost) (x : ClientState) (act : Going) (ls : List Line) → boot_of the_server x.boots ≤ c.server.lasting.boot → IsClient s x → x.running ≡ Some act → running s (Client n) (onto (lines_of past) ls) ≡ Some act
-    → call_under (called_key (call_head (Client n) x act)) (sent_of past ++ call_message (Client n) x act ∷ []) ≡ Some (x.user, call_of x act) → Fresh s c n (views_after fl c n floor x) (step_entry n ls (call_message (Client n) x act ∷ []) ∷ past) (call_message (Client n) x act ∷ [])
-own_call {s} fl c past n floor x act ls le kind runs at one =
+    → call_under (called_key (call_head (Client n) x act)) (sent_of past ++ call_message (Client n) x act ∷ []) ≡ Some (x.user, call_of x act) → AreDropped (Client n) (fids_of_gifts x.gifts) (onto (lines_of past) ls) → Fresh s c n (views_after fl c n floor x) (step_entry n ls (call_message (Client n) x act ∷ []) ∷ past) (call_message (Client n) x act ∷ [])
+own_call {s} fl c past n floor x act ls le kind runs at one dropped =
     let to : x.callee ≡ the_server = kind.callee act runs in
     record {
-      good = (call_good _ (call_head (Client n) x act) x.user (call_of x act), tt);
+      good = ((call_good _ (call_head (Client n) x act) x.user (call_of x act), own_gift act x.gifts (call_head (Client n) x act) x.user (onto (lines_of past) ls) dropped), tt);
       calls = (tt, tt);
       dones = (tt, tt);
       news = record {
@@ -436,13 +438,13 @@ same_one s c past n act ms h runs =
 abbrev pub with_gifts : List Gift → ClientState → ClientState
 with_gifts gs x = record x { gifts = gs }
 
-pub asks : (s : Script) (c : Cell) (past : List Entry) (n : ℕ) (gs : List Gift) (act : Going) (l : Line) → Holds s c past → AreGifts gs → AreGood s (actors.Node (Client n)) past [] (l ∷ []) → Passes s n (l ∷ []) (call_message (Client n) (asking (with_gifts gs (c.clients n)) act) act ∷ []) past
+pub asks : (s : Script) (c : Cell) (past : List Entry) (n : ℕ) (gs : List Gift) (act : Going) (l : Line) → Holds s c past → AreGifts gs → has_begun (Client n) (l ∷ []) ≡ false → AreDropped (Client n) (fids_of_gifts gs) (lines_of past) → IsOpen (next act) → AreGood s (actors.Node (Client n)) past [] (l ∷ []) → Passes s n (l ∷ []) (call_message (Client n) (asking (with_gifts gs (c.clients n)) act) act ∷ []) past
     → ((f : Fid) → PassesFile n f (step_entry n (l ∷ []) (call_message (Client n) (asking (with_gifts gs (c.clients n)) act) act ∷ [])) past) → ((f : Fid) → PassesReach n f (step_entry n (l ∷ []) (call_message (Client n) (asking (with_gifts gs (c.clients n)) act) act ∷ [])) past)
     → ((f : Fid) → (InScope (asked act) f → ⊥) → (reach (Client n) f (step_entry n (l ∷ []) (call_message (Client n) (asking (with_gifts gs (c.clients n)) act) act ∷ []) ∷ past)).made ≡ 0) → ((a : Going) → (c.clients n).running ≡ Some a → volume_changed (asked a) ≡ None) → running s (Client n) (l ∷ lines_of past) ≡ Some act → (has_begun (Client n) (l ∷ []) ≡ false → (c.clients n).running ≡ Some act) → Goes s past (client_moves c n (calls_step (Client n) (with_gifts gs (c.clients n)) act (λ ls. l ∷ ls)))
-asks s c past n gs act l h given good p q r none shut at went =
+asks s c past n gs act l h given begun gave going good p q r none shut at went =
     let d = h.clients n in
     let x : ClientState = asking (with_gifts gs (c.clients n)) act in
-    let kind : IsClient s x = client_asking s c past (with_gifts gs (c.clients n)) act h (record { table = (h.own n).table; user = (h.own n).user; callee = λ a z. (h.own n).callee a z; apart = (h.own n).apart; gifts = given }) in
+    let kind : IsClient s x = client_asking s c past (with_gifts gs (c.clients n)) act h going (record { table = (h.own n).table; user = (h.own n).user; callee = λ a z. (h.own n).callee a z; needs = λ a z. (h.own n).needs a z; apart = (h.own n).apart; gifts = given }) in
     let e : Entry = step_entry n (l ∷ []) (call_message (Client n) x act ∷ []) in
     let g : Ghost = record { floor = c.server.lasting.boot; held = (h.floors n).held } in
     let v : View = view_after c n g x in
@@ -476,6 +478,8 @@ asks s c past n gs act l h given good p q r none shut at went =
       old = old_over (c.clients n).cache (lines_of past) (lines_of (e ∷ past)) (λ f i b y. (q f).grant.version i b (lines_of past) y) d.old;
       runs = λ b y. at ∙ y;
       asked = λ b y. subst (λ (a : Going). CalledSince (last_key n v) guest (its_call v.gifts a) (e ∷ past)) (some_of act b y) (inl (refl, inl (refl, carried_is x act kind.user)));
+      none = λ y. absurd cc;
+      gave = λ b y. all_dropped_onto (Client n) (fids_of_gifts gs) (l ∷ []) (lines_of past) begun gave;
       reached = reached_still s c past n e h (λ f. (r f).both) last;
     })
     (λ head call f. record {
@@ -485,7 +489,7 @@ asks s c past n gs act l h given good p q r none shut at went =
       own = λ b y z w. absurd (next_not _ _ _ _ f.behind z w);
       safe = λ q above. safe_over call c.clock (c.clients n).epoch (c.clients n).last (c.clients n).epoch ((c.clients n).last + 1) (c.clients n).running (Some act) (c.clients n).cache (IsAged (view h.floors c n) head) (IsAged v head) head shut (λ y. (y.0, λ b z w u. next_not _ _ _ _ f.behind w u)) (f.safe q above);
     })
-    over (own_call h.floors c past n g x act (l ∷ []) d.known kind refl at (new_one s c past n x act h refl refl)) (λ a x z. inl (went z ∙ x)) refl
+    over (own_call h.floors c past n g x act (l ∷ []) d.known kind refl at (new_one s c past n x act h refl refl) (all_dropped_onto (Client n) (fids_of_gifts gs) (l ∷ []) (lines_of past) begun gave)) (λ a x z. inl (went z ∙ x)) refl (tried_new n _ _ refl)
 
 pub own_begun : (n : ℕ) (act : Going) (o : Option Going) → cond (same_node (Client n) (Client n)) (Some act) o ≡ Some act
 own_begun n act o = rw (same_node-refl (Client n)) refl

@@ -15,8 +15,8 @@ use Rattle.afs_num.specs.declared.types.Node.TheVariants.{Client}
 use Rattle.afs_num.specs.declared.calls.FsCall.{FsCall}
 use Rattle.afs_num.specs.declared.messages.Message.{Message}
 use Rattle.afs_law.proofs.Basics.{both, same_node-refl, Above, Each, IfBack, IfDone, each_more, each_map, if_back, if_done}
-use Rattle.afs_law.proofs.Owing.{AllOf, all_map, IsGranted, IsIn, IsNumberIn, AccountedBy, WaitedBy, AllWaitedBy, HeldWaits, IsOwed, CallOut, BackIn, DroppedOwe, IsDone, DoneIn, SeatedIn, BackedIn, Promised, Numbered, Rising, ToClients, is_held}
-use Rattle.afs_law.specs.Breaks.{HasStopped, HasSettled, HasDrop, HasTimeout, last_grant, HasCome, Owes, AllOwes, EndedBy, OweAt, live_grant, is_on, last_number, lines_at, given_up_in, given_up_by, drops_of, fids_given_up, has_answer}
+use Rattle.afs_law.proofs.Owing.{CarriedOwe, AllOf, all_map, IsGranted, IsIn, IsNumberIn, AccountedBy, WaitedBy, AllWaitedBy, HeldWaits, IsOwed, CallOut, BackIn, DroppedOwe, IsDone, DoneIn, SeatedIn, BackedIn, Promised, Numbered, Rising, ToClients, is_held}
+use Rattle.afs_law.specs.Breaks.{returned_in, returned_by, is_unheard, is_entry_of, HasStopped, HasSettled, HasDrop, HasTimeout, last_grant, HasCome, Owes, AllOwes, EndedBy, OweAt, live_grant, is_on, last_number, lines_at, drops_of, fids_given_up, has_answer}
 use Rattle.afs_rows.specs.Callbacks.{key_answered, breaks_call}
 use Rattle.afs_law.specs.Legal.{HasChange}
 use Rattle.afs_history.specs.declared.lines.Line.{Line}
@@ -237,8 +237,8 @@ pub call_over : (j : Node) (c : BackCall) (last more boot : ℕ) (e : Entry) (pa
 call_over j c last more boot e past le up h = record {
   number = le_trans h.number le;
   client = h.client;
-  owes = all_map (IsOwed j (lines_of past)) (IsOwed j (lines_of (e ∷ past))) (λ o x. owe_over j o.what o.number e past up x) c.breaks h.owes;
-  tries = λ t a b. timeout_onto the_server j boot c.number t e.lines (lines_of past) (h.tries t a b);
+  owes = all_map (CarriedOwe j c.number c.tries boot (lines_of past)) (CarriedOwe j c.number c.tries boot (lines_of (e ∷ past)))
+      (λ o x. record { owe = owe_over j o.what o.number e past up x.owe; tries = λ t a b. timeout_onto the_server j boot c.number t e.lines x.owe.newer (x.tries t a b) }) c.breaks h.owes;
   sent = inr h.sent;
   carries = h.carries;
 }
@@ -298,7 +298,7 @@ same_still : (t : Bool) (c : Node) (fs : List Fid) → all_lines is_still (cond 
 same_still true c fs = drops_still c fs
 same_still false c fs = refl
 
-answered_still : (s : Node) (t : Bool) (head : Head) (c : Carried) → all_lines is_still (given_up_by s t head c) ≡ true
+answered_still : (s : Node) (t : Bool) (head : Head) (c : Carried) → all_lines is_still (returned_by s t head c) ≡ true
 answered_still s true head (carried.Call user (ask.File call)) = same_still (same_node head.to s) head.from (fids_given_up call)
 answered_still s true head (carried.Call user (ask.Volume call)) = refl
 answered_still s true head (carried.Call user (ask.Location call)) = refl
@@ -307,17 +307,17 @@ answered_still s true head (carried.Reply reply) = refl
 answered_still s true head carried.Notice = refl
 answered_still s false head c = refl
 
-given_up_still : (s : Node) (sent : List Message) (o : Option Message) → all_lines is_still (given_up_in s sent o) ≡ true
-given_up_still s sent None = refl
-given_up_still s sent (Some m) = answered_still s (has_answer (called_key m.head) sent) m.head m.carried
+returned_still : (s : Node) (e : Entry) (o : Option Message) (past : List Entry) → all_lines is_still (returned_in s e o past) ≡ true
+returned_still s e None past = refl
+returned_still s e (Some m) past = answered_still s (is_entry_of s e.actor && (is_unheard s (called_key m.head) m.head.boot past && has_answer (called_key m.head) e.sent)) m.head m.carried
 
 -- a grant that lasts behind an entry's own lines lasted before what clients gave up in it
-pub live_given : (c : Node) (f : Fid) (x : ℕ) (e : Entry) (past : List Entry) → live_grant the_server c f (onto (lines_at the_server past) (given_up_in the_server e.sent (given_message e.lines (sent_of past)))) ≡ Some x → live_grant the_server c f (lines_at the_server past) ≡ Some x
-live_given c f x e past l = live_back c f x (given_up_in the_server e.sent (given_message e.lines (sent_of past))) (lines_at the_server past) (given_up_still the_server e.sent (given_message e.lines (sent_of past))) l
+pub live_given : (c : Node) (f : Fid) (x : ℕ) (e : Entry) (past : List Entry) → live_grant the_server c f (onto (lines_at the_server past) (returned_in the_server e (given_message e.lines (sent_of past)) past)) ≡ Some x → live_grant the_server c f (lines_at the_server past) ≡ Some x
+live_given c f x e past l = live_back c f x (returned_in the_server e (given_message e.lines (sent_of past)) past) (lines_at the_server past) (returned_still the_server e (given_message e.lines (sent_of past)) past) l
 
 -- the lines before an entry's own
 abbrev pub before_own : Entry → List Entry → List Line
-before_own e past = onto (lines_at the_server past) (given_up_in the_server e.sent (given_message e.lines (sent_of past)))
+before_own e past = onto (lines_at the_server past) (returned_in the_server e (given_message e.lines (sent_of past)) past)
 
 pub promised_given : (d : Option Fall) (ps : List Promise) (clock : ℕ) (e : Entry) (past : List Entry) → Promised d ps clock (lines_at the_server past) → Promised d ps clock (before_own e past)
 promised_given d ps clock e past h j f x l t = h j f x (live_given j f x e past l) t

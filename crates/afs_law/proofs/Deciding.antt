@@ -13,24 +13,24 @@ use Rattle.afs_ideal.specs.Volumes.{Volume, Edit, versions_by, vnode_of}
 use Rattle.afs_law.proofs.Backing.{Plain, all_lines, is_still, is_oweless, backed_fall, granted_over, change_back, no_owe, promised_over, plain_waits}
 use Rattle.afs_law.proofs.Basics.{kept_last, not_above, runs_above, Below, Above, Each, IfCall, IfNotice, if_notice, by_server, IfDone, ByClient, OfClient, client_any, same_node-true, below_not, up_to_same, OfCall, each_map, each_at, if_call, some_of}
 use Rattle.afs_law.proofs.Edits.{on_top, SoundIn}
-use Rattle.afs_law.proofs.Facts.{is_passing, HeldIn, ToClient, Ghost, HoldsAt, server_boot, up_boot, risen, IsActs, View, view, Spot, spot, ReplyFact, AreKept, HasFallen, IsCut, Fits, Answers, KeptReply, ClientFacts, CallFact, CallIn, Origin, AreUnheard, Holds, Goes, IsNoticed, IsOne, its_call}
+use Rattle.afs_law.proofs.Facts.{is_passing, HeldIn, ToClient, Ghost, HoldsAt, up_boot, IsActs, View, view, Spot, spot, ReplyFact, AreKept, HasFallen, IsCut, Fits, Answers, KeptReply, ClientFacts, CallFact, CallIn, Origin, AreUnheard, Holds, Goes, IsNoticed, IsOne, its_call}
 use Rattle.afs_law.proofs.Loading.{is_tickless, down_later, resent, rise_loaded, run_loaded, no_change, all_waited, quits_good, quits_backed, retries_backed, all_owed, alls_good, all_clients, own_waited}
 use Rattle.afs_law.proofs.Notes.{AreNotes, Skips, skips, told_entry, risen_entry, risen_rests, owe_notes, quit_notes}
-use Rattle.afs_law.proofs.Ops.{IsShown, reads_is, op_code, op_is, IsFoundAs, changes_is}
+use Rattle.afs_law.proofs.Ops.{rights_of_directory, IsShown, reads_is, op_code, op_is, IsFoundAs, changes_is}
 use Rattle.afs_law.proofs.Owing.{BackedIn, IsNumberIn, DoneIn, is_held, WaitedBy, AllWaitedBy, HeldWaits, AllOf}
-use Rattle.afs_law.proofs.Passing.{ran_over, kept_over, replies_over, waiting_over, fallen_over}
+use Rattle.afs_law.proofs.Passing.{ran_over, kept_over, replies_over, waiting_over}
 use Rattle.afs_law.proofs.Pumping.{no_news, pumped_news, starts_held, news_break}
 use Rattle.afs_law.proofs.Resting.{fall_backed, Rests, fault_rests, full_rests, alone, rests, still, voids, unheard_still, fallen_still, server_crash_rests, cut_entry, cut_rests}
-use Rattle.afs_law.proofs.Saving.{versions_lines, versioned_front, saves_clock, Way, rises_to, faults, fills, saved_lines, saved_sent, saved_entry, given_on, Change', change_at, stock_after, NewEntry, saves_change_good, saves_holds, versions_good, saves_boot, saves_goes, top_number, reply_saved}
-use Rattle.afs_law.proofs.Serving.{shows_goes, answered_goes, noticed_goes, nothing_done, quiet, acts_alone, still_loads, given_plain, Loads, up_backed, seats_of, Gives, noted, Dull, at_told, client_head, Now, call_at, taken, seats_after, views_after, ran_now, served_cell, unheard_later, refuses_goes, server_adds, server_does, IsRead, answer_in, AllSeen, IsSeen, IsLook}
+use Rattle.afs_law.proofs.Saving.{changed_later, versions_lines, versioned_front, saves_clock, Way, rises_to, faults, fills, saved_lines, saved_sent, saved_entry, given_on, Change', change_at, stock_after, NewEntry, saves_change_good, saves_holds, versions_good, saves_boot, saves_goes, top_number, reply_saved}
+use Rattle.afs_law.proofs.Serving.{up_boots, shows_goes, answered_goes, noticed_goes, nothing_done, quiet, acts_alone, still_loads, given_plain, Loads, up_backed, seats_of, Gives, noted, Dull, at_told, client_head, Now, call_at, taken, seats_after, views_after, ran_now, served_cell, unheard_later, refuses_goes, server_adds, server_does, IsRead, answer_in, AllSeen, IsSeen, IsLook}
 use Rattle.afs_law.proofs.Turning.{Pumps, pumps, put_call, break_good, reply_key}
 use Rattle.afs_law.specs.Breaks.{HasStopped, last_number, AllOwes}
 use Rattle.afs_rows.specs.Callbacks.{retries, quits, Turn, replies_of, pumped, expired, turn_for, no_turn, repeats_by, key_answered, is_seat_of, alls, put_at, held_under, asked_again, is_ready, is_reply_to}
 use Rattle.afs_rows.specs.ClientRow.{boot_of}
 use Rattle.afs_law.specs.Ideal.{clock_of, volume_after}
-use Rattle.afs_law.specs.Legal.{IsChanging, code_given, AreGood, IsNew, HasChange, versions_first, IsTold, answer_at, answer_on, GoodRestart, op_on, all_on, statuses_on}
+use Rattle.afs_law.specs.Legal.{EndsBoot, IsChanging, RanBefore, code_given, AreGood, IsNew, HasChange, versions_first, IsTold, answer_at, answer_on, GoodRestart, op_on, all_on, statuses_on}
 use Rattle.afs_history.specs.declared.lines.Line.{Line}
-use Rattle.afs_law.specs.Past.{onto, lines_of, sent_of, given_message, called_key, IsCallUnder}
+use Rattle.afs_law.specs.Past.{risen, server_boot, onto, lines_of, sent_of, given_message, called_key, IsCallUnder}
 use Rattle.afs_rows.specs.Runs.{Entry, message_at, Armed, unarmed, Luck, Blow, struck, lowered, Fall, at_rest, in_step, in_boot, settled, Outcome, comes_up, fails_early, fails_midway, is_full}
 use Rattle.afs_law.proofs.OneCell.{begun_by_disk, Cell, server_rises, server_ends, server_falls, blow_line, server_stopped, server_restarted, server_served, server_given, back_timed, server_timed, server_wakes, Moved, server_moves, the_server}
 use Rattle.afs_rows.specs.ServerRow.{begun_after, begun_before, not_served, serves_call, shows, Reading, no_room, revived, device_calls, promise_ticks, decides, Decision, drops, tells_boot, repeats, refuses, saves, admits, called, hears, boot_told, versioned, Change, decided, in_volume, with_volume, Sight, lasting_started, sights, reading_in, seat_placed, sight_by, sight_in, no_volume, several, saved}
@@ -146,7 +146,7 @@ roomed_just s c past n h user call id st es shown false H w q = record { call = 
 pub held_at : (c : Cell) (id : ℕ) (st : Stored) → get id c.server.lasting.volumes ≡ Some st → volume_in id c.server.lasting.volumes ≡ Some st.volume
 held_at c id st at = ap (option_map (λ (x : Stored). x.volume)) at
 
-looked : (c : Cell) (caller : Caller) (g : Fid) (id : ℕ) (st : Stored) (f : Found) (show : Found → Shown) → g.volume ≡ id → get id c.server.lasting.volumes ≡ Some st → IsFoundAs g st.volume f → IsLook c g show (reading_in id caller st (show f))
+abbrev looked : (c : Cell) (caller : Caller) (g : Fid) (id : ℕ) (st : Stored) (f : Found) (show : Found → Shown) → g.volume ≡ id → get id c.server.lasting.volumes ≡ Some st → IsFoundAs g st.volume f → IsLook c g show (reading_in id caller st (show f))
 looked c caller g id st f show of at is = record {
   stored = st;
   found = f;
@@ -156,12 +156,12 @@ looked c caller g id st f show of at is = record {
 }
 
 -- what an operation shows is read
-pub shown_read : (c : Cell) (caller : Caller) (call : FsCall) (id : ℕ) (st : Stored) (shown : Shown) → volume_called call ≡ Some id → get id c.server.lasting.volumes ≡ Some st → IsShown call st.volume shown → IsRead c call (reading_in id caller st shown)
-shown_read c caller (calls.FetchData g p w) id st (shows_body f) of at is = looked c caller g id st f shows_body (some_of g.volume id of) at is
-shown_read c caller (calls.FetchAcl g) id st (shows_acl f) of at is = looked c caller g id st f shows_acl (some_of g.volume id of) at is
-shown_read c caller (calls.FetchStatus g) id st (shows_status f) of at is = looked c caller g id st f shows_status (some_of g.volume id of) at is
-shown_read c caller (calls.GetVolumeStatus k) id st shows_volume of at is = record { stored = st; caller = caller; is = ap (λ (i : ℕ). reading_in i caller st shows_volume) (sym (some_of k id of)) }
-shown_read c caller call id st shown of at is = absurd is
+pub shown_read : (c : Cell) (caller : Caller) (call : FsCall) (id : ℕ) (st : Stored) (shown : Shown) → volume_called call ≡ Some id → get id c.server.lasting.volumes ≡ Some st → IsShown call st.volume shown → op id caller call st.volume ≡ reads shown → IsRead c call (reading_in id caller st shown)
+shown_read c caller (calls.FetchData g p w) id st (shows_body f) of at is done = looked c caller g id st f shows_body (some_of g.volume id of) at is
+shown_read c caller (calls.FetchAcl g) id st (shows_acl f) of at is done = record { look = looked c caller g id st f shows_acl (some_of g.volume id of) at is; kind = rights_of_directory id caller g st.volume (shows_acl f) f.vnode done is.1 }
+shown_read c caller (calls.FetchStatus g) id st (shows_status f) of at is done = looked c caller g id st f shows_status (some_of g.volume id of) at is
+shown_read c caller (calls.GetVolumeStatus k) id st shows_volume of at is done = record { stored = st; caller = caller; is = ap (λ (i : ℕ). reading_in i caller st shows_volume) (sym (some_of k id of)) }
+shown_read c caller call id st shown of at is done = absurd is
 
 pub decided_just : (s : Script) (c : Cell) (past : List Entry) (time : ℕ) (n : ℕ) (h : Head) (user : List ℕ) (call : FsCall) (id : ℕ) (st : Stored) (r : Result) → (H : Holds s c past) → Now s c H.floors past n h user call → volume_called call ≡ Some id → get id c.server.lasting.volumes ≡ Some st → op id (the_user user) call st.volume ≡ r
     → IsJust s c H.floors past (call_at n h user call) (decided c.server time (client_head n h) (the_user user) call id st r)
@@ -171,7 +171,7 @@ decided_just s c past time n h user call id st (reads shown) H w of at e =
     record {
       call = call;
       due = due c H.floors past n h user call w;
-      is = shown_read c (the_user user) call id st shown of at (reads_is id (the_user user) call st.volume shown of e);
+      is = shown_read c (the_user user) call id st shown of at (reads_is id (the_user user) call st.volume shown of e) e;
       code = ap code_given answer;
       told = subst (λ (o : Option Result). IsTold (called_key (client_head n h)) o []) (sym answer) tt;
     }
@@ -372,7 +372,7 @@ pub refuses_by : (s : Script) (c : Cell) (past : List Entry) (armed : Armed) (p 
     → ((code_given (answer_at user call past) ≡ code) × IsTold (called_key (client_head n head)) (answer_at user call past) []) ⊎ ((code ≡ no_room) × IsChanging (answer_at user call past))
     → Goes s past (server_does c armed p (call_at n head user call) (refuses (client_head n head) code))
 refuses_by s c past armed p n head user call code H up at w nz (inl x) = refuses_goes s c past armed p n head user call code H up at w nz (inl (x.0, told_more (called_key (client_head n head)) (answer_at user call past) (lines.Given p ∷ lines_of past) x.1))
-refuses_by s c past armed p n head user call code H up at w nz (inr x) = refuses_goes s c past armed p n head user call code H up at w nz (inr (x.0, (x.1, λ y. y)))
+refuses_by s c past armed p n head user call code H up at w nz (inr x) = refuses_goes s c past armed p n head user call code H up at w nz (inr (x.0, (x.1, (λ y. y, λ y. y))))
 
 -- what a message does that runs nothing, beside the seats
 pub turned_goes : (s : Script) (c : Cell) (past : List Entry) (armed : Armed) (p : ℕ) (head : Head) (x : Carried) (i : ℕ) → (H : Holds s c past) → c.down ≡ None → message_at c.sent p ≡ Some (record { head = head; carried = x }) → head.to ≡ Server i → Dull c.server.seats c.server.lasting.boot (record { head = head; carried = x })
@@ -491,7 +491,7 @@ does_goes s c past armed p m drops i H up at to j = turned_goes s c past armed p
 does_goes s c past armed p m (tells_boot head) i H up at to j =
     subst (λ (x : Message). Goes s past (server_does c armed p x (tells_boot head))) (sym j.is)
     (quiet s c past armed p (called_at m.head j.user j.call) (turn_for the_server c.server c.clock (expired c.clock c.server.backs) (tells_boot head)) H up (at ∙ ap Some j.is) (subst (λ (x : Message). Dull c.server.seats c.server.lasting.boot x) j.is j.idle) tt tt
-    (λ e over held. record { notes = tt; sent = record { calls = (tt, tt); replies = (tt, tt); notices = (client_any head.from _ (le_refl _), tt); origins = (tt, tt); acts = (tt, tt); lasts = (tt, tt); ones = (tt, tt); to_clients = (tt, tt) }; outs = tt; held = held }) (λ e q. still_loads s c past e (boot_told c.server.lasting.boot head ∷ []) H up (given_plain p e _ q) (record { good = ((λ is nought k from. absurd is.1), tt); calls = (tt, tt); dones = (tt, tt) })))
+    (λ e over held. record { notes = tt; sent = record { calls = (tt, tt); replies = (tt, tt); notices = (client_any head.from _ (le_refl _), tt); origins = (tt, tt); acts = (tt, tt); lasts = (tt, tt); ones = (tt, tt); to_clients = (tt, tt) }; outs = tt; held = held }) (λ e q. still_loads s c past e (boot_told c.server.lasting.boot head ∷ []) H up (given_plain p e _ q) (record { good = (((λ is nought k from. absurd is.1), tt), tt); calls = (tt, tt); dones = (tt, tt) })))
 does_goes s c past armed p m (repeats reply) i H up at to j =
     subst (λ (x : Message). Goes s past (server_does c armed p x (repeats reply))) (sym j.call.is)
     (repeats_goes s c past armed p (called_at m.head j.call.user j.call.call) reply (held_under (key_answered reply) (expired c.clock c.server.backs).held) (is_seat_of reply (call_seat reply.head.to c.server.lasting.kept)) H up (at ∙ ap Some j.call.is) (subst (λ (x : Message). Dull c.server.seats c.server.lasting.boot x) j.call.is j.call.idle) j.kept refl refl)
@@ -558,6 +558,8 @@ revived_client {s} fl c past j h =
       old = h.old;
       runs = h.runs;
       asked = h.asked;
+      none = h.none;
+      gave = h.gave;
       reached = h.reached;
     }
 
@@ -573,6 +575,7 @@ revives s b c past x h held backs =
       floors = fl;
       count = h.count;
       own = h.own;
+      tried = h.tried;
       servers = h.servers;
       ideal = λ id. same id ∙ h.ideal id;
       sound = λ id. subst (λ (o : Option Volume). SoundIn id o (lines_of past)) (sym (same id)) (h.sound id);
@@ -628,6 +631,7 @@ revives_down s c past fall h e =
       floors = r.floors;
       count = r.count;
       own = r.own;
+      tried = r.tried;
       servers = r.servers;
       ideal = r.ideal;
       sound = r.sound;
@@ -683,13 +687,13 @@ rises_as s c past fall h e =
     let sk : Skips t.lines = skips t.lines (rising_notes c) in
     let x : Entry = risen_entry b t.lines (pumped the_server b t).sent in
     let pump : Pumps b c.server.lasting.kept (seats_of c) c.clock c.sent (x ∷ past) t = pumps b c.server.lasting.kept (seats_of c) c.clock c.sent x past t refl (sk.clock _ ∙ h.clock)
-    (rise_loaded c.count c.down c.server.backs c.server.lasting.boot c.server.seats c.server.lasting.kept (seats_of c) c.clock c.sent x past (lines.Restart the_server b ∷ []) (λ z. absurd cc) (h.backs refl) h.clock refl refl refl refl (sk.given (sent_of past))) (record { good = tt; calls = tt; dones = tt }) in
+    (rise_loaded c.count c.down c.server.backs c.server.lasting.boot c.server.seats c.server.lasting.kept (seats_of c) c.clock c.sent x past (lines.Restart the_server b ∷ []) (λ z. absurd cc) (h.backs refl) h.clock refl refl refl refl (sk.given (sent_of past))) (record { good = tt; calls = tt; dones = tt }) (sk.boot _ ∙ rises_at s c past fall b h e) in
     record {
       replies = pump.good;
       volumes = refl;
-      good = ((refl, rises_owed s c h), alls_good s (c.clock + promise_ticks) 0 c.count past _ (le_of_eq (down_number s c past fall h e)));
-      holds = revives s (Some b) _ (x ∷ past) (pumped the_server b t).backs (noted s (Some b) c past c.armed c.down x c.server.backs h (sk.boot _ ∙ rises_at s c past fall b h e) (risen_rests s b t.lines (pumped the_server b t).sent past sk) (sk.clock _)
-          (unheard_still c.down c x past (sk.given (sent_of past)) h.unheard) (fallen_over c.down c.server.lasting c.sent (pumped the_server b t).sent x past h.down) (rising_gives _ b _ _ c c.server.backs.held) (λ z. absurd (up_not c fall _ e (sym z)))) (λ fl z. nothing_held b c _ _) (λ z. pump.backed);
+      good = ((refl, rises_owed s c h), alls_good s (c.clock + promise_ticks) 0 c.count past _ (le_of_eq (down_number s c past fall h e)) (inl refl));
+      holds = revives s (Some b) _ (x ∷ past) (pumped the_server b t).backs (noted s (Some b) c past c.armed (Some at_rest) x c.server.backs h (sk.boot _ ∙ rises_at s c past fall b h e) (risen_rests s b t.lines (pumped the_server b t).sent past sk) (sk.clock _)
+          (unheard_still (Some at_rest) c x past (sk.given (sent_of past)) (λ k i l. unheard_later c.down c.server.seats c.server.lasting.boot past h.unheard k i l)) tt (rising_gives _ b _ _ c c.server.backs.held) (λ z. absurd cc)) (λ fl z. nothing_held b c _ _) (λ z. pump.backed);
     }
 
 pub rises_goes : (s : Script) (c : Cell) (past : List Entry) (fall : Fall) → Holds s c past → c.down ≡ Some fall → Goes s past (server_rises c (begun_before c.server))
@@ -709,7 +713,7 @@ pub ends_before : (s : Script) (c : Cell) (past : List Entry) (fall : Fall) (o :
 ends_before s c past fall comes_up h e = rises_goes s c past fall h e
 ends_before s c past fall fails_early h e =
     let x : Entry = alone (actors.Node the_server) (lines.Fault the_server) in
-    record { good = (refl, tt); replies = tt; volumes = refl; holds = stays_before s c past fall (lines.Fault the_server) h (fault_rests s past) refl refl refl (subst (λ (d : Option Fall). HasFallen d c.server.lasting c.sent (x ∷ past)) e (fallen_still c.down c x past h.down)) (λ u. absurd cc) refl refl }
+    record { good = (refl, tt); replies = tt; volumes = refl; holds = stays_before s c past fall (lines.Fault the_server) h (fault_rests s past) refl refl refl (subst (λ (d : Option Fall). HasFallen d c.server.lasting c.sent (x ∷ past)) e (fallen_still c.down c x past (λ z. refl) h.down)) (λ u. absurd cc) refl refl }
 ends_before s c past fall fails_midway h e = record { good = (refl, tt); replies = tt; volumes = refl; holds = stays_before s c past in_boot (lines.Fault the_server) h (fault_rests s past) refl refl refl tt (λ u. absurd cc) refl refl }
 ends_before s c past fall is_full h e = record { good = (refl, tt); replies = tt; volumes = refl; holds = stays_before s c past at_rest (lines.Full the_server) h (full_rests s past) (h.boots ∙ ap (λ (d : Option Fall). up_boot d c.server.lasting.boot) e) refl refl tt (λ u. absurd cc) refl refl }
 
@@ -727,10 +731,29 @@ ends_booted s c past is_full h e =
 pub down_not : (c : Cell) → {fall : Fall} → c.down ≡ Some fall → c.down ≡ None → ⊥
 down_not c e z = absurd cc
 
-pub after_good : (s : Script) (c : Cell) (past : List Entry) (n : ℕ) (h : Head) (user : List ℕ) (call : FsCall) (id : ℕ) (v : Volume) (es : List Edit) (shown : ℕ) (ls : List Line) → (H : Holds s c past) → Now s c H.floors past n h user call → Change' c past user call id v es shown → {fall : Fall} → c.down ≡ Some fall → versions_first ls ≡ []
+boots_behind : (vs : List Version) (ls : List Line) → EndsBoot the_server ls → EndsBoot the_server (versioned vs ls)
+boots_behind [] ls h = h
+boots_behind (v ∷ vs) ls h = boots_behind vs ls h
+
+-- the restart behind an interrupted step is where its change may stand
+ran_before : (c : Cell) (past : List Entry) (n : ℕ) (h : Head) (user : List ℕ) (call : FsCall) (vs : List Version) (ls : List Line) → IsCut c.server.lasting c.sent (call_at n h user call) past → EndsBoot the_server ls → RanBefore the_server (called_key (client_head n h)) past [] (versioned vs ls)
+ran_before c past n h user call vs ls cut boots = record {
+  alone = refl;
+  boots = boots_behind vs ls boots;
+  newer = cut.ran.newer;
+  at = cut.ran.at;
+  older = cut.ran.older;
+  split = cut.ran.split;
+  actor = cut.ran.node ∙ ap (λ (m : Message). actors.Node m.head.to) cut.is;
+  ran = record { boot = c.server.lasting.boot; up = cut.up; given = subst (IsCallUnder the_server (called_key (client_head n h)) c.server.lasting.boot) (sym cut.ran.given) ((cut.ran.is_call, cut.ran.callee), (cut.ran.key, cut.ran.boot)); first = cut.ran.first };
+  stopped = cut.stopped;
+  since = cut.since;
+}
+
+pub after_good : (s : Script) (c : Cell) (past : List Entry) (n : ℕ) (h : Head) (user : List ℕ) (call : FsCall) (id : ℕ) (v : Volume) (es : List Edit) (shown : ℕ) (ls : List Line) → (H : Holds s c past) → Now s c H.floors past n h user call → Change' c past user call id v es shown → {fall : Fall} → c.down ≡ Some fall → versions_first ls ≡ [] → IsCut c.server.lasting c.sent (call_at n h user call) past → EndsBoot the_server ls
     → AreGood s (actors.Node the_server) past (on_top (versions_by id es v) (lines.Change the_server (called_key (client_head n h)) (length (versions_by id es v)) ∷ [])) ls → AreGood s (actors.Node the_server) past [] (lines.Change the_server (called_key (client_head n h)) (length (versions_by id es v)) ∷ versioned (versions_by id es v) ls)
-after_good s c past n h user call id v es shown ls H w q down none good =
-    ((refl, saves_change_good s c past [] ls n h user call id v es shown H w q (H.new _ w.above_durable) refl (H.home id v q.at) none (λ j f x ne y l t. absurd (down_not c down ((H.backs refl).promised (Client j) f x l (subst (λ (z : ℕ). z < x) H.clock t)).0))), versions_good s past _ ls (versions_by id es v) tt good)
+after_good s c past n h user call id v es shown ls H w q down none cut boots good =
+    ((refl, saves_change_good s c past [] ls n h user call id v es shown H w q (inr (ran_before c past n h user call (versions_by id es v) ls cut boots)) (H.new _ w.above_durable) (changed_later s c past n h user call H w) (λ z. z) refl (H.home id v q.at) none (λ j f x ne y l t. absurd (down_not c down ((H.backs refl).promised (Client j) f x l (subst (λ (z : ℕ). z < x) H.clock t)).0))), versions_good s past _ ls (versions_by id es v) tt good)
 
 pub after_holds : (y : Way) (s : Script) (now : Option ℕ) (c : Cell) (past : List Entry) (after : Backs) (fall : Fall) (n : ℕ) (h : Head) (user : List ℕ) (call : FsCall) (time id : ℕ) (st : Stored) (es : List Edit) (shown : ℕ) → (H : Holds s c past) → Now s c H.floors past n h user call → Change' c past user call id st.volume es shown
     → IsCut c.server.lasting c.sent (call_at n h user call) past → given_message (saved_lines y (called_key (client_head n h)) (versions_by id es st.volume)) (sent_of past) ≡ None
@@ -740,7 +763,7 @@ pub after_holds : (y : Way) (s : Script) (now : Option ℕ) (c : Cell) (past : L
     → (now ≡ None → BackedIn (Some fall) after c.server.lasting.boot (seats_after c n h (reply_saved c (client_head n h) time user call id st es shown)) (seats_of c) c.clock (c.sent ++ saved_sent y (reply_saved c (client_head n h) time user call id st es shown)) (NewEntry y n h (versions_by id es st.volume) (reply_saved c (client_head n h) time user call id st es shown) ∷ past))
     → HoldsAt s now (served_cell true c n h (reply_saved c (client_head n h) time user call id st es shown) (stock_after c (client_head n h) time (change_at id user call st es shown)) after (Some fall) unarmed (saved_sent y (reply_saved c (client_head n h) time user call id st es shown))) (NewEntry y n h (versions_by id es st.volume) (reply_saved c (client_head n h) time user call id st es shown) ∷ past)
 after_holds y s now c past after fall n h user call time id st es shown H w q is_cut none fallen boots gives backs =
-    saves_holds y s now c past after unarmed (Some fall) n h user call time id st es shown H w q (record { ran = ran_over _ _ past is_cut.ran; is = is_cut.is; ideal = is_cut.ideal }) boots
+    saves_holds y s now c past after unarmed (Some fall) n h user call time id st es shown H w q (record { ran = ran_over _ _ past is_cut.ran; is = is_cut.is; up = is_cut.up; ideal = is_cut.ideal }) boots
     (λ k x l. (λ z. subst (λ (o : Option Message). IsCallUnder the_server k x o) none z, unheard_later c.down c.server.seats c.server.lasting.boot past H.unheard k x l)) (fallen _ _ _) gives backs
 
 saved_up : (s : Script) (c : Cell) (past : List Entry) (fall : Fall) (n : ℕ) (h : Head) (user : List ℕ) (call : FsCall) (time id : ℕ) (st : Stored) (es : List Edit) (shown : ℕ) → (H : Holds s c past) → c.down ≡ Some fall → Now s c H.floors past n h user call → Change' c past user call id st.volume es shown
@@ -758,11 +781,11 @@ saved_up s c past fall n h user call time id st es shown H e w q is_cut =
     let given : given_message k.lines (sent_of past) ≡ None = given_on vs (lines.Restart the_server x ∷ t.lines) (sent_of past) ∙ sk.given (sent_of past) in
     let pump : Pumps x (seat_placed (taken n h r) c.server.lasting.kept) (seats_of c) c.clock c.sent (k ∷ past) t = pumps x (seat_placed (taken n h r) c.server.lasting.kept) (seats_of c) c.clock c.sent k past t refl (saves_clock y key vs r past ∙ H.clock)
     (rise_loaded c.count c.down c.server.backs c.server.lasting.boot c.server.seats (seat_placed (taken n h r) c.server.lasting.kept) (seats_of c) c.clock c.sent k past (lines.Change the_server key (length vs) ∷ versioned vs (lines.Restart the_server x ∷ [])) (λ z. absurd cc) (H.backs refl) H.clock
-    (ap (λ (ls : List Line). lines.Change the_server key (length vs) ∷ ls) (versioned_front vs (lines.Restart the_server x ∷ []) t.lines)) (versions_lines is_oweless vs (lines.Restart the_server x ∷ []) (λ z. refl) refl) (versions_lines is_tickless vs (lines.Restart the_server x ∷ []) (λ z. refl) refl) (versions_lines is_still vs (lines.Restart the_server x ∷ []) (λ z. refl) refl) given) (record { good = tt; calls = tt; dones = tt }) in
+    (ap (λ (ls : List Line). lines.Change the_server key (length vs) ∷ ls) (versioned_front vs (lines.Restart the_server x ∷ []) t.lines)) (versions_lines is_oweless vs (lines.Restart the_server x ∷ []) (λ z. refl) refl) (versions_lines is_tickless vs (lines.Restart the_server x ∷ []) (λ z. refl) refl) (versions_lines is_still vs (lines.Restart the_server x ∷ []) (λ z. refl) refl) given) (record { good = tt; calls = tt; dones = tt }) (saves_boot y key vs r past ∙ (sk.boot _ ∙ rises_at s c past fall x H e)) in
     record {
       replies = pump.good;
       volumes = refl;
-      good = after_good s c past n h user call id st.volume es shown (lines.Restart the_server x ∷ t.lines) H w q e refl ((refl, rises_owed s c H), alls_good s (c.clock + promise_ticks) 0 c.count past _ (le_of_eq (top_number vs (lines.Change the_server key (length vs) ∷ []) (lines_of past) ∙ down_number s c past fall H e)));
+      good = after_good s c past n h user call id st.volume es shown (lines.Restart the_server x ∷ t.lines) H w q e refl is_cut (inl refl) ((refl, rises_owed s c H), alls_good s (c.clock + promise_ticks) 0 c.count past _ (le_of_eq (top_number vs (lines.Change the_server key (length vs) ∷ []) (lines_of past) ∙ down_number s c past fall H e)) (inl refl));
       holds = revives s (Some x) _ _ (pumped the_server x t).backs (after_holds y s (Some x) c past c.server.backs at_rest n h user call time id st es shown H w q is_cut given (λ u z b. tt) (saves_boot y key vs r past ∙ (sk.boot _ ∙ rises_at s c past fall x H e)) (λ own. rising_gives _ x _ _ c c.server.backs.held) (λ z. absurd cc)) (λ fl z. nothing_held x c _ _) (λ z. pump.backed);
     }
 
@@ -774,14 +797,14 @@ ends_saved s c past fall comes_up n h user call time id st es shown H e w q is_c
     (saved_up s c past fall n h user call time id st es shown H e w q is_cut)
 ends_saved s c past fall fails_early n h user call time id st es shown H e w q is_cut = ends_before s c past fall fails_early H e
 ends_saved s c past fall fails_midway n h user call time id st es shown H e w q is_cut = record {
-  good = after_good s c past n h user call id st.volume es shown (lines.Fault the_server ∷ []) H w q e refl (refl, tt);
+  good = after_good s c past n h user call id st.volume es shown (lines.Fault the_server ∷ []) H w q e refl is_cut (inl refl) (refl, tt);
   holds = nothing_less s None _ _ (after_holds faults s None c past c.server.backs in_boot n h user call time id st es shown H w q is_cut (given_on (versions_by id es st.volume) _ (sent_of past)) (λ x y z. tt) (saves_boot faults _ (versions_by id es st.volume) (reply_saved c (client_head n h) time user call id st es shown) past)
       (λ own held. (no_news _ _ _, held)) (λ z. backed_fall c.down in_boot c.server.backs c.server.lasting.boot c.server.seats _ (seats_of c) c.clock c.sent _ past (versions_lines is_oweless (versions_by id es st.volume) (lines.Fault the_server ∷ []) (λ y. refl) refl) (versions_lines is_still (versions_by id es st.volume) (lines.Fault the_server ∷ []) (λ y. refl) refl) (λ u. absurd cc) (H.backs refl)));
   replies = tt;
   volumes = refl;
 }
 ends_saved s c past fall is_full n h user call time id st es shown H e w q is_cut = record {
-  good = after_good s c past n h user call id st.volume es shown (lines.Full the_server ∷ []) H w q e refl (refl, tt);
+  good = after_good s c past n h user call id st.volume es shown (lines.Full the_server ∷ []) H w q e refl is_cut (inl refl) (refl, tt);
   holds = nothing_less s None _ _ (after_holds fills s None c past c.server.backs at_rest n h user call time id st es shown H w q is_cut (given_on (versions_by id es st.volume) _ (sent_of past)) (λ x y z. tt) (saves_boot fills _ (versions_by id es st.volume) (reply_saved c (client_head n h) time user call id st es shown) past ∙ (H.boots ∙ ap (λ (d : Option Fall). up_boot d c.server.lasting.boot) e))
       (λ own held. (no_news _ _ _, held)) (λ z. backed_fall c.down at_rest c.server.backs c.server.lasting.boot c.server.seats _ (seats_of c) c.clock c.sent _ past (versions_lines is_oweless (versions_by id es st.volume) (lines.Full the_server ∷ []) (λ y. refl) refl) (versions_lines is_still (versions_by id es st.volume) (lines.Full the_server ∷ []) (λ y. refl) refl) (λ u. absurd cc) (H.backs refl)));
   replies = tt;
@@ -826,8 +849,8 @@ stops_goes s c past None h e =
 stops_goes s c past (Some fall) h e = voids s c past h
 
 pub cut_good : (s : Script) (past : List Entry) (p : ℕ) (stops : Bool) → AreGood s (actors.Node the_server) past [] (lines.Given p ∷ blow_line stops ∷ [])
-cut_good s past p true = (tt, (refl, tt))
-cut_good s past p false = (tt, (refl, tt))
+cut_good s past p true = (refl, (refl, tt))
+cut_good s past p false = (refl, (refl, tt))
 
 pub cut_oweless : (p : ℕ) (stops : Bool) → all_lines is_oweless (lines.Given p ∷ blow_line stops ∷ []) ≡ true
 cut_oweless p true = refl
@@ -840,6 +863,10 @@ cut_still p false = refl
 pub cut_stops : (p : ℕ) (stops : Bool) (o : List Line) → HasStopped the_server (onto o (lines.Given p ∷ blow_line stops ∷ []))
 cut_stops p true o = inl refl
 cut_stops p false o = inl refl
+
+cut_stopped : (p : ℕ) (stops : Bool) → HasStopped the_server (lines.Given p ∷ blow_line stops ∷ [])
+cut_stopped p true = inl refl
+cut_stopped p false = inl refl
 
 pub cut_clock : (p : ℕ) (stops : Bool) (o : List Line) → clock_of (onto o (lines.Given p ∷ blow_line stops ∷ [])) ≡ clock_of o + 0
 cut_clock p true o = omega arith
@@ -861,7 +888,7 @@ cuts_saved s c past p n h user call stops H up at w =
       volumes = refl;
       holds = still s None (record c { down = Some (in_step m c.clock); armed = unarmed }) (e ∷ past) (rests s None c past e 0 (Some (in_step m c.clock)) unarmed H (cut_boot p stops (lines_of past)) refl (cut_rests s p stops past) (cut_clock p stops (lines_of past))
           (λ k b l. (λ x. let x' : IsCallUnder the_server k b (Some m) = subst (λ (o : Option Message). IsCallUnder the_server k b o) (at_told s c past p m H at) x in let is : h.boot ≡ b = x'.1.1 in absurd (omega arith), unheard_later c.down c.server.seats c.server.lasting.boot past H.unheard k b l))
-          (record { place = p; at = at; ran = ran_now s c past p n h user call e H up at w refl refl; is = refl; ideal = H.ideal }) (λ z. fall_backed s c past e (in_step m c.clock) (cut_oweless p stops) (cut_still p stops) (λ u o. cut_stops p stops o) H));
+          (record { place = p; at = at; ran = ran_now s c past p n h user call e H up at w refl refl; is = refl; up = up_boots s c past H up; stopped = cut_stopped p stops; since = tt; ideal = H.ideal }) (λ z. fall_backed s c past e (in_step m c.clock) (cut_oweless p stops) (cut_still p stops) (λ u o. cut_stops p stops o) H));
     }
 
 abbrev pub IsSave : Decision → Type 0
@@ -897,7 +924,7 @@ timed_goes s c past n b true H up at e =
     acts_alone s c past c.armed (retries the_server c.server.lasting.boot n b x) H up (tt, tt) (refl, tt) (λ k held. record { notes = (tt, tt); sent = news_break _ _ _ c.server.lasting.boot n (x.known n) b ((up_backed s c past H up).outs refl n b at).client; outs = tt; held = held })
     (λ k q. let old = up_backed s c past H up in record {
       backed = retries_backed x c.server.lasting.boot c.server.seats (seats_of c) c.clock c.sent k past n b at (ap (λ (y : Entry). y.lines) q) old;
-      sends = record { good = (break_good (k ∷ past) c.server.lasting.boot n (x.known n) b, tt); calls = resent x c.server.lasting.boot c.server.seats (seats_of c) c.clock c.sent past (k ∷ past) n (x.known n) b (put_at n (Some (record b { tries = b.tries + 1 })) x.calls) old at (λ y w. put_call n n (record b { tries = b.tries + 1 }) y x.calls _ w (λ u v. ap (λ (z : BackCall). z.breaks) (sym v)) (λ u. ap (λ (z : BackCall). z.breaks) (some_of y b (sym u ∙ at)))); dones = (tt, tt) };
+      sends = record { good = break_good (k ∷ past) c.server.lasting.boot n (x.known n) b; calls = resent x c.server.lasting.boot c.server.seats (seats_of c) c.clock c.sent past (k ∷ past) n (x.known n) b (put_at n (Some (record b { tries = b.tries + 1 })) x.calls) old at (λ y w. put_call n n (record b { tries = b.tries + 1 }) y x.calls _ w (λ u v. ap (λ (z : BackCall). z.breaks) (sym v)) (λ u. ap (λ (z : BackCall). z.breaks) (some_of y b (sym u ∙ at)))); dones = (tt, tt) };
     })
 timed_goes s c past n b false H up at e =
     let x : Backs = expired c.clock c.server.backs in

@@ -1,5 +1,6 @@
-use Rattle.afs_law.proofs.Facts.{AreFetched, FitsBulk, its_call}
-use Rattle.afs_law.proofs.Passing.{fetched_each, ran_over}
+use Rattle.afs_law.proofs.Turning.{reply_gift}
+use Rattle.afs_law.proofs.Facts.{fids_of_gifts, AreFetched, FitsBulk, its_call}
+use Rattle.afs_law.proofs.Passing.{all_dropped_onto, tried_kept, fetched_each, ran_over}
 use Rattle.std.specs.List.{list_any}
 use Rattle.std.specs.Prelude.{◌||◌}
 -- A client is called by its server: it drops what it has cached of the broken promises.
@@ -8,7 +9,7 @@ use Rattle.afs_law.proofs.Passing.{was_onto}
 use Rattle.afs_law.proofs.Apart.{apart_filter, found_filter}
 use Rattle.afs_law.proofs.Asking.{Passes, Fresh, KeepsSeat, moves_back, moves, old_seat, step_entry, view_after, views_after, Heard, heard_dull, told_passes, quiet, reply_still, safe_cache}
 use Rattle.afs_law.proofs.Basics.{own_seat, same_node-refl, same_fid-true, same_fid-refl, client_number, OfClient, OfServer, ByClient, ByServer, by_server, server_any, LastSeat, some_of, kept_last}
-use Rattle.afs_law.proofs.Facts.{IsReply, IsFetched, FitsShown, back_seat, IsKnown, View, view, Spot, spot, Fits, ReplyFact, IsAged, IsLastCall, CallIn, Origin, IsActs, ToClient, server_boot, Holds, Goes, FitsData, FitsSet, FitsReply, IsOne}
+use Rattle.afs_law.proofs.Facts.{IsReply, IsFetched, FitsShown, back_seat, IsKnown, View, view, Spot, spot, Fits, ReplyFact, IsAged, IsLastCall, CallIn, Origin, IsActs, ToClient, Holds, Goes, FitsData, FitsSet, FitsReply, IsOne}
 use Rattle.afs_law.proofs.Passing.{old_over, old_within, whole_over, body_kept, PassesGrant, PassesFile, PassesReach, current_over, stands_over, stays, kept_over, grant_over, cause_over, onto_front, client_still}
 use Rattle.afs_model.specs.Calls.{call_seat, call_seated, Admitted}
 use Rattle.afs_num.specs.declared.histories.ReadStatus.{ReadStatus}
@@ -16,7 +17,7 @@ use Rattle.afs_rows.specs.ServerRow.{not_served, replied, seat_for, boot_told}
 use Rattle.std.specs.Prelude.{◌&&◌, filter}
 use Rattle.afs_num.specs.declared.calls.AfsFetchStatus.{AfsFetchStatus}
 use Rattle.afs_law.proofs.Backing.{Plain, all_lines, is_up, is_still, is_oweless, is_unchanging, drop_onto, owe_over}
-use Rattle.afs_law.proofs.Owing.{AllOf, IsOwed, CallOut, BackIn, DroppedOwe, IsDone, SeatedIn}
+use Rattle.afs_law.proofs.Owing.{CarriedOwe, AllOf, CallOut, BackIn, DroppedOwe, IsDone, SeatedIn}
 use Rattle.afs_law.proofs.Pumping.{no_call, no_notice, of_reply_any}
 use Rattle.afs_law.proofs.Serving.{told_file, told_reach, told_act, reached_still}
 use Rattle.afs_law.specs.Breaks.{HasDrop, OweAt, CarriesBreak, NamesIn}
@@ -27,7 +28,7 @@ use Rattle.afs_law.specs.Grants.{has_fetched, IsWithdrawn, IsDropped, since}
 use Rattle.afs_law.specs.Ideal.{last_version, HasVersion, Accepts, clock_of, reach, Reach, reach_over, change_key, changed_under, volume_after}
 use Rattle.afs_law.specs.Legal.{IsNew, AreGood, GoodReply, as_asked}
 use Rattle.afs_history.specs.declared.lines.Line.{Line}
-use Rattle.afs_law.specs.Past.{onto, lines_of, sent_of, running, has_begun}
+use Rattle.afs_law.specs.Past.{server_boot, onto, lines_of, sent_of, running, has_begun}
 use Rattle.afs_rows.specs.Runs.{Entry}
 use Rattle.afs_law.proofs.OneCell.{the_server, Cell, client_moves}
 use Rattle.afs_rows.specs.States.{CacheEntry, Seat}
@@ -197,7 +198,7 @@ reply_fresh {s} c n views past m x = record {
     ones = (no_call (ByClient (IsOne (sent_of past))) m.head m.carried x.is_reply, tt);
     to_clients = (no_call ToClient m.head m.carried x.is_reply, tt);
   };
-  good = (not_good past m n x.from, tt);
+  good = ((not_good past m n x.from, reply_gift m.head m.carried (lines_of past) x.is_reply), tt);
   calls = (no_call (ByServer (BackIn c.down c.server.backs.calls c.server.backs.last_call c.server.lasting.boot)) m.head m.carried x.is_reply, tt);
   dones = (of_reply_any _ m.carried (server_any m.head.to _ (record { client = Client n; from = x.from; done = x.done })), tt);
 }
@@ -205,7 +206,7 @@ reply_fresh {s} c n views past m x = record {
 pub notice_fresh : {s : Script} → (c : Cell) (n : ℕ) (views : ℕ → View) (past : List Entry) (boot : ℕ) (head : Head) → head.from ≡ the_server → Fresh s c n views past (boot_told boot head ∷ [])
 notice_fresh {s} c n views past boot head e = record {
   news = record { calls = (tt, tt); replies = (tt, tt); notices = (client_none head.from 1 _ e, tt); origins = (tt, tt); acts = (tt, tt); lasts = (tt, tt); ones = (tt, tt); to_clients = (tt, tt) };
-  good = ((λ is nought i from. absurd is.1), tt);
+  good = (((λ is nought i from. absurd is.1), tt), tt);
   calls = (tt, tt);
   dones = (tt, tt);
 }
@@ -214,9 +215,9 @@ notice_fresh {s} c n views past boot head e = record {
 pub tells_goes : (s : Script) (c : Cell) (past : List Entry) (n p : ℕ) (m : Message) (ms : List Message) → (h : Holds s c past) → Heard c p m → ((e : Entry) → Plain e.lines → Fresh s c n (views_after h.floors c n (h.floors n) (c.clients n)) (e ∷ past) ms) → Goes s past (client_moves c n (told_step (c.clients n) p ms))
 tells_goes s c past n p m ms h heard fresh =
     let e : Entry = step_entry n (lines.Given p ∷ []) ms in
-    moves s c past n (h.floors n) (told_step (c.clients n) p ms) h (h.own n) (tt, tt) (told_passes s c past n p m ms h heard)
+    moves s c past n (h.floors n) (told_step (c.clients n) p ms) h (h.own n) (refl, tt) (told_passes s c past n p m ms h heard)
     (client_still n (view h.floors c n) e past (λ f. told_file n p f (actors.Node (Client n)) ms past) (λ f. told_reach n p f (actors.Node (Client n)) ms past) (told_act n p (actors.Node (Client n)) ms past) (λ f. refl) (h.clients n))
-    (λ head call f. f) (reply_still n (view h.floors c n) e past (λ f. told_file n p f (actors.Node (Client n)) ms past) (λ f. told_reach n p f (actors.Node (Client n)) ms past) (λ f. refl) refl) (fresh e (record { up = refl; still = refl; oweless = refl; unchanging = refl })) (λ a x z. inl x) refl
+    (λ head call f. f) (reply_still n (view h.floors c n) e past (λ f. told_file n p f (actors.Node (Client n)) ms past) (λ f. told_reach n p f (actors.Node (Client n)) ms past) (λ f. refl) refl) (fresh e (record { up = refl; still = refl; oweless = refl; unchanging = refl })) (λ a x z. inl x) refl (tried_kept n (c.clients n) _ (lines_of past) (lines.Given p ∷ []) refl refl refl refl (h.tried n))
 
 -- ---- what the client has dropped by then
 
@@ -235,8 +236,8 @@ handled s c past n head user call e h b to up drop =
       dropped = λ k x y at q.
           let is : call ≡ breaks_call k.breaks = b.is k x y (ap c.server.backs.calls one ∙ at) q in
           let out : CallOut (Client n) k c.server.backs.last_call c.server.lasting.boot past = (h.backs refl).outs x (Client n) k at in
-          all_two (IsOwed (Client n) (lines_of past)) (λ (o : Owed). CarriesBreak (breaks_call k.breaks) o.what) (DroppedOwe (Client n) (lines_of (e ∷ past)))
-          (λ o z w. let owe : OweAt the_server (Client n) o.what o.number (lines_of past) = z in record { owe = owe_over (Client n) o.what o.number e past up owe; dropped = drop o.what owe.newer (subst (λ (u : FsCall). CarriesBreak u o.what) (sym is) w) }) k.breaks out.owes out.carries;
+          all_two (CarriedOwe (Client n) k.number k.tries c.server.lasting.boot (lines_of past)) (λ (o : Owed). CarriesBreak (breaks_call k.breaks) o.what) (DroppedOwe (Client n) (lines_of (e ∷ past)))
+          (λ o z w. let owe : OweAt the_server (Client n) o.what o.number (lines_of past) = z.owe in record { owe = owe_over (Client n) o.what o.number e past up owe; dropped = drop o.what owe.newer (subst (λ (u : FsCall). CarriesBreak u o.what) (sym is) w) }) k.breaks out.owes out.carries;
     }
 
 pub done_seated : (c : Cell) (n : ℕ) (past : List Entry) (x : ClientState) (head : Head) (y : Carried) → IsReply y → head.from ≡ the_server → head.to ≡ Client n → IsDone c.down c.server.backs.calls c.server.backs.last_call c.server.lasting.boot past (Client n) head.epoch head.number → SeatedIn c.down c.server.backs.calls c.server.backs.last_call c.server.lasting.boot past n (replied x.epoch head y)
@@ -260,9 +261,9 @@ answers_back s c past n p head user call y h heard to from b is none =
     let e : Entry = step_entry n (lines.Given p ∷ []) ms in
     let seated : SeatedIn c.down c.server.backs.calls c.server.backs.last_call c.server.lasting.boot (e ∷ past) n reply = done_seated c n (e ∷ past) (c.clients n) head y is from to (handled s c past n head user call e h b to refl (λ w o z. absurd (none w z))) in
     let k = h.own n in
-    moves_back s c past n (h.floors n) (replies_step (c.clients n) p head [] y) h (record { table = k.table; user = k.user; callee = λ a z. k.callee a z; apart = k.apart; gifts = k.gifts }) (tt, tt) (told_passes s c past n p _ ms h heard)
+    moves_back s c past n (h.floors n) (replies_step (c.clients n) p head [] y) h (record { table = k.table; user = k.user; callee = λ a z. k.callee a z; needs = λ a z. k.needs a z; apart = k.apart; gifts = k.gifts }) (refl, tt) (told_passes s c past n p _ ms h heard)
     (client_still n (view h.floors c n) e past (λ f. told_file n p f (actors.Node (Client n)) ms past) (λ f. told_reach n p f (actors.Node (Client n)) ms past) (told_act n p (actors.Node (Client n)) ms past) (λ f. refl) (h.clients n))
-    (λ hd call f. f) (reply_still n (view h.floors c n) e past (λ f. told_file n p f (actors.Node (Client n)) ms past) (λ f. told_reach n p f (actors.Node (Client n)) ms past) (λ f. refl) refl) (reply_fresh c n _ (e ∷ past) reply seated) (λ a x z. inl x) (seat_keeps c n (e ∷ past) (c.clients n) head y from seated)
+    (λ hd call f. f) (reply_still n (view h.floors c n) e past (λ f. told_file n p f (actors.Node (Client n)) ms past) (λ f. told_reach n p f (actors.Node (Client n)) ms past) (λ f. refl) refl) (reply_fresh c n _ (e ∷ past) reply seated) (λ a x z. inl x) (seat_keeps c n (e ∷ past) (c.clients n) head y from seated) (tried_kept n (c.clients n) _ (lines_of past) (lines.Given p ∷ []) refl refl refl refl (h.tried n))
 
 -- ---- breaks on fids
 
@@ -323,6 +324,7 @@ broken_fetched sp t n p m f i status body expiry fs ms past named last h =
         base = h.held.base;
         split = ap (λ (o : List Line). onto o e.lines) h.held.split ∙ onto_front new h.held.base e.lines;
         begun = h.held.begun;
+        least = h.held.least;
       };
       reached = (broken_reach n n p fs ms past f).seen i h.reached;
       newest = elim h.newest [ inl w ↦ inl ((skips n fs).withdrawn h.held.grant.server (Client n) f (lines.Given p ∷ new) w) | inr at ↦ inr (ap (option_map (λ (v : Version). v.index)) (last f) ∙ at) ];
@@ -350,7 +352,7 @@ or_right false b e = e
 spoils : (sp b : Bool) (n : ℕ) (f : Fid) (i : ℕ) (status : ReadStatus) (body : Option Body) (expiry : ℕ) (m : Message) (past : List Entry) → IsFetched sp n f i status body expiry m past → IsFetched (cond b true sp) n f i status body expiry m past
 spoils sp false n f i status body expiry m past h = h
 spoils sp true n f i status body expiry m past h = record {
-  held = record { grant = h.held.grant; server = h.held.server; kept = λ z d. absurd cc; whole = h.held.whole; base = h.held.base; split = h.held.split; begun = h.held.begun };
+  held = record { grant = h.held.grant; server = h.held.server; kept = λ z d. absurd cc; whole = h.held.whole; base = h.held.base; split = h.held.split; begun = h.held.begun; least = h.held.least };
   reached = h.reached;
   newest = h.newest;
 }
@@ -437,7 +439,7 @@ drops_goes s c past n p head user fs cbs h heard to from b =
       };
     } in
     let seated : SeatedIn c.down c.server.backs.calls c.server.backs.last_call c.server.lasting.boot (e ∷ past) n reply = done_seated c n (e ∷ past) x head (done replies.CallBack) (λ y. y) from to (handled s c past n head user (calls.CallBack fs cbs) e h b to (skips n fs).ups (λ w o z. (skips n fs).drop w (lines.Given p ∷ o) z)) in
-    moves_back s c past n (h.floors n) st h (record { table = (h.own n).table; user = (h.own n).user; callee = λ a z. (h.own n).callee a z; apart = apart_filter (λ y. not (is_named y.fid fs)) x.cache (h.own n).apart; gifts = (h.own n).gifts }) (tt, (skips n fs).good s past (lines.Given p ∷ [])) (broken_passes s c past n p _ fs (reply ∷ []) h heard)
+    moves_back s c past n (h.floors n) st h (record { table = (h.own n).table; user = (h.own n).user; callee = λ a z. (h.own n).callee a z; needs = λ a z. (h.own n).needs a z; apart = apart_filter (λ y. not (is_named y.fid fs)) x.cache (h.own n).apart; gifts = (h.own n).gifts }) (refl, (skips n fs).good s past (lines.Given p ∷ [])) (broken_passes s c past n p _ fs (reply ∷ []) h heard)
     (record {
       behind = d.behind;
       behind_durable = d.behind_durable;
@@ -457,10 +459,12 @@ drops_goes s c past n p head user fs cbs h heard to from b =
       old = old_over st.state.cache (lines_of past) (lines_of (e ∷ past)) (λ f i b y. (skips n fs).version f i b (lines.Given p ∷ lines_of past) y) (old_within x.cache st.state.cache (lines_of past) (λ f u y. (left_out (λ z. is_named z fs) f x.cache u y).0) d.old);
       runs = λ act y. (skips n fs).runs s (Client n) (lines.Given p ∷ lines_of past) ∙ d.runs act y;
       asked = λ act y. inr ((skips n fs).begins (Client n), d.asked act y);
+      none = d.none;
+      gave = λ act y. all_dropped_onto (Client n) (fids_of_gifts x.gifts) e.lines (lines_of past) ((skips n fs).begins (Client n)) (d.gave act y);
       reached = reached_still s c past n e h (λ f. (broken_reach n n p fs (reply ∷ []) past f).both) last;
     })
     (λ hd call f. record { behind = f.behind; booted = f.booted; stale = f.stale; own = f.own; safe = λ q above. safe_cache call c.clock (c.clients n).epoch (c.clients n).last (c.clients n).running (c.clients n).cache st.state.cache (IsAged (view h.floors c n) hd) hd (λ g y u at lasts. y u (left_out (λ x. is_named x fs) g (c.clients n).cache u at).0 lasts) (f.safe q above) })
-    over (reply_fresh c n _ (e ∷ past) reply seated) (λ a x z. inl x) (seat_keeps c n (e ∷ past) x head (done replies.CallBack) from seated)
+    over (reply_fresh c n _ (e ∷ past) reply seated) (λ a x z. inl x) (seat_keeps c n (e ∷ past) x head (done replies.CallBack) from seated) (tried_kept n (c.clients n) _ (lines_of past) (broken_lines n p fs) refl refl refl refl (h.tried n))
 
 -- ---- a break on all
 
@@ -493,6 +497,7 @@ all_fetched sp n m f i status body expiry e past v r w last h =
         base = h.held.base;
         split = ap (λ (o : List Line). onto o e.lines) h.held.split ∙ onto_front new h.held.base e.lines;
         begun = h.held.begun;
+        least = h.held.least;
       };
       reached = (r f).seen i h.reached;
       newest = elim h.newest [ inl y ↦ inl (w f 0 h.held.grant.server new y) | inr at ↦ inr (ap (option_map (λ (v : Version). v.index)) (last f) ∙ at) ];
@@ -568,7 +573,7 @@ drops_all_goes s c past n p head user h heard to from b =
       };
     } in
     let seated : SeatedIn c.down c.server.backs.calls c.server.backs.last_call c.server.lasting.boot (e ∷ past) n reply = done_seated c n (e ∷ past) x head (done replies.InitCallBackState) (λ y. y) from to (handled s c past n head user calls.InitCallBackState e h b to refl (λ w o z. inl (refl, from))) in
-    moves_back s c past n (h.floors n) st h (record { table = (h.own n).table; user = (h.own n).user; callee = λ a z. (h.own n).callee a z; apart = apart_filter (λ y. not (same_node y.server head.from)) x.cache (h.own n).apart; gifts = (h.own n).gifts }) (tt, (refl, tt)) (all_passes s c past n p _ head.from (reply ∷ []) h heard)
+    moves_back s c past n (h.floors n) st h (record { table = (h.own n).table; user = (h.own n).user; callee = λ a z. (h.own n).callee a z; needs = λ a z. (h.own n).needs a z; apart = apart_filter (λ y. not (same_node y.server head.from)) x.cache (h.own n).apart; gifts = (h.own n).gifts }) (refl, (refl, tt)) (all_passes s c past n p _ head.from (reply ∷ []) h heard)
     (record {
       behind = d.behind;
       behind_durable = d.behind_durable;
@@ -589,10 +594,12 @@ drops_all_goes s c past n p head user h heard to from b =
       old = old_over st.state.cache (lines_of past) (lines_of (e ∷ past)) (λ f i b y. y) (old_within x.cache st.state.cache (lines_of past) (λ f u y. (gone f u y).0) d.old);
       runs = d.runs;
       asked = λ act y. inr (refl, d.asked act y);
+      none = d.none;
+      gave = λ act y. all_dropped_onto (Client n) (fids_of_gifts x.gifts) e.lines (lines_of past) refl (d.gave act y);
       reached = reached_still s c past n e h (λ f. (r f).both) (λ f. refl);
     })
     (λ hd call f. record { behind = f.behind; booted = f.booted; stale = f.stale; own = f.own; safe = λ q above. safe_cache call c.clock (c.clients n).epoch (c.clients n).last (c.clients n).running (c.clients n).cache st.state.cache (IsAged (view h.floors c n) hd) hd (λ g y u at lasts. y u (gone g u at).0 lasts) (f.safe q above) })
-    over (reply_fresh c n _ (e ∷ past) reply seated) (λ a x z. inl x) (seat_keeps c n (e ∷ past) x head (done replies.InitCallBackState) from seated)
+    over (reply_fresh c n _ (e ∷ past) reply seated) (λ a x z. inl x) (seat_keeps c n (e ∷ past) x head (done replies.InitCallBackState) from seated) (tried_kept n (c.clients n) _ (lines_of past) (lines.Given p ∷ lines.DropAll (Client n) head.from ∷ []) refl refl refl refl (h.tried n))
 
 -- ---- the row, by its cases
 

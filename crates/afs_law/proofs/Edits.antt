@@ -78,6 +78,9 @@ abbrev pub index_in : Option Version → ℕ
 index_in None = 0
 index_in (Some v) = v.index
 
+pub granted_in : (o : Option Version) (v : Version) (i : ℕ) → index_in o ≤ i → o ≡ Some v → v.index ≤ i
+granted_in o v i le e = subst (λ (x : Option Version). index_in x ≤ i) e le
+
 live_kind : (k : Kind) (id n : ℕ) (x : Vnode) → live_by (body_by k x) (version_at id n x) ≡ Some (version_at id n x)
 live_kind a_file id n x = refl
 live_kind a_directory id n x = refl

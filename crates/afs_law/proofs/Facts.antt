@@ -7,20 +7,20 @@ use Rattle.afs_law.proofs.Edits.{Ones, index_in, SoundIn, Tops}
 use Rattle.afs_law.proofs.Owing.{BackedIn}
 use Rattle.afs_rows.specs.Callbacks.{replies_of}
 use Rattle.afs_rows.specs.ClientRow.{boot_of, find_cached, body_told, server_at, status_told, call_by}
-use Rattle.afs_rows.specs.Going.{asked, Going, ClientState, next}
-use Rattle.afs_law.specs.Grants.{fetch_reply, GrantOf, since, IsWithdrawn, IsDropped}
+use Rattle.afs_rows.specs.Going.{asked, answers, Going, Need, ClientState, next}
+use Rattle.afs_law.specs.Grants.{until, fetch_reply, GrantOf, since, IsWithdrawn, IsDropped}
 use Rattle.afs_law.specs.Ideal.{last_version, IsLast, WasLast, HasBeen, HasVersion, Accepts, clock_of, user_of, reach, call_under, volume_after}
-use Rattle.afs_law.specs.Legal.{IsNew, Cause, AreGood, AreGoodReplies, as_asked}
+use Rattle.afs_law.specs.Breaks.{HasStopped, HasTimeout}
+use Rattle.afs_law.specs.Legal.{AreDropped, AreFailed, IsThere, IsNew, Cause, AreGood, AreGoodSent, as_asked}
 use Rattle.afs_history.specs.declared.lines.Line.{Line}
-use Rattle.afs_law.specs.Past.{is_of_act, lines_of, sent_of, called_key, running, Called, CalledSince, IsUnheard, Ran}
+use Rattle.afs_law.specs.Past.{server_boot, is_of_act, lines_of, sent_of, called_key, running, Called, CalledSince, IsUnheard, Ran}
 use Rattle.afs_rows.specs.Runs.{locations, Entry, Fall, at_rest, in_step, in_boot, message_at}
 use Rattle.afs_law.proofs.OneCell.{the_server, Cell, Moved}
 use Rattle.afs_rows.specs.Scopes.{is_in_scope}
 use Rattle.afs_rows.specs.ServerRow.{reply_head}
 use Rattle.afs_rows.specs.States.{CacheEntry, Seat, ServerState, Lasting, volume_in, Gift}
 use Rattle.afs_model.specs.Calls.{call_seat}
-use Rattle.std.specs.Prelude.{Bool, true, false, ◌||◌, ◌++◌, if◌then◌else◌, ⊤}
-use Rattle.afs_num.specs.Nodes.{same_node}
+use Rattle.std.specs.Prelude.{map, Bool, true, false, ◌||◌, ◌++◌, ⊤}
 use Rattle.std.proofs.Common.{◌+◌, ◌≡◌, ℕ, ◌<◌, ◌≤◌, ◌^◌, ◌⊎◌, List, [], ◌∷◌, Option, Some, None, ℤ}
 use Rattle.afs_num.specs.declared.types.Fid.{Fid}
 use Rattle.afs_num.specs.declared.types.Head.{Head}
@@ -39,7 +39,6 @@ use Rattle.afs_num.specs.declared.calls.AfsCallBack.{AfsCallBack}
 use Rattle.afs_law.proofs.Keeping.{unflagged}
 use Rattle.afs_records.specs.Durable.{Stored}
 use Rattle.afs_num.specs.declared.histories.ReadBody.TheVariants as seen
-use Rattle.afs_history.specs.declared.lines.Line.TheVariants as lines
 use Rattle.afs_num.specs.declared.calls.FsCall.TheVariants as calls
 use Rattle.afs_num.specs.declared.calls.FsReply.TheVariants as replies
 use Rattle.afs_num.specs.declared.messages.Carried.TheVariants as carried
@@ -109,15 +108,24 @@ abbrev pub AreGifts : List Gift → Type 0
 AreGifts [] = ⊤
 AreGifts (g ∷ gs) = (g.server ≡ the_server) × AreGifts gs
 
+abbrev pub fids_of_gifts : List Gift → List Fid
+fids_of_gifts gs = map (λ g. g.fid) gs
+
 -- the call that an act waits for
 abbrev pub its_call : List Gift → Going → FsCall
 its_call gifts act = call_by gifts (next act)
+
+-- the act isn't at its end
+abbrev pub IsOpen : Need → Type 0
+IsOpen (answers code) = ⊥
+IsOpen need = ⊤
 
 -- a client of the script; what it asks, it asks of the server
 pub record IsClient (s : Script) (c : ClientState) : Type 0 where
   pub table : c.table ≡ locations s
   pub user : c.user ≡ guest
   pub callee : (act : Going) → c.running ≡ Some act → c.callee ≡ the_server
+  pub needs : (act : Going) → c.running ≡ Some act → IsOpen (next act)
   pub apart : AreApart c.cache
   pub gifts : AreGifts c.gifts
 
@@ -160,18 +168,7 @@ pub record Reached (c : Node) (f : Fid) (index : ℕ) (past : List Entry) : Type
 abbrev pub Seen : ℕ → Fid → ℕ → List Entry → Type 0
 Seen j f index past = (reach (Client j) f past).seen ≤ index
 
--- ---- the boot of the server, by its lines: none while it is down
-
-abbrev pub risen : Option ℕ → ℕ → Option ℕ
-risen None boot = Some boot
-risen (Some old) boot = Some old
-
-abbrev pub server_boot : Node → List Line → Option ℕ
-server_boot s [] = Some 1
-server_boot s (lines.Crash n ∷ older) = if same_node n s then None else server_boot s older
-server_boot s (lines.Fault n ∷ older) = if same_node n s then None else server_boot s older
-server_boot s (lines.Restart n boot ∷ older) = if same_node n s then risen (server_boot s older) boot else server_boot s older
-server_boot s (l ∷ older) = server_boot s older
+-- ---- the boot of the server: none while it is down
 
 abbrev pub up_boot : Option Fall → ℕ → Option ℕ
 up_boot None boot = Some boot
@@ -184,10 +181,10 @@ InScope call f = is_in_scope call f ≡ true
 
 -- ---- what was fetched is whole and was not given up, and is the newest unless its grant is withdrawn
 
--- what is held of a body is this one
+-- what is held of a body is this one, of a vnode that is there
 abbrev pub IsBody : Option Body → Body → Type 0
 IsBody None body = ⊤
-IsBody (Some b) body = b ≡ body
+IsBody (Some b) body = (b ≡ body) × IsThere b
 
 -- the status is one that the fid had under this index, and the body, if one is held, that of its version
 pub record IsWhole (f : Fid) (index : ℕ) (status : ReadStatus) (body : Option Body) (past : List Entry) : Type 0 where
@@ -204,6 +201,7 @@ pub record Held (sp : Bool) (j : ℕ) (f : Fid) (index : ℕ) (status : ReadStat
   pub base : List Line
   pub split : lines_of past ≡ since (Client j) f expiry reply past grant ++ base
   pub begun : server_boot the_server base ≡ Some reply.head.boot
+  pub least : index_in (last_version f (until (Client j) f expiry reply past grant)) ≤ index
 
 abbrev pub IsNewest : Node → ℕ → Fid → ℕ → List Line → List Line → Type 0
 IsNewest server j f index newer older = IsWithdrawn server (Client j) f newer ⊎ IsLast f index older
@@ -223,20 +221,21 @@ stored_index (carried.Reply (tell.File (replies.StoreAcl status sync))) = Some s
 stored_index (carried.Reply (tell.File (replies.StoreStatus status sync))) = Some status.sync_counter
 stored_index c = None
 
-pub record WasStored (j : ℕ) (f : Fid) (server : Node) (newer : List Line) (kept_reply : Option Message) (past : List Entry) : Type 0 where
+pub record WasStored (j : ℕ) (f : Fid) (old : ℕ) (server : Node) (newer : List Line) (kept_reply : Option Message) (past : List Entry) : Type 0 where
   pub index : ℕ
   pub reply : Message
   pub kept : kept_reply ≡ Some reply
   pub told : stored_index reply.carried ≡ Some index
+  pub above : old ≤ index
   pub reached : Seen j f index past
   pub newest : IsNewest server j f index newer (lines_of past)
 
 -- after a store the reply tells the new index; after any other change the entry will be given up
-abbrev pub WasChanged : ℕ → Fid → Node → List Line → Option Message → List Entry → FsCall → Type 0
-WasChanged j f server newer reply past (calls.StoreData g status position wanted file_length contents) = WasStored j f server newer reply past
-WasChanged j f server newer reply past (calls.StoreAcl g acl) = WasStored j f server newer reply past
-WasChanged j f server newer reply past (calls.StoreStatus g status) = WasStored j f server newer reply past
-WasChanged j f server newer reply past call = ⊤
+abbrev pub WasChanged : ℕ → Fid → ℕ → Node → List Line → Option Message → List Entry → FsCall → Type 0
+WasChanged j f old server newer reply past (calls.StoreData g status position wanted file_length contents) = WasStored j f old server newer reply past
+WasChanged j f old server newer reply past (calls.StoreAcl g acl) = WasStored j f old server newer reply past
+WasChanged j f old server newer reply past (calls.StoreStatus g status) = WasStored j f old server newer reply past
+WasChanged j f old server newer reply past call = ⊤
 
 -- an entry whose client waits for the reply to its own call, which ran and may have changed that
 pub record IsOvertaken (j : ℕ) (f : Fid) (old : ℕ) (server : Node) (newer : List Line) (running : Option Going) (x : Spot) (past : List Entry) : Type 0 where
@@ -245,7 +244,7 @@ pub record IsOvertaken (j : ℕ) (f : Fid) (old : ℕ) (server : Node) (newer : 
   pub runs : running ≡ Some act
   pub scope : InScope (asked act) f
   pub ran : LastStored x
-  pub changed : WasChanged j f server newer ran.seat.reply past (asked act)
+  pub changed : WasChanged j f old server newer ran.seat.reply past (asked act)
 
 abbrev pub Overtaken : ℕ → Fid → ℕ → Node → List Line → View → List Entry → Type 0
 Overtaken j f old server newer v past = IsOvertaken j f old server newer v.running (spot v) past
@@ -271,7 +270,7 @@ HasCurrent j v past = (f : Fid) (e : CacheEntry) → find_cached f v.cache ≡ S
 -- what a client holds of a body, trusted or not, is that of a version
 abbrev pub IsOld : Fid → ℕ → Option Body → List Line → Type 0
 IsOld f index None ls = ⊤
-IsOld f index (Some body) ls = HasVersion f index body ls
+IsOld f index (Some body) ls = HasVersion f index body ls × IsThere body
 
 abbrev pub HasOld : List CacheEntry → List Line → Type 0
 HasOld cache ls = (f : Fid) (e : CacheEntry) → find_cached f cache ≡ Some e → IsOld f e.index e.body ls
@@ -288,8 +287,17 @@ pub record IsStored (x : Spot) (m : Message) : Type 0 where
   pub ran : LastStored x
   pub kept : ran.seat.reply ≡ Some m
 
+-- no call that shows what an act reads
+abbrev pub IsNoRead : FsCall → Type 0
+IsNoRead (calls.FetchData f position wanted) = ⊥
+IsNoRead (calls.FetchAcl f) = ⊥
+IsNoRead (calls.FetchStatus f) = ⊥
+IsNoRead (calls.BulkStatus fids) = ⊥
+IsNoRead call = ⊤
+
+-- a reply that shows nothing: its call reads nothing, and where that is a changing one it is stored
 abbrev pub FitsPlain : Spot → Message → FsCall → Type 0
-FitsPlain v m call = (id : ℕ) → volume_changed call ≡ Some id → IsStored v m
+FitsPlain v m call = IsNoRead call × ((id : ℕ) → volume_changed call ≡ Some id → IsStored v m)
 
 abbrev pub FitsData : Bool → ℕ → Spot → Message → List Entry → List ℕ → AfsFetchStatus → AfsCallBack → FsCall → Type 0
 FitsData sp j v m past contents status callback (calls.FetchData f position wanted) = IsFetched sp j f status.sync_counter (status_told status) (Some (body_told status.file_type contents)) callback.expiration_time m past
@@ -445,6 +453,8 @@ pub record ClientFacts (s : Script) (j : ℕ) (v : View) (past : List Entry) : T
   pub old : HasOld v.cache (lines_of past)
   pub runs : (act : Going) → v.running ≡ Some act → running s (Client j) (lines_of past) ≡ Some act
   pub asked : (act : Going) → v.running ≡ Some act → CalledSince (last_key j v) (user_of (Client j)) (its_call v.gifts act) past
+  pub none : v.running ≡ None → v.gifts ≡ []
+  pub gave : (act : Going) → v.running ≡ Some act → AreDropped (Client j) (fids_of_gifts v.gifts) (lines_of past)
   pub reached : (f : Fid) → Reached (Client j) f (index_in (last_version f (lines_of past))) past
 
 -- ---- messages in flight
@@ -594,6 +604,9 @@ pub record IsCut (kept : Lasting) (sent : List Message) (m : Message) (past : Li
   pub at : message_at sent place ≡ Some m
   pub ran : Ran (reply_head kept.boot m.head) past
   pub is : ran.message ≡ m
+  pub up : server_boot the_server (lines_of ran.older) ≡ Some kept.boot
+  pub stopped : HasStopped the_server ran.at.lines
+  pub since : AreFailed the_server ran.newer
   pub ideal : AreIdeal kept.volumes ran.older
 
 abbrev pub HasFallen : Option Fall → Lasting → List Message → List Entry → Type 0
@@ -601,6 +614,10 @@ HasFallen None kept sent past = ⊤
 HasFallen (Some at_rest) kept sent past = ⊤
 HasFallen (Some in_boot) kept sent past = ⊤
 HasFallen (Some (in_step m clock)) kept sent past = IsCut kept sent m past
+
+-- each timeout of the client's unanswered call was told
+pub record Tried (j : ℕ) (x : ClientState) (ls : List Line) : Type 0 where
+  pub told : (act : Going) → x.running ≡ Some act → (k : ℕ) → 1 ≤ k → k ≤ x.tries → HasTimeout (Client j) the_server x.epoch x.last k ls
 
 -- `now` is the server's boot by the lines
 pub record HoldsAt (s : Script) (now : Option ℕ) (c : Cell) (past : List Entry) : Type 0 where
@@ -613,6 +630,7 @@ pub record HoldsAt (s : Script) (now : Option ℕ) (c : Cell) (past : List Entry
   pub unheard : AreUnheard c.down c.server.seats c.server.lasting.boot past
   pub count : c.count ≡ s.clients
   pub own : (j : ℕ) → IsClient s (c.clients j)
+  pub tried : (j : ℕ) → Tried j (c.clients j) (lines_of past)
   pub servers : (id : ℕ) → server_at (locations s) id ≡ 1
   pub booted : 1 ≤ c.server.lasting.boot
   pub boots : server_boot the_server (lines_of past) ≡ now
@@ -630,6 +648,6 @@ Holds s c past = HoldsAt s (up_boot c.down c.server.lasting.boot) c past
 
 pub record Goes (s : Script) (past : List Entry) (m : Moved) : Type 0 where
   pub good : AreGood s m.entry.actor past [] m.entry.lines
-  pub replies : AreGoodReplies (m.entry ∷ past) m.entry.sent
+  pub replies : AreGoodSent (m.entry ∷ past) m.entry.sent
   pub volumes : m.entry.volumes ≡ []
   pub holds : Holds s m.cell (m.entry ∷ past)

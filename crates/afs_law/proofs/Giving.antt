@@ -1,4 +1,5 @@
 -- A client gives back all that it was promised: how that act begins.
+use Rattle.afs_law.specs.Legal.{AreDropped, HasDropped}
 use Rattle.std.proofs.Common.{suc, zero, inl, inr, ◌≡◌, ℕ, ◌≤◌, ◌<◌, ◌+◌, arith, Bool, true, false, cond, not, nat_lt, List, [], ◌∷◌, ◌++◌, map, Option, Some, None, refl, sym, ap, subst, ◌∙◌, lt-ltb, ltb-true}
 use Rattle.std.specs.Prelude.{◌&&◌, drop}
 use Rattle.std.specs.List.{flat_map}
@@ -26,9 +27,9 @@ use Rattle.afs_law.proofs.Apart.{apart_filter, found_filter}
 use Rattle.afs_law.proofs.Asking.{Passes, carried_is, client_asking, client_ended, moves, new_one, nothing_new, other_client, own_begun, own_call, own_zero, runs_by_other, safe_cache, safe_over, step_entry, view_after}
 use Rattle.afs_law.proofs.Basics.{Above, client_number, guest, next_not, raised_up_to, same_fid-refl, same_fid-true, same_node-refl, some_of, up_to_next, UpTo}
 use Rattle.afs_law.proofs.Dropping.{drops_of, skips}
-use Rattle.afs_law.proofs.Facts.{AreApart, AreGifts, Ghost, Goes, HasOld, Holds, IsAged, IsClient, LastRan, ReplyFact, View, its_call, last_key, view}
+use Rattle.afs_law.proofs.Facts.{fids_of_gifts, AreApart, AreGifts, IsOpen, Ghost, Goes, HasOld, Holds, IsAged, IsClient, LastRan, ReplyFact, View, its_call, last_key, view}
 use Rattle.afs_law.proofs.OneCell.{the_server, Cell, client_moves}
-use Rattle.afs_law.proofs.Passing.{PassesBoth, kept_over, old_over, old_within, ran_over}
+use Rattle.afs_law.proofs.Passing.{tried_idle, tried_new, PassesBoth, kept_over, old_over, old_within, ran_over}
 use Rattle.afs_law.proofs.Quiet.{AreQuiet, quiet_grant, quiet_passes}
 use Rattle.afs_law.proofs.Serving.{reached_still}
 use Rattle.afs_law.proofs.Skipping.{ideal_still, own_ended}
@@ -188,6 +189,7 @@ left_client s c past n gs h given = record {
   table = (h.own n).table;
   user = (h.own n).user;
   callee = λ a z. (h.own n).callee a z;
+  needs = λ a z. (h.own n).needs a z;
   apart = apart_filter (λ e. not (is_trusted c.clock e)) (c.clients n).cache (h.own n).apart;
   gifts = given;
 }
@@ -249,6 +251,8 @@ gives_nothing s c past n act h none by =
       old = left_old s c past n e h (λ f i b z. (quiet_grant n n f ls [] past q).version i b (lines_of past) z);
       runs = λ b z. absurd cc;
       asked = λ b z. absurd cc;
+      none = λ z. refl;
+      gave = λ b z. absurd cc;
       reached = reached_still s c past n e h both (λ f. refl);
     })
     (λ head call f. record {
@@ -259,18 +263,18 @@ gives_nothing s c past n act h none by =
       safe = λ q above. safe_over call c.clock x.epoch x.last x.epoch x.last x.running None cache (IsAged (view h.floors c n) head) (IsAged v head) head (λ b z. let no_ : Some b ≡ None = sym z ∙ none in absurd cc) (λ z. (z.0, λ b r. absurd cc))
           (safe_cache call c.clock x.epoch x.last x.running x.cache cache (IsAged (view h.floors c n) head) head (λ g z u at lasts. z u (left_was s c past n h g u at) lasts) (f.safe q above));
     })
-    over (nothing_new _ _) (λ a z r. absurd cc) refl
+    over (nothing_new _ _) (λ a z r. absurd cc) refl (tried_idle n _ _ refl)
 
 -- the server is told
-gives_some : (s : Script) (c : Cell) (past : List Entry) (n : ℕ) (act : Act) (fs : List Fid) (gs : List Gift) → (h : Holds s c past) → (c.clients n).running ≡ None → AreGifts gs
+gives_some : (s : Script) (c : Cell) (past : List Entry) (n : ℕ) (act : Act) (fs : List Fid) (gs : List Gift) → (h : Holds s c past) → (c.clients n).running ≡ None → AreGifts gs → AreDropped (Client n) (fids_of_gifts gs) (onto (lines_of past) (gave n act fs)) → IsOpen (next (began (locations s) act))
     → Goes s past (client_moves c n (record { state = asking (left c n gs) (began (locations s) act); lines = gave n act fs; sent = call_message (Client n) (asking (left c n gs) (began (locations s) act)) (began (locations s) act) ∷ [] }))
-gives_some s c past n act fs gs h none given =
+gives_some s c past n act fs gs h none given dropped going =
     let x : ClientState = c.clients n in
     let d = h.clients n in
     let a : Going = began (locations s) act in
     let cache : List CacheEntry = untrusted_in c.clock x.cache in
     let y : ClientState = asking (left c n gs) a in
-    let kind : IsClient s y = client_asking s c past (left c n gs) a h (left_client s c past n gs h given) in
+    let kind : IsClient s y = client_asking s c past (left c n gs) a h going (left_client s c past n gs h given) in
     let ls : List Line = gave n act fs in
     let ms : List Message = call_message (Client n) y a ∷ [] in
     let e : Entry = step_entry n ls ms in
@@ -306,6 +310,8 @@ gives_some s c past n act fs gs h none given =
       old = left_old s c past n e h (λ f i b z. (skips n fs).version f i b (lines.Begin (Client n) act ∷ lines_of past) z);
       runs = λ b z. at ∙ z;
       asked = λ b z. subst (λ (q : Going). CalledSince (last_key n v) guest (its_call v.gifts q) (e ∷ past)) (some_of a b z) (inl (refl, inl (refl, carried_is y a kind.user)));
+      none = λ z. absurd cc;
+      gave = λ b z. dropped;
       reached = reached_still s c past n e h (gave_both n n act fs ms past) (λ f. (skips n fs).last f (lines.Begin (Client n) act ∷ lines_of past));
     })
     (λ head call f. record {
@@ -316,7 +322,38 @@ gives_some s c past n act fs gs h none given =
       safe = λ q above. safe_over call c.clock x.epoch x.last x.epoch (x.last + 1) x.running (Some a) cache (IsAged (view h.floors c n) head) (IsAged v head) head idle (λ z. (z.0, λ b k u r. next_not _ _ _ _ f.behind u r))
           (safe_cache call c.clock x.epoch x.last x.running x.cache cache (IsAged (view h.floors c n) head) head (λ f z u found lasts. z u (left_was s c past n h f u found) lasts) (f.safe q above));
     })
-    over (own_call h.floors c past n g y a ls d.known kind refl at (new_one s c past n y a h refl refl)) (λ b z k. begun_not n _ _ k) refl
+    over (own_call h.floors c past n g y a ls d.known kind refl at (new_one s c past n y a h refl refl) dropped) (λ b z k. begun_not n _ _ k) refl (tried_new n _ _ refl)
+
+-- what is given back is dropped in that entry
+dropped_here : (n : ℕ) (es : List CacheEntry) (f : Fid) (o : List Line) → HasDropped (Client n) f o → HasDropped (Client n) f (onto o (drops_of n (map (λ (e : CacheEntry). e.fid) es)))
+dropped_here n [] f o h = h
+dropped_here n (u ∷ es) f o h = dropped_here n es f (lines.Drop (Client n) u.fid ∷ o) (inr h)
+
+dropped_each : (n : ℕ) (es : List CacheEntry) (o : List Line) → AreDropped (Client n) (fids_of_gifts (map gift_of es)) (onto o (drops_of n (map (λ (e : CacheEntry). e.fid) es)))
+dropped_each n [] o = tt
+dropped_each n (u ∷ es) o = (dropped_here n es u.fid (lines.Drop (Client n) u.fid ∷ o) (inl (refl, refl)), dropped_each n es (lines.Drop (Client n) u.fid ∷ o))
+
+gave_dropped : (n : ℕ) (act : Act) (es : List CacheEntry) (o : List Line) → AreDropped (Client n) (fids_of_gifts (map gift_of es)) (onto o (gave n act (map (λ (e : CacheEntry). e.fid) es)))
+gave_dropped n act es o = dropped_each n es (lines.Begin (Client n) act ∷ o)
+
+both_dropped : (c : Node) (a b : List Gift) (ls : List Line) → AreDropped c (fids_of_gifts a) ls → AreDropped c (fids_of_gifts b) ls → AreDropped c (fids_of_gifts (a ++ b)) ls
+both_dropped c [] b ls h k = k
+both_dropped c (g ∷ a) b ls h k = (h.0, both_dropped c a b ls h.1 k)
+
+dropped_if : (t : Bool) (c : Node) (g : Gift) (gs : List Gift) (ls : List Line) → HasDropped c g.fid ls → AreDropped c (fids_of_gifts gs) ls → AreDropped c (fids_of_gifts (cond t (g ∷ gs) gs)) ls
+dropped_if true c g gs ls h k = (h, k)
+dropped_if false c g gs ls h k = k
+
+dropped_to : (c : Node) (gs : List Gift) (k : ℕ) (ls : List Line) → AreDropped c (fids_of_gifts gs) ls → AreDropped c (fids_of_gifts (gifts_to gs k)) ls
+dropped_to c [] k ls h = tt
+dropped_to c (g ∷ gs) k ls h = dropped_if (same_node g.server (Server k)) c g (gifts_to gs k) ls h.0 (dropped_to c gs k ls h.1)
+
+dropped_all : (c : Node) (gs : List Gift) (ns : List ℕ) (ls : List Line) → AreDropped c (fids_of_gifts gs) ls → AreDropped c (fids_of_gifts (flat_map (gifts_to gs) ns)) ls
+dropped_all c gs [] ls h = tt
+dropped_all c gs (k ∷ ns) ls h = both_dropped c (gifts_to gs k) (flat_map (gifts_to gs) ns) ls (dropped_to c gs k ls h) (dropped_all c gs ns ls h)
+
+ordered_dropped : (c : Node) (gs : List Gift) (ls : List Line) → AreDropped c (fids_of_gifts gs) ls → AreDropped c (fids_of_gifts (in_order gs)) ls
+ordered_dropped c gs ls h = dropped_all c gs (1 ∷ 2 ∷ 3 ∷ 4 ∷ 5 ∷ 6 ∷ 7 ∷ 8 ∷ []) ls h
 
 abbrev gives_from : Script → Cell → ℕ → Act → List CacheEntry → List Gift → Step ClientState
 gives_from s c n act es order = gives_by (Client n) (record (unbusied (c.clients n)) { cache = untrusted_in c.clock (c.clients n).cache }) (λ ls. begin_lines n act (dropped (Client n) es ls)) (began (locations s) act) order
@@ -326,7 +363,7 @@ gives_order [] [] s c past n act h none by given is = gives_nothing s c past n a
 gives_order (u ∷ es) [] s c past n act h none by given is = absurd (none_ordered (gift_of u) (map gift_of es) given.0 is)
 gives_order es (g ∷ gs) s c past n act h none by given is =
     subst (λ (ls : List Line). Goes s past (client_moves c n (record { state = asking (left c n (g ∷ gs)) (began (locations s) act); lines = lines.Begin (Client n) act ∷ ls; sent = call_message (Client n) (asking (left c n (g ∷ gs)) (began (locations s) act)) (began (locations s) act) ∷ [] }))) (sym (dropped_fids n es))
-    (gives_some s c past n act (map (λ (e : CacheEntry). e.fid) es) (g ∷ gs) h none (subst AreGifts is (ordered_gifts (map gift_of es) given)))
+    (gives_some s c past n act (map (λ (e : CacheEntry). e.fid) es) (g ∷ gs) h none (subst AreGifts is (ordered_gifts (map gift_of es) given)) (subst (λ (gs : List Gift). AreDropped (Client n) (fids_of_gifts gs) (onto (lines_of past) (gave n act (map (λ (e : CacheEntry). e.fid) es)))) is (ordered_dropped (Client n) (map gift_of es) (onto (lines_of past) (gave n act (map (λ (e : CacheEntry). e.fid) es))) (gave_dropped n act es (lines_of past)))) (subst IsOpen (sym by) tt))
 
 pub gives_goes : (s : Script) (c : Cell) (past : List Entry) (n : ℕ) (act : Act) → (h : Holds s c past) → (c.clients n).running ≡ None → next (began (locations s) act) ≡ gives_back → Goes s past (client_moves c n (gives_all (Client n) (unbusied (c.clients n)) c.clock (began (locations s) act) (begin_lines n act)))
 gives_goes s c past n act h none by =

@@ -31,12 +31,12 @@ use Rattle.afs_num.specs.declared.types.Node.TheVariants.{Admin, Client, Loc, Se
 use Rattle.afs_rows.specs.Callbacks.{expired, put, replies_of, turned_in}
 use Rattle.afs_rows.specs.ClientRow.{boot_of, client_row}
 use Rattle.afs_rows.specs.Going.{ClientState, Going}
-use Rattle.afs_rows.specs.Runs.{Armed, Blow, Cell, Entry, Fall, Host, Input, Leads, Luck, Moved, Outcome, RunsTo, at_rest, back_timed, begins, begun_by, begun_by_disk, blow_line, client_moves, client_starts, client_stops, comes_up, decided_at, fails_early, fails_midway, given_at, given_to, gives, has_host, in_boot, in_step, is_full, message_at, moved, nothing, server_armed, server_ends, server_falls, server_given, server_moves, server_restarted, server_served, server_stopped, server_timed, server_waits, server_wakes, sets_fail, sets_stop, settled, start, starts_again, stops, struck, ticks, unarmed, voided, waited_by, waits, wakes}
+use Rattle.afs_rows.specs.Runs.{is_away, Armed, Blow, Cell, Entry, Fall, Host, Input, Leads, Luck, Moved, Outcome, RunsTo, at_rest, back_timed, begins, begun_by, begun_by_disk, blow_line, client_moves, client_starts, client_stops, comes_up, decided_at, fails_early, fails_midway, given_at, given_to, gives, has_host, in_boot, in_step, is_full, message_at, moved, nothing, server_armed, server_ends, server_falls, server_given, server_moves, server_restarted, server_served, server_stopped, server_timed, server_waits, server_wakes, sets_fail, sets_stop, settled, start, starts_again, stops, struck, ticks, unarmed, voided, waited_by, waits, wakes}
 use Rattle.afs_rows.specs.ServerRow.{Begun, Decision, admits, begun_after, decides, device_calls, does, drops, hears, is_client, not_served, refuses, repeats, reply_head, saves, seat_for, serves_call, shows, tells_boot, whole}
 use Rattle.afs_rows.specs.ServerSteps.{back_timeout_row, server_row, start_row, wake_row}
 use Rattle.afs_rows.specs.States.{BackCall, Seat, ServerState}
 use Rattle.afs_rows.specs.Steps.{Step}
-use Rattle.std.proofs.Common.{◌≡◌, ℕ, ◌+◌, ◌≤◌, ◌<◌, inl, inr, arith, eq-eqb, Bool, true, false, cond, List, [], ◌∷◌, ◌++◌, Option, Some, None, refl, sym, ap, subst, ◌∙◌}
+use Rattle.std.proofs.Common.{zero, suc, ◌≡◌, ℕ, ◌+◌, ◌≤◌, ◌<◌, inl, inr, arith, eq-eqb, Bool, true, false, cond, List, [], ◌∷◌, ◌++◌, Option, Some, None, refl, sym, ap, subst, ◌∙◌}
 use Rattle.std.specs.Prelude.{⊤}
 
 -- ---- boot numbers that were told, and replies that were made
@@ -594,7 +594,7 @@ to_hears c past p luck m (Server i) H to at = either_hears past (has_host c i) _
 to_hears c past p luck m (Client n) H to at =
     let s : Step ClientState = client_row (Client n) (c.clients n) c.clock p (Whole m) in
     let e : Entry = of_client_step n s in
-    either_hears past (c.away n) _ _ (void_hears c past H)
+    either_hears past (is_away c n) _ _ (void_hears c past H)
     (client_hears c past n (Some p) s H
     (given_tame (IsRan (e ∷ past)) (IsNoted c.hosts) (IsHad c.hosts) n (c.clients n) c.clock p m (kept_on c past e n H)
     (call_is (IsRan (e ∷ past)) (λ h. IsHad c.hosts h.to h.boot) (c.clients n).epoch (c.clients n).seats m.head m.carried (λ is j from q runs i z. absurd (no_server n i (sym to ∙ z))) (each_at (IfCall (λ y user call. IsHad c.hosts y.to y.boot)) c.sent p m at H.calls))
@@ -621,11 +621,12 @@ first_had c past H q i e = H.first i
 
 moved_hears : (c : Cell) (past : List Entry) (x : Input) → HearsIn c past → After past (moved c x)
 unfolding moved
-moved_hears c past (begins n act) H = either_hears past (c.away n) _ _ (void_hears c past H) (begun_hears c past n act (c.clients n).running H)
+moved_hears c past (begins n act) H = either_hears past (is_away c n) _ _ (void_hears c past H) (begun_hears c past n act (c.clients n).running H)
 moved_hears c past (gives p luck) H = at_hears c past p luck (message_at c.sent p) refl H
-moved_hears c past (waits n) H = either_hears past (c.away n) _ _ (void_hears c past H) (waited_hears c past n (c.clients n).running H)
-moved_hears c past (ticks n) H = still_hears c.clients c.hosts c.sent past (record { actor = actors.Clock; lines = lines.Tick n ∷ []; sent = []; volumes = [] }) H refl refl
-moved_hears c past (client_stops n) H = either_hears past (c.away n) _ _ (void_hears c past H) (client_hears c past n None _ H (falls_tame _ (IsNoted c.hosts) (IsHad c.hosts) n (c.clients n) (first_had c past H)) tt)
+moved_hears c past (waits n) H = either_hears past (is_away c n) _ _ (void_hears c past H) (waited_hears c past n (c.clients n).running H)
+moved_hears c past (ticks zero) H = void_hears c past H
+moved_hears c past (ticks (suc n)) H = still_hears c.clients c.hosts c.sent past (record { actor = actors.Clock; lines = lines.Tick (suc n) ∷ []; sent = []; volumes = [] }) H refl refl
+moved_hears c past (client_stops n) H = either_hears past (is_away c n) _ _ (void_hears c past H) (client_hears c past n None _ H (falls_tame _ (IsNoted c.hosts) (IsHad c.hosts) n (c.clients n) (first_had c past H)) tt)
 moved_hears c past (client_starts n) H = either_hears past (c.away n) _ _ (client_hears c past n None _ H (rises_tame _ (IsNoted c.hosts) (IsHad c.hosts) n (c.clients n) (kept_on c past _ n H)) tt) (void_hears c past H)
 moved_hears c past (stops i) H = either_hears past (has_host c i) _ _ (stopped_hears c past i (c.hosts i).down H) (void_hears c past H)
 moved_hears c past (starts_again i after out) H = either_hears past (has_host c i) _ _ (restarted_hears c past i after out (c.hosts i).down H (H.falls i)) (void_hears c past H)

@@ -1,3 +1,6 @@
+use Rattle.afs_num.specs.declared.messages.Carried.{Carried}
+use Rattle.afs_num.specs.declared.messages.Carried.TheVariants as carried
+use Rattle.afs_num.specs.declared.types.Head.{Head}
 use Rattle.afs_rows.specs.States.{Location}
 use Rattle.afs_rows.specs.ClientRow.{server_at, server_or_first}
 use Rattle.afs_ideal.proofs.Edits.{first_agrees}
@@ -7,22 +10,22 @@ use Rattle.afs_ideal.specs.Told.{last_told}
 use Rattle.afs_ideal.specs.Volumes.{version_at, Vnode, Volume}
 use Rattle.afs_law.proofs.Answering.{client_goes, begun_goes}
 use Rattle.afs_law.proofs.Backing.{all_lines, is_oweless, no_owe, is_still, live_back, zero_back, live_given, before_own, rising_back}
-use Rattle.afs_law.proofs.Basics.{same_fid-refl, same_fid-true, some_of, both}
+use Rattle.afs_law.proofs.Basics.{Each, IfReply, OfReply, OfClient, same_fid-refl, same_fid-true, some_of, both}
 use Rattle.afs_law.proofs.Deciding.{server_times, server_wakes_goes, given_goes, stops_goes, restarts_goes}
 use Rattle.afs_law.proofs.Edits.{one_more, Ones, index_in, fid_at, live, SoundIn, sound_same, Tops, get-set, none_has}
-use Rattle.afs_law.proofs.Facts.{IsFine, server_boot, Reached, Holds, Goes}
+use Rattle.afs_law.proofs.Facts.{View, ReplyIn, view, IsFine, Reached, Holds, Goes}
 use Rattle.afs_law.proofs.Naming.{first_fine}
 use Rattle.afs_law.proofs.Resting.{voids, ticks_goes, stop_set, fail_set}
 use Rattle.afs_law.proofs.Waiting.{waits_goes, client_stops_goes, client_starts_goes}
 use Rattle.afs_law.specs.Breaks.{live_grant, last_number}
 use Rattle.afs_law.specs.Ideal.{first_told, last_version, HasVersion, Accepts, clock_of, Reach, reach_over, first_lines, set_up, is_at, unless, reach, change_key, volume_after, brought, or_before, changed_under}
-use Rattle.afs_law.specs.Legal.{IsNew, LegalAfter, Legal}
+use Rattle.afs_law.specs.Legal.{AreRan, IsNew, LegalAfter, Legal}
 use Rattle.afs_history.specs.declared.lines.Line.{Line}
 use Rattle.afs_law.specs.OneServer.{AreAtServer, IsOneServer}
-use Rattle.afs_law.specs.Past.{running, onto, lines_of, given_message, IsCallUnder}
+use Rattle.afs_law.specs.Past.{HasCode, Ran, sent_of, server_boot, running, onto, lines_of, given_message, IsCallUnder}
 use Rattle.afs_rows.specs.Runs.{locations_in, location_by, Entry, message_at, Armed, Fall, Luck, first_volume, first_volumes, unless_there, counts_later}
-use Rattle.afs_law.proofs.OneCell.{the_server, Cell, Moved, waits, ticks, client_stops, client_starts, stops, starts_again, sets_stop, sets_fail, server_armed, Input, begins, gives, nothing, moved, given_to, given_at, Leads, start, RunsTo, server_waits, wakes}
-use Rattle.std.proofs.Common.{find, ◌≡◌, ℕ, ◌+◌, ◌≤◌, ◌⊎◌, inl, inr, Bool, true, false, cond, nat_eq, List, [], ◌∷◌, ◌++◌, Option, Some, None, refl, sym, ap, subst, ◌∙◌, arith, eqb-true, eqb, eq-eqb, le_of_eq}
+use Rattle.afs_law.proofs.OneCell.{is_away, the_server, Cell, Moved, waits, ticks, client_stops, client_starts, stops, starts_again, sets_stop, sets_fail, server_armed, Input, begins, gives, nothing, moved, given_to, given_at, Leads, start, RunsTo, server_waits, wakes}
+use Rattle.std.proofs.Common.{zero, suc, find, ◌≡◌, ℕ, ◌+◌, ◌≤◌, ◌⊎◌, inl, inr, Bool, true, false, cond, nat_eq, List, [], ◌∷◌, ◌++◌, Option, Some, None, refl, sym, ap, subst, ◌∙◌, arith, eqb-true, eqb, eq-eqb, le_of_eq}
 use Rattle.std.specs.Prelude.{is_some, ⊤}
 use Rattle.afs_num.specs.Fids.{same_fid}
 use Rattle.afs_num.specs.declared.types.Fid.{Fid}
@@ -51,7 +54,7 @@ either s c past false m k a b = b
 
 pub to_goes : (s : Script) (c : Cell) (past : List Entry) (p : ℕ) (luck : Luck) (m : Message) (to : Node) → Holds s c past → message_at c.sent p ≡ Some m → m.head.to ≡ to → Goes s past (given_to c p luck m to)
 to_goes s c past p luck m (Server n) h at to = either s c past (nat_eq n 1) _ _ (given_goes s c past p luck m c.down n h refl at to) (voids s c past h)
-to_goes s c past p luck m (Client n) h at to = either s c past (c.away n) _ _ (voids s c past h) (client_goes s c past n p m h at to)
+to_goes s c past p luck m (Client n) h at to = either s c past (is_away c n) _ _ (voids s c past h) (client_goes s c past n p m h at to)
 to_goes s c past p luck m Loc h at to = voids s c past h
 to_goes s c past p luck m (Admin n) h at to = voids s c past h
 
@@ -59,29 +62,47 @@ pub at_goes : (s : Script) (c : Cell) (past : List Entry) (p : ℕ) (luck : Luck
 at_goes s c past p luck None h at = voids s c past h
 at_goes s c past p luck (Some m) h at = to_goes s c past p luck m m.head.to h at refl
 
-pub stop_goes : (s : Script) (c : Cell) (past : List Entry) (n pick : ℕ) (armed : Armed) (d : Option Fall) → Holds s c past → Goes s past (server_armed c (lines.Stop the_server n pick) armed d)
-stop_goes s c past n pick armed None h = stop_set s c past n pick armed h
-stop_goes s c past n pick armed (Some fall) h = voids s c past h
+pub stop_goes : (s : Script) (c : Cell) (past : List Entry) (n pick : ℕ) (armed : Armed) (d : Option Fall) → Holds s c past → c.down ≡ d → Goes s past (server_armed c (lines.Stop the_server n pick) armed d)
+stop_goes s c past n pick armed None h up = stop_set s c past n pick armed h up
+stop_goes s c past n pick armed (Some fall) h up = voids s c past h
 
-pub fail_goes : (s : Script) (c : Cell) (past : List Entry) (n : ℕ) (armed : Armed) (d : Option Fall) → Holds s c past → Goes s past (server_armed c (lines.Fail the_server n) armed d)
-fail_goes s c past n armed None h = fail_set s c past n armed h
-fail_goes s c past n armed (Some fall) h = voids s c past h
+pub fail_goes : (s : Script) (c : Cell) (past : List Entry) (n : ℕ) (armed : Armed) (d : Option Fall) → Holds s c past → c.down ≡ d → Goes s past (server_armed c (lines.Fail the_server n) armed d)
+fail_goes s c past n armed None h up = fail_set s c past n armed h up
+fail_goes s c past n armed (Some fall) h up = voids s c past h
 
 pub goes : (s : Script) (c : Cell) (past : List Entry) (x : Input) → Holds s c past → Goes s past (moved c x)
 unfolding moved
-goes s c past (begins n act) h = either s c past (c.away n) _ _ (voids s c past h) (begun_goes s c past n act (c.clients n).running h refl)
+goes s c past (begins n act) h = either s c past (is_away c n) _ _ (voids s c past h) (begun_goes s c past n act (c.clients n).running h refl)
 goes s c past (gives p luck) h = at_goes s c past p luck (message_at c.sent p) h refl
-goes s c past (waits n) h = either s c past (c.away n) _ _ (voids s c past h) (waits_goes s c past n (c.clients n).running h refl)
-goes s c past (ticks n) h = ticks_goes s c past n h
-goes s c past (client_stops n) h = either s c past (c.away n) _ _ (voids s c past h) (client_stops_goes s c past n h)
+goes s c past (waits n) h = either s c past (is_away c n) _ _ (voids s c past h) (waits_goes s c past n (c.clients n).running h refl)
+goes s c past (ticks zero) h = voids s c past h
+goes s c past (ticks (suc n)) h = ticks_goes s c past (suc n) h
+goes s c past (client_stops n) h = either s c past (is_away c n) _ _ (voids s c past h) (client_stops_goes s c past n h)
 goes s c past (client_starts n) h = either s c past (c.away n) _ _ (client_starts_goes s c past n h) (voids s c past h)
 goes s c past stops h = stops_goes s c past c.down h refl
 goes s c past (starts_again after o) h = restarts_goes s c past after o c.down h refl
-goes s c past (sets_stop calls pick) h = stop_goes s c past calls pick _ c.down h
-goes s c past (sets_fail call) h = fail_goes s c past call _ c.down h
+goes s c past (sets_stop calls pick) h = stop_goes s c past calls pick _ c.down h refl
+goes s c past (sets_fail call) h = fail_goes s c past call _ c.down h refl
 goes s c past (server_waits n) h = server_times s c past n c.down h refl
 goes s c past wakes h = server_wakes_goes s c past c.down h refl
 goes s c past nothing h = voids s c past h
+
+ran_of : (views : ℕ → View) (past : List Entry) (j : ℕ) (head : Head) (x : Carried) → HasCode x → head.to ≡ Client j → OfReply (OfClient head.to (ReplyIn views past (record { head = head; carried = x }))) x → Ran head past
+ran_of views past j head (carried.Call user call) code to h = absurd code
+ran_of views past j head carried.Notice code to h = absurd code
+ran_of views past j head (carried.Refusal code') code to h = (subst (λ (n : Node). OfClient n (ReplyIn views past (record { head = head; carried = carried.Refusal code' }))) to h).fact.ran
+ran_of views past j head (carried.Reply reply) code to h = (subst (λ (n : Node). OfClient n (ReplyIn views past (record { head = head; carried = carried.Reply reply }))) to h).fact.ran
+
+are_ran : (views : ℕ → View) (past : List Entry) (ms : List Message) → Each (IfReply (ReplyIn views past)) ms → AreRan past ms
+are_ran views past [] h = tt
+are_ran views past (m ∷ ms) h = (λ i j is from to. ran_of views past j m.head m.carried is.1 to h.0, are_ran views past ms h.1)
+
+last_each : (P : Message → Type 0) (a b : List Message) → Each P (a ++ b) → Each P b
+last_each P [] b h = h
+last_each P (m ∷ a) b h = last_each P a b h.1
+
+sent_ran : (s : Script) (c : Cell) (e : Entry) (past : List Entry) → (h : Holds s c (e ∷ past)) → AreRan (e ∷ past) e.sent
+sent_ran s c e past h = are_ran (view h.floors c) (e ∷ past) e.sent (last_each (IfReply (ReplyIn (view h.floors c) (e ∷ past))) (sent_of past) e.sent (subst (Each (IfReply (ReplyIn (view h.floors c) (e ∷ past)))) (sym h.sent.told) h.sent.replies))
 
 pub legal_after : (s : Script) (xs : List Input) (c : Cell) (past es : List Entry) (end : Cell) → Holds s c past → Leads c xs es end → LegalAfter s past es
 legal_after s [] c past [] end h r = tt
@@ -89,7 +110,7 @@ legal_after s [] c past (e ∷ es) end h r = absurd r
 legal_after s (x ∷ xs) c past [] end h r = absurd r
 legal_after s (x ∷ xs) c past (e ∷ es) end h r =
     subst (λ (y : Entry). LegalAfter s past (y ∷ es)) (sym r.0)
-    ((((goes s c past x h).good, (goes s c past x h).replies), (goes s c past x h).volumes), legal_after s xs (moved c x).cell ((moved c x).entry ∷ past) es end (goes s c past x h).holds r.1)
+    ((((goes s c past x h).good, (goes s c past x h).replies), ((goes s c past x h).volumes, sent_ran s (moved c x).cell (moved c x).entry past (goes s c past x h).holds)), legal_after s xs (moved c x).cell ((moved c x).entry ∷ past) es end (goes s c past x h).holds r.1)
 
 -- ---- the set-up
 
@@ -355,7 +376,8 @@ starts s one =
     record {
       floors = λ j. record { floor = 1; held = 1 };
       count = refl;
-      own = λ j. record { table = refl; user = refl; callee = λ a z. absurd cc; apart = tt; gifts = tt };
+      own = λ j. record { table = refl; user = refl; callee = λ a z. absurd cc; needs = λ a z. absurd cc; apart = tt; gifts = tt };
+      tried = λ j. record { told = λ act x. absurd cc };
       servers = λ id. found_server s.volumes one.1 id;
       ideal = λ id. first_in id (first_volumes s.volumes) ∙ ideal_first s id;
       sound = λ id. subst (λ (o : Option Volume). SoundIn id o (lines_of (set_up s ∷ []))) (sym (first_in id (first_volumes s.volumes))) (facts.sound id);
@@ -382,6 +404,8 @@ starts s one =
         current = λ f e x lasts. absurd cc;
         runs = λ act x. absurd cc;
         asked = λ act x. absurd cc;
+        none = λ x. refl;
+        gave = λ act x. absurd cc;
         reached = λ f. reached_first (Client j) f _ s;
       };
       sent = record { calls = tt; replies = tt; notices = tt; origins = tt; acts = tt; ones = tt; told = refl; waiting = tt; to_clients = tt };

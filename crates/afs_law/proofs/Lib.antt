@@ -21,6 +21,7 @@ pub mod Deciding
 pub mod Nexts
 pub mod Asking
 pub mod Quiet
+pub mod Homes
 pub mod Walking
 pub mod Skipping
 pub mod Dropping
@@ -37,4 +38,6 @@ pub mod Hosting
 pub mod KeysOnce
 pub mod Standing
 pub mod Hearing
+pub mod Made
 pub mod Worked
+pub mod Wrong

@@ -1,4 +1,6 @@
 -- What each step of the server makes of promises, breaks, calls and replies that wait.
+use Rattle.afs_law.specs.Grants.{IsWithdrawn}
+use Rattle.afs_law.proofs.Edits.{touches}
 use Rattle.afs_breaks.specs.declared.types.Promise.{Promise}
 use Rattle.afs_breaks.specs.Promises.{is_promise, with_promise, is_hit, owes_from, has_break, without_break}
 use Rattle.afs_law.proofs.Promising.{Owed, hits, staying, with_promises, without_promises, owes_all, risen_as, without_all, ended_call, ended_is}
@@ -14,14 +16,14 @@ use Rattle.afs_num.specs.declared.types.Node.TheVariants.{Client}
 use Rattle.afs_num.specs.declared.calls.FsCall.{FsCall}
 use Rattle.afs_num.specs.declared.messages.Message.{Message}
 use Rattle.afs_ideal.specs.Operations.{Found}
-use Rattle.afs_law.proofs.Backing.{Plain, Stepping, all_lines, is_up, is_still, is_oweless, is_unchanging, is_still_to, grant_back_to, settled_onto, stopped_back, grant_back, front_onto, change_back, no_owe, owes_over, ended_over, calls_same, backed_step, seated_over, plain_step, plain_waits, waits_over, granted_over, owed_over, call_over, backed_plain, promised_over, live_back, numbered_over, zero_back, live_given, before_own, rising_over, rising_back}
+use Rattle.afs_law.proofs.Backing.{owe_over, timeout_onto, Plain, Stepping, all_lines, is_up, is_still, is_oweless, is_unchanging, is_still_to, grant_back_to, settled_onto, stopped_back, grant_back, front_onto, change_back, no_owe, owes_over, ended_over, calls_same, backed_step, seated_over, plain_step, plain_waits, waits_over, granted_over, owed_over, call_over, backed_plain, promised_over, live_back, numbered_over, zero_back, live_given, before_own, rising_over, rising_back}
 use Rattle.afs_law.proofs.Basics.{both, same_node-true, same_node-refl, same_fid-refl, same_fid-true, Above, Each, IfBack, IfDone, OfReply, each_map, if_back, if_done, some_of}
-use Rattle.afs_law.proofs.Owing.{AllOf, all_map, all_both, all_filter, IsGranted, IsIn, IsNumberIn, AccountedBy, WaitedBy, AllWaitedBy, HeldWaits, IsOwed, CallOut, BackIn, DroppedOwe, DoneIn, BackedIn, Promised, IsPromised, promise_to, Numbered, IsClient, Rising, ToClients, is_held}
+use Rattle.afs_law.proofs.Owing.{CarriedOwe, AllOf, all_map, all_both, all_filter, IsGranted, IsIn, IsNumberIn, AccountedBy, WaitedBy, AllWaitedBy, HeldWaits, IsOwed, CallOut, BackIn, DroppedOwe, DoneIn, BackedIn, Promised, IsPromised, promise_to, Numbered, IsClient, Rising, ToClients, is_held}
 use Rattle.afs_law.proofs.Turning.{loaded, in_filter, put_call, kept_in}
 use Rattle.afs_law.specs.Breaks.{HasSettled, HasTimeout, last_grant, expiry_of, AllOwes, CarriesBreak, GoodQuit, live_grant, HasOwe, last_number, lines_at, drops_of, HasStopped, OweAt}
 use Rattle.afs_rows.specs.Callbacks.{is_all, alls, numbers, is_reply_to, key_answered, breaks_call, break_message, owe_line, settle_line, quit_line, settles, quits, retries, still_owed}
 use Rattle.afs_law.specs.Ideal.{clock_of, change_in}
-use Rattle.afs_law.specs.Legal.{IsNew, IsNot, IsKey, HasChange, AreGood, IsChanged}
+use Rattle.afs_law.specs.Legal.{HasRisen, IsNew, IsNot, IsKey, HasChange, AreGood, IsChanged}
 use Rattle.afs_history.specs.declared.lines.Line.{Line}
 use Rattle.afs_law.specs.Past.{onto, lines_of, sent_of, given_message, called_key, IsCallUnder}
 use Rattle.afs_rows.specs.Runs.{Entry, Fall}
@@ -246,7 +248,7 @@ ends_backed b boot seats cs clock sent e past n c p h at gone =
       new = λ before after d what k line. absurd (no_owe e.lines before after the_server d what k p.oweless line);
       gone = λ o x. elim (ends_or_stays o c.breaks b.lists.owed x) [
         | inl y ↦ inl y
-        | inr y ↦ inr (λ l. let z = ending n o.number (lines_of past) c.breaks b.lists.owed out.owes y (has_number o b.lists.owed x) in
+        | inr y ↦ inr (λ l. let z = ending n o.number (lines_of past) c.breaks b.lists.owed (all_map (CarriedOwe n c.number c.tries boot (lines_of past)) (IsOwed n (lines_of past)) (λ w v. v.owe) c.breaks out.owes) y (has_number o b.lists.owed x) in
             subst (λ (m : Node). HasSettled the_server m o.number (onto l e.lines)) (owed_once n o.client z.0 o.what o.number (lines_of past) z.1.0 (in_all (λ (u : Owed). IsOwed u.client (lines_of past) u) o b.lists.owed x (h.owing refl)) h.rising) (gone o.number l z.1.1))
       ];
       held = λ k x. more_held k b.held [] x;
@@ -274,41 +276,41 @@ pub settles_good : (s : Script) (n : Node) (c : BackCall) (b : Backs) (past : Li
 settles_good s n c b past own h = settles_all s n past c.breaks b.lists.owed own h
 
 -- a break that is given up
-record MayQuit (n : Node) (past : List Entry) (boot number : ℕ) (call : FsCall) (o : Owed) : Type 0 where
-  owe : IsOwed n (lines_of past) o
+record MayQuit (n : Node) (past : List Entry) (boot number most : ℕ) (call : FsCall) (o : Owed) : Type 0 where
+  owe : CarriedOwe n number most boot (lines_of past) o
   carries : CarriesBreak call o.what
 
 two_all : {A : Type 0} → (P Q R : A → Type 0) → ((x : A) → P x → Q x → R x) → (xs : List A) → AllOf P xs → AllOf Q xs → AllOf R xs
 two_all P Q R w [] h k = tt
 two_all P Q R w (x ∷ xs) h k = (w x h.0 k.0, two_all P Q R w xs h.1 k.1)
 
-quit_good : (n : Node) (boot : ℕ) (c : BackCall) (o : Owed) (past : List Entry) (own : List Line) (last : ℕ) → CallOut n c last boot past → 2 ≤ c.tries → HasTimeout the_server n boot c.number 3 own → MayQuit n past boot c.number (breaks_call c.breaks) o → GoodQuit the_server n o.number past own
+quit_good : (n : Node) (boot : ℕ) (c : BackCall) (o : Owed) (past : List Entry) (own : List Line) (last : ℕ) → CallOut n c last boot past → 2 ≤ c.tries → HasTimeout the_server n boot c.number 3 own → MayQuit n past boot c.number c.tries (breaks_call c.breaks) o → GoodQuit the_server n o.number past own
 quit_good n boot c o past own last out le third m = record {
   what = o.what;
-  owe = m.owe;
+  owe = m.owe.owe;
   epoch = boot;
   number = c.number;
   third = third;
-  first = out.tries 1 (omega arith) (omega arith);
-  second = out.tries 2 (omega arith) le;
+  first = m.owe.tries 1 (omega arith) (omega arith);
+  second = m.owe.tries 2 (omega arith) le;
   user = [];
   call = breaks_call c.breaks;
   called = out.sent;
   carries = m.carries;
 }
 
-quits_by_good : (t : Bool) (s : Script) (n : Node) (boot last : ℕ) (c : BackCall) (o : Owed) (past : List Entry) (own : List Line) (xs : List Owed) → CallOut n c last boot past → 2 ≤ c.tries → HasTimeout the_server n boot c.number 3 own → MayQuit n past boot c.number (breaks_call c.breaks) o
+quits_by_good : (t : Bool) (s : Script) (n : Node) (boot last : ℕ) (c : BackCall) (o : Owed) (past : List Entry) (own : List Line) (xs : List Owed) → CallOut n c last boot past → 2 ≤ c.tries → HasTimeout the_server n boot c.number 3 own → MayQuit n past boot c.number c.tries (breaks_call c.breaks) o
     → ((own : List Line) → HasTimeout the_server n boot c.number 3 own → AreGood s (actors.Node the_server) past own (map (quit_line the_server n) xs)) → AreGood s (actors.Node the_server) past own (map (quit_line the_server n) (cond t (o ∷ xs) xs))
 quits_by_good true s n boot last c o past own xs out le third m w = ((refl, quit_good n boot c o past own last out le third m), w (quit_line the_server n o ∷ own) third)
 quits_by_good false s n boot last c o past own xs out le third m w = w own third
 
-quits_all : (s : Script) (n : Node) (boot last : ℕ) (c : BackCall) (past : List Entry) (os owed : List Owed) (own : List Line) → CallOut n c last boot past → 2 ≤ c.tries → HasTimeout the_server n boot c.number 3 own → AllOf (MayQuit n past boot c.number (breaks_call c.breaks)) os → AreGood s (actors.Node the_server) past own (map (quit_line the_server n) (filter (λ (o : Owed). has_break o.number owed) os))
+quits_all : (s : Script) (n : Node) (boot last : ℕ) (c : BackCall) (past : List Entry) (os owed : List Owed) (own : List Line) → CallOut n c last boot past → 2 ≤ c.tries → HasTimeout the_server n boot c.number 3 own → AllOf (MayQuit n past boot c.number c.tries (breaks_call c.breaks)) os → AreGood s (actors.Node the_server) past own (map (quit_line the_server n) (filter (λ (o : Owed). has_break o.number owed) os))
 quits_all s n boot last c past [] owed own out le third h = tt
 quits_all s n boot last c past (o ∷ os) owed own out le third h = quits_by_good (has_break o.number owed) s n boot last c o past own (filter (λ (x : Owed). has_break x.number owed) os) out le third h.0 (λ x y. quits_all s n boot last c past os owed x out le y h.1)
 
 pub quits_good : (s : Script) (n : Node) (boot last : ℕ) (c : BackCall) (b : Backs) (past : List Entry) → CallOut n c last boot past → nat_lt c.tries 2 ≡ false → AreGood s (actors.Node the_server) past (lines.Timeout the_server n boot c.number 3 ∷ []) (map (quit_line the_server n) (still_owed c b))
 quits_good s n boot last c b past out e = quits_all s n boot last c past c.breaks b.lists.owed _ out (ltb-false _ _ e) (inl (refl, (refl, (refl, (refl, refl)))))
-    (two_all (IsOwed n (lines_of past)) (λ (o : Owed). CarriesBreak (breaks_call c.breaks) o.what) (MayQuit n past boot c.number (breaks_call c.breaks)) (λ o x y. record { owe = x; carries = y }) c.breaks out.owes out.carries)
+    (two_all (CarriedOwe n c.number c.tries boot (lines_of past)) (λ (o : Owed). CarriesBreak (breaks_call c.breaks) o.what) (MayQuit n past boot c.number c.tries (breaks_call c.breaks)) (λ o x y. record { owe = x; carries = y }) c.breaks out.owes out.carries)
 
 pub settles_backed : (b : Backs) (boot : ℕ) (seats : List Seat) (cs : ℕ → Option Seat) (clock : ℕ) (sent : List Message) (e : Entry) (past : List Entry) (n : Node) (p : ℕ) (c : BackCall) → b.calls n ≡ Some c → e.lines ≡ lines.Given p ∷ map (settle_line the_server n) (still_owed c b) → BackedIn None b boot seats cs clock sent past → BackedIn None (loaded (settles the_server n c b)) boot seats cs clock sent (e ∷ past)
 settles_backed b boot seats cs clock sent e past n p c at is h =
@@ -335,11 +337,13 @@ tried n boot last c e past is h =
     record {
       number = k.number;
       client = k.client;
-      owes = k.owes;
-      tries = λ t a b. elim (eq-or-lt_of_le b) [
-        | inl q ↦ subst (λ (ls : List Line). HasTimeout the_server n boot c.number t (onto (lines_of past) ls)) (sym is) (inl (refl, (refl, (refl, (refl, sym q)))))
-        | inr l ↦ k.tries t a (omega arith)
-      ];
+      owes = all_map (CarriedOwe n c.number c.tries boot (lines_of past)) (CarriedOwe n c.number (c.tries + 1) boot (lines_of (e ∷ past))) (λ o x. record {
+        owe = owe_over n o.what o.number e past up x.owe;
+        tries = λ t a b. elim (eq-or-lt_of_le b) [
+          | inl q ↦ subst (λ (ls : List Line). HasTimeout the_server n boot c.number t (onto x.owe.newer ls)) (sym is) (inl (refl, (refl, (refl, (refl, sym q)))))
+          | inr l ↦ timeout_onto the_server n boot c.number t e.lines x.owe.newer (x.tries t a (omega arith))
+        ];
+      }) c.breaks h.owes;
       sent = k.sent;
       carries = k.carries;
     }
@@ -649,6 +653,28 @@ pub hits_other : (n : Node) (vs : List Version) (ps : List Promise) → AllOf (I
 hits_other n [] ps = tt
 hits_other n (v ∷ vs) ps = all_both (IsOfOther n) (filter (is_hit n v.fid) ps) (hits n vs (filter (λ p. not (is_hit n v.fid p)) ps)) (hit_other n v.fid ps) (hits_other n vs (filter (λ p. not (is_hit n v.fid p)) ps))
 
+that_one : (P : Promise → Type 0) (t : Bool) (p : Promise) (ps : List Promise) → (t ≡ true → P p) → AllOf P ps → AllOf P (cond t (p ∷ ps) ps)
+that_one P true p ps w h = (w refl, h)
+that_one P false p ps w h = h
+
+-- and on what changed
+abbrev pub IsHit : Node → List Version → Promise → Type 0
+IsHit n vs p = (touches p.fid vs ≡ true) × IsOfOther n p
+
+hit_here : (n : Node) (v : Version) (vs : List Version) (ps : List Promise) → AllOf (IsHit n (v ∷ vs)) (filter (is_hit n v.fid) ps)
+hit_here n v vs [] = tt
+hit_here n v vs (p ∷ ps) = that_one (IsHit n (v ∷ vs)) (is_hit n v.fid p) p (filter (is_hit n v.fid) ps)
+    (λ t. (let e : p.fid ≡ v.fid = same_fid-true p.fid v.fid (both (same_fid p.fid v.fid) (not (same_node p.client n)) t).0 in rw (ap (λ (f : Fid). same_fid v.fid f) e ∙ same_fid-refl v.fid) refl, other_by (same_fid p.fid v.fid) (same_node p.client n) n p refl t)) (hit_here n v vs ps)
+
+touched_more : (t : Bool) (u : Bool) → u ≡ true → cond t true u ≡ true
+touched_more true u e = refl
+touched_more false u e = e
+
+pub hits_hit : (n : Node) (vs : List Version) (ps : List Promise) → AllOf (IsHit n vs) (hits n vs ps)
+hits_hit n [] ps = tt
+hits_hit n (v ∷ vs) ps = all_both (IsHit n (v ∷ vs)) (filter (is_hit n v.fid) ps) (hits n vs (filter (λ p. not (is_hit n v.fid p)) ps)) (hit_here n v vs ps)
+    (all_map (IsHit n vs) (IsHit n (v ∷ vs)) (λ p x. (touched_more (same_fid v.fid p.fid) (touches p.fid vs) x.0, x.1)) (hits n vs (filter (λ p. not (is_hit n v.fid p)) ps)) (hits_hit n vs (filter (λ p. not (is_hit n v.fid p)) ps)))
+
 pub record NewOwe (n : Node) (ls : List Line) (o : Owed) : Type 0 where
   pub other : o.client ≡ n → ⊥
   pub fid : Fid
@@ -914,9 +940,9 @@ change_loaded who b ps more boot seats now cs clock sent e past pre os hd m h gr
     (λ j seat k x y. seated_over None None b after boot clock clock e past s j k (h.seated j seat k x y)))
 
 -- numbers of new breaks
-pub numbers_good : (s : Script) (k : ℕ) (ps : List Promise) (past : List Entry) (own : List Line) → last_number the_server (own ++ lines_of past) ≤ k → AreGood s (actors.Node the_server) past own (map (owe_line the_server) (owes_from k ps))
-numbers_good s k [] past own h = tt
-numbers_good s k (p ∷ ps) past own h = ((refl, omega arith), numbers_good s (k + 1) ps past (lines.Owe the_server p.client (Some p.fid) (k + 1) ∷ own) (le_refl _))
+pub numbers_good : (s : Script) (k : ℕ) (ps : List Promise) (past : List Entry) (own : List Line) → last_number the_server (own ++ lines_of past) ≤ k → AllOf (λ (p : Promise). IsWithdrawn the_server p.client p.fid own) ps → AreGood s (actors.Node the_server) past own (map (owe_line the_server) (owes_from k ps))
+numbers_good s k [] past own h w = tt
+numbers_good s k (p ∷ ps) past own h w = ((refl, (omega arith, w.0)), numbers_good s (k + 1) ps past (lines.Owe the_server p.client (Some p.fid) (k + 1) ∷ own) (le_refl _) w.1)
 
 pub numbers_rise : (k : ℕ) (ps : List Promise) (base : List Line) → last_number the_server base ≤ k → last_number the_server (onto base (map (owe_line the_server) (owes_from k ps))) ≤ k + length (owes_from k ps)
 numbers_rise k [] base h = omega arith
@@ -930,9 +956,9 @@ alls_rising : (x k m : ℕ) (base : List Line) → last_number the_server base �
 alls_rising x k zero base le h = h
 alls_rising x k (suc m) base le h = alls_rising x (k + 1) m (lines.Owe the_server (Client (k + 1)) None (k + 1) ∷ base) (le_refl _) (λ e. omega arith, h)
 
-pub alls_good : (s : Script) (x k m : ℕ) (past : List Entry) (own : List Line) → last_number the_server (own ++ lines_of past) ≤ k → AreGood s (actors.Node the_server) past own (map (owe_line the_server) (owes_all x k m))
-alls_good s x k zero past own h = tt
-alls_good s x k (suc m) past own h = ((refl, omega arith), alls_good s x (k + 1) m past (lines.Owe the_server (Client (k + 1)) None (k + 1) ∷ own) (le_refl _))
+pub alls_good : (s : Script) (x k m : ℕ) (past : List Entry) (own : List Line) → last_number the_server (own ++ lines_of past) ≤ k → HasRisen the_server own → AreGood s (actors.Node the_server) past own (map (owe_line the_server) (owes_all x k m))
+alls_good s x k zero past own h w = tt
+alls_good s x k (suc m) past own h w = ((refl, (omega arith, w)), alls_good s x (k + 1) m past (lines.Owe the_server (Client (k + 1)) None (k + 1) ∷ own) (le_refl _) w)
 
 pub alls_rise : (x k m : ℕ) (base : List Line) → last_number the_server base ≤ k → last_number the_server (onto base (map (owe_line the_server) (owes_all x k m))) ≤ k + m
 alls_rise x k zero base h = omega arith

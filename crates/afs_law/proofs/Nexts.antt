@@ -200,6 +200,19 @@ rights_asked (answers code) g later h is = absurd cc
 pub rights_done : (a : Going) (g : Fid) (text : List ℕ) → call_for (next a) ≡ calls.FetchAcl g → next (with_read g (seen.AccessList text) a) ≡ answers 0
 rights_done a g text is = rights_asked (next a) g (next (with_read g (seen.AccessList text) a)) (act_ends g text a.homes a.act a.reads) is
 
+need_of_rights : (need : Need) (g : Fid) (later : Need) → Ends g need later → call_for need ≡ calls.FetchAcl g → need ≡ reads_rights g
+need_of_rights (reads f) g later h is = absurd cc
+need_of_rights (reads_status f) g later h is = absurd cc
+need_of_rights (reads_statuses fs) g later h is = absurd cc
+need_of_rights (reads_rights f) g later h is = ap reads_rights (fid_asked f g is)
+need_of_rights (asks_for call) g later h is = absurd (h (ap volume_changed is))
+need_of_rights gives_back g later h is = absurd cc
+need_of_rights (answers code) g later h is = absurd cc
+
+-- an act that asks for rights needs them
+pub rights_need : (a : Going) (g : Fid) → call_for (next a) ≡ calls.FetchAcl g → next a ≡ reads_rights g
+rights_need a g is = need_of_rights (next a) g (next (with_read g (seen.AccessList []) a)) (act_ends g [] a.homes a.act a.reads) is
+
 -- ---- the call that an act waits for is what it asks, but for the promises that are given back
 
 pub as_is : (call k : FsCall) → as_asked call ≡ k → (volume_changed call ≡ None) ⊎ (call ≡ k)
@@ -211,7 +224,7 @@ pub served_as : (call : FsCall) (id : ℕ) → volume_called call ≡ Some id �
 served_as (calls.GiveUpCallBacks fids callbacks) id e = absurd cc
 served_as call id e = refl
 
-as_changed : (call : FsCall) → volume_changed (as_asked call) ≡ volume_changed call
+pub as_changed : (call : FsCall) → volume_changed (as_asked call) ≡ volume_changed call
 as_changed (calls.GiveUpCallBacks fids callbacks) = refl
 as_changed call = refl
 
@@ -224,7 +237,7 @@ changing_as (calls.GiveUpCallBacks fids callbacks) w = absurd (w refl)
 changing_as call w = refl
 
 -- what asks for a call asks for a change
-asks_change : (a : Going) (call : FsCall) → next a ≡ asks_for call → volume_changed call ≡ None → ⊥
+pub asks_change : (a : Going) (call : FsCall) → next a ≡ asks_for call → volume_changed call ≡ None → ⊥
 asks_change a call e = subst (λ (n : Need). Ends (root_of 0) n (next (with_read (root_of 0) (seen.AccessList []) a))) e (act_ends (root_of 0) [] a.homes a.act a.reads)
 
 by_need : (gifts : List Gift) (need : Need) → ((call : FsCall) → need ≡ asks_for call → volume_changed call ≡ None → ⊥) → as_asked (call_by gifts need) ≡ call_for need

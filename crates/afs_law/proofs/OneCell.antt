@@ -7,7 +7,7 @@ use Rattle.afs_history.specs.declared.lines.Line.{Line}
 use Rattle.afs_rows.specs.ServerRow.{Begun, decides, device_calls}
 use Rattle.afs_rows.specs.States.{ServerState, BackCall}
 use Rattle.afs_rows.specs.Steps.{Step}
-use Rattle.std.specs.Prelude.{◌≡◌, ℕ, ◌+◌, List, [], ◌∷◌, ◌++◌, Bool, true, false, cond, nat_eq, Option, Some, None}
+use Rattle.std.specs.Prelude.{not, ◌||◌, zero, suc, ◌≡◌, ℕ, ◌+◌, List, [], ◌∷◌, ◌++◌, Bool, true, false, cond, nat_eq, Option, Some, None}
 use Rattle.afs_num.specs.declared.types.Node.{Node}
 use Rattle.afs_num.specs.declared.types.Node.TheVariants.{Loc, Server, Client, Admin}
 use Rattle.afs_num.specs.declared.messages.Message.{Message}
@@ -16,7 +16,7 @@ use Rattle.afs_num.specs.declared.scripts.Script.{Script}
 use Rattle.afs_rows.specs.ServerSteps.{server_row, back_timeout_row, wake_row, start_row}
 use Rattle.afs_history.specs.declared.lines.Line.TheVariants as lines
 use Rattle.afs_num.specs.declared.histories.Actor.TheVariants as actors
-use Rattle.afs_rows.specs.Runs.{Armed, Blow, Entry, Fall, Luck, Outcome, at_rest, comes_up, fails_early, fails_midway, first_client, first_server, first_volumes, in_boot, in_step, is_full, lowered, message_at, settled, struck, unarmed}
+use Rattle.afs_rows.specs.Runs.{has_client, Armed, Blow, Entry, Fall, Luck, Outcome, at_rest, comes_up, fails_early, fails_midway, first_client, first_server, first_volumes, in_boot, in_step, is_full, lowered, message_at, settled, struck, unarmed}
 
 -- The cell of one server, what it is given, and its runs: what the runs of a script are where its cell has one server. The walk
 -- of the law is over these.
@@ -97,10 +97,14 @@ abbrev pub server_given : Cell → ℕ → Luck → Message → Option Fall → 
 server_given c place luck m (Some fall) = voided c
 server_given c place luck m None = server_served c place m (struck c.armed luck (device_calls (decides the_server c.server c.clock (Whole m))))
 
+-- no client of this number is up: the cell has none, or it stopped
+abbrev pub is_away : Cell → ℕ → Bool
+is_away c n = not (has_client c.count n) || c.away n
+
 -- a message is given to the node that its header names
 abbrev pub given_to : Cell → ℕ → Luck → Message → Node → Moved
 given_to c place luck m (Server n) = cond (nat_eq n 1) (server_given c place luck m c.down) (voided c)
-given_to c place luck m (Client n) = cond (c.away n) (voided c) (client_moves c n (client_row (Client n) (c.clients n) c.clock place (Whole m)))
+given_to c place luck m (Client n) = cond (is_away c n) (voided c) (client_moves c n (client_row (Client n) (c.clients n) c.clock place (Whole m)))
 given_to c place luck m Loc = voided c
 given_to c place luck m (Admin n) = voided c
 
@@ -177,11 +181,12 @@ server_wakes c None = server_moves c c.armed (wake_row the_server c.server c.clo
 server_wakes c (Some fall) = voided c
 
 unfoldable pub moved : Cell → Input → Moved
-moved c (begins n act) = cond (c.away n) (voided c) (begun_by c n act (c.clients n).running)
+moved c (begins n act) = cond (is_away c n) (voided c) (begun_by c n act (c.clients n).running)
 moved c (gives place luck) = given_at c place luck (message_at c.sent place)
-moved c (waits n) = cond (c.away n) (voided c) (waited_by c n (c.clients n).running)
-moved c (ticks n) = ticked c n
-moved c (client_stops n) = cond (c.away n) (voided c) (client_falls c n)
+moved c (waits n) = cond (is_away c n) (voided c) (waited_by c n (c.clients n).running)
+moved c (ticks zero) = voided c
+moved c (ticks (suc n)) = ticked c (suc n)
+moved c (client_stops n) = cond (is_away c n) (voided c) (client_falls c n)
 moved c (client_starts n) = cond (c.away n) (client_rises c n) (voided c)
 moved c stops = server_stopped c c.down
 moved c (starts_again after o) = server_restarted c after o c.down

@@ -307,6 +307,24 @@ storing id caller (calls.StoreStatus g st) f v es n is e =
     subst (λ (x : Fid). Storing x (amend_of (calls.StoreStatus g st)) v es n) same (storing_by id caller (calls.StoreStatus g st) g v es n (first_failing (tests caller (calls.StoreStatus g st) v)) (λ ok. (all_hold (tests caller (calls.StoreStatus g st) v) ok).0) e)
 storing id caller call f v es n is e = absurd cc
 
+directory_by : (k : Kind) → is_kind k a_directory ≡ true → k ≡ a_directory
+directory_by a_file e = absurd cc
+directory_by a_directory e = refl
+directory_by a_link e = absurd cc
+
+directory_at : (o : Option Vnode) (x : Vnode) → kind_is a_directory o ≡ true → o ≡ Some x → x.kind ≡ a_directory
+directory_at None x kind e = absurd cc
+directory_at (Some y) x kind e = directory_by x.kind (ap (λ (p : Option Vnode). kind_is a_directory p) (sym e) ∙ kind)
+
+tested_reads : (o : Option ℕ) (r : Result) (shown : Shown) → by_tests o r ≡ reads shown → o ≡ None
+tested_reads (Some n) r shown e = absurd cc
+tested_reads None r shown e = refl
+
+-- rights are read of directories
+pub rights_of_directory : (id : ℕ) (caller : Caller) (g : Fid) (v : Volume) (shown : Shown) (x : Vnode) → op id caller (calls.FetchAcl g) v ≡ reads shown → vnode_of g v ≡ Some x → x.kind ≡ a_directory
+rights_of_directory id caller g v shown x e at =
+    directory_at (vnode_of g v) x (all_hold (tests caller (calls.FetchAcl g) v) (tested_reads (first_failing (tests caller (calls.FetchAcl g) v)) (limited id v (effect caller (calls.FetchAcl g) v)) shown e)).1.0 at
+
 kept_by : (f : Fid) (v : Volume) (x : Vnode) (o : Option Vnode) → get f.vnode v.vnodes ≡ o → kind_is a_file (if_unique f.unique o) ≡ true → o ≡ Some x → x.kind ≡ a_file
 kept_by f v x None at kind e = absurd cc
 kept_by f v x (Some y) at kind e = let same : y ≡ x = cc in subst (λ (z : Vnode). z.kind ≡ a_file) same (kept_kind (nat_eq y.unique f.unique) y kind)

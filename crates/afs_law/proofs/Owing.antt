@@ -94,6 +94,11 @@ pub record HeldWaits (seats : List Seat) (clock : ℕ) (past : List Entry) (h : 
 abbrev pub IsOwed : Node → List Line → Owed → Type 0
 IsOwed j ls o = OweAt the_server j o.what o.number ls
 
+-- and each timeout of the call that carries it was told since
+pub record CarriedOwe (j : Node) (number most boot : ℕ) (ls : List Line) (o : Owed) : Type 0 where
+  pub owe : IsOwed j ls o
+  pub tries : (t : ℕ) → 1 ≤ t → t ≤ most → HasTimeout the_server j boot number t owe.newer
+
 abbrev pub IsClient : Node → Type 0
 IsClient (Client n) = ⊤
 IsClient n = ⊥
@@ -102,8 +107,7 @@ IsClient n = ⊥
 pub record CallOut (j : Node) (c : BackCall) (last boot : ℕ) (past : List Entry) : Type 0 where
   pub number : c.number ≤ last
   pub client : IsClient j
-  pub owes : AllOf (IsOwed j (lines_of past)) c.breaks
-  pub tries : (t : ℕ) → 1 ≤ t → t ≤ c.tries → HasTimeout the_server j boot c.number t (lines_of past)
+  pub owes : AllOf (CarriedOwe j c.number c.tries boot (lines_of past)) c.breaks
   pub sent : WasSent (record { node = the_server; epoch = boot; number = c.number }) [] (breaks_call c.breaks) past
   pub carries : AllOf (λ (o : Owed). CarriesBreak (breaks_call c.breaks) o.what) c.breaks
 

@@ -1,8 +1,11 @@
-use Rattle.afs_law.proofs.Nexts.{as_is, asks_is}
-use Rattle.afs_law.proofs.Facts.{AreFetched, FitsBulk, its_call}
+use Rattle.afs_law.specs.Breaks.{HasTimeout}
+use Rattle.afs_history.specs.declared.lines.Line.TheVariants as lines
+use Rattle.afs_num.specs.declared.histories.Actor.TheVariants as actors
+use Rattle.afs_law.proofs.Nexts.{asks_change, as_is, asks_is}
+use Rattle.afs_law.proofs.Facts.{fids_of_gifts, Tried, AreFetched, FitsBulk, its_call}
 use Rattle.afs_num.specs.declared.histories.ReadStatus.{ReadStatus}
 use Rattle.afs_num.specs.declared.scripts.Script.{Script}
-use Rattle.std.proofs.Common.{◌≡◌, ℕ, ◌≤◌, inl, inr, Bool, true, false, cond, List, [], ◌∷◌, ◌++◌, Option, Some, None, ℤ, refl, sym, ap, ◌∙◌, subst, arith, le_of_eq, le_trans, eqb-true}
+use Rattle.std.proofs.Common.{zero, suc, ◌+◌, eq-eqb, nat_eq, ◌≡◌, ℕ, ◌≤◌, inl, inr, Bool, true, false, cond, List, [], ◌∷◌, ◌++◌, Option, Some, None, ℤ, refl, sym, ap, ◌∙◌, subst, arith, le_of_eq, le_trans, eqb-true}
 use Rattle.std.specs.Option.{option_map}
 use Rattle.afs_num.specs.declared.types.Fid.{Fid}
 use Rattle.afs_num.specs.declared.types.Head.{Head}
@@ -16,20 +19,20 @@ use Rattle.afs_ideal.specs.Operations.{volume_changed, Result, changes}
 use Rattle.afs_law.proofs.Basics.{Each, IfCall, IfReply, IfNotice, each_more, each_map, if_call, if_reply, if_notice, at_more, ByClient, OfClient, by_client, both, same_node-true, same_node-refl, client_number, OfCall}
 use Rattle.afs_law.proofs.Edits.{index_in}
 use Rattle.afs_law.proofs.Facts.{FitsList, IsWhole, IsOld, HasOld, FitsShown, IsKeptBody, Seen, IsActs, IsLastCall, View, Spot, spot, Reached, Held, IsNewest, Stands, IsCurrent, IsFetched, Fits, Answers, ReplyFact, AreKept, ClientFacts, CallIn, ReplyIn, Origin, HeldIn, ToClient, SentFacts, HasFallen, Reading, FitsReply, FitsData, FitsSet, WasChanged, WasStored, IsOne, IsNoticed}
-use Rattle.afs_rows.specs.ClientRow.{body_told, find_cached, status_told}
-use Rattle.afs_rows.specs.Going.{asked, Going}
+use Rattle.afs_rows.specs.ClientRow.{batch, batch_to, most_given, call_by, body_told, find_cached, status_told}
+use Rattle.afs_rows.specs.Going.{Need, next, reads, reads_status, reads_statuses, reads_rights, asks_for, gives_back, answers, ClientState, asked, Going}
 use Rattle.afs_law.specs.Grants.{has_fetched, fetch_reply, GrantOf, since, IsWithdrawn, IsDropped}
 use Rattle.afs_law.specs.Ideal.{WasBefore, IsLast, WasLast, Unless, last_version, HasVersion, reach, change_in, call_in, call_under}
-use Rattle.afs_law.specs.Legal.{IsResult, IsKey, HasChange, Cause, answer_at, IsTold, as_asked}
+use Rattle.afs_law.specs.Legal.{AreDropped, HasDropped, GoodGift, IsResult, IsKey, HasChange, Cause, answer_at, IsTold, as_asked}
 use Rattle.afs_history.specs.declared.lines.Line.{Line}
 use Rattle.afs_law.specs.Past.{begins_act, onto, lines_of, sent_of, given_message, running, has_begun, Ran, called_key, same_key, is_called, has_sent, is_sent_since, answered_key}
 use Rattle.afs_rows.specs.Runs.{Entry, Fall, at_rest, in_step, in_boot}
 use Rattle.afs_law.proofs.OneCell.{the_server}
-use Rattle.afs_rows.specs.States.{CacheEntry, Seat, Lasting}
+use Rattle.afs_rows.specs.States.{Gift, CacheEntry, Seat, Lasting}
 use Rattle.afs_num.specs.declared.histories.Body.{Body}
 use Rattle.afs_num.specs.declared.histories.Version.{Version}
 use Rattle.std.proofs.Math.Nat.{le_refl}
-use Rattle.std.specs.Prelude.{⊤, ◌⊎◌}
+use Rattle.std.specs.Prelude.{drop, ⊤, ◌⊎◌}
 use Rattle.afs_num.specs.Nodes.{same_node}
 use Rattle.afs_num.specs.declared.calls.FsReply.{FsReply}
 use Rattle.afs_num.specs.declared.calls.AfsFetchStatus.{AfsFetchStatus}
@@ -90,6 +93,7 @@ ran_over reply e past h = record {
 abbrev pub grant_over : (c : Node) (f : Fid) (x : ℕ) (m : Message) (e : Entry) (past : List Entry) → GrantOf c f x m past → GrantOf c f x m (e ∷ past)
 grant_over c f x m e past h = record {
   is_reply = h.is_reply;
+  told = h.told;
   to = h.to;
   ran = ran_over m.head e past h.ran;
   server = h.server;
@@ -116,6 +120,7 @@ held_over j f i t b x m e past p h = record {
   base = h.base;
   split = ap (λ (o : List Line). onto o e.lines) h.split ∙ onto_front (since (Client j) f x m past h.grant) h.base e.lines;
   begun = h.begun;
+  least = h.least;
 }
 
 -- a change stays told
@@ -142,21 +147,22 @@ pub told_behind : (k : Key) (r : Option Result) (ls o : List Line) → IsTold k 
 told_behind k (Some (changes es n)) ls o h = change_behind k ls o h
 told_behind k r ls o h = tt
 
-pub result_by : (code : ℤ) (r : Option Result) (k : Key) (ran ls newer : List Line) → (IsTold k r ls → IsTold k r newer) → IsResult code r k ran ls → IsResult code r k ran newer
-result_by code r k ran ls newer w (inl x) = inl (x.0, w x.1)
-result_by code r k ran ls newer w (inr x) = inr x
+pub result_by : (server : Node) (code : ℤ) (r : Option Result) (k : Key) (ran ls newer : List Line) → (IsTold k r ls → IsTold k r newer) → IsResult server code r k ran ls → IsResult server code r k ran newer
+result_by server code r k ran ls newer w (inl x) = inl (x.0, w x.1)
+result_by server code r k ran ls newer w (inr x) = inr x
 
 abbrev pub cause_over : (m : Message) (code : ℤ) (call : FsCall) (e : Entry) (past : List Entry) → Cause m code call past [] → Cause m code call (e ∷ past) []
 cause_over m code call e past h = record {
   is_reply = h.is_reply;
   told = h.told;
   ran = ran_over m.head e past h.ran;
+  up = h.up;
   user = h.user;
   call = h.call;
   carries = h.carries;
   own_user = h.own_user;
   asks = h.asks;
-  result = result_by code (answer_at h.user h.call h.ran.older) (answered_key m.head) h.ran.at.lines (lines_of past) (lines_of (e ∷ past)) (told_onto (answered_key m.head) (answer_at h.user h.call h.ran.older) e.lines (lines_of past)) h.result;
+  result = result_by m.head.from code (answer_at h.user h.call h.ran.older) (answered_key m.head) h.ran.at.lines (lines_of past) (lines_of (e ∷ past)) (told_onto (answered_key m.head) (answer_at h.user h.call h.ran.older) e.lines (lines_of past)) h.result;
 }
 
 -- and behind an entry's own lines
@@ -165,12 +171,13 @@ cause_behind m code call past own h = record {
   is_reply = h.is_reply;
   told = h.told;
   ran = h.ran;
+  up = h.up;
   user = h.user;
   call = h.call;
   carries = h.carries;
   own_user = h.own_user;
   asks = h.asks;
-  result = result_by code (answer_at h.user h.call h.ran.older) (answered_key m.head) h.ran.at.lines (lines_of past) (own ++ lines_of past) (told_behind (answered_key m.head) (answer_at h.user h.call h.ran.older) own (lines_of past)) h.result;
+  result = result_by m.head.from code (answer_at h.user h.call h.ran.older) (answered_key m.head) h.ran.at.lines (lines_of past) (own ++ lines_of past) (told_behind (answered_key m.head) (answer_at h.user h.call h.ran.older) own (lines_of past)) h.result;
 }
 
 -- what was the newest is so still, or has its grant withdrawn
@@ -199,22 +206,23 @@ current_over j f u v w e past le p st h = record {
   state = st h.held.grant.server (since (Client j) f u.expiry h.reply past h.held.grant) h.held.server h.state;
 }
 
-stored_over : (j : ℕ) (f : Fid) (server : Node) (newer : List Line) (reply : Option Message) (e : Entry) (past : List Entry) → PassesSeen j f e past → StaysNewest j f e past → server ≡ the_server → WasStored j f server newer reply past → WasStored j f server (onto newer e.lines) reply (e ∷ past)
-stored_over j f server newer reply e past r n q h = record {
+stored_over : (j : ℕ) (f : Fid) (old : ℕ) (server : Node) (newer : List Line) (reply : Option Message) (e : Entry) (past : List Entry) → PassesSeen j f e past → StaysNewest j f e past → server ≡ the_server → WasStored j f old server newer reply past → WasStored j f old server (onto newer e.lines) reply (e ∷ past)
+stored_over j f old server newer reply e past r n q h = record {
   index = h.index;
   reply = h.reply;
   kept = h.kept;
   told = h.told;
+  above = h.above;
   reached = r h.index h.reached;
   newest = n server h.index newer q h.newest;
 }
 
-was_over : (j : ℕ) (f : Fid) (server : Node) (newer : List Line) (reply : Option Message) (e : Entry) (past : List Entry) (call : FsCall) → PassesSeen j f e past → StaysNewest j f e past → server ≡ the_server
-    → WasChanged j f server newer reply past call → WasChanged j f server (onto newer e.lines) reply (e ∷ past) call
-was_over j f server newer reply e past (calls.StoreData g status position wanted file_length contents) r n q h = stored_over j f server newer reply e past r n q h
-was_over j f server newer reply e past (calls.StoreAcl g acl) r n q h = stored_over j f server newer reply e past r n q h
-was_over j f server newer reply e past (calls.StoreStatus g status) r n q h = stored_over j f server newer reply e past r n q h
-was_over j f server newer reply e past call r n q h = tt
+was_over : (j : ℕ) (f : Fid) (old : ℕ) (server : Node) (newer : List Line) (reply : Option Message) (e : Entry) (past : List Entry) (call : FsCall) → PassesSeen j f e past → StaysNewest j f e past → server ≡ the_server
+    → WasChanged j f old server newer reply past call → WasChanged j f old server (onto newer e.lines) reply (e ∷ past) call
+was_over j f old server newer reply e past (calls.StoreData g status position wanted file_length contents) r n q h = stored_over j f old server newer reply e past r n q h
+was_over j f old server newer reply e past (calls.StoreAcl g acl) r n q h = stored_over j f old server newer reply e past r n q h
+was_over j f old server newer reply e past (calls.StoreStatus g status) r n q h = stored_over j f old server newer reply e past r n q h
+was_over j f old server newer reply e past call r n q h = tt
 
 -- where the view stays
 pub stands_over : (j : ℕ) (f : Fid) (i : ℕ) (v : View) (e : Entry) (past : List Entry) → PassesSeen j f e past → StaysNewest j f e past
@@ -226,12 +234,12 @@ stands_over j f i v e past r n server newer q (inr h) = inr (record {
   runs = h.runs;
   scope = h.scope;
   ran = h.ran;
-  changed = was_over j f server newer h.ran.seat.reply e past (asked h.act) r n q h.changed;
+  changed = was_over j f i server newer h.ran.seat.reply e past (asked h.act) r n q h.changed;
 })
 
 old_by : (f : Fid) (i : ℕ) (b : Option Body) (ls more : List Line) → ((k : Body) → HasVersion f i k ls → HasVersion f i k more) → IsOld f i b ls → IsOld f i b more
 old_by f i None ls more w h = tt
-old_by f i (Some b) ls more w h = w b h
+old_by f i (Some b) ls more w h = (w b h.0, h.1)
 
 -- what is held of bodies stays so
 pub old_over : (cache : List CacheEntry) (ls more : List Line) → ((f : Fid) (i : ℕ) (k : Body) → HasVersion f i k ls → HasVersion f i k more) → HasOld cache ls → HasOld cache more
@@ -331,6 +339,73 @@ reply_over j v m e past p r n b h = record { behind = h.behind; booted = h.boote
 pub kept_over : (j : ℕ) (o : Option Seat) (v w : View) (past newer : List Entry) → ((m : Message) → ReplyFact j v past m → ReplyFact j w newer m) → AreKept j o v past → AreKept j o w newer
 kept_over j o v w past newer over h seat m x y = ((h seat m x y).0, over m (h seat m x y).1)
 
+-- ---- what a client dropped in its act
+
+dropped_by : (t rest : Bool) (X : Type 0) → cond t true rest ≡ false → (t ≡ false → rest ≡ false → X) → X
+dropped_by true rest X e w = absurd cc
+dropped_by false rest X e w = w refl e
+
+unless_same : (t : Bool) (X : Type 0) → t ≡ false → X → Unless t X
+unless_same true X e h = absurd cc
+unless_same false X e h = h
+
+dropped_on : (c : Node) (f : Fid) (l : Line) (o : List Line) → begins_act c l ≡ false → HasDropped c f o → HasDropped c f (l ∷ o)
+dropped_on c f (lines.Drop m g) o e h = inr h
+dropped_on c f (lines.Begin m act) o e h = unless_same (same_node m c) (HasDropped c f o) e h
+dropped_on c f l o e h = h
+
+pub dropped_onto : (c : Node) (f : Fid) (ls o : List Line) → has_begun c ls ≡ false → HasDropped c f o → HasDropped c f (onto o ls)
+dropped_onto c f [] o e h = h
+dropped_onto c f (l ∷ ls) o e h = dropped_by (begins_act c l) (has_begun c ls) (HasDropped c f (onto (l ∷ o) ls)) e (λ a b. dropped_onto c f ls (l ∷ o) b (dropped_on c f l o a h))
+
+pub all_dropped_onto : (c : Node) (fs : List Fid) (ls o : List Line) → has_begun c ls ≡ false → AreDropped c fs o → AreDropped c fs (onto o ls)
+all_dropped_onto c [] ls o e h = tt
+all_dropped_onto c (f ∷ fs) ls o e h = (dropped_onto c f ls o e h.0, all_dropped_onto c fs ls o e h.1)
+
+dropped_behind : (c : Node) (f : Fid) (a o : List Line) → has_begun c a ≡ false → HasDropped c f o → HasDropped c f (a ++ o)
+dropped_behind c f [] o e h = h
+dropped_behind c f (l ∷ a) o e h = dropped_by (begins_act c l) (has_begun c a) (HasDropped c f (l ∷ (a ++ o))) e (λ t b. dropped_on c f l (a ++ o) t (dropped_behind c f a o b h))
+
+all_dropped_behind : (c : Node) (fs : List Fid) (a o : List Line) → has_begun c a ≡ false → AreDropped c fs o → AreDropped c fs (a ++ o)
+all_dropped_behind c [] a o e h = tt
+all_dropped_behind c (f ∷ fs) a o e h = (dropped_behind c f a o e h.0, all_dropped_behind c fs a o e h.1)
+
+-- by the entry's own lines, the newest first
+pub all_dropped_own : (c : Node) (fs : List Fid) (ls o : List Line) → has_begun c (onto [] ls) ≡ false → AreDropped c fs o → AreDropped c fs (onto o ls)
+all_dropped_own c fs ls o e h = subst (AreDropped c fs) (sym (onto_front [] o ls)) (all_dropped_behind c fs (onto [] ls) o e h)
+
+pub dropped_rest : (c : Node) (k : ℕ) (gs : List Gift) (ls : List Line) → AreDropped c (fids_of_gifts gs) ls → AreDropped c (fids_of_gifts (drop k gs)) ls
+dropped_rest c zero gs ls h = h
+dropped_rest c (suc k) [] ls h = tt
+dropped_rest c (suc k) (g ∷ gs) ls h = dropped_rest c k gs ls h.1
+
+dropped_if : (t : Bool) (c : Node) (g : Gift) (rest : List Gift) (ls : List Line) → HasDropped c g.fid ls → AreDropped c (fids_of_gifts rest) ls → AreDropped c (fids_of_gifts (cond t (g ∷ rest) [])) ls
+dropped_if true c g rest ls h k = (h, k)
+dropped_if false c g rest ls h k = tt
+
+dropped_batch_to : (c : Node) (server : Node) (k : ℕ) (gs : List Gift) (ls : List Line) → AreDropped c (fids_of_gifts gs) ls → AreDropped c (fids_of_gifts (batch_to server k gs)) ls
+dropped_batch_to c server zero gs ls h = tt
+dropped_batch_to c server (suc k) [] ls h = tt
+dropped_batch_to c server (suc k) (g ∷ gs) ls h = dropped_if (same_node g.server server) c g (batch_to server k gs) ls h.0 (dropped_batch_to c server k gs ls h.1)
+
+dropped_batch : (c : Node) (gs : List Gift) (ls : List Line) → AreDropped c (fids_of_gifts gs) ls → AreDropped c (fids_of_gifts (batch gs)) ls
+dropped_batch c [] ls h = tt
+dropped_batch c (g ∷ gs) ls h = dropped_batch_to c g.server most_given (g ∷ gs) ls h
+
+-- a client's call gives back what it dropped
+gift_by : (need : Need) (gs : List Gift) (head : Head) (user : List ℕ) (ls : List Line) → ((call : FsCall) → need ≡ asks_for call → volume_changed call ≡ None → ⊥) → AreDropped head.from (fids_of_gifts gs) ls → GoodGift head (carried.Call user (ask.File (call_by gs need))) ls
+gift_by (reads f) gs head user ls w h = tt
+gift_by (reads_status f) gs head user ls w h = tt
+gift_by (reads_statuses fs) gs head user ls w h = tt
+gift_by (reads_rights f) gs head user ls w h = tt
+gift_by (asks_for (calls.GiveUpCallBacks fids callbacks)) gs head user ls w h = absurd (w (calls.GiveUpCallBacks fids callbacks) refl refl)
+gift_by (asks_for call) gs head user ls w h = tt
+gift_by gives_back gs head user ls w h = dropped_batch head.from gs ls h
+gift_by (answers code) gs head user ls w h = tt
+
+pub own_gift : (act : Going) (gs : List Gift) (head : Head) (user : List ℕ) (ls : List Line) → AreDropped head.from (fids_of_gifts gs) ls → GoodGift head (carried.Call user (ask.File (call_by gs (next act)))) ls
+own_gift act gs head user ls h = gift_by (next act) gs head user ls (asks_change act) h
+
 -- ---- a client that doesn't move
 
 pub reached_more : (c : Node) (f : Fid) (i k : ℕ) (past : List Entry) → i ≤ k → Reached c f i past → Reached c f k past
@@ -356,6 +431,8 @@ client_over {s} j v e past p r n q l h =
       old = old_over v.cache (lines_of past) (lines_of (e ∷ past)) (λ f i k x. (p f).grant.version i k (lines_of past) x) h.old;
       runs = λ act x. q.runs s (lines_of past) ∙ h.runs act x;
       asked = λ act x. inr (q.begins, h.asked act x);
+      none = h.none;
+      gave = λ act x. all_dropped_onto (Client j) (fids_of_gifts v.gifts) e.lines (lines_of past) q.begins (h.gave act x);
       reached = λ f. reached_more (Client j) f (index_in (last_version f (lines_of past))) (index_in (last_version f (lines_of (e ∷ past)))) (e ∷ past) (l f) ((r f).both (index_in (last_version f (lines_of past))) (h.reached f));
     }
 
@@ -495,8 +572,43 @@ more_sent {s} sent held after v w b d e past h le now k c over pass =
     }
 
 -- a step that was interrupted stays so
-pub fallen_over : (down : Option Fall) (server : Lasting) (sent ms : List Message) (e : Entry) (past : List Entry) → HasFallen down server sent past → HasFallen down server (sent ++ ms) (e ∷ past)
-fallen_over None server sent ms e past h = tt
-fallen_over (Some at_rest) server sent ms e past h = tt
-fallen_over (Some in_boot) server sent ms e past h = tt
-fallen_over (Some (in_step m clock)) server sent ms e past h = record { place = h.place; at = at_more sent ms h.place m h.at; ran = ran_over _ e past h.ran; is = h.is; ideal = h.ideal }
+pub fallen_over : (down : Option Fall) (server : Lasting) (sent ms : List Message) (e : Entry) (past : List Entry) → (e.actor ≡ actors.Node the_server → e.lines ≡ lines.Fault the_server ∷ []) → HasFallen down server sent past → HasFallen down server (sent ++ ms) (e ∷ past)
+fallen_over None server sent ms e past w h = tt
+fallen_over (Some at_rest) server sent ms e past w h = tt
+fallen_over (Some in_boot) server sent ms e past w h = tt
+fallen_over (Some (in_step m clock)) server sent ms e past w h = record { place = h.place; at = at_more sent ms h.place m h.at; ran = ran_over _ e past h.ran; is = h.is; up = h.up; stopped = h.stopped; since = (w, h.since); ideal = h.ideal }
+
+-- ---- the timeouts of a client's call
+
+timeout_on : (s c : Node) (e n k : ℕ) (l : Line) (o : List Line) → HasTimeout s c e n k o → HasTimeout s c e n k (l ∷ o)
+timeout_on s c e n k (lines.Timeout q d x m y) o h = inr h
+timeout_on s c e n k l o h = h
+
+pub timeout_onto : (s c : Node) (e n k : ℕ) (o ls : List Line) → HasTimeout s c e n k o → HasTimeout s c e n k (onto o ls)
+timeout_onto s c e n k o [] h = h
+timeout_onto s c e n k o (l ∷ ls) h = timeout_onto s c e n k (l ∷ o) ls (timeout_on s c e n k l o h)
+
+pub tried_more : (j : ℕ) (x : ClientState) (o ls : List Line) → Tried j x o → Tried j x (onto o ls)
+tried_more j x o ls t = record { told = λ act runs k a b. timeout_onto (Client j) the_server x.epoch x.last k o ls (t.told act runs k a b) }
+
+pub tried_kept : (j : ℕ) (x y : ClientState) (o ls : List Line) → y.running ≡ x.running → y.tries ≡ x.tries → y.epoch ≡ x.epoch → y.last ≡ x.last → Tried j x o → Tried j y (onto o ls)
+tried_kept j x y o ls a b d e t = record {
+  told = λ act runs k f g.
+      subst (λ (i : ℕ). HasTimeout (Client j) the_server i y.last k (onto o ls)) (sym d)
+      (subst (λ (i : ℕ). HasTimeout (Client j) the_server x.epoch i k (onto o ls)) (sym e)
+      (timeout_onto (Client j) the_server x.epoch x.last k o ls (t.told act (sym a ∙ runs) k f (subst (λ (i : ℕ). k ≤ i) b g))));
+}
+
+pub tried_idle : (j : ℕ) (x : ClientState) (ls : List Line) → x.running ≡ None → Tried j x ls
+tried_idle j x ls none = record { told = λ act runs k a b. let no_ : None ≡ Some act = sym none ∙ runs in absurd cc }
+
+pub tried_new : (j : ℕ) (x : ClientState) (ls : List Line) → x.tries ≡ 0 → Tried j x ls
+tried_new j x ls none = record { told = λ act runs k a b. let le : k ≤ x.tries = b in absurd (omega arith) }
+
+-- and one more
+once_by : (j : ℕ) (x : ClientState) (o : List Line) (q : Node) (k : ℕ) (t : Bool) (act : Going) → q ≡ the_server → Tried j x o → x.running ≡ Some act → 1 ≤ k → k ≤ x.tries + 1 → nat_eq k (x.tries + 1) ≡ t → HasTimeout (Client j) the_server x.epoch x.last k (lines.Timeout (Client j) q x.epoch x.last (x.tries + 1) ∷ o)
+once_by j x o q k true act is h runs a b t = inl (refl, (is, (refl, (refl, sym (eqb-true k (x.tries + 1) t)))))
+once_by j x o q k false act is h runs a b t = inr (h.told act runs k a (let ne : k ≡ x.tries + 1 → ⊥ = λ e. (let yes : nat_eq k (x.tries + 1) ≡ true = eq-eqb k (x.tries + 1) e in absurd cc) in omega arith))
+
+pub tried_once : (j : ℕ) (x : ClientState) (o : List Line) (q : Node) → q ≡ the_server → Tried j x o → Tried j (record x { tries = x.tries + 1 }) (lines.Timeout (Client j) q x.epoch x.last (x.tries + 1) ∷ o)
+tried_once j x o q is h = record { told = λ act runs k a b. once_by j x o q k (nat_eq k (x.tries + 1)) act is h runs a b refl }

@@ -12,14 +12,13 @@ use Rattle.afs_num.specs.declared.histories.Body.{Body}
 use Rattle.afs_num.specs.declared.histories.ReadSource.TheVariants.{Cached, Fetched}
 use Rattle.afs_law.proofs.Asking.{step_entry, Passes, other_client}
 use Rattle.afs_law.proofs.Backing.{all_lines, is_up, is_still, is_oweless, is_unchanging}
-use Rattle.afs_law.proofs.Facts.{server_boot}
 use Rattle.afs_law.proofs.Passing.{PassesGrant}
 use Rattle.afs_rows.specs.Going.{began, read_on}
 use Rattle.afs_law.specs.Grants.{is_promised, has_fetched, IsWithdrawn, IsDropped}
 use Rattle.afs_law.specs.Ideal.{last_version, HasVersion, Accepts, clock_of, Reach, raised, reach_over, reach, is_zero_code, change_key, changed_under, volume_after}
 use Rattle.afs_law.specs.Legal.{IsNew}
 use Rattle.afs_history.specs.declared.lines.Line.{Line}
-use Rattle.afs_law.specs.Past.{onto, sent_of, given_message, has_begun, running, IsCallUnder}
+use Rattle.afs_law.specs.Past.{server_boot, onto, sent_of, given_message, has_begun, running, IsCallUnder}
 use Rattle.afs_rows.specs.Runs.{locations, Entry}
 use Rattle.afs_law.proofs.OneCell.{the_server}
 use Rattle.afs_history.specs.declared.lines.Line.TheVariants as lines

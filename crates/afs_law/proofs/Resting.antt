@@ -11,16 +11,16 @@ use Rattle.afs_num.specs.declared.histories.Body.{Body}
 use Rattle.afs_law.proofs.Backing.{Plain, all_lines, is_up, is_still, is_oweless, is_unchanging, backed_plain, backed_fall, plain_step, seated_over}
 use Rattle.afs_law.proofs.Basics.{Each, IfCall, each_map, if_call}
 use Rattle.afs_law.proofs.Edits.{index_in, fid_at, sound_same}
-use Rattle.afs_law.proofs.Facts.{IsKnown, HoldsAt, server_boot, up_boot, IsLastCall, View, view, ClientFacts, IsSafe, CallIn, HasFallen, AreUnheard, Holds, Goes, back_seat}
+use Rattle.afs_law.proofs.Facts.{IsKnown, HoldsAt, up_boot, IsLastCall, View, view, ClientFacts, IsSafe, CallIn, HasFallen, AreUnheard, Holds, Goes, back_seat}
 use Rattle.afs_law.proofs.Owing.{BackedIn}
-use Rattle.afs_law.proofs.Passing.{waiting_over, PassesFile, PassesAct, PassesReach, client_still, replies_over, reply_over, stays, acts_over, fallen_over, older_origins}
+use Rattle.afs_law.proofs.Passing.{tried_more, waiting_over, PassesFile, PassesAct, PassesReach, client_still, replies_over, reply_over, stays, acts_over, fallen_over, older_origins}
 use Rattle.afs_law.specs.Breaks.{HasStopped}
 use Rattle.afs_rows.specs.Callbacks.{replies_of}
 use Rattle.afs_rows.specs.Going.{Going}
 use Rattle.afs_law.specs.Ideal.{last_version, HasVersion, Accepts, clock_of, volume_after}
 use Rattle.afs_law.specs.Legal.{IsNew}
 use Rattle.afs_history.specs.declared.lines.Line.{Line}
-use Rattle.afs_law.specs.Past.{onto, lines_of, sent_of, given_message, IsCallUnder}
+use Rattle.afs_law.specs.Past.{server_boot, onto, lines_of, sent_of, given_message, IsCallUnder}
 use Rattle.afs_rows.specs.Runs.{Entry, Armed, Fall}
 use Rattle.afs_law.proofs.OneCell.{Cell, voided, ticked, server_set, blow_line, the_server}
 use Rattle.afs_rows.specs.States.{CacheEntry}
@@ -73,6 +73,8 @@ later_client {s} n j v past h = record {
   old = h.old;
   runs = h.runs;
   asked = h.asked;
+  none = h.none;
+  gave = h.gave;
   reached = h.reached;
 }
 
@@ -96,6 +98,7 @@ rests s b c past e n d armed h boots none p clock heard fallen backs =
       floors = h.floors;
       count = h.count;
       own = h.own;
+      tried = λ j. tried_more j (c.clients j) (lines_of past) e.lines (h.tried j);
       servers = h.servers;
       ideal = λ id. h.ideal id ∙ sym (p.ideal id);
       fine = h.fine;
@@ -149,8 +152,11 @@ plain_refl l a b c d = record { up = rw a refl; still = rw b refl; oweless = rw 
 pub unheard_still : (d : Option Fall) (c : Cell) (e : Entry) (past : List Entry) → given_message e.lines (sent_of past) ≡ None → AreUnheard d c.server.seats c.server.lasting.boot past → AreUnheard d c.server.seats c.server.lasting.boot (e ∷ past)
 unheard_still d c e past none h k b may = (λ x. subst (λ (o : Option Message). IsCallUnder the_server k b o) none x, h k b may)
 
-pub fallen_still : (d : Option Fall) (c : Cell) (e : Entry) (past : List Entry) → HasFallen d c.server.lasting c.sent past → HasFallen d c.server.lasting c.sent (e ∷ past)
-fallen_still d c e past h = subst (λ (ms : List Message). HasFallen d c.server.lasting ms (e ∷ past)) (append-nil c.sent) (fallen_over d c.server.lasting c.sent [] e past h)
+pub fallen_still : (d : Option Fall) (c : Cell) (e : Entry) (past : List Entry) → (e.actor ≡ actors.Node the_server → e.lines ≡ lines.Fault the_server ∷ []) → HasFallen d c.server.lasting c.sent past → HasFallen d c.server.lasting c.sent (e ∷ past)
+fallen_still d c e past w h = subst (λ (ms : List Message). HasFallen d c.server.lasting ms (e ∷ past)) (append-nil c.sent) (fallen_over d c.server.lasting c.sent [] e past w h)
+
+fallen_up : (c : Cell) (past : List Entry) → c.down ≡ None → HasFallen c.down c.server.lasting c.sent past
+fallen_up c past up = subst (λ (d : Option Fall). HasFallen d c.server.lasting c.sent past) (sym up) tt
 
 abbrev pub alone : Actor → Line → Entry
 alone o l = record { actor = o; lines = l ∷ []; sent = []; volumes = [] }
@@ -286,7 +292,7 @@ still s b c past h = subst (λ (n : ℕ). HoldsAt s b (record c { clock = n }) p
 pub voids : (s : Script) (c : Cell) (past : List Entry) → Holds s c past → Goes s past (voided c)
 voids s c past h = record {
   good = (refl, tt);
-  holds = still s _ c _ (rests s (up_boot c.down c.server.lasting.boot) c past (alone actors.Nobody lines.Void) 0 c.down c.armed h h.boots refl (void_rests s past) (omega arith) (unheard_still c.down c (alone actors.Nobody lines.Void) past refl h.unheard) (fallen_still c.down c (alone actors.Nobody lines.Void) past h.down) (λ z. rest_backed s c past (alone actors.Nobody lines.Void) 0 (plain_refl lines.Void refl refl refl refl) h));
+  holds = still s _ c _ (rests s (up_boot c.down c.server.lasting.boot) c past (alone actors.Nobody lines.Void) 0 c.down c.armed h h.boots refl (void_rests s past) (omega arith) (unheard_still c.down c (alone actors.Nobody lines.Void) past refl h.unheard) (fallen_still c.down c (alone actors.Nobody lines.Void) past (λ z. absurd cc) h.down) (λ z. rest_backed s c past (alone actors.Nobody lines.Void) 0 (plain_refl lines.Void refl refl refl refl) h));
   replies = tt;
   volumes = refl;
 }
@@ -294,17 +300,17 @@ voids s c past h = record {
 pub ticks_goes : (s : Script) (c : Cell) (past : List Entry) (n : ℕ) → Holds s c past → Goes s past (ticked c n)
 ticks_goes s c past n h = record {
   good = (refl, tt);
-  holds = rests s (up_boot c.down c.server.lasting.boot) c past (alone actors.Clock (lines.Tick n)) n c.down c.armed h h.boots refl (tick_rests s n past) refl (unheard_still c.down c (alone actors.Clock (lines.Tick n)) past refl h.unheard) (fallen_still c.down c (alone actors.Clock (lines.Tick n)) past h.down) (λ z. rest_backed s c past (alone actors.Clock (lines.Tick n)) n (plain_refl (lines.Tick n) refl refl refl refl) h);
+  holds = rests s (up_boot c.down c.server.lasting.boot) c past (alone actors.Clock (lines.Tick n)) n c.down c.armed h h.boots refl (tick_rests s n past) refl (unheard_still c.down c (alone actors.Clock (lines.Tick n)) past refl h.unheard) (fallen_still c.down c (alone actors.Clock (lines.Tick n)) past (λ z. absurd cc) h.down) (λ z. rest_backed s c past (alone actors.Clock (lines.Tick n)) n (plain_refl (lines.Tick n) refl refl refl refl) h);
   replies = tt;
   volumes = refl;
 }
 
-pub stop_set : (s : Script) (c : Cell) (past : List Entry) (n pick : ℕ) (armed : Armed) → Holds s c past → Goes s past (server_set c (lines.Stop the_server n pick) armed)
-stop_set s c past n pick armed h =
+pub stop_set : (s : Script) (c : Cell) (past : List Entry) (n pick : ℕ) (armed : Armed) → Holds s c past → c.down ≡ None → Goes s past (server_set c (lines.Stop the_server n pick) armed)
+stop_set s c past n pick armed h up =
     let e : Entry = alone (actors.Node the_server) (lines.Stop the_server n pick) in
-    record { good = (refl, tt); holds = still s _ (record c { armed = armed }) _ (rests s (up_boot c.down c.server.lasting.boot) c past e 0 c.down armed h h.boots refl (stop_rests s (actors.Node the_server) the_server n pick past) (omega arith) (unheard_still c.down c e past refl h.unheard) (fallen_still c.down c e past h.down) (λ z. rest_backed s c past e 0 (plain_refl (lines.Stop the_server n pick) refl refl refl refl) h)); replies = tt; volumes = refl }
+    record { good = (refl, tt); holds = still s _ (record c { armed = armed }) _ (rests s (up_boot c.down c.server.lasting.boot) c past e 0 c.down armed h h.boots refl (stop_rests s (actors.Node the_server) the_server n pick past) (omega arith) (unheard_still c.down c e past refl h.unheard) (fallen_up c (e ∷ past) up) (λ z. rest_backed s c past e 0 (plain_refl (lines.Stop the_server n pick) refl refl refl refl) h)); replies = tt; volumes = refl }
 
-pub fail_set : (s : Script) (c : Cell) (past : List Entry) (n : ℕ) (armed : Armed) → Holds s c past → Goes s past (server_set c (lines.Fail the_server n) armed)
-fail_set s c past n armed h =
+pub fail_set : (s : Script) (c : Cell) (past : List Entry) (n : ℕ) (armed : Armed) → Holds s c past → c.down ≡ None → Goes s past (server_set c (lines.Fail the_server n) armed)
+fail_set s c past n armed h up =
     let e : Entry = alone (actors.Node the_server) (lines.Fail the_server n) in
-    record { good = (refl, tt); holds = still s _ (record c { armed = armed }) _ (rests s (up_boot c.down c.server.lasting.boot) c past e 0 c.down armed h h.boots refl (fail_rests s (actors.Node the_server) the_server n past) (omega arith) (unheard_still c.down c e past refl h.unheard) (fallen_still c.down c e past h.down) (λ z. rest_backed s c past e 0 (plain_refl (lines.Fail the_server n) refl refl refl refl) h)); replies = tt; volumes = refl }
+    record { good = (refl, tt); holds = still s _ (record c { armed = armed }) _ (rests s (up_boot c.down c.server.lasting.boot) c past e 0 c.down armed h h.boots refl (fail_rests s (actors.Node the_server) the_server n past) (omega arith) (unheard_still c.down c e past refl h.unheard) (fallen_up c (e ∷ past) up) (λ z. rest_backed s c past e 0 (plain_refl (lines.Fail the_server n) refl refl refl refl) h)); replies = tt; volumes = refl }

@@ -11,28 +11,28 @@ use Rattle.afs_ideal.specs.Tables.{Table, get, set}
 use Rattle.afs_ideal.specs.Told.{AreNext}
 use Rattle.afs_ideal.specs.Volumes.{or_old, with_status, Amend, Volume, Vnode, Kind, a_file, a_directory, a_link, body_by, body_of, version_at, Edit, versions_by, edited_all, counted, amended, vnode_of, if_unique}
 use Rattle.afs_law.proofs.Backing.{is_still_to, all_lines, is_up, is_still, is_oweless, is_unchanging, change_back, promised_given, rising_back}
-use Rattle.afs_law.proofs.Basics.{node_apart, Above, up_to_by, same_fid-true, same_node-true, client_number, below_not, up_to_same, raised_up_to, some_of, yes_no}
+use Rattle.afs_law.proofs.Basics.{Below, below-true, below-false, up_to_below, node_apart, Above, up_to_by, same_fid-true, same_node-true, client_number, below_not, up_to_same, raised_up_to, some_of, yes_no}
 use Rattle.afs_law.proofs.Edits.{agrees_of, last_of, ones, Ones, index_in, fid_at, Sound, SoundIn, sound_same, Tops, on_top, Grow, Told, edits_told, counted_sound, rises, tops, touches, untouched, touched_volume, not_touched, there, none_has, live, live_is}
-use Rattle.afs_law.proofs.Facts.{FitsList, Leaves, HeldIn, Ghost, HoldsAt, server_boot, up_boot, risen, LastStored, IsStored, IsUntrusted, view, Spot, spot, ReplyFact, HasFallen, Reached, Stands, IsCurrent, Fits, Answers, IsReply, AreUnheard, stored_index, Holds, Goes, FitsReply, FitsData, FitsSet, FitsPlain, WasChanged, AreIdeal, AreSound, WasStored, FitsShown}
+use Rattle.afs_law.proofs.Facts.{FitsList, Leaves, HeldIn, Ghost, HoldsAt, up_boot, LastStored, IsStored, IsUntrusted, view, Spot, spot, ReplyFact, HasFallen, Reached, Stands, IsCurrent, Fits, Answers, IsReply, AreUnheard, stored_index, Holds, Goes, FitsReply, FitsData, FitsSet, FitsPlain, WasChanged, AreIdeal, AreSound, WasStored, FitsShown}
 use Rattle.afs_law.proofs.Keeping.{volume_put, own_placed}
-use Rattle.afs_law.proofs.Loading.{hits_other, granted_all, onto_granted, left_granted, all_hits, change_loaded, owes_unchanging, all_new, number_front, number_second, left_promised, has_owe, touched_hit, numbers_good, numbers_rise, granted_to_client, owes_to_clients, owes_rising, all_left}
+use Rattle.afs_law.proofs.Loading.{no_change, hits_hit, IsHit, hits_other, granted_all, onto_granted, left_granted, all_hits, change_loaded, owes_unchanging, all_new, number_front, number_second, left_promised, has_owe, touched_hit, numbers_good, numbers_rise, granted_to_client, owes_to_clients, owes_rising, all_left}
 use Rattle.afs_law.proofs.Naming.{fine_after}
 use Rattle.afs_law.proofs.Notes.{granted_notes, AreNotes, Skips, skips, owe_notes, no_versions}
 use Rattle.afs_law.proofs.Ops.{stored_kind, stored_fid, amend_of, in_scope, changes_is, Storing, storing, stored_vnode}
-use Rattle.afs_law.proofs.Owing.{BackedIn, IsGranted, Rising, IsClient}
+use Rattle.afs_law.proofs.Owing.{all_map, BackedIn, IsGranted, Rising, IsClient}
 use Rattle.afs_law.proofs.Passing.{reply_over, PassesBoth, PassesSeen, held_over, fetch_reply_by, cause_over, PassesFile, PassesAct, PassesReach, StaysNewest, client_over, PassesGrant}
 use Rattle.afs_law.proofs.Pumping.{no_news, pumped_news}
-use Rattle.afs_law.proofs.Serving.{up_backed, seats_of, Gives, taken_not, up_boots, reached_at, at_told, client_head, Now, call_at, taken, seats_after, Stock, server_after, caller_view, views_after, durable_before, above_before, not_ran, unheard_after, HasRun, cause_now, running_act, stale_none, served_cell, serves, last_has, has_run, server_does, answer_in}
+use Rattle.afs_law.proofs.Serving.{grant_more, runs_here, up_backed, seats_of, Gives, taken_not, up_boots, reached_at, at_told, client_head, Now, call_at, taken, seats_after, Stock, server_after, caller_view, views_after, durable_before, above_before, not_ran, unheard_after, HasRun, cause_now, running_act, stale_none, served_cell, serves, last_has, has_run, server_does, answer_in}
 use Rattle.afs_law.proofs.Turning.{loaded, Pumps, pumps}
-use Rattle.afs_law.specs.Breaks.{live_grant, HasOwe, last_number, lines_at}
+use Rattle.afs_law.specs.Breaks.{HasStopped, live_grant, HasOwe, last_number, lines_at}
 use Rattle.afs_rows.specs.Callbacks.{Turn, pumped, expired, numbers, alls}
 use Rattle.afs_rows.specs.ClientRow.{status_told}
 use Rattle.afs_rows.specs.Going.{Going, next}
 use Rattle.afs_law.specs.Grants.{IsWithdrawn, has_fetched, fetch_reply, since, change_below, IsByOther, IsDropped}
 use Rattle.afs_law.specs.Ideal.{versions_in, Reach, raised, IsLast, clock_of, last_version, HasVersion, Accepts, reach, volume_after, change_key, call_under, reach_over, applied, applied_by, HasBeen, TellsIn, TellsOf, shown_status}
-use Rattle.afs_law.specs.Legal.{code_given, AreGood, code_told, IsNew, HasChange, GoodChange, versions_first, IsTold, answer_at, IsUnderChange, IsChanged, op_on, as_asked}
+use Rattle.afs_law.specs.Legal.{HasChangeBy, IsLater, GoodGrant, RanBefore, RunsHere, code_given, AreGood, IsNew, HasChange, GoodChange, versions_first, IsTold, answer_at, IsUnderChange, IsChanged, op_on, as_asked}
 use Rattle.afs_history.specs.declared.lines.Line.{Line}
-use Rattle.afs_law.specs.Past.{onto, lines_of, sent_of, given_message, called_key, HasCode, is_of_act, running, has_begun}
+use Rattle.afs_law.specs.Past.{risen, server_boot, code_told, onto, lines_of, sent_of, given_message, called_key, HasCode, is_of_act, running, has_begun}
 use Rattle.afs_rows.specs.Runs.{Entry, message_at, Armed, Fall}
 use Rattle.afs_law.proofs.OneCell.{Cell, server_moves, the_server}
 use Rattle.afs_rows.specs.Scopes.{is_in_scope, is_volume}
@@ -40,7 +40,7 @@ use Rattle.afs_rows.specs.ServerRow.{granted, granted_in, record_of, carried_by,
 use Rattle.afs_rows.specs.States.{CacheEntry, Seat, volume_in, Backs, Held}
 use Rattle.afs_records.specs.Changes.{stored_after}
 use Rattle.afs_records.specs.Durable.{Stored, time_in, place_length}
-use Rattle.afs_model.specs.Calls.{call_seat}
+use Rattle.afs_model.specs.Calls.{CallSeat, pair_below, call_seat}
 use Rattle.afs_num.specs.declared.calls.AfsStoreStatus.{AfsStoreStatus}
 use Rattle.std.proofs.Common.{◌≡◌, ℕ, ◌+◌, ◌<◌, ◌≤◌, ◌⊎◌, inl, inr, Bool, true, false, cond, length, List, [], ◌∷◌, ◌++◌, Option, Some, None, pos, refl, sym, ap, subst, ◌∙◌, arith, eq-eqb, eqb-true, eqb}
 use Rattle.std.specs.Prelude.{◌&&◌, not, is_some}
@@ -414,7 +414,7 @@ abbrev pub NewEntry : Way → ℕ → Head → List Version → Message → Entr
 NewEntry y n h vs r = saved_entry y (called_key (client_head n h)) vs r
 
 pub own_stands : {s : Script} → (t : Bool) (y : Way) (fl : ℕ → Ghost) (c : Cell) (past : List Entry) (n : ℕ) (h : Head) (user : List ℕ) (call : FsCall) (vs : List Version) (r : Message) (g : Fid) (i : ℕ) (server : Node) (newer : List Line)
-    → Now s c fl past n h user call → is_in_scope call g ≡ t → (volume_changed call ≡ None → ⊥) → (touches g vs ≡ true → is_in_scope call g ≡ true) → (is_in_scope call g ≡ true → WasChanged n g server (onto newer (NewEntry y n h vs r).lines) (Some r) (NewEntry y n h vs r ∷ past) call)
+    → Now s c fl past n h user call → is_in_scope call g ≡ t → (volume_changed call ≡ None → ⊥) → (touches g vs ≡ true → is_in_scope call g ≡ true) → (is_in_scope call g ≡ true → WasChanged n g i server (onto newer (NewEntry y n h vs r).lines) (Some r) (NewEntry y n h vs r ∷ past) call)
     → (IsUntrusted c.clock g (c.clients n).cache → ⊥) → ((fl n).held < c.server.lasting.boot → IsWithdrawn server (Client n) g newer) → Stands n g i server newer (view fl c n) past
     → Stands n g i server (onto newer (NewEntry y n h vs r).lines) (caller_view true fl c n h r) (NewEntry y n h vs r ∷ past)
 own_stands {s} t y fl c past n h user call vs r g i server newer w q some scope changed there aged (inr o) = absurd (not_ran (view fl c n) h.epoch h.number w.above_durable w.fact.behind o.ran)
@@ -429,7 +429,7 @@ own_stands {s} true y fl c past n h user call vs r g i server newer w q some sco
           runs = own.runs;
           scope = subst (λ (x : FsCall). is_in_scope x g ≡ true) own.asks q;
           ran = record { seat = taken n h r; at = refl; epoch = own.epoch'; number = own.number' };
-          changed = subst (λ (x : FsCall). WasChanged n g server (onto newer (NewEntry y n h vs r).lines) (Some r) (NewEntry y n h vs r ∷ past) x) own.asks (changed q);
+          changed = subst (λ (x : FsCall). WasChanged n g i server (onto newer (NewEntry y n h vs r).lines) (Some r) (NewEntry y n h vs r ∷ past) x) own.asks (changed q);
         })
         | inr third ↦ elim third [
           | inl none ↦ absurd (there (none g q))
@@ -513,31 +513,33 @@ saved_reply c head time times user call id v es shown = replied c.server.lasting
 abbrev pub reply_saved : Cell → Head → ℕ → List ℕ → FsCall → ℕ → Stored → List Edit → ℕ → Message
 reply_saved c head time user call id st es shown = saved_reply c head time (time_in (stored_after id time es st)) user call id st.volume es shown
 
-pub was_stored : (call : FsCall) (f : Fid) (y : Way) (s : Script) (c : Cell) (past : List Entry) (n : ℕ) (head : Head) (user : List ℕ) (id time : ℕ) (times : Fid → ℕ) (v : Volume) (es : List Edit) (shown : ℕ) (k : Key) (g : Fid) (server : Node) (newer : List Line) → Holds s c past → Change' c past user call id v es shown → stored_fid call ≡ Some f → f.volume ≡ id → f ≡ g
-    → WasStored n g server newer (Some (saved_reply c head time times user call id v es shown)) (saved_entry y k (versions_by id es v) (saved_reply c head time times user call id v es shown) ∷ past)
-was_stored call f y s c past n head user id time times v es shown k g server newer H q is at fg =
+pub was_stored : (call : FsCall) (f : Fid) (y : Way) (s : Script) (c : Cell) (past : List Entry) (n : ℕ) (head : Head) (user : List ℕ) (id time : ℕ) (times : Fid → ℕ) (v : Volume) (es : List Edit) (shown : ℕ) (k : Key) (g : Fid) (old : ℕ) (server : Node) (newer : List Line) → Holds s c past → Change' c past user call id v es shown → stored_fid call ≡ Some f → f.volume ≡ id → f ≡ g → old ≤ index_in (last_version g (lines_of past))
+    → WasStored n g old server newer (Some (saved_reply c head time times user call id v es shown)) (saved_entry y k (versions_by id es v) (saved_reply c head time times user call id v es shown) ∷ past)
+was_stored call f y s c past n head user id time times v es shown k g old server newer H q is at fg above =
     let r : Message = saved_reply c head time times user call id v es shown in
     let x : Storing f (amend_of call) v es shown = storing id (the_user user) call f v es shown is q.result in
     let last = store_last y s c past user call f (amend_of call) id v es shown k r H q at x in
     let before = store_before s c past user call f (amend_of call) id v es shown H q at x in
     let low : (reach (Client n) f past).seen ≤ x.vnode.index = (reached_at s c past n f (version_at id f.vnode x.vnode) H before).seen in
-    subst (λ (z : Fid). WasStored n z server newer (Some r) (saved_entry y k (versions_by id es v) r ∷ past)) fg
+    let old_low : old ≤ x.vnode.index = subst (λ (o : Option Version). old ≤ index_in o) before (subst (λ (z : Fid). old ≤ index_in (last_version z (lines_of past))) (sym fg) above) in
+    subst (λ (z : Fid). WasStored n z old server newer (Some r) (saved_entry y k (versions_by id es v) r ∷ past)) fg
     (record {
       index = x.vnode.index + 1;
       reply = r;
       kept = refl;
       told = store_told call id time user times f v es shown is x;
+      above = omega arith;
       reached = seen_saved y n k (versions_by id es v) r past f (x.vnode.index + 1) (omega arith);
       newest = inr (ap (option_map (λ (z : Version). z.index)) last);
     })
 
 -- an entry that the caller's own change has overtaken
-pub was_changed : (call : FsCall) (y : Way) (s : Script) (c : Cell) (past : List Entry) (n : ℕ) (head : Head) (user : List ℕ) (id time : ℕ) (times : Fid → ℕ) (v : Volume) (es : List Edit) (shown : ℕ) (k : Key) (g : Fid) (server : Node) (newer : List Line) → Holds s c past → Change' c past user call id v es shown → is_in_scope call g ≡ true
-    → WasChanged n g server newer (Some (saved_reply c head time times user call id v es shown)) (saved_entry y k (versions_by id es v) (saved_reply c head time times user call id v es shown) ∷ past) call
-was_changed (calls.StoreData f st p w l b) y s c past n head user id time times v es shown k g server newer H q scope = was_stored (calls.StoreData f st p w l b) f y s c past n head user id time times v es shown k g server newer H q refl (some_of f.volume id q.of_volume) (same_fid-true f g scope)
-was_changed (calls.StoreAcl f acl) y s c past n head user id time times v es shown k g server newer H q scope = was_stored (calls.StoreAcl f acl) f y s c past n head user id time times v es shown k g server newer H q refl (some_of f.volume id q.of_volume) (same_fid-true f g scope)
-was_changed (calls.StoreStatus f st) y s c past n head user id time times v es shown k g server newer H q scope = was_stored (calls.StoreStatus f st) f y s c past n head user id time times v es shown k g server newer H q refl (some_of f.volume id q.of_volume) (same_fid-true f g scope)
-was_changed call y s c past n head user id time times v es shown k g server newer H q scope = tt
+pub was_changed : (call : FsCall) (y : Way) (s : Script) (c : Cell) (past : List Entry) (n : ℕ) (head : Head) (user : List ℕ) (id time : ℕ) (times : Fid → ℕ) (v : Volume) (es : List Edit) (shown : ℕ) (k : Key) (g : Fid) (old : ℕ) (server : Node) (newer : List Line) → Holds s c past → Change' c past user call id v es shown → old ≤ index_in (last_version g (lines_of past)) → is_in_scope call g ≡ true
+    → WasChanged n g old server newer (Some (saved_reply c head time times user call id v es shown)) (saved_entry y k (versions_by id es v) (saved_reply c head time times user call id v es shown) ∷ past) call
+was_changed (calls.StoreData f st p w l b) y s c past n head user id time times v es shown k g old server newer H q above scope = was_stored (calls.StoreData f st p w l b) f y s c past n head user id time times v es shown k g old server newer H q refl (some_of f.volume id q.of_volume) (same_fid-true f g scope) above
+was_changed (calls.StoreAcl f acl) y s c past n head user id time times v es shown k g old server newer H q above scope = was_stored (calls.StoreAcl f acl) f y s c past n head user id time times v es shown k g old server newer H q refl (some_of f.volume id q.of_volume) (same_fid-true f g scope) above
+was_changed (calls.StoreStatus f st) y s c past n head user id time times v es shown k g old server newer H q above scope = was_stored (calls.StoreStatus f st) f y s c past n head user id time times v es shown k g old server newer H q refl (some_of f.volume id q.of_volume) (same_fid-true f g scope) above
+was_changed call y s c past n head user id time times v es shown k g old server newer H q above scope = tt
 
 pub stored_reach : (y : Way) (past : List Entry) (n : ℕ) (k : Key) (id : ℕ) (vs : List Version) (r : Message) (f : Fid) (w : Version) → last_version f (lines_of (saved_entry y k vs r ∷ past)) ≡ Some w → Grow id vs (base y k (length vs) (lines_of past)) → Reached (Client n) f (index_in (last_version f (lines_of past))) past
     → Reached (Client n) f w.index (saved_entry y k vs r ∷ past)
@@ -629,13 +631,13 @@ change_fits sp (calls.StoreAcl f acl) y s c past n head user id time times v es 
 change_fits sp (calls.StoreStatus f st) y s c past n head user id time times v es shown k x some H q one is =
     let z = store_fits (calls.StoreStatus f st) f y s c past n head user id time times v es shown k x _ H q refl (some_of f.volume id q.of_volume) refl in
     ((z.0, store_been (calls.StoreStatus f st) f y s c past user id time v es shown k (saved_reply c head time times user (calls.StoreStatus f st) id v es shown) H q one refl (some_of f.volume id q.of_volume) times), (is, z.1))
-change_fits sp (calls.RemoveFile d name) y s c past n head user id time times v es shown k x some H q one is = λ i e. is
-change_fits sp (calls.CreateFile d name st) y s c past n head user id time times v es shown k x some H q one is = λ i e. is
-change_fits sp (calls.Rename d old d' new) y s c past n head user id time times v es shown k x some H q one is = λ i e. is
-change_fits sp (calls.Symlink d name target st) y s c past n head user id time times v es shown k x some H q one is = λ i e. is
-change_fits sp (calls.Link d name f) y s c past n head user id time times v es shown k x some H q one is = λ i e. is
-change_fits sp (calls.MakeDir d name st) y s c past n head user id time times v es shown k x some H q one is = λ i e. is
-change_fits sp (calls.RemoveDir d name) y s c past n head user id time times v es shown k x some H q one is = λ i e. is
+change_fits sp (calls.RemoveFile d name) y s c past n head user id time times v es shown k x some H q one is = (tt, λ i e. is)
+change_fits sp (calls.CreateFile d name st) y s c past n head user id time times v es shown k x some H q one is = (tt, λ i e. is)
+change_fits sp (calls.Rename d old d' new) y s c past n head user id time times v es shown k x some H q one is = (tt, λ i e. is)
+change_fits sp (calls.Symlink d name target st) y s c past n head user id time times v es shown k x some H q one is = (tt, λ i e. is)
+change_fits sp (calls.Link d name f) y s c past n head user id time times v es shown k x some H q one is = (tt, λ i e. is)
+change_fits sp (calls.MakeDir d name st) y s c past n head user id time times v es shown k x some H q one is = (tt, λ i e. is)
+change_fits sp (calls.RemoveDir d name) y s c past n head user id time times v es shown k x some H q one is = (tt, λ i e. is)
 change_fits sp call y s c past n head user id time times v es shown k x some H q one is = absurd (some refl)
 
 -- what a change is answered is a reply with code 0
@@ -664,7 +666,7 @@ carried_zero call time id user times v es shown some = absurd (some refl)
 
 pub plain_again : (call : FsCall) (x z : Spot) (m : Message) → (volume_changed call ≡ None → ⊥) → (LastStored x → ⊥) → (o : Option ℕ) → volume_changed call ≡ o → FitsPlain x m call → FitsPlain z m call
 plain_again call x z m some none None e h = absurd (some e)
-plain_again call x z m some none (Some id) e h = absurd (none (h id e).ran)
+plain_again call x z m some none (Some id) e h = absurd (none (h.1 id e).ran)
 
 pub data_again : (sp : Bool) (call : FsCall) (n : ℕ) (x z : Spot) (m : Message) (past newer : List Entry) (contents : List ℕ) (status : AfsFetchStatus) (callback : AfsCallBack) → (volume_changed call ≡ None → ⊥) → (LastStored x → ⊥) → FitsData sp n x m past contents status callback call → FitsData sp n z m newer contents status callback call
 data_again sp (calls.FetchData f p w) n x z m past newer contents status callback some none h = absurd (some refl)
@@ -761,11 +763,34 @@ new_not c n h r l same above =
     let own : Above (call_seat (Client n) (seat_placed (taken n h r) c.server.lasting.kept)) h.epoch h.number = subst (λ (x : Key). Above (call_seat x.node (seat_placed (taken n h r) c.server.lasting.kept)) x.epoch x.number) same above in
     below_not h.epoch h.number h.epoch h.number (subst (λ (o : Option Seat). Above o h.epoch h.number) (own_placed (taken n h r) c.server.lasting.kept) own) (up_to_same h.epoch h.number h.epoch h.number refl refl)
 
+any_change : (s : Node) (l : Key) (ls : List Line) → HasChangeBy s l ls → HasChange l ls
+any_change s l [] h = absurd h
+any_change s l (lines.Change q k count ∷ ls) (inl x) = inl x.1
+any_change s l (lines.Change q k count ∷ ls) (inr h) = inr (any_change s l ls h)
+any_change s l (x ∷ ls) h = any_change s l ls h
+
+later_seat : (t : Bool) (e n : ℕ) (k l : Key) → pair_below e n l.epoch l.number ≡ t → Below e n k.epoch k.number → (Below e n l.epoch l.number → ⊥) → IsLater k l
+later_seat true e n k l t a not = absurd (not (below-true e n l.epoch l.number t))
+later_seat false e n k l t a not = up_to_below l.epoch l.number e n k.epoch k.number (below-false e n l.epoch l.number t) a
+
+-- what isn't above a seat is below what is
+later_by : {R : Type 0} → (o : Option (CallSeat R)) (k l : Key) → Above o k.epoch k.number → (Above o l.epoch l.number → ⊥) → IsLater k l
+later_by None k l a not = absurd (not tt)
+later_by (Some seat) k l a not = later_seat (pair_below seat.epoch seat.number l.epoch l.number) seat.epoch seat.number k l refl a not
+
+-- what the server changed for the client it did under keys that are not above the durable one
+pub changed_later : (s : Script) (c : Cell) (past : List Entry) (n : ℕ) (h : Head) (user : List ℕ) (call : FsCall) → (H : Holds s c past) → Now s c H.floors past n h user call → (l : Key) → HasChangeBy the_server l (lines_of past) → l.node ≡ Client n → IsLater (called_key (client_head n h)) l
+changed_later s c past n h user call H w l has same = later_by (call_seat (Client n) c.server.lasting.kept) (called_key (client_head n h)) l w.above_durable
+    (λ above. no_change l (lines_of past) (H.new l (subst (λ (m : Node). Above (call_seat m c.server.lasting.kept) l.epoch l.number) (sym same) above)) (any_change the_server l (lines_of past) has))
+
 pub saves_change_good : (s : Script) (c : Cell) (past : List Entry) (own tail : List Line) (n : ℕ) (h : Head) (user : List ℕ) (call : FsCall) (id : ℕ) (v : Volume) (es : List Edit) (shown : ℕ) → (H : Holds s c past) → Now s c H.floors past n h user call → Change' c past user call id v es shown
-    → IsNew (called_key (client_head n h)) (own ++ lines_of past) → change_key own ≡ None → Accepts s id the_server (own ++ lines_of past) → versions_first tail ≡ [] → ((j : ℕ) (f : Fid) (x : ℕ) → (Client j ≡ Client n → ⊥) → IsChanged f (versions_by id es v) → live_grant the_server (Client j) f (own ++ lines_at the_server past) ≡ Some x → clock_of (own ++ lines_of past) < x → HasOwe the_server (Client j) (Some f) (versioned (versions_by id es v) tail))
+    → RunsHere the_server (called_key (client_head n h)) past own ⊎ RanBefore the_server (called_key (client_head n h)) past own (versioned (versions_by id es v) tail) → IsNew (called_key (client_head n h)) (own ++ lines_of past) → ((l : Key) → HasChangeBy the_server l (own ++ lines_of past) → l.node ≡ Client n → IsLater (called_key (client_head n h)) l) → (HasStopped the_server own → ⊥) → change_key own ≡ None → Accepts s id the_server (own ++ lines_of past) → versions_first tail ≡ [] → ((j : ℕ) (f : Fid) (x : ℕ) → (Client j ≡ Client n → ⊥) → IsChanged f (versions_by id es v) → live_grant the_server (Client j) f (own ++ lines_at the_server past) ≡ Some x → clock_of (own ++ lines_of past) < x → HasOwe the_server (Client j) (Some f) (versioned (versions_by id es v) tail))
     → GoodChange s the_server (called_key (client_head n h)) (length (versions_by id es v)) past own (versioned (versions_by id es v) tail)
-saves_change_good s c past own tail n h user call id v es shown H w q new only home none owed = record {
+saves_change_good s c past own tail n h user call id v es shown H w q place new latest going only home none owed = record {
   fresh = new;
+  latest = latest;
+  place = place;
+  going = going;
   only = only;
   user = user;
   call = call;
@@ -847,7 +872,7 @@ saves_holds y s now c past after armed d n h user call time id st es shown H w q
             from = cur.from;
             held = held_over n f u.index u.status u.body u.expiry cur.reply e past (saves_grant y n k vs r past f) cur.held;
             state = own_stands (is_in_scope call f) y fl c past n h user call vs r f u.index cur.held.grant.server (since (Client n) f u.expiry cur.reply past cur.held.grant) w refl some (scope f u.index cur.held.whole.is cur.held.whole.told)
-                (λ t. was_changed call y s c past n (client_head n h) user id time (time_in (stored_after id time es st)) st.volume es shown k f cur.held.grant.server (onto (since (Client n) f u.expiry cur.reply past cur.held.grant) e.lines) H q t) (λ z. z u found lasts) (old_withdrawn s c past n f u H cur) cur.state;
+                (λ t. was_changed call y s c past n (client_head n h) user id time (time_in (stored_after id time es st)) st.volume es shown k f u.index cur.held.grant.server (onto (since (Client n) f u.expiry cur.reply past cur.held.grant) e.lines) H q (H.top f u.index cur.held.whole.is cur.held.whole.told) t) (λ z. z u found lasts) (old_withdrawn s c past n f u H cur) cur.state;
           };
       made = λ a runs f o known. made_saved y n k vs r past f (λ z. no_touch' (touches f vs) (λ t. elim (w.acts z a ((H.clients n).runs a runs)) [
         | inl none ↦ some none
@@ -916,9 +941,21 @@ pub owe_granted : (c : Node) (what : Option Fid) (n x : ℕ) (fs : List Found) (
 owe_granted c what n x [] tail h = h
 owe_granted c what n x (f ∷ fs) tail h = owe_granted c what n x fs tail h
 
-pub granted_then : (s : Script) (past : List Entry) (own : List Line) (n x : ℕ) (fs : List Found) (tail : List Line) → AreGood s (actors.Node the_server) past (onto own (granted the_server (Client n) x fs [])) tail → AreGood s (actors.Node the_server) past own (granted the_server (Client n) x fs tail)
-granted_then s past own n x [] tail h = h
-granted_then s past own n x (f ∷ fs) tail h = (refl, granted_then s past (lines.Grant the_server (Client n) f.fid f.vnode.index x ∷ own) n x fs tail h)
+top_clock : (vs : List Version) (own o : List Line) → clock_of (on_top vs own ++ o) ≡ clock_of (own ++ o)
+top_clock [] own o = refl
+top_clock (v ∷ vs) own o = top_clock vs (lines.Version v ∷ own) o
+
+top_stopped : (vs : List Version) (own : List Line) → HasStopped the_server (on_top vs own) → HasStopped the_server own
+top_stopped [] own h = h
+top_stopped (v ∷ vs) own h = top_stopped vs (lines.Version v ∷ own) h
+
+top_runs : (k : Key) (past : List Entry) (vs : List Version) (own : List Line) → RunsHere the_server k past own → RunsHere the_server k past (on_top vs own)
+top_runs k past [] own r = r
+top_runs k past (v ∷ vs) own r = top_runs k past vs (lines.Version v ∷ own) (record { boot = r.boot; up = r.up; given = r.given; first = r.first })
+
+pub granted_then : (s : Script) (past : List Entry) (own : List Line) (n x : ℕ) (fs : List Found) (tail : List Line) → GoodGrant the_server (Client n) x past own → AreGood s (actors.Node the_server) past (onto own (granted the_server (Client n) x fs [])) tail → AreGood s (actors.Node the_server) past own (granted the_server (Client n) x fs tail)
+granted_then s past own n x [] tail g h = h
+granted_then s past own n x (f ∷ fs) tail g h = ((refl, g), granted_then s past (lines.Grant the_server (Client n) f.fid f.vnode.index x ∷ own) n x fs tail (grant_more (Client n) f.fid f.vnode.index x past own g) h)
 
 on_rising : (vs : List Version) (o : List Line) → Rising o → Rising (on_top vs o)
 on_rising [] o h = h
@@ -974,19 +1011,29 @@ saves_by_turn s c past armed p n h user call id st es shown H up at w q =
       own = λ i z. number_front i (numbers os) (alls b0.lists.owed) z;
       all = λ i z. number_second i (numbers os) (alls b0.lists.owed) z;
     }) in
-    let pump : Pumps c.server.lasting.boot (seats_after c n h r) (seats_of c) c.clock c.sent (e ∷ past) t = pumps c.server.lasting.boot (seats_after c n h r) (seats_of c) c.clock c.sent e past t refl (saves_clock y k vs r past ∙ H.clock) loads (record { good = tt; calls = tt; dones = tt }) in
+    let pump : Pumps c.server.lasting.boot (seats_after c n h r) (seats_of c) c.clock c.sent (e ∷ past) t = pumps c.server.lasting.boot (seats_after c n h r) (seats_of c) c.clock c.sent e past t refl (saves_clock y k vs r past ∙ H.clock) loads (record { good = tt; calls = tt; dones = tt }) (saves_boot y k vs r past ∙ (sk.boot _ ∙ up_boots s c past H up)) in
     record {
       good = (
-        tt,
+        refl,
         (
           (
             refl,
-            saves_change_good s c past (lines.Given p ∷ []) tl n h user call id st.volume es shown H w q (H.new _ w.above_durable) refl (H.home id st.volume q.at) (no_versions tl notes)
+            saves_change_good s c past (lines.Given p ∷ []) tl n h user call id st.volume es shown H w q (inl (runs_here s c past p n h user call H up at w)) (H.new _ w.above_durable) (changed_later s c past n h user call H w) (λ z. z) refl (H.home id st.volume q.at) (no_versions tl notes)
                 (λ j f z ne d l u. owe_behind (Client j) (Some f) vs tl (owe_granted (Client j) (Some f) n x fs t.lines (has_owe (Client j) f z b0.lists.last_owed (hits (Client n) vs b0.lists.promises) (touched_hit (Client n) (Client j) f z vs b0.lists.promises ne d (B.promised (Client j) f z l (subst (λ (i : ℕ). i < z) H.clock u)).1)))),
           ),
           versions_good s past _ tl vs tt (granted_then s past (on_top vs (lines.Change the_server k (length vs) ∷ lines.Given p ∷ [])) n x fs t.lines
+              (record {
+                key = k;
+                node = refl;
+                ran = let r0 = runs_here s c past p n h user call H up at w in top_runs k past vs (lines.Change the_server k (length vs) ∷ lines.Given p ∷ []) (record { boot = r0.boot; up = r0.up; given = r0.given; first = r0.first });
+                going = λ z. top_stopped vs (lines.Change the_server k (length vs) ∷ lines.Given p ∷ []) z;
+                lasts = ap (λ (i : ℕ). i + promise_ticks) (sym (top_clock vs (lines.Change the_server k (length vs) ∷ lines.Given p ∷ []) (lines_of past) ∙ H.clock));
+              })
               (numbers_good s b0.lists.last_owed (hits (Client n) vs b0.lists.promises) past (onto (on_top vs (lines.Change the_server k (length vs) ∷ lines.Given p ∷ [])) (granted the_server (Client n) x fs []))
-              (subst (λ (i : ℕ). i ≤ b0.lists.last_owed) (sym (granted_top n x fs (on_top vs (lines.Change the_server k (length vs) ∷ lines.Given p ∷ [])) (lines_of past) ∙ top_number vs (lines.Change the_server k (length vs) ∷ lines.Given p ∷ []) (lines_of past))) B.numbered))),
+              (subst (λ (i : ℕ). i ≤ b0.lists.last_owed) (sym (granted_top n x fs (on_top vs (lines.Change the_server k (length vs) ∷ lines.Given p ∷ [])) (lines_of past) ∙ top_number vs (lines.Change the_server k (length vs) ∷ lines.Given p ∷ []) (lines_of past))) B.numbered)
+              (all_map (IsHit (Client n) vs) (λ (o : Promise). IsWithdrawn the_server o.client o.fid (onto (on_top vs (lines.Change the_server k (length vs) ∷ lines.Given p ∷ [])) (granted the_server (Client n) x fs [])))
+              (λ o z. (skips (granted the_server (Client n) x fs []) (granted_notes (Client n) x fs [] tt)).withdrawn the_server o.client o.fid (on_top vs (lines.Change the_server k (length vs) ∷ lines.Given p ∷ [])) (on_breaks the_server o.client o.fid vs (lines.Change the_server k (length vs) ∷ lines.Given p ∷ []) (refl, λ q. z.1 (sym q)) z.0))
+              (hits (Client n) vs b0.lists.promises) (hits_hit (Client n) vs b0.lists.promises)))),
         ),
       );
       holds = saves_holds y s (Some c.server.lasting.boot) c past (pumped the_server c.server.lasting.boot t).backs armed None n h user call c.clock id st es shown H w q (has_run s c past p n h user call e H up at w refl refl) (saves_boot y k vs r past ∙ (sk.boot _ ∙ up_boots s c past H up)) (unheard_after s c past p n h user call r e H up at w refl) tt

@@ -21,7 +21,7 @@ use Rattle.afs_num.specs.declared.histories.ReadBody.TheVariants as body_shown
 use Rattle.afs_num.specs.declared.histories.ReadSource.TheVariants.{Cached}
 use Rattle.afs_rows.specs.ClientRow.{find_cached}
 use Rattle.afs_rows.specs.Going.{Going}
-use Rattle.afs_rows.specs.Runs.{Entry, Cell, Input, Moved, Blow, Fall, Armed, Luck, Outcome, comes_up, fails_early, fails_midway, is_full, begins, gives, waits, ticks, client_stops, client_starts, stops, starts_again, sets_stop, sets_fail, server_waits, wakes, nothing, moved, voided, if_host, begun_by, waited_by, server_served, server_given, server_stopped, server_ends, server_restarted, server_armed, back_timed, server_timed, server_wakes, given_to, given_at, settled, struck, decided_at, message_at, Leads, start, RunsTo, first_volume, first_volumes, first_server, first_client, placed_at, unless_there, unarmed, volumes_at, begun_by_disk}
+use Rattle.afs_rows.specs.Runs.{is_away, Entry, Cell, Input, Moved, Blow, Fall, Armed, Luck, Outcome, comes_up, fails_early, fails_midway, is_full, begins, gives, waits, ticks, client_stops, client_starts, stops, starts_again, sets_stop, sets_fail, server_waits, wakes, nothing, moved, voided, if_host, begun_by, waited_by, server_served, server_given, server_stopped, server_ends, server_restarted, server_armed, back_timed, server_timed, server_wakes, given_to, given_at, settled, struck, decided_at, message_at, Leads, start, RunsTo, first_volume, first_volumes, first_server, first_client, placed_at, unless_there, unarmed, volumes_at, begun_by_disk}
 use Rattle.afs_rows.specs.ServerRow.{Begun, device_calls}
 use Rattle.afs_rows.specs.States.{BackCall, CacheEntry}
 use Rattle.afs_history.specs.declared.lines.Line.{Line}
@@ -142,7 +142,7 @@ server_same c p luck m (suc (suc i)) e =
 
 to_same : (c : Cell) (p : ℕ) (luck : Luck) (m : Message) (to : Node) → c.host_count ≡ 1 → IsSame (given_to c p luck m to) (one.given_to (seen_in c) p luck m to)
 to_same c p luck m (Server i) e = server_same c p luck m i e
-to_same c p luck m (Client n) e = either_same (c.away n) _ _ _ _ (nothing_same c e) (record { same = refl; hosts = e })
+to_same c p luck m (Client n) e = either_same (is_away c n) _ _ _ _ (nothing_same c e) (record { same = refl; hosts = e })
 to_same c p luck m Loc e = nothing_same c e
 to_same c p luck m (Admin n) e = nothing_same c e
 
@@ -183,11 +183,12 @@ woken_same c (Some fall) e = nothing_same c e
 
 moved_same : (c : Cell) (x : Input) → c.host_count ≡ 1 → IsSame (moved c x) (one.moved (seen_in c) (as_one x))
 unfolding moved one.moved
-moved_same c (begins n act) e = either_same (c.away n) _ _ _ _ (nothing_same c e) (begun_same c n act (c.clients n).running e)
+moved_same c (begins n act) e = either_same (is_away c n) _ _ _ _ (nothing_same c e) (begun_same c n act (c.clients n).running e)
 moved_same c (gives p luck) e = given_same c p luck (message_at c.sent p) e
-moved_same c (waits n) e = either_same (c.away n) _ _ _ _ (nothing_same c e) (waited_same c n (c.clients n).running e)
-moved_same c (ticks n) e = record { same = refl; hosts = e }
-moved_same c (client_stops n) e = either_same (c.away n) _ _ _ _ (nothing_same c e) (record { same = refl; hosts = e })
+moved_same c (waits n) e = either_same (is_away c n) _ _ _ _ (nothing_same c e) (waited_same c n (c.clients n).running e)
+moved_same c (ticks zero) e = nothing_same c e
+moved_same c (ticks (suc n)) e = record { same = refl; hosts = e }
+moved_same c (client_stops n) e = either_same (is_away c n) _ _ _ _ (nothing_same c e) (record { same = refl; hosts = e })
 moved_same c (client_starts n) e = either_same (c.away n) _ _ _ _ (record { same = refl; hosts = e }) (nothing_same c e)
 moved_same c (stops i) e = host_same c i (λ j. server_stopped c j (c.hosts j).down) one.stops e (stopped_same c (c.hosts 1).down e)
 moved_same c (starts_again i after o) e = host_same c i (λ j. server_restarted c j after o (c.hosts j).down) (one.starts_again after o) e (again_same c after o (c.hosts 1).down e)
@@ -240,7 +241,7 @@ pub run_held : (s : Script) (h : List Entry) (end : Cell) → IsOneServer s → 
 run_held s h end is r = held s h (seen_in end) is (run_same s h end is r)
 
 pub run_trusted : (s : Script) (h : List Entry) (end : Cell) → IsOneServer s → RunsTo h s end → (j : ℕ) → (end.clients j).running ≡ None → (f : Fid) (e : CacheEntry) → find_cached f (end.clients j).cache ≡ Some e → end.clock < e.expiry
-    → ((body : Body) → e.body ≡ Some body → GoodRead (Client j) f e.index Cached (body_shown.Contents body) (past_of (set_up s ∷ []) h) []) × GoodRead (Client j) f e.index Cached (body_shown.Status e.status) (past_of (set_up s ∷ []) h) []
+    → ((body : Body) → e.body ≡ Some body → GoodRead s (Client j) f e.index Cached (body_shown.Contents body) (past_of (set_up s ∷ []) h) []) × GoodRead s (Client j) f e.index Cached (body_shown.Status e.status) (past_of (set_up s ∷ []) h) []
 run_trusted s h end is r = trusted_good s h (seen_in end) is (run_same s h end is r)
 
 -- the same inputs make one run

@@ -1,24 +1,25 @@
-use Rattle.afs_law.proofs.Facts.{AreFetched, its_call}
+use Rattle.afs_ideal.specs.Directories.{directory_of}
+use Rattle.afs_law.proofs.Facts.{fids_of_gifts, AreFetched, its_call}
 use Rattle.afs_rows.specs.ServerRow.{sight_status, promise_until}
 use Rattle.afs_shape.specs.Rows.{no_callback}
 use Rattle.afs_num.specs.declared.calls.AfsCallBack.{AfsCallBack}
 use Rattle.afs_law.proofs.Facts.{is_passing, IsGot}
 use Rattle.afs_ideal.specs.AccessLists.{acl_text}
 use Rattle.afs_num.specs.declared.histories.ReadBody.{ReadBody}
-use Rattle.std.proofs.Common.{◌≡◌, ℕ, ◌+◌, ◌<◌, ◌≤◌, ◌⊎◌, inl, inr, Bool, true, false, cond, nat_eq, List, [], ◌∷◌, ◌++◌, Option, Some, None, ℤ, pos, refl, sym, ap, subst, ◌∙◌, arith, eqb-true, append-nil, append_assoc, eq-eqb}
+use Rattle.std.proofs.Common.{le_of_eq, ◌≡◌, ℕ, ◌+◌, ◌<◌, ◌≤◌, ◌⊎◌, inl, inr, Bool, true, false, cond, nat_eq, List, [], ◌∷◌, ◌++◌, Option, Some, None, ℤ, pos, refl, sym, ap, subst, ◌∙◌, arith, eqb-true, append-nil, append_assoc, eq-eqb}
 use Rattle.afs_num.specs.declared.directories.Name.{Name}
 use Rattle.afs_ideal.proofs.DirectoryBytes.{spelled_is_read}
 use Rattle.afs_ideal.specs.Operations.{shows_volume, shows_status, shows_body, Found, Shown, Result, shows_acl, volume_called, Caller, changes}
 use Rattle.afs_ideal.specs.Tables.{Table, get}
 use Rattle.afs_ideal.specs.Volumes.{type_of, bytes_by, Volume, Vnode, Kind, a_file, a_directory, a_link, body_by, body_of, vnode_of, if_unique, version_at}
 use Rattle.afs_law.proofs.Backing.{Plain, all_lines, is_up, is_oweless, is_unchanging, granted_over, change_back, promised_over, before_own}
-use Rattle.afs_law.proofs.Basics.{Below, UpTo, Above, Each, IfCall, OfReply, above_up, both, same_fid-true, client_number, below_up_to, below_not, up_to_same, own_seat, at_seat, each_map, if_call, some_of, same_node-refl}
+use Rattle.afs_law.proofs.Basics.{same_node-true, Below, UpTo, Above, Each, IfCall, OfReply, above_up, both, same_fid-true, client_number, below_up_to, below_not, up_to_same, own_seat, at_seat, each_map, if_call, some_of, same_node-refl}
 use Rattle.afs_law.proofs.Edits.{Ones, index_in, fid_at, Sound, SoundIn, sound_same, Tops, live_index}
-use Rattle.afs_law.proofs.Facts.{IsBody, back_seat, IsKnown, IsReadable, AreFine, HeldIn, Ghost, HoldsAt, server_boot, up_boot, LastStored, IsActs, View, view_of, view, Spot, spot, LastRan, ReplyFact, IsBehind, AreKept, MayRun, HasFallen, Reached, HasCurrent, Fits, Answers, IsReply, KeptReply, ClientFacts, CallFact, CallIn, Origin, AreHome, AreNew, AreUnheard, Holds, Goes, InScope, IsFetched, FitsReply, AreIdeal, AreSound}
+use Rattle.afs_law.proofs.Facts.{IsBody, back_seat, IsKnown, IsReadable, AreFine, HeldIn, Ghost, HoldsAt, up_boot, LastStored, IsActs, View, view_of, view, Spot, spot, LastRan, ReplyFact, IsBehind, AreKept, MayRun, HasFallen, Reached, HasCurrent, Fits, Answers, IsReply, KeptReply, ClientFacts, CallFact, CallIn, Origin, AreHome, AreNew, AreUnheard, Holds, Goes, InScope, IsFetched, FitsReply, AreIdeal, AreSound}
 use Rattle.afs_law.proofs.Loading.{all_promised, all_granted, granted_all, none_loaded, still_backed, known_backed, resent, run_loaded, key_held, no_change, settles_good, settles_backed, gone_promised, gone_granted, granted_to_client, gone_to_clients, own_waited}
 use Rattle.afs_law.proofs.Notes.{granted_notes, AreNotes, Skips, skips, told_entry, told_rests, noted_entry, noted_rests, settle_notes}
 use Rattle.afs_law.proofs.Owing.{AllOf, BackedIn, IsDone, DroppedOwe, IsGranted, DoneIn, Promised, IsClient}
-use Rattle.afs_law.proofs.Passing.{old_over, stands_over, answers_over, reply_over, kept_over, PassesBoth, PassesFile, PassesAct, PassesReach, stays, current_over, client_still, News, more_sent, ran_over}
+use Rattle.afs_law.proofs.Passing.{all_dropped_onto, tried_more, old_over, stands_over, answers_over, reply_over, kept_over, PassesBoth, PassesFile, PassesAct, PassesReach, stays, current_over, client_still, News, more_sent, ran_over}
 use Rattle.afs_law.proofs.Pumping.{no_news, pumped_news, news_break}
 use Rattle.afs_law.proofs.Resting.{Rests}
 use Rattle.afs_law.proofs.Turning.{loaded, TurnSends, Pumps, pumps, expired_backed, break_good}
@@ -26,9 +27,9 @@ use Rattle.afs_rows.specs.Callbacks.{Turn, replies_of, pumped, expired, turn_for
 use Rattle.afs_rows.specs.ClientRow.{names_told, body_told}
 use Rattle.afs_rows.specs.Going.{asked, Going}
 use Rattle.afs_law.specs.Ideal.{shown_status, Tells, TellsIn, TellsOf, volume_after, version_in, latest, IsThat, user_of, clock_of, last_version, HasVersion, reach, call_under}
-use Rattle.afs_law.specs.Legal.{code_given, IsResult, AreGood, code_told, Cause, IsTold, answer_at, answer_on, as_asked}
+use Rattle.afs_law.specs.Legal.{GoodGrant, IsThere, code_given, IsResult, RunsHere, AreGood, Cause, IsTold, answer_at, answer_on, as_asked}
 use Rattle.afs_history.specs.declared.lines.Line.{Line}
-use Rattle.afs_law.specs.Past.{IsUnheard, lines_of, sent_of, given_message, called_key, HasCode, IsCallUnder, Ran, onto, same_key, answered_key}
+use Rattle.afs_law.specs.Past.{server_boot, IsCall, code_told, IsUnheard, lines_of, sent_of, given_message, called_key, HasCode, IsCallUnder, Ran, onto, same_key, answered_key}
 use Rattle.afs_rows.specs.Runs.{Entry, message_at, Armed, Fall}
 use Rattle.afs_law.proofs.OneCell.{the_server, Cell, Moved, server_moves}
 use Rattle.afs_rows.specs.ServerRow.{shows, granted, Reading, promise_ticks, refuses, reply_head, replied, told, result, Decision, seat_placed, Sight, given_up_read, promised_in, reading_in, statuses_read, time_read}
@@ -55,7 +56,7 @@ use Rattle.afs_num.specs.Nodes.{same_node}
 use Rattle.afs_breaks.specs.declared.types.Promise.{Promise}
 use Rattle.afs_law.proofs.Promising.{Owed, without_promises, shows_turn, shows_turn_is}
 use Rattle.afs_law.specs.Grants.{IsDropped}
-use Rattle.afs_law.specs.Breaks.{lines_at, fids_given_up, has_answer, given_up_in, drops_of, given_up_by, is_told}
+use Rattle.afs_law.specs.Breaks.{returned_in, returned_by, is_unheard, is_call_under, is_call, lines_at, fids_given_up, has_answer, drops_of, is_told}
 use Rattle.afs_rows.specs.ServerSteps.{stepped, done}
 use Rattle.afs_law.proofs.Keeping.{at_placed}
 use Rattle.afs_records.specs.Durable.{Stored}
@@ -128,6 +129,7 @@ noted s now c past armed d e b h boots p clock heard fallen gives backs =
       floors = h.floors;
       count = h.count;
       own = h.own;
+      tried = λ j. tried_more j (c.clients j) (lines_of past) e.lines (h.tried j);
       servers = h.servers;
       ideal = λ id. h.ideal id ∙ sym (p.ideal id);
       fine = h.fine;
@@ -176,9 +178,9 @@ quiet s c past armed p m t h up at dull notes good turns loads =
     let e : Entry = told_entry p t.lines ms in
     let k : Skips t.lines = skips t.lines notes in
     let rest : Rests s e past = told_rests s p t.lines ms past k in
-    let pump : Pumps c.server.lasting.boot c.server.seats (seats_of c) c.clock c.sent (e ∷ past) t = let l = loads e refl in pumps c.server.lasting.boot c.server.seats (seats_of c) c.clock c.sent e past t refl (k.clock _ ∙ h.clock) l.backed l.sends in
+    let pump : Pumps c.server.lasting.boot c.server.seats (seats_of c) c.clock c.sent (e ∷ past) t = let l = loads e refl in pumps c.server.lasting.boot c.server.seats (seats_of c) c.clock c.sent e past t refl (k.clock _ ∙ h.clock) l.backed l.sends (k.boot _ ∙ up_boots s c past h up) in
     record {
-      good = (tt, good);
+      good = (refl, good);
       replies = pump.good;
       volumes = refl;
       holds = noted s (Some c.server.lasting.boot) c past armed None e (pumped the_server c.server.lasting.boot t).backs h (k.boot _ ∙ up_boots s c past h up) rest (k.clock _)
@@ -196,7 +198,7 @@ acts_alone s c past armed t h up notes good turns loads =
     let e : Entry = noted_entry t.lines ms in
     let k : Skips t.lines = skips t.lines notes in
     let rest : Rests s e past = noted_rests s t.lines ms past k in
-    let pump : Pumps c.server.lasting.boot c.server.seats (seats_of c) c.clock c.sent (e ∷ past) t = let l = loads e refl in pumps c.server.lasting.boot c.server.seats (seats_of c) c.clock c.sent e past t refl (k.clock _ ∙ h.clock) l.backed l.sends in
+    let pump : Pumps c.server.lasting.boot c.server.seats (seats_of c) c.clock c.sent (e ∷ past) t = let l = loads e refl in pumps c.server.lasting.boot c.server.seats (seats_of c) c.clock c.sent e past t refl (k.clock _ ∙ h.clock) l.backed l.sends (k.boot _ ∙ up_boots s c past h up) in
     record {
       good = good;
       replies = pump.good;
@@ -259,7 +261,7 @@ renewed_goes s c past armed p n m k true H up at j is =
     (λ x over held. record { notes = tt; sent = news_break _ _ _ c.server.lasting.boot n m.head.boot k ((up_backed s c past H up).outs refl n k is).client; outs = tt; held = held })
     (λ x z. let old = still_backed b c.server.lasting.boot c.server.seats (seats_of c) c.clock c.sent x past (given_plain p x _ z) (up_backed s c past H up) in record {
       backed = none_loaded None (record b { known = put_at n m.head.boot b.known }) c.server.lasting.boot c.server.seats (seats_of c) c.clock c.sent (x ∷ past) (known_backed b (put_at n m.head.boot b.known) c.server.lasting.boot c.server.seats (seats_of c) c.clock c.sent (x ∷ past) old);
-      sends = record { good = (break_good (x ∷ past) c.server.lasting.boot n m.head.boot k, tt); calls = resent b c.server.lasting.boot c.server.seats (seats_of c) c.clock c.sent (x ∷ past) (x ∷ past) n m.head.boot k b.calls old is (λ y w. ap (λ (u : BackCall). u.breaks) (some_of y k (sym w ∙ is))); dones = (tt, tt) };
+      sends = record { good = break_good (x ∷ past) c.server.lasting.boot n m.head.boot k; calls = resent b c.server.lasting.boot c.server.seats (seats_of c) c.clock c.sent (x ∷ past) (x ∷ past) n m.head.boot k b.calls old is (λ y w. ap (λ (u : BackCall). u.breaks) (some_of y k (sym w ∙ is))); dones = (tt, tt) };
     })
 
 pub renews_goes : (s : Script) (c : Cell) (past : List Entry) (armed : Armed) (p : ℕ) (m : Message) (o : Option BackCall) → (H : Holds s c past) → c.down ≡ None → message_at c.sent p ≡ Some m → Dull c.server.seats c.server.lasting.boot m → c.server.backs.calls m.head.from ≡ o
@@ -396,20 +398,31 @@ ran_now s c past p n h user call e H up sent w is at = record {
   first = unheard_up c past up H.unheard (record { node = Client n; epoch = h.epoch; number = h.number }) c.server.lasting.boot (inr (refl, w.above));
 }
 
+-- the entry that is given the call runs it, the first in its boot
+pub runs_here : (s : Script) (c : Cell) (past : List Entry) (p n : ℕ) (h : Head) (user : List ℕ) (call : FsCall) → (H : Holds s c past) → c.down ≡ None → message_at c.sent p ≡ Some (call_at n h user call) → Now s c H.floors past n h user call → RunsHere the_server (called_key (client_head n h)) past (lines.Given p ∷ [])
+runs_here s c past p n h user call H up sent w = record {
+  boot = c.server.lasting.boot;
+  up = up_boots s c past H up;
+  given = subst (IsCallUnder the_server (called_key (client_head n h)) c.server.lasting.boot) (sym (at_told s c past p _ H sent)) ((tt, refl), (refl, w.boot));
+  first = unheard_up c past up H.unheard (called_key (client_head n h)) c.server.lasting.boot (inr (refl, w.above));
+}
+
 -- the call ran in this entry, or in one before whose step was done by this one
 pub record HasRun (c : Cell) (n : ℕ) (h : Head) (user : List ℕ) (call : FsCall) (past : List Entry) : Type 0 where
   pub ran : Ran (reply_head c.server.lasting.boot (client_head n h)) past
   pub is : ran.message ≡ call_at n h user call
+  pub up : server_boot the_server (lines_of ran.older) ≡ Some c.server.lasting.boot
   pub ideal : AreIdeal c.server.lasting.volumes ran.older
 
 -- the reply has the code of the ideal operation
 abbrev pub cause_now : (c : Cell) (n : ℕ) (h : Head) (user : List ℕ) (call : FsCall) (x : Carried) (code : ℤ) (past : List Entry) → (g : HasRun c n h user call past) → user ≡ user_of (Client n)
-    → HasCode x → code_told x ≡ Some code → IsResult code (answer_at user call g.ran.older) (called_key (client_head n h)) g.ran.at.lines (lines_of past)
+    → HasCode x → code_told x ≡ Some code → IsResult the_server code (answer_at user call g.ran.older) (called_key (client_head n h)) g.ran.at.lines (lines_of past)
     → Cause (replied c.server.lasting.boot (client_head n h) x) code (as_asked call) past []
 cause_now c n h user call x code past g own has told result = record {
   is_reply = (refl, has);
   told = told;
   ran = g.ran;
+  up = g.up;
   user = user;
   call = call;
   carries = ap (λ (m : Message). m.carried) g.is;
@@ -528,6 +541,8 @@ caller_after good s c past n h user call x e st H w v =
       old = old_over (c.clients n).cache (lines_of past) (lines_of (e ∷ past)) v.grows d.old;
       runs = λ b y. v.acts.runs s (lines_of past) ∙ d.runs b y;
       asked = λ b y. inr (v.acts.begins, d.asked b y);
+      none = d.none;
+      gave = λ b y. all_dropped_onto (Client n) (fids_of_gifts (c.clients n).gifts) e.lines (lines_of past) v.acts.begins (d.gave b y);
       reached = v.reached;
     }
 
@@ -552,6 +567,7 @@ serves good s b c past n h user call x e st after d armed H w v boots heard fall
       floors = H.floors;
       count = H.count;
       own = H.own;
+      tried = λ j. tried_more j (c.clients j) (lines_of past) e.lines (H.tried j);
       servers = H.servers;
       ideal = v.ideal;
       fine = v.fine;
@@ -638,7 +654,7 @@ serves_still s c past n h user call x e H w pf pr pa l ideal home new clock top 
 -- the call runs now
 abbrev pub has_run : (s : Script) (c : Cell) (past : List Entry) (p n : ℕ) (h : Head) (user : List ℕ) (call : FsCall) (e : Entry) → (H : Holds s c past) → c.down ≡ None → message_at c.sent p ≡ Some (call_at n h user call) → Now s c H.floors past n h user call
     → given_message e.lines (sent_of past) ≡ message_at (sent_of past) p → e.actor ≡ actors.Node the_server → HasRun c n h user call (e ∷ past)
-has_run s c past p n h user call e H up at w is by = record { ran = ran_now s c past p n h user call e H up at w is by; is = refl; ideal = H.ideal }
+has_run s c past p n h user call e H up at w is by = record { ran = ran_now s c past p n h user call e H up at w is by; is = refl; up = up_boots s c past H up; ideal = H.ideal }
 
 -- the reply to a call that runs now, in the server's memory
 pub taken_not : (seats : List Seat) (n : ℕ) (h : Head) (r : Message) → Above (call_seat (Client n) (call_seated (taken n h r) seats)) h.epoch h.number → ⊥
@@ -655,16 +671,16 @@ run_backed s c past n h user call x e ps H up w is a b d granted clients promise
     (λ y. absurd (no_change k (lines_of past) (H.new k w.above_durable) (change_back k e.lines (lines_of past) d y)))
 
 pub refuses_goes : (s : Script) (c : Cell) (past : List Entry) (armed : Armed) (p n : ℕ) (h : Head) (user : List ℕ) (call : FsCall) (code : ℤ) → (H : Holds s c past) → c.down ≡ None → message_at c.sent p ≡ Some (call_at n h user call) → Now s c H.floors past n h user call → is_passing code ≡ false
-    → IsResult code (answer_at user call past) (called_key (client_head n h)) (lines.Given p ∷ []) (lines.Given p ∷ lines_of past) → Goes s past (server_does c armed p (call_at n h user call) (refuses (client_head n h) code))
+    → IsResult the_server code (answer_at user call past) (called_key (client_head n h)) (lines.Given p ∷ []) (lines.Given p ∷ lines_of past) → Goes s past (server_does c armed p (call_at n h user call) (refuses (client_head n h) code))
 refuses_goes s c past armed p n h user call code H up at w nz result =
     let x : Carried = carried.Refusal (record { 0 = code }) in
     let r : Message = replied c.server.lasting.boot (client_head n h) x in
     let t : Turn = turn_for the_server c.server c.clock (expired c.clock c.server.backs) (refuses (client_head n h) code) in
     let ms : List Message = (pumped the_server c.server.lasting.boot t).sent in
     let e : Entry = record { actor = actors.Node the_server; lines = lines.Given p ∷ []; sent = ms; volumes = [] } in
-    let pump : Pumps c.server.lasting.boot (seats_after c n h r) (seats_of c) c.clock c.sent (e ∷ past) t = pumps c.server.lasting.boot (seats_after c n h r) (seats_of c) c.clock c.sent e past t refl H.clock (run_backed s c past n h user call x e (expired c.clock c.server.backs).lists.promises H up w (λ y. y) refl refl refl (granted_over e past (expired c.clock c.server.backs).lists.promises refl ((up_backed s c past H up).granted refl)) ((up_backed s c past H up).clients refl).promised (promised_over None (expired c.clock c.server.backs).lists.promises c.clock c.clock e past refl (le_refl _) (up_backed s c past H up).promised)) (record { good = tt; calls = tt; dones = tt }) in
+    let pump : Pumps c.server.lasting.boot (seats_after c n h r) (seats_of c) c.clock c.sent (e ∷ past) t = pumps c.server.lasting.boot (seats_after c n h r) (seats_of c) c.clock c.sent e past t refl H.clock (run_backed s c past n h user call x e (expired c.clock c.server.backs).lists.promises H up w (λ y. y) refl refl refl (granted_over e past (expired c.clock c.server.backs).lists.promises refl ((up_backed s c past H up).granted refl)) ((up_backed s c past H up).clients refl).promised (promised_over None (expired c.clock c.server.backs).lists.promises c.clock c.clock e past refl (le_refl _) (up_backed s c past H up).promised)) (record { good = tt; calls = tt; dones = tt }) (up_boots s c past H up) in
     record {
-      good = (tt, tt);
+      good = (refl, tt);
       holds = serves false s (Some c.server.lasting.boot) c past n h user call x e (stock c.server) (pumped the_server c.server.lasting.boot t).backs None armed H w
           (serves_still s c past n h user call x e H w (λ j f. told_file j p f (actors.Node the_server) ms past) (λ j f. told_reach j p f (actors.Node the_server) ms past) (λ j. told_act j p (actors.Node the_server) ms past) (λ f. refl) H.ideal H.home H.new H.clock H.top H.one (λ y. y)
           (record {
@@ -714,10 +730,17 @@ own_found u (Some y) x e = own_found_by (nat_eq y.unique u) y x e
 pub body_same : (a b : Found) → shows_body a ≡ shows_body b → a ≡ b
 body_same a b e = cc
 
--- grants are always good
-pub granted_good : (s : Script) (past : List Entry) (own : List Line) (c : Node) (x : ℕ) (fs : List Found) → AreGood s (actors.Node the_server) past own (granted the_server c x fs [])
-granted_good s past own c x [] = tt
-granted_good s past own c x (f ∷ fs) = (refl, granted_good s past (lines.Grant the_server c f.fid f.vnode.index x ∷ own) c x fs)
+grants_last : (c : Node) (x : ℕ) (fs : List Found) (f : Fid) (o : List Line) → last_version f (onto o (granted the_server c x fs [])) ≡ last_version f o
+grants_last c x [] f o = refl
+grants_last c x (g ∷ fs) f o = grants_last c x fs f (lines.Grant the_server c g.fid g.vnode.index x ∷ o)
+
+-- grants are good where a call of the client runs
+pub grant_more : (c : Node) (f : Fid) (i x : ℕ) (past : List Entry) (own : List Line) → GoodGrant the_server c x past own → GoodGrant the_server c x past (lines.Grant the_server c f i x ∷ own)
+grant_more c f i x past own g = record { key = g.key; node = g.node; ran = record { boot = g.ran.boot; up = g.ran.up; given = g.ran.given; first = g.ran.first }; going = g.going; lasts = g.lasts }
+
+pub granted_good : (s : Script) (past : List Entry) (own : List Line) (c : Node) (x : ℕ) (fs : List Found) → GoodGrant the_server c x past own → AreGood s (actors.Node the_server) past own (granted the_server c x fs [])
+granted_good s past own c x [] g = tt
+granted_good s past own c x (f ∷ fs) g = ((refl, g), granted_good s past (lines.Grant the_server c f.fid f.vnode.index x ∷ own) c x fs (grant_more c f.fid f.vnode.index x past own g))
 
 pub version_fid : (f : Fid) (v : Volume) (x : Vnode) → vnode_of f v ≡ Some x → (version_at f.volume f.vnode x).fid ≡ f
 version_fid f v x e = ap (λ (u : ℕ). fid_at f.volume f.vnode u) (own_unique f.unique (get f.vnode v.vnodes) x e)
@@ -735,6 +758,11 @@ pub record IsLook (c : Cell) (f : Fid) (show : Found → Shown) (r : Reading) : 
   pub seen : IsSeen c f stored found
   pub caller : Caller
   pub is : r ≡ reading_in f.volume caller stored (show found)
+
+-- rights are read of a directory
+pub record IsRights (c : Cell) (f : Fid) (r : Reading) : Type 0 where
+  pub look : IsLook c f shows_acl r
+  pub kind : look.found.vnode.kind ≡ a_directory
 
 pub record IsTime (r : Reading) : Type 0 where
   pub time : ℕ
@@ -759,7 +787,7 @@ pub record AreLooked (c : Cell) (fs : List Fid) (r : Reading) : Type 0 where
 -- what a reading call is told is what it asks for
 abbrev pub IsRead : Cell → FsCall → Reading → Type 0
 IsRead c (calls.FetchData f position wanted) r = IsLook c f shows_body r
-IsRead c (calls.FetchAcl f) r = IsLook c f shows_acl r
+IsRead c (calls.FetchAcl f) r = IsRights c f r
 IsRead c (calls.FetchStatus f) r = IsLook c f shows_status r
 IsRead c (calls.GetVolumeStatus id) r = IsOfVolume id r
 IsRead c (calls.GiveUpCallBacks fids callbacks) r = r ≡ given_up_read fids
@@ -800,24 +828,33 @@ all_fit sp n m c past expiry caller (f ∷ fs) (x ∷ xs) granted seen w h = (
   all_fit sp n m c past expiry caller fs xs granted seen.1 (λ y z. w y (inr z)) h,
 )
 
+-- what a reply tells of a body is there
+there_by : (t u : Bool) (bytes : List ℕ) → IsThere (cond t (bodies.File bytes) (cond u (bodies.Dir (names_told (directory_of bytes))) (bodies.Link bytes)))
+there_by true u bytes = tt
+there_by false true bytes = tt
+there_by false false bytes = tt
+
+pub body_there : (kind : ℕ) (bytes : List ℕ) → IsThere (body_told kind bytes)
+body_there kind bytes = there_by (nat_eq kind 1) (nat_eq kind 2) bytes
+
 -- the reply of a reading call fits it, where each vnode that it promises is fetched
 pub read_fits : (sp : Bool) (n : ℕ) (call : FsCall) (v : Spot) (m : Message) (c : Cell) (past : List Entry) (expiry : ℕ) (r : Reading) → IsRead c call r
     → ((st : Stored) (f : Found) → get f.fid.volume c.server.lasting.volumes ≡ Some st → vnode_of f.fid st.volume ≡ Some f.vnode → IsAmong f r.granted → (b : Option Body) → IsBody b (body_told (type_of f.vnode.kind) (bytes_by f.vnode.kind f.vnode)) → IsFetched sp n f.fid f.vnode.index (shown_status f.vnode) b expiry m past)
-    → ((st : Stored) (f : Found) → get f.fid.volume c.server.lasting.volumes ≡ Some st → vnode_of f.fid st.volume ≡ Some f.vnode → IsGot n f.fid f.vnode.index (acl_text f.vnode.acl) past)
+    → ((st : Stored) (f : Found) → get f.fid.volume c.server.lasting.volumes ≡ Some st → vnode_of f.fid st.volume ≡ Some f.vnode → f.vnode.kind ≡ a_directory → IsGot n f.fid f.vnode.index (acl_text f.vnode.acl) past)
     → FitsReply sp n call v m past (promised_in expiry r.reply)
 read_fits sp n (calls.FetchData g p w) v m c past expiry r x h g\' =
     let b : Option Body = Some (body_told (type_of x.found.vnode.kind) (bytes_by x.found.vnode.kind x.found.vnode)) in
     subst (λ (y : Reading). FitsReply sp n (calls.FetchData g p w) v m past (promised_in expiry y.reply)) (sym x.is)
-    (subst (λ (z : Fid). IsFetched sp n z x.found.vnode.index (shown_status x.found.vnode) b expiry m past) (sym x.seen.fid) (h x.stored x.found x.seen.at x.seen.found (subst (λ (y : Reading). IsAmong x.found y.granted) (sym x.is) (inl refl)) b refl))
+    (subst (λ (z : Fid). IsFetched sp n z x.found.vnode.index (shown_status x.found.vnode) b expiry m past) (sym x.seen.fid) (h x.stored x.found x.seen.at x.seen.found (subst (λ (y : Reading). IsAmong x.found y.granted) (sym x.is) (inl refl)) b (refl, body_there (type_of x.found.vnode.kind) (bytes_by x.found.vnode.kind x.found.vnode))))
 read_fits sp n (calls.FetchAcl g) v m c past expiry r x h g' =
-    subst (λ (y : Reading). FitsReply sp n (calls.FetchAcl g) v m past (promised_in expiry y.reply)) (sym x.is)
-    (subst (λ (z : Fid). IsGot n z x.found.vnode.index (acl_text x.found.vnode.acl) past) (sym x.seen.fid) (g' x.stored x.found x.seen.at x.seen.found))
+    subst (λ (y : Reading). FitsReply sp n (calls.FetchAcl g) v m past (promised_in expiry y.reply)) (sym x.look.is)
+    (subst (λ (z : Fid). IsGot n z x.look.found.vnode.index (acl_text x.look.found.vnode.acl) past) (sym x.look.seen.fid) (g' x.look.stored x.look.found x.look.seen.at x.look.seen.found x.kind))
 read_fits sp n (calls.FetchStatus g) v m c past expiry r x h g\' =
     subst (λ (y : Reading). FitsReply sp n (calls.FetchStatus g) v m past (promised_in expiry y.reply)) (sym x.is)
     (subst (λ (z : Fid). IsFetched sp n z x.found.vnode.index (shown_status x.found.vnode) None expiry m past) (sym x.seen.fid) (h x.stored x.found x.seen.at x.seen.found (subst (λ (y : Reading). IsAmong x.found y.granted) (sym x.is) (inl refl)) None tt))
-read_fits sp n (calls.GetVolumeStatus k) v m c past expiry r x h g\' = subst (λ (y : Reading). FitsReply sp n (calls.GetVolumeStatus k) v m past (promised_in expiry y.reply)) (sym x.is) (λ id z. absurd cc)
-read_fits sp n (calls.GiveUpCallBacks fids callbacks) v m c past expiry r x h g\' = subst (λ (y : Reading). FitsReply sp n (calls.GiveUpCallBacks fids callbacks) v m past (promised_in expiry y.reply)) (sym x) (λ id z. absurd cc)
-read_fits sp n calls.GetTime v m c past expiry r x h g\' = subst (λ (y : Reading). FitsReply sp n calls.GetTime v m past (promised_in expiry y.reply)) (sym x.is) (λ id z. absurd cc)
+read_fits sp n (calls.GetVolumeStatus k) v m c past expiry r x h g\' = subst (λ (y : Reading). FitsReply sp n (calls.GetVolumeStatus k) v m past (promised_in expiry y.reply)) (sym x.is) (tt, λ id z. absurd cc)
+read_fits sp n (calls.GiveUpCallBacks fids callbacks) v m c past expiry r x h g\' = subst (λ (y : Reading). FitsReply sp n (calls.GiveUpCallBacks fids callbacks) v m past (promised_in expiry y.reply)) (sym x) (tt, λ id z. absurd cc)
+read_fits sp n calls.GetTime v m c past expiry r x h g\' = subst (λ (y : Reading). FitsReply sp n calls.GetTime v m past (promised_in expiry y.reply)) (sym x.is) (tt, λ id z. absurd cc)
 read_fits sp n (calls.BulkStatus fids) v m c past expiry r x h g\' = subst (λ (y : Reading). FitsReply sp n (calls.BulkStatus fids) v m past (promised_in expiry y.reply)) (sym x.is)
     (record { at = index_at c; all = all_fit sp n m c past expiry x.caller fids x.sights (map (λ (s : Sight). s.found) x.sights) x.seen (λ y z. z) (λ st f at found yes b body. h st f at found (subst (λ (y : Reading). IsAmong f y.granted) (sym x.is) yes) b body) })
 read_fits sp n call v m c past expiry r x h g\' = absurd x
@@ -832,7 +869,7 @@ answer_in user call past id of = ap (λ (o : Option ℕ). answer_on user call o 
 -- the fids of which promises end are those that the call gives up
 pub gives_up_as : (c : Cell) (call : FsCall) (r : Reading) → IsRead c call r → r.given_up ≡ fids_given_up call
 gives_up_as c (calls.FetchData g p w) r x = ap (λ (y : Reading). y.given_up) x.is
-gives_up_as c (calls.FetchAcl g) r x = ap (λ (y : Reading). y.given_up) x.is
+gives_up_as c (calls.FetchAcl g) r x = ap (λ (y : Reading). y.given_up) x.look.is
 gives_up_as c (calls.FetchStatus g) r x = ap (λ (y : Reading). y.given_up) x.is
 gives_up_as c (calls.GetVolumeStatus k) r x = ap (λ (y : Reading). y.given_up) x.is
 gives_up_as c (calls.GiveUpCallBacks fids callbacks) r x = ap (λ (y : Reading). y.given_up) x
@@ -875,7 +912,7 @@ grants_boot : (d : Node) (x : ℕ) (fs : List Found) (o : List Line) → server_
 grants_boot d x [] o = refl
 grants_boot d x (g ∷ fs) o = grants_boot d x fs (lines.Grant the_server d g.fid g.vnode.index x ∷ o)
 
-onto_parts : (o a b : List Line) → onto o (a ++ b) ≡ onto (onto o a) b
+pub onto_parts : (o a b : List Line) → onto o (a ++ b) ≡ onto (onto o a) b
 onto_parts o [] b = refl
 onto_parts o (l ∷ a) b = onto_parts (l ∷ o) a b
 
@@ -910,6 +947,39 @@ first_answer boot (o ∷ os) k t h = first_answer boot os k _ (by_answer boot k 
 pub told_there : (f : Fid) (index : ℕ) (body : ReadBody) (o : Option Volume) (v : Volume) (x : Vnode) → Some v ≡ o → vnode_of f v ≡ Some x → Tells index body x → TellsOf f index body o
 told_there f index body o v x at found h = subst (TellsOf f index body) at (subst (TellsIn index body) (sym found) h)
 
+and_true : (a b : Bool) → a ≡ true → b ≡ true → (a && b) ≡ true
+and_true true b e h = h
+and_true false b e h = absurd cc
+
+call_is : (c : Carried) → is_call c ≡ true → IsCall c
+call_is (carried.Call user call) e = tt
+call_is (carried.Refusal code) e = absurd cc
+call_is (carried.Reply reply) e = absurd cc
+call_is carried.Notice e = absurd cc
+
+key_is : (k l : Key) → same_key k l ≡ true → k ≡ l
+key_is k l t =
+    let a = both (same_node k.node l.node) _ t in
+    let b = both (nat_eq k.epoch l.epoch) _ a.1 in
+    ap (λ (n : Node). record { node = n; epoch = k.epoch; number = k.number }) (same_node-true k.node l.node a.0)
+    ∙ (ap (λ (e : ℕ). record { node = l.node; epoch = e; number = k.number }) (eqb-true _ _ b.0) ∙ ap (λ (n : ℕ). record { node = l.node; epoch = l.epoch; number = n }) (eqb-true _ _ b.1))
+
+under_is : (s : Node) (k : Key) (boot : ℕ) (m : Message) → is_call_under s k boot (Some m) ≡ true → IsCallUnder s k boot (Some m)
+under_is s k boot m e =
+    let a = both (is_call m.carried && same_node m.head.to s) _ e in
+    let b = both (is_call m.carried) _ a.0 in
+    let d = both (same_key (called_key m.head) k) _ a.1 in
+    ((call_is m.carried b.0, same_node-true m.head.to s b.1), (key_is (called_key m.head) k d.0, eqb-true m.head.boot boot d.1))
+
+under_not : (t : Bool) (s : Node) (k : Key) (boot : ℕ) (o : Option Message) → is_call_under s k boot o ≡ t → (IsCallUnder s k boot o → ⊥) → not t ≡ true
+under_not false s k boot o e w = refl
+under_not true s k boot None e w = absurd cc
+under_not true s k boot (Some m) e w = absurd (w (under_is s k boot m e))
+
+unheard_is : (s : Node) (k : Key) (boot : ℕ) (past : List Entry) → IsUnheard s k boot past → is_unheard s k boot past ≡ true
+unheard_is s k boot [] h = refl
+unheard_is s k boot (e ∷ past) h = and_true (not (is_call_under s k boot (given_message e.lines (sent_of past)))) (is_unheard s k boot past) (under_not (is_call_under s k boot (given_message e.lines (sent_of past))) s k boot (given_message e.lines (sent_of past)) refl h.0) (unheard_is s k boot past h.1)
+
 shows_by : (s : Script) (c : Cell) (past : List Entry) (armed : Armed) (p n : ℕ) (h : Head) (user : List ℕ) (call : FsCall) (r : Reading) → (H : Holds s c past) → c.down ≡ None → message_at c.sent p ≡ Some (call_at n h user call) → Now s c H.floors past n h user call
     → IsRead c call r → code_given (answer_at user call past) ≡ pos 0 → IsTold (called_key (client_head n h)) (answer_at user call past) [] → Goes s past (server_moves c armed (done the_server c.server c.clock p (shows (client_head n h) r) (shows_turn the_server c.server c.clock (expired c.clock c.server.backs) (client_head n h) r)))
 shows_by s c past armed p n h user call r H up at w is code done =
@@ -927,17 +997,19 @@ shows_by s c past armed p n h user call r H up at w is code done =
     let B = up_backed s c past H up in
     let ps : List Promise = (expired c.clock c.server.backs).lists.promises in
     let boots : server_boot the_server (lines_of (e ∷ past)) ≡ Some c.server.lasting.boot = k.boot (lines.Given p ∷ lines_of past) ∙ up_boots s c past H up in
-    let gave : given_up_in the_server ms (given_message e.lines (sent_of past)) ≡ drops_of (Client n) r.given_up =
-    ap (given_up_in the_server ms) (at_told s c past p _ H at) ∙ (ap (λ (b : Bool). given_up_by the_server b (client_head n h) (carried.Call user (ask.File call))) (first_answer c.server.lasting.boot turn.backs.lists.owed (called_key (client_head n h)) (record { backs = held_after turn; sent = given_out turn }) (rw (same_node-refl (Client n), eq-eqb h.epoch h.epoch refl, eq-eqb h.number h.number refl) refl))
+    let answered : has_answer (called_key (client_head n h)) ms ≡ true = first_answer c.server.lasting.boot turn.backs.lists.owed (called_key (client_head n h)) (record { backs = held_after turn; sent = given_out turn }) (rw (same_node-refl (Client n), eq-eqb h.epoch h.epoch refl, eq-eqb h.number h.number refl) refl) in
+    let first : is_unheard the_server (called_key (client_head n h)) (client_head n h).boot past ≡ true = unheard_is the_server (called_key (client_head n h)) (client_head n h).boot past (subst (λ (b : ℕ). IsUnheard the_server (called_key (client_head n h)) b past) (sym w.boot) (unheard_up c past up H.unheard (called_key (client_head n h)) c.server.lasting.boot (inr (refl, w.above)))) in
+    let gave : returned_in the_server e (given_message e.lines (sent_of past)) past ≡ drops_of (Client n) r.given_up =
+    ap (λ (o : Option Message). returned_in the_server e o past) (at_told s c past p _ H at) ∙ (ap (λ (b : Bool). returned_by the_server b (client_head n h) (carried.Call user (ask.File call))) (and_true _ _ first answered)
     ∙ ap (λ (gs : List Fid). drops_of (Client n) gs) (sym (gives_up_as c call r is))) in
     let given : Promised None (without_promises (Client n) r.given_up ps) c.clock (before_own e past) = subst (λ (ds : List Line). Promised None (without_promises (Client n) r.given_up ps) c.clock (onto (lines_at the_server past) ds)) (sym gave) (gone_promised (Client n) c.clock r.given_up (lines_at the_server past) ps B.promised) in
     let pump : Pumps c.server.lasting.boot (seats_after c n h m) (seats_of c) c.clock c.sent (e ∷ past) turn = pumps c.server.lasting.boot (seats_after c n h m) (seats_of c) c.clock c.sent e past turn refl (k.clock (lines.Given p ∷ lines_of past) ∙ H.clock)
     (run_backed s c past n h user call z e turn.backs.lists.promises H up w (λ y. y) (granted_all is_up (Client n) t fs (λ f i. refl)) (granted_all is_oweless (Client n) t fs (λ f i. refl)) (granted_all is_unchanging (Client n) t fs (λ f i. refl))
     (all_granted (Client n) t fs (lines.Given p ∷ lines_of past) (without_promises (Client n) r.given_up ps) (gone_granted (Client n) r.given_up (lines_of past) ps (B.granted refl)))
     (granted_to_client t n fs (without_promises (Client n) r.given_up ps) (gone_to_clients (Client n) r.given_up ps (B.clients refl).promised))
-    (all_promised (Client n) t c.clock fs (lines.Given p ∷ before_own e past) (without_promises (Client n) r.given_up ps) given)) (record { good = tt; calls = tt; dones = tt }) in
+    (all_promised (Client n) t c.clock fs (lines.Given p ∷ before_own e past) (without_promises (Client n) r.given_up ps) given)) (record { good = tt; calls = tt; dones = tt }) boots in
     record {
-      good = (tt, granted_good s past (lines.Given p ∷ []) (Client n) t fs);
+      good = (refl, granted_good s past (lines.Given p ∷ []) (Client n) t fs (record { key = called_key (client_head n h); node = refl; ran = runs_here s c past p n h user call H up at w; going = λ z. z; lasts = ap (λ (i : ℕ). i + promise_ticks) (sym H.clock) }));
       holds = serves false s (Some c.server.lasting.boot) c past n h user call z e (stock c.server) (pumped the_server c.server.lasting.boot turn).backs None armed H w
           (serves_still s c past n h user call z e H w rest.file rest.reach rest.act (λ g. rest.last g (lines_of past)) (λ id. H.ideal id ∙ sym (rest.ideal id)) (λ id v found. rest.home id (lines_of past) (H.home id v found)) (λ key above. rest.new key (lines_of past) (H.new key above)) (k.clock (lines.Given p ∷ lines_of past) ∙ H.clock)
           (λ f i b x. subst (λ (o : Option Version). i ≤ index_in o) (sym (rest.last f (lines_of past))) (H.top f i b (rest.back f i b (lines_of past) x))) (λ f i a b x y. H.one f i a b (rest.back f i a (lines_of past) x) (rest.back f i b (lines_of past) y)) (λ y. y)
@@ -953,7 +1025,7 @@ shows_by s c past armed p n h user call r H up at w is code done =
                 let base : List Line = lines.Grant the_server (Client n) f.fid g.index t ∷ onto (lines_of past) before in
                 record {
                   held = record {
-                    grant = record { is_reply = (refl, tt); to = refl; ran = ran_now s c past p n h user call e H up at w refl refl; server = the_server; node = refl; index = g.index; before = before; after = after; line = g.line };
+                    grant = record { is_reply = (refl, tt); told = refl; to = refl; ran = ran_now s c past p n h user call e H up at w refl refl; server = the_server; node = refl; index = g.index; before = before; after = after; line = g.line };
                     server = refl;
                     kept = λ y d. grants_keep the_server (Client n) (Client n) f.fid t g.after [] d;
                     whole = record {
@@ -965,18 +1037,19 @@ shows_by s c past armed p n h user call r H up at w is code done =
                     base = base;
                     split = ap (onto (lines_of past)) g.line ∙ (onto_parts (lines_of past) before (lines.Grant the_server (Client n) f.fid g.index t ∷ after) ∙ onto_front base after);
                     begun = grants_boot (Client n) t g.before (lines.Given p ∷ lines_of past) ∙ up_boots s c past H up;
+                    least = le_of_eq (ap index_in (grants_last (Client n) t g.before f.fid (lines.Given p ∷ lines_of past) ∙ last));
                   };
                   reached = (rest.reach n f.fid).seen f.vnode.index ((reached_at s c past n f.fid (version_at f.fid.volume f.fid.vnode f.vnode) H last).seen);
                   newest = inr (ap (option_map (λ (y : Version). y.index)) (rest.last f.fid (lines_of past) ∙ last));
                 })
-                (λ st f there found.
+                (λ st f there found dir.
                 let v : Volume = st.volume in
                 let here : volume_in f.fid.volume c.server.lasting.volumes ≡ Some v = ap (option_map (λ (x : Stored). x.volume)) there in
                 let last : last_version f.fid (lines_of past) ≡ Some (version_at f.fid.volume f.fid.vnode f.vnode) = found_last s c past f.fid v f.vnode H here found in
                 record {
                   is = body_of f.vnode;
                   told = ((rest.file n f.fid).grant).version f.vnode.index (body_of f.vnode) (lines_of past) (last_has f.fid (lines_of past) (version_at f.fid.volume f.fid.vnode f.vnode) last);
-                  been = inl (told_there f.fid f.vnode.index (seen.AccessList (acl_text f.vnode.acl)) (volume_after f.fid.volume (e ∷ past)) v f.vnode (sym here ∙ (H.ideal f.fid.volume ∙ sym (rest.ideal f.fid.volume))) found (refl, refl));
+                  been = inl (told_there f.fid f.vnode.index (seen.AccessList (acl_text f.vnode.acl)) (volume_after f.fid.volume (e ∷ past)) v f.vnode (sym here ∙ (H.ideal f.fid.volume ∙ sym (rest.ideal f.fid.volume))) found (refl, (refl, dir)));
                   was = inl (ap (option_map (λ (y : Version). y.index)) (rest.last f.fid (lines_of past) ∙ last));
                   reached = (rest.reach n f.fid).seen f.vnode.index ((reached_at s c past n f.fid (version_at f.fid.volume f.fid.vnode f.vnode) H last).seen);
                 });

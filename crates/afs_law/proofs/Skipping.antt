@@ -8,7 +8,7 @@ use Rattle.afs_ideal.specs.Volumes.{Volume}
 use Rattle.afs_law.proofs.Asking.{step_entry, Passes, runs_by_other, other_client}
 use Rattle.afs_law.proofs.Backing.{all_lines, is_up, is_still, is_oweless, is_unchanging}
 use Rattle.afs_law.proofs.Basics.{same_fid-true, same_node-refl, client_number, raised_up_to}
-use Rattle.afs_law.proofs.Facts.{server_boot, InScope, Seen}
+use Rattle.afs_law.proofs.Facts.{InScope, Seen}
 use Rattle.afs_law.proofs.Passing.{PassesBoth, PassesFile, PassesReach, PassesGrant, PassesSeen}
 use Rattle.afs_rows.specs.ClientRow.{find_cached, left_in, given_up_in, dropped, zero_code}
 use Rattle.afs_rows.specs.Going.{Going}
@@ -16,7 +16,7 @@ use Rattle.afs_law.specs.Grants.{has_fetched, IsWithdrawn, IsDropped}
 use Rattle.afs_law.specs.Ideal.{raised, last_version, HasVersion, Accepts, clock_of, Reach, reach_over, reach, is_zero_code, change_key, volume_after, changed_under, brought}
 use Rattle.afs_law.specs.Legal.{IsNew, AreGood, GoodCode}
 use Rattle.afs_history.specs.declared.lines.Line.{Line}
-use Rattle.afs_law.specs.Past.{onto, lines_of, sent_of, given_message, has_begun, running, IsCallUnder}
+use Rattle.afs_law.specs.Past.{server_boot, onto, lines_of, sent_of, given_message, has_begun, running, IsCallUnder}
 use Rattle.afs_rows.specs.Runs.{Entry, message_at}
 use Rattle.afs_law.proofs.OneCell.{the_server, Cell}
 use Rattle.afs_rows.specs.Scopes.{is_volume}

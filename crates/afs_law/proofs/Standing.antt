@@ -24,11 +24,12 @@ use Rattle.afs_rows.specs.States.{BackCall, CacheEntry, Seat}
 use Rattle.afs_law.specs.Breaks.{AllOwes, live_grant, lines_at}
 use Rattle.afs_law.specs.Grants.{fetch_reply}
 use Rattle.afs_law.specs.Ideal.{set_up}
-use Rattle.afs_law.specs.Laws.{IsAccounted, IsAwaited, IsHandled, IsOwedIn, IsPromisedIn}
+use Rattle.afs_law.proofs.Answering.{same_parts}
+use Rattle.afs_law.specs.Laws.{seat_key, IsAccounted, IsAwaited, IsHandled, IsOwedIn, IsPromisedIn}
 use Rattle.afs_law.specs.Legal.{Cause}
 use Rattle.afs_law.specs.Once.{past_of}
 use Rattle.afs_law.specs.OneServer.{IsOneServer}
-use Rattle.afs_law.specs.Past.{HasCode, Ran, lines_of}
+use Rattle.afs_law.specs.Past.{HasCode, Ran, answered_key, lines_of}
 use Rattle.afs_law.proofs.Agreeing.{at_end}
 use Rattle.afs_law.proofs.Basics.{Above, IfCall, IfDone, IfReply, OfClient, OfReply, OfServer, by_client, by_server, client_number, each_at, runs_above}
 use Rattle.afs_law.proofs.Facts.{CallFact, CallIn, Holds, InScope, IsAged, IsSafe, ReplyFact, ReplyIn, view}
@@ -69,8 +70,8 @@ run_caused s h end is r j place m act at code to runs epoch number =
     let a = fact.answers act runs epoch number in
     (a.code, subst (λ (q : FsCall). Cause m a.code q past []) (asks_is (end.clients j).gifts act) a.cause)
 
-pub run_kept : (s : Script) (h : List Entry) (end : cells.Cell) → IsOneServer s → cells.RunsTo h s end → (j : ℕ) (seat : Seat) (m : Message) → call_seat (Client j) (end.hosts 1).state.seats ≡ Some seat → seat.reply ≡ Some m → Ran m.head (past_of (set_up s ∷ []) h)
-run_kept s h end is r j seat m at reply = (((holds_at s h end is r).clients j).kept seat m at reply).1.ran
+pub run_kept : (s : Script) (h : List Entry) (end : cells.Cell) → IsOneServer s → cells.RunsTo h s end → (j : ℕ) (seat : Seat) (m : Message) → call_seat (Client j) (end.hosts 1).state.seats ≡ Some seat → seat.reply ≡ Some m → Ran m.head (past_of (set_up s ∷ []) h) × (answered_key m.head ≡ seat_key (Client j) seat)
+run_kept s h end is r j seat m at reply = let q = ((holds_at s h end is r).clients j).kept seat m at reply in (q.1.ran, same_parts m.head.to (Client j) m.head.epoch seat.epoch m.head.number seat.number q.0.to q.0.epoch q.0.number)
 
 -- ---- promises and breaks
 

@@ -17,13 +17,13 @@ use Rattle.afs_num.specs.declared.messages.Carried.{Carried}
 use Rattle.afs_num.specs.declared.messages.Message.{Message}
 use Rattle.afs_law.proofs.Backing.{back_pass, done_pass, CallsPass}
 use Rattle.afs_law.proofs.Basics.{both, same_node-true, Each, IfBack, IfDone, OfCall, OfReply, OfServer, ByServer, each_more, each_map, if_back, if_done, some_of}
-use Rattle.afs_law.proofs.Owing.{AllOf, all_map, all_both, all_filter, IsGranted, IsIn, IsNumberIn, HeldWaits, IsOwed, CallOut, BackIn, DoneIn, BackedIn, IsPromised, promise_to, IsClient, is_held}
+use Rattle.afs_law.proofs.Owing.{CarriedOwe, AllOf, all_map, all_both, all_filter, IsGranted, IsIn, IsNumberIn, HeldWaits, IsOwed, CallOut, BackIn, DoneIn, BackedIn, IsPromised, promise_to, IsClient, is_held}
 use Rattle.afs_law.specs.Breaks.{HasCome, AllOwes, EndedBy, EndedOf, EndedAll, CarriesBreak, NamesIn, WasSent}
 use Rattle.afs_rows.specs.Callbacks.{put_at, Turn, Started, expired, is_all, waits_none, is_ready, is_reply_to, key_answered, fids_of, breaks_call, fid_before, call_for, break_message, first_of, is_for, most_breaks, carries_for, started_call, starts_by, starts, replies_of, held_after, given_out, pumped}
 use Rattle.afs_law.specs.Ideal.{clock_of}
-use Rattle.afs_law.specs.Legal.{HasChange, GoodReply, AreGoodReplies}
+use Rattle.afs_law.specs.Legal.{GoodGift, HasChange, GoodReply, AreGoodSent}
 use Rattle.afs_history.specs.declared.lines.Line.{Line}
-use Rattle.afs_law.specs.Past.{lines_of, sent_of, given_message, answered_key, IsCallUnder, Sends}
+use Rattle.afs_law.specs.Past.{server_boot, lines_of, sent_of, given_message, answered_key, IsCallUnder, Sends}
 use Rattle.afs_rows.specs.Runs.{Entry}
 use Rattle.afs_law.proofs.OneCell.{the_server}
 use Rattle.afs_rows.specs.States.{Seat, BackCall, Held, Backs}
@@ -174,29 +174,38 @@ held_all P (x ∷ xs) ys h = let q = held_all P xs ys h.1 in ((h.0, q.0), q.1)
 ready_not : (n : ℕ) (o : Owed) (ks : List ℕ) (os : List Owed) (X : Type 0) → IsNumberIn n ks → IsIn o os → o.number ≡ n → waits_none ks os ≡ true → X
 ready_not n o ks os X a b c e = let x : waits_none ks os ≡ false = not_ready n ks os a (number_in n o os b c) in absurd cc
 
-reply_good : (b : Backs) (boot : ℕ) (seats : List Seat) (cs : ℕ → Option Seat) (clock : ℕ) (sent : List Message) (past : List Entry) (h : Held) → BackedIn None b boot seats cs clock sent past → clock_of (lines_of past) ≡ clock → HeldWaits seats clock past h → is_ready b.lists.owed h ≡ true → GoodReply past h.reply
-reply_good b boot seats cs clock sent past h B time w ready is nought i from =
-    subst (λ (s : Node). AllOwes s (EndedOf s (answered_key h.reply.head) (clock_of (lines_of past))) past × (HasChange (answered_key h.reply.head) (lines_of past) → AllOwes s (EndedAll s (clock_of (lines_of past))) past)) (sym w.from)
-    (subst (λ (t : ℕ). AllOwes the_server (EndedOf the_server (answered_key h.reply.head) t) past × (HasChange (answered_key h.reply.head) (lines_of past) → AllOwes the_server (EndedAll the_server t) past)) (sym time) (
-      (λ newer at older before after c what n split line k y. elim (B.accounted newer at older before after c what n split line) [
-        | inl x ↦ x
-        | inr x ↦ elim (w.own newer at older before after c what n split line k y) [ inl z ↦ z | inr z ↦ ready_not n x.1.o h.waits b.lists.owed _ z x.1.is_in x.1.number ready ]
-      ]),
-      (λ changed newer at older before after c what n split line all. elim (B.accounted newer at older before after c what n split line) [
-        | inl x ↦ x
-        | inr x ↦ elim (w.all changed newer at older before after c what n split line all) [ inl z ↦ z | inr z ↦ ready_not n x.1.o h.waits b.lists.owed _ z x.1.is_in x.1.number ready ]
-      ]),
-    ))
+reply_good : (b : Backs) (boot : ℕ) (seats : List Seat) (cs : ℕ → Option Seat) (clock : ℕ) (sent : List Message) (past : List Entry) (h : Held) → BackedIn None b boot seats cs clock sent past → clock_of (lines_of past) ≡ clock → HeldWaits seats clock past h → is_ready b.lists.owed h ≡ true → server_boot the_server (lines_of past) ≡ Some boot → GoodReply past h.reply
+reply_good b boot seats cs clock sent past h B time w ready up is nought i from = (
+  subst (λ (s : Node). AllOwes s (EndedOf s (answered_key h.reply.head) (clock_of (lines_of past))) past × (HasChange (answered_key h.reply.head) (lines_of past) → AllOwes s (EndedAll s (clock_of (lines_of past))) past)) (sym w.from)
+      (subst (λ (t : ℕ). AllOwes the_server (EndedOf the_server (answered_key h.reply.head) t) past × (HasChange (answered_key h.reply.head) (lines_of past) → AllOwes the_server (EndedAll the_server t) past)) (sym time) (
+        (λ newer at older before after c what n split line k y. elim (B.accounted newer at older before after c what n split line) [
+          | inl x ↦ x
+          | inr x ↦ elim (w.own newer at older before after c what n split line k y) [ inl z ↦ z | inr z ↦ ready_not n x.1.o h.waits b.lists.owed _ z x.1.is_in x.1.number ready ]
+        ]),
+        (λ changed newer at older before after c what n split line all. elim (B.accounted newer at older before after c what n split line) [
+          | inl x ↦ x
+          | inr x ↦ elim (w.all changed newer at older before after c what n split line all) [ inl z ↦ z | inr z ↦ ready_not n x.1.o h.waits b.lists.owed _ z x.1.is_in x.1.number ready ]
+        ]),
+      )),
+  λ down. let e : None ≡ Some boot = sym (subst (λ (q : Node). server_boot q (lines_of past) ≡ None) w.from down) ∙ up in absurd cc,
+)
 
-good_by : (t : Bool) (past : List Entry) (h : Held) (rest : List Held) → (t ≡ true → GoodReply past h.reply) → AreGoodReplies past (replies_of rest) → AreGoodReplies past (replies_of (cond t (h ∷ rest) rest))
-good_by true past h rest a b = (a refl, b)
-good_by false past h rest a b = b
+-- what is no call gives nothing back
+pub reply_gift : (head : Head) (c : Carried) (ls : List Line) → (OfReply ⊥ c → ⊥) → GoodGift head c ls
+reply_gift head (carried.Call user call) ls h = absurd (h tt)
+reply_gift head (carried.Refusal code) ls h = tt
+reply_gift head (carried.Reply reply) ls h = tt
+reply_gift head carried.Notice ls h = tt
 
-replies_good : (b : Backs) (boot : ℕ) (seats : List Seat) (cs : ℕ → Option Seat) (clock : ℕ) (sent : List Message) (past : List Entry) (hs : List Held) → BackedIn None b boot seats cs clock sent past → clock_of (lines_of past) ≡ clock → AllOf (HeldWaits seats clock past) hs → AreGoodReplies past (replies_of (filter (is_ready b.lists.owed) hs))
-replies_good b boot seats cs clock sent past [] B time w = tt
-replies_good b boot seats cs clock sent past (h ∷ hs) B time w = good_by (is_ready b.lists.owed h) past h (filter (is_ready b.lists.owed) hs) (λ e. reply_good b boot seats cs clock sent past h B time w.0 e) (replies_good b boot seats cs clock sent past hs B time w.1)
+good_by : (t : Bool) (past : List Entry) (h : Held) (rest : List Held) → (t ≡ true → GoodReply past h.reply) → (OfReply ⊥ h.reply.carried → ⊥) → AreGoodSent past (replies_of rest) → AreGoodSent past (replies_of (cond t (h ∷ rest) rest))
+good_by true past h rest a is b = ((a refl, reply_gift h.reply.head h.reply.carried (lines_of past) is), b)
+good_by false past h rest a is b = b
 
-pub good_more : (past : List Entry) (a b : List Message) → AreGoodReplies past a → AreGoodReplies past b → AreGoodReplies past (a ++ b)
+replies_good : (b : Backs) (boot : ℕ) (seats : List Seat) (cs : ℕ → Option Seat) (clock : ℕ) (sent : List Message) (past : List Entry) (hs : List Held) → BackedIn None b boot seats cs clock sent past → clock_of (lines_of past) ≡ clock → AllOf (HeldWaits seats clock past) hs → server_boot the_server (lines_of past) ≡ Some boot → AreGoodSent past (replies_of (filter (is_ready b.lists.owed) hs))
+replies_good b boot seats cs clock sent past [] B time w up = tt
+replies_good b boot seats cs clock sent past (h ∷ hs) B time w up = good_by (is_ready b.lists.owed h) past h (filter (is_ready b.lists.owed) hs) (λ e. reply_good b boot seats cs clock sent past h B time w.0 e up) w.0.is_reply (replies_good b boot seats cs clock sent past hs B time w.1 up)
+
+pub good_more : (past : List Entry) (a b : List Message) → AreGoodSent past a → AreGoodSent past b → AreGoodSent past (a ++ b)
 good_more past [] b h k = k
 good_more past (m ∷ a) b h k = (h.0, good_more past a b h.1 k)
 
@@ -275,7 +284,7 @@ are_carried (Some f) o ls owed e h k =
     record { owes = all_map (IsPick o.client ls) (IsOwed o.client ls) (λ x y. y.owed) os p; carries = all_carried os (all_map (IsPick o.client ls) IsOnFid (λ x y. y.fid) os p) }
 
 call_more : (j : Node) (c : BackCall) (last more boot : ℕ) (past : List Entry) → last ≤ more → CallOut j c last boot past → CallOut j c more boot past
-call_more j c last more boot past le h = record { client = h.client; number = le_trans h.number le; owes = h.owes; tries = h.tries; sent = h.sent; carries = h.carries }
+call_more j c last more boot past le h = record { client = h.client; number = le_trans h.number le; owes = h.owes; sent = h.sent; carries = h.carries }
 
 put_by : (t : Bool) (j k : Node) (n c : BackCall) (o : Option BackCall) (X : Type 0) → same_node j k ≡ t → cond t (Some n) o ≡ Some c → (j ≡ k → n ≡ c → X) → (o ≡ Some c → X) → X
 put_by true j k n c o X e at a b = a (same_node-true j k e) (some_of n c at)
@@ -321,8 +330,7 @@ started_backed boot seats cs clock sent past t o None h is to was =
           (λ e q. subst (λ (k : Node). CallOut k c (last + 1) boot past) e (subst (λ (z : BackCall). CallOut o.client z (last + 1) boot past) q (record {
             number = le_refl _;
             client = to;
-            owes = carried_.owes;
-            tries = λ k a b. absurd (omega arith);
+            owes = all_map (IsOwed o.client (lines_of past)) (CarriedOwe o.client n.number n.tries boot (lines_of past)) (λ z w. record { owe = w; tries = λ k a b. absurd (omega arith) }) n.breaks carried_.owes;
             sent = was n refl (sends_last _ _ _ t.sent m (inl (refl, refl))) refl;
             carries = carried_.carries;
           })))
@@ -369,7 +377,7 @@ started_all boot seats cs clock sent past (o ∷ os) t h is to was =
 
 -- what a step sends by itself: no reply of the server, and calls of its own
 pub record TurnSends (b : Backs) (boot : ℕ) (past : List Entry) (ms : List Message) : Type 0 where
-  pub good : AreGoodReplies past ms
+  pub good : AreGoodSent past ms
   pub calls : Each (IfBack (BackIn None b.calls b.last_call boot)) ms
   pub dones : Each (IfDone (DoneIn None b.calls b.last_call boot past)) ms
 
@@ -412,31 +420,40 @@ released boot seats cs clock sent past t h s =
       seated = h.seated;
     }
 
-good_by_call : (boot : ℕ) (past : List Entry) (t : Started) (o : Owed) (x : Option BackCall) → AreGoodReplies past t.sent → AreGoodReplies past (starts_by the_server boot t o x).sent
-good_by_call boot past t o None h = let m : Message = break_message the_server boot o.client (t.backs.known o.client) (started_call t.backs o) in good_more past t.sent (m ∷ []) h (call_good past m.head [] (breaks_call (started_call t.backs o).breaks), tt)
+on_gift : (what : Option Fid) (os : List Owed) (head : Head) (ls : List Line) → GoodGift head (carried.Call [] (ask.File (call_for what os))) ls
+on_gift None os head ls = tt
+on_gift (Some f) os head ls = tt
+
+-- and no break does
+pub break_gift : (os : List Owed) (head : Head) (ls : List Line) → GoodGift head (carried.Call [] (ask.File (breaks_call os))) ls
+break_gift [] head ls = tt
+break_gift (o ∷ os) head ls = on_gift o.what (o ∷ os) head ls
+
+good_by_call : (boot : ℕ) (past : List Entry) (t : Started) (o : Owed) (x : Option BackCall) → AreGoodSent past t.sent → AreGoodSent past (starts_by the_server boot t o x).sent
+good_by_call boot past t o None h = let m : Message = break_message the_server boot o.client (t.backs.known o.client) (started_call t.backs o) in good_more past t.sent (m ∷ []) h ((call_good past m.head [] (breaks_call (started_call t.backs o).breaks), break_gift (started_call t.backs o).breaks m.head (lines_of past)), tt)
 good_by_call boot past t o (Some c) h = h
 
-calls_good : (boot : ℕ) (past : List Entry) (os : List Owed) (t : Started) → AreGoodReplies past t.sent → AreGoodReplies past (starts the_server boot os t).sent
+calls_good : (boot : ℕ) (past : List Entry) (os : List Owed) (t : Started) → AreGoodSent past t.sent → AreGoodSent past (starts the_server boot os t).sent
 calls_good boot past [] t h = h
 calls_good boot past (o ∷ os) t h = calls_good boot past os (starts_by the_server boot t o (t.backs.calls o.client)) (good_by_call boot past t o (t.backs.calls o.client) h)
 
 -- the whole end: `past` begins with the entry, which sends all this
 pub record Pumps (boot : ℕ) (seats : List Seat) (cs : ℕ → Option Seat) (clock : ℕ) (sent : List Message) (past : List Entry) (t : Turn) : Type 0 where
-  pub good : AreGoodReplies past (pumped the_server boot t).sent
+  pub good : AreGoodSent past (pumped the_server boot t).sent
   pub clients : AllOf (λ (o : Owed). IsClient o.client) t.backs.lists.owed
   pub backed : BackedIn None (pumped the_server boot t).backs boot seats cs clock (sent ++ (pumped the_server boot t).sent) past
 
 was_sent : (e : Entry) (past : List Entry) (k : Key) (user : List ℕ) (call : FsCall) → Sends k user call e.sent → WasSent k user call (e ∷ past)
 was_sent e past k user call h = inl h
 
-pub pumps : (boot : ℕ) (seats : List Seat) (cs : ℕ → Option Seat) (clock : ℕ) (sent : List Message) (e : Entry) (past : List Entry) (t : Turn) → e.sent ≡ (pumped the_server boot t).sent → clock_of (lines_of (e ∷ past)) ≡ clock → BackedIn None (loaded t) boot seats cs clock sent (e ∷ past) → TurnSends (loaded t) boot (e ∷ past) t.sent → Pumps boot seats cs clock sent (e ∷ past) t
-pumps boot seats cs clock sent e past t is time h s =
+pub pumps : (boot : ℕ) (seats : List Seat) (cs : ℕ → Option Seat) (clock : ℕ) (sent : List Message) (e : Entry) (past : List Entry) (t : Turn) → e.sent ≡ (pumped the_server boot t).sent → clock_of (lines_of (e ∷ past)) ≡ clock → BackedIn None (loaded t) boot seats cs clock sent (e ∷ past) → TurnSends (loaded t) boot (e ∷ past) t.sent → server_boot the_server (lines_of (e ∷ past)) ≡ Some boot → Pumps boot seats cs clock sent (e ∷ past) t
+pumps boot seats cs clock sent e past t is time h s up =
     let q = held_all (HeldWaits seats clock (e ∷ past)) t.backs.held t.outs (h.waiting refl) in
     record {
-      good = calls_good boot (e ∷ past) t.backs.lists.owed _ (good_more (e ∷ past) t.sent _ s.good (replies_good (loaded t) boot seats cs clock sent (e ∷ past) (t.outs ++ t.backs.held) h time (all_both (HeldWaits seats clock (e ∷ past)) t.outs t.backs.held q.1 q.0)));
+      good = calls_good boot (e ∷ past) t.backs.lists.owed _ (good_more (e ∷ past) t.sent _ s.good (replies_good (loaded t) boot seats cs clock sent (e ∷ past) (t.outs ++ t.backs.held) h time (all_both (HeldWaits seats clock (e ∷ past)) t.outs t.backs.held q.1 q.0) up));
       clients = (h.clients refl).owed;
       backed = started_all boot seats cs clock sent (e ∷ past) t.backs.lists.owed _ (released boot seats cs clock sent (e ∷ past) t h s) (h.owing refl) (h.clients refl).owed (λ k user call x. was_sent e past k user call (subst (λ (ms : List Message). Sends k user call ms) (sym is) x));
     }
 
-pub break_good : (past : List Entry) (boot : ℕ) (n : Node) (known : ℕ) (c : BackCall) → GoodReply past (break_message the_server boot n known c)
-break_good past boot n known c = let m : Message = break_message the_server boot n known c in call_good past m.head [] (breaks_call c.breaks)
+pub break_good : (past : List Entry) (boot : ℕ) (n : Node) (known : ℕ) (c : BackCall) → AreGoodSent past (break_message the_server boot n known c ∷ [])
+break_good past boot n known c = let m : Message = break_message the_server boot n known c in ((call_good past m.head [] (breaks_call c.breaks), break_gift c.breaks m.head (lines_of past)), tt)

@@ -3,16 +3,16 @@ use Rattle.afs_rows.specs.Steps.{Step}
 use Rattle.afs_num.specs.declared.types.Node.{Node}
 use Rattle.afs_law.proofs.Apart.{apart_filter}
 use Rattle.afs_law.proofs.Asking.{client_ended}
-use Rattle.afs_law.proofs.Facts.{AreApart, IsClient, its_call}
-use Rattle.afs_law.proofs.Passing.{old_over, old_within, ran_over}
-use Rattle.std.proofs.Common.{nat_eq, not, ◌≡◌, ℕ, ◌+◌, inl, inr, Bool, true, false, cond, nat_lt, List, [], ◌∷◌, ◌++◌, Option, Some, None, refl, sym, ap, subst, ◌∙◌, arith}
+use Rattle.afs_law.proofs.Facts.{fids_of_gifts, AreApart, IsClient, its_call}
+use Rattle.afs_law.proofs.Passing.{all_dropped_onto, tried_idle, tried_kept, tried_once, old_over, old_within, ran_over}
+use Rattle.std.proofs.Common.{ltb-false, ◌≤◌, nat_eq, not, ◌≡◌, ℕ, ◌+◌, inl, inr, Bool, true, false, cond, nat_lt, List, [], ◌∷◌, ◌++◌, Option, Some, None, refl, sym, ap, subst, ◌∙◌, arith}
 use Rattle.std.specs.Prelude.{◌&&◌}
 use Rattle.afs_num.specs.declared.histories.Actor.TheVariants as actors
 use Rattle.afs_ideal.specs.Operations.{volume_changed}
 use Rattle.afs_law.proofs.Answering.{holding, ended_facts, ended_reply, ended_stands}
 use Rattle.afs_law.proofs.Asking.{moves_back, step_entry, view_after, Passes, moves, nothing_new, runs_by_other, client_kept, call_known, reply_still, own_call, same_one}
-use Rattle.afs_law.proofs.Basics.{same_node-refl, some_of, UpTo}
-use Rattle.afs_law.proofs.Facts.{Ghost, IsAged, View, view, last_key, IsSafe, ReplyFact, Holds, Goes, InScope}
+use Rattle.afs_law.proofs.Basics.{some_of, UpTo}
+use Rattle.afs_law.proofs.Facts.{Ghost, IsAged, View, view, IsSafe, ReplyFact, Holds, Goes, InScope}
 use Rattle.afs_law.proofs.Passing.{PassesFile, PassesAct, PassesReach, stays, current_over, kept_over}
 use Rattle.afs_law.proofs.Resting.{voids}
 use Rattle.afs_law.proofs.Serving.{reached_still}
@@ -20,7 +20,8 @@ use Rattle.afs_law.proofs.Skipping.{own_ended, last_line, skips, timed, drop_lin
 use Rattle.afs_rows.specs.ClientRow.{boot_of, ends_step, call_of, dead_code, tries_again, dropped, gives_up, call_message, ended, reborn, left_in, given_up_in}
 use Rattle.afs_rows.specs.Going.{asked, Going, ClientState}
 use Rattle.afs_law.specs.Ideal.{last_version, user_of}
-use Rattle.afs_law.specs.Legal.{given_up, AreGood, as_asked}
+use Rattle.afs_law.specs.Breaks.{HasTimeout}
+use Rattle.afs_law.specs.Legal.{AreGood, as_asked}
 use Rattle.afs_history.specs.declared.lines.Line.{Line}
 use Rattle.afs_law.specs.Past.{lines_of, has_begun, running, CalledSince}
 use Rattle.afs_rows.specs.Runs.{Entry}
@@ -30,7 +31,6 @@ use Rattle.std.proofs.Math.Nat.{le_refl}
 use Rattle.afs_num.specs.Nodes.{same_node}
 use Rattle.afs_num.specs.declared.types.Fid.{Fid}
 use Rattle.afs_num.specs.declared.types.Head.{Head}
-use Rattle.afs_num.specs.declared.types.Key.{Key}
 use Rattle.afs_num.specs.declared.types.Node.TheVariants.{Client}
 use Rattle.afs_num.specs.declared.calls.FsCall.{FsCall}
 use Rattle.afs_num.specs.declared.messages.Message.{Message}
@@ -69,14 +69,14 @@ tries_goes s c past n act h runs =
     let x : ClientState = c.clients n in
     let q : Node = x.callee in
     let y : ClientState = record x { tries = x.tries + 1 } in
-    let kind : IsClient s y = record { table = (h.own n).table; user = (h.own n).user; callee = λ a z. (h.own n).callee a z; apart = (h.own n).apart; gifts = (h.own n).gifts } in
+    let kind : IsClient s y = record { table = (h.own n).table; user = (h.own n).user; callee = λ a z. (h.own n).callee a z; needs = λ a z. (h.own n).needs a z; apart = (h.own n).apart; gifts = (h.own n).gifts } in
     let ms : List Message = call_message (Client n) x act ∷ [] in
     let e : Entry = step_entry n (lines.Timeout (Client n) q x.epoch x.last (x.tries + 1) ∷ []) ms in
     moves s c past n (h.floors n) (tries_again (Client n) x act) h kind (refl, tt) (timeout_passes s q n x.epoch x.last (x.tries + 1) ms past)
     (client_kept s c past n (boot_of the_server x.boots) e h (h.clients n).known (timeout_file q n n x.epoch x.last (x.tries + 1) ms past) (timeout_reach q n n x.epoch x.last (x.tries + 1) ms past) (timeout_act q n n x.epoch x.last (x.tries + 1) ms past) (λ f. refl))
     (λ head call f. call_known (view h.floors c n) (boot_of the_server x.boots) head call f)
     (reply_still n (view h.floors c n) e past (timeout_file q n n x.epoch x.last (x.tries + 1) ms past) (timeout_reach q n n x.epoch x.last (x.tries + 1) ms past) (λ f. refl) refl)
-    (own_call h.floors c past n (h.floors n) y act (lines.Timeout (Client n) q x.epoch x.last (x.tries + 1) ∷ []) (h.clients n).known kind runs ((h.clients n).runs act runs) (same_one s c past n act ms h runs)) (λ a x z. inl x) refl
+    (own_call h.floors c past n (h.floors n) y act (lines.Timeout (Client n) q x.epoch x.last (x.tries + 1) ∷ []) (h.clients n).known kind runs ((h.clients n).runs act runs) (same_one s c past n act ms h runs) (all_dropped_onto (Client n) (fids_of_gifts x.gifts) (lines.Timeout (Client n) q x.epoch x.last (x.tries + 1) ∷ []) (lines_of past) refl ((h.clients n).gave act runs))) (λ a x z. inl x) refl (tried_once n x (lines_of past) q ((h.own n).callee act runs) (h.tried n))
 
 -- The clients' timeouts, and how a client stops and begins again.
 
@@ -87,10 +87,12 @@ not_raised false = refl
 -- ---- a call is given up
 
 -- the answer is good behind the drops
-pub dead_good : (s : Script) (n : ℕ) (act : Going) (key : Key) (past : List Entry) (es : List CacheEntry) (own : List Line) → running s (Client n) (own ++ lines_of past) ≡ Some act → given_up (Client n) own ≡ Some key → has_begun (Client n) own ≡ false → (call : FsCall) → as_asked call ≡ asked act → CalledSince key (user_of (Client n)) call past
+pub dead_good : (s : Script) (n : ℕ) (act : Going) (callee : Node) (epoch number : ℕ) (past : List Entry) (es : List CacheEntry) (own : List Line) → running s (Client n) (own ++ lines_of past) ≡ Some act → HasTimeout (Client n) callee epoch number 3 own → HasTimeout (Client n) callee epoch number 1 (lines_of past) → HasTimeout (Client n) callee epoch number 2 (lines_of past)
+    → has_begun (Client n) own ≡ false → (call : FsCall) → as_asked call ≡ asked act → CalledSince (record { node = Client n; epoch = epoch; number = number }) (user_of (Client n)) call past
     → AreGood s (actors.Node (Client n)) past own (dropped (Client n) es (last_line n dead_code))
-dead_good s n act key past [] own runs third before call asks called = ((refl, record { act = act; runs = runs; cause = inr (inr (inl (record { is = refl; key = key; third = third; before = before; call = call; asks = asks; called = called }))) }), tt)
-dead_good s n act key past (u ∷ es) own runs third before call asks called = (refl, dead_good s n act key past es (lines.Drop (Client n) u.fid ∷ own) runs third before call asks called)
+dead_good s n act callee epoch number past [] own runs third first second before call asks called =
+    ((refl, record { act = act; runs = runs; cause = inr (inr (inl (record { is = refl; callee = callee; epoch = epoch; number = number; third = third; first = first; second = second; before = before; call = call; asks = asks; called = called }))) }), tt)
+dead_good s n act callee epoch number past (u ∷ es) own runs third first second before call asks called = (refl, dead_good s n act callee epoch number past es (lines.Drop (Client n) u.fid ∷ own) runs third first second before call asks called)
 
 pub dead_safe : (call : FsCall) (t e l : ℕ) (act : Going) (o : Option Going) (cache : List CacheEntry) (aged older : Type 0) (head : Head) → o ≡ Some act → (aged → older) → IsSafe t e l o cache aged head call → IsSafe t e l None (left_in (volume_changed (asked act)) cache) older head call
 dead_safe call t e l act o cache aged older head runs w (inl x) = inl x
@@ -106,8 +108,8 @@ left_as : (o : Option ℕ) (cache : List CacheEntry) → AreApart cache → AreA
 left_as None cache a = a
 left_as (Some id) cache a = apart_filter (λ e. not (nat_eq e.fid.volume id)) cache a
 
-pub gives_up_by : (s : Script) (c : Cell) (past : List Entry) (n : ℕ) (act : Going) → Holds s c past → (c.clients n).running ≡ Some act → Goes s past (client_moves c n (gives_up_on the_server n (c.clients n) (volume_changed (asked act))))
-gives_up_by s c past n act h runs =
+pub gives_up_by : (s : Script) (c : Cell) (past : List Entry) (n : ℕ) (act : Going) → Holds s c past → (c.clients n).running ≡ Some act → 2 ≤ (c.clients n).tries → Goes s past (client_moves c n (gives_up_on the_server n (c.clients n) (volume_changed (asked act))))
+gives_up_by s c past n act h runs twice =
     let x : ClientState = c.clients n in
     let call : FsCall = asked act in
     let cache : List CacheEntry = left_in (volume_changed call) x.cache in
@@ -117,7 +119,7 @@ gives_up_by s c past n act h runs =
     let held : ℕ = (h.floors n).held in
     let g : Ghost = holding h.floors n held in
     moves s c past n g (gives_up_on the_server n x (volume_changed call)) h (client_ended s x cache (h.own n) (left_as (volume_changed call) x.cache (h.own n).apart))
-    (refl, dead_good s n act (last_key n (view h.floors c n)) past es (lines.Timeout (Client n) the_server x.epoch x.last 3 ∷ []) ((h.clients n).runs act runs) (rw (same_node-refl (Client n)) refl) refl (its_call x.gifts act) (asks_is x.gifts act) ((h.clients n).asked act runs))
+    (refl, dead_good s n act the_server x.epoch x.last past es (lines.Timeout (Client n) the_server x.epoch x.last 3 ∷ []) ((h.clients n).runs act runs) (inl (refl, (refl, (refl, (refl, refl))))) ((h.tried n).told act runs 1 (omega arith) (omega arith)) ((h.tried n).told act runs 2 (omega arith) twice) refl (its_call x.gifts act) (asks_is x.gifts act) ((h.clients n).asked act runs))
     (drop_passes s c past n (timed x.epoch x.last) dead_code es (λ k boot y. y))
     (ended_facts s c past n cache held e h (h.clients n).holds (ended_running s n dead_code es (lines.Timeout (Client n) the_server x.epoch x.last 3 ∷ lines_of past))
     (λ k u found lasts.
@@ -129,21 +131,21 @@ gives_up_by s c past n act h runs =
     (old_over cache (lines_of past) (lines_of (e ∷ past)) (λ k i b y. (skips n dead_code es).version k i b (lines.Timeout (Client n) the_server x.epoch x.last 3 ∷ lines_of past) y) (old_within x.cache cache (lines_of past) (λ k u y. left_found (volume_changed call) k x.cache u y) (h.clients n).old))
     (reached_still s c past n e h (drop_reach n n (timed x.epoch x.last) dead_code es past) last))
     (λ head call' f. record { behind = f.behind; booted = f.booted; stale = f.stale; own = λ b y z w. absurd cc; safe = λ q above. dead_safe call' c.clock x.epoch x.last act x.running x.cache (IsAged (view h.floors c n) head) (IsAged (view_after c n g (ended x cache)) head) head runs (λ y. (y.0, λ b z. absurd cc)) (f.safe q above) })
-    (ended_reply s c past n cache held e h) (nothing_new _ _) (λ a x z. absurd cc) refl
+    (ended_reply s c past n cache held e h) (nothing_new _ _) (λ a x z. absurd cc) refl (tried_idle n _ _ refl)
 
-pub gives_up_goes : (s : Script) (c : Cell) (past : List Entry) (n : ℕ) (act : Going) → Holds s c past → (c.clients n).running ≡ Some act → Goes s past (client_moves c n (gives_up (Client n) (c.clients n) (call_of (c.clients n) act)))
-gives_up_goes s c past n act h runs =
+pub gives_up_goes : (s : Script) (c : Cell) (past : List Entry) (n : ℕ) (act : Going) → Holds s c past → (c.clients n).running ≡ Some act → 2 ≤ (c.clients n).tries → Goes s past (client_moves c n (gives_up (Client n) (c.clients n) (call_of (c.clients n) act)))
+gives_up_goes s c past n act h runs twice =
     let x : ClientState = c.clients n in
     subst (λ (q : Node). Goes s past (client_moves c n (gives_up_on q n x (volume_changed (call_of x act))))) (sym ((h.own n).callee act runs))
-    (subst (λ (o : Option ℕ). Goes s past (client_moves c n (gives_up_on the_server n x o))) (sym (asks_changed x.gifts act)) (gives_up_by s c past n act h runs))
+    (subst (λ (o : Option ℕ). Goes s past (client_moves c n (gives_up_on the_server n x o))) (sym (asks_changed x.gifts act)) (gives_up_by s c past n act h runs twice))
 
-pub timeout_by : (s : Script) (c : Cell) (past : List Entry) (n : ℕ) (act : Going) (t : Bool) → Holds s c past → (c.clients n).running ≡ Some act → Goes s past (client_moves c n (cond t (tries_again (Client n) (c.clients n) act) (gives_up (Client n) (c.clients n) (call_of (c.clients n) act))))
-timeout_by s c past n act true h runs = tries_goes s c past n act h runs
-timeout_by s c past n act false h runs = gives_up_goes s c past n act h runs
+pub timeout_by : (s : Script) (c : Cell) (past : List Entry) (n : ℕ) (act : Going) (t : Bool) → Holds s c past → (c.clients n).running ≡ Some act → nat_lt (c.clients n).tries 2 ≡ t → Goes s past (client_moves c n (cond t (tries_again (Client n) (c.clients n) act) (gives_up (Client n) (c.clients n) (call_of (c.clients n) act))))
+timeout_by s c past n act true h runs t = tries_goes s c past n act h runs
+timeout_by s c past n act false h runs t = gives_up_goes s c past n act h runs (ltb-false (c.clients n).tries 2 t)
 
 pub waits_goes : (s : Script) (c : Cell) (past : List Entry) (n : ℕ) (o : Option Going) → Holds s c past → (c.clients n).running ≡ o → Goes s past (waited_by c n o)
 waits_goes s c past n None h e = voids s c past h
-waits_goes s c past n (Some act) h e = timeout_by s c past n act (nat_lt (c.clients n).tries 2) h e
+waits_goes s c past n (Some act) h e = timeout_by s c past n act (nat_lt (c.clients n).tries 2) h e refl
 
 -- ---- a client stops, and begins again
 
@@ -153,6 +155,7 @@ away_again s c past a h = record {
   floors = h.floors;
   count = h.count;
   own = h.own;
+  tried = h.tried;
   servers = h.servers;
   ideal = h.ideal;
   sound = h.sound;
@@ -232,7 +235,7 @@ client_stops_goes s c past n h =
       tied = f.tied;
       answers = λ b y. absurd cc;
     } in
-    turned_goes s past n true _ (moves_back s c past n g (record { state = x; lines = lines.Crash (Client n) ∷ []; sent = [] }) h (record { table = (h.own n).table; user = (h.own n).user; callee = λ a z. absurd cc; apart = tt; gifts = tt }) (refl, tt) (crash_passes s n past)
+    turned_goes s past n true _ (moves_back s c past n g (record { state = x; lines = lines.Crash (Client n) ∷ []; sent = [] }) h (record { table = (h.own n).table; user = (h.own n).user; callee = λ a z. absurd cc; needs = λ a z. absurd cc; apart = tt; gifts = tt }) (refl, tt) (crash_passes s n past)
     (record {
       behind = λ seat y. new_epoch _ _ _ _ (d.behind seat y);
       behind_durable = λ seat y. new_epoch _ _ _ _ (d.behind_durable seat y);
@@ -249,10 +252,12 @@ client_stops_goes s c past n h =
       old = λ f u found. absurd cc;
       runs = λ b y. absurd cc;
       asked = λ b y. absurd cc;
+      none = λ y. refl;
+      gave = λ b y. absurd cc;
       reached = reached_still s c past n e h (λ f i r. record { made = r.made; seen = r.seen }) (λ f. refl);
     })
     (λ head call f. record { behind = new_epoch _ _ _ _ f.behind; booted = f.booted; stale = λ l. f.booted; own = λ b y. absurd cc; safe = λ q above. empty_safe call c.clock x.epoch x.last None _ head })
-    over (nothing_new _ _) (λ a x z. absurd cc) (λ seat m y z. absurd cc))
+    over (nothing_new _ _) (λ a x z. absurd cc) (λ seat m y z. absurd cc) (tried_idle n _ _ refl))
 
 pub client_starts_goes : (s : Script) (c : Cell) (past : List Entry) (n : ℕ) → Holds s c past → Goes s past (client_rises c n)
 client_starts_goes s c past n h =
@@ -262,4 +267,4 @@ client_starts_goes s c past n h =
     let reach_ : (f : Fid) → PassesReach n f e past = λ f. record { both = λ i r. record { made = r.made; seen = r.seen }; seen = λ i r. r; made = λ x. x } in
     turned_goes s past n false _ (moves s c past n (h.floors n) (record { state = x; lines = lines.Restart (Client n) x.epoch ∷ []; sent = [] }) h (h.own n) ((refl, tt), tt) (restart_passes s n x.epoch past)
     (client_kept s c past n (boot_of the_server x.boots) e h (h.clients n).known file reach_ (record { runs = λ s o. refl; begins = refl }) (λ f. refl))
-    (λ head call f. call_known (view h.floors c n) (boot_of the_server x.boots) head call f) (reply_still n (view h.floors c n) e past file reach_ (λ f. refl) refl) (nothing_new _ _) (λ a x z. inl x) refl)
+    (λ head call f. call_known (view h.floors c n) (boot_of the_server x.boots) head call f) (reply_still n (view h.floors c n) e past file reach_ (λ f. refl) refl) (nothing_new _ _) (λ a x z. inl x) refl (tried_kept n (c.clients n) _ (lines_of past) (lines.Restart (Client n) x.epoch ∷ []) refl refl refl refl (h.tried n)))

@@ -23,17 +23,18 @@ use Rattle.afs_num.specs.declared.histories.Version.{Version}
 use Rattle.afs_num.specs.declared.histories.ReadSource.TheVariants.{Cached, Fetched}
 use Rattle.afs_law.proofs.Asking.{same_entry, own_read, used_found, step_entry}
 use Rattle.afs_law.proofs.Basics.{same_fid-true, found-cached-fid, raised_up_to, both}
-use Rattle.afs_law.proofs.Edits.{index_in}
+use Rattle.afs_law.proofs.Edits.{granted_in, index_in}
 use Rattle.afs_law.proofs.Facts.{AreApart, IsBody, IsWhole, Held, IsNewest, IsCurrent, View, Reached, LastRan, Holds}
+use Rattle.afs_law.proofs.Homes.{home_of}
 use Rattle.afs_law.proofs.Passing.{PassesGrant, held_over, onto_front, stays}
 use Rattle.afs_law.proofs.Quiet.{AreQuiet, quiet_more, quiet_grant, quiet_last, quiet_clock, reach_more}
 use Rattle.afs_rows.specs.ClientRow.{body_seen, shown_by, walked_with, find_cached, used_first, Look, Walked, walked, walked_by, walked_at, look_at, looked, is_trusted}
 use Rattle.afs_rows.specs.Going.{reads_status, reads_statuses, reads_rights, gives_back, Going, Need, reads, asks_for, answers, next, with_read}
-use Rattle.afs_law.specs.Grants.{is_promised, has_fetched, fetch_reply, read_reply, since, IsWithdrawn, IsDropped}
+use Rattle.afs_law.specs.Grants.{until, is_promised, has_fetched, fetch_reply, read_reply, since, IsWithdrawn, IsDropped}
 use Rattle.afs_law.specs.Ideal.{last_version, HasVersion, IsLast, clock_of, Reach, reach_over, reach, is_zero_code}
-use Rattle.afs_law.specs.Legal.{AreGood, GoodRead, GoodReadBy, Shows}
+use Rattle.afs_law.specs.Legal.{AreGood, GoodRead, GoodReadBy, HasUsed, IsAtOnce, Shows}
 use Rattle.afs_history.specs.declared.lines.Line.{Line}
-use Rattle.afs_law.specs.Past.{onto, lines_of, sent_of, given_message, running, IsCallUnder}
+use Rattle.afs_law.specs.Past.{has_begun, has_given, onto, lines_of, sent_of, given_message, running, IsCallUnder}
 use Rattle.afs_rows.specs.Runs.{Entry}
 use Rattle.afs_law.proofs.OneCell.{the_server, Cell}
 use Rattle.afs_rows.specs.States.{CacheEntry}
@@ -65,6 +66,19 @@ lines_assoc (k ∷ ls) tail l = ap (λ (o : List Line). k ∷ o) (lines_assoc ls
 pub looked_more : (m : Node) (looks : List Look) (tail : List Line) → looked m looks tail ≡ looked m looks [] ++ tail
 looked_more m [] tail = refl
 looked_more m (l ∷ looks) tail = ap (λ (o : List Line). lines.Read m l.fid l.index l.source l.body ∷ o) (looked_more m looks tail)
+
+-- reads tell of no begin, and of no message
+pub looked_begun : (c m : Node) (looks : List Look) (o : List Line) → has_begun c (onto o (looked m looks [])) ≡ has_begun c o
+looked_begun c m [] o = refl
+looked_begun c m (l ∷ looks) o = looked_begun c m looks (lines.Read m l.fid l.index l.source l.body ∷ o)
+
+pub looked_given : (m : Node) (looks : List Look) (o : List Line) → has_given (onto o (looked m looks [])) ≡ has_given o
+looked_given m [] o = refl
+looked_given m (l ∷ looks) o = looked_given m looks (lines.Read m l.fid l.index l.source l.body ∷ o)
+
+pub looked_message : (m : Node) (looks : List Look) (o : List Line) (sent : List Message) → given_message (onto o (looked m looks [])) sent ≡ given_message o sent
+looked_message m [] o sent = refl
+looked_message m (l ∷ looks) o sent = looked_message m looks (lines.Read m l.fid l.index l.source l.body ∷ o) sent
 
 -- ---- cached reads and an answer
 
@@ -123,7 +137,7 @@ pub record Walks (s : Script) (c : Cell) (past : List Entry) (n most : ℕ) (ls 
 -- what an entry shows is that of its version
 pub body_shows : (b : Option Body) (f : Fid) (i : ℕ) (is : Body) (body : ReadBody) (past : List Entry) (own : List Line) → IsBody b is → HasVersion f i is (own ++ lines_of past) → body_seen b ≡ Some body → Shows f i body past own
 body_shows None f i is body past own h told e = absurd cc
-body_shows (Some k) f i is body past own h told e = subst (λ (y : ReadBody). Shows f i y past own) (some_of (seen.Contents k) body e) (subst (λ (y : Body). HasVersion f i y (own ++ lines_of past)) (sym h) told)
+body_shows (Some k) f i is body past own h told e = subst (λ (y : ReadBody). Shows f i y past own) (some_of (seen.Contents k) body e) (h.1, subst (λ (y : Body). HasVersion f i y (own ++ lines_of past)) (sym h.0) told)
 
 pub shown_good : (need : Need) (u : CacheEntry) (body : ReadBody) (past : List Entry) (own : List Line) → (w : IsWhole u.fid u.index u.status u.body past) → HasVersion u.fid u.index w.is (own ++ lines_of past) → shown_by need u ≡ Some body → Shows u.fid u.index body past own
 shown_good (reads f) u body past own w told e = body_shows u.body u.fid u.index w.is body past own w.holds told e
@@ -135,7 +149,7 @@ shown_good gives_back u body past own w told e = absurd cc
 shown_good (answers code) u body past own w told e = absurd cc
 
 -- what can be read is read well
-pub ready_good : (s : Script) (c : Cell) (past : List Entry) (n most : ℕ) (ls : List Line) (need : Need) (u : CacheEntry) (body : ReadBody) → Holds s c past → AreQuiet n ls → c.clock < u.expiry → shown_by need u ≡ Some body → Ready n most u.fid u ls past → GoodRead (Client n) u.fid u.index Cached body past (onto [] ls)
+pub ready_good : (s : Script) (c : Cell) (past : List Entry) (n most : ℕ) (ls : List Line) (need : Need) (u : CacheEntry) (body : ReadBody) → Holds s c past → AreQuiet n ls → c.clock < u.expiry → shown_by need u ≡ Some body → Ready n most u.fid u ls past → GoodRead s (Client n) u.fid u.index Cached body past (onto [] ls)
 ready_good s c past n most ls need u body h q lasts shown r =
     let p : PassesGrant n u.fid (step_entry n ls []) past = quiet_grant n n u.fid ls [] past q in
     let new : List Line = since (Client n) u.fid u.expiry r.reply past r.held.grant in
@@ -146,6 +160,8 @@ ready_good s c past n most ls need u body h q lasts shown r =
       by = r.by;
       expiry = u.expiry;
       grant = r.held.grant;
+      home = home_of s c past u.fid u.index (seen.Status u.status) r.held.grant.server h r.held.server r.held.whole.been (until (Client n) u.fid u.expiry r.reply past r.held.grant);
+      granted = λ v e. granted_in _ v u.index r.held.least e;
       lasts = subst (λ (o : List Line). clock_of o < u.expiry) (own_lines ls (lines_of past)) (subst (λ (t : ℕ). t < u.expiry) (sym (quiet_clock n ls q (lines_of past) ∙ h.clock)) lasts);
       kept = λ d. r.held.kept refl (p.dropped r.held.grant.server new (subst (IsDropped r.held.grant.server (Client n) u.fid) (sym (own_lines ls new)) d));
       newest = elim r.newest [
@@ -169,9 +185,9 @@ shown_promised (asks_for call) u body e = absurd cc
 shown_promised gives_back u body e = absurd cc
 shown_promised (answers code) u body e = absurd cc
 
-pub read_by : (t : Bool) (c : Node) (f : Fid) (index : ℕ) (source : ReadSource) (body : ReadBody) (past : List Entry) (own : List Line) → t ≡ true → GoodRead c f index source body past own → GoodReadBy t c f index source body past own
-read_by true c f index source body past own e g = g
-read_by false c f index source body past own e g = absurd cc
+pub read_by : (s : Script) (t : Bool) (c : Node) (f : Fid) (index : ℕ) (source : ReadSource) (body : ReadBody) (past : List Entry) (own : List Line) → t ≡ true → GoodRead s c f index source body past own → GoodReadBy s t c f index source body past own
+read_by s true c f index source body past own e g = g
+read_by s false c f index source body past own e g = absurd cc
 
 pub walks_read : (s : Script) (c : Cell) (past : List Entry) (n most : ℕ) (ls : List Line) (a : Going) (cache : List CacheEntry) (need : Need) (u : CacheEntry) (body : ReadBody) → Holds s c past → Walks s c past n most ls a cache → find_cached u.fid cache ≡ Some u → c.clock < u.expiry → shown_by need u ≡ Some body
     → Walks s c past n most (ls ++ lines.Read (Client n) u.fid u.index Cached body ∷ []) (with_read u.fid body a) (used_first u cache)
@@ -180,7 +196,7 @@ walks_read s c past n most ls a cache need u body h w found lasts shown =
     let r : Ready n most u.fid u ls past = w.ready u.fid u found lasts in
     let more : (g : Fid) → reach_over (Client n) g past false (reach (Client n) g past) (ls ++ x ∷ []) ≡ reach_over (Client n) g past false (reach_over (Client n) g past false (reach (Client n) g past) ls) (x ∷ []) = λ g. reach_more n (Client n) g past (reach (Client n) g past) ls (x ∷ []) w.quiet in
     record {
-      good = λ tail g. subst (AreGood s (actors.Node (Client n)) past []) (sym (lines_assoc ls tail x)) (w.good (x ∷ tail) ((refl, read_by (is_promised body) (Client n) u.fid u.index Cached body past (onto [] ls) (shown_promised need u body shown) (ready_good s c past n most ls need u body h w.quiet lasts shown r)), subst (λ (o : List Line). AreGood s (actors.Node (Client n)) past o tail) (onto_last [] ls x) g));
+      good = λ tail g. subst (AreGood s (actors.Node (Client n)) past []) (sym (lines_assoc ls tail x)) (w.good (x ∷ tail) (((refl, record { act = a; runs = ap (running s (Client n)) (sym (own_lines ls (lines_of past))) ∙ w.runs }), read_by s (is_promised body) (Client n) u.fid u.index Cached body past (onto [] ls) (shown_promised need u body shown) (ready_good s c past n most ls need u body h w.quiet lasts shown r)), subst (λ (o : List Line). AreGood s (actors.Node (Client n)) past o tail) (onto_last [] ls x) g));
       quiet = quiet_more n ls (x ∷ []) w.quiet (refl, tt);
       runs = ap (running s (Client n)) (onto_last (lines_of past) ls x) ∙ own_read n u.fid body a (running s (Client n) (onto (lines_of past) ls)) w.runs;
       ready = λ g v at lasts'.
@@ -331,6 +347,6 @@ walk_current s c past n most ls a cache tail ms v g u w t ends le free found las
     }
 
 -- an act that needs no more is answered
-pub walk_answered : (s : Script) (c : Cell) (past : List Entry) (n most : ℕ) (ls : List Line) (a : Going) (cache : List CacheEntry) (k : ℕ) → Walks s c past n most ls a cache → next a ≡ answers k → AreGood s (actors.Node (Client n)) past [] (ls ++ lines.Answer (Client n) (record { 0 = pos k }) ∷ [])
-walk_answered s c past n most ls a cache k w e =
-    w.good (lines.Answer (Client n) (record { 0 = pos k }) ∷ []) ((refl, record { act = a; runs = ap (running s (Client n)) (sym (own_lines ls (lines_of past))) ∙ w.runs; cause = inr (inl (record { number = k; is = refl; by = e })) }), tt)
+pub walk_answered : (s : Script) (c : Cell) (past : List Entry) (n most : ℕ) (ls : List Line) (a : Going) (cache : List CacheEntry) (k : ℕ) → Walks s c past n most ls a cache → next a ≡ answers k → IsAtOnce (Client n) (onto [] ls) ⊎ HasUsed (Client n) past (onto [] ls) → AreGood s (actors.Node (Client n)) past [] (ls ++ lines.Answer (Client n) (record { 0 = pos k }) ∷ [])
+walk_answered s c past n most ls a cache k w e last =
+    w.good (lines.Answer (Client n) (record { 0 = pos k }) ∷ []) ((refl, record { act = a; runs = ap (running s (Client n)) (sym (own_lines ls (lines_of past))) ∙ w.runs; cause = inr (inl (record { number = k; is = refl; by = e; last = last })) }), tt)

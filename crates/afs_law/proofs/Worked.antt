@@ -40,16 +40,16 @@ use Rattle.afs_history.specs.declared.lines.Line.TheVariants as lines
 use Rattle.afs_num.specs.declared.histories.ReadSource.TheVariants.{Cached, Fetched}
 use Rattle.afs_xdr.specs.Words.{opaque, pad, word, opaque_at, word_at, counted_at}
 
-abbrev home : ℕ
+abbrev pub home : ℕ
 home = 536870912
 
-abbrev file : Fid
+abbrev pub file : Fid
 file = record { volume = home; vnode = 2; unique = 2 }
 
-abbrev root : Fid
+abbrev pub root : Fid
 root = record { volume = home; vnode = 1; unique = 1 }
 
-abbrev script : ℕ → Script
+abbrev pub script : ℕ → Script
 script n = record {
   servers = 1;
   clients = n;
@@ -62,13 +62,13 @@ abbrev told : Cell → List Input → List Line
 told c [] = []
 told c (x ∷ xs) = (moved c x).entry.lines ++ told (moved c x).cell xs
 
-abbrev answer : ℕ → Line
+abbrev pub answer : ℕ → Line
 answer n = lines.Answer (Client n) (record { 0 = pos 0 })
 
-abbrev begun : ℕ → Line
+abbrev pub begun : ℕ → Line
 begun n = lines.Begin (Client n) (acts.Open (operands.Fid file))
 
-abbrev stores : ℕ → Line
+abbrev pub stores : ℕ → Line
 stores n = lines.Begin (Client n) (acts.Close (operands.Fid file) (Hex (codes "def")))
 
 abbrev change : ℕ → List Line
@@ -114,7 +114,7 @@ is_told (lines.Drop c f) = true
 is_told (lines.Answer c code) = true
 is_told l = false
 
-abbrev code : ℕ → ℕ → Line
+abbrev pub code : ℕ → ℕ → Line
 code n k = lines.Answer (Client n) (record { 0 = pos k })
 
 abbrev nine : List Input
@@ -129,7 +129,7 @@ row_nine = refl
 
 -- ---- without their breaks these runs aren't legal
 
-abbrev entries : Cell → List Input → List Entry
+abbrev pub entries : Cell → List Input → List Entry
 entries c [] = []
 entries c (x ∷ xs) = (moved c x).entry ∷ entries (moved c x).cell xs
 
@@ -140,7 +140,7 @@ is_owe l = false
 abbrev without : Entry → Entry
 without e = record e { lines = filter (λ l. not (is_owe l)) e.lines }
 
-abbrev six_front : List Input
+abbrev pub six_front : List Input
 six_front = begins 1 (acts.Open (operands.Fid file)) ∷ gives 1 steady ∷ begins 2 (acts.Close (operands.Fid file) (Hex (codes "def"))) ∷ gives 3 steady ∷ []
 
 -- with them it is: so far they are told
@@ -244,18 +244,18 @@ row_at_once = refl
 -- ---- wrong histories. Each differs from that of a run in one line, or in whose entry it is
 
 -- the first entries of row six with one of them altered
-abbrev alters : ℕ → (Entry → Entry) → List Entry → List Entry
+abbrev pub alters : ℕ → (Entry → Entry) → List Entry → List Entry
 alters n f [] = []
 alters zero f (e ∷ es) = f e ∷ es
 alters (suc n) f (e ∷ es) = e ∷ alters n f es
 
-abbrev by_lines : (Line → Line) → Entry → Entry
+abbrev pub by_lines : (Line → Line) → Entry → Entry
 by_lines f e = record e { lines = map f e.lines }
 
 abbrev six_by : ℕ → (Entry → Entry) → List Entry
 six_by n f = alters n f (entries (start (script 2)) six_front)
 
-apart_numbers : (m n : ℕ) → nat_eq m n ≡ false → m ≡ n → ⊥
+pub apart_numbers : (m n : ℕ) → nat_eq m n ≡ false → m ≡ n → ⊥
 apart_numbers m n e q = yes_no (nat_eq m n) (eq-eqb m n q) e
 
 -- an act begins, or a grant or a change is made, in another's entry
@@ -268,7 +268,7 @@ begun_elsewhere h = let e : actors.Node (Client 2) ≡ actors.Node (Client 1) = 
 
 granted_elsewhere : Legal (six_by 1 (moved_to (actors.Node (Client 1)))) (script 2) → ⊥
 unfolding moved begin_row client_row server_row back_timeout_row wake_row start_row record_bytes head_form volume_form spelled opaque pad word laid_at led name_ok directory_bytes name_bytes rights_of image acl_text digits entry_text
-granted_elsewhere h = let e : actors.Node (Client 1) ≡ actors.Node (Server 1) = h.1.0.0.0.1.0 in absurd cc
+granted_elsewhere h = let e : actors.Node (Client 1) ≡ actors.Node (Server 1) = h.1.0.0.0.1.0.0 in absurd cc
 
 changed_by_nobody : Legal (six_by 3 (moved_to actors.Nobody)) (script 2) → ⊥
 unfolding moved begin_row client_row server_row back_timeout_row wake_row start_row record_bytes head_form volume_form spelled opaque pad word laid_at led name_ok directory_bytes name_bytes rights_of image acl_text digits entry_text
@@ -285,7 +285,7 @@ counted_wrong h = apart_numbers 2 1 refl h.1.1.1.0.0.0.1.0.1.number
 
 -- a version under no change
 abbrev no_change : Line → Line
-no_change (lines.Change s k n) = lines.Given 3
+no_change (lines.Change s k n) = lines.Fail s 1
 no_change l = l
 
 unchanged : Legal (six_by 3 (by_lines no_change)) (script 2) → ⊥
@@ -299,7 +299,7 @@ nought l = l
 
 owed_nought : Legal (six_by 3 (by_lines nought)) (script 2) → ⊥
 unfolding moved begin_row client_row server_row back_timeout_row wake_row start_row record_bytes head_form volume_form spelled opaque pad word laid_at led name_ok directory_bytes name_bytes rights_of image acl_text digits entry_text
-owed_nought h = let e : 0 < 0 = h.1.1.1.0.0.0.1.1.1.0.1 in absurd (omega arith)
+owed_nought h = let e : 0 < 0 = h.1.1.1.0.0.0.1.1.1.0.1.0 in absurd (omega arith)
 
 -- an entry that brings a volume
 abbrev brings : Entry → Entry
@@ -310,7 +310,7 @@ no_table p ps e = absurd cc
 
 brought_one : Legal (six_by 2 brings) (script 2) → ⊥
 unfolding moved begin_row client_row server_row back_timeout_row wake_row start_row record_bytes head_form volume_form spelled opaque pad word laid_at led name_ok directory_bytes name_bytes rights_of image acl_text digits entry_text
-brought_one h = no_table _ _ h.1.1.0.1
+brought_one h = no_table _ _ h.1.1.0.1.0
 
 -- what is read isn't what its version holds; or it has another index
 abbrev open_front : List Input
@@ -338,11 +338,11 @@ other_fid e = apart_numbers 1 2 refl (ap (λ (f : Fid). f.vnode) e)
 
 shown_wrong : Legal (alters 2 (by_lines shows_other) (entries (start (script 1)) open_front)) (script 1) → ⊥
 unfolding moved begin_row client_row server_row back_timeout_row wake_row start_row record_bytes head_form volume_form spelled opaque pad word laid_at led name_ok directory_bytes name_bytes rights_of image acl_text digits entry_text
-shown_wrong h = elim h.1.1.0.0.0.1.0.1.whole [ inl x ↦ other_fid x.0 | inr y ↦ elim y [ inl x ↦ other_bytes x.1.1 | inr z ↦ z ] ]
+shown_wrong h = elim h.1.1.0.0.0.1.0.1.whole.1 [ inl x ↦ other_fid x.0 | inr y ↦ elim y [ inl x ↦ other_bytes x.1.1 | inr z ↦ z ] ]
 
 shown_later : Legal (alters 2 (by_lines later_index) (entries (start (script 1)) open_front)) (script 1) → ⊥
 unfolding moved begin_row client_row server_row back_timeout_row wake_row start_row record_bytes head_form volume_form spelled opaque pad word laid_at led name_ok directory_bytes name_bytes rights_of image acl_text digits entry_text
-shown_later h = elim h.1.1.0.0.0.1.0.1.whole [ inl x ↦ other_fid x.0 | inr y ↦ elim y [ inl x ↦ apart_numbers 1 2 refl x.1.0 | inr z ↦ z ] ]
+shown_later h = elim h.1.1.0.0.0.1.0.1.whole.1 [ inl x ↦ other_fid x.0 | inr y ↦ elim y [ inl x ↦ apart_numbers 1 2 refl x.1.0 | inr z ↦ z ] ]
 
 -- a status that the object never had, and a text of rights that it never had
 abbrev stat_front : List Input
@@ -373,7 +373,7 @@ status_wrong h = elim h.1.1.0.0.0.1.0.1.whole.1 [ inl x ↦ apart_numbers 1 7 re
 
 rights_wrong : Legal (alters 2 (by_lines tells_rights) (entries (start (script 1)) rights_front)) (script 1) → ⊥
 unfolding moved begin_row client_row server_row back_timeout_row wake_row start_row record_bytes head_form volume_form spelled opaque pad word laid_at led name_ok directory_bytes name_bytes rights_of image acl_text digits entry_text first_code
-rights_wrong h = elim h.1.1.0.0.0.1.0.1.whole.1 [ inl x ↦ apart_numbers 49 120 refl (ap first_code x.1) | inr y ↦ elim y [ inl x ↦ apart_numbers 49 120 refl (ap first_code x.1) | inr z ↦ elim z [ inl x ↦ apart_numbers 49 120 refl (ap first_code x.1) | inr w ↦ w ] ] ]
+rights_wrong h = elim h.1.1.0.0.0.1.0.1.whole.1 [ inl x ↦ apart_numbers 49 120 refl (ap first_code x.1.0) | inr y ↦ elim y [ inl x ↦ apart_numbers 49 120 refl (ap first_code x.1.0) | inr z ↦ elim z [ inl x ↦ apart_numbers 49 120 refl (ap first_code x.1.0) | inr w ↦ w ] ] ]
 
 -- ---- wrong statuses and rights, each for one reason
 

@@ -1,5 +1,7 @@
 -- What becomes of the breaks that a server owes.
-use Rattle.std.specs.Prelude.{◌≡◌, ℕ, ◌+◌, ◌≤◌, List, [], ◌∷◌, ◌++◌, Bool, cond, ◌&&◌, Option, Some, None, ◌⊎◌, true, false, if◌then◌else◌}
+use Rattle.std.specs.Prelude.{◌≡◌, ℕ, ◌+◌, ◌≤◌, List, [], ◌∷◌, ◌++◌, Bool, cond, nat_eq, not, ◌&&◌, Option, Some, None, ◌⊎◌, true, false, if◌then◌else◌}
+use Rattle.afs_num.specs.declared.histories.Actor.{Actor}
+use Rattle.afs_num.specs.declared.histories.Actor.TheVariants as actors
 use Rattle.afs_num.specs.Fids.{same_fid}
 use Rattle.afs_num.specs.Nodes.{same_node}
 use Rattle.afs_num.specs.declared.types.Fid.{Fid}
@@ -59,7 +61,7 @@ abbrev pub is_on : Fid → Option Fid → Bool
 is_on f None = true
 is_on f (Some g) = same_fid g f
 
--- when the last grant on f to the client ends, unless the server stopped since, or owes that break by now, or the client dropped it
+-- when the last grant on f to the client ends, unless since then the server stopped, that break became owed, or the client dropped it
 abbrev pub live_grant : Node → Node → Fid → List Line → Option ℕ
 live_grant s c f [] = None
 live_grant s c f (lines.Grant q d g index expiry ∷ older) = cond (same_node q s && (same_node d c && same_fid g f)) (Some expiry) (live_grant s c f older)
@@ -70,7 +72,7 @@ live_grant s c f (lines.DropAll m q ∷ older) = cond (same_node m c && same_nod
 live_grant s c f (lines.Owe q d w n ∷ older) = cond (same_node q s && (same_node d c && is_on f w)) None (live_grant s c f older)
 live_grant s c f (l ∷ older) = live_grant s c f older
 
--- ---- the lines before, as a server knows them: what a client gave up by a call is dropped where the server answers the call
+-- ---- the lines before, as a server knows them: what a client gave back by a call is dropped where the server runs the call
 
 abbrev pub fids_given_up : FsCall → List Fid
 fids_given_up (calls.GiveUpCallBacks fids callbacks) = fids
@@ -89,17 +91,37 @@ abbrev pub drops_of : Node → List Fid → List Line
 drops_of c [] = []
 drops_of c (f ∷ fs) = lines.Drop c f ∷ drops_of c fs
 
-abbrev pub given_up_by : Node → Bool → Head → Carried → List Line
-given_up_by s true head (carried.Call user (ask.File call)) = if same_node head.to s then drops_of head.from (fids_given_up call) else []
-given_up_by s t head c = []
+abbrev pub returned_by : Node → Bool → Head → Carried → List Line
+returned_by s true head (carried.Call user (ask.File call)) = if same_node head.to s then drops_of head.from (fids_given_up call) else []
+returned_by s t head c = []
 
-abbrev pub given_up_in : Node → List Message → Option Message → List Line
-given_up_in s sent None = []
-given_up_in s sent (Some m) = given_up_by s (has_answer (called_key m.head) sent) m.head m.carried
+-- it is the server's entry
+abbrev pub is_entry_of : Node → Actor → Bool
+is_entry_of s (actors.Node n) = same_node n s
+is_entry_of s a = false
+
+-- whether a message is a call to this callee under this key, to this boot
+abbrev pub is_call : Carried → Bool
+is_call (carried.Call user call) = true
+is_call c = false
+
+abbrev pub is_call_under : Node → Key → ℕ → Option Message → Bool
+is_call_under s k boot None = false
+is_call_under s k boot (Some m) = (is_call m.carried && same_node m.head.to s) && (same_key (called_key m.head) k && nat_eq m.head.boot boot)
+
+abbrev pub is_unheard : Node → Key → ℕ → List Entry → Bool
+is_unheard s k boot [] = true
+is_unheard s k boot (e ∷ past) = not (is_call_under s k boot (given_message e.lines (sent_of past))) && is_unheard s k boot past
+
+-- the fids of the message that this entry of the server was given, and answers: it was the first that was given its key in its
+-- boot, for a reply that is sent again drops nothing
+abbrev pub returned_in : Node → Entry → Option Message → List Entry → List Line
+returned_in s e None past = []
+returned_in s e (Some m) past = returned_by s (is_entry_of s e.actor && (is_unheard s (called_key m.head) m.head.boot past && has_answer (called_key m.head) e.sent)) m.head m.carried
 
 abbrev pub lines_at : Node → List Entry → List Line
 lines_at s [] = []
-lines_at s (e ∷ past) = onto (onto (lines_at s past) (given_up_in s e.sent (given_message e.lines (sent_of past)))) e.lines
+lines_at s (e ∷ past) = onto (onto (lines_at s past) (returned_in s e (given_message e.lines (sent_of past)) past)) e.lines
 
 -- the number of the last break that became owed in this boot
 abbrev pub last_number : Node → List Line → ℕ
@@ -181,15 +203,15 @@ abbrev pub WasSent : Key → List ℕ → FsCall → List Entry → Type 0
 WasSent k user call [] = ⊥
 WasSent k user call (e ∷ past) = Sends k user call e.sent ⊎ WasSent k user call past
 
--- a call that carried the break was timed out for the third time in this entry, and twice before
+-- a call that carries the break was timed out for the third time in this entry, and twice since the break became owed
 pub record GoodQuit (s c : Node) (n : ℕ) (past : List Entry) (own : List Line) : Type 0 where
   pub what : Option Fid
   pub owe : OweAt s c what n (lines_of past)
   pub epoch : ℕ
   pub number : ℕ
   pub third : HasTimeout s c epoch number 3 own
-  pub first : HasTimeout s c epoch number 1 (lines_of past)
-  pub second : HasTimeout s c epoch number 2 (lines_of past)
+  pub first : HasTimeout s c epoch number 1 owe.newer
+  pub second : HasTimeout s c epoch number 2 owe.newer
   pub user : List ℕ
   pub call : FsCall
   pub called : WasSent (record { node = s; epoch = epoch; number = number }) user call past

@@ -1,6 +1,6 @@
 use Rattle.afs_num.specs.declared.histories.ReadBody.{ReadBody}
 use Rattle.afs_num.specs.declared.histories.ReadBody.TheVariants as shows
-use Rattle.std.specs.Prelude.{◌≡◌, ℕ, List, [], ◌∷◌, ◌++◌, Bool, true, false, ◌&&◌, Option, Some, None, if◌then◌else◌, ◌⊎◌}
+use Rattle.std.specs.Prelude.{◌≡◌, ℕ, List, [], ◌∷◌, ◌++◌, Bool, true, false, ◌&&◌, Option, Some, None, if◌then◌else◌, pos, ◌⊎◌}
 use Rattle.afs_num.specs.Fids.{same_fid}
 use Rattle.afs_num.specs.Nodes.{same_node}
 use Rattle.afs_num.specs.declared.types.Fid.{Fid}
@@ -8,7 +8,7 @@ use Rattle.afs_num.specs.declared.types.Key.{Key}
 use Rattle.afs_num.specs.declared.types.Node.{Node}
 use Rattle.afs_num.specs.declared.messages.Message.{Message}
 use Rattle.afs_history.specs.declared.lines.Line.{Line}
-use Rattle.afs_law.specs.Past.{onto, lines_on, sent_of, given_message, IsReply, Ran}
+use Rattle.afs_law.specs.Past.{code_told, lines_of, onto, lines_on, sent_of, given_message, IsReply, Ran}
 use Rattle.afs_rows.specs.Runs.{Entry}
 use Rattle.afs_num.specs.declared.histories.Actor.TheVariants as actors
 use Rattle.afs_num.specs.declared.histories.ReadSource.{ReadSource}
@@ -41,10 +41,11 @@ read_reply c f Fetched past own = given_message own (sent_of past)
 read_reply c f Cached past own = if has_fetched c f own then given_message own (sent_of past) else fetch_reply c f past
 
 -- ---- the grant: its server's line on f, to the client, in the entry that ran the call of that reply in the boot that
--- it carries
+-- it carries. A refusal grants nothing
 
 pub record GrantOf (c : Node) (f : Fid) (expiry : ℕ) (reply : Message) (past : List Entry) : Type 0 where
   pub is_reply : IsReply reply
+  pub told : code_told reply.carried ≡ Some (pos 0)
   pub to : reply.head.to ≡ c
   pub ran : Ran reply.head past
   pub server : Node
@@ -57,6 +58,10 @@ pub record GrantOf (c : Node) (f : Fid) (expiry : ℕ) (reply : Message) (past :
 -- the lines since the grant, the newest first
 abbrev pub since : (c : Node) (f : Fid) (expiry : ℕ) (reply : Message) (past : List Entry) → GrantOf c f expiry reply past → List Line
 since c f expiry reply past grant = lines_on (onto [] grant.after) grant.ran.newer
+
+-- and those before it
+abbrev pub until : (c : Node) (f : Fid) (expiry : ℕ) (reply : Message) (past : List Entry) → GrantOf c f expiry reply past → List Line
+until c f expiry reply past grant = onto (lines_of grant.ran.older) grant.before
 
 -- ---- what became of it, by the lines since then: `newer` are these, the newest first
 

@@ -4,7 +4,7 @@ use Rattle.afs_num.specs.declared.histories.ReadBody.TheVariants as shows
 use Rattle.afs_num.specs.declared.histories.ReadStatus.{ReadStatus}
 use Rattle.afs_ideal.specs.Operations.{the_user, volume_called, changed, op, is_number}
 use Rattle.afs_ideal.specs.Tables.{Table, get}
-use Rattle.afs_ideal.specs.Volumes.{Vnode, version_at, Volume, body_of, size_of, type_of, vnode_of}
+use Rattle.afs_ideal.specs.Volumes.{a_directory, Vnode, version_at, Volume, body_of, size_of, type_of, vnode_of}
 use Rattle.afs_history.specs.declared.lines.Line.{Line}
 use Rattle.afs_law.specs.Past.{begins_act, onto, is_of_act, sent_of, is_called}
 use Rattle.afs_rows.specs.Runs.{Entry, first_volume, first_volumes, counts_later}
@@ -156,11 +156,11 @@ HasVersion f index body (l ∷ older) = IsThat f index body (version_in l) (HasV
 abbrev pub shown_status : Vnode → ReadStatus
 shown_status x = record { kind = type_of x.kind; link_count = x.links; length = size_of x; mode = x.mode }
 
--- the vnode has this index, and this is its status, or the text of its rights
+-- the vnode has this index, and this is its status, or the text of its rights, which a directory alone has
 abbrev pub Tells : ℕ → ReadBody → Vnode → Type 0
 Tells index (shows.Contents body) x = (x.index ≡ index) × (body_of x ≡ body)
 Tells index (shows.Status status) x = (x.index ≡ index) × (shown_status x ≡ status)
-Tells index (shows.AccessList text) x = (x.index ≡ index) × (acl_text x.acl ≡ text)
+Tells index (shows.AccessList text) x = (x.index ≡ index) × ((acl_text x.acl ≡ text) × (x.kind ≡ a_directory))
 
 abbrev pub TellsIn : ℕ → ReadBody → Option Vnode → Type 0
 TellsIn index body None = ⊥

@@ -21,11 +21,11 @@ use Rattle.afs_ideal.specs.Told.{Agrees}
 use Rattle.afs_ideal.specs.Volumes.{Volume}
 use Rattle.afs_law.specs.Grants.{since, IsOutstanding, fetch_reply}
 use Rattle.afs_law.specs.Ideal.{versions_in, volume_after, set_up, IsLast}
-use Rattle.afs_law.specs.Legal.{GoodRead, Legal, Cause}
+use Rattle.afs_law.specs.Legal.{HasChangeBy, GoodRead, HasChange, Legal, Cause}
 use Rattle.afs_history.specs.declared.lines.Line.{Line}
 use Rattle.afs_law.specs.Once.{past_of, ChangesOnce}
 use Rattle.afs_law.specs.OneServer.{IsOneServer}
-use Rattle.afs_law.specs.Past.{HasCode, IsCall, lines_of, IsUnheard, called_key, answered_key, Ran}
+use Rattle.afs_law.specs.Past.{CalledSince, HasCode, IsCall, lines_of, onto, running, IsUnheard, called_key, answered_key, Ran}
 use Rattle.afs_rows.specs.Runs.{message_at, Leads, start, Input, Entry, Cell, RunsTo, Host}
 use Rattle.afs_rows.specs.ServerRow.{Change, is_client, lasting_after, lasting_started, record_of, serves, runs, refuses, not_served, whole, is_client, no_room}
 use Rattle.afs_rows.specs.States.{CacheEntry, Seat, Lasting, durable_of, volume_in, ServerState, BackCall}
@@ -34,7 +34,10 @@ use Rattle.afs_num.specs.declared.messages.Carried.TheVariants as carried
 use Rattle.afs_num.specs.declared.messages.Call.TheVariants as ask
 use Rattle.afs_model.specs.Calls as pairs
 use Rattle.afs_history.specs.declared.lines.Line.TheVariants as lines
-use Rattle.std.specs.Prelude.{◌⊎◌, ◌≤◌, ◌<◌, None, Some, ◌∷◌, [], ◌≡◌, ◌↔◌, ℕ, List, ◌++◌, false, ◌+◌, ◌&&◌, Option, true, ℤ}
+use Rattle.afs_history.specs.declared.acts.Act.{Act}
+use Rattle.afs_history.specs.declared.acts.Act.TheVariants as acts
+use Rattle.afs_num.specs.declared.types.Code.{Code}
+use Rattle.std.specs.Prelude.{⊤, pos, ◌⊎◌, ◌≤◌, ◌<◌, None, Some, ◌∷◌, [], ◌≡◌, ◌↔◌, ℕ, List, ◌++◌, false, ◌+◌, ◌&&◌, Option, true, ℤ}
 use Rattle.afs_num.specs.declared.types.Fid.{Fid}
 use Rattle.afs_num.specs.declared.types.Node.{Node}
 use Rattle.afs_num.specs.declared.scripts.Script.{Script}
@@ -84,13 +87,43 @@ PairsAreKnown = (s : Script) (history : List Entry) (end : Cell) → RunsTo hist
 abbrev pub TrustedIsGood : Type 0
 TrustedIsGood =
     (s : Script) (history : List Entry) (end : Cell) → IsOneServer s → RunsTo history s end → (j : ℕ) → (end.clients j).running ≡ None → (f : Fid) (e : CacheEntry) → find_cached f (end.clients j).cache ≡ Some e → end.clock < e.expiry
-    → ((body : Body) → e.body ≡ Some body → GoodRead (Client j) f e.index Cached (seen.Contents body) (past_of (set_up s ∷ []) history) []) × GoodRead (Client j) f e.index Cached (seen.Status e.status) (past_of (set_up s ∷ []) history) []
+    → ((body : Body) → e.body ≡ Some body → GoodRead s (Client j) f e.index Cached (seen.Contents body) (past_of (set_up s ∷ []) history) []) × GoodRead s (Client j) f e.index Cached (seen.Status e.status) (past_of (set_up s ∷ []) history) []
 
 -- a good read shows the newest version where no break of its grant is outstanding
 abbrev pub ReadsAreNewest : Type 0
 ReadsAreNewest =
-    (c : Node) (f : Fid) (index : ℕ) (source : ReadSource) (body : ReadBody) (past : List Entry) (own : List Line) (read : GoodRead c f index source body past own)
+    (s : Script) (c : Node) (f : Fid) (index : ℕ) (source : ReadSource) (body : ReadBody) (past : List Entry) (own : List Line) (read : GoodRead s c f index source body past own)
     → (IsOutstanding read.grant.server c f (own ++ since c f read.expiry read.reply past read.grant) → ⊥) → IsLast f index (own ++ lines_of past)
+
+-- acts that change something where they are answered 0
+abbrev pub IsChangingAct : Act → Type 0
+IsChangingAct (acts.Close o contents) = ⊤
+IsChangingAct (acts.Make p) = ⊤
+IsChangingAct (acts.MakeDirectory p) = ⊤
+IsChangingAct (acts.Remove p) = ⊤
+IsChangingAct (acts.RemoveDirectory p) = ⊤
+IsChangingAct (acts.Move p q) = ⊤
+IsChangingAct (acts.Link p q) = ⊤
+IsChangingAct (acts.Symlink p target) = ⊤
+IsChangingAct (acts.SetMode o mode) = ⊤
+IsChangingAct (acts.SetAccessList o text) = ⊤
+IsChangingAct act = ⊥
+
+-- a call that the client sent since it began its act changed something
+pub record IsMade (c : Node) (past : List Entry) (own : List Line) : Type 0 where
+  pub key : Key
+  pub node : key.node ≡ c
+  pub user : List ℕ
+  pub call : FsCall
+  pub called : CalledSince key user call past
+  pub told : HasChange key (own ++ lines_of past)
+
+-- In a legal history, where an act that changes something is answered 0, one key of that act has a change line. Before the
+-- answer stand the entries `before`, and in its own entry the lines `first`
+abbrev pub AcknowledgedAreMade : Type 0
+AcknowledgedAreMade =
+    (s : Script) (history before after : List Entry) (e : Entry) (first rest : List Line) (c : Node) (code : Code) (act : Going) → Legal history s → history ≡ before ++ (e ∷ after) → e.lines ≡ first ++ lines.Answer c code ∷ rest
+    → running s c (onto [] first ++ lines_of (past_of (set_up s ∷ []) before)) ≡ Some act → IsChangingAct act.act → code.0 ≡ pos 0 → IsMade c (past_of (set_up s ∷ []) before) (onto [] first)
 
 -- a server tells that a call isn't served exactly where its caller is no client, or its opcode none of those that it serves
 abbrev pub UnservedAreRefused : Type 0
@@ -149,19 +182,14 @@ abbrev pub RepliesAreRan : Type 0
 RepliesAreRan =
     (s : Script) (history : List Entry) (end : Cell) → RunsTo history s end → (i j place : ℕ) (m : Message) → message_at end.sent place ≡ Some m → HasCode m.carried → m.head.from ≡ Server i → m.head.to ≡ Client j → Ran m.head (past_of (set_up s ∷ []) history)
 
--- and so is each that the server keeps for a client
-abbrev pub KeptAreRan : Type 0
-KeptAreRan =
-    (s : Script) (history : List Entry) (end : Cell) → IsOneServer s → RunsTo history s end → (j : ℕ) (seat : Seat) (m : Message) → call_seat (Client j) (end.hosts 1).state.seats ≡ Some seat → seat.reply ≡ Some m → Ran m.head (past_of (set_up s ∷ []) history)
-
--- the server changed something under this key
-abbrev pub HasChangeBy : Node → Key → List Line → Type 0
-HasChangeBy s k [] = ⊥
-HasChangeBy s k (lines.Change q l count ∷ ls) = ((q ≡ s) × (l ≡ k)) ⊎ HasChangeBy s k ls
-HasChangeBy s k (l ∷ ls) = HasChangeBy s k ls
-
 abbrev pub seat_key : Node → Seat → Key
 seat_key n seat = record { node = n; epoch = seat.epoch; number = seat.number }
+
+-- And so is each that the server keeps for a client, and it answers the call whose pair the seat has
+abbrev pub KeptAreRan : Type 0
+KeptAreRan =
+    (s : Script) (history : List Entry) (end : Cell) → IsOneServer s → RunsTo history s end → (j : ℕ) (seat : Seat) (m : Message) → call_seat (Client j) (end.hosts 1).state.seats ≡ Some seat → seat.reply ≡ Some m
+    → Ran m.head (past_of (set_up s ∷ []) history) × (answered_key m.head ≡ seat_key (Client j) seat)
 
 -- its reply is kept
 abbrev pub HasReply : Node → Seat → Type 0
@@ -180,7 +208,7 @@ abbrev pub IsPromisedIn : Promise → List Promise → Type 0
 IsPromisedIn p [] = ⊥
 IsPromisedIn p (q ∷ ps) = (q ≡ p) ⊎ IsPromisedIn p ps
 
--- a grant that lasts, of which no break became owed and which its client hasn't given back, is promised still
+-- a grant that lasts, of which no break became owed and that its client hasn't dropped, is promised still
 abbrev pub GrantsAreKept : Type 0
 GrantsAreKept =
     (s : Script) (history : List Entry) (end : Cell) → IsOneServer s → RunsTo history s end → (c : Node) (f : Fid) (expiry : ℕ) → live_grant (Server 1) c f (lines_at (Server 1) (past_of (set_up s ∷ []) history)) ≡ Some expiry → end.clock < expiry
@@ -214,10 +242,10 @@ pub record IsAwaited (c : ClientState) (head : Head) : Type 0 where
   pub epoch : head.epoch ≡ c.epoch
   pub number : head.number ≡ c.last
 
--- A changing call that may still run, and that its client doesn't wait for: what the client trusts of the fids that it may change,
--- it was promised in an older boot
-abbrev pub GivenUpAreUntrusted : Type 0
-GivenUpAreUntrusted =
+-- A changing call that may still run, and that its client doesn't wait for, be its act answered or dead: what the client trusts of
+-- the fids that it may change, it was promised in an older boot. So it trusts none of them while the server hasn't stopped
+abbrev pub UnawaitedAreUntrusted : Type 0
+UnawaitedAreUntrusted =
     (s : Script) (history : List Entry) (end : Cell) → IsOneServer s → RunsTo history s end → (j place : ℕ) (head : Head) (user : List ℕ) (call : FsCall) (id : ℕ) → message_at end.sent place ≡ Some (record { head = head; carried = carried.Call user (ask.File call) }) → head.from ≡ Client j
     → volume_changed call ≡ Some id → admitted (end.hosts 1).state.lasting.boot (end.hosts 1).state.seats head ≡ pairs.runs → (IsAwaited (end.clients j) head → ⊥)
     → (f : Fid) (e : CacheEntry) → is_in_scope call f ≡ true → find_cached f (end.clients j).cache ≡ Some e → end.clock < e.expiry

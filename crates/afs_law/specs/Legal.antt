@@ -1,7 +1,9 @@
-use Rattle.std.specs.Prelude.{Bool, true, ◌≡◌, ℕ, ◌≤◌, ◌<◌, List, [], ◌∷◌, ◌++◌, false, ◌&&◌, Option, Some, None, ℤ, pos, negsuc, nat_eq, length, ⊤, ◌⊎◌, if◌then◌else◌}
+use Rattle.afs_rows.specs.ServerRow.{promise_ticks}
+use Rattle.std.specs.Prelude.{◌+◌, Bool, true, ◌≡◌, ℕ, ◌≤◌, ◌<◌, List, [], ◌∷◌, ◌++◌, false, Option, Some, None, ℤ, pos, negsuc, length, ⊤, ◌⊎◌, if◌then◌else◌}
 use Rattle.afs_num.specs.Nodes.{same_node}
 use Rattle.afs_num.specs.declared.types.Code.{Code}
 use Rattle.afs_num.specs.declared.types.Fid.{Fid}
+use Rattle.afs_num.specs.declared.types.Head.{Head}
 use Rattle.afs_num.specs.declared.types.Key.{Key}
 use Rattle.afs_num.specs.declared.types.Node.{Node}
 use Rattle.afs_num.specs.declared.types.Node.TheVariants.{Server, Client}
@@ -11,20 +13,22 @@ use Rattle.afs_num.specs.declared.messages.Carried.{Carried}
 use Rattle.afs_num.specs.declared.messages.Message.{Message}
 use Rattle.afs_ideal.specs.Operations.{Caller, the_user, Result, refused, changes, no_operation, op, code_of, volume_called}
 use Rattle.afs_ideal.specs.Volumes.{Volume, Edit, versions_by}
-use Rattle.afs_law.specs.Breaks.{AllOwes, EndedOf, EndedAll, GoodSettle, GoodQuit, live_grant, lines_at, HasOwe, last_number}
-use Rattle.afs_rows.specs.Going.{Going, answers, next, asked, gives_back}
-use Rattle.afs_law.specs.Grants.{is_promised, read_reply, GrantOf, since, IsWithdrawn, IsDropped}
-use Rattle.afs_law.specs.Ideal.{set_up, IsLast, WasLast, HasBeen, HasVersion, Accepts, clock_of, user_of, seen, change_in, change_key, call_under, volume_after}
+use Rattle.afs_law.specs.Breaks.{AllOwes, HasStopped, HasTimeout, EndedOf, EndedAll, GoodSettle, GoodQuit, live_grant, lines_at, HasOwe, last_number}
+use Rattle.afs_rows.specs.Going.{Going, Need, answers, asks_for, next, asked, gives_back, reads_rights}
+use Rattle.afs_law.specs.Grants.{is_promised, read_reply, GrantOf, since, until, IsWithdrawn, IsDropped}
+use Rattle.afs_law.specs.Ideal.{last_version, Unless, set_up, IsLast, WasLast, HasBeen, HasVersion, Accepts, clock_of, user_of, seen, change_in, change_key, call_under, volume_after}
 use Rattle.afs_history.specs.declared.lines.Line.{Line}
-use Rattle.afs_law.specs.Past.{lines_of, sent_of, given_message, answered_key, IsReply, running, has_begun, Called, CalledSince, Ran}
+use Rattle.afs_law.specs.Past.{lines_of, sent_of, given_message, answered_key, code_told, IsReply, running, has_begun, has_given, Called, CalledSince, IsCallUnder, IsUnheard, Ran, server_boot}
 use Rattle.afs_rows.specs.Runs.{Entry}
 use Rattle.afs_num.specs.declared.scripts.Script.{Script}
 use Rattle.afs_num.specs.declared.histories.Actor.{Actor}
 use Rattle.afs_num.specs.declared.histories.Actor.TheVariants as actors
 use Rattle.afs_num.specs.declared.histories.Body.{Body}
+use Rattle.afs_num.specs.declared.histories.Body.TheVariants as bodies
 use Rattle.afs_num.specs.declared.histories.ReadBody.{ReadBody}
 use Rattle.afs_num.specs.declared.histories.ReadBody.TheVariants as shows
 use Rattle.afs_num.specs.declared.histories.ReadSource.{ReadSource}
+use Rattle.afs_num.specs.declared.histories.ReadSource.TheVariants.{Fetched}
 use Rattle.afs_num.specs.declared.histories.Version.{Version}
 use Rattle.afs_num.specs.declared.messages.Carried.TheVariants as carried
 use Rattle.afs_num.specs.declared.messages.Call.TheVariants as ask
@@ -34,40 +38,75 @@ use Rattle.afs_history.specs.declared.lines.Line.TheVariants as lines
 -- `who` is the entry's node, `past` are the entries before, the newest first, `own` the entry's own lines before, the
 -- newest first, and `next` its lines after.
 
+-- ---- acts
+
+-- an act runs at the client
+pub record HasAct (s : Script) (c : Node) (past : List Entry) (own : List Line) : Type 0 where
+  pub act : Going
+  pub runs : running s c (own ++ lines_of past) ≡ Some act
+
+-- the act began in this entry, which was given no message: what it read was in the cache, and it called nobody
+abbrev pub IsAtOnce : Node → List Line → Type 0
+IsAtOnce c own = (has_begun c own ≡ true) × (has_given own ≡ false)
+
+-- the entry was given a reply with code 0, to a call that the client sent since its act began, which was in an entry before
+pub record HasUsed (c : Node) (past : List Entry) (own : List Line) : Type 0 where
+  pub reply : Message
+  pub by : given_message own (sent_of past) ≡ Some reply
+  pub is_reply : IsReply reply
+  pub told : code_told reply.carried ≡ Some (pos 0)
+  pub to : reply.head.to ≡ c
+  pub before : has_begun c own ≡ false
+  pub call : FsCall
+  pub called : CalledSince (answered_key reply.head) (user_of c) call past
+
 -- ---- reads
 
 -- a version of this index was told, whatever its body
 abbrev pub HasIndex : Fid → ℕ → List Line → Type 0
 HasIndex f index ls = (body : Body) × HasVersion f index body ls
 
+-- a vnode that is gone shows nothing
+abbrev pub IsThere : Body → Type 0
+IsThere bodies.Gone = ⊥
+IsThere body = ⊤
+
 -- what a read shows is that of a version: its body, or what its vnode had beside it
 abbrev pub Shows : Fid → ℕ → ReadBody → List Entry → List Line → Type 0
-Shows f index (shows.Contents body) past own = HasVersion f index body (own ++ lines_of past)
+Shows f index (shows.Contents body) past own = IsThere body × HasVersion f index body (own ++ lines_of past)
 Shows f index body past own = HasIndex f index (own ++ lines_of past) × HasBeen f index body past
 
 -- a read is whole: it shows a version; it is not older than any that the client has seen; and it is the newest unless its
--- grant, which lasts and was not given up, was withdrawn
-pub record GoodRead (c : Node) (f : Fid) (index : ℕ) (source : ReadSource) (body : ReadBody) (past : List Entry) (own : List Line) : Type 0 where
+-- grant, which lasts, was not given up, and came from a server that accepted stores of the volume, was withdrawn
+pub record GoodRead (s : Script) (c : Node) (f : Fid) (index : ℕ) (source : ReadSource) (body : ReadBody) (past : List Entry) (own : List Line) : Type 0 where
   pub whole : Shows f index body past own
   pub not_older : seen c f past own ≤ index
   pub reply : Message
   pub by : read_reply c f source past own ≡ Some reply
   pub expiry : ℕ
   pub grant : GrantOf c f expiry reply past
+  pub home : Accepts s f.volume grant.server (until c f expiry reply past grant)
+  pub granted : (v : Version) → last_version f (until c f expiry reply past grant) ≡ Some v → v.index ≤ index
   pub lasts : clock_of (own ++ lines_of past) < expiry
   pub kept : IsDropped grant.server c f (own ++ since c f expiry reply past grant) → ⊥
   pub newest : IsWithdrawn grant.server c f (own ++ since c f expiry reply past grant) ⊎ IsLast f index (own ++ lines_of past)
 
--- Rights are read without a promise: the read is whole, not older than any that the client has seen, and was the newest at some
--- line since its act began
-pub record GoodRights (c : Node) (f : Fid) (index : ℕ) (body : ReadBody) (past : List Entry) (own : List Line) : Type 0 where
+-- Rights are read without a promise: the act needs them, and the entry was given a reply to its call for them. The read is whole,
+-- not older than any that the client has seen, and was the newest at some line since its act began
+pub record GoodRights (s : Script) (c : Node) (f : Fid) (index : ℕ) (source : ReadSource) (body : ReadBody) (past : List Entry) (own : List Line) : Type 0 where
+  pub fetched : source ≡ Fetched
+  pub act : Going
+  pub runs : running s c (own ++ lines_of past) ≡ Some act
+  pub needs : next act ≡ reads_rights f
+  pub used : HasUsed c past own
+  pub asks : used.call ≡ asked act
   pub whole : Shows f index body past own
   pub not_older : seen c f past own ≤ index
   pub was : WasLast c f index (own ++ lines_of past)
 
-abbrev pub GoodReadBy : Bool → Node → Fid → ℕ → ReadSource → ReadBody → List Entry → List Line → Type 0
-GoodReadBy true c f index source body past own = GoodRead c f index source body past own
-GoodReadBy false c f index source body past own = GoodRights c f index body past own
+abbrev pub GoodReadBy : Script → Bool → Node → Fid → ℕ → ReadSource → ReadBody → List Entry → List Line → Type 0
+GoodReadBy s true c f index source body past own = GoodRead s c f index source body past own
+GoodReadBy s false c f index source body past own = GoodRights s c f index source body past own
 
 -- ---- changes
 
@@ -80,6 +119,16 @@ abbrev pub IsNew : Key → List Line → Type 0
 IsNew k [] = ⊤
 IsNew k (l ∷ older) = IsNot k (change_in l) (IsNew k older)
 
+-- the server changed something under this key
+abbrev pub HasChangeBy : Node → Key → List Line → Type 0
+HasChangeBy s k [] = ⊥
+HasChangeBy s k (lines.Change q l count ∷ ls) = ((q ≡ s) × (l ≡ k)) ⊎ HasChangeBy s k ls
+HasChangeBy s k (l ∷ ls) = HasChangeBy s k ls
+
+-- a node's key of a later call
+abbrev pub IsLater : Key → Key → Type 0
+IsLater k l = (l.epoch < k.epoch) ⊎ ((l.epoch ≡ k.epoch) × (l.number < k.number))
+
 -- the versions that stand first
 abbrev pub versions_first : List Line → List Version
 versions_first (lines.Version v ∷ ls) = v ∷ versions_first ls
@@ -89,12 +138,50 @@ abbrev pub IsChanged : Fid → List Version → Type 0
 IsChanged f [] = ⊥
 IsChanged f (v ∷ vs) = (v.fid ≡ f) ⊎ IsChanged f vs
 
--- A change runs a key for the first time, at a server that accepts stores of the volume, and is the only one of its entry.
+-- behind here the server begins again, or its disk fails or has no room for that: these lines end a restart
+abbrev pub EndsBoot : Node → List Line → Type 0
+EndsBoot s [] = ⊥
+EndsBoot s (lines.Restart n boot ∷ next) = (n ≡ s) ⊎ EndsBoot s next
+EndsBoot s (lines.Fault n ∷ next) = (n ≡ s) ⊎ EndsBoot s next
+EndsBoot s (lines.Full n ∷ next) = (n ≡ s) ⊎ EndsBoot s next
+EndsBoot s (l ∷ next) = EndsBoot s next
+
+-- in these entries the server did nothing but begin restarts in which its disk failed at once
+abbrev pub AreFailed : Node → List Entry → Type 0
+AreFailed s [] = ⊤
+AreFailed s (e ∷ past) = (e.actor ≡ actors.Node s → e.lines ≡ lines.Fault s ∷ []) × AreFailed s past
+
+-- this entry was given a call of the key to the server and to the boot in which that is, the first in that boot
+pub record RunsHere (server : Node) (k : Key) (past : List Entry) (own : List Line) : Type 0 where
+  pub boot : ℕ
+  pub up : server_boot server (lines_of past) ≡ Some boot
+  pub given : IsCallUnder server k boot (given_message own (sent_of past))
+  pub first : IsUnheard server k boot past
+
+-- the server stopped in the entry that was given it; and this one is the restart that finds what that step left, which it tells
+-- first
+pub record RanBefore (server : Node) (k : Key) (past : List Entry) (own next : List Line) : Type 0 where
+  pub alone : own ≡ []
+  pub boots : EndsBoot server next
+  pub newer : List Entry
+  pub at : Entry
+  pub older : List Entry
+  pub split : past ≡ newer ++ (at ∷ older)
+  pub actor : at.actor ≡ actors.Node server
+  pub ran : RunsHere server k older at.lines
+  pub stopped : HasStopped server at.lines
+  pub since : AreFailed server newer
+
+-- A change runs a key for the first time, at a server that accepts stores of the volume, and is the only one of its entry. What
+-- the server changed before for the same node it did under keys of earlier calls. The entry ran the key's call, or is the restart behind the one that was interrupted in that.
 -- The key's call was sent by its node, for its user, and is that of the act that ran there, with the act's own bytes. The
 -- versions that follow are just those of the ideal operation on the ideal volume. Each other client's last grant on one of their
 -- fids that lasts has a break behind the change
 pub record GoodChange (s : Script) (server : Node) (k : Key) (count : ℕ) (past : List Entry) (own next : List Line) : Type 0 where
   pub fresh : IsNew k (own ++ lines_of past)
+  pub latest : (l : Key) → HasChangeBy server l (own ++ lines_of past) → l.node ≡ k.node → IsLater k l
+  pub place : RunsHere server k past own ⊎ RanBefore server k past own next
+  pub going : HasStopped server own → ⊥
   pub only : change_key own ≡ None
   pub user : List ℕ
   pub call : FsCall
@@ -115,6 +202,25 @@ pub record GoodChange (s : Script) (server : Node) (k : Key) (count : ℕ) (past
   pub owed : (j : ℕ) (f : Fid) (x : ℕ) → (Client j ≡ k.node → ⊥) → IsChanged f (versions_first next) → live_grant server (Client j) f (own ++ lines_at server past) ≡ Some x → clock_of (own ++ lines_of past) < x → HasOwe server (Client j) (Some f) next
   pub home : Accepts s id server (own ++ lines_of past)
 
+-- the server grants in the entry that runs a call of the client, and so long
+pub record GoodGrant (server c : Node) (expiry : ℕ) (past : List Entry) (own : List Line) : Type 0 where
+  pub key : Key
+  pub node : key.node ≡ c
+  pub ran : RunsHere server key past own
+  pub going : HasStopped server own → ⊥
+  pub lasts : expiry ≡ clock_of (own ++ lines_of past) + promise_ticks
+
+-- the server began again in this entry
+abbrev pub HasRisen : Node → List Line → Type 0
+HasRisen s [] = ⊥
+HasRisen s (lines.Restart n boot ∷ own) = (n ≡ s) ⊎ HasRisen s own
+HasRisen s (l ∷ own) = HasRisen s own
+
+-- a break becomes owed where a fid changes, or where the server began again
+abbrev pub GoodOwe : Node → Node → Option Fid → List Line → Type 0
+GoodOwe s c None own = HasRisen s own
+GoodOwe s c (Some f) own = IsWithdrawn s c f own
+
 -- a version stands under its change; that these are not too many is said of the change
 abbrev pub IsUnderChange : List Line → Type 0
 IsUnderChange (lines.Change s k count ∷ own) = ⊤
@@ -122,12 +228,6 @@ IsUnderChange (lines.Version v ∷ own) = IsUnderChange own
 IsUnderChange own = ⊥
 
 -- ---- answers
-
--- the code of a reply
-abbrev pub code_told : Carried → Option ℤ
-code_told (carried.Refusal code) = Some code.0
-code_told (carried.Reply reply) = Some (pos 0)
-code_told c = None
 
 -- a change under this key is among the lines
 abbrev pub IsKey : Key → Option Key → Type 0 → Type 0
@@ -179,31 +279,39 @@ abbrev pub IsChanging : Option Result → Type 0
 IsChanging (Some (changes es shown)) = ⊤
 IsChanging r = ⊥
 
--- the code is that of the ideal operation, and what that changes was told; or the server had no room for the change, and the
--- entry that ran the call tells none under its key
-abbrev pub IsResult : ℤ → Option Result → Key → List Line → List Line → Type 0
-IsResult code r k ran ls = ((code_given r ≡ code) × IsTold k r ls) ⊎ ((code ≡ pos 108) × (IsChanging r × (HasChange k ran → ⊥)))
+-- The code is that of the ideal operation, and what that changes was told. Or the server had no room for the change: the entry
+-- that ran the call tells none under its key, and wasn't interrupted, so that none was told by a restart either. Whether there
+-- was room no line tells
+abbrev pub IsResult : Node → ℤ → Option Result → Key → List Line → List Line → Type 0
+IsResult server code r k ran ls = ((code_given r ≡ code) × IsTold k r ls) ⊎ ((code ≡ pos 108) × (IsChanging r × ((HasChange k ran → ⊥) × (HasStopped server ran → ⊥))))
 
 -- the call as its act asks it: which promises are given back no act tells
 abbrev pub as_asked : FsCall → FsCall
 as_asked (calls.GiveUpCallBacks fids callbacks) = calls.GiveUpCallBacks [] []
 as_asked call = call
 
--- the reply has this code, and so has the ideal operation where the call ran; the call is the one that the act asks, for
--- its user; and where the operation makes versions, their change stands before
+-- the reply has this code, and so has the ideal operation where the call ran, in the boot in which its server then was; the call
+-- is the one that the act asks, for its user; and where the operation makes versions, their change stands before
 pub record Cause (reply : Message) (code : ℤ) (asks_for : FsCall) (past : List Entry) (own : List Line) : Type 0 where
   pub is_reply : IsReply reply
   pub told : code_told reply.carried ≡ Some code
   pub ran : Ran reply.head past
+  pub up : server_boot reply.head.from (lines_of ran.older) ≡ Some reply.head.boot
   pub user : List ℕ
   pub call : FsCall
   pub carries : ran.message.carried ≡ carried.Call user (ask.File call)
   pub own_user : user ≡ user_of reply.head.to
   pub asks : as_asked call ≡ asks_for
-  pub result : IsResult code (answer_at user call ran.older) (answered_key reply.head) ran.at.lines (own ++ lines_of past)
+  pub result : IsResult reply.head.from code (answer_at user call ran.older) (answered_key reply.head) ran.at.lines (own ++ lines_of past)
+
+-- the act ends with what it needs next: where the reply to that has code 0, so has the act. What it reads it goes on behind
+abbrev pub EndsAct : Need → Type 0
+EndsAct (asks_for call) = ⊤
+EndsAct gives_back = ⊤
+EndsAct need = ⊥
 
 -- the reply that the answer's entry was given is the cause of the code, and its call is one of this very act: the client
--- sent it since the act began, which was in an entry before
+-- sent it since the act began, which was in an entry before. The code is 0 only where the act ends with this call
 pub record IsCaused (c : Node) (act : Going) (code : ℤ) (past : List Entry) (own : List Line) : Type 0 where
   pub reply : Message
   pub by : given_message own (sent_of past) ≡ Some reply
@@ -211,29 +319,29 @@ pub record IsCaused (c : Node) (act : Going) (code : ℤ) (past : List Entry) (o
   pub cause : Cause reply code (asked act) past own
   pub before : has_begun c own ≡ false
   pub called : CalledSince (answered_key reply.head) cause.user cause.call past
+  pub ends : code ≡ pos 0 → EndsAct (next act)
 
--- the act needs no more, and answers so by its read lines
-pub record IsDone (act : Going) (code : ℤ) : Type 0 where
+-- the act needs no more, and answers so by its read lines; it began in this entry, which was given nothing, or the entry was
+-- given a reply with code 0 to its call
+pub record IsDone (c : Node) (act : Going) (code : ℤ) (past : List Entry) (own : List Line) : Type 0 where
   pub number : ℕ
   pub is : code ≡ pos number
   pub by : next act ≡ answers number
+  pub last : IsAtOnce c own ⊎ HasUsed c past own
 
--- the key of the client's call of which the entry has the third timeout
-abbrev pub given_up : Node → List Line → Option Key
-given_up c [] = None
-given_up c (lines.Timeout m callee epoch number count ∷ own) =
-    if (same_node m c && nat_eq count 3) then Some (record { node = c; epoch = epoch; number = number }) else given_up c own
-given_up c (l ∷ own) = given_up c own
-
--- a call of this very act was given up
+-- a call of this very act was timed out for the third time in this entry, and twice before: it is dead
 pub record IsDead (c : Node) (act : Going) (code : ℤ) (past : List Entry) (own : List Line) : Type 0 where
   pub is : code ≡ negsuc 0
-  pub key : Key
-  pub third : given_up c own ≡ Some key
+  pub callee : Node
+  pub epoch : ℕ
+  pub number : ℕ
+  pub third : HasTimeout c callee epoch number 3 own
+  pub first : HasTimeout c callee epoch number 1 (lines_of past)
+  pub second : HasTimeout c callee epoch number 2 (lines_of past)
   pub before : has_begun c own ≡ false
   pub call : FsCall
   pub asks : as_asked call ≡ asked act
-  pub called : CalledSince key (user_of c) call past
+  pub called : CalledSince (record { node = c; epoch = epoch; number = number }) (user_of c) call past
 
 -- the client gave up a fid by itself
 abbrev pub has_dropped : Node → List Line → Bool
@@ -253,19 +361,40 @@ pub record HasNothing (c : Node) (act : Going) (code : ℤ) (own : List Line) : 
 pub record GoodCode (s : Script) (c : Node) (code : Code) (past : List Entry) (own : List Line) : Type 0 where
   pub act : Going
   pub runs : running s c (own ++ lines_of past) ≡ Some act
-  pub cause : IsCaused c act code.0 past own ⊎ (IsDone act code.0 ⊎ (IsDead c act code.0 past own ⊎ HasNothing c act code.0 own))
+  pub cause : IsCaused c act code.0 past own ⊎ (IsDone c act code.0 past own ⊎ (IsDead c act code.0 past own ⊎ HasNothing c act code.0 own))
 
--- ---- replies that are sent
+-- ---- messages that are sent
+
+-- the client dropped the fid since it last began an act, by these lines, the newest first
+abbrev pub HasDropped : Node → Fid → List Line → Type 0
+HasDropped c f [] = ⊥
+HasDropped c f (lines.Drop m g ∷ older) = ((m ≡ c) × (g ≡ f)) ⊎ HasDropped c f older
+HasDropped c f (lines.Begin m act ∷ older) = Unless (same_node m c) (HasDropped c f older)
+HasDropped c f (l ∷ older) = HasDropped c f older
+
+abbrev pub AreDropped : Node → List Fid → List Line → Type 0
+AreDropped c [] ls = ⊤
+AreDropped c (f ∷ fs) ls = HasDropped c f ls × AreDropped c fs ls
+
+-- who tells that promises are given back dropped each of their fids in the same act
+abbrev pub GoodGift : Head → Carried → List Line → Type 0
+GoodGift head (carried.Call user (ask.File (calls.GiveUpCallBacks fids callbacks))) ls = AreDropped head.from fids ls
+GoodGift head c ls = ⊤
 
 -- A reply with code 0 of a server: every break is ended that the server owes in an entry that ran its key; and where that key
--- changed something, every one on all. `past` begins with the entry that sends it
+-- changed something, every one on all; and the server is up. `past` begins with the entry that sends it
 abbrev pub GoodReply : List Entry → Message → Type 0
 GoodReply past m = IsReply m → code_told m.carried ≡ Some (pos 0) → (i : ℕ) → m.head.from ≡ Server i
-    → AllOwes m.head.from (EndedOf m.head.from (answered_key m.head) (clock_of (lines_of past))) past × (HasChange (answered_key m.head) (lines_of past) → AllOwes m.head.from (EndedAll m.head.from (clock_of (lines_of past))) past)
+    → (AllOwes m.head.from (EndedOf m.head.from (answered_key m.head) (clock_of (lines_of past))) past × (HasChange (answered_key m.head) (lines_of past) → AllOwes m.head.from (EndedAll m.head.from (clock_of (lines_of past))) past)) × (server_boot m.head.from (lines_of past) ≡ None → ⊥)
 
-abbrev pub AreGoodReplies : List Entry → List Message → Type 0
-AreGoodReplies past [] = ⊤
-AreGoodReplies past (m ∷ ms) = GoodReply past m × AreGoodReplies past ms
+abbrev pub AreGoodSent : List Entry → List Message → Type 0
+AreGoodSent past [] = ⊤
+AreGoodSent past (m ∷ ms) = (GoodReply past m × GoodGift m.head m.carried (lines_of past)) × AreGoodSent past ms
+
+-- what is sent as a server's reply to a client is that of the entry which ran its call: one before, or the one that sends it
+abbrev pub AreRan : List Entry → List Message → Type 0
+AreRan past [] = ⊤
+AreRan past (m ∷ ms) = ((i j : ℕ) → IsReply m → m.head.from ≡ Server i → m.head.to ≡ Client j → Ran m.head past) × AreRan past ms
 
 -- ---- restarts
 
@@ -276,29 +405,38 @@ GoodRestart s n next = ⊤
 
 -- ---- histories
 
--- Each line stands in an entry of its own node: a read, an answer, a drop in one of its client, a change, a grant, a break in
--- one of its server, a tick in the clock's, and that nothing happened in nobody's
+-- it is this client's entry, and this server's
+abbrev pub IsOfClient : Actor → Node → Type 0
+IsOfClient who (Client j) = who ≡ actors.Node (Client j)
+IsOfClient who n = ⊥
+
+abbrev pub IsOfServer : Actor → Node → Type 0
+IsOfServer who (Server i) = who ≡ actors.Node (Server i)
+IsOfServer who n = ⊥
+
+-- An entry is given one message at most, and each line stands in an entry of its own node: a begin, a read, an answer, a drop in one of its client, a change, a grant, a
+-- break in one of its server, a tick in the clock's, and that nothing happened in nobody's
 abbrev pub IsGood : Script → Actor → Line → List Entry → List Line → List Line → Type 0
-IsGood s who (lines.Begin c act) past own next = who ≡ actors.Node c
-IsGood s who (lines.Given place) past own next = ⊤
-IsGood s who (lines.Grant server c f index expiry) past own next = who ≡ actors.Node server
-IsGood s who (lines.Change server k count) past own next = (who ≡ actors.Node server) × GoodChange s server k count past own next
+IsGood s who (lines.Begin c act) past own next = IsOfClient who c
+IsGood s who (lines.Given place) past own next = has_given own ≡ false
+IsGood s who (lines.Grant server c f index expiry) past own next = IsOfServer who server × GoodGrant server c expiry past own
+IsGood s who (lines.Change server k count) past own next = IsOfServer who server × GoodChange s server k count past own next
 IsGood s who (lines.Version v) past own next = IsUnderChange own
-IsGood s who (lines.Read c f index source body) past own next = (who ≡ actors.Node c) × GoodReadBy (is_promised body) c f index source body past own
-IsGood s who (lines.Answer c code) past own next = (who ≡ actors.Node c) × GoodCode s c code past own
+IsGood s who (lines.Read c f index source body) past own next = (IsOfClient who c × HasAct s c past own) × GoodReadBy s (is_promised body) c f index source body past own
+IsGood s who (lines.Answer c code) past own next = IsOfClient who c × GoodCode s c code past own
 IsGood s who (lines.Timeout c callee epoch number count) past own next = who ≡ actors.Node c
 IsGood s who (lines.Tick n) past own next = who ≡ actors.Clock
-IsGood s who (lines.Stop n calls pick) past own next = who ≡ actors.Node n
-IsGood s who (lines.Fail n call) past own next = who ≡ actors.Node n
+IsGood s who (lines.Stop n calls pick) past own next = IsOfServer who n
+IsGood s who (lines.Fail n call) past own next = IsOfServer who n
 IsGood s who (lines.Crash n) past own next = who ≡ actors.Node n
-IsGood s who (lines.Fault n) past own next = who ≡ actors.Node n
+IsGood s who (lines.Fault n) past own next = IsOfServer who n
 IsGood s who (lines.Restart n boot) past own next = (who ≡ actors.Node n) × GoodRestart s n next
-IsGood s who (lines.Full n) past own next = who ≡ actors.Node n
-IsGood s who (lines.Drop c f) past own next = who ≡ actors.Node c
-IsGood s who (lines.DropAll c server) past own next = who ≡ actors.Node c
-IsGood s who (lines.Owe server c what n) past own next = (who ≡ actors.Node server) × (last_number server (own ++ lines_of past) < n)
-IsGood s who (lines.Settle server c n) past own next = (who ≡ actors.Node server) × GoodSettle server c n past own
-IsGood s who (lines.Quit server c n) past own next = (who ≡ actors.Node server) × GoodQuit server c n past own
+IsGood s who (lines.Full n) past own next = IsOfServer who n
+IsGood s who (lines.Drop c f) past own next = IsOfClient who c
+IsGood s who (lines.DropAll c server) past own next = IsOfClient who c
+IsGood s who (lines.Owe server c what n) past own next = IsOfServer who server × ((last_number server (own ++ lines_of past) < n) × GoodOwe server c what own)
+IsGood s who (lines.Settle server c n) past own next = IsOfServer who server × GoodSettle server c n past own
+IsGood s who (lines.Quit server c n) past own next = IsOfServer who server × GoodQuit server c n past own
 IsGood s who lines.Void past own next = who ≡ actors.Nobody
 
 abbrev pub AreGood : Script → Actor → List Entry → List Line → List Line → Type 0
@@ -308,7 +446,7 @@ AreGood s who past own (l ∷ next) = IsGood s who l past own next × AreGood s 
 -- an entry lays no volumes, for the set-up alone does
 abbrev pub LegalAfter : Script → List Entry → List Entry → Type 0
 LegalAfter s past [] = ⊤
-LegalAfter s past (e ∷ es) = ((AreGood s e.actor past [] e.lines × AreGoodReplies (e ∷ past) e.sent) × (e.volumes ≡ [])) × LegalAfter s (e ∷ past) es
+LegalAfter s past (e ∷ es) = ((AreGood s e.actor past [] e.lines × AreGoodSent (e ∷ past) e.sent) × ((e.volumes ≡ []) × AreRan (e ∷ past) e.sent)) × LegalAfter s (e ∷ past) es
 
 abbrev pub Legal : List Entry → Script → Type 0
 Legal history s = LegalAfter s (set_up s ∷ []) history

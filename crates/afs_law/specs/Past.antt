@@ -1,4 +1,4 @@
-use Rattle.std.specs.Prelude.{◌≡◌, ℕ, List, [], ◌∷◌, ◌++◌, Bool, true, false, ◌&&◌, Option, Some, None, nat_eq, if◌then◌else◌, ⊤, ◌⊎◌}
+use Rattle.std.specs.Prelude.{◌≡◌, ℕ, List, [], ◌∷◌, ◌++◌, Bool, true, false, ◌&&◌, Option, Some, None, ℤ, pos, nat_eq, if◌then◌else◌, ⊤, ◌⊎◌}
 use Rattle.afs_num.specs.Nodes.{same_node}
 use Rattle.afs_num.specs.declared.types.Head.{Head}
 use Rattle.afs_num.specs.declared.types.Key.{Key}
@@ -46,6 +46,12 @@ given_message [] sent = None
 given_message (lines.Given place ∷ ls) sent = message_at sent place
 given_message (l ∷ ls) sent = given_message ls sent
 
+-- the entry was given a message
+abbrev pub has_given : List Line → Bool
+has_given [] = false
+has_given (lines.Given place ∷ ls) = true
+has_given (l ∷ ls) = has_given ls
+
 -- the key of a call, by its header
 abbrev pub called_key : Head → Key
 called_key head = record { node = head.from; epoch = head.epoch; number = head.number }
@@ -68,6 +74,12 @@ abbrev pub HasCode : Carried → Type 0
 HasCode (carried.Refusal code) = ⊤
 HasCode (carried.Reply reply) = ⊤
 HasCode c = ⊥
+
+-- the code of a reply
+abbrev pub code_told : Carried → Option ℤ
+code_told (carried.Refusal code) = Some code.0
+code_told (carried.Reply reply) = Some (pos 0)
+code_told c = None
 
 -- a reply, by its header and by what it carries
 abbrev pub IsReply : Message → Type 0
@@ -127,6 +139,19 @@ abbrev pub CalledSince : Key → List ℕ → FsCall → List Entry → Type 0
 CalledSince k user call [] = ⊥
 CalledSince k user call (e ∷ past) =
     ((e.actor ≡ actors.Node k.node) × Sends k user call e.sent) ⊎ ((has_begun k.node e.lines ≡ false) × CalledSince k user call past)
+
+-- ---- the boot of a server, by its lines, the newest first: none while it is down
+
+abbrev pub risen : Option ℕ → ℕ → Option ℕ
+risen None boot = Some boot
+risen (Some old) boot = Some old
+
+abbrev pub server_boot : Node → List Line → Option ℕ
+server_boot s [] = Some 1
+server_boot s (lines.Crash n ∷ older) = if same_node n s then None else server_boot s older
+server_boot s (lines.Fault n ∷ older) = if same_node n s then None else server_boot s older
+server_boot s (lines.Restart n boot ∷ older) = if same_node n s then risen (server_boot s older) boot else server_boot s older
+server_boot s (l ∷ older) = server_boot s older
 
 -- ---- the entry that ran a call
 

@@ -1,6 +1,6 @@
 //! Laws about the runs of a script. Each is the contract of a function that does nothing.
 
-ghost use Rattle.afs_law.specs.Laws.{ChangesAreFolded, KeysRunOnce, ReadsAreNewest, RunsAreLegal, RunsAreOne, StartsAreFolded, VolumesAreTold, PairsAreKnown, TrustedIsGood, RoomlessAreRefused, UnservedAreRefused, CallsRunOnce, RepliesAreCaused, RepliesAreRan, KeptAreRan, DurableAreChanges, GrantsAreKept, BreaksAreOwed, RepliesFollowDrops, GivenUpAreUntrusted};
+ghost use Rattle.afs_law.specs.Laws.{AcknowledgedAreMade, ChangesAreFolded, KeysRunOnce, ReadsAreNewest, RunsAreLegal, RunsAreOne, StartsAreFolded, VolumesAreTold, PairsAreKnown, TrustedIsGood, RoomlessAreRefused, UnservedAreRefused, CallsRunOnce, RepliesAreCaused, RepliesAreRan, KeptAreRan, DurableAreChanges, GrantsAreKept, BreaksAreOwed, RepliesFollowDrops, UnawaitedAreUntrusted};
 
 /// Every run of a script for one server is legal.
 pub fn runs_are_legal()
@@ -15,6 +15,11 @@ pub fn keys_run_once()
 /// A good read shows the newest version, unless its grant was withdrawn and the client has not given it up.
 pub fn reads_are_newest()
     ensures { ReadsAreNewest }
+{}
+
+/// In a legal history an act that changes something is answered 0 only where one of its calls changed it.
+pub fn acknowledged_are_made()
+    ensures { AcknowledgedAreMade }
 {}
 
 /// The same inputs make the same run.
@@ -72,7 +77,7 @@ pub fn replies_are_ran()
     ensures { RepliesAreRan }
 {}
 
-/// So is each reply that a server keeps for a client.
+/// So is each reply that a server keeps for a client, and it answers the call whose pair is kept.
 pub fn kept_are_ran()
     ensures { KeptAreRan }
 {}
@@ -82,7 +87,7 @@ pub fn durable_are_changes()
     ensures { DurableAreChanges }
 {}
 
-/// A grant that lasts, and was neither withdrawn nor given back, is promised still.
+/// A grant that lasts, and was neither withdrawn nor dropped by its client, is promised still.
 pub fn grants_are_kept()
     ensures { GrantsAreKept }
 {}
@@ -97,7 +102,7 @@ pub fn replies_follow_drops()
     ensures { RepliesFollowDrops }
 {}
 
-/// A client trusts nothing that a call which it gave up may change, but what it was promised in an older boot.
-pub fn given_up_are_untrusted()
-    ensures { GivenUpAreUntrusted }
+/// What a client trusts of the fids that a call may change for which it waits no more, it was promised in an older boot.
+pub fn unawaited_are_untrusted()
+    ensures { UnawaitedAreUntrusted }
 {}

@@ -11,7 +11,7 @@ use Rattle.afs_history.specs.declared.lines.Line.{Line}
 use Rattle.afs_rows.specs.ServerRow.{Begun, begun_before, begun_after, decides, device_calls, revived, Decision}
 use Rattle.afs_rows.specs.States.{Location, ServerState, BackCall, Lasting, durable_of}
 use Rattle.afs_rows.specs.Steps.{Step}
-use Rattle.std.specs.Prelude.{Result, Ok, Err, is_some, ◌≡◌, ℕ, zero, suc, ◌+◌, ◌-◌, List, [], ◌∷◌, ◌++◌, Bool, true, false, cond, nat_lt, codes, Option, Some, None, if◌then◌else◌}
+use Rattle.std.specs.Prelude.{Result, Ok, Err, is_some, ◌≡◌, ℕ, zero, suc, ◌+◌, ◌-◌, List, [], ◌∷◌, ◌++◌, Bool, true, false, cond, not, ◌||◌, nat_lt, codes, Option, Some, None, if◌then◌else◌}
 use Rattle.std.specs.Option.{option_map}
 use Rattle.afs_num.specs.declared.types.Node.{Node}
 use Rattle.afs_num.specs.declared.types.Node.TheVariants.{Loc, Server, Client, Admin}
@@ -125,8 +125,8 @@ pub record Cell : Type 0 where
 
 -- what one node is given: a client an act to begin, or a node the message of a place; a client's call is timed out; the
 -- clock rises; a client or a server stops, or begins again, the server before or after the interrupted step; a server's
--- disk is set; a server's call to a node is timed out; time has passed at a server; or nothing happens. Servers are named by
--- their numbers
+-- disk is set; a server's call to a node is timed out; time has passed at a server; or nothing happens. Clients and servers are
+-- named by their numbers; of one that the cell doesn't have nothing comes, nor of no ticks
 pub data Input : Type 0 where
   begins : ℕ → Act → Input
   gives : ℕ → Luck → Input
@@ -204,10 +204,19 @@ abbrev pub server_given : Cell → ℕ → ℕ → Luck → Message → Option F
 server_given c i place luck m (Some fall) = voided c
 server_given c i place luck m None = server_served c i place m (struck (c.hosts i).armed luck (device_calls (decided_at c i m)))
 
+-- a cell of so many clients has one of this number
+abbrev pub has_client : ℕ → ℕ → Bool
+has_client count zero = false
+has_client count (suc j) = nat_lt j count
+
+-- no client of this number is up: the cell has none, or it stopped
+abbrev pub is_away : Cell → ℕ → Bool
+is_away c n = not (has_client c.count n) || c.away n
+
 -- a message is given to the node that its header names
 abbrev pub given_to : Cell → ℕ → Luck → Message → Node → Moved
 given_to c place luck m (Server i) = if_host c i (server_given c i place luck m (c.hosts i).down)
-given_to c place luck m (Client n) = cond (c.away n) (voided c) (client_moves c n (client_row (Client n) (c.clients n) c.clock place (Whole m)))
+given_to c place luck m (Client n) = cond (is_away c n) (voided c) (client_moves c n (client_row (Client n) (c.clients n) c.clock place (Whole m)))
 given_to c place luck m Loc = voided c
 given_to c place luck m (Admin n) = voided c
 
@@ -295,11 +304,12 @@ server_wakes c i None = server_moves c i (c.hosts i).armed (wake_row (Server i) 
 server_wakes c i (Some fall) = voided c
 
 unfoldable pub moved : Cell → Input → Moved
-moved c (begins n act) = cond (c.away n) (voided c) (begun_by c n act (c.clients n).running)
+moved c (begins n act) = cond (is_away c n) (voided c) (begun_by c n act (c.clients n).running)
 moved c (gives place luck) = given_at c place luck (message_at c.sent place)
-moved c (waits n) = cond (c.away n) (voided c) (waited_by c n (c.clients n).running)
-moved c (ticks n) = ticked c n
-moved c (client_stops n) = cond (c.away n) (voided c) (client_falls c n)
+moved c (waits n) = cond (is_away c n) (voided c) (waited_by c n (c.clients n).running)
+moved c (ticks zero) = voided c
+moved c (ticks (suc n)) = ticked c (suc n)
+moved c (client_stops n) = cond (is_away c n) (voided c) (client_falls c n)
 moved c (client_starts n) = cond (c.away n) (client_rises c n) (voided c)
 moved c (stops i) = if_host c i (server_stopped c i (c.hosts i).down)
 moved c (starts_again i after o) = if_host c i (server_restarted c i after o (c.hosts i).down)

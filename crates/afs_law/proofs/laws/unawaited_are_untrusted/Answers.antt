@@ -1,5 +1,5 @@
 use Rattle.afs_law.proofs.Standing.{run_untrusted}
-use Rattle.afs_law.proofs.laws.given_up_are_untrusted.Goals as goal
+use Rattle.afs_law.proofs.laws.unawaited_are_untrusted.Goals as goal
 
 pub returns : goal.returns
 returns c = run_untrusted

@@ -1,0 +1,194 @@
+-- Where an act that changes something is answered 0, one of its calls changed it.
+use Rattle.std.proofs.Common.{◌≡◌, ℕ, ℤ, Bool, true, false, cond, List, [], ◌∷◌, ◌++◌, Option, Some, None, nat_eq, pos, negsuc, refl, sym, ap, subst, ◌∙◌, inl, inr}
+use Rattle.std.specs.Prelude.{◌&&◌, ◌||◌, ⊤, not}
+use Rattle.afs_history.specs.declared.acts.Act.{Act}
+use Rattle.afs_history.specs.declared.acts.Act.TheVariants as acts
+use Rattle.afs_history.specs.declared.acts.Operand.{Operand}
+use Rattle.afs_history.specs.declared.acts.Operand.TheVariants as operands
+use Rattle.afs_history.specs.declared.acts.Path.{Path}
+use Rattle.afs_history.specs.declared.lines.Line.{Line}
+use Rattle.afs_history.specs.declared.lines.Line.TheVariants as lines
+use Rattle.afs_ideal.specs.Operations.{Caller, Result, changes, no_operation, op, reads as reading_result, refused, the_user, volume_called, volume_changed}
+use Rattle.afs_ideal.specs.Volumes.{Volume}
+use Rattle.afs_num.specs.declared.calls.FsCall.{FsCall}
+use Rattle.afs_num.specs.declared.calls.FsCall.TheVariants as calls
+use Rattle.afs_num.specs.declared.directories.Name.{Name}
+use Rattle.afs_num.specs.declared.histories.Actor.{Actor}
+use Rattle.afs_num.specs.declared.histories.Body.{Body}
+use Rattle.afs_num.specs.declared.histories.Body.TheVariants as bodies
+use Rattle.afs_num.specs.declared.scripts.Script.{Script}
+use Rattle.afs_num.specs.declared.types.Code.{Code}
+use Rattle.afs_num.specs.declared.types.Fid.{Fid}
+use Rattle.afs_num.specs.declared.types.Key.{Key}
+use Rattle.afs_num.specs.declared.types.Node.{Node}
+use Rattle.afs_law.proofs.Basics.{some_of}
+use Rattle.afs_law.proofs.Facts.{is_passing}
+use Rattle.afs_law.proofs.Nexts.{as_changed}
+use Rattle.afs_law.proofs.Ops.{op_code, op_is, reads_is, shown_reads}
+use Rattle.afs_law.specs.Ideal.{set_up, volume_after}
+use Rattle.afs_law.specs.Laws.{IsChangingAct, IsMade}
+use Rattle.afs_law.specs.Legal.{AreGood, EndsAct, GoodCode, HasChange, IsGood, IsTold, Legal, LegalAfter, answer_at, answer_on, code_given, op_on}
+use Rattle.afs_law.specs.Once.{past_of}
+use Rattle.afs_law.specs.Past.{answered_key, lines_of, onto, running}
+use Rattle.afs_rows.specs.Going.{Going, Homes, Need, Parted, Shown, Taken, act_needs, answers, asks_for, at_parent, by_body, call_for, fid_of, first_body, gives_back, in_directory, in_home, is_even, is_last_name, is_root, looked_up, next, parted, reads, reads_rights, reads_status, reads_statuses, root_of, step_to, to_object, to_parent, walk}
+use Rattle.afs_rows.specs.Runs.{Entry}
+
+-- ---- what an act needs that changes something: at its end a change, and no answer 0 before
+
+abbrev IsUndone : Need → Type 0
+IsUndone (asks_for call) = volume_changed call ≡ None → ⊥
+IsUndone gives_back = ⊥
+IsUndone (answers n) = n ≡ 0 → ⊥
+IsUndone need = ⊤
+
+reading_by : (f : Fid) (more : Body → List Shown → Need) (o : Option (Taken Body)) → ((b : Body) (rest : List Shown) → IsUndone (more b rest)) → IsUndone (by_body f more o)
+reading_by f more None w = tt
+reading_by f more (Some t) w = w t.found t.rest
+
+if_even : (b : Bool) (need : Need) → IsUndone need → IsUndone (cond b (answers 20) need)
+if_even true need w = λ e. absurd cc
+if_even false need w = w
+
+step_undone : (inner : Bool) (more : Fid → Need) (volume : ℕ) (o : Option (Option Name)) → ((f : Fid) → IsUndone (more f)) → IsUndone (step_to inner more volume o)
+step_undone inner more volume None w = λ e. absurd cc
+step_undone inner more volume (Some None) w = λ e. absurd cc
+step_undone inner more volume (Some (Some n)) w = if_even (inner && is_even n.vnode) (more (fid_of volume n)) (w (fid_of volume n))
+
+walk_undone : (all : Bool) (more : Fid → List Shown → Need) (names : List (List ℕ)) (rs : List Shown) (d : Fid) → ((f : Fid) (rest : List Shown) → IsUndone (more f rest)) → IsUndone (walk all more names rs d)
+walk_undone all more [] rs d w = w d rs
+walk_undone all more (name ∷ names) rs d w =
+    reading_by d _ (first_body d rs) (λ b rest. step_undone (all || not (is_last_name names)) (walk all more names rest) d.volume (looked_up name b) (λ f. walk_undone all more names rest f w))
+
+home_undone : (home : Option ℕ) (more : ℕ → Need) → ((id : ℕ) → IsUndone (more id)) → IsUndone (in_home home more)
+home_undone None more w = λ e. absurd cc
+home_undone (Some id) more w = w id
+
+object_undone : (home : Option ℕ) (o : Operand) (rs : List Shown) (more : Fid → List Shown → Need) → ((f : Fid) (rest : List Shown) → IsUndone (more f rest)) → IsUndone (to_object home o rs more)
+object_undone home (operands.Fid f) rs more w = home_undone home _ (λ id. w f rs)
+object_undone home (operands.Path p) rs more w = home_undone home _ (λ id. walk_undone false more p.names rs (root_of id) w)
+
+directory_undone : (need : Need) (b : Body) → IsUndone need → IsUndone (in_directory need b)
+directory_undone need (bodies.File k) w = λ e. absurd cc
+directory_undone need (bodies.Dir k) w = w
+directory_undone need (bodies.Link k) w = λ e. absurd cc
+directory_undone need bodies.Gone w = λ e. absurd cc
+
+parent_by : (home : Option ℕ) (o : Option Parted) (rs : List Shown) (more : Fid → List ℕ → List Shown → Need) → ((f : Fid) (name : List ℕ) (rest : List Shown) → IsUndone (more f name rest)) → IsUndone (at_parent home rs more o)
+parent_by home None rs more w = λ e. absurd cc
+parent_by home (Some p) rs more w =
+    home_undone home _ (λ id. walk_undone true _ p.front rs (root_of id) (λ d rest. reading_by d _ (first_body d rest) (λ b later. directory_undone (more d p.last later) b (w d p.last later))))
+
+parent_undone : (home : Option ℕ) (p : Path) (rs : List Shown) (more : Fid → List ℕ → List Shown → Need) → ((f : Fid) (name : List ℕ) (rest : List Shown) → IsUndone (more f name rest)) → IsUndone (to_parent home p rs more)
+parent_undone home p rs more w = parent_by home (parted p.names) rs more w
+
+one_undone : (b : Bool) (need : Need) → IsUndone need → IsUndone (cond b need (answers 22))
+one_undone true need w = w
+one_undone false need w = λ e. absurd cc
+
+root_undone : (b : Bool) (need : Need) → IsUndone need → IsUndone (cond b (answers 22) need)
+root_undone true need w = λ e. absurd cc
+root_undone false need w = w
+
+act_undone : (h : Homes) (a : Act) (rs : List Shown) → IsChangingAct a → IsUndone (act_needs h a rs)
+act_undone h (acts.Close o contents) rs is = object_undone h.first o rs _ (λ f rest e. absurd cc)
+act_undone h (acts.SetMode o mode) rs is = object_undone h.first o rs _ (λ f rest e. absurd cc)
+act_undone h (acts.SetAccessList o text) rs is = object_undone h.first o rs _ (λ f rest e. absurd cc)
+act_undone h (acts.Make p) rs is = parent_undone h.first p rs _ (λ d name rest e. absurd cc)
+act_undone h (acts.MakeDirectory p) rs is = parent_undone h.first p rs _ (λ d name rest e. absurd cc)
+act_undone h (acts.Symlink p target) rs is = parent_undone h.first p rs _ (λ d name rest e. absurd cc)
+act_undone h (acts.Remove p) rs is = parent_undone h.first p rs _ (λ d name rest e. absurd cc)
+act_undone h (acts.RemoveDirectory p) rs is = parent_undone h.first p rs _ (λ d name rest e. absurd cc)
+act_undone h (acts.Move p q) rs is =
+    root_undone (is_root p || is_root q) _ (parent_undone h.first p rs _ (λ d old rest. parent_undone h.second q rest _ (λ e new later. one_undone (nat_eq d.volume e.volume) _ (λ z. absurd cc))))
+act_undone h (acts.Link p q) rs is =
+    root_undone (is_root q) _ (object_undone h.first (operands.Path p) rs _ (λ f rest. parent_undone h.second q rest _ (λ d name later. one_undone (nat_eq f.volume d.volume) _ (λ z. absurd cc))))
+act_undone h a rs is = absurd is
+
+-- ---- a changing call that is answered 0 was told
+
+passing_zero : (code : ℕ) → is_passing (pos code) ≡ false → pos code ≡ pos 0 → ⊥
+passing_zero code not e = let yes : is_passing (pos code) ≡ true = ap is_passing e in absurd cc
+
+by_result : (id : ℕ) (caller : Caller) (call : FsCall) (v : Volume) (k : Key) (ls : List Line) (r : Result) → volume_called call ≡ Some id → (volume_changed call ≡ None → ⊥) → op id caller call v ≡ r → code_given (Some r) ≡ pos 0 → IsTold k (Some r) ls → HasChange k ls
+by_result id caller call v k ls (refused code) of some is zero told = absurd (passing_zero code (op_code id caller call v code of is) zero)
+by_result id caller call v k ls (reading_result shown) of some is zero told = absurd (some (shown_reads call v shown (reads_is id caller call v shown of is)))
+by_result id caller call v k ls (changes es shown) of some is zero told = told
+by_result id caller call v k ls no_operation of some is zero told = absurd (op_is id caller call v of is)
+
+by_volume : (user : List ℕ) (call : FsCall) (id : ℕ) (o : Option Volume) (k : Key) (ls : List Line) → volume_called call ≡ Some id → (volume_changed call ≡ None → ⊥) → code_given (Some (op_on id (the_user user) call o)) ≡ pos 0 → IsTold k (Some (op_on id (the_user user) call o)) ls → HasChange k ls
+by_volume user call id None k ls of some zero told = absurd cc
+by_volume user call id (Some v) k ls of some zero told = by_result id (the_user user) call v k ls (op id (the_user user) call v) of some refl zero told
+
+by_called : (user : List ℕ) (call : FsCall) (past : List Entry) (o : Option ℕ) (k : Key) (ls : List Line) → volume_called call ≡ o → (volume_changed call ≡ None → ⊥) → code_given (answer_on user call o past) ≡ pos 0 → IsTold k (answer_on user call o past) ls → HasChange k ls
+by_called user call past None k ls of some zero told = absurd cc
+by_called user call past (Some id) k ls of some zero told = by_volume user call id (volume_after id past) k ls of some zero told
+
+by_call : (user : List ℕ) (call : FsCall) (past : List Entry) (k : Key) (ls : List Line) → (volume_changed call ≡ None → ⊥) → code_given (answer_at user call past) ≡ pos 0 → IsTold k (answer_at user call past) ls → HasChange k ls
+by_call user (calls.GiveUpCallBacks fids callbacks) past k ls some zero told = absurd (some refl)
+by_call user calls.GetTime past k ls some zero told = absurd (some refl)
+by_call user (calls.BulkStatus fids) past k ls some zero told = absurd (some refl)
+by_call user call past k ls some zero told = by_called user call past (volume_called call) k ls refl some zero told
+
+-- ---- the answer
+
+ending : (need : Need) → IsUndone need → EndsAct need → volume_changed (call_for need) ≡ None → ⊥
+ending (reads f) w e = absurd e
+ending (reads_status f) w e = absurd e
+ending (reads_statuses fs) w e = absurd e
+ending (reads_rights f) w e = absurd e
+ending (asks_for call) w e = w
+ending gives_back w e = absurd w
+ending (answers n) w e = absurd e
+
+answer_number : (code : ℤ) (n : ℕ) → code ≡ pos n → code ≡ pos 0 → n ≡ 0
+answer_number code n a b = let e : pos n ≡ pos 0 = sym a ∙ b in cc
+
+no_room : (code : ℤ) → code ≡ pos 108 → code ≡ pos 0 → ⊥
+no_room code a b = let e : pos 108 ≡ pos 0 = sym a ∙ b in absurd cc
+
+no_death : (code : ℤ) → code ≡ negsuc 0 → code ≡ pos 0 → ⊥
+no_death code a b = let e : negsuc 0 ≡ pos 0 = sym a ∙ b in absurd cc
+
+made : (s : Script) (c : Node) (code : Code) (past : List Entry) (own : List Line) (act : Going) → GoodCode s c code past own → running s c (own ++ lines_of past) ≡ Some act → IsChangingAct act.act → code.0 ≡ pos 0 → IsMade c past own
+made s c code past own act g runs is zero =
+    let one : g.act ≡ act = some_of g.act act (sym g.runs ∙ runs) in
+    let undone : IsUndone (next g.act) = subst (λ (a : Going). IsUndone (next a)) (sym one) (act_undone act.homes act.act act.reads is) in
+    elim g.cause [
+      | inl x ↦
+          let some : volume_changed x.cause.call ≡ None → ⊥ = λ z. ending (next g.act) undone (x.ends zero) (ap volume_changed (sym x.cause.asks) ∙ (as_changed x.cause.call ∙ z)) in
+          record {
+            key = answered_key x.reply.head;
+            node = x.to;
+            user = x.cause.user;
+            call = x.cause.call;
+            called = x.called;
+            told = elim x.cause.result [
+              | inl y ↦ by_call x.cause.user x.cause.call x.cause.ran.older (answered_key x.reply.head) (own ++ lines_of past) some (y.0 ∙ zero) y.1
+              | inr y ↦ absurd (no_room code.0 y.0 zero)
+            ];
+          }
+      | inr y ↦ elim y [
+        | inl x ↦ absurd (subst IsUndone x.by undone (answer_number code.0 x.number x.is zero))
+        | inr z ↦ elim z [
+          | inl x ↦ absurd (no_death code.0 x.is zero)
+          | inr x ↦ absurd (subst IsUndone x.by undone)
+        ]
+      ]
+    ]
+
+-- ---- where a line of a legal history stands it is good
+
+good_in : (s : Script) (past before after : List Entry) (e : Entry) → LegalAfter s past (before ++ (e ∷ after)) → AreGood s e.actor (past_of past before) [] e.lines
+good_in s past [] after e h = h.0.0.0
+good_in s past (b ∷ before) after e h = good_in s (b ∷ past) before after e h.1
+
+good_behind : (s : Script) (who : Actor) (past : List Entry) (own first : List Line) (l : Line) (rest : List Line) → AreGood s who past own (first ++ l ∷ rest) → IsGood s who l past (onto own first) rest
+good_behind s who past own [] l rest h = h.0
+good_behind s who past own (k ∷ first) l rest h = good_behind s who past (k ∷ own) first l rest h.1
+
+pub acknowledged : (s : Script) (history before after : List Entry) (e : Entry) (first rest : List Line) (c : Node) (code : Code) (act : Going) → Legal history s → history ≡ before ++ (e ∷ after) → e.lines ≡ first ++ lines.Answer c code ∷ rest
+    → running s c (onto [] first ++ lines_of (past_of (set_up s ∷ []) before)) ≡ Some act → IsChangingAct act.act → code.0 ≡ pos 0 → IsMade c (past_of (set_up s ∷ []) before) (onto [] first)
+acknowledged s history before after e first rest c code act legal split line runs is zero =
+    let past : List Entry = past_of (set_up s ∷ []) before in
+    let all : AreGood s e.actor past [] (first ++ lines.Answer c code ∷ rest) = subst (AreGood s e.actor past []) line (good_in s (set_up s ∷ []) before after e (subst (LegalAfter s (set_up s ∷ [])) split legal)) in
+    made s c code past (onto [] first) act (good_behind s e.actor past [] first (lines.Answer c code) rest all).1 runs is zero

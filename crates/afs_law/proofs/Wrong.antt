@@ -1,0 +1,467 @@
+-- Histories that are wrong for one reason each: a run, altered in one entry, of which just one condition isn't met.
+use Rattle.afs_law.proofs.Backing.{all_lines, is_oweless, no_owe}
+use Rattle.afs_num.specs.declared.types.Key.{Key}
+use Rattle.afs_num.specs.declared.types.Head.{Head}
+use Rattle.afs_records.specs.Records.{record_bytes, head_form, volume_form}
+use Rattle.afs_rows.specs.ServerSteps.{server_row, back_timeout_row, wake_row, start_row}
+use Rattle.afs_history.specs.declared.acts.Act.TheVariants as acts
+use Rattle.afs_history.specs.declared.acts.Operand.TheVariants as operands
+use Rattle.afs_history.specs.declared.acts.Written.TheVariants.{Hex}
+use Rattle.afs_history.specs.declared.lines.Line.{Line}
+use Rattle.afs_history.specs.declared.lines.Line.TheVariants as lines
+use Rattle.afs_ideal.specs.AccessLists.{rights_of, acl_text, entry_text}
+use Rattle.afs_ideal.specs.Directories.{directory_bytes, name_bytes, directory_of, names_at, whole_at, count_at, name_at, spelled_at, bytes_below}
+use Rattle.afs_ideal.specs.SetUp.{laid_at, led}
+use Rattle.afs_ideal.specs.VnodeImage.{image}
+use Rattle.afs_law.proofs.Basics.{some_of}
+use Rattle.afs_law.proofs.Homes.{accepts_first}
+use Rattle.afs_law.specs.Grants.{GrantOf, until}
+use Rattle.afs_num.specs.declared.histories.Actor.{Actor}
+use Rattle.afs_num.specs.declared.types.Node.{Node}
+use Rattle.afs_law.proofs.OneCell.{the_server, server_waits, Input, begins, gives, moved, nothing, sets_stop, start, starts_again, waits}
+use Rattle.afs_law.proofs.Worked.{alters, answer, begun, entries, file, root, script, six_front}
+use Rattle.afs_law.specs.Breaks.{HasTimeout, HasStopped}
+use Rattle.afs_law.specs.Legal.{Cause, EndsAct, IsResult, Legal, answer_at, code_given}
+use Rattle.afs_model.specs.Messages.{spelled}
+use Rattle.afs_num.specs.Names.{name_ok}
+use Rattle.afs_num.specs.declared.types.Fid.{Fid}
+use Rattle.afs_rows.specs.ClientRow.{begin_row, client_row}
+use Rattle.afs_rows.specs.Going.{Going, answers, asked, asks_for, gives_back, next, reads, stored_whole}
+use Rattle.afs_rows.specs.Runs.{Entry, comes_up, steady}
+use Rattle.afs_xdr.specs.Words.{opaque, pad, word, opaque_at, word_at, counted_at}
+use Rattle.afs_law.specs.Ideal.{set_up}
+use Rattle.afs_law.specs.Once.{past_of}
+use Rattle.afs_law.specs.Past.{IsUnheard, IsCallUnder, Ran, answered_key, code_told, given_message, lines_of, sent_of}
+use Rattle.afs_num.specs.declared.calls.FsCall.{FsCall}
+use Rattle.afs_num.specs.declared.histories.Actor.TheVariants as actors
+use Rattle.afs_num.specs.declared.messages.Call.TheVariants as ask
+use Rattle.afs_num.specs.declared.types.Half.TheVariants as halves
+use Rattle.afs_num.specs.declared.histories.Body.TheVariants as bodies
+use Rattle.afs_num.specs.declared.histories.ReadBody.TheVariants as seen
+use Rattle.afs_num.specs.declared.histories.ReadSource.{ReadSource}
+use Rattle.afs_num.specs.declared.histories.ReadSource.TheVariants.{Cached, Fetched}
+use Rattle.afs_num.specs.declared.messages.Carried.TheVariants as carried
+use Rattle.afs_num.specs.declared.messages.Message.{Message}
+use Rattle.afs_num.specs.declared.types.Node.TheVariants.{Client, Server}
+use Rattle.std.proofs.Common.{arith, ◌<◌, ◌≡◌, ◌∙◌, true, false, ℕ, ℤ, List, [], ◌∷◌, ◌++◌, ◌⊎◌, Option, None, Some, ap, sym, subst, refl, inl, inr, negsuc, pos}
+use Rattle.std.specs.Fmt.{digits}
+use Rattle.std.specs.Prelude.{codes, drop, map, take}
+
+-- an entry with other lines, which sends nothing
+abbrev instead : List Line → Entry → Entry
+instead ls e = record e { lines = ls; sent = [] }
+
+no_answer : (f : Fid) (n : ℕ) → reads f ≡ answers n → ⊥
+no_answer f n e = absurd cc
+
+no_answer_call : (call : FsCall) (n : ℕ) → asks_for call ≡ answers n → ⊥
+no_answer_call call n e = absurd cc
+
+no_gift : (f : Fid) → reads f ≡ gives_back → ⊥
+no_gift f e = absurd cc
+
+-- ---- a store is acknowledged by the reply to its walk: nothing was changed
+
+abbrev walk_front : List Input
+walk_front = begins 1 (acts.Close (operands.Path (record { volume = codes "proj"; names = codes "a" ∷ [] })) (Hex (codes "def"))) ∷ gives 1 steady ∷ gives 2 steady ∷ []
+
+closed_by_the_walk : Legal (alters 2 (instead (lines.Given 2 ∷ answer 1 ∷ [])) (entries (start (script 1)) walk_front)) (script 1) → ⊥
+unfolding moved begin_row client_row server_row back_timeout_row wake_row start_row record_bytes head_form volume_form spelled opaque pad word laid_at led name_ok directory_bytes name_bytes rights_of image acl_text digits entry_text directory_of names_at opaque_at word_at counted_at whole_at count_at name_at spelled_at bytes_below
+closed_by_the_walk h =
+    let g = h.1.1.0.0.0.1.0.1 in
+    elim g.cause [
+      | inl x ↦ subst (λ (a : Going). EndsAct (next a)) (sym (some_of _ _ g.runs)) (x.ends refl)
+      | inr y ↦ elim y [
+        | inl x ↦ no_answer _ x.number (ap next (some_of _ _ g.runs) ∙ x.by)
+        | inr z ↦ elim z [
+          | inl x ↦ let e : pos 0 ≡ negsuc 0 = x.is in absurd cc
+          | inr x ↦ no_gift _ (ap next (some_of _ _ g.runs) ∙ x.by)
+        ]
+      ]
+    ]
+
+-- an open of a directory is acknowledged by its reply, without the line that shows it and without the 21 that is due
+listed_without_a_line : Legal (alters 2 (instead (lines.Given 2 ∷ answer 1 ∷ [])) (entries (start (script 1)) (begins 1 (acts.Open (operands.Fid root)) ∷ gives 1 steady ∷ gives 2 steady ∷ []))) (script 1) → ⊥
+unfolding moved begin_row client_row server_row back_timeout_row wake_row start_row record_bytes head_form volume_form spelled opaque pad word laid_at led name_ok directory_bytes name_bytes rights_of image acl_text digits entry_text directory_of names_at opaque_at word_at counted_at whole_at count_at name_at spelled_at bytes_below
+listed_without_a_line h =
+    let g = h.1.1.0.0.0.1.0.1 in
+    elim g.cause [
+      | inl x ↦ subst (λ (a : Going). EndsAct (next a)) (sym (some_of _ _ g.runs)) (x.ends refl)
+      | inr y ↦ elim y [
+        | inl x ↦ no_answer _ x.number (ap next (some_of _ _ g.runs) ∙ x.by)
+        | inr z ↦ elim z [
+          | inl x ↦ let e : pos 0 ≡ negsuc 0 = x.is in absurd cc
+          | inr x ↦ no_gift _ (ap next (some_of _ _ g.runs) ∙ x.by)
+        ]
+      ]
+    ]
+
+-- ---- what is done by its read lines alone
+
+given_back : (n : ℕ) → answers n ≡ gives_back → ⊥
+given_back n e = absurd cc
+
+of_reply : (o : Option Message) (m k : Message) (code : ℤ) → o ≡ Some m → o ≡ Some k → code_told m.carried ≡ Some code → code_told k.carried ≡ Some (pos 0) → code ≡ pos 0
+of_reply o m k code a b c d = some_of code (pos 0) (sym c ∙ (ap (λ (x : Message). code_told x.carried) (some_of m k (sym a ∙ b)) ∙ d))
+
+-- an open is refused, for its file was removed; the client shows what it held of that all the same
+abbrev removed_front : List Input
+removed_front = begins 1 (acts.Stat (operands.Fid file)) ∷ gives 1 steady ∷ gives 2 steady ∷ begins 2 (acts.Remove (record { volume = codes "proj"; names = codes "a" ∷ [] })) ∷ gives 3 steady ∷ gives 4 steady ∷ gives 5 steady ∷ begins 1 (acts.Open (operands.Fid file)) ∷ gives 7 steady ∷ gives 8 steady ∷ []
+
+abbrev shown : ReadSource → Line
+shown source = lines.Read (Client 1) file 1 source (seen.Contents (bodies.File (codes "abc")))
+
+shown_against_a_refusal : Legal (alters 9 (instead (lines.Given 8 ∷ shown Cached ∷ answer 1 ∷ [])) (entries (start (script 2)) removed_front)) (script 2) → ⊥
+unfolding moved begin_row client_row server_row back_timeout_row wake_row start_row record_bytes head_form volume_form spelled opaque pad word laid_at led name_ok directory_bytes name_bytes rights_of image acl_text digits entry_text directory_of names_at opaque_at word_at counted_at whole_at count_at name_at spelled_at bytes_below
+shown_against_a_refusal h =
+    let g = h.1.1.1.1.1.1.1.1.1.0.0.0.1.1.0.1 in
+    elim g.cause [
+      | inl x ↦ subst (λ (a : Going). EndsAct (next a)) (sym (some_of _ _ g.runs)) (x.ends refl)
+      | inr y ↦ elim y [
+        | inl x ↦ elim x.last [ inl z ↦ let e : false ≡ true = z.0 in absurd cc | inr u ↦ let e : pos 102 ≡ pos 0 = of_reply _ _ u.reply _ refl u.by refl u.told in absurd cc ]
+        | inr z ↦ elim z [
+          | inl x ↦ let e : pos 0 ≡ negsuc 0 = x.is in absurd cc
+          | inr x ↦ given_back _ (ap next (some_of _ _ g.runs) ∙ x.by)
+        ]
+      ]
+    ]
+
+-- a reply is given to an act in the entry in which it begins, and what that shows was in the cache
+abbrev again_front : List Input
+again_front = begins 1 (acts.Open (operands.Fid file)) ∷ gives 1 steady ∷ gives 2 steady ∷ begins 1 (acts.Open (operands.Fid file)) ∷ []
+
+begun_with_a_reply : Legal (alters 3 (instead (begun 1 ∷ lines.Given 2 ∷ shown Cached ∷ answer 1 ∷ [])) (entries (start (script 1)) again_front)) (script 1) → ⊥
+unfolding moved begin_row client_row server_row back_timeout_row wake_row start_row record_bytes head_form volume_form spelled opaque pad word laid_at led name_ok directory_bytes name_bytes rights_of image acl_text digits entry_text directory_of names_at opaque_at word_at counted_at whole_at count_at name_at spelled_at bytes_below
+begun_with_a_reply h =
+    let g = h.1.1.1.0.0.0.1.1.1.0.1 in
+    elim g.cause [
+      | inl x ↦ let e : true ≡ false = x.before in absurd cc
+      | inr y ↦ elim y [
+        | inl x ↦ elim x.last [ inl z ↦ let e : true ≡ false = z.1 in absurd cc | inr u ↦ let e : true ≡ false = u.before in absurd cc ]
+        | inr z ↦ elim z [
+          | inl x ↦ let e : pos 0 ≡ negsuc 0 = x.is in absurd cc
+          | inr x ↦ given_back _ (ap next (some_of _ _ g.runs) ∙ x.by)
+        ]
+      ]
+    ]
+
+-- a grant stands beside a refusal: a read can't rest on it
+abbrev refuses : Entry → Entry
+refuses e = record e { sent = map (λ (m : Message). record m { carried = carried.Refusal (record { 0 = pos 13 }) }) e.sent }
+
+granted_by_a_refusal : Legal (alters 2 (instead (lines.Given 2 ∷ shown Fetched ∷ [])) (alters 1 refuses (entries (start (script 1)) (begins 1 (acts.Open (operands.Fid file)) ∷ gives 1 steady ∷ gives 2 steady ∷ [])))) (script 1) → ⊥
+unfolding moved begin_row client_row server_row back_timeout_row wake_row start_row record_bytes head_form volume_form spelled opaque pad word laid_at led name_ok directory_bytes name_bytes rights_of image acl_text digits entry_text directory_of names_at opaque_at word_at counted_at whole_at count_at name_at spelled_at bytes_below
+granted_by_a_refusal h =
+    let g = h.1.1.0.0.0.1.0.1 in
+    let e : pos 13 ≡ pos 0 = of_reply _ _ g.reply _ refl g.by refl g.grant.told in absurd cc
+
+-- ---- where a change may stand
+
+-- a store is told one entry after its call was given: the breaks that it owes would hold no reply
+abbrev parted : List Entry → List Entry
+parted [] = []
+parted (e ∷ []) = record e { lines = take 1 e.lines; sent = [] } ∷ record e { lines = drop 1 e.lines } ∷ []
+parted (e ∷ f ∷ es) = e ∷ parted (f ∷ es)
+
+changed_an_entry_late : Legal (parted (entries (start (script 2)) six_front)) (script 2) → ⊥
+unfolding moved begin_row client_row server_row back_timeout_row wake_row start_row record_bytes head_form volume_form spelled opaque pad word laid_at led name_ok directory_bytes name_bytes rights_of image acl_text digits entry_text directory_of names_at opaque_at word_at counted_at whole_at count_at name_at spelled_at bytes_below
+changed_an_entry_late h = let g = h.1.1.1.1.0.0.0.0.1 in elim g.place [ inl x ↦ x.given | inr y ↦ y.boots ]
+
+-- a break becomes owed an entry before the change that it is for: that change then owes nobody
+abbrev owes_ahead : List Entry → List Entry
+owes_ahead [] = []
+owes_ahead (e ∷ []) = record e { lines = drop 3 e.lines; sent = [] } ∷ record e { lines = take 3 e.lines } ∷ []
+owes_ahead (e ∷ f ∷ es) = e ∷ owes_ahead (f ∷ es)
+
+owed_ahead : Legal (owes_ahead (entries (start (script 2)) six_front)) (script 2) → ⊥
+unfolding moved begin_row client_row server_row back_timeout_row wake_row start_row record_bytes head_form volume_form spelled opaque pad word laid_at led name_ok directory_bytes name_bytes rights_of image acl_text digits entry_text directory_of names_at opaque_at word_at counted_at whole_at count_at name_at spelled_at bytes_below
+owed_ahead h = h.1.1.1.0.0.0.0.1.1
+
+-- a break is given up by timeouts of before it became owed
+abbrev timeouts_first : List Entry → List Entry
+timeouts_first (a ∷ b ∷ c ∷ d ∷ e ∷ f ∷ es) = a ∷ b ∷ c ∷ e ∷ f ∷ d ∷ es
+timeouts_first es = es
+
+only_owe : (newer base ls : List Line) (l : Line) (c : Node) (what : Option Fid) (n : ℕ) → all_lines is_oweless ls ≡ true → l ∷ ls ≡ newer ++ (lines.Owe the_server c what n ∷ base) → newer ≡ []
+only_owe [] base ls l c what n none e = refl
+only_owe (x ∷ newer) base ls l c what n none e = let rest : ls ≡ newer ++ (lines.Owe the_server c what n ∷ base) = cc in absurd (no_owe ls newer base the_server c what n none rest)
+
+quit_ahead : Legal (timeouts_first (entries (start (script 2)) (begins 1 (acts.Open (operands.Fid file)) ∷ gives 1 steady ∷ begins 2 (acts.Close (operands.Fid file) (Hex (codes "def"))) ∷ gives 3 steady ∷ server_waits (Client 1) ∷ server_waits (Client 1) ∷ server_waits (Client 1) ∷ []))) (script 2) → ⊥
+unfolding moved begin_row client_row server_row back_timeout_row wake_row start_row record_bytes head_form volume_form spelled opaque pad word laid_at led name_ok directory_bytes name_bytes rights_of image acl_text digits entry_text directory_of names_at opaque_at word_at counted_at whole_at count_at name_at spelled_at bytes_below
+quit_ahead h =
+    let g = h.1.1.1.1.1.1.0.0.0.1.0.1 in
+    subst (HasTimeout (Server 1) (Client 1) g.epoch g.number 1) (only_owe g.owe.newer g.owe.base _ _ (Client 1) g.what 1 refl g.owe.split) g.first
+
+-- a promise beside no call, which ends at once: the one before it would seem to be over
+abbrev promises_nothing : List Entry → List Entry
+promises_nothing [] = []
+promises_nothing (e ∷ []) = record e { lines = lines.Grant (Server 1) (Client 1) file 1 0 ∷ []; sent = [] } ∷ record e { lines = take 3 e.lines } ∷ []
+promises_nothing (e ∷ f ∷ es) = e ∷ promises_nothing (f ∷ es)
+
+granted_beside_no_call : Legal (promises_nothing (entries (start (script 2)) six_front)) (script 2) → ⊥
+unfolding moved begin_row client_row server_row back_timeout_row wake_row start_row record_bytes head_form volume_form spelled opaque pad word laid_at led name_ok directory_bytes name_bytes rights_of image acl_text digits entry_text directory_of names_at opaque_at word_at counted_at whole_at count_at name_at spelled_at bytes_below
+granted_beside_no_call h = h.1.1.1.0.0.0.0.1.ran.given
+
+-- one that ends before its time
+abbrev shortly : Entry → Entry
+shortly e = record e { lines = lines.Given 1 ∷ lines.Grant (Server 1) (Client 1) file 1 0 ∷ [] }
+
+granted_shortly : Legal (alters 1 shortly (entries (start (script 1)) (begins 1 (acts.Open (operands.Fid file)) ∷ gives 1 steady ∷ []))) (script 1) → ⊥
+unfolding moved begin_row client_row server_row back_timeout_row wake_row start_row record_bytes head_form volume_form spelled opaque pad word laid_at led name_ok directory_bytes name_bytes rights_of image acl_text digits entry_text directory_of names_at opaque_at word_at counted_at whole_at count_at name_at spelled_at bytes_below
+granted_shortly h = let e : 0 ≡ 7200 = h.1.0.0.0.1.0.1.lasts in absurd cc
+
+-- a store is answered an entry before its call runs: what that owes holds back nothing
+abbrev store_front : List Input
+store_front = begins 1 (acts.Close (operands.Fid file) (Hex (codes "def"))) ∷ gives 1 steady ∷ []
+
+abbrev answers_ahead : List Entry → List Entry
+answers_ahead [] = []
+answers_ahead (e ∷ []) = record e { lines = [] } ∷ record e { sent = [] } ∷ []
+answers_ahead (e ∷ f ∷ es) = e ∷ answers_ahead (f ∷ es)
+
+heard_in : (newer : List Entry) (at : Entry) (older : List Entry) (s : Node) (k : Key) (boot : ℕ) → IsUnheard s k boot (newer ++ (at ∷ older)) → IsCallUnder s k boot (given_message at.lines (sent_of older)) → ⊥
+heard_in [] at older s k boot h x = h.0 x
+heard_in (e ∷ newer) at older s k boot h x = heard_in newer at older s k boot h.1 x
+
+-- who ran a call was given it
+ran_heard : (reply : Head) (past : List Entry) → Ran reply past → IsUnheard reply.from (answered_key reply) reply.boot past → ⊥
+ran_heard reply past r h = heard_in r.newer r.at r.older reply.from (answered_key reply) reply.boot (subst (IsUnheard reply.from (answered_key reply) reply.boot) r.split h) (subst (IsCallUnder reply.from (answered_key reply) reply.boot) (sym r.given) ((r.is_call, r.callee), (r.key, r.boot)))
+
+answered_ahead : Legal (answers_ahead (entries (start (script 1)) store_front)) (script 1) → ⊥
+unfolding moved begin_row client_row server_row back_timeout_row wake_row start_row record_bytes head_form volume_form spelled opaque pad word laid_at led name_ok directory_bytes name_bytes rights_of image acl_text digits entry_text directory_of names_at opaque_at word_at counted_at whole_at count_at name_at spelled_at bytes_below
+answered_ahead h = ran_heard _ _ (h.1.0.1.1.0 1 1 (refl, tt) refl refl) ((λ x. x), ((λ x. x), ((λ x. x), tt)))
+
+-- the server stops behind the change, and answers in the same entry
+abbrev stops_there : Entry → Entry
+stops_there e = record e { lines = e.lines ++ lines.Crash (Server 1) ∷ [] }
+
+answered_when_down : Legal (alters 1 stops_there (entries (start (script 1)) store_front)) (script 1) → ⊥
+unfolding moved begin_row client_row server_row back_timeout_row wake_row start_row record_bytes head_form volume_form spelled opaque pad word laid_at led name_ok directory_bytes name_bytes rights_of image acl_text digits entry_text directory_of names_at opaque_at word_at counted_at whole_at count_at name_at spelled_at bytes_below
+answered_when_down h = (h.1.0.0.1.0.0 (refl, tt) refl 1 refl).1 refl
+
+-- a server that is down runs a call
+abbrev after_a_stop : List Entry → List Entry
+after_a_stop [] = []
+after_a_stop (e ∷ []) = record e { lines = lines.Crash (Server 1) ∷ []; sent = [] } ∷ e ∷ []
+after_a_stop (e ∷ f ∷ es) = e ∷ after_a_stop (f ∷ es)
+
+run_when_down : Legal (after_a_stop (entries (start (script 1)) store_front)) (script 1) → ⊥
+unfolding moved begin_row client_row server_row back_timeout_row wake_row start_row record_bytes head_form volume_form spelled opaque pad word laid_at led name_ok directory_bytes name_bytes rights_of image acl_text digits entry_text directory_of names_at opaque_at word_at counted_at whole_at count_at name_at spelled_at bytes_below
+run_when_down h =
+    let g = h.1.1.0.0.0.1.0.1 in
+    elim g.place [
+      | inl x ↦ let e : None ≡ Some x.boot = x.up in absurd cc
+      | inr y ↦ y.boots
+    ]
+
+-- a dead store runs behind a later one, which was answered
+abbrev key_of_one : ℕ → Key
+key_of_one n = record { node = Client 1; epoch = 1; number = n }
+
+abbrev late_front : List Input
+late_front = begins 1 (acts.Close (operands.Fid file) (Hex (codes "def"))) ∷ waits 1 ∷ waits 1 ∷ waits 1 ∷ begins 1 (acts.Close (operands.Fid file) (Hex (codes "xyz"))) ∷ gives 4 steady ∷ gives 1 steady ∷ []
+
+changed_behind_a_later_one : Legal (alters 6 (instead (lines.Given 1 ∷ lines.Change (Server 1) (key_of_one 1) 1 ∷ lines.Version (record { fid = file; index = 3; data_version = 3; body = bodies.File (codes "def") }) ∷ [])) (entries (start (script 1)) late_front)) (script 1) → ⊥
+unfolding moved begin_row client_row server_row back_timeout_row wake_row start_row record_bytes head_form volume_form spelled opaque pad word laid_at led name_ok directory_bytes name_bytes rights_of image acl_text digits entry_text directory_of names_at opaque_at word_at counted_at whole_at count_at name_at spelled_at bytes_below
+changed_behind_a_later_one h =
+    let g = h.1.1.1.1.1.1.0.0.0.1.0.1 in
+    elim (g.latest (key_of_one 2) (inl (refl, refl)) refl) [
+      | inl x ↦ let e : 1 < 1 = x in absurd (omega arith)
+      | inr x ↦ let e : 2 < 1 = x.1 in absurd (omega arith)
+    ]
+
+-- a server runs a call that is to another boot than its own
+abbrev to_boot_two : Entry → Entry
+to_boot_two e = record e { sent = map (λ (m : Message). record m { head = record m.head { boot = 2 } }) e.sent }
+
+run_in_another_boot : Legal (alters 0 to_boot_two (entries (start (script 1)) (begins 1 (acts.Close (operands.Fid file) (Hex (codes "def"))) ∷ gives 1 steady ∷ []))) (script 1) → ⊥
+unfolding moved begin_row client_row server_row back_timeout_row wake_row start_row record_bytes head_form volume_form spelled opaque pad word laid_at led name_ok directory_bytes name_bytes rights_of image acl_text digits entry_text directory_of names_at opaque_at word_at counted_at whole_at count_at name_at spelled_at bytes_below
+run_in_another_boot h =
+    let g = h.1.0.0.0.1.0.1 in
+    elim g.place [
+      | inl x ↦ let e : 2 ≡ 1 = x.given.1.1 ∙ sym (some_of 1 x.boot x.up) in absurd cc
+      | inr y ↦ y.boots
+    ]
+
+-- the server stops in a step; the restart tells its store, and a reply of the boot before that there was no room
+abbrev stopped_front : List Input
+stopped_front = begins 1 (acts.Close (operands.Fid file) (Hex (codes "def"))) ∷ sets_stop 3 1 ∷ gives 1 steady ∷ starts_again true comes_up ∷ []
+
+abbrev roomless : Message
+roomless = record {
+  head = record { half = halves.Reply; from = Server 1; to = Client 1; epoch = 1; number = 1; boot = 1; stamp = 0; opcode = 133 };
+  carried = carried.Refusal (record { 0 = pos 108 });
+}
+
+abbrev says_roomless : Entry → Entry
+says_roomless e = record e { sent = roomless ∷ [] }
+
+abbrev told_roomless : Entry
+told_roomless = record { actor = actors.Node (Client 1); lines = lines.Given 2 ∷ lines.Answer (Client 1) (record { 0 = pos 108 }) ∷ []; sent = []; volumes = [] }
+
+-- an entry that is found by a split of the past is one of it
+abbrev Among : (Entry → List Entry → Type 0) → List Entry → Type 0
+Among P [] = ⊥
+Among P (e ∷ past) = P e past ⊎ Among P past
+
+is_among : (P : Entry → List Entry → Type 0) (newer : List Entry) (at : Entry) (older : List Entry) → P at older → Among P (newer ++ (at ∷ older))
+is_among P [] at older x = inl x
+is_among P (e ∷ newer) at older x = inr (is_among P newer at older x)
+
+-- what the cause of that refusal says of the entry that ran the call
+record IsRoomless (ls : List Line) (e : Entry) (older : List Entry) : Type 0 where
+  message : Message
+  given : given_message e.lines (sent_of older) ≡ Some message
+  user : List ℕ
+  call : FsCall
+  carries : message.carried ≡ carried.Call user (ask.File call)
+  result : IsResult (Server 1) (pos 108) (answer_at user call older) (record { node = Client 1; epoch = 1; number = 1 }) e.lines ls
+
+one_user : (u v : List ℕ) (c d : FsCall) → carried.Call u (ask.File c) ≡ carried.Call v (ask.File d) → u ≡ v
+one_user u v c d e = cc
+
+one_call : (u v : List ℕ) (c d : FsCall) → carried.Call u (ask.File c) ≡ carried.Call v (ask.File d) → c ≡ d
+one_call u v c d e = cc
+
+-- the entry that stopped
+stopped_not : (ls : List Line) (e : Entry) (older : List Entry) (m : Message) → given_message e.lines (sent_of older) ≡ Some m → m.carried ≡ carried.Call (codes "guest") (ask.File (stored_whole file (codes "def"))) → code_given (answer_at (codes "guest") (stored_whole file (codes "def")) older) ≡ pos 0 → HasStopped (Server 1) e.lines → IsRoomless ls e older → ⊥
+stopped_not ls e older m given is zero stop x =
+    let same : carried.Call (codes "guest") (ask.File (stored_whole file (codes "def"))) ≡ carried.Call x.user (ask.File x.call) = sym is ∙ (ap (λ (k : Message). k.carried) (some_of m x.message (sym given ∙ x.given)) ∙ x.carries) in
+    elim x.result [
+      | inl y ↦
+          let told : code_given (answer_at (codes "guest") (stored_whole file (codes "def")) older) ≡ pos 108 = subst (λ (u : List ℕ). code_given (answer_at u (stored_whole file (codes "def")) older) ≡ pos 108) (sym (one_user _ _ _ _ same)) (subst (λ (k : FsCall). code_given (answer_at x.user k older) ≡ pos 108) (sym (one_call _ _ _ _ same)) y.0) in
+          let no_ : pos 0 ≡ pos 108 = sym zero ∙ told in absurd cc
+      | inr y ↦ y.1.1.1 stop
+    ]
+
+none_given : (ls : List Line) (e : Entry) (older : List Entry) → given_message e.lines (sent_of older) ≡ None → IsRoomless ls e older → ⊥
+none_given ls e older none x = let no_ : None ≡ Some x.message = sym none ∙ x.given in absurd cc
+
+abbrev stopped_past : List Entry
+stopped_past = past_of (set_up (script 1) ∷ []) (alters 3 says_roomless (entries (start (script 1)) stopped_front))
+
+abbrev roomless_history : List Entry
+roomless_history = alters 3 says_roomless (entries (start (script 1)) stopped_front) ++ told_roomless ∷ []
+
+no_room_but_stored : Legal roomless_history (script 1) → ⊥
+unfolding moved begin_row client_row server_row back_timeout_row wake_row start_row record_bytes head_form volume_form spelled opaque pad word laid_at led name_ok directory_bytes name_bytes rights_of image acl_text digits entry_text directory_of names_at opaque_at word_at counted_at whole_at count_at name_at spelled_at bytes_below
+no_room_but_stored h =
+    let g = h.1.1.1.1.0.0.0.1.0.1 in
+    elim g.cause [
+      | inl x ↦
+          let c : Cause roomless (pos 108) (asked g.act) stopped_past (lines.Given 2 ∷ []) = subst (λ (m : Message). Cause m (pos 108) (asked g.act) stopped_past (lines.Given 2 ∷ [])) (sym (some_of roomless x.reply x.by)) x.cause in
+          let ls : List Line = lines.Given 2 ∷ lines_of stopped_past in
+          let there : Among (IsRoomless ls) stopped_past = subst (Among (IsRoomless ls)) (sym c.ran.split) (is_among (IsRoomless ls) c.ran.newer c.ran.at c.ran.older (record { message = c.ran.message; given = c.ran.given; user = c.user; call = c.call; carries = c.carries; result = c.result })) in
+          elim there [
+            | inl y ↦ none_given _ _ _ refl y
+            | inr z ↦ elim z [
+              | inl y ↦ stopped_not _ _ _ _ refl refl refl (inl refl) y
+              | inr w ↦ elim w [
+                | inl y ↦ none_given _ _ _ refl y
+                | inr v ↦ elim v [
+                  | inl y ↦ none_given _ _ _ refl y
+                  | inr u ↦ elim u [ inl y ↦ none_given _ _ _ refl y | inr t ↦ t ]
+                ]
+              ]
+            ]
+          ]
+      | inr y ↦ elim y [
+        | inl x ↦ no_answer_call _ x.number (ap next (some_of _ _ g.runs) ∙ x.by)
+        | inr z ↦ elim z [
+          | inl x ↦ let e : pos 108 ≡ negsuc 0 = x.is in absurd cc
+          | inr x ↦ let e : pos 108 ≡ pos 0 = x.is in absurd cc
+        ]
+      ]
+    ]
+
+-- ---- a call is dead at its third timeout
+
+dead_at_once : Legal (alters 1 (instead (lines.Timeout (Client 1) (Server 1) 1 1 3 ∷ lines.Answer (Client 1) (record { 0 = negsuc 0 }) ∷ [])) (entries (start (script 1)) (begins 1 (acts.Open (operands.Fid file)) ∷ waits 1 ∷ []))) (script 1) → ⊥
+unfolding moved begin_row client_row server_row back_timeout_row wake_row start_row record_bytes head_form volume_form spelled opaque pad word laid_at led name_ok directory_bytes name_bytes rights_of image acl_text digits entry_text directory_of names_at opaque_at word_at counted_at whole_at count_at name_at spelled_at bytes_below
+dead_at_once h =
+    let g = h.1.0.0.0.1.0.1 in
+    elim g.cause [
+      | inl x ↦ let e : None ≡ Some x.reply = x.by in absurd cc
+      | inr y ↦ elim y [
+        | inl x ↦ let e : negsuc 0 ≡ pos x.number = x.is in absurd cc
+        | inr z ↦ elim z [
+          | inl x ↦ x.first
+          | inr x ↦ let e : negsuc 0 ≡ pos 0 = x.is in absurd cc
+        ]
+      ]
+    ]
+
+-- ---- who promises
+
+-- a client grants itself what it likes
+granted_by_a_client : Legal (alters 0 (instead (begun 1 ∷ lines.Grant (Client 1) (Client 1) file 1 7200 ∷ [])) (entries (start (script 1)) (begins 1 (acts.Open (operands.Fid file)) ∷ []))) (script 1) → ⊥
+unfolding moved begin_row client_row server_row back_timeout_row wake_row start_row record_bytes head_form volume_form spelled opaque pad word laid_at led name_ok directory_bytes name_bytes rights_of image acl_text digits entry_text directory_of names_at opaque_at word_at counted_at whole_at count_at name_at spelled_at bytes_below
+granted_by_a_client h = h.0.0.0.1.0.0
+
+-- another server than that of the volume grants, and a read rests on that
+abbrev by_two : Node → Node
+by_two (Server n) = Server 2
+by_two n = n
+
+abbrev line_by_two : Line → Line
+line_by_two (lines.Grant q c f i x) = lines.Grant (by_two q) c f i x
+line_by_two l = l
+
+abbrev message_by_two : Message → Message
+message_by_two m = record m { head = record m.head { from = by_two m.head.from; to = by_two m.head.to } }
+
+abbrev actor_by_two : Actor → Actor
+actor_by_two (actors.Node n) = actors.Node (by_two n)
+actor_by_two a = a
+
+abbrev entry_by_two : Entry → Entry
+entry_by_two e = record e { actor = actor_by_two e.actor; lines = map line_by_two e.lines; sent = map message_by_two e.sent }
+
+node_of : (a b : Node) → actors.Node a ≡ actors.Node b → a ≡ b
+node_of a b e = cc
+
+-- the grant's server is the sender of the reply on which the read rests
+granter : (c : Node) (f : Fid) (x : ℕ) (reply : Message) (past : List Entry) → (g : GrantOf c f x reply past) → g.server ≡ reply.head.from
+granter c f x reply past g = node_of g.server reply.head.from (sym g.node ∙ (g.ran.node ∙ ap actors.Node g.ran.callee))
+
+granted_by_another_server : Legal (map entry_by_two (entries (start (script 1)) (begins 1 (acts.Open (operands.Fid file)) ∷ gives 1 steady ∷ gives 2 steady ∷ []))) (script 1) → ⊥
+unfolding moved begin_row client_row server_row back_timeout_row wake_row start_row record_bytes head_form volume_form spelled opaque pad word laid_at led name_ok directory_bytes name_bytes rights_of image acl_text digits entry_text directory_of names_at opaque_at word_at counted_at whole_at count_at name_at spelled_at bytes_below
+granted_by_another_server h =
+    let g = h.1.1.0.0.0.1.0.1 in
+    let two : g.grant.server ≡ Server 2 = granter _ _ _ _ _ g.grant ∙ ap (λ (m : Message). m.head.from) (sym (some_of _ _ g.by)) in
+    elim (accepts_first (script 1) file.volume g.grant.server (until _ _ _ _ _ g.grant) g.home) [ inl x ↦ let e : Server 1 ≡ Server 2 = x.1.1 ∙ two in absurd cc | inr x ↦ x ]
+
+-- ---- rights are read by an act that needs them, of a reply to its call
+
+abbrev rights : Line
+rights = lines.Read (Client 1) root 1 Fetched (seen.AccessList (codes "1\n0\nsystem:anyuser\t127\n"))
+
+rights_without_an_act : Legal (alters 0 (λ e. record e { actor = actors.Node (Client 1); lines = rights ∷ [] }) (entries (start (script 1)) (nothing ∷ []))) (script 1) → ⊥
+unfolding moved begin_row client_row server_row back_timeout_row wake_row start_row record_bytes head_form volume_form spelled opaque pad word laid_at led name_ok directory_bytes name_bytes rights_of image acl_text digits entry_text directory_of names_at opaque_at word_at counted_at whole_at count_at name_at spelled_at bytes_below
+rights_without_an_act h = let e : None ≡ Some h.0.0.0.0.0.1.act = h.0.0.0.0.0.1.runs in absurd cc
+
+rights_without_a_reply : Legal (alters 0 (instead (lines.Begin (Client 1) (acts.GetAccessList (operands.Fid root)) ∷ rights ∷ [])) (entries (start (script 1)) (begins 1 (acts.GetAccessList (operands.Fid root)) ∷ []))) (script 1) → ⊥
+unfolding moved begin_row client_row server_row back_timeout_row wake_row start_row record_bytes head_form volume_form spelled opaque pad word laid_at led name_ok directory_bytes name_bytes rights_of image acl_text digits entry_text directory_of names_at opaque_at word_at counted_at whole_at count_at name_at spelled_at bytes_below
+rights_without_a_reply h = let e : true ≡ false = h.0.0.0.1.0.1.used.before in absurd cc
+
+-- ---- what is gone shows nothing
+
+abbrev gone_front : List Input
+gone_front = begins 1 (acts.Open (operands.Fid file)) ∷ gives 1 steady ∷ gives 2 steady ∷ begins 2 (acts.Remove (record { volume = codes "proj"; names = codes "a" ∷ [] })) ∷ gives 3 steady ∷ gives 4 steady ∷ gives 5 steady ∷ begins 1 (acts.ReadLink (operands.Fid file)) ∷ []
+
+read_when_gone : Legal (alters 7 (instead (lines.Begin (Client 1) (acts.ReadLink (operands.Fid file)) ∷ lines.Read (Client 1) file 2 Cached (seen.Contents bodies.Gone) ∷ answer 1 ∷ [])) (entries (start (script 2)) gone_front)) (script 2) → ⊥
+unfolding moved begin_row client_row server_row back_timeout_row wake_row start_row record_bytes head_form volume_form spelled opaque pad word laid_at led name_ok directory_bytes name_bytes rights_of image acl_text digits entry_text directory_of names_at opaque_at word_at counted_at whole_at count_at name_at spelled_at bytes_below
+read_when_gone h = h.1.1.1.1.1.1.1.0.0.0.1.0.1.whole.0
+
+-- ---- what is given back was dropped
+
+-- a client tells its server that it gives a promise back, and goes on holding what it was promised
+gave_back_and_kept : Legal (alters 3 (λ e. record e { lines = lines.Begin (Client 1) acts.GiveUp ∷ [] }) (entries (start (script 1)) (begins 1 (acts.Open (operands.Fid file)) ∷ gives 1 steady ∷ gives 2 steady ∷ begins 1 acts.GiveUp ∷ []))) (script 1) → ⊥
+unfolding moved begin_row client_row server_row back_timeout_row wake_row start_row record_bytes head_form volume_form spelled opaque pad word laid_at led name_ok directory_bytes name_bytes rights_of image acl_text digits entry_text directory_of names_at opaque_at word_at counted_at whole_at count_at name_at spelled_at bytes_below
+gave_back_and_kept h = h.1.1.1.0.0.1.0.1.0
+
+-- ---- an entry is given one message
+
+given_two : Legal (alters 2 (instead (lines.Given 2 ∷ lines.Given 2 ∷ [])) (entries (start (script 1)) (begins 1 (acts.Open (operands.Fid file)) ∷ gives 1 steady ∷ gives 2 steady ∷ []))) (script 1) → ⊥
+unfolding moved begin_row client_row server_row back_timeout_row wake_row start_row record_bytes head_form volume_form spelled opaque pad word laid_at led name_ok directory_bytes name_bytes rights_of image acl_text digits entry_text directory_of names_at opaque_at word_at counted_at whole_at count_at name_at spelled_at bytes_below
+given_two h = let e : true ≡ false = h.1.1.0.0.0.1.0 in absurd cc
