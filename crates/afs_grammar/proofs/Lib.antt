@@ -1,0 +1,3 @@
+pub mod FirstPart
+pub mod Escapes
+pub mod Worked
