@@ -1,3 +1,2 @@
-pub mod FirstPart
-pub mod Escapes
+pub mod Ticks
 pub mod Worked

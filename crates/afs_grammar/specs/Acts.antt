@@ -16,8 +16,9 @@ use Rattle.afs_history.specs.declared.scripts.Plan.{Plan}
 use Rattle.afs_history.specs.declared.scripts.Plan.TheVariants as plans
 use Rattle.afs_history.specs.declared.scripts.Event.{Event}
 use Rattle.afs_history.specs.declared.scripts.Event.TheVariants as events
-use Rattle.afs_grammar.specs.declared.nodes.Counts.{Counts}
-use Rattle.afs_grammar.specs.declared.nodes.Kinds.{Kinds}
+use Rattle.afs_words.specs.declared.nodes.Counts.{Counts}
+use Rattle.afs_grammar.specs.declared.spellings.FirstWord.{FirstWord}
+use Rattle.afs_grammar.specs.declared.spellings.FirstWord.TheVariants as firsts
 use Rattle.afs_grammar.specs.declared.spellings.ActWord.{ActWord}
 use Rattle.afs_grammar.specs.declared.spellings.ActWord.TheVariants as words
 use Rattle.afs_grammar.specs.declared.spellings.AdminWord.{AdminWord}
@@ -25,29 +26,7 @@ use Rattle.afs_grammar.specs.declared.spellings.AdminWord.TheVariants as admin_w
 use Rattle.afs_grammar.specs.declared.spellings.PlanWord.{PlanWord}
 use Rattle.afs_grammar.specs.declared.spellings.PlanWord.TheVariants as plan_words
 use Rattle.afs_grammar.specs.Spellings.{act_spelled, admin_spelled, plan_spelled}
-use Rattle.afs_grammar.specs.Words.{node_at, server_at, name_at, label_at, act_path_at, operand_at, written_at, mode_at}
-
--- ---- the kinds of nodes that may stand in a place
-
-abbrev pub kinds : Bool → Bool → Bool → Bool → Kinds
-kinds loc server client admin = record { loc = loc; server = server; client = client; admin = admin }
-
-abbrev pub actors : Kinds
-actors = kinds false false true true
-
-abbrev pub callers : Kinds
-callers = kinds false true true true
-
-abbrev pub all_nodes : Kinds
-all_nodes = kinds true true true true
-
-abbrev pub disk_nodes : Kinds
-disk_nodes = kinds true true false false
-
--- whom a server calls, and whom the others do
-abbrev pub callees : Node → Kinds
-callees (nodes.Server n) = kinds false true true false
-callees node = disk_nodes
+use Rattle.afs_words.specs.Words.{actors, all_nodes, callees, callers, disk_nodes, node_at, server_at, name_at, label_at, act_path_at, operand_at, written_at, mode_at}
 
 -- ---- acts of clients
 
@@ -268,3 +247,17 @@ fail_event c ws = do
   node ← node_at disk_nodes c ws
   call ← number_at 1 4294967295 node.1
   Ok (events.Fail node.0 call.0, call.1)
+
+-- the event of a line that begins with this word; no other word begins one
+abbrev pub event_at : FirstWord → Counts → Words → Result (Event × Words) Reason
+event_at firsts.Act c ws = act_event c ws
+event_at firsts.Deliver c ws = deliver_event ws
+event_at firsts.Drain c ws = Ok (events.Drain, ws)
+event_at firsts.Timeout c ws = timeout_event c ws
+event_at firsts.Wake c ws = wake_event c ws
+event_at firsts.Tick c ws = tick_event ws
+event_at firsts.Crash c ws = crash_event c ws
+event_at firsts.Restart c ws = restart_event c ws
+event_at firsts.Stop c ws = stop_event c ws
+event_at firsts.Fail c ws = fail_event c ws
+event_at first c ws = Err reasons.Word

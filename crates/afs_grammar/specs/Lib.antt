@@ -1,8 +1,6 @@
 pub mod Spellings
-pub mod Words
 pub mod Turns
 pub mod Acts
 pub mod Forms
 pub mod Lines
-pub mod Parts
-pub mod Reads
+pub mod Grounds

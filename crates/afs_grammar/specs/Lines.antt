@@ -1,6 +1,6 @@
 -- Which bytes are a script, and which; or the first bad line, counted from 1, and why it is bad.
-use Rattle.std.specs.Prelude.{ℕ, Bool, true, false, List, [], ◌∷◌, ◌++◌, ◌+◌, ◌-◌, ◌%◌, ◌*◌, ◌&&◌, ◌||◌, not, nat_eq, nat_le, nat_lt, length, map, filter, Option, Some, None, Result, Ok, Err, if◌then◌else◌}
-use Rattle.std.specs.List.{list_any}
+use Rattle.std.specs.Prelude.{ℕ, Bool, true, false, List, [], ◌∷◌, ◌++◌, ◌+◌, ◌-◌, ◌%◌, ◌*◌, ◌&&◌, ◌||◌, not, nat_eq, nat_le, nat_lt, length, map, filter, Option, Some, None, Result, Ok, Err, slice_get, slice_set, if◌then◌else◌}
+use Rattle.std.specs.List.{list_all, list_any, position_or_len}
 use Rattle.std.specs.Option.{ok_or}
 use Rattle.std.specs.Str.{bytes_eq}
 use Rattle.afs_num.specs.Names.{volume_name_ok}
@@ -30,12 +30,12 @@ use Rattle.afs_history.specs.declared.scripts.SetupLine.TheVariants as setups
 use Rattle.afs_history.specs.declared.scripts.VolumeLine.{VolumeLine}
 use Rattle.afs_history.specs.declared.scripts.UserLine.{UserLine}
 use Rattle.afs_history.specs.declared.scripts.Script.{Script}
-use Rattle.afs_grammar.specs.declared.nodes.Counts.{Counts}
+use Rattle.afs_words.specs.declared.nodes.Counts.{Counts}
 use Rattle.afs_grammar.specs.declared.spellings.FirstWord.{FirstWord}
 use Rattle.afs_grammar.specs.declared.spellings.FirstWord.TheVariants as words
 use Rattle.afs_grammar.specs.Spellings.{first_spelled}
-use Rattle.afs_grammar.specs.Words.{server_at, name_at, label_at, path_at, written_at, node_number_at}
-use Rattle.afs_grammar.specs.Acts.{Words, most_contents, most_text, task_at, plan_at, act_event, deliver_event, timeout_event, wake_event, tick_event, crash_event, restart_event, stop_event, fail_event}
+use Rattle.afs_words.specs.Words.{server_at, name_at, label_at, path_at, written_at, node_number_at}
+use Rattle.afs_grammar.specs.Acts.{Words, most_contents, most_text, task_at, plan_at, event_at}
 use Rattle.afs_grammar.specs.Turns.{next_turn, is_due, has_ended}
 use Rattle.afs_grammar.specs.Forms.{level_of, is_unbuilt}
 
@@ -173,19 +173,22 @@ abbrev pub new_line : ℕ → List ℕ → ℕ → ℕ → VolumeLine
 new_line count name server quota = record { id = 536870912 + count; name = name; server = server; quota = quota; lines = [] }
 
 -- the first records of the server and of the location database fit
-abbrev pub fits_all : LinesRead → ℕ → List VolumeLine → Bool
-fits_all r server ls = fits_server r.capacity (volumes_at server ls) && fits_loc r.capacity ls
+abbrev pub fits_all : ℕ → ℕ → List VolumeLine → Bool
+fits_all capacity server ls = fits_server capacity (volumes_at server ls) && fits_loc capacity ls
 
-abbrev pub with_volume : LinesRead → VolumeLine → List VolumeLine
-with_volume r line = r.volumes ++ line ∷ []
+-- one more volume, on disks of this capacity
+unfoldable pub with_volume : ℕ → VolumeLine → List VolumeLine → Result (List VolumeLine) Reason
+with_volume capacity line ls = do
+  short ← must (fits_all capacity line.server (ls ++ line ∷ [])) reasons.Limit
+  Ok (ls ++ line ∷ [])
 
 unfoldable pub volume_added : ℕ → LinesRead → VolumeLine → Result LinesRead Reason
 volume_added level r line = do
   few ← must (nat_lt (length (volumes_at line.server r.volumes)) 64) reasons.Limit
-  short ← must (fits_all r line.server (with_volume r line)) reasons.Limit
+  volumes ← with_volume r.capacity line r.volumes
   only ← must (nat_le 7 level || nat_eq (length r.volumes) 0) reasons.Limit
   large ← must (nat_le 5 level || nat_le 1000 line.quota) reasons.Number
-  Ok (record r { volumes = with_volume r line })
+  Ok (record r { volumes = volumes })
 
 unfoldable pub volume_line : ℕ → LinesRead → Words → Result LinesRead Reason
 volume_line level r ws = do
@@ -200,21 +203,23 @@ volume_line level r ws = do
 abbrev pub with_line : SetupLine → VolumeLine → VolumeLine
 with_line x l = record l { lines = l.lines ++ x ∷ [] }
 
-abbrev pub line_if : Bool → SetupLine → VolumeLine → VolumeLine
-line_if true x l = with_line x l
-line_if false x l = l
+-- where the volume of this name stands; how many there are, if it is none of them
+abbrev pub place_of : List ℕ → List VolumeLine → ℕ
+place_of name ls = position_or_len (has_name name) ls
 
-abbrev pub with_setup : List ℕ → SetupLine → List VolumeLine → List VolumeLine
-with_setup name x ls = map (λ l. line_if (has_name name l) x l) ls
+-- a line laid in the volume of this place, on disks of this capacity
+abbrev pub with_setup_at : ℕ → ℕ → SetupLine → List VolumeLine → Option VolumeLine → Result (List VolumeLine) Reason
+with_setup_at capacity place x ls None = Err reasons.Path
+with_setup_at capacity place x ls (Some volume) = do
+  stands ← setup_accepts (laid volume.id x (volume_laid volume))
+  short ← must (fits_server capacity (volumes_at volume.server (slice_set ls place (with_line x volume)))) reasons.Limit
+  Ok (slice_set ls place (with_line x volume))
 
--- the volume of this name
-abbrev pub named : List ℕ → List VolumeLine → Option VolumeLine
-named name [] = None
-named name (l ∷ ls) = if has_name name l then Some l else named name ls
+unfoldable pub with_setup : ℕ → ℕ → SetupLine → List VolumeLine → Result (List VolumeLine) Reason
+with_setup capacity place x ls = with_setup_at capacity place x ls (slice_get ls place)
 
-abbrev pub line_count : List VolumeLine → ℕ
-line_count [] = 0
-line_count (l ∷ ls) = length l.lines + line_count ls
+abbrev pub has_no_lines : VolumeLine → Bool
+has_no_lines l = nat_eq (length l.lines) 0
 
 abbrev pub written_length : SetupLine → ℕ
 written_length (setups.Directory path) = 0
@@ -225,11 +230,9 @@ written_length (setups.AccessList path text) = length (bytes_in text)
 -- narrower forms have one file, and a small one
 unfoldable pub setup_laid : ℕ → LinesRead → List ℕ → SetupLine → Result LinesRead Reason
 setup_laid level r name x = do
-  volume ← ok_or (named name r.volumes) reasons.Path
-  stands ← setup_accepts (laid volume.id x (volume_laid volume))
-  short ← must (fits_server r.capacity (volumes_at volume.server (with_setup name x r.volumes))) reasons.Limit
-  small ← must (nat_le 5 level || (nat_eq (line_count r.volumes) 0 && nat_le (written_length x) 1024)) reasons.Limit
-  Ok (record r { volumes = with_setup name x r.volumes })
+  volumes ← with_setup r.capacity (place_of name r.volumes) x r.volumes
+  small ← must (nat_le 5 level || (list_all has_no_lines r.volumes && nat_le (written_length x) 1024)) reasons.Limit
+  Ok (record r { volumes = volumes })
 
 unfoldable pub dir_line : ℕ → LinesRead → Words → Result LinesRead Reason
 dir_line level r ws = do
@@ -309,12 +312,16 @@ schedule_so_far None = []
 schedule_so_far (Some es) = es
 
 -- all ticks of a script are 1,000,000,000 at most
-unfoldable pub event_line : LinesRead → Result (Event × Words) Reason → Result LinesRead Reason
-event_line r read = do
-  event ← read
-  done ← ended event.1
-  few ← must (nat_le (ticks_in (schedule_so_far r.schedule ++ event.0 ∷ [])) 1000000000) reasons.Limit
-  Ok (record r { schedule = Some (schedule_so_far r.schedule ++ event.0 ∷ []) })
+unfoldable pub event_told : LinesRead → Event → Words → Result LinesRead Reason
+event_told r event ws = do
+  done ← ended ws
+  few ← must (nat_le (ticks_in (schedule_so_far r.schedule ++ event ∷ [])) 1000000000) reasons.Limit
+  Ok (record r { schedule = Some (schedule_so_far r.schedule ++ event ∷ []) })
+
+unfoldable pub event_line : FirstWord → LinesRead → Words → Result LinesRead Reason
+event_line first r ws = do
+  event ← event_at first r.counts ws
+  event_told r event.0 event.1
 
 unfoldable pub end_line : LinesRead → Words → Result LinesRead Reason
 end_line r ws = do
@@ -323,33 +330,28 @@ end_line r ws = do
 
 -- ---- a line by its first word
 
+-- lines that lay nothing; what begins with none of the words that stand here is an event
+abbrev pub line_told : ℕ → FirstWord → LinesRead → Words → Result LinesRead Reason
+line_told level words.Cell r ws = cell_line r ws
+line_told level words.Servers r ws = servers_line level r ws
+line_told level words.Clients r ws = clients_line level r ws
+line_told level words.Admins r ws = admins_line r ws
+line_told level words.Cache r ws = cache_line r ws
+line_told level words.Capacity r ws = capacity_line r ws
+line_told level words.User r ws = user_line r ws
+line_told level words.Do r ws = do_line level r ws
+line_told level words.Plan r ws = plan_line r ws
+line_told level words.Schedule r ws = schedule_line r ws
+line_told level words.End r ws = end_line r ws
+line_told level first r ws = event_line first r ws
+
 abbrev pub line_by_word : ℕ → FirstWord → LinesRead → Words → Result LinesRead Reason
-line_by_word level words.Cell r ws = cell_line r ws
-line_by_word level words.Servers r ws = servers_line level r ws
-line_by_word level words.Clients r ws = clients_line level r ws
-line_by_word level words.Admins r ws = admins_line r ws
-line_by_word level words.Cache r ws = cache_line r ws
-line_by_word level words.Capacity r ws = capacity_line r ws
-line_by_word level words.User r ws = user_line r ws
 line_by_word level words.Volume r ws = volume_line level r ws
 line_by_word level words.Dir r ws = dir_line level r ws
 line_by_word level words.File r ws = file_line level r ws
 line_by_word level words.Link r ws = link_line level r ws
 line_by_word level words.Acl r ws = acl_line level r ws
-line_by_word level words.Do r ws = do_line level r ws
-line_by_word level words.Plan r ws = plan_line r ws
-line_by_word level words.Schedule r ws = schedule_line r ws
-line_by_word level words.Act r ws = event_line r (act_event r.counts ws)
-line_by_word level words.Deliver r ws = event_line r (deliver_event ws)
-line_by_word level words.Drain r ws = event_line r (Ok (events.Drain, ws))
-line_by_word level words.Timeout r ws = event_line r (timeout_event r.counts ws)
-line_by_word level words.Wake r ws = event_line r (wake_event r.counts ws)
-line_by_word level words.Tick r ws = event_line r (tick_event ws)
-line_by_word level words.Crash r ws = event_line r (crash_event r.counts ws)
-line_by_word level words.Restart r ws = event_line r (restart_event r.counts ws)
-line_by_word level words.Stop r ws = event_line r (stop_event r.counts ws)
-line_by_word level words.Fail r ws = event_line r (fail_event r.counts ws)
-line_by_word level words.End r ws = end_line r ws
+line_by_word level first r ws = line_told level first r ws
 
 unfoldable pub first_of : ℕ → List ℕ → Result FirstWord Reason
 first_of level word = do

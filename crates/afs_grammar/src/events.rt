@@ -1,18 +1,19 @@
 //! Events of a schedule.
 
 ghost use Rattle.std.specs.Prelude.{◌≡◌};
-ghost use Rattle.afs_grammar.specs.Acts.{act_event, deliver_event, timeout_event, wake_event, tick_event, has_disk, crash_of, crash_event, restart_event, stop_event, fail_event};
-ghost use Rattle.afs_grammar.specs.Reads.{Reads};
+ghost use Rattle.afs_grammar.specs.Acts.{event_at, act_event, deliver_event, timeout_event, wake_event, tick_event, has_disk, crash_of, crash_event, restart_event, stop_event, fail_event};
+ghost use Rattle.afs_words.specs.Reads.{Reads};
 
-use crate::nodes::{ACTORS, ALL_NODES, CALLERS, Counts, DISK_NODES, callees, node, one_of};
-use crate::parts::Parts;
-use crate::words::number;
+use crate::spellings::FirstWord;
+use afs_words::nodes::{ACTORS, ALL_NODES, CALLERS, Counts, DISK_NODES, callees, node, one_of};
+use afs_words::parts::Parts;
+use afs_words::words::number;
 use afs_history::scripts::Event;
 use afs_num::scripts::Reason;
 use afs_num::types::Node;
 
 #[tactic(auto, unfolding(crate::specs::Acts::act_event))]
-pub fn act(counts: Counts, words: &mut Parts<'_>) -> Result<Event, Reason>
+fn act(counts: Counts, words: &mut Parts<'_>) -> Result<Event, Reason>
     ensures { Reads (act_event counts) (λ e. e) words.old words.new result }
 {
     let node = node(words, ACTORS, counts)?;
@@ -20,7 +21,7 @@ pub fn act(counts: Counts, words: &mut Parts<'_>) -> Result<Event, Reason>
 }
 
 #[tactic(auto, unfolding(crate::specs::Acts::deliver_event))]
-pub fn deliver(words: &mut Parts<'_>) -> Result<Event, Reason>
+fn deliver(words: &mut Parts<'_>) -> Result<Event, Reason>
     ensures { Reads deliver_event (λ e. e) words.old words.new result }
 {
     let place = number(words, 1, u64::MAX)?;
@@ -28,7 +29,7 @@ pub fn deliver(words: &mut Parts<'_>) -> Result<Event, Reason>
 }
 
 #[tactic(auto, unfolding(crate::specs::Acts::timeout_event))]
-pub fn timeout(counts: Counts, words: &mut Parts<'_>) -> Result<Event, Reason>
+fn timeout(counts: Counts, words: &mut Parts<'_>) -> Result<Event, Reason>
     ensures { Reads (timeout_event counts) (λ e. e) words.old words.new result }
 {
     let caller = node(words, CALLERS, counts)?;
@@ -40,7 +41,7 @@ pub fn timeout(counts: Counts, words: &mut Parts<'_>) -> Result<Event, Reason>
 }
 
 #[tactic(auto, unfolding(crate::specs::Acts::wake_event))]
-pub fn wake(counts: Counts, words: &mut Parts<'_>) -> Result<Event, Reason>
+fn wake(counts: Counts, words: &mut Parts<'_>) -> Result<Event, Reason>
     ensures { Reads (wake_event counts) (λ e. e) words.old words.new result }
 {
     let server = one_of(words, b's', counts.servers)?;
@@ -48,7 +49,7 @@ pub fn wake(counts: Counts, words: &mut Parts<'_>) -> Result<Event, Reason>
 }
 
 #[tactic(auto, unfolding(crate::specs::Acts::tick_event))]
-pub fn tick(words: &mut Parts<'_>) -> Result<Event, Reason>
+fn tick(words: &mut Parts<'_>) -> Result<Event, Reason>
     ensures { Reads tick_event (λ e. e) words.old words.new result }
 {
     let ticks = number(words, 1, 4_294_967_295)? as u32;
@@ -62,7 +63,7 @@ fn has_disk(node: Node) -> bool
 }
 
 #[tactic(auto, unfolding(crate::specs::Acts::crash_event, crate::specs::Acts::crash_of))]
-pub fn crash(counts: Counts, words: &mut Parts<'_>) -> Result<Event, Reason>
+fn crash(counts: Counts, words: &mut Parts<'_>) -> Result<Event, Reason>
     ensures { Reads (crash_event counts) (λ e. e) words.old words.new result }
 {
     let node = node(words, ALL_NODES, counts)?;
@@ -75,7 +76,7 @@ pub fn crash(counts: Counts, words: &mut Parts<'_>) -> Result<Event, Reason>
 }
 
 #[tactic(auto, unfolding(crate::specs::Acts::restart_event))]
-pub fn restart(counts: Counts, words: &mut Parts<'_>) -> Result<Event, Reason>
+fn restart(counts: Counts, words: &mut Parts<'_>) -> Result<Event, Reason>
     ensures { Reads (restart_event counts) (λ e. e) words.old words.new result }
 {
     let node = node(words, ALL_NODES, counts)?;
@@ -83,7 +84,7 @@ pub fn restart(counts: Counts, words: &mut Parts<'_>) -> Result<Event, Reason>
 }
 
 #[tactic(auto, unfolding(crate::specs::Acts::stop_event))]
-pub fn stop(counts: Counts, words: &mut Parts<'_>) -> Result<Event, Reason>
+fn stop(counts: Counts, words: &mut Parts<'_>) -> Result<Event, Reason>
     ensures { Reads (stop_event counts) (λ e. e) words.old words.new result }
 {
     let node = node(words, DISK_NODES, counts)?;
@@ -93,10 +94,29 @@ pub fn stop(counts: Counts, words: &mut Parts<'_>) -> Result<Event, Reason>
 }
 
 #[tactic(auto, unfolding(crate::specs::Acts::fail_event))]
-pub fn fail(counts: Counts, words: &mut Parts<'_>) -> Result<Event, Reason>
+fn fail(counts: Counts, words: &mut Parts<'_>) -> Result<Event, Reason>
     ensures { Reads (fail_event counts) (λ e. e) words.old words.new result }
 {
     let node = node(words, DISK_NODES, counts)?;
     let call = number(words, 1, 4_294_967_295)? as u32;
     Ok(Event::Fail { node, call })
+}
+
+/// The event of a line that begins with this word: Word, where none does.
+pub fn event(first: FirstWord, counts: Counts, words: &mut Parts<'_>) -> Result<Event, Reason>
+    ensures { Reads (event_at first counts) (λ e. e) words.old words.new result }
+{
+    match first {
+        FirstWord::Act => act(counts, words),
+        FirstWord::Deliver => deliver(words),
+        FirstWord::Drain => Ok(Event::Drain),
+        FirstWord::Timeout => timeout(counts, words),
+        FirstWord::Wake => wake(counts, words),
+        FirstWord::Tick => tick(words),
+        FirstWord::Crash => crash(counts, words),
+        FirstWord::Restart => restart(counts, words),
+        FirstWord::Stop => stop(counts, words),
+        FirstWord::Fail => fail(counts, words),
+        _ => Err(Reason::Word),
+    }
 }

@@ -3,7 +3,7 @@
 ghost use Rattle.std.specs.Prelude.{◌≡◌, nat_le};
 ghost use Rattle.afs_grammar.specs.Forms.{level_of, act_level, is_unbuilt_operand, is_unbuilt_task, has_loc, is_of_server, lacks_loc, lacks_servers, is_unbuilt};
 
-use crate::parts::Parts;
+use afs_words::parts::Parts;
 use crate::spellings::{ActWord, FirstWord, act_spelled};
 
 /// How far the grammar is built: 3 has the acts `open` and `close` on fids, losses and restarts of one client, 4 disks

@@ -2,19 +2,14 @@
 #![tactic(auto)]
 
 mod acts;
-mod bytes;
 mod events;
-pub mod faults;
 pub mod forms;
 pub mod ground;
 mod lines;
-mod names;
-mod nodes;
-mod parts;
 mod reader;
 mod spellings;
 mod turns;
-mod words;
+mod volumes;
 
-pub use faults::ScriptFault;
+pub use afs_words::faults::ScriptFault;
 pub use reader::read_script;

@@ -1,20 +1,19 @@
 //! What the lines of a script tell, one function for each kind of line.
 
-ghost use Rattle.std.specs.Prelude.{◌≡◌};
+ghost use Rattle.std.specs.Prelude.{◌≡◌, ◌≤◌, ◌<◌, ◌+◌, ◌^◌, ℕ, [], length, nat_le, Ok, Err, IfOk, OnOk};
+ghost use Rattle.afs_history.specs.declared.scripts.Task.TheVariants.{Client};
+ghost use Rattle.afs_model.specs.Script.{is_silent};
+ghost use Rattle.afs_grammar.specs.Lines.{nothing_read, cell_line, servers_line, clients_line, admins_line, cache_line, capacity_line, user_line, new_line, volume_added, volume_line, setup_laid, dir_line, file_line, link_line, acl_line, is_file_here, is_operand_here, task_bounded, bounded_for, do_line, plan_line, schedule_line, event_told, event_line, end_line, line_told, line_by_word, first_of, line_of, line_at, script_in, last_at, ticks_of};
+ghost use Rattle.afs_words.specs.Reads.{Gives};
 
 use crate::acts::{plan, task};
-use crate::bytes::{CONTENTS, TEXT, length_of, written};
 use crate::events;
-use crate::faults::LineFault;
 use crate::forms::Form;
 use crate::ground::Ground;
-use crate::names::{label, name, path};
-use crate::nodes::{ACTORS, Counts, node, one_of};
-use crate::parts::Parts;
 use crate::spellings::{FirstWord, first_spelled};
 use crate::turns::{ENDED, is_due, next_turn};
-use crate::words::{end, must, number, word};
-use afs_history::acts::{Act, Operand, Path, Written};
+use crate::volumes::{are_bare, count_at, is_taken, place_of, written_length};
+use afs_history::acts::{Act, Operand, Path};
 use afs_history::scripts::{
     Event, Events, Plans, Script, SetupLine, SetupLines, Task, Tasks, UserLine, UserLines,
     VolumeLine, VolumeLines,
@@ -22,8 +21,14 @@ use afs_history::scripts::{
 use afs_num::scripts::Reason;
 use afs_num::sequences::Octets;
 use afs_num::types::Fid;
+use afs_words::bytes::{CONTENTS, TEXT, length_of, written};
+use afs_words::faults::LineFault;
+use afs_words::names::{label, name, path};
+use afs_words::nodes::{ACTORS, Counts, node, one_of};
+use afs_words::parts::Parts;
+use afs_words::words::{end, must, number, word};
 use std::alloc::Global;
-use std::collections::BTreeMap;
+use std::marker::Model;
 
 /// The number of a script's first volume.
 const FIRST_ID: u32 = 536_870_912;
@@ -34,89 +39,87 @@ const VOLUMES: usize = 64;
 /// The most ticks of a script.
 const TICKS: u64 = 1_000_000_000;
 
+/// The most lines of a script.
+const LINES: u32 = 200_000;
+
+/// The most bytes of a line, without its newline.
+const LINE_BYTES: usize = 4_200_000;
+
 /// What the lines so far told.
 #[derive(Drop)]
 pub struct LinesRead {
-    pub form: Form,
-    pub turn: u8,
-    pub counts: Counts,
-    pub cache: u32,
-    pub capacity: u32,
-    pub users: UserLines,
-    pub volumes: Vec<VolumeLine>,
-    // The places of the volumes, by their names.
-    pub places: BTreeMap<Vec<u8>, usize>,
-    // How many volumes each server has, from the first on.
-    pub held: [usize; 9],
-    pub tasks: Tasks,
-    pub plans: Plans,
-    pub schedule: Option<Events>,
-    pub ticks: u64,
-    pub files: u32,
+    turn: u8,
+    counts: Counts,
+    cache: u32,
+    capacity: u32,
+    users: UserLines,
+    volumes: Vec<VolumeLine>,
+    tasks: Tasks,
+    plans: Plans,
+    schedule: Option<Events>,
+    // All ticks of the schedule.
+    ticks: u64,
 }
 
-/// The bytes that a line of this word lays.
-fn most_laid(first: FirstWord) -> usize {
-    match first {
-        FirstWord::File => CONTENTS,
-        _ => TEXT,
-    }
+impl Model for LinesRead {
+    ghost use Rattle.std.specs.Prelude.{◌≡◌, ◌≤◌};
+    ghost use Rattle.afs_grammar.specs.Lines.{LinesRead as Heard, schedule_so_far, ticks_in};
+
+    ghost Value = { Heard };
+
+    ghost view = { λ r. record { turn = r.turn; counts = r.counts; cache = r.cache; capacity = r.capacity; users = r.users; volumes = r.volumes.items; tasks = r.tasks; plans = r.plans; schedule = r.schedule } };
+
+    ghost invariant = { λ r. (r.ticks ≡ ticks_in (schedule_so_far r.schedule)) × (r.ticks ≤ 1000000000) };
 }
 
-fn setup_line(first: FirstWord, path: Path, bytes: Option<Written>) -> Option<SetupLine> {
-    let Path { volume: _, names } = path;
-    match (first, bytes) {
-        (FirstWord::Dir, None) => Some(SetupLine::Directory { path: names }),
-        (FirstWord::File, Some(contents)) => Some(SetupLine::File {
-            path: names,
-            contents,
-        }),
-        (FirstWord::Link, Some(target)) => Some(SetupLine::Link {
-            path: names,
-            target,
-        }),
-        (FirstWord::Acl, Some(text)) => Some(SetupLine::AccessList { path: names, text }),
-        _ => None,
-    }
-}
-
-fn is_file_here(fid: Fid) -> bool {
+/// A file of a script's first volume.
+fn is_file_here(fid: Fid) -> bool
+    ensures { result ≡ is_file_here fid }
+{
     fid.volume == FIRST_ID && fid.vnode % 2 == 0
 }
 
-fn is_operand_here(operand: &Operand) -> bool {
+fn is_operand_here(operand: &Operand) -> bool
+    ensures { result ≡ is_operand_here operand.now }
+{
     match operand {
         Operand::Fid(fid) => is_file_here(*fid),
         Operand::Path(_) => false,
     }
 }
 
-/// The bounds that narrower forms have on a task.
-fn bounded_task(level: u8, task: &Task) -> Result<(), Reason> {
-    if level >= 5 {
-        return Ok(());
-    }
-    match task {
-        Task::Client {
-            act: Act::Open { operand },
-            ..
-        } => must(is_operand_here(operand), Reason::Path),
-        Task::Client {
-            act: Act::Close { operand, contents },
-            ..
-        } => {
+fn bounded_act(act: &Act) -> Result<(), Reason>
+    ensures { (n : ℕ) → result ≡ task_bounded (Client n act.now) }
+{
+    match act {
+        Act::Open { operand } => must(is_operand_here(operand), Reason::Path),
+        Act::Close { operand, contents } => {
             must(is_operand_here(operand), Reason::Path)?;
-            must(length_of(contents) <= 1024, Reason::Limit)
+            must(length_of(contents) <= TEXT, Reason::Limit)
         }
         _ => Ok(()),
     }
 }
 
+/// The bounds that narrower forms have on a task.
+fn bounded(form: Form, task: &Task) -> Result<(), Reason>
+    ensures { result ≡ bounded_for (nat_le 5 form.level) task.now }
+{
+    if form.level >= 5 {
+        return Ok(());
+    }
+    match task {
+        Task::Client { act, .. } => bounded_act(act),
+        Task::Admin { .. } => Ok(()),
+    }
+}
+
 impl LinesRead {
     /// Nothing is read yet.
-    pub fn new(alloc: Global, form: Form) -> Self {
+    pub fn new(alloc: Global) -> Self
+        ensures { result ≡ nothing_read }
+    {
         LinesRead {
-            form,
             turn: 0,
             counts: Counts {
                 servers: 0,
@@ -127,232 +130,446 @@ impl LinesRead {
             capacity: 268_435_456,
             users: UserLines::new(alloc),
             volumes: Vec::new(alloc),
-            places: BTreeMap::new(alloc),
-            held: [0; 9],
             tasks: Tasks::new(alloc),
             plans: Plans::new(alloc),
             schedule: None,
             ticks: 0,
-            files: 0,
         }
     }
 
-    fn servers(&mut self, words: &mut Parts<'_>) -> Result<(), LineFault> {
+    #[tactic(auto, unfolding(crate::specs::Lines::cell_line))]
+    fn cell(self, words: &mut Parts<'_>) -> Result<LinesRead, LineFault>
+        ensures value { Gives (cell_line self words.old) result }
+        ensures stays { IfOk result (λ r. r.volumes ≡ self.volumes) }
+    {
+        number(words, 1, 1)?;
+        end(words)?;
+        Ok(self)
+    }
+
+    #[tactic(auto, unfolding(crate::specs::Lines::servers_line))]
+    fn servers(mut self, form: Form, words: &mut Parts<'_>) -> Result<LinesRead, LineFault>
+        ensures value { Gives (servers_line form.level self words.old) result }
+        ensures stays { IfOk result (λ r. r.volumes ≡ self.volumes) }
+    {
         let count = number(words, 1, 8)? as u8;
         end(words)?;
-        must(self.form.level >= 7 || count == 1, Reason::Limit)?;
+        must(form.level >= 7 || count == 1, Reason::Limit)?;
         self.counts.servers = count;
-        Ok(())
+        Ok(self)
     }
 
-    fn clients(&mut self, words: &mut Parts<'_>) -> Result<(), LineFault> {
+    #[tactic(auto, unfolding(crate::specs::Lines::clients_line))]
+    fn clients(mut self, form: Form, words: &mut Parts<'_>) -> Result<LinesRead, LineFault>
+        ensures value { Gives (clients_line form.level self words.old) result }
+        ensures stays { IfOk result (λ r. r.volumes ≡ self.volumes) }
+    {
         let count = number(words, 0, 16)? as u8;
         end(words)?;
-        must(self.form.level >= 6 || count <= 1, Reason::Limit)?;
+        must(form.level >= 6 || count <= 1, Reason::Limit)?;
         self.counts.clients = count;
-        Ok(())
+        Ok(self)
     }
 
-    fn user(&mut self, alloc: Global, words: &mut Parts<'_>) -> Result<(), LineFault> {
+    #[tactic(auto, unfolding(crate::specs::Lines::admins_line))]
+    fn admins(mut self, words: &mut Parts<'_>) -> Result<LinesRead, LineFault>
+        ensures value { Gives (admins_line self words.old) result }
+        ensures stays { IfOk result (λ r. r.volumes ≡ self.volumes) }
+    {
+        let count = number(words, 0, 4)? as u8;
+        end(words)?;
+        self.counts.admins = count;
+        Ok(self)
+    }
+
+    #[tactic(auto, unfolding(crate::specs::Lines::cache_line))]
+    fn cache(mut self, words: &mut Parts<'_>) -> Result<LinesRead, LineFault>
+        ensures value { Gives (cache_line self words.old) result }
+        ensures stays { IfOk result (λ r. r.volumes ≡ self.volumes) }
+    {
+        let most = number(words, 1, 256)? as u32;
+        end(words)?;
+        self.cache = most;
+        Ok(self)
+    }
+
+    #[tactic(auto, unfolding(crate::specs::Lines::capacity_line))]
+    fn capacity(mut self, words: &mut Parts<'_>) -> Result<LinesRead, LineFault>
+        ensures value { Gives (capacity_line self words.old) result }
+        ensures stays { IfOk result (λ r. r.volumes ≡ self.volumes) }
+    {
+        let bytes = number(words, 65_536, 268_435_456)? as u32;
+        end(words)?;
+        self.capacity = bytes;
+        Ok(self)
+    }
+
+    #[tactic(auto, unfolding(crate::specs::Lines::user_line))]
+    fn user(mut self, alloc: Global, words: &mut Parts<'_>) -> Result<LinesRead, LineFault>
+        ensures value { Gives (user_line self words.old) result }
+        ensures stays { IfOk result (λ r. r.volumes ≡ self.volumes) }
+    {
         let client = one_of(words, b'c', self.counts.clients)?;
         let name = name(alloc, words, 64)?;
         end(words)?;
         self.users.push(UserLine { client, name })?;
-        Ok(())
+        Ok(self)
     }
 
-    fn volume<G: Ground>(
-        &mut self,
+    #[tactic(auto, unfolding(crate::specs::Lines::volume_added))]
+    fn with_volume<G: Ground>(
+        mut self,
         alloc: Global,
+        form: Form,
         ground: &mut G,
-        words: &mut Parts<'_>,
-    ) -> Result<(), LineFault> {
-        let name = Octets::from_slice(alloc, label(words)?)?;
-        must(!self.places.contains_key(name.as_slice()), Reason::Name)?;
-        let server = one_of(words, b's', self.counts.servers)?;
-        let quota = number(words, 1, 16_384)? as u32;
-        end(words)?;
-        must(self.held[server as usize] < VOLUMES, Reason::Limit)?;
-        let place = self.volumes.len();
-        let volume = VolumeLine {
-            id: FIRST_ID + place as u32,
-            name,
-            server,
-            quota,
-            lines: SetupLines::new(alloc),
-        };
+        volume: VolumeLine,
+    ) -> Result<LinesRead, LineFault>
+        requires laid { G.laid ground.old ≡ self.volumes }
+        requires bare { volume.lines ≡ [] }
+        ensures value { Gives (volume_added form.level self volume) result }
+        ensures laid { IfOk result (λ r. G.laid ground.new ≡ r.volumes) }
+        ensures grows { IfOk result (λ r. length r.volumes ≡ length self.volumes + 1) }
+    {
+        let count = count_at(volume.server, self.volumes.as_slice());
+        must(count < VOLUMES, Reason::Limit)?;
         ground.add(alloc, &volume, self.capacity)?;
-        must(self.form.level >= 7 || place == 0, Reason::Limit)?;
-        must(self.form.level >= 5 || 1000 <= quota, Reason::Number)?;
-        let key = Vec::from_slice(alloc, volume.name.as_slice())?;
-        if self.places.insert(key, place).is_err() {
-            return Err(LineFault::OutOfMemory);
-        }
-        self.held[server as usize] += 1;
+        must(form.level >= 7 || self.volumes.is_empty(), Reason::Limit)?;
+        must(form.level >= 5 || 1000 <= volume.quota, Reason::Number)?;
         match self.volumes.push(volume) {
-            Ok(()) => Ok(()),
+            Ok(()) => Ok(self),
             Err(_) => Err(LineFault::OutOfMemory),
         }
     }
 
-    fn setup<G: Ground>(
-        &mut self,
+    #[tactic(auto, unfolding(crate::specs::Lines::volume_line))]
+    fn volume<G: Ground>(
+        self,
         alloc: Global,
+        form: Form,
         ground: &mut G,
-        first: FirstWord,
         words: &mut Parts<'_>,
-    ) -> Result<(), LineFault> {
-        let path = path(alloc, words)?;
-        let bytes = match first {
-            FirstWord::Dir => None,
-            _ => Some(written(alloc, words, most_laid(first))?),
-        };
+    ) -> Result<LinesRead, LineFault>
+        requires laid { G.laid ground.old ≡ self.volumes }
+        requires few { length self.volumes < 200000 }
+        ensures value { Gives (volume_line form.level self words.old) result }
+        ensures laid { IfOk result (λ r. G.laid ground.new ≡ r.volumes) }
+        ensures grows { IfOk result (λ r. length r.volumes ≡ length self.volumes + 1) }
+    {
+        let name = label(words)?;
+        must(!is_taken(name, self.volumes.as_slice()), Reason::Name)?;
+        let server = one_of(words, b's', self.counts.servers)?;
+        let quota = number(words, 1, 16_384)? as u32;
         end(words)?;
-        let place = *self.places.get(path.volume.as_slice()).ok_or(Reason::Path)?;
-        let length = bytes.as_ref().map_or(0, length_of);
-        let line = setup_line(first, path, bytes).ok_or(Reason::Word)?;
-        ground.lay(alloc, place, &line, self.capacity)?;
-        self.files += 1;
-        must(
-            self.form.level >= 5 || (self.files <= 1 && length <= 1024),
-            Reason::Limit,
-        )?;
-        self.volumes[place].lines.push(line)?;
-        Ok(())
+        let volume = VolumeLine {
+            id: FIRST_ID + self.volumes.len() as u32,
+            name: Octets::from_slice(alloc, name)?,
+            server,
+            quota,
+            lines: SetupLines::new(alloc),
+        };
+        self.with_volume(alloc, form, ground, volume)
     }
 
-    fn task(&mut self, alloc: Global, words: &mut Parts<'_>) -> Result<(), LineFault> {
+    /// A line of set-up in the volume of this name.
+    #[tactic(auto, unfolding(crate::specs::Lines::setup_laid))]
+    fn with_setup<G: Ground>(
+        mut self,
+        alloc: Global,
+        form: Form,
+        ground: &mut G,
+        name: &[u8],
+        line: SetupLine,
+    ) -> Result<LinesRead, LineFault>
+        requires laid { G.laid ground.old ≡ self.volumes }
+        ensures value { Gives (setup_laid form.level self name.now line) result }
+        ensures laid { IfOk result (λ r. G.laid ground.new ≡ r.volumes) }
+        ensures stays { IfOk result (λ r. length r.volumes ≡ length self.volumes) }
+    {
+        let place = place_of(name, self.volumes.as_slice());
+        let is_small = are_bare(self.volumes.as_slice()) && written_length(&line) <= TEXT;
+        must(place < self.volumes.len(), Reason::Path)?;
+        ground.lay(alloc, place, &line, self.capacity)?;
+        must(form.level >= 5 || is_small, Reason::Limit)?;
+        self.volumes[place].lines.push(line)?;
+        Ok(self)
+    }
+
+    #[tactic(auto, unfolding(crate::specs::Lines::dir_line))]
+    fn directory<G: Ground>(
+        self,
+        alloc: Global,
+        form: Form,
+        ground: &mut G,
+        words: &mut Parts<'_>,
+    ) -> Result<LinesRead, LineFault>
+        requires laid { G.laid ground.old ≡ self.volumes }
+        ensures value { Gives (dir_line form.level self words.old) result }
+        ensures laid { IfOk result (λ r. G.laid ground.new ≡ r.volumes) }
+        ensures stays { IfOk result (λ r. length r.volumes ≡ length self.volumes) }
+    {
+        let Path { volume, names } = path(alloc, words)?;
+        end(words)?;
+        let line = SetupLine::Directory { path: names };
+        self.with_setup(alloc, form, ground, volume.as_slice(), line)
+    }
+
+    #[tactic(auto, unfolding(crate::specs::Lines::file_line))]
+    fn file<G: Ground>(
+        self,
+        alloc: Global,
+        form: Form,
+        ground: &mut G,
+        words: &mut Parts<'_>,
+    ) -> Result<LinesRead, LineFault>
+        requires laid { G.laid ground.old ≡ self.volumes }
+        ensures value { Gives (file_line form.level self words.old) result }
+        ensures laid { IfOk result (λ r. G.laid ground.new ≡ r.volumes) }
+        ensures stays { IfOk result (λ r. length r.volumes ≡ length self.volumes) }
+    {
+        let Path { volume, names } = path(alloc, words)?;
+        let contents = written(alloc, words, CONTENTS)?;
+        end(words)?;
+        let line = SetupLine::File {
+            path: names,
+            contents,
+        };
+        self.with_setup(alloc, form, ground, volume.as_slice(), line)
+    }
+
+    #[tactic(auto, unfolding(crate::specs::Lines::link_line))]
+    fn link<G: Ground>(
+        self,
+        alloc: Global,
+        form: Form,
+        ground: &mut G,
+        words: &mut Parts<'_>,
+    ) -> Result<LinesRead, LineFault>
+        requires laid { G.laid ground.old ≡ self.volumes }
+        ensures value { Gives (link_line form.level self words.old) result }
+        ensures laid { IfOk result (λ r. G.laid ground.new ≡ r.volumes) }
+        ensures stays { IfOk result (λ r. length r.volumes ≡ length self.volumes) }
+    {
+        let Path { volume, names } = path(alloc, words)?;
+        let target = written(alloc, words, TEXT)?;
+        end(words)?;
+        let line = SetupLine::Link {
+            path: names,
+            target,
+        };
+        self.with_setup(alloc, form, ground, volume.as_slice(), line)
+    }
+
+    #[tactic(auto, unfolding(crate::specs::Lines::acl_line))]
+    fn access_list<G: Ground>(
+        self,
+        alloc: Global,
+        form: Form,
+        ground: &mut G,
+        words: &mut Parts<'_>,
+    ) -> Result<LinesRead, LineFault>
+        requires laid { G.laid ground.old ≡ self.volumes }
+        ensures value { Gives (acl_line form.level self words.old) result }
+        ensures laid { IfOk result (λ r. G.laid ground.new ≡ r.volumes) }
+        ensures stays { IfOk result (λ r. length r.volumes ≡ length self.volumes) }
+    {
+        let Path { volume, names } = path(alloc, words)?;
+        let text = written(alloc, words, TEXT)?;
+        end(words)?;
+        let line = SetupLine::AccessList { path: names, text };
+        self.with_setup(alloc, form, ground, volume.as_slice(), line)
+    }
+
+    #[tactic(auto, unfolding(crate::specs::Lines::do_line, crate::specs::Acts::task_at))]
+    fn task(
+        mut self,
+        alloc: Global,
+        form: Form,
+        words: &mut Parts<'_>,
+    ) -> Result<LinesRead, LineFault>
+        ensures value { Gives (do_line form.level self words.old) result }
+        ensures stays { IfOk result (λ r. r.volumes ≡ self.volumes) }
+    {
         let node = node(words, ACTORS, self.counts)?;
         let task = task(alloc, self.counts, node, words)?;
-        bounded_task(self.form.level, &task)?;
+        bounded(form, &task)?;
         self.tasks.push(task)?;
-        Ok(())
+        Ok(self)
     }
 
-    fn event(&mut self, event: Event, words: &mut Parts<'_>) -> Result<(), LineFault> {
+    #[tactic(auto, unfolding(crate::specs::Lines::plan_line))]
+    fn plan(mut self, words: &mut Parts<'_>) -> Result<LinesRead, LineFault>
+        ensures value { Gives (plan_line self words.old) result }
+        ensures stays { IfOk result (λ r. r.volumes ≡ self.volumes) }
+    {
+        let plan = plan(self.counts, words)?;
+        self.plans.push(plan)?;
+        Ok(self)
+    }
+
+    #[tactic(auto, unfolding(crate::specs::Lines::schedule_line))]
+    fn schedule(mut self, alloc: Global, words: &mut Parts<'_>) -> Result<LinesRead, LineFault>
+        ensures value { Gives (schedule_line self words.old) result }
+        ensures stays { IfOk result (λ r. r.volumes ≡ self.volumes) }
+    {
         end(words)?;
-        if let Event::Tick { ticks } = event {
-            self.ticks += u64::from(ticks);
-            must(self.ticks <= TICKS, Reason::Limit)?;
+        self.schedule = Some(Events::new(alloc));
+        self.ticks = 0;
+        Ok(self)
+    }
+
+    /// An event behind those that were told.
+    #[tactic(auto, unfolding(crate::specs::Lines::event_told), using(crate::proofs::Ticks::ticks_behind))]
+    fn with_event(
+        mut self,
+        alloc: Global,
+        event: Event,
+        words: &mut Parts<'_>,
+    ) -> Result<LinesRead, LineFault>
+        ensures value { Gives (event_told self event words.old) result }
+        ensures stays { IfOk result (λ r. r.volumes ≡ self.volumes) }
+    {
+        end(words)?;
+        let ticks = self.ticks + ticks_of(event);
+        must(ticks <= TICKS, Reason::Limit)?;
+        let mut schedule = match self.schedule.take() {
+            Some(schedule) => schedule,
+            None => Events::new(alloc),
+        };
+        schedule.push(event)?;
+        self.schedule = Some(schedule);
+        self.ticks = ticks;
+        Ok(self)
+    }
+
+    #[tactic(auto, unfolding(crate::specs::Lines::event_line))]
+    fn event(
+        self,
+        alloc: Global,
+        first: FirstWord,
+        words: &mut Parts<'_>,
+    ) -> Result<LinesRead, LineFault>
+        ensures value { Gives (event_line first self words.old) result }
+        ensures stays { IfOk result (λ r. r.volumes ≡ self.volumes) }
+    {
+        let event = events::event(first, self.counts, words)?;
+        self.with_event(alloc, event, words)
+    }
+
+    #[tactic(auto, unfolding(crate::specs::Lines::end_line))]
+    fn end(self, words: &mut Parts<'_>) -> Result<LinesRead, LineFault>
+        ensures value { Gives (end_line self words.old) result }
+        ensures stays { IfOk result (λ r. r.volumes ≡ self.volumes) }
+    {
+        end(words)?;
+        Ok(self)
+    }
+
+    /// A line that lays nothing.
+    fn line_told(
+        self,
+        alloc: Global,
+        form: Form,
+        first: FirstWord,
+        words: &mut Parts<'_>,
+    ) -> Result<LinesRead, LineFault>
+        ensures value { Gives (line_told form.level first self words.old) result }
+        ensures stays { IfOk result (λ r. r.volumes ≡ self.volumes) }
+    {
+        match first {
+            FirstWord::Cell => self.cell(words),
+            FirstWord::Servers => self.servers(form, words),
+            FirstWord::Clients => self.clients(form, words),
+            FirstWord::Admins => self.admins(words),
+            FirstWord::Cache => self.cache(words),
+            FirstWord::Capacity => self.capacity(words),
+            FirstWord::User => self.user(alloc, words),
+            FirstWord::Do => self.task(alloc, form, words),
+            FirstWord::Plan => self.plan(words),
+            FirstWord::Schedule => self.schedule(alloc, words),
+            FirstWord::End => self.end(words),
+            _ => self.event(alloc, first, words),
         }
-        if let Some(schedule) = &mut self.schedule {
-            schedule.push(event)?;
-        }
-        Ok(())
     }
 
     fn line_by_word<G: Ground>(
-        &mut self,
+        self,
         alloc: Global,
+        form: Form,
         ground: &mut G,
         first: FirstWord,
         words: &mut Parts<'_>,
-    ) -> Result<(), LineFault> {
-        let event = match first {
-            FirstWord::Cell => {
-                number(words, 1, 1)?;
-                end(words)?;
-                return Ok(());
-            }
-            FirstWord::Servers => return self.servers(words),
-            FirstWord::Clients => return self.clients(words),
-            FirstWord::Admins => {
-                self.counts.admins = number(words, 0, 4)? as u8;
-                end(words)?;
-                return Ok(());
-            }
-            FirstWord::Cache => {
-                self.cache = number(words, 1, 256)? as u32;
-                end(words)?;
-                return Ok(());
-            }
-            FirstWord::Capacity => {
-                self.capacity = number(words, 65_536, 268_435_456)? as u32;
-                end(words)?;
-                return Ok(());
-            }
-            FirstWord::User => return self.user(alloc, words),
-            FirstWord::Volume => return self.volume(alloc, ground, words),
-            FirstWord::Dir | FirstWord::File | FirstWord::Link | FirstWord::Acl => {
-                return self.setup(alloc, ground, first, words);
-            }
-            FirstWord::Do => return self.task(alloc, words),
-            FirstWord::Plan => {
-                self.plans.push(plan(self.counts, words)?)?;
-                return Ok(());
-            }
-            FirstWord::Schedule => {
-                end(words)?;
-                self.schedule = Some(Events::new(alloc));
-                return Ok(());
-            }
-            FirstWord::End => {
-                end(words)?;
-                return Ok(());
-            }
-            FirstWord::Act => events::act(self.counts, words)?,
-            FirstWord::Deliver => events::deliver(words)?,
-            FirstWord::Drain => Event::Drain,
-            FirstWord::Timeout => events::timeout(self.counts, words)?,
-            FirstWord::Wake => events::wake(self.counts, words)?,
-            FirstWord::Tick => events::tick(words)?,
-            FirstWord::Crash => events::crash(self.counts, words)?,
-            FirstWord::Restart => events::restart(self.counts, words)?,
-            FirstWord::Stop => events::stop(self.counts, words)?,
-            FirstWord::Fail => events::fail(self.counts, words)?,
-        };
-        self.event(event, words)
+    ) -> Result<LinesRead, LineFault>
+        requires laid { G.laid ground.old ≡ self.volumes }
+        requires few { length self.volumes < 200000 }
+        ensures value { Gives (line_by_word form.level first self words.old) result }
+        ensures laid { IfOk result (λ r. G.laid ground.new ≡ r.volumes) }
+        ensures grows { IfOk result (λ r. length r.volumes ≤ length self.volumes + 1) }
+    {
+        match first {
+            FirstWord::Volume => self.volume(alloc, form, ground, words),
+            FirstWord::Dir => self.directory(alloc, form, ground, words),
+            FirstWord::File => self.file(alloc, form, ground, words),
+            FirstWord::Link => self.link(alloc, form, ground, words),
+            FirstWord::Acl => self.access_list(alloc, form, ground, words),
+            _ => self.line_told(alloc, form, first, words),
+        }
     }
 
-    fn first(&self, word: &[u8]) -> Result<FirstWord, Reason> {
-        let first = first_spelled(word).ok_or(Reason::Word)?;
-        must(self.form.has(first), Reason::Word)?;
-        Ok(first)
-    }
-
+    #[tactic(auto, unfolding(crate::specs::Lines::line_of))]
     fn line_of<G: Ground>(
-        &mut self,
+        mut self,
         alloc: Global,
+        form: Form,
         ground: &mut G,
         words: &mut Parts<'_>,
-    ) -> Result<(), LineFault> {
-        let first = self.first(word(words)?)?;
+    ) -> Result<LinesRead, LineFault>
+        requires laid { G.laid ground.old ≡ self.volumes }
+        requires few { length self.volumes < 200000 }
+        ensures value { Gives (line_of form.level self words.old) result }
+        ensures laid { IfOk result (λ r. G.laid ground.new ≡ r.volumes) }
+        ensures grows { IfOk result (λ r. length r.volumes ≤ length self.volumes + 1) }
+    {
+        let first = first_of(form, word(words)?)?;
         must(is_due(self.turn, first), Reason::Order)?;
-        must(!self.form.is_unbuilt(first, words), Reason::Word)?;
+        must(!form.is_unbuilt(first, words), Reason::Word)?;
         self.turn = next_turn(first);
-        self.line_by_word(alloc, ground, first, words)
+        self.line_by_word(alloc, form, ground, first, words)
     }
 
-    /// A line, its number, and how many bytes the script may have from its start on.
+    /// The reading with one more line: its number, and how many bytes the script may have from its start on.
+    #[tactic(auto, unfolding(crate::specs::Lines::line_at))]
     pub fn line<G: Ground>(
-        &mut self,
+        self,
         alloc: Global,
+        form: Form,
         ground: &mut G,
         number: u32,
         room: usize,
         line: &[u8],
-    ) -> Result<(), LineFault> {
+    ) -> Result<LinesRead, LineFault>
+        requires laid { G.laid ground.old ≡ self.volumes }
+        requires few { length self.volumes < number }
+        ensures value { Gives (line_at form.level self number room line.now) result }
+        ensures laid { IfOk result (λ r. G.laid ground.new ≡ r.volumes) }
+        ensures grows { IfOk result (λ r. length r.volumes ≤ number) }
+        ensures within { OnOk result (length line.now < room) }
+        ensures few { OnOk result (number ≤ 200000) }
+    {
         must(line.len() < room, Reason::Limit)?;
-        must(number <= 200_000, Reason::Limit)?;
-        must(line.len() <= 4_200_000, Reason::Limit)?;
+        must(number <= LINES, Reason::Limit)?;
+        must(line.len() <= LINE_BYTES, Reason::Limit)?;
         must(self.turn != ENDED, Reason::Order)?;
-        if line.is_empty() || line.starts_with(b"#") {
-            return Ok(());
+        if is_silent(line) {
+            return Ok(self);
         }
-        self.line_of(alloc, ground, &mut Parts::new(line, b' '))
+        self.line_of(alloc, form, ground, &mut Parts::new(line, b' '))
     }
 
-    /// What stands behind the last newline: nothing, where the script is whole.
-    pub fn last(&self, number: u32, room: usize, last: &[u8]) -> Result<(), Reason> {
-        must(last.len() <= room, Reason::Limit)?;
-        must(self.turn == ENDED, Reason::Missing)?;
-        must(last.is_empty() || number <= 200_000, Reason::Limit)?;
-        must(last.len() <= 4_200_000, Reason::Limit)?;
-        must(last.is_empty(), Reason::Order)
-    }
-
-    pub fn script(self) -> Script {
+    fn script(self) -> Script
+        ensures { result ≡ script_in self }
+    {
         let LinesRead {
+            turn: _,
             counts,
             cache,
             capacity,
@@ -361,7 +578,7 @@ impl LinesRead {
             tasks,
             plans,
             schedule,
-            ..
+            ticks: _,
         } = self;
         Script {
             servers: counts.servers,
@@ -375,5 +592,49 @@ impl LinesRead {
             plans,
             schedule,
         }
+    }
+
+    /// The script, where nothing stands behind its last newline.
+    #[tactic(auto, unfolding(crate::specs::Lines::last_at))]
+    pub fn last(self, number: u32, room: usize, last: &[u8]) -> Result<Script, Reason>
+        ensures value { result ≡ last_at self number room last.now }
+        ensures laid { IfOk result (λ s. s.volumes ≡ self.volumes) }
+    {
+        must(last.len() <= room, Reason::Limit)?;
+        must(self.turn == ENDED, Reason::Missing)?;
+        must(last.is_empty() || number <= LINES, Reason::Limit)?;
+        must(last.len() <= LINE_BYTES, Reason::Limit)?;
+        must(last.is_empty(), Reason::Order)?;
+        Ok(self.script())
+    }
+}
+
+fn ticks_of(event: Event) -> u64
+    ensures value { result ≡ ticks_of event }
+    ensures bound { result < 2 ^ 32 }
+{
+    match event {
+        Event::Tick { ticks } => u64::from(ticks),
+        _ => 0,
+    }
+}
+
+/// The word that a line begins with, if it is built.
+#[tactic(auto, unfolding(crate::specs::Lines::first_of))]
+fn first_of(form: Form, word: &[u8]) -> Result<FirstWord, Reason>
+    ensures { result ≡ first_of form.level word.now }
+{
+    let first = first_spelled(word).ok_or(Reason::Word)?;
+    must(form.has(first), Reason::Word)?;
+    Ok(first)
+}
+
+/// An empty line or a comment.
+fn is_silent(line: &[u8]) -> bool
+    ensures { result ≡ is_silent line.now }
+{
+    match line {
+        [] => true,
+        [first, ..] => *first == b'#',
     }
 }

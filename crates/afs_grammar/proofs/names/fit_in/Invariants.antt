@@ -1,6 +1,0 @@
-use Rattle.std.proofs.Common.{◌≡◌, drop}
-use Rattle.afs_grammar.specs.Words.{fit_in}
-use Rattle.afs_grammar.proofs.names.fit_in.Given as goal
-
-abbrev pub invariant-loop-name : goal.invariant-loop-name
-invariant-loop-name l = fit_in l.room (drop l.name-index l.names) ≡ fit_in l.fn.room l.names
