@@ -1,2 +1,4 @@
+pub mod LineByLine
+pub mod Sizes
 pub mod Ticks
 pub mod Worked

@@ -4,3 +4,5 @@ pub mod Acts
 pub mod Forms
 pub mod Lines
 pub mod Grounds
+pub mod Sizes
+pub mod Worked

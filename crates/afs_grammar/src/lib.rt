@@ -5,6 +5,7 @@ mod acts;
 mod events;
 pub mod forms;
 pub mod ground;
+pub mod laws;
 mod lines;
 mod reader;
 mod spellings;
