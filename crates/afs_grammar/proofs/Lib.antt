@@ -1,4 +1,6 @@
+pub mod FirstBad
 pub mod LineByLine
 pub mod Sizes
 pub mod Ticks
+pub mod TooLong
 pub mod Worked

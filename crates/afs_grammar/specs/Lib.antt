@@ -4,5 +4,6 @@ pub mod Acts
 pub mod Forms
 pub mod Lines
 pub mod Grounds
+pub mod FirstBad
 pub mod Sizes
 pub mod Worked
