@@ -1,4 +1,5 @@
 pub mod FirstBad
+pub mod Laid
 pub mod LineByLine
 pub mod Sizes
 pub mod Ticks

@@ -228,10 +228,15 @@ written_length (setups.Link path target) = length (bytes_in target)
 written_length (setups.AccessList path text) = length (bytes_in text)
 
 -- narrower forms have one file, and a small one
+unfoldable pub setup_at : ℕ → LinesRead → ℕ → SetupLine → Result (List VolumeLine) Reason
+setup_at level r place x = do
+  volumes ← with_setup r.capacity place x r.volumes
+  small ← must (nat_le 5 level || (list_all has_no_lines r.volumes && nat_le (written_length x) 1024)) reasons.Limit
+  Ok volumes
+
 unfoldable pub setup_laid : ℕ → LinesRead → List ℕ → SetupLine → Result LinesRead Reason
 setup_laid level r name x = do
-  volumes ← with_setup r.capacity (place_of name r.volumes) x r.volumes
-  small ← must (nat_le 5 level || (list_all has_no_lines r.volumes && nat_le (written_length x) 1024)) reasons.Limit
+  volumes ← setup_at level r (place_of name r.volumes) x
   Ok (record r { volumes = volumes })
 
 unfoldable pub dir_line : ℕ → LinesRead → Words → Result LinesRead Reason

@@ -3,7 +3,8 @@
 ghost use Rattle.std.specs.Prelude.{◌≡◌, ◌≤◌, ◌<◌, ◌+◌, ◌^◌, ℕ, [], length, nat_le, Ok, Err, IfOk, OnOk};
 ghost use Rattle.afs_history.specs.declared.scripts.Task.TheVariants.{Client};
 ghost use Rattle.afs_model.specs.Script.{is_silent};
-ghost use Rattle.afs_grammar.specs.Lines.{nothing_read, cell_line, servers_line, clients_line, admins_line, cache_line, capacity_line, user_line, new_line, volume_added, volume_line, setup_laid, dir_line, file_line, link_line, acl_line, is_file_here, is_operand_here, task_bounded, bounded_for, do_line, plan_line, schedule_line, event_told, event_line, end_line, line_told, line_by_word, first_of, line_of, line_at, script_in, last_at, ticks_of};
+ghost use Rattle.afs_grammar.specs.Lines.{nothing_read, cell_line, servers_line, clients_line, admins_line, cache_line, capacity_line, user_line, new_line, volume_added, volume_line, setup_at, setup_laid, dir_line, file_line, link_line, acl_line, is_file_here, is_operand_here, task_bounded, bounded_for, do_line, plan_line, schedule_line, event_told, event_line, end_line, line_told, line_by_word, first_of, line_of, line_at, script_in, last_at, ticks_of};
+ghost use Rattle.afs_grammar.specs.Grounds.{line_laid, Lays};
 ghost use Rattle.afs_words.specs.Reads.{Gives};
 
 use crate::acts::{plan, task};
@@ -27,7 +28,7 @@ use afs_words::names::{label, name, path};
 use afs_words::nodes::{ACTORS, Counts, node, one_of};
 use afs_words::parts::Parts;
 use afs_words::words::{end, must, number, word};
-use std::alloc::Global;
+use std::alloc::{AllocError, Global};
 use std::marker::Model;
 
 /// The number of a script's first volume.
@@ -216,7 +217,7 @@ impl LinesRead {
         Ok(self)
     }
 
-    #[tactic(auto, unfolding(crate::specs::Lines::volume_added))]
+    #[tactic(auto, unfolding(crate::specs::Lines::volume_added), using(crate::proofs::Laid::added_is))]
     fn with_volume<G: Ground>(
         mut self,
         alloc: Global,
@@ -270,10 +271,41 @@ impl LinesRead {
         self.with_volume(alloc, form, ground, volume)
     }
 
+    /// Lays a line of set-up in the volume of this place.
+    #[tactic(auto, unfolding(crate::specs::Lines::setup_at, crate::specs::Lines::with_setup), using(crate::proofs::Laid::none_there))]
+    fn lay<G: Ground>(
+        &self,
+        alloc: Global,
+        form: Form,
+        ground: &mut G,
+        place: usize,
+        line: &SetupLine,
+    ) -> Result<(), LineFault>
+        requires laid { G.laid ground.old ≡ self.now.volumes }
+        ensures lays { Lays (setup_at form.level self.now place line.now) (G.laid ground.new) result }
+        ensures within { OnOk result (place < length self.now.volumes) }
+    {
+        must(place < self.volumes.len(), Reason::Path)?;
+        ground.lay(alloc, place, line, self.capacity)?;
+        let is_small = are_bare(self.volumes.as_slice()) && written_length(line) <= TEXT;
+        must(form.level >= 5 || is_small, Reason::Limit)?;
+        Ok(())
+    }
+
+    /// The volume of this place has one more line.
+    #[tactic(auto, using(crate::proofs::Laid::line_put))]
+    fn with_line(mut self, place: usize, line: SetupLine) -> Result<LinesRead, AllocError>
+        requires { place < length self.volumes }
+        ensures { IfOk result (λ r. r ≡ record self { volumes = line_laid place line self.volumes }) }
+    {
+        self.volumes[place].lines.push(line)?;
+        Ok(self)
+    }
+
     /// A line of set-up in the volume of this name.
-    #[tactic(auto, unfolding(crate::specs::Lines::setup_laid))]
+    #[tactic(auto, unfolding(crate::specs::Lines::setup_laid), using(crate::proofs::Laid::setup_is, crate::proofs::Laid::as_long))]
     fn with_setup<G: Ground>(
-        mut self,
+        self,
         alloc: Global,
         form: Form,
         ground: &mut G,
@@ -286,12 +318,8 @@ impl LinesRead {
         ensures stays { IfOk result (λ r. length r.volumes ≡ length self.volumes) }
     {
         let place = place_of(name, self.volumes.as_slice());
-        let is_small = are_bare(self.volumes.as_slice()) && written_length(&line) <= TEXT;
-        must(place < self.volumes.len(), Reason::Path)?;
-        ground.lay(alloc, place, &line, self.capacity)?;
-        must(form.level >= 5 || is_small, Reason::Limit)?;
-        self.volumes[place].lines.push(line)?;
-        Ok(self)
+        self.lay(alloc, form, ground, place, &line)?;
+        Ok(self.with_line(place, line)?)
     }
 
     #[tactic(auto, unfolding(crate::specs::Lines::dir_line))]
