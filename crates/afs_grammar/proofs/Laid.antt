@@ -11,7 +11,7 @@ use Rattle.afs_words.specs.Reads.{Gives}
 use Rattle.afs_words.specs.declared.faults.LineFault.{LineFault}
 use Rattle.afs_words.specs.declared.faults.LineFault.TheVariants as faults
 use Rattle.afs_grammar.specs.Grounds.{line_laid, line_laid_in, Lays}
-use Rattle.afs_grammar.specs.Lines.{fits_all, fits_server, laid, place_of, setup_accepts, setup_at, setup_laid, volumes_at, volume_laid, with_line, with_setup, with_setup_at, with_volume, LinesRead}
+use Rattle.afs_grammar.specs.Lines.{fits_all, fits_server, laid, place_of, setup_accepts, setup_at, setup_laid, volume_added, volume_at, volumes_at, volume_laid, with_line, with_setup, with_setup_at, with_volume, LinesRead}
 
 abbrev okay : {A : Type 0} → A → Result A Reason
 okay {A} x = Ok x
@@ -24,9 +24,20 @@ behind : {A : Type 0} (t : Bool) (reason : Reason) (x y : A) → (must t reason 
 behind {A} true reason x y e = sym (same_okay x y e)
 behind {A} false reason x y e = absurd cc
 
-pub added_is : (capacity : ℕ) (line : VolumeLine) (ls ys : List VolumeLine) → with_volume capacity line ls ≡ Ok ys → ys ≡ ls ++ line ∷ []
+added_is : (capacity : ℕ) (line : VolumeLine) (ls ys : List VolumeLine) → with_volume capacity line ls ≡ Ok ys → ys ≡ ls ++ line ∷ []
 unfolding with_volume
 added_is capacity line ls ys e = behind (fits_all capacity line.server (ls ++ line ∷ [])) reasons.Limit (ls ++ line ∷ []) ys e
+
+three_behind : (s t u : Bool) (a b : Reason) (r : Result (List VolumeLine) Reason) (y z : List VolumeLine) → (must s reasons.Limit >>= (λ f. r >>= (λ volumes. must t a >>= (λ o. must u b >>= (λ l. Ok volumes))))) ≡ Ok y → ((w : List VolumeLine) → r ≡ Ok w → w ≡ z) → y ≡ z
+three_behind true true u a b (Ok w) y z e same = behind u b w y e ∙ same w refl
+three_behind true false u a b (Ok w) y z e same = absurd cc
+three_behind true t u a b (Err reason) y z e same = absurd cc
+three_behind false t u a b r y z e same = absurd cc
+
+pub volume_is : (level : ℕ) (r : LinesRead) (line : VolumeLine) (ys : List VolumeLine) → volume_at level r line ≡ Ok ys → ys ≡ r.volumes ++ line ∷ []
+unfolding volume_at
+volume_is level r line ys e =
+    three_behind _ _ _ reasons.Limit reasons.Number (with_volume r.capacity line r.volumes) ys (r.volumes ++ line ∷ []) e (λ w f. added_is r.capacity line r.volumes w f)
 
 accepted_behind : (r : Result Volume ℕ) (t : Bool) (x y : List VolumeLine) → (setup_accepts r >>= (λ u. must t reasons.Limit >>= (λ v. Ok x))) ≡ Ok y → y ≡ x
 accepted_behind (Ok v) t x y e = behind t reasons.Limit x y e
@@ -82,3 +93,11 @@ refused_as level r name place x ys (faults.Bad reason) res is at refused =
     (ap (λ (o : Result (List VolumeLine) Reason). o >>= (λ (volumes : List VolumeLine). Ok (record r { volumes = volumes }))) (ap (λ (k : ℕ). setup_at level r k x) (sym at) ∙ refused))
 refused_as level r name place x ys faults.OutOfMemory res is at refused =
     subst (λ (q : Result LinesRead LineFault). Gives (setup_laid level r name x) q) (sym is) tt
+
+pub volume_refused : (level : ℕ) (r : LinesRead) (line : VolumeLine) (ys : List VolumeLine) (e : LineFault) (res : Result LinesRead LineFault) → res ≡ Err e → Lays (volume_at level r line) ys (Err e) → Gives (volume_added level r line) res
+unfolding volume_added
+volume_refused level r line ys (faults.Bad reason) res is refused =
+    subst (λ (q : Result LinesRead LineFault). Gives (volume_added level r line) q) (sym is)
+    (ap (λ (o : Result (List VolumeLine) Reason). o >>= (λ (volumes : List VolumeLine). Ok (record r { volumes = volumes }))) refused)
+volume_refused level r line ys faults.OutOfMemory res is refused =
+    subst (λ (q : Result LinesRead LineFault). Gives (volume_added level r line) q) (sym is) tt

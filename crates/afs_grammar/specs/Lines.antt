@@ -182,12 +182,17 @@ with_volume capacity line ls = do
   short ← must (fits_all capacity line.server (ls ++ line ∷ [])) reasons.Limit
   Ok (ls ++ line ∷ [])
 
-unfoldable pub volume_added : ℕ → LinesRead → VolumeLine → Result LinesRead Reason
-volume_added level r line = do
+unfoldable pub volume_at : ℕ → LinesRead → VolumeLine → Result (List VolumeLine) Reason
+volume_at level r line = do
   few ← must (nat_lt (length (volumes_at line.server r.volumes)) 64) reasons.Limit
   volumes ← with_volume r.capacity line r.volumes
   only ← must (nat_le 7 level || nat_eq (length r.volumes) 0) reasons.Limit
   large ← must (nat_le 5 level || nat_le 1000 line.quota) reasons.Number
+  Ok volumes
+
+unfoldable pub volume_added : ℕ → LinesRead → VolumeLine → Result LinesRead Reason
+volume_added level r line = do
+  volumes ← volume_at level r line
   Ok (record r { volumes = volumes })
 
 unfoldable pub volume_line : ℕ → LinesRead → Words → Result LinesRead Reason

@@ -3,7 +3,7 @@
 ghost use Rattle.std.specs.Prelude.{◌≡◌, ◌≤◌, ◌<◌, ◌+◌, ◌^◌, ℕ, [], length, nat_le, Ok, Err, IfOk, OnOk};
 ghost use Rattle.afs_history.specs.declared.scripts.Task.TheVariants.{Client};
 ghost use Rattle.afs_model.specs.Script.{is_silent};
-ghost use Rattle.afs_grammar.specs.Lines.{nothing_read, cell_line, servers_line, clients_line, admins_line, cache_line, capacity_line, user_line, new_line, volume_added, volume_line, setup_at, setup_laid, dir_line, file_line, link_line, acl_line, is_file_here, is_operand_here, task_bounded, bounded_for, do_line, plan_line, schedule_line, event_told, event_line, end_line, line_told, line_by_word, first_of, line_of, line_at, script_in, last_at, ticks_of};
+ghost use Rattle.afs_grammar.specs.Lines.{nothing_read, cell_line, servers_line, clients_line, admins_line, cache_line, capacity_line, user_line, new_line, volume_at, volume_added, volume_line, setup_at, setup_laid, dir_line, file_line, link_line, acl_line, is_file_here, is_operand_here, task_bounded, bounded_for, do_line, plan_line, schedule_line, event_told, event_line, end_line, line_told, line_by_word, first_of, line_of, line_at, script_in, last_at, ticks_of};
 ghost use Rattle.afs_grammar.specs.Grounds.{line_laid, Lays};
 ghost use Rattle.afs_words.specs.Reads.{Gives};
 
@@ -217,7 +217,28 @@ impl LinesRead {
         Ok(self)
     }
 
-    #[tactic(auto, unfolding(crate::specs::Lines::volume_added), using(crate::proofs::Laid::added_is))]
+    /// Lays a new volume.
+    #[tactic(auto, unfolding(crate::specs::Lines::volume_at))]
+    fn add<G: Ground>(
+        &self,
+        alloc: Global,
+        form: Form,
+        ground: &mut G,
+        volume: &VolumeLine,
+    ) -> Result<(), LineFault>
+        requires laid { G.laid ground.old ≡ self.now.volumes }
+        requires bare { volume.now.lines ≡ [] }
+        ensures { Lays (volume_at form.level self.now volume.now) (G.laid ground.new) result }
+    {
+        let count = count_at(volume.server, self.volumes.as_slice());
+        must(count < VOLUMES, Reason::Limit)?;
+        ground.add(alloc, volume, self.capacity)?;
+        must(form.level >= 7 || self.volumes.is_empty(), Reason::Limit)?;
+        must(form.level >= 5 || 1000 <= volume.quota, Reason::Number)?;
+        Ok(())
+    }
+
+    #[tactic(auto, unfolding(crate::specs::Lines::volume_added), using(crate::proofs::Laid::volume_is))]
     fn with_volume<G: Ground>(
         mut self,
         alloc: Global,
@@ -231,11 +252,7 @@ impl LinesRead {
         ensures laid { IfOk result (λ r. G.laid ground.new ≡ r.volumes) }
         ensures grows { IfOk result (λ r. length r.volumes ≡ length self.volumes + 1) }
     {
-        let count = count_at(volume.server, self.volumes.as_slice());
-        must(count < VOLUMES, Reason::Limit)?;
-        ground.add(alloc, &volume, self.capacity)?;
-        must(form.level >= 7 || self.volumes.is_empty(), Reason::Limit)?;
-        must(form.level >= 5 || 1000 <= volume.quota, Reason::Number)?;
+        self.add(alloc, form, ground, &volume)?;
         match self.volumes.push(volume) {
             Ok(()) => Ok(self),
             Err(_) => Err(LineFault::OutOfMemory),
