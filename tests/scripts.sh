@@ -28,7 +28,7 @@ needed() {
     for below in $(sed -n "s/^$1://p" crates.txt); do needed "$below"; done
 }
 
-below='afs_num afs_history afs_grammar'
+below='afs_num afs_history afs_words afs_grammar'
 mkdir "$work/crates"
 if [ -f HANDLES ]; then cp HANDLES "$work"; fi
 for crate in $(for name in $below; do needed "$name"; done | sort -u); do

@@ -1,5 +1,5 @@
 -- The first bad line of a script decides.
-use Rattle.std.proofs.Common.{◌≡◌, ℕ, ◌+◌, ◌-◌, ◌<◌, List, [], ◌∷◌, ◌++◌, length, nat_eq, Ok, Err, Result, ap, ◌∙◌, arith, refl, append_assoc}
+use Rattle.std.proofs.Common.{◌≡◌, ℕ, ◌+◌, ◌-◌, ◌<◌, true, List, [], ◌∷◌, ◌++◌, length, nat_eq, Ok, Err, Result, ap, ◌∙◌, arith, refl, append_assoc}
 use Rattle.std.specs.List.{list_all}
 use Rattle.std.proofs.lemmas.List.Splits.{length-slice_split}
 use Rattle.afs_num.specs.declared.scripts.Reason.{Reason}

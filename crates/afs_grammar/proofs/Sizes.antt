@@ -1,5 +1,5 @@
 -- How long the first record of a server is.
-use Rattle.std.proofs.Common.{◌≡◌, ℕ, ◌+◌, ◌*◌, ◌<◌, ◌≤◌, Bool, true, false, List, [], ◌∷◌, ◌++◌, length, map, replicate, Option, Some, None, refl, sym, ap, ◌∙◌, arith, nat_eq, nat_lt, if◌then◌else◌, le-ltb}
+use Rattle.std.proofs.Common.{◌≡◌, ℕ, suc, ◌+◌, ◌*◌, ◌<◌, ◌≤◌, Bool, true, false, List, [], ◌∷◌, ◌++◌, length, map, replicate, Option, Some, None, refl, sym, ap, ◌∙◌, arith, nat_eq, nat_lt, if◌then◌else◌, le-ltb}
 use Rattle.std.specs.List.{flat_map}
 use Rattle.std.proofs.lemmas.List.{length-append, length-replicate}
 use Rattle.std.proofs.lemmas.List.Concat.{flat_map-cons}
@@ -78,7 +78,7 @@ marked_is (i ∷ is) =
 
 length_listed : (vs : List Image) → length (map listed vs) ≡ length vs
 length_listed [] = refl
-length_listed (v ∷ vs) = ap (λ (k : ℕ). 1 + k) (length_listed vs)
+length_listed (v ∷ vs) = ap suc (length_listed vs)
 
 vnodes_is : (is : List Image) → length (vnodes_form.spelled is) ≡ 4 + 8 * length is + images_size is
 vnodes_is is =
@@ -99,7 +99,24 @@ table_is times (p ∷ ps) = omega (arith, table_is times ps)
 
 nine : (a b c d e f g h i : ℕ) (rest : List ℕ) → length (word a ++ (word b ++ (word c ++ (word d ++ (word e ++ (word f ++ (word g ++ (word h ++ (word i ++ rest))))))))) ≡ 36 + length rest
 nine a b c d e f g h i rest =
-    behind a _ ∙ ap (λ (k : ℕ). 4 + k) (behind b _ ∙ ap (λ (k : ℕ). 4 + k) (behind c _ ∙ ap (λ (k : ℕ). 4 + k) (behind d _ ∙ ap (λ (k : ℕ). 4 + k) (behind e _ ∙ ap (λ (k : ℕ). 4 + k) (behind f _ ∙ ap (λ (k : ℕ). 4 + k) (behind g _ ∙ ap (λ (k : ℕ). 4 + k) (behind h _ ∙ ap (λ (k : ℕ). 4 + k) (behind i rest))))))))
+    let t9 = word i ++ rest in
+    let t8 = word h ++ t9 in
+    let t7 = word g ++ t8 in
+    let t6 = word f ++ t7 in
+    let t5 = word e ++ t6 in
+    let t4 = word d ++ t5 in
+    let t3 = word c ++ t4 in
+    let t2 = word b ++ t3 in
+    let p1 = behind a t2 in
+    let p2 = behind b t3 in
+    let p3 = behind c t4 in
+    let p4 = behind d t5 in
+    let p5 = behind e t6 in
+    let p6 = behind f t7 in
+    let p7 = behind g t8 in
+    let p8 = behind h t9 in
+    let p9 = behind i rest in
+    omega (arith, p1, p2, p3, p4, p5, p6, p7, p8, p9)
 
 volume_is : (id : ℕ) (s : Stored) → length (volume_form.spelled (stored_volume id s)) ≡ volume_size s.volume
 unfolding volume_form

@@ -9,18 +9,18 @@ ghost use Rattle.afs_words.specs.Words.{server_at};
 ghost use Rattle.afs_grammar.specs.Acts.{act_parts, client_act, dump_parts, admin_parts, admin_act, task_of, plan_parts, plan_at};
 ghost use Rattle.afs_words.specs.Reads.{Reads, ReadsInMemory, Gives};
 
-use afs_words::bytes::{CONTENTS, TEXT, mode, written};
-use afs_words::faults::LineFault;
-use afs_words::names::{act_path, label, operand, volume_name};
-use afs_words::nodes::{ALL_NODES, Counts, node, one_of};
-use afs_words::parts::Parts;
 use crate::spellings::{ActWord, AdminWord, PlanWord, act_spelled, admin_spelled, plan_spelled};
-use afs_words::words::{end, number, word};
 use afs_history::acts::Act;
 use afs_history::scripts::{AdminAct, Plan, Task};
 use afs_num::scripts::Reason;
 use afs_num::sequences::Octets;
 use afs_num::types::Node;
+use afs_words::bytes::{CONTENTS, TEXT, mode, written};
+use afs_words::faults::LineFault;
+use afs_words::names::{act_path, label, operand, volume_name};
+use afs_words::nodes::{ALL_NODES, Counts, node, one_of};
+use afs_words::parts::Parts;
+use afs_words::words::{end, number, word};
 use std::alloc::Global;
 
 /// The operands of a client's act.

@@ -3,8 +3,8 @@
 ghost use Rattle.std.specs.Prelude.{◌≡◌, nat_le};
 ghost use Rattle.afs_grammar.specs.Forms.{level_of, act_level, is_unbuilt_operand, is_unbuilt_task, has_loc, is_of_server, lacks_loc, lacks_servers, is_unbuilt};
 
-use afs_words::parts::Parts;
 use crate::spellings::{ActWord, FirstWord, act_spelled};
+use afs_words::parts::Parts;
 
 /// How far the grammar is built: 3 has the acts `open` and `close` on fids, losses and restarts of one client, 4 disks
 /// that stop, 5 every act on paths, 6 several clients and breaks, 7 several servers and the location database, 9

@@ -60,30 +60,56 @@ const BAD: [(&str, u32, Reason); 30] = [
     ("file proj/a hex:61\n", 4, Reason::Path),
     ("file @1.2.3 hex:\n", 4, Reason::Name),
     ("file proj/a fill:70000:00 x\n", 4, Reason::Word),
-    ("do c1 stat abcdefghijklmnopqrstuvwxyzabcdefg/%zz\n", 4, Reason::Name),
+    (
+        "do c1 stat abcdefghijklmnopqrstuvwxyzabcdefg/%zz\n",
+        4,
+        Reason::Name,
+    ),
     ("do c1 stat proj/%zz\n", 4, Reason::Path),
     ("do c1 stat proj/%41\n", 4, Reason::Path),
     ("do c1 stat @536870912.02.2\n", 4, Reason::Path),
     ("do c1 mv @1.2.3 proj/a\n", 4, Reason::Path),
     ("do c1 chmod proj/a 8\n", 4, Reason::Number),
     ("do c1 close proj/a fill:99999999999:00\n", 4, Reason::Limit),
-    ("do c1 close proj/a fill:99999999999:0\n", 4, Reason::Contents),
+    (
+        "do c1 close proj/a fill:99999999999:0\n",
+        4,
+        Reason::Contents,
+    ),
     ("do c1 close proj/a fill:01:61\n", 4, Reason::Contents),
     ("do s1 open proj/a\n", 4, Reason::Node),
     ("schedule\nact c1.1\n", 5, Reason::Node),
     ("schedule\ntimeout c1 c1\n", 5, Reason::Node),
     ("schedule\ntimeout s1 loc\n", 5, Reason::Node),
     ("schedule\ncrash c1 0\n", 5, Reason::Word),
-    ("schedule\ntick 600000000\ntick 600000000\n", 6, Reason::Limit),
-    ("schedule\ntick 600000000\ntick 600000000 x\n", 6, Reason::Word),
+    (
+        "schedule\ntick 600000000\ntick 600000000\n",
+        6,
+        Reason::Limit,
+    ),
+    (
+        "schedule\ntick 600000000\ntick 600000000 x\n",
+        6,
+        Reason::Word,
+    ),
 ];
 
 /// The level of a form, a script, and its first bad line with the reason that it has there.
 const EARLY: [(u8, &str, u32, Reason); 8] = [
     (3, "cell 1\nservers 1\ncapacity 65536\n", 3, Reason::Word),
     (3, "cell 1\nservers 1\nuser c1 x\n", 3, Reason::Word),
-    (4, "cell 1\nservers 1\nclients 1\ndo c1 open proj/a\n", 4, Reason::Word),
-    (4, "cell 1\nservers 1\nclients 1\ndo c1 stat @1.2.2\n", 4, Reason::Word),
+    (
+        4,
+        "cell 1\nservers 1\nclients 1\ndo c1 open proj/a\n",
+        4,
+        Reason::Word,
+    ),
+    (
+        4,
+        "cell 1\nservers 1\nclients 1\ndo c1 stat @1.2.2\n",
+        4,
+        Reason::Word,
+    ),
     (5, "cell 1\nservers 1\nclients 2\n", 3, Reason::Limit),
     (6, "cell 1\nservers 2\n", 2, Reason::Limit),
     (8, "cell 1\nservers 2\nadmins 1\n", 3, Reason::Word),
@@ -120,7 +146,8 @@ fn early_form_has_its_reason(rt: HostRuntime) -> Result<(), Fail> {
     Ok(())
 }
 
-const GOOD: &str = "# a cell\ncell 1\nservers 2\nclients 2\nadmins 1\ncache 3\ncapacity 65536\nuser c1 ada\nuser c1 x%20y\n\ndo c2 close proj/a%2Fb fill:5:61\ndo c1 chmod @536870912.2.2 7777\ndo a1 create docs s2 16384\nplan lose c1 s2 7\nschedule\nact c2\ndrain\ntimeout s1 c2\ncrash loc 3\ncrash c1\ntick 1000000000\nend\n";
+const GOOD: &str =
+    "# a cell\ncell 1\nservers 2\nclients 2\nadmins 1\ncache 3\ncapacity 65536\nuser c1 ada\nuser c1 x%20y\n\ndo c2 close proj/a%2Fb fill:5:61\ndo c1 chmod @536870912.2.2 7777\ndo a1 create docs s2 16384\nplan lose c1 s2 7\nschedule\nact c2\ndrain\ntimeout s1 c2\ncrash loc 3\ncrash c1\ntick 1000000000\nend\n";
 
 /// The script, or the test ends.
 fn expect_script(rt: &impl Abort, alloc: Global, text: &str) -> Script {
@@ -153,11 +180,13 @@ fn acts_are_read(rt: HostRuntime) -> Result<(), Fail> {
     };
     let Task::Client {
         client: 2,
-        act:
-            Act::Close {
-                operand: Operand::Path(path),
-                contents: Written::Fill { count: 5, byte: b'a' },
+        act: Act::Close {
+            operand: Operand::Path(path),
+            contents: Written::Fill {
+                count: 5,
+                byte: b'a',
             },
+        },
     } = close
     else {
         panic!(rt; "no close");
@@ -169,11 +198,10 @@ fn acts_are_read(rt: HostRuntime) -> Result<(), Fail> {
     assert_eq!(rt; name.as_slice(), b"a/b".as_slice());
     let Task::Client {
         client: 1,
-        act:
-            Act::SetMode {
-                operand: Operand::Fid(fid),
-                mode: 0o7777,
-            },
+        act: Act::SetMode {
+            operand: Operand::Fid(fid),
+            mode: 0o7777,
+        },
     } = mode
     else {
         panic!(rt; "no chmod");
@@ -181,12 +209,11 @@ fn acts_are_read(rt: HostRuntime) -> Result<(), Fail> {
     assert_eq!(rt; (fid.volume, fid.vnode, fid.unique), (536_870_912, 2, 2));
     let Task::Admin {
         admin: 1,
-        act:
-            AdminAct::Create {
-                name,
-                server: 2,
-                quota: 16_384,
-            },
+        act: AdminAct::Create {
+            name,
+            server: 2,
+            quota: 16_384,
+        },
     } = create
     else {
         panic!(rt; "no create");
