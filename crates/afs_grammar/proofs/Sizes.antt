@@ -1,14 +1,14 @@
 -- How long the first record of a server is.
-use Rattle.std.proofs.Common.{◌≡◌, ℕ, suc, ◌+◌, ◌*◌, ◌<◌, ◌≤◌, Bool, true, false, List, [], ◌∷◌, ◌++◌, length, map, replicate, Option, Some, None, refl, sym, ap, ◌∙◌, arith, nat_eq, nat_lt, if◌then◌else◌, le-ltb}
+use Rattle.std.proofs.Common.{◌≡◌, ℕ, suc, ◌+◌, ◌*◌, ◌≤◌, Bool, true, false, List, [], ◌∷◌, ◌++◌, length, map, replicate, Some, None, refl, ap, ◌∙◌, arith, nat_eq, nat_lt, if◌then◌else◌}
 use Rattle.std.specs.List.{flat_map}
 use Rattle.std.proofs.lemmas.List.{length-append, length-replicate}
 use Rattle.std.proofs.lemmas.List.Concat.{flat_map-cons}
 use Rattle.std.proofs.lemmas.Bool.Decides.{nat_tests}
 use Rattle.afs_xdr.specs.Words.{word, words, opaque, pad, pad_length}
-use Rattle.afs_ideal.specs.Images.{Image, acl_by, image_of}
+use Rattle.afs_ideal.specs.Images.{Image, image_of}
 use Rattle.afs_ideal.specs.Tables.{Table, get, set}
 use Rattle.afs_ideal.specs.VnodeImage.{image, image_words}
-use Rattle.afs_ideal.specs.Volumes.{Vnode, Volume, bytes_by}
+use Rattle.afs_ideal.specs.Volumes.{Vnode}
 use Rattle.afs_ideal.proofs.Tables.{get_set}
 use Rattle.afs_num.specs.declared.records.StoredVolume.{StoredVolume}
 use Rattle.afs_records.specs.Changes.{at_set_up, images_of, no_head, record_of_volumes, stored_volume}
@@ -16,7 +16,7 @@ use Rattle.afs_records.specs.Durable.{Stored, or_zero, place_length}
 use Rattle.afs_records.specs.Records.{head_form, listed, listed_form, marked_form, record_bytes, vnodes_form, volume_form}
 use Rattle.afs_history.specs.declared.scripts.VolumeLine.{VolumeLine}
 use Rattle.afs_grammar.specs.Lines.{filled_up, stored_all, volume_laid}
-use Rattle.afs_grammar.specs.Sizes.{vnode_size, vnodes_size, volume_size, volumes_size, AscendFrom}
+use Rattle.afs_grammar.specs.Sizes.{vnodes_size, volume_size, volumes_size, AscendFrom}
 
 -- ---- words and opaques
 

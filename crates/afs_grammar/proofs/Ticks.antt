@@ -1,5 +1,5 @@
 -- The ticks of a schedule with one more event.
-use Rattle.std.proofs.Common.{◌≡◌, ℕ, ◌+◌, List, [], ◌∷◌, ◌++◌, arith}
+use Rattle.std.proofs.Common.{◌≡◌, ◌+◌, List, [], ◌∷◌, ◌++◌, arith}
 use Rattle.afs_history.specs.declared.scripts.Event.{Event}
 use Rattle.afs_grammar.specs.Lines.{ticks_in, ticks_of}
 

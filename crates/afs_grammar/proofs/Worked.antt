@@ -1,20 +1,14 @@
 -- What is read of some scripts, by computing.
-use Rattle.std.proofs.Common.{◌≡◌, ℕ, List, [], ◌∷◌, ◌++◌, Option, Some, None, Result, Ok, Err, codes, refl}
+use Rattle.std.proofs.Common.{◌++◌, codes, refl}
 use Rattle.afs_num.specs.Names.{volume_name_ok, is_name_of}
-use Rattle.afs_num.specs.declared.scripts.Reason.{Reason}
 use Rattle.afs_num.specs.declared.scripts.Reason.TheVariants as reasons
-use Rattle.afs_num.specs.declared.types.Node.TheVariants as nodes
-use Rattle.afs_history.specs.declared.acts.Act.TheVariants as acts
-use Rattle.afs_history.specs.declared.acts.Operand.TheVariants as operands
-use Rattle.afs_history.specs.declared.scripts.Event.TheVariants as events
-use Rattle.afs_history.specs.declared.scripts.Task.TheVariants as tasks
 use Rattle.afs_model.specs.ScriptWords.{word_at, ended, numeral, ranged, number_at, node_number, field_at, fid_of}
 use Rattle.afs_grammar.specs.Spellings.{first_spelling, first_spelled, act_spelling, act_spelled}
-use Rattle.afs_words.specs.Words.{node_of, node_at, node_number_at, name_of, path_in, path_of, path_at, operand_of, operand_at, written_at, written_of, hex_in, fill_of, is_numeral, byte_of, label_at}
-use Rattle.afs_grammar.specs.Acts.{act_parts, client_act, task_of, task_at, tick_event, act_event, timeout_event}
+use Rattle.afs_words.specs.Words.{node_of, node_at, name_of, path_in, path_of, operand_of, operand_at, written_at, written_of, fill_of, is_numeral, byte_of, label_at}
+use Rattle.afs_grammar.specs.Acts.{act_parts, client_act, task_of, task_at, tick_event, act_event}
 use Rattle.afs_grammar.specs.Forms.{is_unbuilt}
 use Rattle.afs_grammar.specs.Worked.{head, whole, with_client, BadLines, IsBad, OneIsRead}
-use Rattle.afs_grammar.specs.Lines.{script_of, line_at, line_of, first_of, last_at, cell_line, servers_line, clients_line, volume_line, file_line, do_line, schedule_line, event_line, event_told, end_line}
+use Rattle.afs_grammar.specs.Lines.{script_of, line_at, line_of, first_of, last_at, cell_line, servers_line, clients_line, volume_line, do_line, schedule_line, event_line, event_told, end_line}
 
 no_cell : IsBad whole (codes "servers 1\n") 1 reasons.Order
 unfolding script_of line_at line_of first_of word_at first_spelling first_spelled

@@ -1,9 +1,8 @@
 -- Which bytes are a script, and which; or the first bad line, counted from 1, and why it is bad.
-use Rattle.std.specs.Prelude.{ℕ, Bool, true, false, List, [], ◌∷◌, ◌++◌, ◌+◌, ◌-◌, ◌%◌, ◌*◌, ◌&&◌, ◌||◌, not, nat_eq, nat_le, nat_lt, length, map, filter, Option, Some, None, Result, Ok, Err, slice_get, slice_set, if◌then◌else◌}
+use Rattle.std.specs.Prelude.{ℕ, Bool, true, false, List, [], ◌∷◌, ◌++◌, ◌+◌, ◌-◌, ◌%◌, ◌&&◌, ◌||◌, not, nat_eq, nat_le, nat_lt, length, filter, Option, Some, None, Result, Ok, Err, slice_get, slice_set, if◌then◌else◌}
 use Rattle.std.specs.List.{list_all, list_any, position_or_len}
 use Rattle.std.specs.Option.{ok_or}
 use Rattle.std.specs.Str.{bytes_eq}
-use Rattle.afs_num.specs.Names.{volume_name_ok}
 use Rattle.afs_num.specs.declared.types.Fid.{Fid}
 use Rattle.afs_num.specs.declared.scripts.Reason.{Reason}
 use Rattle.afs_num.specs.declared.scripts.Reason.TheVariants as reasons
@@ -15,8 +14,6 @@ use Rattle.afs_ideal.specs.SetUp.{new_volume, laid_at, acl_laid, a_dir, a_file_o
 use Rattle.afs_records.specs.Changes.{at_set_up, record_of_volumes}
 use Rattle.afs_records.specs.Durable.{Stored, place_length}
 use Rattle.afs_history.specs.Written.{bytes_in}
-use Rattle.afs_history.specs.declared.acts.Written.{Written}
-use Rattle.afs_history.specs.declared.acts.Path.{Path}
 use Rattle.afs_history.specs.declared.acts.Operand.{Operand}
 use Rattle.afs_history.specs.declared.acts.Operand.TheVariants as operands
 use Rattle.afs_history.specs.declared.acts.Act.TheVariants as acts

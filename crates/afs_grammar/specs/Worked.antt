@@ -1,12 +1,11 @@
 -- Some scripts, and what is read of each: the first bad line and its reason, or the script.
-use Rattle.std.specs.Prelude.{◌≡◌, ℕ, List, [], ◌∷◌, ◌++◌, Some, Ok, Err, Result, codes}
+use Rattle.std.specs.Prelude.{◌≡◌, ℕ, List, [], ◌∷◌, ◌++◌, Some, Ok, Err, codes}
 use Rattle.afs_num.specs.declared.scripts.Reason.{Reason}
 use Rattle.afs_num.specs.declared.scripts.Reason.TheVariants as reasons
 use Rattle.afs_num.specs.declared.types.Node.TheVariants as nodes
 use Rattle.afs_history.specs.declared.acts.Act.TheVariants as acts
 use Rattle.afs_history.specs.declared.acts.Operand.TheVariants as operands
 use Rattle.afs_history.specs.declared.scripts.Event.TheVariants as events
-use Rattle.afs_history.specs.declared.scripts.Script.{Script}
 use Rattle.afs_history.specs.declared.scripts.Task.TheVariants as tasks
 use Rattle.afs_grammar.specs.Lines.{script_of}
 

@@ -1,5 +1,5 @@
 -- A spelled name goes on behind its first byte.
-use Rattle.std.proofs.Common.{◌≡◌, ℕ, ◌<◌, ◌+◌, Bool, true, false, List, [], ◌∷◌, ◌++◌, length, Option, Some, None, if◌then◌else◌, refl, ap, ◌∙◌, arith}
+use Rattle.std.proofs.Common.{◌≡◌, ℕ, ◌<◌, Bool, true, false, List, [], ◌∷◌, ◌++◌, length, Some, None, if◌then◌else◌, refl, ap, ◌∙◌, arith}
 use Rattle.afs_num.specs.Names.{is_plain}
 use Rattle.afs_words.specs.Words.{unescaped_from, is_escape, escaped_byte}
 

@@ -4,7 +4,6 @@ use Rattle.std.specs.List.{starts_with, list_all}
 use Rattle.std.specs.Option.{ok_or, option_map}
 use Rattle.std.specs.Str.{bytes_eq}
 use Rattle.afs_num.specs.Names.{is_in, is_plain, has_size, volume_name_ok}
-use Rattle.afs_num.specs.declared.types.Fid.{Fid}
 use Rattle.afs_num.specs.declared.types.Node.{Node}
 use Rattle.afs_num.specs.declared.types.Node.TheVariants as nodes
 use Rattle.afs_num.specs.declared.scripts.Reason.{Reason}

@@ -1,4 +1,4 @@
-use Rattle.std.proofs.Common.{◌≡◌, ◌∷◌, List, ℕ, ap, sym, ◌∙◌}
+use Rattle.std.proofs.Common.{◌∷◌, List, ℕ, ap, sym, ◌∙◌}
 use Rattle.afs_words.specs.Words.{unescaped_from}
 use Rattle.afs_words.proofs.Escapes.{escaped_on}
 use Rattle.afs_words.proofs.names.next_byte.Goals as goal
