@@ -4,6 +4,7 @@ pub mod Acts
 pub mod Forms
 pub mod Lines
 pub mod Grounds
+pub mod CellScripts
 pub mod FirstBad
 pub mod Sizes
 pub mod Worked

@@ -1,5 +1,6 @@
 //! Laws of what a script is. Their functions do nothing: each contract is a law of the definitions alone.
 
+ghost use Rattle.afs_grammar.specs.CellScripts.{ScriptsAreOfCells};
 ghost use Rattle.afs_grammar.specs.FirstBad.{FirstBadLineDecides, LastLineDecides, LongerIsAsItsFront, TooLongIsNoScript};
 ghost use Rattle.afs_grammar.specs.Sizes.{FirstRecordIsTheSum};
 ghost use Rattle.afs_grammar.specs.Worked.{BadLines, OneIsRead};
@@ -23,6 +24,12 @@ pub fn longer_is_as_its_front()
 /// What is too long is no script.
 pub fn too_long_is_no_script()
     ensures { TooLongIsNoScript }
+{}
+
+/// Every script is one of a cell: its counts, nodes, names, bytes and sums are within their limits, and set-up accepts its
+/// lines.
+pub fn scripts_are_of_cells()
+    ensures { ScriptsAreOfCells }
 {}
 
 /// The first record of a server is as long as its volumes' sizes say, whose numbers ascend.
