@@ -1,5 +1,5 @@
 -- What every script is: what the cell that plays it may rely on.
-use Rattle.std.specs.Prelude.{◌≡◌, ◌≤◌, ℕ, ◌+◌, List, [], ◌∷◌, true, Option, Some, None, Ok, length}
+use Rattle.std.specs.Prelude.{◌≡◌, ◌≤◌, ℕ, ◌+◌, List, [], ◌∷◌, true, false, Option, Some, None, Ok, length}
 use Rattle.std.specs.List.{All}
 use Rattle.afs_num.specs.Names.{volume_name_ok}
 use Rattle.afs_num.specs.declared.types.Node.{Node}
@@ -26,7 +26,7 @@ use Rattle.afs_history.specs.declared.scripts.Task.TheVariants as tasks
 use Rattle.afs_history.specs.declared.scripts.UserLine.{UserLine}
 use Rattle.afs_history.specs.declared.scripts.VolumeLine.{VolumeLine}
 use Rattle.afs_words.specs.declared.nodes.Counts.{Counts}
-use Rattle.afs_grammar.specs.Lines.{laid, laid_or, schedule_so_far, script_of, setup_accepts, ticks_in, volumes_at}
+use Rattle.afs_grammar.specs.Lines.{fits_loc, fits_server, has_name, laid, laid_or, schedule_so_far, script_of, setup_accepts, ticks_in, volumes_at}
 
 -- from the first number to the last
 abbrev pub IsFrom : ℕ → ℕ → ℕ → Type 0
@@ -133,6 +133,15 @@ abbrev pub AreVolumes : Counts → ℕ → List VolumeLine → Type 0
 AreVolumes c n [] = Unit {0}
 AreVolumes c n (l ∷ ls) = IsVolume c n l × AreVolumes c (n + 1) ls
 
+-- no later one has the name of an earlier one
+abbrev pub IsApart : VolumeLine → List VolumeLine → Type 0
+IsApart l [] = Unit {0}
+IsApart l (x ∷ xs) = (has_name x.name l ≡ false) × IsApart l xs
+
+abbrev pub AreApart : List VolumeLine → Type 0
+AreApart [] = Unit {0}
+AreApart (l ∷ ls) = IsApart l ls × AreApart ls
+
 -- ---- scripts
 
 abbrev pub counts_of : Script → Counts
@@ -147,6 +156,9 @@ pub record IsCellScript (s : Script) : Type 0 where
   pub users : All (FitsUser (counts_of s)) s.users
   pub volumes : AreVolumes (counts_of s) 536870912 s.volumes
   pub few : (server : ℕ) → length (volumes_at server s.volumes) ≤ 64
+  pub apart : AreApart s.volumes
+  pub fits : (server : ℕ) → fits_server s.capacity (volumes_at server s.volumes) ≡ true
+  pub loc : fits_loc s.capacity s.volumes ≡ true
   pub tasks : All (FitsTask (counts_of s)) s.tasks
   pub plans : All (FitsPlan (counts_of s)) s.plans
   pub events : All (FitsEvent (counts_of s)) (schedule_so_far s.schedule)

@@ -223,43 +223,60 @@ fn acts_are_read(rt: HostRuntime) -> Result<(), Fail> {
 }
 
 #[test]
-fn plans_and_events_are_read(rt: HostRuntime) -> Result<(), Fail> {
+fn plans_are_read(rt: HostRuntime) -> Result<(), Fail> {
     let script = expect_script(&rt, rt.alloc(), GOOD);
-    let [
-        Plan::Lose {
-            from: Node::Client(1),
-            to: Node::Server(2),
-            nth: 7,
-        },
-    ] = script.plans.as_slice()
-    else {
+    let [Plan::Lose { from, to, nth }] = script.plans.as_slice() else {
         panic!(rt; "no plan");
     };
-    let Some(events) = &script.schedule else {
-        panic!(rt; "no schedule");
+    assert_eq!(rt; (*from, *to), (Node::Client(1), Node::Server(2)));
+    assert_eq!(rt; *nth, 7);
+    Ok(())
+}
+
+/// The event of this place.
+fn event(script: &Script, place: usize) -> Option<Event> {
+    script.schedule.as_ref()?.as_slice().get(place).copied()
+}
+
+#[test]
+fn events_are_read(rt: HostRuntime) -> Result<(), Fail> {
+    let script = expect_script(&rt, rt.alloc(), GOOD);
+    let Some(Event::Act { node }) = event(&script, 0) else {
+        panic!(rt; "no act");
     };
-    let [
-        Event::Act {
-            node: Node::Client(2),
-        },
-        Event::Drain,
-        Event::Timeout {
-            node: Node::Server(1),
-            callee: Node::Client(2),
-        },
-        Event::CrashDisk {
-            node: Node::Loc,
-            pick: 3,
-        },
-        Event::Crash {
-            node: Node::Client(1),
-        },
-        Event::Tick {
-            ticks: 1_000_000_000,
-        },
-    ] = events.as_slice()
-    else {
-        panic!(rt; "other events");
+    assert_eq!(rt; node, Node::Client(2));
+    let Some(Event::Timeout { node, callee }) = event(&script, 2) else {
+        panic!(rt; "no timeout");
     };
+    assert_eq!(rt; (node, callee), (Node::Server(1), Node::Client(2)));
+    let Some(Event::CrashDisk { node, pick }) = event(&script, 3) else {
+        panic!(rt; "no crash of a disk");
+    };
+    assert_eq!(rt; node, Node::Loc);
+    assert_eq!(rt; pick, 3);
+    Ok(())
+}
+
+#[test]
+fn last_events_are_read(rt: HostRuntime) -> Result<(), Fail> {
+    let script = expect_script(&rt, rt.alloc(), GOOD);
+    assert!(rt; matches!(event(&script, 1), Some(Event::Drain)));
+    assert!(rt;
+        matches!(
+            event(&script, 4),
+            Some(Event::Crash {
+                node: Node::Client(1)
+            })
+        )
+    );
+    assert!(rt;
+        matches!(
+            event(&script, 5),
+            Some(Event::Tick {
+                ticks: 1_000_000_000
+            })
+        )
+    );
+    assert!(rt; event(&script, 6).is_none());
     Ok(())
 }
