@@ -1,5 +1,5 @@
 -- Acts, plans and events that are read are of nodes of the cell, and within their limits.
-use Rattle.std.proofs.Common.{◌≡◌, ℕ, Bool, true, false, List, [], ◌∷◌, Option, Some, None, Result, Ok, Err, subst}
+use Rattle.std.proofs.Common.{◌≡◌, ℕ, Bool, true, false, List, Ok, subst}
 use Rattle.std.specs.Option.{ok_or}
 use Rattle.afs_num.specs.declared.types.Node.{Node}
 use Rattle.afs_num.specs.declared.types.Node.TheVariants as nodes
@@ -11,11 +11,9 @@ use Rattle.afs_history.specs.declared.acts.Path.{Path}
 use Rattle.afs_history.specs.declared.acts.Written.{Written}
 use Rattle.afs_history.specs.declared.scripts.AdminAct.{AdminAct}
 use Rattle.afs_history.specs.declared.scripts.Event.{Event}
-use Rattle.afs_history.specs.declared.scripts.Event.TheVariants as events
 use Rattle.afs_history.specs.declared.scripts.Plan.{Plan}
 use Rattle.afs_history.specs.declared.scripts.Task.{Task}
-use Rattle.afs_history.specs.declared.scripts.Task.TheVariants as tasks
-use Rattle.afs_model.specs.ScriptWords.{◌>>=◌, ended, number_at, word_at}
+use Rattle.afs_model.specs.ScriptWords.{ended, number_at, word_at}
 use Rattle.afs_model.proofs.ScriptServer.{bound, ok_of}
 use Rattle.afs_words.specs.declared.nodes.Counts.{Counts}
 use Rattle.afs_words.specs.Words.{act_path_at, actors, all_nodes, callees, callers, disk_nodes, label_at, mode_at, name_at, node_at, operand_at, server_at, written_at}
@@ -28,7 +26,7 @@ use Rattle.afs_grammar.specs.declared.spellings.FirstWord.TheVariants as firsts
 use Rattle.afs_grammar.specs.declared.spellings.PlanWord.{PlanWord}
 use Rattle.afs_grammar.specs.declared.spellings.PlanWord.TheVariants as plan_words
 use Rattle.afs_grammar.specs.Acts.{act_event, act_parts, admin_act, admin_parts, client_act, crash_event, crash_of, deliver_event, dump_parts, event_at, fail_event, has_disk, most_contents, most_text, plan_at, plan_parts, restart_event, stop_event, task_at, task_of, tick_event, timeout_event, wake_event}
-use Rattle.afs_grammar.specs.CellScripts.{FitsAdminAct, FitsEvent, FitsPlan, FitsTask, IsFrom, IsInCell, IsName, IsShortAct}
+use Rattle.afs_grammar.specs.CellScripts.{FitsAdminAct, FitsEvent, FitsPlan, FitsTask, IsInCell, IsName, IsShortAct}
 use Rattle.afs_grammar.specs.Spellings.{act_spelled, admin_spelled, plan_spelled}
 use Rattle.afs_grammar.proofs.Readers.{act_path_in, label_in, name_in, node_in, node_number_in, number_in, operand_in, written_in}
 

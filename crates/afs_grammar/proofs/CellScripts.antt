@@ -1,10 +1,8 @@
 -- Every script is one of a cell: line by line.
-use Rattle.std.proofs.Common.{◌≡◌, ℕ, zero, suc, ◌+◌, ◌-◌, ◌<◌, ◌≤◌, Bool, true, false, List, [], ◌∷◌, ◌++◌, length, Option, Some, None, Result, Ok, Err, cond, not, nat_eq, nat_le, nat_lt, slice_get, slice_set, if◌then◌else◌, refl, sym, ap, subst, ◌∙◌, arith, eqb-true, ltb-true}
-use Rattle.std.specs.Prelude.{◌&&◌, ◌||◌, filter}
-use Rattle.std.specs.List.{All, list_all, list_any}
-use Rattle.std.specs.Option.{ok_or}
+use Rattle.std.proofs.Common.{◌≡◌, ℕ, zero, suc, ◌+◌, ◌-◌, ◌<◌, ◌≤◌, Bool, true, false, List, [], ◌∷◌, ◌++◌, length, Option, Some, None, Ok, not, nat_eq, nat_le, nat_lt, slice_get, slice_set, if◌then◌else◌, refl, sym, ap, subst, arith, eqb-true, ltb-true}
+use Rattle.std.specs.Prelude.{◌&&◌, ◌||◌}
+use Rattle.std.specs.List.{All, list_any}
 use Rattle.std.proofs.lemmas.List.Elements.{All-nil, All-push}
-use Rattle.afs_num.specs.Names.{volume_name_ok}
 use Rattle.afs_num.specs.declared.scripts.Reason.{Reason}
 use Rattle.afs_num.specs.declared.scripts.Reason.TheVariants as reasons
 use Rattle.afs_ideal.specs.SetUp.{new_volume}
@@ -29,7 +27,7 @@ use Rattle.afs_grammar.specs.Acts.{event_at, most_contents, most_text, plan_at, 
 use Rattle.afs_grammar.specs.CellScripts.{AreAccepted, AreApart, AreVolumes, FitsEvent, FitsPlan, FitsTask, FitsUser, IsApart, IsCellScript, IsFrom, IsVolume}
 use Rattle.afs_grammar.specs.Forms.{is_unbuilt}
 use Rattle.afs_grammar.specs.Grounds.{line_laid_in}
-use Rattle.afs_grammar.specs.Lines.{acl_line, admins_line, bounded_for, cache_line, capacity_line, cell_line, clients_line, dir_line, do_line, end_line, event_line, event_told, file_line, filled_up, first_of, fits_all, fits_loc, fits_server, has_name, has_no_lines, is_at, laid, laid_all, laid_or, last_at, line_at, line_by_word, line_of, lines_at, link_line, loc_length, new_line, nothing_read, place_of, plan_line, schedule_line, schedule_so_far, script_in, script_of, servers_line, setup_accepts, setup_at, setup_laid, stored_all, ticks_in, user_line, volume_added, volume_at, volume_laid, volume_line, volumes_at, with_line, with_setup, with_setup_at, with_volume, written_length, LinesRead}
+use Rattle.afs_grammar.specs.Lines.{acl_line, admins_line, bounded_for, cache_line, capacity_line, cell_line, clients_line, dir_line, do_line, end_line, event_line, event_told, file_line, filled_up, first_of, fits_all, fits_loc, fits_server, has_name, is_at, laid, laid_all, laid_or, last_at, line_at, line_by_word, line_of, lines_at, link_line, loc_length, new_line, nothing_read, place_of, plan_line, schedule_line, schedule_so_far, script_of, servers_line, setup_accepts, setup_at, setup_laid, stored_all, ticks_in, user_line, volume_added, volume_at, volume_laid, volume_line, volumes_at, with_line, with_setup, with_setup_at, with_volume, LinesRead}
 use Rattle.afs_grammar.specs.Turns.{from_turn, has_ended, is_due, next_turn, to_turn}
 use Rattle.afs_grammar.proofs.Acting.{event_in, plan_in, task_in}
 use Rattle.afs_grammar.proofs.Laid.{setup_is, volume_is}

@@ -1,5 +1,5 @@
 -- What the words of a line that are read are: nodes of the cell, names and bytes within their limits.
-use Rattle.std.proofs.Common.{◌≡◌, ℕ, ◌-◌, ◌<◌, ◌≤◌, Bool, true, false, List, [], ◌∷◌, ◌++◌, length, replicate, Option, Some, None, Result, Ok, Err, nat_le, nat_lt, if◌then◌else◌, refl, sym, ap, subst, ◌∙◌, arith, ltb-true}
+use Rattle.std.proofs.Common.{◌≡◌, ℕ, ◌-◌, ◌<◌, ◌≤◌, Bool, true, false, List, [], ◌∷◌, ◌++◌, length, Option, Some, None, Ok, Err, nat_le, nat_lt, if◌then◌else◌, refl, sym, subst, arith, ltb-true}
 use Rattle.std.specs.Prelude.{◌&&◌, codes, drop, nat_eq, not}
 use Rattle.std.specs.List.{All, starts_with}
 use Rattle.std.specs.Option.{ok_or, option_map}
@@ -12,17 +12,15 @@ use Rattle.afs_num.specs.declared.types.Node.{Node}
 use Rattle.afs_num.specs.declared.types.Node.TheVariants as nodes
 use Rattle.afs_num.specs.declared.scripts.Reason.{Reason}
 use Rattle.afs_num.specs.declared.scripts.Reason.TheVariants as reasons
-use Rattle.afs_history.specs.Written.{bytes_in}
 use Rattle.afs_history.specs.declared.acts.Operand.{Operand}
 use Rattle.afs_history.specs.declared.acts.Operand.TheVariants as operands
 use Rattle.afs_history.specs.declared.acts.Path.{Path}
 use Rattle.afs_history.specs.declared.acts.Written.{Written}
-use Rattle.afs_history.specs.declared.acts.Written.TheVariants as written
 use Rattle.afs_model.specs.ScriptWords.{◌>>=◌, fid_of, hex_from, must, node_number, number_at, parts, ranged, word_at}
 use Rattle.afs_model.proofs.ScriptServer.{bound, le_of_test, must_true, ok_of, range, some_in}
 use Rattle.afs_words.specs.declared.nodes.Counts.{Counts}
 use Rattle.afs_words.specs.declared.nodes.Kinds.{Kinds}
-use Rattle.afs_words.specs.Words.{act_path_at, byte_of, fill_in, fill_of, fit_in, hex_in, is_fid, is_numeral, label_at, loc_of, name_at, name_of, names_from, node_at, node_number_at, node_of, numbered, operand_at, operand_of, or_else, path_at, path_in, path_of, unescaped_from, written_at, written_of}
+use Rattle.afs_words.specs.Words.{act_path_at, byte_of, fill_in, fill_of, fit_in, hex_in, is_fid, is_numeral, label_at, loc_of, name_at, name_of, names_from, node_at, node_number_at, node_of, numbered, operand_at, operand_of, or_else, path_in, path_of, unescaped_from, written_at, written_of}
 use Rattle.afs_grammar.specs.CellScripts.{IsFrom, IsInCell, IsName, IsOperand, IsPath, IsWithin}
 
 -- ---- numbers and nodes

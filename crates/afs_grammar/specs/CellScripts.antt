@@ -1,5 +1,5 @@
 -- What every script is: what the cell that plays it may rely on.
-use Rattle.std.specs.Prelude.{◌≡◌, ◌≤◌, ℕ, ◌+◌, List, [], ◌∷◌, true, false, Option, Some, None, Ok, length}
+use Rattle.std.specs.Prelude.{◌≡◌, ◌≤◌, ℕ, ◌+◌, List, [], ◌∷◌, true, false, Ok, length}
 use Rattle.std.specs.List.{All}
 use Rattle.afs_num.specs.Names.{volume_name_ok}
 use Rattle.afs_num.specs.declared.types.Node.{Node}
