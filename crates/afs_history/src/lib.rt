@@ -4,3 +4,4 @@
 
 pub mod acts;
 pub mod lines;
+pub mod scripts;

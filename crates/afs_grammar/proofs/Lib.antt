@@ -1,0 +1,10 @@
+pub mod Acting
+pub mod CellScripts
+pub mod FirstBad
+pub mod Laid
+pub mod LineByLine
+pub mod Readers
+pub mod Sizes
+pub mod Ticks
+pub mod TooLong
+pub mod Worked

@@ -1,0 +1,10 @@
+pub mod Spellings
+pub mod Turns
+pub mod Acts
+pub mod Forms
+pub mod Lines
+pub mod Grounds
+pub mod CellScripts
+pub mod FirstBad
+pub mod Sizes
+pub mod Worked

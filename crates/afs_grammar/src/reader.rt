@@ -1,0 +1,95 @@
+//! The reader of scripts.
+
+ghost use Rattle.std.specs.Prelude.{◌≡◌, ◌<◌, ◌≤◌, [], length, IfOk, OnOk};
+ghost use Rattle.afs_model.specs.Script.{at_line};
+ghost use Rattle.afs_grammar.specs.Lines.{line_at, lines_at, nothing_read, script_of};
+ghost use Rattle.afs_words.specs.Reads.{GivesAtLine, IsAtLine};
+
+use crate::forms::Form;
+use crate::ground::Ground;
+use crate::lines::LinesRead;
+use afs_history::scripts::Script;
+use afs_num::scripts::Reason;
+use afs_words::faults::{LineFault, ScriptFault};
+use afs_words::parts::Parts;
+use std::alloc::Global;
+
+/// The most bytes of a script.
+const BYTES: usize = 16_777_216;
+
+/// The outcome for the line with this number.
+fn at_line<T>(number: u32, outcome: Result<T, LineFault>) -> Result<T, ScriptFault>
+    ensures { IsAtLine number outcome result }
+{
+    match outcome {
+        Ok(value) => Ok(value),
+        Err(LineFault::Bad(reason)) => Err(ScriptFault::Line(number, reason)),
+        Err(LineFault::OutOfMemory) => Err(ScriptFault::OutOfMemory),
+    }
+}
+
+/// The reading with one more line.
+fn read_line<G: Ground>(
+    reading: LinesRead,
+    alloc: Global,
+    form: Form,
+    ground: &mut G,
+    number: u32,
+    room: usize,
+    line: &[u8],
+) -> Result<LinesRead, ScriptFault>
+    requires laid { G.laid ground.old ≡ reading.volumes }
+    requires few { length reading.volumes < number }
+    ensures value { GivesAtLine (at_line number (line_at form.level reading number room line.now)) result }
+    ensures laid { IfOk result (λ r. G.laid ground.new ≡ r.volumes) }
+    ensures grows { IfOk result (λ r. length r.volumes ≤ number) }
+    ensures within { OnOk result (length line.now < room) }
+    ensures few { OnOk result (number ≤ 200000) }
+{
+    at_line(
+        number,
+        reading.line(alloc, form, ground, number, room, line),
+    )
+}
+
+fn read_lines<G: Ground>(
+    alloc: Global,
+    form: Form,
+    ground: &mut G,
+    mut lines: Parts<'_>,
+) -> Result<Script, ScriptFault>
+    requires { G.laid ground.old ≡ [] }
+    ensures script { GivesAtLine (lines_at form.level nothing_read 0 16777216 lines.entry) result }
+    ensures laid { IfOk result (λ s. G.laid ground.new ≡ s.volumes) }
+{
+    let mut reading = LinesRead::new(alloc);
+    let mut number = 0u32;
+    let mut room = BYTES;
+    while let Some(line) = lines.closed_part() {
+        number += 1;
+        reading = read_line(reading, alloc, form, ground, number, room, line)?;
+        room -= line.len() + 1;
+    }
+    let Some(last) = lines.part() else {
+        return Err(ScriptFault::Line(number + 1, Reason::Missing));
+    };
+    match reading.last(number + 1, room, last) {
+        Ok(script) => Ok(script),
+        Err(reason) => Err(ScriptFault::Line(number + 1, reason)),
+    }
+}
+
+/// The script of these bytes, or the first bad line and its reason. Its volumes are laid on the ground, where nothing stood.
+#[tactic(auto, unfolding(crate::specs::Lines::script_of))]
+pub fn read_script<G: Ground>(
+    alloc: Global,
+    form: Form,
+    ground: &mut G,
+    bytes: &[u8],
+) -> Result<Script, ScriptFault>
+    requires { G.laid ground.old ≡ [] }
+    ensures script { GivesAtLine (script_of form.level bytes.now) result }
+    ensures laid { IfOk result (λ s. G.laid ground.new ≡ s.volumes) }
+{
+    read_lines(alloc, form, ground, Parts::new(bytes, b'\n'))
+}
