@@ -1,0 +1,5 @@
+pub mod Walking
+pub mod Numbers
+pub mod Reaching
+pub mod Fitting
+pub mod Staying

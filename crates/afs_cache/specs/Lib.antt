@@ -1,0 +1,3 @@
+pub mod Managing
+pub mod Asking
+pub mod Looking

@@ -1,0 +1,114 @@
+//! The act that runs, with its unanswered call.
+
+ghost use Rattle.std.specs.Prelude.{◌≡◌, IfOk};
+ghost use Rattle.std.specs.List.{All};
+ghost use Rattle.afs_rows.specs.ClientRow.{behind_batch, call_by};
+ghost use Rattle.afs_rows.specs.Going.{next};
+ghost use Rattle.afs_acts.specs.Acts.{IsShortAct};
+ghost use Rattle.afs_acts.specs.Walks.{need_of};
+ghost use Rattle.afs_cache.specs.Asking.{IsGift};
+ghost use Rattle.afs_num.specs.declared.messages.Call.TheVariants as ask;
+
+use afs_acts::{Going, Need};
+use afs_entries::{Gift, batch_len, copy_gifts, gift_batch, gift_call};
+use afs_num::calls::FsCall;
+use afs_num::messages::Call;
+use afs_num::types::Mem;
+use std::alloc::Global;
+use std::marker::Model;
+
+/// The act that runs, what it gives back still, and its unanswered call.
+#[derive(Drop)]
+pub struct Asked {
+    going: Going,
+    gifts: Vec<Gift>,
+    call: Call,
+}
+
+impl Model for Asked {
+    ghost use Rattle.afs_cache.specs.Asking.{Asking, IsAsked};
+
+    ghost Value = { Asking };
+
+    ghost view = { λ a. record { going = a.going; gifts = a.gifts.items } };
+
+    ghost invariant = { λ a. IsAsked a.going a.gifts.items a.call };
+}
+
+/// The call for a need.
+fn call_for(alloc: Global, need: Need, gifts: &[Gift]) -> Mem<FsCall>
+    ensures { IfOk result (λ c. c ≡ call_by gifts.now (need_of need)) }
+{
+    match need {
+        Need::Body(fid) => Ok(FsCall::FetchData {
+            fid,
+            position: 0,
+            length: 2_147_483_647,
+        }),
+        Need::Status(fid) => Ok(FsCall::FetchStatus { fid }),
+        Need::Statuses(fids) => Ok(FsCall::BulkStatus { fids }),
+        Need::Rights(fid) => Ok(FsCall::FetchAcl { fid }),
+        Need::Call(call) => Ok(call),
+        Need::GiveBack => gift_call(alloc, gift_batch(gifts)),
+        Need::Answer(_) => Ok(FsCall::GetTime),
+    }
+}
+
+impl Asked {
+    /// An act that goes on with the call for its need.
+    pub fn new(alloc: Global, going: Going, gifts: Vec<Gift>, need: Need) -> Mem<Asked>
+        requires need { need_of need ≡ next going }
+        requires short { IsShortAct going.act }
+        requires nodes { All IsGift gifts.items }
+        ensures { IfOk result (λ a. a ≡ record { going = going; gifts = gifts.items }) }
+    {
+        let call = Call::File(call_for(alloc, need, &gifts)?);
+        Ok(Asked { going, gifts, call })
+    }
+
+    pub fn going(&self) -> &Going
+        ensures value { result.now ≡ self.now.going }
+        ensures short { IsShortAct self.now.going.act }
+    {
+        &self.going
+    }
+
+    pub fn gifts(&self) -> &[Gift]
+        ensures value { result.now ≡ self.now.gifts }
+        ensures nodes { All IsGift self.now.gifts }
+    {
+        &self.gifts
+    }
+
+    pub fn call(&self) -> &Call
+        ensures { result.now ≡ ask.File (call_by self.now.gifts (next self.now.going)) }
+    {
+        &self.call
+    }
+
+    /// A copy of what it gives back still.
+    pub fn copy_gifts(&self, alloc: Global) -> Mem<Vec<Gift>>
+        ensures value { IfOk result (λ gs. gs.items ≡ self.now.gifts) }
+        ensures nodes { All IsGift self.now.gifts }
+    {
+        copy_gifts(alloc, &self.gifts)
+    }
+
+    /// What it gives back behind the batch that its call carries.
+    pub fn behind_batch(&self, alloc: Global) -> Mem<Vec<Gift>>
+        ensures value { IfOk result (λ gs. gs.items ≡ behind_batch self.now.gifts) }
+        ensures nodes { IfOk result (λ gs. All IsGift gs.items) }
+    {
+        copy_gifts(alloc, self.gifts.split_at(batch_len(&self.gifts)).1)
+    }
+
+    /// Its call: all calls of clients are of the interface of the file servers.
+    pub fn file_call(&self) -> &FsCall
+        ensures { result.now ≡ call_by self.now.gifts (next self.now.going) }
+    {
+        match &self.call {
+            Call::File(call) => call,
+            _ => unreachable!(),
+        }
+    }
+}

@@ -1,0 +1,110 @@
+//! What replies tell.
+
+ghost use Rattle.std.specs.Prelude.{◌≡◌, IfOk};
+ghost use Rattle.std.specs.Option.{option_copied, option_map};
+ghost use Rattle.afs_num.specs.declared.types.Fid.{Fid};
+ghost use Rattle.afs_rows.specs.ClientRow.{body_told, entry_told, is_below, is_busy_code, names_told, status_told};
+ghost use Rattle.afs_rows.specs.Scopes.{is_in_scope};
+ghost use Rattle.afs_rows.specs.States.{CacheEntry};
+ghost use Rattle.afs_ideal.specs.Directories.{directory_of};
+ghost use Rattle.afs_entries.specs.Cached.{drops_of, entry_at};
+
+use afs_acts::volume_changed;
+use afs_dir::{Dir, DirFault};
+use afs_entries::{Drops, Entry};
+use afs_num::calls::{AfsCallBack, AfsFetchStatus, AfsVolSync, FsCall};
+use afs_num::directories::Names;
+use afs_num::histories::{Body, ReadStatus};
+use afs_num::sequences::{Octets, Sequence};
+use afs_num::types::{Code, Mem, Node};
+use std::alloc::{AllocError, Global};
+
+/// The status that is shown.
+pub fn status_told(status: &AfsFetchStatus) -> ReadStatus
+    ensures { result ≡ status_told status.now }
+{
+    ReadStatus {
+        kind: status.file_type,
+        link_count: status.link_count,
+        length: status.length,
+        mode: status.unix_mode_bits,
+    }
+}
+
+/// The entry that a reply brings, whatever fid it is of.
+pub fn entry_told(
+    server: Node,
+    status: &AfsFetchStatus,
+    callback: &AfsCallBack,
+    sync: &AfsVolSync,
+    body: Option<Body>,
+) -> Entry
+    ensures { (fid : Fid) → entry_at fid result ≡ entry_told server fid status.now callback.now sync.now body }
+{
+    Entry {
+        index: status.sync_counter,
+        status: status_told(status),
+        body,
+        server,
+        expiry: callback.expiration_time,
+        release: sync.release,
+    }
+}
+
+/// The volume is out of service, or busy, for a while.
+pub fn is_busy(code: Code) -> bool
+    ensures { result ≡ is_busy_code code }
+{
+    code.0 == 106 || code.0 == 110
+}
+
+/// The entries of what an answered call may have changed.
+pub fn scope_of(call: &FsCall) -> Drops
+    ensures { (e : CacheEntry) → drops_of result e ≡ is_in_scope call.now e.fid }
+{
+    match call {
+        FsCall::StoreData { fid, .. }
+        | FsCall::StoreAcl { fid, .. }
+        | FsCall::StoreStatus { fid, .. } => Drops::Fid(*fid),
+        FsCall::CreateFile { directory, .. }
+        | FsCall::Symlink { directory, .. }
+        | FsCall::MakeDir { directory, .. } => Drops::Fid(*directory),
+        _ => match volume_changed(call) {
+            Some(volume) => Drops::Volume(volume),
+            None => Drops::Nothing,
+        },
+    }
+}
+
+/// Whether a trusted entry stands just below this index, or none is there.
+pub fn is_below(now: u32, index: u32, entry: Option<&Entry>) -> bool
+    ensures { (fid : Fid) → result ≡ is_below now index (option_map (entry_at fid) (option_copied entry.entry)) }
+{
+    match entry {
+        Some(entry) => {
+            !entry.is_trusted(now) || (entry.index < index && index - entry.index == 1)
+        }
+        None => true,
+    }
+}
+
+/// What a body is, by the type in its status. Bytes that spell no directory have no names.
+pub fn body_told(alloc: Global, kind: u32, contents: Octets) -> Mem<Body>
+    ensures { IfOk result (λ b. b ≡ body_told kind contents) }
+{
+    match kind {
+        1 => Ok(Body::File(contents)),
+        2 => Ok(Body::Dir(names_told(alloc, contents.as_slice())?)),
+        _ => Ok(Body::Link(contents)),
+    }
+}
+
+fn names_told(alloc: Global, contents: &[u8]) -> Mem<Names>
+    ensures { IfOk result (λ ns. ns ≡ names_told (directory_of contents.now)) }
+{
+    match Dir::from_bytes(alloc, contents) {
+        Ok(directory) => directory.list(),
+        Err(DirFault::OutOfMemory) => Err(AllocError),
+        Err(_) => Ok(Sequence::new(alloc)),
+    }
+}
