@@ -6,4 +6,4 @@ pub mod Evicting
 pub mod Batches
 pub mod Placing
 pub mod Behind
-pub mod Putting
+pub mod Coming

@@ -125,11 +125,11 @@ fn put_one(entries: &mut Entries, count: usize, capacity: u16, fresh: Fresh) -> 
     let _count = entries.len();
     let Fresh { fid, entry } = fresh;
     let slot = slot_for(&fid);
-    let is_behind = is_in_tail(entries, count, &slot);
-    raise(entries, &slot, entry, !is_behind);
-    if is_behind && count < capacity as usize {
-        count + 1
+    if is_in_tail(entries, count, &slot) {
+        raise(entries, &slot, entry, false);
+        (count + 1).min(capacity as usize)
     } else {
+        raise(entries, &slot, entry, true);
         count
     }
 }

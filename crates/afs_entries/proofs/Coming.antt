@@ -1,14 +1,15 @@
 -- An entry comes into the cache, which is the first so many of the map.
-use Rattle.std.proofs.Common.{◌≡◌, ◌≤◌, ◌<◌, ◌+◌, ◌-◌, ℕ, zero, suc, Bool, true, false, cond, not, List, [], ◌∷◌, ◌++◌, map, take, drop, length, Option, Some, None, refl, ap, sym, subst, ◌∙◌, arith}
-use Rattle.std.specs.Prelude.{nat_eq, IsSome}
+use Rattle.std.proofs.Common.{◌≡◌, ◌≤◌, ◌<◌, ◌+◌, ◌-◌, ℕ, suc, Bool, true, false, List, [], ◌∷◌, ◌++◌, map, take, drop, length, Option, Some, None, refl, ap, sym, subst, ◌∙◌, arith}
+use Rattle.std.specs.Prelude.{nat_lt, min, IsSome}
 use Rattle.std.specs.List.{IsDistinct}
 use Rattle.std.specs.Option.{option_map}
-use Rattle.std.specs.Map.{lookup, lookup_entry, remove_entry, keys_of}
-use Rattle.std.proofs.lemmas.List.{take-append-le}
+use Rattle.std.specs.Map.{lookup, remove_entry, keys_of}
+use Rattle.std.proofs.lemmas.List.{take-append-le, take-append-drop, length-take-le}
+use Rattle.std.proofs.lemmas.Bool.{ltb-true, ltb-false}
 use Rattle.afs_num.specs.declared.types.Fid.{Fid}
 use Rattle.afs_num.specs.declared.histories.Body.{Body}
 use Rattle.afs_rows.specs.States.{CacheEntry}
-use Rattle.afs_rows.specs.ClientRow.{body_kept, find_cached, joined, put_entry, used_first}
+use Rattle.afs_rows.specs.ClientRow.{body_kept, find_cached, put_entry}
 use Rattle.afs_entries.specs.declared.cache.Slot.{Slot}
 use Rattle.afs_entries.specs.declared.cache.Entry.{Entry}
 use Rattle.afs_entries.specs.Cached.{body_over, cached, entry_at, entry_joined, raised, same_slot, slot_of, without}
@@ -50,7 +51,7 @@ module _ (f : Fid) (e v : Entry) (front tail : List (Slot × Entry)) (d : IsDist
       let less : suc (length (remove_entry key front)) ≡ length front = fewer key front (slot_of f, v) (pair_at (slot_of f) v front h) in
       let taken : take (length front) (raised (slot_of f) (entry_joined true e v) (front ++ tail)) ≡ (slot_of f, entry_joined true e v) ∷ remove_entry key front =
       ap (λ (n : ℕ). take n (raised (slot_of f) (entry_joined true e v) (front ++ tail))) (sym less)
-      ∙ (ap (λ (xs : List (Slot × Entry)). (slot_of f, entry_joined true e v) ∷ take (length (remove_entry key front)) xs) (removed_front key front tail (rw h tt))
+      ∙ (ap (λ (xs : List (Slot × Entry)). (slot_of f, entry_joined true e v) ∷ take (length (remove_entry key front)) xs) (removed_front key front tail (rw h refl))
       ∙ ap (λ (xs : List (Slot × Entry)). (slot_of f, entry_joined true e v) ∷ xs) (taken_front (remove_entry key front) tail)) in
       ap (map cached) taken ∙ ap (λ (xs : List CacheEntry). entry_at f (entry_joined true e v) ∷ xs) (popped f front d)
 
@@ -94,3 +95,45 @@ module _ (f : Fid) (e v : Entry) (front tail : List (Slot × Entry)) (d : IsDist
       ap (λ (xs : List (Slot × Entry)). (slot_of f, e) ∷ take m xs) (removed_behind key front tail h)
       ∙ ap (λ (xs : List (Slot × Entry)). (slot_of f, e) ∷ xs) (take-append-le m front (remove_entry key tail) (omega (arith, full))) in
       ap (map cached) taken ∙ (ap (λ (xs : List CacheEntry). entry_at f e ∷ xs) (map_take cached m front) ∙ comes_alone (suc m) h)
+
+-- ---- the first so many
+
+module _ (f : Fid) (e : Entry) (count capacity : ℕ) (es : List (Slot × Entry)) (d : IsDistinct same_slot (keys_of es)) (within : count ≤ length es) (few : count ≤ capacity) where
+  parts : take count es ++ drop count es ≡ es
+  parts = take-append-drop count es
+
+  apart : IsDistinct same_slot (keys_of (take count es ++ drop count es))
+  apart = subst (λ (xs : List (Slot × Entry)). IsDistinct same_slot (keys_of xs)) (sym parts) d
+
+  long : length (take count es) ≡ count
+  long = length-take-le count es within
+
+  pub put_first : (v : Entry) → lookup (same_slot (slot_of f)) es ≡ Some v → lookup (same_slot (slot_of f)) (drop count es) ≡ None
+      → map cached (take count (raised (slot_of f) (entry_joined true e v) es)) ≡ put_entry capacity (entry_at f e) (map cached (take count es))
+  put_first v h none =
+      let there : lookup (same_slot (slot_of f)) (take count es) ≡ Some v = in_front (same_slot (slot_of f)) (take count es) (drop count es) none ∙ (ap (lookup (same_slot (slot_of f))) parts ∙ h) in
+      let put = put_seen f e v (take count es) (drop count es) (distinct_front (take count es) (drop count es) apart) capacity there (subst (λ (n : ℕ). n ≤ capacity) (sym long) few) in
+      ap (λ (n : ℕ). map cached (take n (raised (slot_of f) (entry_joined true e v) es))) (sym long)
+      ∙ (ap (λ (xs : List (Slot × Entry)). map cached (take (length (take count es)) (raised (slot_of f) (entry_joined true e v) xs))) (sym parts) ∙ put)
+
+  put_by : (b : Bool) (m : ℕ) → nat_lt count capacity ≡ b → 0 < capacity → lookup (same_slot (slot_of f)) (take count es) ≡ None → m ≡ min (count + 1) capacity
+      → map cached (take m (raised (slot_of f) e (take count es ++ drop count es))) ≡ put_entry capacity (entry_at f e) (map cached (take count es))
+  put_by true m q some none is =
+      let room : count < capacity = ltb-true count capacity q in
+      let same : m ≡ length (take count es) + 1 = omega (arith, is, long, room) in
+      ap (λ (n : ℕ). map cached (take n (raised (slot_of f) e (take count es ++ drop count es)))) same
+      ∙ put_room f e e (take count es) (drop count es) (distinct_front (take count es) (drop count es) apart) capacity none (omega (arith, long, room))
+  put_by false m q some none is =
+      let full = ltb-false count capacity q in
+      let all : capacity ≡ suc (capacity - 1) = omega (arith, some) in
+      let same : m ≡ suc (capacity - 1) = omega (arith, is, full, few, some) in
+      let enough : length (take count es) ≡ suc (capacity - 1) = omega (arith, long, full, few, some) in
+      ap (λ (n : ℕ). map cached (take n (raised (slot_of f) e (take count es ++ drop count es)))) same
+      ∙ (put_full f e e (take count es) (drop count es) (distinct_front (take count es) (drop count es) apart) (capacity - 1) none enough
+      ∙ ap (λ (n : ℕ). put_entry n (entry_at f e) (map cached (take count es))) (sym all))
+
+  pub put_last : (m : ℕ) → 0 < capacity → IsSome (lookup (same_slot (slot_of f)) (drop count es)) → m ≡ min (count + 1) capacity
+      → map cached (take m (raised (slot_of f) e es)) ≡ put_entry capacity (entry_at f e) (map cached (take count es))
+  put_last m some there is =
+      let none = apart_front (slot_of f) (take count es) (drop count es) apart there in
+      ap (λ (xs : List (Slot × Entry)). map cached (take m (raised (slot_of f) e xs))) (sym parts) ∙ put_by (nat_lt count capacity) m refl some none is
