@@ -1,0 +1,4 @@
+pub mod Walking
+pub mod Planning
+pub mod Calling
+pub mod Answering

@@ -3,6 +3,7 @@
 ghost use Rattle.std.specs.Prelude.{◌≡◌, nat_eq, ◌&&◌};
 ghost use Rattle.afs_model.specs.Calls.{admitted, call_seat, compared, paired, pair_below, repeated};
 ghost use Rattle.afs_cache.specs.Asking.{means};
+ghost use Rattle.afs_cache.specs.Serving.{IsSoundAdmit};
 
 use crate::calls::Seat;
 use afs_num::keyed::find_keyed;
@@ -36,7 +37,8 @@ fn is_below(epoch: u32, number: u32, other_epoch: u32, other_number: u32) -> boo
 
 impl Seat {
     fn last(&self, boot: u32) -> Admit<'_>
-        ensures { means boot result ≡ repeated self.now.reply }
+        ensures value { means boot result ≡ repeated self.now.reply }
+        ensures sound { IsSoundAdmit result }
     {
         let _boot = boot;
         match &self.reply {
@@ -46,7 +48,8 @@ impl Seat {
     }
 
     fn admit(&self, boot: u32, epoch: u32, number: u32) -> Admit<'_>
-        ensures { means boot result ≡ compared epoch number self.now }
+        ensures value { means boot result ≡ compared epoch number self.now }
+        ensures sound { IsSoundAdmit result }
     {
         if is_below(epoch, number, self.epoch, self.number) {
             return Admit::Older;
@@ -59,7 +62,8 @@ impl Seat {
 }
 
 fn paired<'a>(seats: &'a [Seat], boot: u32, head: &Head) -> Admit<'a>
-    ensures { means boot result ≡ paired head.now.epoch head.now.number (call_seat head.now.from seats.entry.now) }
+    ensures value { means boot result ≡ paired head.now.epoch head.now.number (call_seat head.now.from seats.entry.now) }
+    ensures sound { IsSoundAdmit result }
 {
     match find_keyed(seats, &head.from) {
         Some(seat) => seat.admit(boot, head.epoch, head.number),
@@ -69,7 +73,8 @@ fn paired<'a>(seats: &'a [Seat], boot: u32, head: &Head) -> Admit<'a>
 
 /// What becomes of a call, by its boot number and then by its pair.
 pub fn admitted<'a>(seats: &'a [Seat], boot: u32, head: &Head) -> Admit<'a>
-    ensures { means boot result ≡ admitted boot seats.entry.now head.now }
+    ensures value { means boot result ≡ admitted boot seats.entry.now head.now }
+    ensures sound { IsSoundAdmit result }
 {
     if head.boot != boot {
         return Admit::WrongBoot;

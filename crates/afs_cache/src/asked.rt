@@ -2,6 +2,8 @@
 
 ghost use Rattle.std.specs.Prelude.{◌≡◌, IfOk};
 ghost use Rattle.std.specs.List.{All};
+ghost use Rattle.afs_model.specs.CellRows.{cell_calls};
+ghost use Rattle.afs_shape.specs.Rows.{IsWithin};
 ghost use Rattle.afs_rows.specs.ClientRow.{behind_batch, call_by};
 ghost use Rattle.afs_rows.specs.Going.{next};
 ghost use Rattle.afs_acts.specs.Acts.{IsShortAct};
@@ -66,11 +68,12 @@ impl Asked {
         Ok(Asked { going, gifts, call })
     }
 
-    pub fn going(&self) -> &Going
-        ensures value { result.now ≡ self.now.going }
+    /// A copy of the act, and of what it has read.
+    pub fn copy_going(&self, alloc: Global) -> Mem<Going>
+        ensures value { IfOk result (λ g. g ≡ self.now.going) }
         ensures short { IsShortAct self.now.going.act }
     {
-        &self.going
+        self.going.copy(alloc)
     }
 
     pub fn gifts(&self) -> &[Gift]
@@ -81,7 +84,8 @@ impl Asked {
     }
 
     pub fn call(&self) -> &Call
-        ensures { result.now ≡ ask.File (call_by self.now.gifts (next self.now.going)) }
+        ensures value { result.now ≡ ask.File (call_by self.now.gifts (next self.now.going)) }
+        ensures within { IsWithin cell_calls (ask.File (call_by self.now.gifts (next self.now.going))) }
     {
         &self.call
     }

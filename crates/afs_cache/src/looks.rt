@@ -1,8 +1,14 @@
 //! What an act reads from the cache. It goes as far as it comes without a message.
 
-ghost use Rattle.std.specs.Option.{option_copied};
+ghost use Rattle.std.specs.Prelude.{◌≡◌, OnOk, IfOk};
+ghost use Rattle.std.specs.Option.{option_copied, option_map};
+ghost use Rattle.afs_rows.specs.Going.{next, with_read};
+ghost use Rattle.afs_rows.specs.ClientRow.{most_reads, shown_by, walked};
+ghost use Rattle.afs_num.specs.declared.types.Fid.{Fid as ReadFid};
 ghost use Rattle.afs_acts.specs.Acts.{IsShortAct};
-ghost use Rattle.afs_entries.specs.Cached.{HasBody};
+ghost use Rattle.afs_acts.specs.Walks.{need_of};
+ghost use Rattle.afs_entries.specs.Cached.{entry_at, HasBody, in_sight};
+ghost use Rattle.afs_cache.specs.Looking.{fid_needed, found_by, HasWalked, look_of, Notes, Turns};
 
 use afs_acts::{Going, Need, copy_body, copy_read, most_reads, next};
 use afs_entries::{Entry, Sight};
@@ -19,7 +25,9 @@ pub struct Walked {
 }
 
 /// What an entry shows of a need: its body, if it holds that, or its status.
-fn shown(alloc: Global, need: &Need, entry: &Entry) -> Mem<Option<ReadBody>> {
+fn shown(alloc: Global, need: &Need, entry: &Entry) -> Mem<Option<ReadBody>>
+    ensures { (fid : ReadFid) → IfOk result (λ b. b ≡ shown_by (need_of need.now) (entry_at fid entry.now)) }
+{
     match need {
         Need::Body(_) => match &entry.body {
             Some(body) => Ok(Some(ReadBody::Contents(copy_body(alloc, body)?))),
@@ -31,7 +39,9 @@ fn shown(alloc: Global, need: &Need, entry: &Entry) -> Mem<Option<ReadBody>> {
 }
 
 /// The fid whose body or status is needed.
-fn fid_needed(need: &Need) -> Option<Fid> {
+fn fid_needed(need: &Need) -> Option<Fid>
+    ensures { result ≡ fid_needed (need_of need.now) }
+{
     match need {
         Need::Body(fid) | Need::Status(fid) => Some(*fid),
         _ => None,
@@ -46,7 +56,10 @@ struct Look {
     body: ReadBody,
 }
 
-fn look_up(alloc: Global, sight: Sight<'_>, now: u32, need: &Need) -> Mem<Option<Look>> {
+fn look_up(alloc: Global, sight: Sight<'_>, now: u32, need: &Need) -> Mem<Option<Look>>
+    requires body { HasBody (option_copied sight.fresh) }
+    ensures { IfOk result (λ l. option_map look_of l ≡ found_by now (in_sight sight.entry.cache.now (option_copied sight.entry.fresh)) (need_of need.now)) }
+{
     let Some(fid) = fid_needed(need) else {
         return Ok(None);
     };
@@ -68,7 +81,9 @@ fn look_up(alloc: Global, sight: Sight<'_>, now: u32, need: &Need) -> Mem<Option
 
 impl Walked {
     /// Notes a read from the cache.
-    fn note(&mut self, alloc: Global, node: Node, look: Look, lines: &mut Lines) -> Mem<()> {
+    fn note(&mut self, alloc: Global, node: Node, look: Look, lines: &mut Lines) -> Mem<()>
+        ensures { OnOk result (Notes node (look_of look) self.old self.new lines.old lines.new) }
+    {
         let Look { fid, index, body } = look;
         let shown = copy_read(alloc, &body)?;
         lines.push(Line::Read {
@@ -79,7 +94,29 @@ impl Walked {
             body,
         })?;
         self.used.push(fid)?;
-        self.going.add(fid, shown)
+        self.going.add(fid, shown)?;
+        Ok(())
+    }
+
+    /// Reads from the cache what the act needs next, if a trusted entry shows it.
+    fn turn(
+        &mut self,
+        alloc: Global,
+        node: Node,
+        sight: Sight<'_>,
+        now: u32,
+        lines: &mut Lines,
+    ) -> Mem<bool>
+        requires short { IsShortAct self.old.going.act }
+        requires body { HasBody (option_copied sight.fresh) }
+        ensures { IfOk result (λ read. Turns node (found_by now (in_sight sight.entry.cache.now (option_copied sight.entry.fresh)) (next self.old.going)) read self.old self.new lines.old lines.new) }
+    {
+        let need = next(alloc, &self.going)?;
+        let Some(look) = look_up(alloc, sight, now, &need)? else {
+            return Ok(false);
+        };
+        self.note(alloc, node, look, lines)?;
+        Ok(true)
     }
 }
 
@@ -94,18 +131,18 @@ pub fn walk(
 ) -> Mem<Walked>
     requires short { IsShortAct going.act }
     requires body { HasBody (option_copied sight.fresh) }
+    ensures { IfOk result (λ w. HasWalked node (in_sight sight.entry.cache.now (option_copied sight.entry.fresh)) (walked (most_reads going) now going (in_sight sight.entry.cache.now (option_copied sight.entry.fresh))) lines.old w lines.new) }
 {
-    let most = most_reads(&going.act);
+    let mut left = most_reads(&going.act);
     let mut walked = Walked {
         going,
         used: Vec::new(alloc),
     };
-    for _ in 0..most {
-        let need = next(alloc, &walked.going)?;
-        let Some(look) = look_up(alloc, sight, now, &need)? else {
+    while left > 0 {
+        if !walked.turn(alloc, node, sight, now, lines)? {
             return Ok(walked);
-        };
-        walked.note(alloc, node, look, lines)?;
+        }
+        left -= 1;
     }
     Ok(walked)
 }

@@ -1,6 +1,6 @@
 //! What replies tell.
 
-ghost use Rattle.std.specs.Prelude.{◌≡◌, IfOk};
+ghost use Rattle.std.specs.Prelude.{◌≡◌, ◌+◌, nat_eq, IfOk};
 ghost use Rattle.std.specs.Option.{option_copied, option_map};
 ghost use Rattle.afs_num.specs.declared.types.Fid.{Fid};
 ghost use Rattle.afs_rows.specs.ClientRow.{body_told, entry_told, is_below, is_busy_code, names_told, status_told};
@@ -76,14 +76,19 @@ pub fn scope_of(call: &FsCall) -> Drops
     }
 }
 
+/// Whether an entry stands just below this index.
+fn stands_below(entry: &Entry, index: u32) -> bool
+    ensures { result ≡ nat_eq (entry.now.index + 1) index }
+{
+    entry.index < index && index - entry.index == 1
+}
+
 /// Whether a trusted entry stands just below this index, or none is there.
 pub fn is_below(now: u32, index: u32, entry: Option<&Entry>) -> bool
     ensures { (fid : Fid) → result ≡ is_below now index (option_map (entry_at fid) (option_copied entry.entry)) }
 {
     match entry {
-        Some(entry) => {
-            !entry.is_trusted(now) || (entry.index < index && index - entry.index == 1)
-        }
+        Some(entry) => !entry.is_trusted(now) || stands_below(entry, index),
         None => true,
     }
 }

@@ -1,5 +1,15 @@
 //! The calls of servers: they break promises, and ask whether the client is there.
 
+ghost use Rattle.std.specs.Prelude.{◌≡◌, ◌<◌, [], ◌∷◌, false, map, OnErr, OnOk};
+ghost use Rattle.afs_model.specs.Calls.{admitted, call_seated};
+ghost use Rattle.afs_model.specs.Heads.{is_zero, IsSoundHead};
+ghost use Rattle.afs_model.specs.Messages.{HasSpelling, IsSoundReceived};
+ghost use Rattle.afs_rows.specs.ClientRow.{breaks, drop_line, hears, is_waiting, names_act, refused_with, replies_step, takes_in, told_step, without_fids};
+ghost use Rattle.afs_rows.specs.ClientRow.{done as done_by};
+ghost use Rattle.afs_rows.specs.ServerRow.{replied, seat_for};
+ghost use Rattle.afs_cache.specs.Managing.{number_limit, Takes};
+ghost use Rattle.afs_cache.specs.Serving.{admits_asking, IsSoundAsking, runs_asking};
+
 use crate::admitting::{Admit, admitted};
 use crate::breaks::{is_spoiled_by_all, names_call};
 use crate::calls::Seat;
@@ -27,7 +37,9 @@ enum Asking {
 }
 
 /// The reply that a call was done.
-fn done(reply: FsReply) -> Carried {
+fn done(reply: FsReply) -> Carried
+    ensures { result ≡ done_by reply }
+{
     Carried::Reply {
         reply: Reply::File(reply),
     }
@@ -35,12 +47,19 @@ fn done(reply: FsReply) -> Carried {
 
 impl CacheManager {
     /// A message is sent, and nothing else is done.
-    fn tell(&self, message: &Message) -> Mem<Outs> {
+    fn tell(&self, message: &Message) -> Mem<Outs>
+        requires { HasSpelling message.now }
+        ensures { Takes (λ place. told_step self.now.state place (message.now ∷ [])) self.now self.now result }
+    {
         outs_with(self.alloc, Sequence::new(self.alloc), message)
     }
 
     /// A reply is kept for its caller.
-    fn keep(&mut self, head: &Head, reply: Message) -> Mem<()> {
+    fn keep(&mut self, head: &Head, reply: Message) -> Mem<()>
+        requires { HasSpelling reply }
+        ensures ok { OnOk result (self.new ≡ record self.old { state = record self.old.state { seats = call_seated (seat_for head.now reply) self.old.state.seats } }) }
+        ensures err { OnErr result (self.new ≡ self.old) }
+    {
         self.seats.reserve(1)?;
         put_last(
             &mut self.seats,
@@ -55,14 +74,21 @@ impl CacheManager {
     }
 
     /// A server's call is answered behind these lines, and the reply is kept.
-    fn reply(&mut self, head: &Head, lines: Lines, carried: Carried) -> Mem<Outs> {
+    fn reply(&mut self, head: &Head, lines: Lines, carried: Carried) -> Mem<Outs>
+        requires { HasSpelling (replied self.old.state.epoch head.now carried) }
+        ensures { Takes (λ place. replies_step self.old.state place head.now lines carried) self.old self.new result }
+    {
         let reply = replied(self.calls.epoch, head, carried);
         let outs = outs_with(self.alloc, lines, &reply)?;
         self.keep(head, reply)?;
         Ok(outs)
     }
 
-    fn refuse_call(&mut self, head: &Head, code: i32) -> Mem<Outs> {
+    fn refuse_call(&mut self, head: &Head, code: i32) -> Mem<Outs>
+        requires head { IsSoundHead head.now }
+        requires code { is_zero code ≡ false }
+        ensures { Takes (λ place. replies_step self.old.state place head.now [] (refused_with code)) self.old self.new result }
+    {
         self.reply(
             head,
             Sequence::new(self.alloc),
@@ -70,14 +96,25 @@ impl CacheManager {
         )
     }
 
-    /// A break of the promises on these fids: their entries go, and a reply that names one of them is spoiled.
-    fn break_fids(&mut self, head: &Head, fids: &[Fid]) -> Mem<Outs> {
-        let mut lines = Sequence::new(self.alloc);
-        self.tell_dropped(fids, &mut lines)?;
-        let is_named = match &self.asked {
+    /// Whether the reply of the call that waits is spoiled by a break on these fids.
+    fn is_named(&self, fids: &[Fid]) -> bool
+        ensures { result ≡ names_act self.now.state fids.now self.now.state.running }
+    {
+        match &self.asked {
             Some(asked) => names_call(fids, asked.file_call()),
             None => false,
-        };
+        }
+    }
+
+    /// A break of the promises on these fids: their entries go, and a reply that names one of them is spoiled.
+    fn break_fids(&mut self, head: &Head, fids: &[Fid]) -> Mem<Outs>
+        requires head { IsSoundHead head.now }
+        requires opcode { head.now.opcode ≡ 204 }
+        ensures { Takes (λ place. replies_step (without_fids self.old.state fids.now) place head.now (map (drop_line self.old.node) fids.now) (done_by FsReply.CallBack)) self.old self.new result }
+    {
+        let mut lines = Sequence::new(self.alloc);
+        self.tell_dropped(fids, &mut lines)?;
+        let is_named = self.is_named(fids);
         let outs = self.reply(head, lines, done(FsReply::CallBack))?;
         self.cache.drop_all(fids);
         if is_named {
@@ -87,7 +124,9 @@ impl CacheManager {
     }
 
     /// Whether a reply of this server is awaited that a break of all its promises spoils.
-    fn is_waiting(&self, head: &Head) -> bool {
+    fn is_waiting(&self, head: &Head) -> bool
+        ensures { result ≡ is_waiting self.now.state head.now.from self.now.state.running }
+    {
         match &self.asked {
             Some(asked) => {
                 self.calls.callee.is(&head.from) && is_spoiled_by_all(asked.file_call())
@@ -97,7 +136,11 @@ impl CacheManager {
     }
 
     /// A break of all that the server promised.
-    fn break_all(&mut self, head: &Head) -> Mem<Outs> {
+    fn break_all(&mut self, head: &Head) -> Mem<Outs>
+        requires head { IsSoundHead head.now }
+        requires opcode { head.now.opcode ≡ 205 }
+        ensures { Takes (λ place. breaks self.old.node self.old.state place head.now FsCall.InitCallBackState) self.old self.new result }
+    {
         let mut lines = Sequence::new(self.alloc);
         lines.push(Line::DropAll {
             client: self.node,
@@ -114,7 +157,11 @@ impl CacheManager {
     }
 
     /// A call that runs.
-    fn run(&mut self, head: &Head, asking: Asking) -> Mem<Outs> {
+    fn run(&mut self, head: &Head, asking: Asking) -> Mem<Outs>
+        requires head { IsSoundHead head.now }
+        requires asking { IsSoundAsking head.now.opcode asking }
+        ensures { Takes (λ place. runs_asking self.old.node self.old.state place head.now asking) self.old self.new result }
+    {
         match asking {
             Asking::Call(Call::File(FsCall::CallBack { fids, .. })) => self.break_fids(
                 head,
@@ -132,7 +179,11 @@ impl CacheManager {
     }
 
     /// A call. A call in progress or older than its caller's last one gets no answer.
-    fn called(&mut self, head: &Head, asking: Asking) -> Mem<Outs> {
+    fn called(&mut self, head: &Head, asking: Asking) -> Mem<Outs>
+        requires head { IsSoundHead head.now }
+        requires asking { IsSoundAsking head.now.opcode asking }
+        ensures { Takes (λ place. admits_asking self.old.node self.old.state place head.now asking (admitted self.old.state.epoch self.old.state.seats head.now)) self.old self.new result }
+    {
         match admitted(&self.seats, self.calls.epoch, head) {
             Admit::Run => self.run(head, asking),
             Admit::Kept(reply) => self.tell(reply),
@@ -141,7 +192,11 @@ impl CacheManager {
         }
     }
 
-    fn take_message(&mut self, message: Message, now: u32) -> Mem<Outs> {
+    fn take_message(&mut self, message: Message, now: u32) -> Mem<Outs>
+        requires sound { HasSpelling message }
+        requires last { self.old.state.last < number_limit }
+        ensures { Takes (λ place. hears self.old.node self.old.state now place message.head message.carried) self.old self.new result }
+    {
         let Message { head, carried } = message;
         match carried {
             Carried::Call { call, .. } => self.called(&head, Asking::Call(call)),
@@ -150,7 +205,11 @@ impl CacheManager {
     }
 
     /// What was received. A message to another node does nothing.
-    pub(crate) fn take_in(&mut self, received: Received, now: u32) -> Mem<Outs> {
+    pub(crate) fn take_in(&mut self, received: Received, now: u32) -> Mem<Outs>
+        requires sound { IsSoundReceived received }
+        requires last { self.old.state.last < number_limit }
+        ensures { Takes (λ place. takes_in self.old.node self.old.state now place received) self.old self.new result }
+    {
         match received {
             Received::Unserved { head } if head.to.is(&self.node) => self.called(
                 &head,
