@@ -2,3 +2,4 @@ pub mod Walking
 pub mod Planning
 pub mod Calling
 pub mod Answering
+pub mod Breaking

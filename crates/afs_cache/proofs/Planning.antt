@@ -95,7 +95,7 @@ plans_answer me c act told plan n e p = plans_same _ (λ d front. goes_on me d f
 pub plans_call : (me : Node) (c : ClientState) (act : Going) (told : List Line) (plan : Plan) (gifts : List Gift) → answer_of (next act) ≡ None → gifts ≡ c.gifts → PlansFor (λ d front. calls_step me (record d { gifts = gifts }) act front) told c plan → PlansFor (λ d front. goes_on me d front (stays act d.cache)) told c plan
 plans_call me c act told plan gifts e g p cache busy first =
     let q : Makes (calls_step me (record (but_for c cache busy) { gifts = c.gifts }) act (λ ls. first ++ (told ++ ls))) (followed (but_for c cache busy) plan) (λ ls. first ++ ls) (outs_of plan)
-        = subst (λ (gs : List Gift). Makes (calls_step me (record (but_for c cache busy) { gifts = gs }) act (λ ls. first ++ (told ++ ls))) (followed (but_for c cache busy) plan) (λ ls. first ++ ls) (outs_of plan)) g (p cache busy first) in
+    = subst (λ (gs : List Gift). Makes (calls_step me (record (but_for c cache busy) { gifts = gs }) act (λ ls. first ++ (told ++ ls))) (followed (but_for c cache busy) plan) (λ ls. first ++ ls) (outs_of plan)) g (p cache busy first) in
     subst (λ (s : Step ClientState). Makes s (followed (but_for c cache busy) plan) (λ ls. first ++ ls) (outs_of plan)) (goes_if me (but_for c cache busy) (λ ls. first ++ (told ++ ls)) act None e) q
 
 pub small_answer : (need : Need) (n : ℕ) → answer_of need ≡ Some n → FitsNeed need → n < 2147483648

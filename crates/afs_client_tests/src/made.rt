@@ -39,3 +39,8 @@ pub fn directory(alloc: Global, name: &str, vnode: u32, unique: u32) -> Mem<Read
     })?;
     Ok(ReadBody::Contents(Body::Dir(names)))
 }
+
+pub fn file(alloc: Global) -> Mem<ReadBody> {
+    let contents = Octets::from_slice(alloc, b"abc")?;
+    Ok(ReadBody::Contents(Body::File(contents)))
+}
