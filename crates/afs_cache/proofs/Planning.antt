@@ -1,6 +1,8 @@
 -- What is planned is the row's step.
-use Rattle.std.proofs.Common.{◌≡◌, ◌<◌, ◌+◌, ℕ, Bool, true, false, List, [], ◌∷◌, ◌++◌, map, filter, Option, Some, None, pos, refl, ap, sym, subst, ◌∙◌, append_assoc}
+use Rattle.std.proofs.Common.{◌≡◌, ◌<◌, ◌+◌, ℕ, Bool, true, false, List, [], ◌∷◌, ◌++◌, map, filter, Option, Some, None, Result, Ok, Err, pos, refl, ap, sym, subst, ◌∙◌, append_assoc}
 use Rattle.std.proofs.lemmas.List.{append-nil}
+use Rattle.std.specs.Prelude.{IfOk}
+use Rattle.afs_num.specs.Nodes.{IsNode}
 use Rattle.afs_num.specs.declared.types.Code.{Code}
 use Rattle.afs_num.specs.declared.types.Node.{Node}
 use Rattle.afs_num.specs.declared.types.Fid.{Fid}
@@ -16,6 +18,7 @@ use Rattle.afs_rows.specs.Going.{ClientState, Going, Need, next}
 use Rattle.afs_rows.specs.ClientRow.{Look, Walked, call_by, callee_by, call_message, asking, calls_step, ends_step, ended, stays, looked, dropped, drop_line, goes_by, goes_on, walked, walks_on, gives_by, boot_of}
 use Rattle.afs_rows.specs.Steps.{Step}
 use Rattle.afs_acts.specs.Acts.{FitsNeed}
+use Rattle.afs_cache.specs.Asking.{Asking}
 use Rattle.afs_cache.specs.Managing.{Makes}
 use Rattle.afs_cache.specs.Acting.{is_giving, answer_of, called_by, sent_to, IsAsking, waiting, followed, outs_of, but_for, CanFollow, IsWay, PlansFor, over}
 use Rattle.afs_cache.specs.Looking.{HasWalked}
@@ -38,7 +41,25 @@ done_as step c d plan new outs front m n same o = record {
   sent = ap (λ (x : Outs). parcels_read x.parcels) o ∙ m.sent;
 }
 
+pub if_ok : {A E : Type 0} (P Q : A → Type 0) (r : Result A E) → ((x : A) → P x → Q x) → IfOk r P → IfOk r Q
+if_ok P Q (Ok x) f h = f x h
+if_ok P Q (Err e) f h = tt
+
 -- ---- calls
+
+pub asking_made : (me : Node) (c : ClientState) (act : Going) (given : List Gift) (told : List Line) (need : Need) (giving : Bool) (asked : Asking) (callee : Node) (boot : ℕ) (outs : Outs)
+    → need ≡ next act → giving ≡ is_giving need → asked ≡ record { going = act; gifts = given } → callee ≡ called_by giving c.table asked.gifts (call_by asked.gifts (next asked.going)) → IsNode callee → boot ≡ boot_of callee c.boots
+    → outs.lines ≡ told → parcels_read outs.parcels ≡ messages_spelled (sent_to me c (c.last + 1) callee boot (call_by asked.gifts (next asked.going)) ∷ []) → IsAsking me c act given told (record { asked = asked; callee = callee; outs = outs })
+asking_made me c act given told need giving asked callee boot outs n g q e node b l s = record {
+  going = ap (λ (a : Asking). a.going) q;
+  gifts = ap (λ (a : Asking). a.gifts) q;
+  callee = e ∙ (ap (λ (a : Asking). called_by giving c.table a.gifts (call_by a.gifts (next a.going))) q ∙ ap (λ (x : Bool). called_by x c.table given (call_by given (next act))) (g ∙ ap is_giving n));
+  node = node;
+  lines = l;
+  sent =
+      s ∙ (ap (λ (a : Asking). messages_spelled (sent_to me c (c.last + 1) callee boot (call_by a.gifts (next a.going)) ∷ [])) q
+      ∙ ap (λ (x : ℕ). messages_spelled (sent_to me c (c.last + 1) callee x (call_by given (next act)) ∷ [])) b);
+}
 
 called_as : (need : Need) (c : ClientState) → called_by (is_giving need) c.table c.gifts (call_by c.gifts need) ≡ callee_by c need
 called_as (going.reads f) c = refl

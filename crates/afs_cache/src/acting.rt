@@ -254,7 +254,7 @@ impl CacheManager {
         requires body { HasBody (option_copied fresh) }
         requires short { IsShortAct going.act }
         requires last { self.now.state.last < number_limit }
-        ensures { IfOk result (λ w. IsWay self.now.node self.now.state (whole_walk now going (seen_with self.now.state (option_copied fresh))) (seen_with self.now.state (option_copied fresh)) lines w) }
+        ensures { IfOk result (λ w. IsWay self.now.node self.now.state (whole_walk now going (seen_with self.now.state (option_copied fresh.entry))) (seen_with self.now.state (option_copied fresh.entry)) lines w) }
     {
         let mut lines = lines;
         let sight = Sight {
