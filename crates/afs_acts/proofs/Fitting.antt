@@ -1,16 +1,11 @@
 -- What an act within its limits needs can be sent.
-use Rattle.std.proofs.Common.{◌≡◌, ◌≤◌, ◌<◌, ℕ, zero, suc, Bool, true, false, cond, ◌||◌, ◌&&◌, not, List, [], ◌∷◌, ◌++◌, map, take, length, Option, Some, None, Result, Ok, Err, refl, ap, sym, subst, ◌∙◌, arith}
-use Rattle.std.specs.List.{All}
-use Rattle.std.specs.Prelude.{IfSome, nat_eq}
-use Rattle.std.proofs.lemmas.List.Elements.{All-head, All-tail}
+use Rattle.std.proofs.Common.{◌≤◌, ◌<◌, ℕ, zero, suc, Bool, true, false, cond, ◌||◌, List, [], ◌∷◌, map, take, length, Option, Some, None, subst, arith}
+use Rattle.std.specs.Prelude.{nat_eq}
 use Rattle.afs_history.specs.Written.{bytes_in}
 use Rattle.afs_history.specs.declared.acts.Act.{Act}
 use Rattle.afs_history.specs.declared.acts.Act.TheVariants as acts
-use Rattle.afs_history.specs.declared.acts.Operand.{Operand}
-use Rattle.afs_history.specs.declared.acts.Operand.TheVariants as operands
 use Rattle.afs_num.specs.declared.directories.Name.{Name}
 use Rattle.afs_num.specs.declared.types.Fid.{Fid}
-use Rattle.afs_num.specs.declared.calls.FsCall.TheVariants as calls
 use Rattle.afs_num.specs.declared.histories.Body.{Body}
 use Rattle.afs_num.specs.declared.histories.ReadStatus.{ReadStatus}
 use Rattle.afs_num.specs.declared.histories.Body.TheVariants as bodies
@@ -18,11 +13,14 @@ use Rattle.afs_model.specs.FsRows.{name_limit}
 use Rattle.afs_shape.specs.Tables.{IsCount}
 use Rattle.afs_rows.specs.Going as going
 use Rattle.afs_rows.specs.Going.{Need, Shown, Taken, Homes, Going, Parted, put_front, parted, parted_on, first_body, looked_up, is_even, is_last_name, fid_of, by_kind, first_status, has_rights, reading_status, by_status, named_first, is_root, next}
-use Rattle.afs_acts.specs.Acts.{AreShort, IsShortAct, FitsNeed}
-use Rattle.afs_acts.specs.Walks.{At, Within, then_on, goes_to, body_by, body_at, entry_by, reached, along, walk_to, at_root, path_at, fid_at, object_at, within_by, within, parent_by, parent_at}
-use Rattle.afs_acts.specs.Needs.{are_read, statuses_seen, statuses_by, moved, linked, needed_by, needed}
+use Rattle.afs_acts.specs.Acts.{IsShortAct, FitsNeed}
+use Rattle.afs_acts.specs.Walks.{body_at, path_at, object_at, parent_at}
+use Rattle.afs_acts.specs.Needs.{are_read, statuses_seen, moved, linked, needed_by, needed}
 use Rattle.afs_acts.proofs.Walking.{needed_is}
-use Rattle.afs_acts.proofs.Reaching.{Any, IsShortName, IsShortWithin, goes_fits, body_reached, object_reached, path_reached, parent_reached, shown_fits, one_volume, root_or}
+use Rattle.afs_acts.proofs.Reaching.{Any, IsWithinSo, goes_fits, body_reached, object_reached, path_reached, parent_reached, shown_fits, one_volume, root_or}
+
+abbrev IsShortName : List ℕ → Type 0
+IsShortName n = length n ≤ name_limit
 
 asks : (f : Fid) → FitsNeed (going.reads f)
 asks f = tt
@@ -69,20 +67,20 @@ needs_fit h (acts.ReadLink o) rs s = shown_fits FitsNeed asks told 22 21 0 h.fir
 needs_fit h (acts.Close o contents) rs s = goes_fits FitsNeed asks told Any _ (object_at h.first o rs) (object_reached FitsNeed asks told h.first o rs) (λ a k. (tt, (tt, (tt, (tt, (tt, (counted 2097152 (length (bytes_in contents)) (omega arith) s, tt)))))))
 needs_fit h (acts.SetMode o mode) rs s = goes_fits FitsNeed asks told Any _ (object_at h.first o rs) (object_reached FitsNeed asks told h.first o rs) (λ a k. (tt, (tt, tt)))
 needs_fit h (acts.SetAccessList o text) rs s = goes_fits FitsNeed asks told Any _ (object_at h.first o rs) (object_reached FitsNeed asks told h.first o rs) (λ a k. (tt, (counted 1024 (length (bytes_in text)) (omega arith) s, tt)))
-needs_fit h (acts.Make p) rs s = goes_fits FitsNeed asks told IsShortWithin _ (parent_at h.first p.names rs) (parent_reached FitsNeed asks told h.first p.names rs s) (λ w k. (tt, (name_counted w.name k, (tt, tt))))
-needs_fit h (acts.MakeDirectory p) rs s = goes_fits FitsNeed asks told IsShortWithin _ (parent_at h.first p.names rs) (parent_reached FitsNeed asks told h.first p.names rs s) (λ w k. (tt, (name_counted w.name k, (tt, tt))))
-needs_fit h (acts.Symlink p target) rs s = goes_fits FitsNeed asks told IsShortWithin _ (parent_at h.first p.names rs) (parent_reached FitsNeed asks told h.first p.names rs s.0) (λ w k. (tt, (name_counted w.name k, (counted 1024 (length (bytes_in target)) (omega arith) s.1, (tt, tt)))))
-needs_fit h (acts.Remove p) rs s = goes_fits FitsNeed asks told IsShortWithin _ (parent_at h.first p.names rs) (parent_reached FitsNeed asks told h.first p.names rs s) (λ w k. (tt, (name_counted w.name k, tt)))
-needs_fit h (acts.RemoveDirectory p) rs s = goes_fits FitsNeed asks told IsShortWithin _ (parent_at h.first p.names rs) (parent_reached FitsNeed asks told h.first p.names rs s) (λ w k. (tt, (name_counted w.name k, tt)))
+needs_fit h (acts.Make p) rs s = goes_fits FitsNeed asks told (IsWithinSo IsShortName) _ (parent_at h.first p.names rs) (parent_reached FitsNeed asks told IsShortName h.first p.names rs s) (λ w k. (tt, (name_counted w.name k, (tt, tt))))
+needs_fit h (acts.MakeDirectory p) rs s = goes_fits FitsNeed asks told (IsWithinSo IsShortName) _ (parent_at h.first p.names rs) (parent_reached FitsNeed asks told IsShortName h.first p.names rs s) (λ w k. (tt, (name_counted w.name k, (tt, tt))))
+needs_fit h (acts.Symlink p target) rs s = goes_fits FitsNeed asks told (IsWithinSo IsShortName) _ (parent_at h.first p.names rs) (parent_reached FitsNeed asks told IsShortName h.first p.names rs s.0) (λ w k. (tt, (name_counted w.name k, (counted 1024 (length (bytes_in target)) (omega arith) s.1, (tt, tt)))))
+needs_fit h (acts.Remove p) rs s = goes_fits FitsNeed asks told (IsWithinSo IsShortName) _ (parent_at h.first p.names rs) (parent_reached FitsNeed asks told IsShortName h.first p.names rs s) (λ w k. (tt, (name_counted w.name k, tt)))
+needs_fit h (acts.RemoveDirectory p) rs s = goes_fits FitsNeed asks told (IsWithinSo IsShortName) _ (parent_at h.first p.names rs) (parent_reached FitsNeed asks told IsShortName h.first p.names rs s) (λ w k. (tt, (name_counted w.name k, tt)))
 needs_fit h (acts.Move p q) rs s =
     root_or FitsNeed asks told (is_root p || is_root q) _
-    (goes_fits FitsNeed asks told IsShortWithin _ (parent_at h.first p.names rs) (parent_reached FitsNeed asks told h.first p.names rs s.0)
-    (λ d k. goes_fits FitsNeed asks told IsShortWithin (moved d) (parent_at h.second q.names d.rest) (parent_reached FitsNeed asks told h.second q.names d.rest s.1)
+    (goes_fits FitsNeed asks told (IsWithinSo IsShortName) _ (parent_at h.first p.names rs) (parent_reached FitsNeed asks told IsShortName h.first p.names rs s.0)
+    (λ d k. goes_fits FitsNeed asks told (IsWithinSo IsShortName) (moved d) (parent_at h.second q.names d.rest) (parent_reached FitsNeed asks told IsShortName h.second q.names d.rest s.1)
     (λ e l. one_volume FitsNeed asks told (nat_eq d.directory.volume e.directory.volume) _ (tt, (name_counted d.name k, (tt, (name_counted e.name l, tt)))))))
 needs_fit h (acts.Link p q) rs s =
     root_or FitsNeed asks told (is_root q) _
     (goes_fits FitsNeed asks told Any _ (path_at h.first p.names rs) (path_reached FitsNeed asks told h.first p.names rs)
-    (λ a k. goes_fits FitsNeed asks told IsShortWithin (linked a) (parent_at h.second q.names a.rest) (parent_reached FitsNeed asks told h.second q.names a.rest s)
+    (λ a k. goes_fits FitsNeed asks told (IsWithinSo IsShortName) (linked a) (parent_at h.second q.names a.rest) (parent_reached FitsNeed asks told IsShortName h.second q.names a.rest s)
     (λ d l. one_volume FitsNeed asks told (nat_eq a.fid.volume d.directory.volume) _ (tt, (name_counted d.name l, (tt, tt))))))
 needs_fit h (acts.Stat o) rs s = goes_fits FitsNeed asks told Any _ (object_at h.first o rs) (object_reached FitsNeed asks told h.first o rs) (λ a k. status_by_fits a.fid (first_status a.fid a.rest))
 needs_fit h (acts.StatAll o) rs s =

@@ -3,3 +3,4 @@ pub mod Numbers
 pub mod Reaching
 pub mod Fitting
 pub mod Staying
+pub mod Told

@@ -1,5 +1,5 @@
 -- What is needed on the way to an object, and behind it. Whatever holds of each read and of each answer holds of what is needed on the way.
-use Rattle.std.proofs.Common.{◌≡◌, ◌≤◌, ◌<◌, ℕ, Bool, true, false, cond, ◌||◌, ◌&&◌, not, List, [], ◌∷◌, length, Option, Some, None, Result, Ok, Err, refl, arith}
+use Rattle.std.proofs.Common.{◌<◌, ℕ, Bool, true, false, cond, ◌||◌, ◌&&◌, not, List, [], ◌∷◌, Option, Some, None, Result, Ok, Err, arith}
 use Rattle.std.specs.List.{All}
 use Rattle.std.proofs.lemmas.List.Elements.{All-head, All-tail}
 use Rattle.afs_history.specs.declared.acts.Operand.{Operand}
@@ -8,20 +8,16 @@ use Rattle.afs_num.specs.declared.directories.Name.{Name}
 use Rattle.afs_num.specs.declared.types.Fid.{Fid}
 use Rattle.afs_num.specs.declared.histories.Body.{Body}
 use Rattle.afs_num.specs.declared.histories.Body.TheVariants as bodies
-use Rattle.afs_model.specs.FsRows.{name_limit}
 use Rattle.afs_rows.specs.Going as going
 use Rattle.afs_rows.specs.Going.{Need, Shown, Taken, Parted, parted, parted_on, first_body, looked_up, is_even, is_last_name, fid_of, by_kind}
-use Rattle.afs_acts.specs.Acts.{AreShort}
-use Rattle.afs_acts.specs.Walks.{At, Within, then_on, goes_to, body_by, body_at, entry_by, reached, along, walk_to, at_root, path_at, fid_at, object_at, within_by, within, parent_by, parent_at}
+use Rattle.afs_acts.specs.Walks.{At, Within, then_on, goes_to, body_by, body_at, entry_by, reached, along, walk_to, at_root, path_at, fid_at, object_at, within_by, within, parent_at}
 
 abbrev pub Any : {A : Type 0} → A → Type 0
 Any x = Unit {0}
 
-abbrev pub IsShortName : List ℕ → Type 0
-IsShortName n = length n ≤ name_limit
-
-abbrev pub IsShortWithin : Within → Type 0
-IsShortWithin w = IsShortName w.name
+-- its name is so
+abbrev pub IsWithinSo : (List ℕ → Type 0) → Within → Type 0
+IsWithinSo S w = S w.name
 
 module _ (P : Need → Type 0) (asks : (f : Fid) → P (going.reads f)) (told : (n : ℕ) → n < 2147483648 → P (going.answers n)) where
   -- what is reached is so, or what is needed before
@@ -80,26 +76,27 @@ module _ (P : Need → Type 0) (asks : (f : Fid) → P (going.reads f)) (told : 
 
   -- ---- the last name is among the names
 
-  last_short : (name : List ℕ) (names : List (List ℕ)) → All IsShortName (name ∷ names) → IsShortName (parted_on name names).last
-  last_short name [] h = All-head IsShortName name [] h
-  last_short name (other ∷ names) h = last_short other names (All-tail IsShortName name (other ∷ names) h)
+  module _ (S : List ℕ → Type 0) where
+    last_so : (name : List ℕ) (names : List (List ℕ)) → All S (name ∷ names) → S (parted_on name names).last
+    last_so name [] h = All-head S name [] h
+    last_so name (other ∷ names) h = last_so other names (All-tail S name (other ∷ names) h)
 
-  within_kind : (d : Fid) (name : List ℕ) (rest : List Shown) (b : Body) → IsShortName name → Reaches IsShortWithin (within_by d name rest b)
-  within_kind d name rest (bodies.Dir names) h = h
-  within_kind d name rest (bodies.File c) h = told 20 (omega arith)
-  within_kind d name rest (bodies.Link c) h = told 20 (omega arith)
-  within_kind d name rest bodies.Gone h = told 20 (omega arith)
+    within_kind : (d : Fid) (name : List ℕ) (rest : List Shown) (b : Body) → S name → Reaches (IsWithinSo S) (within_by d name rest b)
+    within_kind d name rest (bodies.Dir names) h = h
+    within_kind d name rest (bodies.File c) h = told 20 (omega arith)
+    within_kind d name rest (bodies.Link c) h = told 20 (omega arith)
+    within_kind d name rest bodies.Gone h = told 20 (omega arith)
 
-  within_reached : (name : List ℕ) (a : At) → IsShortName name → Reaches IsShortWithin (within name a)
-  within_reached name a h =
-      then_reaches Any IsShortWithin (λ (t : Taken Body). within_by a.fid name t.rest t.found) (body_at a) (body_reached a.fid (first_body a.fid a.rest)) (λ t k. within_kind a.fid name t.rest t.found h)
+    within_reached : (name : List ℕ) (a : At) → S name → Reaches (IsWithinSo S) (within name a)
+    within_reached name a h =
+        then_reaches Any (IsWithinSo S) (λ (t : Taken Body). within_by a.fid name t.rest t.found) (body_at a) (body_reached a.fid (first_body a.fid a.rest)) (λ t k. within_kind a.fid name t.rest t.found h)
 
-  pub parent_reached : (home : Option ℕ) (names : List (List ℕ)) (rs : List Shown) → AreShort names → Reaches IsShortWithin (parent_at home names rs)
-  parent_reached home [] rs h = told 22 (omega arith)
-  parent_reached None (name ∷ names) rs h = told 363524 (omega arith)
-  parent_reached (Some id) (name ∷ names) rs h =
-      then_reaches Any IsShortWithin (within (parted_on name names).last) (walk_to true (parted_on name names).front (at_root id rs)) (walk_reached true (parted_on name names).front (at_root id rs))
-      (λ x k. within_reached (parted_on name names).last x (last_short name names h))
+    pub parent_reached : (home : Option ℕ) (names : List (List ℕ)) (rs : List Shown) → All S names → Reaches (IsWithinSo S) (parent_at home names rs)
+    parent_reached home [] rs h = told 22 (omega arith)
+    parent_reached None (name ∷ names) rs h = told 363524 (omega arith)
+    parent_reached (Some id) (name ∷ names) rs h =
+        then_reaches Any (IsWithinSo S) (within (parted_on name names).last) (walk_to true (parted_on name names).front (at_root id rs)) (walk_reached true (parted_on name names).front (at_root id rs))
+        (λ x k. within_reached (parted_on name names).last x (last_so name names h))
 
   -- ---- what is shown
 

@@ -1,5 +1,5 @@
 -- Which acts and calls are within their limits.
-use Rattle.std.specs.Prelude.{◌≤◌, ◌<◌, ℕ, List, length}
+use Rattle.std.specs.Prelude.{◌≤◌, ◌<◌, ℕ, List, [], ◌∷◌, Option, Some, None, length}
 use Rattle.std.specs.List.{All}
 use Rattle.afs_num.specs.Nodes.{IsNode}
 use Rattle.afs_num.specs.declared.scripts.VolumeLine.{VolumeLine}
@@ -17,6 +17,10 @@ use Rattle.afs_rows.specs.Going.{Need}
 -- a volume's server is a node
 abbrev pub HasServer : VolumeLine → Type 0
 HasServer v = IsNode v.server
+
+abbrev pub first_volume_line : List VolumeLine → Option (VolumeLine × List VolumeLine)
+first_volume_line [] = None
+first_volume_line (v ∷ vs) = Some (v, vs)
 
 abbrev pub AreShort : List (List ℕ) → Type 0
 AreShort names = All (λ (n : List ℕ). length n ≤ name_limit) names

@@ -134,3 +134,9 @@ needed_by h acts.GiveUp rs = going.gives_back
 
 unfoldable pub needed : Going → Need
 needed g = needed_by g.homes g.act g.reads
+
+-- it needs nothing that an entry of a cache shows
+abbrev pub NeedsNoEntry : Need → Type 0
+NeedsNoEntry (going.reads f) = ⊥
+NeedsNoEntry (going.reads_status f) = ⊥
+NeedsNoEntry need = Unit {0}

@@ -1,22 +1,63 @@
 //! Where volumes are.
 
-ghost use Rattle.std.specs.Prelude.{◌≡◌, IfOk, find, nat_eq};
-ghost use Rattle.std.specs.List.{All};
-ghost use Rattle.std.specs.Option.{option_copied};
+ghost use Rattle.std.specs.Prelude.{◌≡◌, ◌<◌, ◌++◌, IfOk, IfSome, List, OnOk, find, length, nat_eq};
+ghost use Rattle.std.specs.List.{All, list_any};
+ghost use Rattle.std.specs.Option.{option_copied, option_map};
+ghost use Rattle.afs_num.specs.declared.scripts.VolumeLine.{VolumeLine};
 ghost use Rattle.afs_num.specs.Nodes.{IsNode};
 ghost use Rattle.std.specs.Str.{bytes_eq};
 ghost use Rattle.afs_rows.specs.States.{Location as Known};
 ghost use Rattle.afs_rows.specs.ClientRow.{server_at};
 ghost use Rattle.afs_rows.specs.Going.{at_one, at_two, homes_of, volume_at};
-ghost use Rattle.afs_rows.specs.Runs.{locations_in};
-ghost use Rattle.afs_acts.specs.Acts.{HasServer};
+ghost use Rattle.afs_rows.specs.Runs.{location_by, locations_in};
+ghost use Rattle.afs_acts.specs.Acts.{HasServer, first_volume_line};
 
 use crate::types::{Homes, Location};
 use afs_history::acts::{Act, Operand, Path};
-use afs_num::scripts::VolumeLines;
+use afs_num::scripts::{VolumeLine, VolumeLines};
 use afs_num::sequences::Octets;
 use afs_num::types::{Mem, Node};
 use std::alloc::Global;
+
+fn next_line(lines: &[VolumeLine]) -> Option<(&VolumeLine, &[VolumeLine])>
+    ensures value { option_map (λ r. (r.0.now, r.1.now)) result ≡ first_volume_line lines.now }
+    ensures less { IfSome result (λ r. length r.1.now < length lines.now) }
+{
+    match lines {
+        [line, rest @ ..] => Some((line, rest)),
+        [] => None,
+    }
+}
+
+/// Whether one of these lines has the number: of the lines with one number the last counts.
+fn is_told(id: u32, lines: &[VolumeLine]) -> bool
+    ensures { result ≡ list_any (λ (v : VolumeLine). nat_eq v.id id) lines.now }
+{
+    lines.iter().any(|line| line.id == id)
+}
+
+/// Adds where a volume is, if its line counts and it is at a server.
+fn add_place(
+    alloc: Global,
+    table: &mut Vec<Location>,
+    volume: &VolumeLine,
+    is_told_later: bool,
+) -> Mem<()>
+    requires { HasServer volume.now }
+    ensures { OnOk result ((ls : List Known) → table.new.items ++ ls ≡ table.old.items ++ location_by is_told_later volume.now volume.now.server ls) }
+{
+    if is_told_later {
+        return Ok(());
+    }
+    if let Node::Server(number) = volume.server {
+        table.push(Location {
+            name: volume.name.copy(alloc)?,
+            id: volume.id,
+            server: number,
+        })?;
+    }
+    Ok(())
+}
 
 /// The table of the volumes at set-up: those at servers.
 pub fn locations(alloc: Global, volumes: &VolumeLines) -> Mem<Vec<Location>>
@@ -24,14 +65,10 @@ pub fn locations(alloc: Global, volumes: &VolumeLines) -> Mem<Vec<Location>>
     ensures { IfOk result (λ ls. ls.items ≡ locations_in volumes.now) }
 {
     let mut table = Vec::new(alloc);
-    for volume in volumes.as_slice() {
-        if let Node::Server(number) = volume.server {
-            table.push(Location {
-                name: volume.name.copy(alloc)?,
-                id: volume.id,
-                server: number,
-            })?;
-        }
+    let mut rest = volumes.as_slice();
+    while let Some((volume, more)) = next_line(rest) {
+        add_place(alloc, &mut table, volume, is_told(volume.id, more))?;
+        rest = more;
     }
     Ok(table)
 }

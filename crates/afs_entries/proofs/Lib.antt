@@ -5,3 +5,5 @@ pub mod Refreshing
 pub mod Evicting
 pub mod Batches
 pub mod Placing
+pub mod Behind
+pub mod Coming

@@ -1,7 +1,6 @@
 -- A key gets a place behind the cache.
-use Rattle.std.proofs.Common.{◌≡◌, ◌≤◌, ◌-◌, ℕ, Bool, true, false, cond, List, [], ◌∷◌, ◌++◌, take, length, Option, Some, None, refl, ap, sym, subst, ◌∙◌, arith}
-use Rattle.std.specs.Option.{option_map_or}
-use Rattle.std.specs.Map.{lookup, lookup_entry, remove_entry}
+use Rattle.std.proofs.Common.{◌≡◌, ◌≤◌, ◌-◌, ℕ, Bool, true, false, cond, List, [], ◌∷◌, ◌++◌, length, Option, Some, None, refl, ap, ◌∙◌}
+use Rattle.std.specs.Map.{lookup, lookup_entry}
 use Rattle.lru.specs.LruCache.{lru_cache, put_entries, demoted}
 use Rattle.afs_ideal.proofs.Basics.{same_fid-refl}
 use Rattle.afs_entries.specs.declared.cache.Slot.{Slot}

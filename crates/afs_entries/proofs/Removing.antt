@@ -1,5 +1,5 @@
 -- How many entries there are once one has gone, or stands elsewhere.
-use Rattle.std.proofs.Common.{◌≡◌, ◌≤◌, ◌<◌, ◌-◌, ℕ, zero, suc, Bool, true, false, cond, List, [], ◌∷◌, map, take, length, Option, Some, None, refl, ap, sym, ◌∙◌, arith}
+use Rattle.std.proofs.Common.{◌≡◌, ◌≤◌, ℕ, zero, suc, Bool, true, false, cond, List, [], ◌∷◌, map, take, length, Option, Some, None, refl, ap, arith}
 use Rattle.std.specs.Option.{option_map_or}
 use Rattle.std.specs.Map.{lookup_entry, remove_entry}
 use Rattle.lru.specs.LruCache.{promoted}

@@ -2,7 +2,7 @@
 use Rattle.std.specs.Prelude.{◌≡◌, ◌≤◌, ◌<◌, ◌-◌, ◌||◌, ℕ, List, [], ◌∷◌, ◌++◌, Bool, true, false, map, filter, not, length, slice_get, nat_eq, nat_lt, is_some, IsSome, Option, Some, None, ◌==◌, ◌&&◌, if◌then◌else◌}
 use Rattle.std.specs.List.{All, AllByRecursion}
 use Rattle.std.specs.Option.{option_map}
-use Rattle.std.specs.Map.{lookup}
+use Rattle.std.specs.Map.{lookup, remove_entry}
 use Rattle.afs_num.specs.Fids.{same_fid}
 use Rattle.afs_num.specs.Nodes.{same_node}
 use Rattle.afs_num.specs.declared.types.Fid.{Fid}
@@ -168,6 +168,10 @@ IsFront old new = (tail : List (Slot × Entry)) × (new ≡ old ++ tail)
 -- each of these has a place
 abbrev pub HasAll : List Fresh → LruCache Slot Entry → Type 0
 HasAll fresh c = All (λ (f : Fresh). HasKey (slot_of f.fid) c) fresh
+
+-- the key has this entry, and stands first
+abbrev pub raised : Slot → Entry → List (Slot × Entry) → List (Slot × Entry)
+raised s v es = (s, v) ∷ remove_entry (same_slot s) es
 
 abbrev pub KeepsKeys : LruCache Slot Entry → LruCache Slot Entry → Type 0
 KeepsKeys old new = (s : Slot) → HasKey s old → HasKey s new

@@ -1,10 +1,11 @@
 //! How entries are put at once, or none of them.
 
-ghost use Rattle.std.specs.Prelude.{◌≡◌, ◌≤◌, ◌<◌, drop, is_some, map, take, length, OnErr, OnOk};
+ghost use Rattle.std.specs.Prelude.{◌≡◌, ◌≤◌, ◌<◌, ◌++◌, [], ◌∷◌, drop, is_some, map, take, length, None, OnErr, OnOk, Some};
 ghost use Rattle.std.specs.Map.{lookup};
 ghost use Rattle.afs_rows.specs.ClientRow.{put_entries, put_entry};
 ghost use Rattle.lru.specs.LruCache.{lru_cache};
-ghost use Rattle.afs_entries.specs.Cached.{cached, entry_of, entry_joined, FitsCache, HasAll, HasKey, IsFront, KeepsKeys, same_slot, slot_of};
+ghost use Rattle.afs_entries.specs.Cached.{cached, entry_of, entry_joined, FitsCache, HasAll, HasKey, IsFront, KeepsKeys, raised, same_slot, slot_of};
+ghost use Rattle.afs_entries.specs.declared.cache.Entry.{Entry};
 
 use crate::cache::{Entry, Fresh, Slot, slot_for};
 use crate::raw::Entries;
@@ -30,25 +31,34 @@ fn blank() -> Entry {
     }
 }
 
-/// Makes a place for a key, last, unless it has one.
-fn reserve_one(entries: &mut Entries, slot: Slot) -> Mem<()>
+/// A key that has no place gets the last one.
+fn add_last(entries: &mut Entries, slot: Slot, entry: Entry) -> Mem<()>
     requires wide { entries.old.cap ≡ 18446744073709551615 }
-    ensures front { IsFront entries.old.entries entries.new.entries }
-    ensures key { OnOk result (HasKey slot entries.new) }
-    ensures keys { KeepsKeys entries.old entries.new }
-    ensures wide { entries.new.cap ≡ entries.old.cap }
+    requires missing { lookup (same_slot slot) entries.old.entries ≡ None }
+    ensures ok { OnOk result (entries.new ≡ lru_cache (entries.old.entries ++ (slot, entry) ∷ []) entries.old.cap) }
+    ensures err { OnErr result (entries.new ≡ entries.old) }
 {
     let _count = entries.len();
-    if entries.contains(&slot) {
-        return Ok(());
-    }
-    match entries.put(slot, blank()) {
+    match entries.put(slot, entry) {
         Ok(_) => {
             entries.demote(&slot);
             Ok(())
         }
         Err(_) => Err(AllocError),
     }
+}
+
+/// Makes a place for a key, last, unless it has one.
+fn reserve_one(entries: &mut Entries, slot: Slot) -> Mem<()>
+    requires wide { entries.old.cap ≡ 18446744073709551615 }
+    ensures front { IsFront entries.old.entries entries.new.entries }
+    ensures key { OnOk result (HasKey slot entries.new) }
+    ensures wide { entries.new.cap ≡ entries.old.cap }
+{
+    if entries.contains(&slot) {
+        return Ok(());
+    }
+    add_last(entries, slot, blank())
 }
 
 fn reserve(entries: &mut Entries, fresh: &[Fresh]) -> Mem<()>
@@ -68,10 +78,11 @@ fn is_in_tail(entries: &Entries, count: usize, slot: &Slot) -> bool
     ensures { result ≡ is_some (lookup (same_slot slot.now) (drop count entries.now.entries)) }
 {
     let mut pairs = entries.iter();
-    while pairs.len() > count {
-        if let Some((key, _)) = pairs.next_back()
-            && *key == *slot
-        {
+    while let Some((key, _)) = pairs.next_back() {
+        if pairs.len() < count {
+            return false;
+        }
+        if *slot == *key {
             return true;
         }
     }
@@ -90,6 +101,15 @@ fn replace(held: &mut Entry, entry: Entry, is_seen: bool)
     }
 }
 
+/// The entry takes the place of the old one under its key, and stands first.
+fn raise(entries: &mut Entries, slot: &Slot, entry: Entry, is_seen: bool)
+    ensures { (old : Entry) → lookup (same_slot slot.now) entries.old.entries ≡ Some old → entries.new ≡ lru_cache (raised slot.now (entry_joined is_seen entry old) entries.old.entries) entries.old.cap }
+{
+    if let Some(held) = entries.get_mut(slot) {
+        replace(held, entry, is_seen);
+    }
+}
+
 /// Puts an entry whose key has a place, where the cache has so many entries; answers how many it has then.
 fn put_one(entries: &mut Entries, count: usize, capacity: u16, fresh: Fresh) -> usize
     requires key { HasKey (slot_of fresh.fid) entries.old }
@@ -105,14 +125,12 @@ fn put_one(entries: &mut Entries, count: usize, capacity: u16, fresh: Fresh) -> 
     let _count = entries.len();
     let Fresh { fid, entry } = fresh;
     let slot = slot_for(&fid);
-    let is_seen = !is_in_tail(entries, count, &slot);
-    if let Some(held) = entries.get_mut(&slot) {
-        replace(held, entry, is_seen);
-    }
-    if is_seen || count >= capacity as usize {
-        count
+    if is_in_tail(entries, count, &slot) {
+        raise(entries, &slot, entry, false);
+        (count + 1).min(capacity as usize)
     } else {
-        count + 1
+        raise(entries, &slot, entry, true);
+        count
     }
 }
 
@@ -125,6 +143,23 @@ fn shorten(entries: &mut Entries, count: usize)
     }
 }
 
+/// Puts entries whose keys have places, one by one, where the cache has so many.
+fn put_each(entries: &mut Entries, count: usize, capacity: u16, fresh: Vec<Fresh>)
+    requires keys { HasAll fresh.items entries.old }
+    requires within { count ≤ length entries.old.entries }
+    requires few { count ≤ capacity }
+    requires some { 0 < capacity }
+    ensures put { map cached entries.new.entries ≡ put_entries capacity (map entry_of fresh.items) (map cached (take count entries.old.entries)) }
+    ensures few { length entries.new.entries ≤ capacity }
+    ensures wide { entries.new.cap ≡ entries.old.cap }
+{
+    let mut count = count;
+    for one in fresh {
+        count = put_one(entries, count, capacity, one);
+    }
+    shorten(entries, count);
+}
+
 /// Puts entries, one by one, or none where memory is wanting.
 pub fn put_fresh(entries: &mut Entries, capacity: u16, fresh: Vec<Fresh>) -> Mem<()>
     requires { FitsCache capacity entries.old }
@@ -132,14 +167,15 @@ pub fn put_fresh(entries: &mut Entries, capacity: u16, fresh: Vec<Fresh>) -> Mem
     ensures fits { FitsCache capacity entries.new }
     ensures err { OnErr result (entries.new ≡ entries.old) }
 {
-    let mut count = entries.len();
-    if reserve(entries, fresh.as_slice()).is_err() {
-        shorten(entries, count);
-        return Err(AllocError);
+    let count = entries.len();
+    match reserve(entries, fresh.as_slice()) {
+        Ok(()) => {
+            put_each(entries, count, capacity, fresh);
+            Ok(())
+        }
+        Err(error) => {
+            shorten(entries, count);
+            Err(error)
+        }
     }
-    for one in fresh {
-        count = put_one(entries, count, capacity, one);
-    }
-    shorten(entries, count);
-    Ok(())
 }

@@ -1,5 +1,5 @@
-use Rattle.std.proofs.Common.{ap, subst, sym, ◌∙◌}
-use Rattle.afs_rows.specs.Going.{Going, next}
+use Rattle.std.proofs.Common.{ap, sym, ◌∙◌}
+use Rattle.afs_rows.specs.Going.{next}
 use Rattle.afs_acts.specs.Needs.{needed_by}
 use Rattle.afs_acts.proofs.Fitting.{next_fits}
 use Rattle.afs_acts.proofs.Walking.{needs_are}

@@ -1,4 +1,4 @@
-use Rattle.std.proofs.Common.{◌≡◌, ap, ◌∙◌, take, ℕ}
+use Rattle.std.proofs.Common.{ap, ◌∙◌, take, ℕ}
 use Rattle.afs_entries.proofs.Batches.{front}
 use Rattle.afs_entries.proofs.gifts.gift_batch.Goals as goal
 

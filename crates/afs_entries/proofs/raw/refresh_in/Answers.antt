@@ -1,6 +1,5 @@
-use Rattle.std.proofs.Common.{◌≡◌, ap, sym, ◌∙◌, map, length, Some, None, Bool, true, false, arith}
-use Rattle.std.specs.Map.{lookup, remove_entry, set_value}
-use Rattle.lru.specs.LruCache.{LruCache, promoted}
+use Rattle.std.proofs.Common.{◌≡◌, ap, sym, ◌∙◌, map, Some, None, true, false}
+use Rattle.std.specs.Map.{lookup, set_value}
 use Rattle.afs_entries.specs.declared.cache.Slot.{Slot}
 use Rattle.afs_entries.specs.declared.cache.Entry.{Entry}
 use Rattle.afs_entries.specs.Cached.{cached, entry_at, made_of, same_slot, slot_of}

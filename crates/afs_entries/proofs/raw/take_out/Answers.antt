@@ -1,9 +1,9 @@
-use Rattle.std.proofs.Common.{◌≡◌, ap, sym, ◌∙◌, map, length, Some, None, Bool, true, false, arith}
-use Rattle.std.specs.Map.{lookup, remove_entry, set_value}
-use Rattle.lru.specs.LruCache.{LruCache, promoted}
+use Rattle.std.proofs.Common.{ap, ◌∙◌, map, length, arith}
+use Rattle.std.specs.Map.{remove_entry}
+use Rattle.lru.specs.LruCache.{LruCache}
 use Rattle.afs_entries.specs.declared.cache.Slot.{Slot}
 use Rattle.afs_entries.specs.declared.cache.Entry.{Entry}
-use Rattle.afs_entries.specs.Cached.{cached, entry_at, made_of, same_slot, slot_of}
+use Rattle.afs_entries.specs.Cached.{cached, same_slot}
 use Rattle.afs_entries.proofs.Caching.{popped}
 use Rattle.afs_entries.proofs.Removing.{removed_few}
 use Rattle.afs_entries.proofs.raw.take_out.Goals as goal

@@ -1,5 +1,5 @@
-use Rattle.std.proofs.Common.{◌≡◌, subst, arith}
-use Rattle.afs_entries.specs.Cached.{IsSound, Kept, cached}
+use Rattle.std.proofs.Common.{subst, arith}
+use Rattle.afs_entries.specs.Cached.{IsSound, cached}
 use Rattle.afs_entries.proofs.Listing.{apart}
 use Rattle.afs_entries.proofs.Removing.{map_length}
 use Rattle.afs_entries.proofs.cache.Cache.evicts.Goals as goal

@@ -1,4 +1,4 @@
-use Rattle.std.proofs.Common.{◌≡◌, ap, subst, ◌∙◌, List}
+use Rattle.std.proofs.Common.{ap, subst, ◌∙◌, List}
 use Rattle.afs_num.specs.declared.types.Fid.{Fid}
 use Rattle.afs_entries.specs.Cached.{AreApart, Kept, drops_of, unlisted}
 use Rattle.afs_entries.proofs.Listing.{apart, left_is}

@@ -1,6 +1,6 @@
-use Rattle.std.proofs.Common.{◌≡◌, ap, subst, sym, ◌∙◌, List, [], ◌∷◌, ◌++◌, Bool, cond, not}
+use Rattle.std.proofs.Common.{ap, subst, sym, ◌∙◌, List, [], ◌∷◌, ◌++◌, Bool, cond}
 use Rattle.afs_num.specs.declared.types.Fid.{Fid}
-use Rattle.afs_entries.specs.Cached.{AreApart, Kept, listed}
+use Rattle.afs_entries.specs.Cached.{AreApart, Kept}
 use Rattle.afs_entries.proofs.Listing.{apart, none_taken, one_listed, some_taken}
 use Rattle.afs_entries.proofs.cache.Cache.one.Goals as goal
 

@@ -1,4 +1,4 @@
-use Rattle.std.proofs.Common.{◌≡◌, ap, ◌∙◌, sym}
+use Rattle.std.proofs.Common.{ap, ◌∙◌, sym}
 use Rattle.afs_entries.specs.declared.drops.Drops.{Drops}
 use Rattle.afs_entries.specs.Cached.{drops_of, entry_at}
 use Rattle.afs_entries.proofs.drops.Drops.takes.Goals as goal
