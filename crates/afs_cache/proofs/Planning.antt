@@ -19,7 +19,8 @@ use Rattle.afs_rows.specs.ClientRow.{Look, Walked, call_by, callee_by, call_mess
 use Rattle.afs_rows.specs.Steps.{Step}
 use Rattle.afs_acts.specs.Acts.{FitsNeed}
 use Rattle.afs_cache.specs.Asking.{Asking, code_of, is_giving}
-use Rattle.afs_cache.specs.Managing.{Makes}
+use Rattle.afs_model.specs.Steps.{NodeState}
+use Rattle.afs_cache.specs.Managing.{Goes, Makes, Takes}
 use Rattle.afs_cache.specs.Acting.{called_by, sent_to, IsAsking, waiting, followed, outs_of, but_for, CanFollow, IsWay, PlansFor, over}
 use Rattle.afs_cache.specs.Looking.{HasWalked}
 use Rattle.afs_cache.specs.declared.acting.Asks.{Asks}
@@ -203,3 +204,21 @@ way_planned me c whole entries told ls w plan h p f =
       plan = plans_looked me c whole told plan (subst (λ (x : List Line). PlansFor (λ d front. goes_on me d front (stays whole.act d.cache)) x c plan) h.told there);
       follows = f;
     }
+
+-- ---- a plan was followed
+
+pub plan_goes : {E : Type 0} (step : ClientState → (List Line → List Line) → Step ClientState) (other : (List Line → List Line) → Step ClientState) (told : List Line) (c : ClientState) (plan : Plan) (old new : NodeState ClientState) (outs : Outs) (cache : List CacheEntry) (busy : ℕ)
+    → PlansFor step told c plan → new.node ≡ old.node → new.state ≡ followed (but_for c cache busy) plan → outs ≡ outs_of plan → ((front : List Line → List Line) → step (but_for c cache busy) front ≡ other front) → Goes {E = E} other told old new (Ok outs)
+plan_goes step other told c plan old new outs cache busy p n s o same =
+    (n, λ first. subst (λ (x : Step ClientState). Makes x new.state (λ ls. first ++ ls) outs) (same (λ ls. first ++ (told ++ ls)))
+    (done_as (step (but_for c cache busy) (λ ls. first ++ (told ++ ls))) (but_for c cache busy) (but_for c cache busy) plan new.state outs (λ ls. first ++ ls) (p cache busy first) s refl o))
+
+pub plan_taken : {E : Type 0} (step : ClientState → (List Line → List Line) → Step ClientState) (other : ℕ → Step ClientState) (told : List Line) (c : ClientState) (plan : Plan) (old new : NodeState ClientState) (outs : Outs) (cache : List CacheEntry) (busy : ℕ)
+    → PlansFor step told c plan → new.node ≡ old.node → new.state ≡ followed (but_for c cache busy) plan → outs ≡ outs_of plan → ((place : ℕ) → step (but_for c cache busy) (λ ls. lines.Given place ∷ (told ++ ls)) ≡ other place) → Takes {E = E} other old new (Ok outs)
+plan_taken step other told c plan old new outs cache busy p n s o same =
+    (n, λ place. subst (λ (x : Step ClientState). Makes x new.state (λ ls. lines.Given place ∷ ls) outs) (same place)
+    (done_as (step (but_for c cache busy) (λ ls. lines.Given place ∷ (told ++ ls))) (but_for c cache busy) (but_for c cache busy) plan new.state outs (λ ls. lines.Given place ∷ ls) (p cache busy (lines.Given place ∷ [])) s refl o))
+
+-- the walk of a way goes on with the cache that it leaves
+pub way_goes : (me : Node) (c : ClientState) (cache : List CacheEntry) (busy : ℕ) (w : Walked) (front : List Line → List Line) → cache ≡ w.cache → goes_on me (but_for c cache busy) front (over w cache) ≡ goes_on me (record c { busy = busy }) front w
+way_goes me c cache busy w front e = goes_in me c cache busy front (over w cache) ∙ ap (λ (es : List CacheEntry). goes_on me (record c { busy = busy }) front (over w es)) e
