@@ -1,6 +1,8 @@
 -- What is planned is the row's step.
-use Rattle.std.proofs.Common.{◌≡◌, ◌<◌, ◌+◌, ℕ, Bool, true, false, List, [], ◌∷◌, ◌++◌, map, filter, Option, Some, None, pos, refl, ap, sym, subst, ◌∙◌, append_assoc}
+use Rattle.std.proofs.Common.{◌≡◌, ◌<◌, ◌+◌, ℕ, Bool, true, false, List, [], ◌∷◌, ◌++◌, map, filter, length, Option, Some, None, Result, Ok, Err, pos, refl, ap, sym, subst, ◌∙◌, append_assoc}
 use Rattle.std.proofs.lemmas.List.{append-nil}
+use Rattle.std.specs.Prelude.{IfOk}
+use Rattle.afs_num.specs.Nodes.{IsNode}
 use Rattle.afs_num.specs.declared.types.Code.{Code}
 use Rattle.afs_num.specs.declared.types.Node.{Node}
 use Rattle.afs_num.specs.declared.types.Fid.{Fid}
@@ -16,8 +18,10 @@ use Rattle.afs_rows.specs.Going.{ClientState, Going, Need, next}
 use Rattle.afs_rows.specs.ClientRow.{Look, Walked, call_by, callee_by, call_message, asking, calls_step, ends_step, ended, stays, looked, dropped, drop_line, goes_by, goes_on, walked, walks_on, gives_by, boot_of}
 use Rattle.afs_rows.specs.Steps.{Step}
 use Rattle.afs_acts.specs.Acts.{FitsNeed}
-use Rattle.afs_cache.specs.Managing.{Makes}
-use Rattle.afs_cache.specs.Acting.{is_giving, answer_of, called_by, sent_to, IsAsking, waiting, followed, outs_of, but_for, CanFollow, IsWay, PlansFor, over}
+use Rattle.afs_cache.specs.Asking.{Asking, code_of, is_giving}
+use Rattle.afs_model.specs.Steps.{NodeState}
+use Rattle.afs_cache.specs.Managing.{Goes, Makes, Takes}
+use Rattle.afs_cache.specs.Acting.{called_by, sent_to, IsAsking, waiting, followed, outs_of, but_for, CanFollow, IsWay, PlansFor, over}
 use Rattle.afs_cache.specs.Looking.{HasWalked}
 use Rattle.afs_cache.specs.declared.acting.Asks.{Asks}
 use Rattle.afs_cache.specs.declared.looks.Walked as program
@@ -38,7 +42,23 @@ done_as step c d plan new outs front m n same o = record {
   sent = ap (λ (x : Outs). parcels_read x.parcels) o ∙ m.sent;
 }
 
+pub if_ok : {A E : Type 0} (P Q : A → Type 0) (r : Result A E) → ((x : A) → P x → Q x) → IfOk r P → IfOk r Q
+if_ok P Q (Ok x) f h = f x h
+if_ok P Q (Err e) f h = tt
+
 -- ---- calls
+
+pub asking_made : (me : Node) (c : ClientState) (act : Going) (given : List Gift) (told : List Line) (asked : Asking) (callee : Node) (outs : Outs)
+    → asked ≡ record { going = act; gifts = given } → callee ≡ called_by (is_giving (next asked.going)) c.table asked.gifts (call_by asked.gifts (next asked.going)) → IsNode callee
+    → outs.lines ≡ told → parcels_read outs.parcels ≡ messages_spelled (sent_to me c (c.last + 1) callee (boot_of callee c.boots) (call_by asked.gifts (next asked.going)) ∷ []) → IsAsking me c act given told (record { asked = asked; callee = callee; outs = outs })
+asking_made me c act given told asked callee outs q e node l s = record {
+  going = ap (λ (a : Asking). a.going) q;
+  gifts = ap (λ (a : Asking). a.gifts) q;
+  callee = e ∙ ap (λ (a : Asking). called_by (is_giving (next a.going)) c.table a.gifts (call_by a.gifts (next a.going))) q;
+  node = node;
+  lines = l;
+  sent = s ∙ ap (λ (a : Asking). messages_spelled (sent_to me c (c.last + 1) callee (boot_of callee c.boots) (call_by a.gifts (next a.going)) ∷ [])) q;
+}
 
 called_as : (need : Need) (c : ClientState) → called_by (is_giving need) c.table c.gifts (call_by c.gifts need) ≡ callee_by c need
 called_as (going.reads f) c = refl
@@ -73,11 +93,11 @@ plans_ending me c code told outs l p cache busy first = record {
 
 -- ---- an act goes on
 
-abbrev goes_when : Node → ClientState → (List Line → List Line) → Going → Option ℕ → Step ClientState
+abbrev goes_when : Node → ClientState → (List Line → List Line) → Going → Option Code → Step ClientState
 goes_when me d front act None = calls_step me d act front
-goes_when me d front act (Some n) = ends_step me d d.cache front (record { 0 = pos n })
+goes_when me d front act (Some code) = ends_step me d d.cache front code
 
-goes_as : (me : Node) (d : ClientState) (front : List Line → List Line) (act : Going) (need : Need) → goes_when me d front act (answer_of need) ≡ goes_by me d front (stays act d.cache) need
+goes_as : (me : Node) (d : ClientState) (front : List Line → List Line) (act : Going) (need : Need) → goes_when me d front act (code_of need) ≡ goes_by me d front (stays act d.cache) need
 goes_as me d front act (going.reads f) = refl
 goes_as me d front act (going.reads_status f) = refl
 goes_as me d front act (going.reads_statuses fs) = refl
@@ -86,36 +106,45 @@ goes_as me d front act (going.asks_for call) = refl
 goes_as me d front act going.gives_back = refl
 goes_as me d front act (going.answers n) = refl
 
-goes_if : (me : Node) (d : ClientState) (front : List Line → List Line) (act : Going) (o : Option ℕ) → answer_of (next act) ≡ o → goes_when me d front act o ≡ goes_on me d front (stays act d.cache)
-goes_if me d front act o e = ap (goes_when me d front act) (sym e) ∙ goes_as me d front act (next act)
+goes_if : (me : Node) (d : ClientState) (front : List Line → List Line) (act : Going) (o : Option Code) → o ≡ code_of (next act) → goes_when me d front act o ≡ goes_on me d front (stays act d.cache)
+goes_if me d front act o e = ap (goes_when me d front act) e ∙ goes_as me d front act (next act)
 
-pub plans_answer : (me : Node) (c : ClientState) (act : Going) (told : List Line) (plan : Plan) (n : ℕ) → answer_of (next act) ≡ Some n → PlansFor (λ d front. ends_step me d d.cache front (record { 0 = pos n })) told c plan → PlansFor (λ d front. goes_on me d front (stays act d.cache)) told c plan
-plans_answer me c act told plan n e p = plans_same _ (λ d front. goes_on me d front (stays act d.cache)) told c plan (λ d front. goes_if me d front act (Some n) e) p
+pub plans_answer : {E : Type 0} (me : Node) (c : ClientState) (act : Going) (told : List Line) (code : Code) (r : Result Plan E) → Some code ≡ code_of (next act) → IfOk r (λ p. PlansFor (λ d front. ends_step me d d.cache front code) told c p) → IfOk r (λ p. PlansFor (λ d front. goes_on me d front (stays act d.cache)) told c p)
+plans_answer me c act told code r e h =
+    if_ok (λ p. PlansFor (λ d front. ends_step me d d.cache front code) told c p) (λ p. PlansFor (λ d front. goes_on me d front (stays act d.cache)) told c p) r
+    (λ p. plans_same (λ d front. ends_step me d d.cache front code) (λ d front. goes_on me d front (stays act d.cache)) told c p (λ d front. goes_if me d front act (Some code) e)) h
 
-pub plans_call : (me : Node) (c : ClientState) (act : Going) (told : List Line) (plan : Plan) (gifts : List Gift) → answer_of (next act) ≡ None → gifts ≡ c.gifts → PlansFor (λ d front. calls_step me (record d { gifts = gifts }) act front) told c plan → PlansFor (λ d front. goes_on me d front (stays act d.cache)) told c plan
-plans_call me c act told plan gifts e g p cache busy first =
-    let q : Makes (calls_step me (record (but_for c cache busy) { gifts = c.gifts }) act (λ ls. first ++ (told ++ ls))) (followed (but_for c cache busy) plan) (λ ls. first ++ ls) (outs_of plan)
-    = subst (λ (gs : List Gift). Makes (calls_step me (record (but_for c cache busy) { gifts = gs }) act (λ ls. first ++ (told ++ ls))) (followed (but_for c cache busy) plan) (λ ls. first ++ ls) (outs_of plan)) g (p cache busy first) in
-    subst (λ (s : Step ClientState). Makes s (followed (but_for c cache busy) plan) (λ ls. first ++ ls) (outs_of plan)) (goes_if me (but_for c cache busy) (λ ls. first ++ (told ++ ls)) act None e) q
+pub plans_call : {E : Type 0} (me : Node) (c : ClientState) (act : Going) (told : List Line) (r : Result Plan E) → None ≡ code_of (next act) → IfOk r (λ p. PlansFor (λ d front. calls_step me (record d { gifts = c.gifts }) act front) told c p) → IfOk r (λ p. PlansFor (λ d front. goes_on me d front (stays act d.cache)) told c p)
+plans_call me c act told r e h =
+    if_ok (λ p. PlansFor (λ d front. calls_step me (record d { gifts = c.gifts }) act front) told c p) (λ p. PlansFor (λ d front. goes_on me d front (stays act d.cache)) told c p) r
+    (λ p q cache busy first. subst (λ (s : Step ClientState). Makes s (followed (but_for c cache busy) p) (λ ls. first ++ ls) (outs_of p)) (goes_if me (but_for c cache busy) (λ ls. first ++ (told ++ ls)) act None e) (q cache busy first)) h
 
-pub small_answer : (need : Need) (n : ℕ) → answer_of need ≡ Some n → FitsNeed need → n < 2147483648
-small_answer (going.reads f) n e h = absurd cc
-small_answer (going.reads_status f) n e h = absurd cc
-small_answer (going.reads_statuses fs) n e h = absurd cc
-small_answer (going.reads_rights f) n e h = absurd cc
-small_answer (going.asks_for call) n e h = absurd cc
-small_answer going.gives_back n e h = absurd cc
-small_answer (going.answers m) n e h = let same : m ≡ n = cc in subst (λ (x : ℕ). x < 2147483648) same h
+-- it is the same call, with the gifts that there are
+pub plans_gifts : {E : Type 0} (me : Node) (c : ClientState) (act : Going) (told : List Line) (gifts others : List Gift) (r : Result Plan E) → gifts ≡ others → IfOk r (λ p. PlansFor (λ d front. calls_step me (record d { gifts = gifts }) act front) told c p) → IfOk r (λ p. PlansFor (λ d front. calls_step me (record d { gifts = others }) act front) told c p)
+plans_gifts me c act told gifts others r e h = subst (λ (gs : List Gift). IfOk r (λ p. PlansFor (λ d front. calls_step me (record d { gifts = gs }) act front) told c p)) e h
+
+pub plans_act : {E : Type 0} (me : Node) (c : ClientState) (act other : Going) (told : List Line) (gifts : List Gift) (r : Result Plan E) → act ≡ other → IfOk r (λ p. PlansFor (λ d front. calls_step me (record d { gifts = gifts }) act front) told c p) → IfOk r (λ p. PlansFor (λ d front. calls_step me (record d { gifts = gifts }) other front) told c p)
+plans_act me c act other told gifts r e h = subst (λ (g : Going). IfOk r (λ p. PlansFor (λ d front. calls_step me (record d { gifts = gifts }) g front) told c p)) e h
 
 -- ---- promises are given back
 
-pub plans_given : (me : Node) (c : ClientState) (act : Going) (gifts : List Gift) (told : List Line) (plan : Plan) → gifts ≡ [] → PlansFor (λ d front. ends_step me d d.cache front (record { 0 = pos 0 })) told c plan → PlansFor (λ d front. gives_by me d front act gifts) told c plan
-plans_given me c act [] told plan e p = p
-plans_given me c act (g ∷ gs) told plan e p = absurd cc
+given_by : (me : Node) (act : Going) (gifts : List Gift) (d : ClientState) (front : List Line → List Line) → length gifts ≡ 0 → ends_step me d d.cache front (record { 0 = pos 0 }) ≡ gives_by me d front act gifts
+given_by me act [] d front e = refl
+given_by me act (g ∷ gs) d front e = absurd cc
 
-pub plans_giving : (me : Node) (c : ClientState) (act : Going) (gifts : List Gift) (told : List Line) (plan : Plan) → (gifts ≡ [] → ⊥) → PlansFor (λ d front. calls_step me (record d { gifts = gifts }) act front) told c plan → PlansFor (λ d front. gives_by me d front act gifts) told c plan
-plans_giving me c act [] told plan e p = absurd (e refl)
-plans_giving me c act (g ∷ gs) told plan e p = p
+giving_by : (me : Node) (act : Going) (gifts : List Gift) (d : ClientState) (front : List Line → List Line) → (length gifts ≡ 0 → ⊥) → calls_step me (record d { gifts = gifts }) act front ≡ gives_by me d front act gifts
+giving_by me act [] d front e = absurd (e refl)
+giving_by me act (g ∷ gs) d front e = refl
+
+pub plans_given : {E : Type 0} (me : Node) (c : ClientState) (act : Going) (gifts : List Gift) (told : List Line) (r : Result Plan E) → length gifts ≡ 0 → IfOk r (λ p. PlansFor (λ d front. ends_step me d d.cache front (record { 0 = pos 0 })) told c p) → IfOk r (λ p. PlansFor (λ d front. gives_by me d front act gifts) told c p)
+plans_given me c act gifts told r e h =
+    if_ok (λ p. PlansFor (λ d front. ends_step me d d.cache front (record { 0 = pos 0 })) told c p) (λ p. PlansFor (λ d front. gives_by me d front act gifts) told c p) r
+    (λ p. plans_same (λ d front. ends_step me d d.cache front (record { 0 = pos 0 })) (λ d front. gives_by me d front act gifts) told c p (λ d front. given_by me act gifts d front e)) h
+
+pub plans_giving : {E : Type 0} (me : Node) (c : ClientState) (act : Going) (gifts : List Gift) (told : List Line) (r : Result Plan E) → (length gifts ≡ 0 → ⊥) → IfOk r (λ p. PlansFor (λ d front. calls_step me (record d { gifts = gifts }) act front) told c p) → IfOk r (λ p. PlansFor (λ d front. gives_by me d front act gifts) told c p)
+plans_giving me c act gifts told r e h =
+    if_ok (λ p. PlansFor (λ d front. calls_step me (record d { gifts = gifts }) act front) told c p) (λ p. PlansFor (λ d front. gives_by me d front act gifts) told c p) r
+    (λ p. plans_same (λ d front. calls_step me (record d { gifts = gifts }) act front) (λ d front. gives_by me d front act gifts) told c p (λ d front. giving_by me act gifts d front e)) h
 
 -- ---- lines of reads, and of entries that go
 
@@ -175,3 +204,21 @@ way_planned me c whole entries told ls w plan h p f =
       plan = plans_looked me c whole told plan (subst (λ (x : List Line). PlansFor (λ d front. goes_on me d front (stays whole.act d.cache)) x c plan) h.told there);
       follows = f;
     }
+
+-- ---- a plan was followed
+
+pub plan_goes : {E : Type 0} (step : ClientState → (List Line → List Line) → Step ClientState) (other : (List Line → List Line) → Step ClientState) (told : List Line) (c : ClientState) (plan : Plan) (old new : NodeState ClientState) (outs : Outs) (cache : List CacheEntry) (busy : ℕ)
+    → PlansFor step told c plan → new.node ≡ old.node → new.state ≡ followed (but_for c cache busy) plan → outs ≡ outs_of plan → ((front : List Line → List Line) → step (but_for c cache busy) front ≡ other front) → Goes {E = E} other told old new (Ok outs)
+plan_goes step other told c plan old new outs cache busy p n s o same =
+    (n, λ first. subst (λ (x : Step ClientState). Makes x new.state (λ ls. first ++ ls) outs) (same (λ ls. first ++ (told ++ ls)))
+    (done_as (step (but_for c cache busy) (λ ls. first ++ (told ++ ls))) (but_for c cache busy) (but_for c cache busy) plan new.state outs (λ ls. first ++ ls) (p cache busy first) s refl o))
+
+pub plan_taken : {E : Type 0} (step : ClientState → (List Line → List Line) → Step ClientState) (other : ℕ → Step ClientState) (told : List Line) (c : ClientState) (plan : Plan) (old new : NodeState ClientState) (outs : Outs) (cache : List CacheEntry) (busy : ℕ)
+    → PlansFor step told c plan → new.node ≡ old.node → new.state ≡ followed (but_for c cache busy) plan → outs ≡ outs_of plan → ((place : ℕ) → step (but_for c cache busy) (λ ls. lines.Given place ∷ (told ++ ls)) ≡ other place) → Takes {E = E} other old new (Ok outs)
+plan_taken step other told c plan old new outs cache busy p n s o same =
+    (n, λ place. subst (λ (x : Step ClientState). Makes x new.state (λ ls. lines.Given place ∷ ls) outs) (same place)
+    (done_as (step (but_for c cache busy) (λ ls. lines.Given place ∷ (told ++ ls))) (but_for c cache busy) (but_for c cache busy) plan new.state outs (λ ls. lines.Given place ∷ ls) (p cache busy (lines.Given place ∷ [])) s refl o))
+
+-- the walk of a way goes on with the cache that it leaves
+pub way_goes : (me : Node) (c : ClientState) (cache : List CacheEntry) (busy : ℕ) (w : Walked) (front : List Line → List Line) → cache ≡ w.cache → goes_on me (but_for c cache busy) front (over w cache) ≡ goes_on me (record c { busy = busy }) front w
+way_goes me c cache busy w front e = goes_in me c cache busy front (over w cache) ∙ ap (λ (es : List CacheEntry). goes_on me (record c { busy = busy }) front (over w es)) e

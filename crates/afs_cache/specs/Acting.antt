@@ -13,30 +13,19 @@ use Rattle.afs_history.specs.declared.lines.Outs.{Outs}
 use Rattle.afs_model.specs.FsRows.{call_number}
 use Rattle.afs_model.specs.Messages.{parcels_read, messages_spelled}
 use Rattle.afs_rows.specs.States.{CacheEntry, Gift, Location}
-use Rattle.afs_rows.specs.Going.{ClientState, Going, Need, gives_back, answers, next}
+use Rattle.afs_rows.specs.Going.{ClientState, Going, next}
 use Rattle.afs_rows.specs.ClientRow.{Walked, boot_of, call_by, first_server_of, goes_on, most_reads, server_at, volume_asked, walked}
 use Rattle.afs_rows.specs.Steps.{Step}
 use Rattle.afs_entries.specs.Cached.{in_sight, touched_all}
 use Rattle.afs_entries.specs.declared.cache.Fresh.{Fresh}
 use Rattle.afs_entries.specs.declared.drops.Drops.{Drops}
 use Rattle.afs_entries.specs.declared.drops.Drops.TheVariants as drops
-use Rattle.afs_cache.specs.Asking.{calling}
+use Rattle.afs_cache.specs.Asking.{calling, is_giving}
 use Rattle.afs_cache.specs.Managing.{Makes, number_limit}
 use Rattle.afs_cache.specs.declared.acting.Asks.{Asks}
 use Rattle.afs_cache.specs.declared.acting.Plan.{Plan}
 use Rattle.afs_cache.specs.declared.acting.Plan.TheVariants as plans
 use Rattle.afs_cache.specs.declared.acting.Way.{Way}
-
--- ---- what is needed
-
-abbrev pub is_giving : Need → Bool
-is_giving gives_back = true
-is_giving need = false
-
--- the code with which an act is answered now
-abbrev pub answer_of : Need → Option ℕ
-answer_of (answers n) = Some n
-answer_of need = None
 
 -- ---- a call
 

@@ -3,3 +3,4 @@ pub mod Asking
 pub mod Looking
 pub mod Acting
 pub mod Serving
+pub mod Telling

@@ -8,20 +8,19 @@ ghost use Rattle.std.specs.Option.{option_copied};
 ghost use Rattle.afs_num.specs.Nodes.{IsNode};
 ghost use Rattle.afs_model.specs.Messages.{messages_spelled, parcels_read};
 ghost use Rattle.afs_rows.specs.Going.{next};
-ghost use Rattle.afs_rows.specs.ClientRow.{begin_row, call_by, calls_step, drop_line, ends_step, gives_all, gives_by, goes_on, put_entries, put_entry, stays, walks_on};
+ghost use Rattle.afs_rows.specs.ClientRow.{begin_row, boot_of, call_by, calls_step, drop_line, ends_step, gives_all, gives_by, goes_on, put_entries, put_entry, stays, walks_on};
 ghost use Rattle.afs_acts.specs.Acts.{IsShortAct};
-ghost use Rattle.afs_acts.specs.Walks.{need_of};
 ghost use Rattle.afs_entries.specs.Cached.{entry_of, HasBody};
-ghost use Rattle.afs_cache.specs.Asking.{IsGift};
-ghost use Rattle.afs_cache.specs.Acting.{answer_of, called_by, CanFollow, followed, head_of, is_giving, IsAsking, IsWay, outs_of, PlansFor, seen_with, sent_to, whole_walk};
+ghost use Rattle.afs_cache.specs.Asking.{IsGift, is_giving};
+ghost use Rattle.afs_cache.specs.Acting.{called_by, CanFollow, followed, head_of, IsAsking, IsWay, outs_of, PlansFor, seen_with, sent_to, whole_walk};
 ghost use Rattle.afs_cache.specs.Managing.{Answers, Goes, number_limit};
 
-use crate::asked::Asked;
+use crate::asked::{Asked, code_now, gives_now};
 use crate::calls::boot_of;
 use crate::looks::{Walked, walk};
 use crate::messages::{outs_calling, quiet};
 use crate::node::CacheManager;
-use afs_acts::{Going, Need, copy_act, next, opcode, server_at, volume_asked};
+use afs_acts::{Going, copy_act, opcode, server_at, volume_asked};
 use afs_entries::{Drops, Fresh, Gift, Sight, first_server_of, in_order};
 use afs_history::acts::Act;
 use afs_history::lines::{Line, Lines, Outs};
@@ -49,23 +48,6 @@ pub enum Plan {
 pub struct Way {
     pub used: Vec<Fid>,
     pub plan: Plan,
-}
-
-/// The code with which an act is answered now.
-fn answer_in(need: &Need) -> Option<u32>
-    ensures { result ≡ answer_of (need_of need.now) }
-{
-    match need {
-        Need::Answer(code) => Some(*code),
-        _ => None,
-    }
-}
-
-/// Whether promises are given back.
-fn is_giving(need: &Need) -> bool
-    ensures { result ≡ is_giving (need_of need.now) }
-{
-    matches!(need, Need::GiveBack)
 }
 
 impl CacheManager {
@@ -103,30 +85,38 @@ impl CacheManager {
     }
 
     /// Whom an act asks.
-    fn callee(&self, gives_back: bool, asked: &Asked) -> Node
-        ensures value { result ≡ called_by gives_back self.now.state.table asked.now.gifts (call_by asked.now.gifts (next asked.now.going)) }
+    fn callee(&self, asked: &Asked) -> Node
+        ensures value { result ≡ called_by (is_giving (next asked.now.going)) self.now.state.table asked.now.gifts (call_by asked.now.gifts (next asked.now.going)) }
         ensures node { IsNode result }
     {
-        if gives_back {
+        if asked.gives_back() {
             first_server_of(asked.gifts())
         } else {
             Node::Server(server_at(&self.table, volume_asked(asked.file_call())))
         }
     }
 
+    /// What is given out behind these lines with the first call of what was asked.
+    fn first_outs(&self, callee: Node, asked: &Asked, lines: Lines) -> Mem<Outs>
+        requires node { IsNode callee }
+        requires last { self.now.state.last < number_limit }
+        ensures lines { IfOk result (λ o. o.lines ≡ lines) }
+        ensures sent { IfOk result (λ o. parcels_read o.parcels ≡ messages_spelled (sent_to self.now.node self.now.state (self.now.state.last + 1) callee (boot_of callee self.now.state.boots) (call_by asked.now.gifts (next asked.now.going)) ∷ [])) }
+    {
+        let boot = boot_of(&callee, &self.boots);
+        self.outs(self.calls.last + 1, callee, boot, asked, lines)
+    }
+
     /// Behind these lines an act asks what it needs.
-    fn asks(&self, going: Going, gifts: Vec<Gift>, need: Need, lines: Lines) -> Mem<Asks>
-        requires need { need_of need ≡ next going }
+    fn asks(&self, going: Going, gifts: Vec<Gift>, lines: Lines) -> Mem<Asks>
         requires short { IsShortAct going.act }
         requires nodes { All IsGift gifts.items }
         requires last { self.now.state.last < number_limit }
         ensures { IfOk result (λ a. IsAsking self.now.node self.now.state going gifts.items lines a) }
     {
-        let gives_back = is_giving(&need);
-        let asked = Asked::new(self.alloc, going, gifts, need)?;
-        let callee = self.callee(gives_back, &asked);
-        let boot = boot_of(&callee, &self.boots);
-        let outs = self.outs(self.calls.last + 1, callee, boot, &asked, lines)?;
+        let asked = Asked::new(self.alloc, going, gifts)?;
+        let callee = self.callee(&asked);
+        let outs = self.first_outs(callee, &asked, lines)?;
         Ok(Asks {
             asked,
             callee,
@@ -134,15 +124,14 @@ impl CacheManager {
         })
     }
 
-    fn plan_asking(&self, going: Going, gifts: Vec<Gift>, need: Need, lines: Lines) -> Mem<Plan>
-        requires need { need_of need ≡ next going }
+    fn plan_asking(&self, going: Going, gifts: Vec<Gift>, lines: Lines) -> Mem<Plan>
         requires short { IsShortAct going.act }
         requires nodes { All IsGift gifts.items }
         requires last { self.now.state.last < number_limit }
         ensures plan { IfOk result (λ p. PlansFor (λ d front. calls_step self.now.node (record d { gifts = gifts.items }) going front) lines self.now.state p) }
         ensures follows { IfOk result (CanFollow self.now.state.last) }
     {
-        let asks = self.asks(going, gifts, need, lines)?;
+        let asks = self.asks(going, gifts, lines)?;
         Ok(Plan::Asks(asks))
     }
 
@@ -170,6 +159,17 @@ impl CacheManager {
         }
     }
 
+    /// Behind these lines an act asks, and what it gives back still stays.
+    fn plan_next(&self, going: Going, lines: Lines) -> Mem<Plan>
+        requires short { IsShortAct going.act }
+        requires last { self.now.state.last < number_limit }
+        ensures plan { IfOk result (λ p. PlansFor (λ d front. calls_step self.now.node (record d { gifts = self.now.state.gifts }) going front) lines self.now.state p) }
+        ensures follows { IfOk result (CanFollow self.now.state.last) }
+    {
+        let gifts = self.copy_gifts()?;
+        self.plan_asking(going, gifts, lines)
+    }
+
     /// Behind these lines an act has come so far: it is answered, or asks.
     pub(crate) fn plan(&self, going: Going, lines: Lines) -> Mem<Plan>
         requires short { IsShortAct going.act }
@@ -177,13 +177,9 @@ impl CacheManager {
         ensures plan { IfOk result (λ p. PlansFor (λ d front. goes_on self.now.node d front (stays going d.cache)) lines self.now.state p) }
         ensures follows { IfOk result (CanFollow self.now.state.last) }
     {
-        let need = next(self.alloc, &going)?;
-        match answer_in(&need) {
-            Some(code) => self.plan_ending(Code(code as i32), lines),
-            None => {
-                let gifts = self.copy_gifts()?;
-                self.plan_asking(going, gifts, need, lines)
-            }
+        match code_now(self.alloc, &going)? {
+            Some(code) => self.plan_ending(code, lines),
+            None => self.plan_next(going, lines),
         }
     }
 
@@ -193,10 +189,9 @@ impl CacheManager {
         ensures plan { IfOk result (λ p. PlansFor (λ d front. calls_step self.now.node (record d { gifts = asked.now.gifts }) asked.now.going front) lines self.now.state p) }
         ensures follows { IfOk result (CanFollow self.now.state.last) }
     {
-        let going = asked.copy_going(self.alloc)?;
         let gifts = asked.copy_gifts(self.alloc)?;
-        let need = next(self.alloc, &going)?;
-        self.plan_asking(going, gifts, need, lines)
+        let going = asked.copy_going(self.alloc)?;
+        self.plan_asking(going, gifts, lines)
     }
 
     /// Behind these lines these promises are given back, or all of them were.
@@ -208,10 +203,10 @@ impl CacheManager {
         ensures follows { IfOk result (CanFollow self.now.state.last) }
     {
         if gifts.is_empty() {
-            return self.plan_ending(Code(0), lines);
+            self.plan_ending(Code(0), lines)
+        } else {
+            self.plan_asking(going, gifts, lines)
         }
-        let need = next(self.alloc, &going)?;
-        self.plan_asking(going, gifts, need, lines)
     }
 
     /// The act waits for what it asked.
@@ -254,7 +249,7 @@ impl CacheManager {
         requires body { HasBody (option_copied fresh) }
         requires short { IsShortAct going.act }
         requires last { self.now.state.last < number_limit }
-        ensures { IfOk result (λ w. IsWay self.now.node self.now.state (whole_walk now going (seen_with self.now.state (option_copied fresh))) (seen_with self.now.state (option_copied fresh)) lines w) }
+        ensures { IfOk result (λ w. IsWay self.now.node self.now.state (whole_walk now going (seen_with self.now.state (option_copied fresh.entry))) (seen_with self.now.state (option_copied fresh.entry)) lines w) }
     {
         let mut lines = lines;
         let sight = Sight {
@@ -352,8 +347,7 @@ impl CacheManager {
             node: self.node,
             act: copy_act(self.alloc, act)?,
         })?;
-        let need = next(self.alloc, &going)?;
-        if is_giving(&need) {
+        if gives_now(self.alloc, &going)? {
             self.begin_giving(going, lines, now)
         } else {
             self.begin_walking(going, lines, now)

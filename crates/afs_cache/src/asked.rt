@@ -6,25 +6,26 @@ ghost use Rattle.afs_model.specs.CellRows.{cell_calls};
 ghost use Rattle.afs_shape.specs.Rows.{IsWithin};
 ghost use Rattle.afs_rows.specs.ClientRow.{behind_batch, call_by};
 ghost use Rattle.afs_rows.specs.Going.{next};
-ghost use Rattle.afs_acts.specs.Acts.{IsShortAct};
+ghost use Rattle.afs_acts.specs.Acts.{FitsNeed, IsShortAct};
 ghost use Rattle.afs_acts.specs.Walks.{need_of};
-ghost use Rattle.afs_cache.specs.Asking.{IsGift};
+ghost use Rattle.afs_cache.specs.Asking.{code_of, IsGift, is_giving};
 ghost use Rattle.afs_num.specs.declared.messages.Call.TheVariants as ask;
 
-use afs_acts::{Going, Need};
+use afs_acts::{Going, Need, next};
 use afs_entries::{Gift, batch_len, copy_gifts, gift_batch, gift_call};
 use afs_num::calls::FsCall;
 use afs_num::messages::Call;
-use afs_num::types::Mem;
+use afs_num::types::{Code, Mem};
 use std::alloc::Global;
 use std::marker::Model;
 
-/// The act that runs, what it gives back still, and its unanswered call.
+/// The act that runs, what it gives back still, its unanswered call, and whether that gives promises back.
 #[derive(Drop)]
 pub struct Asked {
     going: Going,
     gifts: Vec<Gift>,
     call: Call,
+    gives_back: bool,
 }
 
 impl Model for Asked {
@@ -34,7 +35,43 @@ impl Model for Asked {
 
     ghost view = { λ a. record { going = a.going; gifts = a.gifts.items } };
 
-    ghost invariant = { λ a. IsAsked a.going a.gifts.items a.call };
+    ghost invariant = { λ a. IsAsked a.going a.gifts.items a.call a.gives_back };
+}
+
+/// The code with which an act is answered now.
+fn code_in(need: &Need) -> Option<Code>
+    requires { FitsNeed (need_of need.now) }
+    ensures { result ≡ code_of (need_of need.now) }
+{
+    match need {
+        Need::Answer(code) => Some(Code(*code as i32)),
+        _ => None,
+    }
+}
+
+/// The code with which an act is answered now; it has none where it asks for something.
+pub fn code_now(alloc: Global, going: &Going) -> Mem<Option<Code>>
+    requires { IsShortAct going.now.act }
+    ensures { IfOk result (λ code. code ≡ code_of (next going.now)) }
+{
+    let need = next(alloc, going)?;
+    Ok(code_in(&need))
+}
+
+/// Whether promises are given back.
+fn is_giving(need: &Need) -> bool
+    ensures { result ≡ is_giving (need_of need.now) }
+{
+    matches!(need, Need::GiveBack)
+}
+
+/// Whether an act gives promises back now.
+pub fn gives_now(alloc: Global, going: &Going) -> Mem<bool>
+    requires { IsShortAct going.now.act }
+    ensures { IfOk result (λ gives. gives ≡ is_giving (next going.now)) }
+{
+    let need = next(alloc, going)?;
+    Ok(is_giving(&need))
 }
 
 /// The call for a need.
@@ -56,16 +93,37 @@ fn call_for(alloc: Global, need: Need, gifts: &[Gift]) -> Mem<FsCall>
     }
 }
 
+/// The call for what an act needs now.
+fn call_now(alloc: Global, going: &Going, gifts: &[Gift]) -> Mem<FsCall>
+    requires { IsShortAct going.now.act }
+    ensures { IfOk result (λ c. c ≡ call_by gifts.now (next going.now)) }
+{
+    let need = next(alloc, going)?;
+    call_for(alloc, need, gifts)
+}
+
 impl Asked {
-    /// An act that goes on with the call for its need.
-    pub fn new(alloc: Global, going: Going, gifts: Vec<Gift>, need: Need) -> Mem<Asked>
-        requires need { need_of need ≡ next going }
+    /// An act that goes on with the call for what it needs now.
+    pub fn new(alloc: Global, going: Going, gifts: Vec<Gift>) -> Mem<Asked>
         requires short { IsShortAct going.act }
         requires nodes { All IsGift gifts.items }
         ensures { IfOk result (λ a. a ≡ record { going = going; gifts = gifts.items }) }
     {
-        let call = Call::File(call_for(alloc, need, &gifts)?);
-        Ok(Asked { going, gifts, call })
+        let gives_back = gives_now(alloc, &going)?;
+        let call = Call::File(call_now(alloc, &going, &gifts)?);
+        Ok(Asked {
+            going,
+            gifts,
+            call,
+            gives_back,
+        })
+    }
+
+    /// Whether its call gives promises back.
+    pub fn gives_back(&self) -> bool
+        ensures { result ≡ is_giving (next self.now.going) }
+    {
+        self.gives_back
     }
 
     /// A copy of the act, and of what it has read.

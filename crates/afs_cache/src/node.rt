@@ -1,11 +1,11 @@
 //! A cache manager, by its calls.
 
-ghost use Rattle.std.specs.Prelude.{◌≡◌, ◌≤◌, ◌<◌, None, length, IfOk, IsSome};
+ghost use Rattle.std.specs.Prelude.{◌≡◌, ◌≤◌, ◌<◌, ◌+◌, None, length, IfOk, IsSome, OnOk};
 ghost use Rattle.std.specs.List.{All};
 ghost use Rattle.afs_num.specs.Nodes.{IsNode};
 ghost use Rattle.afs_model.specs.CellRows.{client_calls};
 ghost use Rattle.afs_model.specs.Heads.{user_limit};
-ghost use Rattle.afs_model.specs.Messages.{received_by};
+ghost use Rattle.afs_model.specs.Messages.{FindsMessages, received_by};
 ghost use Rattle.afs_rows.specs.ClientRow.{begin_row, client_row, new_client};
 ghost use Rattle.afs_rows.specs.Runs.{locations_in};
 ghost use Rattle.afs_acts.specs.Acts.{HasServer, IsShortAct};
@@ -94,6 +94,8 @@ impl CacheManager {
         requires last { self.old.state.last < number_limit }
         requires short { IsShortAct act.now }
         ensures step { Answers (begin_row self.old.node self.old.state now act.now) self.old self.new result }
+        // It makes one call at most.
+        ensures last { OnOk result (self.new.state.last ≤ self.old.state.last + 1) }
     {
         self.begin(act, now)
     }
@@ -102,15 +104,21 @@ impl CacheManager {
     pub fn receive(&mut self, bytes: &[u8], now: u32) -> Mem<Outs>
         requires last { self.old.state.last < number_limit }
         ensures step { Takes (λ place. client_row self.old.node self.old.state now place (received_by client_calls bytes.now)) self.old self.new result }
+        // A message that stands in the bytes is found, unless it is a call that isn't served.
+        ensures found { FindsMessages client_calls bytes.now }
+        // The client makes one call at most.
+        ensures last { OnOk result (self.new.state.last ≤ self.old.state.last + 1) }
     {
         let received = read_message(self.alloc, &CLIENT_CALLS, bytes)?;
         self.take_in(received, now)
     }
 
-    /// The unanswered call has waited too long.
+    /// The unanswered call has waited too long. What becomes of it doesn't depend on the time.
     pub fn timeout(&mut self, now: u32) -> Mem<Outs>
         requires waits { IsSome self.old.state.running }
         ensures step { Answers (times_out self.old.node self.old.state self.old.state.running) self.old self.new result }
+        // The call stays the client's last one.
+        ensures last { OnOk result (self.new.state.last ≡ self.old.state.last) }
     {
         let _now = now;
         self.time_out()

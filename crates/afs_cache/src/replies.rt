@@ -1,22 +1,24 @@
 //! What replies tell.
 
-ghost use Rattle.std.specs.Prelude.{◌≡◌, ◌+◌, nat_eq, IfOk};
+ghost use Rattle.std.specs.Prelude.{◌≡◌, ◌+◌, ◌<◌, length, map, nat_eq, not, IfOk, IfSome};
+ghost use Rattle.std.specs.List.{list_any};
 ghost use Rattle.std.specs.Option.{option_copied, option_map};
-ghost use Rattle.afs_num.specs.declared.types.Fid.{Fid};
-ghost use Rattle.afs_rows.specs.ClientRow.{body_told, entry_told, is_below, is_busy_code, names_told, status_told};
+ghost use Rattle.afs_num.specs.declared.types.Fid.{Fid as AnyFid};
+ghost use Rattle.afs_rows.specs.ClientRow.{body_told, entries_told, entry_told, is_below, is_busy_code, is_trusted, names_told, status_told};
 ghost use Rattle.afs_rows.specs.Scopes.{is_in_scope};
 ghost use Rattle.afs_rows.specs.States.{CacheEntry};
 ghost use Rattle.afs_ideal.specs.Directories.{directory_of};
-ghost use Rattle.afs_entries.specs.Cached.{drops_of, entry_at};
+ghost use Rattle.afs_cache.specs.Telling.{first_told, told_of};
+ghost use Rattle.afs_entries.specs.Cached.{drops_of, entry_at, entry_of};
 
 use afs_acts::volume_changed;
 use afs_dir::{Dir, DirFault};
-use afs_entries::{Drops, Entry};
+use afs_entries::{Drops, Entry, Fresh};
 use afs_num::calls::{AfsCallBack, AfsFetchStatus, AfsVolSync, FsCall};
 use afs_num::directories::Names;
 use afs_num::histories::{Body, ReadStatus};
 use afs_num::sequences::{Octets, Sequence};
-use afs_num::types::{Code, Mem, Node};
+use afs_num::types::{Code, Fid, Mem, Node};
 use std::alloc::{AllocError, Global};
 
 /// The status that is shown.
@@ -39,7 +41,7 @@ pub fn entry_told(
     sync: &AfsVolSync,
     body: Option<Body>,
 ) -> Entry
-    ensures { (fid : Fid) → entry_at fid result ≡ entry_told server fid status.now callback.now sync.now body }
+    ensures { (fid : AnyFid) → entry_at fid result ≡ entry_told server fid status.now callback.now sync.now body }
 {
     Entry {
         index: status.sync_counter,
@@ -85,7 +87,7 @@ fn stands_below(entry: &Entry, index: u32) -> bool
 
 /// Whether a trusted entry stands just below this index, or none is there.
 pub fn is_below(now: u32, index: u32, entry: Option<&Entry>) -> bool
-    ensures { (fid : Fid) → result ≡ is_below now index (option_map (entry_at fid) (option_copied entry.entry)) }
+    ensures { (fid : AnyFid) → result ≡ is_below now index (option_map (entry_at fid) (option_copied entry.entry)) }
 {
     match entry {
         Some(entry) => !entry.is_trusted(now) || stands_below(entry, index),
@@ -112,4 +114,81 @@ fn names_told(alloc: Global, contents: &[u8]) -> Mem<Names>
         Err(DirFault::OutOfMemory) => Err(AllocError),
         Err(_) => Ok(Sequence::new(alloc)),
     }
+}
+
+/// A fid with its status and its promise, and what stands behind each.
+#[derive(Clone, Copy)]
+struct Told<'a> {
+    fid: Fid,
+    status: &'a AfsFetchStatus,
+    callback: &'a AfsCallBack,
+    fids: &'a [Fid],
+    statuses: &'a [AfsFetchStatus],
+    callbacks: &'a [AfsCallBack],
+}
+
+fn next_told<'a>(
+    fids: &'a [Fid],
+    statuses: &'a [AfsFetchStatus],
+    callbacks: &'a [AfsCallBack],
+) -> Option<Told<'a>>
+    ensures value { option_map told_of result ≡ first_told fids.entry.now statuses.entry.now callbacks.entry.now }
+    ensures less { IfSome result (λ t. length t.fids.now < length fids.entry.now) }
+{
+    let [fid, fids @ ..] = fids else {
+        return None;
+    };
+    let [status, statuses @ ..] = statuses else {
+        return None;
+    };
+    let [callback, callbacks @ ..] = callbacks else {
+        return None;
+    };
+    Some(Told {
+        fid: *fid,
+        status,
+        callback,
+        fids,
+        statuses,
+        callbacks,
+    })
+}
+
+/// The entries that statuses come with, one for each fid, status and promise.
+pub fn entries_told(
+    alloc: Global,
+    server: Node,
+    sync: &AfsVolSync,
+    fids: &[Fid],
+    statuses: &[AfsFetchStatus],
+    callbacks: &[AfsCallBack],
+) -> Mem<Vec<Fresh>>
+    ensures { IfOk result (λ all. map entry_of all.items ≡ entries_told server sync.now fids.now statuses.now callbacks.now) }
+{
+    let mut all = Vec::new(alloc);
+    let mut fids = fids;
+    let mut statuses = statuses;
+    let mut callbacks = callbacks;
+    while let Some(told) = next_told(fids, statuses, callbacks) {
+        all.push(Fresh {
+            fid: told.fid,
+            entry: entry_told(server, told.status, told.callback, sync, None),
+        })?;
+        fids = told.fids;
+        statuses = told.statuses;
+        callbacks = told.callbacks;
+    }
+    Ok(all)
+}
+
+/// Whether one of these can't be used any more.
+pub fn is_any_spent(all: &[Fresh], now: u32) -> bool
+    ensures { result ≡ list_any (λ e. not (is_trusted now e)) (map entry_of all.now) }
+{
+    for fresh in all {
+        if !fresh.entry.is_trusted(now) {
+            return true;
+        }
+    }
+    false
 }

@@ -19,7 +19,7 @@ use crate::asked::Asked;
 use crate::calls::note_boot;
 use crate::messages::quiet;
 use crate::node::CacheManager;
-use crate::replies::{body_told, entry_told, is_busy, status_told};
+use crate::replies::{body_told, entries_told, entry_told, is_any_spent, is_busy, status_told};
 use afs_acts::{Going, copy_body, copy_read, opcode, volume_changed};
 use afs_entries::{Drops, Fresh};
 use afs_history::lines::{Line, Lines, Outs};
@@ -37,18 +37,6 @@ const MOST_BUSY: u32 = 8;
 struct Seen {
     going: Going,
     lines: Lines,
-}
-
-/// Whether one of these can't be used any more.
-fn is_any_spent(all: &[Fresh], now: u32) -> bool
-    ensures { result ≡ list_any (λ e. not (is_trusted now e)) (map entry_of all.now) }
-{
-    for fresh in all {
-        if !fresh.entry.is_trusted(now) {
-            return true;
-        }
-    }
-    false
 }
 
 impl CacheManager {
@@ -164,28 +152,6 @@ impl CacheManager {
         self.go_with(all, seen.going, seen.lines)
     }
 
-    /// The entries that statuses come with, one for each fid, status and promise.
-    fn entries_told(
-        &self,
-        sync: &AfsVolSync,
-        fids: &[Fid],
-        statuses: &[AfsFetchStatus],
-        callbacks: &[AfsCallBack],
-    ) -> Mem<Vec<Fresh>>
-        ensures { IfOk result (λ all. map entry_of all.items ≡ entries_told self.now.state.callee sync.now fids.now statuses.now callbacks.now) }
-    {
-        let mut all = Vec::new(self.alloc);
-        let mut rest = (fids, statuses, callbacks);
-        while let ([fid, fids @ ..], [status, statuses @ ..], [callback, callbacks @ ..]) = rest {
-            all.push(Fresh {
-                fid: *fid,
-                entry: entry_told(self.calls.callee, status, callback, sync, None),
-            })?;
-            rest = (fids, statuses, callbacks);
-        }
-        Ok(all)
-    }
-
     /// The statuses of these are read in their order.
     fn read_all(&self, all: &[Fresh], going: &mut Going, lines: &mut Lines) -> Mem<()>
         ensures going { OnOk result (going.new ≡ with_statuses (map entry_of all.now) going.old) }
@@ -220,7 +186,14 @@ impl CacheManager {
         let FsCall::BulkStatus { fids } = asked.file_call() else {
             return self.take_plain();
         };
-        let all = self.entries_told(sync, fids.as_slice(), statuses, callbacks)?;
+        let all = entries_told(
+            self.alloc,
+            self.calls.callee,
+            sync,
+            fids.as_slice(),
+            statuses,
+            callbacks,
+        )?;
         if is_any_spent(&all, now) {
             return self.call_again();
         }
