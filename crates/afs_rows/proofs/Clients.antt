@@ -1,6 +1,6 @@
 -- Worked steps of one client, whose replies are given by hand.
 use Rattle.std.proofs.Common.{◌≡◌, ℕ, List, [], ◌∷◌, Option, Some, None, pos, negsuc, refl}
-use Rattle.std.specs.Prelude.{codes, true, false, map}
+use Rattle.std.specs.Prelude.{codes, true, false, Bool, map}
 use Rattle.afs_history.specs.declared.acts.Act.TheVariants as acts
 use Rattle.afs_history.specs.declared.acts.Operand.TheVariants as operands
 use Rattle.afs_history.specs.declared.lines.Line.{Line}
@@ -8,10 +8,13 @@ use Rattle.afs_history.specs.declared.lines.Line.TheVariants as lines
 use Rattle.afs_num.specs.declared.calls.AfsCallBack.{AfsCallBack}
 use Rattle.afs_num.specs.declared.calls.AfsFetchStatus.{AfsFetchStatus}
 use Rattle.afs_num.specs.declared.calls.AfsVolSync.{AfsVolSync}
+use Rattle.afs_num.specs.declared.calls.FsCall.{FsCall}
 use Rattle.afs_num.specs.declared.calls.FsCall.TheVariants as calls
 use Rattle.afs_num.specs.declared.calls.FsReply.{FsReply}
 use Rattle.afs_num.specs.declared.calls.FsReply.TheVariants as replies
+use Rattle.afs_num.specs.declared.directories.Name.{Name}
 use Rattle.afs_num.specs.declared.histories.Body.TheVariants as bodies
+use Rattle.afs_num.specs.declared.histories.ReadBody.{ReadBody}
 use Rattle.afs_num.specs.declared.histories.ReadBody.TheVariants as seen
 use Rattle.afs_num.specs.declared.histories.ReadSource.TheVariants.{Cached, Fetched}
 use Rattle.afs_num.specs.declared.messages.Call.TheVariants as ask

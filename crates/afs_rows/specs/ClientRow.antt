@@ -1,12 +1,12 @@
 -- The row of a client, a cache manager: how an act begins, and what it does with a message.
-use Rattle.std.specs.Prelude.{suc, zero, ◌||◌, Result, Ok, Err, ℕ, ◌+◌, List, [], ◌∷◌, Bool, true, false, not, ◌&&◌, Option, Some, None, ℤ, pos, negsuc, nat_eq, nat_lt, map, filter, find, take, drop, length, if◌then◌else◌}
+use Rattle.std.specs.Prelude.{suc, zero, ◌||◌, Result, Ok, Err, ℕ, ◌+◌, List, [], ◌∷◌, ◌++◌, Bool, true, false, not, ◌&&◌, Option, Some, None, ℤ, pos, negsuc, nat_eq, nat_lt, map, filter, find, take, drop, length, if◌then◌else◌}
 use Rattle.std.specs.List.{list_any, flat_map}
 use Rattle.afs_ideal.specs.Directories.{directory_of}
 use Rattle.afs_ideal.specs.Operations.{volume_called, volume_changed, is_number}
 use Rattle.afs_rows.specs.Going.{reads_of, ClientState, Going, Need, reads, reads_status, gives_back, answers, next, call_for, began, with_read}
 use Rattle.afs_rows.specs.Scopes.{is_in_scope}
 use Rattle.afs_rows.specs.ServerRow.{replied, boot_told, seat_for, not_served, bad_fields}
-use Rattle.afs_rows.specs.States.{CacheEntry, Gift, KnownBoot, Location}
+use Rattle.afs_rows.specs.States.{CacheEntry, Gift, KnownBoot, Location, Seat}
 use Rattle.afs_rows.specs.Steps.{Step}
 use Rattle.afs_history.specs.declared.acts.Act.{Act}
 use Rattle.afs_history.specs.declared.lines.Line.{Line}

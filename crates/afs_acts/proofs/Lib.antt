@@ -1,0 +1,6 @@
+pub mod Walking
+pub mod Numbers
+pub mod Reaching
+pub mod Fitting
+pub mod Staying
+pub mod Told

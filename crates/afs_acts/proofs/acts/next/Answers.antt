@@ -1,0 +1,17 @@
+use Rattle.std.proofs.Common.{ap, sym, ◌∙◌}
+use Rattle.afs_rows.specs.Going.{next}
+use Rattle.afs_acts.specs.Needs.{needed_by}
+use Rattle.afs_acts.proofs.Fitting.{next_fits}
+use Rattle.afs_acts.proofs.Walking.{needs_are}
+use Rattle.afs_acts.proofs.acts.next.Goals as goal
+
+pub returns-clause-value : goal.returns-clause-value
+returns-clause-value c =
+    let g = c.going.inside in
+    c.in_ok-need.ensures.value ∙ (ap (needed_by g.homes g.act) c.as_slice.ensures ∙ (sym (needs_are g.homes g.act g.reads) ∙ ap next c.going.view_is))
+
+pub returns-clause-fits : goal.returns-clause-fits
+returns-clause-fits c = next_fits c.args.going.now c.requires
+
+pub returns-in_err-need-clause-fits : goal.returns-in_err-need-clause-fits
+returns-in_err-need-clause-fits c = next_fits c.args.going.now c.requires

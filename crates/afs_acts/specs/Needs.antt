@@ -1,0 +1,142 @@
+-- What an act needs next, act by act, in the order of the program.
+use Rattle.std.specs.Prelude.{ℕ, ◌||◌, Bool, true, false, List, [], ◌∷◌, Option, Some, None, Result, Ok, Err, nat_eq, if◌then◌else◌}
+use Rattle.std.specs.Borrow.{Bor}
+use Rattle.afs_history.specs.declared.acts.Act.{Act}
+use Rattle.afs_history.specs.declared.acts.Act.TheVariants as acts
+use Rattle.afs_history.specs.declared.acts.Operand.{Operand}
+use Rattle.afs_history.specs.Written.{bytes_in}
+use Rattle.afs_num.specs.declared.types.Fid.{Fid}
+use Rattle.afs_num.specs.declared.calls.FsCall.{FsCall}
+use Rattle.afs_num.specs.declared.calls.FsCall.TheVariants as calls
+use Rattle.afs_num.specs.declared.histories.Body.{Body}
+use Rattle.afs_num.specs.declared.histories.Body.TheVariants as bodies
+use Rattle.afs_num.specs.declared.histories.ReadStatus.{ReadStatus}
+use Rattle.afs_rows.specs.Going as going
+use Rattle.afs_rows.specs.Going.{Need, Shown, Taken, Homes, Going, Parted, first_status, has_rights, by_kind, nothing_set, mode_set, stored_whole, named_first, reading_status, reading_rights, is_root}
+use Rattle.afs_acts.specs.Walks.{At, Within, need_of, then_on, goes_to, body_at, object_at, path_at, parent_at}
+use Rattle.afs_acts.specs.declared.types.Need as needs
+use Rattle.afs_acts.specs.declared.walks.At as walks
+use Rattle.afs_acts.specs.declared.walks.Within as walked
+use Rattle.afs_acts.specs.declared.walks.Taken as read
+
+-- ---- what the program's functions give, in the words of the rows
+
+abbrev pub at_of : walks.At → At
+at_of a = record { fid = a.fid; rest = a.rest.now }
+
+abbrev pub within_of : walked.Within → Within
+within_of w = record { directory = w.directory; name = w.name.now; rest = w.rest.now }
+
+abbrev pub taken_of : read.Taken → Taken Body
+taken_of t = record { found = t.body.now; rest = t.rest.now }
+
+abbrev pub came_fid : Result Fid needs.Need → Result Fid Need
+came_fid (Ok f) = Ok f
+came_fid (Err need) = Err (need_of need)
+
+abbrev pub came_body : Result read.Taken needs.Need → Result (Taken Body) Need
+came_body (Ok t) = Ok (taken_of t)
+came_body (Err need) = Err (need_of need)
+
+abbrev pub came : Result walks.At needs.Need → Result At Need
+came (Ok a) = Ok (at_of a)
+came (Err need) = Err (need_of need)
+
+abbrev pub came_within : Result walked.Within needs.Need → Result Within Need
+came_within (Ok w) = Ok (within_of w)
+came_within (Err need) = Err (need_of need)
+
+-- ---- reads
+
+abbrev pub first_read : List Shown → Option (Shown × List Shown)
+first_read [] = None
+first_read (r ∷ rs) = Some (r, rs)
+
+abbrev pub status_rest : Option (Taken ReadStatus) → Option (List Shown)
+status_rest None = None
+status_rest (Some t) = Some t.rest
+
+abbrev pub first_name : List (List ℕ) → Option (List ℕ × List (List ℕ))
+first_name [] = None
+first_name (n ∷ names) = Some (n, names)
+
+abbrev pub first_parted : Bor (List (List ℕ)) × Bor (List ℕ) → Parted
+first_parted p = record { front = p.0.now; last = p.1.now }
+
+-- ---- acts
+
+-- the object's body is shown, where it is of the right kind
+abbrev pub shown_need : ℕ → ℕ → ℕ → Option ℕ → Operand → List Shown → Need
+shown_need file directory link home o rs = goes_to (λ (t : Taken Body). by_kind file directory link t.found) (then_on body_at (object_at home o rs))
+
+abbrev pub status_need : Option ℕ → Operand → List Shown → Need
+status_need home o rs = goes_to (λ (a : At). reading_status a.fid a.rest) (object_at home o rs)
+
+abbrev pub rights_need : Option ℕ → Operand → List Shown → Need
+rights_need home o rs = goes_to (λ (a : At). reading_rights a.fid a.rest) (object_at home o rs)
+
+-- each of these was read, in their order
+abbrev pub are_read_on : (List Shown → Bool) → Option (Taken ReadStatus) → Bool
+are_read_on more None = false
+are_read_on more (Some t) = more t.rest
+
+abbrev pub are_read : List Fid → List Shown → Bool
+are_read [] rs = true
+are_read (f ∷ fs) rs = are_read_on (are_read fs) (first_status f rs)
+
+abbrev pub statuses_seen : ℕ → List Shown → Body → Need
+statuses_seen volume rs (bodies.Dir names) = if are_read (named_first volume names) rs then going.answers 0 else going.reads_statuses (named_first volume names)
+statuses_seen volume rs b = going.answers 20
+
+abbrev pub statuses_by : At → Result (Taken Body) Need → Need
+statuses_by a r = goes_to (λ (t : Taken Body). statuses_seen a.fid.volume t.rest t.found) r
+
+abbrev pub statuses_need : Option ℕ → Operand → List Shown → Need
+statuses_need home o rs = goes_to (λ (a : At). statuses_by a (body_at a)) (object_at home o rs)
+
+abbrev pub on_object : Option ℕ → Operand → List Shown → (Fid → FsCall) → Need
+on_object home o rs call = goes_to (λ (a : At). going.asks_for (call a.fid)) (object_at home o rs)
+
+abbrev pub in_parent : Option ℕ → List (List ℕ) → List Shown → (Fid → List ℕ → FsCall) → Need
+in_parent home names rs call = goes_to (λ (w : Within). going.asks_for (call w.directory w.name)) (parent_at home names rs)
+
+-- 22: the two are of different volumes
+abbrev pub moved : Within → Within → Need
+moved d e = if nat_eq d.directory.volume e.directory.volume then going.asks_for (calls.Rename d.directory d.name e.directory e.name) else going.answers 22
+
+abbrev pub linked : At → Within → Need
+linked a d = if nat_eq a.fid.volume d.directory.volume then going.asks_for (calls.Link d.directory d.name a.fid) else going.answers 22
+
+abbrev pub move_need : Homes → List (List ℕ) → List (List ℕ) → List Shown → Need
+move_need h old new rs = goes_to (λ (d : Within). goes_to (moved d) (parent_at h.second new d.rest)) (parent_at h.first old rs)
+
+abbrev pub link_need : Homes → List (List ℕ) → List (List ℕ) → List Shown → Need
+link_need h target new rs = goes_to (λ (a : At). goes_to (linked a) (parent_at h.second new a.rest)) (path_at h.first target rs)
+
+abbrev pub needed_by : Homes → Act → List Shown → Need
+needed_by h (acts.Open o) rs = shown_need 0 21 22 h.first o rs
+needed_by h (acts.ListNames o) rs = shown_need 20 0 20 h.first o rs
+needed_by h (acts.ReadLink o) rs = shown_need 22 21 0 h.first o rs
+needed_by h (acts.Close o contents) rs = on_object h.first o rs (λ f. stored_whole f (bytes_in contents))
+needed_by h (acts.SetMode o mode) rs = on_object h.first o rs (λ f. calls.StoreStatus f (mode_set mode))
+needed_by h (acts.SetAccessList o text) rs = on_object h.first o rs (λ f. calls.StoreAcl f (bytes_in text))
+needed_by h (acts.Make p) rs = in_parent h.first p.names rs (λ d name. calls.CreateFile d name nothing_set)
+needed_by h (acts.MakeDirectory p) rs = in_parent h.first p.names rs (λ d name. calls.MakeDir d name nothing_set)
+needed_by h (acts.Symlink p target) rs = in_parent h.first p.names rs (λ d name. calls.Symlink d name (bytes_in target) nothing_set)
+needed_by h (acts.Remove p) rs = in_parent h.first p.names rs calls.RemoveFile
+needed_by h (acts.RemoveDirectory p) rs = in_parent h.first p.names rs calls.RemoveDir
+needed_by h (acts.Move p q) rs = if (is_root p || is_root q) then going.answers 22 else move_need h p.names q.names rs
+needed_by h (acts.Link p q) rs = if is_root q then going.answers 22 else link_need h p.names q.names rs
+needed_by h (acts.Stat o) rs = status_need h.first o rs
+needed_by h (acts.StatAll o) rs = statuses_need h.first o rs
+needed_by h (acts.GetAccessList o) rs = rights_need h.first o rs
+needed_by h acts.GiveUp rs = going.gives_back
+
+unfoldable pub needed : Going → Need
+needed g = needed_by g.homes g.act g.reads
+
+-- it needs nothing that an entry of a cache shows
+abbrev pub NeedsNoEntry : Need → Type 0
+NeedsNoEntry (going.reads f) = ⊥
+NeedsNoEntry (going.reads_status f) = ⊥
+NeedsNoEntry need = Unit {0}

@@ -1,0 +1,164 @@
+//! Copies.
+
+ghost use Rattle.std.specs.Prelude.{◌≡◌, IfOk, replicate};
+ghost use Rattle.afs_history.specs.Written.{bytes_in};
+
+use afs_history::acts::{Act, Operand, Path, Written};
+use afs_num::directories::Names;
+use afs_num::histories::{Body, ReadBody};
+use afs_num::sequences::{Octets, Sequence};
+use afs_num::types::Mem;
+use std::alloc::Global;
+
+fn copy_names(alloc: Global, names: &Names) -> Mem<Names>
+    ensures { IfOk result (λ c. c ≡ names.now) }
+{
+    let mut copy = Sequence::new(alloc);
+    for name in names.as_slice() {
+        copy.push(name.copy(alloc)?)?;
+    }
+    Ok(copy)
+}
+
+pub fn copy_body(alloc: Global, body: &Body) -> Mem<Body>
+    ensures { IfOk result (λ c. c ≡ body.now) }
+{
+    match body {
+        Body::File(contents) => Ok(Body::File(contents.copy(alloc)?)),
+        Body::Dir(names) => Ok(Body::Dir(copy_names(alloc, names)?)),
+        Body::Link(text) => Ok(Body::Link(text.copy(alloc)?)),
+        Body::Gone => Ok(Body::Gone),
+    }
+}
+
+pub fn copy_read(alloc: Global, body: &ReadBody) -> Mem<ReadBody>
+    ensures { IfOk result (λ c. c ≡ body.now) }
+{
+    match body {
+        ReadBody::Contents(body) => Ok(ReadBody::Contents(copy_body(alloc, body)?)),
+        ReadBody::Status(status) => Ok(ReadBody::Status(*status)),
+        ReadBody::AccessList(text) => Ok(ReadBody::AccessList(text.copy(alloc)?)),
+    }
+}
+
+fn copy_components(alloc: Global, names: &Sequence<Octets>) -> Mem<Sequence<Octets>>
+    ensures { IfOk result (λ c. c ≡ names.now) }
+{
+    let mut copy = Sequence::new(alloc);
+    for name in names.as_slice() {
+        copy.push(name.copy(alloc)?)?;
+    }
+    Ok(copy)
+}
+
+fn copy_path(alloc: Global, path: &Path) -> Mem<Path>
+    ensures { IfOk result (λ c. c ≡ path.now) }
+{
+    Ok(Path {
+        volume: path.volume.copy(alloc)?,
+        names: copy_components(alloc, &path.names)?,
+    })
+}
+
+fn copy_operand(alloc: Global, operand: &Operand) -> Mem<Operand>
+    ensures { IfOk result (λ c. c ≡ operand.now) }
+{
+    match operand {
+        Operand::Path(path) => Ok(Operand::Path(copy_path(alloc, path)?)),
+        Operand::Fid(fid) => Ok(Operand::Fid(*fid)),
+    }
+}
+
+/// The bytes that a script writes.
+pub fn bytes_in(alloc: Global, written: &Written) -> Mem<Octets>
+    ensures { IfOk result (λ b. b ≡ bytes_in written.now) }
+{
+    match written {
+        Written::Hex(bytes) => bytes.copy(alloc),
+        Written::Fill { count, byte } => filled(alloc, *count, *byte),
+    }
+}
+
+fn filled(alloc: Global, count: u32, byte: u8) -> Mem<Octets>
+    ensures { IfOk result (λ b. b ≡ replicate count byte) }
+{
+    let mut bytes = Sequence::new(alloc);
+    for _ in 0..count {
+        bytes.push(byte)?;
+    }
+    Ok(bytes)
+}
+
+fn copy_written(alloc: Global, written: &Written) -> Mem<Written>
+    ensures { IfOk result (λ c. c ≡ written.now) }
+{
+    match written {
+        Written::Hex(bytes) => Ok(Written::Hex(bytes.copy(alloc)?)),
+        Written::Fill { count, byte } => Ok(Written::Fill {
+            count: *count,
+            byte: *byte,
+        }),
+    }
+}
+
+pub fn copy_act(alloc: Global, act: &Act) -> Mem<Act>
+    ensures { IfOk result (λ c. c ≡ act.now) }
+{
+    match act {
+        Act::Open { operand } => Ok(Act::Open {
+            operand: copy_operand(alloc, operand)?,
+        }),
+        Act::ListNames { operand } => Ok(Act::ListNames {
+            operand: copy_operand(alloc, operand)?,
+        }),
+        Act::ReadLink { operand } => Ok(Act::ReadLink {
+            operand: copy_operand(alloc, operand)?,
+        }),
+        Act::Stat { operand } => Ok(Act::Stat {
+            operand: copy_operand(alloc, operand)?,
+        }),
+        Act::StatAll { operand } => Ok(Act::StatAll {
+            operand: copy_operand(alloc, operand)?,
+        }),
+        Act::GetAccessList { operand } => Ok(Act::GetAccessList {
+            operand: copy_operand(alloc, operand)?,
+        }),
+        Act::GiveUp => Ok(Act::GiveUp),
+        Act::Close { operand, contents } => Ok(Act::Close {
+            operand: copy_operand(alloc, operand)?,
+            contents: copy_written(alloc, contents)?,
+        }),
+        Act::SetMode { operand, mode } => Ok(Act::SetMode {
+            operand: copy_operand(alloc, operand)?,
+            mode: *mode,
+        }),
+        Act::SetAccessList { operand, text } => Ok(Act::SetAccessList {
+            operand: copy_operand(alloc, operand)?,
+            text: copy_written(alloc, text)?,
+        }),
+        Act::Make { path } => Ok(Act::Make {
+            path: copy_path(alloc, path)?,
+        }),
+        Act::MakeDirectory { path } => Ok(Act::MakeDirectory {
+            path: copy_path(alloc, path)?,
+        }),
+        Act::Remove { path } => Ok(Act::Remove {
+            path: copy_path(alloc, path)?,
+        }),
+        Act::RemoveDirectory { path } => Ok(Act::RemoveDirectory {
+            path: copy_path(alloc, path)?,
+        }),
+        Act::Move { from, to } => Ok(Act::Move {
+            from: copy_path(alloc, from)?,
+            to: copy_path(alloc, to)?,
+        }),
+        Act::Link { target, path } => Ok(Act::Link {
+            target: copy_path(alloc, target)?,
+            path: copy_path(alloc, path)?,
+        }),
+        Act::Symlink { path, target } => Ok(Act::Symlink {
+            path: copy_path(alloc, path)?,
+            target: copy_written(alloc, target)?,
+        }),
+    }
+}

@@ -1,0 +1,175 @@
+//! Where volumes are.
+
+ghost use Rattle.std.specs.Prelude.{◌≡◌, ◌<◌, ◌++◌, IfOk, IfSome, List, OnOk, find, length, nat_eq};
+ghost use Rattle.std.specs.List.{All, list_any};
+ghost use Rattle.std.specs.Option.{option_copied, option_map};
+ghost use Rattle.afs_num.specs.declared.scripts.VolumeLine.{VolumeLine};
+ghost use Rattle.afs_num.specs.Nodes.{IsNode};
+ghost use Rattle.std.specs.Str.{bytes_eq};
+ghost use Rattle.afs_rows.specs.States.{Location as Known};
+ghost use Rattle.afs_rows.specs.ClientRow.{server_at};
+ghost use Rattle.afs_rows.specs.Going.{at_one, at_two, homes_of, volume_at};
+ghost use Rattle.afs_rows.specs.Runs.{location_by, locations_in};
+ghost use Rattle.afs_acts.specs.Acts.{HasServer, first_volume_line};
+
+use crate::types::{Homes, Location};
+use afs_history::acts::{Act, Operand, Path};
+use afs_num::scripts::{VolumeLine, VolumeLines};
+use afs_num::sequences::Octets;
+use afs_num::types::{Mem, Node};
+use std::alloc::Global;
+
+fn next_line(lines: &[VolumeLine]) -> Option<(&VolumeLine, &[VolumeLine])>
+    ensures value { option_map (λ r. (r.0.now, r.1.now)) result ≡ first_volume_line lines.now }
+    ensures less { IfSome result (λ r. length r.1.now < length lines.now) }
+{
+    match lines {
+        [line, rest @ ..] => Some((line, rest)),
+        [] => None,
+    }
+}
+
+/// Whether one of these lines has the number: of the lines with one number the last counts.
+fn is_told(id: u32, lines: &[VolumeLine]) -> bool
+    ensures { result ≡ list_any (λ (v : VolumeLine). nat_eq v.id id) lines.now }
+{
+    lines.iter().any(|line| line.id == id)
+}
+
+/// Adds where a volume is, if its line counts and it is at a server.
+fn add_place(
+    alloc: Global,
+    table: &mut Vec<Location>,
+    volume: &VolumeLine,
+    is_told_later: bool,
+) -> Mem<()>
+    requires { HasServer volume.now }
+    ensures { OnOk result ((ls : List Known) → table.new.items ++ ls ≡ table.old.items ++ location_by is_told_later volume.now volume.now.server ls) }
+{
+    if is_told_later {
+        return Ok(());
+    }
+    if let Node::Server(number) = volume.server {
+        table.push(Location {
+            name: volume.name.copy(alloc)?,
+            id: volume.id,
+            server: number,
+        })?;
+    }
+    Ok(())
+}
+
+/// The table of the volumes at set-up: those at servers.
+pub fn locations(alloc: Global, volumes: &VolumeLines) -> Mem<Vec<Location>>
+    requires { All HasServer volumes.now }
+    ensures { IfOk result (λ ls. ls.items ≡ locations_in volumes.now) }
+{
+    let mut table = Vec::new(alloc);
+    let mut rest = volumes.as_slice();
+    while let Some((volume, more)) = next_line(rest) {
+        add_place(alloc, &mut table, volume, is_told(volume.id, more))?;
+        rest = more;
+    }
+    Ok(table)
+}
+
+fn with_id(table: &[Location], id: u32) -> Option<&Location>
+    ensures { option_copied result ≡ find (λ (l : Known). nat_eq l.id id) table.now }
+{
+    table.iter().find(|location| location.id == id)
+}
+
+fn with_name<'a>(table: &'a [Location], name: &Octets) -> Option<&'a Location>
+    ensures { option_copied result ≡ find (λ (l : Known). bytes_eq l.name name.now) table.now }
+{
+    table
+        .iter()
+        .find(|location| location.name.as_slice() == name.as_slice())
+}
+
+/// The server of a volume; that of one which isn't known nobody asks for.
+pub fn server_at(table: &[Location], id: u32) -> u8
+    ensures value { result ≡ server_at table.now id }
+    ensures node { IsNode (Node.Server result) }
+{
+    match with_id(table, id) {
+        Some(location) => location.server,
+        None => 1,
+    }
+}
+
+fn volume_named(table: &[Location], path: &Path) -> Option<u32>
+    ensures { result ≡ volume_at table.now (Operand.Path path.now) }
+{
+    match with_name(table, &path.volume) {
+        Some(location) => Some(location.id),
+        None => None,
+    }
+}
+
+fn volume_at(table: &[Location], operand: &Operand) -> Option<u32>
+    ensures { result ≡ volume_at table.now operand.now }
+{
+    match operand {
+        Operand::Path(path) => volume_named(table, path),
+        Operand::Fid(fid) => match with_id(table, fid.volume) {
+            Some(location) => Some(location.id),
+            None => None,
+        },
+    }
+}
+
+fn at_one(table: &[Location], operand: &Operand) -> Homes
+    ensures { result ≡ at_one table.now operand.now }
+{
+    Homes {
+        first: volume_at(table, operand),
+        second: None,
+    }
+}
+
+fn at_path(table: &[Location], path: &Path) -> Homes
+    ensures { result ≡ at_one table.now (Operand.Path path.now) }
+{
+    Homes {
+        first: volume_named(table, path),
+        second: None,
+    }
+}
+
+fn at_two(table: &[Location], first: &Path, second: &Path) -> Homes
+    ensures { result ≡ at_two table.now first.now second.now }
+{
+    Homes {
+        first: volume_named(table, first),
+        second: volume_named(table, second),
+    }
+}
+
+/// The numbers of the volumes that an act names.
+pub fn homes_of(table: &[Location], act: &Act) -> Homes
+    ensures { result ≡ homes_of table.now act.now }
+{
+    match act {
+        Act::Open { operand }
+        | Act::ListNames { operand }
+        | Act::ReadLink { operand }
+        | Act::Stat { operand }
+        | Act::StatAll { operand }
+        | Act::Close { operand, .. }
+        | Act::SetMode { operand, .. }
+        | Act::SetAccessList { operand, .. }
+        | Act::GetAccessList { operand } => at_one(table, operand),
+        Act::Make { path }
+        | Act::MakeDirectory { path }
+        | Act::Remove { path }
+        | Act::RemoveDirectory { path }
+        | Act::Symlink { path, .. } => at_path(table, path),
+        Act::Move { from, to } => at_two(table, from, to),
+        Act::Link { target, path } => at_two(table, target, path),
+        Act::GiveUp => Homes {
+            first: None,
+            second: None,
+        },
+    }
+}

@@ -1,0 +1,159 @@
+//! What an act has read, and what it needs.
+
+ghost use Rattle.std.specs.Prelude.{◌≡◌, IfOk, OnErr, OnOk};
+ghost use Rattle.afs_rows.specs.Going.{began, with_read};
+
+use crate::copies::{copy_act, copy_read};
+use crate::places::homes_of;
+use afs_history::acts::Act;
+use afs_num::calls::{Fids, FsCall};
+use afs_num::histories::ReadBody;
+use afs_num::sequences::{Octets, Sequence};
+use afs_num::types::{Fid, Mem};
+use std::alloc::Global;
+use std::marker::Model;
+
+/// Where a volume is: its name, its number, and the number of its server.
+#[derive(Drop)]
+pub struct Location {
+    pub name: Octets,
+    pub id: u32,
+    pub server: u8,
+}
+
+impl Model for Location {
+    ghost use Rattle.afs_num.specs.Nodes.{IsNode};
+    ghost use Rattle.afs_num.specs.declared.types.Node.{Node};
+    ghost use Rattle.afs_rows.specs.States.{Location};
+
+    ghost Value = { Location };
+
+    ghost view = { λ l. record { name = l.name; id = l.id; server = l.server } };
+
+    ghost invariant = { λ l. IsNode (Node.Server l.server) };
+}
+
+/// The numbers of the volumes of an act's operands; none where it has none, or the client doesn't know it.
+#[derive(Drop)]
+pub struct Homes {
+    pub first: Option<u32>,
+    pub second: Option<u32>,
+}
+
+impl Model for Homes {
+    ghost use Rattle.afs_rows.specs.Going.{Homes};
+
+    ghost Value = { Homes };
+
+    ghost view = { λ h. record { first = h.first; second = h.second } };
+}
+
+/// What an act has read of a fid.
+#[derive(Drop)]
+pub struct Shown {
+    pub fid: Fid,
+    pub body: ReadBody,
+}
+
+impl Model for Shown {
+    ghost use Rattle.afs_rows.specs.Going.{Shown};
+
+    ghost Value = { Shown };
+
+    ghost view = { λ s. record { fid = s.fid; body = s.body } };
+}
+
+pub type Reads = Sequence<Shown>;
+
+/// An act that runs, and what it has read, the first first.
+#[derive(Drop)]
+pub struct Going {
+    pub act: Act,
+    pub homes: Homes,
+    pub reads: Reads,
+}
+
+impl Model for Going {
+    ghost use Rattle.afs_rows.specs.Going.{Going};
+
+    ghost Value = { Going };
+
+    ghost view = { λ g. record { act = g.act; homes = g.homes; reads = g.reads } };
+}
+
+impl Shown {
+    fn copy(&self, alloc: Global) -> Mem<Shown>
+        ensures { IfOk result (λ c. c ≡ self.now) }
+    {
+        Ok(Shown {
+            fid: self.fid,
+            body: copy_read(alloc, &self.body)?,
+        })
+    }
+}
+
+fn copy_reads(alloc: Global, reads: &Reads) -> Mem<Reads>
+    ensures { IfOk result (λ c. c ≡ reads.now) }
+{
+    let mut copy = Sequence::new(alloc);
+    for shown in reads.as_slice() {
+        copy.push(shown.copy(alloc)?)?;
+    }
+    Ok(copy)
+}
+
+impl Homes {
+    fn copy(&self) -> Homes
+        ensures { result ≡ self.now }
+    {
+        Homes {
+            first: self.first,
+            second: self.second,
+        }
+    }
+}
+
+impl Going {
+    /// An act that begins.
+    pub fn began(alloc: Global, table: &[Location], act: &Act) -> Mem<Going>
+        ensures { IfOk result (λ g. g ≡ began table.now act.now) }
+    {
+        Ok(Going {
+            act: copy_act(alloc, act)?,
+            homes: homes_of(table, act),
+            reads: Sequence::new(alloc),
+        })
+    }
+
+    /// A copy.
+    pub fn copy(&self, alloc: Global) -> Mem<Going>
+        ensures { IfOk result (λ g. g ≡ self.now) }
+    {
+        Ok(Going {
+            act: copy_act(alloc, &self.act)?,
+            homes: self.homes.copy(),
+            reads: copy_reads(alloc, &self.reads)?,
+        })
+    }
+
+    /// Adds a read.
+    pub fn add(&mut self, fid: Fid, body: ReadBody) -> Mem<()>
+        ensures ok { OnOk result (self.new ≡ with_read fid body self.old) }
+        ensures err { OnErr result (self.new ≡ self.old) }
+    {
+        self.reads.push(Shown { fid, body })
+    }
+}
+
+/// What an act needs next: the body, the status, or the rights of this fid, or the status of each of these; this call; to
+/// give its promises back; or to answer.
+#[derive(Drop)]
+pub enum Need {
+    Body(Fid),
+    Status(Fid),
+    Statuses(Fids),
+    Rights(Fid),
+    Call(FsCall),
+    GiveBack,
+    Answer(u32),
+}

@@ -1,0 +1,277 @@
+//! Walks along names: each directory on the way must have been read.
+
+ghost use Rattle.std.specs.Prelude.{◌≡◌, ◌<◌, length, IfSome};
+ghost use Rattle.std.specs.Option.{option_copied, option_map};
+ghost use Rattle.afs_ideal.specs.Directories.{named};
+ghost use Rattle.afs_rows.specs.Going.{first_body, first_status, has_rights, is_even, is_last_name, looked_up, parted};
+ghost use Rattle.afs_acts.specs.Walks.{along, at_root, body_at, entry_by, fid_at, object_at, parent_at, path_at, walk_to, within};
+ghost use Rattle.afs_acts.specs.Needs.{at_of, came, came_body, came_fid, came_within, first_name, first_parted, first_read, status_rest, taken_of};
+
+use crate::types::{Need, Shown};
+use afs_history::acts::Operand;
+use afs_num::directories::Name;
+use afs_num::histories::{Body, ReadBody};
+use afs_num::sequences::Octets;
+use afs_num::types::Fid;
+
+/// No such volume is known (VL_NOENT).
+const NO_ENTRY: u32 = 363_524;
+
+/// A fid that was reached, and the reads behind it.
+#[derive(Clone, Copy)]
+pub struct At<'a> {
+    pub fid: Fid,
+    pub rest: &'a [Shown],
+}
+
+/// A directory in which a name is meant, and the reads behind it.
+#[derive(Clone, Copy)]
+pub struct Within<'a, 'b> {
+    pub directory: Fid,
+    pub name: &'b Octets,
+    pub rest: &'a [Shown],
+}
+
+/// A body that was read, and the reads behind it.
+#[derive(Clone, Copy)]
+pub struct Taken<'a> {
+    pub body: &'a Body,
+    pub rest: &'a [Shown],
+}
+
+fn next_read(reads: &[Shown]) -> Option<(&Shown, &[Shown])>
+    ensures value { option_map (λ r. (r.0.now, r.1.now)) result ≡ first_read reads.now }
+    ensures less { IfSome result (λ r. length r.1.now < length reads.now) }
+{
+    match reads {
+        [shown, rest @ ..] => Some((shown, rest)),
+        [] => None,
+    }
+}
+
+fn next_name(names: &[Octets]) -> Option<(&Octets, &[Octets])>
+    ensures value { option_map (λ r. (r.0.now, r.1.now)) result ≡ first_name names.now }
+    ensures less { IfSome result (λ r. length r.1.now < length names.now) }
+{
+    match names {
+        [name, rest @ ..] => Some((name, rest)),
+        [] => None,
+    }
+}
+
+/// The first body that was read of this fid.
+fn first_body<'a>(fid: &Fid, reads: &'a [Shown]) -> Option<Taken<'a>>
+    ensures { option_map taken_of result ≡ first_body fid.now reads.now }
+{
+    let mut rest = reads;
+    while let Some((shown, more)) = next_read(rest) {
+        if shown.fid == *fid
+            && let ReadBody::Contents(body) = &shown.body
+        {
+            return Some(Taken { body, rest: more });
+        }
+        rest = more;
+    }
+    None
+}
+
+/// The reads behind the first status that was read of this fid.
+pub fn behind_status<'a>(fid: &Fid, reads: &'a [Shown]) -> Option<&'a [Shown]>
+    ensures { option_copied result ≡ status_rest (first_status fid.now reads.now) }
+{
+    let mut rest = reads;
+    while let Some((shown, more)) = next_read(rest) {
+        if shown.fid == *fid
+            && let ReadBody::Status(_) = &shown.body
+        {
+            return Some(more);
+        }
+        rest = more;
+    }
+    None
+}
+
+/// Whether the rights of this fid were read.
+pub fn has_rights(fid: &Fid, reads: &[Shown]) -> bool
+    ensures { result ≡ has_rights fid.now reads.now }
+{
+    let mut rest = reads;
+    while let Some((shown, more)) = next_read(rest) {
+        if shown.fid == *fid
+            && let ReadBody::AccessList(_) = &shown.body
+        {
+            return true;
+        }
+        rest = more;
+    }
+    false
+}
+
+/// The body of this fid.
+pub fn body_at(at: At<'_>) -> Result<Taken<'_>, Need>
+    ensures { came_body result ≡ body_at (at_of at.entry) }
+{
+    match first_body(&at.fid, at.rest) {
+        Some(taken) => Ok(taken),
+        None => Err(Need::Body(at.fid)),
+    }
+}
+
+fn is_even(vnode: u32) -> bool
+    ensures { result ≡ is_even vnode }
+{
+    vnode % 2 == 0
+}
+
+fn is_last(names: &[Octets]) -> bool
+    ensures { result ≡ is_last_name names.now }
+{
+    match names {
+        [] => true,
+        _ => false,
+    }
+}
+
+/// What a directory's body has under a name: no directory is 20, no such name 2, and what isn't the last name must be a
+/// directory, which its number tells.
+fn entry(inner: bool, volume: u32, name: &Octets, body: &Body) -> Result<Fid, Need>
+    ensures { came_fid result ≡ entry_by inner volume (looked_up name.now body.now) }
+{
+    let Body::Dir(names) = body else {
+        return Err(Need::Answer(20));
+    };
+    let Some(found) = find_name(names.as_slice(), name) else {
+        return Err(Need::Answer(2));
+    };
+    if inner && is_even(found.vnode) {
+        return Err(Need::Answer(20));
+    }
+    Ok(Fid {
+        volume,
+        vnode: found.vnode,
+        unique: found.unique,
+    })
+}
+
+fn find_name<'a>(names: &'a [Name], name: &Octets) -> Option<&'a Name>
+    ensures { option_copied result ≡ named name.now names.entry.now }
+{
+    names
+        .iter()
+        .find(|entry| entry.name.as_slice() == name.as_slice())
+}
+
+/// One name along.
+fn along<'a>(inner: bool, name: &Octets, at: At<'a>) -> Result<At<'a>, Need>
+    ensures { came result ≡ along inner name.now (at_of at.entry) }
+{
+    let taken = body_at(at)?;
+    let fid = entry(inner, at.fid.volume, name, taken.body)?;
+    Ok(At {
+        fid,
+        rest: taken.rest,
+    })
+}
+
+/// Along the names; where all of them must be directories `inner` says so, else all but the last must.
+fn walk<'a>(inner: bool, names: &[Octets], start: At<'a>) -> Result<At<'a>, Need>
+    ensures { came result ≡ walk_to inner names.now (at_of start.entry) }
+{
+    let mut at = start;
+    let mut rest = names;
+    while let Some((name, more)) = next_name(rest) {
+        at = along(inner || !is_last(more), name, at)?;
+        rest = more;
+    }
+    Ok(at)
+}
+
+fn root(volume: u32, reads: &[Shown]) -> At<'_>
+    ensures { at_of result ≡ at_root volume reads.now }
+{
+    At {
+        fid: Fid {
+            volume,
+            vnode: 1,
+            unique: 1,
+        },
+        rest: reads,
+    }
+}
+
+/// The object of a path.
+pub fn path_object<'a>(
+    home: Option<u32>,
+    names: &[Octets],
+    reads: &'a [Shown],
+) -> Result<At<'a>, Need>
+    ensures { came result ≡ path_at home names.now reads.now }
+{
+    match home {
+        Some(volume) => walk(false, names, root(volume, reads)),
+        None => Err(Need::Answer(NO_ENTRY)),
+    }
+}
+
+/// The object of a fid.
+fn fid_object(home: Option<u32>, fid: Fid, reads: &[Shown]) -> Result<At<'_>, Need>
+    ensures { came result ≡ fid_at home fid reads.now }
+{
+    match home {
+        Some(_) => Ok(At { fid, rest: reads }),
+        None => Err(Need::Answer(NO_ENTRY)),
+    }
+}
+
+/// The object of an operand.
+pub fn object<'a>(home: Option<u32>, operand: &Operand, reads: &'a [Shown]) -> Result<At<'a>, Need>
+    ensures { came result ≡ object_at home operand.now reads.now }
+{
+    match operand {
+        Operand::Fid(fid) => fid_object(home, *fid, reads),
+        Operand::Path(path) => path_object(home, path.names.as_slice(), reads),
+    }
+}
+
+/// The name in a directory that was reached: what isn't one is 20.
+fn in_directory<'a, 'b>(name: &'b Octets, at: At<'a>) -> Result<Within<'a, 'b>, Need>
+    ensures { came_within result ≡ within name.now (at_of at.entry) }
+{
+    let taken = body_at(at)?;
+    match taken.body {
+        Body::Dir(_) => Ok(Within {
+            directory: at.fid,
+            name,
+            rest: taken.rest,
+        }),
+        _ => Err(Need::Answer(20)),
+    }
+}
+
+/// The names before the last, and that one.
+fn part(names: &[Octets]) -> Option<(&[Octets], &Octets)>
+    ensures { option_map first_parted result ≡ parted names.now }
+{
+    match names.split_last() {
+        Some((last, front)) => Some((front, last)),
+        None => None,
+    }
+}
+
+/// The last name in its directory, which is read too: the root has none.
+pub fn parent<'a, 'b>(
+    home: Option<u32>,
+    names: &'b [Octets],
+    reads: &'a [Shown],
+) -> Result<Within<'a, 'b>, Need>
+    ensures { came_within result ≡ parent_at home names.now reads.now }
+{
+    let Some((front, last)) = part(names) else {
+        return Err(Need::Answer(22));
+    };
+    let Some(volume) = home else {
+        return Err(Need::Answer(NO_ENTRY));
+    };
+    let at = walk(true, front, root(volume, reads))?;
+    in_directory(last, at)
+}

@@ -1,0 +1,18 @@
+//! A client of the cell: a cache manager.
+#![tactic(auto)]
+
+mod acting;
+mod admitting;
+mod asked;
+mod breaks;
+mod calls;
+mod looks;
+mod messages;
+mod node;
+mod refusing;
+mod replies;
+mod serving;
+mod storing;
+mod taking;
+
+pub use node::CacheManager;

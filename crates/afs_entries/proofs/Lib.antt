@@ -1,0 +1,9 @@
+pub mod Caching
+pub mod Removing
+pub mod Listing
+pub mod Refreshing
+pub mod Evicting
+pub mod Batches
+pub mod Placing
+pub mod Behind
+pub mod Coming

@@ -1,0 +1,9 @@
+use Rattle.std.proofs.Common.{◌≡◌, drop}
+use Rattle.afs_entries.specs.Cached.{without_all}
+use Rattle.afs_entries.proofs.cache.Cache.drop_each.Given as goal
+
+abbrev pub invariant-loop-fid : goal.invariant-loop-fid
+invariant-loop-fid l = record {
+  entries : without_all (drop l.fid-index l.fids) l.self.entries ≡ without_all l.fids l.fn.self.entries;
+  capacity : l.self.capacity ≡ l.fn.self.capacity;
+}
