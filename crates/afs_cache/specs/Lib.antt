@@ -1,6 +1,0 @@
-pub mod Managing
-pub mod Asking
-pub mod Looking
-pub mod Acting
-pub mod Serving
-pub mod Telling
