@@ -1,10 +1,10 @@
 -- The kept replies of a table of calls, read as messages.
-use Rattle.std.proofs.Common.{◌≡◌, ℕ, Bool, true, false, cond, not, List, [], ◌∷◌, ◌++◌, map, Option, Some, None, refl, sym, ap, subst, ◌∙◌, eqb, eq-eqb}
+use Rattle.std.proofs.Common.{◌≡◌, ℕ, Bool, true, false, cond, not, List, [], ◌∷◌, ◌++◌, map, Option, Some, None, refl, sym, ap, subst, ◌∙◌, eqb, eq-eqb, ◌≤◌, arith}
 use Rattle.std.specs.Prelude.{IfSome}
 use Rattle.std.specs.Option.{option_map}
 use Rattle.std.specs.List.{All}
 use Rattle.std.proofs.lemmas.List.Elements.{All-filter, All-push}
-use Rattle.afs_num.specs.Keyed.{HasRoom}
+use Rattle.afs_num.specs.Keyed.{HasRoom, KeepsRoom}
 use Rattle.afs_num.specs.Nodes.{same_node}
 use Rattle.afs_num.specs.declared.types.Head.{Head}
 use Rattle.afs_num.specs.declared.types.Key.{Key}
@@ -137,3 +137,10 @@ room_by (Some s) room h = tt
 
 pub room_read : (m : Node) (seats : List Seat) (room : ℕ) → HasRoom (call_seat m (read_seats seats)) room → HasRoom (call_seat m seats) room
 room_read m seats room h = room_by (call_seat m seats) room (subst (λ (o : Option (CallSeat Message)). HasRoom o room) (seat_read m seats) h)
+
+room_after : (o : Option Seat) (a b d : ℕ) → KeepsRoom o a b → b ≤ d → KeepsRoom (option_map read_seat o) a d
+room_after None a b d h le = omega (arith, h, le)
+room_after (Some s) a b d h le = omega (arith, h, le)
+
+pub room_kept : (m : Node) (seats : List Seat) (a b d : ℕ) → KeepsRoom (call_seat m seats) a b → b ≤ d → KeepsRoom (call_seat m (read_seats seats)) a d
+room_kept m seats a b d h le = subst (λ (o : Option (CallSeat Message)). KeepsRoom o a d) (sym (seat_read m seats)) (room_after (call_seat m seats) a b d h le)

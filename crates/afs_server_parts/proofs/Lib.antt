@@ -2,6 +2,7 @@ pub mod Calls
 pub mod Finding
 pub mod First
 pub mod Keeping
+pub mod Read
 pub mod Same
 pub mod Sending
 pub mod Spelling

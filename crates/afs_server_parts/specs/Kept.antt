@@ -1,5 +1,5 @@
 -- Kept replies, which a server has as bytes.
-use Rattle.std.specs.Prelude.{◌≡◌, ℕ, List, map, IfSome, Option, Some, None}
+use Rattle.std.specs.Prelude.{◌≡◌, ℕ, List, map, Bool, true, false, IfSome, Option, Some, None}
 use Rattle.afs_num.specs.declared.messages.Message.{Message}
 use Rattle.afs_num.specs.declared.messages.Carried.TheVariants.{Notice}
 use Rattle.afs_num.specs.declared.messages.Received.{Received}
@@ -15,6 +15,10 @@ use Rattle.afs_call.specs.declared.seat.Admit.TheVariants.{Run, Kept, InProgress
 pub record Spells (m : Message) (bytes : List ℕ) : Type 0 where
   pub spelled : bytes ≡ messages.spelled m
   pub read : received bytes ≡ Whole m
+
+abbrev pub is_whole : Received → Bool
+is_whole (Whole m) = true
+is_whole r = false
 
 abbrev pub message_in : Received → Option Message
 message_in (Whole m) = Some m

@@ -1,13 +1,13 @@
 //! The nodes that a server calls, with the calls that they haven't answered.
 
-ghost use Rattle.std.specs.Prelude.{◌≡◌, ◌<◌, ◌+◌, ◌-◌, is_some, length, IfOk, OnOk};
+ghost use Rattle.std.specs.Prelude.{◌≡◌, ◌<◌, ◌+◌, ◌-◌, is_some, length, IfOk, OnErr, OnOk};
 ghost use Rattle.std.specs.Option.{option_copied, option_map};
 ghost use Rattle.std.specs.Vec.{vec_capacity};
-ghost use Rattle.afs_num.specs.Keyed.{HasRoom};
+ghost use Rattle.afs_num.specs.Keyed.{put_last, HasRoom};
 ghost use Rattle.afs_num.specs.Nodes.{same_node};
 ghost use Rattle.afs_num.specs.declared.types.Node.{Node};
 ghost use Rattle.afs_rows.specs.Callbacks.{put_at};
-ghost use Rattle.afs_server_parts.specs.Called.{call_seen, call_to, callee_at, calls_seen, known_to, AreGoodCalls, IsGoodOrNone};
+ghost use Rattle.afs_server_parts.specs.Called.{call_seen, call_to, callee_at, calls_seen, known_to, node_called, AreGoodCalls, IsGoodOrNone};
 
 use afs_breaks::types::OwedBreak;
 use afs_num::keyed::{Keyed, find_keyed, put_last};
@@ -160,6 +160,7 @@ pub fn is_waiting(callees: &[Callee], node: Node) -> bool
 /// memory; a node's first call needs room for one callee.
 fn put_callee(callees: &mut Vec<Callee>, callee: Callee)
     requires { HasRoom (callee_at callee.node callees.old.items) (vec_capacity callees.old - length callees.old.items) }
+    ensures items { callees.new.items ≡ put_last node_called same_node callee callees.old.items }
     ensures calls { calls_seen callees.new.items ≡ put_at callee.node (option_map call_seen callee.call) (calls_seen callees.old.items) }
     ensures known { known_to callees.new.items ≡ put_at callee.node callee.known (known_to callees.old.items) }
     ensures good { (me : Node) → AreGoodCalls me callees.old.items → IsGoodOrNone me callee.node callee.call → AreGoodCalls me callees.new.items }
@@ -169,6 +170,8 @@ fn put_callee(callees: &mut Vec<Callee>, callee: Callee)
 
 /// Puts an unanswered call in the place of this node's, or takes that away.
 pub fn set_call(callees: &mut Vec<Callee>, node: Node, call: Option<BackCall>) -> Mem<()>
+    ensures items { OnOk result (callees.new.items ≡ put_last node_called same_node (record { node = node; known = known_to callees.old.items node; call = call }) callees.old.items) }
+    ensures err { OnErr result (callees.new.items ≡ callees.old.items) }
     ensures calls { OnOk result (calls_seen callees.new.items ≡ put_at node (option_map call_seen call) (calls_seen callees.old.items)) }
     ensures known { OnOk result (known_to callees.new.items ≡ known_to callees.old.items) }
     ensures good { OnOk result ((me : Node) → AreGoodCalls me callees.old.items → IsGoodOrNone me node call → AreGoodCalls me callees.new.items) }
@@ -191,6 +194,8 @@ pub fn copy_call_to(alloc: Global, callees: &[Callee], node: Node) -> Mem<Option
 
 /// The node's boot number is this one, as the node told.
 pub fn set_known(alloc: Global, callees: &mut Vec<Callee>, node: Node, known: u32) -> Mem<()>
+    ensures items { OnOk result (callees.new.items ≡ put_last node_called same_node (record { node = node; known = known; call = call_to callees.old.items node }) callees.old.items) }
+    ensures err { OnErr result (callees.new.items ≡ callees.old.items) }
     ensures calls { OnOk result (calls_seen callees.new.items ≡ calls_seen callees.old.items) }
     ensures known { OnOk result (known_to callees.new.items ≡ put_at node known (known_to callees.old.items)) }
     ensures good { OnOk result ((me : Node) → AreGoodCalls me callees.old.items → AreGoodCalls me callees.new.items) }

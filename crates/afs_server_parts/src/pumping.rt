@@ -1,6 +1,6 @@
 //! The end of each step: replies whose breaks have ended go out, and then calls for what is owed.
 
-ghost use Rattle.std.specs.Prelude.{◌≡◌, ◌≤◌, ◌+◌, List, None, IfOk, OnOk};
+ghost use Rattle.std.specs.Prelude.{◌≡◌, ◌≤◌, ◌+◌, List, [], None, IfOk, OnOk};
 ghost use Rattle.std.specs.List.{All};
 ghost use Rattle.afs_num.specs.Nodes.{IsNode};
 ghost use Rattle.afs_num.specs.declared.types.Node.{Node};
@@ -106,6 +106,7 @@ impl Turn {
         ensures callees { self.new.calls.callees ≡ self.old.calls.callees }
         ensures lines { self.new.lines ≡ self.old.lines }
         ensures last { self.new.calls.last ≡ self.old.calls.last }
+        ensures outs { OnOk result (self.new.outs ≡ []) }
     {
         send_ready(
             alloc,
@@ -123,6 +124,7 @@ impl Turn {
         keep_waiting(alloc, &mut held, self.held.as_slice(), &self.owed)?;
         keep_waiting(alloc, &mut held, self.outs.as_slice(), &self.owed)?;
         self.held = held;
+        self.outs = Sequence::new(alloc);
         Ok(())
     }
 
@@ -134,6 +136,8 @@ impl Turn {
         ensures good { OnOk result (AreGoodCalls server self.old.calls.callees.items → AreGoodCalls server self.new.calls.callees.items) }
         ensures drawn { OnOk result (self.old.calls.last ≤ self.new.calls.last) }
         ensures lines { self.new.lines ≡ self.old.lines }
+        ensures owed { self.new.owed ≡ self.old.owed }
+        ensures outs { OnOk result (self.new.outs ≡ []) }
     {
         self.release(alloc)?;
         start_all(alloc, server, boot, &self.owed, &mut self.calls)?;

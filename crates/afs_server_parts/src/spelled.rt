@@ -2,12 +2,13 @@
 
 ghost use Rattle.std.specs.Prelude.{◌≡◌, ◌∷◌, [], IfOk};
 ghost use Rattle.afs_model.specs.Messages.{messages_spelled, parcels_read, HasSpelling};
-ghost use Rattle.afs_server_parts.specs.Kept.{IsMessage, Spells};
+ghost use Rattle.afs_server_parts.specs.Kept.{IsMessage, IsSpelling, Spells};
 
 use afs_message::messages::encode_message;
 use afs_num::messages::Message;
 use afs_num::sequences::{Octets, Sequence};
 use afs_num::types::{Head, Mem, Parcel, Parcels};
+use afs_rpc::heads::read_head;
 use std::alloc::Global;
 use std::marker::Model;
 
@@ -41,6 +42,21 @@ impl SpelledMessage {
             head: message.head,
             bytes,
         })
+    }
+
+    /// The message that these bytes spell.
+    pub fn read(alloc: Global, bytes: &[u8]) -> Mem<SpelledMessage>
+        requires { IsSpelling bytes.now }
+        ensures value { IfOk result (λ m. Spells m bytes.now) }
+        ensures sound { IfOk result HasSpelling }
+    {
+        match read_head(bytes) {
+            Ok(head) => {
+                let bytes = Octets::from_slice(alloc, bytes)?;
+                Ok(SpelledMessage { head, bytes })
+            }
+            Err(_) => unreachable!(),
+        }
     }
 
     pub fn head(&self) -> &Head

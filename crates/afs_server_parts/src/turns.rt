@@ -30,7 +30,7 @@ pub struct Calls {
 }
 
 /// What a step does: the breaks that are then owed, its calls, the replies that wait, its lines, and replies that are to be
-/// sent now or to wait.
+/// sent now or to wait. A plan for which memory was wanting is to be thrown away.
 #[derive(Drop)]
 pub struct Turn {
     pub owed: Vec<OwedBreak>,

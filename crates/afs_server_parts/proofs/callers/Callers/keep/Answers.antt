@@ -1,10 +1,10 @@
 use Rattle.std.proofs.Common.{◌≡◌, ℕ, List, Some, ap, sym, subst, ◌∙◌}
 use Rattle.std.specs.List.{All}
-use Rattle.afs_num.specs.Keyed.{HasRoom}
+use Rattle.afs_num.specs.Keyed.{HasRoom, KeepsRoom}
 use Rattle.afs_num.specs.declared.messages.Message.{Message}
 use Rattle.afs_model.specs.Calls.{CallSeat, call_seat, call_seated, finished, paired, runs}
 use Rattle.afs_server_parts.specs.Kept.{KeepsSpelling, read_seat, read_seats, Served}
-use Rattle.afs_server_parts.proofs.Keeping.{ended_at_once, keeps_all, room_read, runs_read, seated_read}
+use Rattle.afs_server_parts.proofs.Keeping.{ended_at_once, keeps_all, room_kept, room_read, runs_read, seated_read}
 use Rattle.afs_server_parts.proofs.callers.Callers.keep.Goals as goal
 
 pub start-requires-clause-runs : goal.start-requires-clause-runs
@@ -36,3 +36,8 @@ returns-clause-seats c =
     let kept : CallSeat (List ℕ) = record { caller = key.node; epoch = key.epoch; number = key.number; reply = Some reply } in
     ap read_seats (c.finish.ensures.seats ∙ (ap (finished key reply) c.start.ensures.seats ∙ ended_at_once key reply old))
     ∙ (seated_read kept old ∙ ap (λ (s : Served). call_seated (read_seat kept) s.seats) c.self.view_is)
+
+pub returns-clause-room : goal.returns-clause-room
+returns-clause-room c =
+    subst (λ (s : Served). KeepsRoom (call_seat c.args.key.node s.seats) s.room c.finish.new.self.room) c.self.view_is
+    (room_kept c.args.key.node c.self.inside.table.seats c.self.inside.table.room c.start.new.self.room c.finish.new.self.room c.start.ensures.room c.finish.ensures.room)
