@@ -1,5 +1,5 @@
 -- A store over a journal that was taken up.
-use Rattle.std.proofs.Common.{◌≡◌, ℕ, ◌+◌, Bool, true, false, not, List, [], ◌∷◌, length, map, Option, Some, None, is_some, if◌then◌else◌, refl, sym, ap, subst, ◌∙◌, arith}
+use Rattle.std.proofs.Common.{◌≡◌, ℕ, ◌+◌, Bool, true, false, not, List, [], length, map, Option, Some, None, is_some, if◌then◌else◌, refl, sym, ap, subst, ◌∙◌, arith}
 use Rattle.std.specs.Option.{option_map}
 use Rattle.afs_num.specs.declared.faults.StoreFault.{StoreFault}
 use Rattle.afs_num.specs.declared.faults.StoreFault.TheVariants as faults
@@ -12,7 +12,7 @@ use Rattle.afs_journal.specs.Records.{journal_bytes, whole_records}
 use Rattle.afs_records.specs.Durable.{Durable, Effect, fold_all, StandFor}
 use Rattle.afs_records.specs.Stands.{Stands}
 use Rattle.afs_volstore.specs.Folds.{places_length, wanted_lines, TellsLast}
-use Rattle.afs_volstore.specs.Opening.{last_effect, lines_begun, lines_unless_told, same_mark, IsAttachFault, IsFoldFault}
+use Rattle.afs_volstore.specs.Opening.{last_effect, lines_begun, same_mark, IsAttachFault, IsFoldFault}
 use Rattle.afs_volstore.specs.States.{placed}
 use Rattle.afs_volstore.specs.Stores.{IsCaused, IsCounted, IsKept}
 use Rattle.afs_volstore.specs.Telling.{in_words}

@@ -1,8 +1,8 @@
 -- What a change leaves of a volume is what the fold leaves.
-use Rattle.std.proofs.Common.{◌≡◌, ℕ, suc, ◌+◌, ◌<◌, ◌≤◌, Bool, true, false, not, List, [], ◌∷◌, length, map, Option, Some, None, is_some, nat_eq, nat_lt, if◌then◌else◌, refl, sym, ap, subst, ◌∙◌, arith, inl, inr}
+use Rattle.std.proofs.Common.{◌≡◌, ℕ, suc, ◌<◌, ◌≤◌, Bool, true, false, not, List, [], ◌∷◌, length, Option, Some, None, is_some, nat_eq, nat_lt, if◌then◌else◌, refl, sym, ap, subst, ◌∙◌, arith, inl, inr}
 use Rattle.std.proofs.lemmas.Bool.{lt-ltb, le-ltb}
 use Rattle.std.proofs.lemmas.Bool.Decides.{nat_tests}
-use Rattle.std.specs.Prelude.{◌&&◌, ◌⊎◌}
+use Rattle.std.specs.Prelude.{◌&&◌}
 use Rattle.std.specs.List.{list_all, AllByRecursion}
 use Rattle.afs_num.specs.declared.vnodes.Vnode as image
 use Rattle.afs_num.specs.declared.volumes.Change.{Change}
@@ -13,9 +13,9 @@ use Rattle.afs_ideal.specs.Volumes.{Vnode}
 use Rattle.afs_ideal.specs.Tables.{Table, get, set, unset, AscendsFrom}
 use Rattle.afs_ideal.specs.VnodeMaps.{most_vnodes, is_full_for}
 use Rattle.afs_ideal.proofs.Tables.{ascends_set, ascends_unset}
-use Rattle.afs_records.specs.Durable.{Stored, allowed, changed_stored, counted_as, is_there, with_image, with_images, without}
+use Rattle.afs_records.specs.Durable.{Stored, allowed, changed_stored, counted_as, with_image, with_images, without}
 use Rattle.afs_records.specs.Sound.{is_sound}
-use Rattle.afs_volume.specs.Assembling.{are_read, can_be_read, make_volume}
+use Rattle.afs_volume.specs.Assembling.{are_read, make_volume}
 use Rattle.afs_volume.specs.Seen.{all_seen, kind_seen, volume_seen, AreReadable, IsReadable}
 use Rattle.afs_volume.specs.Taking.{is_among, put_but, stored_of, stored_with, without_all}
 use Rattle.afs_volume.specs.declared.volume.Volume.{Volume}

@@ -1,5 +1,5 @@
 -- What a change tells, vnode by vnode.
-use Rattle.std.proofs.Common.{◌≡◌, ℕ, zero, suc, ◌+◌, ◌<◌, ◌≤◌, Bool, true, false, List, [], ◌∷◌, ◌++◌, length, map, drop, take, Option, Some, None, is_some, min, refl, sym, ap, subst, ◌∙◌, arith, slice_get, append_assoc}
+use Rattle.std.proofs.Common.{◌≡◌, ℕ, zero, suc, ◌+◌, ◌≤◌, true, List, [], ◌∷◌, ◌++◌, length, map, drop, Option, Some, None, is_some, min, refl, sym, ap, subst, ◌∙◌, arith, slice_get, append_assoc}
 use Rattle.std.specs.List.{AllByRecursion}
 use Rattle.std.specs.Option.{option_map}
 use Rattle.std.proofs.lemmas.List.{length-map}
@@ -12,11 +12,9 @@ use Rattle.afs_num.specs.declared.vnodes.Vnode as image
 use Rattle.afs_ideal.specs.Images.{value_of}
 use Rattle.afs_ideal.specs.Operations.{last_count}
 use Rattle.afs_ideal.specs.Tables.{Table, get, set}
-use Rattle.afs_ideal.specs.Volumes.{Vnode, Volume, gone_at, version_at}
+use Rattle.afs_ideal.specs.Volumes.{Vnode, Volume, gone_at}
 use Rattle.afs_records.specs.Durable.{change_lines, gone_versions, outcome_versions, with_outcomes, with_removed}
-use Rattle.afs_seats.specs.Seated.{seen_as}
 use Rattle.afs_seats.proofs.Places.{get_seen, set_seen}
-use Rattle.afs_volume.specs.Assembling.{can_be_read}
 use Rattle.afs_volume.specs.Seen.{all_seen, kind_seen, seen, IsReadable}
 use Rattle.afs_volume.proofs.Folded.{value_seen}
 use Rattle.afs_volume.proofs.Readable.{readable_kind}

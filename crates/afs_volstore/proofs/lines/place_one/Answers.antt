@@ -1,4 +1,4 @@
-use Rattle.std.proofs.Common.{◌∷◌, ap, sym, refl, drop, List, Some}
+use Rattle.std.proofs.Common.{ap, sym, refl, drop, List}
 use Rattle.afs_num.specs.declared.vnodes.Vnode as image
 use Rattle.afs_records.specs.Durable.{with_outcomes}
 use Rattle.afs_volstore.specs.Telling.{outcomes_seen}

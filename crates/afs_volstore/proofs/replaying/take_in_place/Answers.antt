@@ -1,5 +1,4 @@
-use Rattle.std.proofs.Common.{◌≡◌, ◌+◌, ◌∙◌, ℕ, List, Some, None, ap, sym, subst, slice_get, take, nat_eq, rules}
-use Rattle.std.specs.Prelude.{IfErr}
+use Rattle.std.proofs.Common.{◌≡◌, ◌+◌, ℕ, List, None, sym, subst, slice_get, nat_eq, rules}
 use Rattle.afs_num.specs.declared.faults.StoreFault.{StoreFault}
 use Rattle.afs_num.specs.declared.faults.StoreFault.TheVariants as faults
 use Rattle.afs_volstore.specs.Folds.{IsBadAt, IsFront, TakesOne}

@@ -1,5 +1,4 @@
-use Rattle.std.proofs.Common.{◌≡◌, ◌∙◌, ◌∷◌, List, ap, sym, map, min, length}
-use Rattle.afs_num.specs.declared.histories.Line.{Line}
+use Rattle.std.proofs.Common.{◌∙◌, List, ap, sym, map}
 use Rattle.afs_num.specs.declared.histories.Version.{Version}
 use Rattle.afs_num.specs.declared.types.Key.{Key}
 use Rattle.afs_ideal.specs.Tables.{get}

@@ -1,4 +1,4 @@
-use Rattle.std.proofs.Common.{◌≡◌, ◌∙◌, ap, sym, map, rules}
+use Rattle.std.proofs.Common.{◌∙◌, ap, sym, map, rules}
 use Rattle.afs_ideal.specs.Tables.{Table}
 use Rattle.afs_records.specs.Durable.{body_taken, with_volumes}
 use Rattle.afs_volume.specs.declared.volume.Volume.{Volume}

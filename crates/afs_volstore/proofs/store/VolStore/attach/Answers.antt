@@ -1,4 +1,4 @@
-use Rattle.std.proofs.Common.{◌≡◌, ◌∙◌, ap, sym, subst, rules}
+use Rattle.std.proofs.Common.{◌∙◌, sym, subst}
 use Rattle.afs_journal.specs.Log.{Taken}
 use Rattle.afs_volstore.specs.States.{parts_of}
 use Rattle.afs_volstore.proofs.Attached.{fault_at_attach, fault_without, kept_taken_up}
