@@ -1,10 +1,19 @@
-use super::made::fid;
 use afs_entries::{Cache, Entry, Fresh, Gift, batch_len, first_server_of, in_order};
 use afs_num::histories::{Body, ReadStatus};
 use afs_num::sequences::Octets;
-use afs_num::types::{Mem, Node};
+use afs_num::types::{Fid, Mem, Node};
 use std::alloc::Global;
 use std::test::Fail;
+
+const VOLUME: u32 = 536870912;
+
+fn fid(vnode: u32, unique: u32) -> Fid {
+    Fid {
+        volume: VOLUME,
+        vnode,
+        unique,
+    }
+}
 
 /// A file of this vnode under this index, with its body or without.
 fn fresh(alloc: Global, vnode: u32, index: u32, has_body: bool) -> Mem<Fresh> {

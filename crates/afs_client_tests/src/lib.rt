@@ -1,9 +1,5 @@
-//! Tests of what a cache manager is made of: what acts need, and what its cache keeps.
+//! Tests of a client's cache.
 #![tactic(auto)]
 
 #[cfg(test)]
 mod caches;
-#[cfg(test)]
-mod made;
-#[cfg(test)]
-mod walks;
