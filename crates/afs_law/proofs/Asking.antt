@@ -2,7 +2,7 @@ use Rattle.afs_law.proofs.Nexts.{as_is, asks_is}
 use Rattle.afs_num.specs.declared.types.Node.{Node}
 use Rattle.afs_rows.specs.States.{Location, Gift, CacheEntry, Seat}
 use Rattle.afs_law.proofs.Basics.{guest, at_put, found-first, Each, IfCall, ByClient, OfClient, by_client, both, same_node-true, same_node-refl, node_apart, client_number, up_to_same, up_to_next, next_not, below_not, at_puts, each_map, if_call, raised_up_to, some_of, IfBack, IfDone, same_key-refl, OfCall, UpTo}
-use Rattle.std.proofs.Common.{◌≡◌, ℕ, ◌+◌, ◌≤◌, ◌⊎◌, inl, inr, Bool, true, false, cond, List, [], ◌∷◌, Option, Some, None, refl, sym, ap, subst, ◌∙◌, nat_eq, eqb-true, ◌++◌}
+use Rattle.std.proofs.Common.{not, ◌≡◌, ℕ, ◌+◌, ◌≤◌, ◌⊎◌, inl, inr, Bool, true, false, cond, List, [], ◌∷◌, Option, Some, None, refl, sym, ap, subst, ◌∙◌, nat_eq, eqb-true, ◌++◌}
 use Rattle.std.specs.Prelude.{◌&&◌}
 use Rattle.afs_num.specs.Nodes.{same_node}
 use Rattle.afs_num.specs.declared.types.Code.{Code}
@@ -26,7 +26,7 @@ use Rattle.afs_rows.specs.Going.{Need, reads, reads_status, reads_statuses, read
 use Rattle.afs_law.specs.Ideal.{last_version, HasVersion, Accepts, clock_of, reach, is_zero_code, volume_after, call_in, call_under}
 use Rattle.afs_law.specs.Legal.{AreDropped, IsNew, AreGood, AreGoodSent, as_asked}
 use Rattle.afs_history.specs.declared.lines.Line.{Line}
-use Rattle.afs_law.specs.Past.{server_boot, onto, lines_of, sent_of, given_message, running, CalledSince, IsCallUnder, has_begun, called_key, is_called, same_key, Sends}
+use Rattle.afs_law.specs.Past.{has_sent, is_late, server_boot, onto, lines_of, sent_of, given_message, running, CalledSince, IsCallUnder, has_begun, called_key, is_called, same_key, Sends}
 use Rattle.afs_rows.specs.Runs.{Entry, message_at}
 use Rattle.afs_law.proofs.OneCell.{the_server, Cell, client_moves}
 use Rattle.afs_rows.specs.Scopes.{is_volume}
@@ -228,7 +228,7 @@ pub client_kept : (s : Script) (c : Cell) (past : List Entry) (n boot : ℕ) (e 
     → ClientFacts s n (record (view h.floors c n) { known = boot }) (e ∷ past)
 client_kept s c past n boot e h le p q t l =
     let d : ClientFacts s n (view h.floors c n) (e ∷ past) = client_still n (view h.floors c n) e past p q t l (h.clients n) in
-    record { behind = d.behind; behind_durable = d.behind_durable; lower = d.lower; kept = d.kept; stored = d.stored; known = le; floored = d.floored; holds = d.holds; waits = d.waits; idle = d.idle; made = d.made; current = d.current; runs = d.runs; old = d.old; asked = d.asked; none = d.none; gave = d.gave; reached = d.reached }
+    record { behind = d.behind; behind_durable = d.behind_durable; lower = d.lower; kept = d.kept; stored = d.stored; known = le; floored = d.floored; holds = d.holds; waits = d.waits; idle = d.idle; made = d.made; current = d.current; runs = d.runs; old = d.old; asked = d.asked; late = d.late; none = d.none; gave = d.gave; reached = d.reached }
 
 pub reply_still : (j : ℕ) (v : View) (e : Entry) (past : List Entry) → ((f : Fid) → PassesFile j f e past) → ((f : Fid) → PassesReach j f e past) → ((f : Fid) → last_version f (lines_of (e ∷ past)) ≡ last_version f (lines_of past)) → has_begun (Client j) e.lines ≡ false → (m : Message) → ReplyFact j v past m → ReplyFact j v (e ∷ past) m
 reply_still j v e past p q l b m = reply_over j v m e past (λ f. (p f).grant) q (λ f. stays j f e past (p f).grant (l f)) b
@@ -425,6 +425,41 @@ new_one s c past n x act h epoch number =
     under_last k (sent_of past) (call_message (Client n) x act) (x.user, call_of x act)
     (ap (call_under k) h.sent.told ∙ none_under (view h.floors c) n k c.sent refl epoch number h.sent.calls) (same_key-refl k) refl
 
+-- and no act before used it
+sent_by : (views : ℕ → View) (n : ℕ) (k : Key) (head : Head) (c : Carried) (rest : Bool) → k.node ≡ Client n → k.epoch ≡ (views n).epoch → k.number ≡ (views n).last + 1 → OfCall (ByClient (CallIn views)) head c → rest ≡ false → cond (is_called k head c) true rest ≡ false
+sent_by views n k head (carried.Call user (ask.File call)) rest a b d f e = rw (not_called (views n) n views k head user call (same_key (called_key head) k) refl a b d f) e
+sent_by views n k head (carried.Call user (ask.Volume call)) rest a b d f e = absurd f
+sent_by views n k head (carried.Call user (ask.Location call)) rest a b d f e = absurd f
+sent_by views n k head (carried.Refusal code) rest a b d f e = e
+sent_by views n k head (carried.Reply reply) rest a b d f e = e
+sent_by views n k head carried.Notice rest a b d f e = e
+
+none_sent : (views : ℕ → View) (n : ℕ) (k : Key) (sent : List Message) → k.node ≡ Client n → k.epoch ≡ (views n).epoch → k.number ≡ (views n).last + 1 → Each (IfCall (CallIn views)) sent → has_sent k sent ≡ false
+none_sent views n k [] a b d h = refl
+none_sent views n k (m ∷ sent) a b d h = sent_by views n k m.head m.carried (has_sent k sent) a b d h.0 (none_sent views n k sent a b d h.1)
+
+front_by : (t x y : Bool) → cond t true x ≡ false → (x ≡ false → y ≡ false) → cond t true y ≡ false
+front_by true x y h w = absurd cc
+front_by false x y h w = w h
+
+not_front : (k : Key) (a b : List Message) → has_sent k (a ++ b) ≡ false → has_sent k a ≡ false
+not_front k [] b h = refl
+not_front k (m ∷ a) b h = front_by (is_called k m.head m.carried) (has_sent k (a ++ b)) (has_sent k a) h (λ y. not_front k a b y)
+
+late_by : (t a b : Bool) → a ≡ false → b ≡ true → cond t (not a) b ≡ true
+late_by true a b h e = ap not h
+late_by false a b h e = e
+
+unsent_late : (n : Node) (k : Key) (past : List Entry) → has_sent k (sent_of past) ≡ false → is_late n k past ≡ true
+unsent_late n k [] h = refl
+unsent_late n k (e ∷ past) h = let none : has_sent k (sent_of past) ≡ false = not_front k (sent_of past) e.sent h in late_by (has_begun n e.lines) (has_sent k (sent_of past)) (is_late n k past) none (unsent_late n k past none)
+
+pub new_late : (s : Script) (c : Cell) (past : List Entry) (n : ℕ) (x : ClientState) (act : Going) (e : Entry) → Holds s c past → x.epoch ≡ (c.clients n).epoch → x.last ≡ (c.clients n).last + 1 → is_late (Client n) (called_key (call_head (Client n) x act)) (e ∷ past) ≡ true
+new_late s c past n x act e h epoch number =
+    let k : Key = called_key (call_head (Client n) x act) in
+    let none : has_sent k (sent_of past) ≡ false = ap (has_sent k) h.sent.told ∙ none_sent (view h.floors c) n k c.sent refl epoch number h.sent.calls in
+    late_by (has_begun (Client n) e.lines) (has_sent k (sent_of past)) (is_late (Client n) k past) none (unsent_late (Client n) k past none)
+
 -- a call that is sent again is the one under its key
 pub same_one : (s : Script) (c : Cell) (past : List Entry) (n : ℕ) (act : Going) (ms : List Message) → (h : Holds s c past) → (c.clients n).running ≡ Some act → call_under (last_key n (view h.floors c n)) (sent_of past ++ ms) ≡ Some ((c.clients n).user, call_of (c.clients n) act)
 same_one s c past n act ms h runs =
@@ -478,6 +513,7 @@ asks s c past n gs act l h given begun gave going good p q r none shut at went =
       old = old_over (c.clients n).cache (lines_of past) (lines_of (e ∷ past)) (λ f i b y. (q f).grant.version i b (lines_of past) y) d.old;
       runs = λ b y. at ∙ y;
       asked = λ b y. subst (λ (a : Going). CalledSince (last_key n v) guest (its_call v.gifts a) (e ∷ past)) (some_of act b y) (inl (refl, inl (refl, carried_is x act kind.user)));
+      late = λ b y. new_late s c past n x act e h refl refl;
       none = λ y. absurd cc;
       gave = λ b y. all_dropped_onto (Client n) (fids_of_gifts gs) (l ∷ []) (lines_of past) begun gave;
       reached = reached_still s c past n e h (λ f. (r f).both) last;

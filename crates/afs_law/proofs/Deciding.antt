@@ -558,6 +558,7 @@ revived_client {s} fl c past j h =
       old = h.old;
       runs = h.runs;
       asked = h.asked;
+      late = h.late;
       none = h.none;
       gave = h.gave;
       reached = h.reached;

@@ -1,6 +1,6 @@
 use Rattle.afs_law.proofs.Turning.{reply_gift}
-use Rattle.afs_law.proofs.Facts.{fids_of_gifts, AreFetched, FitsBulk, its_call}
-use Rattle.afs_law.proofs.Passing.{all_dropped_onto, tried_kept, fetched_each, ran_over}
+use Rattle.afs_law.proofs.Facts.{last_key, fids_of_gifts, AreFetched, FitsBulk, its_call}
+use Rattle.afs_law.proofs.Passing.{late_over, all_dropped_onto, tried_kept, fetched_each, ran_over}
 use Rattle.std.specs.List.{list_any}
 use Rattle.std.specs.Prelude.{◌||◌}
 -- A client is called by its server: it drops what it has cached of the broken promises.
@@ -459,6 +459,7 @@ drops_goes s c past n p head user fs cbs h heard to from b =
       old = old_over st.state.cache (lines_of past) (lines_of (e ∷ past)) (λ f i b y. (skips n fs).version f i b (lines.Given p ∷ lines_of past) y) (old_within x.cache st.state.cache (lines_of past) (λ f u y. (left_out (λ z. is_named z fs) f x.cache u y).0) d.old);
       runs = λ act y. (skips n fs).runs s (Client n) (lines.Given p ∷ lines_of past) ∙ d.runs act y;
       asked = λ act y. inr ((skips n fs).begins (Client n), d.asked act y);
+      late = λ act y. late_over (Client n) (last_key n v) e past ((skips n fs).begins (Client n)) (d.late act y);
       none = d.none;
       gave = λ act y. all_dropped_onto (Client n) (fids_of_gifts x.gifts) e.lines (lines_of past) ((skips n fs).begins (Client n)) (d.gave act y);
       reached = reached_still s c past n e h (λ f. (broken_reach n n p fs (reply ∷ []) past f).both) last;
@@ -594,6 +595,7 @@ drops_all_goes s c past n p head user h heard to from b =
       old = old_over st.state.cache (lines_of past) (lines_of (e ∷ past)) (λ f i b y. y) (old_within x.cache st.state.cache (lines_of past) (λ f u y. (gone f u y).0) d.old);
       runs = d.runs;
       asked = λ act y. inr (refl, d.asked act y);
+      late = λ act y. late_over (Client n) (last_key n v) e past refl (d.late act y);
       none = d.none;
       gave = λ act y. all_dropped_onto (Client n) (fids_of_gifts x.gifts) e.lines (lines_of past) refl (d.gave act y);
       reached = reached_still s c past n e h (λ f. (r f).both) (λ f. refl);

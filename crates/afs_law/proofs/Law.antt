@@ -404,6 +404,7 @@ starts s one =
         current = λ f e x lasts. absurd cc;
         runs = λ act x. absurd cc;
         asked = λ act x. absurd cc;
+        late = λ act x. absurd cc;
         none = λ x. refl;
         gave = λ act x. absurd cc;
         reached = λ f. reached_first (Client j) f _ s;

@@ -2,10 +2,10 @@ use Rattle.afs_law.specs.Breaks.{HasTimeout}
 use Rattle.afs_history.specs.declared.lines.Line.TheVariants as lines
 use Rattle.afs_num.specs.declared.histories.Actor.TheVariants as actors
 use Rattle.afs_law.proofs.Nexts.{asks_change, as_is, asks_is}
-use Rattle.afs_law.proofs.Facts.{fids_of_gifts, Tried, AreFetched, FitsBulk, its_call}
+use Rattle.afs_law.proofs.Facts.{last_key, fids_of_gifts, Tried, AreFetched, FitsBulk, its_call}
 use Rattle.afs_num.specs.declared.histories.ReadStatus.{ReadStatus}
 use Rattle.afs_num.specs.declared.scripts.Script.{Script}
-use Rattle.std.proofs.Common.{zero, suc, ◌+◌, eq-eqb, nat_eq, ◌≡◌, ℕ, ◌≤◌, inl, inr, Bool, true, false, cond, List, [], ◌∷◌, ◌++◌, Option, Some, None, ℤ, refl, sym, ap, ◌∙◌, subst, arith, le_of_eq, le_trans, eqb-true}
+use Rattle.std.proofs.Common.{not, zero, suc, ◌+◌, eq-eqb, nat_eq, ◌≡◌, ℕ, ◌≤◌, inl, inr, Bool, true, false, cond, List, [], ◌∷◌, ◌++◌, Option, Some, None, ℤ, refl, sym, ap, ◌∙◌, subst, arith, le_of_eq, le_trans, eqb-true}
 use Rattle.std.specs.Option.{option_map}
 use Rattle.afs_num.specs.declared.types.Fid.{Fid}
 use Rattle.afs_num.specs.declared.types.Head.{Head}
@@ -25,7 +25,7 @@ use Rattle.afs_law.specs.Grants.{has_fetched, fetch_reply, GrantOf, since, IsWit
 use Rattle.afs_law.specs.Ideal.{WasBefore, IsLast, WasLast, Unless, last_version, HasVersion, reach, change_in, call_in, call_under}
 use Rattle.afs_law.specs.Legal.{AreDropped, HasDropped, GoodGift, IsResult, IsKey, HasChange, Cause, answer_at, IsTold, as_asked}
 use Rattle.afs_history.specs.declared.lines.Line.{Line}
-use Rattle.afs_law.specs.Past.{begins_act, onto, lines_of, sent_of, given_message, running, has_begun, Ran, called_key, same_key, is_called, has_sent, is_sent_since, answered_key}
+use Rattle.afs_law.specs.Past.{is_late, begins_act, onto, lines_of, sent_of, given_message, running, has_begun, Ran, called_key, same_key, is_called, has_sent, is_sent_since, answered_key}
 use Rattle.afs_rows.specs.Runs.{Entry, Fall, at_rest, in_step, in_boot}
 use Rattle.afs_law.proofs.OneCell.{the_server}
 use Rattle.afs_rows.specs.States.{Gift, CacheEntry, Seat, Lasting}
@@ -411,6 +411,13 @@ own_gift act gs head user ls h = gift_by (next act) gs head user ls (asks_change
 pub reached_more : (c : Node) (f : Fid) (i k : ℕ) (past : List Entry) → i ≤ k → Reached c f i past → Reached c f k past
 reached_more c f i k past le h = let a : (reach c f past).made ≤ i = h.made in let b : (reach c f past).seen ≤ i = h.seen in record { made = omega arith; seen = omega arith }
 
+-- an entry in which the node begins no act leaves a key that no act before used
+late_kept : (t a b : Bool) → t ≡ false → b ≡ true → cond t a b ≡ true
+late_kept t a b e h = rw e h
+
+pub late_over : (n : Node) (k : Key) (e : Entry) (past : List Entry) → has_begun n e.lines ≡ false → is_late n k past ≡ true → is_late n k (e ∷ past) ≡ true
+late_over n k e past none h = late_kept (has_begun n e.lines) (not (has_sent k (sent_of past))) (is_late n k past) none h
+
 pub client_over : {s : Script} → (j : ℕ) (v : View) (e : Entry) (past : List Entry) → ((f : Fid) → PassesFile j f e past) → ((f : Fid) → PassesReach j f e past) → ((f : Fid) → StaysNewest j f e past) → PassesAct j e past
     → ((f : Fid) → index_in (last_version f (lines_of past)) ≤ index_in (last_version f (lines_of (e ∷ past)))) → ClientFacts s j v past → ClientFacts s j v (e ∷ past)
 client_over {s} j v e past p r n q l h =
@@ -431,6 +438,7 @@ client_over {s} j v e past p r n q l h =
       old = old_over v.cache (lines_of past) (lines_of (e ∷ past)) (λ f i k x. (p f).grant.version i k (lines_of past) x) h.old;
       runs = λ act x. q.runs s (lines_of past) ∙ h.runs act x;
       asked = λ act x. inr (q.begins, h.asked act x);
+      late = λ act x. late_over (Client j) (last_key j v) e past q.begins (h.late act x);
       none = h.none;
       gave = λ act x. all_dropped_onto (Client j) (fids_of_gifts v.gifts) e.lines (lines_of past) q.begins (h.gave act x);
       reached = λ f. reached_more (Client j) f (index_in (last_version f (lines_of past))) (index_in (last_version f (lines_of (e ∷ past)))) (e ∷ past) (l f) ((r f).both (index_in (last_version f (lines_of past))) (h.reached f));

@@ -73,6 +73,7 @@ later_client {s} n j v past h = record {
   old = h.old;
   runs = h.runs;
   asked = h.asked;
+  late = h.late;
   none = h.none;
   gave = h.gave;
   reached = h.reached;

@@ -1,5 +1,5 @@
 use Rattle.afs_ideal.specs.Directories.{directory_of}
-use Rattle.afs_law.proofs.Facts.{fids_of_gifts, AreFetched, its_call}
+use Rattle.afs_law.proofs.Facts.{last_key, fids_of_gifts, AreFetched, its_call}
 use Rattle.afs_rows.specs.ServerRow.{sight_status, promise_until}
 use Rattle.afs_shape.specs.Rows.{no_callback}
 use Rattle.afs_num.specs.declared.calls.AfsCallBack.{AfsCallBack}
@@ -19,7 +19,7 @@ use Rattle.afs_law.proofs.Facts.{IsBody, back_seat, IsKnown, IsReadable, AreFine
 use Rattle.afs_law.proofs.Loading.{all_promised, all_granted, granted_all, none_loaded, still_backed, known_backed, resent, run_loaded, key_held, no_change, settles_good, settles_backed, gone_promised, gone_granted, granted_to_client, gone_to_clients, own_waited}
 use Rattle.afs_law.proofs.Notes.{granted_notes, AreNotes, Skips, skips, told_entry, told_rests, noted_entry, noted_rests, settle_notes}
 use Rattle.afs_law.proofs.Owing.{AllOf, BackedIn, IsDone, DroppedOwe, IsGranted, DoneIn, Promised, IsClient}
-use Rattle.afs_law.proofs.Passing.{all_dropped_onto, tried_more, old_over, stands_over, answers_over, reply_over, kept_over, PassesBoth, PassesFile, PassesAct, PassesReach, stays, current_over, client_still, News, more_sent, ran_over}
+use Rattle.afs_law.proofs.Passing.{late_over, all_dropped_onto, tried_more, old_over, stands_over, answers_over, reply_over, kept_over, PassesBoth, PassesFile, PassesAct, PassesReach, stays, current_over, client_still, News, more_sent, ran_over}
 use Rattle.afs_law.proofs.Pumping.{no_news, pumped_news, news_break}
 use Rattle.afs_law.proofs.Resting.{Rests}
 use Rattle.afs_law.proofs.Turning.{loaded, TurnSends, Pumps, pumps, expired_backed, break_good}
@@ -541,6 +541,7 @@ caller_after good s c past n h user call x e st H w v =
       old = old_over (c.clients n).cache (lines_of past) (lines_of (e ∷ past)) v.grows d.old;
       runs = λ b y. v.acts.runs s (lines_of past) ∙ d.runs b y;
       asked = λ b y. inr (v.acts.begins, d.asked b y);
+      late = λ b y. late_over (Client n) (last_key n (view H.floors c n)) e past v.acts.begins (d.late b y);
       none = d.none;
       gave = λ b y. all_dropped_onto (Client n) (fids_of_gifts (c.clients n).gifts) e.lines (lines_of past) v.acts.begins (d.gave b y);
       reached = v.reached;

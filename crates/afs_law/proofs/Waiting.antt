@@ -252,6 +252,7 @@ client_stops_goes s c past n h =
       old = λ f u found. absurd cc;
       runs = λ b y. absurd cc;
       asked = λ b y. absurd cc;
+      late = λ b y. absurd cc;
       none = λ y. refl;
       gave = λ b y. absurd cc;
       reached = reached_still s c past n e h (λ f i r. record { made = r.made; seen = r.seen }) (λ f. refl);

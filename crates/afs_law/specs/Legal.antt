@@ -18,7 +18,7 @@ use Rattle.afs_rows.specs.Going.{Going, Need, answers, asks_for, next, asked, gi
 use Rattle.afs_law.specs.Grants.{is_promised, read_reply, GrantOf, since, until, IsWithdrawn, IsDropped}
 use Rattle.afs_law.specs.Ideal.{last_version, Unless, set_up, IsLast, WasLast, HasBeen, HasVersion, Accepts, clock_of, user_of, seen, change_in, change_key, call_under, volume_after}
 use Rattle.afs_history.specs.declared.lines.Line.{Line}
-use Rattle.afs_law.specs.Past.{lines_of, sent_of, given_message, answered_key, code_told, IsReply, running, has_begun, has_given, Called, CalledSince, IsCallUnder, IsUnheard, Ran, server_boot}
+use Rattle.afs_law.specs.Past.{AreWithin, lines_of, sent_of, given_message, answered_key, code_told, IsReply, running, has_begun, has_given, Called, CalledSince, IsCallUnder, IsUnheard, Ran, server_boot}
 use Rattle.afs_rows.specs.Runs.{Entry}
 use Rattle.afs_num.specs.declared.scripts.Script.{Script}
 use Rattle.afs_num.specs.declared.histories.Actor.{Actor}
@@ -311,7 +311,8 @@ EndsAct gives_back = ⊤
 EndsAct need = ⊥
 
 -- the reply that the answer's entry was given is the cause of the code, and its call is one of this very act: the client
--- sent it since the act began, which was in an entry before. The code is 0 only where the act ends with this call
+-- sent it, and its server ran it, since the act began, which was in an entry before. The code is 0 only where the act ends with
+-- this call
 pub record IsCaused (c : Node) (act : Going) (code : ℤ) (past : List Entry) (own : List Line) : Type 0 where
   pub reply : Message
   pub by : given_message own (sent_of past) ≡ Some reply
@@ -319,6 +320,7 @@ pub record IsCaused (c : Node) (act : Going) (code : ℤ) (past : List Entry) (o
   pub cause : Cause reply code (asked act) past own
   pub before : has_begun c own ≡ false
   pub called : CalledSince (answered_key reply.head) cause.user cause.call past
+  pub lately : AreWithin c (cause.ran.newer ++ cause.ran.at ∷ [])
   pub ends : code ≡ pos 0 → EndsAct (next act)
 
 -- the act needs no more, and answers so by its read lines; it began in this entry, which was given nothing, or the entry was
