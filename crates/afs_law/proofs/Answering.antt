@@ -1364,7 +1364,7 @@ resends_goes s c past n p act m boot h d le runs =
     (subst (λ (k : ℕ). ClientFacts s n (record (view h.floors c n) { known = k }) (e ∷ past)) (sym known) (client_kept s c past n boot e h le (λ f. told_file n p f (actors.Node (Client n)) ms past) (λ f. told_reach n p f (actors.Node (Client n)) ms past) (told_act n p (actors.Node (Client n)) ms past) (λ f. refl)))
     (λ head call f. call_known (view h.floors c n) (boot_of the_server x.boots) head call f)
     (reply_still n (view h.floors c n) e past (λ f. told_file n p f (actors.Node (Client n)) ms past) (λ f. told_reach n p f (actors.Node (Client n)) ms past) (λ f. refl) refl)
-    (own_call h.floors c past n (h.floors n) x act (lines.Given p ∷ []) (subst (λ (k : ℕ). k ≤ c.server.lasting.boot) (sym known) le) kind runs ((h.clients n).runs act runs) (same_one s c past n act ms h runs) (all_dropped_onto (Client n) (fids_of_gifts old.gifts) (lines.Given p ∷ []) (lines_of past) refl ((h.clients n).gave act runs))) (λ a x z. inl x) refl (tried_kept n (c.clients n) _ (lines_of past) (lines.Given p ∷ []) refl refl refl refl (h.tried n))
+    (own_call h.floors c past n (h.floors n) x act (lines.Given p ∷ []) (subst (λ (k : ℕ). k ≤ c.server.lasting.boot) (sym known) le) kind runs ((h.clients n).runs act runs) (same_one s c past n act ms h runs) (all_dropped_onto (Client n) (fids_of_gifts old.gifts) (lines.Given p ∷ []) (lines_of past) refl ((h.clients n).gave act runs))) (λ a x z. inl (x, (refl, refl))) refl (tried_kept n (c.clients n) _ (lines_of past) (lines.Given p ∷ []) refl refl refl refl (h.tried n))
 
 -- ---- the row, by its cases
 

@@ -15,9 +15,9 @@ use Rattle.afs_num.specs.declared.messages.Message.{Message}
 use Rattle.afs_ideal.specs.Operations.{volume_changed}
 use Rattle.afs_law.proofs.Backing.{Plain, backed_plain, seated_over, plain_step}
 use Rattle.afs_law.proofs.Edits.{index_in, fid_at, sound_same}
-use Rattle.afs_law.proofs.Facts.{fids_of_gifts, AreApart, IsClient, back_seat, Ghost, IsAged, View, view_of, view, desk, last_key, LastRan, ReplyFact, ClientFacts, IsUntrusted, IsSafe, CallFact, CallIn, Holds, Goes, Reading, InScope, IsOne, AreGifts, IsOpen, Tried, its_call}
+use Rattle.afs_law.proofs.Facts.{RanOn, fids_of_gifts, AreApart, IsClient, back_seat, Ghost, IsAged, View, view_of, view, desk, last_key, LastRan, ReplyFact, ClientFacts, IsUntrusted, IsSafe, CallFact, CallIn, Holds, Goes, Reading, InScope, IsOne, AreGifts, IsOpen, Tried, its_call}
 use Rattle.afs_law.proofs.Owing.{BackIn, DoneIn, SeatedIn}
-use Rattle.afs_law.proofs.Passing.{own_gift, all_dropped_onto, tried_kept, tried_more, tried_new, old_over, PassesFile, PassesAct, PassesReach, stays, PassesBoth, PassesSeen, current_over, reply_over, kept_over, client_still, News, more_sent, fallen_over, one_more, ran_over}
+use Rattle.afs_law.proofs.Passing.{changing_more, changed_before, own_gift, all_dropped_onto, tried_kept, tried_more, tried_new, old_over, PassesFile, PassesAct, PassesReach, stays, PassesBoth, PassesSeen, current_over, reply_over, kept_over, client_still, News, more_sent, fallen_over, one_more, ran_over}
 use Rattle.afs_law.proofs.Serving.{told_file, told_reach, told_act, reached_still}
 use Rattle.afs_law.proofs.Turning.{call_good}
 use Rattle.afs_rows.specs.Callbacks.{put, replies_of}
@@ -101,7 +101,7 @@ pub moves_back : (s : Script) (c : Cell) (past : List Entry) (n : ℕ) (floor : 
     → ClientFacts s n (view_after c n floor st.state) ((client_moves c n st).entry ∷ past)
     → ((head : Head) (call : FsCall) → CallFact (view h.floors c n) head call → CallFact (view_after c n floor st.state) head call)
     → ((m : Message) → ReplyFact n (view h.floors c n) past m → ReplyFact n (view_after c n floor st.state) ((client_moves c n st).entry ∷ past) m)
-    → Fresh s c n (views_after h.floors c n floor st.state) ((client_moves c n st).entry ∷ past) st.sent → ((a : Going) → st.state.running ≡ Some a → has_begun (Client n) st.lines ≡ false → ((c.clients n).running ≡ Some a) ⊎ Reading (c.clients n).running) → KeepsSeat c n (back_seat st.state) ((client_moves c n st).entry ∷ past) → Tried n st.state (lines_of ((client_moves c n st).entry ∷ past)) → Goes s past (client_moves c n st)
+    → Fresh s c n (views_after h.floors c n floor st.state) ((client_moves c n st).entry ∷ past) st.sent → ((a : Going) → st.state.running ≡ Some a → has_begun (Client n) st.lines ≡ false → RanOn (view h.floors c n) (view_after c n floor st.state) (c.clients n).running a) → KeepsSeat c n (back_seat st.state) ((client_moves c n st).entry ∷ past) → Tried n st.state (lines_of ((client_moves c n st).entry ∷ past)) → Goes s past (client_moves c n st)
 moves_back s c past n floor st h kind good p own w q fresh went keeps tried =
     let e : Entry = (client_moves c n st).entry in
     let last : (f : Fid) → last_version f (lines_of (e ∷ past)) ≡ last_version f (lines_of past) = λ f. p.last f (lines_of past) in
@@ -122,11 +122,12 @@ moves_back s c past n floor st h kind good p own w q fresh went keeps tried =
         sound = λ id. sound_same id _ (lines_of past) (lines_of (e ∷ past)) (λ a u. last (fid_at id a u)) (h.sound id);
         home = λ id v found. p.home id (lines_of past) (h.home id v found);
         new = λ k above. p.new k (lines_of past) (h.new k above);
+        changing = λ k x. changing_more k c.sent st.sent (h.changing k (changed_before k (lines_of past) (lines_of (e ∷ past)) (p.new k (lines_of past)) x));
         unheard = λ k b may. (λ x. p.dull k b x, h.unheard k b may);
         booted = h.booted;
         boots = p.boot (lines_of past) ∙ h.boots;
         clients = now;
-        sent = more_sent c.sent (replies_of c.server.backs.held) (replies_of c.server.backs.held) (view h.floors c) (views_after h.floors c n floor st.state) c.server.lasting.boot c.server.lasting.boot e past h.sent (le_refl _) now (λ j a. at_mover h.floors c n floor st.state j (λ i v. v.running ≡ Some a → has_begun (Client i) e.lines ≡ false → (running s (Client i) (lines_of past) ≡ Some a) ⊎ Reading (running s (Client i) (lines_of past))) (λ x z. elim (went a x z) [ inl y ↦ inl ((h.clients n).runs a y) | inr y ↦ inr (record { act = y.act; runs = (h.clients n).runs y.act y.runs; read = y.read }) ]) (λ ne x z. inl ((h.clients j).runs a x))) (calls_moved h.floors c n floor st.state c.sent w h.sent.calls)
+        sent = more_sent c.sent (replies_of c.server.backs.held) (replies_of c.server.backs.held) (view h.floors c) (views_after h.floors c n floor st.state) c.server.lasting.boot c.server.lasting.boot e past h.sent (le_refl _) now (λ j a. at_mover h.floors c n floor st.state j (λ i v. v.running ≡ Some a → has_begun (Client i) e.lines ≡ false → RanOn (view h.floors c i) v (running s (Client i) (lines_of past)) a) (λ x z. elim (went a x z) [ inl y ↦ inl ((h.clients n).runs a y.0, y.1) | inr y ↦ inr (record { act = y.act; runs = (h.clients n).runs y.act y.runs; read = y.read }) ]) (λ ne x z. inl ((h.clients j).runs a x, (refl, refl)))) (calls_moved h.floors c n floor st.state c.sent w h.sent.calls)
             (λ j m. at_mover h.floors c n floor st.state j (λ i v. ReplyFact i (view h.floors c i) past m → ReplyFact i v (e ∷ past) m) (q m)
             (λ ne. reply_over j (view h.floors c j) m e past (λ f. (p.file j ne f).grant) (p.reach j ne) (λ f. stays j f e past (p.file j ne f).grant (last f)) (p.act j ne).begins)) (λ held. (fresh.news, held));
         down = fallen_over c.down c.server.lasting c.sent st.sent e past (λ z. absurd cc) h.down;
@@ -146,7 +147,7 @@ pub moves : (s : Script) (c : Cell) (past : List Entry) (n : ℕ) (floor : Ghost
     → ClientFacts s n (view_after c n floor st.state) ((client_moves c n st).entry ∷ past)
     → ((head : Head) (call : FsCall) → CallFact (view h.floors c n) head call → CallFact (view_after c n floor st.state) head call)
     → ((m : Message) → ReplyFact n (view h.floors c n) past m → ReplyFact n (view_after c n floor st.state) ((client_moves c n st).entry ∷ past) m)
-    → Fresh s c n (views_after h.floors c n floor st.state) ((client_moves c n st).entry ∷ past) st.sent → ((a : Going) → st.state.running ≡ Some a → has_begun (Client n) st.lines ≡ false → ((c.clients n).running ≡ Some a) ⊎ Reading (c.clients n).running) → back_seat st.state ≡ back_seat (c.clients n) → Tried n st.state (lines_of ((client_moves c n st).entry ∷ past)) → Goes s past (client_moves c n st)
+    → Fresh s c n (views_after h.floors c n floor st.state) ((client_moves c n st).entry ∷ past) st.sent → ((a : Going) → st.state.running ≡ Some a → has_begun (Client n) st.lines ≡ false → RanOn (view h.floors c n) (view_after c n floor st.state) (c.clients n).running a) → back_seat st.state ≡ back_seat (c.clients n) → Tried n st.state (lines_of ((client_moves c n st).entry ∷ past)) → Goes s past (client_moves c n st)
 moves s c past n floor st h kind good p own w q fresh went same tried = moves_back s c past n floor st h kind good p own w q fresh went (λ seat m x y. old_seat s c past n (client_moves c n st).entry p.plain h seat m (sym same ∙ x) y) tried
 
 pub nothing_new : {s : Script} → {c : Cell} → {n : ℕ} → (views : ℕ → View) (past : List Entry) → Fresh s c n views past []
@@ -241,7 +242,7 @@ quiet s c past n p m h d =
     let e : Entry = step_entry n (lines.Given p ∷ []) [] in
     moves s c past n (h.floors n) (ignores (c.clients n) p) h (h.own n) (refl, tt) (told_passes s c past n p m [] h d)
     (client_still n (view h.floors c n) e past (λ f. told_file n p f (actors.Node (Client n)) [] past) (λ f. told_reach n p f (actors.Node (Client n)) [] past) (told_act n p (actors.Node (Client n)) [] past) (λ f. refl) (h.clients n))
-    (λ head call f. f) (reply_still n (view h.floors c n) e past (λ f. told_file n p f (actors.Node (Client n)) [] past) (λ f. told_reach n p f (actors.Node (Client n)) [] past) (λ f. refl) refl) (nothing_new _ _) (λ a x z. inl x) refl (tried_kept n (c.clients n) _ (lines_of past) (lines.Given p ∷ []) refl refl refl refl (h.tried n))
+    (λ head call f. f) (reply_still n (view h.floors c n) e past (λ f. told_file n p f (actors.Node (Client n)) [] past) (λ f. told_reach n p f (actors.Node (Client n)) [] past) (λ f. refl) refl) (nothing_new _ _) (λ a x z. inl (x, (refl, refl))) refl (tried_kept n (c.clients n) _ (lines_of past) (lines.Given p ∷ []) refl refl refl refl (h.tried n))
 
 -- ---- a call is sent
 
@@ -403,7 +404,13 @@ own_call {s} fl c past n floor x act ls le kind runs at one dropped =
         replies = (tt, tt);
         notices = (tt, tt);
         origins = (record { act = act; called = inl (refl, (inl (refl, refl), at)); own_user = kind.user; own_call = call_is x act }, tt);
-        acts = ((λ t a r. as_is (call_of x act) (asked a) (call_is x act ∙ ap asked (some_of act a (sym at ∙ r)))), tt);
+        acts = (
+          (λ t a r. elim (as_is (call_of x act) (asked a) (call_is x act ∙ ap asked (some_of act a (sym at ∙ r)))) [
+            | inl y ↦ inl y
+            | inr y ↦ inr (y, (λ j z. (at_mover fl c n floor x j (λ i v. x.epoch ≡ v.epoch) refl (λ ne. absurd (ne (client_number n j z))), at_mover fl c n floor x j (λ i v. x.last ≡ v.last) refl (λ ne. absurd (ne (client_number n j z))))))
+          ]),
+          tt,
+        );
         lasts = (
           record {
             client = n;
@@ -525,7 +532,7 @@ asks s c past n gs act l h given begun gave going good p q r none shut at went =
       own = λ b y z w. absurd (next_not _ _ _ _ f.behind z w);
       safe = λ q above. safe_over call c.clock (c.clients n).epoch (c.clients n).last (c.clients n).epoch ((c.clients n).last + 1) (c.clients n).running (Some act) (c.clients n).cache (IsAged (view h.floors c n) head) (IsAged v head) head shut (λ y. (y.0, λ b z w u. next_not _ _ _ _ f.behind w u)) (f.safe q above);
     })
-    over (own_call h.floors c past n g x act (l ∷ []) d.known kind refl at (new_one s c past n x act h refl refl) (all_dropped_onto (Client n) (fids_of_gifts gs) (l ∷ []) (lines_of past) begun gave)) (λ a x z. inl (went z ∙ x)) refl (tried_new n _ _ refl)
+    over (own_call h.floors c past n g x act (l ∷ []) d.known kind refl at (new_one s c past n x act h refl refl) (all_dropped_onto (Client n) (fids_of_gifts gs) (l ∷ []) (lines_of past) begun gave)) (λ a x z. inr (record { act = act; runs = went z; read = shut act (went z) })) refl (tried_new n _ _ refl)
 
 pub own_begun : (n : ℕ) (act : Going) (o : Option Going) → cond (same_node (Client n) (Client n)) (Some act) o ≡ Some act
 own_begun n act o = rw (same_node-refl (Client n)) refl

@@ -18,7 +18,7 @@ use Rattle.afs_rows.specs.Going.{Going, Need, answers, asks_for, next, asked, gi
 use Rattle.afs_law.specs.Grants.{is_promised, read_reply, GrantOf, since, until, IsWithdrawn, IsDropped}
 use Rattle.afs_law.specs.Ideal.{last_version, Unless, set_up, IsLast, WasLast, HasBeen, HasVersion, Accepts, clock_of, user_of, seen, change_in, change_key, call_under, volume_after}
 use Rattle.afs_history.specs.declared.lines.Line.{Line}
-use Rattle.afs_law.specs.Past.{AreWithin, lines_of, sent_of, given_message, answered_key, code_told, IsReply, running, has_begun, has_given, Called, CalledSince, IsCallUnder, IsUnheard, Ran, server_boot}
+use Rattle.afs_law.specs.Past.{is_of_act, AreWithin, lines_of, sent_of, given_message, answered_key, code_told, IsReply, running, has_begun, has_given, Called, CalledSince, IsCallUnder, IsUnheard, Ran, server_boot}
 use Rattle.afs_rows.specs.Runs.{Entry}
 use Rattle.afs_num.specs.declared.scripts.Script.{Script}
 use Rattle.afs_num.specs.declared.histories.Actor.{Actor}
@@ -173,13 +173,15 @@ pub record RanBefore (server : Node) (k : Key) (past : List Entry) (own next : L
   pub since : AreFailed server newer
 
 -- A change runs a key for the first time, at a server that accepts stores of the volume, and is the only one of its entry. What
--- the server changed before for the same node it did under keys of earlier calls. The entry ran the key's call, or is the restart behind the one that was interrupted in that.
+-- the server changed before for the same node it did under keys of earlier calls, and while an act runs there, under none of
+-- that act: an act changes things once. The entry ran the key's call, or is the restart behind the one that was interrupted in that.
 -- The key's call was sent by its node, for its user, and is that of the act that ran there, with the act's own bytes. The
 -- versions that follow are just those of the ideal operation on the ideal volume. Each other client's last grant on one of their
 -- fids that lasts has a break behind the change
 pub record GoodChange (s : Script) (server : Node) (k : Key) (count : ℕ) (past : List Entry) (own next : List Line) : Type 0 where
   pub fresh : IsNew k (own ++ lines_of past)
   pub latest : (l : Key) → HasChangeBy server l (own ++ lines_of past) → l.node ≡ k.node → IsLater k l
+  pub once : (a : Going) → running s k.node (lines_of past) ≡ Some a → (l : Key) → HasChangeBy server l (lines_of past) → is_of_act k.node l past ≡ true → ⊥
   pub place : RunsHere server k past own ⊎ RanBefore server k past own next
   pub going : HasStopped server own → ⊥
   pub only : change_key own ≡ None
