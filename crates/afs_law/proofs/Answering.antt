@@ -13,7 +13,7 @@ use Rattle.std.proofs.Common.{append_assoc}
 use Rattle.afs_law.proofs.Facts.{FitsBulk, AreFetched}
 use Rattle.afs_num.specs.declared.histories.Version.{Version}
 use Rattle.afs_law.proofs.Apart.{found_filter, found_out}
-use Rattle.afs_law.proofs.Asking.{Passes, not_client, reads_by_other, with_gifts}
+use Rattle.afs_law.proofs.Asking.{new_late, Passes, not_client, reads_by_other, with_gifts}
 use Rattle.afs_law.proofs.Facts.{IsGot}
 use Rattle.afs_law.proofs.Homes.{home_of}
 use Rattle.afs_law.proofs.Nexts.{rights_need, rights_done, asks_is, asks_changed, asks_scope, asks_just}
@@ -29,7 +29,7 @@ use Rattle.afs_num.specs.declared.histories.ReadStatus.{ReadStatus}
 use Rattle.afs_law.proofs.Apart.{apart_filter, apart_put, apart_refreshed, found_take}
 use Rattle.afs_law.proofs.Walking.{walked_apart, onto_last, looked_more, walk_made, walk_reached, walk_current, walk_answered, walked_found, tail_given, tail_fetched, tail_quiet, ends_answered, ends_here, EndsReach, AreTail, walks_on, Ready, Walks}
 use Rattle.std.specs.Prelude.{◌⊎◌, ◌&&◌, pos, ℤ}
-use Rattle.afs_law.proofs.Basics.{IfCall, ByClient, guest, Above, IfReply, IfNotice, OfReply, OfNotice, up_to_by, yes_no, both, same_fid-true, same_fid-refl, same_node-refl, client_number, found-cached-fid, found-first, found-refreshed, OfCall, each_at, some_of, ByServer, OfClient, by_client, IfBack, up_to_next, next_not, raised_up_to}
+use Rattle.afs_law.proofs.Basics.{same_key-refl, IfCall, ByClient, guest, Above, IfReply, IfNotice, OfReply, OfNotice, up_to_by, yes_no, both, same_fid-true, same_fid-refl, same_node-refl, client_number, found-cached-fid, found-first, found-refreshed, OfCall, each_at, some_of, ByServer, OfClient, by_client, IfBack, up_to_next, next_not, raised_up_to}
 use Rattle.afs_ideal.specs.Operations.{volume_changed}
 use Rattle.afs_law.proofs.Asking.{carried_is, client_asking, client_ended, own_read, safe_over, client_kept, call_known, reply_still, step_entry, view_after, moves, nothing_new, Heard, told_passes, answered_seen, own_zero, answered_lines, answered_file, answered_reach, answered_passes, quiet, safe_cache, own_call, asks, own_begun, no_scope, same_one, heard_dull, new_one}
 use Rattle.afs_law.proofs.Dropping.{left_out, called_goes}
@@ -49,7 +49,7 @@ use Rattle.afs_law.specs.Grants.{until, has_fetched, fetch_reply, since}
 use Rattle.afs_law.specs.Ideal.{Reach, HasBeen, raised, is_zero_code, reach, last_version, HasVersion}
 use Rattle.afs_law.specs.Legal.{AreGood, Shows, Cause, GoodCode}
 use Rattle.afs_history.specs.declared.lines.Line.{Line}
-use Rattle.afs_law.specs.Past.{code_told, HasCode, IsCallUnder, onto, lines_of, sent_of, given_message, answered_key, running, has_begun, CalledSince}
+use Rattle.afs_law.specs.Past.{has_sent, is_late, is_called, same_key, AreWithin, code_told, HasCode, IsCallUnder, onto, lines_of, sent_of, given_message, answered_key, running, has_begun, CalledSince}
 use Rattle.afs_rows.specs.Runs.{locations, Entry, message_at}
 use Rattle.afs_law.proofs.OneCell.{the_server, Moved, Cell, client_moves, begun_by}
 use Rattle.afs_rows.specs.Scopes.{is_in_scope}
@@ -179,6 +179,7 @@ begun_answered s c past n act k h none is =
       old = walk_old n x.cache w.cache (ls ++ tail) [] past (quiet_more n ls tail W.quiet (tail_quiet n tail t)) (λ f u z. walked_found (most_reads (began (locations s) act)) c.clock (began (locations s) act) x.cache f u z) d.old;
       runs = λ b z. absurd cc;
       asked = λ b z. absurd cc;
+      late = λ b z. absurd cc;
       none = λ z. refl;
       gave = λ b z. absurd cc;
       reached = walk_reached s c past n (h.floors n).held ls w.act w.cache tail [] W t ends;
@@ -240,6 +241,7 @@ begun_calls s c past n act h none going =
       old = walk_old n x.cache w.cache (ls ++ []) ms past (quiet_more n ls [] W.quiet tt) (λ f u z. walked_found (most_reads (began (locations s) act)) c.clock (began (locations s) act) x.cache f u z) d.old;
       runs = λ b z. at ∙ z;
       asked = λ b z. subst (λ (a : Going). CalledSince (last_key n v) guest (its_call v.gifts a) (e ∷ past)) (some_of w.act b z) (inl (refl, inl (refl, carried_is y w.act kind.user)));
+      late = λ b z. new_late s c past n y w.act e h refl refl;
       none = λ z. absurd cc;
       gave = λ b z. gave;
       reached = walk_reached s c past n (h.floors n).held ls w.act w.cache [] ms W tt (ends_here n);
@@ -326,6 +328,52 @@ ends_for (asks_for call) going unread = tt
 ends_for gives_back going unread = tt
 ends_for (answers code) going unread = absurd going
 
+-- ---- its call ran since the act began: the key that it was sent under is of no act before
+
+more_by : (t x y : Bool) → cond t true x ≡ true → (x ≡ true → y ≡ true) → cond t true y ≡ true
+more_by true x y h w = refl
+more_by false x y h w = w h
+
+has_more : (k : Key) (a b : List Message) → has_sent k a ≡ true → has_sent k (a ++ b) ≡ true
+has_more k [] b h = absurd cc
+has_more k (m ∷ a) b h = more_by (is_called k m.head m.carried) (has_sent k a) (has_sent k (a ++ b)) h (λ y. has_more k a b y)
+
+sent_before : (k : Key) (newer older : List Entry) → has_sent k (sent_of older) ≡ true → has_sent k (sent_of (newer ++ older)) ≡ true
+sent_before k [] older h = h
+sent_before k (e ∷ newer) older h = has_more k (sent_of (newer ++ older)) e.sent (sent_before k newer older h)
+
+behind_by : (t a b : Bool) → a ≡ true → cond t (not a) b ≡ true → (t ≡ false) × (b ≡ true)
+behind_by true a b h l = let no_ : true ≡ false = sym l ∙ ap not h in absurd cc
+behind_by false a b h l = (refl, l)
+
+late_within : (n : Node) (k : Key) (newer : List Entry) (at : Entry) (older : List Entry) → has_sent k (sent_of older) ≡ true → is_late n k (newer ++ (at ∷ older)) ≡ true → AreWithin n (newer ++ at ∷ [])
+late_within n k [] at older h l = ((behind_by (has_begun n at.lines) (has_sent k (sent_of older)) (is_late n k older) h l).0, tt)
+late_within n k (e ∷ newer) at older h l =
+    let rest : List Entry = newer ++ (at ∷ older) in
+    let x = behind_by (has_begun n e.lines) (has_sent k (sent_of rest)) (is_late n k rest) (sent_before k newer (at ∷ older) (has_more k (sent_of older) at.sent h)) l in
+    (x.0, late_within n k newer at older h x.1)
+
+or_true : (t x : Bool) → x ≡ true → cond t true x ≡ true
+or_true true x h = refl
+or_true false x h = h
+
+sent_at : (k : Key) (sent : List Message) (place : ℕ) (m : Message) → message_at sent place ≡ Some m → is_called k m.head m.carried ≡ true → has_sent k sent ≡ true
+sent_at k [] place m e t = absurd cc
+sent_at k (o ∷ sent) zero m e t = absurd cc
+sent_at k (o ∷ sent) (suc zero) m e t = let one : o ≡ m = cc in subst (λ (x : Bool). cond x true (has_sent k sent) ≡ true) (sym (ap (λ (q : Message). is_called k q.head q.carried) one ∙ t)) refl
+sent_at k (o ∷ sent) (suc (suc place)) m e t = or_true (is_called k o.head o.carried) (has_sent k sent) (sent_at k sent (suc place) m e t)
+
+sent_given : (k : Key) (ls : List Line) (sent : List Message) (m : Message) → given_message ls sent ≡ Some m → is_called k m.head m.carried ≡ true → has_sent k sent ≡ true
+sent_given k [] sent m e t = absurd cc
+sent_given k (lines.Given place ∷ ls) sent m e t = sent_at k sent place m e t
+sent_given k (l ∷ ls) sent m e t = sent_given k ls sent m e t
+
+within : (n : Node) (m : Message) (code : ℤ) (call : FsCall) (past : List Entry) → (c : Cause m code call past []) → is_late n (answered_key m.head) past ≡ true → AreWithin n (c.ran.newer ++ c.ran.at ∷ [])
+within n m code call past c late =
+    let k : Key = answered_key m.head in
+    let is : is_called k c.ran.message.head c.ran.message.carried ≡ true = ap (is_called k c.ran.message.head) c.carries ∙ (ap (λ (l : Key). same_key l k) c.ran.key ∙ same_key-refl k) in
+    late_within n k c.ran.newer c.ran.at c.ran.older (sent_given k c.ran.at.lines (sent_of c.ran.older) c.ran.message c.ran.given is) (subst (λ (p : List Entry). is_late n k p ≡ true) c.ran.split late)
+
 -- its act is answered with its code
 pub good_code : (s : Script) (c : Cell) (past : List Entry) (n p : ℕ) (act : Going) (m : Message) (code : Code) (own : List Line) → (h : Holds s c past) → Due c h.floors past n p act m → code_told m.carried ≡ Some code.0 → (code.0 ≡ pos 0 → EndsAct (next act)) → given_message own (sent_of past) ≡ message_at (sent_of past) p
     → has_begun (Client n) own ≡ false → running s (Client n) (own ++ lines_of past) ≡ running s (Client n) (lines_of past) → GoodCode s (Client n) code past own
@@ -344,6 +392,7 @@ good_code s c past n p act m code own h d told ends by none still =
         cause = cause_behind m code.0 (asked act) past own k.cause;
         before = none;
         called = subst (λ (u : List ℕ). CalledSince (answered_key m.head) u k.cause.call past) (sym k.cause.own_user) (subst (λ (x : FsCall). CalledSince (answered_key m.head) guest x past) (sym k.own) asked_now);
+        lately = within (Client n) m code.0 (asked act) past k.cause (subst (λ (k : Key). is_late (Client n) k past ≡ true) (sym d.key) ((h.clients n).late act d.running));
         ends = ends;
       });
     }
@@ -448,6 +497,7 @@ ended_facts s c past n cache held e h le idle cur old r =
       old = old;
       runs = λ b y. absurd cc;
       asked = λ b y. absurd cc;
+      late = λ b y. absurd cc;
       none = λ y. refl;
       gave = λ b y. absurd cc;
       reached = r;
@@ -726,6 +776,7 @@ gone_calls s c past n p act m front F w h d shut same used W apart old going =
       old = old_over w.cache (lines_of past) (lines_of (e ∷ past)) (λ f i b y. (quiet_grant n n f (ls ++ []) ms past q).version i b (lines_of past) y) old;
       runs = λ b y. at ∙ y;
       asked = λ b z. subst (λ (x : Going). CalledSince (last_key n v) guest (its_call v.gifts x) (e ∷ past)) (some_of w.act b z) (inl (refl, inl (refl, carried_is y w.act its.user)));
+      late = λ b z. new_late s c past n y w.act e h refl refl;
       none = λ z. absurd cc;
       gave = λ b z. gave;
       reached = walk_reached s c past n c.server.lasting.boot ls w.act w.cache [] ms W tt (ends_here n);
@@ -1313,7 +1364,7 @@ resends_goes s c past n p act m boot h d le runs =
     (subst (λ (k : ℕ). ClientFacts s n (record (view h.floors c n) { known = k }) (e ∷ past)) (sym known) (client_kept s c past n boot e h le (λ f. told_file n p f (actors.Node (Client n)) ms past) (λ f. told_reach n p f (actors.Node (Client n)) ms past) (told_act n p (actors.Node (Client n)) ms past) (λ f. refl)))
     (λ head call f. call_known (view h.floors c n) (boot_of the_server x.boots) head call f)
     (reply_still n (view h.floors c n) e past (λ f. told_file n p f (actors.Node (Client n)) ms past) (λ f. told_reach n p f (actors.Node (Client n)) ms past) (λ f. refl) refl)
-    (own_call h.floors c past n (h.floors n) x act (lines.Given p ∷ []) (subst (λ (k : ℕ). k ≤ c.server.lasting.boot) (sym known) le) kind runs ((h.clients n).runs act runs) (same_one s c past n act ms h runs) (all_dropped_onto (Client n) (fids_of_gifts old.gifts) (lines.Given p ∷ []) (lines_of past) refl ((h.clients n).gave act runs))) (λ a x z. inl x) refl (tried_kept n (c.clients n) _ (lines_of past) (lines.Given p ∷ []) refl refl refl refl (h.tried n))
+    (own_call h.floors c past n (h.floors n) x act (lines.Given p ∷ []) (subst (λ (k : ℕ). k ≤ c.server.lasting.boot) (sym known) le) kind runs ((h.clients n).runs act runs) (same_one s c past n act ms h runs) (all_dropped_onto (Client n) (fids_of_gifts old.gifts) (lines.Given p ∷ []) (lines_of past) refl ((h.clients n).gave act runs))) (λ a x z. inl (x, (refl, refl))) refl (tried_kept n (c.clients n) _ (lines_of past) (lines.Given p ∷ []) refl refl refl refl (h.tried n))
 
 -- ---- the row, by its cases
 

@@ -2,7 +2,7 @@ use Rattle.afs_law.proofs.Nexts.{as_is, asks_is}
 use Rattle.afs_num.specs.declared.types.Node.{Node}
 use Rattle.afs_rows.specs.States.{Location, Gift, CacheEntry, Seat}
 use Rattle.afs_law.proofs.Basics.{guest, at_put, found-first, Each, IfCall, ByClient, OfClient, by_client, both, same_node-true, same_node-refl, node_apart, client_number, up_to_same, up_to_next, next_not, below_not, at_puts, each_map, if_call, raised_up_to, some_of, IfBack, IfDone, same_key-refl, OfCall, UpTo}
-use Rattle.std.proofs.Common.{◌≡◌, ℕ, ◌+◌, ◌≤◌, ◌⊎◌, inl, inr, Bool, true, false, cond, List, [], ◌∷◌, Option, Some, None, refl, sym, ap, subst, ◌∙◌, nat_eq, eqb-true, ◌++◌}
+use Rattle.std.proofs.Common.{not, ◌≡◌, ℕ, ◌+◌, ◌≤◌, ◌⊎◌, inl, inr, Bool, true, false, cond, List, [], ◌∷◌, Option, Some, None, refl, sym, ap, subst, ◌∙◌, nat_eq, eqb-true, ◌++◌}
 use Rattle.std.specs.Prelude.{◌&&◌}
 use Rattle.afs_num.specs.Nodes.{same_node}
 use Rattle.afs_num.specs.declared.types.Code.{Code}
@@ -15,9 +15,9 @@ use Rattle.afs_num.specs.declared.messages.Message.{Message}
 use Rattle.afs_ideal.specs.Operations.{volume_changed}
 use Rattle.afs_law.proofs.Backing.{Plain, backed_plain, seated_over, plain_step}
 use Rattle.afs_law.proofs.Edits.{index_in, fid_at, sound_same}
-use Rattle.afs_law.proofs.Facts.{fids_of_gifts, AreApart, IsClient, back_seat, Ghost, IsAged, View, view_of, view, desk, last_key, LastRan, ReplyFact, ClientFacts, IsUntrusted, IsSafe, CallFact, CallIn, Holds, Goes, Reading, InScope, IsOne, AreGifts, IsOpen, Tried, its_call}
+use Rattle.afs_law.proofs.Facts.{RanOn, fids_of_gifts, AreApart, IsClient, back_seat, Ghost, IsAged, View, view_of, view, desk, last_key, LastRan, ReplyFact, ClientFacts, IsUntrusted, IsSafe, CallFact, CallIn, Holds, Goes, Reading, InScope, IsOne, AreGifts, IsOpen, Tried, its_call}
 use Rattle.afs_law.proofs.Owing.{BackIn, DoneIn, SeatedIn}
-use Rattle.afs_law.proofs.Passing.{own_gift, all_dropped_onto, tried_kept, tried_more, tried_new, old_over, PassesFile, PassesAct, PassesReach, stays, PassesBoth, PassesSeen, current_over, reply_over, kept_over, client_still, News, more_sent, fallen_over, one_more, ran_over}
+use Rattle.afs_law.proofs.Passing.{changing_more, changed_before, own_gift, all_dropped_onto, tried_kept, tried_more, tried_new, old_over, PassesFile, PassesAct, PassesReach, stays, PassesBoth, PassesSeen, current_over, reply_over, kept_over, client_still, News, more_sent, fallen_over, one_more, ran_over}
 use Rattle.afs_law.proofs.Serving.{told_file, told_reach, told_act, reached_still}
 use Rattle.afs_law.proofs.Turning.{call_good}
 use Rattle.afs_rows.specs.Callbacks.{put, replies_of}
@@ -26,7 +26,7 @@ use Rattle.afs_rows.specs.Going.{Need, reads, reads_status, reads_statuses, read
 use Rattle.afs_law.specs.Ideal.{last_version, HasVersion, Accepts, clock_of, reach, is_zero_code, volume_after, call_in, call_under}
 use Rattle.afs_law.specs.Legal.{AreDropped, IsNew, AreGood, AreGoodSent, as_asked}
 use Rattle.afs_history.specs.declared.lines.Line.{Line}
-use Rattle.afs_law.specs.Past.{server_boot, onto, lines_of, sent_of, given_message, running, CalledSince, IsCallUnder, has_begun, called_key, is_called, same_key, Sends}
+use Rattle.afs_law.specs.Past.{has_sent, is_late, server_boot, onto, lines_of, sent_of, given_message, running, CalledSince, IsCallUnder, has_begun, called_key, is_called, same_key, Sends}
 use Rattle.afs_rows.specs.Runs.{Entry, message_at}
 use Rattle.afs_law.proofs.OneCell.{the_server, Cell, client_moves}
 use Rattle.afs_rows.specs.Scopes.{is_volume}
@@ -101,7 +101,7 @@ pub moves_back : (s : Script) (c : Cell) (past : List Entry) (n : ℕ) (floor : 
     → ClientFacts s n (view_after c n floor st.state) ((client_moves c n st).entry ∷ past)
     → ((head : Head) (call : FsCall) → CallFact (view h.floors c n) head call → CallFact (view_after c n floor st.state) head call)
     → ((m : Message) → ReplyFact n (view h.floors c n) past m → ReplyFact n (view_after c n floor st.state) ((client_moves c n st).entry ∷ past) m)
-    → Fresh s c n (views_after h.floors c n floor st.state) ((client_moves c n st).entry ∷ past) st.sent → ((a : Going) → st.state.running ≡ Some a → has_begun (Client n) st.lines ≡ false → ((c.clients n).running ≡ Some a) ⊎ Reading (c.clients n).running) → KeepsSeat c n (back_seat st.state) ((client_moves c n st).entry ∷ past) → Tried n st.state (lines_of ((client_moves c n st).entry ∷ past)) → Goes s past (client_moves c n st)
+    → Fresh s c n (views_after h.floors c n floor st.state) ((client_moves c n st).entry ∷ past) st.sent → ((a : Going) → st.state.running ≡ Some a → has_begun (Client n) st.lines ≡ false → RanOn (view h.floors c n) (view_after c n floor st.state) (c.clients n).running a) → KeepsSeat c n (back_seat st.state) ((client_moves c n st).entry ∷ past) → Tried n st.state (lines_of ((client_moves c n st).entry ∷ past)) → Goes s past (client_moves c n st)
 moves_back s c past n floor st h kind good p own w q fresh went keeps tried =
     let e : Entry = (client_moves c n st).entry in
     let last : (f : Fid) → last_version f (lines_of (e ∷ past)) ≡ last_version f (lines_of past) = λ f. p.last f (lines_of past) in
@@ -122,11 +122,12 @@ moves_back s c past n floor st h kind good p own w q fresh went keeps tried =
         sound = λ id. sound_same id _ (lines_of past) (lines_of (e ∷ past)) (λ a u. last (fid_at id a u)) (h.sound id);
         home = λ id v found. p.home id (lines_of past) (h.home id v found);
         new = λ k above. p.new k (lines_of past) (h.new k above);
+        changing = λ k x. changing_more k c.sent st.sent (h.changing k (changed_before k (lines_of past) (lines_of (e ∷ past)) (p.new k (lines_of past)) x));
         unheard = λ k b may. (λ x. p.dull k b x, h.unheard k b may);
         booted = h.booted;
         boots = p.boot (lines_of past) ∙ h.boots;
         clients = now;
-        sent = more_sent c.sent (replies_of c.server.backs.held) (replies_of c.server.backs.held) (view h.floors c) (views_after h.floors c n floor st.state) c.server.lasting.boot c.server.lasting.boot e past h.sent (le_refl _) now (λ j a. at_mover h.floors c n floor st.state j (λ i v. v.running ≡ Some a → has_begun (Client i) e.lines ≡ false → (running s (Client i) (lines_of past) ≡ Some a) ⊎ Reading (running s (Client i) (lines_of past))) (λ x z. elim (went a x z) [ inl y ↦ inl ((h.clients n).runs a y) | inr y ↦ inr (record { act = y.act; runs = (h.clients n).runs y.act y.runs; read = y.read }) ]) (λ ne x z. inl ((h.clients j).runs a x))) (calls_moved h.floors c n floor st.state c.sent w h.sent.calls)
+        sent = more_sent c.sent (replies_of c.server.backs.held) (replies_of c.server.backs.held) (view h.floors c) (views_after h.floors c n floor st.state) c.server.lasting.boot c.server.lasting.boot e past h.sent (le_refl _) now (λ j a. at_mover h.floors c n floor st.state j (λ i v. v.running ≡ Some a → has_begun (Client i) e.lines ≡ false → RanOn (view h.floors c i) v (running s (Client i) (lines_of past)) a) (λ x z. elim (went a x z) [ inl y ↦ inl ((h.clients n).runs a y.0, y.1) | inr y ↦ inr (record { act = y.act; runs = (h.clients n).runs y.act y.runs; read = y.read }) ]) (λ ne x z. inl ((h.clients j).runs a x, (refl, refl)))) (calls_moved h.floors c n floor st.state c.sent w h.sent.calls)
             (λ j m. at_mover h.floors c n floor st.state j (λ i v. ReplyFact i (view h.floors c i) past m → ReplyFact i v (e ∷ past) m) (q m)
             (λ ne. reply_over j (view h.floors c j) m e past (λ f. (p.file j ne f).grant) (p.reach j ne) (λ f. stays j f e past (p.file j ne f).grant (last f)) (p.act j ne).begins)) (λ held. (fresh.news, held));
         down = fallen_over c.down c.server.lasting c.sent st.sent e past (λ z. absurd cc) h.down;
@@ -146,7 +147,7 @@ pub moves : (s : Script) (c : Cell) (past : List Entry) (n : ℕ) (floor : Ghost
     → ClientFacts s n (view_after c n floor st.state) ((client_moves c n st).entry ∷ past)
     → ((head : Head) (call : FsCall) → CallFact (view h.floors c n) head call → CallFact (view_after c n floor st.state) head call)
     → ((m : Message) → ReplyFact n (view h.floors c n) past m → ReplyFact n (view_after c n floor st.state) ((client_moves c n st).entry ∷ past) m)
-    → Fresh s c n (views_after h.floors c n floor st.state) ((client_moves c n st).entry ∷ past) st.sent → ((a : Going) → st.state.running ≡ Some a → has_begun (Client n) st.lines ≡ false → ((c.clients n).running ≡ Some a) ⊎ Reading (c.clients n).running) → back_seat st.state ≡ back_seat (c.clients n) → Tried n st.state (lines_of ((client_moves c n st).entry ∷ past)) → Goes s past (client_moves c n st)
+    → Fresh s c n (views_after h.floors c n floor st.state) ((client_moves c n st).entry ∷ past) st.sent → ((a : Going) → st.state.running ≡ Some a → has_begun (Client n) st.lines ≡ false → RanOn (view h.floors c n) (view_after c n floor st.state) (c.clients n).running a) → back_seat st.state ≡ back_seat (c.clients n) → Tried n st.state (lines_of ((client_moves c n st).entry ∷ past)) → Goes s past (client_moves c n st)
 moves s c past n floor st h kind good p own w q fresh went same tried = moves_back s c past n floor st h kind good p own w q fresh went (λ seat m x y. old_seat s c past n (client_moves c n st).entry p.plain h seat m (sym same ∙ x) y) tried
 
 pub nothing_new : {s : Script} → {c : Cell} → {n : ℕ} → (views : ℕ → View) (past : List Entry) → Fresh s c n views past []
@@ -228,7 +229,7 @@ pub client_kept : (s : Script) (c : Cell) (past : List Entry) (n boot : ℕ) (e 
     → ClientFacts s n (record (view h.floors c n) { known = boot }) (e ∷ past)
 client_kept s c past n boot e h le p q t l =
     let d : ClientFacts s n (view h.floors c n) (e ∷ past) = client_still n (view h.floors c n) e past p q t l (h.clients n) in
-    record { behind = d.behind; behind_durable = d.behind_durable; lower = d.lower; kept = d.kept; stored = d.stored; known = le; floored = d.floored; holds = d.holds; waits = d.waits; idle = d.idle; made = d.made; current = d.current; runs = d.runs; old = d.old; asked = d.asked; none = d.none; gave = d.gave; reached = d.reached }
+    record { behind = d.behind; behind_durable = d.behind_durable; lower = d.lower; kept = d.kept; stored = d.stored; known = le; floored = d.floored; holds = d.holds; waits = d.waits; idle = d.idle; made = d.made; current = d.current; runs = d.runs; old = d.old; asked = d.asked; late = d.late; none = d.none; gave = d.gave; reached = d.reached }
 
 pub reply_still : (j : ℕ) (v : View) (e : Entry) (past : List Entry) → ((f : Fid) → PassesFile j f e past) → ((f : Fid) → PassesReach j f e past) → ((f : Fid) → last_version f (lines_of (e ∷ past)) ≡ last_version f (lines_of past)) → has_begun (Client j) e.lines ≡ false → (m : Message) → ReplyFact j v past m → ReplyFact j v (e ∷ past) m
 reply_still j v e past p q l b m = reply_over j v m e past (λ f. (p f).grant) q (λ f. stays j f e past (p f).grant (l f)) b
@@ -241,7 +242,7 @@ quiet s c past n p m h d =
     let e : Entry = step_entry n (lines.Given p ∷ []) [] in
     moves s c past n (h.floors n) (ignores (c.clients n) p) h (h.own n) (refl, tt) (told_passes s c past n p m [] h d)
     (client_still n (view h.floors c n) e past (λ f. told_file n p f (actors.Node (Client n)) [] past) (λ f. told_reach n p f (actors.Node (Client n)) [] past) (told_act n p (actors.Node (Client n)) [] past) (λ f. refl) (h.clients n))
-    (λ head call f. f) (reply_still n (view h.floors c n) e past (λ f. told_file n p f (actors.Node (Client n)) [] past) (λ f. told_reach n p f (actors.Node (Client n)) [] past) (λ f. refl) refl) (nothing_new _ _) (λ a x z. inl x) refl (tried_kept n (c.clients n) _ (lines_of past) (lines.Given p ∷ []) refl refl refl refl (h.tried n))
+    (λ head call f. f) (reply_still n (view h.floors c n) e past (λ f. told_file n p f (actors.Node (Client n)) [] past) (λ f. told_reach n p f (actors.Node (Client n)) [] past) (λ f. refl) refl) (nothing_new _ _) (λ a x z. inl (x, (refl, refl))) refl (tried_kept n (c.clients n) _ (lines_of past) (lines.Given p ∷ []) refl refl refl refl (h.tried n))
 
 -- ---- a call is sent
 
@@ -403,7 +404,13 @@ own_call {s} fl c past n floor x act ls le kind runs at one dropped =
         replies = (tt, tt);
         notices = (tt, tt);
         origins = (record { act = act; called = inl (refl, (inl (refl, refl), at)); own_user = kind.user; own_call = call_is x act }, tt);
-        acts = ((λ t a r. as_is (call_of x act) (asked a) (call_is x act ∙ ap asked (some_of act a (sym at ∙ r)))), tt);
+        acts = (
+          (λ t a r. elim (as_is (call_of x act) (asked a) (call_is x act ∙ ap asked (some_of act a (sym at ∙ r)))) [
+            | inl y ↦ inl y
+            | inr y ↦ inr (y, (λ j z. (at_mover fl c n floor x j (λ i v. x.epoch ≡ v.epoch) refl (λ ne. absurd (ne (client_number n j z))), at_mover fl c n floor x j (λ i v. x.last ≡ v.last) refl (λ ne. absurd (ne (client_number n j z))))))
+          ]),
+          tt,
+        );
         lasts = (
           record {
             client = n;
@@ -424,6 +431,41 @@ new_one s c past n x act h epoch number =
     let k : Key = called_key (call_head (Client n) x act) in
     under_last k (sent_of past) (call_message (Client n) x act) (x.user, call_of x act)
     (ap (call_under k) h.sent.told ∙ none_under (view h.floors c) n k c.sent refl epoch number h.sent.calls) (same_key-refl k) refl
+
+-- and no act before used it
+sent_by : (views : ℕ → View) (n : ℕ) (k : Key) (head : Head) (c : Carried) (rest : Bool) → k.node ≡ Client n → k.epoch ≡ (views n).epoch → k.number ≡ (views n).last + 1 → OfCall (ByClient (CallIn views)) head c → rest ≡ false → cond (is_called k head c) true rest ≡ false
+sent_by views n k head (carried.Call user (ask.File call)) rest a b d f e = rw (not_called (views n) n views k head user call (same_key (called_key head) k) refl a b d f) e
+sent_by views n k head (carried.Call user (ask.Volume call)) rest a b d f e = absurd f
+sent_by views n k head (carried.Call user (ask.Location call)) rest a b d f e = absurd f
+sent_by views n k head (carried.Refusal code) rest a b d f e = e
+sent_by views n k head (carried.Reply reply) rest a b d f e = e
+sent_by views n k head carried.Notice rest a b d f e = e
+
+none_sent : (views : ℕ → View) (n : ℕ) (k : Key) (sent : List Message) → k.node ≡ Client n → k.epoch ≡ (views n).epoch → k.number ≡ (views n).last + 1 → Each (IfCall (CallIn views)) sent → has_sent k sent ≡ false
+none_sent views n k [] a b d h = refl
+none_sent views n k (m ∷ sent) a b d h = sent_by views n k m.head m.carried (has_sent k sent) a b d h.0 (none_sent views n k sent a b d h.1)
+
+front_by : (t x y : Bool) → cond t true x ≡ false → (x ≡ false → y ≡ false) → cond t true y ≡ false
+front_by true x y h w = absurd cc
+front_by false x y h w = w h
+
+not_front : (k : Key) (a b : List Message) → has_sent k (a ++ b) ≡ false → has_sent k a ≡ false
+not_front k [] b h = refl
+not_front k (m ∷ a) b h = front_by (is_called k m.head m.carried) (has_sent k (a ++ b)) (has_sent k a) h (λ y. not_front k a b y)
+
+late_by : (t a b : Bool) → a ≡ false → b ≡ true → cond t (not a) b ≡ true
+late_by true a b h e = ap not h
+late_by false a b h e = e
+
+unsent_late : (n : Node) (k : Key) (past : List Entry) → has_sent k (sent_of past) ≡ false → is_late n k past ≡ true
+unsent_late n k [] h = refl
+unsent_late n k (e ∷ past) h = let none : has_sent k (sent_of past) ≡ false = not_front k (sent_of past) e.sent h in late_by (has_begun n e.lines) (has_sent k (sent_of past)) (is_late n k past) none (unsent_late n k past none)
+
+pub new_late : (s : Script) (c : Cell) (past : List Entry) (n : ℕ) (x : ClientState) (act : Going) (e : Entry) → Holds s c past → x.epoch ≡ (c.clients n).epoch → x.last ≡ (c.clients n).last + 1 → is_late (Client n) (called_key (call_head (Client n) x act)) (e ∷ past) ≡ true
+new_late s c past n x act e h epoch number =
+    let k : Key = called_key (call_head (Client n) x act) in
+    let none : has_sent k (sent_of past) ≡ false = ap (has_sent k) h.sent.told ∙ none_sent (view h.floors c) n k c.sent refl epoch number h.sent.calls in
+    late_by (has_begun (Client n) e.lines) (has_sent k (sent_of past)) (is_late (Client n) k past) none (unsent_late (Client n) k past none)
 
 -- a call that is sent again is the one under its key
 pub same_one : (s : Script) (c : Cell) (past : List Entry) (n : ℕ) (act : Going) (ms : List Message) → (h : Holds s c past) → (c.clients n).running ≡ Some act → call_under (last_key n (view h.floors c n)) (sent_of past ++ ms) ≡ Some ((c.clients n).user, call_of (c.clients n) act)
@@ -478,6 +520,7 @@ asks s c past n gs act l h given begun gave going good p q r none shut at went =
       old = old_over (c.clients n).cache (lines_of past) (lines_of (e ∷ past)) (λ f i b y. (q f).grant.version i b (lines_of past) y) d.old;
       runs = λ b y. at ∙ y;
       asked = λ b y. subst (λ (a : Going). CalledSince (last_key n v) guest (its_call v.gifts a) (e ∷ past)) (some_of act b y) (inl (refl, inl (refl, carried_is x act kind.user)));
+      late = λ b y. new_late s c past n x act e h refl refl;
       none = λ y. absurd cc;
       gave = λ b y. all_dropped_onto (Client n) (fids_of_gifts gs) (l ∷ []) (lines_of past) begun gave;
       reached = reached_still s c past n e h (λ f. (r f).both) last;
@@ -489,7 +532,7 @@ asks s c past n gs act l h given begun gave going good p q r none shut at went =
       own = λ b y z w. absurd (next_not _ _ _ _ f.behind z w);
       safe = λ q above. safe_over call c.clock (c.clients n).epoch (c.clients n).last (c.clients n).epoch ((c.clients n).last + 1) (c.clients n).running (Some act) (c.clients n).cache (IsAged (view h.floors c n) head) (IsAged v head) head shut (λ y. (y.0, λ b z w u. next_not _ _ _ _ f.behind w u)) (f.safe q above);
     })
-    over (own_call h.floors c past n g x act (l ∷ []) d.known kind refl at (new_one s c past n x act h refl refl) (all_dropped_onto (Client n) (fids_of_gifts gs) (l ∷ []) (lines_of past) begun gave)) (λ a x z. inl (went z ∙ x)) refl (tried_new n _ _ refl)
+    over (own_call h.floors c past n g x act (l ∷ []) d.known kind refl at (new_one s c past n x act h refl refl) (all_dropped_onto (Client n) (fids_of_gifts gs) (l ∷ []) (lines_of past) begun gave)) (λ a x z. inr (record { act = act; runs = went z; read = shut act (went z) })) refl (tried_new n _ _ refl)
 
 pub own_begun : (n : ℕ) (act : Going) (o : Option Going) → cond (same_node (Client n) (Client n)) (Some act) o ≡ Some act
 own_begun n act o = rw (same_node-refl (Client n)) refl

@@ -96,6 +96,15 @@ client_number i j e = ap number_of e
 pub same_key-refl : (k : Key) → same_key k k ≡ true
 same_key-refl k = rw (same_node-refl k.node, eq-eqb k.epoch k.epoch refl, eq-eqb k.number k.number refl) refl
 
+abbrev pub a_key : Node → ℕ → ℕ → Key
+a_key n e k = record { node = n; epoch = e; number = k }
+
+pub same_key-true : (k l : Key) → same_key k l ≡ true → k ≡ l
+same_key-true k l e =
+    let p = both (same_node k.node l.node) (eqb k.epoch l.epoch && eqb k.number l.number) e in
+    let q = both (eqb k.epoch l.epoch) (eqb k.number l.number) p.1 in
+    ap (λ (n : Node). a_key n k.epoch k.number) (same_node-true k.node l.node p.0) ∙ (ap (λ (x : ℕ). a_key l.node x k.number) (eqb-true _ _ q.0) ∙ ap (a_key l.node l.epoch) (eqb-true _ _ q.1))
+
 -- ---- pairs of epoch and number
 
 abbrev pub Below : ℕ → ℕ → ℕ → ℕ → Type 0

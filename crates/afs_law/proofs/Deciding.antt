@@ -14,11 +14,11 @@ use Rattle.afs_law.proofs.Backing.{Plain, all_lines, is_still, is_oweless, backe
 use Rattle.afs_law.proofs.Basics.{kept_last, not_above, runs_above, Below, Above, Each, IfCall, IfNotice, if_notice, by_server, IfDone, ByClient, OfClient, client_any, same_node-true, below_not, up_to_same, OfCall, each_map, each_at, if_call, some_of}
 use Rattle.afs_law.proofs.Edits.{on_top, SoundIn}
 use Rattle.afs_law.proofs.Facts.{is_passing, HeldIn, ToClient, Ghost, HoldsAt, up_boot, IsActs, View, view, Spot, spot, ReplyFact, AreKept, HasFallen, IsCut, Fits, Answers, KeptReply, ClientFacts, CallFact, CallIn, Origin, AreUnheard, Holds, Goes, IsNoticed, IsOne, its_call}
-use Rattle.afs_law.proofs.Loading.{is_tickless, down_later, resent, rise_loaded, run_loaded, no_change, all_waited, quits_good, quits_backed, retries_backed, all_owed, alls_good, all_clients, own_waited}
+use Rattle.afs_law.proofs.Loading.{is_tickless, down_later, resent, rise_loaded, run_loaded, all_waited, quits_good, quits_backed, retries_backed, all_owed, alls_good, all_clients, own_waited}
 use Rattle.afs_law.proofs.Notes.{AreNotes, Skips, skips, told_entry, risen_entry, risen_rests, owe_notes, quit_notes}
 use Rattle.afs_law.proofs.Ops.{rights_of_directory, IsShown, reads_is, op_code, op_is, IsFoundAs, changes_is}
 use Rattle.afs_law.proofs.Owing.{BackedIn, IsNumberIn, DoneIn, is_held, WaitedBy, AllWaitedBy, HeldWaits, AllOf}
-use Rattle.afs_law.proofs.Passing.{ran_over, kept_over, replies_over, waiting_over}
+use Rattle.afs_law.proofs.Passing.{no_change, ran_over, kept_over, replies_over, waiting_over}
 use Rattle.afs_law.proofs.Pumping.{no_news, pumped_news, starts_held, news_break}
 use Rattle.afs_law.proofs.Resting.{fall_backed, Rests, fault_rests, full_rests, alone, rests, still, voids, unheard_still, fallen_still, server_crash_rests, cut_entry, cut_rests}
 use Rattle.afs_law.proofs.Saving.{changed_later, versions_lines, versioned_front, saves_clock, Way, rises_to, faults, fills, saved_lines, saved_sent, saved_entry, given_on, Change', change_at, stock_after, NewEntry, saves_change_good, saves_holds, versions_good, saves_boot, saves_goes, top_number, reply_saved}
@@ -293,7 +293,7 @@ pub not_runs : {R : Type 0} (a b : Admitted R) → a ≡ b → (b ≡ pairs.runs
 not_runs a b e ne r = ne (sym e ∙ r)
 
 pub admits_just : (s : Script) (c : Cell) (past : List Entry) (time : ℕ) (n : ℕ) (h : Head) (user : List ℕ) (call : FsCall) (o : Admitted Message) → (H : Holds s c past) → h.boot ≡ c.server.lasting.boot
-    → CallFact (view H.floors c n) (client_head n h) call → Origin s past (client_head n h) user call → IsActs s past (client_head n h) user call → IsOne (sent_of past) (client_head n h) user call → pairs.paired h.epoch h.number (call_seat (Client n) c.server.seats) ≡ o → IsJust s c H.floors past (call_at n h user call) (admits c.server time (client_head n h) (read_call (client_head n h) user call) o)
+    → CallFact (view H.floors c n) (client_head n h) call → Origin s past (client_head n h) user call → IsActs s (view H.floors c) past (client_head n h) user call → IsOne (sent_of past) (client_head n h) user call → pairs.paired h.epoch h.number (call_seat (Client n) c.server.seats) ≡ o → IsJust s c H.floors past (call_at n h user call) (admits c.server time (client_head n h) (read_call (client_head n h) user call) o)
 admits_just s c past time n h user call pairs.runs H boot f from acts one e =
     let above : Above (call_seat (Client n) c.server.seats) h.epoch h.number = runs_above h.epoch h.number (call_seat (Client n) c.server.seats) e in
     runs_just s c past time n h user call H (record { boot = boot; above = above; above_durable = (H.clients n).lower h.epoch h.number above; fact = f; origin = from; acts = acts; one = one })
@@ -309,7 +309,7 @@ dull_away c n h user call le ne k b x (inl l) = let is : h.boot ≡ b = x.1.1 in
 dull_away c n h user call le ne k b x (inr above) = let yes : nat_eq h.boot c.server.lasting.boot ≡ true = eq-eqb h.boot c.server.lasting.boot (x.1.1 ∙ above.0) in absurd cc
 
 pub booted_just : (s : Script) (c : Cell) (past : List Entry) (time : ℕ) (n : ℕ) (h : Head) (user : List ℕ) (call : FsCall) (b : Bool) → (H : Holds s c past) → nat_eq h.boot c.server.lasting.boot ≡ b
-    → CallFact (view H.floors c n) (client_head n h) call → Origin s past (client_head n h) user call → IsActs s past (client_head n h) user call → IsOne (sent_of past) (client_head n h) user call
+    → CallFact (view H.floors c n) (client_head n h) call → Origin s past (client_head n h) user call → IsActs s (view H.floors c) past (client_head n h) user call → IsOne (sent_of past) (client_head n h) user call
     → IsJust s c H.floors past (call_at n h user call) (admits c.server time (client_head n h) (read_call (client_head n h) user call) (cond b (pairs.paired h.epoch h.number (call_seat (Client n) c.server.seats)) (pairs.wrong_boot c.server.lasting.boot)))
 booted_just s c past time n h user call true H boot f from acts one = admits_just s c past time n h user call (pairs.paired h.epoch h.number (call_seat (Client n) c.server.seats)) H (eqb-true h.boot c.server.lasting.boot boot) f from acts one refl
 booted_just s c past time n h user call false H boot f from acts one = record { idle = dull_away c n h user call f.booted boot; user = user; call = call; is = refl }
@@ -318,7 +318,7 @@ booted_just s c past time n h user call false H boot f from acts one = record { 
 pub is_client_head : (n : ℕ) (h : Head) → h.from ≡ Client n → h.to ≡ the_server → h ≡ client_head n h
 is_client_head n h from to = ap (λ (x : Node). record h { from = x }) from ∙ ap (λ (x : Node). record h { from = Client n; to = x }) to
 
-pub called_just : (s : Script) (c : Cell) (past : List Entry) (time : ℕ) (head : Head) (user : List ℕ) (call : FsCall) → (H : Holds s c past) → CallIn (view H.floors c) head user call → Origin s past head user call → IsActs s past head user call → IsOne (sent_of past) head user call
+pub called_just : (s : Script) (c : Cell) (past : List Entry) (time : ℕ) (head : Head) (user : List ℕ) (call : FsCall) → (H : Holds s c past) → CallIn (view H.floors c) head user call → Origin s past head user call → IsActs s (view H.floors c) past head user call → IsOne (sent_of past) head user call
     → IsJust s c H.floors past (record { head = head; carried = carried.Call user (ask.File call) }) (called the_server c.server time head (read_call head user call))
 called_just s c past time head user call H f from acts one =
     let n : ℕ = f.client in
@@ -327,7 +327,7 @@ called_just s c past time head user call H f from acts one =
     (booted_just s c past time n head user call (nat_eq head.boot c.server.lasting.boot) H refl
     (subst (λ (x : Head). CallFact (view H.floors c n) x call) is f.fact)
     (subst (λ (x : Head). Origin s past x user call) is from)
-    (subst (λ (x : Head). IsActs s past x user call) is acts)
+    (subst (λ (x : Head). IsActs s (view H.floors c) past x user call) is acts)
     (subst (λ (x : Head). IsOne (sent_of past) x user call) is one))
 
 -- a call that isn't a client's is none to the server
@@ -336,14 +336,14 @@ pub called_apart : (s : Script) (c : Cell) (past : List Entry) (time : ℕ) (hea
 called_apart s c past time head user call true H t ne = absurd (ne (same_node-true head.to the_server t))
 called_apart s c past time head user call false H t ne = λ k b y may. ne y.0.1
 
-pub called_by : (s : Script) (c : Cell) (past : List Entry) (time : ℕ) (head : Head) (user : List ℕ) (call : FsCall) (n : Node) → (H : Holds s c past) → head.from ≡ n → OfClient n (CallIn (view H.floors c) head user call) → OfClient n (Origin s past head user call) → OfClient n (IsActs s past head user call) → OfClient n (IsOne (sent_of past) head user call)
+pub called_by : (s : Script) (c : Cell) (past : List Entry) (time : ℕ) (head : Head) (user : List ℕ) (call : FsCall) (n : Node) → (H : Holds s c past) → head.from ≡ n → OfClient n (CallIn (view H.floors c) head user call) → OfClient n (Origin s past head user call) → OfClient n (IsActs s (view H.floors c) past head user call) → OfClient n (IsOne (sent_of past) head user call)
     → ToClient head user call → IsJust s c H.floors past (called_at head user call) (called the_server c.server time head (read_call head user call))
 called_by s c past time head user call (Client n) H e f from acts one away = called_just s c past time head user call H f from acts one
 called_by s c past time head user call (Server n) H e f from acts one away = called_apart s c past time head user call (same_node head.to the_server) H refl (away (λ j x. absurd cc)).0
 called_by s c past time head user call (Admin n) H e f from acts one away = called_apart s c past time head user call (same_node head.to the_server) H refl (away (λ j x. absurd cc)).0
 called_by s c past time head user call Loc H e f from acts one away = called_apart s c past time head user call (same_node head.to the_server) H refl (away (λ j x. absurd cc)).0
 
-pub hears_just : (s : Script) (c : Cell) (past : List Entry) (time : ℕ) (head : Head) (x : Carried) → (H : Holds s c past) → OfCall (ByClient (CallIn (view H.floors c))) head x → OfCall (ByClient (Origin s past)) head x → OfCall (ByClient (IsActs s past)) head x → OfCall (ByClient (IsOne (sent_of past))) head x → OfCall (ToClient) head x → IsJust s c H.floors past (record { head = head; carried = x }) (hears the_server c.server time head x)
+pub hears_just : (s : Script) (c : Cell) (past : List Entry) (time : ℕ) (head : Head) (x : Carried) → (H : Holds s c past) → OfCall (ByClient (CallIn (view H.floors c))) head x → OfCall (ByClient (Origin s past)) head x → OfCall (ByClient (IsActs s (view H.floors c) past)) head x → OfCall (ByClient (IsOne (sent_of past))) head x → OfCall (ToClient) head x → IsJust s c H.floors past (record { head = head; carried = x }) (hears the_server c.server time head x)
 hears_just s c past time head (carried.Call user (ask.File call)) H f from acts one away = called_by s c past time head user call head.from H refl f from acts one away
 hears_just s c past time head (carried.Call user (ask.Volume call)) H f from acts one away = absurd f
 hears_just s c past time head (carried.Call user (ask.Location call)) H f from acts one away = absurd f
@@ -355,7 +355,7 @@ pub ones_told : (s : Script) (c : Cell) (past : List Entry) → Holds s c past �
 ones_told s c past H = subst (λ (ms : List Message). Each (IfCall (IsOne ms)) c.sent) (sym H.sent.told) H.sent.ones
 
 pub sent_just : (s : Script) (c : Cell) (past : List Entry) (time : ℕ) (p : ℕ) (m : Message) → (H : Holds s c past) → message_at c.sent p ≡ Some m → IsJust s c H.floors past m (decides the_server c.server time (Whole m))
-sent_just s c past time p m H at = hears_just s c past time m.head m.carried H (each_at (IfCall (CallIn (view H.floors c))) c.sent p m at H.sent.calls) (each_at (IfCall (Origin s past)) c.sent p m at H.sent.origins) (each_at (IfCall (IsActs s past)) c.sent p m at H.sent.acts) (each_at (IfCall (IsOne (sent_of past))) c.sent p m at (ones_told s c past H)) (each_at (λ z. OfCall ToClient z.head z.carried) c.sent p m at H.sent.to_clients)
+sent_just s c past time p m H at = hears_just s c past time m.head m.carried H (each_at (IfCall (CallIn (view H.floors c))) c.sent p m at H.sent.calls) (each_at (IfCall (Origin s past)) c.sent p m at H.sent.origins) (each_at (IfCall (IsActs s (view H.floors c) past)) c.sent p m at H.sent.acts) (each_at (IfCall (IsOne (sent_of past))) c.sent p m at (ones_told s c past H)) (each_at (λ z. OfCall ToClient z.head z.carried) c.sent p m at H.sent.to_clients)
 
 -- ---- what is just goes
 
@@ -558,6 +558,7 @@ revived_client {s} fl c past j h =
       old = h.old;
       runs = h.runs;
       asked = h.asked;
+      late = h.late;
       none = h.none;
       gave = h.gave;
       reached = h.reached;
@@ -582,6 +583,7 @@ revives s b c past x h held backs =
       fine = λ id v e. h.fine id v (sym (same id) ∙ e);
       home = λ id v e. h.home id v (sym (same id) ∙ e);
       new = h.new;
+      changing = h.changing;
       unheard = revived_heard c past h.unheard;
       booted = le_trans h.booted (omega arith);
       boots = h.boots;
@@ -638,6 +640,7 @@ revives_down s c past fall h e =
       fine = r.fine;
       home = r.home;
       new = r.new;
+      changing = r.changing;
       unheard = unheard_down c.down c.server.seats c.server.lasting.kept c.server.lasting.boot past h.unheard;
       booted = r.booted;
       boots = h.boots ∙ ap (λ (d : Option Fall). up_boot d c.server.lasting.boot) e;

@@ -1,6 +1,6 @@
 use Rattle.afs_law.proofs.Turning.{reply_gift}
-use Rattle.afs_law.proofs.Facts.{fids_of_gifts, AreFetched, FitsBulk, its_call}
-use Rattle.afs_law.proofs.Passing.{all_dropped_onto, tried_kept, fetched_each, ran_over}
+use Rattle.afs_law.proofs.Facts.{last_key, fids_of_gifts, AreFetched, FitsBulk, its_call}
+use Rattle.afs_law.proofs.Passing.{late_over, all_dropped_onto, tried_kept, fetched_each, ran_over}
 use Rattle.std.specs.List.{list_any}
 use Rattle.std.specs.Prelude.{◌||◌}
 -- A client is called by its server: it drops what it has cached of the broken promises.
@@ -193,7 +193,7 @@ reply_fresh {s} c n views past m x = record {
     replies = (of_reply_any _ m.carried (client_none m.head.to 1 _ x.to), tt);
     notices = (no_notice _ m.carried x.is_reply, tt);
     origins = (no_call (ByClient (Origin s past)) m.head m.carried x.is_reply, tt);
-    acts = (no_call (ByClient (IsActs s past)) m.head m.carried x.is_reply, tt);
+    acts = (no_call (ByClient (IsActs s views past)) m.head m.carried x.is_reply, tt);
     lasts = (no_call (ByClient (IsLastCall views)) m.head m.carried x.is_reply, tt);
     ones = (no_call (ByClient (IsOne (sent_of past))) m.head m.carried x.is_reply, tt);
     to_clients = (no_call ToClient m.head m.carried x.is_reply, tt);
@@ -217,7 +217,7 @@ tells_goes s c past n p m ms h heard fresh =
     let e : Entry = step_entry n (lines.Given p ∷ []) ms in
     moves s c past n (h.floors n) (told_step (c.clients n) p ms) h (h.own n) (refl, tt) (told_passes s c past n p m ms h heard)
     (client_still n (view h.floors c n) e past (λ f. told_file n p f (actors.Node (Client n)) ms past) (λ f. told_reach n p f (actors.Node (Client n)) ms past) (told_act n p (actors.Node (Client n)) ms past) (λ f. refl) (h.clients n))
-    (λ head call f. f) (reply_still n (view h.floors c n) e past (λ f. told_file n p f (actors.Node (Client n)) ms past) (λ f. told_reach n p f (actors.Node (Client n)) ms past) (λ f. refl) refl) (fresh e (record { up = refl; still = refl; oweless = refl; unchanging = refl })) (λ a x z. inl x) refl (tried_kept n (c.clients n) _ (lines_of past) (lines.Given p ∷ []) refl refl refl refl (h.tried n))
+    (λ head call f. f) (reply_still n (view h.floors c n) e past (λ f. told_file n p f (actors.Node (Client n)) ms past) (λ f. told_reach n p f (actors.Node (Client n)) ms past) (λ f. refl) refl) (fresh e (record { up = refl; still = refl; oweless = refl; unchanging = refl })) (λ a x z. inl (x, (refl, refl))) refl (tried_kept n (c.clients n) _ (lines_of past) (lines.Given p ∷ []) refl refl refl refl (h.tried n))
 
 -- ---- what the client has dropped by then
 
@@ -263,7 +263,7 @@ answers_back s c past n p head user call y h heard to from b is none =
     let k = h.own n in
     moves_back s c past n (h.floors n) (replies_step (c.clients n) p head [] y) h (record { table = k.table; user = k.user; callee = λ a z. k.callee a z; needs = λ a z. k.needs a z; apart = k.apart; gifts = k.gifts }) (refl, tt) (told_passes s c past n p _ ms h heard)
     (client_still n (view h.floors c n) e past (λ f. told_file n p f (actors.Node (Client n)) ms past) (λ f. told_reach n p f (actors.Node (Client n)) ms past) (told_act n p (actors.Node (Client n)) ms past) (λ f. refl) (h.clients n))
-    (λ hd call f. f) (reply_still n (view h.floors c n) e past (λ f. told_file n p f (actors.Node (Client n)) ms past) (λ f. told_reach n p f (actors.Node (Client n)) ms past) (λ f. refl) refl) (reply_fresh c n _ (e ∷ past) reply seated) (λ a x z. inl x) (seat_keeps c n (e ∷ past) (c.clients n) head y from seated) (tried_kept n (c.clients n) _ (lines_of past) (lines.Given p ∷ []) refl refl refl refl (h.tried n))
+    (λ hd call f. f) (reply_still n (view h.floors c n) e past (λ f. told_file n p f (actors.Node (Client n)) ms past) (λ f. told_reach n p f (actors.Node (Client n)) ms past) (λ f. refl) refl) (reply_fresh c n _ (e ∷ past) reply seated) (λ a x z. inl (x, (refl, refl))) (seat_keeps c n (e ∷ past) (c.clients n) head y from seated) (tried_kept n (c.clients n) _ (lines_of past) (lines.Given p ∷ []) refl refl refl refl (h.tried n))
 
 -- ---- breaks on fids
 
@@ -459,12 +459,13 @@ drops_goes s c past n p head user fs cbs h heard to from b =
       old = old_over st.state.cache (lines_of past) (lines_of (e ∷ past)) (λ f i b y. (skips n fs).version f i b (lines.Given p ∷ lines_of past) y) (old_within x.cache st.state.cache (lines_of past) (λ f u y. (left_out (λ z. is_named z fs) f x.cache u y).0) d.old);
       runs = λ act y. (skips n fs).runs s (Client n) (lines.Given p ∷ lines_of past) ∙ d.runs act y;
       asked = λ act y. inr ((skips n fs).begins (Client n), d.asked act y);
+      late = λ act y. late_over (Client n) (last_key n v) e past ((skips n fs).begins (Client n)) (d.late act y);
       none = d.none;
       gave = λ act y. all_dropped_onto (Client n) (fids_of_gifts x.gifts) e.lines (lines_of past) ((skips n fs).begins (Client n)) (d.gave act y);
       reached = reached_still s c past n e h (λ f. (broken_reach n n p fs (reply ∷ []) past f).both) last;
     })
     (λ hd call f. record { behind = f.behind; booted = f.booted; stale = f.stale; own = f.own; safe = λ q above. safe_cache call c.clock (c.clients n).epoch (c.clients n).last (c.clients n).running (c.clients n).cache st.state.cache (IsAged (view h.floors c n) hd) hd (λ g y u at lasts. y u (left_out (λ x. is_named x fs) g (c.clients n).cache u at).0 lasts) (f.safe q above) })
-    over (reply_fresh c n _ (e ∷ past) reply seated) (λ a x z. inl x) (seat_keeps c n (e ∷ past) x head (done replies.CallBack) from seated) (tried_kept n (c.clients n) _ (lines_of past) (broken_lines n p fs) refl refl refl refl (h.tried n))
+    over (reply_fresh c n _ (e ∷ past) reply seated) (λ a x z. inl (x, (refl, refl))) (seat_keeps c n (e ∷ past) x head (done replies.CallBack) from seated) (tried_kept n (c.clients n) _ (lines_of past) (broken_lines n p fs) refl refl refl refl (h.tried n))
 
 -- ---- a break on all
 
@@ -594,12 +595,13 @@ drops_all_goes s c past n p head user h heard to from b =
       old = old_over st.state.cache (lines_of past) (lines_of (e ∷ past)) (λ f i b y. y) (old_within x.cache st.state.cache (lines_of past) (λ f u y. (gone f u y).0) d.old);
       runs = d.runs;
       asked = λ act y. inr (refl, d.asked act y);
+      late = λ act y. late_over (Client n) (last_key n v) e past refl (d.late act y);
       none = d.none;
       gave = λ act y. all_dropped_onto (Client n) (fids_of_gifts x.gifts) e.lines (lines_of past) refl (d.gave act y);
       reached = reached_still s c past n e h (λ f. (r f).both) (λ f. refl);
     })
     (λ hd call f. record { behind = f.behind; booted = f.booted; stale = f.stale; own = f.own; safe = λ q above. safe_cache call c.clock (c.clients n).epoch (c.clients n).last (c.clients n).running (c.clients n).cache st.state.cache (IsAged (view h.floors c n) hd) hd (λ g y u at lasts. y u (gone g u at).0 lasts) (f.safe q above) })
-    over (reply_fresh c n _ (e ∷ past) reply seated) (λ a x z. inl x) (seat_keeps c n (e ∷ past) x head (done replies.InitCallBackState) from seated) (tried_kept n (c.clients n) _ (lines_of past) (lines.Given p ∷ lines.DropAll (Client n) head.from ∷ []) refl refl refl refl (h.tried n))
+    over (reply_fresh c n _ (e ∷ past) reply seated) (λ a x z. inl (x, (refl, refl))) (seat_keeps c n (e ∷ past) x head (done replies.InitCallBackState) from seated) (tried_kept n (c.clients n) _ (lines_of past) (lines.Given p ∷ lines.DropAll (Client n) head.from ∷ []) refl refl refl refl (h.tried n))
 
 -- ---- the row, by its cases
 

@@ -11,9 +11,9 @@ use Rattle.afs_rows.specs.Going.{asked, answers, Going, Need, ClientState, next}
 use Rattle.afs_law.specs.Grants.{until, fetch_reply, GrantOf, since, IsWithdrawn, IsDropped}
 use Rattle.afs_law.specs.Ideal.{last_version, IsLast, WasLast, HasBeen, HasVersion, Accepts, clock_of, user_of, reach, call_under, volume_after}
 use Rattle.afs_law.specs.Breaks.{HasStopped, HasTimeout}
-use Rattle.afs_law.specs.Legal.{AreDropped, AreFailed, IsThere, IsNew, Cause, AreGood, AreGoodSent, as_asked}
+use Rattle.afs_law.specs.Legal.{HasChange, AreDropped, AreFailed, IsThere, IsNew, Cause, AreGood, AreGoodSent, as_asked}
 use Rattle.afs_history.specs.declared.lines.Line.{Line}
-use Rattle.afs_law.specs.Past.{server_boot, is_of_act, lines_of, sent_of, called_key, running, Called, CalledSince, IsUnheard, Ran}
+use Rattle.afs_law.specs.Past.{is_late, server_boot, is_of_act, lines_of, sent_of, called_key, running, Called, CalledSince, IsUnheard, Ran}
 use Rattle.afs_rows.specs.Runs.{locations, Entry, Fall, at_rest, in_step, in_boot, message_at}
 use Rattle.afs_law.proofs.OneCell.{the_server, Cell, Moved}
 use Rattle.afs_rows.specs.Scopes.{is_in_scope}
@@ -453,6 +453,7 @@ pub record ClientFacts (s : Script) (j : ℕ) (v : View) (past : List Entry) : T
   pub old : HasOld v.cache (lines_of past)
   pub runs : (act : Going) → v.running ≡ Some act → running s (Client j) (lines_of past) ≡ Some act
   pub asked : (act : Going) → v.running ≡ Some act → CalledSince (last_key j v) (user_of (Client j)) (its_call v.gifts act) past
+  pub late : (act : Going) → v.running ≡ Some act → is_late (Client j) (last_key j v) past ≡ true
   pub none : v.running ≡ None → v.gifts ≡ []
   pub gave : (act : Going) → v.running ≡ Some act → AreDropped (Client j) (fids_of_gifts v.gifts) (lines_of past)
   pub reached : (f : Fid) → Reached (Client j) f (index_in (last_version f (lines_of past))) past
@@ -508,15 +509,27 @@ pub record HeldIn (views : ℕ → View) (past : List Entry) (m : Message) : Typ
   pub is_reply : IsReply m.carried
   pub fact : ReplyFact client (views client) past m
 
--- a changing call of the act that the client began last is what the running act asks
-abbrev pub IsActs : Script → List Entry → Head → List ℕ → FsCall → Type 0
-IsActs s past head user call = is_of_act head.from (called_key head) past ≡ true → (act : Going) → running s head.from (lines_of past) ≡ Some act → (volume_changed call ≡ None) ⊎ (call ≡ asked act)
-
 -- an act ran that asked to read
 pub record Reading (o : Option Going) : Type 0 where
   pub act : Going
   pub runs : o ≡ Some act
   pub read : volume_changed (asked act) ≡ None
+
+-- it has the pair of its client's last call
+abbrev pub IsLastPair : (ℕ → View) → Head → Type 0
+IsLastPair views head = (j : ℕ) → head.from ≡ Client j → (head.epoch ≡ (views j).epoch) × (head.number ≡ (views j).last)
+
+-- a changing call of the act that the client began last is what the running act asks, and its last one
+abbrev pub IsActs : Script → (ℕ → View) → List Entry → Head → List ℕ → FsCall → Type 0
+IsActs s views past head user call = is_of_act head.from (called_key head) past ≡ true → (act : Going) → running s head.from (lines_of past) ≡ Some act → (volume_changed call ≡ None) ⊎ ((call ≡ asked act) × IsLastPair views head)
+
+-- the client made no call meanwhile
+abbrev pub KeepsPair : View → View → Type 0
+KeepsPair v w = (v.epoch ≡ w.epoch) × (v.last ≡ w.last)
+
+-- the act ran on without a call, or one ran that asked to read
+abbrev pub RanOn : View → View → Option Going → Going → Type 0
+RanOn v w o a = ((o ≡ Some a) × KeepsPair v w) ⊎ Reading o
 
 -- the call is its client's last one
 pub record IsLastCall (views : ℕ → View) (head : Head) (user : List ℕ) (call : FsCall) : Type 0 where
@@ -548,7 +561,7 @@ pub record SentFacts (s : Script) (sent held : List Message) (views : ℕ → Vi
   pub replies : Each (IfReply (ReplyIn views past)) sent
   pub notices : Each (IfNotice (IsNoticed boot)) sent
   pub origins : Each (IfCall (Origin s past)) sent
-  pub acts : Each (IfCall (IsActs s past)) sent
+  pub acts : Each (IfCall (IsActs s views past)) sent
   pub ones : Each (IfCall (IsOne sent)) sent
   pub told : sent_of past ≡ sent
   pub waiting : Each (HeldIn views past) held
@@ -619,6 +632,13 @@ HasFallen (Some (in_step m clock)) kept sent past = IsCut kept sent m past
 pub record Tried (j : ℕ) (x : ClientState) (ls : List Line) : Type 0 where
   pub told : (act : Going) → x.running ≡ Some act → (k : ℕ) → 1 ≤ k → k ≤ x.tries → HasTimeout (Client j) the_server x.epoch x.last k ls
 
+-- the call under this key may change things
+pub record IsChangingUnder (k : Key) (sent : List Message) : Type 0 where
+  pub user : List ℕ
+  pub call : FsCall
+  pub one : call_under k sent ≡ Some (user, call)
+  pub changes : volume_changed call ≡ None → ⊥
+
 -- `now` is the server's boot by the lines
 pub record HoldsAt (s : Script) (now : Option ℕ) (c : Cell) (past : List Entry) : Type 0 where
   pub floors : ℕ → Ghost
@@ -627,6 +647,7 @@ pub record HoldsAt (s : Script) (now : Option ℕ) (c : Cell) (past : List Entry
   pub fine : AreFine c.server.lasting.volumes
   pub home : AreHome s c.server.lasting.volumes (lines_of past)
   pub new : AreNew c.server.lasting.kept (lines_of past)
+  pub changing : (k : Key) → HasChange k (lines_of past) → IsChangingUnder k c.sent
   pub unheard : AreUnheard c.down c.server.seats c.server.lasting.boot past
   pub count : c.count ≡ s.clients
   pub own : (j : ℕ) → IsClient s (c.clients j)

@@ -24,7 +24,7 @@ use Rattle.afs_rows.specs.Steps.{Step}
 use Rattle.afs_law.specs.Ideal.{Reach, is_zero_code, reach, HasVersion}
 use Rattle.afs_law.specs.Past.{CalledSince, IsCallUnder, given_message, has_begun, lines_of, onto, running, sent_of}
 use Rattle.afs_law.proofs.Apart.{apart_filter, found_filter}
-use Rattle.afs_law.proofs.Asking.{Passes, carried_is, client_asking, client_ended, moves, new_one, nothing_new, other_client, own_begun, own_call, own_zero, runs_by_other, safe_cache, safe_over, step_entry, view_after}
+use Rattle.afs_law.proofs.Asking.{new_late, Passes, carried_is, client_asking, client_ended, moves, new_one, nothing_new, other_client, own_begun, own_call, own_zero, runs_by_other, safe_cache, safe_over, step_entry, view_after}
 use Rattle.afs_law.proofs.Basics.{Above, client_number, guest, next_not, raised_up_to, same_fid-refl, same_fid-true, same_node-refl, some_of, up_to_next, UpTo}
 use Rattle.afs_law.proofs.Dropping.{drops_of, skips}
 use Rattle.afs_law.proofs.Facts.{fids_of_gifts, AreApart, AreGifts, IsOpen, Ghost, Goes, HasOld, Holds, IsAged, IsClient, LastRan, ReplyFact, View, its_call, last_key, view}
@@ -251,6 +251,7 @@ gives_nothing s c past n act h none by =
       old = left_old s c past n e h (λ f i b z. (quiet_grant n n f ls [] past q).version i b (lines_of past) z);
       runs = λ b z. absurd cc;
       asked = λ b z. absurd cc;
+      late = λ b z. absurd cc;
       none = λ z. refl;
       gave = λ b z. absurd cc;
       reached = reached_still s c past n e h both (λ f. refl);
@@ -310,6 +311,7 @@ gives_some s c past n act fs gs h none given dropped going =
       old = left_old s c past n e h (λ f i b z. (skips n fs).version f i b (lines.Begin (Client n) act ∷ lines_of past) z);
       runs = λ b z. at ∙ z;
       asked = λ b z. subst (λ (q : Going). CalledSince (last_key n v) guest (its_call v.gifts q) (e ∷ past)) (some_of a b z) (inl (refl, inl (refl, carried_is y a kind.user)));
+      late = λ b z. new_late s c past n y a e h refl refl;
       none = λ z. absurd cc;
       gave = λ b z. dropped;
       reached = reached_still s c past n e h (gave_both n n act fs ms past) (λ f. (skips n fs).last f (lines.Begin (Client n) act ∷ lines_of past));

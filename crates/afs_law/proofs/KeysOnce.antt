@@ -2,7 +2,7 @@
 -- caller's last one that changed something. So a key changes something at most once, and no call or reply has one to come.
 use Rattle.afs_history.specs.declared.acts.Act.{Act}
 use Rattle.afs_law.proofs.Backing.{all_lines, is_unchanging}
-use Rattle.afs_law.proofs.Basics.{Above, Each, IfCall, IfReply, OfClient, OfReply, by_client, if_reply, UpTo, at_put, below_not, below_up_to, both, client_number, each_at, each_map, each_more, if_call, node_apart, same_key-refl, same_node-true, up_to_below, up_to_same, below-true, below-false, some_of, OfNotice, OfCall, ByClient}
+use Rattle.afs_law.proofs.Basics.{a_key, same_key-true, Above, Each, IfCall, IfReply, OfClient, OfReply, by_client, if_reply, UpTo, at_put, below_not, below_up_to, both, client_number, each_at, each_map, each_more, if_call, node_apart, same_key-refl, same_node-true, up_to_below, up_to_same, below-true, below-false, some_of, OfNotice, OfCall, ByClient}
 use Rattle.afs_law.proofs.Calling.{AreReplies, IsAnswer, answer_over, GoesOn, IsLastOf, Tame, begins_tame, caller_at, falls_tame, given_tame, rises_tame, uncalled_any, waits_tame, any_call}
 use Rattle.afs_law.proofs.Hosting.{Begins, HasOne, HostStep, Hosts, IsCutBy, IsSound, Memory, decides_due, disk_begins, memory_of, serves_step, starts_step, times_step, wakes_step, IsRunBy}
 use Rattle.afs_law.specs.Laws.{ArePairsKnown, IsKnownTo, AreChanges, HasReply, seat_key, IsUpTo}
@@ -35,15 +35,6 @@ use Rattle.afs_history.specs.declared.lines.Line.TheVariants as lines
 
 server_number : (i j : ℕ) → Server i ≡ Server j → i ≡ j
 server_number i j e = cc
-
-abbrev a_key : Node → ℕ → ℕ → Key
-a_key n e k = record { node = n; epoch = e; number = k }
-
-same_key-true : (k l : Key) → same_key k l ≡ true → k ≡ l
-same_key-true k l e =
-    let p = both (same_node k.node l.node) (nat_eq k.epoch l.epoch && nat_eq k.number l.number) e in
-    let q = both (nat_eq k.epoch l.epoch) (nat_eq k.number l.number) p.1 in
-    ap (λ (n : Node). a_key n k.epoch k.number) (same_node-true k.node l.node p.0) ∙ (ap (λ (x : ℕ). a_key l.node x k.number) (eqb-true _ _ q.0) ∙ ap (a_key l.node l.epoch) (eqb-true _ _ q.1))
 
 -- ---- the changes among lines
 

@@ -1,3 +1,4 @@
+use Rattle.afs_law.proofs.Passing.{no_change}
 use Rattle.afs_num.specs.declared.messages.Carried.{Carried}
 use Rattle.afs_num.specs.declared.messages.Carried.TheVariants as carried
 use Rattle.afs_num.specs.declared.types.Head.{Head}
@@ -384,6 +385,7 @@ starts s one =
       fine = λ id v e. facts.fine id v (sym (first_in id (first_volumes s.volumes)) ∙ e);
       home = λ id v found. any_home s id the_server (lines_of (set_up s ∷ [])) (found_home s.volumes one.1 id v (sym (first_in id (first_volumes s.volumes)) ∙ found));
       new = λ k above. first_passed (IsNew k) (λ v o h. h) s.volumes [] tt;
+      changing = λ k x. absurd (no_change k (lines_of (set_up s ∷ [])) (first_passed (IsNew k) (λ v o h. h) s.volumes [] tt) x);
       unheard = λ k b may. ((λ x. subst (λ (o : Option Message). IsCallUnder the_server k b o) (given_first (first_lines s.volumes) [] (all_versions s.volumes)) x), tt);
       booted = le_refl 1;
       boots = first_passed (λ (ls : List Line). server_boot the_server ls ≡ Some 1) (λ v o h. h) s.volumes [] refl;
@@ -404,6 +406,7 @@ starts s one =
         current = λ f e x lasts. absurd cc;
         runs = λ act x. absurd cc;
         asked = λ act x. absurd cc;
+        late = λ act x. absurd cc;
         none = λ x. refl;
         gave = λ act x. absurd cc;
         reached = λ f. reached_first (Client j) f _ s;

@@ -509,16 +509,6 @@ pub all_waited : (b : Backs) (boot : ℕ) (seats : List Seat) (cs : ℕ → Opti
 all_waited b boot seats cs clock sent e past hd h more none = owes_over the_server (AccountedBy None b.lists.owed b.held clock) (AllWaitedBy hd clock) e past (λ y z c what n line w. absurd (none y z c what n line w))
     (λ newer at older y z c what n x w. elim x [ inl k ↦ inl (ended_over e clock clock newer at older y z c what n (le_refl _) k) | inr k ↦ inr (more n (in_alls k.1.o b.lists.owed n k.1.is_in (k.1.on ∙ w) k.1.number)) ]) h.accounted
 
-new_by : (k : Key) (o : Option Key) (A B : Type 0) → (A → B → ⊥) → IsNot k o A → IsKey k o B → ⊥
-new_by k None A B w x y = w x y
-new_by k (Some l) A B w x (inl e) = x.0 (sym e)
-new_by k (Some l) A B w x (inr y) = w x.1 y
-
--- a new key has no change
-pub no_change : (k : Key) (ls : List Line) → IsNew k ls → HasChange k ls → ⊥
-no_change k [] x y = y
-no_change k (l ∷ ls) x y = new_by k (change_in l) _ _ (no_change k ls) x y
-
 -- ---- new breaks
 
 pub lines_both : (q : Line → Bool) (a b : List Line) → all_lines q a ≡ true → all_lines q b ≡ true → all_lines q (a ++ b) ≡ true

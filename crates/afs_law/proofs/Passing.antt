@@ -2,10 +2,10 @@ use Rattle.afs_law.specs.Breaks.{HasTimeout}
 use Rattle.afs_history.specs.declared.lines.Line.TheVariants as lines
 use Rattle.afs_num.specs.declared.histories.Actor.TheVariants as actors
 use Rattle.afs_law.proofs.Nexts.{asks_change, as_is, asks_is}
-use Rattle.afs_law.proofs.Facts.{fids_of_gifts, Tried, AreFetched, FitsBulk, its_call}
+use Rattle.afs_law.proofs.Facts.{IsLastPair, KeepsPair, RanOn, IsChangingUnder, last_key, fids_of_gifts, Tried, AreFetched, FitsBulk, its_call}
 use Rattle.afs_num.specs.declared.histories.ReadStatus.{ReadStatus}
 use Rattle.afs_num.specs.declared.scripts.Script.{Script}
-use Rattle.std.proofs.Common.{zero, suc, ◌+◌, eq-eqb, nat_eq, ◌≡◌, ℕ, ◌≤◌, inl, inr, Bool, true, false, cond, List, [], ◌∷◌, ◌++◌, Option, Some, None, ℤ, refl, sym, ap, ◌∙◌, subst, arith, le_of_eq, le_trans, eqb-true}
+use Rattle.std.proofs.Common.{not, zero, suc, ◌+◌, eq-eqb, nat_eq, ◌≡◌, ℕ, ◌≤◌, inl, inr, Bool, true, false, cond, List, [], ◌∷◌, ◌++◌, Option, Some, None, ℤ, refl, sym, ap, ◌∙◌, subst, arith, le_of_eq, le_trans, eqb-true}
 use Rattle.std.specs.Option.{option_map}
 use Rattle.afs_num.specs.declared.types.Fid.{Fid}
 use Rattle.afs_num.specs.declared.types.Head.{Head}
@@ -16,16 +16,16 @@ use Rattle.afs_num.specs.declared.calls.FsCall.{FsCall}
 use Rattle.afs_num.specs.declared.messages.Carried.{Carried}
 use Rattle.afs_num.specs.declared.messages.Message.{Message}
 use Rattle.afs_ideal.specs.Operations.{volume_changed, Result, changes}
-use Rattle.afs_law.proofs.Basics.{Each, IfCall, IfReply, IfNotice, each_more, each_map, if_call, if_reply, if_notice, at_more, ByClient, OfClient, by_client, both, same_node-true, same_node-refl, client_number, OfCall}
+use Rattle.afs_law.proofs.Basics.{same_key-true, same_key-refl, some_of, Each, IfCall, IfReply, IfNotice, each_more, each_map, if_call, if_reply, if_notice, at_more, ByClient, OfClient, by_client, both, same_node-true, same_node-refl, client_number, OfCall}
 use Rattle.afs_law.proofs.Edits.{index_in}
 use Rattle.afs_law.proofs.Facts.{FitsList, IsWhole, IsOld, HasOld, FitsShown, IsKeptBody, Seen, IsActs, IsLastCall, View, Spot, spot, Reached, Held, IsNewest, Stands, IsCurrent, IsFetched, Fits, Answers, ReplyFact, AreKept, ClientFacts, CallIn, ReplyIn, Origin, HeldIn, ToClient, SentFacts, HasFallen, Reading, FitsReply, FitsData, FitsSet, WasChanged, WasStored, IsOne, IsNoticed}
 use Rattle.afs_rows.specs.ClientRow.{batch, batch_to, most_given, call_by, body_told, find_cached, status_told}
 use Rattle.afs_rows.specs.Going.{Need, next, reads, reads_status, reads_statuses, reads_rights, asks_for, gives_back, answers, ClientState, asked, Going}
 use Rattle.afs_law.specs.Grants.{has_fetched, fetch_reply, GrantOf, since, IsWithdrawn, IsDropped}
 use Rattle.afs_law.specs.Ideal.{WasBefore, IsLast, WasLast, Unless, last_version, HasVersion, reach, change_in, call_in, call_under}
-use Rattle.afs_law.specs.Legal.{AreDropped, HasDropped, GoodGift, IsResult, IsKey, HasChange, Cause, answer_at, IsTold, as_asked}
+use Rattle.afs_law.specs.Legal.{IsNew, IsNot, AreDropped, HasDropped, GoodGift, IsResult, IsKey, HasChange, Cause, answer_at, IsTold, as_asked}
 use Rattle.afs_history.specs.declared.lines.Line.{Line}
-use Rattle.afs_law.specs.Past.{begins_act, onto, lines_of, sent_of, given_message, running, has_begun, Ran, called_key, same_key, is_called, has_sent, is_sent_since, answered_key}
+use Rattle.afs_law.specs.Past.{is_late, begins_act, onto, lines_of, sent_of, given_message, running, has_begun, Ran, called_key, same_key, is_called, has_sent, is_sent_since, answered_key}
 use Rattle.afs_rows.specs.Runs.{Entry, Fall, at_rest, in_step, in_boot}
 use Rattle.afs_law.proofs.OneCell.{the_server}
 use Rattle.afs_rows.specs.States.{Gift, CacheEntry, Seat, Lasting}
@@ -406,10 +406,44 @@ gift_by (answers code) gs head user ls w h = tt
 pub own_gift : (act : Going) (gs : List Gift) (head : Head) (user : List ℕ) (ls : List Line) → AreDropped head.from (fids_of_gifts gs) ls → GoodGift head (carried.Call user (ask.File (call_by gs (next act)))) ls
 own_gift act gs head user ls h = gift_by (next act) gs head user ls (asks_change act) h
 
+-- ---- what a key changed
+
+new_by : (k : Key) (o : Option Key) (A B : Type 0) → (A → B → ⊥) → IsNot k o A → IsKey k o B → ⊥
+new_by k None A B w x y = w x y
+new_by k (Some l) A B w x (inl e) = x.0 (sym e)
+new_by k (Some l) A B w x (inr y) = w x.1 y
+
+-- a new key has no change
+pub no_change : (k : Key) (ls : List Line) → IsNew k ls → HasChange k ls → ⊥
+no_change k [] x y = y
+no_change k (l ∷ ls) x y = new_by k (change_in l) _ _ (no_change k ls) x y
+
+new_or_by : (o : Option Key) (k : Key) (A B : Type 0) (t : Option Bool) → option_map (λ l. same_key l k) o ≡ t → A ⊎ B → IsNot k o A ⊎ IsKey k o B
+new_or_by None k A B t e h = h
+new_or_by (Some l) k A B None e h = absurd cc
+new_or_by (Some l) k A B (Some true) e h = inr (inl (same_key-true l k (some_of _ _ e)))
+new_or_by (Some l) k A B (Some false) e (inl h) = inl ((λ same. let no_ : true ≡ false = sym (same_key-refl k) ∙ (ap (λ (q : Key). same_key q k) same ∙ some_of _ _ e) in absurd cc), h)
+new_or_by (Some l) k A B (Some false) e (inr h) = inr (inr h)
+
+new_or_changed : (k : Key) (ls : List Line) → IsNew k ls ⊎ HasChange k ls
+new_or_changed k [] = inl tt
+new_or_changed k (l ∷ ls) = new_or_by (change_in l) k (IsNew k ls) (HasChange k ls) _ refl (new_or_changed k ls)
+
+-- where a new key stays new, what changed something did so before
+pub changed_before : (k : Key) (o p : List Line) → (IsNew k o → IsNew k p) → HasChange k p → HasChange k o
+changed_before k o p w h = elim (new_or_changed k o) [ inl x ↦ absurd (no_change k p (w x) h) | inr y ↦ y ]
+
 -- ---- a client that doesn't move
 
 pub reached_more : (c : Node) (f : Fid) (i k : ℕ) (past : List Entry) → i ≤ k → Reached c f i past → Reached c f k past
 reached_more c f i k past le h = let a : (reach c f past).made ≤ i = h.made in let b : (reach c f past).seen ≤ i = h.seen in record { made = omega arith; seen = omega arith }
+
+-- an entry in which the node begins no act leaves a key that no act before used
+late_kept : (t a b : Bool) → t ≡ false → b ≡ true → cond t a b ≡ true
+late_kept t a b e h = rw e h
+
+pub late_over : (n : Node) (k : Key) (e : Entry) (past : List Entry) → has_begun n e.lines ≡ false → is_late n k past ≡ true → is_late n k (e ∷ past) ≡ true
+late_over n k e past none h = late_kept (has_begun n e.lines) (not (has_sent k (sent_of past))) (is_late n k past) none h
 
 pub client_over : {s : Script} → (j : ℕ) (v : View) (e : Entry) (past : List Entry) → ((f : Fid) → PassesFile j f e past) → ((f : Fid) → PassesReach j f e past) → ((f : Fid) → StaysNewest j f e past) → PassesAct j e past
     → ((f : Fid) → index_in (last_version f (lines_of past)) ≤ index_in (last_version f (lines_of (e ∷ past)))) → ClientFacts s j v past → ClientFacts s j v (e ∷ past)
@@ -431,6 +465,7 @@ client_over {s} j v e past p r n q l h =
       old = old_over v.cache (lines_of past) (lines_of (e ∷ past)) (λ f i k x. (p f).grant.version i k (lines_of past) x) h.old;
       runs = λ act x. q.runs s (lines_of past) ∙ h.runs act x;
       asked = λ act x. inr (q.begins, h.asked act x);
+      late = λ act x. late_over (Client j) (last_key j v) e past q.begins (h.late act x);
       none = h.none;
       gave = λ act x. all_dropped_onto (Client j) (fids_of_gifts v.gifts) e.lines (lines_of past) q.begins (h.gave act x);
       reached = λ f. reached_more (Client j) f (index_in (last_version f (lines_of past))) (index_in (last_version f (lines_of (e ∷ past)))) (e ∷ past) (l f) ((r f).both (index_in (last_version f (lines_of past))) (h.reached f));
@@ -475,6 +510,39 @@ among : (k : Key) (P : Head → List ℕ → FsCall → Type 0) (ms : List Messa
 among k P [] e h = absurd cc
 among k P (m ∷ ms) e h = among_by k (ByClient P) m.head m.carried (has_sent k ms) e h.0 (λ x. among k P ms x h.1)
 
+front_each : (P : Message → Type 0) (a b : List Message) → Each P (a ++ b) → Each P a × Each P b
+front_each P [] b h = (tt, h)
+front_each P (m ∷ a) b h = let r = front_each P a b h.1 in ((h.0, r.0), r.1)
+
+since_by : (b t x : Bool) (S : Type 0) → cond b true (cond t false x) ≡ true → (b ≡ true → S) → (x ≡ true → S) → S
+since_by true t x S e p q = p refl
+since_by false true x S e p q = absurd cc
+since_by false false x S e p q = q e
+
+-- the message with this key that the node sent since it began its act
+pub among_since : (n : Node) (k : Key) (P : Head → List ℕ → FsCall → Type 0) (past : List Entry) → is_sent_since n k past ≡ true → Each (IfCall P) (sent_of past) → IsAmong k (ByClient P)
+among_since n k P [] e h = absurd cc
+among_since n k P (x ∷ past) e h = let f = front_each (IfCall P) (sent_of past) x.sent h in since_by (has_sent k x.sent) (has_begun n x.lines) (is_sent_since n k past) (IsAmong k (ByClient P)) e (λ y. among k P x.sent y f.1) (λ y. among_since n k P past y f.0)
+
+both_client : (n : Node) (X Y Z : Type 0) → (X → Y → Z) → OfClient n X → OfClient n Y → OfClient n Z
+both_client (Client n) X Y Z w x y = w x y
+both_client (Server n) X Y Z w x y = tt
+both_client (Admin n) X Y Z w x y = tt
+both_client Loc X Y Z w x y = tt
+
+-- two facts of each call
+call_both : (P Q : Head → List ℕ → FsCall → Type 0) (head : Head) (c : Carried) → OfCall (ByClient P) head c → OfCall (ByClient Q) head c → OfCall (ByClient (λ hd us cl. P hd us cl × Q hd us cl)) head c
+call_both P Q head (carried.Call user (ask.File call)) h k = both_client head.from _ _ _ (λ x y. (x, y)) h k
+call_both P Q head (carried.Call user (ask.Volume call)) h k = absurd h
+call_both P Q head (carried.Call user (ask.Location call)) h k = absurd h
+call_both P Q head (carried.Refusal code) h k = tt
+call_both P Q head (carried.Reply reply) h k = tt
+call_both P Q head carried.Notice h k = tt
+
+pub calls_both : (P Q : Head → List ℕ → FsCall → Type 0) (ms : List Message) → Each (IfCall P) ms → Each (IfCall Q) ms → Each (IfCall (λ hd us cl. P hd us cl × Q hd us cl)) ms
+calls_both P Q [] h k = tt
+calls_both P Q (m ∷ ms) h k = (call_both P Q m.head m.carried h.0 k.0, calls_both P Q ms h.1 k.1)
+
 acts_by : (b t : Bool) (rest S : Type 0) (x : Bool) → cond b true (cond t false x) ≡ true → (b ≡ true → S) → (t ≡ false → x ≡ true → S) → S
 acts_by true t rest S x e p q = p refl
 acts_by false true rest S x e p q = absurd cc
@@ -485,11 +553,11 @@ runs_now : {s : Script} → (j : ℕ) (v : View) (past : List Entry) (o : Option
 runs_now {s} j v past None a e h r = let none = h.idle e in absurd cc
 runs_now {s} j v past (Some b) a e h r = e ∙ (sym (h.runs b e) ∙ r)
 
-act_over : {s : Script} → (e : Entry) (past : List Entry) (w : ℕ → View) (head : Head) (user : List ℕ) (call : FsCall) → Each (IfCall (IsLastCall w)) e.sent → ((j : ℕ) → ClientFacts s j (w j) (e ∷ past)) → ((j : ℕ) (a : Going) → (w j).running ≡ Some a → has_begun (Client j) e.lines ≡ false → ((running s (Client j) (lines_of past) ≡ Some a) ⊎ Reading (running s (Client j) (lines_of past)))) → CallIn w head user call → IsActs s past head user call → IsActs s (e ∷ past) head user call
-act_over {s} e past w head user call lasts now k f h of_act act r =
+act_over : {s : Script} → (e : Entry) (past : List Entry) (v w : ℕ → View) (head : Head) (user : List ℕ) (call : FsCall) → Each (IfCall (IsLastCall w)) e.sent → ((j : ℕ) → ClientFacts s j (w j) (e ∷ past)) → ((j : ℕ) (a : Going) → (w j).running ≡ Some a → has_begun (Client j) e.lines ≡ false → RanOn (v j) (w j) (running s (Client j) (lines_of past)) a) → CallIn w head user call → IsActs s v past head user call → IsActs s w (e ∷ past) head user call
+act_over {s} e past v w head user call lasts now k f h of_act act r =
     let since = (both (same_node head.from head.from) _ of_act).1 in
     let runs : (w f.client).running ≡ Some act = runs_now f.client (w f.client) (e ∷ past) (w f.client).running act refl (now f.client) (subst (λ (n : Node). running s n (lines_of (e ∷ past)) ≡ Some act) f.from r) in
-    acts_by (has_sent (called_key head) e.sent) (has_begun head.from e.lines) ⊤ ((volume_changed call ≡ None) ⊎ (call ≡ asked act)) (is_sent_since head.from (called_key head) past) since
+    acts_by (has_sent (called_key head) e.sent) (has_begun head.from e.lines) ⊤ ((volume_changed call ≡ None) ⊎ ((call ≡ asked act) × IsLastPair w head)) (is_sent_since head.from (called_key head) past) since
     (λ sent. let x : IsAmong (called_key head) (ByClient (IsLastCall w)) = among (called_key head) (IsLastCall w) e.sent sent lasts in
     let p = both _ _ x.key in
     let q = both _ _ p.1 in
@@ -498,29 +566,29 @@ act_over {s} e past w head user call lasts now k f h of_act act r =
     let one : its.client ≡ f.client = client_number its.client f.client (sym its.from ∙ (from ∙ f.from)) in
     let epoch : head.epoch ≡ (w f.client).epoch = sym (eqb-true _ _ q.0) ∙ (its.epoch ∙ ap (λ (j : ℕ). (w j).epoch) one) in
     let number : head.number ≡ (w f.client).last = sym (eqb-true _ _ q.1) ∙ (its.number ∙ ap (λ (j : ℕ). (w j).last) one) in
-    as_is call (asked act) (ap as_asked (f.fact.own act runs epoch number) ∙ asks_is (w f.client).gifts act))
+    elim (as_is call (asked act) (ap as_asked (f.fact.own act runs epoch number) ∙ asks_is (w f.client).gifts act)) [
+      | inl y ↦ inl y
+      | inr y ↦ inr (y, (λ j z. let is : f.client ≡ j = client_number f.client j (sym f.from ∙ z) in (epoch ∙ ap (λ (i : ℕ). (w i).epoch) is, number ∙ ap (λ (i : ℕ). (w i).last) is)))
+    ])
     (λ none old. elim (k f.client act runs (subst (λ (n : Node). has_begun n e.lines ≡ false) f.from none)) [
-      | inl x ↦ h (rw (same_node-refl head.from) old) act (subst (λ (n : Node). running s n (lines_of past) ≡ Some act) (sym f.from) x)
-      | inr x ↦ elim (h (rw (same_node-refl head.from) old) x.act (subst (λ (n : Node). running s n (lines_of past) ≡ Some x.act) (sym f.from) x.runs)) [ inl y ↦ inl y | inr y ↦ inl (ap volume_changed y ∙ x.read) ]
+      | inl x ↦ elim (h (rw (same_node-refl head.from) old) act (subst (λ (n : Node). running s n (lines_of past) ≡ Some act) (sym f.from) x.0)) [
+        | inl y ↦ inl y
+        | inr y ↦ inr (y.0, (λ j z. let p = y.1 j z in let q = subst (λ (i : ℕ). KeepsPair (v i) (w i)) (client_number f.client j (sym f.from ∙ z)) x.1 in (p.0 ∙ q.0, p.1 ∙ q.1)))
+      ]
+      | inr x ↦ elim (h (rw (same_node-refl head.from) old) x.act (subst (λ (n : Node). running s n (lines_of past) ≡ Some x.act) (sym f.from) x.runs)) [ inl y ↦ inl y | inr y ↦ inl (ap volume_changed y.0 ∙ x.read) ]
     ])
 
-both_client : (n : Node) (X Y Z : Type 0) → (X → Y → Z) → OfClient n X → OfClient n Y → OfClient n Z
-both_client (Client n) X Y Z w x y = w x y
-both_client (Server n) X Y Z w x y = tt
-both_client (Admin n) X Y Z w x y = tt
-both_client Loc X Y Z w x y = tt
+acts_one : {s : Script} → (c : Carried) (head : Head) (e : Entry) (past : List Entry) (v w : ℕ → View) → Each (IfCall (IsLastCall w)) e.sent → ((j : ℕ) → ClientFacts s j (w j) (e ∷ past)) → ((j : ℕ) (a : Going) → (w j).running ≡ Some a → has_begun (Client j) e.lines ≡ false → RanOn (v j) (w j) (running s (Client j) (lines_of past)) a) → OfCall (ByClient (CallIn w)) head c → OfCall (ByClient (IsActs s v past)) head c → OfCall (ByClient (IsActs s w (e ∷ past))) head c
+acts_one {s} (carried.Call user (ask.File call)) head e past v w lasts now k f h = both_client head.from _ _ _ (act_over e past v w head user call lasts now k) f h
+acts_one {s} (carried.Call user (ask.Volume call)) head e past v w lasts now k f h = absurd f
+acts_one {s} (carried.Call user (ask.Location call)) head e past v w lasts now k f h = absurd f
+acts_one {s} (carried.Refusal code) head e past v w lasts now k f h = tt
+acts_one {s} (carried.Reply reply) head e past v w lasts now k f h = tt
+acts_one {s} carried.Notice head e past v w lasts now k f h = tt
 
-acts_one : {s : Script} → (c : Carried) (head : Head) (e : Entry) (past : List Entry) (w : ℕ → View) → Each (IfCall (IsLastCall w)) e.sent → ((j : ℕ) → ClientFacts s j (w j) (e ∷ past)) → ((j : ℕ) (a : Going) → (w j).running ≡ Some a → has_begun (Client j) e.lines ≡ false → ((running s (Client j) (lines_of past) ≡ Some a) ⊎ Reading (running s (Client j) (lines_of past)))) → OfCall (ByClient (CallIn w)) head c → OfCall (ByClient (IsActs s past)) head c → OfCall (ByClient (IsActs s (e ∷ past))) head c
-acts_one {s} (carried.Call user (ask.File call)) head e past w lasts now k f h = both_client head.from _ _ _ (act_over e past w head user call lasts now k) f h
-acts_one {s} (carried.Call user (ask.Volume call)) head e past w lasts now k f h = absurd f
-acts_one {s} (carried.Call user (ask.Location call)) head e past w lasts now k f h = absurd f
-acts_one {s} (carried.Refusal code) head e past w lasts now k f h = tt
-acts_one {s} (carried.Reply reply) head e past w lasts now k f h = tt
-acts_one {s} carried.Notice head e past w lasts now k f h = tt
-
-pub acts_over : {s : Script} → (sent : List Message) (e : Entry) (past : List Entry) (w : ℕ → View) → Each (IfCall (IsLastCall w)) e.sent → ((j : ℕ) → ClientFacts s j (w j) (e ∷ past)) → ((j : ℕ) (a : Going) → (w j).running ≡ Some a → has_begun (Client j) e.lines ≡ false → ((running s (Client j) (lines_of past) ≡ Some a) ⊎ Reading (running s (Client j) (lines_of past)))) → Each (IfCall (CallIn w)) sent → Each (IfCall (IsActs s past)) sent → Each (IfCall (IsActs s (e ∷ past))) sent
-acts_over {s} [] e past w lasts now k c h = tt
-acts_over {s} (m ∷ sent) e past w lasts now k c h = (acts_one m.carried m.head e past w lasts now k c.0 h.0, acts_over sent e past w lasts now k c.1 h.1)
+pub acts_over : {s : Script} → (sent : List Message) (e : Entry) (past : List Entry) (v w : ℕ → View) → Each (IfCall (IsLastCall w)) e.sent → ((j : ℕ) → ClientFacts s j (w j) (e ∷ past)) → ((j : ℕ) (a : Going) → (w j).running ≡ Some a → has_begun (Client j) e.lines ≡ false → RanOn (v j) (w j) (running s (Client j) (lines_of past)) a) → Each (IfCall (CallIn w)) sent → Each (IfCall (IsActs s v past)) sent → Each (IfCall (IsActs s w (e ∷ past))) sent
+acts_over {s} [] e past v w lasts now k c h = tt
+acts_over {s} (m ∷ sent) e past v w lasts now k c h = (acts_one m.carried m.head e past v w lasts now k c.0 h.0, acts_over sent e past v w lasts now k c.1 h.1)
 
 -- ---- each key has one call
 
@@ -535,13 +603,16 @@ one_more k (m ∷ sent) ms x e = one_more_by (is_called k m.head m.carried) m.ca
 pub ones_more : (old sent ms : List Message) → Each (IfCall (IsOne sent)) old → Each (IfCall (IsOne (sent ++ ms))) old
 ones_more old sent ms h = each_map (IfCall (IsOne sent)) (IfCall (IsOne (sent ++ ms))) (if_call (IsOne sent) (IsOne (sent ++ ms)) (λ head user call o. one_more (called_key head) sent ms (user, call) o)) old h
 
+pub changing_more : (k : Key) (sent ms : List Message) → IsChangingUnder k sent → IsChangingUnder k (sent ++ ms)
+changing_more k sent ms c = record { user = c.user; call = c.call; one = one_more k sent ms (c.user, c.call) c.one; changes = c.changes }
+
 -- what is known of the messages that a step sends
 pub record News (s : Script) (ms : List Message) (views : ℕ → View) (boot : ℕ) (past : List Entry) : Type 0 where
   pub calls : Each (IfCall (CallIn views)) ms
   pub replies : Each (IfReply (ReplyIn views past)) ms
   pub notices : Each (IfNotice (IsNoticed boot)) ms
   pub origins : Each (IfCall (Origin s past)) ms
-  pub acts : Each (IfCall (IsActs s past)) ms
+  pub acts : Each (IfCall (IsActs s views past)) ms
   pub lasts : Each (IfCall (IsLastCall views)) ms
   pub to_clients : Each (λ m. OfCall ToClient m.head m.carried) ms
   pub ones : Each (IfCall (IsOne (sent_of past))) ms
@@ -554,7 +625,7 @@ replies_over sent v w past newer over h = each_map (IfReply (ReplyIn v past)) (I
 pub waiting_over : (held : List Message) (v w : ℕ → View) (past newer : List Entry) → ((j : ℕ) (m : Message) → ReplyFact j (v j) past m → ReplyFact j (w j) newer m) → Each (HeldIn v past) held → Each (HeldIn w newer) held
 waiting_over held v w past newer over h = each_map (HeldIn v past) (HeldIn w newer) (λ m f. record { client = f.client; to = f.to; from = f.from; half = f.half; is_reply = f.is_reply; fact = over f.client m f.fact }) held h
 
-pub more_sent : {s : Script} → (sent held after : List Message) (v w : ℕ → View) (b d : ℕ) (e : Entry) (past : List Entry) → SentFacts s sent held v b past → b ≤ d → ((j : ℕ) → ClientFacts s j (w j) (e ∷ past)) → ((j : ℕ) (a : Going) → (w j).running ≡ Some a → has_begun (Client j) e.lines ≡ false → ((running s (Client j) (lines_of past) ≡ Some a) ⊎ Reading (running s (Client j) (lines_of past)))) → Each (IfCall (CallIn w)) sent → ((j : ℕ) (m : Message) → ReplyFact j (v j) past m → ReplyFact j (w j) (e ∷ past) m)
+pub more_sent : {s : Script} → (sent held after : List Message) (v w : ℕ → View) (b d : ℕ) (e : Entry) (past : List Entry) → SentFacts s sent held v b past → b ≤ d → ((j : ℕ) → ClientFacts s j (w j) (e ∷ past)) → ((j : ℕ) (a : Going) → (w j).running ≡ Some a → has_begun (Client j) e.lines ≡ false → RanOn (v j) (w j) (running s (Client j) (lines_of past)) a) → Each (IfCall (CallIn w)) sent → ((j : ℕ) (m : Message) → ReplyFact j (v j) past m → ReplyFact j (w j) (e ∷ past) m)
     → (Each (HeldIn w (e ∷ past)) held → News s e.sent w d (e ∷ past) × Each (HeldIn w (e ∷ past)) after) → SentFacts s (sent ++ e.sent) after w d (e ∷ past)
 more_sent {s} sent held after v w b d e past h le now k c over pass =
     let got = pass (waiting_over held v w past (e ∷ past) over h.waiting) in
@@ -564,7 +635,7 @@ more_sent {s} sent held after v w b d e past h le now k c over pass =
       replies = each_more (IfReply (ReplyIn w (e ∷ past))) sent e.sent (replies_over sent v w past (e ∷ past) over h.replies) n.replies;
       notices = each_more (IfNotice (IsNoticed d)) sent e.sent (each_map (IfNotice (IsNoticed b)) (IfNotice (IsNoticed d)) (if_notice (IsNoticed b) (IsNoticed d) (λ m x. le_trans x le)) sent h.notices) n.notices;
       origins = each_more (IfCall (Origin s (e ∷ past))) sent e.sent (older_origins s sent e past h.origins) n.origins;
-      acts = each_more (IfCall (IsActs s (e ∷ past))) sent e.sent (acts_over sent e past w n.lasts now k c h.acts) n.acts;
+      acts = each_more (IfCall (IsActs s w (e ∷ past))) sent e.sent (acts_over sent e past v w n.lasts now k c h.acts) n.acts;
       ones = each_more (IfCall (IsOne (sent ++ e.sent))) sent e.sent (ones_more sent sent e.sent h.ones) (subst (λ (x : List Message). Each (IfCall (IsOne (x ++ e.sent))) e.sent) h.told n.ones);
       told = ap (λ (ms : List Message). ms ++ e.sent) h.told;
       waiting = got.1;

@@ -64,7 +64,7 @@ news_held {s} views b past (m ∷ ms) h =
       replies = (of_reply_any _ m.carried (client_any m.head.to _ (record { client = f.client; to = f.to; fact = f.fact })), n.replies);
       notices = (no_notice _ m.carried f.is_reply, n.notices);
       origins = (no_call (ByClient (Origin s past)) m.head m.carried f.is_reply, n.origins);
-      acts = (no_call (ByClient (IsActs s past)) m.head m.carried f.is_reply, n.acts);
+      acts = (no_call (ByClient (IsActs s views past)) m.head m.carried f.is_reply, n.acts);
       lasts = (no_call (ByClient (IsLastCall views)) m.head m.carried f.is_reply, n.lasts);
       ones = (no_call (ByClient (IsOne (sent_of past))) m.head m.carried f.is_reply, n.ones);
       to_clients = (no_call ToClient m.head m.carried f.is_reply, n.to_clients);

@@ -13,7 +13,7 @@ use Rattle.afs_law.proofs.Basics.{Each, IfCall, each_map, if_call}
 use Rattle.afs_law.proofs.Edits.{index_in, fid_at, sound_same}
 use Rattle.afs_law.proofs.Facts.{IsKnown, HoldsAt, up_boot, IsLastCall, View, view, ClientFacts, IsSafe, CallIn, HasFallen, AreUnheard, Holds, Goes, back_seat}
 use Rattle.afs_law.proofs.Owing.{BackedIn}
-use Rattle.afs_law.proofs.Passing.{tried_more, waiting_over, PassesFile, PassesAct, PassesReach, client_still, replies_over, reply_over, stays, acts_over, fallen_over, older_origins}
+use Rattle.afs_law.proofs.Passing.{changed_before, tried_more, waiting_over, PassesFile, PassesAct, PassesReach, client_still, replies_over, reply_over, stays, acts_over, fallen_over, older_origins}
 use Rattle.afs_law.specs.Breaks.{HasStopped}
 use Rattle.afs_rows.specs.Callbacks.{replies_of}
 use Rattle.afs_rows.specs.Going.{Going}
@@ -73,6 +73,7 @@ later_client {s} n j v past h = record {
   old = h.old;
   runs = h.runs;
   asked = h.asked;
+  late = h.late;
   none = h.none;
   gave = h.gave;
   reached = h.reached;
@@ -105,6 +106,7 @@ rests s b c past e n d armed h boots none p clock heard fallen backs =
       sound = λ id. sound_same id _ (lines_of past) (lines_of (e ∷ past)) (λ m u. p.last (fid_at id m u) (lines_of past)) (h.sound id);
       home = λ id v found. p.home id (lines_of past) (h.home id v found);
       new = λ k above. p.new k (lines_of past) (h.new k above);
+      changing = λ k x. h.changing k (changed_before k (lines_of past) (lines_of (e ∷ past)) (p.new k (lines_of past)) x);
       unheard = heard;
       booted = h.booted;
       boots = boots;
@@ -115,7 +117,7 @@ rests s b c past e n d armed h boots none p clock heard fallen backs =
             (λ j m. reply_over j (view h.floors c j) m e past (λ f. (p.file j f).grant) (p.reach j) (λ f. stays j f e past (p.file j f).grant (p.last f (lines_of past))) (p.act j).begins) h.sent.replies;
         notices = h.sent.notices;
         origins = older_origins s c.sent e past h.sent.origins;
-        acts = acts_over c.sent e past (view h.floors (rested c n d armed)) (subst (λ (ms : List Message). Each (IfCall (IsLastCall (view h.floors (rested c n d armed)))) ms) (sym none) tt) now (λ j a x z. inl ((h.clients j).runs a x)) (calls_rested s c n d armed past h) h.sent.acts;
+        acts = acts_over c.sent e past (view h.floors c) (view h.floors (rested c n d armed)) (subst (λ (ms : List Message). Each (IfCall (IsLastCall (view h.floors (rested c n d armed)))) ms) (sym none) tt) now (λ j a x z. inl ((h.clients j).runs a x, (refl, refl))) (calls_rested s c n d armed past h) h.sent.acts;
         ones = h.sent.ones;
         told = ap (λ (ms : List Message). sent_of past ++ ms) none ∙ (append-nil _ ∙ h.sent.told);
         waiting = waiting_over (replies_of c.server.backs.held) (view h.floors c) (view h.floors (rested c n d armed)) past (e ∷ past)

@@ -1,5 +1,5 @@
 use Rattle.afs_law.proofs.Nexts.{asks_scope, served_as}
-use Rattle.afs_law.proofs.Facts.{FitsBulk, its_call}
+use Rattle.afs_law.proofs.Facts.{IsChangingUnder, IsActs, IsOne, View, FitsBulk, its_call}
 use Rattle.afs_breaks.specs.declared.types.Promise.{Promise}
 use Rattle.afs_breaks.specs.Promises.{owes_from}
 use Rattle.afs_rows.specs.ServerSteps.{done}
@@ -11,16 +11,16 @@ use Rattle.afs_ideal.specs.Tables.{Table, get, set}
 use Rattle.afs_ideal.specs.Told.{AreNext}
 use Rattle.afs_ideal.specs.Volumes.{or_old, with_status, Amend, Volume, Vnode, Kind, a_file, a_directory, a_link, body_by, body_of, version_at, Edit, versions_by, edited_all, counted, amended, vnode_of, if_unique}
 use Rattle.afs_law.proofs.Backing.{is_still_to, all_lines, is_up, is_still, is_oweless, is_unchanging, change_back, promised_given, rising_back}
-use Rattle.afs_law.proofs.Basics.{Below, below-true, below-false, up_to_below, node_apart, Above, up_to_by, same_fid-true, same_node-true, client_number, below_not, up_to_same, raised_up_to, some_of, yes_no}
+use Rattle.afs_law.proofs.Basics.{same_key-true, same_key-refl, both, by_client, ByClient, Each, IfCall, UpTo, Below, below-true, below-false, up_to_below, node_apart, Above, up_to_by, same_fid-true, same_node-true, client_number, below_not, up_to_same, raised_up_to, some_of, yes_no}
 use Rattle.afs_law.proofs.Edits.{agrees_of, last_of, ones, Ones, index_in, fid_at, Sound, SoundIn, sound_same, Tops, on_top, Grow, Told, edits_told, counted_sound, rises, tops, touches, untouched, touched_volume, not_touched, there, none_has, live, live_is}
 use Rattle.afs_law.proofs.Facts.{FitsList, Leaves, HeldIn, Ghost, HoldsAt, up_boot, LastStored, IsStored, IsUntrusted, view, Spot, spot, ReplyFact, HasFallen, Reached, Stands, IsCurrent, Fits, Answers, IsReply, AreUnheard, stored_index, Holds, Goes, FitsReply, FitsData, FitsSet, FitsPlain, WasChanged, AreIdeal, AreSound, WasStored, FitsShown}
 use Rattle.afs_law.proofs.Keeping.{volume_put, own_placed}
-use Rattle.afs_law.proofs.Loading.{no_change, hits_hit, IsHit, hits_other, granted_all, onto_granted, left_granted, all_hits, change_loaded, owes_unchanging, all_new, number_front, number_second, left_promised, has_owe, touched_hit, numbers_good, numbers_rise, granted_to_client, owes_to_clients, owes_rising, all_left}
+use Rattle.afs_law.proofs.Loading.{hits_hit, IsHit, hits_other, granted_all, onto_granted, left_granted, all_hits, change_loaded, owes_unchanging, all_new, number_front, number_second, left_promised, has_owe, touched_hit, numbers_good, numbers_rise, granted_to_client, owes_to_clients, owes_rising, all_left}
 use Rattle.afs_law.proofs.Naming.{fine_after}
 use Rattle.afs_law.proofs.Notes.{granted_notes, AreNotes, Skips, skips, owe_notes, no_versions}
 use Rattle.afs_law.proofs.Ops.{stored_kind, stored_fid, amend_of, in_scope, changes_is, Storing, storing, stored_vnode}
 use Rattle.afs_law.proofs.Owing.{all_map, BackedIn, IsGranted, Rising, IsClient}
-use Rattle.afs_law.proofs.Passing.{reply_over, PassesBoth, PassesSeen, held_over, fetch_reply_by, cause_over, PassesFile, PassesAct, PassesReach, StaysNewest, client_over, PassesGrant}
+use Rattle.afs_law.proofs.Passing.{changed_before, IsAmong, among_since, calls_both, no_change, reply_over, PassesBoth, PassesSeen, held_over, fetch_reply_by, cause_over, PassesFile, PassesAct, PassesReach, StaysNewest, client_over, PassesGrant}
 use Rattle.afs_law.proofs.Pumping.{no_news, pumped_news}
 use Rattle.afs_law.proofs.Serving.{grant_more, runs_here, up_backed, seats_of, Gives, taken_not, up_boots, reached_at, at_told, client_head, Now, call_at, taken, seats_after, Stock, server_after, caller_view, views_after, durable_before, above_before, not_ran, unheard_after, HasRun, cause_now, running_act, stale_none, served_cell, serves, last_has, has_run, server_does, answer_in}
 use Rattle.afs_law.proofs.Turning.{loaded, Pumps, pumps}
@@ -32,7 +32,7 @@ use Rattle.afs_law.specs.Grants.{IsWithdrawn, has_fetched, fetch_reply, since, c
 use Rattle.afs_law.specs.Ideal.{versions_in, Reach, raised, IsLast, clock_of, last_version, HasVersion, Accepts, reach, volume_after, change_key, call_under, reach_over, applied, applied_by, HasBeen, TellsIn, TellsOf, shown_status}
 use Rattle.afs_law.specs.Legal.{HasChangeBy, IsLater, GoodGrant, RanBefore, RunsHere, code_given, AreGood, IsNew, HasChange, GoodChange, versions_first, IsTold, answer_at, IsUnderChange, IsChanged, op_on, as_asked}
 use Rattle.afs_history.specs.declared.lines.Line.{Line}
-use Rattle.afs_law.specs.Past.{risen, server_boot, code_told, onto, lines_of, sent_of, given_message, called_key, HasCode, is_of_act, running, has_begun}
+use Rattle.afs_law.specs.Past.{is_sent_since, same_key, risen, server_boot, code_told, onto, lines_of, sent_of, given_message, called_key, HasCode, is_of_act, running, has_begun}
 use Rattle.afs_rows.specs.Runs.{Entry, message_at, Armed, Fall}
 use Rattle.afs_law.proofs.OneCell.{Cell, server_moves, the_server}
 use Rattle.afs_rows.specs.Scopes.{is_in_scope, is_volume}
@@ -778,10 +778,44 @@ later_by : {R : Type 0} → (o : Option (CallSeat R)) (k l : Key) → Above o k.
 later_by None k l a not = absurd (not tt)
 later_by (Some seat) k l a not = later_seat (pair_below seat.epoch seat.number l.epoch l.number) seat.epoch seat.number k l refl a not
 
+-- none is later than the client's last call
+later_not : (k l : Key) (epoch last : ℕ) → l.epoch ≡ epoch → l.number ≡ last → UpTo k.epoch k.number epoch last → IsLater k l → ⊥
+later_not k l epoch last e n (inl x) (inl y) = let a : k.epoch < epoch = x in let b : l.epoch < k.epoch = y in absurd (omega arith)
+later_not k l epoch last e n (inl x) (inr y) = let a : k.epoch < epoch = x in let b : l.epoch ≡ k.epoch = y.0 in absurd (omega arith)
+later_not k l epoch last e n (inr x) (inl y) = let a : k.epoch ≡ epoch = x.0 in let b : l.epoch < k.epoch = y in absurd (omega arith)
+later_not k l epoch last e n (inr x) (inr y) = let a : k.number ≤ last = x.1 in let b : l.number < k.number = y.1 in absurd (omega arith)
+
 -- what the server changed for the client it did under keys that are not above the durable one
 pub changed_later : (s : Script) (c : Cell) (past : List Entry) (n : ℕ) (h : Head) (user : List ℕ) (call : FsCall) → (H : Holds s c past) → Now s c H.floors past n h user call → (l : Key) → HasChangeBy the_server l (lines_of past) → l.node ≡ Client n → IsLater (called_key (client_head n h)) l
 changed_later s c past n h user call H w l has same = later_by (call_seat (Client n) c.server.lasting.kept) (called_key (client_head n h)) l w.above_durable
     (λ above. no_change l (lines_of past) (H.new l (subst (λ (m : Node). Above (call_seat m c.server.lasting.kept) l.epoch l.number) (sym same) above)) (any_change the_server l (lines_of past) has))
+
+-- the key that runs now changes something, or one before it did
+saved_changing : (t : Bool) (y : Way) (l k : Key) (vs : List Version) (r : Message) (past : List Entry) (sent : List Message) (user : List ℕ) (call : FsCall) → same_key l k ≡ t → call_under k sent ≡ Some (user, call) → (volume_changed call ≡ None → ⊥) → ((j : Key) → HasChange j (lines_of past) → IsChangingUnder j sent) → HasChange l (lines_of (saved_entry y k vs r ∷ past))
+    → IsChangingUnder l sent
+saved_changing true y l k vs r past sent user call t one some old z = record { user = user; call = call; one = ap (λ (q : Key). call_under q sent) (same_key-true l k t) ∙ one; changes = some }
+saved_changing false y l k vs r past sent user call t one some old z =
+    old l (changed_before l (lines_of past) (lines_of (saved_entry y k vs r ∷ past)) (saves_new y k l vs r past (λ same. let no_ : true ≡ false = sym (same_key-refl k) ∙ (ap (λ (q : Key). same_key q k) (sym same) ∙ t) in absurd cc)) z)
+
+-- a changing call of the running act is its client's last, so one that runs now is the first of that act to change something
+changed_once : (s : Script) (c : Cell) (past : List Entry) (n : ℕ) (h : Head) (user : List ℕ) (call : FsCall) → (H : Holds s c past) → Now s c H.floors past n h user call → (a : Going) (l : Key) → running s (Client n) (lines_of past) ≡ Some a → HasChangeBy the_server l (lines_of past) → is_of_act (Client n) l past ≡ true → ⊥
+changed_once s c past n h user call H w a l runs has of_act =
+    let views : ℕ → View = view H.floors c in
+    let p = both (same_node l.node (Client n)) (is_sent_since (Client n) l past) of_act in
+    let node : l.node ≡ Client n = same_node-true l.node (Client n) p.0 in
+    let was : IsChangingUnder l c.sent = H.changing l (any_change the_server l (lines_of past) has) in
+    let x : IsAmong l (ByClient (λ hd us cl. IsActs s views past hd us cl × IsOne c.sent hd us cl)) = among_since (Client n) l (λ hd us cl. IsActs s views past hd us cl × IsOne c.sent hd us cl) past p.1
+    (subst (Each (IfCall (λ hd us cl. IsActs s views past hd us cl × IsOne c.sent hd us cl))) (sym H.sent.told) (calls_both (IsActs s views past) (IsOne c.sent) c.sent H.sent.acts H.sent.ones)) in
+    let key : called_key x.head ≡ l = same_key-true (called_key x.head) l x.key in
+    let from : x.head.from ≡ Client n = ap (λ (k : Key). k.node) key ∙ node in
+    let both_ = by_client n x.head.from (IsActs s views past x.head x.user x.call × IsOne c.sent x.head x.user x.call) from x.fact in
+    let one : (x.user, x.call) ≡ (was.user, was.call) = some_of _ _ (sym both_.1 ∙ (ap (λ (k : Key). call_under k c.sent) key ∙ was.one)) in
+    let is : x.call ≡ was.call = ap (λ (q : List ℕ × FsCall). q.1) one in
+    let later : IsLater (called_key (client_head n h)) l = changed_later s c past n h user call H w l has node in
+    elim (both_.0 (subst (λ (k : Key). is_of_act x.head.from k past ≡ true) (sym key) (subst (λ (m : Node). is_of_act m l past ≡ true) (sym from) of_act)) a (subst (λ (m : Node). running s m (lines_of past) ≡ Some a) (sym from) runs)) [
+      | inl none ↦ was.changes (ap volume_changed (sym is) ∙ none)
+      | inr y ↦ later_not (called_key (client_head n h)) l (c.clients n).epoch (c.clients n).last (ap (λ (k : Key). k.epoch) (sym key) ∙ (y.1 n from).0) (ap (λ (k : Key). k.number) (sym key) ∙ (y.1 n from).1) w.fact.behind later
+    ]
 
 pub saves_change_good : (s : Script) (c : Cell) (past : List Entry) (own tail : List Line) (n : ℕ) (h : Head) (user : List ℕ) (call : FsCall) (id : ℕ) (v : Volume) (es : List Edit) (shown : ℕ) → (H : Holds s c past) → Now s c H.floors past n h user call → Change' c past user call id v es shown
     → RunsHere the_server (called_key (client_head n h)) past own ⊎ RanBefore the_server (called_key (client_head n h)) past own (versioned (versions_by id es v) tail) → IsNew (called_key (client_head n h)) (own ++ lines_of past) → ((l : Key) → HasChangeBy the_server l (own ++ lines_of past) → l.node ≡ Client n → IsLater (called_key (client_head n h)) l) → (HasStopped the_server own → ⊥) → change_key own ≡ None → Accepts s id the_server (own ++ lines_of past) → versions_first tail ≡ [] → ((j : ℕ) (f : Fid) (x : ℕ) → (Client j ≡ Client n → ⊥) → IsChanged f (versions_by id es v) → live_grant the_server (Client j) f (own ++ lines_at the_server past) ≡ Some x → clock_of (own ++ lines_of past) < x → HasOwe the_server (Client j) (Some f) (versioned (versions_by id es v) tail))
@@ -789,6 +823,7 @@ pub saves_change_good : (s : Script) (c : Cell) (past : List Entry) (own tail : 
 saves_change_good s c past own tail n h user call id v es shown H w q place new latest going only home none owed = record {
   fresh = new;
   latest = latest;
+  once = λ a runs l has of_act. changed_once s c past n h user call H w a l runs has of_act;
   place = place;
   going = going;
   only = only;
@@ -852,6 +887,7 @@ saves_holds y s now c past after armed d n h user call time id st es shown H w q
       fine = fine_after id (the_user user) call st.volume es shown c.server.lasting.volumes (stored_after id time es st) refl H.fine q.of_volume q.at q.result;
       home = λ i u z. saves_home y s i k vs r past (home_by (eqb id i) s id i (counted (edited_all id es st.volume)) u (volume_in i c.server.lasting.volumes) (lines_of past) refl (H.home id st.volume q.at) (H.home i u) (sym (volume_put id i (stored_after id time es st) (counted (edited_all id es st.volume)) c.server.lasting.volumes refl) ∙ z));
       new = λ l above. saves_new y k l vs r past (λ same. new_not c n h r l same above) (H.new l (durable_before true c n h r l.node l.epoch l.number w.above_durable above));
+      changing = λ l z. saved_changing (same_key l k) y l k vs r past c.sent user call refl (ap (call_under k) (sym H.sent.told) ∙ w.one) some H.changing z;
       other = λ j ne. client_over j (view fl c j) e past (saves_file y j k vs r past) (λ f. other_reach y j n k vs r past f refl (other j ne)) (λ f. other_newest y j n k vs r past f refl (other j ne)) (saves_act y j k vs r past) (λ f. rises_saved y past k id vs r f grow);
       other_reply = λ j m ne. reply_over j (view fl c j) m e past (λ f. saves_grant y j k vs r past f) (λ f. other_reach y j n k vs r past f refl (other j ne)) (λ f. other_newest y j n k vs r past f refl (other j ne)) (saves_act y j k vs r past).begins;
       own_answers = λ a m f runs z i. saved_answers fl c past e n h user call (spot (caller_view true fl c n h r)) w some a m f runs z i;
@@ -877,8 +913,8 @@ saves_holds y s now c past after armed d n h user call time id st es shown H w q
       made = λ a runs f o known. made_saved y n k vs r past f (λ z. no_touch' (touches f vs) (λ t. elim (w.acts z a ((H.clients n).runs a runs)) [
         | inl none ↦ some none
         | inr same ↦ elim known [
-          | inl reading ↦ some (ap volume_changed same ∙ reading)
-          | inr trusted ↦ o (ap (λ (b : FsCall). is_in_scope b f) (sym same) ∙ (let whole = ((H.clients n).current f trusted.entry trusted.found trusted.lasts).held.whole in scope f trusted.entry.index whole.is whole.told t))
+          | inl reading ↦ some (ap volume_changed same.0 ∙ reading)
+          | inr trusted ↦ o (ap (λ (b : FsCall). is_in_scope b f) (sym same.0) ∙ (let whole = ((H.clients n).current f trusted.entry trusted.found trusted.lasts).held.whole in scope f trusted.entry.index whole.is whole.told t))
         ]
       ])) ∙ (H.clients n).made a runs f o known;
       reached = λ f. own_reached y past n k id vs r f grow ((H.clients n).reached f);

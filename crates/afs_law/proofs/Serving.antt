@@ -1,5 +1,5 @@
 use Rattle.afs_ideal.specs.Directories.{directory_of}
-use Rattle.afs_law.proofs.Facts.{fids_of_gifts, AreFetched, its_call}
+use Rattle.afs_law.proofs.Facts.{KeepsPair, IsChangingUnder, last_key, fids_of_gifts, AreFetched, its_call}
 use Rattle.afs_rows.specs.ServerRow.{sight_status, promise_until}
 use Rattle.afs_shape.specs.Rows.{no_callback}
 use Rattle.afs_num.specs.declared.calls.AfsCallBack.{AfsCallBack}
@@ -16,10 +16,10 @@ use Rattle.afs_law.proofs.Backing.{Plain, all_lines, is_up, is_oweless, is_uncha
 use Rattle.afs_law.proofs.Basics.{same_node-true, Below, UpTo, Above, Each, IfCall, OfReply, above_up, both, same_fid-true, client_number, below_up_to, below_not, up_to_same, own_seat, at_seat, each_map, if_call, some_of, same_node-refl}
 use Rattle.afs_law.proofs.Edits.{Ones, index_in, fid_at, Sound, SoundIn, sound_same, Tops, live_index}
 use Rattle.afs_law.proofs.Facts.{IsBody, back_seat, IsKnown, IsReadable, AreFine, HeldIn, Ghost, HoldsAt, up_boot, LastStored, IsActs, View, view_of, view, Spot, spot, LastRan, ReplyFact, IsBehind, AreKept, MayRun, HasFallen, Reached, HasCurrent, Fits, Answers, IsReply, KeptReply, ClientFacts, CallFact, CallIn, Origin, AreHome, AreNew, AreUnheard, Holds, Goes, InScope, IsFetched, FitsReply, AreIdeal, AreSound}
-use Rattle.afs_law.proofs.Loading.{all_promised, all_granted, granted_all, none_loaded, still_backed, known_backed, resent, run_loaded, key_held, no_change, settles_good, settles_backed, gone_promised, gone_granted, granted_to_client, gone_to_clients, own_waited}
+use Rattle.afs_law.proofs.Loading.{all_promised, all_granted, granted_all, none_loaded, still_backed, known_backed, resent, run_loaded, key_held, settles_good, settles_backed, gone_promised, gone_granted, granted_to_client, gone_to_clients, own_waited}
 use Rattle.afs_law.proofs.Notes.{granted_notes, AreNotes, Skips, skips, told_entry, told_rests, noted_entry, noted_rests, settle_notes}
 use Rattle.afs_law.proofs.Owing.{AllOf, BackedIn, IsDone, DroppedOwe, IsGranted, DoneIn, Promised, IsClient}
-use Rattle.afs_law.proofs.Passing.{all_dropped_onto, tried_more, old_over, stands_over, answers_over, reply_over, kept_over, PassesBoth, PassesFile, PassesAct, PassesReach, stays, current_over, client_still, News, more_sent, ran_over}
+use Rattle.afs_law.proofs.Passing.{changing_more, changed_before, no_change, late_over, all_dropped_onto, tried_more, old_over, stands_over, answers_over, reply_over, kept_over, PassesBoth, PassesFile, PassesAct, PassesReach, stays, current_over, client_still, News, more_sent, ran_over}
 use Rattle.afs_law.proofs.Pumping.{no_news, pumped_news, news_break}
 use Rattle.afs_law.proofs.Resting.{Rests}
 use Rattle.afs_law.proofs.Turning.{loaded, TurnSends, Pumps, pumps, expired_backed, break_good}
@@ -27,7 +27,7 @@ use Rattle.afs_rows.specs.Callbacks.{Turn, replies_of, pumped, expired, turn_for
 use Rattle.afs_rows.specs.ClientRow.{names_told, body_told}
 use Rattle.afs_rows.specs.Going.{asked, Going}
 use Rattle.afs_law.specs.Ideal.{shown_status, Tells, TellsIn, TellsOf, volume_after, version_in, latest, IsThat, user_of, clock_of, last_version, HasVersion, reach, call_under}
-use Rattle.afs_law.specs.Legal.{GoodGrant, IsThere, code_given, IsResult, RunsHere, AreGood, Cause, IsTold, answer_at, answer_on, as_asked}
+use Rattle.afs_law.specs.Legal.{HasChange, GoodGrant, IsThere, code_given, IsResult, RunsHere, AreGood, Cause, IsTold, answer_at, answer_on, as_asked}
 use Rattle.afs_history.specs.declared.lines.Line.{Line}
 use Rattle.afs_law.specs.Past.{server_boot, IsCall, code_told, IsUnheard, lines_of, sent_of, given_message, called_key, HasCode, IsCallUnder, Ran, onto, same_key, answered_key}
 use Rattle.afs_rows.specs.Runs.{Entry, message_at, Armed, Fall}
@@ -136,11 +136,12 @@ noted s now c past armed d e b h boots p clock heard fallen gives backs =
       sound = λ id. sound_same id _ (lines_of past) (lines_of (e ∷ past)) (λ m u. p.last (fid_at id m u) (lines_of past)) (h.sound id);
       home = λ id v found. p.home id (lines_of past) (h.home id v found);
       new = λ k above. p.new k (lines_of past) (h.new k above);
+      changing = λ k x. changing_more k c.sent e.sent (h.changing k (changed_before k (lines_of past) (lines_of (e ∷ past)) (p.new k (lines_of past)) x));
       unheard = heard;
       booted = h.booted;
       boots = boots;
       clients = still_;
-      sent = more_sent c.sent (replies_of c.server.backs.held) (replies_of b.held) (view h.floors c) (view h.floors c) c.server.lasting.boot c.server.lasting.boot e past h.sent (le_refl _) still_ (λ j a x z. inl ((h.clients j).runs a x)) h.sent.calls
+      sent = more_sent c.sent (replies_of c.server.backs.held) (replies_of b.held) (view h.floors c) (view h.floors c) c.server.lasting.boot c.server.lasting.boot e past h.sent (le_refl _) still_ (λ j a x z. inl ((h.clients j).runs a x, (refl, refl))) h.sent.calls
           (λ j m. reply_over j (view h.floors c j) m e past (λ f. (p.file j f).grant) (p.reach j) (λ f. stays j f e past (p.file j f).grant (p.last f (lines_of past))) (p.act j).begins) gives;
       down = fallen;
       clock = clock ∙ h.clock;
@@ -285,7 +286,7 @@ pub record Now (s : Script) (c : Cell) (fl : ℕ → Ghost) (past : List Entry) 
   pub above_durable : Above (call_seat (Client n) c.server.lasting.kept) h.epoch h.number
   pub fact : CallFact (view fl c n) (client_head n h) call
   pub origin : Origin s past (client_head n h) user call
-  pub acts : IsActs s past (client_head n h) user call
+  pub acts : IsActs s (view fl c) past (client_head n h) user call
   pub one : call_under (called_key (client_head n h)) (sent_of past) ≡ Some (user, call)
 
 abbrev pub call_at : ℕ → Head → List ℕ → FsCall → Message
@@ -472,6 +473,7 @@ pub record Serves (good : Bool) (s : Script) (c : Cell) (fl : ℕ → Ghost) (pa
   pub fine : AreFine st.volumes
   pub home : AreHome s st.volumes (lines_of (e ∷ past))
   pub new : AreNew (durable_after good c n h (replied c.server.lasting.boot (client_head n h) x)) (lines_of (e ∷ past))
+  pub changing : (k : Key) → HasChange k (lines_of (e ∷ past)) → IsChangingUnder k c.sent
   pub other : (j : ℕ) → (n ≡ j → ⊥) → ClientFacts s j (view fl c j) past → ClientFacts s j (view fl c j) (e ∷ past)
   pub other_reply : (j : ℕ) (m : Message) → (n ≡ j → ⊥) → ReplyFact j (view fl c j) past m → ReplyFact j (view fl c j) (e ∷ past) m
   pub own_answers : (b : Going) (m : Message) → ReplyFact n (view fl c n) past m → (c.clients n).running ≡ Some b → m.head.epoch ≡ (c.clients n).epoch → m.head.number ≡ (c.clients n).last
@@ -541,6 +543,7 @@ caller_after good s c past n h user call x e st H w v =
       old = old_over (c.clients n).cache (lines_of past) (lines_of (e ∷ past)) v.grows d.old;
       runs = λ b y. v.acts.runs s (lines_of past) ∙ d.runs b y;
       asked = λ b y. inr (v.acts.begins, d.asked b y);
+      late = λ b y. late_over (Client n) (last_key n (view H.floors c n)) e past v.acts.begins (d.late b y);
       none = d.none;
       gave = λ b y. all_dropped_onto (Client n) (fids_of_gifts (c.clients n).gifts) e.lines (lines_of past) v.acts.begins (d.gave b y);
       reached = v.reached;
@@ -574,11 +577,12 @@ serves good s b c past n h user call x e st after d armed H w v boots heard fall
       sound = v.sound;
       home = v.home;
       new = v.new;
+      changing = λ k z. changing_more k c.sent e.sent (v.changing k z);
       unheard = heard;
       booted = H.booted;
       boots = boots;
       clients = now;
-      sent = more_sent c.sent (replies_of c.server.backs.held) (replies_of after.held) (view H.floors c) (views_after good H.floors c n h r) c.server.lasting.boot c.server.lasting.boot e past H.sent (le_refl _) now (λ j a x z. inl ((H.clients j).runs a x)) (calls_after good s c past n h r H w.above)
+      sent = more_sent c.sent (replies_of c.server.backs.held) (replies_of after.held) (view H.floors c) (views_after good H.floors c n h r) c.server.lasting.boot c.server.lasting.boot e past H.sent (le_refl _) now (λ j a x z. inl ((H.clients j).runs a x, at_views good H.floors c n h r j (λ i u. KeepsPair (view H.floors c i) u) (refl, refl) (λ ne. (refl, refl)))) (calls_after good s c past n h r H w.above)
           (λ j m. at_views good H.floors c n h r j (λ i u. ReplyFact i (view H.floors c i) past m → ReplyFact i u (e ∷ past) m) (own_reply good s c H.floors past n h user call x e st w v m) (λ ne. v.other_reply j m ne))
           (news (own_held good H.floors c n h r (e ∷ past) refl refl refl v.is_reply (reply_now good H.floors c past (e ∷ past) n h user call x w (H.clients n).floored v.answer)));
       down = fallen;
@@ -626,9 +630,9 @@ not_stored o e k a ran =
 -- over an entry that changes no file
 pub serves_still : (s : Script) (c : Cell) (past : List Entry) (n : ℕ) (h : Head) (user : List ℕ) (call : FsCall) (x : Carried) (e : Entry) → (H : Holds s c past) → Now s c H.floors past n h user call
     → ((j : ℕ) (f : Fid) → PassesFile j f e past) → ((j : ℕ) (f : Fid) → PassesReach j f e past) → ((j : ℕ) → PassesAct j e past) → ((f : Fid) → last_version f (lines_of (e ∷ past)) ≡ last_version f (lines_of past))
-    → AreIdeal c.server.lasting.volumes (e ∷ past) → AreHome s c.server.lasting.volumes (lines_of (e ∷ past)) → AreNew c.server.lasting.kept (lines_of (e ∷ past)) → clock_of (lines_of (e ∷ past)) ≡ c.clock → Tops (lines_of (e ∷ past)) → Ones (lines_of (e ∷ past)) → IsReply x
+    → AreIdeal c.server.lasting.volumes (e ∷ past) → AreHome s c.server.lasting.volumes (lines_of (e ∷ past)) → AreNew c.server.lasting.kept (lines_of (e ∷ past)) → ((k : Key) → HasChange k (lines_of (e ∷ past)) → HasChange k (lines_of past)) → clock_of (lines_of (e ∷ past)) ≡ c.clock → Tops (lines_of (e ∷ past)) → Ones (lines_of (e ∷ past)) → IsReply x
     → Answers (c.clients n).spoiled n call (record { durable = call_seat (Client n) c.server.lasting.kept; epoch = h.epoch; last = h.number }) c.server.lasting.boot (replied c.server.lasting.boot (client_head n h) x) (e ∷ past) → Serves false s c H.floors past n h user call x e (stock c.server)
-serves_still s c past n h user call x e H w pf pr pa l ideal home new clock top one is a =
+serves_still s c past n h user call x e H w pf pr pa l ideal home new before clock top one is a =
     let r : Message = replied c.server.lasting.boot (client_head n h) x in
     record {
       ideal = ideal;
@@ -636,6 +640,7 @@ serves_still s c past n h user call x e H w pf pr pa l ideal home new clock top 
       sound = λ id. sound_same id _ (lines_of past) (lines_of (e ∷ past)) (λ m u. l (fid_at id m u)) (H.sound id);
       home = home;
       new = new;
+      changing = λ k z. H.changing k (before k z);
       other = λ j ne. client_still j (view H.floors c j) e past (pf j) (pr j) (pa j) l;
       other_reply = λ j m ne. reply_over j (view H.floors c j) m e past (λ f. (pf j f).grant) (pr j) (λ f. stays j f e past (pf j f).grant (l f)) (pa j).begins;
       own_answers = λ b m f y z k. answers_over n (its_call (c.clients n).gifts b) (spot (view H.floors c n)) c.server.lasting.boot m e past (λ g. (pf n g).grant) (pr n) (λ g. stays n g e past (pf n g).grant (l g)) (pa n).begins (f.answers b y z k);
@@ -682,7 +687,7 @@ refuses_goes s c past armed p n h user call code H up at w nz result =
     record {
       good = (refl, tt);
       holds = serves false s (Some c.server.lasting.boot) c past n h user call x e (stock c.server) (pumped the_server c.server.lasting.boot t).backs None armed H w
-          (serves_still s c past n h user call x e H w (λ j f. told_file j p f (actors.Node the_server) ms past) (λ j f. told_reach j p f (actors.Node the_server) ms past) (λ j. told_act j p (actors.Node the_server) ms past) (λ f. refl) H.ideal H.home H.new H.clock H.top H.one (λ y. y)
+          (serves_still s c past n h user call x e H w (λ j f. told_file j p f (actors.Node the_server) ms past) (λ j f. told_reach j p f (actors.Node the_server) ms past) (λ j. told_act j p (actors.Node the_server) ms past) (λ f. refl) H.ideal H.home H.new (λ q y. y) H.clock H.top H.one (λ y. y)
           (record {
             fits = refusal_fits (c.clients n).spoiled n call (spot_at (call_seat (Client n) c.server.lasting.kept) h.epoch h.number) c.server.lasting.boot r (record { 0 = code }) (e ∷ past) nz (not_stored (call_seat (Client n) c.server.lasting.kept) h.epoch h.number w.above_durable);
             code = code;
@@ -1011,7 +1016,7 @@ shows_by s c past armed p n h user call r H up at w is code done =
     record {
       good = (refl, granted_good s past (lines.Given p ∷ []) (Client n) t fs (record { key = called_key (client_head n h); node = refl; ran = runs_here s c past p n h user call H up at w; going = λ z. z; lasts = ap (λ (i : ℕ). i + promise_ticks) (sym H.clock) }));
       holds = serves false s (Some c.server.lasting.boot) c past n h user call z e (stock c.server) (pumped the_server c.server.lasting.boot turn).backs None armed H w
-          (serves_still s c past n h user call z e H w rest.file rest.reach rest.act (λ g. rest.last g (lines_of past)) (λ id. H.ideal id ∙ sym (rest.ideal id)) (λ id v found. rest.home id (lines_of past) (H.home id v found)) (λ key above. rest.new key (lines_of past) (H.new key above)) (k.clock (lines.Given p ∷ lines_of past) ∙ H.clock)
+          (serves_still s c past n h user call z e H w rest.file rest.reach rest.act (λ g. rest.last g (lines_of past)) (λ id. H.ideal id ∙ sym (rest.ideal id)) (λ id v found. rest.home id (lines_of past) (H.home id v found)) (λ key above. rest.new key (lines_of past) (H.new key above)) (λ key y. changed_before key (lines_of past) (lines_of (e ∷ past)) (rest.new key (lines_of past)) y) (k.clock (lines.Given p ∷ lines_of past) ∙ H.clock)
           (λ f i b x. subst (λ (o : Option Version). i ≤ index_in o) (sym (rest.last f (lines_of past))) (H.top f i b (rest.back f i b (lines_of past) x))) (λ f i a b x y. H.one f i a b (rest.back f i a (lines_of past) x) (rest.back f i b (lines_of past) y)) (λ y. y)
           (record {
             fits = read_fits (c.clients n).spoiled n call _ m c (e ∷ past) t r is (λ st f there found yes b body.

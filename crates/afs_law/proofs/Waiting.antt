@@ -76,7 +76,7 @@ tries_goes s c past n act h runs =
     (client_kept s c past n (boot_of the_server x.boots) e h (h.clients n).known (timeout_file q n n x.epoch x.last (x.tries + 1) ms past) (timeout_reach q n n x.epoch x.last (x.tries + 1) ms past) (timeout_act q n n x.epoch x.last (x.tries + 1) ms past) (λ f. refl))
     (λ head call f. call_known (view h.floors c n) (boot_of the_server x.boots) head call f)
     (reply_still n (view h.floors c n) e past (timeout_file q n n x.epoch x.last (x.tries + 1) ms past) (timeout_reach q n n x.epoch x.last (x.tries + 1) ms past) (λ f. refl) refl)
-    (own_call h.floors c past n (h.floors n) y act (lines.Timeout (Client n) q x.epoch x.last (x.tries + 1) ∷ []) (h.clients n).known kind runs ((h.clients n).runs act runs) (same_one s c past n act ms h runs) (all_dropped_onto (Client n) (fids_of_gifts x.gifts) (lines.Timeout (Client n) q x.epoch x.last (x.tries + 1) ∷ []) (lines_of past) refl ((h.clients n).gave act runs))) (λ a x z. inl x) refl (tried_once n x (lines_of past) q ((h.own n).callee act runs) (h.tried n))
+    (own_call h.floors c past n (h.floors n) y act (lines.Timeout (Client n) q x.epoch x.last (x.tries + 1) ∷ []) (h.clients n).known kind runs ((h.clients n).runs act runs) (same_one s c past n act ms h runs) (all_dropped_onto (Client n) (fids_of_gifts x.gifts) (lines.Timeout (Client n) q x.epoch x.last (x.tries + 1) ∷ []) (lines_of past) refl ((h.clients n).gave act runs))) (λ a x z. inl (x, (refl, refl))) refl (tried_once n x (lines_of past) q ((h.own n).callee act runs) (h.tried n))
 
 -- The clients' timeouts, and how a client stops and begins again.
 
@@ -162,6 +162,7 @@ away_again s c past a h = record {
   fine = h.fine;
   home = h.home;
   new = h.new;
+  changing = h.changing;
   unheard = h.unheard;
   booted = h.booted;
   boots = h.boots;
@@ -252,6 +253,7 @@ client_stops_goes s c past n h =
       old = λ f u found. absurd cc;
       runs = λ b y. absurd cc;
       asked = λ b y. absurd cc;
+      late = λ b y. absurd cc;
       none = λ y. refl;
       gave = λ b y. absurd cc;
       reached = reached_still s c past n e h (λ f i r. record { made = r.made; seen = r.seen }) (λ f. refl);
@@ -267,4 +269,4 @@ client_starts_goes s c past n h =
     let reach_ : (f : Fid) → PassesReach n f e past = λ f. record { both = λ i r. record { made = r.made; seen = r.seen }; seen = λ i r. r; made = λ x. x } in
     turned_goes s past n false _ (moves s c past n (h.floors n) (record { state = x; lines = lines.Restart (Client n) x.epoch ∷ []; sent = [] }) h (h.own n) ((refl, tt), tt) (restart_passes s n x.epoch past)
     (client_kept s c past n (boot_of the_server x.boots) e h (h.clients n).known file reach_ (record { runs = λ s o. refl; begins = refl }) (λ f. refl))
-    (λ head call f. call_known (view h.floors c n) (boot_of the_server x.boots) head call f) (reply_still n (view h.floors c n) e past file reach_ (λ f. refl) refl) (nothing_new _ _) (λ a x z. inl x) refl (tried_kept n (c.clients n) _ (lines_of past) (lines.Restart (Client n) x.epoch ∷ []) refl refl refl refl (h.tried n)))
+    (λ head call f. call_known (view h.floors c n) (boot_of the_server x.boots) head call f) (reply_still n (view h.floors c n) e past file reach_ (λ f. refl) refl) (nothing_new _ _) (λ a x z. inl (x, (refl, refl))) refl (tried_kept n (c.clients n) _ (lines_of past) (lines.Restart (Client n) x.epoch ∷ []) refl refl refl refl (h.tried n)))

@@ -31,7 +31,7 @@ use Rattle.afs_rows.specs.Runs.{Entry, comes_up, steady}
 use Rattle.afs_xdr.specs.Words.{opaque, pad, word, opaque_at, word_at, counted_at}
 use Rattle.afs_law.specs.Ideal.{set_up}
 use Rattle.afs_law.specs.Once.{past_of}
-use Rattle.afs_law.specs.Past.{IsUnheard, IsCallUnder, Ran, answered_key, code_told, given_message, lines_of, sent_of}
+use Rattle.afs_law.specs.Past.{AreWithin, has_begun, IsUnheard, IsCallUnder, Ran, answered_key, code_told, given_message, lines_of, sent_of}
 use Rattle.afs_num.specs.declared.calls.FsCall.{FsCall}
 use Rattle.afs_num.specs.declared.histories.Actor.TheVariants as actors
 use Rattle.afs_num.specs.declared.messages.Call.TheVariants as ask
@@ -370,6 +370,34 @@ no_room_but_stored h =
         | inr z ↦ elim z [
           | inl x ↦ let e : pos 108 ≡ negsuc 0 = x.is in absurd cc
           | inr x ↦ let e : pos 108 ≡ pos 0 = x.is in absurd cc
+        ]
+      ]
+    ]
+
+-- ---- the second of two acts that ask the same is answered by the reply to the first, under one key for both
+
+abbrev twice_front : List Input
+twice_front = begins 1 (acts.Close (operands.Fid file) (Hex (codes "def"))) ∷ gives 1 steady ∷ gives 2 steady ∷ begins 1 (acts.Close (operands.Fid file) (Hex (codes "def"))) ∷ gives 2 steady ∷ []
+
+abbrev under_the_old_key : Entry → Entry
+under_the_old_key e = record e { sent = map (λ (m : Message). record m { head = record m.head { number = 1 } }) e.sent }
+
+-- no act begins behind the entry that ran the call
+begins_behind : (n : Node) (e : Entry) (past newer : List Entry) (at : Entry) (older : List Entry) → has_begun n e.lines ≡ true → e ∷ past ≡ newer ++ (at ∷ older) → AreWithin n (newer ++ at ∷ []) → ⊥
+begins_behind n e past [] at older begun split w = let one : e ≡ at = cc in let no_ : true ≡ false = sym begun ∙ (ap (λ (x : Entry). has_begun n x.lines) one ∙ w.0) in absurd cc
+begins_behind n e past (x ∷ newer) at older begun split w = let one : e ≡ x = cc in let no_ : true ≡ false = sym begun ∙ (ap (λ (y : Entry). has_begun n y.lines) one ∙ w.0) in absurd cc
+
+answered_by_an_older_act : Legal (alters 3 under_the_old_key (alters 4 (instead (lines.Given 2 ∷ answer 1 ∷ [])) (entries (start (script 1)) twice_front))) (script 1) → ⊥
+unfolding moved begin_row client_row server_row back_timeout_row wake_row start_row record_bytes head_form volume_form spelled opaque pad word laid_at led name_ok directory_bytes name_bytes rights_of image acl_text digits entry_text directory_of names_at opaque_at word_at counted_at whole_at count_at name_at spelled_at bytes_below
+answered_by_an_older_act h =
+    let g = h.1.1.1.1.0.0.0.1.0.1 in
+    elim g.cause [
+      | inl x ↦ begins_behind (Client 1) _ _ _ _ _ refl x.cause.ran.split x.lately
+      | inr y ↦ elim y [
+        | inl x ↦ no_answer_call _ x.number (ap next (some_of _ _ g.runs) ∙ x.by)
+        | inr z ↦ elim z [
+          | inl x ↦ let e : pos 0 ≡ negsuc 0 = x.is in absurd cc
+          | inr x ↦ let e : true ≡ false = sym x.begun in absurd cc
         ]
       ]
     ]

@@ -18,7 +18,7 @@ use Rattle.afs_rows.specs.Going.{Going, Need, answers, asks_for, next, asked, gi
 use Rattle.afs_law.specs.Grants.{is_promised, read_reply, GrantOf, since, until, IsWithdrawn, IsDropped}
 use Rattle.afs_law.specs.Ideal.{last_version, Unless, set_up, IsLast, WasLast, HasBeen, HasVersion, Accepts, clock_of, user_of, seen, change_in, change_key, call_under, volume_after}
 use Rattle.afs_history.specs.declared.lines.Line.{Line}
-use Rattle.afs_law.specs.Past.{lines_of, sent_of, given_message, answered_key, code_told, IsReply, running, has_begun, has_given, Called, CalledSince, IsCallUnder, IsUnheard, Ran, server_boot}
+use Rattle.afs_law.specs.Past.{is_of_act, AreWithin, lines_of, sent_of, given_message, answered_key, code_told, IsReply, running, has_begun, has_given, Called, CalledSince, IsCallUnder, IsUnheard, Ran, server_boot}
 use Rattle.afs_rows.specs.Runs.{Entry}
 use Rattle.afs_num.specs.declared.scripts.Script.{Script}
 use Rattle.afs_num.specs.declared.histories.Actor.{Actor}
@@ -173,13 +173,15 @@ pub record RanBefore (server : Node) (k : Key) (past : List Entry) (own next : L
   pub since : AreFailed server newer
 
 -- A change runs a key for the first time, at a server that accepts stores of the volume, and is the only one of its entry. What
--- the server changed before for the same node it did under keys of earlier calls. The entry ran the key's call, or is the restart behind the one that was interrupted in that.
+-- the server changed before for the same node it did under keys of earlier calls, and while an act runs there, under none of
+-- that act: an act changes things once. The entry ran the key's call, or is the restart behind the one that was interrupted in that.
 -- The key's call was sent by its node, for its user, and is that of the act that ran there, with the act's own bytes. The
 -- versions that follow are just those of the ideal operation on the ideal volume. Each other client's last grant on one of their
 -- fids that lasts has a break behind the change
 pub record GoodChange (s : Script) (server : Node) (k : Key) (count : ℕ) (past : List Entry) (own next : List Line) : Type 0 where
   pub fresh : IsNew k (own ++ lines_of past)
   pub latest : (l : Key) → HasChangeBy server l (own ++ lines_of past) → l.node ≡ k.node → IsLater k l
+  pub once : (a : Going) → running s k.node (lines_of past) ≡ Some a → (l : Key) → HasChangeBy server l (lines_of past) → is_of_act k.node l past ≡ true → ⊥
   pub place : RunsHere server k past own ⊎ RanBefore server k past own next
   pub going : HasStopped server own → ⊥
   pub only : change_key own ≡ None
@@ -311,7 +313,8 @@ EndsAct gives_back = ⊤
 EndsAct need = ⊥
 
 -- the reply that the answer's entry was given is the cause of the code, and its call is one of this very act: the client
--- sent it since the act began, which was in an entry before. The code is 0 only where the act ends with this call
+-- sent it, and its server ran it, since the act began, which was in an entry before. The code is 0 only where the act ends with
+-- this call
 pub record IsCaused (c : Node) (act : Going) (code : ℤ) (past : List Entry) (own : List Line) : Type 0 where
   pub reply : Message
   pub by : given_message own (sent_of past) ≡ Some reply
@@ -319,6 +322,7 @@ pub record IsCaused (c : Node) (act : Going) (code : ℤ) (past : List Entry) (o
   pub cause : Cause reply code (asked act) past own
   pub before : has_begun c own ≡ false
   pub called : CalledSince (answered_key reply.head) cause.user cause.call past
+  pub lately : AreWithin c (cause.ran.newer ++ cause.ran.at ∷ [])
   pub ends : code ≡ pos 0 → EndsAct (next act)
 
 -- the act needs no more, and answers so by its read lines; it began in this entry, which was given nothing, or the entry was

@@ -1,4 +1,4 @@
-use Rattle.std.specs.Prelude.{◌≡◌, ℕ, List, [], ◌∷◌, ◌++◌, Bool, true, false, ◌&&◌, Option, Some, None, ℤ, pos, nat_eq, if◌then◌else◌, ⊤, ◌⊎◌}
+use Rattle.std.specs.Prelude.{not, ◌≡◌, ℕ, List, [], ◌∷◌, ◌++◌, Bool, true, false, ◌&&◌, Option, Some, None, ℤ, pos, nat_eq, if◌then◌else◌, ⊤, ◌⊎◌}
 use Rattle.afs_num.specs.Nodes.{same_node}
 use Rattle.afs_num.specs.declared.types.Head.{Head}
 use Rattle.afs_num.specs.declared.types.Key.{Key}
@@ -118,6 +118,16 @@ has_sent k (m ∷ ms) = if is_called k m.head m.carried then true else has_sent 
 abbrev pub is_sent_since : Node → Key → List Entry → Bool
 is_sent_since n k [] = false
 is_sent_since n k (e ∷ past) = if has_sent k e.sent then true else (if has_begun n e.lines then false else is_sent_since n k past)
+
+-- whether a key was used for no call that was sent before the entry in which the node last began an act
+abbrev pub is_late : Node → Key → List Entry → Bool
+is_late n k [] = true
+is_late n k (e ∷ past) = if has_begun n e.lines then not (has_sent k (sent_of past)) else is_late n k past
+
+-- no act of the node begins in these entries
+abbrev pub AreWithin : Node → List Entry → Type 0
+AreWithin n [] = ⊤
+AreWithin n (e ∷ es) = (has_begun n e.lines ≡ false) × AreWithin n es
 
 -- whether the key is that of a call of the act that the node began last
 abbrev pub is_of_act : Node → Key → List Entry → Bool
