@@ -1,6 +1,6 @@
 //! Scripts without volumes, good and bad. Numbers and reasons were written from the grammar.
 
-ghost use Rattle.std.specs.Prelude.{◌≡◌, [], List};
+ghost use Rattle.std.specs.Prelude.{◌≡◌, List};
 
 use afs_grammar::forms::{Form, WHOLE};
 use afs_grammar::ground::Ground;
@@ -14,12 +14,14 @@ use std::alloc::Global;
 use std::process::Abort;
 use std::test::Fail;
 
-/// A ground that has no memory for a volume.
+/// A ground that has no memory for anything more.
 #[derive(Drop)]
-struct Barren;
+struct Barren {
+    volumes: Vec<VolumeLine>,
+}
 
 impl Ground for Barren {
-    ghost laid = { λ g. [] };
+    ghost laid = { λ g. g.volumes.items };
 
     fn add(
         &mut self,
@@ -118,7 +120,10 @@ const EARLY: [(u8, &str, u32, Reason); 8] = [
 
 /// Checks the number and the reason of the first bad line.
 fn expect_bad(rt: &impl Abort, alloc: Global, form: Form, text: &str, number: u32, reason: Reason) {
-    match read_script(alloc, form, &mut Barren, text.as_bytes()) {
+    let mut barren = Barren {
+        volumes: Vec::new(alloc),
+    };
+    match read_script(alloc, form, &mut barren, text.as_bytes()) {
         Err(ScriptFault::Line(found, why)) => {
             assert_eq!(rt; found, number, "in {text}");
             assert_eq!(rt; why, reason, "in {text}");
@@ -151,7 +156,10 @@ const GOOD: &str =
 
 /// The script, or the test ends.
 fn expect_script(rt: &impl Abort, alloc: Global, text: &str) -> Script {
-    match read_script(alloc, WHOLE, &mut Barren, text.as_bytes()) {
+    let mut barren = Barren {
+        volumes: Vec::new(alloc),
+    };
+    match read_script(alloc, WHOLE, &mut barren, text.as_bytes()) {
         Ok(script) => script,
         Err(_) => panic!(rt; "no script"),
     }
