@@ -1,6 +1,5 @@
 -- Even numbers, and the last of a list of names.
 use Rattle.std.proofs.Common.{◌≡◌, ◌==◌, ◌%◌, ◌++◌, ◌+◌, ℕ, zero, suc, Bool, true, false, cond, not, List, [], ◌∷◌, Some, None, length, refl, ap, ◌∙◌, arith}
-use Rattle.std.specs.Prelude.{replicate}
 use Rattle.afs_rows.specs.Going.{is_even, put_front, parted, parted_on}
 
 odd_by : (b : Bool) (n : ℕ) → n % 2 ≡ cond b 0 1 → suc n % 2 ≡ cond (not b) 0 1
@@ -30,10 +29,3 @@ last_of (name ∷ front) last = ap Some (last_on name front last)
 pub none_of : (names : List (List ℕ)) → length names ≡ 0 → parted names ≡ None
 none_of [] h = refl
 none_of (name ∷ names) h = absurd cc
-
-one_longer : (n : ℕ) (x : ℕ) → replicate n x ++ x ∷ [] ≡ replicate (suc n) x
-one_longer zero x = refl
-one_longer (suc n) x = ap (λ (xs : List ℕ). x ∷ xs) (one_longer n x)
-
-pub one_more : (n : ℕ) (x : ℕ) → replicate n x ++ x ∷ [] ≡ replicate (n + 1) x
-one_more n x = let next : suc n ≡ n + 1 = omega arith in one_longer n x ∙ ap (λ (m : ℕ). replicate m x) next

@@ -6,9 +6,10 @@ use Rattle.std.proofs.lemmas.Bool.{eqb-true}
 use Rattle.afs_ideal.specs.Tables.{Table, get}
 use Rattle.afs_ideal.specs.Volumes.{Volume}
 use Rattle.afs_ideal.proofs.Tables.{get_set}
-use Rattle.afs_num.specs.declared.scripts.VolumeLine.{VolumeLine}
+use Rattle.afs_history.specs.declared.scripts.VolumeLine.{VolumeLine}
 use Rattle.afs_rows.specs.States.{Location}
-use Rattle.afs_rows.specs.Runs.{counts_later, first_volume, first_volumes, location_by, locations_in, unless_there}
+use Rattle.afs_ideal.specs.SetUp.{first_volume}
+use Rattle.afs_rows.specs.Runs.{counts_later, first_volumes, location_by, locations_in, unless_there}
 use Rattle.afs_acts.specs.Acts.{first_volume_line}
 
 either : (b c : Bool) (x : Volume) (o : Option Volume) → is_some o ≡ c → is_some (cond b (Some x) o) ≡ b || c
@@ -34,5 +35,5 @@ first_line (w ∷ ws) v rest h = let pair : (w, ws) ≡ (v, rest) = cc in ap (λ
 
 -- so far and the rest
 pub told_on : (done next : List Location) (v : VolumeLine) (rest : List VolumeLine) (later : Bool) → later ≡ list_any (λ (w : VolumeLine). nat_eq w.id v.id) rest
-    → next ++ locations_in rest ≡ done ++ location_by later v v.server (locations_in rest) → next ++ locations_in rest ≡ done ++ locations_in (v ∷ rest)
-told_on done next v rest later h e = e ∙ ap (λ (b : Bool). done ++ location_by b v v.server (locations_in rest)) (h ∙ sym (told_later v.id rest))
+    → next ++ locations_in rest ≡ done ++ location_by later v (locations_in rest) → next ++ locations_in rest ≡ done ++ locations_in (v ∷ rest)
+told_on done next v rest later h e = e ∙ ap (λ (b : Bool). done ++ location_by b v (locations_in rest)) (h ∙ sym (told_later v.id rest))

@@ -2,7 +2,8 @@
 use Rattle.std.specs.Prelude.{◌≤◌, ◌<◌, ℕ, List, [], ◌∷◌, Option, Some, None, length}
 use Rattle.std.specs.List.{All}
 use Rattle.afs_num.specs.Nodes.{IsNode}
-use Rattle.afs_num.specs.declared.scripts.VolumeLine.{VolumeLine}
+use Rattle.afs_num.specs.declared.types.Node.TheVariants.{Server}
+use Rattle.afs_history.specs.declared.scripts.VolumeLine.{VolumeLine}
 use Rattle.afs_history.specs.Written.{bytes_in}
 use Rattle.afs_history.specs.declared.acts.Act.{Act}
 use Rattle.afs_history.specs.declared.acts.Act.TheVariants as acts
@@ -16,7 +17,7 @@ use Rattle.afs_rows.specs.Going.{Need}
 
 -- a volume's server is a node
 abbrev pub HasServer : VolumeLine → Type 0
-HasServer v = IsNode v.server
+HasServer v = IsNode (Server v.server)
 
 abbrev pub first_volume_line : List VolumeLine → Option (VolumeLine × List VolumeLine)
 first_volume_line [] = None

@@ -8,10 +8,10 @@ ghost use Rattle.afs_acts.specs.Acts.{FitsNeed, IsShortAct};
 ghost use Rattle.afs_acts.specs.Needs.{are_read, at_of, linked, moved, needed, needed_by, on_object, in_parent, rights_need, shown_need, status_need, statuses_need, statuses_seen, within_of};
 ghost use Rattle.afs_acts.specs.Walks.{need_of};
 
-use crate::copies::bytes_in;
 use crate::types::{Going, Homes, Need, Reads, Shown};
 use crate::walks::{At, Within, behind_status, body_at, has_rights, object, parent, path_object};
 use afs_history::acts::{Act, Operand, Path, Written};
+use afs_history::written::bytes_in;
 use afs_num::calls::{AfsStoreStatus, Fids, FsCall};
 use afs_num::directories::{Name, Names};
 use afs_num::histories::Body;

@@ -1,7 +1,6 @@
 //! Copies.
 
-ghost use Rattle.std.specs.Prelude.{◌≡◌, IfOk, replicate};
-ghost use Rattle.afs_history.specs.Written.{bytes_in};
+ghost use Rattle.std.specs.Prelude.{◌≡◌, IfOk};
 
 use afs_history::acts::{Act, Operand, Path, Written};
 use afs_num::directories::Names;
@@ -67,26 +66,6 @@ fn copy_operand(alloc: Global, operand: &Operand) -> Mem<Operand>
         Operand::Path(path) => Ok(Operand::Path(copy_path(alloc, path)?)),
         Operand::Fid(fid) => Ok(Operand::Fid(*fid)),
     }
-}
-
-/// The bytes that a script writes.
-pub fn bytes_in(alloc: Global, written: &Written) -> Mem<Octets>
-    ensures { IfOk result (λ b. b ≡ bytes_in written.now) }
-{
-    match written {
-        Written::Hex(bytes) => bytes.copy(alloc),
-        Written::Fill { count, byte } => filled(alloc, *count, *byte),
-    }
-}
-
-fn filled(alloc: Global, count: u32, byte: u8) -> Mem<Octets>
-    ensures { IfOk result (λ b. b ≡ replicate count byte) }
-{
-    let mut bytes = Sequence::new(alloc);
-    for _ in 0..count {
-        bytes.push(byte)?;
-    }
-    Ok(bytes)
 }
 
 fn copy_written(alloc: Global, written: &Written) -> Mem<Written>

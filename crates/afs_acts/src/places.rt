@@ -3,7 +3,7 @@
 ghost use Rattle.std.specs.Prelude.{◌≡◌, ◌<◌, ◌++◌, IfOk, IfSome, List, OnOk, find, length, nat_eq};
 ghost use Rattle.std.specs.List.{All, list_any};
 ghost use Rattle.std.specs.Option.{option_copied, option_map};
-ghost use Rattle.afs_num.specs.declared.scripts.VolumeLine.{VolumeLine};
+ghost use Rattle.afs_history.specs.declared.scripts.VolumeLine.{VolumeLine};
 ghost use Rattle.afs_num.specs.Nodes.{IsNode};
 ghost use Rattle.std.specs.Str.{bytes_eq};
 ghost use Rattle.afs_rows.specs.States.{Location as Known};
@@ -14,7 +14,7 @@ ghost use Rattle.afs_acts.specs.Acts.{HasServer, first_volume_line};
 
 use crate::types::{Homes, Location};
 use afs_history::acts::{Act, Operand, Path};
-use afs_num::scripts::{VolumeLine, VolumeLines};
+use afs_history::scripts::{VolumeLine, VolumeLines};
 use afs_num::sequences::Octets;
 use afs_num::types::{Mem, Node};
 use std::alloc::Global;
@@ -36,7 +36,7 @@ fn is_told(id: u32, lines: &[VolumeLine]) -> bool
     lines.iter().any(|line| line.id == id)
 }
 
-/// Adds where a volume is, if its line counts and it is at a server.
+/// Adds where a volume is, if its line counts.
 fn add_place(
     alloc: Global,
     table: &mut Vec<Location>,
@@ -44,22 +44,20 @@ fn add_place(
     is_told_later: bool,
 ) -> Mem<()>
     requires { HasServer volume.now }
-    ensures { OnOk result ((ls : List Known) → table.new.items ++ ls ≡ table.old.items ++ location_by is_told_later volume.now volume.now.server ls) }
+    ensures { OnOk result ((ls : List Known) → table.new.items ++ ls ≡ table.old.items ++ location_by is_told_later volume.now ls) }
 {
     if is_told_later {
         return Ok(());
     }
-    if let Node::Server(number) = volume.server {
-        table.push(Location {
-            name: volume.name.copy(alloc)?,
-            id: volume.id,
-            server: number,
-        })?;
-    }
+    table.push(Location {
+        name: volume.name.copy(alloc)?,
+        id: volume.id,
+        server: volume.server,
+    })?;
     Ok(())
 }
 
-/// The table of the volumes at set-up: those at servers.
+/// The table of the volumes at set-up.
 pub fn locations(alloc: Global, volumes: &VolumeLines) -> Mem<Vec<Location>>
     requires { All HasServer volumes.now }
     ensures { IfOk result (λ ls. ls.items ≡ locations_in volumes.now) }

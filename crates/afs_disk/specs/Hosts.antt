@@ -4,6 +4,8 @@ use Rattle.std.proofs.Common.{inl, refl}
 use Rattle.afs_disk.specs.Disk.{Room, Setting}
 use Rattle.afs_disk.specs.declared.host.HostDisk.{HostDisk}
 use Rattle.afs_disk.specs.declared.host.HostDisk.TheVariants.{Memory, File}
+use Rattle.afs_disk.specs.declared.bank.Place.{Place}
+use Rattle.afs_disk.specs.declared.bank.Place.TheVariants as places
 use Rattle.afs_disk.specs.Files.{filed_room, untold}
 use Rattle.afs_disk.specs.Images.{MayLeave, image}
 use Rattle.afs_disk.specs.Past.{Since, measured, memory_room, only_now, picked_leaves}
@@ -70,3 +72,8 @@ host_shows (File f) = refl
 pub host_measures : (disk : HostDisk) (bytes : List ℕ) → host_seen disk ≡ Some bytes → length bytes ≡ host_size disk
 host_measures (Memory m) bytes told = measured m.held.now bytes told
 host_measures (File f) bytes told = untold bytes (length bytes ≡ f.size) told
+
+-- a disk in memory tells what it holds, one in a folder doesn't
+abbrev pub host_tells : Place → Type 0
+host_tells places.Memory = Unit {0}
+host_tells (places.Folder path) = ⊥

@@ -1,7 +1,8 @@
 // Who lends the disks of a cell, and takes them back.
-ghost use Rattle.std.specs.Prelude.{◌≡◌, ◌≤◌, ◌<◌, ◌++◌, ◌∷◌, [], List, ℕ, Option, IfOk, OnOk, OnErr, IsErrOf, option_map};
+ghost use Rattle.std.specs.Prelude.{◌≡◌, ◌≤◌, ◌<◌, ◌++◌, ◌∷◌, [], List, ℕ, Option, IfOk, OnOk, OnErr, IsErrOf, option_map, IsSome};
 ghost use Rattle.afs_disk.specs.Banks.{GivesBack};
 ghost use Rattle.afs_disk.specs.declared.bank.Lend.{Lend};
+ghost use Rattle.afs_disk.specs.declared.bank.Place.{Place as At};
 ghost use Rattle.afs_disk.specs.declared.bank.LendFault.TheVariants.{Failed as LendFailed, OutOfMemory};
 ghost use Rattle.afs_disk.specs.Disk.{Rose};
 
@@ -84,12 +85,17 @@ pub trait Bank {
     /// rose.
     ghost faults: { Self → ℕ };
 
+    /// Whether the disks that it lends at this place tell what they hold.
+    ghost tells: { Self → At → Type 0 };
+
     /// Lends a disk of this capacity for a node.
     fn lend(&mut self, place: &Place, node: u32, capacity: u64) -> Result<Self::D, LendFault>
         ensures limit { IfOk result (λ disk. Self.D.limit disk ≡ capacity) }
         ensures lends { OnOk result (lends self.new ≡ option_map (λ l. l ++ record { place = place.now; node = node; capacity = capacity } ∷ []) (lends self.old)) }
         ensures none { OnErr result (lends self.new ≡ lends self.old) }
         ensures given { given self.new ≡ given self.old }
+        ensures told { IfOk result (λ disk. tells self.old place.now → IsSome (Self.D.seen disk)) }
+        ensures tells { (at : At) → tells self.old at → tells self.new at }
         ensures never_falls { faults self.old ≤ faults self.new }
         ensures cause { IsErrOf result LendFault.Failed → Rose (faults self.old) (faults self.new) };
 
@@ -98,6 +104,7 @@ pub trait Bank {
         ensures given { OnOk result (GivesBack node (Self.D.seen disk) (given self.old) (given self.new)) }
         ensures kept { OnErr result (given self.new ≡ given self.old) }
         ensures lends { lends self.new ≡ lends self.old }
+        ensures tells { (at : At) → tells self.old at → tells self.new at }
         ensures never_falls { faults self.old ≤ faults self.new }
         ensures cause { OnErr result (Rose (faults self.old) (faults self.new)) };
 }

@@ -88,6 +88,7 @@ pub trait Disk {
         ensures written { OnOk result (seen self.new ≡ option_map (overwritten at bytes.now) (seen self.old)) }
         ensures picks { OnOk result ((pick : ℕ) → left_by self.new pick ≡ option_map (written_by pick at bytes.now) (left_by self.old pick)) }
         ensures grown { OnOk result (size self.new ≡ max (size self.old) (at + length bytes.now)) }
+        ensures told { IsSome (seen self.new) ↔ IsSome (seen self.old) }
         ensures crash { ComesBy (Torn at (length bytes.now)) (may_leave self.old) (may_leave self.new) }
         ensures time { Passes (moment self.old) (moment self.new) (left_since self.old) (left_since self.new) (may_leave self.new) }
         ensures calls { calls self.new ≡ calls self.old + 1 }
@@ -105,6 +106,7 @@ pub trait Disk {
         ensures cut { OnOk result (seen self.new ≡ option_map (take len) (seen self.old)) }
         ensures picks { OnOk result ((pick : ℕ) → left_by self.new pick ≡ option_map (cut_by pick len) (left_by self.old pick)) }
         ensures shorter { OnOk result (size self.new ≡ len) }
+        ensures told { IsSome (seen self.new) ↔ IsSome (seen self.old) }
         ensures crash { ComesBy (CutShort len) (may_leave self.old) (may_leave self.new) }
         ensures time { Passes (moment self.old) (moment self.new) (left_since self.old) (left_since self.new) (may_leave self.new) }
         ensures calls { calls self.new ≡ calls self.old + 1 }

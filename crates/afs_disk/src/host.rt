@@ -1,7 +1,7 @@
 // The program's disks: in memory, or files of a folder.
 ghost use Rattle.std.specs.Prelude.{◌≡◌, ◌≤◌, None, IfOk};
 ghost use Rattle.afs_disk.specs.Disk.{Rose};
-ghost use Rattle.afs_disk.specs.Hosts.{host_calls, host_counts, host_faults, host_just, host_leaves, host_left_by, host_limit, host_measures, host_moment, host_picked, host_seen, host_setting, host_shows, host_since, host_size, host_space};
+ghost use Rattle.afs_disk.specs.Hosts.{host_calls, host_counts, host_faults, host_just, host_leaves, host_left_by, host_limit, host_measures, host_moment, host_picked, host_seen, host_setting, host_shows, host_since, host_size, host_space, host_tells};
 
 use crate::bank::{Bank, LendFault, Place};
 use crate::disk::Disk;
@@ -214,6 +214,8 @@ impl<'a, R: Files<File = File>> Bank for HostBank<'a, R> {
     ghost given = { λ b. None };
 
     ghost faults = { λ b. b.faults };
+
+    ghost tells = { λ b at. host_tells at };
 
     fn lend(&mut self, place: &Place, node: u32, capacity: u64) -> Result<HostDisk, LendFault> {
         match place {

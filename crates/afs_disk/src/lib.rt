@@ -4,6 +4,7 @@
 
 pub mod bank;
 pub mod disk;
+pub mod disks;
 pub mod file;
 pub mod fuse;
 pub mod host;
@@ -14,6 +15,7 @@ mod past;
 
 pub use bank::{Bank, Lend, LendFault, Place};
 pub use disk::Disk;
+pub use disks::{Disks, Lent};
 pub use file::FileDisk;
 pub use fuse::Fuse;
 pub use host::{HostBank, HostDisk};

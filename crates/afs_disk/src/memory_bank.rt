@@ -124,6 +124,8 @@ impl Bank for MemBank {
 
     ghost faults = { λ b. b.faults };
 
+    ghost tells = { λ b at. Unit {0} };
+
     fn lend(&mut self, place: &Place, node: u32, capacity: u64) -> Result<MemDisk, LendFault>
         ensures limit { IfOk result (λ disk. disk.limit ≡ capacity) }
         ensures empty { IfOk result (λ disk. (disk.held.now ≡ []) × (disk.held.kept ≡ []) × (disk.held.unsynced ≡ [])) }

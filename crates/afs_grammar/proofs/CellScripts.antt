@@ -5,7 +5,7 @@ use Rattle.std.specs.List.{All, list_any}
 use Rattle.std.proofs.lemmas.List.Elements.{All-nil, All-push}
 use Rattle.afs_num.specs.declared.scripts.Reason.{Reason}
 use Rattle.afs_num.specs.declared.scripts.Reason.TheVariants as reasons
-use Rattle.afs_ideal.specs.SetUp.{new_volume}
+use Rattle.afs_ideal.specs.SetUp.{empty_volume, laid, filled_by, laid_or, first_volume}
 use Rattle.afs_ideal.specs.Volumes.{Volume}
 use Rattle.afs_history.specs.declared.acts.Path.{Path}
 use Rattle.afs_history.specs.declared.acts.Written.{Written}
@@ -27,7 +27,7 @@ use Rattle.afs_grammar.specs.Acts.{event_at, most_contents, most_text, plan_at, 
 use Rattle.afs_grammar.specs.CellScripts.{AreAccepted, AreApart, AreVolumes, FitsEvent, FitsPlan, FitsTask, FitsUser, IsApart, IsCellScript, IsFrom, IsVolume}
 use Rattle.afs_grammar.specs.Forms.{is_unbuilt}
 use Rattle.afs_grammar.specs.Grounds.{line_laid_in}
-use Rattle.afs_grammar.specs.Lines.{acl_line, admins_line, bounded_for, cache_line, capacity_line, cell_line, clients_line, dir_line, do_line, end_line, event_line, event_told, file_line, filled_up, first_of, fits_all, fits_loc, fits_server, has_name, is_at, laid, laid_all, laid_or, last_at, line_at, line_by_word, line_of, lines_at, link_line, loc_length, new_line, nothing_read, place_of, plan_line, schedule_line, schedule_so_far, script_of, servers_line, setup_accepts, setup_at, setup_laid, stored_all, ticks_in, user_line, volume_added, volume_at, volume_laid, volume_line, volumes_at, with_line, with_setup, with_setup_at, with_volume, LinesRead}
+use Rattle.afs_grammar.specs.Lines.{acl_line, admins_line, bounded_for, cache_line, capacity_line, cell_line, clients_line, dir_line, do_line, end_line, event_line, event_told, file_line, filled_up, first_of, fits_all, fits_loc, fits_server, has_name, is_at, last_at, line_at, line_by_word, line_of, lines_at, link_line, loc_length, new_line, nothing_read, place_of, plan_line, schedule_line, schedule_so_far, script_of, servers_line, setup_accepts, setup_at, setup_laid, stored_all, ticks_in, user_line, volume_added, volume_at, volume_line, volumes_at, with_line, with_setup, with_setup_at, with_volume, LinesRead}
 use Rattle.afs_grammar.specs.Turns.{from_turn, has_ended, is_due, next_turn, to_turn}
 use Rattle.afs_grammar.proofs.Acting.{event_in, plan_in, task_in}
 use Rattle.afs_grammar.proofs.Laid.{setup_is, volume_is}
@@ -255,17 +255,17 @@ volume_holds level r x ws late h e =
 
 -- ---- lines of set-up
 
-accepts_push : (id : ℕ) (ls : List SetupLine) (x : SetupLine) (v : Volume) → AreAccepted id ls v → setup_accepts (laid id x (laid_all id ls v)) ≡ Ok tt → AreAccepted id (ls ++ x ∷ []) v
+accepts_push : (id : ℕ) (ls : List SetupLine) (x : SetupLine) (v : Volume) → AreAccepted id ls v → setup_accepts (laid id x (filled_by id ls v)) ≡ Ok tt → AreAccepted id (ls ++ x ∷ []) v
 accepts_push id [] x v h e = (e, tt)
 accepts_push id (l ∷ ls) x v h e = (h.0, accepts_push id ls x (laid_or v (laid id l v)) h.1 e)
 
-line_volume : (c : Counts) (n : ℕ) (x : SetupLine) (l : VolumeLine) → IsVolume c n l → setup_accepts (laid l.id x (volume_laid l)) ≡ Ok tt → IsVolume c n (with_line x l)
-line_volume c n x l h e = record { id = h.id; name = h.name; server = h.server; quota = h.quota; lines = accepts_push l.id l.lines x (new_volume l.id l.name 0 0 l.quota) h.lines e }
+line_volume : (c : Counts) (n : ℕ) (x : SetupLine) (l : VolumeLine) → IsVolume c n l → setup_accepts (laid l.id x (first_volume l)) ≡ Ok tt → IsVolume c n (with_line x l)
+line_volume c n x l h e = record { id = h.id; name = h.name; server = h.server; quota = h.quota; lines = accepts_push l.id l.lines x (empty_volume l) h.lines e }
 
 some_volume : (x y : VolumeLine) → Some x ≡ Some y → x ≡ y
 some_volume x y e = cc
 
-set_volumes : (c : Counts) (n : ℕ) (x : SetupLine) (ls : List VolumeLine) (place : ℕ) (l : VolumeLine) → slice_get ls place ≡ Some l → AreVolumes c n ls → setup_accepts (laid l.id x (volume_laid l)) ≡ Ok tt → AreVolumes c n (slice_set ls place (with_line x l))
+set_volumes : (c : Counts) (n : ℕ) (x : SetupLine) (ls : List VolumeLine) (place : ℕ) (l : VolumeLine) → slice_get ls place ≡ Some l → AreVolumes c n ls → setup_accepts (laid l.id x (first_volume l)) ≡ Ok tt → AreVolumes c n (slice_set ls place (with_line x l))
 set_volumes c n x [] place l is h e = absurd cc
 set_volumes c n x (y ∷ ys) zero l is h e = (line_volume c n x l (subst (IsVolume c n) (some_volume y l is) h.0) e, h.1)
 set_volumes c n x (y ∷ ys) (suc place) l is h e = (h.0, set_volumes c (n + 1) x ys place l is h.1 e)
@@ -312,13 +312,13 @@ loc_set x [] place l is = refl
 loc_set x (y ∷ ys) zero l is = ap (λ (z : VolumeLine). loc_length ys + (4 + filled_up (length z.name) + 40)) (sym (some_volume y l is))
 loc_set x (y ∷ ys) (suc place) l is = ap (λ (k : ℕ). k + (4 + filled_up (length y.name) + 40)) (loc_set x ys place l is)
 
-accepted_by : (capacity place : ℕ) (x : SetupLine) (ls ys : List VolumeLine) (o : Option VolumeLine) (l : VolumeLine) → o ≡ Some l → with_setup_at capacity place x ls o ≡ Ok ys → setup_accepts (laid l.id x (volume_laid l)) ≡ Ok tt
+accepted_by : (capacity place : ℕ) (x : SetupLine) (ls ys : List VolumeLine) (o : Option VolumeLine) (l : VolumeLine) → o ≡ Some l → with_setup_at capacity place x ls o ≡ Ok ys → setup_accepts (laid l.id x (first_volume l)) ≡ Ok tt
 accepted_by capacity place x ls ys None l is e = absurd cc
 accepted_by capacity place x ls ys (Some m) l is e =
-    let stands = bound (Unit {0}) _ Reason (setup_accepts (laid m.id x (volume_laid m))) _ _ e in
-    subst (λ (v : VolumeLine). setup_accepts (laid v.id x (volume_laid v)) ≡ Ok tt) (some_volume m l is) stands.first
+    let stands = bound (Unit {0}) _ Reason (setup_accepts (laid m.id x (first_volume m))) _ _ e in
+    subst (λ (v : VolumeLine). setup_accepts (laid v.id x (first_volume v)) ≡ Ok tt) (some_volume m l is) stands.first
 
-accepted : (level : ℕ) (r : LinesRead) (place : ℕ) (x : SetupLine) (ys : List VolumeLine) (l : VolumeLine) → slice_get r.volumes place ≡ Some l → setup_at level r place x ≡ Ok ys → setup_accepts (laid l.id x (volume_laid l)) ≡ Ok tt
+accepted : (level : ℕ) (r : LinesRead) (place : ℕ) (x : SetupLine) (ys : List VolumeLine) (l : VolumeLine) → slice_get r.volumes place ≡ Some l → setup_at level r place x ≡ Ok ys → setup_accepts (laid l.id x (first_volume l)) ≡ Ok tt
 unfolding setup_at with_setup
 accepted level r place x ys l is e =
     let volumes = bound (List VolumeLine) _ Reason (with_setup_at r.capacity place x r.volumes (slice_get r.volumes place)) _ _ e in
@@ -327,7 +327,7 @@ accepted level r place x ys l is e =
 fits_after_by : (capacity place : ℕ) (x : SetupLine) (ls ys : List VolumeLine) (o : Option VolumeLine) (l : VolumeLine) → o ≡ Some l → with_setup_at capacity place x ls o ≡ Ok ys → fits_server capacity (volumes_at l.server (slice_set ls place (with_line x l))) ≡ true
 fits_after_by capacity place x ls ys None l is e = absurd cc
 fits_after_by capacity place x ls ys (Some m) l is e =
-    let stands = bound (Unit {0}) _ Reason (setup_accepts (laid m.id x (volume_laid m))) _ _ e in
+    let stands = bound (Unit {0}) _ Reason (setup_accepts (laid m.id x (first_volume m))) _ _ e in
     let short = bound (Unit {0}) _ Reason (must (fits_server capacity (volumes_at m.server (slice_set ls place (with_line x m)))) reasons.Limit) _ _ stands.rest in
     subst (λ (v : VolumeLine). fits_server capacity (volumes_at v.server (slice_set ls place (with_line x v))) ≡ true) (some_volume m l is) (must_true _ _ _ short.first)
 
@@ -349,7 +349,7 @@ put_loc : (capacity : ℕ) (x : SetupLine) (ls : List VolumeLine) (place : ℕ) 
 put_loc capacity x ls place None is h = h
 put_loc capacity x ls place (Some l) is h = subst (λ (k : ℕ). nat_le (1 + k + 9) capacity ≡ true) (sym (loc_set x ls place l is)) h
 
-put_volumes : (c : Counts) (x : SetupLine) (ls : List VolumeLine) (place : ℕ) (o : Option VolumeLine) → slice_get ls place ≡ o → AreVolumes c 536870912 ls → ((l : VolumeLine) → o ≡ Some l → setup_accepts (laid l.id x (volume_laid l)) ≡ Ok tt) → AreVolumes c 536870912 (line_laid_in place x ls o)
+put_volumes : (c : Counts) (x : SetupLine) (ls : List VolumeLine) (place : ℕ) (o : Option VolumeLine) → slice_get ls place ≡ o → AreVolumes c 536870912 ls → ((l : VolumeLine) → o ≡ Some l → setup_accepts (laid l.id x (first_volume l)) ≡ Ok tt) → AreVolumes c 536870912 (line_laid_in place x ls o)
 put_volumes c x ls place None is h e = h
 put_volumes c x ls place (Some l) is h e = set_volumes c 536870912 x ls place l is h (e l refl)
 

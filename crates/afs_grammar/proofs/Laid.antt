@@ -1,4 +1,5 @@
 -- What the volumes are after one was added, and after a line was laid in one of them.
+use Rattle.afs_ideal.specs.SetUp.{laid, first_volume}
 use Rattle.std.proofs.Common.{◌≡◌, ℕ, zero, suc, ◌<◌, ◌≤◌, Bool, true, false, List, [], ◌∷◌, ◌++◌, length, Option, Some, None, Result, Ok, Err, get_or, slice_get, slice_set, refl, sym, ap, subst, ◌∙◌, arith}
 use Rattle.std.proofs.lemmas.Option.{slice_get-get_or}
 use Rattle.afs_num.specs.declared.scripts.Reason.{Reason}
@@ -11,7 +12,7 @@ use Rattle.afs_words.specs.Reads.{Gives}
 use Rattle.afs_words.specs.declared.faults.LineFault.{LineFault}
 use Rattle.afs_words.specs.declared.faults.LineFault.TheVariants as faults
 use Rattle.afs_grammar.specs.Grounds.{line_laid, line_laid_in, Lays}
-use Rattle.afs_grammar.specs.Lines.{fits_all, fits_server, laid, place_of, setup_accepts, setup_at, setup_laid, volume_added, volume_at, volumes_at, volume_laid, with_line, with_setup, with_setup_at, with_volume, LinesRead}
+use Rattle.afs_grammar.specs.Lines.{fits_all, fits_server, place_of, setup_accepts, setup_at, setup_laid, volume_added, volume_at, volumes_at, with_line, with_setup, with_setup_at, with_volume, LinesRead}
 
 abbrev okay : {A : Type 0} → A → Result A Reason
 okay {A} x = Ok x
@@ -46,7 +47,7 @@ accepted_behind (Err code) t x y e = absurd cc
 laid_by : (capacity place : ℕ) (x : SetupLine) (ls ys : List VolumeLine) (o : Option VolumeLine) → with_setup_at capacity place x ls o ≡ Ok ys → ys ≡ line_laid_in place x ls o
 laid_by capacity place x ls ys None e = absurd cc
 laid_by capacity place x ls ys (Some l) e =
-    accepted_behind (laid l.id x (volume_laid l)) (fits_server capacity (volumes_at l.server (slice_set ls place (with_line x l)))) (slice_set ls place (with_line x l)) ys e
+    accepted_behind (laid l.id x (first_volume l)) (fits_server capacity (volumes_at l.server (slice_set ls place (with_line x l)))) (slice_set ls place (with_line x l)) ys e
 
 laid_is : (capacity place : ℕ) (x : SetupLine) (ls ys : List VolumeLine) → with_setup capacity place x ls ≡ Ok ys → ys ≡ line_laid place x ls
 unfolding with_setup

@@ -1,4 +1,5 @@
 -- How long the first record of a server is.
+use Rattle.afs_ideal.specs.SetUp.{first_volume}
 use Rattle.std.proofs.Common.{◌≡◌, ℕ, suc, ◌+◌, ◌*◌, ◌≤◌, Bool, true, false, List, [], ◌∷◌, ◌++◌, length, map, replicate, Some, None, refl, ap, ◌∙◌, arith, nat_eq, nat_lt, if◌then◌else◌}
 use Rattle.std.specs.List.{flat_map}
 use Rattle.std.proofs.lemmas.List.{length-append, length-replicate}
@@ -15,7 +16,7 @@ use Rattle.afs_records.specs.Changes.{at_set_up, images_of, no_head, record_of_v
 use Rattle.afs_records.specs.Durable.{Stored, or_zero, place_length}
 use Rattle.afs_records.specs.Records.{head_form, listed, listed_form, marked_form, record_bytes, vnodes_form, volume_form}
 use Rattle.afs_history.specs.declared.scripts.VolumeLine.{VolumeLine}
-use Rattle.afs_grammar.specs.Lines.{filled_up, stored_all, volume_laid}
+use Rattle.afs_grammar.specs.Lines.{filled_up, stored_all}
 use Rattle.afs_grammar.specs.Sizes.{vnodes_size, volume_size, volumes_size, AscendFrom}
 
 -- ---- words and opaques
@@ -186,14 +187,14 @@ apart false k n e le = refl
 not_there : (k n : ℕ) (ls : List VolumeLine) → k + 1 ≤ n → AscendFrom n ls → get k (stored_all ls) ≡ None
 not_there k n [] le up = refl
 not_there k n (l ∷ ls) le up =
-    get_set k l.id (at_set_up (volume_laid l)) (stored_all ls)
+    get_set k l.id (at_set_up (first_volume l)) (stored_all ls)
     ∙ rw (apart (nat_eq l.id k) k l.id refl (omega (arith, up.0))) (not_there k (l.id + 1) ls (omega (arith, up.0)) up.1)
 
 all_is : (n : ℕ) (ls : List VolumeLine) → AscendFrom n ls → stored_size (stored_all ls) ≡ volumes_size ls
 all_is n [] up = refl
 all_is n (l ∷ ls) up =
-    set_is l.id (at_set_up (volume_laid l)) (stored_all ls) (not_there l.id (l.id + 1) ls (omega arith) up.1)
-    ∙ ap (λ (k : ℕ). volume_size (volume_laid l) + k) (all_is (l.id + 1) ls up.1)
+    set_is l.id (at_set_up (first_volume l)) (stored_all ls) (not_there l.id (l.id + 1) ls (omega arith) up.1)
+    ∙ ap (λ (k : ℕ). volume_size (first_volume l) + k) (all_is (l.id + 1) ls up.1)
 
 pub first_record : (n : ℕ) (ls : List VolumeLine) → AscendFrom n ls → place_length (record_of_volumes (stored_all ls)) ≡ 41 + volumes_size ls
 first_record n ls up = record_is (stored_all ls) ∙ ap (λ (k : ℕ). 41 + k) (all_is n ls up)

@@ -4,7 +4,7 @@ use Rattle.std.specs.List.{All}
 use Rattle.afs_num.specs.Names.{volume_name_ok}
 use Rattle.afs_num.specs.declared.types.Node.{Node}
 use Rattle.afs_num.specs.declared.types.Node.TheVariants as nodes
-use Rattle.afs_ideal.specs.SetUp.{new_volume}
+use Rattle.afs_ideal.specs.SetUp.{empty_volume, laid, laid_or}
 use Rattle.afs_ideal.specs.Volumes.{Volume}
 use Rattle.afs_history.specs.Written.{bytes_in}
 use Rattle.afs_history.specs.declared.acts.Act.{Act}
@@ -26,7 +26,7 @@ use Rattle.afs_history.specs.declared.scripts.Task.TheVariants as tasks
 use Rattle.afs_history.specs.declared.scripts.UserLine.{UserLine}
 use Rattle.afs_history.specs.declared.scripts.VolumeLine.{VolumeLine}
 use Rattle.afs_words.specs.declared.nodes.Counts.{Counts}
-use Rattle.afs_grammar.specs.Lines.{fits_loc, fits_server, has_name, laid, laid_or, schedule_so_far, script_of, setup_accepts, ticks_in, volumes_at}
+use Rattle.afs_grammar.specs.Lines.{fits_loc, fits_server, has_name, schedule_so_far, script_of, setup_accepts, ticks_in, volumes_at}
 
 -- from the first number to the last
 abbrev pub IsFrom : ℕ → ℕ → ℕ → Type 0
@@ -126,7 +126,7 @@ pub record IsVolume (c : Counts) (n : ℕ) (l : VolumeLine) : Type 0 where
   pub name : volume_name_ok l.name ≡ true
   pub server : IsFrom 1 c.servers l.server
   pub quota : IsFrom 1 16384 l.quota
-  pub lines : AreAccepted l.id l.lines (new_volume l.id l.name 0 0 l.quota)
+  pub lines : AreAccepted l.id l.lines (empty_volume l)
 
 -- their numbers follow each other from this one on
 abbrev pub AreVolumes : Counts → ℕ → List VolumeLine → Type 0

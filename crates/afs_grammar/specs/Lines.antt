@@ -10,7 +10,7 @@ use Rattle.afs_model.specs.ScriptWords.{◌>>=◌, must, parts, word_at, ended, 
 use Rattle.afs_model.specs.Script.{at_line, is_silent}
 use Rattle.afs_ideal.specs.Tables.{Table, set}
 use Rattle.afs_ideal.specs.Volumes.{Volume}
-use Rattle.afs_ideal.specs.SetUp.{new_volume, laid_at, acl_laid, a_dir, a_file_of, a_link_to}
+use Rattle.afs_ideal.specs.SetUp.{first_volume, laid}
 use Rattle.afs_records.specs.Changes.{at_set_up, record_of_volumes}
 use Rattle.afs_records.specs.Durable.{Stored, place_length}
 use Rattle.afs_history.specs.Written.{bytes_in}
@@ -112,23 +112,6 @@ user_line r ws = do
 
 -- ---- volumes, and what is laid in them: by the operations of set-up
 
-abbrev pub laid : ℕ → SetupLine → Volume → Result Volume ℕ
-laid id (setups.Directory path) v = laid_at id path a_dir v
-laid id (setups.File path contents) v = laid_at id path (a_file_of (bytes_in contents)) v
-laid id (setups.Link path target) v = laid_at id path (a_link_to (bytes_in target)) v
-laid id (setups.AccessList path text) v = acl_laid id path (bytes_in text) v
-
-abbrev pub laid_or : Volume → Result Volume ℕ → Volume
-laid_or v (Ok w) = w
-laid_or v (Err code) = v
-
-abbrev pub laid_all : ℕ → List SetupLine → Volume → Volume
-laid_all id [] v = v
-laid_all id (l ∷ ls) v = laid_all id ls (laid_or v (laid id l v))
-
-abbrev pub volume_laid : VolumeLine → Volume
-volume_laid l = laid_all l.id l.lines (new_volume l.id l.name 0 0 l.quota)
-
 -- what is too large or too many is over a limit
 abbrev pub setup_reason : ℕ → Reason
 setup_reason code = if nat_eq code 27 || (nat_eq code 109 || nat_eq code 108) then reasons.Limit else reasons.Path
@@ -145,7 +128,7 @@ volumes_at server ls = filter (is_at server) ls
 
 abbrev pub stored_all : List VolumeLine → Table Stored
 stored_all [] = []
-stored_all (l ∷ ls) = set l.id (at_set_up (volume_laid l)) (stored_all ls)
+stored_all (l ∷ ls) = set l.id (at_set_up (first_volume l)) (stored_all ls)
 
 -- a disk's journal begins with one byte, and the first record
 abbrev pub fits_server : ℕ → List VolumeLine → Bool
@@ -213,7 +196,7 @@ place_of name ls = position_or_len (has_name name) ls
 abbrev pub with_setup_at : ℕ → ℕ → SetupLine → List VolumeLine → Option VolumeLine → Result (List VolumeLine) Reason
 with_setup_at capacity place x ls None = Err reasons.Path
 with_setup_at capacity place x ls (Some volume) = do
-  stands ← setup_accepts (laid volume.id x (volume_laid volume))
+  stands ← setup_accepts (laid volume.id x (first_volume volume))
   short ← must (fits_server capacity (volumes_at volume.server (slice_set ls place (with_line x volume)))) reasons.Limit
   Ok (slice_set ls place (with_line x volume))
 

@@ -1,4 +1,5 @@
 -- How long the first record of a server is, counted by its volumes, whose numbers ascend.
+use Rattle.afs_ideal.specs.SetUp.{first_volume}
 use Rattle.std.specs.Prelude.{◌≡◌, ◌≤◌, ℕ, ◌+◌, List, [], ◌∷◌, length}
 use Rattle.afs_ideal.specs.Images.{acl_by}
 use Rattle.afs_ideal.specs.Tables.{Table}
@@ -6,7 +7,7 @@ use Rattle.afs_ideal.specs.Volumes.{Vnode, Volume, bytes_by}
 use Rattle.afs_records.specs.Changes.{record_of_volumes}
 use Rattle.afs_records.specs.Durable.{place_length}
 use Rattle.afs_history.specs.declared.scripts.VolumeLine.{VolumeLine}
-use Rattle.afs_grammar.specs.Lines.{filled_up, stored_all, volume_laid}
+use Rattle.afs_grammar.specs.Lines.{filled_up, stored_all}
 
 -- a vnode has two words where it is listed, and its image has seventeen and a mark, beside its access list and its bytes
 abbrev pub vnode_size : Vnode → ℕ
@@ -21,7 +22,7 @@ volume_size v = 44 + filled_up (length v.name) + vnodes_size v.vnodes
 
 abbrev pub volumes_size : List VolumeLine → ℕ
 volumes_size [] = 0
-volumes_size (l ∷ ls) = volume_size (volume_laid l) + volumes_size ls
+volumes_size (l ∷ ls) = volume_size (first_volume l) + volumes_size ls
 
 -- the numbers ascend, from this one on
 abbrev pub AscendFrom : ℕ → List VolumeLine → Type 0

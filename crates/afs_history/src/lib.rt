@@ -5,3 +5,4 @@
 pub mod acts;
 pub mod lines;
 pub mod scripts;
+pub mod written;

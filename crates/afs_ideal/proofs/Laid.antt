@@ -11,11 +11,13 @@ use Rattle.afs_ideal.specs.AccessLists.{IsAccessList}
 use Rattle.afs_ideal.specs.Volumes.{Vnode, Volume, Edit, edit_number, edited, edited_all, counted}
 use Rattle.afs_ideal.specs.Operations as ops
 use Rattle.afs_ideal.specs.Operations.{all_rights, Found, op}
-use Rattle.afs_ideal.specs.SetUp.{new_root, new_volume, at_first, one_at_first, all_at_first, laid_by, called, nothing_set, new_fid, stores_all, parted, led, Laid, a_dir, a_file_of, a_link_to, laid_in, laid_at, acl_laid, laid, laid_all}
-use Rattle.afs_num.specs.declared.scripts.SetupLine.{SetupLine}
-use Rattle.afs_num.specs.declared.scripts.SetupLine.TheVariants as lines
+use Rattle.afs_ideal.specs.SetUp.{new_root, new_volume, at_first, one_at_first, all_at_first, laid_by, called, nothing_set, new_fid, stores_all, parted, led, Laid, a_dir, a_file_of, a_link_to, laid_in, laid_at, acl_laid, laid, laid_all, laid_or, filled_by, empty_volume, first_volume}
+use Rattle.afs_history.specs.Written.{bytes_in}
+use Rattle.afs_history.specs.declared.scripts.SetupLine.{SetupLine}
+use Rattle.afs_history.specs.declared.scripts.SetupLine.TheVariants as lines
+use Rattle.afs_history.specs.declared.scripts.VolumeLine.{VolumeLine}
 use Rattle.afs_ideal.specs.Soundness.{IsSoundVnode, IsSound}
-use Rattle.afs_ideal.specs.SoundnessLaws.{IsAtFirst, IsSetUp, SetUpTellsOnce, SetUpIsLaidOut}
+use Rattle.afs_ideal.specs.SoundnessLaws.{IsAtFirst, IsSetUp, SetUpTellsOnce, SetUpIsLaidOut, IsLaidOut, FirstVolumes}
 use Rattle.afs_ideal.proofs.Looks.{edit_look}
 use Rattle.afs_ideal.proofs.Basics.{some_of}
 use Rattle.afs_ideal.proofs.Tables.{get_set, ascends_set}
@@ -145,13 +147,31 @@ lists_kept P id path text v w keeps h e =
     keeps (calls.StoreAcl q.0.fid text) v w h q.1.1
 
 line_kept : (P : Volume → Type 0) (id : ℕ) (line : SetupLine) (v w : Volume) → Keeps P id → P v → laid id line v ≡ Ok w → P w
-line_kept P id (lines.File path contents) v w keeps h e = names_kept P id path (a_file_of contents) v w keeps h e
+line_kept P id (lines.Directory path) v w keeps h e = names_kept P id path a_dir v w keeps h e
+line_kept P id (lines.File path contents) v w keeps h e = names_kept P id path (a_file_of (bytes_in contents)) v w keeps h e
+line_kept P id (lines.Link path target) v w keeps h e = names_kept P id path (a_link_to (bytes_in target)) v w keeps h e
+line_kept P id (lines.AccessList path text) v w keeps h e = lists_kept P id path (bytes_in text) v w keeps h e
 
 pub all_kept : (P : Volume → Type 0) (id : ℕ) (ls : List SetupLine) (v w : Volume) → Keeps P id → P v → laid_all id ls v ≡ Ok w → P w
 all_kept P id [] v w keeps h e = subst P (ok_is v w e) h
 all_kept P id (line ∷ ls) v w keeps h e =
     let r = both_ok (laid id line v) (laid_all id ls) w e in
     all_kept P id ls r.0 w keeps (line_kept P id line v r.0 keeps h r.1.0) r.1.1
+
+or_kept : (P : Volume → Type 0) (v : Volume) (r : Result Volume ℕ) → ((w : Volume) → r ≡ Ok w → P w) → P v → P (laid_or v r)
+or_kept P v (Ok w) keeps h = keeps w refl
+or_kept P v (Err code) keeps h = h
+
+pub filled_kept : (P : Volume → Type 0) (id : ℕ) (ls : List SetupLine) (v : Volume) → Keeps P id → P v → P (filled_by id ls v)
+filled_kept P id [] v keeps h = h
+filled_kept P id (line ∷ ls) v keeps h = filled_kept P id ls (laid_or v (laid id line v)) keeps (or_kept P v (laid id line v) (λ w e. line_kept P id line v w keeps h e) h)
+
+-- lines that are accepted fill as they are laid
+pub filled_as : (id : ℕ) (ls : List SetupLine) (v w : Volume) → laid_all id ls v ≡ Ok w → filled_by id ls v ≡ w
+filled_as id [] v w e = ok_is v w e
+filled_as id (line ∷ ls) v w e =
+    let r = both_ok (laid id line v) (laid_all id ls) w e in
+    ap (λ (o : Result Volume ℕ). filled_by id ls (laid_or v o)) r.1.0 ∙ filled_as id ls r.0 w r.1.1
 
 pub names_sound : (id : ℕ) (path : List (List ℕ)) (x : Laid) (v w : Volume) → IsSound v → laid_at id path x v ≡ Ok w → IsSound w
 names_sound id path x v w = names_kept IsSound id path x v w (called_sound id)
@@ -239,3 +259,12 @@ laid_out id family name kind flags quota ls w e =
       sound = all_kept IsSound id ls new w (called_sound id) (new_is_sound family name kind flags quota) e;
       set_up = all_kept IsSetUp id ls new w (called_first id) (new_first family name kind flags quota) e;
     }
+
+first_is_laid_out : (l : VolumeLine) → IsLaidOut (first_volume l)
+first_is_laid_out l = record {
+  sound = filled_kept IsSound l.id l.lines (empty_volume l) (called_sound l.id) (new_is_sound l.id l.name 0 0 l.quota);
+  set_up = filled_kept IsSetUp l.id l.lines (empty_volume l) (called_first l.id) (new_first l.id l.name 0 0 l.quota);
+}
+
+pub first_volumes : FirstVolumes
+first_volumes = record { laid_out = first_is_laid_out; accepted = λ l w e. filled_as l.id l.lines (empty_volume l) w e }

@@ -4,13 +4,16 @@ use Rattle.std.specs.Prelude.{codes, Result, Ok, Err}
 use Rattle.std.specs.Option.{option_map}
 use Rattle.afs_num.specs.Names.{name_ok}
 use Rattle.afs_num.specs.declared.directories.Name.{Name}
+use Rattle.afs_history.specs.declared.acts.Written.TheVariants.{Hex, Fill}
+use Rattle.afs_history.specs.declared.scripts.SetupLine.TheVariants as lines
+use Rattle.afs_history.specs.declared.scripts.VolumeLine.{VolumeLine}
 use Rattle.afs_shape.specs.Reading.{◌>>=◌}
 use Rattle.afs_xdr.specs.Words.{word, opaque, pad}
 use Rattle.afs_ideal.specs.AccessLists.{rights_of, acl_at, count_at, line_number_at, named_at, name_at, entry_at}
 use Rattle.afs_ideal.specs.Directories.{bytes_below, directory_bytes, name_bytes}
 use Rattle.afs_ideal.specs.Tables.{get}
 use Rattle.afs_ideal.specs.Volumes.{Vnode, Volume}
-use Rattle.afs_ideal.specs.SetUp.{new_volume, led, a_dir, a_file_of, a_link_to, laid_at, acl_laid}
+use Rattle.afs_ideal.specs.SetUp.{new_volume, led, a_dir, a_file_of, a_link_to, laid_at, acl_laid, laid_all, first_volume, empty_volume}
 use Rattle.afs_ideal.proofs.Operated.{name}
 
 abbrev empty : Volume
@@ -155,3 +158,58 @@ at_the_quota = refl
 in_a_read_only_volume : code_of (laid_at 5 (path (codes "a")) a_dir (record empty { kind = 1 })) ≡ 30
 unfolding laid_at acl_laid led rights_of acl_at count_at line_number_at entry_at name_at named_at bytes_below directory_bytes name_bytes opaque word pad name_ok
 in_a_read_only_volume = refl
+
+-- ---- a script's volume with a line of each kind
+
+abbrev of_each : VolumeLine
+of_each = record {
+  id = 5;
+  name = codes "v";
+  server = 1;
+  quota = 8;
+  lines = lines.Directory (path (codes "d"))
+      ∷ lines.File (codes "d" ∷ codes "f" ∷ []) (Fill 3 97)
+      ∷ lines.Link (path (codes "l")) (Hex (codes "d/f"))
+      ∷ lines.AccessList (path (codes "d")) (Hex (codes "1\n0\namy\t9\n"))
+      ∷ [];
+}
+
+all_are_accepted : laid_all 5 of_each.lines (empty_volume of_each) ≡ Ok (first_volume of_each)
+unfolding laid_at acl_laid led rights_of acl_at count_at line_number_at entry_at name_at named_at bytes_below directory_bytes name_bytes opaque word pad name_ok
+all_are_accepted = refl
+
+three_uniques_are_given : (first_volume of_each).next ≡ 5
+unfolding laid_at acl_laid led rights_of acl_at count_at line_number_at entry_at name_at named_at bytes_below directory_bytes name_bytes opaque word pad name_ok
+three_uniques_are_given = refl
+
+its_counter : (first_volume of_each).counter ≡ 1
+unfolding laid_at acl_laid led rights_of acl_at count_at line_number_at entry_at name_at named_at bytes_below directory_bytes name_bytes opaque word pad name_ok
+its_counter = refl
+
+names_of_its_root : option_map (λ (x : Vnode). x.names) (get 1 (first_volume of_each).vnodes) ≡ Some (name (codes "d") 3 2 ∷ name (codes "l") 4 4 ∷ [])
+unfolding laid_at acl_laid led rights_of acl_at count_at line_number_at entry_at name_at named_at bytes_below directory_bytes name_bytes opaque word pad name_ok
+names_of_its_root = refl
+
+bytes_of_its_file : option_map (λ (x : Vnode). x.contents) (get 2 (first_volume of_each).vnodes) ≡ Some (97 ∷ 97 ∷ 97 ∷ [])
+unfolding laid_at acl_laid led rights_of acl_at count_at line_number_at entry_at name_at named_at bytes_below directory_bytes name_bytes opaque word pad name_ok
+bytes_of_its_file = refl
+
+text_of_its_link : option_map (λ (x : Vnode). x.contents) (get 4 (first_volume of_each).vnodes) ≡ Some (codes "d/f")
+unfolding laid_at acl_laid led rights_of acl_at count_at line_number_at entry_at name_at named_at bytes_below directory_bytes name_bytes opaque word pad name_ok
+text_of_its_link = refl
+
+list_of_its_directory : option_map (λ (x : Vnode). x.acl) (get 3 (first_volume of_each).vnodes) ≡ Some (record { positive = (record { name = codes "amy"; rights = 9 }) ∷ []; negative = [] })
+unfolding laid_at acl_laid led rights_of acl_at count_at line_number_at entry_at name_at named_at bytes_below directory_bytes name_bytes opaque word pad name_ok
+list_of_its_directory = refl
+
+index_of_its_directory : option_map (λ (x : Vnode). x.index) (get 3 (first_volume of_each).vnodes) ≡ Some 1
+unfolding laid_at acl_laid led rights_of acl_at count_at line_number_at entry_at name_at named_at bytes_below directory_bytes name_bytes opaque word pad name_ok
+index_of_its_directory = refl
+
+a_refused_line_lays_nothing : first_volume (record of_each { lines = lines.Directory (path (codes "d")) ∷ lines.Link (path (codes "d")) (Hex (codes "x")) ∷ [] }) ≡ first_volume (record of_each { lines = lines.Directory (path (codes "d")) ∷ [] })
+unfolding laid_at acl_laid led rights_of acl_at count_at line_number_at entry_at name_at named_at bytes_below directory_bytes name_bytes opaque word pad name_ok
+a_refused_line_lays_nothing = refl
+
+but_not_all_are_accepted : code_of (laid_all 5 (lines.Directory (path (codes "d")) ∷ lines.Link (path (codes "d")) (Hex (codes "x")) ∷ []) (empty_volume of_each)) ≡ 17
+unfolding laid_at acl_laid led rights_of acl_at count_at line_number_at entry_at name_at named_at bytes_below directory_bytes name_bytes opaque word pad name_ok
+but_not_all_are_accepted = refl

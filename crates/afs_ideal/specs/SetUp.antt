@@ -8,8 +8,10 @@ use Rattle.afs_num.specs.declared.calls.FsCall.{FsCall}
 use Rattle.afs_num.specs.declared.calls.FsCall.TheVariants as calls
 use Rattle.afs_num.specs.declared.directories.Name.{Name}
 use Rattle.afs_num.specs.declared.histories.Version.{Version}
-use Rattle.afs_num.specs.declared.scripts.SetupLine.{SetupLine}
-use Rattle.afs_num.specs.declared.scripts.SetupLine.TheVariants as lines
+use Rattle.afs_history.specs.declared.scripts.SetupLine.{SetupLine}
+use Rattle.afs_history.specs.declared.scripts.SetupLine.TheVariants as lines
+use Rattle.afs_history.specs.declared.scripts.VolumeLine.{VolumeLine}
+use Rattle.afs_history.specs.Written.{bytes_in}
 use Rattle.afs_shape.specs.Reading.{◌>>=◌}
 use Rattle.afs_ideal.specs.Tables.{Table, get, set}
 use Rattle.afs_ideal.specs.AccessLists.{anyuser}
@@ -148,12 +150,31 @@ acl_laid id path text v = do
 
 -- a line of set-up, in the volume of this number
 abbrev pub laid : ℕ → SetupLine → Volume → Result Volume ℕ
-laid id (lines.File path contents) v = laid_at id path (a_file_of contents) v
+laid id (lines.Directory path) v = laid_at id path a_dir v
+laid id (lines.File path contents) v = laid_at id path (a_file_of (bytes_in contents)) v
+laid id (lines.Link path target) v = laid_at id path (a_link_to (bytes_in target)) v
+laid id (lines.AccessList path text) v = acl_laid id path (bytes_in text) v
 
 -- the lines, one after the other, up to the first that is refused
 abbrev pub laid_all : ℕ → List SetupLine → Volume → Result Volume ℕ
 laid_all id [] v = Ok v
 laid_all id (line ∷ rest) v = laid id line v >>= laid_all id rest
+
+-- the same where each line is accepted; one that is refused, of which a script has none, leaves the volume as it was
+abbrev pub laid_or : Volume → Result Volume ℕ → Volume
+laid_or v (Ok w) = w
+laid_or v (Err code) = v
+
+abbrev pub filled_by : ℕ → List SetupLine → Volume → Volume
+filled_by id [] v = v
+filled_by id (line ∷ rest) v = filled_by id rest (laid_or v (laid id line v))
+
+-- the volume of a script's line, a new one before it is filled: read-write, in service, and its own family
+abbrev pub empty_volume : VolumeLine → Volume
+empty_volume l = new_volume l.id l.name 0 0 l.quota
+
+abbrev pub first_volume : VolumeLine → Volume
+first_volume l = filled_by l.id l.lines (empty_volume l)
 
 -- ---- what set-up tells: one version of each vnode
 

@@ -1,7 +1,8 @@
 -- Laws about sound volumes: what set-up and operations leave is sound.
 use Rattle.std.specs.Prelude.{◌≡◌, ◌<◌, ℕ, List, length, true, Ok, Some}
 use Rattle.afs_num.specs.declared.calls.FsCall.{FsCall}
-use Rattle.afs_num.specs.declared.scripts.SetupLine.{SetupLine}
+use Rattle.afs_history.specs.declared.scripts.SetupLine.{SetupLine}
+use Rattle.afs_history.specs.declared.scripts.VolumeLine.{VolumeLine}
 use Rattle.afs_xdr.specs.Words.{AreWords}
 use Rattle.afs_ideal.specs.DirectoryLaws.{IsBytes}
 use Rattle.afs_ideal.specs.Tables.{get}
@@ -9,7 +10,7 @@ use Rattle.afs_ideal.specs.VnodeImage.{kind_fits, image_words, FitsImage}
 use Rattle.afs_ideal.specs.Volumes.{type_of, Vnode, Volume, Edit, edited_all, counted}
 use Rattle.afs_ideal.specs.Images.{Image, IsWord, HasImage, image_of, value_of}
 use Rattle.afs_ideal.specs.Operations.{Caller, changes, op}
-use Rattle.afs_ideal.specs.SetUp.{Laid, new_volume, laid_at, acl_laid, laid_all}
+use Rattle.afs_ideal.specs.SetUp.{Laid, new_volume, laid_at, acl_laid, laid_all, empty_volume, first_volume}
 use Rattle.afs_ideal.specs.Soundness.{IsSound}
 
 -- an accepted operation makes at least one edit, and leaves a sound volume
@@ -53,6 +54,11 @@ pub record IsLaidOut (v : Volume) : Type 0 where
 abbrev pub SetUpIsLaidOut : Type 0
 SetUpIsLaidOut = (id family : ℕ) (name : List ℕ) (kind flags quota : ℕ) (lines : List SetupLine) (w : Volume) →
     laid_all id lines (new_volume family name kind flags quota) ≡ Ok w → IsLaidOut w
+
+-- So is the first volume of a script's line; and where its lines are accepted, it is what they lay.
+pub record FirstVolumes : Type 0 where
+  pub laid_out : (l : VolumeLine) → IsLaidOut (first_volume l)
+  pub accepted : (l : VolumeLine) (w : Volume) → laid_all l.id l.lines (empty_volume l) ≡ Ok w → first_volume l ≡ w
 
 -- A vnode has an image within its limits, whose value it is.
 pub record IsReadAgain (n time : ℕ) (x : Vnode) : Type 0 where

@@ -1,6 +1,7 @@
 //! Laws about sound volumes. Each is the contract of a function that does nothing.
 
 ghost use Rattle.afs_ideal.specs.SoundnessLaws.{
+  FirstVolumes,
   NewVolumesAreSound,
   OperationsLeaveSound,
   SetUpIsLaidOut,
@@ -38,6 +39,11 @@ pub fn set_up_tells_once()
 /// What all lines of set-up leave of a new volume is sound, with indexes, data versions and counters at 1.
 pub fn set_up_is_laid_out()
     ensures { SetUpIsLaidOut }
+{}
+
+/// The first volume of a script's line is laid out so, and is what its lines lay where each is accepted.
+pub fn first_volumes_are_laid_out()
+    ensures { FirstVolumes }
 {}
 
 /// An image that is read as a vnode is the image of that vnode.

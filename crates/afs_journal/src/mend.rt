@@ -20,7 +20,7 @@ pub(crate) fn begin<D: Disk>(disk: &mut D) -> Result<(), Failed>
     requires room { Holds 4 1 1 (D.space disk.old) }
 
     ensures size { OnOk result (D.size disk.new ≡ 1) }
-    ensures told { OnOk result (IsSome (D.seen disk.new) → IsSome (D.seen disk.old)) }
+    ensures told { IsSome (D.seen disk.new) ↔ IsSome (D.seen disk.old) }
     ensures done { OnOk result (D.seen disk.old ≡ Some [] → LeavesJust [] (D.may_leave disk.old) → IsJournal [] (D.seen disk.new) (D.may_leave disk.new)) }
     ensures any_moment { D.seen disk.old ≡ Some [] → LeavesJust [] (D.may_leave disk.old)
         → LeavesOnly D.moment D.left_since disk.old disk.new (λ c. whole_records c ≡ []) }
@@ -43,7 +43,7 @@ pub(crate) fn repair<D: Disk>(disk: &mut D, gate: u64) -> Result<(), Failed>
     requires room { Holds 4 1 (gate + 1) (D.space disk.old) }
 
     ensures size { OnOk result (D.size disk.new ≡ gate + 1) }
-    ensures told { OnOk result (IsSome (D.seen disk.new) → IsSome (D.seen disk.old)) }
+    ensures told { IsSome (D.seen disk.new) ↔ IsSome (D.seen disk.old) }
     ensures done { OnOk result ((bodies : List (List ℕ)) (bytes : List ℕ) → EndsAt gate bodies bytes → D.seen disk.old ≡ Some bytes → LeavesJust bytes (D.may_leave disk.old)
         → IsJournal bodies (D.seen disk.new) (D.may_leave disk.new)) }
     ensures any_moment { (bodies : List (List ℕ)) (bytes : List ℕ) → EndsAt gate bodies bytes → D.seen disk.old ≡ Some bytes → LeavesJust bytes (D.may_leave disk.old)
@@ -83,7 +83,7 @@ pub(crate) fn settle<D: Disk>(
     ensures counts { IfOk result (λ r. (9 * length r.0 ≤ r.1) × (r.1 < 2 ^ 63)) }
     ensures few { IfOk result (λ r. length r.0 < 2 ^ 32) }
     ensures found { IfOk result (λ r. r.0 ≡ whole_records bytes.now) }
-    ensures told { OnOk result (IsSome (D.seen disk.new) → IsSome (D.seen disk.old)) }
+    ensures told { IsSome (D.seen disk.new) ↔ IsSome (D.seen disk.old) }
     ensures done { OnOk result (D.seen disk.old ≡ Some bytes.now → LeavesJust bytes.now (D.may_leave disk.old)
         → IsJournal (whole_records bytes.now) (D.seen disk.new) (D.may_leave disk.new)) }
     ensures any_moment { D.seen disk.old ≡ Some bytes.now → LeavesJust bytes.now (D.may_leave disk.old)

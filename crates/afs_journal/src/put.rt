@@ -1,5 +1,5 @@
 // The four device calls of an append.
-ghost use Rattle.std.specs.Prelude.{◌≡◌, ◌≤◌, ◌<◌, ◌+◌, ◌^◌, List, ℕ, [], ◌∷◌, ◌++◌, length, Some, IsSome, OnOk};
+ghost use Rattle.std.specs.Prelude.{◌≡◌, ◌≤◌, ◌<◌, ◌+◌, ◌^◌, List, ℕ, [], ◌∷◌, ◌++◌, length, Some, IsSome, OnOk, ◌↔◌};
 ghost use Rattle.afs_disk.specs.Disk.{Ran, Holds, LeavesOnly};
 ghost use Rattle.afs_journal.specs.Records.{whole_records, IsBeforeOrAfter};
 ghost use Rattle.afs_journal.specs.Log.{IsJournal, IsSettled, Spells};
@@ -19,7 +19,7 @@ pub(crate) fn put<D: Disk>(disk: &mut D, gate: u64, place: &[u8]) -> Result<(), 
 
     ensures size { OnOk result (D.size disk.new ≡ gate + 1 + length place.now) }
 
-    ensures told { OnOk result (IsSome (D.seen disk.new) → IsSome (D.seen disk.old)) }
+    ensures told { IsSome (D.seen disk.new) ↔ IsSome (D.seen disk.old) }
 
     // Where the disk tells: after Ok there is one record more, and every crash leaves it.
     ensures done { OnOk result ((count : ℕ) (body bytes : List ℕ) → Spells count body place.now → D.seen disk.old ≡ Some bytes → IsSettled count gate (D.may_leave disk.old) bytes

@@ -27,7 +27,7 @@ use Rattle.afs_num.specs.declared.histories.ReadSource.TheVariants.{Cached}
 use Rattle.afs_num.specs.declared.types.Node.TheVariants.{Client}
 use Rattle.std.proofs.Common.{◌<◌, ◌≡◌, ℕ, List, [], ◌∷◌, Option, Some, None, refl, sym, ap, subst, ◌∙◌}
 use Rattle.afs_num.specs.declared.types.Fid.{Fid}
-use Rattle.afs_num.specs.declared.scripts.Script.{Script}
+use Rattle.afs_history.specs.declared.scripts.Script.{Script}
 
 -- The same inputs make one run; and after every run the versions that were told agree with the volumes.
 

@@ -1,3 +1,4 @@
+use Rattle.afs_law.proofs.Users.{user_is}
 use Rattle.afs_law.proofs.Giving.{begin_lines, begun_not, gifts_later, gives_goes, idle_reply, unbusied}
 use Rattle.afs_law.proofs.Walking.{own_lines, back_again, lines_assoc, looked_begun, looked_given, looked_message}
 use Rattle.afs_law.proofs.Quiet.{quiet_grant, quiet_last, quiet_clock, reach_more}
@@ -29,7 +30,7 @@ use Rattle.afs_num.specs.declared.histories.ReadStatus.{ReadStatus}
 use Rattle.afs_law.proofs.Apart.{apart_filter, apart_put, apart_refreshed, found_take}
 use Rattle.afs_law.proofs.Walking.{walked_apart, onto_last, looked_more, walk_made, walk_reached, walk_current, walk_answered, walked_found, tail_given, tail_fetched, tail_quiet, ends_answered, ends_here, EndsReach, AreTail, walks_on, Ready, Walks}
 use Rattle.std.specs.Prelude.{◌⊎◌, ◌&&◌, pos, ℤ}
-use Rattle.afs_law.proofs.Basics.{same_key-refl, IfCall, ByClient, guest, Above, IfReply, IfNotice, OfReply, OfNotice, up_to_by, yes_no, both, same_fid-true, same_fid-refl, same_node-refl, client_number, found-cached-fid, found-first, found-refreshed, OfCall, each_at, some_of, ByServer, OfClient, by_client, IfBack, up_to_next, next_not, raised_up_to}
+use Rattle.afs_law.proofs.Basics.{same_key-refl, IfCall, ByClient, Above, IfReply, IfNotice, OfReply, OfNotice, up_to_by, yes_no, both, same_fid-true, same_fid-refl, same_node-refl, client_number, found-cached-fid, found-first, found-refreshed, OfCall, each_at, some_of, ByServer, OfClient, by_client, IfBack, up_to_next, next_not, raised_up_to}
 use Rattle.afs_ideal.specs.Operations.{volume_changed}
 use Rattle.afs_law.proofs.Asking.{carried_is, client_asking, client_ended, own_read, safe_over, client_kept, call_known, reply_still, step_entry, view_after, moves, nothing_new, Heard, told_passes, answered_seen, own_zero, answered_lines, answered_file, answered_reach, answered_passes, quiet, safe_cache, own_call, asks, own_begun, no_scope, same_one, heard_dull, new_one}
 use Rattle.afs_law.proofs.Dropping.{left_out, called_goes}
@@ -50,7 +51,7 @@ use Rattle.afs_law.specs.Ideal.{Reach, HasBeen, raised, is_zero_code, reach, las
 use Rattle.afs_law.specs.Legal.{AreGood, Shows, Cause, GoodCode}
 use Rattle.afs_history.specs.declared.lines.Line.{Line}
 use Rattle.afs_law.specs.Past.{has_sent, is_late, is_called, same_key, AreWithin, code_told, HasCode, IsCallUnder, onto, lines_of, sent_of, given_message, answered_key, running, has_begun, CalledSince}
-use Rattle.afs_rows.specs.Runs.{locations, Entry, message_at}
+use Rattle.afs_rows.specs.Runs.{user_at, locations, Entry, message_at}
 use Rattle.afs_law.proofs.OneCell.{the_server, Moved, Cell, client_moves, begun_by}
 use Rattle.afs_rows.specs.Scopes.{is_in_scope}
 use Rattle.afs_rows.specs.States.{KnownBoot, CacheEntry, Location, Seat, Gift}
@@ -73,7 +74,7 @@ use Rattle.afs_num.specs.declared.calls.FsReply.{FsReply}
 use Rattle.afs_num.specs.declared.messages.Carried.{Carried}
 use Rattle.afs_num.specs.declared.messages.Message.{Message}
 use Rattle.afs_num.specs.declared.messages.Received.TheVariants.{Whole}
-use Rattle.afs_num.specs.declared.scripts.Script.{Script}
+use Rattle.afs_history.specs.declared.scripts.Script.{Script}
 use Rattle.afs_num.specs.declared.histories.ReadSource.TheVariants.{Fetched}
 use Rattle.std.proofs.Math.Nat.{le_refl, le_trans, eq-or-lt_of_le}
 use Rattle.afs_num.specs.declared.histories.Body.{Body}
@@ -153,7 +154,7 @@ begun_answered s c past n act k h none is =
     let tail : List Line = lines.Answer (Client n) (record { 0 = pos k }) ∷ [] in
     let W : Walks s c past n (h.floors n).held ls w.act w.cache = begun_on s c past n act h none in
     let y : ClientState = ended (unbusied x) w.cache in
-    let kind : IsClient s y = client_ended s (unbusied x) w.cache (record { table = (h.own n).table; user = (h.own n).user; callee = λ a z. (h.own n).callee a z; needs = λ a z. (h.own n).needs a z; apart = (h.own n).apart; gifts = (h.own n).gifts }) (walked_apart (most_reads (began (locations s) act)) c.clock (began (locations s) act) x.cache (h.own n).apart) in
+    let kind : IsClient s n y = client_ended s (unbusied x) w.cache (record { table = (h.own n).table; user = (h.own n).user; callee = λ a z. (h.own n).callee a z; needs = λ a z. (h.own n).needs a z; apart = (h.own n).apart; gifts = (h.own n).gifts }) (walked_apart (most_reads (began (locations s) act)) c.clock (began (locations s) act) x.cache (h.own n).apart) in
     let e : Entry = step_entry n (ls ++ tail) [] in
     let t : AreTail n tail = (refl, tt) in
     let ends : EndsReach n tail = ends_answered n (record { 0 = pos k }) in
@@ -204,7 +205,7 @@ begun_calls s c past n act h none going =
     let ls : List Line = lines.Begin (Client n) act ∷ looked (Client n) w.looks [] in
     let W : Walks s c past n (h.floors n).held ls w.act w.cache = begun_on s c past n act h none in
     let y : ClientState = asking (record (unbusied x) { cache = w.cache }) w.act in
-    let kind : IsClient s y = client_asking s c past (record (unbusied x) { cache = w.cache }) w.act h going (record { table = (h.own n).table; user = (h.own n).user; callee = λ a z. (h.own n).callee a z; needs = λ a z. (h.own n).needs a z; apart = walked_apart (most_reads (began (locations s) act)) c.clock (began (locations s) act) x.cache (h.own n).apart; gifts = (h.own n).gifts }) in
+    let kind : IsClient s n y = client_asking s c past (record (unbusied x) { cache = w.cache }) w.act h going (record { table = (h.own n).table; user = (h.own n).user; callee = λ a z. (h.own n).callee a z; needs = λ a z. (h.own n).needs a z; apart = walked_apart (most_reads (began (locations s) act)) c.clock (began (locations s) act) x.cache (h.own n).apart; gifts = (h.own n).gifts }) in
     let ms : List Message = call_message (Client n) y w.act ∷ [] in
     let e : Entry = step_entry n (ls ++ []) ms in
     let g : Ghost = record { floor = c.server.lasting.boot; held = (h.floors n).held } in
@@ -240,7 +241,7 @@ begun_calls s c past n act h none going =
       current = λ f u found lasts. walk_current s c past n (h.floors n).held ls w.act w.cache [] ms v f u W tt (ends_here n) (le_refl _) (inl not) found lasts;
       old = walk_old n x.cache w.cache (ls ++ []) ms past (quiet_more n ls [] W.quiet tt) (λ f u z. walked_found (most_reads (began (locations s) act)) c.clock (began (locations s) act) x.cache f u z) d.old;
       runs = λ b z. at ∙ z;
-      asked = λ b z. subst (λ (a : Going). CalledSince (last_key n v) guest (its_call v.gifts a) (e ∷ past)) (some_of w.act b z) (inl (refl, inl (refl, carried_is y w.act kind.user)));
+      asked = λ b z. subst (λ (a : Going). CalledSince (last_key n v) (user_at s n) (its_call v.gifts a) (e ∷ past)) (some_of w.act b z) (inl (refl, inl (refl, carried_is y w.act kind.user)));
       late = λ b z. new_late s c past n y w.act e h refl refl;
       none = λ z. absurd cc;
       gave = λ b z. gave;
@@ -381,7 +382,8 @@ good_code s c past n p act m code own h d told ends by none still =
     let call : FsCall = call_of (c.clients n) act in
     let k : Caused m code.0 (asked act) call past =
     caused_as m d.answers.code code.0 (as_asked call) (asked act) call past (some_of _ _ (sym d.answers.cause.told ∙ told)) (asks_is (c.clients n).gifts act) (record { cause = d.answers.cause; own = d.answers.own }) in
-    let asked_now : CalledSince (answered_key m.head) guest call past = subst (λ (k : Key). CalledSince k guest call past) (sym d.key) ((h.clients n).asked act d.running) in
+    let own_user : k.cause.user ≡ user_at s n = user_is s past n m k.cause.ran k.cause.user k.cause.call k.cause.carries (ap (λ (k : Key). k.node) d.key) c.sent h.sent.origins h.sent.told in
+    let asked_now : CalledSince (answered_key m.head) (user_at s n) call past = subst (λ (k : Key). CalledSince k (user_at s n) call past) (sym d.key) ((h.clients n).asked act d.running) in
     record {
       act = act;
       runs = still ∙ (h.clients n).runs act d.running;
@@ -390,8 +392,9 @@ good_code s c past n p act m code own h d told ends by none still =
         by = by ∙ d.at;
         to = ap (λ (k : Key). k.node) d.key;
         cause = cause_behind m code.0 (asked act) past own k.cause;
+        own_user = own_user;
         before = none;
-        called = subst (λ (u : List ℕ). CalledSince (answered_key m.head) u k.cause.call past) (sym k.cause.own_user) (subst (λ (x : FsCall). CalledSince (answered_key m.head) guest x past) (sym k.own) asked_now);
+        called = subst (λ (u : List ℕ). CalledSince (answered_key m.head) u k.cause.call past) (sym own_user) (subst (λ (x : FsCall). CalledSince (answered_key m.head) (user_at s n) x past) (sym k.own) asked_now);
         lately = within (Client n) m code.0 (asked act) past k.cause (subst (λ (k : Key). is_late (Client n) k past ≡ true) (sym d.key) ((h.clients n).late act d.running));
         ends = ends;
       });
@@ -696,7 +699,7 @@ told_zero (carried.Reply reply) h not = refl
 told_zero carried.Notice h not = absurd h
 
 -- behind lines that were given the reply it was used
-abbrev used_reply_behind : (s : Script) (c : Cell) (past : List Entry) (n p : ℕ) (act : Going) (m : Message) → (h : Holds s c past) → Due c h.floors past n p act m → ((code : Code) → m.carried ≡ carried.Refusal code → ⊥) → (own : List Line) → given_message own (sent_of past) ≡ Some m → has_begun (Client n) own ≡ false → HasUsed (Client n) past own
+abbrev used_reply_behind : (s : Script) (c : Cell) (past : List Entry) (n p : ℕ) (act : Going) (m : Message) → (h : Holds s c past) → Due c h.floors past n p act m → ((code : Code) → m.carried ≡ carried.Refusal code → ⊥) → (own : List Line) → given_message own (sent_of past) ≡ Some m → has_begun (Client n) own ≡ false → HasUsed s (Client n) past own
 used_reply_behind s c past n p act m h d not own by none = record {
   reply = m;
   by = by;
@@ -705,7 +708,7 @@ used_reply_behind s c past n p act m h d not own by none = record {
   to = ap (λ (k : Key). k.node) d.key;
   before = none;
   call = its_call (c.clients n).gifts act;
-  called = subst (λ (k : Key). CalledSince k guest (its_call (c.clients n).gifts act) past) (sym d.key) ((h.clients n).asked act d.running);
+  called = subst (λ (k : Key). CalledSince k (user_at s n) (its_call (c.clients n).gifts act) past) (sym d.key) ((h.clients n).asked act d.running);
 }
 
 pub gone_answered : (s : Script) (c : Cell) (past : List Entry) (n p : ℕ) (act : Going) (m : Message) (front : List Line → List Line) (F : List Line) (w : Walked) (k : ℕ) → (h : Holds s c past) → Due c h.floors past n p act m → ((code : Code) → m.carried ≡ carried.Refusal code → ⊥) → ((ls : List Line) → front ls ≡ F ++ ls) → IsUsed n m F past
@@ -738,7 +741,7 @@ gone_calls s c past n p act m front F w h d shut same used W apart old going =
     let ls : List Line = F ++ looked (Client n) w.looks [] in
     let k = h.clients n in
     let y : ClientState = asking (record x { cache = w.cache }) w.act in
-    let its : IsClient s y = client_asking s c past (record x { cache = w.cache }) w.act h going (record { table = (h.own n).table; user = (h.own n).user; callee = λ b z. (h.own n).callee b z; needs = λ b z. (h.own n).needs b z; apart = apart; gifts = (h.own n).gifts }) in
+    let its : IsClient s n y = client_asking s c past (record x { cache = w.cache }) w.act h going (record { table = (h.own n).table; user = (h.own n).user; callee = λ b z. (h.own n).callee b z; needs = λ b z. (h.own n).needs b z; apart = apart; gifts = (h.own n).gifts }) in
     let ms : List Message = call_message (Client n) y w.act ∷ [] in
     let e : Entry = step_entry n (ls ++ []) ms in
     let q : AreQuiet n (ls ++ []) = quiet_more n ls [] W.quiet tt in
@@ -775,7 +778,7 @@ gone_calls s c past n p act m front F w h d shut same used W apart old going =
       current = λ f q found lasts. walk_current s c past n c.server.lasting.boot ls w.act w.cache [] ms v f q W tt (ends_here n) (le_refl _) (inl never) found lasts;
       old = old_over w.cache (lines_of past) (lines_of (e ∷ past)) (λ f i b y. (quiet_grant n n f (ls ++ []) ms past q).version i b (lines_of past) y) old;
       runs = λ b y. at ∙ y;
-      asked = λ b z. subst (λ (x : Going). CalledSince (last_key n v) guest (its_call v.gifts x) (e ∷ past)) (some_of w.act b z) (inl (refl, inl (refl, carried_is y w.act its.user)));
+      asked = λ b z. subst (λ (x : Going). CalledSince (last_key n v) (user_at s n) (its_call v.gifts x) (e ∷ past)) (some_of w.act b z) (inl (refl, inl (refl, carried_is y w.act its.user)));
       late = λ b z. new_late s c past n y w.act e h refl refl;
       none = λ z. absurd cc;
       gave = λ b z. gave;
@@ -1264,7 +1267,7 @@ rights_passes s c past n p m f i text es h d = record {
 }
 
 -- the answer is good behind the drops
-rights_good : (s : Script) (n : ℕ) (a : Going) (past : List Entry) (es : List CacheEntry) (own : List Line) → running s (Client n) (own ++ lines_of past) ≡ Some a → next a ≡ answers 0 → HasUsed (Client n) past own → AreGood s (actors.Node (Client n)) past own (dropped (Client n) es (last_line n zero_code))
+rights_good : (s : Script) (n : ℕ) (a : Going) (past : List Entry) (es : List CacheEntry) (own : List Line) → running s (Client n) (own ++ lines_of past) ≡ Some a → next a ≡ answers 0 → HasUsed s (Client n) past own → AreGood s (actors.Node (Client n)) past own (dropped (Client n) es (last_line n zero_code))
 rights_good s n a past [] own runs done used = ((refl, record { act = a; runs = runs; cause = inr (inl (record { number = 0; is = refl; by = done; last = inr used })) }), tt)
 rights_good s n a past (u ∷ es) own runs done used =
     (refl, rights_good s n a past es (lines.Drop (Client n) u.fid ∷ own) runs done (record { reply = used.reply; by = used.by; is_reply = used.is_reply; told = used.told; to = used.to; before = used.before; call = used.call; called = used.called }))
@@ -1356,7 +1359,7 @@ pub resends_goes : (s : Script) (c : Cell) (past : List Entry) (n p : ℕ) (act 
 resends_goes s c past n p act m boot h d le runs =
     let old : ClientState = c.clients n in
     let x : ClientState = booted old boot in
-    let kind : IsClient s x = record { table = (h.own n).table; user = (h.own n).user; callee = λ a z. (h.own n).callee a z; needs = λ a z. (h.own n).needs a z; apart = (h.own n).apart; gifts = (h.own n).gifts } in
+    let kind : IsClient s n x = record { table = (h.own n).table; user = (h.own n).user; callee = λ a z. (h.own n).callee a z; needs = λ a z. (h.own n).needs a z; apart = (h.own n).apart; gifts = (h.own n).gifts } in
     let known : boot_of the_server x.boots ≡ boot = ap (λ (q : Node). boot_of the_server (with_boot q boot old.boots)) ((h.own n).callee act runs) ∙ boot_with the_server boot old.boots in
     let ms : List Message = call_message (Client n) x act ∷ [] in
     let e : Entry = step_entry n (lines.Given p ∷ []) ms in

@@ -1,7 +1,7 @@
 use Rattle.afs_law.proofs.Nexts.{as_is, asks_is}
 use Rattle.afs_num.specs.declared.types.Node.{Node}
 use Rattle.afs_rows.specs.States.{Location, Gift, CacheEntry, Seat}
-use Rattle.afs_law.proofs.Basics.{guest, at_put, found-first, Each, IfCall, ByClient, OfClient, by_client, both, same_node-true, same_node-refl, node_apart, client_number, up_to_same, up_to_next, next_not, below_not, at_puts, each_map, if_call, raised_up_to, some_of, IfBack, IfDone, same_key-refl, OfCall, UpTo}
+use Rattle.afs_law.proofs.Basics.{at_put, found-first, Each, IfCall, ByClient, OfClient, by_client, both, same_node-true, same_node-refl, node_apart, client_number, up_to_same, up_to_next, next_not, below_not, at_puts, each_map, if_call, raised_up_to, some_of, IfBack, IfDone, same_key-refl, OfCall, UpTo}
 use Rattle.std.proofs.Common.{not, ◌≡◌, ℕ, ◌+◌, ◌≤◌, ◌⊎◌, inl, inr, Bool, true, false, cond, List, [], ◌∷◌, Option, Some, None, refl, sym, ap, subst, ◌∙◌, nat_eq, eqb-true, ◌++◌}
 use Rattle.std.specs.Prelude.{◌&&◌}
 use Rattle.afs_num.specs.Nodes.{same_node}
@@ -27,11 +27,11 @@ use Rattle.afs_law.specs.Ideal.{last_version, HasVersion, Accepts, clock_of, rea
 use Rattle.afs_law.specs.Legal.{AreDropped, IsNew, AreGood, AreGoodSent, as_asked}
 use Rattle.afs_history.specs.declared.lines.Line.{Line}
 use Rattle.afs_law.specs.Past.{has_sent, is_late, server_boot, onto, lines_of, sent_of, given_message, running, CalledSince, IsCallUnder, has_begun, called_key, is_called, same_key, Sends}
-use Rattle.afs_rows.specs.Runs.{Entry, message_at}
+use Rattle.afs_rows.specs.Runs.{user_at, Entry, message_at}
 use Rattle.afs_law.proofs.OneCell.{the_server, Cell, client_moves}
 use Rattle.afs_rows.specs.Scopes.{is_volume}
 use Rattle.afs_rows.specs.Steps.{Step}
-use Rattle.afs_num.specs.declared.scripts.Script.{Script}
+use Rattle.afs_history.specs.declared.scripts.Script.{Script}
 use Rattle.afs_num.specs.declared.histories.Body.{Body}
 use Rattle.afs_num.specs.declared.histories.ReadBody.{ReadBody}
 use Rattle.afs_num.specs.declared.histories.Version.{Version}
@@ -97,7 +97,7 @@ pub seat_put : (t : Bool) (c : Cell) (n j : ℕ) (x y : ClientState) (seat : Sea
 seat_put true c n j x y seat m past e at is a b = subst (λ (k : ℕ). SeatedIn c.down c.server.backs.calls c.server.backs.last_call c.server.lasting.boot past k m) (eqb-true n j e) (a seat m at is)
 seat_put false c n j x y seat m past e at is a b = b at
 
-pub moves_back : (s : Script) (c : Cell) (past : List Entry) (n : ℕ) (floor : Ghost) (st : Step ClientState) → (h : Holds s c past) → IsClient s st.state → AreGood s (actors.Node (Client n)) past [] st.lines → Passes s n st.lines st.sent past
+pub moves_back : (s : Script) (c : Cell) (past : List Entry) (n : ℕ) (floor : Ghost) (st : Step ClientState) → (h : Holds s c past) → IsClient s n st.state → AreGood s (actors.Node (Client n)) past [] st.lines → Passes s n st.lines st.sent past
     → ClientFacts s n (view_after c n floor st.state) ((client_moves c n st).entry ∷ past)
     → ((head : Head) (call : FsCall) → CallFact (view h.floors c n) head call → CallFact (view_after c n floor st.state) head call)
     → ((m : Message) → ReplyFact n (view h.floors c n) past m → ReplyFact n (view_after c n floor st.state) ((client_moves c n st).entry ∷ past) m)
@@ -114,7 +114,7 @@ moves_back s c past n floor st h kind good p own w q fresh went keeps tried =
       holds = record {
         floors = put n floor h.floors;
         count = h.count;
-        own = λ j. at_put n j (IsClient s) st.state c.clients (λ e. kind) (λ ne. h.own j);
+        own = λ j. at_put n j (IsClient s j) st.state c.clients (λ e. subst (λ (i : ℕ). IsClient s i st.state) e kind) (λ ne. h.own j);
         tried = λ j. at_put n j (λ x. Tried j x (lines_of (e ∷ past))) st.state c.clients (λ i. subst (λ (k : ℕ). Tried k st.state (lines_of (e ∷ past))) i tried) (λ ne. tried_more j (c.clients j) (lines_of past) e.lines (h.tried j));
         servers = h.servers;
         ideal = λ id. h.ideal id ∙ sym (p.ideal id);
@@ -143,7 +143,7 @@ pub old_seat : (s : Script) (c : Cell) (past : List Entry) (n : ℕ) (e : Entry)
 old_seat s c past n e p h seat m x y = seated_over c.down c.down c.server.backs c.server.backs c.server.lasting.boot c.clock c.clock e past (plain_step c.down c.server.backs c.clock c.clock e past p (le_refl _)) n m ((h.backs refl).seated n seat m x y)
 
 -- the client keeps what it kept for the server
-pub moves : (s : Script) (c : Cell) (past : List Entry) (n : ℕ) (floor : Ghost) (st : Step ClientState) → (h : Holds s c past) → IsClient s st.state → AreGood s (actors.Node (Client n)) past [] st.lines → Passes s n st.lines st.sent past
+pub moves : (s : Script) (c : Cell) (past : List Entry) (n : ℕ) (floor : Ghost) (st : Step ClientState) → (h : Holds s c past) → IsClient s n st.state → AreGood s (actors.Node (Client n)) past [] st.lines → Passes s n st.lines st.sent past
     → ClientFacts s n (view_after c n floor st.state) ((client_moves c n st).entry ∷ past)
     → ((head : Head) (call : FsCall) → CallFact (view h.floors c n) head call → CallFact (view_after c n floor st.state) head call)
     → ((m : Message) → ReplyFact n (view h.floors c n) past m → ReplyFact n (view_after c n floor st.state) ((client_moves c n st).entry ∷ past) m)
@@ -250,18 +250,18 @@ pub call_is : (x : ClientState) (act : Going) → as_asked (call_of x act) ≡ a
 call_is x act = asks_is x.gifts act
 
 -- what a client's call carries
-pub carried_is : (x : ClientState) (act : Going) → x.user ≡ guest → carried.Call x.user (ask.File (call_of x act)) ≡ carried.Call guest (ask.File (call_of x act))
+pub carried_is : {user : List ℕ} (x : ClientState) (act : Going) → x.user ≡ user → carried.Call x.user (ask.File (call_of x act)) ≡ carried.Call user (ask.File (call_of x act))
 carried_is x act who = ap (λ (u : List ℕ). carried.Call u (ask.File (call_of x act))) who
 
 -- whom a client of one server asks
-table_callee : (s : Script) (c : Cell) (past : List Entry) (x : ClientState) (id : ℕ) → Holds s c past → IsClient s x → Server (server_at x.table id) ≡ the_server
+table_callee : {n : ℕ} (s : Script) (c : Cell) (past : List Entry) (x : ClientState) (id : ℕ) → Holds s c past → IsClient s n x → Server (server_at x.table id) ≡ the_server
 table_callee s c past x id h k = ap Server (ap (λ (t : List Location). server_at t id) k.table ∙ h.servers id)
 
 gifts_callee : (gifts : List Gift) → AreGifts gifts → first_server_of gifts ≡ the_server
 gifts_callee [] h = refl
 gifts_callee (g ∷ gs) h = h.0
 
-callee_is : (need : Need) (s : Script) (c : Cell) (past : List Entry) (x : ClientState) → Holds s c past → IsClient s x → callee_by x need ≡ the_server
+callee_is : {n : ℕ} (need : Need) (s : Script) (c : Cell) (past : List Entry) (x : ClientState) → Holds s c past → IsClient s n x → callee_by x need ≡ the_server
 callee_is (reads f) s c past x h k = table_callee s c past x _ h k
 callee_is (reads_status f) s c past x h k = table_callee s c past x _ h k
 callee_is (reads_statuses fs) s c past x h k = table_callee s c past x _ h k
@@ -271,7 +271,7 @@ callee_is gives_back s c past x h k = gifts_callee x.gifts k.gifts
 callee_is (answers code) s c past x h k = table_callee s c past x _ h k
 
 -- a client that asks next is still one of the script
-pub client_asking : (s : Script) (c : Cell) (past : List Entry) (x : ClientState) (act : Going) → Holds s c past → IsOpen (next act) → IsClient s x → IsClient s (asking x act)
+pub client_asking : {n : ℕ} (s : Script) (c : Cell) (past : List Entry) (x : ClientState) (act : Going) → Holds s c past → IsOpen (next act) → IsClient s n x → IsClient s n (asking x act)
 client_asking s c past x act h going k = record {
   table = k.table;
   user = k.user;
@@ -282,7 +282,7 @@ client_asking s c past x act h going k = record {
 }
 
 -- and so is one whose act ended, or that reads another way
-pub client_ended : (s : Script) (x : ClientState) (cache : List CacheEntry) → IsClient s x → AreApart cache → IsClient s (ended x cache)
+pub client_ended : {n : ℕ} (s : Script) (x : ClientState) (cache : List CacheEntry) → IsClient s n x → AreApart cache → IsClient s n (ended x cache)
 client_ended s x cache k a = record { table = k.table; user = k.user; callee = λ act e. absurd cc; needs = λ act e. absurd cc; apart = a; gifts = tt }
 
 -- a call that changes nothing has no fid in its scope
@@ -474,7 +474,7 @@ same_one s c past n act ms h runs =
     let x : ClientState = c.clients n in
     one_more k (sent_of past) ms (x.user, call_of x act)
     (subst (λ (u : List ℕ). call_under k (sent_of past) ≡ Some (u, call_of x act)) (sym (h.own n).user)
-    (called_one n k guest (call_of x act) (sent_of past) past refl ((h.clients n).asked act runs) (subst (λ (S : List Message). Each (IfCall (IsOne S)) S) (sym h.sent.told) h.sent.ones)))
+    (called_one n k (user_at s n) (call_of x act) (sent_of past) past refl ((h.clients n).asked act runs) (subst (λ (S : List Message). Each (IfCall (IsOne S)) S) (sym h.sent.told) h.sent.ones)))
 
 -- the client has these promises to give back then
 abbrev pub with_gifts : List Gift → ClientState → ClientState
@@ -486,7 +486,7 @@ pub asks : (s : Script) (c : Cell) (past : List Entry) (n : ℕ) (gs : List Gift
 asks s c past n gs act l h given begun gave going good p q r none shut at went =
     let d = h.clients n in
     let x : ClientState = asking (with_gifts gs (c.clients n)) act in
-    let kind : IsClient s x = client_asking s c past (with_gifts gs (c.clients n)) act h going (record { table = (h.own n).table; user = (h.own n).user; callee = λ a z. (h.own n).callee a z; needs = λ a z. (h.own n).needs a z; apart = (h.own n).apart; gifts = given }) in
+    let kind : IsClient s n x = client_asking s c past (with_gifts gs (c.clients n)) act h going (record { table = (h.own n).table; user = (h.own n).user; callee = λ a z. (h.own n).callee a z; needs = λ a z. (h.own n).needs a z; apart = (h.own n).apart; gifts = given }) in
     let e : Entry = step_entry n (l ∷ []) (call_message (Client n) x act ∷ []) in
     let g : Ghost = record { floor = c.server.lasting.boot; held = (h.floors n).held } in
     let v : View = view_after c n g x in
@@ -519,7 +519,7 @@ asks s c past n gs act l h given begun gave going good p q r none shut at went =
       ]) (d.current f u found lasts);
       old = old_over (c.clients n).cache (lines_of past) (lines_of (e ∷ past)) (λ f i b y. (q f).grant.version i b (lines_of past) y) d.old;
       runs = λ b y. at ∙ y;
-      asked = λ b y. subst (λ (a : Going). CalledSince (last_key n v) guest (its_call v.gifts a) (e ∷ past)) (some_of act b y) (inl (refl, inl (refl, carried_is x act kind.user)));
+      asked = λ b y. subst (λ (a : Going). CalledSince (last_key n v) (user_at s n) (its_call v.gifts a) (e ∷ past)) (some_of act b y) (inl (refl, inl (refl, carried_is x act kind.user)));
       late = λ b y. new_late s c past n x act e h refl refl;
       none = λ y. absurd cc;
       gave = λ b y. all_dropped_onto (Client n) (fids_of_gifts gs) (l ∷ []) (lines_of past) begun gave;

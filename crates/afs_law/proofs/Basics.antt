@@ -9,7 +9,7 @@ use Rattle.afs_rows.specs.States.{CacheEntry}
 use Rattle.afs_model.proofs.Keyed.{IsExact, found_own, at_last}
 use Rattle.afs_model.specs.Calls.{CallSeat, Admitted, runs, kept, older, pair_below, caller_of, call_seat, call_seated, repeated, paired}
 use Rattle.std.proofs.Common.{◌≡◌, ℕ, zero, suc, ◌+◌, ◌<◌, ◌≤◌, ◌⊎◌, inl, inr, Bool, true, false, cond, eqb, ltb, not, List, [], ◌∷◌, ◌++◌, map, Option, Some, None, refl, sym, ap, subst, ◌∙◌, arith, eq-eqb, eqb-true, ltb-true, ltb-false}
-use Rattle.std.specs.Prelude.{filter, codes, ◌&&◌, ⊤}
+use Rattle.std.specs.Prelude.{filter, ◌&&◌, ⊤}
 use Rattle.std.specs.Option.{option_map}
 use Rattle.std.proofs.Math.Nat.{max-le, eq-or-lt_of_le}
 use Rattle.afs_num.specs.Fids.{same_fid}
@@ -24,10 +24,6 @@ use Rattle.afs_num.specs.declared.messages.Carried.{Carried}
 use Rattle.afs_num.specs.declared.messages.Message.{Message}
 use Rattle.afs_num.specs.declared.messages.Carried.TheVariants as carried
 use Rattle.afs_num.specs.declared.messages.Call.TheVariants as ask
-
--- the user of every client
-abbrev pub guest : List ℕ
-guest = codes "guest"
 
 -- Small laws: fids, nodes and keys; pairs of epoch and number; seats; what is found; lists of messages.
 

@@ -46,7 +46,7 @@ use Rattle.afs_num.specs.declared.calls.FsCall.{FsCall}
 use Rattle.afs_num.specs.declared.calls.FsReply.{FsReply}
 use Rattle.afs_num.specs.declared.messages.Carried.{Carried}
 use Rattle.afs_num.specs.declared.messages.Message.{Message}
-use Rattle.afs_num.specs.declared.scripts.Script.{Script}
+use Rattle.afs_history.specs.declared.scripts.Script.{Script}
 use Rattle.afs_num.specs.declared.histories.Body.{Body}
 use Rattle.std.specs.Option.{option_map}
 use Rattle.afs_num.specs.declared.histories.Version.{Version}

@@ -2,7 +2,7 @@ use Rattle.afs_ideal.specs.Directories.{IsDirectory, FitNames}
 use Rattle.afs_ideal.specs.Operations.{is_number, volume_changed}
 use Rattle.afs_ideal.specs.Tables.{AscendsFrom, Table, get}
 use Rattle.afs_ideal.specs.Volumes.{Vnode, Volume}
-use Rattle.afs_law.proofs.Basics.{Below, UpTo, Above, Each, IfCall, IfReply, IfNotice, OfCall, OfReply, guest}
+use Rattle.afs_law.proofs.Basics.{Below, UpTo, Above, Each, IfCall, IfReply, IfNotice, OfCall, OfReply}
 use Rattle.afs_law.proofs.Edits.{Ones, index_in, SoundIn, Tops}
 use Rattle.afs_law.proofs.Owing.{BackedIn}
 use Rattle.afs_rows.specs.Callbacks.{replies_of}
@@ -14,7 +14,7 @@ use Rattle.afs_law.specs.Breaks.{HasStopped, HasTimeout}
 use Rattle.afs_law.specs.Legal.{HasChange, AreDropped, AreFailed, IsThere, IsNew, Cause, AreGood, AreGoodSent, as_asked}
 use Rattle.afs_history.specs.declared.lines.Line.{Line}
 use Rattle.afs_law.specs.Past.{is_late, server_boot, is_of_act, lines_of, sent_of, called_key, running, Called, CalledSince, IsUnheard, Ran}
-use Rattle.afs_rows.specs.Runs.{locations, Entry, Fall, at_rest, in_step, in_boot, message_at}
+use Rattle.afs_rows.specs.Runs.{user_at, locations, Entry, Fall, at_rest, in_step, in_boot, message_at}
 use Rattle.afs_law.proofs.OneCell.{the_server, Cell, Moved}
 use Rattle.afs_rows.specs.Scopes.{is_in_scope}
 use Rattle.afs_rows.specs.ServerRow.{reply_head}
@@ -30,7 +30,7 @@ use Rattle.afs_num.specs.declared.types.Node.TheVariants.{Client}
 use Rattle.afs_num.specs.declared.calls.FsCall.{FsCall}
 use Rattle.afs_num.specs.declared.messages.Carried.{Carried}
 use Rattle.afs_num.specs.declared.messages.Message.{Message}
-use Rattle.afs_num.specs.declared.scripts.Script.{Script}
+use Rattle.afs_history.specs.declared.scripts.Script.{Script}
 use Rattle.afs_num.specs.declared.histories.Body.{Body}
 use Rattle.afs_num.specs.declared.histories.ReadStatus.{ReadStatus}
 use Rattle.afs_num.specs.declared.calls.FsReply.{FsReply}
@@ -120,10 +120,10 @@ abbrev pub IsOpen : Need → Type 0
 IsOpen (answers code) = ⊥
 IsOpen need = ⊤
 
--- a client of the script; what it asks, it asks of the server
-pub record IsClient (s : Script) (c : ClientState) : Type 0 where
+-- the client of this number of the script; what it asks, it asks of the server
+pub record IsClient (s : Script) (n : ℕ) (c : ClientState) : Type 0 where
   pub table : c.table ≡ locations s
-  pub user : c.user ≡ guest
+  pub user : c.user ≡ user_at s n
   pub callee : (act : Going) → c.running ≡ Some act → c.callee ≡ the_server
   pub needs : (act : Going) → c.running ≡ Some act → IsOpen (next act)
   pub apart : AreApart c.cache
@@ -452,7 +452,7 @@ pub record ClientFacts (s : Script) (j : ℕ) (v : View) (past : List Entry) : T
   pub current : HasCurrent j v past
   pub old : HasOld v.cache (lines_of past)
   pub runs : (act : Going) → v.running ≡ Some act → running s (Client j) (lines_of past) ≡ Some act
-  pub asked : (act : Going) → v.running ≡ Some act → CalledSince (last_key j v) (user_of (Client j)) (its_call v.gifts act) past
+  pub asked : (act : Going) → v.running ≡ Some act → CalledSince (last_key j v) (user_of s (Client j)) (its_call v.gifts act) past
   pub late : (act : Going) → v.running ≡ Some act → is_late (Client j) (last_key j v) past ≡ true
   pub none : v.running ≡ None → v.gifts ≡ []
   pub gave : (act : Going) → v.running ≡ Some act → AreDropped (Client j) (fids_of_gifts v.gifts) (lines_of past)
@@ -541,7 +541,7 @@ pub record IsLastCall (views : ℕ → View) (head : Head) (user : List ℕ) (ca
 pub record Origin (s : Script) (past : List Entry) (head : Head) (user : List ℕ) (call : FsCall) : Type 0 where
   pub act : Going
   pub called : Called s (called_key head) user call act past
-  pub own_user : user ≡ user_of head.from
+  pub own_user : user ≡ user_of s head.from
   pub own_call : as_asked call ≡ asked act
 
 -- the call is the one under its key
@@ -650,7 +650,7 @@ pub record HoldsAt (s : Script) (now : Option ℕ) (c : Cell) (past : List Entry
   pub changing : (k : Key) → HasChange k (lines_of past) → IsChangingUnder k c.sent
   pub unheard : AreUnheard c.down c.server.seats c.server.lasting.boot past
   pub count : c.count ≡ s.clients
-  pub own : (j : ℕ) → IsClient s (c.clients j)
+  pub own : (j : ℕ) → IsClient s j (c.clients j)
   pub tried : (j : ℕ) → Tried j (c.clients j) (lines_of past)
   pub servers : (id : ℕ) → server_at (locations s) id ≡ 1
   pub booted : 1 ≤ c.server.lasting.boot

@@ -10,7 +10,7 @@ use Rattle.afs_num.specs.declared.types.Fid.{Fid}
 use Rattle.afs_num.specs.declared.types.Node.{Node}
 use Rattle.afs_num.specs.declared.types.Node.TheVariants.{Server, Client}
 use Rattle.afs_num.specs.declared.messages.Message.{Message}
-use Rattle.afs_num.specs.declared.scripts.Script.{Script}
+use Rattle.afs_history.specs.declared.scripts.Script.{Script}
 use Rattle.afs_num.specs.declared.histories.Body.{Body}
 use Rattle.afs_history.specs.declared.acts.Act.{Act}
 use Rattle.afs_history.specs.declared.lines.Line.{Line}
@@ -18,14 +18,14 @@ use Rattle.afs_history.specs.declared.lines.Line.TheVariants as lines
 use Rattle.afs_ideal.specs.Operations.{volume_changed}
 use Rattle.afs_rows.specs.ClientRow.{call_message, asking, dropped, ended, ends_step, find_cached, gift_of, gifts_to, gives_all, gives_by, in_order, is_trusted, trusted_in, untrusted_in, zero_code}
 use Rattle.afs_rows.specs.Going.{ClientState, Going, asked, began, gives_back, next}
-use Rattle.afs_rows.specs.Runs.{Entry, locations}
+use Rattle.afs_rows.specs.Runs.{user_at, Entry, locations}
 use Rattle.afs_rows.specs.States.{CacheEntry, Gift, Seat}
 use Rattle.afs_rows.specs.Steps.{Step}
 use Rattle.afs_law.specs.Ideal.{Reach, is_zero_code, reach, HasVersion}
 use Rattle.afs_law.specs.Past.{CalledSince, IsCallUnder, given_message, has_begun, lines_of, onto, running, sent_of}
 use Rattle.afs_law.proofs.Apart.{apart_filter, found_filter}
 use Rattle.afs_law.proofs.Asking.{new_late, Passes, carried_is, client_asking, client_ended, moves, new_one, nothing_new, other_client, own_begun, own_call, own_zero, runs_by_other, safe_cache, safe_over, step_entry, view_after}
-use Rattle.afs_law.proofs.Basics.{Above, client_number, guest, next_not, raised_up_to, same_fid-refl, same_fid-true, same_node-refl, some_of, up_to_next, UpTo}
+use Rattle.afs_law.proofs.Basics.{Above, client_number, next_not, raised_up_to, same_fid-refl, same_fid-true, same_node-refl, some_of, up_to_next, UpTo}
 use Rattle.afs_law.proofs.Dropping.{drops_of, skips}
 use Rattle.afs_law.proofs.Facts.{fids_of_gifts, AreApart, AreGifts, IsOpen, Ghost, Goes, HasOld, Holds, IsAged, IsClient, LastRan, ReplyFact, View, its_call, last_key, view}
 use Rattle.afs_law.proofs.OneCell.{the_server, Cell, client_moves}
@@ -184,7 +184,7 @@ gave_passes s n act fs ms past =
 abbrev left : Cell → ℕ → List Gift → ClientState
 left c n gs = record (unbusied (c.clients n)) { cache = untrusted_in c.clock (c.clients n).cache; gifts = gs }
 
-left_client : (s : Script) (c : Cell) (past : List Entry) (n : ℕ) (gs : List Gift) → Holds s c past → AreGifts gs → IsClient s (left c n gs)
+left_client : (s : Script) (c : Cell) (past : List Entry) (n : ℕ) (gs : List Gift) → Holds s c past → AreGifts gs → IsClient s n (left c n gs)
 left_client s c past n gs h given = record {
   table = (h.own n).table;
   user = (h.own n).user;
@@ -210,7 +210,7 @@ gives_nothing s c past n act h none by =
     let d = h.clients n in
     let cache : List CacheEntry = untrusted_in c.clock x.cache in
     let y : ClientState = ended (record (unbusied x) { cache = cache }) cache in
-    let kind : IsClient s y = client_ended s (left c n x.gifts) cache (left_client s c past n x.gifts h (h.own n).gifts) (apart_filter (λ e. not (is_trusted c.clock e)) x.cache (h.own n).apart) in
+    let kind : IsClient s n y = client_ended s (left c n x.gifts) cache (left_client s c past n x.gifts h (h.own n).gifts) (apart_filter (λ e. not (is_trusted c.clock e)) x.cache (h.own n).apart) in
     let ls : List Line = lines.Begin (Client n) act ∷ lines.Answer (Client n) zero_code ∷ [] in
     let q : AreQuiet n ls = (refl, (refl, tt)) in
     let e : Entry = step_entry n ls [] in
@@ -275,7 +275,7 @@ gives_some s c past n act fs gs h none given dropped going =
     let a : Going = began (locations s) act in
     let cache : List CacheEntry = untrusted_in c.clock x.cache in
     let y : ClientState = asking (left c n gs) a in
-    let kind : IsClient s y = client_asking s c past (left c n gs) a h going (left_client s c past n gs h given) in
+    let kind : IsClient s n y = client_asking s c past (left c n gs) a h going (left_client s c past n gs h given) in
     let ls : List Line = gave n act fs in
     let ms : List Message = call_message (Client n) y a ∷ [] in
     let e : Entry = step_entry n ls ms in
@@ -310,7 +310,7 @@ gives_some s c past n act fs gs h none given dropped going =
       current = λ f u found lasts. absurd (untrusted_not c.clock f x.cache u (h.own n).apart found lasts);
       old = left_old s c past n e h (λ f i b z. (skips n fs).version f i b (lines.Begin (Client n) act ∷ lines_of past) z);
       runs = λ b z. at ∙ z;
-      asked = λ b z. subst (λ (q : Going). CalledSince (last_key n v) guest (its_call v.gifts q) (e ∷ past)) (some_of a b z) (inl (refl, inl (refl, carried_is y a kind.user)));
+      asked = λ b z. subst (λ (q : Going). CalledSince (last_key n v) (user_at s n) (its_call v.gifts q) (e ∷ past)) (some_of a b z) (inl (refl, inl (refl, carried_is y a kind.user)));
       late = λ b z. new_late s c past n y a e h refl refl;
       none = λ z. absurd cc;
       gave = λ b z. dropped;

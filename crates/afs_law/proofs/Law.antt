@@ -24,7 +24,8 @@ use Rattle.afs_law.specs.Legal.{AreRan, IsNew, LegalAfter, Legal}
 use Rattle.afs_history.specs.declared.lines.Line.{Line}
 use Rattle.afs_law.specs.OneServer.{AreAtServer, IsOneServer}
 use Rattle.afs_law.specs.Past.{HasCode, Ran, sent_of, server_boot, running, onto, lines_of, given_message, IsCallUnder}
-use Rattle.afs_rows.specs.Runs.{locations_in, location_by, Entry, message_at, Armed, Fall, Luck, first_volume, first_volumes, unless_there, counts_later}
+use Rattle.afs_ideal.specs.SetUp.{first_volume}
+use Rattle.afs_rows.specs.Runs.{locations_in, location_by, Entry, message_at, Armed, Fall, Luck, first_volumes, unless_there, counts_later}
 use Rattle.afs_law.proofs.OneCell.{is_away, the_server, Cell, Moved, waits, ticks, client_stops, client_starts, stops, starts_again, sets_stop, sets_fail, server_armed, Input, begins, gives, nothing, moved, given_to, given_at, Leads, start, RunsTo, server_waits, wakes}
 use Rattle.std.proofs.Common.{zero, suc, find, ◌≡◌, ℕ, ◌+◌, ◌≤◌, ◌⊎◌, inl, inr, Bool, true, false, cond, nat_eq, List, [], ◌∷◌, ◌++◌, Option, Some, None, refl, sym, ap, subst, ◌∙◌, arith, eqb-true, eqb, eq-eqb, le_of_eq}
 use Rattle.std.specs.Prelude.{is_some, ⊤}
@@ -34,10 +35,10 @@ use Rattle.afs_num.specs.declared.types.Key.{Key}
 use Rattle.afs_num.specs.declared.types.Node.{Node}
 use Rattle.afs_num.specs.declared.types.Node.TheVariants.{Loc, Server, Client, Admin}
 use Rattle.afs_num.specs.declared.messages.Message.{Message}
-use Rattle.afs_num.specs.declared.scripts.Script.{Script}
+use Rattle.afs_history.specs.declared.scripts.Script.{Script}
 use Rattle.afs_num.specs.declared.histories.Body.{Body}
 use Rattle.afs_num.specs.declared.histories.Version.{Version}
-use Rattle.afs_num.specs.declared.scripts.VolumeLine.{VolumeLine}
+use Rattle.afs_history.specs.declared.scripts.VolumeLine.{VolumeLine}
 use Rattle.std.proofs.Math.Nat.{le_refl}
 use Rattle.afs_law.proofs.Keeping.{first_in}
 use Rattle.afs_history.specs.declared.lines.Line.TheVariants as lines
@@ -276,7 +277,7 @@ found_there false v t id u P h e = elim (found_by' (eqb v.id id) v.id id (first_
 pub found_home : (vs : List VolumeLine) → AreAtServer vs → (id : ℕ) (u : Volume) → get id (first_volumes vs) ≡ Some u → is_at id the_server vs
 found_home [] one id u x = absurd cc
 found_home (v ∷ vs) one id u x = elim (found_there (is_some (get v.id (first_volumes vs))) v (first_volumes vs) id u (is_at id the_server vs) (found_home vs one.1 id u) x) [
-  | inl y ↦ inl (y.0, (y.1, one.0))
+  | inl y ↦ inl (y.0, (y.1, ap Server one.0))
   | inr y ↦ inr y
 ]
 
@@ -352,24 +353,18 @@ lines_none (y ∷ z ∷ newer) x at older e = absurd cc
 pub first_owes : {X : Type 0} → (ms : List Message) (newer : List Entry) (x at : Entry) (older : List Entry) (before after : List Line) (c : Node) (what : Option Fid) (n : ℕ) → all_lines is_oweless x.lines ≡ true → x ∷ [] ≡ newer ++ (at ∷ older) → at.lines ≡ before ++ lines.Owe the_server c what n ∷ after → X
 first_owes ms newer x at older before after c what n h split line = absurd (no_owe at.lines before after the_server c what n (subst (λ (e : Entry). all_lines is_oweless e.lines ≡ true) (lines_none newer x at older split) h) line)
 
-server_number : (n m : ℕ) → Server n ≡ Server m → n ≡ m
-server_number n m e = cc
-
 server_by : (t : Bool) (l : Location) (o : Option Location) → l.server ≡ 1 → server_or_first o ≡ 1 → server_or_first (cond t (Some l) o) ≡ 1
 server_by true l o e h = e
 server_by false l o e h = h
 
-located_by : (t : Bool) (v : VolumeLine) (q : Node) (ls : List Location) (id : ℕ) → q ≡ the_server → server_at ls id ≡ 1 → server_at (location_by t v q ls) id ≡ 1
-located_by true v q ls id e h = h
-located_by false v (Server n) ls id e h = server_by (nat_eq v.id id) (record { name = v.name; id = v.id; server = n }) (find (λ l. nat_eq l.id id) ls) (server_number n 1 e) h
-located_by false v (Client n) ls id e h = h
-located_by false v (Admin n) ls id e h = h
-located_by false v Loc ls id e h = h
+located_by : (t : Bool) (v : VolumeLine) (ls : List Location) (id : ℕ) → v.server ≡ 1 → server_at ls id ≡ 1 → server_at (location_by t v ls) id ≡ 1
+located_by true v ls id e h = h
+located_by false v ls id e h = server_by (nat_eq v.id id) (record { name = v.name; id = v.id; server = v.server }) (find (λ l. nat_eq l.id id) ls) e h
 
 -- every volume is at the server
 found_server : (vs : List VolumeLine) → AreAtServer vs → (id : ℕ) → server_at (locations_in vs) id ≡ 1
 found_server [] a id = refl
-found_server (v ∷ vs) a id = located_by (counts_later v.id vs) v v.server (locations_in vs) id a.0 (found_server vs a.1 id)
+found_server (v ∷ vs) a id = located_by (counts_later v.id vs) v (locations_in vs) id a.0 (found_server vs a.1 id)
 
 pub starts : (s : Script) → IsOneServer s → Holds s (start s) (set_up s ∷ [])
 starts s one =

@@ -20,6 +20,7 @@ pub mod Saving
 pub mod Deciding
 pub mod Nexts
 pub mod Asking
+pub mod Users
 pub mod Quiet
 pub mod Homes
 pub mod Walking

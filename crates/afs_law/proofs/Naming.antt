@@ -11,8 +11,8 @@ use Rattle.afs_num.specs.declared.directories.Name.{Name}
 use Rattle.afs_num.specs.declared.calls.AfsStoreStatus.{AfsStoreStatus}
 use Rattle.afs_num.specs.declared.calls.FsCall.{FsCall}
 use Rattle.afs_num.specs.declared.calls.FsCall.TheVariants as calls
-use Rattle.afs_num.specs.declared.scripts.SetupLine.{SetupLine}
-use Rattle.afs_num.specs.declared.scripts.SetupLine.TheVariants as setup
+use Rattle.afs_history.specs.declared.scripts.SetupLine.{SetupLine}
+use Rattle.afs_history.specs.declared.scripts.SetupLine.TheVariants as setup
 use Rattle.afs_ideal.proofs.Counts.{each_with, each_without, each_named}
 use Rattle.afs_ideal.proofs.Directories.{added_is_directory, removed_is_directory, named-without_name, shorter-without_name}
 use Rattle.afs_ideal.proofs.Looks.{each_ascending}
@@ -21,7 +21,7 @@ use Rattle.afs_ideal.proofs.Steps.{room_for}
 use Rattle.afs_ideal.proofs.Tables.{ascends_set, ascends_unset, get_below, free_bound, free_from}
 use Rattle.afs_ideal.specs.Directories.{IsDirectory, FitNames, FitsName, most_names, named, with_name, without_name}
 use Rattle.afs_ideal.specs.Operations.{number_named, Caller, all_rights, Result, op, changes, volume_called, tests, effect, first_failing, limits, edit_fits, is_last_count, last_count, no_amend, name_in, names_in, named_vnode, creates, removes, unlinks, renaming, renames_within, renames_across, renamed, creating, removing, linking, may_link, free_number, name_of, new_file, new_directory, new_link, is_directory, links_of, linked}
-use Rattle.afs_ideal.specs.SetUp.{new_volume, new_root, called, laid_by, laid_in, laid_at, laid, led, parted, at_first, one_at_first, all_at_first, a_file_of, nothing_set, stores_all, new_fid}
+use Rattle.afs_ideal.specs.SetUp.{new_volume, new_root, called, laid_by, laid_in, laid_at, acl_laid, laid, laid_or, filled_by, empty_volume, first_volume, Laid, a_dir, a_link_to, led, parted, at_first, one_at_first, all_at_first, a_file_of, nothing_set, stores_all, new_fid}
 use Rattle.afs_ideal.specs.Tables.{Table, get, set, unset, AscendsFrom, lowest_free}
 use Rattle.afs_ideal.specs.Volumes.{Kind, a_file, a_link, a_directory, Vnode, Volume, Edit, Amend, amends, makes, frees, amended, fresh, amends_at, makes_at, frees_at, edited, edited_all, edit_number, counted, vnode_of, with_status, or_old, ascending}
 use Rattle.afs_law.proofs.Basics.{some_of, both}
@@ -32,11 +32,11 @@ use Rattle.afs_records.specs.Durable.{Stored}
 use Rattle.afs_law.proofs.Facts.{IsReadable, IsFine, AreFine}
 use Rattle.afs_law.proofs.Ops.{AllHold, all_hold}
 use Rattle.afs_law.proofs.Serving.{own_found, own_unique}
-use Rattle.afs_rows.specs.Runs.{laid_or, all_laid, first_volume}
+use Rattle.afs_history.specs.Written.{bytes_in}
 use Rattle.afs_ideal.specs.Operations as ops
 use Rattle.std.specs.Option.{ok_or}
 use Rattle.afs_shape.specs.Reading.{◌>>=◌}
-use Rattle.afs_num.specs.declared.scripts.VolumeLine.{VolumeLine}
+use Rattle.afs_history.specs.declared.scripts.VolumeLine.{VolumeLine}
 
 -- ---- edits that leave them so
 
@@ -415,17 +415,32 @@ file_fine id v d name bytes f =
     then_fine (called id (calls.CreateFile d name nothing_set) v) (λ made. called id (stores_all (new_fid id v) bytes) made)
     (λ made e. called_fine id (stores_all (new_fid id v) bytes) made (λ z. absurd cc) (fine_of (called id (calls.CreateFile d name nothing_set) v) made (called_fine id (calls.CreateFile d name nothing_set) v (λ z. absurd cc) f) e))
 
-line_fine : (id : ℕ) (l : SetupLine) (v : Volume) → IsFine v → FineIn (laid id l v)
+in_fine : (id : ℕ) (v : Volume) (d : Fid) (name : List ℕ) (x : Laid) → IsFine v → FineIn (laid_in id v d name x)
+in_fine id v d name a_dir f = called_fine id (calls.MakeDir d name nothing_set) v (λ z. absurd cc) f
+in_fine id v d name (a_file_of bytes) f = file_fine id v d name bytes f
+in_fine id v d name (a_link_to target) f = called_fine id (calls.Symlink d name target nothing_set) v (λ z. absurd cc) f
+
+path_fine : (id : ℕ) (path : List (List ℕ)) (x : Laid) (v : Volume) → IsFine v → FineIn (laid_at id path x v)
 unfolding laid_at
-line_fine id (setup.File path bytes) v f =
-    then_fine (ok_or (parted path) 22) (λ parts. led id v parts.0 >>= (λ at. laid_in id v at.fid parts.1 (a_file_of bytes)))
-    (λ parts e. then_fine (led id v parts.0) (λ at. laid_in id v at.fid parts.1 (a_file_of bytes)) (λ at g. file_fine id v at.fid parts.1 bytes f))
+path_fine id path x v f =
+    then_fine (ok_or (parted path) 22) (λ parts. led id v parts.0 >>= (λ at. laid_in id v at.fid parts.1 x))
+    (λ parts e. then_fine (led id v parts.0) (λ at. laid_in id v at.fid parts.1 x) (λ at g. in_fine id v at.fid parts.1 x f))
+
+list_fine : (id : ℕ) (path : List (List ℕ)) (text : List ℕ) (v : Volume) → IsFine v → FineIn (acl_laid id path text v)
+unfolding acl_laid
+list_fine id path text v f = then_fine (led id v path) (λ at. called id (calls.StoreAcl at.fid text) v) (λ at g. called_fine id (calls.StoreAcl at.fid text) v (λ z. absurd cc) f)
+
+line_fine : (id : ℕ) (l : SetupLine) (v : Volume) → IsFine v → FineIn (laid id l v)
+line_fine id (setup.Directory path) v f = path_fine id path a_dir v f
+line_fine id (setup.File path contents) v f = path_fine id path (a_file_of (bytes_in contents)) v f
+line_fine id (setup.Link path target) v f = path_fine id path (a_link_to (bytes_in target)) v f
+line_fine id (setup.AccessList path text) v f = list_fine id path (bytes_in text) v f
 
 or_fine : (v : Volume) (r : std_result.Result Volume ℕ) → FineIn r → IsFine v → IsFine (laid_or v r)
 or_fine v (Ok w) h f = h
 or_fine v (Err code) h f = f
 
-all_fine : (id : ℕ) (ls : List SetupLine) (v : Volume) → IsFine v → IsFine (all_laid id ls v)
+all_fine : (id : ℕ) (ls : List SetupLine) (v : Volume) → IsFine v → IsFine (filled_by id ls v)
 all_fine id [] v f = f
 all_fine id (l ∷ ls) v f = all_fine id ls (laid_or v (laid id l v)) (or_fine v (laid id l v) (line_fine id l v f) f)
 
@@ -442,4 +457,4 @@ new_fine family name kind quota = record {
 }
 
 pub first_fine : (v : VolumeLine) → IsFine (first_volume v)
-first_fine v = all_fine v.id v.lines (new_volume v.id v.name 0 0 v.quota) (new_fine v.id v.name 0 v.quota)
+first_fine v = all_fine v.id v.lines (empty_volume v) (new_fine v.id v.name 0 v.quota)

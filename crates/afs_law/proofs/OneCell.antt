@@ -12,7 +12,7 @@ use Rattle.afs_num.specs.declared.types.Node.{Node}
 use Rattle.afs_num.specs.declared.types.Node.TheVariants.{Loc, Server, Client, Admin}
 use Rattle.afs_num.specs.declared.messages.Message.{Message}
 use Rattle.afs_num.specs.declared.messages.Received.TheVariants.{Whole}
-use Rattle.afs_num.specs.declared.scripts.Script.{Script}
+use Rattle.afs_history.specs.declared.scripts.Script.{Script}
 use Rattle.afs_rows.specs.ServerSteps.{server_row, back_timeout_row, wake_row, start_row}
 use Rattle.afs_history.specs.declared.lines.Line.TheVariants as lines
 use Rattle.afs_num.specs.declared.histories.Actor.TheVariants as actors
@@ -205,7 +205,7 @@ Leads c (x ∷ xs) [] end = ⊥
 
 abbrev pub start : Script → Cell
 start s = record {
-  server = first_server (first_volumes s.volumes);
+  server = first_server s.capacity (first_volumes s.volumes);
   count = s.clients;
   down = None;
   armed = unarmed;

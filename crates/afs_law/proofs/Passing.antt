@@ -4,7 +4,7 @@ use Rattle.afs_num.specs.declared.histories.Actor.TheVariants as actors
 use Rattle.afs_law.proofs.Nexts.{asks_change, as_is, asks_is}
 use Rattle.afs_law.proofs.Facts.{IsLastPair, KeepsPair, RanOn, IsChangingUnder, last_key, fids_of_gifts, Tried, AreFetched, FitsBulk, its_call}
 use Rattle.afs_num.specs.declared.histories.ReadStatus.{ReadStatus}
-use Rattle.afs_num.specs.declared.scripts.Script.{Script}
+use Rattle.afs_history.specs.declared.scripts.Script.{Script}
 use Rattle.std.proofs.Common.{not, zero, suc, ◌+◌, eq-eqb, nat_eq, ◌≡◌, ℕ, ◌≤◌, inl, inr, Bool, true, false, cond, List, [], ◌∷◌, ◌++◌, Option, Some, None, ℤ, refl, sym, ap, ◌∙◌, subst, arith, le_of_eq, le_trans, eqb-true}
 use Rattle.std.specs.Option.{option_map}
 use Rattle.afs_num.specs.declared.types.Fid.{Fid}
@@ -160,7 +160,6 @@ cause_over m code call e past h = record {
   user = h.user;
   call = h.call;
   carries = h.carries;
-  own_user = h.own_user;
   asks = h.asks;
   result = result_by m.head.from code (answer_at h.user h.call h.ran.older) (answered_key m.head) h.ran.at.lines (lines_of past) (lines_of (e ∷ past)) (told_onto (answered_key m.head) (answer_at h.user h.call h.ran.older) e.lines (lines_of past)) h.result;
 }
@@ -175,7 +174,6 @@ cause_behind m code call past own h = record {
   user = h.user;
   call = h.call;
   carries = h.carries;
-  own_user = h.own_user;
   asks = h.asks;
   result = result_by m.head.from code (answer_at h.user h.call h.ran.older) (answered_key m.head) h.ran.at.lines (lines_of past) (own ++ lines_of past) (told_behind (answered_key m.head) (answer_at h.user h.call h.ran.older) own (lines_of past)) h.result;
 }

@@ -4,7 +4,7 @@ use Rattle.afs_num.specs.declared.types.Node.TheVariants.{Client, Server, Admin,
 use Rattle.afs_num.specs.declared.types.Node.{Node}
 use Rattle.afs_law.proofs.Promising.{Owed}
 use Rattle.afs_rows.specs.States.{Held, BackCall}
-use Rattle.afs_num.specs.declared.scripts.Script.{Script}
+use Rattle.afs_history.specs.declared.scripts.Script.{Script}
 use Rattle.std.proofs.Common.{◌≡◌, ℕ, Bool, true, false, cond, List, [], ◌∷◌, ◌++◌, Option, Some, None, refl, sym, subst, ◌∙◌}
 use Rattle.std.specs.Prelude.{filter, not}
 use Rattle.afs_num.specs.declared.messages.Message.{Message}

@@ -55,7 +55,7 @@ use Rattle.afs_num.specs.declared.types.Node.TheVariants.{Client}
 use Rattle.afs_num.specs.declared.calls.FsCall.{FsCall}
 use Rattle.afs_num.specs.declared.messages.Carried.{Carried}
 use Rattle.afs_num.specs.declared.messages.Message.{Message}
-use Rattle.afs_num.specs.declared.scripts.Script.{Script}
+use Rattle.afs_history.specs.declared.scripts.Script.{Script}
 use Rattle.afs_num.specs.declared.histories.Body.{Body}
 use Rattle.afs_num.specs.declared.histories.Version.{Version}
 use Rattle.std.proofs.Math.Nat.{le_trans, eq-or-lt_of_le}
@@ -895,7 +895,7 @@ saves_holds y s now c past after armed d n h user call time id st es shown H w q
       answer = record {
         fits = change_fits (c.clients n).spoiled call y s c past n (client_head n h) user id time (time_in (stored_after id time es st)) st.volume es shown k (record { durable = Some (taken n h r); epoch = h.epoch; last = h.number }) some H q w.one (record { ran = record { seat = taken n h r; at = refl; epoch = refl; number = refl }; kept = refl });
         code = pos 0;
-        cause = cause_now c n h user call x (pos 0) (e ∷ past) run w.origin.own_user (carried_code (time + promise_ticks) (change_reply id (the_user user) (time_in (stored_after id time es st)) (counted (edited_all id es st.volume)) shown call)) (carried_zero call time id user (time_in (stored_after id time es st)) st.volume es shown some) (inl (ap code_given result, subst (λ (z : Option Result). IsTold k z (lines_of (e ∷ past))) (sym result) (saves_change y k vs r past)));
+        cause = cause_now c n h user call x (pos 0) (e ∷ past) run (carried_code (time + promise_ticks) (change_reply id (the_user user) (time_in (stored_after id time es st)) (counted (edited_all id es st.volume)) shown call)) (carried_zero call time id user (time_in (stored_after id time es st)) st.volume es shown some) (inl (ap code_given result, subst (λ (z : Option Result). IsTold k z (lines_of (e ∷ past))) (sym result) (saves_change y k vs r past)));
         own = refl;
       };
       acts = saves_act y n k vs r past;

@@ -14,14 +14,15 @@ use Rattle.afs_num.specs.declared.types.Fid.{Fid}
 use Rattle.afs_num.specs.declared.types.Node.{Node}
 use Rattle.afs_num.specs.declared.types.Node.TheVariants.{Loc, Server, Client, Admin}
 use Rattle.afs_num.specs.declared.messages.Message.{Message}
-use Rattle.afs_num.specs.declared.scripts.Script.{Script}
-use Rattle.afs_num.specs.declared.scripts.VolumeLine.{VolumeLine}
+use Rattle.afs_history.specs.declared.scripts.Script.{Script}
+use Rattle.afs_history.specs.declared.scripts.VolumeLine.{VolumeLine}
 use Rattle.afs_num.specs.declared.histories.Body.{Body}
 use Rattle.afs_num.specs.declared.histories.ReadBody.TheVariants as body_shown
 use Rattle.afs_num.specs.declared.histories.ReadSource.TheVariants.{Cached}
 use Rattle.afs_rows.specs.ClientRow.{find_cached}
 use Rattle.afs_rows.specs.Going.{Going}
-use Rattle.afs_rows.specs.Runs.{is_away, Entry, Cell, Input, Moved, Blow, Fall, Armed, Luck, Outcome, comes_up, fails_early, fails_midway, is_full, begins, gives, waits, ticks, client_stops, client_starts, stops, starts_again, sets_stop, sets_fail, server_waits, wakes, nothing, moved, voided, if_host, begun_by, waited_by, server_served, server_given, server_stopped, server_ends, server_restarted, server_armed, back_timed, server_timed, server_wakes, given_to, given_at, settled, struck, decided_at, message_at, Leads, start, RunsTo, first_volume, first_volumes, first_server, first_client, placed_at, unless_there, unarmed, volumes_at, begun_by_disk}
+use Rattle.afs_ideal.specs.SetUp.{first_volume}
+use Rattle.afs_rows.specs.Runs.{is_away, Entry, Cell, Input, Moved, Blow, Fall, Armed, Luck, Outcome, comes_up, fails_early, fails_midway, is_full, begins, gives, waits, ticks, client_stops, client_starts, stops, starts_again, sets_stop, sets_fail, server_waits, wakes, nothing, moved, voided, if_host, begun_by, waited_by, server_served, server_given, server_stopped, server_ends, server_restarted, server_armed, back_timed, server_timed, server_wakes, given_to, given_at, settled, struck, decided_at, message_at, Leads, start, RunsTo, first_volumes, first_server, first_client, placed_at, unless_there, unarmed, volumes_at, begun_by_disk}
 use Rattle.afs_rows.specs.ServerRow.{Begun, device_calls}
 use Rattle.afs_rows.specs.States.{BackCall, CacheEntry}
 use Rattle.afs_history.specs.declared.lines.Line.{Line}
@@ -219,12 +220,12 @@ placed_same true b id v vs ws e q = q
 placed_same false true id v vs ws e q = ap (set id v) q
 placed_same false false id v vs ws e q = absurd cc
 
-all_at_one : (vs : List VolumeLine) → AreAtServer vs → volumes_at (Server 1) vs ≡ first_volumes vs
+all_at_one : (vs : List VolumeLine) → AreAtServer vs → volumes_at 1 vs ≡ first_volumes vs
 all_at_one [] h = refl
-all_at_one (v ∷ vs) h = placed_same (is_some (get v.id (first_volumes vs))) (same_node v.server (Server 1)) v.id (first_volume v) (volumes_at (Server 1) vs) (first_volumes vs) (ap (λ (n : Node). same_node n (Server 1)) h.0) (all_at_one vs h.1)
+all_at_one (v ∷ vs) h = placed_same (is_some (get v.id (first_volumes vs))) (nat_eq v.server 1) v.id (first_volume v) (volumes_at 1 vs) (first_volumes vs) (ap (λ (n : ℕ). nat_eq n 1) h.0) (all_at_one vs h.1)
 
 abbrev begun_at : Script → Table Volume → one.Cell
-begun_at s volumes = record { server = first_server volumes; count = s.clients; down = None; armed = unarmed; clients = first_client s; away = λ n. false; sent = []; clock = 0 }
+begun_at s volumes = record { server = first_server s.capacity volumes; count = s.clients; down = None; armed = unarmed; clients = first_client s; away = λ n. false; sent = []; clock = 0 }
 
 pub run_same : (s : Script) (h : List Entry) (end : Cell) → IsOneServer s → RunsTo h s end → one.RunsTo h s (seen_in end)
 run_same s h end is r = record {

@@ -47,7 +47,7 @@ use Rattle.afs_num.specs.declared.types.Node.TheVariants.{Client}
 use Rattle.afs_num.specs.declared.calls.FsCall.{FsCall}
 use Rattle.afs_num.specs.declared.messages.Carried.{Carried}
 use Rattle.afs_num.specs.declared.messages.Message.{Message}
-use Rattle.afs_num.specs.declared.scripts.Script.{Script}
+use Rattle.afs_history.specs.declared.scripts.Script.{Script}
 use Rattle.afs_num.specs.declared.histories.Actor.{Actor}
 use Rattle.afs_num.specs.declared.histories.Body.{Body}
 use Rattle.afs_num.specs.declared.histories.Version.{Version}
@@ -416,10 +416,10 @@ pub record HasRun (c : Cell) (n : ℕ) (h : Head) (user : List ℕ) (call : FsCa
   pub ideal : AreIdeal c.server.lasting.volumes ran.older
 
 -- the reply has the code of the ideal operation
-abbrev pub cause_now : (c : Cell) (n : ℕ) (h : Head) (user : List ℕ) (call : FsCall) (x : Carried) (code : ℤ) (past : List Entry) → (g : HasRun c n h user call past) → user ≡ user_of (Client n)
+abbrev pub cause_now : (c : Cell) (n : ℕ) (h : Head) (user : List ℕ) (call : FsCall) (x : Carried) (code : ℤ) (past : List Entry) → (g : HasRun c n h user call past)
     → HasCode x → code_told x ≡ Some code → IsResult the_server code (answer_at user call g.ran.older) (called_key (client_head n h)) g.ran.at.lines (lines_of past)
     → Cause (replied c.server.lasting.boot (client_head n h) x) code (as_asked call) past []
-cause_now c n h user call x code past g own has told result = record {
+cause_now c n h user call x code past g has told result = record {
   is_reply = (refl, has);
   told = told;
   ran = g.ran;
@@ -427,7 +427,6 @@ cause_now c n h user call x code past g own has told result = record {
   user = user;
   call = call;
   carries = ap (λ (m : Message). m.carried) g.is;
-  own_user = own;
   asks = refl;
   result = result;
 }
@@ -691,7 +690,7 @@ refuses_goes s c past armed p n h user call code H up at w nz result =
           (record {
             fits = refusal_fits (c.clients n).spoiled n call (spot_at (call_seat (Client n) c.server.lasting.kept) h.epoch h.number) c.server.lasting.boot r (record { 0 = code }) (e ∷ past) nz (not_stored (call_seat (Client n) c.server.lasting.kept) h.epoch h.number w.above_durable);
             code = code;
-            cause = cause_now c n h user call x code (e ∷ past) (has_run s c past p n h user call e H up at w refl refl) w.origin.own_user tt refl result;
+            cause = cause_now c n h user call x code (e ∷ past) (has_run s c past p n h user call e H up at w refl refl) tt refl result;
             own = refl;
           }))
           (H.boots ∙ ap (λ (d : Option Fall). up_boot d c.server.lasting.boot) up) (unheard_after s c past p n h user call r e H up at w refl) tt (λ own held. pumped_news (views_after false H.floors c n h r) c.server.lasting.boot (e ∷ past) c.server.lasting.boot t pump.clients (no_news _ _ _) (own, tt) held) (λ z. pump.backed);
@@ -1059,7 +1058,7 @@ shows_by s c past armed p n h user call r H up at w is code done =
                   reached = (rest.reach n f.fid).seen f.vnode.index ((reached_at s c past n f.fid (version_at f.fid.volume f.fid.vnode f.vnode) H last).seen);
                 });
             code = pos 0;
-            cause = cause_now c n h user call z (pos 0) (e ∷ past) run w.origin.own_user tt refl (inl (code, told_still (called_key (client_head n h)) (answer_at user call past) (lines_of (e ∷ past)) done));
+            cause = cause_now c n h user call z (pos 0) (e ∷ past) run tt refl (inl (code, told_still (called_key (client_head n h)) (answer_at user call past) (lines_of (e ∷ past)) done));
             own = refl;
           }))
           boots (unheard_after s c past p n h user call m e H up at w refl) tt (λ own held. pumped_news (views_after false H.floors c n h m) c.server.lasting.boot (e ∷ past) c.server.lasting.boot turn pump.clients (no_news _ _ _) (own, tt) held) (λ z. pump.backed);

@@ -34,7 +34,7 @@ use Rattle.afs_num.specs.declared.types.Head.{Head}
 use Rattle.afs_num.specs.declared.types.Node.TheVariants.{Client}
 use Rattle.afs_num.specs.declared.calls.FsCall.{FsCall}
 use Rattle.afs_num.specs.declared.messages.Message.{Message}
-use Rattle.afs_num.specs.declared.scripts.Script.{Script}
+use Rattle.afs_history.specs.declared.scripts.Script.{Script}
 use Rattle.afs_history.specs.declared.lines.Line.TheVariants as lines
 
 -- ---- a timeout line alone
@@ -69,7 +69,7 @@ tries_goes s c past n act h runs =
     let x : ClientState = c.clients n in
     let q : Node = x.callee in
     let y : ClientState = record x { tries = x.tries + 1 } in
-    let kind : IsClient s y = record { table = (h.own n).table; user = (h.own n).user; callee = λ a z. (h.own n).callee a z; needs = λ a z. (h.own n).needs a z; apart = (h.own n).apart; gifts = (h.own n).gifts } in
+    let kind : IsClient s n y = record { table = (h.own n).table; user = (h.own n).user; callee = λ a z. (h.own n).callee a z; needs = λ a z. (h.own n).needs a z; apart = (h.own n).apart; gifts = (h.own n).gifts } in
     let ms : List Message = call_message (Client n) x act ∷ [] in
     let e : Entry = step_entry n (lines.Timeout (Client n) q x.epoch x.last (x.tries + 1) ∷ []) ms in
     moves s c past n (h.floors n) (tries_again (Client n) x act) h kind (refl, tt) (timeout_passes s q n x.epoch x.last (x.tries + 1) ms past)
@@ -88,7 +88,7 @@ not_raised false = refl
 
 -- the answer is good behind the drops
 pub dead_good : (s : Script) (n : ℕ) (act : Going) (callee : Node) (epoch number : ℕ) (past : List Entry) (es : List CacheEntry) (own : List Line) → running s (Client n) (own ++ lines_of past) ≡ Some act → HasTimeout (Client n) callee epoch number 3 own → HasTimeout (Client n) callee epoch number 1 (lines_of past) → HasTimeout (Client n) callee epoch number 2 (lines_of past)
-    → has_begun (Client n) own ≡ false → (call : FsCall) → as_asked call ≡ asked act → CalledSince (record { node = Client n; epoch = epoch; number = number }) (user_of (Client n)) call past
+    → has_begun (Client n) own ≡ false → (call : FsCall) → as_asked call ≡ asked act → CalledSince (record { node = Client n; epoch = epoch; number = number }) (user_of s (Client n)) call past
     → AreGood s (actors.Node (Client n)) past own (dropped (Client n) es (last_line n dead_code))
 dead_good s n act callee epoch number past [] own runs third first second before call asks called =
     ((refl, record { act = act; runs = runs; cause = inr (inr (inl (record { is = refl; callee = callee; epoch = epoch; number = number; third = third; first = first; second = second; before = before; call = call; asks = asks; called = called }))) }), tt)

@@ -28,13 +28,14 @@ use Rattle.afs_law.proofs.Law.{legal}
 use Rattle.afs_rows.specs.ClientRow.{begin_row, client_row}
 use Rattle.afs_law.specs.Legal.{Legal}
 use Rattle.afs_history.specs.declared.lines.Line.{Line}
-use Rattle.afs_rows.specs.Runs.{first_volume, comes_up, steady, Entry}
+use Rattle.afs_ideal.specs.SetUp.{first_volume}
+use Rattle.afs_rows.specs.Runs.{comes_up, steady, Entry}
 use Rattle.afs_law.proofs.OneCell.{waits, starts_again, sets_stop, ticks, server_waits, Cell, Input, begins, gives, moved, start, Leads}
 use Rattle.afs_model.specs.Messages.{spelled}
 use Rattle.afs_num.specs.Names.{name_ok}
 use Rattle.std.specs.Fmt.{digits}
-use Rattle.afs_num.specs.declared.scripts.Script.{Script}
-use Rattle.afs_num.specs.declared.scripts.SetupLine.TheVariants as setup
+use Rattle.afs_history.specs.declared.scripts.Script.{Script}
+use Rattle.afs_history.specs.declared.scripts.SetupLine.TheVariants as setup
 use Rattle.afs_num.specs.declared.histories.Body.TheVariants as bodies
 use Rattle.afs_history.specs.declared.lines.Line.TheVariants as lines
 use Rattle.afs_num.specs.declared.histories.ReadSource.TheVariants.{Cached, Fetched}
@@ -53,8 +54,13 @@ abbrev pub script : ℕ → Script
 script n = record {
   servers = 1;
   clients = n;
-  volumes = record { id = home; name = codes "proj"; server = Server 1; quota = 1000; lines = setup.File (codes "a" ∷ []) (codes "abc") ∷ [] } ∷ [];
+  admins = 0;
+  cache = 64;
+  capacity = 268435456;
+  users = [];
+  volumes = record { id = home; name = codes "proj"; server = 1; quota = 1000; lines = setup.File (codes "a" ∷ []) (Hex (codes "abc")) ∷ [] } ∷ [];
   tasks = [];
+  plans = [];
   schedule = None;
 }
 
@@ -303,7 +309,7 @@ owed_nought h = let e : 0 < 0 = h.1.1.1.0.0.0.1.1.1.0.1.0 in absurd (omega arith
 
 -- an entry that brings a volume
 abbrev brings : Entry → Entry
-brings e = record e { volumes = (7, first_volume (record { id = 7; name = codes "x"; server = Server 1; quota = 1; lines = [] })) ∷ [] }
+brings e = record e { volumes = (7, first_volume (record { id = 7; name = codes "x"; server = 1; quota = 1; lines = [] })) ∷ [] }
 
 no_table : (p : ℕ × Volume) (ps : Table Volume) → p ∷ ps ≡ [] → ⊥
 no_table p ps e = absurd cc

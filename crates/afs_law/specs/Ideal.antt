@@ -7,18 +7,20 @@ use Rattle.afs_ideal.specs.Tables.{Table, get}
 use Rattle.afs_ideal.specs.Volumes.{a_directory, Vnode, version_at, Volume, body_of, size_of, type_of, vnode_of}
 use Rattle.afs_history.specs.declared.lines.Line.{Line}
 use Rattle.afs_law.specs.Past.{begins_act, onto, is_of_act, sent_of, is_called}
-use Rattle.afs_rows.specs.Runs.{Entry, first_volume, first_volumes, counts_later}
+use Rattle.afs_ideal.specs.SetUp.{first_volume}
+use Rattle.afs_rows.specs.Runs.{Entry, first_volumes, counts_later, user_at}
 use Rattle.afs_rows.specs.Scopes.{is_volume}
-use Rattle.std.specs.Prelude.{◌≡◌, ℕ, ◌+◌, List, [], ◌∷◌, ◌++◌, Bool, true, false, ◌&&◌, Option, Some, None, codes, max, if◌then◌else◌, ◌⊎◌}
+use Rattle.std.specs.Prelude.{◌≡◌, ℕ, ◌+◌, List, [], ◌∷◌, ◌++◌, Bool, true, false, ◌&&◌, Option, Some, None, max, if◌then◌else◌, ◌⊎◌}
 use Rattle.std.specs.Option.{option_map}
 use Rattle.afs_num.specs.Fids.{same_fid}
 use Rattle.afs_num.specs.Nodes.{same_node}
 use Rattle.afs_num.specs.declared.types.Code.{Code}
 use Rattle.afs_num.specs.declared.types.Fid.{Fid}
 use Rattle.afs_num.specs.declared.types.Node.{Node}
+use Rattle.afs_num.specs.declared.types.Node.TheVariants.{Server, Client}
 use Rattle.afs_num.specs.declared.calls.FsCall.{FsCall}
-use Rattle.afs_num.specs.declared.scripts.Script.{Script}
-use Rattle.afs_num.specs.declared.scripts.VolumeLine.{VolumeLine}
+use Rattle.afs_history.specs.declared.scripts.Script.{Script}
+use Rattle.afs_history.specs.declared.scripts.VolumeLine.{VolumeLine}
 use Rattle.afs_num.specs.declared.histories.Actor.TheVariants as actors
 use Rattle.afs_num.specs.declared.histories.Body.{Body}
 use Rattle.afs_num.specs.declared.histories.Version.{Version}
@@ -180,7 +182,7 @@ HasBeen f index body (e ∷ past) = TellsOf f index body (volume_after f.volume 
 -- of the lines with one volume's number the last counts
 abbrev pub is_at : ℕ → Node → List VolumeLine → Type 0
 is_at id server [] = ⊥
-is_at id server (v ∷ vs) = ((counts_later v.id vs ≡ false) × ((v.id ≡ id) × (v.server ≡ server))) ⊎ is_at id server vs
+is_at id server (v ∷ vs) = ((counts_later v.id vs ≡ false) × ((v.id ≡ id) × (Server v.server ≡ server))) ⊎ is_at id server vs
 
 -- The server accepts stores of the volume: at first the script's server does. No line moves a volume yet.
 abbrev pub Accepts : Script → ℕ → Node → List Line → Type 0
@@ -195,9 +197,10 @@ clock_of (l ∷ older) = clock_of older
 
 -- ---- what an act asks, and what the ideal cell makes of a call
 
--- the user of every client
-abbrev pub user_of : Node → List ℕ
-user_of client = codes "guest"
+-- the user that a node states in its calls: a client the one that the script gives it
+abbrev pub user_of : Script → Node → List ℕ
+user_of s (Client n) = user_at s n
+user_of s node = []
 
 -- ---- what a client has seen
 

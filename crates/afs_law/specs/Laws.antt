@@ -20,7 +20,7 @@ use Rattle.std.specs.List.{AllByRecursion}
 use Rattle.afs_ideal.specs.Told.{Agrees}
 use Rattle.afs_ideal.specs.Volumes.{Volume}
 use Rattle.afs_law.specs.Grants.{since, IsOutstanding, fetch_reply}
-use Rattle.afs_law.specs.Ideal.{versions_in, volume_after, set_up, IsLast}
+use Rattle.afs_law.specs.Ideal.{user_of, versions_in, volume_after, set_up, IsLast}
 use Rattle.afs_law.specs.Legal.{HasChangeBy, GoodRead, HasChange, Legal, Cause}
 use Rattle.afs_history.specs.declared.lines.Line.{Line}
 use Rattle.afs_law.specs.Once.{past_of, ChangesOnce}
@@ -40,7 +40,7 @@ use Rattle.afs_num.specs.declared.types.Code.{Code}
 use Rattle.std.specs.Prelude.{⊤, pos, ◌⊎◌, ◌≤◌, ◌<◌, None, Some, ◌∷◌, [], ◌≡◌, ◌↔◌, ℕ, List, ◌++◌, false, ◌+◌, ◌&&◌, Option, true, ℤ}
 use Rattle.afs_num.specs.declared.types.Fid.{Fid}
 use Rattle.afs_num.specs.declared.types.Node.{Node}
-use Rattle.afs_num.specs.declared.scripts.Script.{Script}
+use Rattle.afs_history.specs.declared.scripts.Script.{Script}
 use Rattle.afs_num.specs.declared.histories.Body.{Body}
 use Rattle.afs_num.specs.declared.histories.ReadBody.{ReadBody}
 use Rattle.afs_num.specs.declared.histories.ReadBody.TheVariants as seen
@@ -171,11 +171,11 @@ CallsRunOnce =
     → IsUnheard (Server i) (called_key head) head.boot (past_of (set_up s ∷ []) history)
 
 -- the reply to the call that a client waits for is that of the entry which ran the call in the boot that the reply carries, and
--- tells what the ideal cell made of it there
+-- tells what the ideal cell made of it there, for the client's user
 abbrev pub RepliesAreCaused : Type 0
 RepliesAreCaused =
     (s : Script) (history : List Entry) (end : Cell) → IsOneServer s → RunsTo history s end → (j place : ℕ) (m : Message) (act : Going) → message_at end.sent place ≡ Some m → HasCode m.carried → m.head.to ≡ Client j
-    → (end.clients j).running ≡ Some act → m.head.epoch ≡ (end.clients j).epoch → m.head.number ≡ (end.clients j).last → (code : ℤ) × Cause m code (asked act) (past_of (set_up s ∷ []) history) []
+    → (end.clients j).running ≡ Some act → m.head.epoch ≡ (end.clients j).epoch → m.head.number ≡ (end.clients j).last → (code : ℤ) × ((cause : Cause m code (asked act) (past_of (set_up s ∷ []) history) []) × (cause.user ≡ user_of s (Client j)))
 
 -- each reply of a server to a client, once sent, is that of the entry that ran its call in the boot that it carries
 abbrev pub RepliesAreRan : Type 0

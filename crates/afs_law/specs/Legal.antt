@@ -20,7 +20,7 @@ use Rattle.afs_law.specs.Ideal.{last_version, Unless, set_up, IsLast, WasLast, H
 use Rattle.afs_history.specs.declared.lines.Line.{Line}
 use Rattle.afs_law.specs.Past.{is_of_act, AreWithin, lines_of, sent_of, given_message, answered_key, code_told, IsReply, running, has_begun, has_given, Called, CalledSince, IsCallUnder, IsUnheard, Ran, server_boot}
 use Rattle.afs_rows.specs.Runs.{Entry}
-use Rattle.afs_num.specs.declared.scripts.Script.{Script}
+use Rattle.afs_history.specs.declared.scripts.Script.{Script}
 use Rattle.afs_num.specs.declared.histories.Actor.{Actor}
 use Rattle.afs_num.specs.declared.histories.Actor.TheVariants as actors
 use Rattle.afs_num.specs.declared.histories.Body.{Body}
@@ -50,7 +50,7 @@ abbrev pub IsAtOnce : Node → List Line → Type 0
 IsAtOnce c own = (has_begun c own ≡ true) × (has_given own ≡ false)
 
 -- the entry was given a reply with code 0, to a call that the client sent since its act began, which was in an entry before
-pub record HasUsed (c : Node) (past : List Entry) (own : List Line) : Type 0 where
+pub record HasUsed (s : Script) (c : Node) (past : List Entry) (own : List Line) : Type 0 where
   pub reply : Message
   pub by : given_message own (sent_of past) ≡ Some reply
   pub is_reply : IsReply reply
@@ -58,7 +58,7 @@ pub record HasUsed (c : Node) (past : List Entry) (own : List Line) : Type 0 whe
   pub to : reply.head.to ≡ c
   pub before : has_begun c own ≡ false
   pub call : FsCall
-  pub called : CalledSince (answered_key reply.head) (user_of c) call past
+  pub called : CalledSince (answered_key reply.head) (user_of s c) call past
 
 -- ---- reads
 
@@ -98,7 +98,7 @@ pub record GoodRights (s : Script) (c : Node) (f : Fid) (index : ℕ) (source : 
   pub act : Going
   pub runs : running s c (own ++ lines_of past) ≡ Some act
   pub needs : next act ≡ reads_rights f
-  pub used : HasUsed c past own
+  pub used : HasUsed s c past own
   pub asks : used.call ≡ asked act
   pub whole : Shows f index body past own
   pub not_older : seen c f past own ≤ index
@@ -190,7 +190,7 @@ pub record GoodChange (s : Script) (server : Node) (k : Key) (count : ℕ) (past
   pub act : Going
   pub called : Called s k user call act past
   pub one : call_under k (sent_of past) ≡ Some (user, call)
-  pub own_user : user ≡ user_of k.node
+  pub own_user : user ≡ user_of s k.node
   pub own_call : call ≡ asked act
   pub id : ℕ
   pub of_volume : volume_called call ≡ Some id
@@ -293,7 +293,7 @@ as_asked (calls.GiveUpCallBacks fids callbacks) = calls.GiveUpCallBacks [] []
 as_asked call = call
 
 -- the reply has this code, and so has the ideal operation where the call ran, in the boot in which its server then was; the call
--- is the one that the act asks, for its user; and where the operation makes versions, their change stands before
+-- is the one that the act asks; and where the operation makes versions, their change stands before
 pub record Cause (reply : Message) (code : ℤ) (asks_for : FsCall) (past : List Entry) (own : List Line) : Type 0 where
   pub is_reply : IsReply reply
   pub told : code_told reply.carried ≡ Some code
@@ -302,7 +302,6 @@ pub record Cause (reply : Message) (code : ℤ) (asks_for : FsCall) (past : List
   pub user : List ℕ
   pub call : FsCall
   pub carries : ran.message.carried ≡ carried.Call user (ask.File call)
-  pub own_user : user ≡ user_of reply.head.to
   pub asks : as_asked call ≡ asks_for
   pub result : IsResult reply.head.from code (answer_at user call ran.older) (answered_key reply.head) ran.at.lines (own ++ lines_of past)
 
@@ -313,13 +312,14 @@ EndsAct gives_back = ⊤
 EndsAct need = ⊥
 
 -- the reply that the answer's entry was given is the cause of the code, and its call is one of this very act: the client
--- sent it, and its server ran it, since the act began, which was in an entry before. The code is 0 only where the act ends with
--- this call
-pub record IsCaused (c : Node) (act : Going) (code : ℤ) (past : List Entry) (own : List Line) : Type 0 where
+-- sent it for its user, and its server ran it, since the act began, which was in an entry before. The code is 0 only where the act
+-- ends with this call
+pub record IsCaused (s : Script) (c : Node) (act : Going) (code : ℤ) (past : List Entry) (own : List Line) : Type 0 where
   pub reply : Message
   pub by : given_message own (sent_of past) ≡ Some reply
   pub to : reply.head.to ≡ c
   pub cause : Cause reply code (asked act) past own
+  pub own_user : cause.user ≡ user_of s c
   pub before : has_begun c own ≡ false
   pub called : CalledSince (answered_key reply.head) cause.user cause.call past
   pub lately : AreWithin c (cause.ran.newer ++ cause.ran.at ∷ [])
@@ -327,14 +327,14 @@ pub record IsCaused (c : Node) (act : Going) (code : ℤ) (past : List Entry) (o
 
 -- the act needs no more, and answers so by its read lines; it began in this entry, which was given nothing, or the entry was
 -- given a reply with code 0 to its call
-pub record IsDone (c : Node) (act : Going) (code : ℤ) (past : List Entry) (own : List Line) : Type 0 where
+pub record IsDone (s : Script) (c : Node) (act : Going) (code : ℤ) (past : List Entry) (own : List Line) : Type 0 where
   pub number : ℕ
   pub is : code ≡ pos number
   pub by : next act ≡ answers number
-  pub last : IsAtOnce c own ⊎ HasUsed c past own
+  pub last : IsAtOnce c own ⊎ HasUsed s c past own
 
 -- a call of this very act was timed out for the third time in this entry, and twice before: it is dead
-pub record IsDead (c : Node) (act : Going) (code : ℤ) (past : List Entry) (own : List Line) : Type 0 where
+pub record IsDead (s : Script) (c : Node) (act : Going) (code : ℤ) (past : List Entry) (own : List Line) : Type 0 where
   pub is : code ≡ negsuc 0
   pub callee : Node
   pub epoch : ℕ
@@ -345,7 +345,7 @@ pub record IsDead (c : Node) (act : Going) (code : ℤ) (past : List Entry) (own
   pub before : has_begun c own ≡ false
   pub call : FsCall
   pub asks : as_asked call ≡ asked act
-  pub called : CalledSince (record { node = c; epoch = epoch; number = number }) (user_of c) call past
+  pub called : CalledSince (record { node = c; epoch = epoch; number = number }) (user_of s c) call past
 
 -- the client gave up a fid by itself
 abbrev pub has_dropped : Node → List Line → Bool
@@ -365,7 +365,7 @@ pub record HasNothing (c : Node) (act : Going) (code : ℤ) (own : List Line) : 
 pub record GoodCode (s : Script) (c : Node) (code : Code) (past : List Entry) (own : List Line) : Type 0 where
   pub act : Going
   pub runs : running s c (own ++ lines_of past) ≡ Some act
-  pub cause : IsCaused c act code.0 past own ⊎ (IsDone c act code.0 past own ⊎ (IsDead c act code.0 past own ⊎ HasNothing c act code.0 own))
+  pub cause : IsCaused s c act code.0 past own ⊎ (IsDone s c act code.0 past own ⊎ (IsDead s c act code.0 past own ⊎ HasNothing c act code.0 own))
 
 -- ---- messages that are sent
 

@@ -5,8 +5,9 @@ use Rattle.std.specs.Fmt.{decimal}
 use Rattle.std.proofs.lemmas.Fmt.{decimal_digit, decimal_step}
 use Rattle.afs_num.specs.declared.types.Node.TheVariants.{Server, Client}
 use Rattle.afs_num.specs.declared.vnodes.Vnode.{Vnode}
-use Rattle.afs_num.specs.declared.scripts.SetupLine.TheVariants as setup
-use Rattle.afs_num.specs.declared.scripts.VolumeLine.{VolumeLine}
+use Rattle.afs_history.specs.declared.acts.Written.TheVariants.{Hex}
+use Rattle.afs_history.specs.declared.scripts.SetupLine.TheVariants as setup
+use Rattle.afs_history.specs.declared.scripts.VolumeLine.{VolumeLine}
 use Rattle.afs_xdr.specs.Words.{word, words, opaque, pad, word_at, opaque_at, counted_at}
 use Rattle.afs_ideal.specs.AccessLists as acls
 use Rattle.afs_ideal.specs.Directories as directories
@@ -30,7 +31,7 @@ abbrev home : ℕ
 home = 536870912
 
 abbrev line : VolumeLine
-line = record { id = home; name = codes "proj"; server = Server 1; quota = 1000; lines = setup.File (codes "a" ∷ []) (codes "abc") ∷ [] }
+line = record { id = home; name = codes "proj"; server = 1; quota = 1000; lines = setup.File (codes "a" ∷ []) (Hex (codes "abc")) ∷ [] }
 
 abbrev root : Vnode
 root = record {

@@ -3,14 +3,14 @@ use Rattle.std.specs.Prelude.{ℕ, ◌+◌, List, [], ◌∷◌, ◌++◌, lengt
 use Rattle.std.specs.Option.{option_map}
 use Rattle.afs_num.specs.declared.types.Key.{Key}
 use Rattle.afs_num.specs.declared.volumes.VolumeHead.{VolumeHead}
-use Rattle.afs_num.specs.declared.scripts.SetupLine.{SetupLine}
-use Rattle.afs_num.specs.declared.scripts.VolumeLine.{VolumeLine}
+use Rattle.afs_history.specs.declared.scripts.SetupLine.{SetupLine}
+use Rattle.afs_history.specs.declared.scripts.VolumeLine.{VolumeLine}
 use Rattle.afs_shape.specs.Taking.{◌>>=◌}
 use Rattle.afs_ideal.specs.Tables.{Table, get, set, unset}
 use Rattle.afs_ideal.specs.Images.{Image, image_of}
 use Rattle.afs_ideal.specs.Volumes.{Vnode, Volume, Edit, edit_number, edited_all, counted}
 use Rattle.afs_ideal.specs.Operations.{last_count}
-use Rattle.afs_ideal.specs.SetUp.{new_volume, laid}
+use Rattle.afs_ideal.specs.SetUp.{empty_volume, laid}
 use Rattle.afs_num.specs.declared.records.RecordHead.{RecordHead}
 use Rattle.afs_num.specs.declared.records.StoredVolume.{StoredVolume}
 use Rattle.afs_num.specs.declared.records.RecordBody.TheVariants as bodies
@@ -118,9 +118,8 @@ abbrev pub laid_all : ℕ → List SetupLine → Volume → Option Volume
 laid_all id [] v = Some v
 laid_all id (l ∷ ls) v = accepted (laid id l v) >>= laid_all id ls
 
--- a script's volume is a read-write one, and its own family
 abbrev pub volume_laid : VolumeLine → Option Volume
-volume_laid l = laid_all l.id l.lines (new_volume l.id l.name 0 0 l.quota)
+volume_laid l = laid_all l.id l.lines (empty_volume l)
 
 -- all times are 0, before the clock's first tick
 abbrev pub at_set_up : Volume → Stored

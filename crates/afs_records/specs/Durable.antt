@@ -6,8 +6,8 @@ use Rattle.afs_num.specs.declared.types.Fid.{Fid}
 use Rattle.afs_num.specs.declared.types.Key.{Key}
 use Rattle.afs_num.specs.declared.types.Node.{Node}
 use Rattle.afs_num.specs.declared.types.Node.TheVariants.{Loc}
-use Rattle.afs_num.specs.declared.histories.Line.{Line}
-use Rattle.afs_num.specs.declared.histories.Line.TheVariants as lines
+use Rattle.afs_history.specs.declared.lines.Line.{Line}
+use Rattle.afs_history.specs.declared.lines.Line.TheVariants as lines
 use Rattle.afs_num.specs.declared.histories.Version.{Version}
 use Rattle.afs_shape.specs.Taking.{◌>>=◌}
 use Rattle.afs_ideal.specs.Tables.{Table, get, set, unset}

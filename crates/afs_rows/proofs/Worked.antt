@@ -5,26 +5,31 @@ use Rattle.afs_num.specs.declared.histories.ReadBody.{ReadBody}
 use Rattle.afs_num.specs.declared.histories.ReadBody.TheVariants as seen
 use Rattle.afs_history.specs.declared.acts.Act.TheVariants as acts
 use Rattle.afs_history.specs.declared.acts.Operand.TheVariants as operands
-use Rattle.afs_history.specs.declared.acts.Written.TheVariants.{Hex}
+use Rattle.afs_history.specs.declared.acts.Written.TheVariants.{Hex, Fill}
 use Rattle.std.specs.Option.{option_map}
 use Rattle.std.proofs.Common.{Option, negsuc, ◌≡◌, ℕ, List, [], ◌∷◌, ◌++◌, Some, None, pos, refl}
-use Rattle.std.specs.Prelude.{codes, true, false, Bool, filter}
+use Rattle.std.specs.Prelude.{codes, true, false, Bool, filter, map}
 use Rattle.afs_num.specs.declared.types.Fid.{Fid}
+use Rattle.afs_num.specs.declared.calls.FsCall.TheVariants as calls
+use Rattle.afs_num.specs.declared.messages.Call.TheVariants as ask
+use Rattle.afs_num.specs.declared.messages.Carried.TheVariants as carried
+use Rattle.afs_num.specs.declared.messages.Message.{Message}
 use Rattle.afs_num.specs.declared.types.Node.TheVariants.{Server, Client}
-use Rattle.afs_ideal.specs.AccessLists.{rights_of, acl_text, entry_text}
+use Rattle.afs_ideal.specs.AccessLists as acls
+use Rattle.afs_ideal.specs.AccessLists.{rights_of, acl_at, line_number_at, entry_at, named_at, acl_text, entry_text}
 use Rattle.afs_ideal.specs.Directories.{directory_bytes, name_bytes, directory_of, names_at, whole_at, count_at, name_at, spelled_at, bytes_below}
-use Rattle.afs_ideal.specs.SetUp.{laid_at, led}
+use Rattle.afs_ideal.specs.SetUp.{laid_at, acl_laid, led}
 use Rattle.afs_ideal.specs.VnodeImage.{image}
-use Rattle.afs_rows.specs.ClientRow.{new_client, begin_row, client_row}
+use Rattle.afs_rows.specs.ClientRow.{begin_row, client_row}
 use Rattle.afs_history.specs.declared.lines.Line.{Line}
 use Rattle.afs_records.specs.Records.{record_bytes, head_form, volume_form}
 use Rattle.afs_rows.specs.ServerSteps.{server_row, back_timeout_row, wake_row, start_row}
-use Rattle.afs_rows.specs.Runs.{locations, comes_up, steady, stops, waits, starts_again, sets_stop, ticks, server_waits, Entry, Cell, Input, begins, gives, moved, start}
+use Rattle.afs_rows.specs.Runs.{user_at, comes_up, steady, stops, waits, starts_again, sets_stop, ticks, server_waits, Entry, Cell, Input, begins, gives, moved, start}
 use Rattle.afs_model.specs.Messages.{spelled}
 use Rattle.afs_num.specs.Names.{name_ok}
 use Rattle.std.specs.Fmt.{digits}
-use Rattle.afs_num.specs.declared.scripts.Script.{Script}
-use Rattle.afs_num.specs.declared.scripts.SetupLine.TheVariants as setup
+use Rattle.afs_history.specs.declared.scripts.Script.{Script}
+use Rattle.afs_history.specs.declared.scripts.SetupLine.TheVariants as setup
 use Rattle.afs_num.specs.declared.histories.Body.TheVariants as bodies
 use Rattle.afs_history.specs.declared.lines.Line.TheVariants as lines
 use Rattle.afs_num.specs.declared.histories.ReadSource.TheVariants.{Cached, Fetched}
@@ -43,8 +48,13 @@ abbrev pub script : ℕ → Script
 script n = record {
   servers = 1;
   clients = n;
-  volumes = record { id = home; name = codes "proj"; server = Server 1; quota = 1000; lines = setup.File (codes "a" ∷ []) (codes "abc") ∷ [] } ∷ [];
+  admins = 0;
+  cache = 64;
+  capacity = 268435456;
+  users = [];
+  volumes = record { id = home; name = codes "proj"; server = 1; quota = 1000; lines = setup.File (codes "a" ∷ []) (Hex (codes "abc")) ∷ [] } ∷ [];
   tasks = [];
+  plans = [];
   schedule = None;
 }
 
@@ -312,15 +322,20 @@ abbrev pub two_files : Script
 two_files = record {
   servers = 1;
   clients = 1;
-  volumes = record { id = home; name = codes "proj"; server = Server 1; quota = 1000; lines = setup.File (codes "a" ∷ []) (codes "abc") ∷ setup.File (codes "b" ∷ []) (codes "b") ∷ [] } ∷ [];
+  admins = 0;
+  cache = 64;
+  capacity = 268435456;
+  users = [];
+  volumes = record { id = home; name = codes "proj"; server = 1; quota = 1000; lines = setup.File (codes "a" ∷ []) (Hex (codes "abc")) ∷ setup.File (codes "b" ∷ []) (Hex (codes "b")) ∷ [] } ∷ [];
   tasks = [];
+  plans = [];
   schedule = None;
 }
 
 abbrev pub second : Fid
 second = record { volume = home; vnode = 4; unique = 3 }
 
-row_small_cache : filter is_read (told (record (start two_files) { clients = λ n. new_client 1 1 (codes "guest") (locations two_files) })
+row_small_cache : filter is_read (told (start (record two_files { cache = 1 }))
     (begins 1 (acts.Open (operands.Fid file)) ∷ gives 1 steady ∷ gives 2 steady ∷ begins 1 (acts.Open (operands.Fid second)) ∷ gives 3 steady ∷ gives 4 steady ∷ begins 1 (acts.Open (operands.Fid file)) ∷ gives 5 steady ∷ gives 6 steady ∷ [])) ≡
     lines.Grant (Server 1) (Client 1) file 1 7200 ∷ lines.Read (Client 1) file 1 Fetched (seen.Contents (bodies.File (codes "abc"))) ∷ answer 1
     ∷ lines.Grant (Server 1) (Client 1) second 1 7200 ∷ lines.Read (Client 1) second 1 Fetched (seen.Contents (bodies.File (codes "b"))) ∷ answer 1
@@ -337,9 +352,14 @@ abbrev pub two_servers : Script
 two_servers = record {
   servers = 2;
   clients = 1;
-  volumes = record { id = home; name = codes "proj"; server = Server 1; quota = 1000; lines = setup.File (codes "a" ∷ []) (codes "abc") ∷ [] }
-      ∷ record { id = 536870913; name = codes "more"; server = Server 2; quota = 1000; lines = setup.File (codes "b" ∷ []) (codes "b") ∷ [] } ∷ [];
+  admins = 0;
+  cache = 64;
+  capacity = 268435456;
+  users = [];
+  volumes = record { id = home; name = codes "proj"; server = 1; quota = 1000; lines = setup.File (codes "a" ∷ []) (Hex (codes "abc")) ∷ [] }
+      ∷ record { id = 536870913; name = codes "more"; server = 2; quota = 1000; lines = setup.File (codes "b" ∷ []) (Hex (codes "b")) ∷ [] } ∷ [];
   tasks = [];
+  plans = [];
   schedule = None;
 }
 
@@ -358,3 +378,71 @@ row_two_servers : told (start two_servers) at_two ≡
     ∷ begun 1 ∷ lines.Read (Client 1) file 2 Cached (seen.Contents (bodies.File (codes "def"))) ∷ answer 1 ∷ []
 unfolding moved begin_row client_row server_row back_timeout_row wake_row start_row record_bytes head_form volume_form spelled opaque pad word laid_at led name_ok directory_bytes name_bytes rights_of image acl_text digits entry_text bytes_below
 row_two_servers = refl
+
+-- ---- what a script says of disks and users
+
+-- behind the first record a store of three bytes fits on a disk of 571 bytes, and on none that is smaller
+abbrev pub stores_once : List Input
+stores_once = begins 1 (acts.Close (operands.Fid file) (Hex (codes "def"))) ∷ gives 1 steady ∷ gives 2 steady ∷ []
+
+row_no_room : told (start (record (script 1) { capacity = 570 })) stores_once ≡ stores 1 ∷ lines.Given 1 ∷ lines.Given 2 ∷ code 1 108 ∷ []
+unfolding moved begin_row client_row server_row back_timeout_row wake_row start_row record_bytes head_form volume_form spelled opaque pad word laid_at led name_ok directory_bytes name_bytes rights_of image acl_text digits entry_text bytes_below
+row_no_room = refl
+
+row_just_room : told (start (record (script 1) { capacity = 571 })) stores_once ≡ stores 1 ∷ lines.Given 1 ∷ (change 1 ++ lines.Given 2 ∷ answer 1 ∷ [])
+unfolding moved begin_row client_row server_row back_timeout_row wake_row start_row record_bytes head_form volume_form spelled opaque pad word laid_at led name_ok directory_bytes name_bytes rights_of image acl_text digits entry_text bytes_below
+row_just_room = refl
+
+-- of a client's lines the last names its user
+abbrev pub three_users : Script
+three_users = record (script 3) {
+  users = record { client = 1; name = codes "amy" } ∷ record { client = 2; name = codes "bob" } ∷ record { client = 1; name = codes "eve" } ∷ [];
+}
+
+user_of_two_lines : user_at three_users 1 ≡ codes "eve"
+user_of_two_lines = refl
+
+user_of_one_line : user_at three_users 2 ≡ codes "bob"
+user_of_one_line = refl
+
+user_of_no_line : user_at three_users 3 ≡ codes "guest"
+user_of_no_line = refl
+
+-- which it states in its calls
+row_user : map (λ (m : Message). m.carried) (moved (start three_users) (begins 1 (acts.Open (operands.Fid file)))).entry.sent ≡ carried.Call (codes "eve") (ask.File (calls.FetchData file (pos 0) (pos 2147483647))) ∷ []
+unfolding moved begin_row client_row server_row back_timeout_row wake_row start_row record_bytes head_form volume_form spelled opaque pad word laid_at led name_ok directory_bytes name_bytes rights_of image acl_text digits entry_text bytes_below
+row_user = refl
+
+-- ---- what a script lays: a directory with a file, a link beside it, and an access list of the directory
+
+abbrev pub of_each : Script
+of_each = record (script 1) {
+  volumes = record {
+    id = home;
+    name = codes "proj";
+    server = 1;
+    quota = 1000;
+    lines = setup.Directory (codes "d" ∷ []) ∷ setup.File (codes "d" ∷ codes "f" ∷ []) (Fill 3 97) ∷ setup.Link (codes "l" ∷ []) (Hex (codes "d/f")) ∷ setup.AccessList (codes "d" ∷ []) (Hex (codes "1\n0\nsystem:anyuser\t9\n")) ∷ [];
+  } ∷ [];
+}
+
+abbrev pub deep : Path
+deep = record { volume = codes "proj"; names = codes "d" ∷ codes "f" ∷ [] }
+
+abbrev pub below : Fid
+below = record { volume = home; vnode = 3; unique = 2 }
+
+abbrev pub deep_file : Fid
+deep_file = record { volume = home; vnode = 2; unique = 3 }
+
+row_of_each : filter is_kept (told (start of_each) (begins 1 (acts.Open (operands.Path deep)) ∷ gives 1 steady ∷ gives 2 steady ∷ gives 3 steady ∷ gives 4 steady ∷ gives 5 steady ∷ gives 6 steady ∷ [])) ≡
+    lines.Begin (Client 1) (acts.Open (operands.Path deep))
+    ∷ lines.Grant (Server 1) (Client 1) root 1 7200
+    ∷ lines.Read (Client 1) root 1 Fetched (seen.Contents (bodies.Dir (record { name = codes "d"; vnode = 3; unique = 2 } ∷ record { name = codes "l"; vnode = 4; unique = 4 } ∷ [])))
+    ∷ lines.Grant (Server 1) (Client 1) below 1 7200
+    ∷ lines.Read (Client 1) below 1 Fetched (seen.Contents (bodies.Dir (record { name = codes "f"; vnode = 2; unique = 3 } ∷ [])))
+    ∷ lines.Grant (Server 1) (Client 1) deep_file 1 7200
+    ∷ lines.Read (Client 1) deep_file 1 Fetched (seen.Contents (bodies.File (97 ∷ 97 ∷ 97 ∷ [])))
+    ∷ code 1 0 ∷ []
+unfolding moved begin_row client_row server_row back_timeout_row wake_row start_row record_bytes head_form volume_form spelled opaque pad word laid_at acl_laid led name_ok directory_bytes name_bytes rights_of acl_at acls.count_at line_number_at entry_at named_at acls.name_at image acl_text digits entry_text directory_of names_at opaque_at word_at counted_at whole_at count_at name_at spelled_at bytes_below
+row_of_each = refl

@@ -1,6 +1,5 @@
-use Rattle.afs_num.specs.Nodes.{same_node}
 use Rattle.afs_num.specs.Places.{at_place}
-use Rattle.afs_ideal.specs.SetUp.{new_volume, laid}
+use Rattle.afs_ideal.specs.SetUp.{first_volume}
 use Rattle.afs_ideal.specs.Tables.{Table, get, set}
 use Rattle.afs_ideal.specs.Volumes.{Volume}
 use Rattle.afs_history.specs.declared.acts.Act.{Act}
@@ -11,15 +10,15 @@ use Rattle.afs_history.specs.declared.lines.Line.{Line}
 use Rattle.afs_rows.specs.ServerRow.{Begun, begun_before, begun_after, decides, device_calls, revived, Decision}
 use Rattle.afs_rows.specs.States.{Location, ServerState, BackCall, Lasting, durable_of}
 use Rattle.afs_rows.specs.Steps.{Step}
-use Rattle.std.specs.Prelude.{Result, Ok, Err, is_some, ◌≡◌, ℕ, zero, suc, ◌+◌, ◌-◌, List, [], ◌∷◌, ◌++◌, Bool, true, false, cond, not, ◌||◌, nat_lt, codes, Option, Some, None, if◌then◌else◌}
+use Rattle.std.specs.Prelude.{is_some, ◌≡◌, ℕ, zero, suc, ◌+◌, ◌-◌, List, [], ◌∷◌, ◌++◌, Bool, true, false, cond, not, ◌||◌, nat_eq, nat_lt, codes, Option, Some, None, if◌then◌else◌}
 use Rattle.std.specs.Option.{option_map}
 use Rattle.afs_num.specs.declared.types.Node.{Node}
 use Rattle.afs_num.specs.declared.types.Node.TheVariants.{Loc, Server, Client, Admin}
 use Rattle.afs_num.specs.declared.messages.Message.{Message}
 use Rattle.afs_num.specs.declared.messages.Received.TheVariants.{Whole}
-use Rattle.afs_num.specs.declared.scripts.Script.{Script}
-use Rattle.afs_num.specs.declared.scripts.SetupLine.{SetupLine}
-use Rattle.afs_num.specs.declared.scripts.VolumeLine.{VolumeLine}
+use Rattle.afs_history.specs.declared.scripts.Script.{Script}
+use Rattle.afs_history.specs.declared.scripts.UserLine.{UserLine}
+use Rattle.afs_history.specs.declared.scripts.VolumeLine.{VolumeLine}
 use Rattle.afs_num.specs.declared.histories.Actor.{Actor}
 use Rattle.afs_rows.specs.ServerSteps.{server_row, back_timeout_row, wake_row, start_row}
 use Rattle.afs_records.specs.Changes.{at_set_up, can_boot, record_of_volumes}
@@ -328,19 +327,6 @@ Leads c (x ∷ xs) [] end = ⊥
 
 -- ---- the set-up of a script
 
--- a line that can't be laid leaves the volume as it was; a script has none
-abbrev pub laid_or : Volume → Result Volume ℕ → Volume
-laid_or v (Ok w) = w
-laid_or v (Err code) = v
-
-abbrev pub all_laid : ℕ → List SetupLine → Volume → Volume
-all_laid id [] v = v
-all_laid id (l ∷ ls) v = all_laid id ls (laid_or v (laid id l v))
-
--- the volume that a script's lines make of a new one: read-write, in service
-abbrev pub first_volume : VolumeLine → Volume
-first_volume v = all_laid v.id v.lines (new_volume v.id v.name 0 0 v.quota)
-
 abbrev pub unless_there : Bool → ℕ → Volume → Table Volume → Table Volume
 unless_there true id v vs = vs
 unless_there false id v vs = set id v vs
@@ -359,55 +345,55 @@ placed_at true here id v vs = vs
 placed_at false true id v vs = set id v vs
 placed_at false false id v vs = vs
 
-abbrev pub volumes_at : Node → List VolumeLine → Table Volume
+abbrev pub volumes_at : ℕ → List VolumeLine → Table Volume
 volumes_at server [] = []
-volumes_at server (v ∷ vs) = placed_at (counts_later v.id vs) (same_node v.server server) v.id (first_volume v) (volumes_at server vs)
+volumes_at server (v ∷ vs) = placed_at (counts_later v.id vs) (nat_eq v.server server) v.id (first_volume v) (volumes_at server vs)
 
 -- with what stands beside them
 abbrev pub first_stored : Table Volume → Table Stored
 first_stored [] = []
 first_stored (p ∷ ps) = (p.0, at_set_up p.1) ∷ first_stored ps
 
--- the capacity is that of a script without a line on it
-abbrev pub first_lasting : Table Stored → Lasting
-first_lasting volumes = record {
+-- on a disk of this capacity
+abbrev pub first_lasting : ℕ → Table Stored → Lasting
+first_lasting capacity volumes = record {
   boot = 1;
   volumes = volumes;
   stamps = [];
   forwardings = [];
   kept = [];
   journal = 1 + place_length (record_of_volumes volumes);
-  capacity = 268435456;
+  capacity = capacity;
 }
 
-abbrev pub first_server : Table Volume → ServerState
-first_server volumes = record { lasting = first_lasting (first_stored volumes); seats = []; backs = first_backs }
+abbrev pub first_server : ℕ → Table Volume → ServerState
+first_server capacity volumes = record { lasting = first_lasting capacity (first_stored volumes); seats = []; backs = first_backs }
 
-abbrev pub location_by : Bool → VolumeLine → Node → List Location → List Location
-location_by true v node ls = ls
-location_by false v (Server n) ls = record { name = v.name; id = v.id; server = n } ∷ ls
-location_by false v node ls = ls
+abbrev pub location_by : Bool → VolumeLine → List Location → List Location
+location_by true v ls = ls
+location_by false v ls = record { name = v.name; id = v.id; server = v.server } ∷ ls
 
 abbrev pub locations_in : List VolumeLine → List Location
 locations_in [] = []
-locations_in (v ∷ vs) = location_by (counts_later v.id vs) v v.server (locations_in vs)
+locations_in (v ∷ vs) = location_by (counts_later v.id vs) v (locations_in vs)
 
 -- what clients know of the script's volumes, each at a server
 abbrev pub locations : Script → List Location
 locations s = locations_in s.volumes
 
--- the most entries of each cache, and the user of each client
-abbrev pub cache_size : Script → ℕ
-cache_size s = 64
+-- the user of a client: the one that the last of its lines names, or this one
+abbrev pub user_in : ℕ → List ℕ → List UserLine → List ℕ
+user_in n user [] = user
+user_in n user (u ∷ us) = user_in n (if nat_eq u.client n then u.name else user) us
 
 abbrev pub user_at : Script → ℕ → List ℕ
-user_at s n = codes "guest"
+user_at s n = user_in n (codes "guest") s.users
 
 abbrev pub first_client : Script → ℕ → ClientState
-first_client s n = new_client 1 (cache_size s) (user_at s n) (locations s)
+first_client s n = new_client 1 s.cache (user_at s n) (locations s)
 
 abbrev pub first_host : Script → ℕ → Host
-first_host s i = record { state = first_server (volumes_at (Server i) s.volumes); down = None; armed = unarmed }
+first_host s i = record { state = first_server s.capacity (volumes_at i s.volumes); down = None; armed = unarmed }
 
 abbrev pub start : Script → Cell
 start s = record {

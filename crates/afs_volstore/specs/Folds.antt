@@ -1,7 +1,7 @@
 -- The fold of a disk's records, one after the other.
 use Rattle.std.specs.Prelude.{◌≡◌, ◌+◌, ℕ, List, [], ◌∷◌, Bool, true, false, Option, Some, None, length, map, if◌then◌else◌}
 use Rattle.std.specs.Option.{option_map}
-use Rattle.afs_num.specs.declared.histories.Line.{Line}
+use Rattle.afs_history.specs.declared.lines.Line.{Line}
 use Rattle.afs_num.specs.declared.types.Node.{Node}
 use Rattle.afs_num.specs.declared.records.StoreRecord.{StoreRecord}
 use Rattle.afs_shape.specs.Taking.{◌>>=◌}

@@ -1,7 +1,7 @@
 -- The lines of a change in words: a count that has no word is told as the last.
 use Rattle.std.specs.Prelude.{ℕ, List, [], ◌∷◌, Option, Some, None, map, min, slice_get}
-use Rattle.afs_num.specs.declared.histories.Line.{Line}
-use Rattle.afs_num.specs.declared.histories.Line.TheVariants as lines
+use Rattle.afs_history.specs.declared.lines.Line.{Line}
+use Rattle.afs_history.specs.declared.lines.Line.TheVariants as lines
 use Rattle.afs_num.specs.declared.histories.Version.{Version}
 use Rattle.afs_ideal.specs.Images.{Image, value_of}
 use Rattle.afs_ideal.specs.Operations.{last_count}

@@ -16,7 +16,8 @@ ghost use Rattle.afs_volstore.specs.Telling.{in_words, outcome_at, outcomes_seen
 
 use crate::memory::State;
 use crate::redo::Redo;
-use afs_num::histories::{Body, Line, Lines, Version, Versions};
+use afs_history::lines::{Line, Lines};
+use afs_num::histories::{Body, Version, Versions};
 use afs_num::records::RecordHead;
 use afs_num::types::{Fid, Key, Mem, Node};
 use afs_num::vnodes::Vnode;

@@ -19,9 +19,9 @@ ghost use Rattle.afs_volstore.specs.Stores.{IsCounted, IsEarly, IsFull, IsKept, 
 use crate::memory::State;
 use crate::prepared::Prepared;
 use afs_disk::Disk;
+use afs_history::lines::Lines;
 use afs_journal::Journal;
 use afs_num::faults::StoreFault;
-use afs_num::histories::Lines;
 use afs_num::records::Mark;
 use afs_num::types::{Key, Node};
 use afs_volume::Volume;

@@ -1,7 +1,7 @@
 use Rattle.std.proofs.Common.{◌++◌, ap, subst, sym, ◌∙◌, List}
 use Rattle.std.specs.List.{All}
 use Rattle.std.proofs.lemmas.List.Elements.{All-tail}
-use Rattle.afs_num.specs.declared.scripts.VolumeLine.{VolumeLine}
+use Rattle.afs_history.specs.declared.scripts.VolumeLine.{VolumeLine}
 use Rattle.afs_rows.specs.Runs.{locations_in}
 use Rattle.afs_acts.specs.Acts.{HasServer}
 use Rattle.afs_acts.proofs.Told.{first_line, told_on}

@@ -1,6 +1,6 @@
 use Rattle.std.proofs.Common.{◌≡◌, ◌++◌, ◌∷◌, length, map, min}
 use Rattle.std.specs.Vec.Iter.{into_iter_items}
-use Rattle.afs_num.specs.declared.histories.Line.TheVariants as lines
+use Rattle.afs_history.specs.declared.lines.Line.TheVariants as lines
 use Rattle.afs_ideal.specs.Operations.{last_count}
 use Rattle.afs_volstore.proofs.lines.change_lines.Given as goal
 
