@@ -174,7 +174,7 @@ of_each = record {
       ∷ [];
 }
 
-all_are_accepted : laid_all 5 of_each.lines (empty_volume of_each) ≡ Ok (first_volume of_each)
+all_are_accepted : code_of (laid_all 5 of_each.lines (empty_volume of_each)) ≡ 0
 unfolding laid_at acl_laid led rights_of acl_at count_at line_number_at entry_at name_at named_at bytes_below directory_bytes name_bytes opaque word pad name_ok
 all_are_accepted = refl
 

@@ -107,7 +107,7 @@ fn append<D: Disk>(journal: &mut Journal<D>, bytes: &[u8]) -> Result<(), StoreFa
     ensures stays { OnErr result ((journal.new.count ≡ journal.old.count) × (journal.new.gate ≡ journal.old.gate)) }
     ensures refusals { IfErr result (λ e. e ≡ faults.Failed) }
     ensures number { OnOk result ((journal.new.count ≡ journal.old.count + 1) × ((journal.new.gate ≡ journal.old.gate + length bytes.now + 9) × (journal.new.closed ≡ false))) }
-    ensures told { OnOk result (IsSome (D.seen journal.new.disk) → IsSome (D.seen journal.old.disk)) }
+    ensures told { IsSome (D.seen journal.new.disk) ↔ IsSome (D.seen journal.old.disk) }
     ensures added { OnOk result ((content : List ℕ) → D.seen journal.old.disk ≡ Some content → IsJournal (whole_records content ++ bytes.now ∷ []) (D.seen journal.new.disk) (D.may_leave journal.new.disk)) }
     ensures any_moment { (content : List ℕ) → D.seen journal.old.disk ≡ Some content
         → LeavesOnly D.moment D.left_since journal.old.disk journal.new.disk (IsBeforeOrAfter (whole_records content) bytes.now) }
@@ -137,7 +137,7 @@ pub(crate) fn put<D: Disk>(
     ensures stays { OnErr result ((journal.new.count ≡ journal.old.count) × (journal.new.gate ≡ journal.old.gate)) }
     ensures refusals { IfErr result (λ e. e ≡ faults.Failed) }
     ensures number { OnOk result ((journal.new.count ≡ journal.old.count + 1) × ((journal.new.gate ≡ journal.old.gate + length prepared.bytes + 9) × (journal.new.closed ≡ false))) }
-    ensures seen { OnOk result (IsSome (D.seen journal.new.disk) → IsSome (D.seen journal.old.disk)) }
+    ensures seen { IsSome (D.seen journal.new.disk) ↔ IsSome (D.seen journal.old.disk) }
     ensures added { OnOk result ((content : List ℕ) → D.seen journal.old.disk ≡ Some content → IsJournal (whole_records content ++ prepared.bytes ∷ []) (D.seen journal.new.disk) (D.may_leave journal.new.disk)) }
     ensures any_moment { (content : List ℕ) → D.seen journal.old.disk ≡ Some content
         → LeavesOnly D.moment D.left_since journal.old.disk journal.new.disk (IsBeforeOrAfter (whole_records content) prepared.bytes) }
@@ -181,6 +181,7 @@ impl<D: Disk> VolStore<D> {
         ensures closed_same { IsErrOf result faults.Closed → self.new ≡ self.old }
         ensures failed { IsErrOf result faults.Failed → self.new ≡ record self.old { disk = self.new.disk; prepared = None; closed = true } }
         ensures refusals { IfErr result (λ e. (e ≡ faults.Failed) ⊎ (e ≡ faults.Closed)) }
+        ensures told { IsSome (D.seen self.new.disk) ↔ IsSome (D.seen self.old.disk) }
 
         // Where the disk tells: every crash leaves what is kept now.
         ensures kept { OnOk result (IsKept self.new.durable (D.seen self.new.disk) (D.may_leave self.new.disk)) }
@@ -219,6 +220,7 @@ impl<D: Disk> VolStore<D> {
         ensures room { can_boot self.old.durable ≡ false → IfErr result (λ e. (e ≡ faults.OutOfMemory) ⊎ IsErrOf result (faults.Full self.old.durable.journal self.old.durable.capacity)) × (IsOk result → ⊥) }
         ensures early { IsEarly result (SameBut self.old self.new) }
         ensures failed { IsErrOf result faults.Failed → self.new ≡ record self.old { disk = self.new.disk; prepared = None; closed = true } }
+        ensures told { IsSome (D.seen self.new.disk) ↔ IsSome (D.seen self.old.disk) }
         ensures never { (IsErrOf result faults.Closed → ⊥) × ((n : ℕ) → IsErrOf result (faults.BadRecord n) → ⊥) }
         ensures kept { OnOk result (IsKept self.new.durable (D.seen self.new.disk) (D.may_leave self.new.disk)) }
         ensures added { OnOk result ((bytes : List ℕ) → D.seen self.old.disk ≡ Some bytes → IsJournal (whole_records bytes ++ record_bytes (boot_record (self.old.durable.boot + 1)) ∷ []) (D.seen self.new.disk) (D.may_leave self.new.disk)) }

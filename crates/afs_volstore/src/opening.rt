@@ -1,6 +1,6 @@
 //! A store is made of a disk at a restart.
 
-ghost use Rattle.std.specs.Prelude.{◌≡◌, ◌≤◌, ◌+◌, ℕ, List, None, Some, false, length, IfOk, IfErr, MatchResult, IsSome};
+ghost use Rattle.std.specs.Prelude.{◌≡◌, ◌≤◌, ◌+◌, ◌↔◌, ℕ, List, None, Some, false, length, IfOk, IfErr, MatchResult, IsSome};
 ghost use Rattle.afs_num.specs.declared.faults.StoreFault.TheVariants as faults;
 ghost use Rattle.afs_disk.specs.Disk.{LeavesOnly, PassesAll};
 ghost use Rattle.afs_journal.specs.Log.{IsJournal, Rests, StandsAsBefore, Taken};
@@ -43,7 +43,7 @@ impl<D: Disk> VolStore<D> {
         ensures stands { IfOk result (λ r. (bytes : List ℕ) → D.seen disk ≡ Some bytes → Stands bytes r.0.durable) }
         ensures lines { IfOk result (λ r. (bytes : List ℕ) → D.seen disk ≡ Some bytes → lines_begun node told (D.limit disk) (whole_records bytes) ≡ Some r.1) }
         ensures at_rest { IfOk result (λ r. (bytes : List ℕ) → D.seen disk ≡ Some bytes → IsJournal (whole_records bytes) (D.seen r.0.disk) (D.may_leave r.0.disk)) }
-        ensures told { IfOk result (λ r. IsSome (D.seen r.0.disk) → IsSome (D.seen disk)) }
+        ensures told { MatchResult result (λ r. IsSome (D.seen r.0.disk) ↔ IsSome (D.seen disk)) (λ e. IsSome (D.seen e.1) ↔ IsSome (D.seen disk)) }
         ensures count { IfOk result (λ r. (bytes : List ℕ) → D.seen disk ≡ Some bytes → r.0.count ≡ length (whole_records bytes)) }
         ensures rest { IfOk result (λ r. r.0 ≡ record { durable = r.0.durable; disk = r.0.disk; node = node; prepared = None; closed = false; count = r.0.count; drawn = 0 }) }
         ensures capacity { IfOk result (λ r. r.0.durable.capacity ≡ D.limit disk) }

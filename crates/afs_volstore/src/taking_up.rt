@@ -1,6 +1,6 @@
 //! A disk is taken up: the records that are found on it.
 
-ghost use Rattle.std.specs.Prelude.{◌≡◌, ◌≤◌, ◌+◌, ◌⊎◌, ℕ, List, [], Some, false, length, IfErr, IfOk, IsSome, MatchResult};
+ghost use Rattle.std.specs.Prelude.{◌≡◌, ◌≤◌, ◌+◌, ◌⊎◌, ◌↔◌, ℕ, List, [], Some, false, length, IfErr, IfOk, IsSome, MatchResult};
 ghost use Rattle.afs_num.specs.declared.faults.StoreFault.TheVariants as faults;
 ghost use Rattle.afs_disk.specs.Disk.{LeavesOnly, PassesAll};
 ghost use Rattle.afs_journal.specs.Log.{IsJournal, Rests, StandsAsBefore, Taken};
@@ -17,7 +17,7 @@ pub(crate) fn take_up<D: Disk>(alloc: Global, disk: D) -> Result<Journal<D>, (St
     requires { D.limit disk ≤ 268435456 }
     ensures found { IfOk result (λ j. (bytes : List ℕ) → D.seen disk ≡ Some bytes → j.found ≡ whole_records bytes) }
     ensures at_rest { IfOk result (λ j. (bytes : List ℕ) → D.seen disk ≡ Some bytes → IsJournal (whole_records bytes) (D.seen j.disk) (D.may_leave j.disk)) }
-    ensures told { IfOk result (λ j. IsSome (D.seen j.disk) → IsSome (D.seen disk)) }
+    ensures told { MatchResult result (λ j. IsSome (D.seen j.disk) ↔ IsSome (D.seen disk)) (λ e. IsSome (D.seen e.1) ↔ IsSome (D.seen disk)) }
     ensures counts { IfOk result (λ j. (j.count ≡ length j.found) × ((D.size j.disk ≡ j.gate + 1) × (j.closed ≡ false))) }
     ensures any_moment { (bytes : List ℕ) → D.seen disk ≡ Some bytes → MatchResult result
         (λ j. LeavesOnly D.moment D.left_since disk j.disk (StandsAsBefore (D.may_leave disk)))

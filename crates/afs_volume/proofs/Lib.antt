@@ -1,4 +1,5 @@
 pub mod Amended
+pub mod Called
 pub mod Changed
 pub mod Drawn
 pub mod Few

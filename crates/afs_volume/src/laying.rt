@@ -7,7 +7,8 @@ ghost use Rattle.afs_ideal.specs.SetUp.{a_file_of, laid, laid_at, laid_in, led, 
 ghost use Rattle.afs_ideal.specs.VnodeImage.{most_contents, FitsImage};
 ghost use Rattle.afs_ideal.specs.VnodeMaps.{most_vnodes};
 ghost use Rattle.afs_ideal.specs.Volumes.{a_directory, ascending, vnode_of};
-ghost use Rattle.afs_volume.specs.Filled.{at_once, image_at_first, is_accepted, Accepts, CanBeLaid, IsFilled, Lays, LaysEdits, Leads};
+ghost use Rattle.afs_history.specs.Written.{bytes_in};
+ghost use Rattle.afs_volume.specs.Filled.{at_once, image_at_first, is_accepted, Accepts, CanBeLaid, FitsLine, IsFilled, Lays, LaysEdits, Leads};
 ghost use Rattle.afs_volume.specs.Giving.{edits_seen, volume_of};
 ghost use Rattle.afs_volume.specs.Seen.{seen, IsReadable};
 ghost use Rattle.afs_volume.specs.Taking.{IsAtSetUp};
@@ -21,15 +22,17 @@ use crate::faults::OpFault;
 use crate::finding::{is_directory, names_of};
 use crate::making::new_file;
 use crate::operations::MOST_BYTES;
+use afs_history::acts::Written;
+use afs_history::scripts::SetupLine;
+use afs_history::written::bytes_in;
 use afs_num::calls::{AfsStoreStatus, FsCall};
-use afs_num::scripts::SetupLine;
 use afs_num::sequences::Octets;
 use afs_num::types::{Code, Fid, Mem};
 use afs_num::vnodes::{Vnode, Vnodes};
 use std::alloc::{AllocError, Global};
 
 /// A status of which nothing is set.
-fn nothing_set() -> AfsStoreStatus
+pub(crate) fn nothing_set() -> AfsStoreStatus
     ensures { result ≡ nothing_set }
 {
     AfsStoreStatus {
@@ -79,7 +82,7 @@ fn file_of(alloc: Global, d: &Fid, contents: &Octets) -> Mem<Vnode>
 
 impl Volume {
     /// Where names lead from the root: 20 where one is looked for in another kind than a directory, 2 where it isn't there.
-    fn led(&self, path: &[Octets]) -> Result<Fid, OpFault>
+    pub(crate) fn led(&self, path: &[Octets]) -> Result<Fid, OpFault>
         ensures leads { Leads (led self.now.head.id (volume_of self.now) path.now) result }
         ensures volume { IfOk result (λ d. d.volume ≡ self.now.head.id) }
     {
@@ -171,7 +174,7 @@ impl Volume {
 
     /// Lays what edits change.
     #[tactic(auto, using(crate::proofs::AtSetUp::still_at_set_up))]
-    fn lay_edits(&mut self, edits: &[Edit]) -> Mem<()>
+    pub(crate) fn lay_edits(&mut self, edits: &[Edit]) -> Mem<()>
         requires { CanBeLaid self.old.head.id (volume_of self.old) (edits_seen edits.now) }
         ensures ok { OnOk result (volume_of self.new ≡ at_once self.old.head.id (edits_seen edits.now) (volume_of self.old)) }
         ensures err { OnErr result ((self.new.head ≡ self.old.head) × (self.new.vnodes.table ≡ self.old.vnodes.table)) }
@@ -191,21 +194,34 @@ impl Volume {
         Ok(())
     }
 
+    /// Lays a file with these bytes, or leaves the volume as it was: 22 where its path has no name, 20 and 2 where it doesn't
+    /// lead to a directory, and the refusals of CreateFile and StoreData.
+    fn lay_file(&mut self, path: &[Octets], contents: &Written) -> Result<(), OpFault>
+        ensures lays { Lays (laid_at self.old.head.id path.now (a_file_of (bytes_in contents.now)) (volume_of self.old)) self.old self.new result }
+        ensures id { self.new.head.id ≡ self.old.head.id }
+        ensures times { IsAtSetUp self.old → IsAtSetUp self.new }
+    {
+        let contents = bytes_in(self.alloc, contents)?;
+        let edits = self.plan_path(path, &contents)?;
+        self.lay_edits(edits.as_slice())?;
+        Ok(())
+    }
+
     /// Lays a line of set-up, or leaves the volume as it was: 22 where its path has no name, 20 and 2 where it doesn't lead
     /// to a directory, and the refusals of the operations. Indexes, data versions and the counter stay at 1, the times of a
     /// volume at set-up at 0. On a volume that has changed, what the line changes has index and data version 1 again, and so
     /// has the counter.
     pub fn lay(&mut self, line: &SetupLine) -> Result<(), OpFault>
+        requires { FitsLine line.now }
         ensures lays { Lays (laid self.old.head.id line.now (volume_of self.old)) self.old self.new result }
         ensures id { self.new.head.id ≡ self.old.head.id }
         ensures times { IsAtSetUp self.old → IsAtSetUp self.new }
     {
         match line {
-            SetupLine::File { path, contents } => {
-                let edits = self.plan_path(path.as_slice(), contents)?;
-                self.lay_edits(edits.as_slice())?;
-                Ok(())
-            }
+            SetupLine::Directory { path } => self.lay_directory(path.as_slice()),
+            SetupLine::File { path, contents } => self.lay_file(path.as_slice(), contents),
+            SetupLine::Link { path, target } => self.lay_link(path.as_slice(), target),
+            SetupLine::AccessList { path, text } => self.lay_access_list(path.as_slice(), text),
         }
     }
 }

@@ -15,6 +15,7 @@ pub mod edits;
 pub mod faults;
 mod finding;
 mod laying;
+mod laying_calls;
 mod limits;
 mod making;
 mod naming;

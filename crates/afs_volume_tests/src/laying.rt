@@ -1,4 +1,4 @@
-use crate::steps::Step::{Create, Head, Lay, Status, Store};
+use crate::steps::Step::{Create, Head, Lay, LayAccessList, LayDirectory, LayLink, Status, Store};
 use crate::tried::told;
 use std::test::Fail;
 
@@ -49,5 +49,40 @@ fn a_line_that_is_refused_lays_nothing(rt: HostRuntime) -> Result<(), Fail> {
 fn no_name_is_laid_twice_nor_below_a_file(rt: HostRuntime) -> Result<(), Fail> {
     let steps = [Lay(&[b"a"], 1_024), Lay(&[b"a"], 3), Lay(&[b"a", b"b"], 3)];
     assert_eq!(rt; told(rt.alloc(), 2, &[], &steps)?.as_str(), "17\n20\n");
+    Ok(())
+}
+
+#[test]
+fn each_kind_is_laid_as_at_first(rt: HostRuntime) -> Result<(), Fail> {
+    let steps = [
+        LayDirectory(&[b"d"]),
+        Lay(&[b"d", b"f"], 3),
+        LayLink(&[b"l"]),
+        LayAccessList(&[b"d"]),
+        Head,
+        Status((1, 1)),
+        Status((3, 2)),
+        Status((2, 3)),
+        Status((4, 4)),
+    ];
+    let want = "unique 5 counter 1 blocks 4\nlinks 3 time 0\nlinks 2 time 0\nlinks 1 time 0\nlinks 1 time 0\n";
+    assert_eq!(rt; told(rt.alloc(), 1_000, &[], &steps)?.as_str(), want);
+    Ok(())
+}
+
+#[test]
+fn each_kind_has_its_refusals(rt: HostRuntime) -> Result<(), Fail> {
+    let steps = [
+        LayDirectory(&[]),
+        LayDirectory(&[b"d"]),
+        LayDirectory(&[b"d"]),
+        LayLink(&[b"x", b"l"]),
+        Lay(&[b"d", b"f"], 3),
+        LayLink(&[b"d", b"f", b"l"]),
+        LayAccessList(&[b"d", b"f"]),
+        LayAccessList(&[b"x"]),
+    ];
+    let want = "22\n17\n2\n20\n20\n2\n";
+    assert_eq!(rt; told(rt.alloc(), 1_000, &[], &steps)?.as_str(), want);
     Ok(())
 }

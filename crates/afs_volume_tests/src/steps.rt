@@ -23,6 +23,12 @@ pub enum Step<'a> {
     Store(Place, i32),
     /// A file of so many bytes is laid.
     Lay(&'a [&'a [u8]], i32),
+    /// A directory is laid.
+    LayDirectory(&'a [&'a [u8]]),
+    /// A link is laid, to `a`.
+    LayLink(&'a [&'a [u8]]),
+    /// An access list is laid, with one line.
+    LayAccessList(&'a [&'a [u8]]),
     /// The next unique number, the counter and the blocks are told.
     Head,
     /// The links and the time of a vnode are told.

@@ -1,13 +1,16 @@
 //! A volume on which steps are tried one after the other.
 
-ghost use Rattle.std.specs.Prelude.{◌≡◌};
+ghost use Rattle.std.specs.Prelude.{◌≡◌, IfOk};
+ghost use Rattle.afs_volume.specs.Filled.{FitsLine};
 ghost use Rattle.afs_volume.specs.Taking.{CanTakeIn};
 ghost use Rattle.afs_volume_tests.specs.Calls.{IsCall};
 
 use crate::printing::printed;
 use crate::steps::{Place, Step, bytes, call_of, fid, path};
+use afs_history::acts::Written;
+use afs_history::scripts::SetupLine;
 use afs_num::calls::{FsCall, FsReply};
-use afs_num::scripts::SetupLine;
+use afs_num::sequences::{Octets, Path};
 use afs_num::types::{Code, Mem};
 use afs_num::volumes::Change;
 use afs_volume::Volume;
@@ -61,6 +64,23 @@ fn status_text(alloc: Global, reply: &FsReply) -> Mem<String> {
     Ok(text)
 }
 
+fn link(path: Path) -> SetupLine
+    ensures { FitsLine result }
+{
+    let target = Written::Fill {
+        count: 1,
+        byte: b'a',
+    };
+    SetupLine::Link { path, target }
+}
+
+fn list(alloc: Global, path: Path) -> Mem<SetupLine>
+    ensures { IfOk result (λ l. FitsLine l) }
+{
+    let text = Written::Hex(Octets::from_slice(alloc, b"1\n0\namy\t9\n")?);
+    Ok(SetupLine::AccessList { path, text })
+}
+
 #[derive(Drop)]
 pub struct Tried {
     volume: Volume,
@@ -98,7 +118,9 @@ impl Tried {
         }
     }
 
-    fn laid(&mut self, alloc: Global, line: &SetupLine) -> Result<String, OpFault> {
+    fn laid(&mut self, alloc: Global, line: &SetupLine) -> Result<String, OpFault>
+        requires { FitsLine line.now }
+    {
         match self.volume.lay(line) {
             Ok(()) => Ok(String::new(alloc)),
             Err(fault) => refusal(alloc, fault),
@@ -118,9 +140,15 @@ impl Tried {
         match step {
             Step::Lay(names, count) => {
                 let path = path(alloc, names)?;
-                let contents = bytes(alloc, *count)?;
+                let contents = Written::Hex(bytes(alloc, *count)?);
                 self.laid(alloc, &SetupLine::File { path, contents })
             }
+            Step::LayDirectory(names) => {
+                let path = path(alloc, names)?;
+                self.laid(alloc, &SetupLine::Directory { path })
+            }
+            Step::LayLink(names) => self.laid(alloc, &link(path(alloc, names)?)),
+            Step::LayAccessList(names) => self.laid(alloc, &list(alloc, path(alloc, names)?)?),
             Step::Status(place) => self.status(alloc, *place),
             _ => Ok(head_text(alloc, &self.volume)?),
         }

@@ -77,7 +77,7 @@ returns-clause-kept g c =
     kept_more c.one_more_stands.ensures (record_of p.head p.redo) p.bytes (placed (c.self.inside.journal.gate + 1) (g.D.Disk.limit c.self.inside.journal.disk) (parts_of c.self.inside.state)) (placed (c.put.new.journal.gate + 1) (g.D.Disk.limit c.put.new.journal.disk) (parts_of c.redo.new.self))
     (g.D.Disk.seen c.self.inside.journal.disk) (g.D.Disk.seen c.put.new.journal.disk) (g.D.Disk.may_leave c.self.inside.journal.disk) (g.D.Disk.may_leave c.put.new.journal.disk) (c.self.invariant.kept shut_not) waits.spelled_out.fits waits.spelled_out.spelled
     (put_folds p c.in_ok-head.head c.in_ok-head.redo c.self.inside.journal.gate c.put.new.journal.gate (g.D.Disk.limit c.self.inside.journal.disk) (g.D.Disk.limit c.put.new.journal.disk) (parts_of c.self.inside.state) (parts_of c.redo.new.self) c.in_ok-head.ensures.told waits.spelled_out.spelled c.in_ok-head.ensures.number.1.0 c.put.ensures.setting.0 c.redo.ensures)
-    c.in_ok-head.ensures.seen c.in_ok-head.ensures.added
+    c.put.ensures.seen.0 c.in_ok-head.ensures.added
 
 pub invariant_of-self-2 : goal.invariant_of-self-2
 invariant_of-self-2 g c = record {
@@ -85,5 +85,5 @@ invariant_of-self-2 g c = record {
   kept = λ here. returns-clause-kept g c;
   counted = λ here.
       let shut_not : c.self.inside.journal.closed ≡ false = search rules in
-      counted_more c.in-Some.prepared.bytes c.self.inside.journal.count c.put.new.journal.count (g.D.Disk.seen c.self.inside.journal.disk) (g.D.Disk.seen c.put.new.journal.disk) (g.D.Disk.may_leave c.put.new.journal.disk) (c.self.invariant.counted shut_not) c.in_ok-head.ensures.number.0 c.in_ok-head.ensures.seen c.in_ok-head.ensures.added;
+      counted_more c.in-Some.prepared.bytes c.self.inside.journal.count c.put.new.journal.count (g.D.Disk.seen c.self.inside.journal.disk) (g.D.Disk.seen c.put.new.journal.disk) (g.D.Disk.may_leave c.put.new.journal.disk) (c.self.invariant.counted shut_not) c.in_ok-head.ensures.number.0 c.put.ensures.seen.0 c.in_ok-head.ensures.added;
 }

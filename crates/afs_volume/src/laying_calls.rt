@@ -1,0 +1,103 @@
+//! Lines of set-up that are one operation each: directories, links and access lists. What is changed is as at first.
+
+ghost use Rattle.std.specs.Prelude.{◌≡◌, ◌≤◌, true, length, IfErr, IfOk};
+ghost use Rattle.afs_ideal.specs.Operations.{IsOn};
+ghost use Rattle.afs_ideal.specs.SetUp.{a_dir, a_link_to, acl_laid, called, laid_at, laid_in, Laid};
+ghost use Rattle.afs_ideal.specs.VnodeImage.{most_acl, most_contents};
+ghost use Rattle.afs_history.specs.Written.{bytes_in};
+ghost use Rattle.afs_volume.specs.Filled.{IsCodeOf, Lays};
+ghost use Rattle.afs_volume.specs.Giving.{is_changing, volume_of, FitsCall};
+ghost use Rattle.afs_volume.specs.Taking.{IsAtSetUp};
+
+use crate::Volume;
+use crate::callers::Caller;
+use crate::faults::OpFault;
+use crate::laying::nothing_set;
+use afs_history::acts::Written;
+use afs_history::written::bytes_in;
+use afs_num::calls::FsCall;
+use afs_num::sequences::Octets;
+use afs_num::types::{Code, Fid};
+
+impl Volume {
+    /// Lays what a call of the caller with all rights changes, or leaves the volume as it was.
+    #[tactic(auto, using(crate::proofs::AtSetUp::still_at_set_up))]
+    fn lay_call(&mut self, call: &FsCall) -> Result<(), OpFault>
+        requires changing { is_changing call.now ≡ true }
+        requires fits { FitsCall call.now }
+        requires on { IsOn self.old.head.id call.now }
+        ensures lays { Lays (called self.old.head.id call.now (volume_of self.old)) self.old self.new result }
+        ensures id { self.new.head.id ≡ self.old.head.id }
+        ensures times { IsAtSetUp self.old → IsAtSetUp self.new }
+    {
+        let plan = self.plan_within(&Caller::AllRights, call)?;
+        self.lay_edits(plan.edits.as_slice())?;
+        Ok(())
+    }
+
+    /// The directory in which a path's last name is to stand, and that name: 22 where the path has none, 20 and 2 where the
+    /// others don't lead to a directory.
+    fn last_in(&self, path: &[Octets]) -> Result<(Fid, Octets), OpFault>
+        ensures found { IfOk result (λ p. (x : Laid) → laid_at self.now.head.id path.now x (volume_of self.now) ≡ laid_in self.now.head.id (volume_of self.now) p.0 p.1 x) }
+        ensures volume { IfOk result (λ p. p.0.volume ≡ self.now.head.id) }
+        ensures refused { IfErr result (λ e. (x : Laid) → IsCodeOf (laid_at self.now.head.id path.now x (volume_of self.now)) e) }
+    {
+        let Some(name) = path.last() else {
+            return Err(OpFault::Code(Code(22)));
+        };
+        let directory = self.led(&path[..path.len() - 1])?;
+        let name = name.copy(self.alloc)?;
+        Ok((directory, name))
+    }
+
+    /// Lays a directory, or leaves the volume as it was: 22 where its path has no name, 20 and 2 where it doesn't lead to a
+    /// directory, and the refusals of MakeDir.
+    pub(crate) fn lay_directory(&mut self, path: &[Octets]) -> Result<(), OpFault>
+        ensures lays { Lays (laid_at self.old.head.id path.now a_dir (volume_of self.old)) self.old self.new result }
+        ensures id { self.new.head.id ≡ self.old.head.id }
+        ensures times { IsAtSetUp self.old → IsAtSetUp self.new }
+    {
+        let (directory, name) = self.last_in(path)?;
+        let call = FsCall::MakeDir {
+            directory,
+            name,
+            status: nothing_set(),
+        };
+        self.lay_call(&call)
+    }
+
+    /// Lays a link with this text, or leaves the volume as it was: 22 where its path has no name, 20 and 2 where it doesn't
+    /// lead to a directory, and the refusals of Symlink.
+    pub(crate) fn lay_link(&mut self, path: &[Octets], target: &Written) -> Result<(), OpFault>
+        requires { length (bytes_in target.now) ≤ most_contents }
+        ensures lays { Lays (laid_at self.old.head.id path.now (a_link_to (bytes_in target.now)) (volume_of self.old)) self.old self.new result }
+        ensures id { self.new.head.id ≡ self.old.head.id }
+        ensures times { IsAtSetUp self.old → IsAtSetUp self.new }
+    {
+        let (directory, name) = self.last_in(path)?;
+        let call = FsCall::Symlink {
+            directory,
+            name,
+            target: bytes_in(self.alloc, target)?,
+            status: nothing_set(),
+        };
+        self.lay_call(&call)
+    }
+
+    /// Gives the directory at a path this access list, or leaves the volume as it was: 20 and 2 where the path doesn't lead
+    /// anywhere, and the refusals of StoreACL.
+    #[tactic(auto, unfolding(afs_ideal::specs::SetUp::acl_laid))]
+    pub(crate) fn lay_access_list(&mut self, path: &[Octets], text: &Written) -> Result<(), OpFault>
+        requires { length (bytes_in text.now) ≤ most_acl }
+        ensures lays { Lays (acl_laid self.old.head.id path.now (bytes_in text.now) (volume_of self.old)) self.old self.new result }
+        ensures id { self.new.head.id ≡ self.old.head.id }
+        ensures times { IsAtSetUp self.old → IsAtSetUp self.new }
+    {
+        let fid = self.led(path)?;
+        let call = FsCall::StoreAcl {
+            fid,
+            acl: bytes_in(self.alloc, text)?,
+        };
+        self.lay_call(&call)
+    }
+}
