@@ -1,6 +1,6 @@
 -- Set-up: a new volume is sound, and what its lines lay leaves it so.
 use Rattle.std.proofs.Common.{◌≡◌, ℕ, ◌⊎◌, inl, inr, Bool, true, false, cond, eqb, List, [], ◌∷◌, Option, Some, None, refl, sym, ap, subst, ◌∙◌, arith, eqb-true}
-use Rattle.std.specs.Prelude.{Result, Ok, Err}
+use Rattle.std.specs.Prelude.{Result, Ok, Err, length, nat_lt}
 use Rattle.afs_shape.specs.Reading.{◌>>=◌}
 use Rattle.afs_num.specs.declared.calls.FsCall.{FsCall}
 use Rattle.std.specs.Option.{ok_or}
@@ -8,10 +8,11 @@ use Rattle.afs_num.specs.declared.calls.FsCall.TheVariants as calls
 use Rattle.afs_num.specs.declared.types.Fid.{Fid}
 use Rattle.afs_ideal.specs.Tables.{Table, get, AscendsFrom}
 use Rattle.afs_ideal.specs.AccessLists.{IsAccessList}
+use Rattle.afs_ideal.specs.VnodeImage.{most_acl, most_contents}
 use Rattle.afs_ideal.specs.Volumes.{Vnode, Volume, Edit, edit_number, edited, edited_all, counted}
 use Rattle.afs_ideal.specs.Operations as ops
 use Rattle.afs_ideal.specs.Operations.{all_rights, Found, op}
-use Rattle.afs_ideal.specs.SetUp.{new_root, new_volume, at_first, one_at_first, all_at_first, laid_by, called, nothing_set, new_fid, stores_all, parted, led, Laid, a_dir, a_file_of, a_link_to, laid_in, laid_at, acl_laid, laid, laid_all, laid_or, filled_by, empty_volume, first_volume}
+use Rattle.afs_ideal.specs.SetUp.{new_root, new_volume, at_first, one_at_first, all_at_first, laid_by, called, nothing_set, new_fid, stores_all, parted, led, Laid, a_dir, a_file_of, a_link_to, laid_in, laid_at, acl_laid, laid, laid_all, unless_over, laid_or, filled_by, empty_volume, first_volume}
 use Rattle.afs_history.specs.Written.{bytes_in}
 use Rattle.afs_history.specs.declared.scripts.SetupLine.{SetupLine}
 use Rattle.afs_history.specs.declared.scripts.SetupLine.TheVariants as lines
@@ -146,11 +147,16 @@ lists_kept P id path text v w keeps h e =
     let q = both_ok (led id v path) (λ (at : Found). called id (calls.StoreAcl at.fid text) v) w e in
     keeps (calls.StoreAcl q.0.fid text) v w h q.1.1
 
+-- a text that isn't too large is laid
+within : (most count : ℕ) (t : Bool) (r : Result Volume ℕ) (w : Volume) → nat_lt most count ≡ t → unless_over most count r ≡ Ok w → r ≡ Ok w
+within most count true r w t e = let z : Err 27 ≡ Ok w = ap (λ (b : Bool). cond b (Err 27) r) (sym t) ∙ e in absurd cc
+within most count false r w t e = ap (λ (b : Bool). cond b (Err 27) r) (sym t) ∙ e
+
 line_kept : (P : Volume → Type 0) (id : ℕ) (line : SetupLine) (v w : Volume) → Keeps P id → P v → laid id line v ≡ Ok w → P w
 line_kept P id (lines.Directory path) v w keeps h e = names_kept P id path a_dir v w keeps h e
 line_kept P id (lines.File path contents) v w keeps h e = names_kept P id path (a_file_of (bytes_in contents)) v w keeps h e
-line_kept P id (lines.Link path target) v w keeps h e = names_kept P id path (a_link_to (bytes_in target)) v w keeps h e
-line_kept P id (lines.AccessList path text) v w keeps h e = lists_kept P id path (bytes_in text) v w keeps h e
+line_kept P id (lines.Link path target) v w keeps h e = names_kept P id path (a_link_to (bytes_in target)) v w keeps h (within most_contents (length (bytes_in target)) (nat_lt most_contents (length (bytes_in target))) (laid_at id path (a_link_to (bytes_in target)) v) w refl e)
+line_kept P id (lines.AccessList path text) v w keeps h e = lists_kept P id path (bytes_in text) v w keeps h (within most_acl (length (bytes_in text)) (nat_lt most_acl (length (bytes_in text))) (acl_laid id path (bytes_in text) v) w refl e)
 
 pub all_kept : (P : Volume → Type 0) (id : ℕ) (ls : List SetupLine) (v w : Volume) → Keeps P id → P v → laid_all id ls v ≡ Ok w → P w
 all_kept P id [] v w keeps h e = subst P (ok_is v w e) h

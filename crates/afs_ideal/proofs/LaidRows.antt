@@ -13,7 +13,7 @@ use Rattle.afs_ideal.specs.AccessLists.{rights_of, acl_at, count_at, line_number
 use Rattle.afs_ideal.specs.Directories.{bytes_below, directory_bytes, name_bytes}
 use Rattle.afs_ideal.specs.Tables.{get}
 use Rattle.afs_ideal.specs.Volumes.{Vnode, Volume}
-use Rattle.afs_ideal.specs.SetUp.{new_volume, led, a_dir, a_file_of, a_link_to, laid_at, acl_laid, laid_all, first_volume, empty_volume}
+use Rattle.afs_ideal.specs.SetUp.{new_volume, led, a_dir, a_file_of, a_link_to, laid_at, acl_laid, laid, laid_all, first_volume, empty_volume}
 use Rattle.afs_ideal.proofs.Operated.{name}
 
 abbrev empty : Volume
@@ -213,3 +213,12 @@ a_refused_line_lays_nothing = refl
 but_not_all_are_accepted : code_of (laid_all 5 (lines.Directory (path (codes "d")) ∷ lines.Link (path (codes "d")) (Hex (codes "x")) ∷ []) (empty_volume of_each)) ≡ 17
 unfolding laid_at acl_laid led rights_of acl_at count_at line_number_at entry_at name_at named_at bytes_below directory_bytes name_bytes opaque word pad name_ok
 but_not_all_are_accepted = refl
+
+-- a list's text has 1,024 bytes at most: one of as many noughts is no list, and a longer one is too large
+a_text_too_large : code_of (laid 5 (lines.AccessList [] (Fill 1025 48)) empty) ≡ 27
+unfolding laid_at acl_laid led rights_of acl_at count_at line_number_at entry_at name_at named_at bytes_below directory_bytes name_bytes opaque word pad name_ok
+a_text_too_large = refl
+
+the_largest_text : code_of (laid 5 (lines.AccessList [] (Fill 1024 48)) empty) ≡ 22
+unfolding laid_at acl_laid led rights_of acl_at count_at line_number_at entry_at name_at named_at bytes_below directory_bytes name_bytes opaque word pad name_ok
+the_largest_text = refl

@@ -1,6 +1,6 @@
 -- Set-up: a new volume, and the lines that fill it before anything is changed. What a line lays it lays as the operations do by
 -- a caller with all rights; but indexes, data versions and counters stay at 1.
-use Rattle.std.specs.Prelude.{ℕ, List, [], ◌∷◌, Option, Some, None, Result, Ok, Err, pos, length, map, if◌then◌else◌}
+use Rattle.std.specs.Prelude.{ℕ, List, [], ◌∷◌, Option, Some, None, Result, Ok, Err, pos, length, map, nat_lt, if◌then◌else◌}
 use Rattle.std.specs.Option.{option_map, ok_or}
 use Rattle.afs_num.specs.declared.types.Fid.{Fid}
 use Rattle.afs_num.specs.declared.calls.AfsStoreStatus.{AfsStoreStatus}
@@ -16,6 +16,7 @@ use Rattle.afs_shape.specs.Reading.{◌>>=◌}
 use Rattle.afs_ideal.specs.Tables.{Table, get, set}
 use Rattle.afs_ideal.specs.AccessLists.{anyuser}
 use Rattle.afs_ideal.specs.Directories.{named}
+use Rattle.afs_ideal.specs.VnodeImage.{most_acl, most_contents}
 use Rattle.afs_ideal.specs.Volumes.{a_file, a_directory, Vnode, Volume, fid_of, version_at, Edit, edit_number}
 use Rattle.afs_ideal.specs.Operations as operations
 use Rattle.afs_ideal.specs.Operations.{is_kind, named_vnode, free_number, all_rights, Found, op, changed}
@@ -148,12 +149,16 @@ acl_laid id path text v = do
   at ← led id v path
   called id (calls.StoreAcl at.fid text) v
 
+-- a text that no vnode's image can hold is too large; lines of scripts, as calls, are shorter
+abbrev pub unless_over : ℕ → ℕ → Result Volume ℕ → Result Volume ℕ
+unless_over most count r = if nat_lt most count then Err 27 else r
+
 -- a line of set-up, in the volume of this number
 abbrev pub laid : ℕ → SetupLine → Volume → Result Volume ℕ
 laid id (lines.Directory path) v = laid_at id path a_dir v
 laid id (lines.File path contents) v = laid_at id path (a_file_of (bytes_in contents)) v
-laid id (lines.Link path target) v = laid_at id path (a_link_to (bytes_in target)) v
-laid id (lines.AccessList path text) v = acl_laid id path (bytes_in text) v
+laid id (lines.Link path target) v = unless_over most_contents (length (bytes_in target)) (laid_at id path (a_link_to (bytes_in target)) v)
+laid id (lines.AccessList path text) v = unless_over most_acl (length (bytes_in text)) (acl_laid id path (bytes_in text) v)
 
 -- the lines, one after the other, up to the first that is refused
 abbrev pub laid_all : ℕ → List SetupLine → Volume → Result Volume ℕ

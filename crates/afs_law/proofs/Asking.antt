@@ -375,7 +375,7 @@ called_one n k user call S (e ∷ past) node (inl x) h = sends_one n k user call
 called_one n k user call S (e ∷ past) node (inr x) h = called_one n k user call S past node x.1 (each_front (IfCall (IsOne S)) (sent_of past) e.sent h).0
 
 -- the message of a call that the client sends now
-pub own_call : {s : Script} → (fl : ℕ → Ghost) (c : Cell) (past : List Entry) (n : ℕ) (floor : Ghost) (x : ClientState) (act : Going) (ls : List Line) → boot_of the_server x.boots ≤ c.server.lasting.boot → IsClient s x → x.running ≡ Some act → running s (Client n) (onto (lines_of past) ls) ≡ Some act
+pub own_call : {s : Script} → (fl : ℕ → Ghost) (c : Cell) (past : List Entry) (n : ℕ) (floor : Ghost) (x : ClientState) (act : Going) (ls : List Line) → boot_of the_server x.boots ≤ c.server.lasting.boot → IsClient s n x → x.running ≡ Some act → running s (Client n) (onto (lines_of past) ls) ≡ Some act
     → call_under (called_key (call_head (Client n) x act)) (sent_of past ++ call_message (Client n) x act ∷ []) ≡ Some (x.user, call_of x act) → AreDropped (Client n) (fids_of_gifts x.gifts) (onto (lines_of past) ls) → Fresh s c n (views_after fl c n floor x) (step_entry n ls (call_message (Client n) x act ∷ []) ∷ past) (call_message (Client n) x act ∷ [])
 own_call {s} fl c past n floor x act ls le kind runs at one dropped =
     let to : x.callee ≡ the_server = kind.callee act runs in

@@ -23,6 +23,7 @@ use Rattle.afs_ideal.specs.Directories.{IsDirectory, FitNames, FitsName, most_na
 use Rattle.afs_ideal.specs.Operations.{number_named, Caller, all_rights, Result, op, changes, volume_called, tests, effect, first_failing, limits, edit_fits, is_last_count, last_count, no_amend, name_in, names_in, named_vnode, creates, removes, unlinks, renaming, renames_within, renames_across, renamed, creating, removing, linking, may_link, free_number, name_of, new_file, new_directory, new_link, is_directory, links_of, linked}
 use Rattle.afs_ideal.specs.SetUp.{new_volume, new_root, called, laid_by, laid_in, laid_at, acl_laid, laid, laid_or, filled_by, empty_volume, first_volume, Laid, a_dir, a_link_to, led, parted, at_first, one_at_first, all_at_first, a_file_of, nothing_set, stores_all, new_fid}
 use Rattle.afs_ideal.specs.Tables.{Table, get, set, unset, AscendsFrom, lowest_free}
+use Rattle.afs_ideal.specs.VnodeImage.{most_acl, most_contents}
 use Rattle.afs_ideal.specs.Volumes.{Kind, a_file, a_link, a_directory, Vnode, Volume, Edit, Amend, amends, makes, frees, amended, fresh, amends_at, makes_at, frees_at, edited, edited_all, edit_number, counted, vnode_of, with_status, or_old, ascending}
 use Rattle.afs_law.proofs.Basics.{some_of, both}
 use Rattle.afs_law.proofs.Edits.{get-set, get-unset}
@@ -430,11 +431,15 @@ list_fine : (id : ℕ) (path : List (List ℕ)) (text : List ℕ) (v : Volume) �
 unfolding acl_laid
 list_fine id path text v f = then_fine (led id v path) (λ at. called id (calls.StoreAcl at.fid text) v) (λ at g. called_fine id (calls.StoreAcl at.fid text) v (λ z. absurd cc) f)
 
+over_fine : (t : Bool) (r : std_result.Result Volume ℕ) → FineIn r → FineIn (cond t (Err 27) r)
+over_fine true r h = tt
+over_fine false r h = h
+
 line_fine : (id : ℕ) (l : SetupLine) (v : Volume) → IsFine v → FineIn (laid id l v)
 line_fine id (setup.Directory path) v f = path_fine id path a_dir v f
 line_fine id (setup.File path contents) v f = path_fine id path (a_file_of (bytes_in contents)) v f
-line_fine id (setup.Link path target) v f = path_fine id path (a_link_to (bytes_in target)) v f
-line_fine id (setup.AccessList path text) v f = list_fine id path (bytes_in text) v f
+line_fine id (setup.Link path target) v f = over_fine (nat_lt most_contents (length (bytes_in target))) (laid_at id path (a_link_to (bytes_in target)) v) (path_fine id path (a_link_to (bytes_in target)) v f)
+line_fine id (setup.AccessList path text) v f = over_fine (nat_lt most_acl (length (bytes_in text))) (acl_laid id path (bytes_in text) v) (list_fine id path (bytes_in text) v f)
 
 or_fine : (v : Volume) (r : std_result.Result Volume ℕ) → FineIn r → IsFine v → IsFine (laid_or v r)
 or_fine v (Ok w) h f = h

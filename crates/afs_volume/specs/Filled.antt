@@ -4,15 +4,11 @@ use Rattle.std.specs.List.{list_all, AllByRecursion}
 use Rattle.std.specs.Option.{option_map}
 use Rattle.afs_num.specs.declared.types.Fid.{Fid}
 use Rattle.afs_num.specs.declared.vnodes.Vnode as image
-use Rattle.afs_history.specs.Written.{bytes_in}
-use Rattle.afs_history.specs.declared.scripts.SetupLine.{SetupLine}
-use Rattle.afs_history.specs.declared.scripts.SetupLine.TheVariants as lines
 use Rattle.afs_ideal.specs.Operations.{edit_fits, most_bytes, Found}
 use Rattle.afs_ideal.specs.Operations as op
 use Rattle.afs_num.specs.declared.calls.FsCall.TheVariants as calls
 use Rattle.afs_ideal.specs.SetUp.{all_at_first, nothing_set}
 use Rattle.afs_ideal.specs.Soundness.{IsSound}
-use Rattle.afs_ideal.specs.VnodeImage.{most_acl, most_contents}
 use Rattle.afs_ideal.specs.VnodeMaps.{most_vnodes}
 use Rattle.afs_ideal.specs.Volumes.{Edit, makes, Volume, blocks_in, counted, edited_all}
 use Rattle.afs_ideal.proofs.Looks.{Distinct, MakesAs}
@@ -103,13 +99,6 @@ LaysEdits id v r (Err e) = IsCodeOf r e
 abbrev pub Lays : Result Volume ℕ → volumes.Volume → volumes.Volume → Result (Unit {0}) OpFault → Type 0
 Lays r old new (Ok done) = r ≡ Ok (volume_of new)
 Lays r old new (Err e) = IsCodeOf r e × ((new.head ≡ old.head) × (new.vnodes.table ≡ old.vnodes.table))
-
--- the line is within its limits, as far as no operation tests them: a link's text fits an image, and so does an access list's.
--- Lines of scripts are shorter
-abbrev pub FitsLine : SetupLine → Type 0
-FitsLine (lines.Link path target) = length (bytes_in target) ≤ most_contents
-FitsLine (lines.AccessList path text) = length (bytes_in text) ≤ most_acl
-FitsLine line = Unit {0}
 
 -- ---- edits
 

@@ -8,7 +8,7 @@ ghost use Rattle.afs_ideal.specs.VnodeImage.{most_contents, FitsImage};
 ghost use Rattle.afs_ideal.specs.VnodeMaps.{most_vnodes};
 ghost use Rattle.afs_ideal.specs.Volumes.{a_directory, ascending, vnode_of};
 ghost use Rattle.afs_history.specs.Written.{bytes_in};
-ghost use Rattle.afs_volume.specs.Filled.{at_once, image_at_first, is_accepted, Accepts, CanBeLaid, FitsLine, IsFilled, Lays, LaysEdits, Leads};
+ghost use Rattle.afs_volume.specs.Filled.{at_once, image_at_first, is_accepted, Accepts, CanBeLaid, IsFilled, Lays, LaysEdits, Leads};
 ghost use Rattle.afs_volume.specs.Giving.{edits_seen, volume_of};
 ghost use Rattle.afs_volume.specs.Seen.{seen, IsReadable};
 ghost use Rattle.afs_volume.specs.Taking.{IsAtSetUp};
@@ -207,12 +207,12 @@ impl Volume {
         Ok(())
     }
 
-    /// Lays a line of set-up, or leaves the volume as it was: 22 where its path has no name, 20 and 2 where it doesn't lead
-    /// to a directory, and the refusals of the operations. Indexes, data versions and the counter stay at 1, the times of a
+    /// Lays a line of set-up, or leaves the volume as it was: 27 where a link's text or an access list's is larger than an
+    /// image holds, 22 where its path has no name, 20 and 2 where it doesn't lead to a directory, and the refusals of the
+    /// operations. Indexes, data versions and the counter stay at 1, the times of a
     /// volume at set-up at 0. On a volume that has changed, what the line changes has index and data version 1 again, and so
     /// has the counter.
     pub fn lay(&mut self, line: &SetupLine) -> Result<(), OpFault>
-        requires { FitsLine line.now }
         ensures lays { Lays (laid self.old.head.id line.now (volume_of self.old)) self.old self.new result }
         ensures id { self.new.head.id ≡ self.old.head.id }
         ensures times { IsAtSetUp self.old → IsAtSetUp self.new }

@@ -2,7 +2,7 @@
 
 ghost use Rattle.std.specs.Prelude.{◌≡◌, ◌≤◌, true, length, IfErr, IfOk};
 ghost use Rattle.afs_ideal.specs.Operations.{IsOn};
-ghost use Rattle.afs_ideal.specs.SetUp.{a_dir, a_link_to, acl_laid, called, laid_at, laid_in, Laid};
+ghost use Rattle.afs_ideal.specs.SetUp.{a_dir, a_link_to, acl_laid, called, laid_at, laid_in, unless_over, Laid};
 ghost use Rattle.afs_ideal.specs.VnodeImage.{most_acl, most_contents};
 ghost use Rattle.afs_history.specs.Written.{bytes_in};
 ghost use Rattle.afs_volume.specs.Filled.{IsCodeOf, Lays};
@@ -11,6 +11,7 @@ ghost use Rattle.afs_volume.specs.Taking.{IsAtSetUp};
 
 use crate::Volume;
 use crate::callers::Caller;
+use crate::checks::check;
 use crate::faults::OpFault;
 use crate::laying::nothing_set;
 use afs_history::acts::Written;
@@ -18,6 +19,10 @@ use afs_history::written::bytes_in;
 use afs_num::calls::FsCall;
 use afs_num::sequences::Octets;
 use afs_num::types::{Code, Fid};
+
+/// The most bytes that an image holds of contents, and of an access list.
+const MOST_CONTENTS: usize = 2_097_152;
+const MOST_ACL: usize = 1_024;
 
 impl Volume {
     /// Lays what a call of the caller with all rights changes, or leaves the volume as it was.
@@ -66,11 +71,10 @@ impl Volume {
         self.lay_call(&call)
     }
 
-    /// Lays a link with this text, or leaves the volume as it was: 22 where its path has no name, 20 and 2 where it doesn't
-    /// lead to a directory, and the refusals of Symlink.
-    pub(crate) fn lay_link(&mut self, path: &[Octets], target: &Written) -> Result<(), OpFault>
-        requires { length (bytes_in target.now) ≤ most_contents }
-        ensures lays { Lays (laid_at self.old.head.id path.now (a_link_to (bytes_in target.now)) (volume_of self.old)) self.old self.new result }
+    /// Lays a link with this text.
+    fn lay_link_to(&mut self, path: &[Octets], target: Octets) -> Result<(), OpFault>
+        requires { length target ≤ most_contents }
+        ensures lays { Lays (laid_at self.old.head.id path.now (a_link_to target) (volume_of self.old)) self.old self.new result }
         ensures id { self.new.head.id ≡ self.old.head.id }
         ensures times { IsAtSetUp self.old → IsAtSetUp self.new }
     {
@@ -78,26 +82,44 @@ impl Volume {
         let call = FsCall::Symlink {
             directory,
             name,
-            target: bytes_in(self.alloc, target)?,
+            target,
             status: nothing_set(),
         };
         self.lay_call(&call)
     }
 
-    /// Gives the directory at a path this access list, or leaves the volume as it was: 20 and 2 where the path doesn't lead
-    /// anywhere, and the refusals of StoreACL.
-    #[tactic(auto, unfolding(afs_ideal::specs::SetUp::acl_laid))]
-    pub(crate) fn lay_access_list(&mut self, path: &[Octets], text: &Written) -> Result<(), OpFault>
-        requires { length (bytes_in text.now) ≤ most_acl }
-        ensures lays { Lays (acl_laid self.old.head.id path.now (bytes_in text.now) (volume_of self.old)) self.old self.new result }
+    /// Lays a link with this text, or leaves the volume as it was: 27 where the text is too large, 22 where the path has no
+    /// name, 20 and 2 where it doesn't lead to a directory, and the refusals of Symlink.
+    pub(crate) fn lay_link(&mut self, path: &[Octets], target: &Written) -> Result<(), OpFault>
+        ensures lays { Lays (unless_over most_contents (length (bytes_in target.now)) (laid_at self.old.head.id path.now (a_link_to (bytes_in target.now)) (volume_of self.old))) self.old self.new result }
+        ensures id { self.new.head.id ≡ self.old.head.id }
+        ensures times { IsAtSetUp self.old → IsAtSetUp self.new }
+    {
+        let target = bytes_in(self.alloc, target)?;
+        check(target.len() <= MOST_CONTENTS, 27)?;
+        self.lay_link_to(path, target)
+    }
+
+    /// Gives the directory at a path this access list.
+    fn lay_acl(&mut self, path: &[Octets], acl: Octets) -> Result<(), OpFault>
+        requires { length acl ≤ most_acl }
+        ensures lays { Lays (acl_laid self.old.head.id path.now acl (volume_of self.old)) self.old self.new result }
         ensures id { self.new.head.id ≡ self.old.head.id }
         ensures times { IsAtSetUp self.old → IsAtSetUp self.new }
     {
         let fid = self.led(path)?;
-        let call = FsCall::StoreAcl {
-            fid,
-            acl: bytes_in(self.alloc, text)?,
-        };
-        self.lay_call(&call)
+        self.lay_call(&FsCall::StoreAcl { fid, acl })
+    }
+
+    /// Gives the directory at a path this access list, or leaves the volume as it was: 27 where the text is too large, 20
+    /// and 2 where the path doesn't lead anywhere, and the refusals of StoreACL.
+    pub(crate) fn lay_access_list(&mut self, path: &[Octets], text: &Written) -> Result<(), OpFault>
+        ensures lays { Lays (unless_over most_acl (length (bytes_in text.now)) (acl_laid self.old.head.id path.now (bytes_in text.now) (volume_of self.old))) self.old self.new result }
+        ensures id { self.new.head.id ≡ self.old.head.id }
+        ensures times { IsAtSetUp self.old → IsAtSetUp self.new }
+    {
+        let acl = bytes_in(self.alloc, text)?;
+        check(acl.len() <= MOST_ACL, 27)?;
+        self.lay_acl(path, acl)
     }
 }

@@ -1,7 +1,6 @@
 //! A volume on which steps are tried one after the other.
 
-ghost use Rattle.std.specs.Prelude.{◌≡◌, IfOk};
-ghost use Rattle.afs_volume.specs.Filled.{FitsLine};
+ghost use Rattle.std.specs.Prelude.{◌≡◌};
 ghost use Rattle.afs_volume.specs.Taking.{CanTakeIn};
 ghost use Rattle.afs_volume_tests.specs.Calls.{IsCall};
 
@@ -64,9 +63,7 @@ fn status_text(alloc: Global, reply: &FsReply) -> Mem<String> {
     Ok(text)
 }
 
-fn link(path: Path) -> SetupLine
-    ensures { FitsLine result }
-{
+fn link(path: Path) -> SetupLine {
     let target = Written::Fill {
         count: 1,
         byte: b'a',
@@ -74,9 +71,7 @@ fn link(path: Path) -> SetupLine
     SetupLine::Link { path, target }
 }
 
-fn list(alloc: Global, path: Path) -> Mem<SetupLine>
-    ensures { IfOk result (λ l. FitsLine l) }
-{
+fn list(alloc: Global, path: Path) -> Mem<SetupLine> {
     let text = Written::Hex(Octets::from_slice(alloc, b"1\n0\namy\t9\n")?);
     Ok(SetupLine::AccessList { path, text })
 }
@@ -118,9 +113,7 @@ impl Tried {
         }
     }
 
-    fn laid(&mut self, alloc: Global, line: &SetupLine) -> Result<String, OpFault>
-        requires { FitsLine line.now }
-    {
+    fn laid(&mut self, alloc: Global, line: &SetupLine) -> Result<String, OpFault> {
         match self.volume.lay(line) {
             Ok(()) => Ok(String::new(alloc)),
             Err(fault) => refusal(alloc, fault),
