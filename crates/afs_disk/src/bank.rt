@@ -1,10 +1,11 @@
 // Who lends the disks of a cell, and takes them back.
-ghost use Rattle.std.specs.Prelude.{◌≡◌, ◌≤◌, ◌<◌, ◌++◌, ◌∷◌, [], List, ℕ, Option, IfOk, OnOk, OnErr, IsErrOf, option_map, IsSome};
+ghost use Rattle.std.specs.Prelude.{◌≡◌, ◌≤◌, ◌<◌, ◌+◌, ◌++◌, ◌∷◌, [], min, List, ℕ, Option, IfOk, OnOk, OnErr, IsErrOf, option_map, IsSome};
 ghost use Rattle.afs_disk.specs.Banks.{GivesBack};
 ghost use Rattle.afs_disk.specs.declared.bank.Lend.{Lend};
 ghost use Rattle.afs_disk.specs.declared.bank.Place.{Place as At};
 ghost use Rattle.afs_disk.specs.declared.bank.LendFault.TheVariants.{Failed as LendFailed, OutOfMemory};
 ghost use Rattle.afs_disk.specs.Disk.{Rose};
+ghost use Rattle.afs_disk.specs.Fuses.{last_count};
 
 use crate::disk::Disk;
 use afs_num::devices::Failed;
@@ -85,6 +86,9 @@ pub trait Bank {
     /// rose.
     ghost faults: { Self → ℕ };
 
+    /// The faults of all disks that were given back. Their sum stands still at the last value of a counter.
+    ghost lent_faults: { Self → ℕ };
+
     /// Whether the disks that it lends at this place tell what they hold.
     ghost tells: { Self → At → Type 0 };
 
@@ -94,6 +98,8 @@ pub trait Bank {
         ensures lends { OnOk result (lends self.new ≡ option_map (λ l. l ++ record { place = place.now; node = node; capacity = capacity } ∷ []) (lends self.old)) }
         ensures none { OnErr result (lends self.new ≡ lends self.old) }
         ensures given { given self.new ≡ given self.old }
+        ensures unused { IfOk result (λ disk. Self.D.faults disk ≡ 0) }
+        ensures lent { lent_faults self.new ≡ lent_faults self.old }
         ensures told { IfOk result (λ disk. tells self.old place.now → IsSome (Self.D.seen disk)) }
         ensures tells { (at : At) → tells self.old at → tells self.new at }
         ensures never_falls { faults self.old ≤ faults self.new }
@@ -104,6 +110,7 @@ pub trait Bank {
         ensures given { OnOk result (GivesBack node (Self.D.seen disk) (given self.old) (given self.new)) }
         ensures kept { OnErr result (given self.new ≡ given self.old) }
         ensures lends { lends self.new ≡ lends self.old }
+        ensures lent { lent_faults self.new ≡ min (lent_faults self.old + Self.D.faults disk) last_count }
         ensures tells { (at : At) → tells self.old at → tells self.new at }
         ensures never_falls { faults self.old ≤ faults self.new }
         ensures cause { OnErr result (Rose (faults self.old) (faults self.new)) };

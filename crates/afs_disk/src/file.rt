@@ -112,6 +112,13 @@ impl FileDisk {
             Err(_) => Err(Failed),
         }
     }
+
+    /// How often it has failed.
+    pub fn faults(&self) -> u64
+        ensures { result ≡ self.now.faults }
+    {
+        self.faults
+    }
 }
 
 impl Disk for FileDisk {

@@ -21,6 +21,18 @@ pub enum HostDisk {
     File(FileDisk),
 }
 
+impl HostDisk {
+    /// How often it has failed.
+    pub fn faults(&self) -> u64
+        ensures { result ≡ host_faults self.now }
+    {
+        match self {
+            HostDisk::Memory(disk) => disk.faults(),
+            HostDisk::File(disk) => disk.faults(),
+        }
+    }
+}
+
 impl Disk for HostDisk {
     ghost seen = { host_seen };
 
@@ -122,6 +134,7 @@ pub struct HostBank<'a, R: Files<File = File>> {
     files: &'a R,
     alloc: Global,
     faults: u64,
+    lent_faults: u64,
 }
 
 // The file of a node's disk in a folder. It is made where there is none, and keeps what it holds where there is one.
@@ -171,7 +184,8 @@ fn disk_in<R: Files<File = File>>(
     node: u32,
     capacity: u64,
 ) -> Result<FileDisk, LendFault>
-    ensures { IfOk result (λ disk. disk.limit ≡ capacity) }
+    ensures limit { IfOk result (λ disk. disk.limit ≡ capacity) }
+    ensures unused { IfOk result (λ disk. disk.faults ≡ 0) }
 {
     let folder = match str::from_utf8(folder) {
         Ok(folder) => folder,
@@ -196,12 +210,13 @@ fn counted(fault: LendFault, faults: &mut u64)
 impl<'a, R: Files<File = File>> HostBank<'a, R> {
     /// The bank of a program that may reach files.
     pub fn new(files: &'a R, alloc: Global) -> HostBank<'a, R>
-        ensures { result.faults ≡ 0 }
+        ensures { (result.faults ≡ 0) × (result.lent_faults ≡ 0) }
     {
         HostBank {
             files,
             alloc,
             faults: 0,
+            lent_faults: 0,
         }
     }
 }
@@ -214,6 +229,8 @@ impl<'a, R: Files<File = File>> Bank for HostBank<'a, R> {
     ghost given = { λ b. None };
 
     ghost faults = { λ b. b.faults };
+
+    ghost lent_faults = { λ b. b.lent_faults };
 
     ghost tells = { λ b at. host_tells at };
 
@@ -235,7 +252,8 @@ impl<'a, R: Files<File = File>> Bank for HostBank<'a, R> {
         }
     }
 
-    fn give_back(&mut self, _node: u32, _disk: HostDisk) -> Result<(), Failed> {
+    fn give_back(&mut self, _node: u32, disk: HostDisk) -> Result<(), Failed> {
+        self.lent_faults = self.lent_faults.saturating_add(disk.faults());
         Ok(())
     }
 }

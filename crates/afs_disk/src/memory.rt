@@ -120,6 +120,13 @@ impl MemDisk {
         self.calls
     }
 
+    /// How often it has failed.
+    pub fn faults(&self) -> u64
+        ensures { result ≡ self.now.faults }
+    {
+        self.faults
+    }
+
     /// The bytes that a read gives. It is no device call.
     pub fn bytes(&self) -> &[u8]
         ensures { result.now ≡ self.now.held.now }

@@ -32,6 +32,7 @@ pub struct MemBank {
     faults: u64,
     lends: Vec<Lend>,
     given: Vec<Given>,
+    lent_faults: u64,
 }
 
 impl Model for MemBank {
@@ -48,6 +49,7 @@ impl Model for MemBank {
       disks = b.disks;
       calls = b.calls;
       faults = b.faults;
+      lent = b.lent_faults;
     } };
 
     ghost invariant = { λ b. length b.lends.items ≤ vec_capacity b.given };
@@ -87,7 +89,7 @@ impl MemBank {
         ensures lends { result.lends ≡ [] }
         ensures given { result.given ≡ [] }
         ensures set { (result.failing ≡ failing) × (result.disks ≡ disks) }
-        ensures counts { (result.calls ≡ 0) × (result.faults ≡ 0) }
+        ensures counts { (result.calls ≡ 0) × (result.faults ≡ 0) × (result.lent ≡ 0) }
     {
         MemBank {
             alloc,
@@ -97,6 +99,7 @@ impl MemBank {
             faults: 0,
             lends: Vec::new(alloc),
             given: Vec::new(alloc),
+            lent_faults: 0,
         }
     }
 
@@ -124,6 +127,8 @@ impl Bank for MemBank {
 
     ghost faults = { λ b. b.faults };
 
+    ghost lent_faults = { λ b. b.lent };
+
     ghost tells = { λ b at. Unit {0} };
 
     fn lend(&mut self, place: &Place, node: u32, capacity: u64) -> Result<MemDisk, LendFault>
@@ -134,6 +139,7 @@ impl Bank for MemBank {
         ensures lends { OnOk result (self.new.lends ≡ self.old.lends ++ record { place = place.now; node = node; capacity = capacity } ∷ []) }
         ensures none { OnErr result (self.new.lends ≡ self.old.lends) }
         ensures given { self.new.given ≡ self.old.given }
+        ensures lent { self.new.lent ≡ self.old.lent }
         ensures counted { self.new.calls ≡ min (self.old.calls + 1) last_count }
         ensures fails { IsErrOf result LendFault.Failed ↔ (slice_get self.old.failing self.old.calls ≡ Some 1) }
         ensures never_falls { self.old.faults ≤ self.new.faults }
@@ -162,6 +168,7 @@ impl Bank for MemBank {
         ensures given { OnOk result (self.new.given ≡ self.old.given ++ (node, disk.held.now) ∷ []) }
         ensures kept { OnErr result (self.new.given ≡ self.old.given) }
         ensures lends { self.new.lends ≡ self.old.lends }
+        ensures lent { self.new.lent ≡ min (self.old.lent + disk.faults) last_count }
         ensures counted { self.new.calls ≡ min (self.old.calls + 1) last_count }
         ensures fails { slice_get self.old.failing self.old.calls ≡ Some 1 → IsErr result }
 
@@ -172,6 +179,7 @@ impl Bank for MemBank {
         ensures cause { OnErr result (Rose self.old.faults self.new.faults) }
         ensures set { (self.new.failing ≡ self.old.failing) × (self.new.disks ≡ self.old.disks) }
     {
+        self.lent_faults = self.lent_faults.saturating_add(disk.faults());
         admits(&mut self.calls, self.failing.as_slice(), &mut self.faults)?;
         match self.given.push(Given { node, disk }) {
             Ok(()) => Ok(()),

@@ -1,3 +1,8 @@
+use Rattle.afs_history.specs.declared.lines.Line.TheVariants as lines
+use Rattle.afs_history.specs.declared.lines.Line.{Line}
+use Rattle.afs_num.specs.declared.histories.Version.{Version}
+use Rattle.afs_ideal.specs.ChangeLaws.{IsOneChange}
+use Rattle.afs_records.proofs.Effects.{changes_told}
 use Rattle.afs_num.specs.declared.messages.Message.{Message}
 use Rattle.afs_model.specs.Messages.{spelled}
 use Rattle.afs_records.proofs.Tested.{passes}
@@ -6,7 +11,7 @@ use Rattle.afs_records.specs.Laws.{CanBeStored}
 use Rattle.afs_num.specs.declared.types.Head.{Head}
 -- What a server's disk keeps: the callers by their numbers, and the volumes with what stands beside them.
 use Rattle.std.proofs.Common.{◌≡◌, ℕ, Bool, true, false, cond, eqb, nat_eq, nat_lt, List, [], ◌∷◌, Option, Some, refl, sym, ap, subst, ◌∙◌, eq-eqb, eqb-true, ◌+◌}
-use Rattle.std.specs.Prelude.{filter}
+use Rattle.std.specs.Prelude.{filter, length, map}
 use Rattle.std.specs.List.{AllByRecursion}
 use Rattle.std.specs.Option.{option_map}
 use Rattle.afs_num.specs.Nodes.{same_node, node_number, node_of, IsNode}
@@ -16,11 +21,11 @@ use Rattle.afs_ideal.specs.Volumes.{Volume, edited_all, counted}
 use Rattle.afs_law.proofs.Basics.{same_node-true, same_node-refl, some_of}
 use Rattle.afs_law.proofs.Edits.{get-set}
 use Rattle.afs_rows.specs.Runs.{first_stored}
-use Rattle.afs_rows.specs.ServerRow.{seat_placed, is_unflagged, Change, record_of, lasting_after, lasting_started, change_reply_to, key_of, seat_for}
+use Rattle.afs_rows.specs.ServerRow.{seat_placed, is_unflagged, Change, record_of, lasting_after, lasting_started, change_reply_to, key_of, seat_for, made, versioned}
 use Rattle.afs_rows.specs.States.{Seat, kept_of, kept_by_number, volume_in, Lasting, durable_of}
 use Rattle.afs_model.specs.Calls.{call_seat}
-use Rattle.afs_records.specs.Changes.{at_set_up, keeping, boot_record}
-use Rattle.afs_records.specs.Durable.{Stored, Kept, folded}
+use Rattle.afs_records.specs.Changes.{at_set_up, keeping, boot_record, images_left, numbers_gone}
+use Rattle.afs_records.specs.Durable.{Stored, Kept, folded, change_lines, effect_of, versions_told}
 
 -- ---- callers by their numbers
 
@@ -137,6 +142,20 @@ change_folded l head clock c there can node nodes =
     let m : Message = change_reply_to l.boot head clock c in
     change_kept (keeping (key_of head) (spelled m)) c.id clock c.edits c.before (durable_of l) there can (passes (counted (edited_all c.id c.edits c.before.volume)) can.sound)
     ∙ ap (λ (k : Table Kept). Some (record (durable_of (lasting_after head clock c l)) { kept = k })) (sym (kept_placed (seat_for head m) l.kept node nodes))
+
+as_versioned : (vs : List Version) → map lines.Version vs ≡ versioned vs []
+as_versioned [] = refl
+as_versioned (v ∷ vs) = ap (λ (ls : List Line). lines.Version v ∷ ls) (as_versioned vs)
+
+-- what its record tells
+pub effect_told : (me : Node) (l : Lasting) (head : Head) (clock : ℕ) (c : Change) → get c.id l.volumes ≡ Some c.before → IsOneChange c.id c.edits c.before.volume → CanBeStored c.id c.edits c.before.volume →
+    (effect_of me (record_of l.boot head clock c) (durable_of l)).lines ≡ lines.Change me (key_of head) (length (made c)) ∷ versioned (made c) []
+effect_told me l head clock c there one can =
+    let before : Volume = c.before.volume in
+    let after : Volume = counted (edited_all c.id c.edits before) in
+    ap (λ (o : Option Stored). change_lines me (key_of head) (versions_told c.id (images_left clock c.edits after) (numbers_gone c.edits before after) o)) there
+    ∙ (ap (change_lines me (key_of head)) (changes_told c.id clock c.edits c.before one can)
+    ∙ ap (λ (ls : List Line). lines.Change me (key_of head) (length (made c)) ∷ ls) (as_versioned (made c)))
 
 pub start_folded : (l : Lasting) → folded (boot_record (l.boot + 1)) (durable_of l) ≡ Some (durable_of (lasting_started l))
 unfolding folded

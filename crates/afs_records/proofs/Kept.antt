@@ -90,7 +90,7 @@ set_keeps k n x t ne = get_set k n x t ∙ rw ne refl
 unset_keeps : (k n : ℕ) (t : Table Vnode) → nat_eq n k ≡ false → get k (unset n t) ≡ get k t
 unset_keeps k n t ne = get_unset k n t ∙ rw ne refl
 
-edited_keeps : (id k : ℕ) (e : Edit) (v : Volume) (o : Option Vnode) → get (edit_number e) v.vnodes ≡ o → nat_eq (edit_number e) k ≡ false → get k (edited id e v).volume.vnodes ≡ get k v.vnodes
+pub edited_keeps : (id k : ℕ) (e : Edit) (v : Volume) (o : Option Vnode) → get (edit_number e) v.vnodes ≡ o → nat_eq (edit_number e) k ≡ false → get k (edited id e v).volume.vnodes ≡ get k v.vnodes
 edited_keeps id k (amends n a) v None is ne = rw is refl
 edited_keeps id k (amends n a) v (Some x) is ne = rw is (set_keeps k n _ v.vnodes ne)
 edited_keeps id k (makes n y) v None is ne = rw is (set_keeps k n _ v.vnodes ne)

@@ -2,6 +2,7 @@ pub mod Forms
 pub mod Images
 pub mod Spelled
 pub mod Tested
+pub mod Effects
 pub mod Kept
 pub mod Lengths
 pub mod Fitting

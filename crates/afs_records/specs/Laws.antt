@@ -6,14 +6,15 @@ use Rattle.afs_ideal.specs.Images.{HasImage}
 use Rattle.afs_ideal.specs.VnodeMaps.{most_vnodes}
 use Rattle.afs_ideal.specs.AccessLists.{IsAccessList}
 use Rattle.afs_ideal.specs.Directories.{IsDirectory}
-use Rattle.afs_ideal.specs.Volumes.{a_directory, Vnode, Volume, Edit, edited_all, counted}
+use Rattle.afs_ideal.specs.ChangeLaws.{IsOneChange}
+use Rattle.afs_ideal.specs.Volumes.{a_directory, Vnode, Volume, Edit, edited_all, counted, versions_by}
 use Rattle.afs_ideal.specs.Soundness.{IsSound}
 use Rattle.afs_num.specs.declared.records.RecordHead.{RecordHead}
 use Rattle.afs_num.specs.declared.records.StoreRecord.{StoreRecord}
 use Rattle.afs_records.specs.Records.{head_form, record_bytes, record_at, FitsRecord}
 use Rattle.afs_records.specs.Sound.{is_sound}
-use Rattle.afs_records.specs.Durable.{Stored, Durable, place_length, folded, StandFor, noted, longer, is_flagged}
-use Rattle.afs_records.specs.Changes.{change_record, stored_after, boot_record}
+use Rattle.afs_records.specs.Durable.{Stored, Durable, place_length, folded, StandFor, noted, longer, is_flagged, versions_told}
+use Rattle.afs_records.specs.Changes.{change_record, stored_after, boot_record, images_left, numbers_gone}
 
 -- a record within the limits is read again from its bytes
 abbrev pub RecordsAreReadAgain : Type 0
@@ -65,6 +66,12 @@ abbrev pub ChangesAreKept : Type 0
 ChangesAreKept = (head : RecordHead) (id time : ℕ) (es : List Edit) (s : Stored) (d : Durable) → get id d.volumes ≡ Some s → CanBeStored id es s.volume →
     folded (change_record head id time es s.volume) d
     ≡ Some (longer (place_length (change_record head id time es s.volume)) (noted head (volume_put id (stored_after id time es s) d)))
+
+-- What the record of one change tells are the versions that its edits make.
+abbrev pub ChangesAreTold : Type 0
+ChangesAreTold = (id time : ℕ) (es : List Edit) (s : Stored) → IsOneChange id es s.volume → CanBeStored id es s.volume →
+    versions_told id (images_left time es (counted (edited_all id es s.volume))) (numbers_gone es s.volume (counted (edited_all id es s.volume))) (Some s)
+    ≡ versions_by id es s.volume
 
 -- what a start leaves
 abbrev pub started : Durable → Durable

@@ -1,6 +1,6 @@
 //! Laws about records. Each is the contract of a function that does nothing.
 
-ghost use Rattle.afs_records.specs.Laws.{ChangesAreKept, ChangesFit, LengthHasNoTime, OneMoreStands, PassingVolumesAreSound, ReadRecordsAreSpelled, RecordsAreReadAgain, SoundVolumesPass, StartsAreKept};
+ghost use Rattle.afs_records.specs.Laws.{ChangesAreKept, ChangesAreTold, ChangesFit, LengthHasNoTime, OneMoreStands, PassingVolumesAreSound, ReadRecordsAreSpelled, RecordsAreReadAgain, SoundVolumesPass, StartsAreKept};
 
 /// A record within its limits is read again from its bytes.
 pub fn records_are_read_again()
@@ -30,6 +30,11 @@ pub fn changes_fit()
 /// The fold of a change's record puts the volume that its edits make, and keeps the reply.
 pub fn changes_are_kept()
     ensures { ChangesAreKept }
+{}
+
+/// What the record of one change tells are the versions that its edits make.
+pub fn changes_are_told()
+    ensures { ChangesAreTold }
 {}
 
 /// The fold of a start's record raises the boot number and deletes the flagged volumes; all else stays.

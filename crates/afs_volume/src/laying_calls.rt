@@ -22,6 +22,7 @@ use afs_num::types::{Code, Fid};
 
 /// The most bytes that an image holds of contents, and of an access list.
 const MOST_CONTENTS: usize = 2_097_152;
+
 const MOST_ACL: usize = 1_024;
 
 impl Volume {

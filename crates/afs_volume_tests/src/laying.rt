@@ -65,7 +65,8 @@ fn each_kind_is_laid_as_at_first(rt: HostRuntime) -> Result<(), Fail> {
         Status((2, 3)),
         Status((4, 4)),
     ];
-    let want = "unique 5 counter 1 blocks 4\nlinks 3 time 0\nlinks 2 time 0\nlinks 1 time 0\nlinks 1 time 0\n";
+    let want =
+        "unique 5 counter 1 blocks 4\nlinks 3 time 0\nlinks 2 time 0\nlinks 1 time 0\nlinks 1 time 0\n";
     assert_eq!(rt; told(rt.alloc(), 1_000, &[], &steps)?.as_str(), want);
     Ok(())
 }
