@@ -50,6 +50,7 @@ fn take_up<D: Disk>(alloc: Global, disk: &mut D) -> Result<(Records, u64), Journ
     ensures counts { IfOk result (λ r. (9 * length r.0 ≤ r.1) × (r.1 < 2 ^ 63)) }
     ensures few { IfOk result (λ r. length r.0 < 2 ^ 32) }
     ensures found { IfOk result (λ r. (bytes : List ℕ) → D.seen disk.old ≡ Some bytes → r.0 ≡ whole_records bytes) }
+    ensures empty { IfOk result (λ r. D.size disk.old ≡ 0 → (r.0 ≡ []) × (r.1 ≡ 0)) }
     ensures told { IsSome (D.seen disk.new) ↔ IsSome (D.seen disk.old) }
     ensures done { OnOk result ((bytes : List ℕ) → D.seen disk.old ≡ Some bytes → IsJournal (whole_records bytes) (D.seen disk.new) (D.may_leave disk.new)) }
     ensures any_moment { (bytes : List ℕ) → D.seen disk.old ≡ Some bytes → LeavesOnly D.moment D.left_since disk.old disk.new (StandsAsBefore (D.may_leave disk.old)) }
@@ -75,6 +76,10 @@ impl<D: Disk> Journal<D> {
         requires { D.limit disk ≤ 268435456 }
 
         ensures found { IfOk result (λ j. (bytes : List ℕ) → D.seen disk ≡ Some bytes → j.found ≡ whole_records bytes) }
+
+        // An empty disk has no records, whether it tells its bytes or not.
+        ensures empty { IfOk result (λ j. D.size disk ≡ 0 → (j.found ≡ []) × (j.gate ≡ 0)) }
+
         ensures at_rest { IfOk result (λ j. (bytes : List ℕ) → D.seen disk ≡ Some bytes → IsJournal (whole_records bytes) (D.seen j.disk) (D.may_leave j.disk)) }
         ensures told { MatchResult result (λ j. IsSome (D.seen j.disk) ↔ IsSome (D.seen disk)) (λ e. IsSome (D.seen e.1) ↔ IsSome (D.seen disk)) }
         ensures counts { IfOk result (λ j. (j.count ≡ length j.found) × (D.size j.disk ≡ j.gate + 1) × (j.closed ≡ false)) }

@@ -83,6 +83,7 @@ pub(crate) fn settle<D: Disk>(
     ensures counts { IfOk result (λ r. (9 * length r.0 ≤ r.1) × (r.1 < 2 ^ 63)) }
     ensures few { IfOk result (λ r. length r.0 < 2 ^ 32) }
     ensures found { IfOk result (λ r. r.0 ≡ whole_records bytes.now) }
+    ensures empty { IfOk result (λ r. length bytes.now ≡ 0 → (r.0 ≡ []) × (r.1 ≡ 0)) }
     ensures told { IsSome (D.seen disk.new) ↔ IsSome (D.seen disk.old) }
     ensures done { OnOk result (D.seen disk.old ≡ Some bytes.now → LeavesJust bytes.now (D.may_leave disk.old)
         → IsJournal (whole_records bytes.now) (D.seen disk.new) (D.may_leave disk.new)) }

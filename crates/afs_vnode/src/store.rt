@@ -6,13 +6,13 @@ ghost use Rattle.afs_num.specs.Keyed.{KeepsRoom};
 ghost use Rattle.afs_ideal.specs.Tables.{get, set, unset, AscendsFrom, lowest_free};
 ghost use Rattle.afs_ideal.specs.VnodeImage.{FitsImage};
 ghost use Rattle.afs_ideal.specs.VnodeMaps.{most_vnodes, is_full_for, first_number, allocated, changed_since};
-ghost use Rattle.afs_vnode.specs.Stores.{raised, lowered, AreVnodes};
+ghost use Rattle.afs_vnode.specs.Stores.{raised, lowered, table_of, AreVnodes};
 ghost use Rattle.afs_vnode.specs.declared.faults.VnodeFault.TheVariants.{TooMany};
 
 use crate::faults::VnodeFault;
 use crate::sorted;
 use afs_num::types::Mem;
-use afs_num::vnodes::{Vnode, VnodeNumbers};
+use afs_num::vnodes::{Vnode, VnodeNumbers, Vnodes};
 use std::alloc::Global;
 use std::marker::Model;
 
@@ -95,6 +95,19 @@ impl VnodeStore {
         ensures fits { IfSome result (λ v. FitsImage v.now) }
     {
         sorted::nth(&self.vnodes, place as usize)
+    }
+
+    /// The vnodes, by ascending numbers. It takes no memory.
+    pub fn into_vnodes(self) -> Vnodes
+        ensures table { table_of result ≡ self.table }
+        ensures vnodes { AreVnodes self.table }
+    {
+        let VnodeStore {
+            vnodes,
+            even: _,
+            odd: _,
+        } = self;
+        Vnodes::from_vec(vnodes)
     }
 
     /// Makes room for so many more vnodes.
