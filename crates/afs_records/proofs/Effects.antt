@@ -6,8 +6,8 @@ use Rattle.afs_num.specs.declared.types.Fid.{Fid}
 use Rattle.afs_num.specs.declared.histories.Version.{Version}
 use Rattle.afs_ideal.specs.ChangeLaws.{by_vnode, Begins, IsOneChange, Raises, RaisesAt, Tells, TellsEach}
 use Rattle.afs_ideal.specs.Images.{Image, image_of, value_of}
-use Rattle.afs_ideal.specs.Tables.{Table, get, set, AscendsFrom}
-use Rattle.afs_ideal.specs.Volumes.{amended, amends, counted, edit_number, edited, edited_all, fresh, frees, makes, version_at, versions_by, Edit, Vnode, Volume}
+use Rattle.afs_ideal.specs.Tables.{Table, get, set, unset, AscendsFrom}
+use Rattle.afs_ideal.specs.Volumes.{amended, amends, amends_at, counted, edit_number, edited, edited_all, fresh, frees, frees_at, makes, makes_at, version_at, versions_by, Amend, Edit, Vnode, Volume}
 use Rattle.afs_ideal.proofs.Tables.{ascends_lower, ascends_set, get_set, get_unset}
 use Rattle.afs_records.specs.Changes.{gone_between, image_left, images_left, numbers_gone}
 use Rattle.afs_records.specs.Durable.{gone_versions, outcome_versions, versions_told, with_outcomes, with_removed, Stored}
@@ -179,15 +179,15 @@ unfolding outcomes Up
 outcomes_up m [] before after up = tt
 outcomes_up m (e ∷ es) before after up = one_up m (edit_number e) (get (edit_number e) before) (get (edit_number e) after) (outcomes es before after) up.0 (outcomes_up (edit_number e + 1) es before after up.1)
 
+put_out_up : (n : ℕ) (o : Option Vnode) (t : Table (Option Vnode)) → AscendsFrom 0 t → AscendsFrom 0 (put_out n o t)
+unfolding put_out
+put_out_up n None t up = up
+put_out_up n (Some x) t up = ascends_set 0 n (Some x) t (omega arith) up
+
 outs_up : (es : List Edit) (after : Volume) (t : Table (Option Vnode)) → AscendsFrom 0 t → AscendsFrom 0 (put_outs es after t)
 unfolding put_outs
 outs_up [] after t up = up
 outs_up (e ∷ es) after t up = outs_up es after (put_out (edit_number e) (get (edit_number e) after.vnodes) t) (put_out_up (edit_number e) (get (edit_number e) after.vnodes) t up)
-  where
-    put_out_up : (n : ℕ) (o : Option Vnode) (t : Table (Option Vnode)) → AscendsFrom 0 t → AscendsFrom 0 (put_out n o t)
-    unfolding put_out
-    put_out_up n None t up = up
-    put_out_up n (Some x) t up = ascends_set 0 n (Some x) t (omega arith) up
 
 removed_up : (ns : List ℕ) (t : Table (Option Vnode)) → AscendsFrom 0 t → AscendsFrom 0 (with_removed ns t)
 removed_up [] t up = up
@@ -239,14 +239,26 @@ there {A} n x t = get_set n n x t ∙ rw (let z : nat_eq n n ≡ true = grind (a
 missing : {A : Type 0} (n : ℕ) (t : Table A) → get n (unset n t) ≡ None
 missing {A} n t = get_unset n n t ∙ rw (let z : nat_eq n n ≡ true = grind (arith, nat_tests) in z) refl
 
+amend_told : (id n : ℕ) (a : Amend) (v : Volume) (o : Option Vnode) → get n v.vnodes ≡ o → (amends_at id n a v (get n v.vnodes)).versions ≡ told_one id n o (get n (amends_at id n a v (get n v.vnodes)).volume.vnodes)
+unfolding told_one
+amend_told id n a v None is = rw is (sym (ap (told_one id n None) is))
+amend_told id n a v (Some x) is = rw (is, there n (amended (v.counter + 1) a x) v.vnodes) refl
+
+make_told : (id n : ℕ) (y : Vnode) (v : Volume) (o : Option Vnode) → get n v.vnodes ≡ o → o ≡ None → (makes_at id n y v (get n v.vnodes)).versions ≡ told_one id n o (get n (makes_at id n y v (get n v.vnodes)).volume.vnodes)
+unfolding told_one
+make_told id n y v None is free = rw (is, there n (fresh (v.counter + 1) v.next y) v.vnodes) refl
+make_told id n y v (Some x) is free = absurd cc
+
+free_told : (id n : ℕ) (v : Volume) (o : Option Vnode) → get n v.vnodes ≡ o → (frees_at id n v (get n v.vnodes)).versions ≡ told_one id n o (get n (frees_at id n v (get n v.vnodes)).volume.vnodes)
+unfolding told_one
+free_told id n v None is = rw is (sym (ap (told_one id n None) is))
+free_told id n v (Some x) is = rw (is, missing n v.vnodes) refl
+
 edit_told : (id : ℕ) (e : Edit) (v : Volume) (o : Option Vnode) → get (edit_number e) v.vnodes ≡ o → Finds e o → (edited id e v).versions ≡ told_one id (edit_number e) o (get (edit_number e) (edited id e v).volume.vnodes)
-unfolding told_one Finds
-edit_told id (amends n a) v None is finds = rw is refl
-edit_told id (amends n a) v (Some x) is finds = rw (is, there n (amended (v.counter + 1) a x) v.vnodes) refl
-edit_told id (makes n y) v None is finds = rw (is, there n (fresh (v.counter + 1) v.next y) v.vnodes) refl
-edit_told id (makes n y) v (Some x) is finds = absurd (let z : Some x ≡ None = finds in cc)
-edit_told id (frees n) v None is finds = rw is refl
-edit_told id (frees n) v (Some x) is finds = rw (is, missing n v.vnodes) refl
+unfolding Finds
+edit_told id (amends n a) v o is finds = amend_told id n a v o is
+edit_told id (makes n y) v o is finds = make_told id n y v o is finds
+edit_told id (frees n) v o is finds = free_told id n v o is
 
 -- ---- and all of them
 
