@@ -154,5 +154,5 @@ each_read (x ∷ xs) all = rw (readable_kind (kind_seen x.kind) x refl all.0) (e
 
 -- where all can be read, memory alone is wanting
 pub memory_alone : (e : AssembleFault) (xs : List image.Vnode) → (e ≡ faults.NotSound → list_all can_be_read xs ≡ false) → AllByRecursion IsReadable xs → e ≡ faults.OutOfMemory
-memory_alone faults.NotSound xs no all = absurd (let z : true ≡ false = sym (each_read xs all) ∙ no refl in cc)
-memory_alone faults.OutOfMemory xs no all = refl
+memory_alone faults.NotSound xs unread all = absurd (let z : true ≡ false = sym (each_read xs all) ∙ unread refl in cc)
+memory_alone faults.OutOfMemory xs unread all = refl
