@@ -1,5 +1,5 @@
 -- Which vnodes can be read.
-use Rattle.std.proofs.Common.{◌≡◌, ℕ, zero, suc, ◌+◌, ◌≤◌, Bool, true, false, List, [], ◌∷◌, length, take, Option, Some, None, Result, Ok, Err, is_ok, is_some, nat_eq, slice_get, if◌then◌else◌, refl, sym, ap, subst, ◌∙◌, arith}
+use Rattle.std.proofs.Common.{◌≡◌, ℕ, zero, suc, ◌+◌, ◌≤◌, Bool, true, false, List, [], ◌∷◌, length, take, Option, Some, None, Result, Ok, Err, IfErr, is_ok, is_some, nat_eq, slice_get, if◌then◌else◌, refl, sym, ap, subst, ◌∙◌, arith}
 use Rattle.std.specs.Prelude.{◌&&◌, ◌||◌}
 use Rattle.std.specs.List.{list_all, AllByRecursion}
 use Rattle.std.proofs.lemmas.Bool.Decides.{nat_tests}
@@ -153,6 +153,9 @@ each_read [] all = refl
 each_read (x ∷ xs) all = rw (readable_kind (kind_seen x.kind) x refl all.0) (each_read xs all.1)
 
 -- where all can be read, memory alone is wanting
-pub memory_alone : (e : AssembleFault) (xs : List image.Vnode) → (e ≡ faults.NotSound → list_all can_be_read xs ≡ false) → AllByRecursion IsReadable xs → e ≡ faults.OutOfMemory
+memory_alone : (e : AssembleFault) (xs : List image.Vnode) → (e ≡ faults.NotSound → list_all can_be_read xs ≡ false) → AllByRecursion IsReadable xs → e ≡ faults.OutOfMemory
 memory_alone faults.NotSound xs unread all = absurd (let z : true ≡ false = sym (each_read xs all) ∙ unread refl in cc)
 memory_alone faults.OutOfMemory xs unread all = refl
+
+pub memory_left : {A : Type 0} (r : Result A AssembleFault) (e : AssembleFault) (xs : List image.Vnode) → r ≡ Err e → (e ≡ faults.NotSound → list_all can_be_read xs ≡ false) → AllByRecursion IsReadable xs → IfErr r (λ f. f ≡ faults.OutOfMemory)
+memory_left {A} r e xs is unread all = rw is (memory_alone e xs unread all)

@@ -192,7 +192,6 @@ impl Volume {
     }
 
     /// The names of a directory. It takes no memory, and doesn't read the directory's contents.
-    #[tactic(auto, using(crate::proofs::Listing::kept_directory, crate::proofs::Listing::some_directory))]
     pub(crate) fn names(&self, number: u32, d: &Vnode) -> &Dir
         requires there { get number self.now.vnodes.table ≡ Some d.now }
         requires directory { is_kind (seen d.now).kind a_directory ≡ true }
@@ -252,7 +251,7 @@ impl Volume {
     /// Whether a directory has no names, or isn't there.
     #[tactic(auto, unfolding(crate::specs::Seen::seen))]
     pub(crate) fn is_empty(&self, x: Option<&Vnode>) -> bool
-        requires { IfSome x.entry (λ x. get x.now.vnode self.now.vnodes.table ≡ Some x.now) }
+        requires { IfSome x (λ x. get x.now.vnode self.now.vnodes.table ≡ Some x.now) }
         ensures { result ≡ is_empty (option_map seen (option_copied x.entry)) }
     {
         match x {

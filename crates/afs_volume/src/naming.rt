@@ -1,6 +1,6 @@
 //! Names that operations add and remove, and the order of their edits.
 
-ghost use Rattle.std.specs.Prelude.{◌≡◌, ◌∷◌, [], Some, None, true, false, is_some, IfOk, IfErr, OnOk, ◌++◌, ◌≤◌, length, nat_lt};
+ghost use Rattle.std.specs.Prelude.{◌≡◌, ◌∷◌, [], Some, None, true, IfOk, IfErr, OnOk, ◌++◌, ◌≤◌, length, nat_lt};
 ghost use Rattle.std.specs.List.{prefix_len};
 ghost use Rattle.std.specs.Option.{option_copied, option_map};
 ghost use Rattle.afs_ideal.specs.Directories.{with_name, without_name};

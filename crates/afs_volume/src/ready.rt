@@ -2,7 +2,6 @@
 
 ghost use Rattle.std.specs.Prelude.{◌≡◌, false, true, is_ok, map, Err, Some, IfErr, IfOk, OnOk};
 ghost use Rattle.std.specs.List.{list_all, AllByRecursion};
-ghost use Rattle.afs_ideal.specs.AccessLists.{acl_at};
 ghost use Rattle.afs_ideal.specs.Directories.{directory_bytes, directory_of};
 ghost use Rattle.afs_volume.specs.Assembling.{can_be_read};
 ghost use Rattle.afs_volume.specs.Listed.{listed_as};
@@ -102,7 +101,6 @@ fn read_all(alloc: Global, vnodes: &[Vnode]) -> Result<Vec<Option<Dir>>, Assembl
 impl ReadyChange {
     /// A change with the names of its directories, each of which is read once. `NotSound` where a vnode that it gives can't be
     /// read, which is none that `apply` gives.
-    #[tactic(auto, using(crate::proofs::Readable::memory_alone))]
     pub fn of(alloc: Global, c: Change) -> Result<ReadyChange, AssembleFault>
         ensures change { IfOk result (λ r. r ≡ c) }
         ensures read { IfOk result (λ r. AllByRecursion IsReadable r.vnodes) }

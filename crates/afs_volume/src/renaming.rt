@@ -104,6 +104,42 @@ fn put_in(
     push_names(edits, e.vnode, &names, Some(links))
 }
 
+/// Puts a name in the place of another of the same directory, which then has so many links.
+#[tactic(auto, using(crate::proofs::Renamed::room_within))]
+fn put_within(
+    edits: &mut Edits,
+    d: &Fid,
+    names: &Dir,
+    old: &[u8],
+    new: &[u8],
+    moved: (u32, u32),
+    links: u64,
+) -> Mem<()>
+    requires good { name_ok new.now ≡ true }
+    requires there { is_some (named old.now names.now) ≡ true }
+    ensures { OnOk result (edits_seen edits.new ≡ edits_seen edits.old ++ amends d.now.vnode (record no_amend { names = Some (with_name (name_of new.now moved.0 moved.1) (without_name new.now (without_name old.now names.now))); links = Some links }) ∷ []) }
+{
+    let left = names_without(names, old)?;
+    put_in(edits, d, left, new, moved, links)
+}
+
+/// Puts a name of another directory in one that has room for it, and which then has so many links.
+#[tactic(auto, using(crate::proofs::Renamed::room_across))]
+fn put_across(
+    edits: &mut Edits,
+    e: &Fid,
+    names: &Dir,
+    new: &[u8],
+    moved: (u32, u32),
+    links: u64,
+) -> Mem<()>
+    requires good { name_ok new.now ≡ true }
+    requires room { (is_some (named new.now names.now) || nat_lt (length names.now) 1024) ≡ true }
+    ensures { OnOk result (edits_seen edits.new ≡ edits_seen edits.old ++ amends e.now.vnode (record no_amend { names = Some (with_name (name_of new.now moved.0 moved.1) (without_name new.now names.now)); links = Some links }) ∷ []) }
+{
+    put_in(edits, e, names.copy()?, new, moved, links)
+}
+
 /// Nothing is added to a directory, or a name is replaced, or there is room for one more.
 fn has_room_for(d: &Fid, e: &Fid, others: &Dir, new: &[u8]) -> bool
     ensures { result ≡ (d.now.vnode == e.now.vnode || (is_some (named new.now others.now) || nat_lt (length others.now) 1024)) }
@@ -180,7 +216,6 @@ impl Volume {
 
     /// What is done where the tests pass. From one directory to another, which is then the parent, a directory takes its
     /// link along; a directory that is replaced is one link less.
-    #[tactic(auto, using(crate::proofs::Renamed::room_within, crate::proofs::Renamed::room_across))]
     fn renames(
         &self,
         d: &Fid,
@@ -208,14 +243,13 @@ impl Volume {
         let target = self.named(others, new);
         let replaced = is_directory_there(target);
         if d.vnode == e.vnode {
-            let left = names_without(names, old)?;
             let links = linked(false, replaced, links_of(x));
-            put_in(&mut edits, d, left, new, moved, links)?;
+            put_within(&mut edits, d, names, old, new, moved, links)?;
         } else {
             let moves = is_directory_there(self.named(names, old));
             take_from(&mut edits, d, names, old, linked(false, moves, links_of(x)))?;
             let links = linked(moves, replaced, links_of(y));
-            put_in(&mut edits, e, others.copy()?, new, moved, links)?;
+            put_across(&mut edits, e, others, new, moved, links)?;
             edits.push(Edit::Amends(moved.0, Amend::with_parent(e.vnode, e.unique)))?;
         }
         push_unlink(&mut edits, number, target)?;
