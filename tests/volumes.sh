@@ -37,7 +37,10 @@ below='afs_num afs_xdr afs_fsrpc afs_vnode afs_volume'
 mkdir "$work/crates"
 cp HANDLES "$work"
 for crate in $(for name in $below; do needed "$name"; done | sort -u); do
-    cp -R "crates/$crate" "$work/crates"
+    mkdir "$work/crates/$crate"
+    for part in src specs proofs; do
+        if [ -d "crates/$crate/$part" ]; then cp -R "crates/$crate/$part" "$work/crates/$crate"; fi
+    done
     grep "^$crate:" crates.txt >> "$work/crates.txt"
 done
 play=$work/crates/afs_volume_play

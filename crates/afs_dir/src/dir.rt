@@ -121,6 +121,26 @@ impl Dir {
         Ok((removed.vnode, removed.unique))
     }
 
+    /// A copy.
+    pub fn copy(&self) -> Mem<Dir>
+        ensures same { IfOk result (λ d. d ≡ self.now) }
+        ensures few { OnOk result (length self.now ≤ 1024) }
+    {
+        let names = copies(self.alloc, &self.names)?;
+        Ok(Dir {
+            alloc: self.alloc,
+            names,
+        })
+    }
+
+    /// The names in byte order. It takes no memory.
+    pub fn into_names(self) -> Names
+        ensures { result ≡ self }
+    {
+        let Dir { alloc: _, names } = self;
+        Names::from_vec(names)
+    }
+
     /// A copy of the names, in byte order.
     pub fn list(&self) -> Mem<Names>
         ensures { IfOk result (λ names. names ≡ self.now) }

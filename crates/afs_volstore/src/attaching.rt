@@ -44,7 +44,9 @@ impl State {
                     Err(Unfit::Bad)
                 }
             }
-            Redo::Change(id, change) => change_in(self.alloc, &mut self.volumes, id, change),
+            Redo::Change(id, change) => {
+                change_in(self.alloc, &mut self.volumes, id, change.into_change())
+            }
             Redo::Start(boot) => {
                 self.start(boot);
                 Ok(())

@@ -245,7 +245,7 @@ impl State {
     {
         match redo {
             Redo::Change(id, change) => {
-                let versions = self.versions(*id, change)?;
+                let versions = self.versions(*id, change.change())?;
                 change_lines(self.alloc, server, key_in(head), versions)
             }
             _ => Ok(Lines::new(self.alloc)),

@@ -21,7 +21,7 @@ use afs_num::histories::Versions;
 use afs_num::records::{RecordBody, StoreRecord, StoredVolume, StoredVolumes};
 use afs_num::sequences::{Octets, Sequence};
 use afs_num::types::Mem;
-use afs_num::vnodes::{Vnode, VnodeNumbers, Vnodes};
+use afs_num::vnodes::{VnodeNumbers, Vnodes};
 use afs_num::volumes::Change;
 use afs_record::faults::RecordFault;
 use afs_record::records::{decode_record, encode_record};
@@ -29,7 +29,7 @@ use afs_records::laws::records_are_read_again;
 use afs_vnode::faults::VnodeFault;
 use afs_vnode::store::VnodeStore;
 use afs_volume::faults::AssembleFault;
-use afs_volume::{Volume, can_be_read};
+use afs_volume::{ReadyChange, Volume};
 use std::alloc::{AllocError, Global};
 
 /// The vnodes of a volume by their numbers.
@@ -81,19 +81,6 @@ fn volumes_of(alloc: Global, given: StoredVolumes) -> Result<Sequence<Volume>, U
     Ok(volumes)
 }
 
-/// Whether all these vnodes can be read.
-fn are_read(alloc: Global, vnodes: &[Vnode]) -> Mem<bool>
-    ensures value { IfOk result (λ b. b ≡ list_all can_be_read vnodes.now) }
-    ensures readable { IfOk result (λ b. b ≡ true → AllByRecursion IsReadable vnodes.now) }
-{
-    for vnode in vnodes {
-        if !can_be_read(alloc, vnode)? {
-            return Ok(false);
-        }
-    }
-    Ok(true)
-}
-
 /// A change as a record tells it.
 fn change_of(
     alloc: Global,
@@ -101,22 +88,24 @@ fn change_of(
     unique: u32,
     vnodes: Vnodes,
     removed: VnodeNumbers,
-) -> Result<Change, Unfit>
+) -> Result<ReadyChange, Unfit>
     ensures told { IfOk result (λ c. (c.counter ≡ counter) × ((c.unique ≡ unique) × ((c.vnodes ≡ vnodes) × (c.removed ≡ removed)))) }
     ensures read { IfOk result (λ c. AllByRecursion IsReadable c.vnodes) }
     ensures bad { result ≡ Err Bad → list_all can_be_read vnodes ≡ false }
 {
-    if !are_read(alloc, vnodes.as_slice())? {
-        return Err(Unfit::Bad);
-    }
-    Ok(Change {
+    let change = Change {
         versions: Versions::new(alloc),
         vnodes,
         removed,
         counter,
         unique,
         reply: FsReply::GiveUpCallBacks,
-    })
+    };
+    match ReadyChange::of(alloc, change) {
+        Ok(ready) => Ok(ready),
+        Err(AssembleFault::NotSound) => Err(Unfit::Bad),
+        Err(AssembleFault::OutOfMemory) => Err(Unfit::OutOfMemory),
+    }
 }
 
 /// What a record's body says. `Bad` where the fold can take it into no store.

@@ -18,9 +18,8 @@ use crate::redo::Redo;
 use afs_num::records::RecordHead;
 use afs_num::sequences::Sequence;
 use afs_num::types::Mem;
-use afs_num::volumes::Change;
 use afs_seats::Seats;
-use afs_volume::Volume;
+use afs_volume::{ReadyChange, Volume};
 
 /// How many volumes a server has at most.
 const MOST_VOLUMES: usize = 64;
@@ -75,7 +74,7 @@ pub(crate) fn put_volumes(volumes: &mut Seats<Volume>, added: Sequence<Volume>) 
 }
 
 /// A volume with a change taken in.
-fn taken_in(volume: Volume, change: Change) -> Volume
+fn taken_in(volume: Volume, change: ReadyChange) -> Volume
     requires can { CanTakeIn volume change }
     requires room { HasRoom volume change }
     ensures changed { changed_stored change.counter change.unique change.vnodes change.removed (stored_of volume) ≡ Some (stored_of result) }
@@ -87,7 +86,7 @@ fn taken_in(volume: Volume, change: Change) -> Volume
 }
 
 /// The volume of this number takes a change in.
-fn put_change(volumes: &mut Seats<Volume>, id: u32, change: Change)
+fn put_change(volumes: &mut Seats<Volume>, id: u32, change: ReadyChange)
     requires there { IsSome (get id volumes.old.table) }
     requires can { CanChange volumes.old.table id change }
     requires room { HasRoomIn volumes.old.table id change }
@@ -105,7 +104,7 @@ fn put_change(volumes: &mut Seats<Volume>, id: u32, change: Change)
 }
 
 /// Makes room for a change in a volume.
-fn reserved(volume: Volume, change: &Change) -> (Volume, Mem<()>)
+fn reserved(volume: Volume, change: &ReadyChange) -> (Volume, Mem<()>)
     ensures room { OnOk result.1 (HasRoom result.0 change.now) }
     ensures stored { stored_of result.0 ≡ stored_of volume }
     ensures id { result.0.head.id ≡ volume.head.id }
@@ -117,7 +116,7 @@ fn reserved(volume: Volume, change: &Change) -> (Volume, Mem<()>)
 }
 
 /// Makes room for a change in the volume of this number, if there is one.
-fn reserve_change(volumes: &mut Seats<Volume>, id: u32, change: &Change) -> Mem<()>
+fn reserve_change(volumes: &mut Seats<Volume>, id: u32, change: &ReadyChange) -> Mem<()>
     requires numbered { AreNumbered volumes.old.table }
     ensures room { OnOk result (HasRoomIn volumes.new.table id change.now) }
     ensures same { seen_as stored_of volumes.new.table ≡ seen_as stored_of volumes.old.table }

@@ -4,7 +4,9 @@ use Rattle.std.specs.Option.{option_map}
 use Rattle.std.proofs.lemmas.Bool.Decides.{nat_tests}
 use Rattle.afs_num.specs.declared.directories.Name.{Name}
 use Rattle.afs_num.specs.declared.vnodes.Vnode as image
-use Rattle.afs_ideal.specs.Tables.{Table, get, AscendsFrom}
+use Rattle.afs_ideal.specs.Operations.{is_kind}
+use Rattle.afs_ideal.specs.Tables.{Table, get, set, unset, AscendsFrom}
+use Rattle.afs_ideal.proofs.Tables.{get_set, get_unset}
 use Rattle.afs_ideal.specs.Volumes.{Kind, a_directory, a_file, a_link}
 use Rattle.afs_volume.specs.Listed.{listed_as, listed_at, listed_by, names_in, Lists}
 use Rattle.afs_volume.specs.Seen.{all_seen, kind_seen, names_seen, seen}
@@ -114,3 +116,44 @@ gets_from m (q ∷ ps) (suc i) p up e =
 
 pub place_gets : (t : Table image.Vnode) (i : ℕ) (x : image.Vnode) → AscendsFrom 0 t → Some (x.vnode, x) ≡ slice_get t i → get x.vnode t ≡ Some x
 place_gets t i x up e = gets_from 0 t i (x.vnode, x) up (sym e)
+
+-- ---- a vnode that is put or removed
+
+pub listed_set : (old new : ℕ → Option (List Name)) (t u : Table image.Vnode) (x : image.Vnode) (names : Option (List Name)) → names ≡ listed_as x → ((n : ℕ) → new n ≡ (if nat_eq x.vnode n then names else old n)) → u ≡ set x.vnode x t
+    → Lists old (all_seen t) → Lists new (all_seen u)
+listed_set old new t u x names is h put all =
+    listed new u (λ n. h n ∙ (ap (λ (o : Option (List Name)). if nat_eq x.vnode n then o else old n) is
+    ∙ (ap (λ (o : Option (List Name)). if nat_eq x.vnode n then listed_as x else o) (found old t all n)
+    ∙ (sym (chosen (nat_eq x.vnode n) x (get n t)) ∙ ap names_of (sym (ap (get n) put ∙ get_set n x.vnode x t))))))
+
+none_chosen : (b : Bool) (o : Option image.Vnode) → names_of (if b then None else o) ≡ (if b then None else names_of o)
+none_chosen true o = refl
+none_chosen false o = refl
+
+pub listed_unset : (old new : ℕ → Option (List Name)) (t u : Table image.Vnode) (k : ℕ) → ((n : ℕ) → new n ≡ (if nat_eq k n then None else old n)) → u ≡ unset k t → Lists old (all_seen t) → Lists new (all_seen u)
+listed_unset old new t u k h gone all =
+    listed new u (λ n. h n ∙ (ap (λ (o : Option (List Name)). if nat_eq k n then None else o) (found old t all n)
+    ∙ (sym (none_chosen (nat_eq k n) (get n t)) ∙ ap names_of (sym (ap (get n) gone ∙ get_unset n k t)))))
+
+-- ---- the names of a directory that is there
+
+directory_by : (k : Kind) (x : image.Vnode) → is_kind k a_directory ≡ true → listed_by k (names_seen k x.contents) ≡ Some (names_seen k x.contents)
+directory_by a_directory x is = refl
+directory_by a_file x is = absurd cc
+directory_by a_link x is = absurd cc
+
+directory_listed : (x : image.Vnode) → is_kind (seen x).kind a_directory ≡ true → listed_as x ≡ Some (seen x).names
+unfolding seen
+directory_listed x is = directory_by (kind_seen x.kind) x is
+
+there_listed : (names : ℕ → Option (List Name)) (t : Table image.Vnode) (n : ℕ) (x : image.Vnode) → Lists names (all_seen t) → get n t ≡ Some x → is_kind (seen x).kind a_directory ≡ true → names n ≡ Some (seen x).names
+there_listed names t n x all there is = found names t all n ∙ (ap names_of there ∙ directory_listed x is)
+
+some_names : (d e : List Name) → Some d ≡ Some e → d ≡ e
+some_names d e is = cc
+
+pub kept_directory : (names : ℕ → Option (List Name)) (t : Table image.Vnode) (n : ℕ) (x : image.Vnode) (d : List Name) → Lists names (all_seen t) → get n t ≡ Some x → is_kind (seen x).kind a_directory ≡ true → Some d ≡ names n → d ≡ (seen x).names
+kept_directory names t n x d all there is e = some_names d (seen x).names (e ∙ there_listed names t n x all there is)
+
+pub some_directory : (names : ℕ → Option (List Name)) (t : Table image.Vnode) (n : ℕ) (x : image.Vnode) → Lists names (all_seen t) → get n t ≡ Some x → is_kind (seen x).kind a_directory ≡ true → None ≡ names n → ⊥
+some_directory names t n x all there is e = let z : ◌≡◌ {A = Option (List Name)} None (Some (seen x).names) = e ∙ there_listed names t n x all there is in cc

@@ -1,7 +1,7 @@
 -- Which vnodes can be read.
-use Rattle.std.proofs.Common.{◌≡◌, ℕ, zero, suc, ◌+◌, ◌≤◌, Bool, true, false, List, [], ◌∷◌, length, take, Option, Some, None, Result, Ok, Err, is_ok, is_some, nat_eq, slice_get, if◌then◌else◌, refl, sym, ap, subst, ◌∙◌, arith}
+use Rattle.std.proofs.Common.{◌≡◌, ℕ, zero, suc, ◌+◌, ◌≤◌, Bool, true, false, List, [], ◌∷◌, length, take, Option, Some, None, Result, Ok, Err, IfErr, is_ok, is_some, nat_eq, slice_get, if◌then◌else◌, refl, sym, ap, subst, ◌∙◌, arith}
 use Rattle.std.specs.Prelude.{◌&&◌, ◌||◌}
-use Rattle.std.specs.List.{AllByRecursion}
+use Rattle.std.specs.List.{list_all, AllByRecursion}
 use Rattle.std.proofs.lemmas.Bool.Decides.{nat_tests}
 use Rattle.afs_num.specs.declared.acls.AccessList.{AccessList}
 use Rattle.afs_num.specs.declared.directories.Name.{Name}
@@ -14,6 +14,8 @@ use Rattle.afs_ideal.specs.Volumes.{a_directory, a_file, a_link, blocks_in, bloc
 use Rattle.afs_ideal.specs.Volumes as ideal
 use Rattle.afs_volume.specs.Assembling.{are_read, blocks_in_place, can_be_read, make_volume, IsReadablePlace}
 use Rattle.afs_volume.specs.Seen.{all_seen, kind_seen, names_spelled, text_by, AreReadable, IsReadable}
+use Rattle.afs_volume.specs.declared.faults.AssembleFault.{AssembleFault}
+use Rattle.afs_volume.specs.declared.faults.AssembleFault.TheVariants as faults
 use Rattle.afs_volume.specs.declared.volume.Volume as volumes
 use Rattle.afs_volume.proofs.Soundly.{in_order}
 use Rattle.afs_volume.proofs.Taken.{later_by}
@@ -143,3 +145,17 @@ reads_all m (p ∷ ps) up all =
 
 pub parts_make : (v : volumes.Volume) → make_volume v.head v.vnodes.table ≡ true
 parts_make v = rw (all_read v.vnodes.table, reads_all 1 v.vnodes.table (in_order v.head v.vnodes.table v.readable v.sound) v.readable) v.sound
+
+-- ---- vnodes that a change gives
+
+pub each_read : (xs : List image.Vnode) → AllByRecursion IsReadable xs → list_all can_be_read xs ≡ true
+each_read [] all = refl
+each_read (x ∷ xs) all = rw (readable_kind (kind_seen x.kind) x refl all.0) (each_read xs all.1)
+
+-- where all can be read, memory alone is wanting
+memory_alone : (e : AssembleFault) (xs : List image.Vnode) → (e ≡ faults.NotSound → list_all can_be_read xs ≡ false) → AllByRecursion IsReadable xs → e ≡ faults.OutOfMemory
+memory_alone faults.NotSound xs unread all = absurd (let z : true ≡ false = sym (each_read xs all) ∙ unread refl in cc)
+memory_alone faults.OutOfMemory xs unread all = refl
+
+pub memory_left : {A : Type 0} (r : Result A AssembleFault) (e : AssembleFault) (xs : List image.Vnode) → r ≡ Err e → (e ≡ faults.NotSound → list_all can_be_read xs ≡ false) → AllByRecursion IsReadable xs → IfErr r (λ f. f ≡ faults.OutOfMemory)
+memory_left {A} r e xs is unread all = rw is (memory_alone e xs unread all)

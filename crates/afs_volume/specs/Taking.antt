@@ -1,6 +1,7 @@
 -- A change that a volume takes in: what becomes of the table of its vnodes, and what it is as a disk keeps it.
 use Rattle.std.specs.Prelude.{◌≡◌, ◌≤◌, ℕ, List, [], ◌∷◌, Bool, true, false, is_some, length, map, nat_eq, if◌then◌else◌}
 use Rattle.std.specs.List.{list_any, AllByRecursion}
+use Rattle.indexmap.specs.IndexMap.{spare}
 use Rattle.afs_num.specs.declared.vnodes.Vnode as image
 use Rattle.afs_num.specs.declared.volumes.VolumeHead.{VolumeHead}
 use Rattle.afs_num.specs.declared.volumes.Change.{Change}
@@ -32,9 +33,14 @@ pub record CanTakeIn (v : Volume) (c : Change) : Type 0 where
   pub read : AllByRecursion IsReadable c.vnodes
   pub fits : AllByRecursion FitsImage c.vnodes
 
+-- There is room for so many more vnodes, and for the names of as many directories.
+pub record HasRoomFor (v : Volume) (count : ℕ) : Type 0 where
+  pub vnodes : count ≤ v.vnodes.room
+  pub dirs : count ≤ spare v.dirs.dirs
+
 -- There is room for the change, as a call that reserves makes it.
 abbrev pub HasRoom : Volume → Change → Type 0
-HasRoom v c = length c.vnodes ≤ v.vnodes.room
+HasRoom v c = HasRoomFor v (length c.vnodes)
 
 abbrev pub is_among : ℕ → List ℕ → Bool
 is_among n ns = list_any (λ (m : ℕ). nat_eq m n) ns

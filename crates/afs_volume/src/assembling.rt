@@ -126,6 +126,7 @@ impl Volume {
             alloc,
             head,
             vnodes,
+            dirs,
             blocks,
         })
     }
@@ -138,12 +139,7 @@ impl Volume {
         ensures whole { make_volume result.0 result.1.table ≡ true }
         ensures fits { FitsHead result.0 }
     {
-        let Volume {
-            alloc: _,
-            head,
-            vnodes,
-            blocks: _,
-        } = self;
+        let Volume { head, vnodes, .. } = self;
         (head, vnodes)
     }
 }

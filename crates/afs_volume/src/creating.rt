@@ -3,6 +3,7 @@
 ghost use Rattle.std.specs.Prelude.{◌≡◌, ◌≤◌, ◌+◌, ◌∷◌, [], Some, None, true, length};
 ghost use Rattle.afs_num.specs.declared.calls.FsCall.TheVariants as calls;
 ghost use Rattle.afs_ideal.specs.Operations.{adds_name, by_tests, creates, first_failing, is_kind, is_mask, names_in};
+ghost use Rattle.afs_ideal.specs.Tables.{get};
 ghost use Rattle.afs_ideal.specs.VnodeImage.{most_contents, FitsImage};
 ghost use Rattle.afs_ideal.specs.Volumes.{a_directory, vnode_of};
 ghost use Rattle.afs_volume.specs.Giving.{caller_seen, planned, volume_of, Plans};
@@ -13,9 +14,9 @@ use crate::callers::Caller;
 use crate::checks::check;
 use crate::edits::{Amend, Edit, Edits, New, Plan};
 use crate::faults::OpFault;
-use crate::finding::{is_directory, links_of, links_there, list_of, may_link, names_of};
+use crate::finding::{is_directory, links_of, links_there, list_of, may_link};
 use crate::making::{new_directory, new_file, new_link, set_status};
-use crate::naming::{add_name, ascending, push_names};
+use crate::naming::{ascending, names_with, push_names};
 use crate::operations::is_mask;
 use afs_num::calls::AfsStoreStatus;
 use afs_num::sequences::Octets;
@@ -34,14 +35,15 @@ impl Volume {
         made: Vnode,
     ) -> Result<Plan, OpFault>
         requires found { vnode_of fid.now (volume_of self.now) ≡ Some (seen d.now) }
+        requires there { get fid.now.vnode self.now.vnodes.table ≡ Some d.now }
         requires directory { is_kind (seen d.now).kind a_directory ≡ true }
         requires readable { IsReadable made }
         requires fits { FitsImage made }
         ensures { Plans (by_tests (first_failing (adds_name name.now (names_in (Some (seen d.now))) (is_mask status.now))) (creates fid.now name.now status.now links (seen made) (volume_of self.now))) result }
     {
         let number = self.free_number(&made);
-        let mut names = names_of(self.alloc, d)?;
-        add_name(&mut names, name, number, self.head.unique, is_mask(status))?;
+        let names = self.names(fid.vnode, d);
+        let names = names_with(names, name, number, self.head.unique, is_mask(status))?;
         let mut made = made;
         set_status(&mut made, status);
         let mut edits = Edits::new(self.alloc);
@@ -132,10 +134,9 @@ impl Volume {
         check(is_directory(d), 20)?;
         check(self.is_writable(), 30)?;
         check(self.may(caller, 4, d)?, 13)?;
-        let mut names = names_of(self.alloc, d)?;
         let good = is_here && may_link(fid, x);
-        add_name(
-            &mut names,
+        let names = names_with(
+            self.names(fid.vnode, d),
             name.as_slice(),
             existing.vnode,
             existing.unique,

@@ -1,6 +1,6 @@
 //! The names of the directories of a volume, by the numbers of their vnodes.
 
-ghost use Rattle.std.specs.Prelude.{◌≡◌, ◌+◌, ℕ, Some, None, nat_eq, take, IfOk, OnOk, if◌then◌else◌};
+ghost use Rattle.std.specs.Prelude.{◌≡◌, ◌≤◌, ◌<◌, ◌+◌, ℕ, Some, None, map, nat_eq, take, IfOk, IsOk, OnOk, if◌then◌else◌};
 ghost use Rattle.std.specs.Option.{option_copied};
 ghost use Rattle.indexmap.specs.IndexMap as maps;
 ghost use Rattle.afs_ideal.specs.Tables.{AscendsFrom};
@@ -33,6 +33,17 @@ fn listed_as(alloc: Global, x: &Vnode) -> Mem<Option<Dir>>
     }
 }
 
+/// The names of each vnode; it has some where it is a directory.
+pub fn all_listed(alloc: Global, vnodes: &[Vnode]) -> Mem<Vec<Option<Dir>>>
+    ensures { IfOk result (λ names. names.items ≡ map listed_as vnodes.now) }
+{
+    let mut names = Vec::new(alloc);
+    for x in vnodes {
+        names.push(listed_as(alloc, x)?)?;
+    }
+    Ok(names)
+}
+
 impl Directories {
     /// None yet.
     fn new(alloc: Global) -> Directories
@@ -50,9 +61,20 @@ impl Directories {
         self.dirs.get(&number)
     }
 
-    /// The names under a number, in place of those that were there.
+    /// Makes room for so many more.
+    pub fn reserve(&mut self, count: usize) -> Mem<()>
+        ensures room { OnOk result (count ≤ maps.spare self.new.dirs) }
+        ensures kept { maps.spare self.old.dirs ≤ maps.spare self.new.dirs }
+        ensures same { (n : ℕ) → maps.get nat_eq self.new.dirs n ≡ maps.get nat_eq self.old.dirs n }
+    {
+        self.dirs.reserve(count)
+    }
+
+    /// The names under a number, in place of those that were there. It takes no memory where there is room.
     fn put(&mut self, number: u32, names: Dir) -> Mem<()>
-        ensures { OnOk result ((n : ℕ) → maps.get nat_eq self.new.dirs n ≡ (if nat_eq number n then Some names else maps.get nat_eq self.old.dirs n)) }
+        ensures value { OnOk result ((n : ℕ) → maps.get nat_eq self.new.dirs n ≡ (if nat_eq number n then Some names else maps.get nat_eq self.old.dirs n)) }
+        ensures succeeds { 0 < maps.spare self.old.dirs → IsOk result }
+        ensures room { maps.spare self.old.dirs ≤ maps.spare self.new.dirs + 1 }
     {
         match self.dirs.insert(number, names) {
             Ok(_) => Ok(()),
@@ -60,16 +82,19 @@ impl Directories {
         }
     }
 
-    /// No names under a number.
-    fn remove(&mut self, number: u32)
-        ensures { (n : ℕ) → maps.get nat_eq self.new.dirs n ≡ (if nat_eq number n then None else maps.get nat_eq self.old.dirs n) }
+    /// No names under a number. It takes no memory.
+    pub fn remove(&mut self, number: u32)
+        ensures room { maps.spare self.old.dirs ≤ maps.spare self.new.dirs }
+        ensures value { (n : ℕ) → maps.get nat_eq self.new.dirs n ≡ (if nat_eq number n then None else maps.get nat_eq self.old.dirs n) }
     {
         self.dirs.swap_remove(&number);
     }
 
-    /// These names under a number, or none.
+    /// These names under a number, or none. It takes no memory where there is room.
     fn set(&mut self, number: u32, names: Option<Dir>) -> Mem<()>
-        ensures { OnOk result ((n : ℕ) → maps.get nat_eq self.new.dirs n ≡ (if nat_eq number n then names else maps.get nat_eq self.old.dirs n)) }
+        ensures succeeds { 0 < maps.spare self.old.dirs → IsOk result }
+        ensures room { maps.spare self.old.dirs ≤ maps.spare self.new.dirs + 1 }
+        ensures value { OnOk result ((n : ℕ) → maps.get nat_eq self.new.dirs n ≡ (if nat_eq number n then names else maps.get nat_eq self.old.dirs n)) }
     {
         match names {
             Some(names) => self.put(number, names),
@@ -77,6 +102,18 @@ impl Directories {
                 self.remove(number);
                 Ok(())
             }
+        }
+    }
+
+    /// These names under a number, or none, where there is room. It takes no memory.
+    pub fn set_within(&mut self, number: u32, names: Option<Dir>)
+        requires { 0 < maps.spare self.old.dirs }
+        ensures room { maps.spare self.old.dirs ≤ maps.spare self.new.dirs + 1 }
+        ensures value { (n : ℕ) → maps.get nat_eq self.new.dirs n ≡ (if nat_eq number n then names else maps.get nat_eq self.old.dirs n) }
+    {
+        match self.set(number, names) {
+            Ok(()) => {}
+            Err(_) => unreachable!(),
         }
     }
 

@@ -28,6 +28,16 @@ impl From<AllocError> for AssembleFault {
     }
 }
 
+impl<T: Drop> From<AllocFailed<T>> for AssembleFault {
+    ghost use Rattle.afs_volume.specs.declared.faults.AssembleFault.TheVariants as assembling;
+
+    ghost from_gives = { λ _ e. e ≡ assembling.OutOfMemory };
+
+    fn from(_fault: AllocFailed<T>) -> AssembleFault {
+        AssembleFault::OutOfMemory
+    }
+}
+
 impl From<AllocError> for OpFault {
     ghost from_gives = { λ _ e. e ≡ OutOfMemory };
 

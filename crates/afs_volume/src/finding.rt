@@ -191,10 +191,23 @@ impl Volume {
         }
     }
 
+    /// The names of a directory. It takes no memory, and doesn't read the directory's contents.
+    pub(crate) fn names(&self, number: u32, d: &Vnode) -> &Dir
+        requires there { get number self.now.vnodes.table ≡ Some d.now }
+        requires directory { is_kind (seen d.now).kind a_directory ≡ true }
+        ensures { result.now ≡ (seen d.now).names }
+    {
+        match self.dirs.get(number) {
+            Some(names) => names,
+            None => unreachable!(),
+        }
+    }
+
     /// The vnode that a name of a directory names.
     pub(crate) fn named(&self, names: &Dir, name: &[u8]) -> Option<&Vnode>
         ensures seen { option_map seen (option_copied result) ≡ named_vnode (volume_of self.now) (named name.now names.now) }
         ensures number { IfSome result (λ x. x.now.vnode ≡ number_named (named name.now names.now)) }
+        ensures value { IfSome result (λ x. get x.now.vnode self.now.vnodes.table ≡ Some x.now) }
         ensures readable { IfSome result (λ x. IsReadable x.now) }
     {
         let (number, unique) = names.find(name)?;
@@ -237,12 +250,13 @@ impl Volume {
 
     /// Whether a directory has no names, or isn't there.
     #[tactic(auto, unfolding(crate::specs::Seen::seen))]
-    pub(crate) fn is_empty(&self, x: Option<&Vnode>) -> Mem<bool>
-        ensures { IfOk result (λ b. b ≡ is_empty (option_map seen (option_copied x.entry))) }
+    pub(crate) fn is_empty(&self, x: Option<&Vnode>) -> bool
+        requires { IfSome x (λ x. get x.now.vnode self.now.vnodes.table ≡ Some x.now) }
+        ensures { result ≡ is_empty (option_map seen (option_copied x.entry)) }
     {
         match x {
-            Some(x) if is_directory(x) => Ok(names_of(self.alloc, x)?.is_empty()),
-            _ => Ok(true),
+            Some(x) if is_directory(x) => self.names(x.vnode, x).is_empty(),
+            _ => true,
         }
     }
 

@@ -4,6 +4,7 @@ ghost use Rattle.std.specs.Prelude.{◌≡◌, ◌≤◌, ◌∷◌, true, lengt
 ghost use Rattle.afs_num.specs.declared.calls.FsCall.TheVariants as calls;
 ghost use Rattle.afs_ideal.specs.Operations.{adds_name, all_rights, creating, first_failing, is_kind, most_bytes, names_in, new_file, op};
 ghost use Rattle.afs_ideal.specs.SetUp.{a_file_of, laid, laid_at, laid_in, led, nothing_set};
+ghost use Rattle.afs_ideal.specs.Tables.{get};
 ghost use Rattle.afs_ideal.specs.VnodeImage.{most_contents, FitsImage};
 ghost use Rattle.afs_ideal.specs.VnodeMaps.{most_vnodes};
 ghost use Rattle.afs_ideal.specs.Volumes.{a_directory, ascending, vnode_of};
@@ -16,10 +17,11 @@ ghost use Rattle.afs_volume.specs.Taking.{IsAtSetUp};
 use crate::Volume;
 use crate::callers::Caller;
 use crate::checks::check;
+use crate::directories::all_listed;
 use crate::drafting::Draft;
 use crate::edits::{Edit, Edits};
 use crate::faults::OpFault;
-use crate::finding::{is_directory, names_of};
+use crate::finding::is_directory;
 use crate::making::new_file;
 use crate::operations::MOST_BYTES;
 use afs_history::acts::Written;
@@ -92,8 +94,8 @@ impl Volume {
         let mut at = root;
         for name in path {
             check(is_directory(at), 20)?;
-            let names = names_of(self.alloc, at)?;
-            let Some(x) = self.named(&names, name.as_slice()) else {
+            let names = self.names(at.vnode, at);
+            let Some(x) = self.named(names, name.as_slice()) else {
                 return Err(OpFault::Code(Code(2)));
             };
             at = x;
@@ -123,6 +125,7 @@ impl Volume {
     /// The edits that make a file, in a directory where one may be made.
     fn filled_edits(&self, d: &Fid, x: &Vnode, name: &Octets, file: Vnode) -> Mem<Edits>
         requires found { vnode_of d.now (volume_of self.now) ≡ Some (seen x.now) }
+        requires there { get d.now.vnode self.now.vnodes.table ≡ Some x.now }
         requires directory { is_kind (seen x.now).kind a_directory ≡ true }
         requires readable { IsReadable file }
         requires fits { FitsImage file }
@@ -189,8 +192,9 @@ impl Volume {
             ..
         } = draft;
         let vnodes = all_at_first(self.alloc, vnodes)?;
+        let names = all_listed(self.alloc, vnodes.as_slice())?;
         self.make_room(vnodes.len())?;
-        self.take(vnodes, removed, 1, unique);
+        self.take(vnodes, names, removed, 1, unique);
         Ok(())
     }
 

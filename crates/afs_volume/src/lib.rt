@@ -23,6 +23,7 @@ mod new;
 mod operations;
 mod planning;
 mod reading;
+mod ready;
 mod removing;
 mod renaming;
 mod replies;
@@ -32,4 +33,5 @@ mod taking;
 mod volume;
 
 pub use assembling::can_be_read;
+pub use ready::ReadyChange;
 pub use volume::Volume;

@@ -1,55 +1,88 @@
 //! Names that operations add and remove, and the order of their edits.
 
-ghost use Rattle.std.specs.Prelude.{◌≡◌, ◌∷◌, [], Some, None, true, false, is_some, IfOk, IfErr, OnOk, ◌++◌, ◌≤◌, length, nat_lt};
+ghost use Rattle.std.specs.Prelude.{◌≡◌, ◌∷◌, [], Some, None, true, IfOk, IfErr, OnOk, ◌++◌, ◌≤◌, length, nat_lt};
 ghost use Rattle.std.specs.List.{prefix_len};
 ghost use Rattle.std.specs.Option.{option_copied, option_map};
-ghost use Rattle.afs_ideal.specs.Directories.{named, with_name, without_name};
+ghost use Rattle.afs_ideal.specs.Directories.{with_name, without_name};
 ghost use Rattle.afs_ideal.specs.Operations.{adds_name, first_failing, name_of, no_amend, unlinks};
 ghost use Rattle.afs_ideal.specs.Volumes.{amends, ascending, edit_number, placed};
 ghost use Rattle.afs_volume.specs.declared.faults.OpFault.TheVariants.{OutOfMemory};
-ghost use Rattle.afs_volume.specs.Giving.{edit_seen, edits_seen, IsRefused, Passes};
+ghost use Rattle.afs_volume.specs.Giving.{edit_seen, edits_seen, Passes};
 ghost use Rattle.afs_volume.specs.Seen.{seen};
 
 use crate::checks::check;
 use crate::edits::{Amend, Edit, Edits, Plan};
 use crate::faults::OpFault;
-use crate::finding::is_directory;
+use crate::finding::{has_name, is_directory};
 use crate::making::spelled;
 use afs_dir::{Dir, DirFault};
-use afs_num::types::{Code, Mem};
+use afs_num::names::name_ok;
+use afs_num::types::Mem;
 use afs_num::vnodes::Vnode;
-use std::alloc::Global;
+use std::alloc::{AllocError, Global};
 
-/// Adds a name: 22 where it is none or something else is bad, 17 where it is there, 27 where there are too many.
+/// How many names a directory has at most.
+pub const MOST_NAMES: usize = 1_024;
+
+/// A name may be added: 22 where it is none or something else is bad, 17 where it is there, 27 where there are too many. It
+/// takes no memory.
+fn may_add(names: &Dir, name: &[u8], good: bool) -> Result<(), OpFault>
+    ensures { Passes (first_failing (adds_name name.now names.now good)) result }
+{
+    check(good && name_ok(name), 22)?;
+    check(!has_name(names, name), 17)?;
+    check(names.len() < MOST_NAMES, 27)
+}
+
+/// The names and one more, which may be added.
 #[tactic(auto, using(crate::proofs::Placed::added_by))]
-pub fn add_name(
-    names: &mut Dir,
+fn with_name(names: &Dir, name: &[u8], vnode: u32, unique: u32) -> Mem<Dir>
+    requires { first_failing (adds_name name.now names.now true) ≡ None }
+    ensures { IfOk result (λ ns. ns ≡ with_name (name_of name.now vnode unique) names.now) }
+{
+    let mut after = names.copy()?;
+    match after.add(name, vnode, unique) {
+        Ok(()) => Ok(after),
+        Err(DirFault::OutOfMemory) => Err(AllocError),
+        Err(_) => unreachable!(),
+    }
+}
+
+/// The names and one more: 22 where it is none or something else is bad, 17 where it is there, 27 where there are too many.
+/// Names that refuse it aren't copied.
+pub fn names_with(
+    names: &Dir,
     name: &[u8],
     vnode: u32,
     unique: u32,
     good: bool,
-) -> Result<(), OpFault>
-    ensures answer { Passes (first_failing (adds_name name.now names.old good)) result }
-    ensures ok { OnOk result (names.new ≡ with_name (name_of name.now vnode unique) names.old) }
+) -> Result<Dir, OpFault>
+    ensures answer { Passes (first_failing (adds_name name.now names.now good)) result }
+    ensures ok { IfOk result (λ ns. ns ≡ with_name (name_of name.now vnode unique) names.now) }
 {
-    check(good, 22)?;
-    match names.add(name, vnode, unique) {
-        Ok(()) => Ok(()),
-        Err(DirFault::Code(code)) => Err(OpFault::Code(code)),
-        Err(_) => Err(OpFault::OutOfMemory),
+    may_add(names, name, good)?;
+    Ok(with_name(names, name, vnode, unique)?)
+}
+
+/// Takes a name away, where it is there.
+#[tactic(auto, using(crate::proofs::Renamed::nothing_taken))]
+pub fn take_name(names: &mut Dir, name: &[u8])
+    ensures { names.new ≡ without_name name.now names.old }
+{
+    match names.remove(name) {
+        Ok(_) => {}
+        Err(_) => {}
     }
 }
 
-/// Removes a name: 2 where it isn't there.
-pub fn remove_name(names: &mut Dir, name: &[u8]) -> Result<(), OpFault>
-    ensures there { OnOk result (is_some (named name.now names.old) ≡ true) }
-    ensures ok { OnOk result (names.new ≡ without_name name.now names.old) }
-    ensures absent { IfErr result (λ e. (is_some (named name.now names.old) ≡ false) × IsRefused 2 e) }
+/// The names without this one, where it is there.
+pub fn names_without(names: &Dir, name: &[u8]) -> Mem<Dir>
+    ensures names { IfOk result (λ ns. ns ≡ without_name name.now names.now) }
+    ensures few { OnOk result (length names.now ≤ 1024) }
 {
-    match names.remove(name) {
-        Ok(_) => Ok(()),
-        Err(_) => Err(OpFault::Code(Code(2))),
-    }
+    let mut after = names.copy()?;
+    take_name(&mut after, name);
+    Ok(after)
 }
 
 fn is_before(edit: &Edit, number: u32) -> bool

@@ -11,6 +11,7 @@ ghost use Rattle.afs_volume.specs.Seen.{all_seen, list_spelled, seen, AreReadabl
 ghost use Rattle.afs_volume.specs.Taking.{times_in, IsAtSetUp};
 
 use crate::Volume;
+use crate::directories::Directories;
 use crate::finding::DIRECTORY;
 use crate::making::spelled;
 use afs_dir::Dir;
@@ -96,6 +97,7 @@ impl Volume {
         ensures times { IfOk result (λ v. IsAtSetUp v) }
     {
         let vnodes = new_vnodes(alloc)?;
+        let dirs = Directories::of(alloc, &vnodes)?;
         let head = VolumeHead {
             id,
             family,
@@ -111,6 +113,7 @@ impl Volume {
             alloc,
             head,
             vnodes,
+            dirs,
             blocks: 1,
         })
     }

@@ -9,10 +9,8 @@ use crate::callers::Caller;
 use crate::checks::check;
 use crate::edits::Plan;
 use crate::faults::OpFault;
-use crate::finding::{
-    has_name, is_directory, is_directory_there, links_of, names_of, number_named,
-};
-use crate::naming::{remove_name, removes};
+use crate::finding::{has_name, is_directory, is_directory_there, links_of, number_named};
+use crate::naming::{names_without, removes};
 use afs_num::sequences::Octets;
 use afs_num::types::Fid;
 
@@ -28,14 +26,15 @@ impl Volume {
     {
         let d = self.found(fid)?;
         check(is_directory(d), 20)?;
-        let mut names = names_of(self.alloc, d)?;
-        let number = number_named(&names, name.as_slice());
-        let target = self.named(&names, name.as_slice());
+        let names = self.names(fid.vnode, d);
+        let number = number_named(names, name.as_slice());
+        let target = self.named(names, name.as_slice());
         check(!is_directory_there(target), 21)?;
         check(self.is_writable(), 30)?;
         check(self.may(caller, 16, d)?, 13)?;
-        remove_name(&mut names, name.as_slice())?;
-        let plan = removes(self.alloc, fid.vnode, &names, None, number, target)?;
+        check(has_name(names, name.as_slice()), 2)?;
+        let left = names_without(names, name.as_slice())?;
+        let plan = removes(self.alloc, fid.vnode, &left, None, number, target)?;
         Ok(plan)
     }
 
@@ -50,19 +49,20 @@ impl Volume {
     {
         let d = self.found(fid)?;
         check(is_directory(d), 20)?;
-        let mut names = names_of(self.alloc, d)?;
-        let number = number_named(&names, name.as_slice());
-        let target = self.named(&names, name.as_slice());
+        let names = self.names(fid.vnode, d);
+        let number = number_named(names, name.as_slice());
+        let target = self.named(names, name.as_slice());
         check(
-            !has_name(&names, name.as_slice()) || is_directory_there(target),
+            !has_name(names, name.as_slice()) || is_directory_there(target),
             20,
         )?;
         check(self.is_writable(), 30)?;
         check(self.may(caller, 16, d)?, 13)?;
-        remove_name(&mut names, name.as_slice())?;
-        check(self.is_empty(target)?, 39)?;
+        check(has_name(names, name.as_slice()), 2)?;
+        check(self.is_empty(target), 39)?;
         let links = links_of(d).saturating_sub(1);
-        let plan = removes(self.alloc, fid.vnode, &names, Some(links), number, target)?;
+        let left = names_without(names, name.as_slice())?;
+        let plan = removes(self.alloc, fid.vnode, &left, Some(links), number, target)?;
         Ok(plan)
     }
 }

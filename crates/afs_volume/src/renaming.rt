@@ -6,6 +6,7 @@ ghost use Rattle.afs_num.specs.Names.{name_ok};
 ghost use Rattle.afs_num.specs.declared.calls.FsCall.TheVariants as calls;
 ghost use Rattle.afs_ideal.specs.Directories.{named, with_name, without_name};
 ghost use Rattle.afs_ideal.specs.Operations.{by_tests, effect, first_failing, has_room_for, is_below, is_directory, is_kind, is_same_name, linked, may_move, name_of, named_vnode, no_amend, rename_out_tests, rename_rights, renaming, same_vnode, Result};
+ghost use Rattle.afs_ideal.specs.Tables.{get};
 ghost use Rattle.afs_ideal.specs.Volumes.{a_directory, amends, vnode_of};
 ghost use Rattle.afs_volume.specs.Giving.{caller_seen, edits_seen, move_tests, planned, takes_place, volume_of, Plans};
 ghost use Rattle.afs_volume.specs.Seen.{seen};
@@ -15,19 +16,14 @@ use crate::callers::Caller;
 use crate::checks::check;
 use crate::edits::{Amend, Edit, Edits, Plan};
 use crate::faults::OpFault;
-use crate::finding::{
-    has_name, is_directory, is_directory_there, links_of, names_of, number_named,
-};
-use crate::naming::{ascending, push_names, push_unlink};
+use crate::finding::{has_name, is_directory, is_directory_there, links_of, number_named};
+use crate::naming::{MOST_NAMES, ascending, names_without, push_names, push_unlink, take_name};
 use afs_dir::{Dir, DirFault};
 use afs_num::names::name_ok;
 use afs_num::sequences::Octets;
 use afs_num::types::{Code, Fid, Mem};
 use afs_num::vnodes::Vnode;
 use std::alloc::AllocError;
-
-/// How many names a directory has at most.
-const MOST_NAMES: usize = 1_024;
 
 /// What takes the place of another is no directory, or that is one too.
 fn takes_place(x: Option<&Vnode>, other: Option<&Vnode>) -> bool
@@ -67,17 +63,6 @@ fn linked(comes: bool, goes: bool, links: u64) -> u64
     }
 }
 
-/// Takes a name away, where it is there.
-#[tactic(auto, using(crate::proofs::Renamed::nothing_taken))]
-fn take_name(names: &mut Dir, name: &[u8])
-    ensures { names.new ≡ without_name name.now names.old }
-{
-    match names.remove(name) {
-        Ok(_) => {}
-        Err(_) => {}
-    }
-}
-
 /// Puts a name, in the place of the one of that name where there is one.
 #[tactic(auto, using(crate::proofs::Renamed::no_refusal))]
 fn put_name(names: &mut Dir, name: &[u8], vnode: u32, unique: u32) -> Mem<()>
@@ -94,12 +79,11 @@ fn put_name(names: &mut Dir, name: &[u8], vnode: u32, unique: u32) -> Mem<()>
 }
 
 /// Takes a name from a directory, which then has so many links.
-fn take_from(edits: &mut Edits, d: &Fid, names: Dir, old: &[u8], links: u64) -> Mem<()>
-    ensures { OnOk result (edits_seen edits.new ≡ edits_seen edits.old ++ amends d.now.vnode (record no_amend { names = Some (without_name old.now names); links = Some links }) ∷ []) }
+fn take_from(edits: &mut Edits, d: &Fid, names: &Dir, old: &[u8], links: u64) -> Mem<()>
+    ensures { OnOk result (edits_seen edits.new ≡ edits_seen edits.old ++ amends d.now.vnode (record no_amend { names = Some (without_name old.now names.now); links = Some links }) ∷ []) }
 {
-    let mut names = names;
-    take_name(&mut names, old);
-    push_names(edits, d.vnode, &names, Some(links))
+    let left = names_without(names, old)?;
+    push_names(edits, d.vnode, &left, Some(links))
 }
 
 /// Puts a name in a directory, which then has so many links.
@@ -118,6 +102,42 @@ fn put_in(
     let mut names = names;
     put_name(&mut names, new, moved.0, moved.1)?;
     push_names(edits, e.vnode, &names, Some(links))
+}
+
+/// Puts a name in the place of another of the same directory, which then has so many links.
+#[tactic(auto, using(crate::proofs::Renamed::room_within))]
+fn put_within(
+    edits: &mut Edits,
+    d: &Fid,
+    names: &Dir,
+    old: &[u8],
+    new: &[u8],
+    moved: (u32, u32),
+    links: u64,
+) -> Mem<()>
+    requires good { name_ok new.now ≡ true }
+    requires there { is_some (named old.now names.now) ≡ true }
+    ensures { OnOk result (edits_seen edits.new ≡ edits_seen edits.old ++ amends d.now.vnode (record no_amend { names = Some (with_name (name_of new.now moved.0 moved.1) (without_name new.now (without_name old.now names.now))); links = Some links }) ∷ []) }
+{
+    let left = names_without(names, old)?;
+    put_in(edits, d, left, new, moved, links)
+}
+
+/// Puts a name of another directory in one that has room for it, and which then has so many links.
+#[tactic(auto, using(crate::proofs::Renamed::room_across))]
+fn put_across(
+    edits: &mut Edits,
+    e: &Fid,
+    names: &Dir,
+    new: &[u8],
+    moved: (u32, u32),
+    links: u64,
+) -> Mem<()>
+    requires good { name_ok new.now ≡ true }
+    requires room { (is_some (named new.now names.now) || nat_lt (length names.now) 1024) ≡ true }
+    ensures { OnOk result (edits_seen edits.new ≡ edits_seen edits.old ++ amends e.now.vnode (record no_amend { names = Some (with_name (name_of new.now moved.0 moved.1) (without_name new.now names.now)); links = Some links }) ∷ []) }
+{
+    put_in(edits, e, names.copy()?, new, moved, links)
 }
 
 /// Nothing is added to a directory, or a name is replaced, or there is room for one more.
@@ -196,44 +216,40 @@ impl Volume {
 
     /// What is done where the tests pass. From one directory to another, which is then the parent, a directory takes its
     /// link along; a directory that is replaced is one link less.
-    #[tactic(auto, using(crate::proofs::Renamed::room_within, crate::proofs::Renamed::room_across))]
     fn renames(
         &self,
         d: &Fid,
         x: &Vnode,
-        names: Dir,
+        names: &Dir,
         old: &[u8],
         e: &Fid,
         y: &Vnode,
-        others: Dir,
+        others: &Dir,
         new: &[u8],
     ) -> Mem<Edits>
         requires from { vnode_of d.now (volume_of self.now) ≡ Some (seen x.now) }
         requires to { vnode_of e.now (volume_of self.now) ≡ Some (seen y.now) }
-        requires names { (names ≡ (seen x.now).names) × (others ≡ (seen y.now).names) }
-        requires few { (length names ≤ 1024) × (length others ≤ 1024) }
+        requires names { (names.now ≡ (seen x.now).names) × (others.now ≡ (seen y.now).names) }
         requires good { name_ok new.now ≡ true }
-        requires there { is_some (named old.now names) ≡ true }
+        requires there { is_some (named old.now names.now) ≡ true }
         requires room { has_room_for d.now e.now new.now (volume_of self.now) ≡ true }
-        ensures { IfOk result (λ es. edits_seen es ≡ renaming d.now e.now old.now new.now (named old.now names) (named new.now others) (volume_of self.now)) }
+        ensures { IfOk result (λ es. edits_seen es ≡ renaming d.now e.now old.now new.now (named old.now names.now) (named new.now others.now) (volume_of self.now)) }
     {
         let mut edits = Edits::new(self.alloc);
         let Some(moved) = names.find(old) else {
             return Ok(edits);
         };
-        let number = number_named(&others, new);
-        let target = self.named(&others, new);
+        let number = number_named(others, new);
+        let target = self.named(others, new);
         let replaced = is_directory_there(target);
         if d.vnode == e.vnode {
-            let mut names = names;
-            take_name(&mut names, old);
             let links = linked(false, replaced, links_of(x));
-            put_in(&mut edits, d, names, new, moved, links)?;
+            put_within(&mut edits, d, names, old, new, moved, links)?;
         } else {
-            let moves = is_directory_there(self.named(&names, old));
+            let moves = is_directory_there(self.named(names, old));
             take_from(&mut edits, d, names, old, linked(false, moves, links_of(x)))?;
             let links = linked(moves, replaced, links_of(y));
-            put_in(&mut edits, e, others, new, moved, links)?;
+            put_across(&mut edits, e, others, new, moved, links)?;
             edits.push(Edit::Amends(moved.0, Amend::with_parent(e.vnode, e.unique)))?;
         }
         push_unlink(&mut edits, number, target)?;
@@ -246,28 +262,27 @@ impl Volume {
         caller: &Caller,
         d: &Fid,
         x: &Vnode,
-        names: Dir,
+        names: &Dir,
         old: &[u8],
         e: &Fid,
         y: &Vnode,
-        others: Dir,
+        others: &Dir,
         new: &[u8],
     ) -> Result<Plan, OpFault>
         requires from { vnode_of d.now (volume_of self.now) ≡ Some (seen x.now) }
         requires to { vnode_of e.now (volume_of self.now) ≡ Some (seen y.now) }
-        requires names { (names ≡ (seen x.now).names) × (others ≡ (seen y.now).names) }
-        requires few { (length names ≤ 1024) × (length others ≤ 1024) }
+        requires names { (names.now ≡ (seen x.now).names) × (others.now ≡ (seen y.now).names) }
         ensures { Plans (by_tests (first_failing (move_tests (caller_seen caller.now) d.now old.now e.now new.now (volume_of self.now))) (effect (caller_seen caller.now) (calls.Rename d.now old.now e.now new.now) (volume_of self.now))) result }
     {
-        check(self.may_rename(caller, d, x, e, y, &others, new)?, 13)?;
-        let may_move = self.may_move(d, old, &names, e, new, &others);
+        check(self.may_rename(caller, d, x, e, y, others, new)?, 13)?;
+        let may_move = self.may_move(d, old, names, e, new, others);
         check(
             name_ok(new) && !is_same_name(d, old, e, new) && may_move,
             22,
         )?;
-        check(has_name(&names, old), 2)?;
-        check(self.is_empty(self.named(&others, new))?, 39)?;
-        check(has_room_for(d, e, &others, new), 27)?;
+        check(has_name(names, old), 2)?;
+        check(self.is_empty(self.named(others, new)), 39)?;
+        check(has_room_for(d, e, others, new), 27)?;
         let edits = self.renames(d, x, names, old, e, y, others, new)?;
         Ok(Plan {
             edits: ascending(self.alloc, edits)?,
@@ -289,14 +304,15 @@ impl Volume {
     ) -> Result<Plan, OpFault>
         requires from { vnode_of d.now (volume_of self.now) ≡ Some (seen x.now) }
         requires to { vnode_of e.now (volume_of self.now) ≡ Some (seen y.now) }
+        requires there { (get d.now.vnode self.now.vnodes.table ≡ Some x.now) × (get e.now.vnode self.now.vnodes.table ≡ Some y.now) }
         requires directories { (is_kind (seen x.now).kind a_directory && is_kind (seen y.now).kind a_directory) ≡ true }
         requires within { e.now.volume ≡ d.now.volume }
         ensures { Plans (planned (caller_seen caller.now) (calls.Rename d.now old.now e.now new.now) (volume_of self.now)) result }
     {
-        let names = names_of(self.alloc, x)?;
-        let others = names_of(self.alloc, y)?;
-        let source = self.named(&names, old);
-        let target = self.named(&others, new);
+        let names = self.names(d.vnode, x);
+        let others = self.names(e.vnode, y);
+        let source = self.named(names, old);
+        let target = self.named(others, new);
         check(takes_place(source, target), 20)?;
         check(takes_place(target, source), 21)?;
         check(self.is_writable(), 30)?;

@@ -1,6 +1,8 @@
 //! A volume on which steps are tried one after the other.
 
-ghost use Rattle.std.specs.Prelude.{◌≡◌};
+ghost use Rattle.std.specs.Prelude.{◌≡◌, IfOk};
+ghost use Rattle.std.specs.List.{AllByRecursion};
+ghost use Rattle.afs_volume.specs.Seen.{IsReadable};
 ghost use Rattle.afs_volume.specs.Taking.{CanTakeIn};
 ghost use Rattle.afs_volume_tests.specs.Calls.{IsCall};
 
@@ -12,9 +14,9 @@ use afs_num::calls::{FsCall, FsReply};
 use afs_num::sequences::{Octets, Path};
 use afs_num::types::{Code, Mem};
 use afs_num::volumes::Change;
-use afs_volume::Volume;
-use afs_volume::faults::OpFault;
-use std::alloc::Global;
+use afs_volume::faults::{AssembleFault, OpFault};
+use afs_volume::{ReadyChange, Volume};
+use std::alloc::{AllocError, Global};
 use std::fmt::Write;
 
 /// The file `a` of three bytes, and an empty directory `d`.
@@ -76,6 +78,18 @@ fn list(alloc: Global, path: Path) -> Mem<SetupLine> {
     Ok(SetupLine::AccessList { path, text })
 }
 
+/// A change that can be read, made ready.
+fn ready(alloc: Global, change: Change) -> Mem<ReadyChange>
+    requires { AllByRecursion IsReadable change.vnodes }
+    ensures { IfOk result (λ r. r ≡ change) }
+{
+    match ReadyChange::of(alloc, change) {
+        Ok(ready) => Ok(ready),
+        Err(AssembleFault::OutOfMemory) => Err(AllocError),
+        Err(AssembleFault::NotSound) => unreachable!(),
+    }
+}
+
 #[derive(Drop)]
 pub struct Tried {
     volume: Volume,
@@ -99,8 +113,9 @@ impl Tried {
         requires { CanTakeIn self.old.volume change }
     {
         let text = printed(alloc, change.versions.as_slice())?;
-        self.volume.reserve(&change)?;
-        self.volume.take_in(change);
+        let ready = ready(alloc, change)?;
+        self.volume.reserve(&ready)?;
+        self.volume.take_in(ready);
         Ok(text)
     }
 

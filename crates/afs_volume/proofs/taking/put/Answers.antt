@@ -1,6 +1,8 @@
-use Rattle.std.proofs.Common.{◌≡◌, ◌+◌, arith}
+use Rattle.std.proofs.Common.{◌≡◌, ◌+◌, nat_eq, arith}
+use Rattle.indexmap.specs.IndexMap as maps
 use Rattle.afs_ideal.specs.Volumes.{blocks_in}
 use Rattle.afs_volume.specs.Seen.{all_seen}
+use Rattle.afs_volume.proofs.Listing.{listed_set}
 use Rattle.afs_volume.proofs.Taken.{blocks_small, put_counted, put_readable}
 use Rattle.afs_volume.proofs.taking.put.Goals as goal
 
@@ -21,3 +23,7 @@ overflow_cast-result c =
 
 pub returns-clause-counted : goal.returns-clause-counted
 returns-clause-counted c = let e = sum c in omega (arith, e)
+
+pub returns-clause-listed : goal.returns-clause-listed
+returns-clause-listed c =
+    listed_set (maps.get nat_eq c.args.dirs.now.dirs) (maps.get nat_eq c.set_within.new.self.dirs) c.args.vnodes.now.table c.put.new.self.table c.args.x c.args.names c.requires.names c.set_within.ensures.value c.in-Ok.ensures.ok c.requires.listed

@@ -1,6 +1,8 @@
-use Rattle.std.proofs.Common.{◌≡◌, ◌+◌, arith}
+use Rattle.std.proofs.Common.{◌≡◌, ◌+◌, nat_eq, arith}
+use Rattle.indexmap.specs.IndexMap as maps
 use Rattle.afs_ideal.specs.Volumes.{blocks_in}
 use Rattle.afs_volume.specs.Seen.{all_seen}
+use Rattle.afs_volume.proofs.Listing.{listed_unset}
 use Rattle.afs_volume.proofs.Taken.{left_counted, left_readable}
 use Rattle.afs_volume.proofs.taking.remove.Goals as goal
 
@@ -15,3 +17,7 @@ overflow_sub-result c = let e = sum c in omega (arith, e)
 
 pub returns-clause-counted : goal.returns-clause-counted
 returns-clause-counted c = let e = sum c in omega (arith, e)
+
+pub returns-clause-listed : goal.returns-clause-listed
+returns-clause-listed c =
+    listed_unset (maps.get nat_eq c.args.dirs.now.dirs) (maps.get nat_eq c.remove-2.new.self.dirs) c.args.vnodes.now.table c.remove.new.self.table c.args.number c.remove-2.ensures.value c.remove.ensures.removed c.requires.listed

@@ -12,6 +12,7 @@ pub invariant_of-result : goal.invariant_of-result
 invariant_of-result c = record {
   fits = c.requires;
   readable = c.in_ok-are_read.ensures.readable c.if-not-branch.false;
+  listed = c.in_ok-dirs.ensures;
   counted = c.blocks_in-blocks.ensures;
   sound = sym c.is_sound.ensures ∙ c.if-not-is_sound.false;
 }

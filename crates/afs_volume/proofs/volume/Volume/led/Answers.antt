@@ -14,7 +14,7 @@ pub loop-name-init : goal.loop-name-init
 loop-name-init c =
     let v = volume_of c.args.self.now in
     let there : Some (seen c.in-Some.root.now) ≡ get 1 v.vnodes = search rules in
-    begins c.args.self.now.head.id v c.args.path.now c.in-Some.root.now there (search rules)
+    record { leads = begins c.args.self.now.head.id v c.args.path.now c.in-Some.root.now there (search rules); there = search rules }
 
 pub returns-in_default-clause-leads : goal.returns-in_default-clause-leads
 returns-in_default-clause-leads c =
@@ -35,4 +35,7 @@ loop-name-preserved c =
     let directory : is_kind (seen at).kind a_directory ≡ true = search rules in
     let found : Some (seen x) ≡ named_vnode v (named name (seen at).names) = search rules in
     let number : x.vnode ≡ number_named (named name (seen at).names) = search rules in
-    sym (goes id v name rest at x directory found number) ∙ (ap (λ names. led_to id v names (found_seen id at)) (sym first) ∙ c.loop-name.invariant)
+    record {
+      leads = sym (goes id v name rest at x directory found number) ∙ (ap (λ names. led_to id v names (found_seen id at)) (sym first) ∙ c.loop-name.invariant.leads);
+      there = search rules;
+    }
