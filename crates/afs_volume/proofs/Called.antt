@@ -13,9 +13,10 @@ use Rattle.afs_ideal.specs.VnodeMaps.{most_vnodes}
 use Rattle.afs_ideal.specs.Volumes.{Edit, Volume}
 use Rattle.afs_ideal.proofs.Laid.{called_sound}
 use Rattle.afs_ideal.proofs.Proper.{operations_change}
-use Rattle.afs_volume.specs.Filled.{at_once, code_in, fid_in, CanBeLaid, IsCodeOf}
+use Rattle.afs_volume.specs.Filled.{at_once, code_in, fid_in, CanBeLaid, IsCodeOf, Lays}
 use Rattle.afs_volume.specs.Giving.{refusal_of, Plans}
 use Rattle.afs_volume.specs.declared.faults.OpFault.{OpFault}
+use Rattle.afs_volume.specs.declared.volume.Volume as volumes
 use Rattle.afs_volume.specs.declared.faults.OpFault.TheVariants as faults
 use Rattle.afs_volume.proofs.Changed.{drawable, within}
 
@@ -65,3 +66,12 @@ pub list_refused : (id : ℕ) (path : List (List ℕ)) (text : List ℕ) (v : Vo
 unfolding acl_laid
 list_refused id path text v (faults.Code code) h = none_led id text v code.0 (led id v path) h
 list_refused id path text v faults.OutOfMemory h = tt
+
+-- ---- a refusal leaves the volume as it was
+
+pub lays_refused : (r : Result Volume ℕ) (old new : volumes.Volume) (res : Result (Unit {0}) OpFault) (e : OpFault) → res ≡ Err e → IsCodeOf r e → new.head ≡ old.head → new.vnodes.table ≡ old.vnodes.table → Lays r old new res
+lays_refused r old new res e is h head table = subst (λ (q : Result (Unit {0}) OpFault). Lays r old new q) (sym is) (h, (head, table))
+
+-- what is laid another way
+pub lays_as : (r s : Result Volume ℕ) (old new : volumes.Volume) (res : Result (Unit {0}) OpFault) → r ≡ s → Lays s old new res → Lays r old new res
+lays_as r s old new res is h = subst (λ (q : Result Volume ℕ). Lays q old new res) (sym is) h

@@ -1,0 +1,30 @@
+use Rattle.std.proofs.Common.{◌≡◌, ◌-◌, ℕ, List, pos, length, take, slice_get, Some, None, Result, rules, ap, sym, ◌∙◌}
+use Rattle.std.specs.Option.{option_map}
+use Rattle.afs_ideal.specs.SetUp.{laid_in}
+use Rattle.afs_ideal.specs.Volumes.{Volume}
+use Rattle.afs_volume.specs.Filled.{code_in}
+use Rattle.afs_volume.specs.Giving.{volume_of}
+use Rattle.afs_volume.proofs.Led.{parted_is, parted_none, path_led, path_none, path_refused_as}
+use Rattle.afs_volume.proofs.volume.Volume.last_in.Goals as goal
+
+pub returns-in_default-clause-refused : goal.returns-in_default-clause-refused
+returns-in_default-clause-refused c = λ x.
+    let w = c.args.self.now in
+    let path = c.args.path.now in
+    let none : slice_get path (length path - 1) ≡ None = search rules in
+    ap (λ (r : Result Volume ℕ). option_map pos (code_in r)) (path_none w.head.id path x (volume_of w) (parted_none path none))
+
+pub returns-in_err-directory-clause-refused : goal.returns-in_err-directory-clause-refused
+returns-in_err-directory-clause-refused c = λ x.
+    let w = c.args.self.now in
+    let path = c.args.path.now in
+    let last : slice_get path (length path - 1) ≡ Some c.in-Some.name.now = search rules in
+    path_refused_as w.head.id path (take (length path - 1) path) c.in-Some.name.now x (volume_of w) c.in_err-directory.field-0.0 (parted_is path c.in-Some.name.now last) c.in_err-directory.ensures.leads
+
+pub returns-clause-found : goal.returns-clause-found
+returns-clause-found c = λ x.
+    let w = c.args.self.now in
+    let path = c.args.path.now in
+    let last : slice_get path (length path - 1) ≡ Some c.in-Some.name.now = search rules in
+    path_led w.head.id path (take (length path - 1) path) c.in-Some.name.now x (volume_of w) c.in_ok-directory.directory (parted_is path c.in-Some.name.now last) c.in_ok-directory.ensures.leads
+    ∙ ap (λ (name : List ℕ). laid_in w.head.id (volume_of w) c.in_ok-directory.directory name x) (sym c.in_ok-name.ensures)
