@@ -30,6 +30,7 @@ pub mod Giving
 pub mod Answering
 pub mod Waiting
 pub mod Law
+pub mod Firsts
 pub mod Servers
 pub mod Roomless
 pub mod Unserved

@@ -15,7 +15,7 @@ use Rattle.afs_num.specs.declared.types.Node.TheVariants.{Client, Server}
 use Rattle.afs_ideal.specs.Tables.{get, Table}
 use Rattle.afs_num.specs.Nodes.{IsNode}
 use Rattle.afs_records.specs.Changes.{boot_record}
-use Rattle.afs_records.specs.Durable.{folded, Stored, has_room, effect_of}
+use Rattle.afs_records.specs.Durable.{folded, Stored, has_room, effect_of, Durable}
 use Rattle.afs_records.specs.Laws.{CanBeStored}
 use Rattle.std.specs.List.{AllByRecursion}
 use Rattle.afs_ideal.specs.Told.{Agrees}
@@ -27,7 +27,7 @@ use Rattle.afs_history.specs.declared.lines.Line.{Line}
 use Rattle.afs_law.specs.Once.{past_of, ChangesOnce}
 use Rattle.afs_law.specs.OneServer.{IsOneServer}
 use Rattle.afs_law.specs.Past.{CalledSince, HasCode, IsCall, lines_of, onto, running, IsUnheard, called_key, answered_key, Ran}
-use Rattle.afs_rows.specs.Runs.{message_at, Leads, start, Input, Entry, Cell, RunsTo, Host}
+use Rattle.afs_rows.specs.Runs.{message_at, Leads, start, Input, Entry, Cell, RunsTo, Host, first_lasting, first_stored, volumes_at}
 use Rattle.afs_rows.specs.ServerRow.{Change, is_client, lasting_after, lasting_started, record_of, serves, runs, refuses, not_served, whole, is_client, no_room, key_of, made, versioned}
 use Rattle.afs_rows.specs.States.{CacheEntry, Seat, Lasting, durable_of, volume_in, ServerState, BackCall}
 use Rattle.afs_model.specs.FsRows.{call_number}
@@ -38,9 +38,11 @@ use Rattle.afs_history.specs.declared.lines.Line.TheVariants as lines
 use Rattle.afs_history.specs.declared.acts.Act.{Act}
 use Rattle.afs_history.specs.declared.acts.Act.TheVariants as acts
 use Rattle.afs_num.specs.declared.types.Code.{Code}
-use Rattle.std.specs.Prelude.{⊤, pos, ◌⊎◌, ◌≤◌, ◌<◌, None, Some, ◌∷◌, [], ◌≡◌, ◌↔◌, ℕ, List, ◌++◌, false, ◌+◌, ◌&&◌, Option, true, ℤ, length}
+use Rattle.std.specs.Prelude.{⊤, pos, ◌⊎◌, ◌≤◌, ◌<◌, None, Some, ◌∷◌, [], ◌≡◌, ◌↔◌, ℕ, List, ◌++◌, false, ◌+◌, ◌&&◌, Option, true, ℤ, length, filter, nat_eq}
 use Rattle.afs_num.specs.declared.types.Fid.{Fid}
 use Rattle.afs_num.specs.declared.types.Node.{Node}
+use Rattle.afs_history.specs.declared.scripts.VolumeLine.{VolumeLine}
+use Rattle.afs_records.specs.Changes as disks
 use Rattle.afs_history.specs.declared.scripts.Script.{Script}
 use Rattle.afs_num.specs.declared.histories.Body.{Body}
 use Rattle.afs_num.specs.declared.histories.ReadBody.{ReadBody}
@@ -167,6 +169,21 @@ EffectsAreTold = (me : Node) (l : Lasting) (head : Head) (clock : ℕ) (c : Chan
 -- what a start leaves is the fold of its record
 abbrev pub StartsAreFolded : Type 0
 StartsAreFolded = (l : Lasting) → folded (boot_record (l.boot + 1)) (durable_of l) ≡ Some (durable_of (lasting_started l))
+
+-- the lines of the volumes at one server
+abbrev pub lines_at : ℕ → List VolumeLine → List VolumeLine
+lines_at server vs = filter (λ (v : VolumeLine). nat_eq v.server server) vs
+
+-- the volumes' numbers ascend, from this one on
+abbrev pub AscendBy : ℕ → List VolumeLine → Type 0
+AscendBy n [] = ⊤
+AscendBy n (v ∷ vs) = (n ≤ v.id) × AscendBy (v.id + 1) vs
+
+-- What set-up puts on a disk of this capacity is what the server begins with, where the volumes of the script have ascending
+-- numbers, as those of each script that can be read.
+abbrev pub SetUpsAreFirst : Type 0
+SetUpsAreFirst = (capacity server : ℕ) (vs : List VolumeLine) (d : Durable) → AscendBy 0 vs → disks.set_up capacity (lines_at server vs) ≡ Some d →
+    d ≡ durable_of (first_lasting capacity (first_stored (volumes_at server vs)))
 
 -- ---- what holds between any two entries of a run
 

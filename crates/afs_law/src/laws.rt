@@ -1,6 +1,6 @@
 //! Laws about the runs of a script. Each is the contract of a function that does nothing.
 
-ghost use Rattle.afs_law.specs.Laws.{AcknowledgedAreMade, ChangesAreFolded, EffectsAreTold, KeysRunOnce, ReadsAreNewest, RunsAreLegal, RunsAreOne, StartsAreFolded, VolumesAreTold, PairsAreKnown, TrustedIsGood, RoomlessAreRefused, UnservedAreRefused, CallsRunOnce, RepliesAreCaused, RepliesAreRan, KeptAreRan, DurableAreChanges, GrantsAreKept, BreaksAreOwed, RepliesFollowDrops, UnawaitedAreUntrusted};
+ghost use Rattle.afs_law.specs.Laws.{AcknowledgedAreMade, ChangesAreFolded, EffectsAreTold, KeysRunOnce, ReadsAreNewest, RunsAreLegal, RunsAreOne, SetUpsAreFirst, StartsAreFolded, VolumesAreTold, PairsAreKnown, TrustedIsGood, RoomlessAreRefused, UnservedAreRefused, CallsRunOnce, RepliesAreCaused, RepliesAreRan, KeptAreRan, DurableAreChanges, GrantsAreKept, BreaksAreOwed, RepliesFollowDrops, UnawaitedAreUntrusted};
 
 /// Every run of a script for one server is legal.
 pub fn runs_are_legal()
@@ -60,6 +60,11 @@ pub fn changes_are_folded()
 /// What the record of one change tells is what its step tells.
 pub fn effects_are_told()
     ensures { EffectsAreTold }
+{}
+
+/// What set-up puts on a server's disk is what the server begins with.
+pub fn set_ups_are_first()
+    ensures { SetUpsAreFirst }
 {}
 
 /// What a start leaves of a server is the fold of its record.
