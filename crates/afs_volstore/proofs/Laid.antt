@@ -253,11 +253,10 @@ small_name n le = omega (arith, le)
 
 pub volume_fits : (head : VolumeHead) (xs : List image.Vnode) → FitsHead head → AreWords (head_words head) → AreTold xs → AllByRecursion HasImageForm xs → volume_form.Fits (record { head = head; vnodes = xs })
 unfolding volume_form
-volume_fits head xs fits words are forms =
-    (
-      ((fits.name, small_name (length head.name) fits.name), (words.1.1.1.0, ((lit< tt, refl), (words.0, (words.1.0, ((words.1.1.0, kind_passes head.kind fits.kind), (words.1.1.1.1.0, (words.1.1.1.1.1.0, (words.1.1.1.1.1.1.0, (words.1.1.1.1.1.1.1.0, ((small_count (length (map listed xs)) (subst (λ (n : ℕ). n ≤ most_vnodes) (sym (length-map xs listed)) are.few), listed_words xs forms), (marked xs forms, whole xs are)))))))))))),
-      refl,
-    )
+volume_fits head xs fits words are forms = (
+  ((fits.name, small_name (length head.name) fits.name), (words.1.1.1.0, ((lit< tt, refl), (words.0, (words.1.0, ((words.1.1.0, kind_passes head.kind fits.kind), (words.1.1.1.1.0, (words.1.1.1.1.1.0, (words.1.1.1.1.1.1.0, (words.1.1.1.1.1.1.1.0, ((small_count (length (map listed xs)) (subst (λ (n : ℕ). n ≤ most_vnodes) (sym (length-map xs listed)) are.few), listed_words xs forms), (marked xs forms, whole xs are)))))))))))),
+  refl,
+)
 
 -- ---- their times
 

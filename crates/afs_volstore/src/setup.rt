@@ -17,8 +17,8 @@ ghost use Rattle.afs_volstore.specs.Laying.{head_words, AreLaid, HasShortName, H
 ghost use Rattle.afs_volstore.specs.Numbered.{AreNumbered};
 ghost use Rattle.afs_volstore.specs.Opening.{CanBeSetUp};
 
-use afs_num::records::{RecordBody, RecordHead, StoreRecord, StoredVolume, StoredVolumes};
 use afs_history::scripts::{SetupLine, VolumeLine};
+use afs_num::records::{RecordBody, RecordHead, StoreRecord, StoredVolume, StoredVolumes};
 use afs_num::sequences::Octets;
 use afs_num::types::Mem;
 use afs_num::vnodes::{Vnode, Vnodes};
