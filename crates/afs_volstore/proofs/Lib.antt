@@ -1,9 +1,11 @@
 mod Attached
 mod Changed
+mod Created
 mod Folding
 mod FoldsOn
 mod Held
 mod Kept
+mod Laid
 mod Readied
 mod Redone
 mod Told

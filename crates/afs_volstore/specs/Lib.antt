@@ -1,6 +1,7 @@
 pub mod Called
 pub mod Changing
 pub mod Folds
+pub mod Laying
 pub mod Numbered
 pub mod Opening
 pub mod Preparing

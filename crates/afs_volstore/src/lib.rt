@@ -4,6 +4,7 @@
 mod altering;
 mod attaching;
 mod committing;
+mod creating;
 mod faults;
 mod fused;
 mod lines;
@@ -19,4 +20,5 @@ mod state;
 mod store;
 mod taking_up;
 
+pub use setup::first_length;
 pub use store::VolStore;
