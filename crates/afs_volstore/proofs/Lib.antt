@@ -1,4 +1,5 @@
 mod Attached
+mod Bones
 mod Changed
 mod Folding
 mod FoldsOn

@@ -1,3 +1,4 @@
+pub mod Boning
 pub mod Called
 pub mod Changing
 pub mod Folds
