@@ -1,10 +1,11 @@
 mod Attached
-mod Bones
 mod Changed
 mod Folding
 mod FoldsOn
 mod Held
 mod Kept
+mod Patched
+mod Patches
 mod Readied
 mod Redone
 mod Told

@@ -1,9 +1,9 @@
-pub mod Boning
 pub mod Called
 pub mod Changing
 pub mod Folds
 pub mod Numbered
 pub mod Opening
+pub mod Patching
 pub mod Preparing
 pub mod Redoing
 pub mod Redos

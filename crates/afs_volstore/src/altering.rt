@@ -7,16 +7,16 @@ ghost use Rattle.afs_ideal.specs.VnodeMaps.{most_vnodes};
 ghost use Rattle.afs_records.specs.Durable.{changed_stored};
 ghost use Rattle.afs_vnode.specs.Stores.{AreVnodes};
 ghost use Rattle.afs_volume.specs.Seen.{IsReadable};
-ghost use Rattle.afs_volume.specs.Taking.{put_but, stored_of, without_all};
-ghost use Rattle.afs_volstore.specs.Boning.{AreAlike, IsAlike, IsAltering};
+ghost use Rattle.afs_volume.specs.Taking.{put_but, stored_of, without_all, CanTakeIn};
 ghost use Rattle.afs_volstore.specs.Changing.{is_in, CantBeLeft};
 ghost use Rattle.afs_volstore.specs.Numbered.{AreNumbered};
 ghost use Rattle.afs_volstore.specs.Redoing.{IsChanged, IsRefused};
 ghost use Rattle.afs_volstore.specs.declared.faults.Unfit.TheVariants.{Bad};
 
 use crate::faults::Unfit;
+use crate::patching::can_take;
 use afs_num::types::Mem;
-use afs_num::vnodes::{Vnode, VnodeNumbers, Vnodes};
+use afs_num::vnodes::{VnodeNumbers, Vnodes};
 use afs_num::volumes::{Change, VolumeHead};
 use afs_seats::Seats;
 use afs_vnode::faults::VnodeFault;
@@ -24,9 +24,6 @@ use afs_vnode::store::VnodeStore;
 use afs_volume::Volume;
 use afs_volume::faults::AssembleFault;
 use std::alloc::Global;
-
-/// The kind of a directory.
-const DIRECTORY: u32 = 2;
 
 /// Whether there is a vnode of this number.
 #[tactic(auto, using(afs_volume::proofs::Tables::got))]
@@ -133,54 +130,9 @@ fn remade(alloc: Global, volume: Volume, change: Change) -> Result<Volume, Unfit
     }
 }
 
-/// Whether two vnodes differ in their counts, their status, their access list and a file's bytes alone.
-fn are_alike(x: &Vnode, y: &Vnode) -> bool
-    ensures { result ≡ true → AreAlike x.now y.now }
-{
-    x.unique == y.unique
-        && x.kind == y.kind
-        && x.link_count == y.link_count
-        && x.parent_vnode == y.parent_vnode
-        && x.parent_unique == y.parent_unique
-        && (x.kind != DIRECTORY || x.contents.as_slice() == y.contents.as_slice())
-}
-
-/// Whether a vnode is alike to the one in its place.
-fn is_alike(vnodes: &VnodeStore, x: &Vnode) -> bool
-    ensures { result ≡ true → IsAlike vnodes.now.table x.now }
-{
-    match vnodes.get(x.vnode) {
-        Some(y) => are_alike(x, y),
-        None => false,
-    }
-}
-
-/// Whether all are.
-fn all_alike(vnodes: &VnodeStore, changed: &[Vnode]) -> bool
-    ensures { result ≡ true → AllByRecursion (IsAlike vnodes.now.table) changed.now }
-{
-    for x in changed {
-        if !is_alike(vnodes, x) {
-            return false;
-        }
-    }
-    true
-}
-
-/// Whether a change alters counts, statuses, access lists and files' bytes alone: then a sound volume stays sound.
-fn is_altering(volume: &Volume, change: &Change) -> bool
-    ensures { result ≡ true → IsAltering volume.now change.now }
-{
-    change.removed.is_empty()
-        && change.unique == volume.head().unique
-        && all_alike(volume.vnodes(), change.vnodes.as_slice())
-}
-
-/// The volume with such a change taken in, in a time that is that of the change.
-fn altered(volume: Volume, change: Change) -> Mem<Volume>
-    requires alters { IsAltering volume change }
-    requires read { AllByRecursion IsReadable change.vnodes }
-    requires fits { AllByRecursion FitsImage change.vnodes }
+/// The volume with a change taken in that it can take in, in a time that is that of the change.
+fn taken_in(volume: Volume, change: Change) -> Mem<Volume>
+    requires { CanTakeIn volume change }
     ensures made { IfOk result (λ v. changed_stored change.counter change.unique change.vnodes change.removed (stored_of volume) ≡ Some (stored_of v)) }
     ensures id { IfOk result (λ v. v.head.id ≡ volume.head.id) }
 {
@@ -190,7 +142,8 @@ fn altered(volume: Volume, change: Change) -> Mem<Volume>
     Ok(volume)
 }
 
-/// The volume after a change. `Bad` where a disk may not hold it.
+/// The volume after a change. `Bad` where a disk may not hold it. A change that passes the test of what it touches is taken
+/// in as it is, and the volume isn't read anew.
 fn changed(alloc: Global, volume: Volume, change: Change) -> Result<Volume, Unfit>
     requires read { AllByRecursion IsReadable change.vnodes }
     requires fits { AllByRecursion FitsImage change.vnodes }
@@ -198,8 +151,8 @@ fn changed(alloc: Global, volume: Volume, change: Change) -> Result<Volume, Unfi
     ensures id { IfOk result (λ v. v.head.id ≡ volume.head.id) }
     ensures bad { result ≡ Err Bad → changed_stored change.counter change.unique change.vnodes change.removed (stored_of volume) ≡ None }
 {
-    if is_altering(&volume, &change) {
-        Ok(altered(volume, change)?)
+    if can_take(alloc, &volume, &change)? {
+        Ok(taken_in(volume, change)?)
     } else {
         remade(alloc, volume, change)
     }
