@@ -98,6 +98,14 @@ named_by_others n touched v c None y are is below named = absurd named
 named_by_others n touched v c (Some x) y are is below named =
     ap (λ (o : Option Vnode). is_named_in o n y) (stays y.parent touched v c are named.0) ∙ named_as_before n x y (before v) v.sound (sym is) below named.1
 
+or_by : (n : ℕ) (b c : Bool) → nat_eq n 1 ≡ b → (nat_eq n 1 ≡ false → c ≡ true) → (b || c) ≡ true
+or_by n true c is f = refl
+or_by n false c is f = f is
+
+pub placed_as_before : (n : ℕ) (touched : List ℕ) (v : volumes.Volume) (c : Change) (o : Option Vnode) (y : Vnode) → AreTouched touched c → o ≡ get n (before v).vnodes → StaysNamed touched o y
+    → (nat_eq n 1 || is_named_in (get y.parent (after v c).vnodes) n y) ≡ true
+placed_as_before n touched v c o y are is named = or_by n (nat_eq n 1) (is_named_in (get y.parent (after v c).vnodes) n y) refl (λ below. named_by_others n touched v c o y are is below named)
+
 -- ---- how many are left
 
 one_new : (b : Bool) (x : image.Vnode) (rest : List image.Vnode) → length (if not b then x ∷ rest else rest) ≡ (if b then 0 else 1) + length rest
@@ -202,7 +210,7 @@ left_sound : (touched : List ℕ) (v : volumes.Volume) (c : Change) → IsPatch 
 left_sound touched v c is =
     still_sound touched (before v) (after v c) v.sound is.next is.root
     (all_up (table_left v c) (above_zero (table_left v c) (but_up c.removed c.vnodes (without_all c.removed v.vnodes.table) (without_up c.removed v.vnodes.table (its_order v))) is.above))
-    (λ n out. stays n touched v c is.touched out) (λ n there. passed_at touched touched (before v) (after v c) n is.passed there)
+    (λ n out. stays n touched v c is.within out) (λ n there. passed_at touched touched (before v) (after v c) n is.passed there)
 
 pub can_take_in : (touched : List ℕ) (v : volumes.Volume) (c : Change) → IsPatch touched v c → AllByRecursion IsReadable c.vnodes → AllByRecursion FitsImage c.vnodes → CanTakeIn v c
 can_take_in touched v c is read fits =

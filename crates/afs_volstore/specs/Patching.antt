@@ -104,5 +104,5 @@ pub record IsPatch (touched : List ℕ) (v : volumes.Volume) (c : Change) : Type
   pub few : length v.vnodes.table + new_among v.vnodes.table c.vnodes ≤ most_vnodes
   pub root : is_root (get 1 (after v c).vnodes) ≡ true
   pub above : get 0 (table_left v c) ≡ None
-  pub touched : AreTouched touched c
+  pub within : AreTouched touched c
   pub passed : list_all (passes touched (before v) (after v c)) touched ≡ true

@@ -40,6 +40,12 @@ struct Patch<'a> {
     touched: &'a [u32],
 }
 
+fn is_among(number: u32, numbers: &[u32]) -> bool
+    ensures { result ≡ is_among number numbers.now }
+{
+    numbers.contains(&number)
+}
+
 /// The last of these images that has the number, or what is there.
 fn image_left<'b>(number: u32, changed: &'b [Vnode], there: Option<&'b Vnode>) -> Option<&'b Vnode>
     ensures { option_copied result ≡ image_left number changed.entry.now (option_copied there.entry) }
@@ -66,6 +72,7 @@ fn same_parent(x: Option<&Vnode>, y: Option<&Vnode>) -> bool
 
 impl<'a> Patch<'a> {
     /// The vnode of a number as it is.
+    #[tactic(auto, using(afs_volume::proofs::Tables::got))]
     fn before(&self, number: u32) -> Option<&Vnode>
         ensures value { option_copied result ≡ get number self.now.volume.now.vnodes.table }
         ensures seen { option_map seen (option_copied result) ≡ get number (before self.now.volume.now).vnodes }
@@ -78,7 +85,7 @@ impl<'a> Patch<'a> {
         ensures value { option_copied result ≡ get number (table_left self.now.volume.now self.now.change.now) }
         ensures seen { option_map seen (option_copied result) ≡ get number (after self.now.volume.now self.now.change.now).vnodes }
     {
-        if self.change.removed.as_slice().contains(&number) {
+        if is_among(number, self.change.removed.as_slice()) {
             return None;
         }
         image_left(number, self.change.vnodes.as_slice(), self.before(number))
@@ -87,7 +94,7 @@ impl<'a> Patch<'a> {
     fn is_touched(&self, number: u32) -> bool
         ensures { result ≡ is_among number self.now.touched.now }
     {
-        self.touched.contains(&number)
+        is_among(number, self.touched)
     }
 
     /// What a name names, where that isn't touched.
@@ -214,10 +221,13 @@ impl<'a> Patch<'a> {
     /// A vnode other than the root has its names. Where it has them as before, its directory isn't read.
     fn is_placed(&self, number: u32, x: Option<&Vnode>, y: &Vnode) -> Mem<bool>
         requires touched { AreTouched self.now.touched.now self.now.change.now }
-        requires there { option_map seen (option_copied x.entry) ≡ get number (before self.now.volume.now).vnodes }
+        requires there { option_map seen (option_copied x) ≡ get number (before self.now.volume.now).vnodes }
         ensures { IfOk result (λ placed. placed ≡ true → (nat_eq number 1 || is_named_in (get (seen y.now).parent (after self.now.volume.now self.now.change.now).vnodes) number (seen y.now)) ≡ true) }
     {
-        if number == 1 || self.is_named_as_before(x, y) {
+        if number == 1 {
+            return Ok(true);
+        }
+        if self.is_named_as_before(x, y) {
             return Ok(true);
         }
         self.is_named(number, y)
@@ -227,7 +237,7 @@ impl<'a> Patch<'a> {
     #[tactic(auto, unfolding(afs_volume::specs::Seen::seen))]
     fn is_right(&self, number: u32, x: Option<&Vnode>, y: &Vnode) -> Mem<bool>
         requires touched { AreTouched self.now.touched.now self.now.change.now }
-        requires there { option_map seen (option_copied x.entry) ≡ get number (before self.now.volume.now).vnodes }
+        requires there { option_map seen (option_copied x) ≡ get number (before self.now.volume.now).vnodes }
         ensures { IfOk result (λ right. right ≡ true → is_right (after self.now.volume.now self.now.change.now) number (seen y.now) ≡ true) }
     {
         let names = names_in(self.alloc, y)?;
@@ -264,7 +274,7 @@ impl<'a> Patch<'a> {
     /// The vnode of this number passes the test.
     fn passes(&self, number: u32) -> Mem<bool>
         requires touched { AreTouched self.now.touched.now self.now.change.now }
-        ensures { IfOk result (λ passes. passes ≡ true → passes self.now.touched.now (before self.now.volume.now) (after self.now.volume.now self.now.change.now) number ≡ true) }
+        ensures { IfOk result (λ pass. pass ≡ true → passes self.now.touched.now (before self.now.volume.now) (after self.now.volume.now self.now.change.now) number ≡ true) }
     {
         match (self.before(number), self.after(number)) {
             (None, None) => Ok(true),
@@ -277,7 +287,7 @@ impl<'a> Patch<'a> {
     /// All vnodes that are touched pass.
     fn all_pass(&self) -> Mem<bool>
         requires touched { AreTouched self.now.touched.now self.now.change.now }
-        ensures { IfOk result (λ passes. passes ≡ true → list_all (passes self.now.touched.now (before self.now.volume.now) (after self.now.volume.now self.now.change.now)) self.now.touched.now ≡ true) }
+        ensures { IfOk result (λ pass. pass ≡ true → list_all (passes self.now.touched.now (before self.now.volume.now) (after self.now.volume.now self.now.change.now)) self.now.touched.now ≡ true) }
     {
         for number in self.touched {
             if !self.passes(*number)? {
@@ -287,14 +297,27 @@ impl<'a> Patch<'a> {
         Ok(true)
     }
 
+    /// All that go are touched.
+    fn are_touched_that_go(&self) -> bool
+        ensures { result ≡ list_all (λ n. is_among n self.now.touched.now) self.now.change.now.removed }
+    {
+        let removed = self.change.removed.as_slice();
+        removed.iter().all(|number| self.is_touched(*number))
+    }
+
+    /// All that are changed are touched.
+    fn are_touched_that_change(&self) -> bool
+        ensures { result ≡ list_all (λ x. is_among x.vnode self.now.touched.now) self.now.change.now.vnodes }
+    {
+        let changed = self.change.vnodes.as_slice();
+        changed.iter().all(|x| self.is_touched(x.vnode))
+    }
+
     /// No others are changed or removed.
     fn are_touched(&self) -> bool
         ensures { result ≡ true → AreTouched self.now.touched.now self.now.change.now }
     {
-        let removed = self.change.removed.as_slice();
-        let changed = self.change.vnodes.as_slice();
-        removed.iter().all(|number| self.is_touched(*number))
-            && changed.iter().all(|x| self.is_touched(x.vnode))
+        self.are_touched_that_go() && self.are_touched_that_change()
     }
 
     fn is_in(&self, number: u32) -> bool
