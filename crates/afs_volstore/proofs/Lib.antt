@@ -4,6 +4,8 @@ mod Folding
 mod FoldsOn
 mod Held
 mod Kept
+mod Patched
+mod Patches
 mod Readied
 mod Redone
 mod Told

@@ -3,6 +3,7 @@ pub mod Changing
 pub mod Folds
 pub mod Numbered
 pub mod Opening
+pub mod Patching
 pub mod Preparing
 pub mod Redoing
 pub mod Redos
