@@ -1,9 +1,13 @@
 mod Attached
 mod Changed
+mod Created
 mod Folding
 mod FoldsOn
 mod Held
 mod Kept
+mod Laid
+mod Patched
+mod Patches
 mod Readied
 mod Redone
 mod Told

@@ -1,8 +1,10 @@
 pub mod Called
 pub mod Changing
 pub mod Folds
+pub mod Laying
 pub mod Numbered
 pub mod Opening
+pub mod Patching
 pub mod Preparing
 pub mod Redoing
 pub mod Redos

@@ -1,20 +1,20 @@
 -- What a disk that is attached, or set up, makes a store of.
-use Rattle.std.specs.Prelude.{◌≡◌, ◌≤◌, ◌⊎◌, ◌&&◌, ℕ, List, [], ◌∷◌, Bool, Option, Some, None, map, nat_eq, if◌then◌else◌}
+use Rattle.std.specs.Prelude.{◌≡◌, ◌≤◌, ◌⊎◌, ◌&&◌, ◌+◌, ℕ, List, [], ◌∷◌, Bool, true, Option, Some, None, is_some, length, map, nat_eq, if◌then◌else◌}
 use Rattle.std.specs.Option.{option_map}
 use Rattle.afs_num.specs.declared.types.Node.{Node}
 use Rattle.afs_history.specs.declared.lines.Line.{Line}
 use Rattle.afs_num.specs.declared.faults.StoreFault.{StoreFault}
 use Rattle.afs_num.specs.declared.faults.StoreFault.TheVariants as faults
 use Rattle.afs_num.specs.declared.records.Mark.{Mark}
-use Rattle.afs_num.specs.declared.records.StoreRecord.{StoreRecord}
 use Rattle.afs_history.specs.declared.scripts.VolumeLine.{VolumeLine}
 use Rattle.afs_shape.specs.Taking.{◌>>=◌}
-use Rattle.afs_records.specs.Records.{record_at, FitsRecord}
+use Rattle.afs_records.specs.Records.{record_at}
 use Rattle.afs_disk.specs.Disk.{Setting}
 use Rattle.afs_journal.specs.Records.{whole_records}
-use Rattle.afs_records.specs.Changes.{first_record, set_up}
+use Rattle.afs_records.specs.Changes.{set_up, volumes_laid}
 use Rattle.afs_records.specs.Stands.{Stands}
-use Rattle.afs_records.specs.Durable.{Durable, Effect, effect_of, first_folded, folded, mark_of, nothing_on}
+use Rattle.afs_records.specs.Durable.{Durable, Effect, effect_of, first_folded, folded, mark_of, most_volumes, nothing_on}
+use Rattle.afs_volstore.specs.Laying.{HaveShortNames}
 use Rattle.afs_volstore.specs.Telling.{in_words}
 
 -- ---- the last record
@@ -41,13 +41,12 @@ lines_begun node told capacity records = option_map (lines_unless_told told reco
 
 -- ---- set-up
 
--- The lines of set-up are accepted, each volume's name is one that a volume may have, and their record is one that a disk may have.
+-- The lines of one server's volumes: each name is one that a volume may have, set-up accepts each line in order, and there are no
+-- more of them than a server has volumes.
 pub record CanBeSetUp (ls : List VolumeLine) : Type 0 where
-  pub first : StoreRecord
-  pub accepted : first_record ls ≡ Some first
-  pub fits : FitsRecord first
-  pub after : Durable
-  pub taken : first_folded first (nothing_on 0) ≡ Some after
+  pub names : HaveShortNames ls
+  pub accepted : is_some (volumes_laid ls []) ≡ true
+  pub few : length ls ≤ most_volumes
 
 -- what a disk that was empty stands for while the lines are set up: for nothing, or for all
 abbrev pub IsSetUpSoFar : ℕ → List VolumeLine → List ℕ → Type 0
@@ -73,10 +72,11 @@ IsAttachFault faults.Failed = Unit {0}
 IsAttachFault faults.OutOfMemory = Unit {0}
 IsAttachFault refusal = ⊥
 
--- what set-up does to a disk's counts: none falls, and it is set as it was
-pub record Moved {D : Type 0} (faults own_faults calls : D → ℕ) (setting : D → Setting) (limit : D → ℕ) (old new : D) : Type 0 where
+-- what set-up does to a disk's counts, in at most so many device calls: none falls, and it is set as it was
+pub record Moved {D : Type 0} (most : ℕ) (faults own_faults calls : D → ℕ) (setting : D → Setting) (limit : D → ℕ) (old new : D) : Type 0 where
   pub never_falls : faults old ≤ faults new
   pub own_never_falls : own_faults old ≤ own_faults new
   pub counted : calls old ≤ calls new
+  pub few : calls new ≤ calls old + most
   pub same_setting : setting new ≡ setting old
   pub same_limit : limit new ≡ limit old

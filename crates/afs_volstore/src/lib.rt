@@ -4,19 +4,23 @@
 mod altering;
 mod attaching;
 mod committing;
+mod creating;
 mod faults;
 mod fused;
 mod lines;
 mod memory;
 mod opening;
+mod patching;
 mod prepared;
 mod readying;
 mod redo;
 mod redoing;
 mod replaying;
 mod setup;
+mod standing;
 mod state;
 mod store;
 mod taking_up;
 
+pub use setup::first_length;
 pub use store::VolStore;

@@ -16,6 +16,7 @@ use std::alloc::Global;
 pub(crate) fn take_up<D: Disk>(alloc: Global, disk: D) -> Result<Journal<D>, (StoreFault, D)>
     requires { D.limit disk ≤ 268435456 }
     ensures found { IfOk result (λ j. (bytes : List ℕ) → D.seen disk ≡ Some bytes → j.found ≡ whole_records bytes) }
+    ensures empty { IfOk result (λ j. D.size disk ≡ 0 → (j.found ≡ []) × (j.gate ≡ 0)) }
     ensures at_rest { IfOk result (λ j. (bytes : List ℕ) → D.seen disk ≡ Some bytes → IsJournal (whole_records bytes) (D.seen j.disk) (D.may_leave j.disk)) }
     ensures told { MatchResult result (λ j. IsSome (D.seen j.disk) ↔ IsSome (D.seen disk)) (λ e. IsSome (D.seen e.1) ↔ IsSome (D.seen disk)) }
     ensures counts { IfOk result (λ j. (j.count ≡ length j.found) × ((D.size j.disk ≡ j.gate + 1) × (j.closed ≡ false))) }

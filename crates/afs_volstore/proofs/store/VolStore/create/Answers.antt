@@ -1,0 +1,52 @@
+use Rattle.std.proofs.Common.{◌≡◌, ◌∙◌, ◌+◌, ◌≤◌, Bor, [], List, ℕ, Some, ap, inl, is_some, length, map, rules}
+use Rattle.afs_disk.specs.Disk.{LeavesOnly}
+use Rattle.afs_journal.specs.Records.{whole_records, IsBeforeOrAfter}
+use Rattle.afs_journal.proofs.Moments.{and_on, begins, weaker}
+use Rattle.afs_history.specs.declared.scripts.VolumeLine.{VolumeLine}
+use Rattle.afs_records.specs.Durable.{Durable}
+use Rattle.afs_records.specs.Records.{record_bytes}
+use Rattle.afs_volstore.specs.Opening.{IsSetUpSoFar}
+use Rattle.afs_volstore.proofs.Created.{left_so_far, made_on, matched_on, not_none, nothing_there, IsMade}
+use Rattle.afs_volstore.proofs.store.VolStore.create.Goals as goal
+
+pub returns-in-Err-clause-any_moment : goal.returns-in-Err-clause-any_moment
+returns-in-Err-clause-any_moment g c = λ told only.
+    let ls = map (λ (l : Bor VolumeLine). l.now) c.args.volumes.now in
+    begins g.D.Disk.moment g.D.Disk.left_since c.args.disk (IsSetUpSoFar (g.D.Disk.limit c.args.disk) ls) (λ b left. inl (nothing_there b (only b (g.met.D.Disk.just_now c.args.disk b left))))
+
+pub returns-then-len-capacity-clause-any_moment : goal.returns-then-len-capacity-clause-any_moment
+returns-then-len-capacity-clause-any_moment g c = λ told only.
+    let ls = map (λ (l : Bor VolumeLine). l.now) c.args.volumes.now in
+    begins g.D.Disk.moment g.D.Disk.left_since c.args.disk (IsSetUpSoFar (g.D.Disk.limit c.args.disk) ls) (λ b left. inl (nothing_there b (only b (g.met.D.Disk.just_now c.args.disk b left))))
+
+pub returns-clause-any_moment : goal.returns-clause-any_moment
+returns-clause-any_moment g c = λ told only.
+    let disk = c.args.disk in
+    let limit = g.D.Disk.limit disk in
+    let ls = map (λ (l : Bor VolumeLine). l.now) c.args.volumes.now in
+    let rec = c.in-Ok.first.0 in
+    let le : length (record_bytes rec) + 10 ≤ limit = search rules in
+    let made : (e : Durable) × IsMade limit ls rec e = made_on c.records_are_read_again.ensures limit ls rec c.in-Ok.ensures.value c.in-Ok.ensures.fits le c.in-Ok.ensures.taken in
+    let j = c.in_ok-journal.journal.disk in
+    let none : LeavesOnly g.D.Disk.moment g.D.Disk.left_since disk j (IsSetUpSoFar limit ls) =
+    weaker g.D.Disk.moment g.D.Disk.left_since disk j (IsSetUpSoFar limit ls) (λ (b : List ℕ). whole_records b ≡ []) (c.in_ok-journal.ensures.any_moment told only) (λ b left. inl left) in
+    matched_on c.filled.result _ _ _ _ (c.filled.ensures.any_moment (ap is_some (c.in_ok-journal.ensures.begun (ap is_some told)).now))
+    (λ s more. and_on g.D.Disk.moment g.D.Disk.left_since disk j s.disk (IsSetUpSoFar limit ls) (IsBeforeOrAfter [] (record_bytes rec)) none more (λ b left. left_so_far limit ls rec b made left))
+    (λ e more. and_on g.D.Disk.moment g.D.Disk.left_since disk j e.1 (IsSetUpSoFar limit ls) (IsBeforeOrAfter [] (record_bytes rec)) none more (λ b left. left_so_far limit ls rec b made left))
+
+-- behind the test the record fits, so something is set up
+pub returns-in_err-journal-clause-room : goal.returns-in_err-journal-clause-room
+returns-in_err-journal-clause-room g c = λ none.
+    let limit = g.D.Disk.limit c.args.disk in
+    let ls = map (λ (l : Bor VolumeLine). l.now) c.args.volumes.now in
+    let rec = c.in-Ok.first.0 in
+    let le : length (record_bytes rec) + 10 ≤ limit = search rules in
+    absurd (not_none limit ls rec (made_on c.records_are_read_again.ensures limit ls rec c.in-Ok.ensures.value c.in-Ok.ensures.fits le c.in-Ok.ensures.taken) none)
+
+pub returns-clause-room : goal.returns-clause-room
+returns-clause-room g c = λ none.
+    let limit = g.D.Disk.limit c.args.disk in
+    let ls = map (λ (l : Bor VolumeLine). l.now) c.args.volumes.now in
+    let rec = c.in-Ok.first.0 in
+    let le : length (record_bytes rec) + 10 ≤ limit = search rules in
+    absurd (not_none limit ls rec (made_on c.records_are_read_again.ensures limit ls rec c.in-Ok.ensures.value c.in-Ok.ensures.fits le c.in-Ok.ensures.taken) none)
