@@ -297,7 +297,7 @@ all_told id m (e ∷ es) v w up same finds =
     let n = edit_number e in
     let after : Volume = (edited id e v).volume in
     let now : (edited id e v).versions ≡ told_one id n (get n w.vnodes) (get n (edited_all id es after).vnodes) =
-        edit_told id e v (get n w.vnodes) same.0 finds.0 ∙ ap (told_one id n (get n w.vnodes)) (sym (all_keep id n es after (not_edited n (n + 1) es (omega arith) up.1))) in
+    edit_told id e v (get n w.vnodes) same.0 finds.0 ∙ ap (told_one id n (get n w.vnodes)) (sym (all_keep id n es after (not_edited n (n + 1) es (omega arith) up.1))) in
     ap (λ (vs : List Version). vs ++ versions_by id es after) now
     ∙ ap (λ (vs : List Version). told_one id n (get n w.vnodes) (get n (edited_all id es after).vnodes) ++ vs) (all_told id (n + 1) es after w up.1 (still id (n + 1) e es v w (omega arith) up.1 same.1) finds.1)
 

@@ -46,7 +46,13 @@ fn put_volumes(out: &mut String, store: &VolStore<MemDisk>) -> Mem<()> {
 }
 
 fn put_kept(out: &mut String, key: Key, reply: &[u8]) -> Mem<()> {
-    writeln!(out, "kept {} {} bytes {}", key.epoch, key.number, reply.len())
+    writeln!(
+        out,
+        "kept {} {} bytes {}",
+        key.epoch,
+        key.number,
+        reply.len()
+    )
 }
 
 fn put_replies(out: &mut String, store: &VolStore<MemDisk>) -> Mem<()> {
@@ -60,7 +66,12 @@ fn put_replies(out: &mut String, store: &VolStore<MemDisk>) -> Mem<()> {
 
 /// What stands in a store.
 fn put_store(out: &mut String, store: &VolStore<MemDisk>) -> Mem<()> {
-    writeln!(out, "boot {} records {}", store.boot_number(), store.mark().records)?;
+    writeln!(
+        out,
+        "boot {} records {}",
+        store.boot_number(),
+        store.mark().records
+    )?;
     put_volumes(out, store)?;
     writeln!(out, "stamps {} {}", store.stamp(7), store.stamp(8))?;
     put_replies(out, store)
@@ -77,7 +88,11 @@ fn refusal(alloc: Global, fault: StoreFault) -> Mem<String> {
 }
 
 /// A disk with these records, of which so many were told.
-fn attached(alloc: Global, records: &[Rec], told: u32) -> Result<(VolStore<MemDisk>, Lines), StoreFault> {
+fn attached(
+    alloc: Global,
+    records: &[Rec],
+    told: u32,
+) -> Result<(VolStore<MemDisk>, Lines), StoreFault> {
     match disk_with(alloc, records) {
         Some(disk) => attach(alloc, disk, told),
         None => Err(StoreFault::Closed),
