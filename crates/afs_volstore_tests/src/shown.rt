@@ -99,38 +99,51 @@ fn attached(
     }
 }
 
-/// What a disk with these records stands for.
-pub(crate) fn stood_for(alloc: Global, records: &[Rec]) -> Mem<String> {
-    match attached(alloc, records, 0) {
-        Ok((store, _)) => {
-            let mut out = String::new(alloc);
-            put_store(&mut out, &store)?;
-            Ok(out)
-        }
+/// What of a disk that is attached is shown.
+#[derive(Clone, Copy)]
+enum Shown {
+    /// What its store has.
+    State,
+    /// The lines that it tells.
+    Told,
+    /// Nothing but that it is attached.
+    Nothing,
+}
+
+/// What a store shows, and the lines that its disk told.
+fn text_of(alloc: Global, store: &VolStore<MemDisk>, lines: &Lines, shown: Shown) -> Mem<String> {
+    let mut out = String::new(alloc);
+    match shown {
+        Shown::State => put_store(&mut out, store)?,
+        Shown::Told => put_lines(&mut out, lines)?,
+        Shown::Nothing => out.push_str("none")?,
+    }
+    Ok(out)
+}
+
+/// What a disk with these records shows, of which so many were told; or why it isn't attached.
+fn text_with(alloc: Global, records: &[Rec], told: u32, shown: Shown) -> Mem<String> {
+    match attached(alloc, records, told) {
+        Ok((store, lines)) => text_of(alloc, &store, &lines, shown),
         Err(fault) => refusal(alloc, fault),
     }
 }
 
+/// What a disk with these records stands for.
+pub(crate) fn stood_for(alloc: Global, records: &[Rec]) -> Mem<String> {
+    text_with(alloc, records, 0, Shown::State)
+}
+
 /// What a disk with these records tells, of which so many were told.
 pub(crate) fn told(alloc: Global, records: &[Rec], told: u32) -> Mem<String> {
-    match attached(alloc, records, told) {
-        Ok((_, lines)) => {
-            let mut out = String::new(alloc);
-            put_lines(&mut out, &lines)?;
-            Ok(out)
-        }
-        Err(fault) => refusal(alloc, fault),
-    }
+    text_with(alloc, records, told, Shown::Told)
 }
 
 /// Which record of each of these disks can't be taken.
 pub(crate) fn bad(alloc: Global, disks: &[&[Rec]]) -> Mem<String> {
     let mut out = String::new(alloc);
     for records in disks {
-        let fault = match attached(alloc, records, 0) {
-            Ok(_) => String::from_str(alloc, "none")?,
-            Err(fault) => refusal(alloc, fault)?,
-        };
+        let fault = text_with(alloc, records, 0, Shown::Nothing)?;
         out.push_str(fault.as_str())?;
         out.push_str(" ")?;
     }
