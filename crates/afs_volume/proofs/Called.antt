@@ -1,6 +1,7 @@
 -- What set-up lays by one operation.
 use Rattle.std.proofs.Common.{◌≡◌, ℕ, ◌≤◌, ℤ, Bool, true, false, cond, nat_lt, pos, List, length, Option, Some, None, Result, Ok, Err, refl, ap, ◌∙◌, sym, subst}
 use Rattle.std.specs.Option.{option_map}
+use Rattle.std.specs.Prelude.{IfErr}
 use Rattle.afs_num.specs.declared.calls.FsCall.{FsCall}
 use Rattle.afs_num.specs.declared.calls.FsCall.TheVariants as calls
 use Rattle.afs_num.specs.declared.types.Fid.{Fid}
@@ -68,6 +69,9 @@ list_refused id path text v (faults.Code code) h = none_led id text v code.0 (le
 list_refused id path text v faults.OutOfMemory h = tt
 
 -- ---- a refusal leaves the volume as it was
+
+pub refused_with : {A : Type 0} (P : OpFault → Type 0) (res : Result A OpFault) (e : OpFault) → res ≡ Err e → P e → IfErr res P
+refused_with {A} P res e is h = subst (λ (q : Result A OpFault). IfErr q P) (sym is) h
 
 pub lays_refused : (r : Result Volume ℕ) (old new : volumes.Volume) (res : Result (Unit {0}) OpFault) (e : OpFault) → res ≡ Err e → IsCodeOf r e → new.head ≡ old.head → new.vnodes.table ≡ old.vnodes.table → Lays r old new res
 lays_refused r old new res e is h head table = subst (λ (q : Result (Unit {0}) OpFault). Lays r old new q) (sym is) (h, (head, table))
