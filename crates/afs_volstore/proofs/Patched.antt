@@ -1,8 +1,7 @@
 -- A change leaves a sound volume sound where the vnodes that it touches pass the test.
-use Rattle.std.proofs.Common.{◌≡◌, ℕ, zero, suc, ◌+◌, ◌%◌, ◌<◌, ◌≤◌, Bool, true, false, cond, not, List, [], ◌∷◌, ◌++◌, length, Option, Some, None, is_some, nat_eq, nat_lt, if◌then◌else◌, refl, sym, ap, subst, ◌∙◌, arith, eq-eqb, eqb-true, lt-ltb, ltb-true, le-ltb}
+use Rattle.std.proofs.Common.{◌≡◌, ℕ, suc, ◌+◌, ◌%◌, ◌<◌, ◌≤◌, Bool, true, false, cond, not, List, [], ◌∷◌, ◌++◌, Option, Some, None, nat_eq, nat_lt, if◌then◌else◌, refl, sym, ap, subst, ◌∙◌, arith, eq-eqb, eqb-true, lt-ltb, ltb-true, le-ltb}
 use Rattle.std.specs.Prelude.{◌&&◌, ◌||◌}
-use Rattle.std.specs.List.{flat_map, list_all}
-use Rattle.std.specs.Str.{bytes_eq}
+use Rattle.std.specs.List.{list_all}
 use Rattle.std.proofs.lemmas.Bool.Decides.{nat_tests}
 use Rattle.afs_num.specs.declared.directories.Name.{Name}
 use Rattle.afs_ideal.specs.Tables.{Table, get, AscendsFrom}
@@ -14,9 +13,9 @@ use Rattle.afs_ideal.proofs.Counts.{count_more, one_if}
 use Rattle.afs_ideal.proofs.Directories.{same_is}
 use Rattle.afs_ideal.proofs.Ranks.{Ranked, at, steps, reaching_ranked, HasParents, ranked_reaching}
 use Rattle.afs_ideal.proofs.Tables.{get_below}
-use Rattle.afs_records.specs.Sound.{ascends_from, gives_held, gives_one, has_by_kind, has_names, is_named_in, is_placed, is_root, is_sound, is_sound_vnode, kind_is_right, same_test}
+use Rattle.afs_records.specs.Sound.{ascends_from, gives_held, gives_one, has_by_kind, has_names, is_named_in, is_root, is_sound, is_sound_vnode, kind_is_right, same_test}
 use Rattle.afs_volume.specs.Taking.{is_among}
-use Rattle.afs_volstore.specs.Patching.{is_right, is_unmoved, keeps_place, may_stand, other_named, others_named, passes, passes_by, same_others, same_parent, KeepsNames}
+use Rattle.afs_volstore.specs.Patching.{is_right, is_unmoved, keeps_place, others_named, passes, passes_by, same_others, same_parent, KeepsNames}
 
 -- ---- names of others are counted as before
 

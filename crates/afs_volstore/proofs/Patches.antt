@@ -1,29 +1,25 @@
 -- A volume can take in a change that passes the test of what it touches.
-use Rattle.std.proofs.Common.{◌≡◌, ℕ, suc, ◌+◌, ◌≤◌, Bool, true, false, not, List, [], ◌∷◌, length, filter, Option, Some, None, is_some, nat_eq, if◌then◌else◌, refl, sym, ap, subst, ◌∙◌, arith, eqb-true, eq-eqb}
+use Rattle.std.proofs.Common.{◌≡◌, ℕ, suc, ◌+◌, ◌≤◌, Bool, true, false, not, List, [], ◌∷◌, length, filter, Option, Some, None, is_some, nat_eq, if◌then◌else◌, refl, sym, ap, ◌∙◌, arith, eqb-true}
 use Rattle.std.proofs.lemmas.Bool.Decides.{nat_tests}
-use Rattle.std.specs.Prelude.{◌&&◌, ◌||◌}
+use Rattle.std.specs.Prelude.{◌||◌}
 use Rattle.std.specs.List.{list_all, AllByRecursion}
 use Rattle.std.specs.Option.{option_map}
 use Rattle.afs_num.specs.declared.vnodes.Vnode as image
 use Rattle.afs_num.specs.declared.volumes.Change.{Change}
 use Rattle.afs_num.specs.declared.volumes.VolumeHead.{VolumeHead}
-use Rattle.afs_ideal.specs.Operations.{is_kind}
-use Rattle.afs_ideal.specs.Soundness.{names_of}
 use Rattle.afs_ideal.specs.Tables.{Table, get, set, unset, AscendsFrom}
 use Rattle.afs_ideal.specs.VnodeImage.{FitsImage}
-use Rattle.afs_ideal.specs.VnodeMaps.{most_vnodes}
-use Rattle.afs_ideal.specs.Volumes.{a_directory, Vnode, Volume}
+use Rattle.afs_ideal.specs.Volumes.{Vnode, Volume}
 use Rattle.afs_ideal.proofs.Basics.{both, yes_no}
 use Rattle.afs_ideal.proofs.Tables.{ascends_set, ascends_unset, get_set, get_unset}
-use Rattle.afs_records.specs.Durable.{allowed, changed_stored}
-use Rattle.afs_records.specs.Sound.{has_names, is_named_in, is_sound}
-use Rattle.afs_volume.specs.Seen.{all_seen, seen, volume_seen, IsReadable}
-use Rattle.afs_volume.specs.Taking.{is_among, put_but, stored_of, stored_with, without_all, CanTakeIn}
+use Rattle.afs_records.specs.Sound.{is_named_in, is_sound}
+use Rattle.afs_volume.specs.Seen.{all_seen, seen, IsReadable}
+use Rattle.afs_volume.specs.Taking.{is_among, put_but, without_all, CanTakeIn}
 use Rattle.afs_volume.specs.declared.volume.Volume as volumes
 use Rattle.afs_volume.proofs.Tables.{got}
 use Rattle.afs_volume.proofs.Taken.{put_each, removed_first}
 use Rattle.afs_volstore.specs.Changing.{is_in}
-use Rattle.afs_volstore.specs.Patching.{after, before, image_left, new_among, passes, table_left, AreTouched, IsPatch, KeepsNames, StaysNamed}
+use Rattle.afs_volstore.specs.Patching.{after, before, image_left, new_among, passes, table_left, AreTouched, IsPatch, StaysNamed}
 use Rattle.afs_volstore.proofs.Changed.{changed_is, its_order, may_hold}
 use Rattle.afs_volstore.proofs.Patched.{named_as_before, still_sound}
 use Rattle.afs_volstore.proofs.Redone.{seen_up, set_length}

@@ -10,7 +10,7 @@ use Rattle.afs_ideal.specs.Tables.{Table, get}
 use Rattle.afs_ideal.specs.VnodeMaps.{most_vnodes}
 use Rattle.afs_ideal.specs.Volumes.{a_directory, Vnode, Volume}
 use Rattle.afs_records.specs.Sound.{gives_one, has_by_kind, has_names, is_named_in, is_root, kind_is_right}
-use Rattle.afs_volume.specs.Seen.{all_seen, volume_seen}
+use Rattle.afs_volume.specs.Seen.{volume_seen}
 use Rattle.afs_volume.specs.Taking.{is_among, put_but, without_all}
 use Rattle.afs_volume.specs.declared.volume.Volume as volumes
 use Rattle.afs_volstore.specs.Changing.{is_in}

@@ -6,6 +6,7 @@ use crate::disks::Rec::{Change, First};
 use crate::disks::{attach, disk_with};
 use afs_disk::{Disk, Fuse, MemDisk};
 use afs_num::faults::StoreFault;
+use afs_num::histories::Lines;
 use afs_num::types::Mem;
 use afs_volstore::VolStore;
 use std::alloc::Global;
@@ -24,27 +25,40 @@ fn armed(alloc: Global, passes: u64) -> Result<VolStore<Fuse<MemDisk>>, StoreFau
     Ok(store)
 }
 
-/// The number of records after a crash with this pick.
-fn crashed(alloc: Global, disk: MemDisk, pick: u8) -> Result<u32, StoreFault> {
+/// The number of records of a store.
+fn records_of(attached: &Result<(VolStore<MemDisk>, Lines), StoreFault>) -> Option<u32> {
+    match attached {
+        Ok((store, _)) => Some(store.mark().records),
+        Err(_) => None,
+    }
+}
+
+/// The number of records after a crash with this pick; none where the disk isn't attached.
+fn crashed(alloc: Global, disk: MemDisk, pick: u8) -> Option<u32> {
     let mut disk = disk;
     disk.crash(pick);
-    let (store, _) = attach(alloc, disk, 2)?;
-    Ok(store.mark().records)
+    let attached = attach(alloc, disk, 2);
+    records_of(&attached)
+}
+
+/// Starts a server with so many device calls; whether it did, and the disk.
+fn started(alloc: Global, passes: u64) -> Result<(bool, MemDisk), StoreFault> {
+    let mut store = armed(alloc, passes)?;
+    let started = store.boot().is_ok();
+    Ok((started, store.into_disk().into_inner()))
 }
 
 /// Whether the server starts with so many device calls, and how many records stand there after a crash with this pick.
-fn started(alloc: Global, passes: u64, pick: u8) -> Result<(bool, u32), StoreFault> {
-    let mut store = armed(alloc, passes)?;
-    let started = store.boot().is_ok();
-    let records = crashed(alloc, store.into_disk().into_inner(), pick)?;
-    Ok((started, records))
+fn left(alloc: Global, passes: u64, pick: u8) -> Option<(bool, u32)> {
+    let (started, disk) = started(alloc, passes).ok()?;
+    Some((started, crashed(alloc, disk, pick)?))
 }
 
 fn put_start(out: &mut String, alloc: Global, passes: u64, pick: u8) -> Mem<()> {
-    match started(alloc, passes, pick) {
-        Ok((true, records)) => write!(out, "started {records} "),
-        Ok((false, records)) => write!(out, "{records} "),
-        Err(_) => out.push_str("failed "),
+    match left(alloc, passes, pick) {
+        Some((true, records)) => write!(out, "started {records} "),
+        Some((false, records)) => write!(out, "{records} "),
+        None => out.push_str("failed "),
     }
 }
 

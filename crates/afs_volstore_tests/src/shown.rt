@@ -46,7 +46,13 @@ fn put_volumes(out: &mut String, store: &VolStore<MemDisk>) -> Mem<()> {
 }
 
 fn put_kept(out: &mut String, key: Key, reply: &[u8]) -> Mem<()> {
-    writeln!(out, "kept {} {} bytes {}", key.epoch, key.number, reply.len())
+    writeln!(
+        out,
+        "kept {} {} bytes {}",
+        key.epoch,
+        key.number,
+        reply.len()
+    )
 }
 
 fn put_replies(out: &mut String, store: &VolStore<MemDisk>) -> Mem<()> {
@@ -60,7 +66,12 @@ fn put_replies(out: &mut String, store: &VolStore<MemDisk>) -> Mem<()> {
 
 /// What stands in a store.
 fn put_store(out: &mut String, store: &VolStore<MemDisk>) -> Mem<()> {
-    writeln!(out, "boot {} records {}", store.boot_number(), store.mark().records)?;
+    writeln!(
+        out,
+        "boot {} records {}",
+        store.boot_number(),
+        store.mark().records
+    )?;
     put_volumes(out, store)?;
     writeln!(out, "stamps {} {}", store.stamp(7), store.stamp(8))?;
     put_replies(out, store)
@@ -77,45 +88,62 @@ fn refusal(alloc: Global, fault: StoreFault) -> Mem<String> {
 }
 
 /// A disk with these records, of which so many were told.
-fn attached(alloc: Global, records: &[Rec], told: u32) -> Result<(VolStore<MemDisk>, Lines), StoreFault> {
+fn attached(
+    alloc: Global,
+    records: &[Rec],
+    told: u32,
+) -> Result<(VolStore<MemDisk>, Lines), StoreFault> {
     match disk_with(alloc, records) {
         Some(disk) => attach(alloc, disk, told),
         None => Err(StoreFault::Closed),
     }
 }
 
-/// What a disk with these records stands for.
-pub(crate) fn stood_for(alloc: Global, records: &[Rec]) -> Mem<String> {
-    match attached(alloc, records, 0) {
-        Ok((store, _)) => {
-            let mut out = String::new(alloc);
-            put_store(&mut out, &store)?;
-            Ok(out)
-        }
+/// What of a disk that is attached is shown.
+#[derive(Clone, Copy)]
+enum Shown {
+    /// What its store has.
+    State,
+    /// The lines that it tells.
+    Told,
+    /// Nothing but that it is attached.
+    Nothing,
+}
+
+/// What a store shows, and the lines that its disk told.
+fn text_of(alloc: Global, store: &VolStore<MemDisk>, lines: &Lines, shown: Shown) -> Mem<String> {
+    let mut out = String::new(alloc);
+    match shown {
+        Shown::State => put_store(&mut out, store)?,
+        Shown::Told => put_lines(&mut out, lines)?,
+        Shown::Nothing => out.push_str("none")?,
+    }
+    Ok(out)
+}
+
+/// What a disk with these records shows, of which so many were told; or why it isn't attached.
+fn text_with(alloc: Global, records: &[Rec], told: u32, shown: Shown) -> Mem<String> {
+    match attached(alloc, records, told) {
+        Ok((store, lines)) => text_of(alloc, &store, &lines, shown),
         Err(fault) => refusal(alloc, fault),
     }
 }
 
+/// What a disk with these records stands for.
+pub(crate) fn stood_for(alloc: Global, records: &[Rec]) -> Mem<String> {
+    text_with(alloc, records, 0, Shown::State)
+}
+
 /// What a disk with these records tells, of which so many were told.
 pub(crate) fn told(alloc: Global, records: &[Rec], told: u32) -> Mem<String> {
-    match attached(alloc, records, told) {
-        Ok((_, lines)) => {
-            let mut out = String::new(alloc);
-            put_lines(&mut out, &lines)?;
-            Ok(out)
-        }
-        Err(fault) => refusal(alloc, fault),
-    }
+    text_with(alloc, records, told, Shown::Told)
 }
 
 /// Which record of each of these disks can't be taken.
 pub(crate) fn bad(alloc: Global, disks: &[&[Rec]]) -> Mem<String> {
     let mut out = String::new(alloc);
     for records in disks {
-        let fault = match attached(alloc, records, 0) {
-            Ok(_) => String::from_str(alloc, "none")?,
-            Err(fault) => refusal(alloc, fault)?,
-        };
+        let fault = text_with(alloc, records, 0, Shown::Nothing)?;
         out.push_str(fault.as_str())?;
         out.push_str(" ")?;
     }

@@ -6,7 +6,10 @@ use std::test::Fail;
 fn records_of_another_program_are_taken(rt: HostRuntime) -> Result<(), Fail> {
     let want =
         "boot 2 records 3\nvolume 7 counter 4\nvolume 9 counter 1\nstamps 9 0\nkept 3 5 bytes 5\n";
-    assert_eq!(rt; stood_for(rt.alloc(), &[First, Change, Boot])?.as_str(), want);
+    assert_eq!(rt;
+        stood_for(rt.alloc(), &[First, Change, Boot])?.as_str(),
+        want
+    );
     Ok(())
 }
 
@@ -32,7 +35,10 @@ fn what_was_told_is_not_told_again(rt: HostRuntime) -> Result<(), Fail> {
 
 #[test]
 fn the_first_record_tells_volumes(rt: HostRuntime) -> Result<(), Fail> {
-    assert_eq!(rt; bad(rt.alloc(), &[&[], &[Boot], &[First]])?.as_str(), "bad 1 bad 1 none ");
+    assert_eq!(rt;
+        bad(rt.alloc(), &[&[], &[Boot], &[First]])?.as_str(),
+        "bad 1 bad 1 none "
+    );
     Ok(())
 }
 
@@ -61,6 +67,9 @@ fn a_volume_is_sound(rt: HostRuntime) -> Result<(), Fail> {
 
 #[test]
 fn a_server_has_at_most_64_volumes(rt: HostRuntime) -> Result<(), Fail> {
-    assert_eq!(rt; bad(rt.alloc(), &[&[Many(64)], &[Many(65)]])?.as_str(), "none bad 1 ");
+    assert_eq!(rt;
+        bad(rt.alloc(), &[&[Many(64)], &[Many(65)]])?.as_str(),
+        "none bad 1 "
+    );
     Ok(())
 }

@@ -1,4 +1,4 @@
-use Rattle.std.proofs.Common.{◌≡◌, None, Option, List, true, false, sym, ap, ◌∙◌}
+use Rattle.std.proofs.Common.{None, List, sym, ap, ◌∙◌}
 use Rattle.std.specs.Option.{option_copied}
 use Rattle.afs_num.specs.declared.vnodes.Vnode as image
 use Rattle.afs_volume.specs.Taking.{is_among}

@@ -1,4 +1,3 @@
-use Rattle.std.proofs.Common.{◌≡◌, true, sym, ap, ◌∙◌, rules}
 use Rattle.std.specs.Option.{option_copied, option_map}
 use Rattle.afs_volume.specs.Seen.{seen}
 use Rattle.afs_volstore.proofs.Patches.{placed_as_before}
