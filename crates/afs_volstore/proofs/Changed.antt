@@ -152,7 +152,7 @@ from_start : {A : Type 0} (m : ℕ) (t : Table A) → AscendsFrom m t → Ascend
 from_start {A} m [] up = tt
 from_start {A} m (p ∷ ps) up = (omega arith, up.1)
 
-its_order : (v : Volume) → AscendsFrom 0 v.vnodes.table
+pub its_order : (v : Volume) → AscendsFrom 0 v.vnodes.table
 its_order v = from_start 1 v.vnodes.table (in_order v.head v.vnodes.table v.readable v.sound)
 
 cant_by : (v : Volume) (c : Change) (b : Bool) → list_all (is_in v.vnodes.table) c.removed ≡ b → AllByRecursion IsReadable c.vnodes → CantBeLeft c.removed c.vnodes v.vnodes.table → changed_stored c.counter c.unique c.vnodes c.removed (stored_of v) ≡ None

@@ -6,6 +6,8 @@ mod FoldsOn
 mod Held
 mod Kept
 mod Laid
+mod Patched
+mod Patches
 mod Readied
 mod Redone
 mod Told

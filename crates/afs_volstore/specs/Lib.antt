@@ -4,6 +4,7 @@ pub mod Folds
 pub mod Laying
 pub mod Numbered
 pub mod Opening
+pub mod Patching
 pub mod Preparing
 pub mod Redoing
 pub mod Redos

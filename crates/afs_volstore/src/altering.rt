@@ -7,13 +7,15 @@ ghost use Rattle.afs_ideal.specs.VnodeMaps.{most_vnodes};
 ghost use Rattle.afs_records.specs.Durable.{changed_stored};
 ghost use Rattle.afs_vnode.specs.Stores.{AreVnodes};
 ghost use Rattle.afs_volume.specs.Seen.{IsReadable};
-ghost use Rattle.afs_volume.specs.Taking.{put_but, stored_of, without_all};
+ghost use Rattle.afs_volume.specs.Taking.{put_but, stored_of, without_all, CanTakeIn};
 ghost use Rattle.afs_volstore.specs.Changing.{is_in, CantBeLeft};
 ghost use Rattle.afs_volstore.specs.Numbered.{AreNumbered};
 ghost use Rattle.afs_volstore.specs.Redoing.{IsChanged, IsRefused};
 ghost use Rattle.afs_volstore.specs.declared.faults.Unfit.TheVariants.{Bad};
 
 use crate::faults::Unfit;
+use crate::patching::can_take;
+use afs_num::types::Mem;
 use afs_num::vnodes::{VnodeNumbers, Vnodes};
 use afs_num::volumes::{Change, VolumeHead};
 use afs_seats::Seats;
@@ -128,6 +130,34 @@ fn remade(alloc: Global, volume: Volume, change: Change) -> Result<Volume, Unfit
     }
 }
 
+/// The volume with a change taken in that it can take in, in a time that is that of the change.
+fn taken_in(volume: Volume, change: Change) -> Mem<Volume>
+    requires { CanTakeIn volume change }
+    ensures made { IfOk result (λ v. changed_stored change.counter change.unique change.vnodes change.removed (stored_of volume) ≡ Some (stored_of v)) }
+    ensures id { IfOk result (λ v. v.head.id ≡ volume.head.id) }
+{
+    let mut volume = volume;
+    volume.reserve(&change)?;
+    volume.take_in(change);
+    Ok(volume)
+}
+
+/// The volume after a change. `Bad` where a disk may not hold it. A change that passes the test of what it touches is taken
+/// in as it is, and the volume isn't read anew.
+fn changed(alloc: Global, volume: Volume, change: Change) -> Result<Volume, Unfit>
+    requires read { AllByRecursion IsReadable change.vnodes }
+    requires fits { AllByRecursion FitsImage change.vnodes }
+    ensures made { IfOk result (λ v. changed_stored change.counter change.unique change.vnodes change.removed (stored_of volume) ≡ Some (stored_of v)) }
+    ensures id { IfOk result (λ v. v.head.id ≡ volume.head.id) }
+    ensures bad { result ≡ Err Bad → changed_stored change.counter change.unique change.vnodes change.removed (stored_of volume) ≡ None }
+{
+    if can_take(alloc, &volume, &change)? {
+        Ok(taken_in(volume, change)?)
+    } else {
+        remade(alloc, volume, change)
+    }
+}
+
 /// The volume of this number changes. `Bad` where there is none, or it can't.
 pub(crate) fn change_in(
     alloc: Global,
@@ -145,7 +175,7 @@ pub(crate) fn change_in(
     let Some(volume) = volumes.take(id) else {
         return Err(Unfit::Bad);
     };
-    let after = remade(alloc, volume, change)?;
+    let after = changed(alloc, volume, change)?;
     match volumes.put(id, after) {
         Ok(()) => Ok(()),
         Err(_) => unreachable!(),

@@ -1,0 +1,429 @@
+//! Changes that a volume can take in, found out by what they touch: in a time that is that of the change, and not that of
+//! the volume. A change that doesn't pass may still be one that the volume can take in.
+
+ghost use Rattle.std.specs.Prelude.{◌≡◌, ◌≤◌, ◌+◌, ◌++◌, ◌&&◌, ◌||◌, ◌<◌, ◌^◌, [], None, Some, true, nat_eq, length, IfOk, OnOk};
+ghost use Rattle.std.specs.List.{list_all, AllByRecursion};
+ghost use Rattle.std.specs.Option.{option_copied, option_map};
+ghost use Rattle.afs_ideal.specs.Tables.{get};
+ghost use Rattle.afs_ideal.specs.VnodeImage.{FitsImage};
+ghost use Rattle.afs_ideal.specs.VnodeMaps.{most_vnodes};
+ghost use Rattle.afs_records.specs.Sound.{gives_one, is_named_in, is_root};
+ghost use Rattle.afs_volume.specs.Seen.{seen, IsReadable};
+ghost use Rattle.afs_volume.specs.Taking.{is_among, CanTakeIn};
+ghost use Rattle.afs_volstore.specs.Changing.{is_in};
+ghost use Rattle.afs_volstore.specs.Patching.{after, before, image_left, is_right, is_unmoved, keeps_place, may_stand, new_among, other_named, others_named, passes, passes_by, same_others, same_parent, table_left, AreTouched, IsPatch, StaysNamed};
+
+use crate::standing::{
+    gives_held, has_links, has_names, is_directory, is_root, kind_is_right, names_in, names_of,
+};
+use afs_dir::Dir;
+use afs_num::directories::Name;
+use afs_num::types::Mem;
+use afs_num::vnodes::Vnode;
+use afs_num::volumes::Change;
+use afs_volume::Volume;
+use std::alloc::Global;
+
+/// How many vnodes a volume has at most.
+const MOST_VNODES: usize = 4096;
+
+/// How many vnodes a change touches at most that is tested by what it touches. Those of the operations are fewer.
+const MOST_TOUCHED: usize = 64;
+
+/// A volume and a change of it, with the numbers of the vnodes that it touches: those that it changes or removes, and those
+/// whose names it changes.
+#[derive(Clone, Copy)]
+struct Patch<'a> {
+    alloc: Global,
+    volume: &'a Volume,
+    change: &'a Change,
+    touched: &'a [u32],
+}
+
+fn is_among(number: u32, numbers: &[u32]) -> bool
+    ensures { result ≡ is_among number numbers.now }
+{
+    numbers.contains(&number)
+}
+
+/// The last of these images that has the number, or what is there.
+fn image_left<'b>(number: u32, changed: &'b [Vnode], there: Option<&'b Vnode>) -> Option<&'b Vnode>
+    ensures { option_copied result ≡ image_left number changed.entry.now (option_copied there.entry) }
+{
+    let mut left = there;
+    for x in changed {
+        if x.vnode == number {
+            left = Some(x);
+        }
+    }
+    left
+}
+
+/// Both are there, and in the same directory.
+#[tactic(auto, unfolding(afs_volume::specs::Seen::seen))]
+fn same_parent(x: Option<&Vnode>, y: Option<&Vnode>) -> bool
+    ensures { result ≡ same_parent (option_map seen (option_copied x.entry)) (option_map seen (option_copied y.entry)) }
+{
+    match (x, y) {
+        (Some(x), Some(y)) => x.parent_vnode == y.parent_vnode,
+        _ => false,
+    }
+}
+
+impl<'a> Patch<'a> {
+    /// The vnode of a number as it is.
+    #[tactic(auto, using(afs_volume::proofs::Tables::got))]
+    fn before(&self, number: u32) -> Option<&Vnode>
+        ensures value { option_copied result ≡ get number self.now.volume.now.vnodes.table }
+        ensures seen { option_map seen (option_copied result) ≡ get number (before self.now.volume.now).vnodes }
+    {
+        self.volume.vnodes().get(number)
+    }
+
+    /// The vnode of a number as the change leaves it.
+    fn after(&self, number: u32) -> Option<&Vnode>
+        ensures value { option_copied result ≡ get number (table_left self.now.volume.now self.now.change.now) }
+        ensures seen { option_map seen (option_copied result) ≡ get number (after self.now.volume.now self.now.change.now).vnodes }
+    {
+        if is_among(number, self.change.removed.as_slice()) {
+            return None;
+        }
+        image_left(number, self.change.vnodes.as_slice(), self.before(number))
+    }
+
+    fn is_touched(&self, number: u32) -> bool
+        ensures { result ≡ is_among number self.now.touched.now }
+    {
+        is_among(number, self.touched)
+    }
+
+    /// What a name names, where that isn't touched.
+    fn put_other(&self, out: &mut Vec<u32>, name: &Name) -> Mem<()>
+        ensures { OnOk result (out.new.items ≡ out.old.items ++ other_named self.now.touched.now name.now) }
+    {
+        if self.is_touched(name.vnode) {
+            return Ok(());
+        }
+        out.push(name.vnode)?;
+        out.push(name.unique)?;
+        Ok(())
+    }
+
+    /// What names name, but for what is touched.
+    fn others_named(&self, names: &[Name]) -> Mem<Vec<u32>>
+        ensures { IfOk result (λ out. out.items ≡ others_named self.now.touched.now names.now) }
+    {
+        let mut out = Vec::new(self.alloc);
+        for name in names {
+            self.put_other(&mut out, name)?;
+        }
+        Ok(out)
+    }
+
+    /// Names and names name the same, but for what is touched.
+    fn same_others(&self, names: &[Name], others: &[Name]) -> Mem<bool>
+        ensures { IfOk result (λ same. same ≡ same_others self.now.touched.now names.now others.now) }
+    {
+        let named = self.others_named(names)?;
+        let other = self.others_named(others)?;
+        Ok(named.as_slice() == other.as_slice())
+    }
+
+    /// A vnode has the names of another, but for what is touched.
+    fn keeps_names(&self, x: &Vnode, y: &Vnode) -> Mem<bool>
+        ensures { IfOk result (λ keeps. keeps ≡ same_others self.now.touched.now (seen x.now).names (seen y.now).names) }
+    {
+        let names = names_in(self.alloc, x)?;
+        let others = names_in(self.alloc, y)?;
+        self.same_others(names.names(), others.names())
+    }
+
+    /// A vnode may go that only touched vnodes see.
+    #[tactic(auto, unfolding(afs_volume::specs::Seen::seen))]
+    fn may_go(&self, x: &Vnode) -> Mem<bool>
+        ensures { IfOk result (λ may. may ≡ (is_among (seen x.now).parent self.now.touched.now && same_others self.now.touched.now (seen x.now).names [])) }
+    {
+        let names = names_in(self.alloc, x)?;
+        Ok(self.is_touched(x.parent_vnode) && self.same_others(names.names(), &[])?)
+    }
+
+    /// A vnode stays where it is, as far as a directory that isn't touched can tell.
+    #[tactic(auto, unfolding(afs_volume::specs::Seen::seen))]
+    fn keeps_place(&self, x: &Vnode, y: &Vnode) -> bool
+        ensures { result ≡ keeps_place self.now.touched.now (seen x.now) (seen y.now) }
+    {
+        x.unique == y.unique
+            && (self.is_touched(x.parent_vnode)
+                || (x.parent_vnode == y.parent_vnode && x.parent_unique == y.parent_unique))
+    }
+
+    /// The vnode of this number was there before, and in the same directory.
+    fn is_unmoved(&self, number: u32) -> bool
+        ensures { result ≡ is_unmoved (before self.now.volume.now) (after self.now.volume.now self.now.change.now) number }
+    {
+        same_parent(self.before(number), self.after(number))
+    }
+
+    /// A directory doesn't move; a file moves below a directory that doesn't.
+    #[tactic(auto, unfolding(afs_volume::specs::Seen::seen))]
+    fn may_stand(&self, x: &Vnode, y: &Vnode) -> bool
+        ensures { result ≡ may_stand (before self.now.volume.now) (after self.now.volume.now self.now.change.now) (seen x.now) (seen y.now) }
+    {
+        x.parent_vnode == y.parent_vnode || (!is_directory(x) && self.is_unmoved(y.parent_vnode))
+    }
+
+    #[tactic(auto, unfolding(afs_volume::specs::Seen::seen))]
+    fn gives_one(&self, number: u32, d: &Vnode, name: &Name) -> bool
+        ensures { result ≡ gives_one (after self.now.volume.now self.now.change.now) number (seen d.now).unique name.now }
+    {
+        gives_held(number, d.unique, self.after(name.vnode), name)
+    }
+
+    /// Every name of a directory gives a vnode that it holds.
+    fn gives_all(&self, number: u32, d: &Vnode, names: &[Name]) -> bool
+        ensures { result ≡ list_all (gives_one (after self.now.volume.now self.now.change.now) number (seen d.now).unique) names.now }
+    {
+        names.iter().all(|name| self.gives_one(number, d, name))
+    }
+
+    /// A vnode has its names in its directory.
+    #[tactic(auto, unfolding(afs_volume::specs::Seen::seen))]
+    fn is_named(&self, number: u32, y: &Vnode) -> Mem<bool>
+        ensures { IfOk result (λ named. named ≡ is_named_in (get (seen y.now).parent (after self.now.volume.now self.now.change.now).vnodes) number (seen y.now)) }
+    {
+        match self.after(y.parent_vnode) {
+            Some(d) if is_directory(d) && d.unique == y.parent_unique => {
+                let names = names_in(self.alloc, d)?;
+                Ok(has_names(y, names_of(number, y.unique, names.names())))
+            }
+            _ => Ok(false),
+        }
+    }
+
+    /// A vnode is named as before in a directory that isn't touched.
+    #[tactic(auto, unfolding(afs_volume::specs::Seen::seen))]
+    fn is_named_as_before(&self, x: Option<&Vnode>, y: &Vnode) -> bool
+        ensures { result ≡ true → StaysNamed self.now.touched.now (option_map seen (option_copied x.entry)) (seen y.now) }
+    {
+        match x {
+            Some(x) => {
+                !self.is_touched(y.parent_vnode)
+                    && x.unique == y.unique
+                    && x.kind == y.kind
+                    && (x.link_count == y.link_count || is_directory(y))
+                    && x.parent_vnode == y.parent_vnode
+                    && x.parent_unique == y.parent_unique
+            }
+            None => false,
+        }
+    }
+
+    /// A vnode other than the root has its names. Where it has them as before, its directory isn't read.
+    fn is_placed(&self, number: u32, x: Option<&Vnode>, y: &Vnode) -> Mem<bool>
+        requires touched { AreTouched self.now.touched.now self.now.change.now }
+        requires there { option_map seen (option_copied x) ≡ get number (before self.now.volume.now).vnodes }
+        ensures { IfOk result (λ placed. placed ≡ true → (nat_eq number 1 || is_named_in (get (seen y.now).parent (after self.now.volume.now self.now.change.now).vnodes) number (seen y.now)) ≡ true) }
+    {
+        if number == 1 {
+            return Ok(true);
+        }
+        if self.is_named_as_before(x, y) {
+            return Ok(true);
+        }
+        self.is_named(number, y)
+    }
+
+    /// A vnode is all that one of a sound volume is, but for the way up.
+    #[tactic(auto, unfolding(afs_volume::specs::Seen::seen))]
+    fn is_right(&self, number: u32, x: Option<&Vnode>, y: &Vnode) -> Mem<bool>
+        requires touched { AreTouched self.now.touched.now self.now.change.now }
+        requires there { option_map seen (option_copied x) ≡ get number (before self.now.volume.now).vnodes }
+        ensures { IfOk result (λ right. right ≡ true → is_right (after self.now.volume.now self.now.change.now) number (seen y.now) ≡ true) }
+    {
+        let names = names_in(self.alloc, y)?;
+        Ok(
+            kind_is_right(number, y)
+                && y.unique < self.change.unique
+                && has_links(y, names.names())
+                && self.gives_all(number, y, names.names())
+                && self.is_placed(number, x, y)?,
+        )
+    }
+
+    /// A new vnode.
+    fn may_come(&self, number: u32, y: &Vnode) -> Mem<bool>
+        requires touched { AreTouched self.now.touched.now self.now.change.now }
+        requires new { get number (before self.now.volume.now).vnodes ≡ None }
+        ensures { IfOk result (λ may. may ≡ true → passes_by self.now.touched.now (before self.now.volume.now) (after self.now.volume.now self.now.change.now) number None (Some (seen y.now)) ≡ true) }
+    {
+        let right = self.is_right(number, None, y)?;
+        Ok(right && self.is_unmoved(y.parent_vnode))
+    }
+
+    /// A vnode that becomes another.
+    fn may_become(&self, number: u32, x: &Vnode, y: &Vnode) -> Mem<bool>
+        requires touched { AreTouched self.now.touched.now self.now.change.now }
+        requires there { get number (before self.now.volume.now).vnodes ≡ Some (seen x.now) }
+        ensures { IfOk result (λ may. may ≡ true → passes_by self.now.touched.now (before self.now.volume.now) (after self.now.volume.now self.now.change.now) number (Some (seen x.now)) (Some (seen y.now)) ≡ true) }
+    {
+        let right = self.is_right(number, Some(x), y)?;
+        let keeps = self.keeps_names(x, y)?;
+        Ok(right && self.keeps_place(x, y) && keeps && self.may_stand(x, y))
+    }
+
+    /// The vnode of this number passes the test.
+    fn passes(&self, number: u32) -> Mem<bool>
+        requires touched { AreTouched self.now.touched.now self.now.change.now }
+        ensures { IfOk result (λ pass. pass ≡ true → passes self.now.touched.now (before self.now.volume.now) (after self.now.volume.now self.now.change.now) number ≡ true) }
+    {
+        match (self.before(number), self.after(number)) {
+            (None, None) => Ok(true),
+            (Some(x), None) => self.may_go(x),
+            (None, Some(y)) => self.may_come(number, y),
+            (Some(x), Some(y)) => self.may_become(number, x, y),
+        }
+    }
+
+    /// All vnodes that are touched pass.
+    fn all_pass(&self) -> Mem<bool>
+        requires touched { AreTouched self.now.touched.now self.now.change.now }
+        ensures { IfOk result (λ pass. pass ≡ true → list_all (passes self.now.touched.now (before self.now.volume.now) (after self.now.volume.now self.now.change.now)) self.now.touched.now ≡ true) }
+    {
+        for number in self.touched {
+            if !self.passes(*number)? {
+                return Ok(false);
+            }
+        }
+        Ok(true)
+    }
+
+    /// All that go are touched.
+    fn are_touched_that_go(&self) -> bool
+        ensures { result ≡ list_all (λ n. is_among n self.now.touched.now) self.now.change.now.removed }
+    {
+        let removed = self.change.removed.as_slice();
+        removed.iter().all(|number| self.is_touched(*number))
+    }
+
+    /// All that are changed are touched.
+    fn are_touched_that_change(&self) -> bool
+        ensures { result ≡ list_all (λ x. is_among x.vnode self.now.touched.now) self.now.change.now.vnodes }
+    {
+        let changed = self.change.vnodes.as_slice();
+        changed.iter().all(|x| self.is_touched(x.vnode))
+    }
+
+    /// No others are changed or removed.
+    fn are_touched(&self) -> bool
+        ensures { result ≡ true → AreTouched self.now.touched.now self.now.change.now }
+    {
+        self.are_touched_that_go() && self.are_touched_that_change()
+    }
+
+    fn is_in(&self, number: u32) -> bool
+        ensures { result ≡ is_in self.now.volume.now.vnodes.table number }
+    {
+        self.before(number).is_some()
+    }
+
+    /// Those that go are there.
+    fn are_there(&self) -> bool
+        ensures { result ≡ list_all (is_in self.now.volume.now.vnodes.table) self.now.change.now.removed }
+    {
+        let removed = self.change.removed.as_slice();
+        removed.iter().all(|number| self.is_in(*number))
+    }
+
+    /// How many of the images are new.
+    fn new_among(&self) -> usize
+        ensures value { result ≡ new_among self.now.volume.now.vnodes.table self.now.change.now.vnodes }
+        ensures small { result < 2 ^ 63 }
+    {
+        let changed = self.change.vnodes.as_slice();
+        changed.iter().filter(|x| !self.is_in(x.vnode)).count()
+    }
+
+    /// There are not too many with those that are new.
+    fn are_few(&self) -> bool
+        ensures { result ≡ true → length self.now.volume.now.vnodes.table + new_among self.now.volume.now.vnodes.table self.now.change.now.vnodes ≤ most_vnodes }
+    {
+        self.volume.vnodes().len() + self.new_among() <= MOST_VNODES
+    }
+
+    /// The root is one, no vnode has the number 0, and unique numbers go on.
+    fn is_rooted(&self) -> bool
+        ensures root { result ≡ true → is_root (get 1 (after self.now.volume.now self.now.change.now).vnodes) ≡ true }
+        ensures above { result ≡ true → get 0 (table_left self.now.volume.now self.now.change.now) ≡ None }
+        ensures next { result ≡ true → self.now.volume.now.head.unique ≤ self.now.change.now.unique }
+    {
+        is_root(self.after(1))
+            && self.after(0).is_none()
+            && self.volume.head().unique <= self.change.unique
+    }
+
+    /// The change leaves a sound volume.
+    fn leaves_sound(&self) -> Mem<bool>
+        ensures { IfOk result (λ sound. sound ≡ true → IsPatch self.now.touched.now self.now.volume.now self.now.change.now) }
+    {
+        if !self.are_touched() {
+            return Ok(false);
+        }
+        let passed = self.all_pass()?;
+        Ok(passed && self.are_there() && self.are_few() && self.is_rooted())
+    }
+}
+
+/// The vnodes that names name which other names don't, or not the same. What is missed here is found by the test.
+fn add_named(touched: &mut Vec<u32>, names: &Dir, others: &Dir) -> Mem<()> {
+    for name in names.names() {
+        if others.find(name.name.as_slice()) != Some((name.vnode, name.unique)) {
+            touched.push(name.vnode)?;
+        }
+    }
+    Ok(())
+}
+
+/// The vnodes whose names change with a directory's.
+fn add_renamed(alloc: Global, touched: &mut Vec<u32>, x: &Vnode, y: &Vnode) -> Mem<()> {
+    let names = names_in(alloc, x)?;
+    let others = names_in(alloc, y)?;
+    add_named(touched, &names, &others)?;
+    add_named(touched, &others, &names)
+}
+
+/// The vnodes that an image of a change touches.
+fn add_touched(alloc: Global, touched: &mut Vec<u32>, volume: &Volume, y: &Vnode) -> Mem<()> {
+    touched.push(y.vnode)?;
+    match volume.vnodes().get(y.vnode) {
+        Some(x) => add_renamed(alloc, touched, x, y),
+        None => Ok(()),
+    }
+}
+
+/// The vnodes that a change touches.
+fn all_touched(alloc: Global, volume: &Volume, change: &Change) -> Mem<Vec<u32>> {
+    let mut touched = Vec::from_slice(alloc, change.removed.as_slice())?;
+    for y in change.vnodes.as_slice() {
+        add_touched(alloc, &mut touched, volume, y)?;
+    }
+    Ok(touched)
+}
+
+/// Whether a change passes the test of what it touches: then the volume can take it in.
+pub(crate) fn can_take(alloc: Global, volume: &Volume, change: &Change) -> Mem<bool>
+    requires read { AllByRecursion IsReadable change.now.vnodes }
+    requires fits { AllByRecursion FitsImage change.now.vnodes }
+    ensures { IfOk result (λ can. can ≡ true → CanTakeIn volume.now change.now) }
+{
+    let touched = all_touched(alloc, volume, change)?;
+    if touched.len() > MOST_TOUCHED {
+        return Ok(false);
+    }
+    let patch = Patch {
+        alloc,
+        volume,
+        change,
+        touched: touched.as_slice(),
+    };
+    patch.leaves_sound()
+}

@@ -1,0 +1,13 @@
+//! Tests of a server's store: records of another program, and a crash at each device call.
+#![tactic(auto)]
+
+#[cfg(test)]
+mod crashes;
+#[cfg(test)]
+mod disks;
+#[cfg(test)]
+mod shown;
+#[cfg(test)]
+mod taken;
+#[cfg(test)]
+mod vectors;
