@@ -4,9 +4,9 @@ ghost use Rattle.std.specs.Prelude.{◌≡◌, false, IfOk};
 
 use crate::vectors::{boot, change, create, first};
 use afs_disk::{Disk, MemDisk};
+use afs_history::lines::Lines;
 use afs_journal::Journal;
 use afs_num::faults::StoreFault;
-use afs_num::histories::Lines;
 use afs_num::records::Mark;
 use afs_num::sequences::{Octets, Records};
 use afs_num::types::{Mem, Node};
