@@ -21,8 +21,8 @@ use afs_num::volumes::{Change, VolumeHead};
 use afs_seats::Seats;
 use afs_vnode::faults::VnodeFault;
 use afs_vnode::store::VnodeStore;
-use afs_volume::Volume;
 use afs_volume::faults::AssembleFault;
+use afs_volume::{ReadyChange, Volume};
 use std::alloc::Global;
 
 /// Whether there is a vnode of this number.
@@ -131,7 +131,7 @@ fn remade(alloc: Global, volume: Volume, change: Change) -> Result<Volume, Unfit
 }
 
 /// The volume with a change taken in that it can take in, in a time that is that of the change.
-fn taken_in(volume: Volume, change: Change) -> Mem<Volume>
+fn taken_in(volume: Volume, change: ReadyChange) -> Mem<Volume>
     requires { CanTakeIn volume change }
     ensures made { IfOk result (λ v. changed_stored change.counter change.unique change.vnodes change.removed (stored_of volume) ≡ Some (stored_of v)) }
     ensures id { IfOk result (λ v. v.head.id ≡ volume.head.id) }
@@ -144,17 +144,17 @@ fn taken_in(volume: Volume, change: Change) -> Mem<Volume>
 
 /// The volume after a change. `Bad` where a disk may not hold it. A change that passes the test of what it touches is taken
 /// in as it is, and the volume isn't read anew.
-fn changed(alloc: Global, volume: Volume, change: Change) -> Result<Volume, Unfit>
+fn changed(alloc: Global, volume: Volume, change: ReadyChange) -> Result<Volume, Unfit>
     requires read { AllByRecursion IsReadable change.vnodes }
     requires fits { AllByRecursion FitsImage change.vnodes }
     ensures made { IfOk result (λ v. changed_stored change.counter change.unique change.vnodes change.removed (stored_of volume) ≡ Some (stored_of v)) }
     ensures id { IfOk result (λ v. v.head.id ≡ volume.head.id) }
     ensures bad { result ≡ Err Bad → changed_stored change.counter change.unique change.vnodes change.removed (stored_of volume) ≡ None }
 {
-    if can_take(alloc, &volume, &change)? {
+    if can_take(alloc, &volume, change.change())? {
         Ok(taken_in(volume, change)?)
     } else {
-        remade(alloc, volume, change)
+        remade(alloc, volume, change.into_change())
     }
 }
 
@@ -163,7 +163,7 @@ pub(crate) fn change_in(
     alloc: Global,
     volumes: &mut Seats<Volume>,
     id: u32,
-    change: Change,
+    change: ReadyChange,
 ) -> Result<(), Unfit>
     requires numbered { AreNumbered volumes.old.table }
     requires read { AllByRecursion IsReadable change.vnodes }

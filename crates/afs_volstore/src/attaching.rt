@@ -44,9 +44,7 @@ impl State {
                     Err(Unfit::Bad)
                 }
             }
-            Redo::Change(id, change) => {
-                change_in(self.alloc, &mut self.volumes, id, change.into_change())
-            }
+            Redo::Change(id, change) => change_in(self.alloc, &mut self.volumes, id, change),
             Redo::Start(boot) => {
                 self.start(boot);
                 Ok(())
