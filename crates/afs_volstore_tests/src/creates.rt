@@ -1,10 +1,10 @@
 //! Disks that are set up.
 
-ghost use Rattle.std.specs.Prelude.{◌≡◌, ◌≤◌, ◌∷◌, [], map, IfOk};
-ghost use Rattle.afs_volstore.specs.Opening.{CanBeSetUp};
+ghost use Rattle.std.specs.Prelude.{◌≡◌, ◌≤◌, [], length, IfOk};
 
 use crate::disks::Rec::Many;
-use crate::disks::{attach, disk_with};
+use crate::disks::{attach, disk_with, part};
+use crate::vectors::first;
 use afs_disk::{Disk, Fuse, MemDisk};
 use afs_history::scripts::{SetupLines, VolumeLine};
 use afs_num::faults::StoreFault;
@@ -15,18 +15,18 @@ use std::alloc::Global;
 use std::fmt::Write;
 use std::test::Fail;
 
-/// A volume with its root alone, without a name and a quota, as the other program's second one.
-fn bare(alloc: Global, id: u32) -> VolumeLine
-    ensures lines { result.lines ≡ [] }
-    ensures name { result.name ≡ [] }
+/// A volume with its root alone and without a quota, as the other program's second one.
+fn bare(alloc: Global, id: u32) -> Mem<VolumeLine>
+    ensures lines { IfOk result (λ l. l.lines ≡ []) }
+    ensures name { IfOk result (λ l. length l.name ≤ 32) }
 {
-    VolumeLine {
+    Ok(VolumeLine {
         id,
-        name: Octets::new(alloc),
+        name: Octets::from_slice(alloc, b"x")?,
         server: 1,
         quota: 0,
         lines: SetupLines::new(alloc),
-    }
+    })
 }
 
 /// Sets a disk up for the volumes 2 and 1.
@@ -34,8 +34,12 @@ fn set_up<D: Disk + Drop>(alloc: Global, disk: D) -> Result<VolStore<D>, (StoreF
     if disk.capacity() > 268_435_456 {
         return Err((StoreFault::Closed, disk));
     }
-    let (later, sooner) = (bare(alloc, 2), bare(alloc, 1));
-    VolStore::create(alloc, disk, Node::Server(1), &[&later, &sooner])
+    match (bare(alloc, 2), bare(alloc, 1)) {
+        (Ok(later), Ok(sooner)) => {
+            VolStore::create(alloc, disk, Node::Server(1), &[&later, &sooner])
+        }
+        _ => Err((StoreFault::OutOfMemory, disk)),
+    }
 }
 
 /// An empty disk for so many bytes.
@@ -43,12 +47,34 @@ fn empty(alloc: Global, capacity: u64) -> MemDisk {
     MemDisk::new(alloc, capacity, Octets::new(alloc))
 }
 
-/// Whether a disk holds what stands on one with the other program's record of the volumes 1 and 2.
-fn is_as_told(alloc: Global, disk: &MemDisk) -> bool {
-    match disk_with(alloc, &[Many(2)]) {
-        Some(told) => told.bytes() == disk.bytes(),
-        None => false,
-    }
+/// Where the other program's record has the count of its volumes, and the second of them.
+const COUNT: usize = 31;
+
+const SECOND: usize = 384;
+
+/// The other program's second volume, with this number for its own and its family's.
+fn put_volume(out: &mut Vec<u8>, first: &[u8], id: u8) -> Mem<()> {
+    out.extend_from_slice(part(first, SECOND, SECOND + 19))?;
+    out.push(id)?;
+    out.extend_from_slice(part(first, SECOND + 20, SECOND + 23))?;
+    out.push(id)?;
+    out.extend_from_slice(part(first, SECOND + 24, first.len()))
+}
+
+/// The other program's record of the volumes 1 and 2.
+fn told(alloc: Global) -> Mem<Octets> {
+    let first = first(alloc)?;
+    let mut out = Vec::from_slice(alloc, part(first.as_slice(), 0, COUNT))?;
+    out.push(2)?;
+    put_volume(&mut out, first.as_slice(), 1)?;
+    put_volume(&mut out, first.as_slice(), 2)?;
+    Ok(Octets::from_vec(out))
+}
+
+/// Whether a disk holds that record, behind its gate, its length and its number, and a closed gate.
+fn is_as_told(alloc: Global, disk: &MemDisk) -> Mem<bool> {
+    let told = told(alloc)?;
+    Ok(disk.bytes().len() == 354 && part(disk.bytes(), 9, 353) == told.as_slice())
 }
 
 /// What comes of setting a disk up.
@@ -58,7 +84,7 @@ fn outcome(alloc: Global, disk: MemDisk) -> Mem<String> {
         Ok(store) => {
             write!(out, "boot {} ", store.boot_number())?;
             write!(out, "records {} ", store.mark().records)?;
-            write!(out, "as told {}", is_as_told(alloc, &store.into_disk()))?;
+            write!(out, "as told {}", is_as_told(alloc, &store.into_disk())?)?;
         }
         Err((StoreFault::Full(used, capacity), disk)) => {
             write!(out, "full {used} {capacity} ")?;
@@ -95,7 +121,7 @@ fn failing(alloc: Global, call: u64) -> Mem<String> {
 
 /// How many bytes the first record of the volumes 2 and 1 has.
 fn length(alloc: Global) -> Mem<u64> {
-    let (later, sooner) = (bare(alloc, 2), bare(alloc, 1));
+    let (later, sooner) = (bare(alloc, 2)?, bare(alloc, 1)?);
     first_length(alloc, &[&later, &sooner])
 }
 

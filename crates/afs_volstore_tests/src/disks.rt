@@ -47,7 +47,7 @@ fn with(bytes: Octets, place: usize, byte: u8) -> Octets {
 }
 
 /// Bytes from one place up to another, as far as there are any.
-fn part(bytes: &[u8], from: usize, to: usize) -> &[u8] {
+pub(crate) fn part(bytes: &[u8], from: usize, to: usize) -> &[u8] {
     bytes.get(from..to).unwrap_or(b"")
 }
 
