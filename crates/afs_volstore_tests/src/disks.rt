@@ -4,9 +4,9 @@ ghost use Rattle.std.specs.Prelude.{◌≡◌, false, IfOk};
 
 use crate::vectors::{boot, change, create, first};
 use afs_disk::{Disk, MemDisk};
+use afs_history::lines::Lines;
 use afs_journal::Journal;
 use afs_num::faults::StoreFault;
-use afs_num::histories::Lines;
 use afs_num::records::Mark;
 use afs_num::sequences::{Octets, Records};
 use afs_num::types::{Mem, Node};
@@ -47,7 +47,7 @@ fn with(bytes: Octets, place: usize, byte: u8) -> Octets {
 }
 
 /// Bytes from one place up to another, as far as there are any.
-fn part(bytes: &[u8], from: usize, to: usize) -> &[u8] {
+pub(crate) fn part(bytes: &[u8], from: usize, to: usize) -> &[u8] {
     bytes.get(from..to).unwrap_or(b"")
 }
 

@@ -4,6 +4,8 @@
 #[cfg(test)]
 mod crashes;
 #[cfg(test)]
+mod creates;
+#[cfg(test)]
 mod disks;
 #[cfg(test)]
 mod shown;

@@ -2,8 +2,9 @@
 
 use crate::disks::{Rec, attach, disk_with};
 use afs_disk::MemDisk;
+use afs_history::lines::{Line, Lines};
 use afs_num::faults::StoreFault;
-use afs_num::histories::{Line, Lines, Version};
+use afs_num::histories::Version;
 use afs_num::types::{Key, Mem};
 use afs_volstore::VolStore;
 use afs_volume::Volume;
