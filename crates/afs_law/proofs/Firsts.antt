@@ -21,7 +21,7 @@ use Rattle.afs_records.specs.Sound.{is_sound}
 use Rattle.afs_records.proofs.Kept.{value_back}
 use Rattle.afs_rows.specs.Runs.{counts_later, first_lasting, first_stored, first_volumes, placed_at, unless_there, volumes_at}
 use Rattle.afs_rows.specs.States.{durable_of}
-use Rattle.afs_law.specs.Laws.{lines_at, AscendBy, SetUpsAreFirst}
+use Rattle.afs_law.specs.Laws.{placed_lines, AscendBy, SetUpsAreFirst}
 use Rattle.afs_law.proofs.Basics.{some_of}
 use Rattle.afs_law.proofs.Naming.{first_fine}
 
@@ -214,19 +214,19 @@ placed_by true b v vs ls is up h = absurd cc
 placed_by false true v vs ls is up h = ap first_stored (set_first v.id (v.id + 1) (first_volume v) vs (omega arith) up) ∙ ap (λ (t : Table Stored). (v.id, at_set_up (first_volume v)) ∷ t) h
 placed_by false false v vs ls is up h = h
 
-begins_with : (server n : ℕ) (vs : List VolumeLine) → AscendBy n vs → first_stored (volumes_at server vs) ≡ firsts (lines_at server vs)
+begins_with : (server n : ℕ) (vs : List VolumeLine) → AscendBy n vs → first_stored (volumes_at server vs) ≡ firsts (placed_lines server vs)
 unfolding firsts
 begins_with server n [] up = refl
 begins_with server n (v ∷ vs) up =
-    placed_by (counts_later v.id vs) (nat_eq v.server server) v (volumes_at server vs) (lines_at server vs) (not_later v vs up.1) (at_up server (v.id + 1) vs up.1) (begins_with server (v.id + 1) vs up.1)
+    placed_by (counts_later v.id vs) (nat_eq v.server server) v (volumes_at server vs) (placed_lines server vs) (not_later v vs up.1) (at_up server (v.id + 1) vs up.1) (begins_with server (v.id + 1) vs up.1)
 
 kept_up : (t : Bool) (n : ℕ) (v : VolumeLine) (ls : List VolumeLine) → n ≤ v.id → AscendBy (v.id + 1) ls → AscendBy n (cond t (v ∷ ls) ls)
 kept_up true n v ls le up = (le, up)
 kept_up false n v ls le up = up_lower n (v.id + 1) ls (omega (arith, le)) up
 
-lines_up : (server n : ℕ) (vs : List VolumeLine) → AscendBy n vs → AscendBy n (lines_at server vs)
+lines_up : (server n : ℕ) (vs : List VolumeLine) → AscendBy n vs → AscendBy n (placed_lines server vs)
 lines_up server n [] up = tt
-lines_up server n (v ∷ vs) up = kept_up (nat_eq v.server server) n v (lines_at server vs) up.0 (lines_up server (v.id + 1) vs up.1)
+lines_up server n (v ∷ vs) up = kept_up (nat_eq v.server server) n v (placed_lines server vs) up.0 (lines_up server (v.id + 1) vs up.1)
 
 -- ---- both are one
 
@@ -238,7 +238,7 @@ taken_by None n d h = absurd (none_is d h)
 taken_by (Some e) n d h = (e, (refl, sym (some_of (record e { journal = e.journal + n }) d h)))
 
 put_first : (b : Bool) (capacity : ℕ) (t : Table Stored) (ls : List VolumeLine) (d : Durable) → t ≡ firsts ls → AscendBy 0 ls → cond b (first_folded (record_of_volumes t) (nothing_on capacity)) None ≡ Some d → d ≡ begun capacity (firsts ls)
-unfolding folded
+unfolding folded AllBelow
 put_first false capacity t ls d is up h = absurd (none_is d h)
 put_first true capacity t ls d is up h =
     let n : ℕ = place_length (record_of_volumes t) in
@@ -249,10 +249,11 @@ put_first true capacity t ls d is up h =
 
 laid_by : (o : Option (Table Stored)) (capacity : ℕ) (ls : List VolumeLine) (d : Durable) → volumes_laid ls [] ≡ o → AscendBy 0 ls
     → ((o >>= λ t. Some (record_of_volumes t)) >>= λ r. cond (has_room (nothing_on capacity) r) (first_folded r (nothing_on capacity)) None) ≡ Some d → d ≡ begun capacity (firsts ls)
+unfolding AllBelow
 laid_by None capacity ls d is up h = absurd (none_is d h)
 laid_by (Some t) capacity ls d is up h = put_first (has_room (nothing_on capacity) (record_of_volumes t)) capacity t ls d (volumes_are ls [] t 0 tt up is) up h
 
 pub set_ups_first : SetUpsAreFirst
 set_ups_first capacity server vs d up h =
-    laid_by (volumes_laid (lines_at server vs) []) capacity (lines_at server vs) d refl (lines_up server 0 vs up) h
+    laid_by (volumes_laid (placed_lines server vs) []) capacity (placed_lines server vs) d refl (lines_up server 0 vs up) h
     ∙ ap (begun capacity) (sym (begins_with server 0 vs up))

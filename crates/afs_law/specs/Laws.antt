@@ -171,8 +171,8 @@ abbrev pub StartsAreFolded : Type 0
 StartsAreFolded = (l : Lasting) → folded (boot_record (l.boot + 1)) (durable_of l) ≡ Some (durable_of (lasting_started l))
 
 -- the lines of the volumes at one server
-abbrev pub lines_at : ℕ → List VolumeLine → List VolumeLine
-lines_at server vs = filter (λ (v : VolumeLine). nat_eq v.server server) vs
+abbrev pub placed_lines : ℕ → List VolumeLine → List VolumeLine
+placed_lines server vs = filter (λ (v : VolumeLine). nat_eq v.server server) vs
 
 -- the volumes' numbers ascend, from this one on
 abbrev pub AscendBy : ℕ → List VolumeLine → Type 0
@@ -182,7 +182,7 @@ AscendBy n (v ∷ vs) = (n ≤ v.id) × AscendBy (v.id + 1) vs
 -- What set-up puts on a disk of this capacity is what the server begins with, where the volumes of the script have ascending
 -- numbers, as those of each script that can be read.
 abbrev pub SetUpsAreFirst : Type 0
-SetUpsAreFirst = (capacity server : ℕ) (vs : List VolumeLine) (d : Durable) → AscendBy 0 vs → disks.set_up capacity (lines_at server vs) ≡ Some d →
+SetUpsAreFirst = (capacity server : ℕ) (vs : List VolumeLine) (d : Durable) → AscendBy 0 vs → disks.set_up capacity (placed_lines server vs) ≡ Some d →
     d ≡ durable_of (first_lasting capacity (first_stored (volumes_at server vs)))
 
 -- ---- what holds between any two entries of a run
