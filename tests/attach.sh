@@ -1,8 +1,9 @@
 #!/bin/sh
-# Measures how long it takes to attach a server's disk: a volume of 4,096 vnodes, and 15,000, 30,000 and 60,000 records of
-# changes of it, milliseconds and nanoseconds for each byte; and shows that a record that brings a volume above 4,096 vnodes
-# can't be taken. tests/attach.bench is the program. It is tried and not proved, so it is no crate of the repository, and the
-# script no part of the gate. All is done in a copy.
+# Measures how long it takes to attach a server's disk with a volume of 4,096 vnodes and so many records of changes of it: of
+# what kind they are and how many at most are the two words, as `tests/attach.sh statuses 60000`; the kinds are statuses, names,
+# renames and moves. It tells bytes, milliseconds and nanoseconds a byte for a quarter, half and all of them. Without words it
+# shows that a record which brings a volume above 4,096 vnodes can't be taken. tests/attach.bench is the program. It is tried and
+# not proved, so it is no crate of the repository, and the script no part of the gate. All is done in a copy.
 set -eu
 
 cd "$(dirname "$0")/.."
@@ -29,4 +30,4 @@ cp tests/attach.bench "$bench/src/main.rt"
 : > "$bench/proofs/Lib.antt"
 echo "afs_volstore_bench: $below" >> "$work/crates.txt"
 cd "$bench"
-rt try --seconds ${SECONDS_TRIED:-3000}
+rt try --seconds "${SECONDS_TRIED:-10000}" -- "$@"
