@@ -12,7 +12,8 @@ use Rattle.afs_ideal.specs.SetUp.{empty_volume, filled_by, first_volume, laid, l
 use Rattle.afs_ideal.specs.Tables.{Table, get, set, AscendsFrom}
 use Rattle.afs_ideal.specs.VnodeMaps.{most_vnodes}
 use Rattle.afs_ideal.specs.Volumes.{Vnode, Volume}
-use Rattle.afs_ideal.proofs.Laid as laid_out
+use Rattle.afs_ideal.proofs.Laid as setting
+use Rattle.afs_ideal.specs.SoundnessLaws.{FirstVolumes}
 use Rattle.afs_ideal.proofs.Tables.{ascends_lower, ascends_set, get_below}
 use Rattle.afs_records.specs.Changes.{accepted, at_set_up, images_of, laid_all, record_of_volumes, set_up, stored_volume, volume_laid, volumes_laid}
 use Rattle.afs_records.specs.Durable.{allowed, by_number, first_folded, folded, has_room, most_volumes, nothing_on, or_zero, place_length, stored_of, times_of, volume_with, with_stored, with_volumes, Durable, Stored}
@@ -52,12 +53,12 @@ set_last {A} n x (p ∷ ps) b =
 below_more : {A : Type 0} (n m : ℕ) (x : A) (t : Table A) → n < m → AllBelow n t → AllBelow m (t ++ (n, x) ∷ [])
 unfolding AllBelow
 below_more {A} n m x [] lt b = (lt, tt)
-below_more {A} n m x (p ∷ ps) lt b = (let z : p.0 < n = b.0 in omega (arith, z, lt), below_more n m x ps lt b.1)
+below_more {A} n m x (p ∷ ps) lt b = (omega (arith, b.0, lt), below_more n m x ps lt b.1)
 
 below_up : {A : Type 0} (n m : ℕ) (t : Table A) → n ≤ m → AllBelow n t → AllBelow m t
 unfolding AllBelow
 below_up {A} n m [] le b = tt
-below_up {A} n m (p ∷ ps) le b = (let z : p.0 < n = b.0 in omega (arith, z, le), below_up n m ps le b.1)
+below_up {A} n m (p ∷ ps) le b = (omega (arith, b.0, le), below_up n m ps le b.1)
 
 nil_behind : {A : Type 0} (t : List A) → t ++ [] ≡ t
 nil_behind {A} [] = refl
@@ -149,7 +150,9 @@ stored_back id v s up h e =
     ∙ ap (λ (t : Table ℕ). record { volume = v; times = t; is_new = false }) (times_back (at_nought v.vnodes) v.vnodes (λ n. nought n v.vnodes))
 
 line_back : (l : VolumeLine) → Back (first_volume l).vnodes
-line_back l time n x e = value_back n time x ((laid_out.first_volumes.laid_out l).sound.vnodes n x e).body ((first_fine l).readable n x e).fit
+line_back l time n x e =
+    let law : FirstVolumes = setting.first_volumes in
+    value_back n time x ((law.laid_out l).sound.vnodes n x e).body ((first_fine l).readable n x e).fit
 
 room_by : (t : Bool) (d e : Durable) (id : ℕ) (x : Stored) (ss : List StoredVolume) → (cond t None (Some (record d { volumes = set id x d.volumes })) >>= with_volumes ss) ≡ Some e → with_volumes ss (record d { volumes = set id x d.volumes }) ≡ Some e
 room_by true d e id x ss h = absurd (none_is e h)
@@ -183,7 +186,7 @@ volumes_back (l ∷ ls) d e n b up f =
 
 up_lower : (m n : ℕ) (vs : List VolumeLine) → m ≤ n → AscendBy n vs → AscendBy m vs
 up_lower m n [] le up = tt
-up_lower m n (v ∷ vs) le up = (let z : n ≤ v.id = up.0 in omega (arith, z, le), up.1)
+up_lower m n (v ∷ vs) le up = (omega (arith, up.0, le), up.1)
 
 there_up : (t : Bool) (n : ℕ) (id : ℕ) (x : Volume) (vs : Table Volume) → n ≤ id → AscendsFrom (id + 1) vs → AscendsFrom n (unless_there t id x vs)
 there_up true n id x vs le up = ascends_lower n (id + 1) vs (omega (arith, le)) up

@@ -1,5 +1,5 @@
 -- What set-up lays by one operation.
-use Rattle.std.proofs.Common.{◌≡◌, ℕ, ◌≤◌, ℤ, pos, List, length, Option, Some, None, Result, Ok, Err, refl, ap, ◌∙◌, sym, subst}
+use Rattle.std.proofs.Common.{◌≡◌, ℕ, ◌≤◌, ℤ, Bool, true, false, cond, nat_lt, pos, List, length, Option, Some, None, Result, Ok, Err, refl, ap, ◌∙◌, sym, subst}
 use Rattle.std.specs.Option.{option_map}
 use Rattle.afs_num.specs.declared.calls.FsCall.{FsCall}
 use Rattle.afs_num.specs.declared.calls.FsCall.TheVariants as calls
@@ -7,7 +7,7 @@ use Rattle.afs_num.specs.declared.types.Fid.{Fid}
 use Rattle.afs_shape.specs.Reading.{◌>>=◌}
 use Rattle.afs_ideal.specs.Operations as ops
 use Rattle.afs_ideal.specs.Operations.{all_rights, changes, op, Found, IsOn}
-use Rattle.afs_ideal.specs.SetUp.{acl_laid, called, laid_by, led}
+use Rattle.afs_ideal.specs.SetUp.{acl_laid, called, laid_by, led, unless_over}
 use Rattle.afs_ideal.specs.Soundness.{IsSound}
 use Rattle.afs_ideal.specs.VnodeMaps.{most_vnodes}
 use Rattle.afs_ideal.specs.Volumes.{Edit, Volume}
@@ -75,3 +75,11 @@ lays_refused r old new res e is h head table = subst (λ (q : Result (Unit {0}) 
 -- what is laid another way
 pub lays_as : (r s : Result Volume ℕ) (old new : volumes.Volume) (res : Result (Unit {0}) OpFault) → r ≡ s → Lays s old new res → Lays r old new res
 lays_as r s old new res is h = subst (λ (q : Result Volume ℕ). Lays q old new res) (sym is) h
+
+-- ---- a text that is too large
+
+pub over_refused : (most n : ℕ) (r : Result Volume ℕ) → nat_lt most n ≡ true → unless_over most n r ≡ Err 27
+over_refused most n r t = ap (λ (b : Bool). cond b (Err 27) r) t
+
+pub over_not : (most n : ℕ) (r : Result Volume ℕ) → nat_lt most n ≡ false → unless_over most n r ≡ r
+over_not most n r t = ap (λ (b : Bool). cond b (Err 27) r) t
