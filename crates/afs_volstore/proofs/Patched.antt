@@ -1,12 +1,13 @@
 -- A change leaves a sound volume sound where the vnodes that it touches pass the test.
-use Rattle.std.proofs.Common.{◌≡◌, ℕ, suc, ◌+◌, ◌%◌, ◌<◌, ◌≤◌, Bool, true, false, cond, not, List, [], ◌∷◌, ◌++◌, Option, Some, None, nat_eq, nat_lt, if◌then◌else◌, refl, sym, ap, subst, ◌∙◌, arith, eq-eqb, eqb-true, lt-ltb, ltb-true, le-ltb}
+use Rattle.std.proofs.Common.{length, zero, ◌≡◌, ℕ, suc, ◌+◌, ◌%◌, ◌<◌, ◌≤◌, Bool, true, false, cond, eqb, not, List, [], ◌∷◌, ◌++◌, Option, Some, None, nat_eq, nat_lt, if◌then◌else◌, refl, sym, ap, subst, ◌∙◌, arith, eq-eqb, eqb-true, lt-ltb, ltb-true, le-ltb}
 use Rattle.std.specs.Prelude.{◌&&◌, ◌||◌}
 use Rattle.std.specs.List.{list_all}
 use Rattle.std.proofs.lemmas.Bool.Decides.{nat_tests}
 use Rattle.afs_num.specs.declared.directories.Name.{Name}
 use Rattle.afs_ideal.specs.Tables.{Table, get, AscendsFrom}
-use Rattle.afs_ideal.specs.Operations.{is_kind, is_below}
+use Rattle.afs_ideal.specs.Operations.{is_kind, is_below, leads_up}
 use Rattle.afs_ideal.specs.Soundness.{names_it, names_of}
+use Rattle.afs_ideal.specs.VnodeMaps.{most_vnodes}
 use Rattle.afs_ideal.specs.Volumes.{Kind, a_file, a_directory, a_link, Vnode, Volume}
 use Rattle.afs_ideal.proofs.Basics.{both, both_true, some_of, yes_no}
 use Rattle.afs_ideal.proofs.Counts.{count_more, one_if}
@@ -15,7 +16,7 @@ use Rattle.afs_ideal.proofs.Ranks.{Ranked, at, steps, reaching_ranked, HasParent
 use Rattle.afs_ideal.proofs.Tables.{get_below}
 use Rattle.afs_records.specs.Sound.{ascends_from, gives_held, gives_one, has_by_kind, has_names, is_named_in, is_root, is_sound, is_sound_vnode, kind_is_right, same_test}
 use Rattle.afs_volume.specs.Taking.{is_among}
-use Rattle.afs_volstore.specs.Patching.{is_right, is_unmoved, keeps_place, others_named, passes, passes_by, same_others, same_parent, KeepsNames}
+use Rattle.afs_volstore.specs.Patching.{is_right, is_unmoved, keeps_place, others_named, passes, passes_by, reaches, same_others, same_parent, KeepsNames}
 
 -- ---- names of others are counted as before
 
@@ -275,29 +276,30 @@ its_directory (Some d) n x h = (d, (refl, (both (is_kind d.kind a_directory) _ h
 parent_in : (u : Volume) (n : ℕ) (x : Vnode) → IsRight u n x → (n ≡ 1 → ⊥) → (d : Vnode) × ((get x.parent u.vnodes ≡ Some d) × (is_kind d.kind a_directory ≡ true))
 parent_in u n x r ne = its_directory (get x.parent u.vnodes) n x (named_below (nat_eq n 1) (is_named_in (get x.parent u.vnodes) n x) (not_root n (nat_eq n 1) refl ne) r.named)
 
-stood : (a b c : Bool) → b ≡ true → (a || (not b && c)) ≡ true → a ≡ true
-stood true b c e h = refl
-stood false true c e h = absurd cc
-stood false false c e h = absurd cc
+stood : (a b c d : Bool) → b ≡ true → (a || (if b then c else d)) ≡ true → a ≡ false → c ≡ true
+stood true b c d e h n = absurd cc
+stood false true c d e h n = h
+stood false false c d e h n = absurd cc
 
--- a directory that was there and is there hasn't moved
-unmoved_on : (touched : List ℕ) (v w : Volume) (p : ℕ) (d e : Vnode) → is_kind d.kind a_directory ≡ true → passes_by touched v w p (Some d) (Some e) ≡ true → nat_eq d.parent e.parent ≡ true
-unmoved_on touched v w p d e dir test =
+-- a directory that was there and is there stands below the root, or hasn't moved
+unmoved_on : (touched : List ℕ) (v w : Volume) (p : ℕ) (d e : Vnode) (b : Bool) → nat_eq d.parent e.parent ≡ b → is_kind d.kind a_directory ≡ true → reaches w p ≡ false → passes_by touched v w p (Some d) (Some e) ≡ true → b ≡ true
+unmoved_on touched v w p d e true is dir below test = refl
+unmoved_on touched v w p d e false is dir below test =
     let right = both (is_right w p e) _ test in
     let keeps = both (keeps_place touched d e) _ right.1 in
     let names = both (same_others touched d.names e.names) _ keeps.1 in
-    stood (nat_eq d.parent e.parent) (is_kind d.kind a_directory) (is_unmoved v w e.parent) dir names.1
+    absurd (yes_no (reaches w p) (stood (nat_eq d.parent e.parent) (is_kind d.kind a_directory) (reaches w p) (is_unmoved v w e.parent) dir names.1 is) below)
 
-unmoved_by : (b : Bool) (touched : List ℕ) (v w : Volume) (p : ℕ) (d e : Vnode) → is_among p touched ≡ b → Known touched v w → is_kind d.kind a_directory ≡ true → get p v.vnodes ≡ Some d → get p w.vnodes ≡ Some e → nat_eq d.parent e.parent ≡ true
-unmoved_by true touched v w p d e is k dir was now =
-    unmoved_on touched v w p d e dir (subst (λ (o : Option Vnode). passes_by touched v w p (Some d) o ≡ true) now (subst (λ (o : Option Vnode). passes_by touched v w p o (get p w.vnodes) ≡ true) was (k.passed p is)))
-unmoved_by false touched v w p d e is k dir was now =
+unmoved_by : (b : Bool) (touched : List ℕ) (v w : Volume) (p : ℕ) (d e : Vnode) → is_among p touched ≡ b → Known touched v w → is_kind d.kind a_directory ≡ true → reaches w p ≡ false → get p v.vnodes ≡ Some d → get p w.vnodes ≡ Some e → nat_eq d.parent e.parent ≡ true
+unmoved_by true touched v w p d e is k dir below was now =
+    unmoved_on touched v w p d e (nat_eq d.parent e.parent) refl dir below (subst (λ (o : Option Vnode). passes_by touched v w p (Some d) o ≡ true) now (subst (λ (o : Option Vnode). passes_by touched v w p o (get p w.vnodes) ≡ true) was (k.passed p is)))
+unmoved_by false touched v w p d e is k dir below was now =
     let same : d ≡ e = some_of d e (sym was ∙ (sym (k.apart p is) ∙ now)) in
     eq-eqb d.parent e.parent (ap (λ (x : Vnode). x.parent) same)
 
-unmoved : (touched : List ℕ) (v w : Volume) (p : ℕ) (d e : Vnode) → Known touched v w → is_kind d.kind a_directory ≡ true → get p v.vnodes ≡ Some d → get p w.vnodes ≡ Some e → is_unmoved v w p ≡ true
-unmoved touched v w p d e k dir was now =
-    ap (λ (o : Option Vnode). same_parent o (get p w.vnodes)) was ∙ (ap (λ (o : Option Vnode). same_parent (Some d) o) now ∙ unmoved_by (is_among p touched) touched v w p d e refl k dir was now)
+unmoved : (touched : List ℕ) (v w : Volume) (p : ℕ) (d e : Vnode) → Known touched v w → is_kind d.kind a_directory ≡ true → reaches w p ≡ false → get p v.vnodes ≡ Some d → get p w.vnodes ≡ Some e → is_unmoved v w p ≡ true
+unmoved touched v w p d e k dir below was now =
+    ap (λ (o : Option Vnode). same_parent o (get p w.vnodes)) was ∙ (ap (λ (o : Option Vnode). same_parent (Some d) o) now ∙ unmoved_by (is_among p touched) touched v w p d e refl k dir below was now)
 
 -- the rank: as before, and behind its directory for what comes or moves
 
@@ -318,42 +320,119 @@ same_of : (o : Option Vnode) (y : Vnode) → same_parent o (Some y) ≡ true →
 same_of None y e = absurd cc
 same_of (Some x) y e = (x, (refl, eqb-true x.parent y.parent e))
 
-moved_below : (a b c : Bool) → a ≡ false → (a || (b && c)) ≡ true → c ≡ true
-moved_below true b c e h = absurd cc
-moved_below false b c e h = (both b c h).1
+moved_below : (a b c d : Bool) → a ≡ false → c ≡ false → (a || (if b then c else d)) ≡ true → d ≡ true
+moved_below true b c d e n h = absurd cc
+moved_below false true c d e n h = absurd (yes_no c h n)
+moved_below false false c d e n h = h
 
-moved_on : (touched : List ℕ) (v w : Volume) (n : ℕ) (y : Vnode) (o : Option Vnode) → same_parent o (Some y) ≡ false → passes_by touched v w n o (Some y) ≡ true → is_unmoved v w y.parent ≡ true
-moved_on touched v w n y None moved test = (both (is_right w n y) (is_unmoved v w y.parent) test).1
-moved_on touched v w n y (Some x) moved test =
+moved_on : (touched : List ℕ) (v w : Volume) (n : ℕ) (y : Vnode) (o : Option Vnode) → same_parent o (Some y) ≡ false → reaches w n ≡ false → passes_by touched v w n o (Some y) ≡ true → is_unmoved v w y.parent ≡ true
+moved_on touched v w n y None moved below test = (both (is_right w n y) (is_unmoved v w y.parent) test).1
+moved_on touched v w n y (Some x) moved below test =
     let right = both (is_right w n y) _ test in
     let keeps = both (keeps_place touched x y) _ right.1 in
     let names = both (same_others touched x.names y.names) _ keeps.1 in
-    moved_below (nat_eq x.parent y.parent) (not (is_kind x.kind a_directory)) (is_unmoved v w y.parent) moved names.1
+    moved_below (nat_eq x.parent y.parent) (is_kind x.kind a_directory) (reaches w n) (is_unmoved v w y.parent) moved below names.1
 
 same_itself : (o : Option Vnode) (y : Vnode) → o ≡ Some y → same_parent o (Some y) ≡ true
 same_itself o y e = ap (λ (p : Option Vnode). same_parent p (Some y)) e ∙ eq-eqb y.parent y.parent refl
 
-moved_by : (b : Bool) (touched : List ℕ) (v w : Volume) (n : ℕ) (y : Vnode) → is_among n touched ≡ b → Known touched v w → get n w.vnodes ≡ Some y → same_parent (get n v.vnodes) (Some y) ≡ false → is_unmoved v w y.parent ≡ true
-moved_by true touched v w n y is k e moved = moved_on touched v w n y (get n v.vnodes) moved (subst (λ (o : Option Vnode). passes_by touched v w n (get n v.vnodes) o ≡ true) e (k.passed n is))
-moved_by false touched v w n y is k e moved = absurd (yes_no (same_parent (get n v.vnodes) (Some y)) (same_itself (get n v.vnodes) y (sym (k.apart n is) ∙ e)) moved)
+moved_by : (b : Bool) (touched : List ℕ) (v w : Volume) (n : ℕ) (y : Vnode) → is_among n touched ≡ b → Known touched v w → get n w.vnodes ≡ Some y → reaches w n ≡ false → same_parent (get n v.vnodes) (Some y) ≡ false → is_unmoved v w y.parent ≡ true
+moved_by true touched v w n y is k e below moved = moved_on touched v w n y (get n v.vnodes) moved below (subst (λ (o : Option Vnode). passes_by touched v w n (get n v.vnodes) o ≡ true) e (k.passed n is))
+moved_by false touched v w n y is k e below moved = absurd (yes_no (same_parent (get n v.vnodes) (Some y)) (same_itself (get n v.vnodes) y (sym (k.apart n is) ∙ e)) moved)
 
-falls_by : (b : Bool) (touched : List ℕ) (v w : Volume) (rank : ℕ → ℕ) (n : ℕ) (y : Vnode) → same_parent (get n v.vnodes) (Some y) ≡ b → Known touched v w → Ranked (at v) rank → get n w.vnodes ≡ Some y → (n ≡ 1 → ⊥) → new_rank rank v w y.parent < cond b (rank n) (suc (rank y.parent))
-falls_by true touched v w rank n y same k ranked e ne =
+-- what doesn't stand below the root falls so
+falls_by : (b : Bool) (touched : List ℕ) (v w : Volume) (rank : ℕ → ℕ) (n : ℕ) (y : Vnode) → same_parent (get n v.vnodes) (Some y) ≡ b → Known touched v w → Ranked (at v) rank → get n w.vnodes ≡ Some y → (n ≡ 1 → ⊥) → reaches w n ≡ false → reaches w y.parent ≡ false → new_rank rank v w y.parent < cond b (rank n) (suc (rank y.parent))
+falls_by true touched v w rank n y same k ranked e ne below up_below =
     let x = same_of (get n v.vnodes) y same in
     let was = parent_in v n x.0 (vnode_so v n x.0 (k.sound n x.0 x.1.0)).0 ne in
     let now = parent_in w n y (all_right touched v w n y k e) ne in
     let there : get y.parent v.vnodes ≡ Some was.0 = ap (λ (m : ℕ). get m v.vnodes) (sym x.1.1) ∙ was.1.0 in
-    let old : new_rank rank v w y.parent ≡ rank y.parent = old_rank rank v w y.parent (unmoved touched v w y.parent was.0 now.0 k was.1.1 there now.1.0) in
+    let old : new_rank rank v w y.parent ≡ rank y.parent = old_rank rank v w y.parent (unmoved touched v w y.parent was.0 now.0 k was.1.1 up_below there now.1.0) in
     let up : rank x.0.parent < rank n = ranked n x.0 x.1.0 ne in
     let same_rank : rank x.0.parent ≡ rank y.parent = ap rank x.1.1 in
     omega (arith, old, up, same_rank)
-falls_by false touched v w rank n y moved k ranked e ne =
-    let old : new_rank rank v w y.parent ≡ rank y.parent = old_rank rank v w y.parent (moved_by (is_among n touched) touched v w n y refl k e moved) in
+falls_by false touched v w rank n y moved k ranked e ne below up_below =
+    let old : new_rank rank v w y.parent ≡ rank y.parent = old_rank rank v w y.parent (moved_by (is_among n touched) touched v w n y refl k e below moved) in
     omega (arith, old)
 
-now_ranked : (touched : List ℕ) (v w : Volume) (rank : ℕ → ℕ) → Known touched v w → Ranked (at v) rank → Ranked (at w) (new_rank rank v w)
-now_ranked touched v w rank k ranked n y e ne =
-    subst (λ (o : Option Vnode). new_rank rank v w y.parent < rank_by rank n (get n v.vnodes) o) (sym e) (falls_by (same_parent (get n v.vnodes) (Some y)) touched v w rank n y refl k ranked e ne)
+-- ---- steps to the root, for what stands below it
+
+abbrev climb : ℕ → ℕ → Volume → Option Vnode → ℕ
+climb zero n w o = 0
+climb (suc k) n w None = 0
+climb (suc k) n w (Some x) = cond (eqb n 1) 0 (suc (climb k x.parent w (get x.parent w.vnodes)))
+
+settled_by : (b : Bool) (i j : ℕ) (up : Bool) → (b || up) ≡ true → (up ≡ true → i ≡ j) → cond b 0 (suc i) ≡ cond b 0 (suc j)
+settled_by true i j up e h = refl
+settled_by false i j up e h = ap suc (h e)
+
+settled : (k n : ℕ) (w : Volume) (o : Option Vnode) → leads_up k n 1 w o ≡ true → climb (suc k) n w o ≡ climb k n w o
+settled zero n w o e = absurd cc
+settled (suc k) n w None e = refl
+settled (suc k) n w (Some x) e =
+    settled_by (eqb n 1) (climb (suc k) x.parent w (get x.parent w.vnodes)) (climb k x.parent w (get x.parent w.vnodes)) (leads_up k x.parent 1 w (get x.parent w.vnodes)) e
+    (settled k x.parent w (get x.parent w.vnodes))
+
+stepped : (b up : Bool) (i : ℕ) → b ≡ false → (b || up) ≡ true → (up ≡ true) × (cond b 0 (suc i) ≡ suc i)
+stepped true up i ne e = absurd cc
+stepped false up i ne e = (e, refl)
+
+climbs : (k n : ℕ) (w : Volume) (x : Vnode) → nat_eq n 1 ≡ false → leads_up k n 1 w (Some x) ≡ true → climb k x.parent w (get x.parent w.vnodes) < climb k n w (Some x)
+climbs zero n w x ne e = absurd cc
+climbs (suc k) n w x ne e =
+    let s = stepped (eqb n 1) (leads_up k x.parent 1 w (get x.parent w.vnodes)) (climb k x.parent w (get x.parent w.vnodes)) ne e in
+    let same = settled k x.parent w (get x.parent w.vnodes) s.0 in
+    let mine = s.1 in
+    omega (arith, same, mine)
+
+most_by : (b : Bool) (i k : ℕ) → i ≤ k → cond b 0 (suc i) ≤ suc k
+most_by true i k le = omega arith
+most_by false i k le = omega (arith, le)
+
+climb_most : (k n : ℕ) (w : Volume) (o : Option Vnode) → climb k n w o ≤ k
+climb_most zero n w o = omega arith
+climb_most (suc k) n w None = omega arith
+climb_most (suc k) n w (Some x) = most_by (eqb n 1) (climb k x.parent w (get x.parent w.vnodes)) k (climb_most k x.parent w (get x.parent w.vnodes))
+
+or_map : (a b c : Bool) → (b ≡ true → c ≡ true) → (a || b) ≡ true → (a || c) ≡ true
+or_map true b c f h = refl
+or_map false b c f h = f h
+
+more_up : (k n : ℕ) (w : Volume) (o : Option Vnode) → leads_up k n 1 w o ≡ true → leads_up (suc k) n 1 w o ≡ true
+more_up zero n w o e = absurd cc
+more_up (suc k) n w None e = absurd cc
+more_up (suc k) n w (Some x) e = or_map (nat_eq n 1) (leads_up k x.parent 1 w (get x.parent w.vnodes)) (leads_up (suc k) x.parent 1 w (get x.parent w.vnodes)) (more_up k x.parent w (get x.parent w.vnodes)) e
+
+parent_up : (k n : ℕ) (w : Volume) (x : Vnode) → nat_eq n 1 ≡ false → leads_up k n 1 w (Some x) ≡ true → leads_up k x.parent 1 w (get x.parent w.vnodes) ≡ true
+parent_up zero n w x ne e = absurd cc
+parent_up (suc k) n w x ne e = more_up k x.parent w (get x.parent w.vnodes) (stepped (eqb n 1) (leads_up k x.parent 1 w (get x.parent w.vnodes)) 0 ne e).0
+
+abbrev climbed : ℕ → Volume → ℕ → ℕ
+climbed most w n = climb most n w (get n w.vnodes)
+
+abbrev whole_rank : ℕ → (ℕ → ℕ) → Volume → Volume → ℕ → ℕ
+whole_rank most rank v w n = cond (leads_up most n 1 w (get n w.vnodes)) (climbed most w n) (suc most + new_rank rank v w n)
+
+lower_by : (b c : Bool) (i j l r s : ℕ) → (b ≡ true → (c ≡ true) × (i < j)) → i ≤ l → (b ≡ false → c ≡ false → r < s) → cond c i (suc l + r) < cond b j (suc l + s)
+lower_by true true i j l r s up most down = let u = up refl in omega (arith, u.1)
+lower_by true false i j l r s up most down = let u = up refl in absurd (let z : false ≡ true = u.0 in cc)
+lower_by false true i j l r s up most down = omega (arith, most)
+lower_by false false i j l r s up most down = let d = down refl refl in omega (arith, d)
+
+-- with so many steps as the test takes
+ranked_by : (most : ℕ) (touched : List ℕ) (v w : Volume) (rank : ℕ → ℕ) → ((n : ℕ) → reaches w n ≡ leads_up most n 1 w (get n w.vnodes)) → Known touched v w → Ranked (at v) rank → Ranked (at w) (whole_rank most rank v w)
+ranked_by most touched v w rank is k ranked n y e ne =
+    let below : nat_eq n 1 ≡ false = not_root n (nat_eq n 1) refl ne in
+    lower_by (leads_up most n 1 w (get n w.vnodes)) (leads_up most y.parent 1 w (get y.parent w.vnodes)) (climbed most w y.parent) (climbed most w n) most (new_rank rank v w y.parent) (new_rank rank v w n)
+    (λ b. (let up : leads_up most n 1 w (Some y) ≡ true = subst (λ (o : Option Vnode). leads_up most n 1 w o ≡ true) e b in
+    (parent_up most n w y below up, subst (λ (o : Option Vnode). climbed most w y.parent < climb most n w o) (sym e) (climbs most n w y below up))))
+    (climb_most most y.parent w (get y.parent w.vnodes))
+    (λ b c. subst (λ (o : Option Vnode). new_rank rank v w y.parent < rank_by rank n (get n v.vnodes) o) (sym e)
+    (falls_by (same_parent (get n v.vnodes) (Some y)) touched v w rank n y refl k ranked e ne (is n ∙ b) (is y.parent ∙ c)))
+
+now_ranked : (touched : List ℕ) (v w : Volume) (rank : ℕ → ℕ) → Known touched v w → Ranked (at v) rank → Ranked (at w) (whole_rank most_vnodes rank v w)
+unfolding reaches
+now_ranked touched v w rank k ranked = ranked_by most_vnodes touched v w rank (λ n. refl) k ranked
 
 now_parents : (touched : List ℕ) (v w : Volume) → Known touched v w → HasParents (at w)
 now_parents touched v w k n y e ne = let d = parent_in w n y (all_right touched v w n y k e) ne in (d.0, d.1.0)
@@ -375,7 +454,7 @@ pub still_sound : (touched : List ℕ) (v w : Volume) → is_sound v ≡ true �
 unfolding is_sound
 still_sound touched v w sound next root up apart passed =
     let k = known touched v w sound next apart passed in
-    let below : (n : ℕ) (y : Vnode) → get n w.vnodes ≡ Some y → is_below n 1 w ≡ true = ranked_reaching w (new_rank (steps v) v w) (now_ranked touched v w (steps v) k (was_ranked touched v w k)) (now_parents touched v w k) in
+    let below : (n : ℕ) (y : Vnode) → get n w.vnodes ≡ Some y → is_below n 1 w ≡ true = ranked_reaching w (whole_rank most_vnodes (steps v) v w) (now_ranked touched v w (steps v) k (was_ranked touched v w k)) (now_parents touched v w k) in
     both_true (is_root (get 1 w.vnodes)) _ root
     (both_true (ascends_from 1 w.vnodes) _ (ascends 1 w.vnodes up)
     (all_pass (is_sound_vnode w) 1 w.vnodes up (λ n y e. vnode_is w n y (all_right touched v w n y k e) (λ b. below n y e))))

@@ -5,7 +5,7 @@ use Rattle.std.specs.Str.{bytes_eq}
 use Rattle.afs_num.specs.declared.directories.Name.{Name}
 use Rattle.afs_num.specs.declared.vnodes.Vnode as image
 use Rattle.afs_num.specs.declared.volumes.Change.{Change}
-use Rattle.afs_ideal.specs.Operations.{is_kind}
+use Rattle.afs_ideal.specs.Operations.{is_kind, leads_up}
 use Rattle.afs_ideal.specs.Tables.{Table, get}
 use Rattle.afs_ideal.specs.VnodeMaps.{most_vnodes}
 use Rattle.afs_ideal.specs.Volumes.{a_directory, Vnode, Volume}
@@ -65,9 +65,13 @@ same_parent (Some x) (Some y) = nat_eq x.parent y.parent
 abbrev pub is_unmoved : Volume → Volume → ℕ → Bool
 is_unmoved v w n = same_parent (get n v.vnodes) (get n w.vnodes)
 
--- a directory doesn't move; a file moves below a directory that doesn't
-abbrev pub may_stand : Volume → Volume → Vnode → Vnode → Bool
-may_stand v w x y = nat_eq x.parent y.parent || (not (is_kind x.kind a_directory) && is_unmoved v w y.parent)
+-- the vnode's parents lead to the root, in at most as many steps as a volume can have vnodes
+unfoldable pub reaches : Volume → ℕ → Bool
+reaches w n = leads_up most_vnodes n 1 w (get n w.vnodes)
+
+-- a directory that moves still leads up to the root; a file moves below a directory that doesn't move
+abbrev pub may_stand : Volume → Volume → ℕ → Vnode → Vnode → Bool
+may_stand v w n x y = nat_eq x.parent y.parent || (if is_kind x.kind a_directory then reaches w n else is_unmoved v w y.parent)
 
 -- in a directory that isn't touched the vnode has its names as before
 pub record KeepsNames (x y : Vnode) : Type 0 where
@@ -86,7 +90,7 @@ passes_by touched v w n None None = true
 passes_by touched v w n (Some x) None = is_among x.parent touched && same_others touched x.names []
 passes_by touched v w n None (Some y) = is_right w n y && is_unmoved v w y.parent
 passes_by touched v w n (Some x) (Some y) =
-    is_right w n y && (keeps_place touched x y && (same_others touched x.names y.names && may_stand v w x y))
+    is_right w n y && (keeps_place touched x y && (same_others touched x.names y.names && may_stand v w n x y))
 
 abbrev pub passes : List ℕ → Volume → Volume → ℕ → Bool
 passes touched v w n = passes_by touched v w n (get n v.vnodes) (get n w.vnodes)

@@ -1,17 +1,19 @@
 //! Changes that a volume can take in, found out by what they touch: in a time that is that of the change, and not that of
 //! the volume. A change that doesn't pass may still be one that the volume can take in.
 
-ghost use Rattle.std.specs.Prelude.{◌≡◌, ◌≤◌, ◌+◌, ◌++◌, ◌&&◌, ◌||◌, ◌<◌, ◌^◌, [], None, Some, true, nat_eq, length, IfOk, OnOk};
+ghost use Rattle.std.specs.Prelude.{◌≡◌, ◌≤◌, ◌+◌, ◌++◌, ◌&&◌, ◌||◌, ◌<◌, ◌^◌, if◌then◌else◌, [], None, Some, true, nat_eq, length, IfOk, OnOk};
 ghost use Rattle.std.specs.List.{list_all, AllByRecursion};
 ghost use Rattle.std.specs.Option.{option_copied, option_map};
+ghost use Rattle.afs_ideal.specs.Operations.{is_kind, leads_up};
 ghost use Rattle.afs_ideal.specs.Tables.{get};
 ghost use Rattle.afs_ideal.specs.VnodeImage.{FitsImage};
 ghost use Rattle.afs_ideal.specs.VnodeMaps.{most_vnodes};
+ghost use Rattle.afs_ideal.specs.Volumes.{a_directory};
 ghost use Rattle.afs_records.specs.Sound.{gives_one, is_named_in, is_root};
 ghost use Rattle.afs_volume.specs.Seen.{seen, IsReadable};
 ghost use Rattle.afs_volume.specs.Taking.{is_among, CanTakeIn};
 ghost use Rattle.afs_volstore.specs.Changing.{is_in};
-ghost use Rattle.afs_volstore.specs.Patching.{after, before, image_left, is_right, is_unmoved, keeps_place, may_stand, new_among, other_named, others_named, passes, passes_by, same_others, same_parent, table_left, AreTouched, IsPatch, StaysNamed};
+ghost use Rattle.afs_volstore.specs.Patching.{after, before, image_left, is_right, is_unmoved, keeps_place, may_stand, new_among, other_named, others_named, passes, passes_by, reaches, same_others, same_parent, table_left, AreTouched, IsPatch, StaysNamed};
 
 use crate::standing::{
     gives_held, has_links, has_names, is_directory, is_root, kind_is_right, names_in, names_of,
@@ -164,12 +166,48 @@ impl<'a> Patch<'a> {
         same_parent(self.before(number), self.after(number))
     }
 
-    /// A directory doesn't move; a file moves below a directory that doesn't.
+    /// The way up from a vnode leads to the root in so many steps.
     #[tactic(auto, unfolding(afs_volume::specs::Seen::seen))]
-    fn may_stand(&self, x: &Vnode, y: &Vnode) -> bool
-        ensures { result ≡ may_stand (before self.now.volume.now) (after self.now.volume.now self.now.change.now) (seen x.now) (seen y.now) }
+    fn leads_up(&self, number: u32, steps: usize) -> bool
+        ensures { result ≡ leads_up steps number 1 (after self.now.volume.now self.now.change.now) (get number (after self.now.volume.now self.now.change.now).vnodes) }
     {
-        x.parent_vnode == y.parent_vnode || (!is_directory(x) && self.is_unmoved(y.parent_vnode))
+        let mut at = number;
+        for _ in 0..steps {
+            match self.after(at) {
+                None => return false,
+                Some(_) if at == 1 => return true,
+                Some(x) => at = x.parent_vnode,
+            }
+        }
+        false
+    }
+
+    /// The way up from a vnode leads to the root.
+    #[tactic(auto, unfolding(crate::specs::Patching::reaches))]
+    fn reaches_root(&self, number: u32) -> bool
+        ensures { result ≡ reaches (after self.now.volume.now self.now.change.now) number }
+    {
+        self.leads_up(number, MOST_VNODES)
+    }
+
+    /// A vnode may move from one directory to another.
+    #[tactic(auto, unfolding(afs_volume::specs::Seen::seen))]
+    fn may_move(&self, number: u32, x: &Vnode, y: &Vnode) -> bool
+        ensures { result ≡ (if is_kind (seen x.now).kind a_directory then reaches (after self.now.volume.now self.now.change.now) number else is_unmoved (before self.now.volume.now) (after self.now.volume.now self.now.change.now) (seen y.now).parent) }
+    {
+        if is_directory(x) {
+            self.reaches_root(number)
+        } else {
+            self.is_unmoved(y.parent_vnode)
+        }
+    }
+
+    /// A directory that moves still leads up to the root; a file moves below a directory that doesn't move.
+    #[tactic(auto, unfolding(afs_volume::specs::Seen::seen))]
+    fn may_stand(&self, number: u32, x: &Vnode, y: &Vnode) -> bool
+        ensures { result ≡ may_stand (before self.now.volume.now) (after self.now.volume.now self.now.change.now) number (seen x.now) (seen y.now) }
+    {
+        x.parent_vnode == y.parent_vnode || self.may_move(number, x, y)
     }
 
     #[tactic(auto, unfolding(afs_volume::specs::Seen::seen))]
@@ -268,7 +306,7 @@ impl<'a> Patch<'a> {
     {
         let right = self.is_right(number, Some(x), y)?;
         let keeps = self.keeps_names(x, y)?;
-        Ok(right && self.keeps_place(x, y) && keeps && self.may_stand(x, y))
+        Ok(right && self.keeps_place(x, y) && keeps && self.may_stand(number, x, y))
     }
 
     /// The vnode of this number passes the test.
