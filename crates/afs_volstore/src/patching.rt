@@ -438,7 +438,8 @@ fn add_touched(alloc: Global, touched: &mut Vec<u32>, volume: &Volume, y: &Vnode
     }
 }
 
-/// The vnodes that a change touches.
+/// The vnodes that a change touches. Nothing is promised of them: `leaves_sound` tests that the change touches no others, and
+/// that these are left sound.
 fn all_touched(alloc: Global, volume: &Volume, change: &Change) -> Mem<Vec<u32>> {
     let mut touched = Vec::from_slice(alloc, change.removed.as_slice())?;
     for y in change.vnodes.as_slice() {
