@@ -65,8 +65,8 @@ fn each_kind_is_laid_as_at_first(rt: HostRuntime) -> Result<(), Fail> {
         Status((2, 3)),
         Status((4, 4)),
     ];
-    let want =
-        "unique 5 counter 1 blocks 4\nlinks 3 time 0\nlinks 2 time 0\nlinks 1 time 0\nlinks 1 time 0\n";
+    // the list that is laid on d gives one user alone a right: others see neither d nor the file in it
+    let want = "unique 5 counter 1 blocks 4\nlinks 3 time 0\n13\n13\nlinks 1 time 0\n";
     assert_eq!(rt; told(rt.alloc(), 1_000, &[], &steps)?.as_str(), want);
     Ok(())
 }
