@@ -1,0 +1,13 @@
+pub mod Codes
+pub mod Decisions
+pub mod Granting
+pub mod Heard
+pub mod Kept
+pub mod Lasting
+pub mod Making
+pub mod Placed
+pub mod Repeating
+pub mod Sights
+pub mod Spelled
+pub mod Turned
+pub mod Withdrawn
