@@ -1,5 +1,7 @@
 pub mod Codes
 pub mod Decisions
+pub mod Drawing
+pub mod Drawn
 pub mod Granting
 pub mod Heard
 pub mod Kept
