@@ -19,29 +19,29 @@ IsCoded r = Unit {0}
 agree_coded : (a b : Option Vnode) (ts : Tests) → AreCodes ts → AreCodes (kinds_agree a b ++ ts)
 agree_coded None b ts h = h
 agree_coded (Some x) None ts h = h
-agree_coded (Some x) (Some y) ts h = (refl, refl, h)
+agree_coded (Some x) (Some y) ts h = (refl, (refl, h))
 
 either : (b : Bool) (ts us : Tests) → AreCodes ts → AreCodes us → AreCodes (cond b ts us)
 either true ts us h k = h
 either false ts us h k = k
 
 tests_coded : (caller : Caller) (call : FsCall) (v : Volume) → AreCodes (tests caller call v)
-tests_coded caller (calls.FetchData f position wanted) v = (refl, refl, refl, tt)
-tests_coded caller (calls.FetchAcl f) v = (refl, refl, refl, tt)
-tests_coded caller (calls.FetchStatus f) v = (refl, refl, tt)
-tests_coded caller (calls.StoreData f status position stored file_length contents) v = (refl, refl, refl, refl, refl, refl, tt)
-tests_coded caller (calls.StoreAcl f acl) v = (refl, refl, refl, refl, refl, tt)
-tests_coded caller (calls.StoreStatus f status) v = (refl, refl, refl, refl, tt)
-tests_coded caller (calls.RemoveFile d name) v = (refl, refl, refl, refl, refl, refl, tt)
-tests_coded caller (calls.CreateFile d name status) v = (refl, refl, refl, refl, refl, refl, refl, tt)
+tests_coded caller (calls.FetchData f position wanted) v = (refl, (refl, (refl, tt)))
+tests_coded caller (calls.FetchAcl f) v = (refl, (refl, (refl, tt)))
+tests_coded caller (calls.FetchStatus f) v = (refl, (refl, tt))
+tests_coded caller (calls.StoreData f status position stored file_length contents) v = (refl, (refl, (refl, (refl, (refl, (refl, tt))))))
+tests_coded caller (calls.StoreAcl f acl) v = (refl, (refl, (refl, (refl, (refl, tt)))))
+tests_coded caller (calls.StoreStatus f status) v = (refl, (refl, (refl, (refl, tt))))
+tests_coded caller (calls.RemoveFile d name) v = (refl, (refl, (refl, (refl, (refl, (refl, tt))))))
+tests_coded caller (calls.CreateFile d name status) v = (refl, (refl, (refl, (refl, (refl, (refl, (refl, tt)))))))
 tests_coded caller (calls.Rename d old e new) v =
     either (nat_eq e.volume d.volume) (rename_tests caller d old e new v) (rename_out_tests caller d v)
-    (refl, refl, refl, agree_coded _ _ _ (refl, refl, refl, refl, refl, refl, tt))
-    (refl, refl, refl, refl, refl, tt)
-tests_coded caller (calls.Symlink d name target status) v = (refl, refl, refl, refl, refl, refl, refl, tt)
-tests_coded caller (calls.Link d name f) v = (refl, refl, refl, refl, refl, refl, refl, refl, tt)
-tests_coded caller (calls.MakeDir d name status) v = (refl, refl, refl, refl, refl, refl, refl, tt)
-tests_coded caller (calls.RemoveDir d name) v = (refl, refl, refl, refl, refl, refl, refl, tt)
+    (refl, (refl, (refl, agree_coded _ _ _ (refl, (refl, (refl, (refl, (refl, (refl, tt)))))))))
+    (refl, (refl, (refl, (refl, (refl, tt)))))
+tests_coded caller (calls.Symlink d name target status) v = (refl, (refl, (refl, (refl, (refl, (refl, (refl, tt)))))))
+tests_coded caller (calls.Link d name f) v = (refl, (refl, (refl, (refl, (refl, (refl, (refl, (refl, tt))))))))
+tests_coded caller (calls.MakeDir d name status) v = (refl, (refl, (refl, (refl, (refl, (refl, (refl, tt)))))))
+tests_coded caller (calls.RemoveDir d name) v = (refl, (refl, (refl, (refl, (refl, (refl, (refl, tt)))))))
 tests_coded caller (calls.GetVolumeStatus id) v = (refl, tt)
 tests_coded caller call v = tt
 
@@ -62,7 +62,7 @@ by_coded (Some code) r h k = h
 by_coded None r h k = k
 
 limited_coded : (id : ℕ) (v : Volume) (r : Result) → IsCoded r → IsCoded (limited id v r)
-limited_coded id v (changes es n) h = by_coded (first_failing (limits id es v)) (changes es n) (failing_coded (limits id es v) (refl, refl, tt)) tt
+limited_coded id v (changes es n) h = by_coded (first_failing (limits id es v)) (changes es n) (failing_coded (limits id es v) (refl, (refl, tt))) tt
 limited_coded id v (refused code) h = h
 limited_coded id v (reads shown) h = h
 limited_coded id v no_operation h = h
