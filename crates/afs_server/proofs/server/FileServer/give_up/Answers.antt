@@ -28,6 +28,9 @@ plan_reply-requires-clause-spelling g c =
     let told : c.reply-message.result ≡ read_reply_to c.args.store.now.durable.boot c.args.head.now 0 (given_up_read c.args.fids.now) = search rules in
     subst HasSpelling (sym told) (replied_spelled c.args.store.now.durable.boot c.args.head.now replies.GiveUpCallBacks c.requires.head c.requires.opcode tt)
 
+pub keep_reply-requires-clause-spelling : goal.keep_reply-requires-clause-spelling
+keep_reply-requires-clause-spelling g c = (c.reply-message.result, c.in_ok-replied.ensures.kept)
+
 pub returns : goal.returns
 returns g c =
     let old = c.args.self.now in

@@ -24,6 +24,9 @@ plan_reply-requires-clause-spelling g c =
     let told : c.refusal-message.result ≡ refusal c.args.store.now.durable.boot c.args.head.now c.args.code = search rules in
     subst HasSpelling (sym told) (refused_spelled c.args.store.now.durable.boot c.args.head.now c.args.code c.requires.head c.requires.code)
 
+pub keep_reply-requires-clause-spelling : goal.keep_reply-requires-clause-spelling
+keep_reply-requires-clause-spelling g c = (c.refusal-message.result, c.in_ok-replied.ensures.kept)
+
 pub returns : goal.returns
 returns g c =
     let old = c.args.self.now in

@@ -21,6 +21,11 @@ use Rattle.afs_server.proofs.server.FileServer.show.Goals as goal
 pub plan_shown-requires-clause-nodes : goal.plan_shown-requires-clause-nodes
 plan_shown-requires-clause-nodes g c = record { node = search rules; owed = c.requires.serves.owed; calls = search rules }
 
+pub keep_reply-requires-clause-spelling : goal.keep_reply-requires-clause-spelling
+keep_reply-requires-clause-spelling g c =
+    let kept = c.in_ok-replied.ensures.kept in
+    (replied c.args.store.now.durable.boot c.args.head.now (carried.Reply (tell.File (promised_in (c.args.now + 7200) c.args.told))), search (rules, kept))
+
 pub returns : goal.returns
 returns g c r is =
     let old = c.args.self.now in
