@@ -16,7 +16,11 @@ pub plan_refused-requires-clause-nodes : goal.plan_refused-requires-clause-nodes
 plan_refused-requires-clause-nodes g c = record { node = search rules; owed = c.requires.serves.owed; calls = search rules }
 
 pub keep_answer-requires-clause-spelling : goal.keep_answer-requires-clause-spelling
-keep_answer-requires-clause-spelling g c = (refusal c.boot_number.result c.args.head.now c.args.code, c.in_ok-replied.ensures.kept)
+keep_answer-requires-clause-spelling g c =
+    let kept = c.in_ok-replied.ensures.kept in
+    let answer = refusal c.args.store.now.durable.boot c.args.head.now c.args.code in
+    let spells : Spells answer c.in_ok-replied.replied.kept = search (rules, kept) in
+    (answer, spells)
 
 pub returns : goal.returns
 returns g c =
