@@ -22,6 +22,7 @@ ghost use Rattle.afs_server.specs.Handling.{Answers};
 ghost use Rattle.afs_server.specs.Seen.{backs_seen, IsToNodes, Serves};
 
 use crate::answering::{Replied, keep_reply};
+use crate::ending::Ended;
 use crate::server::FileServer;
 use afs_disk::Disk;
 use afs_history::lines::{Lines, Outs};
@@ -62,6 +63,30 @@ fn granted_lines(
     let mut lines = Lines::new(alloc);
     tell_grants(&mut lines, server, client, expiry, grants)?;
     Ok(lines)
+}
+
+/// The same reply, with these lines.
+fn with_lines(replied: Replied, lines: Lines) -> Replied
+    ensures ended { result.ended ≡ record replied.ended { outs = record replied.ended.outs { lines = lines } } }
+    ensures kept { result.kept ≡ replied.kept }
+{
+    let Replied { ended, kept } = replied;
+    let Ended {
+        outs,
+        last,
+        callees,
+        held,
+    } = ended;
+    let Outs { parcels, lines: _ } = outs;
+    Replied {
+        ended: Ended {
+            outs: Outs { parcels, lines },
+            last,
+            callees,
+            held,
+        },
+        kept,
+    }
 }
 
 /// The reply to the call of this header, which ran, is kept, and its caller is promised these fids.
@@ -112,9 +137,9 @@ impl FileServer {
     {
         let told = promised(self.alloc, told, expiry)?;
         let message = reply(boot, head, told);
-        let mut replied = self.plan_reply(server, boot, last, &message, now)?;
-        replied.ended.outs.lines = granted_lines(self.alloc, server, head.from, expiry, grants)?;
-        Ok(replied)
+        let lines = granted_lines(self.alloc, server, head.from, expiry, grants)?;
+        let replied = self.plan_reply(server, boot, last, &message, now)?;
+        Ok(with_lines(replied, lines))
     }
 
     /// A call that reads is told this, and granted these promises.
