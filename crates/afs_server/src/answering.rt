@@ -171,7 +171,28 @@ impl FileServer {
         Ok(ended)
     }
 
-    /// What comes of a reply to a call that ran. It goes out at once, and its bytes are to be kept.
+    /// What comes of a reply to a call that ran, in its spelling. It goes out at once, and its bytes are to be kept.
+    pub(crate) fn plan_spelled(
+        &self,
+        server: Node,
+        boot: u32,
+        last: u32,
+        reply: SpelledMessage,
+        now: u32,
+    ) -> Mem<Replied>
+        requires nodes { IsToNodes server self.now }
+        ensures ends { IfOk result (λ r. (l : Lists) → l.owed ≡ lasting_breaks now self.now.lists.owed → Ends l (pumped server boot (answer_turn reply [] false (with_lists l (backs_seen self.now last)))) r.ended) }
+        ensures lines { IfOk result (λ r. r.ended.outs.lines ≡ []) }
+        ensures drawn { IfOk result (λ r. last ≤ r.ended.last) }
+        ensures good { IfOk result (λ r. AreGoodCalls server r.ended.callees.items) }
+        ensures kept { IfOk result (λ r. Spells reply r.kept) }
+    {
+        let kept = reply.bytes().copy(self.alloc)?;
+        let ended = self.plan_answer(server, boot, last, reply, now)?;
+        Ok(Replied { ended, kept })
+    }
+
+    /// What comes of a reply to a call that ran.
     pub(crate) fn plan_reply(
         &self,
         server: Node,
@@ -189,9 +210,8 @@ impl FileServer {
         ensures kept { IfOk result (λ r. Spells message.now r.kept) }
     {
         let reply = SpelledMessage::of(self.alloc, message)?;
-        let kept = reply.bytes().copy(self.alloc)?;
-        let ended = self.plan_answer(server, boot, last, reply, now)?;
-        Ok(Replied { ended, kept })
+        let replied = self.plan_spelled(server, boot, last, reply, now)?;
+        Ok(replied)
     }
 
     /// What comes of it that a call that runs is refused with this code.

@@ -32,6 +32,7 @@ use afs_num::types::{Fid, Head, Mem, Node};
 use afs_promise::Promises;
 use afs_server_parts::callers::Callers;
 use afs_server_parts::replies::{promised, reply};
+use afs_server_parts::spelled::SpelledMessage;
 use afs_server_parts::telling::{Grant, tell_grants};
 use afs_volstore::VolStore;
 use std::alloc::Global;
@@ -65,8 +66,27 @@ fn granted_lines(
     Ok(lines)
 }
 
+/// The reply to a call that reads, with what it is told, in its spelling; what it is promised lasts until this time.
+fn shown_reply(
+    alloc: Global,
+    boot: u32,
+    head: &Head,
+    told: FsReply,
+    expiry: u32,
+) -> Mem<SpelledMessage>
+    requires head { IsSoundHead head.now }
+    requires opcode { head.now.opcode ≡ reply_number (tell.File told) }
+    requires within { IsWithin cell_replies (tell.File told) }
+    ensures { IfOk result (λ m. m ≡ replied boot head.now (carried.Reply (tell.File (promised_in expiry told)))) }
+{
+    let told = promised(alloc, told, expiry)?;
+    let message = reply(boot, head, told);
+    let spelled = SpelledMessage::of(alloc, &message)?;
+    Ok(spelled)
+}
+
 /// The same reply, with these lines.
-fn with_lines(replied: Replied, lines: Lines) -> Replied
+pub fn with_lines(replied: Replied, lines: Lines) -> Replied
     ensures ended { result.ended ≡ record replied.ended { outs = record replied.ended.outs { lines = lines } } }
     ensures kept { result.kept ≡ replied.kept }
 {
@@ -135,10 +155,9 @@ impl FileServer {
         ensures good { IfOk result (λ r. AreGoodCalls server r.ended.callees.items) }
         ensures kept { IfOk result (λ r. Spells (replied boot head.now (carried.Reply (tell.File (promised_in expiry told)))) r.kept) }
     {
-        let told = promised(self.alloc, told, expiry)?;
-        let message = reply(boot, head, told);
+        let reply = shown_reply(self.alloc, boot, head, told, expiry)?;
         let lines = granted_lines(self.alloc, server, head.from, expiry, grants)?;
-        let replied = self.plan_reply(server, boot, last, &message, now)?;
+        let replied = self.plan_spelled(server, boot, last, reply, now)?;
         Ok(with_lines(replied, lines))
     }
 
