@@ -4,6 +4,7 @@ use Rattle.afs_num.specs.declared.calls.FsReply.{FsReply}
 use Rattle.afs_num.specs.declared.messages.Carried.TheVariants as carried
 use Rattle.afs_num.specs.declared.messages.Message.{Message}
 use Rattle.afs_num.specs.declared.messages.Reply.TheVariants as tell
+use Rattle.afs_num.specs.declared.types.Node.{Node}
 use Rattle.afs_breaks.specs.Promises.{expired, grants_all, Lists}
 use Rattle.afs_rows.specs.Callbacks.{fids_found, gives_up_all, grants_found, pumped}
 use Rattle.afs_rows.specs.ServerRow.{granted, keeps, promised_in, read_reply_to, replied}
@@ -62,7 +63,8 @@ returns g c r is =
     let ended : Ends lists (pumped store.node store.durable.boot (answer_turn shown [] false (with_lists lists (backs_seen old store.drawn)))) e = search (rules, planned) in
     let ends : Ends lists (pumped store.node store.durable.boot turn) e =
     subst (λ (m : Message). Ends lists (pumped store.node store.durable.boot (answer_turn m [] false (with_lists lists (backs_seen old store.drawn)))) e) same ended in
-    let granted_to : e.outs.lines ≡ map (grant_line store.node head.from expiry) c.args.grants.now = search (rules, told) in
+    let granted_to : e.outs.lines ≡ map (grant_line store.node head.from expiry) c.args.grants.now =
+    subst (λ (n : Node). e.outs.lines ≡ map (grant_line n head.from expiry) c.args.grants.now) c.node.ensures told in
     let lines = granted_to ∙ shown_lines store.node head.from expiry c.args.grants.now r.granted is.grants_are in
     let calls : AreGoodCalls store.node e.callees.items = search (rules, good) in
     steps state (granted store.node head.from expiry r.granted []) turn old c.keep-outs.new.self store c.keep-outs.new.store e lists c.keep-outs.result
