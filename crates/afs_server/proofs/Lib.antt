@@ -9,5 +9,7 @@ pub mod Placed
 pub mod Repeating
 pub mod Sights
 pub mod Spelled
+pub mod Stamped
 pub mod Turned
 pub mod Withdrawn
+pub mod Written
