@@ -3,7 +3,7 @@ use Rattle.std.proofs.Common.{◌≡◌, ◌≤◌, ◌<◌, ◌+◌, ◌-◌, �
 use Rattle.std.specs.Prelude.{◌&&◌, nat_eq, nat_le}
 use Rattle.std.specs.List.{slice_get}
 use Rattle.std.proofs.lemmas.Bool.{leb-true, lt-leb}
-use Rattle.std.specs.Prelude.{IfNone, IfSome, IsSome}
+use Rattle.std.specs.Prelude.{is_some, IfNone, IfSome, IsSome}
 use Rattle.std.proofs.lemmas.List.{map-append}
 use Rattle.afs_num.specs.Nodes.{is_between, node_number, node_of, same_node, IsNode}
 use Rattle.afs_num.specs.declared.types.Key.{Key}
@@ -16,6 +16,7 @@ use Rattle.afs_records.specs.Durable.{Kept}
 use Rattle.afs_breaks.specs.Promises.{owes_all, Lists}
 use Rattle.afs_rows.specs.Callbacks.{owed_to_clients}
 use Rattle.afs_rows.specs.States.{Seat}
+use Rattle.afs_volstore.specs.Called.{AreKnown}
 use Rattle.afs_server.specs.Seen.{kept_found, or_loc, seat_kept, seats_after, AreToNodes, CanFollow, IsToNode}
 
 -- ---- numbers of nodes
@@ -54,6 +55,19 @@ pub numbered : (k : ℕ) (n : Node) → node_of k ≡ Some n → IsNumbered k n
 numbered k n e = numbered_by k n (nat_eq k 0) (is_between 1 8 k) (is_between 101 116 k) (is_between 201 204 k) refl refl refl refl e
 
 -- ---- callers with kept replies
+
+-- in order of their numbers, each of which is a node's
+pub record AreSeated (t : Table Kept) : Type 0 where
+  pub ordered : AscendsFrom 0 t
+  pub nodes : AreToNodes t
+
+to_node_by : (p : ℕ × Kept) (o : Option Node) → node_of p.0 ≡ o → is_some o ≡ true → IsToNode p
+to_node_by p None e known = absurd cc
+to_node_by p (Some n) e known = record { caller = n; numbered = e }
+
+pub known_to_nodes : (t : Table Kept) → AreKnown t → AreToNodes t
+known_to_nodes [] are = tt
+known_to_nodes (p ∷ t) are = (to_node_by p (node_of p.0) refl are.0, known_to_nodes t are.1)
 
 pub caller_number : (p : ℕ × Kept) → IsToNode p → node_number (or_loc (node_of p.0)) ≡ p.0
 caller_number p keeps = ap (λ (o : Option Node). node_number (or_loc o)) keeps.numbered ∙ (numbered p.0 keeps.caller keeps.numbered).number

@@ -20,7 +20,7 @@ left_to_nodes [] os h = h
 left_to_nodes (b ∷ bs) os h = left_to_nodes bs (without_break b.number os) (All-filter (λ (o : OwedBreak). not (nat_eq o.number b.number)) IsBreakToNode os h)
 
 -- breaks that end take no promise away
-ended_promises : (bs : List OwedBreak) (l : Lists) → (ends_all bs l).promises ≡ l.promises
+pub ended_promises : (bs : List OwedBreak) (l : Lists) → (ends_all bs l).promises ≡ l.promises
 ended_promises [] l = refl
 ended_promises (b ∷ bs) l = ended_promises bs (ends b.number l)
 

@@ -1,6 +1,9 @@
 pub mod Codes
 pub mod Decisions
+pub mod Drawing
+pub mod Drawn
 pub mod Granting
+pub mod Handled
 pub mod Heard
 pub mod Kept
 pub mod Lasting

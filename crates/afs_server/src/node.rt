@@ -7,7 +7,6 @@ ghost use Rattle.afs_disk.specs.Disk.{LeavesOnly, SameDisk};
 ghost use Rattle.afs_journal.specs.Log.{SameCounts};
 ghost use Rattle.afs_model.specs.Messages.{received_by, FindsMessages};
 ghost use Rattle.afs_volstore.specs.Stores.{StandsAround};
-ghost use Rattle.afs_ideal.specs.Tables.{AscendsFrom};
 ghost use Rattle.afs_server.specs.declared.faults.NodeFault.TheVariants as faults;
 ghost use Rattle.afs_history.specs.declared.lines.Line.TheVariants as lines;
 ghost use Rattle.afs_records.specs.Durable.{folded, Durable};
@@ -16,7 +15,7 @@ ghost use Rattle.afs_rows.specs.ServerSteps.{back_timeout_row, server_row, wake_
 ghost use Rattle.afs_rows.specs.States as rows;
 ghost use Rattle.afs_server_parts.specs.Called.{call_to, calls_seen};
 ghost use Rattle.afs_server.specs.Handling.{calls_served, record_decided, server_seen, Handles, IsDone, IsQuiet, IsWritten, Makes, Ran};
-ghost use Rattle.afs_server.specs.Seen.{begun_step, lasting_of, waits_by, CanDraw, KeepsForNodes, Serves};
+ghost use Rattle.afs_server.specs.Seen.{begun_step, lasting_of, waits_by, CanDraw, Serves};
 
 use crate::faults::NodeFault;
 use crate::restoring::{callers_kept, owed_to_clients, rise};
@@ -96,6 +95,7 @@ impl FileServer {
         requires waits { IsSome (call_to self.old.callees callee) }
         ensures step { (c : rows.BackCall) → calls_seen self.old.callees callee ≡ Some c → Handles (back_timeout_row store.old.node (server_seen self.old store.old) now callee c) [] self.old self.new store.old store.new result }
         ensures serves { OnOk result (Serves store.new.node self.new store.new.durable) }
+        ensures draws { OnOk result ((store.new.drawn ≤ store.old.drawn + 204) × (self.new.lists.last_owed + length self.new.lists.promises ≤ self.old.lists.last_owed + length self.old.lists.promises)) }
         ensures store { store.new ≡ record store.old { drawn = store.new.drawn } }
         ensures up { IsErrOf result faults.Down → ⊥ }
     {
@@ -115,6 +115,7 @@ impl FileServer {
         requires now { now ≤ 1000000000 }
         ensures step { Handles (wake_row store.old.node (server_seen self.old store.old) now) [] self.old self.new store.old store.new result }
         ensures serves { OnOk result (Serves store.new.node self.new store.new.durable) }
+        ensures draws { OnOk result ((store.new.drawn ≤ store.old.drawn + 204) × (self.new.lists.last_owed + length self.new.lists.promises ≤ self.old.lists.last_owed + length self.old.lists.promises)) }
         ensures store { store.new ≡ record store.old { drawn = store.new.drawn } }
         ensures up { IsErrOf result faults.Down → ⊥ }
     {
@@ -132,13 +133,12 @@ impl FileServer {
         now: u32,
     ) -> Mem<(FileServer, Outs)>
         requires node { IsNode store.old.node }
-        requires kept { KeepsForNodes store.old.durable }
-        requires ordered { AscendsFrom 0 store.old.durable.kept }
         requires drawn { store.old.drawn ≡ 0 }
         requires clients { clients ≤ 16 }
         requires now { now ≤ 1000000000 }
         ensures step { IfOk result (λ r. Makes (begun_step store.old.node store.old.durable now clients) [] r.0 store.new r.1) }
         ensures serves { IfOk result (λ r. Serves store.new.node r.0 store.new.durable) }
+        ensures draws { IfOk result (λ r. (store.new.drawn ≤ 204) × (r.0.lists.last_owed + length r.0.lists.promises ≤ 16)) }
         ensures store { store.new ≡ record store.old { drawn = store.new.drawn } }
         ensures err { OnErr result (store.new ≡ store.old) }
     {

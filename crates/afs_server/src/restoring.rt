@@ -3,7 +3,6 @@
 ghost use Rattle.std.specs.Prelude.{◌≡◌, ◌≤◌, ◌+◌, ◌∷◌, ◌++◌, [], None, map, IfOk, IsSome, OnOk};
 ghost use Rattle.std.specs.List.{All};
 ghost use Rattle.afs_num.specs.Nodes.{node_number, node_of, IsNode};
-ghost use Rattle.afs_ideal.specs.Tables.{AscendsFrom};
 ghost use Rattle.afs_model.specs.Calls.{call_seat};
 ghost use Rattle.afs_breaks.specs.Promises.{no_lists};
 ghost use Rattle.afs_rows.specs.Callbacks.{owe_line, owed_to_clients, pumped};
@@ -58,8 +57,7 @@ fn keep_found(alloc: Global, callers: &mut Callers, kept: Option<(Key, &[u8])>) 
 
 /// The callers to whom the store keeps replies, each with that.
 pub fn callers_kept<D: Disk>(alloc: Global, store: &VolStore<D>) -> Mem<Callers>
-    requires kept { KeepsForNodes store.now.durable }
-    requires ordered { AscendsFrom 0 store.now.durable.kept }
+    ensures nodes { IfOk result (λ _. KeepsForNodes store.now.durable) }
     ensures boot { IfOk result (λ c. c.boot ≡ store.now.durable.boot) }
     ensures seats { IfOk result (λ c. c.seats ≡ map seat_kept store.now.durable.kept) }
 {
