@@ -1,8 +1,7 @@
 -- Several fids are looked up one after the other.
-use Rattle.std.proofs.Common.{◌≡◌, ◌≤◌, ℕ, zero, suc, ◌+◌, false, List, [], ◌∷◌, ◌++◌, map, drop, length, Option, Some, None, refl, sym, ap, subst, ◌∙◌, append_assoc, arith}
+use Rattle.std.proofs.Common.{◌≡◌, ◌≤◌, ℕ, ◌+◌, false, List, [], ◌∷◌, ◌++◌, map, length, Option, Some, None, refl, sym, ap, subst, ◌∙◌, append_assoc, arith}
 use Rattle.std.specs.Option.{option_map}
 use Rattle.std.specs.Prelude.{Result, Ok, Err, ℤ, pos, nat_eq}
-use Rattle.std.specs.List.{slice_get}
 use Rattle.std.proofs.lemmas.List.{append-nil, length-append, length-map, map-append}
 use Rattle.afs_num.specs.declared.calls.AfsCallBack.{AfsCallBack}
 use Rattle.afs_num.specs.declared.calls.AfsFetchStatus.{AfsFetchStatus}
@@ -148,12 +147,6 @@ fault_by faults.OutOfMemory xs s rest is = tt
 pub fault_first : (caller : Caller) (all : Result (List Sight) ℕ) (s : Result Sight ℕ) (rest : Result (List Sight) ℕ) (i count : ℕ) (t : Told) (fault : OpFault) → AreFirst caller all (s >>= λ y. (rest >>= λ ys. Ok (y ∷ ys))) i t → IsFault fault s →
     SeesAll caller count all (Err fault)
 fault_first caller all s rest i count t fault are is = subst (IsFault fault) (sym are.behind) (fault_by fault are.sights s rest is)
-
--- the first that stands from a place on
-pub from_place : {A : Type 0} (xs : List A) (i : ℕ) (x : A) → slice_get xs i ≡ Some x → drop i xs ≡ x ∷ drop (i + 1) xs
-from_place {A} [] i x at = absurd cc
-from_place {A} (y ∷ xs) zero x at = ap (λ (z : A). z ∷ xs) (some_is y x at)
-from_place {A} (y ∷ xs) (suc i) x at = from_place xs i x at
 
 -- ---- what is then decided
 

@@ -2,9 +2,11 @@
 use Rattle.std.proofs.Common.{◌≡◌, ◌≤◌, ◌<◌, ◌^◌, ◌%◌, ℕ, ◌+◌, Bool, true, false, List, [], ◌∷◌, ◌++◌, length, Option, Some, None, refl, sym, ap, subst, ◌∙◌, arith, nat_tests}
 use Rattle.std.specs.Prelude.{◌==◌}
 use Rattle.std.specs.List.{AllByRecursion}
+use Rattle.std.proofs.lemmas.List.{length-append}
 use Rattle.afs_num.specs.declared.calls.FsCall.{FsCall}
 use Rattle.afs_num.specs.declared.calls.FsCall.TheVariants as calls
 use Rattle.afs_num.specs.declared.calls.FsReply.{FsReply}
+use Rattle.afs_num.specs.declared.histories.Version.{Version}
 use Rattle.afs_num.specs.declared.types.Fid.{Fid}
 use Rattle.afs_num.specs.declared.volumes.Change as made
 use Rattle.afs_ideal.specs.Images.{image_of, Image}
@@ -13,7 +15,7 @@ use Rattle.afs_ideal.specs.Replies.{change_reply}
 use Rattle.afs_ideal.specs.Soundness.{IsSound, KindFits}
 use Rattle.afs_ideal.specs.Tables.{get}
 use Rattle.afs_ideal.specs.VnodeImage.{kind_fits}
-use Rattle.afs_ideal.specs.Volumes.{a_directory, a_file, a_link, counted, edited_all, edit_number, type_of, Edit, Kind, Vnode, Volume}
+use Rattle.afs_ideal.specs.Volumes.{a_directory, a_file, a_link, amends, amends_at, counted, edited, edited_all, edit_number, frees, frees_at, makes, makes_at, type_of, versions_by, Amend, Edit, Kind, Vnode, Volume}
 use Rattle.afs_ideal.proofs.Preserved.{operations_leave_sound}
 use Rattle.afs_ideal.proofs.Proper.{operations_change}
 use Rattle.afs_records.specs.Changes.{gone_between, image_left, images_left, numbers_gone}
@@ -66,6 +68,31 @@ few_numbers (e ∷ es) v w =
     let one = one_number (edit_number e) (length es) (get (edit_number e) v.vnodes) (get (edit_number e) w.vnodes) (numbers_gone es v w) (few_numbers es v w) in
     omega (arith, one)
 
+amends_one : (id n : ℕ) (a : Amend) (v : Volume) (o : Option Vnode) → length (amends_at id n a v o).versions ≤ 1
+amends_one id n a v None = omega arith
+amends_one id n a v (Some x) = omega arith
+
+makes_one : (id n : ℕ) (x : Vnode) (v : Volume) (o : Option Vnode) → length (makes_at id n x v o).versions ≤ 1
+makes_one id n x v None = omega arith
+makes_one id n x v (Some y) = omega arith
+
+frees_one : (id n : ℕ) (v : Volume) (o : Option Vnode) → length (frees_at id n v o).versions ≤ 1
+frees_one id n v None = omega arith
+frees_one id n v (Some x) = omega arith
+
+one_version : (id : ℕ) (e : Edit) (v : Volume) → length (edited id e v).versions ≤ 1
+one_version id (amends n a) v = amends_one id n a v (get n v.vnodes)
+one_version id (makes n x) v = makes_one id n x v (get n v.vnodes)
+one_version id (frees n) v = frees_one id n v (get n v.vnodes)
+
+few_versions : (id : ℕ) (es : List Edit) (v : Volume) → length (versions_by id es v) ≤ length es
+few_versions id [] v = omega arith
+few_versions id (e ∷ es) v =
+    let one = one_version id e v in
+    let rest = few_versions id es (edited id e v).volume in
+    let all = length-append (edited id e v).versions (versions_by id es (edited id e v).volume) in
+    omega (arith, one, rest, all)
+
 -- ---- the reply
 
 one_changed : (q r : FsReply) → Some q ≡ Some r → IsChanged q → IsChanged r
@@ -93,7 +120,9 @@ can_be_written w caller call now es n x times sound on is change reply takes =
     let few = (operations_change w.head.id caller call v es n sound on is).few in
     let images = few_images now es (after w es n) in
     let numbers = few_numbers es v (after w es n) in
+    let versions = few_versions w.head.id es v in
     record {
+      few_versions = subst (λ (vs : List Version). length vs < 2 ^ 32) (sym change.versions) (omega (arith, few, versions));
       few = subst (λ (is : List Image). length is < 2 ^ 32) (sym change.vnodes) (omega (arith, few, images));
       few_removed = subst (λ (ns : List ℕ). length ns < 2 ^ 32) (sym change.removed) (omega (arith, few, numbers));
       images = takes.fits;

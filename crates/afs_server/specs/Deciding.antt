@@ -125,6 +125,7 @@ HasKind i = kind_fits i.vnode i.kind ≡ true
 
 -- the change has a record
 pub record CanBeWritten (x : made.Change) : Type 0 where
+  pub few_versions : length x.versions < 2 ^ 32
   pub few : length x.vnodes < 2 ^ 32
   pub few_removed : length x.removed < 2 ^ 32
   pub images : AllByRecursion FitsImage x.vnodes
