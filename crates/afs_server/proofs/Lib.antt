@@ -2,6 +2,7 @@ pub mod Codes
 pub mod Decisions
 pub mod Drawing
 pub mod Drawn
+pub mod Folded
 pub mod Granting
 pub mod Handled
 pub mod Heard
@@ -10,6 +11,8 @@ pub mod Lasting
 pub mod Making
 pub mod Placed
 pub mod Repeating
+pub mod Saved
+pub mod Short
 pub mod Sights
 pub mod Spelled
 pub mod Stamped
