@@ -1,3 +1,4 @@
+pub mod Admitting
 pub mod Codes
 pub mod Decisions
 pub mod Drawing
@@ -16,6 +17,8 @@ pub mod Short
 pub mod Sights
 pub mod Spelled
 pub mod Stamped
+pub mod Still
 pub mod Turned
+pub mod Wholly
 pub mod Withdrawn
 pub mod Written

@@ -166,4 +166,5 @@ module _ {D : Type 0} (clock id : ℕ) (head : Head) (c : Change) (x : made_of.C
             let drawn = sym (ap (λ (u : Store D). u.drawn) put.store) in
             put.store ∙ (λ i. record s { durable = t.durable; disk = t.disk; prepared = prepared i; count = count i; drawn = drawn i });
         done = (ap (λ (r : StoreRecord). folded r s.durable) (record_is s.durable.boot clock id head c x p.kept is (spells_reply is plan)) ∙ folds_as plan put, ap (λ (u : Store D). u.count) put.store);
+        few = tt;
       }

@@ -1,5 +1,5 @@
 -- What a step does to its store: what is decided is done, with its record or without one.
-use Rattle.std.specs.Prelude.{◌≡◌, ◌≤◌, ◌+◌, ℕ, List, [], Bool, true, false, Option, Some, None, Result, Ok, Err, OnOk}
+use Rattle.std.specs.Prelude.{◌≡◌, ◌≤◌, ◌+◌, ℕ, List, [], Bool, true, false, Option, Some, None, Result, Ok, Err, OnOk, length}
 use Rattle.afs_disk.specs.Disk.{LeavesOnly, SameDisk, Setting}
 use Rattle.afs_journal.specs.Log.{SameCounts}
 use Rattle.afs_journal.specs.Records.{whole_records}
@@ -9,7 +9,7 @@ use Rattle.afs_num.specs.declared.records.StoreRecord.{StoreRecord}
 use Rattle.afs_num.specs.declared.types.Node.{Node}
 use Rattle.afs_records.specs.Durable.{folded, Durable}
 use Rattle.afs_rows.specs.Callbacks as row
-use Rattle.afs_rows.specs.ServerRow.{begun_after, does, Decision}
+use Rattle.afs_rows.specs.ServerRow.{begun_after, does, shows, Decision}
 use Rattle.afs_rows.specs.ServerSteps.{stepped}
 use Rattle.afs_rows.specs.States.{ServerState}
 use Rattle.afs_volstore.specs.Stores.{LeftAround, Store}
@@ -27,8 +27,8 @@ calls_for (Some r) = 4
 
 -- What a step that has this record, or none, does to the disk of a store that keeps this. Without a record, or where memory was
 -- wanting, it leaves the disk alone; else a crash at any moment leaves what was kept before, or what is kept with the record.
-pub record OnDisk {D : Type 0} (seen : D → Option (List ℕ)) (left_by : D → ℕ → Option (List ℕ)) (size : D → ℕ) (may_leave : D → List ℕ → Type 0) (moment : D → ℕ) (left_since : D → ℕ → List ℕ → Type 0)
-    (faults own_faults calls : D → ℕ) (setting : D → Setting) (limit : D → ℕ) (decided : Option StoreRecord) (d : Durable) (old new : D) (result : Result Outs NodeFault) : Type 0 where
+pub record OnDisk {D T : Type 0} (seen : D → Option (List ℕ)) (left_by : D → ℕ → Option (List ℕ)) (size : D → ℕ) (may_leave : D → List ℕ → Type 0) (moment : D → ℕ) (left_since : D → ℕ → List ℕ → Type 0)
+    (faults own_faults calls : D → ℕ) (setting : D → Setting) (limit : D → ℕ) (decided : Option StoreRecord) (d : Durable) (old new : D) (result : Result T NodeFault) : Type 0 where
   pub quiet : IsQuiet decided result → SameDisk seen left_by size may_leave moment left_since old new × SameCounts faults own_faults calls setting limit old new
   pub any_moment : (r : StoreRecord) → IsWritten r decided result → (bytes : List ℕ) → seen old ≡ Some bytes → LeavesOnly moment left_since old new (LeftAround (whole_records bytes) r d)
   pub most : (calls old ≤ calls new) × (calls new ≤ calls old + 4)
@@ -36,6 +36,12 @@ pub record OnDisk {D : Type 0} (seen : D → Option (List ℕ)) (left_by : D →
   pub called : OnOk result (calls new ≡ calls old + calls_for decided)
   pub ran : Ran (setting old) (calls old) (calls new) (faults old) (faults new) (own_faults old) (own_faults new) result
   pub set : setting new ≡ setting old
+
+-- no device call was made: no record was due, or memory was wanting
+abbrev pub IsStill : {T : Type 0} → Option StoreRecord → Result T NodeFault → Type 0
+IsStill {T} decided (Ok x) = decided ≡ None
+IsStill {T} decided (Err faults.OutOfMemory) = Unit {0}
+IsStill {T} decided (Err faults.Down) = ⊥
 
 -- ---- room
 
@@ -45,7 +51,18 @@ Prepares {D} {E} r s t (Ok true) = t ≡ record s { prepared = Some r; disk = t.
 Prepares {D} {E} r s t (Ok false) = t ≡ record s { disk = t.disk }
 Prepares {D} {E} r s t (Err e) = t ≡ record s { disk = t.disk }
 
+-- the record is on the disk, and the store keeps what it says; or the disk failed
+abbrev pub Commits : {D T : Type 0} → StoreRecord → Store D → Store D → Result T NodeFault → Type 0
+Commits {D} {T} r s t (Ok x) = (t ≡ record s { durable = t.durable; disk = t.disk; prepared = None; count = s.count + 1 }) × (folded r s.durable ≡ Some t.durable)
+Commits {D} {T} r s t (Err faults.OutOfMemory) = ⊥
+Commits {D} {T} r s t (Err faults.Down) = IsClosed s t
+
 -- ---- the step
+
+-- no more promises are granted than a message has room for
+abbrev pub IsFew : Decision → Type 0
+IsFew (shows head r) = length r.granted ≤ 50
+IsFew d = Unit {0}
 
 -- what is left of a step that was made
 pub record IsMadeOf {D : Type 0} (clock : ℕ) (d : Decision) (turn : row.Turn) (old new : Memory) (s t : Store D) (outs : Outs) : Type 0 where
@@ -53,6 +70,7 @@ pub record IsMadeOf {D : Type 0} (clock : ℕ) (d : Decision) (turn : row.Turn) 
   pub serves : Serves t.node new t.durable
   pub store : t ≡ record s { durable = t.durable; disk = t.disk; prepared = t.prepared; count = t.count; drawn = t.drawn }
   pub done : IsDone (record_decided s.durable.boot clock d) s t
+  pub few : IsFew d
 
 -- A disk that keeps the record of the step keeps what the row leaves of it.
 pub record IsInterrupted {D : Type 0} (me : Node) (clock : ℕ) (d : Decision) (old : Memory) (s t : Store D) : Type 0 where

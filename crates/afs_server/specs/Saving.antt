@@ -69,9 +69,12 @@ hits_each n (f ∷ fs) ps = hits n f ps ++ hits_each n fs (left n f ps)
 abbrev pub has_fid : List Fid → Fid → Bool
 has_fid fids f = list_any (λ (g : Fid). same_fid g f) fids
 
+abbrev pub hits_new : Node → List Fid → Fid → List Promise → List Promise
+hits_new n before f ps = if has_fid before f then [] else hits n f ps
+
 abbrev pub hits_fresh : Node → List Fid → List Fid → List Promise → List Promise
 hits_fresh n before [] ps = []
-hits_fresh n before (f ∷ fs) ps = (if has_fid before f then [] else hits n f ps) ++ hits_fresh n (before ++ f ∷ []) fs ps
+hits_fresh n before (f ∷ fs) ps = hits_new n before f ps ++ hits_fresh n (before ++ f ∷ []) fs ps
 
 -- the breaks that are then owed
 abbrev pub breaks_new : Node → List Fid → ℕ → Lists → List OwedBreak

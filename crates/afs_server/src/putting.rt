@@ -16,7 +16,7 @@ ghost use Rattle.afs_rows.specs.ServerRow.{is_client, roomed};
 ghost use Rattle.afs_server_parts.specs.Kept.{IsSpelling};
 ghost use Rattle.afs_server.specs.Deciding.{CanBeTold, CanBeWritten, IsMade};
 ghost use Rattle.afs_server.specs.Handling.{record_decided, server_seen};
-ghost use Rattle.afs_server.specs.Putting.{DoesAll, OnDisk, Prepares};
+ghost use Rattle.afs_server.specs.Putting.{Commits, DoesAll, OnDisk, Prepares};
 ghost use Rattle.afs_server.specs.Saving.{Puts};
 ghost use Rattle.afs_server.specs.Seen.{CanDraw, Serves};
 ghost use Rattle.afs_server.specs.declared.decided.Decided.TheVariants as decided;
@@ -58,6 +58,19 @@ fn prepare<D: Disk>(store: &mut VolStore<D>, rec: &StoreRecord) -> Mem<bool>
     }
 }
 
+/// Puts the prepared record on the disk.
+fn commit<D: Disk>(store: &mut VolStore<D>) -> Result<(), NodeFault>
+    requires prepared { IsSome store.old.prepared }
+    requires up { store.old.closed ≡ false }
+    ensures commits { (r : records.StoreRecord) → store.old.prepared ≡ Some r → Commits r store.old store.new result }
+    ensures disk { (r : records.StoreRecord) → store.old.prepared ≡ Some r → OnDisk D.seen D.left_by D.size D.may_leave D.moment D.left_since D.faults D.own_faults D.calls D.setting D.limit (Some r) store.old.durable store.old.disk store.new.disk result }
+{
+    match store.commit() {
+        Ok(()) => Ok(()),
+        Err(_) => Err(NodeFault::Down),
+    }
+}
+
 impl FileServer {
     /// The record of a change, which is prepared, is put on the disk, and then the rest of the change is done.
     fn put<D: Disk>(
@@ -80,9 +93,7 @@ impl FileServer {
         self.callers.reserve(1)?;
         self.promises
             .grant_all(head.from, planned.granted.as_slice(), now + PROMISE_TICKS)?;
-        if store.commit().is_err() {
-            return Err(NodeFault::Down);
-        }
+        commit(store)?;
         let Planned {
             ended,
             kept,

@@ -33,7 +33,7 @@ ghost use Rattle.afs_volstore.specs.Stores.{LeftAround, Served};
 ghost use Rattle.afs_server.specs.Answering.{answer_turn, with_lists, KeepsReply};
 ghost use Rattle.afs_server.specs.Deciding.{CanBeWritten, HasKind, IsChanged};
 ghost use Rattle.afs_server.specs.Ending.{Ends};
-ghost use Rattle.afs_server.specs.Saving.{breaks_new, change_kept, fids_changed, fids_granted, has_fid, hits_fresh, new_grants, withdraws_each, IsPlanned, IsTaken, Puts};
+ghost use Rattle.afs_server.specs.Saving.{breaks_new, change_kept, fids_changed, fids_granted, has_fid, hits_fresh, hits_new, new_grants, withdraws_each, IsPlanned, IsTaken, Puts};
 ghost use Rattle.afs_server.specs.Seen.{backs_seen, IsPromiseToNode, IsToNodes};
 ghost use Rattle.afs_server.specs.declared.faults.NodeFault.TheVariants as faults;
 
@@ -136,7 +136,7 @@ fn hits_of(
     now: u32,
     hits: &mut Vec<Promise>,
 ) -> Mem<()>
-    ensures { OnOk result (hits.new.items ≡ hits.old.items ++ hits_fresh except before.now (fid ∷ []) (lasting now promises.now.promises)) }
+    ensures { OnOk result (hits.new.items ≡ hits.old.items ++ hits_new except before.now fid (lasting now promises.now.promises)) }
 {
     if !has_fid(before, fid) {
         promises.hits(fid, except, now, hits)?;
