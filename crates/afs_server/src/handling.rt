@@ -1,6 +1,6 @@
 //! What a file server does with a message.
 
-ghost use Rattle.std.specs.Prelude.{◌≡◌, ◌≤◌, ◌+◌, ◌×◌, ◌∷◌, [], ℕ, List, false, None, Some, length, IsErrOf, OnOk};
+ghost use Rattle.std.specs.Prelude.{◌≡◌, ◌≤◌, ◌+◌, ◌∷◌, [], ℕ, List, false, None, Some, length, IsErrOf, OnOk};
 ghost use Rattle.afs_num.specs.declared.messages.Received.TheVariants as receives;
 ghost use Rattle.afs_num.specs.declared.records.StoreRecord as records;
 ghost use Rattle.afs_disk.specs.Disk.{LeavesOnly, SameDisk};

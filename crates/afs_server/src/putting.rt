@@ -1,6 +1,6 @@
 //! The record of a change is put on the disk, and then the change is done.
 
-ghost use Rattle.std.specs.Prelude.{◌≡◌, ◌≤◌, ◌<◌, ◌+◌, ◌×◌, Some, false, true, length, IfOk, IsErrOf, IsSome};
+ghost use Rattle.std.specs.Prelude.{◌≡◌, ◌≤◌, ◌<◌, ◌+◌, Some, false, true, length, IfOk, IsErrOf, IsSome};
 ghost use Rattle.afs_num.specs.declared.records.StoreRecord as records;
 ghost use Rattle.afs_disk.specs.Disk.{SameDisk};
 ghost use Rattle.afs_journal.specs.Log.{SameCounts};
