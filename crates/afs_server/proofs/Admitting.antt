@@ -1,7 +1,10 @@
 -- What is decided on a call, by what becomes of it.
-use Rattle.std.proofs.Common.{◌≡◌, ℕ, Bool, true, false, cond, List, refl, sym, ap, subst, ◌∙◌}
+use Rattle.std.proofs.Common.{◌≡◌, ℕ, Bool, true, false, cond, List, [], refl, sym, ap, subst, ◌∙◌}
 use Rattle.std.specs.Prelude.{nat_eq}
 use Rattle.afs_num.specs.Nodes.{same_node, IsNode}
+use Rattle.afs_num.specs.declared.calls.FsCall.{FsCall}
+use Rattle.afs_num.specs.declared.calls.FsCall.TheVariants as calls
+use Rattle.afs_num.specs.declared.calls.FsReply.TheVariants as replies
 use Rattle.afs_num.specs.declared.messages.Message.{Message}
 use Rattle.afs_num.specs.declared.messages.Received.{Received}
 use Rattle.afs_num.specs.declared.messages.Received.TheVariants.{Whole}
@@ -10,10 +13,12 @@ use Rattle.afs_num.specs.declared.types.Node.{Node}
 use Rattle.afs_model.specs.Calls as pairs
 use Rattle.afs_model.specs.Calls.{admitted, call_seat, paired, Admitted}
 use Rattle.afs_model.specs.Messages.{received, HasSpelling}
-use Rattle.afs_rows.specs.ServerRow.{admits, called, drops, is_client, not_served, refuses, runs, runs_received}
+use Rattle.afs_ideal.specs.Operations.{the_user, volume_called}
+use Rattle.afs_rows.specs.ServerRow.{admits, called, drops, is_client, not_served, refuses, runs, runs_received, serves_call, time_read, with_volume}
 use Rattle.afs_rows.specs.States.{Seat, ServerState}
 use Rattle.afs_server_parts.specs.Kept.{Spells}
-use Rattle.afs_server.specs.Deciding.{CanBeTold, Decides, IsByClient, Runs}
+use Rattle.afs_server_parts.specs.declared.telling.Grant.{Grant}
+use Rattle.afs_server.specs.Deciding.{is_on_volume, CanBeTold, Decides, IsByClient, Runs}
 use Rattle.afs_server.specs.declared.decided.Decided.{Decided}
 use Rattle.afs_server.specs.declared.decided.Decided.TheVariants as decided
 
@@ -68,3 +73,18 @@ called_here me s clock head r d is decides = rw is decides
 
 pub called_elsewhere : (me : Node) (s : ServerState) (clock : ℕ) (head : Head) (r : Received) → same_node head.to me ≡ false → called me s clock head r ≡ drops
 called_elsewhere me s clock head r is = rw is refl
+
+-- ---- a call that one volume serves
+
+serves_as : (s : ServerState) (clock : ℕ) (head : Head) (user : List ℕ) (call : FsCall) → is_on_volume call ≡ true → serves_call s clock head user call ≡ with_volume s clock head (the_user user) call (volume_called call)
+serves_as s clock head user (calls.GiveUpCallBacks fids callbacks) is = absurd cc
+serves_as s clock head user calls.GetTime is = absurd cc
+serves_as s clock head user (calls.BulkStatus fids) is = absurd cc
+serves_as s clock head user call is = refl
+
+pub volume_serves : (s : ServerState) (clock : ℕ) (head : Head) (user : List ℕ) (call : FsCall) (d : Decided) → is_on_volume call ≡ true → Decides s clock head (with_volume s clock head (the_user user) call (volume_called call)) d → Decides s clock head (serves_call s clock head user call) d
+volume_serves s clock head user call d is decides = subst (λ x. Decides s clock head x d) (sym (serves_as s clock head user call is)) decides
+
+pub time_told : (s : ServerState) (clock : ℕ) (head : Head) (user : List ℕ) (call : FsCall) (grants : List Grant) → call ≡ calls.GetTime → grants ≡ [] → Decides s clock head (serves_call s clock head user call) (decided.Shows (replies.GetTime clock 0) grants)
+time_told s clock head user call grants is none =
+    (time_read clock, (record { reply_is = refl; grants_are = sym none; nothing = refl }, ap (serves_call s clock head user) is))

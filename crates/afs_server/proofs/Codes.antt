@@ -19,29 +19,29 @@ IsCoded r = Unit {0}
 agree_coded : (a b : Option Vnode) (ts : Tests) → AreCodes ts → AreCodes (kinds_agree a b ++ ts)
 agree_coded None b ts h = h
 agree_coded (Some x) None ts h = h
-agree_coded (Some x) (Some y) ts h = (refl, refl, h)
+agree_coded (Some x) (Some y) ts h = (refl, (refl, h))
 
 either : (b : Bool) (ts us : Tests) → AreCodes ts → AreCodes us → AreCodes (cond b ts us)
 either true ts us h k = h
 either false ts us h k = k
 
 tests_coded : (caller : Caller) (call : FsCall) (v : Volume) → AreCodes (tests caller call v)
-tests_coded caller (calls.FetchData f position wanted) v = (refl, refl, refl, tt)
-tests_coded caller (calls.FetchAcl f) v = (refl, refl, refl, tt)
-tests_coded caller (calls.FetchStatus f) v = (refl, refl, tt)
-tests_coded caller (calls.StoreData f status position stored file_length contents) v = (refl, refl, refl, refl, refl, refl, tt)
-tests_coded caller (calls.StoreAcl f acl) v = (refl, refl, refl, refl, refl, tt)
-tests_coded caller (calls.StoreStatus f status) v = (refl, refl, refl, refl, tt)
-tests_coded caller (calls.RemoveFile d name) v = (refl, refl, refl, refl, refl, refl, tt)
-tests_coded caller (calls.CreateFile d name status) v = (refl, refl, refl, refl, refl, refl, refl, tt)
+tests_coded caller (calls.FetchData f position wanted) v = (refl, (refl, (refl, tt)))
+tests_coded caller (calls.FetchAcl f) v = (refl, (refl, (refl, tt)))
+tests_coded caller (calls.FetchStatus f) v = (refl, (refl, tt))
+tests_coded caller (calls.StoreData f status position stored file_length contents) v = (refl, (refl, (refl, (refl, (refl, (refl, tt))))))
+tests_coded caller (calls.StoreAcl f acl) v = (refl, (refl, (refl, (refl, (refl, tt)))))
+tests_coded caller (calls.StoreStatus f status) v = (refl, (refl, (refl, (refl, tt))))
+tests_coded caller (calls.RemoveFile d name) v = (refl, (refl, (refl, (refl, (refl, (refl, tt))))))
+tests_coded caller (calls.CreateFile d name status) v = (refl, (refl, (refl, (refl, (refl, (refl, (refl, tt)))))))
 tests_coded caller (calls.Rename d old e new) v =
     either (nat_eq e.volume d.volume) (rename_tests caller d old e new v) (rename_out_tests caller d v)
-    (refl, refl, refl, agree_coded _ _ _ (refl, refl, refl, refl, refl, refl, tt))
-    (refl, refl, refl, refl, refl, tt)
-tests_coded caller (calls.Symlink d name target status) v = (refl, refl, refl, refl, refl, refl, refl, tt)
-tests_coded caller (calls.Link d name f) v = (refl, refl, refl, refl, refl, refl, refl, refl, tt)
-tests_coded caller (calls.MakeDir d name status) v = (refl, refl, refl, refl, refl, refl, refl, tt)
-tests_coded caller (calls.RemoveDir d name) v = (refl, refl, refl, refl, refl, refl, refl, tt)
+    (refl, (refl, (refl, agree_coded _ _ _ (refl, (refl, (refl, (refl, (refl, (refl, tt)))))))))
+    (refl, (refl, (refl, (refl, (refl, tt)))))
+tests_coded caller (calls.Symlink d name target status) v = (refl, (refl, (refl, (refl, (refl, (refl, (refl, tt)))))))
+tests_coded caller (calls.Link d name f) v = (refl, (refl, (refl, (refl, (refl, (refl, (refl, (refl, tt))))))))
+tests_coded caller (calls.MakeDir d name status) v = (refl, (refl, (refl, (refl, (refl, (refl, (refl, tt)))))))
+tests_coded caller (calls.RemoveDir d name) v = (refl, (refl, (refl, (refl, (refl, (refl, (refl, tt)))))))
 tests_coded caller (calls.GetVolumeStatus id) v = (refl, tt)
 tests_coded caller call v = tt
 
@@ -62,7 +62,7 @@ by_coded (Some code) r h k = h
 by_coded None r h k = k
 
 limited_coded : (id : ℕ) (v : Volume) (r : Result) → IsCoded r → IsCoded (limited id v r)
-limited_coded id v (changes es n) h = by_coded (first_failing (limits id es v)) (changes es n) (failing_coded (limits id es v) (refl, refl, tt)) tt
+limited_coded id v (changes es n) h = by_coded (first_failing (limits id es v)) (changes es n) (failing_coded (limits id es v) (refl, (refl, tt))) tt
 limited_coded id v (refused code) h = h
 limited_coded id v (reads shown) h = h
 limited_coded id v no_operation h = h
@@ -79,7 +79,7 @@ more_coded f None (Some x) r h k = k
 
 statuses_coded : (caller : Caller) (v : Volume) (fs : List Fid) → IsCoded (statuses caller v fs)
 statuses_coded caller v [] = tt
-statuses_coded caller v (f ∷ fs) = more_coded f _ (vnode_of f v) (statuses caller v fs) (failing_coded _ (tests_coded caller (calls.FetchStatus f) v)) (statuses_coded caller v fs)
+statuses_coded caller v (f ∷ fs) = more_coded f _ (vnode_of f v) (statuses caller v fs) (failing_coded (tests caller (calls.FetchStatus f) v) (tests_coded caller (calls.FetchStatus f) v)) (statuses_coded caller v fs)
 
 effect_coded : (caller : Caller) (call : FsCall) (v : Volume) → IsCoded (effect caller call v)
 effect_coded caller (calls.FetchData f position wanted) v = read_coded _ f (vnode_of f v)
@@ -89,7 +89,7 @@ effect_coded caller (calls.BulkStatus fids) v = statuses_coded caller v fids
 effect_coded caller call v = tt
 
 op_coded : (id : ℕ) (caller : Caller) (call : FsCall) (v : Volume) → IsCoded (op id caller call v)
-op_coded id caller call v = by_coded _ _ (failing_coded _ (tests_coded caller call v)) (limited_coded id v _ (effect_coded caller call v))
+op_coded id caller call v = by_coded _ _ (failing_coded (tests caller call v) (tests_coded caller call v)) (limited_coded id v _ (effect_coded caller call v))
 
 pub op_code : (id : ℕ) (caller : Caller) (call : FsCall) (v : Volume) (code : ℕ) → op id caller call v ≡ refused code → nat_eq code 0 ≡ false
 op_code id caller call v code e = subst IsCoded e (op_coded id caller call v)

@@ -7,6 +7,7 @@ pub mod Folded
 pub mod Granting
 pub mod Handled
 pub mod Heard
+pub mod Holding
 pub mod Kept
 pub mod Lasting
 pub mod Making

@@ -30,7 +30,7 @@ use Rattle.afs_volume.specs.declared.faults.OpFault.{OpFault}
 use Rattle.afs_volume.specs.declared.faults.OpFault.TheVariants as faults
 use Rattle.afs_volume.specs.declared.volume.Volume.{Volume}
 use Rattle.afs_server.specs.Deciding.{CanBeTold, Decides, FitsDecided}
-use Rattle.afs_server.specs.Several.{behind, or_first, seen_in, sync_seen, sync_told, AreFirst, AreSeen, AreTold, IsFault, IsRefused, IsSight, IsStatusRead, Sees, SeesAll, TellsOne, ToldAs}
+use Rattle.afs_server.specs.Several.{behind, or_first, seen_in, sync_seen, sync_told, AreFirst, AreSeen, AreTold, IsFault, IsRefused, IsSeen, IsSight, IsStatusRead, Sees, SeesAll, TellsOne, ToldAs}
 use Rattle.afs_server.specs.declared.decided.Decided.{Decided}
 use Rattle.afs_server.specs.declared.several.Seen.{Seen}
 use Rattle.afs_server.specs.declared.several.Told.{Told}
@@ -85,7 +85,7 @@ refused_as st (changes es n) code h e = absurd cc
 refused_as st no_operation code h e = absurd cc
 
 module _ (caller : Caller) (f : Fid) (w : Volume) where
-  read_by_tests : Option ℕ → Option Vnode → operations.Result
+  abbrev read_by_tests : Option ℕ → Option Vnode → operations.Result
   read_by_tests o q = by_tests o (limited w.head.id (volume_of w) (read_by shows_status f q))
 
   -- a status, and nothing else, is read
@@ -111,6 +111,15 @@ module _ (caller : Caller) (f : Fid) (w : Volume) where
   seen_as (Err (faults.Code code)) e =
       refused_as (stored_of w) (op w.head.id caller (calls.FetchStatus f) (volume_of w)) code.0 (λ k q. op_code w.head.id caller (calls.FetchStatus f) (volume_of w) k q) e
   seen_as (Err faults.OutOfMemory) e = tt
+
+tells_by : (caller : Caller) (f : Fid) (seen : Seen) (s : Result Sight ℕ) (t u : Told) → IsSeen caller f seen s → u.statuses ≡ t.statuses ++ seen.status ∷ [] → u.callbacks ≡ t.callbacks ++ no_callback ∷ []
+    → u.grants ≡ t.grants ++ record { fid = f; index = seen.status.sync_counter } ∷ [] → u.sync ≡ or_first seen.sync t.sync → TellsOne caller s t u
+tells_by caller f seen (Ok x) t u is statuses callbacks grants sync = record { sight = x; seen = refl; told = λ xs told. told_more caller xs x f seen t u told is statuses callbacks grants sync }
+tells_by caller f seen (Err code) t u is statuses callbacks grants sync = absurd is
+
+pub tells_one : (caller : Caller) (f : Fid) (seen : Seen) (s : Result Sight ℕ) (t u : Told) → IsSeen caller f seen s → u.statuses ≡ t.statuses ++ seen.status ∷ [] → u.callbacks ≡ t.callbacks ++ no_callback ∷ []
+    → u.grants ≡ t.grants ++ record { fid = f; index = seen.status.sync_counter } ∷ [] → u.sync ≡ or_first seen.sync t.sync → TellsOne caller s t u
+tells_one caller f seen s t u is statuses callbacks grants sync = tells_by caller f seen s t u is statuses callbacks grants sync
 
 -- ---- one after the other
 
@@ -194,7 +203,7 @@ told_can_be_told caller count opcode (Err k) (Err faults.OutOfMemory) d few numb
 
 granted_few : (xs : List Sight) → length (grants_seen (map (λ (x : Sight). x.found) xs)) ≡ length xs
 granted_few [] = refl
-granted_few (x ∷ xs) = ap (λ (k : ℕ). k + 1) (granted_few xs)
+granted_few (x ∷ xs) = let rest = granted_few xs in omega (arith, rest)
 
 pub told_fits : (caller : Caller) (count : ℕ) (r : Result (List Sight) ℕ) (x : Result Told OpFault) (d : Decided) → count ≤ 50 → SeesAll caller count r x → ToldAs x d → FitsDecided d
 told_fits caller count (Ok xs) (Ok t) d few sees is =

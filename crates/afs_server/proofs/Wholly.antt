@@ -47,7 +47,7 @@ none_recorded s clock head d (decided.Changes id x) boot leaves is = absurd leav
 
 long_seen : (fs : List Found) → length (grants_seen fs) ≡ length fs
 long_seen [] = refl
-long_seen (f ∷ fs) = ap (λ (k : ℕ). k + 1) (long_seen fs)
+long_seen (f ∷ fs) = let rest = long_seen fs in omega (arith, rest)
 
 few_granted : (r : ServerRow.Reading) (grants : List Grant) → grants_seen r.granted ≡ grants → length grants ≤ 50 → length r.granted ≤ 50
 few_granted r grants are few = let long = sym (long_seen r.granted) ∙ ap length are in omega (arith, long, few)

@@ -75,7 +75,7 @@ few_hits n (f ∷ fs) ps =
     let all = length-append (hits n f ps) (hits_each n fs (left n f ps)) in
     omega (arith, both, rest, all)
 
-filter_few : (q : Promise → Bool) (ps : List Promise) → length (filter q ps) ≤ length ps
+pub filter_few : (q : Promise → Bool) (ps : List Promise) → length (filter q ps) ≤ length ps
 filter_few q ps = let both = length-filter_both q (λ (p : Promise). not (q p)) (λ p. refl) ps in omega (arith, both)
 
 pub few_lasting : (n : Node) (fs : List Fid) (now : ℕ) (ps : List Promise) → length (hits_each n fs (lasting now ps)) ≤ length ps

@@ -54,6 +54,13 @@ granted_in (calls.FetchData f position wanted) reply = granted_data f reply
 granted_in (calls.FetchStatus f) reply = granted_status f reply
 granted_in call reply = []
 
+-- the call is served by one volume, or by none
+abbrev pub is_on_volume : FsCall → Bool
+is_on_volume (calls.GiveUpCallBacks fids callbacks) = false
+is_on_volume calls.GetTime = false
+is_on_volume (calls.BulkStatus fids) = false
+is_on_volume call = true
+
 -- ---- decisions
 
 -- a reading that the reply tells, and whose promises these grants are; no promise is given up in it

@@ -12,7 +12,7 @@ ghost use Rattle.afs_volume.specs.Giving.{is_changing, is_reading, volume_of, Fi
 ghost use Rattle.afs_volume.specs.Taking.{stored_of};
 ghost use Rattle.afs_server_parts.specs.Kept.{Says};
 ghost use Rattle.afs_rows.specs.ServerRow.{admits, called, code_of_unreadable, decided, in_volume, is_client, runs, runs_carried, runs_received, serves, serves_call, with_volume};
-ghost use Rattle.afs_server.specs.Deciding.{granted_data, granted_in, granted_status, CanBeTold, ChangesAs, Decides, FitsDecided, IsByClient, IsUnder, ReadsAs, Runs};
+ghost use Rattle.afs_server.specs.Deciding.{granted_data, granted_in, granted_status, is_on_volume, CanBeTold, ChangesAs, Decides, FitsDecided, IsByClient, IsUnder, ReadsAs, Runs};
 ghost use Rattle.afs_server.specs.Handling.{server_seen};
 ghost use Rattle.afs_server.specs.Seen.{Serves};
 
@@ -107,6 +107,16 @@ fn is_reading(call: &FsCall) -> bool
         | FsCall::GetVolumeStatus { .. }
         | FsCall::BulkStatus { .. } => true,
         _ => false,
+    }
+}
+
+/// Whether the call is one that a volume serves.
+fn is_on_volume(call: &FsCall) -> bool
+    ensures { result ≡ is_on_volume call.now }
+{
+    match call {
+        FsCall::GiveUpCallBacks { .. } | FsCall::GetTime | FsCall::BulkStatus { .. } => false,
+        _ => true,
     }
 }
 
@@ -315,8 +325,8 @@ impl FileServer {
         }
     }
 
-    /// What is decided on a call that can be read.
-    fn serve<D: Disk>(
+    /// What is decided on a call that no one volume serves.
+    fn serve_else<D: Disk>(
         &self,
         store: &VolStore<D>,
         head: &Head,
@@ -324,6 +334,7 @@ impl FileServer {
         call: &FsCall,
         now: u32,
     ) -> Mem<Decided>
+        requires other { is_on_volume call.now ≡ false }
         requires fits { FitsCall call.now }
         requires opcode { head.now.opcode ≡ call_number (ask.File call.now) }
         ensures decides { IfOk result (λ d. Decides (server_seen self.now store.now) now head.now (serves_call (server_seen self.now store.now) now head.now user.now call.now) d) }
@@ -345,10 +356,31 @@ impl FileServer {
                 let decided = self.statuses(store, head, user, fids.as_slice(), now)?;
                 Ok(decided)
             }
-            _ => {
-                let decided = self.with_volume(store, head, user, call, now)?;
-                Ok(decided)
-            }
+            _ => unreachable!(),
+        }
+    }
+
+    /// What is decided on a call that can be read.
+    fn serve<D: Disk>(
+        &self,
+        store: &VolStore<D>,
+        head: &Head,
+        user: &[u8],
+        call: &FsCall,
+        now: u32,
+    ) -> Mem<Decided>
+        requires fits { FitsCall call.now }
+        requires opcode { head.now.opcode ≡ call_number (ask.File call.now) }
+        ensures decides { IfOk result (λ d. Decides (server_seen self.now store.now) now head.now (serves_call (server_seen self.now store.now) now head.now user.now call.now) d) }
+        ensures told { IfOk result (λ d. CanBeTold head.now.opcode d) }
+        ensures fits { IfOk result FitsDecided }
+    {
+        if is_on_volume(call) {
+            let decided = self.with_volume(store, head, user, call, now)?;
+            Ok(decided)
+        } else {
+            let decided = self.serve_else(store, head, user, call, now)?;
+            Ok(decided)
         }
     }
 

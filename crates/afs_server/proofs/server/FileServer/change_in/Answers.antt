@@ -5,8 +5,8 @@ use Rattle.afs_server.specs.Handling.{server_seen}
 use Rattle.afs_server.proofs.Decisions.{change_can_be_told, change_decides, change_fits, is_on}
 use Rattle.afs_server.proofs.server.FileServer.change_in.Goals as goal
 
-pub apply-requires-clause-on : goal.apply-requires-clause-on
-apply-requires-clause-on g c = is_on c.args.call.now c.args.volume.now.head.id c.requires.on
+pub apply-applied-requires-clause-on : goal.apply-applied-requires-clause-on
+apply-applied-requires-clause-on g c = is_on c.args.call.now c.args.volume.now.head.id c.requires.on
 
 pub returns-clause-decides : goal.returns-clause-decides
 returns-clause-decides g c =

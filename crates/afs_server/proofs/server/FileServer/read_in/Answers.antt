@@ -3,8 +3,8 @@ use Rattle.afs_server.specs.Handling.{server_seen}
 use Rattle.afs_server.proofs.Decisions.{is_on, read_can_be_told, read_decides, read_fits}
 use Rattle.afs_server.proofs.server.FileServer.read_in.Goals as goal
 
-pub read-requires-clause-on : goal.read-requires-clause-on
-read-requires-clause-on g c = is_on c.args.call.now c.args.volume.now.head.id c.requires.on
+pub read-read-requires-clause-on : goal.read-read-requires-clause-on
+read-read-requires-clause-on g c = is_on c.args.call.now c.args.volume.now.head.id c.requires.on
 
 pub returns-clause-decides : goal.returns-clause-decides
 returns-clause-decides g c =
