@@ -58,10 +58,7 @@ impl FileServer {
             OnDisk D.seen D.left_by D.size D.may_leave D.moment D.left_since D.faults D.own_faults D.calls D.setting D.limit (record_decided store.old.durable.boot now d) store.old.durable store.old.disk store.new.disk result }
     {
         match decided {
-            Decided::Changes(id, change) => {
-                let outs = self.save(store, head, id, change, now)?;
-                Ok(outs)
-            }
+            Decided::Changes(id, change) => { self.save(store, head, id, change, now) }
             decided => {
                 let outs = self.answer(store, head, decided, now)?;
                 Ok(outs)
@@ -89,8 +86,7 @@ impl FileServer {
             OnDisk D.seen D.left_by D.size D.may_leave D.moment D.left_since D.faults D.own_faults D.calls D.setting D.limit (record_decided store.old.durable.boot now d) store.old.durable store.old.disk store.new.disk result }
     {
         let decided = self.called(store, head, received, now)?;
-        let outs = self.take_decided(store, head, decided, now)?;
-        Ok(outs)
+        self.take_decided(store, head, decided, now)
     }
 
     /// A message has come that can be read, as this.
@@ -113,10 +109,7 @@ impl FileServer {
             OnDisk D.seen D.left_by D.size D.may_leave D.moment D.left_since D.faults D.own_faults D.calls D.setting D.limit (record_decided store.old.durable.boot now d) store.old.durable store.old.disk store.new.disk result }
     {
         match &message.carried {
-            Carried::Call { .. } => {
-                let outs = self.take_call(store, &message.head, received, now)?;
-                Ok(outs)
-            }
+            Carried::Call { .. } => { self.take_call(store, &message.head, received, now) }
             Carried::Reply { .. } => {
                 let outs = self.hear_answer(store, &message.head, now)?;
                 Ok(outs)
@@ -154,18 +147,9 @@ impl FileServer {
                 let outs = self.pass(store, now)?;
                 Ok(outs)
             }
-            Received::Unserved { head } => {
-                let outs = self.take_call(store, head, received, now)?;
-                Ok(outs)
-            }
-            Received::Unreadable { head } => {
-                let outs = self.take_call(store, head, received, now)?;
-                Ok(outs)
-            }
-            Received::Whole { message } => {
-                let outs = self.take_whole(store, received, message, now)?;
-                Ok(outs)
-            }
+            Received::Unserved { head } => { self.take_call(store, head, received, now) }
+            Received::Unreadable { head } => { self.take_call(store, head, received, now) }
+            Received::Whole { message } => { self.take_whole(store, received, message, now) }
         }
     }
 
@@ -213,7 +197,6 @@ impl FileServer {
         ensures setting { D.setting store.new.disk ≡ D.setting store.old.disk }
     {
         let received = read_message(self.alloc, &CALLS, bytes)?;
-        let outs = self.take(store, &received, now)?;
-        Ok(outs)
+        self.take(store, &received, now)
     }
 }

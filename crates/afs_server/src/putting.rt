@@ -146,7 +146,6 @@ impl FileServer {
             let outs = self.refuse(store, head, NO_ROOM, now)?;
             return Ok(outs);
         }
-        let outs = self.put(store, head, planned, now)?;
-        Ok(outs)
+        self.put(store, head, planned, now)
     }
 }
