@@ -1,5 +1,5 @@
 -- What is decided is done, with a record or without one; and what that is at any place.
-use Rattle.std.proofs.Common.{◌≡◌, ◌≤◌, ◌+◌, ℕ, List, [], ◌∷◌, map, length, Option, Some, None, refl, sym, ap, subst, ◌∙◌, arith}
+use Rattle.std.proofs.Common.{◌≡◌, ◌≤◌, ◌+◌, ℕ, true, List, [], ◌∷◌, map, length, Option, Some, None, refl, sym, ap, subst, ◌∙◌, arith}
 use Rattle.std.specs.Prelude.{Result, Ok, Err, OnOk, IsErrOf}
 use Rattle.std.specs.List.{All}
 use Rattle.std.proofs.lemmas.List.{length-map}
@@ -15,14 +15,14 @@ use Rattle.afs_breaks.specs.Promises.{Lists}
 use Rattle.afs_rows.specs.Callbacks as row
 use Rattle.afs_rows.specs.Callbacks.{turned_in}
 use Rattle.afs_rows.specs.ServerRow as ServerRow
-use Rattle.afs_rows.specs.ServerRow.{begun_after, device_calls, does, drops, refuses, repeats, saves, shows, tells_boot, Decision}
-use Rattle.afs_rows.specs.ServerSteps.{done}
+use Rattle.afs_rows.specs.ServerRow.{begun_after, decides, device_calls, does, drops, refuses, repeats, saves, shows, tells_boot, Decision}
+use Rattle.afs_rows.specs.ServerSteps.{done, server_row}
 use Rattle.afs_rows.specs.States.{ServerState}
 use Rattle.afs_server_parts.specs.Turning.{IsBreakToNode}
 use Rattle.afs_server_parts.specs.Telling.{grants_seen}
 use Rattle.afs_server_parts.specs.declared.telling.Grant.{Grant}
 use Rattle.afs_volstore.specs.Stores.{Store}
-use Rattle.afs_server.specs.Deciding.{Decides, FitsDecided, IsReading, LeavesDisk}
+use Rattle.afs_server.specs.Deciding.{leaves_disk, Decides, FitsDecided, IsReading, LeavesDisk}
 use Rattle.afs_server.specs.Handling.{lines_behind, record_decided, server_seen, Does, Handles, IsDone, Makes}
 use Rattle.afs_server.specs.Putting.{calls_for, DoesAll, IsFew, IsInterrupted, IsMadeOf, IsStill}
 use Rattle.afs_server.specs.Seen.{backs_seen, lasting_of, Memory, Serves}
@@ -44,6 +44,15 @@ none_recorded s clock head d (decided.Refuses code) boot leaves is = ap (record_
 none_recorded s clock head d (decided.Shows reply grants) boot leaves is = ap (record_decided boot clock) is.1.1
 none_recorded s clock head d (decided.GivesUp fids) boot leaves is = ap (record_decided boot clock) is
 none_recorded s clock head d (decided.Changes id x) boot leaves is = absurd leaves
+
+pub leaves_as : (x : Decided) → leaves_disk x ≡ true → LeavesDisk x
+leaves_as decided.Drops is = tt
+leaves_as decided.TellsBoot is = tt
+leaves_as (decided.Repeats reply) is = tt
+leaves_as (decided.Refuses code) is = tt
+leaves_as (decided.Shows reply grants) is = tt
+leaves_as (decided.GivesUp fids) is = tt
+leaves_as (decided.Changes id x) is = absurd cc
 
 long_seen : (fs : List Found) → length (grants_seen fs) ≡ length fs
 long_seen [] = refl
@@ -86,6 +95,13 @@ pub handles_at : {D : Type 0} (clock place : ℕ) (d : Decision) (turn : row.Tur
 handles_at {D} clock place d turn old new s t (Ok outs) is = given_at s.node (server_seen old s) clock place d turn new t outs is.makes
 handles_at {D} clock place d turn old new s t (Err faults.OutOfMemory) is = is
 handles_at {D} clock place d turn old new s t (Err faults.Down) is = is.closed
+
+pub step_at : {D : Type 0} (clock place : ℕ) (m : Received) (old new : Memory) (s t : Store D) (result : Result Outs NodeFault) →
+    DoesAll clock (decides s.node (server_seen old s) clock m) (turned_in s.node (server_seen old s) clock (row.expired clock (server_seen old s).backs) (decides s.node (server_seen old s) clock m) m) old new s t result →
+    Handles (server_row s.node (server_seen old s) clock place m) (lines.Given place ∷ []) old new s t result
+unfolding server_row
+step_at {D} clock place m old new s t result is =
+    handles_at clock place (decides s.node (server_seen old s) clock m) (turned_in s.node (server_seen old s) clock (row.expired clock (server_seen old s).backs) (decides s.node (server_seen old s) clock m) m) old new s t result is
 
 pub serves_after : {D : Type 0} (clock : ℕ) (d : Decision) (turn : row.Turn) (old new : Memory) (s t : Store D) (result : Result Outs NodeFault) → DoesAll clock d turn old new s t result → OnOk result (Serves t.node new t.durable)
 serves_after {D} clock d turn old new s t (Ok outs) is = is.serves
@@ -152,3 +168,9 @@ pub draws_after : {D : Type 0} (clock : ℕ) (d : Decision) (m : Received) (old 
     DoesAll clock d (turned_in s.node (server_seen old s) clock (row.expired clock (server_seen old s).backs) d m) old new s t result → OnOk result (DrawsFewIn old new s t)
 draws_after {D} clock d m old new s t (Ok outs) is = draws_ok clock d m old new s t outs is
 draws_after {D} clock d m old new s t (Err fault) is = tt
+
+-- ---- the disk's calls
+
+pub called_after : {T : Type 0} (boot clock : ℕ) (d : Decision) (result : Result T NodeFault) (before now : ℕ) → OnOk result (now ≡ before + calls_for (record_decided boot clock d)) → OnOk result (now ≡ before + device_calls d)
+called_after {T} boot clock d (Ok x) before now is = is ∙ ap (λ (k : ℕ). before + k) (calls_decided boot clock d)
+called_after {T} boot clock d (Err fault) before now is = tt

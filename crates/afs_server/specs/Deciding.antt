@@ -164,6 +164,10 @@ Runs decided.TellsBoot a = Unit {0}
 Runs (decided.Repeats reply) a = Unit {0}
 Runs d a = a ≡ runs
 
+abbrev pub leaves_disk : Decided → Bool
+leaves_disk (decided.Changes id x) = false
+leaves_disk d = true
+
 -- the decision leaves the disk as it is
 abbrev pub LeavesDisk : Decided → Type 0
 LeavesDisk (decided.Changes id x) = ⊥

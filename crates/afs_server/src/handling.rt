@@ -16,7 +16,7 @@ ghost use Rattle.afs_rows.specs.Callbacks.{turn_for, turned_in};
 ghost use Rattle.afs_rows.specs.ServerRow.{begun_after, called, decides, device_calls, Decision};
 ghost use Rattle.afs_rows.specs.ServerSteps.{server_row};
 ghost use Rattle.afs_volstore.specs.Stores.{LeftAround};
-ghost use Rattle.afs_server.specs.Deciding.{CanBeTold, Decides, FitsDecided, IsByClient, IsUnder, Runs};
+ghost use Rattle.afs_server.specs.Deciding.{leaves_disk, CanBeTold, Decides, FitsDecided, IsByClient, IsUnder, Runs};
 ghost use Rattle.afs_server.specs.Handling.{calls_served, record_decided, server_seen, Handles, IsDone, IsQuiet, IsWritten, Ran};
 ghost use Rattle.afs_server.specs.Putting.{DoesAll, OnDisk};
 ghost use Rattle.afs_server.specs.Seen.{lasting_of, CanDraw, Serves};
@@ -32,6 +32,16 @@ use afs_message::messages::read_message;
 use afs_num::messages::{Carried, Message, Received};
 use afs_num::types::Head;
 use afs_volstore::VolStore;
+
+/// Whether what is decided leaves the disk as it is.
+fn leaves_disk(decided: &Decided) -> bool
+    ensures { result ≡ leaves_disk decided.now }
+{
+    match decided {
+        Decided::Changes(..) => false,
+        _ => true,
+    }
+}
 
 impl FileServer {
     /// What is decided on the call of this header is done.
@@ -57,12 +67,13 @@ impl FileServer {
         ensures disk { (d : Decision) → Decides (server_seen self.old store.old) now head.now d decided →
             OnDisk D.seen D.left_by D.size D.may_leave D.moment D.left_since D.faults D.own_faults D.calls D.setting D.limit (record_decided store.old.durable.boot now d) store.old.durable store.old.disk store.new.disk result }
     {
+        if leaves_disk(&decided) {
+            let outs = self.answer(store, head, decided, now)?;
+            return Ok(outs);
+        }
         match decided {
-            Decided::Changes(id, change) => { self.save(store, head, id, change, now) }
-            decided => {
-                let outs = self.answer(store, head, decided, now)?;
-                Ok(outs)
-            }
+            Decided::Changes(id, change) => self.save(store, head, id, change, now),
+            _ => unreachable!(),
         }
     }
 
@@ -153,10 +164,30 @@ impl FileServer {
         }
     }
 
+    /// These are the bytes of a message.
+    fn take_bytes<D: Disk>(
+        &mut self,
+        store: &mut VolStore<D>,
+        bytes: &[u8],
+        now: u32,
+    ) -> Result<Outs, NodeFault>
+        requires serves { Serves store.old.node self.old store.old.durable }
+        requires draws { CanDraw self.old store.old.drawn }
+        requires up { store.old.closed ≡ false }
+        requires now { now ≤ 1000000000 }
+        ensures does { let d = decides store.old.node (server_seen self.old store.old) now (received_by calls_served bytes.now) in
+            DoesAll now d (turned_in store.old.node (server_seen self.old store.old) now (row.expired now (server_seen self.old store.old).backs) d (received_by calls_served bytes.now)) self.old self.new store.old store.new result }
+        ensures disk { let d = decides store.old.node (server_seen self.old store.old) now (received_by calls_served bytes.now) in
+            OnDisk D.seen D.left_by D.size D.may_leave D.moment D.left_since D.faults D.own_faults D.calls D.setting D.limit (record_decided store.old.durable.boot now d) store.old.durable store.old.disk store.new.disk result }
+        ensures found { FindsMessages calls_served bytes.now }
+    {
+        let received = read_message(self.alloc, &CALLS, bytes)?;
+        self.take(store, &received, now)
+    }
+
     /// What the server does with one message, at this time in ticks. It isn't told the message's place in the run, and
     /// leaves out the line of that. A step makes at most one record. A server that goes down is to be thrown away: its
     /// disk keeps what it kept before the step, or what it keeps after it.
-    #[tactic(auto, unfolding(afs_rows::specs::ServerSteps::server_row))]
     pub fn handle<D: Disk>(
         &mut self,
         store: &mut VolStore<D>,
@@ -196,7 +227,6 @@ impl FileServer {
         ensures ran { Ran (D.setting store.old.disk) (D.calls store.old.disk) (D.calls store.new.disk) (D.faults store.old.disk) (D.faults store.new.disk) (D.own_faults store.old.disk) (D.own_faults store.new.disk) result }
         ensures setting { D.setting store.new.disk ≡ D.setting store.old.disk }
     {
-        let received = read_message(self.alloc, &CALLS, bytes)?;
-        self.take(store, &received, now)
+        self.take_bytes(store, bytes, now)
     }
 }
