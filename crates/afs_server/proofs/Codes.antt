@@ -4,7 +4,8 @@ use Rattle.std.specs.Prelude.{nat_eq}
 use Rattle.afs_num.specs.declared.calls.FsCall.{FsCall}
 use Rattle.afs_num.specs.declared.calls.FsCall.TheVariants as calls
 use Rattle.afs_num.specs.declared.types.Fid.{Fid}
-use Rattle.afs_ideal.specs.Operations.{by_tests, effect, first_failing, kinds_agree, limited, limits, one_more, op, read_by, refused, reads, changes, no_operation, rename_tests, rename_out_tests, shows_statuses, statuses, tests, Caller, Found, Result, Shown, Tests}
+use Rattle.afs_ideal.specs.Operations.{by_tests, effect, first_failing, kinds_agree, limited, limits, one_more, op, read_by, refused, reads, changes, no_operation, rename_tests, rename_out_tests, shows_acl, shows_body, shows_status, shows_statuses, statuses, tests, vnode_in, is_read_write, Caller, Found, Result, Shown, Tests}
+use Rattle.afs_volume.specs.Giving.{move_tests}
 use Rattle.afs_ideal.specs.Volumes.{Edit, Vnode, Volume, vnode_of}
 
 abbrev AreCodes : Tests → Type 0
@@ -36,7 +37,7 @@ tests_coded caller (calls.RemoveFile d name) v = (refl, (refl, (refl, (refl, (re
 tests_coded caller (calls.CreateFile d name status) v = (refl, (refl, (refl, (refl, (refl, (refl, (refl, tt)))))))
 tests_coded caller (calls.Rename d old e new) v =
     either (nat_eq e.volume d.volume) (rename_tests caller d old e new v) (rename_out_tests caller d v)
-    (refl, (refl, (refl, agree_coded _ _ _ (refl, (refl, (refl, (refl, (refl, (refl, tt)))))))))
+    (refl, (refl, (refl, agree_coded (vnode_in d old v) (vnode_in e new v) (is_read_write v ∷ move_tests caller d old e new v) (refl, (refl, (refl, (refl, (refl, (refl, tt)))))))))
     (refl, (refl, (refl, (refl, (refl, tt)))))
 tests_coded caller (calls.Symlink d name target status) v = (refl, (refl, (refl, (refl, (refl, (refl, (refl, tt)))))))
 tests_coded caller (calls.Link d name f) v = (refl, (refl, (refl, (refl, (refl, (refl, (refl, (refl, tt))))))))
@@ -82,9 +83,9 @@ statuses_coded caller v [] = tt
 statuses_coded caller v (f ∷ fs) = more_coded f _ (vnode_of f v) (statuses caller v fs) (failing_coded (tests caller (calls.FetchStatus f) v) (tests_coded caller (calls.FetchStatus f) v)) (statuses_coded caller v fs)
 
 effect_coded : (caller : Caller) (call : FsCall) (v : Volume) → IsCoded (effect caller call v)
-effect_coded caller (calls.FetchData f position wanted) v = read_coded _ f (vnode_of f v)
-effect_coded caller (calls.FetchAcl f) v = read_coded _ f (vnode_of f v)
-effect_coded caller (calls.FetchStatus f) v = read_coded _ f (vnode_of f v)
+effect_coded caller (calls.FetchData f position wanted) v = read_coded shows_body f (vnode_of f v)
+effect_coded caller (calls.FetchAcl f) v = read_coded shows_acl f (vnode_of f v)
+effect_coded caller (calls.FetchStatus f) v = read_coded shows_status f (vnode_of f v)
 effect_coded caller (calls.BulkStatus fids) v = statuses_coded caller v fids
 effect_coded caller call v = tt
 
