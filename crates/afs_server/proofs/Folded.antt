@@ -2,7 +2,7 @@
 use Rattle.std.proofs.Common.{◌≡◌, ℕ, Bool, true, false, List, [], ◌∷◌, map, Option, Some, None, refl, sym, ap, subst, ◌∙◌, if◌then◌else◌}
 use Rattle.std.specs.Prelude.{nat_eq, nat_lt}
 use Rattle.afs_num.specs.Nodes.{node_number, node_of, same_node, IsNode}
-use Rattle.afs_num.specs.declared.messages.Carried.{Carried}
+use Rattle.afs_num.specs.declared.calls.FsReply.{FsReply}
 use Rattle.afs_num.specs.declared.messages.Message.{Message}
 use Rattle.afs_num.specs.declared.records.RecordBody.TheVariants as bodies
 use Rattle.afs_num.specs.declared.records.StoreRecord.{StoreRecord}
@@ -31,7 +31,7 @@ some_is x y e = cc
 -- ---- the record and the reply of a change
 
 pub reply_is : (boot clock id : ℕ) (head : Head) (c : Change) (x : made.Change) → IsMade clock id c x → change_reply_to boot head clock c ≡ reply_told boot head (clock + 7200) x
-reply_is boot clock id head c x is = ap (λ o. replied boot head (carried_by (clock + promise_ticks) o)) is.reply
+reply_is boot clock id head c x is = ap (λ (o : Option FsReply). replied boot head (carried_by (clock + promise_ticks) o)) is.reply
 
 pub record_is : (boot clock id : ℕ) (head : Head) (c : Change) (x : made.Change) (bytes : List ℕ) → IsMade clock id c x → Spells (change_reply_to boot head clock c) bytes → record_of boot head clock c ≡ change_kept head id x bytes
 record_is boot clock id head c x bytes is spells = λ i. record {

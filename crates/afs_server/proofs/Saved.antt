@@ -22,7 +22,7 @@ use Rattle.afs_rows.specs.Callbacks as row
 use Rattle.afs_rows.specs.Callbacks.{alls, fids_found, grants_found, new_owes, numbers, owe_line, pumped, turn_for, withdraws_all}
 use Rattle.afs_rows.specs.ServerRow.{change_reply_to, does, granted, granted_in, key_of, made, result, record_of, saved, saves, stored_by, versioned, Change}
 use Rattle.afs_rows.specs.ServerSteps.{stepped}
-use Rattle.afs_rows.specs.States.{Backs, ServerState}
+use Rattle.afs_rows.specs.States.{Lasting, ServerState}
 use Rattle.afs_server_parts.specs.Called.{AreGoodCalls}
 use Rattle.afs_server_parts.specs.Kept.{Spells}
 use Rattle.afs_server_parts.specs.Telling.{grant_line}
@@ -67,10 +67,10 @@ lines_are me head expiry x vs fs os versions grants =
 
 module _ {D : Type 0} (clock id : ℕ) (head : Head) (c : Change) (x : made_of.Change) (old new : Memory) (s t : Store D) (p : Planned) where
   -- the promises after the step, and the breaks that it owes
-  lists_after : Lists
+  abbrev lists_after : Lists
   lists_after = grants_found head.from (clock + 7200) (granted_in c) (withdraws_all head.from (made c) (expired clock old.lists))
 
-  owes : List OwedBreak
+  abbrev owes : List OwedBreak
   owes = new_owes head.from (made c) (expired clock old.lists)
 
   new_lists : clock ≤ 1000000000 → IsMade clock id c x → IsPlanned s.node s.durable.boot s.drawn clock head id x old p → IsTaken head clock p old new → new.lists ≡ lists_after
@@ -124,12 +124,12 @@ module _ {D : Type 0} (clock id : ℕ) (head : Head) (c : Change) (x : made_of.C
   serves_as there small is node serves plan taken put =
       let me : t.node ≡ s.node = ap (λ (u : Store D). u.node) put.store in
       let lists = new_lists small is plan taken in
-      let lasting_as' = lasting_as there is node serves plan put in
+      let disk_as = lasting_as there is node serves plan put in
       let disk : durable_saved head id x p.kept (stored_by clock c) s.durable ≡ t.durable = some_is _ _ (sym (folds head id x p.kept c.before (stored_by clock c) s.durable there is.kept) ∙ folds_as plan put) in
       let promised = left_to_nodes head.from (fids_changed (made c)) (expired clock old.lists) (lasting_promised clock old.lists.promises serves.promises) in
       record {
         node = subst IsNode (sym me) serves.node;
-        boot = taken.boot ∙ (serves.boot ∙ sym (ap (λ l. l.boot) lasting_as'));
+        boot = taken.boot ∙ (serves.boot ∙ sym (ap (λ (l : Lasting). l.boot) disk_as));
         kept = subst (λ (d : Durable). AreToNodes d.kept) disk (set_to_nodes head.from _ s.durable.kept node serves.kept);
         promises =
             subst (λ (l : Lists). All IsPromiseToNode l.promises) (sym lists)

@@ -1,5 +1,5 @@
 -- A change that a volume makes has a record: its images are within their limits, and its reply is short.
-use Rattle.std.proofs.Common.{◌≡◌, ◌≤◌, ◌<◌, ◌^◌, ◌%◌, ℕ, ◌+◌, Bool, true, false, List, [], ◌∷◌, ◌++◌, length, Option, Some, None, refl, sym, ap, subst, ◌∙◌, arith}
+use Rattle.std.proofs.Common.{◌≡◌, ◌≤◌, ◌<◌, ◌^◌, ◌%◌, ℕ, ◌+◌, Bool, true, false, List, [], ◌∷◌, ◌++◌, length, Option, Some, None, refl, sym, ap, subst, ◌∙◌, arith, ne_eqb}
 use Rattle.std.specs.Prelude.{◌==◌}
 use Rattle.std.specs.List.{AllByRecursion}
 use Rattle.std.proofs.lemmas.Bool.Decides.{nat_tests}
@@ -15,15 +15,26 @@ use Rattle.afs_ideal.specs.Operations.{changes, op, Caller, IsOn}
 use Rattle.afs_ideal.specs.Replies.{change_reply}
 use Rattle.afs_ideal.specs.Soundness.{IsSound, KindFits}
 use Rattle.afs_ideal.specs.Tables.{get}
-use Rattle.afs_ideal.specs.VnodeImage.{kind_fits}
+use Rattle.afs_ideal.specs.VnodeImage.{image_words, kind_fits, FitsImage}
 use Rattle.afs_ideal.specs.Volumes.{a_directory, a_file, a_link, amends, amends_at, counted, edited, edited_all, edit_number, frees, frees_at, makes, makes_at, type_of, versions_by, Amend, Edit, Kind, Vnode, Volume}
 use Rattle.afs_ideal.proofs.Preserved.{operations_leave_sound}
 use Rattle.afs_ideal.proofs.Proper.{operations_change}
-use Rattle.afs_records.specs.Changes.{gone_between, image_left, images_left, numbers_gone}
+use Rattle.afs_num.specs.Nodes.{node_number, IsNode}
+use Rattle.afs_num.specs.declared.records.RecordBody.TheVariants as bodies
+use Rattle.afs_num.specs.declared.types.Head.{Head}
+use Rattle.afs_num.specs.declared.types.Node.{Node}
+use Rattle.afs_num.specs.declared.types.Node.TheVariants.{Admin, Client, Loc, Server}
+use Rattle.afs_xdr.specs.Words.{AreWords}
+use Rattle.afs_shape.specs.Taking.{◌>>=◌}
+use Rattle.afs_rows.specs.ServerRow.{is_client, key_of}
+use Rattle.afs_records.specs.Changes.{gone_between, image_left, images_left, keeping, numbers_gone}
+use Rattle.afs_records.specs.Forms.{HasImageForm}
+use Rattle.afs_records.specs.Records.{caller_form, head_form, FitsRecord}
 use Rattle.afs_volume.specs.Changes.{after, IsChangeBy}
 use Rattle.afs_volume.specs.Giving.{volume_of}
 use Rattle.afs_volume.specs.Taking.{CanTakeIn}
 use Rattle.afs_volume.specs.declared.volume.Volume as volumes
+use Rattle.afs_server.proofs.Kept.{numbered}
 use Rattle.afs_server.specs.Deciding.{CanBeWritten, HasKind, IsChanged}
 
 -- ---- kinds
@@ -130,3 +141,26 @@ can_be_written w caller call now es n x times sound on is change reply takes =
       kinds = subst (AllByRecursion HasKind) (sym change.vnodes) (kinds_left now es (after w es n) (operations_leave_sound w.head.id caller call v es n sound is).sound);
       reply = reply_changed w.head.id caller times (after w es n) n call x.reply reply;
     }
+
+-- ---- the record
+
+formed : (vs : List Image) → AllByRecursion FitsImage vs → AllByRecursion (λ (v : Image). AreWords (image_words v)) vs → AllByRecursion HasKind vs → AllByRecursion HasImageForm vs
+formed [] limits words kinds = tt
+formed (v ∷ vs) limits words kinds = (record { limits = limits.0; words = words.0; kind = kinds.0 }, formed vs limits.1 words.1 kinds.1)
+
+caller_fits : (n : Node) → IsNode n → is_client n ≡ true → caller_form.Fits (Some n)
+caller_fits (Client k) node is =
+    let small = (numbered (node_number (Client k)) (Client k) node).small in
+    (omega (arith, small), rw (ne_eqb (node_number (Client k)) 0 (λ e. absurd (omega (arith, e)))) (ap (λ (o : Option Node). o >>= λ m. Some (Some m)) node))
+caller_fits Loc node is = absurd cc
+caller_fits (Server k) node is = absurd cc
+caller_fits (Admin k) node is = absurd cc
+
+pub record_fits : (head : Head) (reply : List ℕ) (id counter unique : ℕ) (vnodes : List Image) (removed : List ℕ) → IsNode head.from → is_client head.from ≡ true → head.epoch < 2 ^ 32 → head.number < 2 ^ 32 → length reply < 2 ^ 32 →
+    id < 2 ^ 32 → counter < 2 ^ 32 → unique < 2 ^ 32 → length vnodes < 2 ^ 32 → length removed < 2 ^ 32 → AllByRecursion FitsImage vnodes → AllByRecursion (λ (v : Image). AreWords (image_words v)) vnodes → AllByRecursion HasKind vnodes → AreWords removed →
+    FitsRecord (record { head = keeping (key_of head) reply; body = bodies.Change id counter unique vnodes removed })
+unfolding head_form
+record_fits head reply id counter unique vnodes removed node client epoch number short id_fits counter_fits unique_fits few few_removed limits words kinds numbers = record {
+  head = ((lit< tt, (lit< tt, (caller_fits head.from node client, (epoch, (number, (omega (arith, short), short)))))), refl);
+  body = (id_fits, (counter_fits, (unique_fits, ((few, formed vnodes limits words kinds), ((few_removed, numbers), tt)))));
+}

@@ -341,6 +341,7 @@ fn change_record(
     ensures record { result ≡ record { head = keeping (key_of head.now) reply; body = bodies.Change id counter unique vnodes removed } }
     ensures fits { FitsRecord result }
 {
+    are_words(&[head.epoch, head.number]);
     are_of_words(vnodes.as_slice());
     are_words(removed.as_slice());
     StoreRecord {

@@ -19,7 +19,7 @@ owe_each-requires c =
 pub returns-clause-breaks : goal.returns-clause-breaks
 returns-clause-breaks c =
     let hits = c.in_ok-hits.ensures ∙ fresh_are c.args.except c.args.fids.now (lasting c.args.now c.args.promises.now.promises) in
-    let owes : c.owe_each.new.breaks.items ≡ owes_from c.args.promises.now.last_owed c.in_ok-hits.hits.items = search rules in
+    let owes : c.owe_each.new.owed.items ≡ owes_from c.args.promises.now.last_owed c.in_ok-hits.hits.items = search rules in
     owes ∙ ap (owes_from c.args.promises.now.last_owed) hits
 
 pub returns-clause-nodes : goal.returns-clause-nodes
