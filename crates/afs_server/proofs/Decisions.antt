@@ -230,7 +230,7 @@ module _ (opcode clock : ℕ) (caller : Caller) (w : Volume) (call : FsCall) whe
       ChangesAs w.head.id x d → CanBeTold opcode d
   change_can_be_told (Ok x) d number applies fits is =
       let replies = applies.1.1.1.1.0 in
-      subst (CanBeTold opcode) (sym is) (number ∙ change_number w.head.id caller _ _ applies.1.0 call x.reply replies, fits_within x.reply fits)
+      subst (CanBeTold opcode) (sym is) (number ∙ change_number w.head.id caller (stamped clock x.versions (times_of w)) (after w applies.0 applies.1.0) applies.1.0 call x.reply replies, fits_within x.reply fits)
   change_can_be_told (Err (faults.Code code)) d number applies fits is = subst (CanBeTold opcode) (sym is) (coded w caller call code.0 applies)
   change_can_be_told (Err faults.OutOfMemory) d number applies fits is = absurd is
 

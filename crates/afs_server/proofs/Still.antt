@@ -57,7 +57,7 @@ module _ {D : Type 0} (seen : D → Option (List ℕ)) (left_by : D → ℕ → 
   ran_none {T} decided old new (Ok x) still counts = record {
     never_falls = let e = counts.same_faults in omega (arith, e);
     own_never_falls = let e = counts.same_own_faults in omega (arith, e);
-    down = λ is. absurd is;
+    down = λ is. absurd cc;
     passed = subst (PassesAll (setting old) (calls old)) (sym counts.same_calls) (none_called (setting old) (calls old));
   }
   ran_none {T} decided old new (Err faults.OutOfMemory) still counts = record {
@@ -131,8 +131,8 @@ module _ {D : Type 0} (seen : D → Option (List ℕ)) (left_by : D → ℕ → 
 
   -- with another value at Ok
   pub with_value : {S T : Type 0} (decided : Option StoreRecord) (d : Durable) (old new : D) (x : S) (y : T) → OfDisk {T = S} decided d old new (Ok x) → OfDisk {T = T} decided d old new (Ok y)
-  with_value {S} {T} None d old new x y is = record { quiet = is.quiet; any_moment = is.any_moment; most = is.most; limited = is.limited; called = is.called; ran = record { never_falls = is.ran.never_falls; own_never_falls = is.ran.own_never_falls; down = λ z. absurd z; passed = is.ran.passed }; set = is.set }
-  with_value {S} {T} (Some r) d old new x y is = record { quiet = is.quiet; any_moment = is.any_moment; most = is.most; limited = is.limited; called = is.called; ran = record { never_falls = is.ran.never_falls; own_never_falls = is.ran.own_never_falls; down = λ z. absurd z; passed = is.ran.passed }; set = is.set }
+  with_value {S} {T} None d old new x y is = record { quiet = is.quiet; any_moment = is.any_moment; most = is.most; limited = is.limited; called = is.called; ran = record { never_falls = is.ran.never_falls; own_never_falls = is.ran.own_never_falls; down = λ z. absurd cc; passed = is.ran.passed }; set = is.set }
+  with_value {S} {T} (Some r) d old new x y is = record { quiet = is.quiet; any_moment = is.any_moment; most = is.most; limited = is.limited; called = is.called; ran = record { never_falls = is.ran.never_falls; own_never_falls = is.ran.own_never_falls; down = λ z. absurd cc; passed = is.ran.passed }; set = is.set }
 
   fault_by : {S T : Type 0} (decided : Option StoreRecord) (d : Durable) (old new : D) → OfDisk {T = S} decided d old new (Err faults.OutOfMemory) → OfDisk {T = T} decided d old new (Err faults.OutOfMemory)
   fault_by {S} {T} None d old new is = record { quiet = is.quiet; any_moment = λ r z. absurd z; most = is.most; limited = is.limited; called = tt; ran = record { never_falls = is.ran.never_falls; own_never_falls = is.ran.own_never_falls; down = λ z. absurd cc; passed = tt }; set = is.set }

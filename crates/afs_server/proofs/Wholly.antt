@@ -117,13 +117,13 @@ done_after {D} clock d turn old new s t (Ok outs) is = is.done
 done_after {D} clock d turn old new s t (Err fault) is = tt
 
 pub some_down : {D : Type 0} (clock : ℕ) (d : Decision) (turn : row.Turn) (old new : Memory) (s t : Store D) (result : Result Outs NodeFault) → DoesAll clock d turn old new s t result → IsErrOf result faults.Down → record_decided s.durable.boot clock d ≡ None → ⊥
-some_down {D} clock d turn old new s t (Ok outs) is down none = absurd down
+some_down {D} clock d turn old new s t (Ok outs) is down none = absurd cc
 some_down {D} clock d turn old new s t (Err faults.OutOfMemory) is down none = absurd cc
 some_down {D} clock d turn old new s t (Err faults.Down) is down none = is.some none
 
 pub left_down : {D : Type 0} (clock : ℕ) (d : Decision) (turn : row.Turn) (old new : Memory) (s t : Store D) (result : Result Outs NodeFault) → DoesAll clock d turn old new s t result → IsErrOf result faults.Down →
     (r : StoreRecord) → record_decided s.durable.boot clock d ≡ Some r → (e : Durable) → folded r s.durable ≡ Some e → lasting_of e ≡ (begun_after s.node (server_seen old s) clock d).state.lasting
-left_down {D} clock d turn old new s t (Ok outs) is down r made e folds = absurd down
+left_down {D} clock d turn old new s t (Ok outs) is down r made e folds = absurd cc
 left_down {D} clock d turn old new s t (Err faults.OutOfMemory) is down r made e folds = absurd cc
 left_down {D} clock d turn old new s t (Err faults.Down) is down r made e folds = is.left r made e folds
 

@@ -1,6 +1,6 @@
 -- A change that a volume makes has a record: its images are within their limits, and its reply is short.
-use Rattle.std.proofs.Common.{◌≡◌, ◌≤◌, ◌<◌, ◌^◌, ◌%◌, ℕ, ◌+◌, Bool, true, false, List, [], ◌∷◌, ◌++◌, length, Option, Some, None, refl, sym, ap, subst, ◌∙◌, arith, ne_eqb}
-use Rattle.std.specs.Prelude.{◌==◌}
+use Rattle.std.proofs.Common.{◌≡◌, ◌≤◌, ◌<◌, ◌^◌, ◌%◌, ℕ, ◌+◌, Bool, true, false, List, [], ◌∷◌, ◌++◌, length, Option, Some, None, refl, sym, ap, subst, ◌∙◌, arith, lit<, ne_eqb, if◌then◌else◌}
+use Rattle.std.specs.Prelude.{◌==◌, nat_eq}
 use Rattle.std.specs.List.{AllByRecursion}
 use Rattle.std.proofs.lemmas.Bool.Decides.{nat_tests}
 use Rattle.std.proofs.lemmas.List.{length-append}
@@ -19,7 +19,7 @@ use Rattle.afs_ideal.specs.VnodeImage.{image_words, kind_fits, FitsImage}
 use Rattle.afs_ideal.specs.Volumes.{a_directory, a_file, a_link, amends, amends_at, counted, edited, edited_all, edit_number, frees, frees_at, makes, makes_at, type_of, versions_by, Amend, Edit, Kind, Vnode, Volume}
 use Rattle.afs_ideal.proofs.Preserved.{operations_leave_sound}
 use Rattle.afs_ideal.proofs.Proper.{operations_change}
-use Rattle.afs_num.specs.Nodes.{node_number, IsNode}
+use Rattle.afs_num.specs.Nodes.{node_number, node_of, IsNode}
 use Rattle.afs_num.specs.declared.records.RecordBody.TheVariants as bodies
 use Rattle.afs_num.specs.declared.types.Head.{Head}
 use Rattle.afs_num.specs.declared.types.Node.{Node}
@@ -148,10 +148,15 @@ formed : (vs : List Image) → AllByRecursion FitsImage vs → AllByRecursion (�
 formed [] limits words kinds = tt
 formed (v ∷ vs) limits words kinds = (record { limits = limits.0; words = words.0; kind = kinds.0 }, formed vs limits.1 words.1 kinds.1)
 
+not_none : (b : Bool) (o : Option (Option Node)) → b ≡ false → (if b then Some None else o) ≡ o
+not_none true o e = absurd cc
+not_none false o e = refl
+
 caller_fits : (n : Node) → IsNode n → is_client n ≡ true → caller_form.Fits (Some n)
 caller_fits (Client k) node is =
     let small = (numbered (node_number (Client k)) (Client k) node).small in
-    (omega (arith, small), rw (ne_eqb (node_number (Client k)) 0 (λ e. absurd (omega (arith, e)))) (ap (λ (o : Option Node). o >>= λ m. Some (Some m)) node))
+    let some : ◌≡◌ {A = Option (Option Node)} (node_of (node_number (Client k)) >>= λ m. Some (Some m)) (Some (Some (Client k))) = ap (λ (o : Option Node). o >>= λ m. Some (Some m)) node in
+    (omega (arith, small), not_none (nat_eq (node_number (Client k)) 0) (node_of (node_number (Client k)) >>= λ m. Some (Some m)) (ne_eqb (node_number (Client k)) 0 (λ e. absurd (omega (arith, e)))) ∙ some)
 caller_fits Loc node is = absurd cc
 caller_fits (Server k) node is = absurd cc
 caller_fits (Admin k) node is = absurd cc

@@ -38,7 +38,7 @@ returns-in_err-see_next g c =
     let all = sights volumes caller fids in
     let first = from_place fids i f c.loop-fid-test.true none refl in
     let told = c.in_err-see_next.ensures in
-    let fault : IsFault c.in_err-see_next.field-0 (sight_in caller f (get f.volume volumes)) = search (rules, told) in
+    let fault : IsFault c.in_err-see_next.field-0.0 (sight_in caller f (get f.volume volumes)) = search (rules, told) in
     let invariant = subst (λ (fs : List Fid). AreFirst caller all (sights volumes caller fs) i c.loop-fid.told) first c.loop-fid.invariant in
-    let refused : SeesAll caller (length fids) all (Err c.in_err-see_next.field-0) = fault_first caller all (sight_in caller f (get f.volume volumes)) (sights volumes caller (drop (i + 1) fids)) i (length fids) c.loop-fid.told c.in_err-see_next.field-0 invariant fault in
+    let refused : SeesAll caller (length fids) all (Err c.in_err-see_next.field-0.0) = fault_first caller all (sight_in caller f (get f.volume volumes)) (sights volumes caller (drop (i + 1) fids)) i (length fids) c.loop-fid.told c.in_err-see_next.field-0.0 invariant fault in
     search (rules, refused)
