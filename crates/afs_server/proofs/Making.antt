@@ -85,3 +85,9 @@ steps {D} state ls t old new s u e l outs lasting memory store given ends lines 
         subst (λ (k : ℕ). u ≡ record s { drawn = k }) (sym left.drawn) store,
       ),
     )
+
+-- one in which no call runs, as the same turn
+pub turned_as : {D : Type 0} (t u : row.Turn) (old new : Memory) (s v : Store D) (outs : Outs) → t ≡ u →
+    Makes (stepped s.node (server_seen old s) t.lines t) [] new v outs × (Serves v.node new v.durable × (v ≡ record s { drawn = v.drawn })) →
+    Makes (stepped s.node (server_seen old s) u.lines u) [] new v outs × (Serves v.node new v.durable × (v ≡ record s { drawn = v.drawn }))
+turned_as {D} t u old new s v outs same made = (subst (λ (x : row.Turn). Makes (stepped s.node (server_seen old s) x.lines x) [] new v outs) same made.0, made.1)

@@ -21,8 +21,8 @@ is_kept m None = false
 is_kept m (Some k) = nat_eq m.head.epoch k.epoch && nat_eq m.head.number k.number
 
 apart_by : (u : Bool) (p : ℕ × Kept) (n : Node) → IsToNode p → IsNode n → nat_eq p.0 (node_number n) ≡ u → same_node (or_loc (node_of p.0)) n ≡ false → u ≡ false
-apart_by false p n keeps is e no = refl
-apart_by true p n keeps is e no =
+apart_by false p n keeps is e apart = refl
+apart_by true p n keeps is e apart =
     let number = eqb-true p.0 (node_number n) e in
     let same : or_loc (node_of p.0) ≡ n = ap (λ (k : ℕ). or_loc (node_of k)) number ∙ ap or_loc is in
     let yes : same_node (or_loc (node_of p.0)) n ≡ true = ap (λ (x : Node). same_node x n) same ∙ same_node-refl n in

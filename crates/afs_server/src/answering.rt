@@ -1,6 +1,6 @@
 //! What a server answers to calls that change nothing on its disk.
 
-ghost use Rattle.std.specs.Prelude.{◌≡◌, ◌≤◌, [], false, IfOk, OnOk};
+ghost use Rattle.std.specs.Prelude.{◌≡◌, ◌≤◌, [], false, IfOk, OnErr, OnOk};
 ghost use Rattle.afs_num.specs.Nodes.{IsNode};
 ghost use Rattle.afs_model.specs.Calls.{call_seat, paired, runs};
 ghost use Rattle.afs_model.specs.Heads.{is_zero, IsSoundHead};
@@ -92,6 +92,19 @@ pub fn keep_reply(callers: &mut Callers, head: &Head, reply: Octets)
     callers.keep(key(head), reply);
 }
 
+/// The reply to the call of this header, which ran, is kept.
+fn keep_answer(callers: &mut Callers, head: &Head, reply: Octets) -> Mem<()>
+    requires runs { paired head.now.epoch head.now.number (call_seat head.now.from callers.old.seats) ≡ runs }
+    requires spelling { IsSpelling reply }
+    ensures boot { callers.new.boot ≡ callers.old.boot }
+    ensures seats { OnOk result (KeepsReply head.now reply callers.old.seats callers.new.seats) }
+    ensures err { OnErr result (callers.new.seats ≡ callers.old.seats) }
+{
+    callers.reserve(1)?;
+    keep_reply(callers, head, reply);
+    Ok(())
+}
+
 impl FileServer {
     /// What comes of it that a message goes out.
     fn plan_sent(
@@ -181,6 +194,53 @@ impl FileServer {
         Ok(Replied { ended, kept })
     }
 
+    /// What comes of it that a call that runs is refused with this code.
+    fn plan_refused(
+        &self,
+        server: Node,
+        boot: u32,
+        last: u32,
+        head: &Head,
+        code: i32,
+        now: u32,
+    ) -> Mem<Replied>
+        requires nodes { IsToNodes server self.now }
+        requires head { IsSoundHead head.now }
+        requires code { is_zero code ≡ false }
+        ensures ends { IfOk result (λ r. (l : Lists) → l.owed ≡ lasting_breaks now self.now.lists.owed → Ends l (pumped server boot (answer_turn (refusal boot head.now code) [] false (with_lists l (backs_seen self.now last)))) r.ended) }
+        ensures lines { IfOk result (λ r. r.ended.outs.lines ≡ []) }
+        ensures drawn { IfOk result (λ r. last ≤ r.ended.last) }
+        ensures good { IfOk result (λ r. AreGoodCalls server r.ended.callees.items) }
+        ensures kept { IfOk result (λ r. Spells (refusal boot head.now code) r.kept) }
+    {
+        let message = refusal(boot, head, code);
+        let replied = self.plan_reply(server, boot, last, &message, now)?;
+        Ok(replied)
+    }
+
+    /// What comes of it that a caller gives up promises.
+    fn plan_given_up(
+        &self,
+        server: Node,
+        boot: u32,
+        last: u32,
+        head: &Head,
+        now: u32,
+    ) -> Mem<Replied>
+        requires nodes { IsToNodes server self.now }
+        requires head { IsSoundHead head.now }
+        requires opcode { head.now.opcode ≡ 147 }
+        ensures ends { IfOk result (λ r. (l : Lists) → l.owed ≡ lasting_breaks now self.now.lists.owed → Ends l (pumped server boot (answer_turn (read_reply_to boot head.now 0 (given_up_read [])) [] false (with_lists l (backs_seen self.now last)))) r.ended) }
+        ensures lines { IfOk result (λ r. r.ended.outs.lines ≡ []) }
+        ensures drawn { IfOk result (λ r. last ≤ r.ended.last) }
+        ensures good { IfOk result (λ r. AreGoodCalls server r.ended.callees.items) }
+        ensures kept { IfOk result (λ r. Spells (read_reply_to boot head.now 0 (given_up_read [])) r.kept) }
+    {
+        let message = reply(boot, head, FsReply::GiveUpCallBacks);
+        let replied = self.plan_reply(server, boot, last, &message, now)?;
+        Ok(replied)
+    }
+
     /// A caller is told this server's boot number.
     pub(crate) fn tell_boot<D: Disk>(
         &mut self,
@@ -244,17 +304,16 @@ impl FileServer {
         requires code { is_zero code ≡ false }
         ensures { Answers head.now (refusal store.old.durable.boot head.now code) [] (answer_turn (refusal store.old.durable.boot head.now code) [] false (row.expired now (backs_seen self.old store.old.drawn))) self.old self.new store.old store.new result }
     {
-        let message = refusal(store.boot_number(), head, code);
-        let replied = self.plan_reply(
+        let replied = self.plan_refused(
             store.node(),
             store.boot_number(),
             store.last_number(),
-            &message,
+            head,
+            code,
             now,
         )?;
-        self.callers.reserve(1)?;
         let Replied { ended, kept } = replied;
-        keep_reply(&mut self.callers, head, kept);
+        keep_answer(&mut self.callers, head, kept)?;
         self.promises.expire(now);
         let outs = self.keep(store, ended);
         Ok(outs)
@@ -274,17 +333,15 @@ impl FileServer {
         requires runs { paired head.now.epoch head.now.number (call_seat head.now.from self.old.seats) ≡ runs }
         ensures { Answers head.now (read_reply_to store.old.durable.boot head.now 0 (given_up_read fids.now)) [] (answer_turn (read_reply_to store.old.durable.boot head.now 0 (given_up_read fids.now)) [] false (with_lists (gives_up_all head.now.from fids.now (expired now self.old.lists)) (backs_seen self.old store.old.drawn))) self.old self.new store.old store.new result }
     {
-        let message = reply(store.boot_number(), head, FsReply::GiveUpCallBacks);
-        let replied = self.plan_reply(
+        let replied = self.plan_given_up(
             store.node(),
             store.boot_number(),
             store.last_number(),
-            &message,
+            head,
             now,
         )?;
-        self.callers.reserve(1)?;
         let Replied { ended, kept } = replied;
-        keep_reply(&mut self.callers, head, kept);
+        keep_answer(&mut self.callers, head, kept)?;
         self.promises.expire(now);
         give_up_all(&mut self.promises, head.from, fids);
         let outs = self.keep(store, ended);

@@ -24,7 +24,7 @@ use afs_disk::Disk;
 use afs_history::lines::Outs;
 use afs_num::sequences::Sequence;
 use afs_num::types::{Key, Mem, Node};
-use afs_server_parts::callees::find_call;
+use afs_server_parts::callees::{BackCall, find_call};
 use afs_volstore::VolStore;
 use std::alloc::{AllocError, Global};
 
@@ -32,6 +32,17 @@ use std::alloc::{AllocError, Global};
 const PROMISE_TICKS: u32 = 7200;
 
 impl FileServer {
+    /// A copy of its unanswered call to this node.
+    fn awaited(&self, callee: Node) -> Mem<BackCall>
+        requires { IsSome (call_to self.now.callees callee) }
+        ensures { IfOk result (λ c. call_to self.now.callees callee ≡ Some c) }
+    {
+        match find_call(&self.callees, callee) {
+            Some(call) => Ok(call.copy(self.alloc)?),
+            None => unreachable!(),
+        }
+    }
+
     /// Its unanswered call to this node has waited too long.
     #[tactic(auto, unfolding(afs_rows::specs::ServerSteps::back_timeout_row))]
     pub fn timeout<D: Disk>(
@@ -50,10 +61,7 @@ impl FileServer {
         ensures store { store.new ≡ record store.old { drawn = store.new.drawn } }
         ensures up { IsErrOf result faults.Down → ⊥ }
     {
-        let call = match find_call(&self.callees, callee) {
-            Some(call) => call.copy(self.alloc)?,
-            None => unreachable!(),
-        };
+        let call = self.awaited(callee)?;
         let outs = self.time_out(store, callee, &call, now)?;
         Ok(outs)
     }

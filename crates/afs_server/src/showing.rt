@@ -1,21 +1,21 @@
 //! What a server tells of its volumes, and what it promises with that.
 
-ghost use Rattle.std.specs.Prelude.{◌≡◌, ◌≤◌, ◌+◌, [], false, map, IfOk};
+ghost use Rattle.std.specs.Prelude.{◌≡◌, ◌≤◌, ◌+◌, [], false, map, IfOk, OnErr, OnOk};
 ghost use Rattle.afs_num.specs.declared.messages.Carried.TheVariants as carried;
 ghost use Rattle.afs_num.specs.declared.messages.Reply.TheVariants as tell;
 ghost use Rattle.afs_shape.specs.Rows.{IsWithin};
 ghost use Rattle.afs_model.specs.Calls.{call_seat, paired, runs};
 ghost use Rattle.afs_model.specs.CellRows.{cell_replies, reply_number};
 ghost use Rattle.afs_model.specs.Heads.{IsSoundHead};
-ghost use Rattle.afs_breaks.specs.Promises.{expired, lasting_breaks, Lists};
+ghost use Rattle.afs_breaks.specs.Promises.{expired, grants_all, lasting_breaks, Lists};
 ghost use Rattle.afs_rows.specs.Callbacks.{gives_up_all, grants_found, pumped};
 ghost use Rattle.afs_rows.specs.ServerRow as row;
 ghost use Rattle.afs_rows.specs.ServerRow.{granted, promised_in, read_reply_to, replied};
 ghost use Rattle.afs_server_parts.specs.Called.{AreGoodCalls};
-ghost use Rattle.afs_server_parts.specs.Kept.{Spells};
+ghost use Rattle.afs_server_parts.specs.Kept.{IsSpelling, Spells};
 ghost use Rattle.afs_server_parts.specs.Telling.{grant_line};
 ghost use Rattle.afs_server_parts.specs.declared.telling.Grant as told;
-ghost use Rattle.afs_server.specs.Answering.{answer_turn, with_lists};
+ghost use Rattle.afs_server.specs.Answering.{answer_turn, with_lists, KeepsReply};
 ghost use Rattle.afs_server.specs.Deciding.{IsReading};
 ghost use Rattle.afs_server.specs.Ending.{Ends};
 ghost use Rattle.afs_server.specs.Handling.{Answers};
@@ -26,8 +26,10 @@ use crate::server::FileServer;
 use afs_disk::Disk;
 use afs_history::lines::{Lines, Outs};
 use afs_num::calls::FsReply;
-use afs_num::sequences::Sequence;
+use afs_num::sequences::{Octets, Sequence};
 use afs_num::types::{Fid, Head, Mem, Node};
+use afs_promise::Promises;
+use afs_server_parts::callers::Callers;
 use afs_server_parts::replies::{promised, reply};
 use afs_server_parts::telling::{Grant, tell_grants};
 use afs_volstore::VolStore;
@@ -60,6 +62,29 @@ fn granted_lines(
     let mut lines = Lines::new(alloc);
     tell_grants(&mut lines, server, client, expiry, grants)?;
     Ok(lines)
+}
+
+/// The reply to the call of this header, which ran, is kept, and its caller is promised these fids.
+fn keep_granted(
+    callers: &mut Callers,
+    promises: &mut Promises,
+    head: &Head,
+    reply: Octets,
+    fids: &[Fid],
+    expiry: u32,
+) -> Mem<()>
+    requires runs { paired head.now.epoch head.now.number (call_seat head.now.from callers.old.seats) ≡ runs }
+    requires spelling { IsSpelling reply }
+    ensures boot { callers.new.boot ≡ callers.old.boot }
+    ensures seats { OnOk result (KeepsReply head.now reply callers.old.seats callers.new.seats) }
+    ensures granted { OnOk result (promises.new ≡ grants_all head.now.from expiry fids.now promises.old) }
+    ensures err { OnErr result (callers.new.seats ≡ callers.old.seats) }
+    ensures as_was { OnErr result (promises.new ≡ promises.old) }
+{
+    callers.reserve(1)?;
+    promises.grant_all(head.from, fids, expiry)?;
+    keep_reply(callers, head, reply);
+    Ok(())
 }
 
 impl FileServer {
@@ -122,10 +147,15 @@ impl FileServer {
             now,
         )?;
         let fids = fids_of(self.alloc, grants)?;
-        self.callers.reserve(1)?;
-        self.promises.grant_all(head.from, fids.as_slice(), expiry)?;
         let Replied { ended, kept } = replied;
-        keep_reply(&mut self.callers, head, kept);
+        keep_granted(
+            &mut self.callers,
+            &mut self.promises,
+            head,
+            kept,
+            fids.as_slice(),
+            expiry,
+        )?;
         self.promises.expire(now);
         let outs = self.keep(store, ended);
         Ok(outs)

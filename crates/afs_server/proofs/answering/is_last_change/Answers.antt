@@ -12,6 +12,6 @@ pub returns : goal.returns
 returns g c =
     let m = c.args.reply.now in
     let durable = c.args.store.now.durable in
-    let found = found_answer m c.store-kept.result (get (node_number m.head.to) durable.kept) (search rules) (search rules) in
-    let law : is_answer_to m.head c.store-kept.result ≡ is_seat_of m (call_seat m.head.to (lasting_of durable).kept) = found ∙ sym (last_change m m.head.to durable.kept c.requires.node c.requires.kept) in
+    let found = found_answer m c.kept-kept.result (get (node_number m.head.to) durable.kept) (search rules) (search rules) in
+    let law : is_answer_to m.head c.kept-kept.result ≡ is_seat_of m (call_seat m.head.to (lasting_of durable).kept) = found ∙ sym (last_change m m.head.to durable.kept c.requires.node c.requires.kept) in
     search (rules, law)

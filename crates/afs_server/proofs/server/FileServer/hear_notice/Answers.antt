@@ -1,10 +1,9 @@
 use Rattle.std.proofs.Common.{◌≡◌, rules, Option, refl, ap, sym, subst, ◌∙◌}
-use Rattle.std.specs.Prelude.{Ok}
 use Rattle.afs_rows.specs.Callbacks as row
 use Rattle.afs_server_parts.specs.Called.{call_to, Called, IsGoodOrNone}
-use Rattle.afs_server.specs.Handling.{Turns}
-use Rattle.afs_server.specs.Hearing.{heard_by, renewed_turn}
+use Rattle.afs_server.specs.Hearing.{heard_by, noticed_turn, renewed_turn}
 use Rattle.afs_server.specs.Seen.{backs_seen}
+use Rattle.afs_server.proofs.Making.{turned_as}
 use Rattle.afs_server.proofs.Heard.{heard_good, renewed_heard}
 use Rattle.afs_server.proofs.server.FileServer.hear_notice.Goals as goal
 
@@ -24,4 +23,4 @@ returns g c =
     let call = call_to old.callees c.args.head.now.from in
     let heard : c.in_ok-call.call ≡ heard_by store.node store.durable.boot c.args.head.now call = search rules in
     let turns = ap (renewed_turn store.node store.durable.boot c.args.head.now b) heard ∙ renewed_heard store.node store.durable.boot c.args.head.now b call refl in
-    subst (λ (t : row.Turn). Turns t old c.renew_found.new.self store c.renew_found.new.store (Ok c.in_ok-outs.outs)) turns c.in_ok-outs.ensures
+    turned_as (renewed_turn store.node store.durable.boot c.args.head.now b c.in_ok-call.call) (noticed_turn store.node store.durable.boot c.args.head.now b) old c.renew_found.new.self store c.renew_found.new.store c.in_ok-outs.outs turns c.in_ok-outs.ensures

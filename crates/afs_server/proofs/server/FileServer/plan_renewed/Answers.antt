@@ -1,9 +1,9 @@
-use Rattle.std.proofs.Common.{◌≡◌, arith, ap, subst, ◌∙◌}
+use Rattle.std.proofs.Common.{◌≡◌, arith, ap, sym, subst, ◌∙◌}
 use Rattle.afs_num.specs.declared.types.Node.{Node}
 use Rattle.afs_breaks.specs.Promises.{expired}
 use Rattle.afs_rows.specs.Callbacks as row
 use Rattle.afs_rows.specs.Callbacks.{pumped, renews}
-use Rattle.afs_server_parts.specs.Called.{call_seen, Called}
+use Rattle.afs_server_parts.specs.Called.{call_seen, AreGoodCalls, Called}
 use Rattle.afs_server_parts.proofs.Turning.{fresh_of, turned}
 use Rattle.afs_server.specs.Ending.{Ends}
 use Rattle.afs_server.specs.Seen.{backs_seen}
@@ -35,3 +35,10 @@ returns-clause-drawn c =
     let same = ap (λ (t : row.Turn). t.backs.last_call) is.same in
     let more = c.in_ok-ended.ensures.drawn in
     omega (arith, same, more)
+
+pub returns-clause-good : goal.returns-clause-good
+returns-clause-good c =
+    let me = c.args.call.now.server in
+    let before : AreGoodCalls me c.in_ok-turn.turn.calls.callees.items = subst (AreGoodCalls me) (sym c.in_ok-turn.ensures.callees) c.requires.nodes.calls in
+    subst (λ (s : Node). AreGoodCalls s c.renew.new.self.calls.callees.items → AreGoodCalls s c.in_ok-ended.ended.callees.items) (ap (λ (k : Called). k.server) c.call.view_is) c.in_ok-ended.ensures.good
+    (c.in_ok-renew.ensures.good me before)

@@ -1,7 +1,7 @@
-use Rattle.std.proofs.Common.{◌≡◌, arith, ap, ◌∙◌}
+use Rattle.std.proofs.Common.{◌≡◌, arith, ap, sym, subst, ◌∙◌}
 use Rattle.afs_rows.specs.Callbacks as row
 use Rattle.afs_rows.specs.Callbacks.{settles}
-use Rattle.afs_server_parts.specs.Called.{call_seen}
+use Rattle.afs_server_parts.specs.Called.{call_seen, AreGoodCalls}
 use Rattle.afs_server_parts.proofs.Turning.{fresh_of, turned}
 use Rattle.afs_server.specs.Seen.{backs_seen}
 use Rattle.afs_server.proofs.server.FileServer.plan_settled.Goals as goal
@@ -28,3 +28,8 @@ returns-clause-drawn c =
     let same = ap (λ (t : row.Turn). t.backs.last_call) is.same in
     let more = c.in_ok-ended.ensures.drawn in
     omega (arith, same, more)
+
+pub returns-clause-good : goal.returns-clause-good
+returns-clause-good c =
+    let before : AreGoodCalls c.args.server c.in_ok-turn.turn.calls.callees.items = subst (AreGoodCalls c.args.server) (sym c.in_ok-turn.ensures.callees) c.requires.nodes.calls in
+    c.in_ok-ended.ensures.good (c.in_ok-settle.ensures.good c.args.server before)
