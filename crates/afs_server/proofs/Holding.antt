@@ -50,9 +50,13 @@ with_all n expiry (f ∷ fs) ps =
     let rest = with_all n expiry fs (with_promise n expiry f ps) in
     omega (arith, one, rest)
 
--- a grant, and then the clock
-pub granted_few : (n : Node) (expiry now : ℕ) (fs : List Fid) (l m : Lists) → m ≡ expired now (grants_all n expiry fs l) → l.last_owed + length l.promises + length fs ≤ 4000000000 → m.last_owed + length m.promises ≤ 4000000000
-granted_few n expiry now fs l m is few =
+pub all_few : (n : Node) (expiry : ℕ) (fs : List Fid) (l m : Lists) → m ≡ grants_all n expiry fs l → l.last_owed + length l.promises + length fs ≤ 4000000000 → m.last_owed + length m.promises ≤ 4000000000
+all_few n expiry fs l m is few =
     let all = with_all n expiry fs l.promises in
-    let less = filter_few (λ (p : Promise). nat_lt now p.expiry) (with_promises n expiry fs l.promises) in
-    subst (λ (k : Lists). k.last_owed + length k.promises ≤ 4000000000) (sym is) (omega (arith, all, less, few))
+    subst (λ (k : Lists). k.last_owed + length k.promises ≤ 4000000000) (sym is) (omega (arith, all, few))
+
+-- the clock leaves no more
+pub expired_few : (now : ℕ) (l m : Lists) → m ≡ expired now l → l.last_owed + length l.promises ≤ 4000000000 → m.last_owed + length m.promises ≤ 4000000000
+expired_few now l m is few =
+    let less = filter_few (λ (p : Promise). nat_lt now p.expiry) l.promises in
+    subst (λ (k : Lists). k.last_owed + length k.promises ≤ 4000000000) (sym is) (omega (arith, less, few))

@@ -23,7 +23,7 @@ ghost use Rattle.afs_server.specs.declared.decided.Decided.TheVariants as decide
 
 use crate::answering::keep_reply;
 use crate::faults::NodeFault;
-use crate::saving::{Planned, withdraw_each};
+use crate::saving::{Planned, withdraw_lasting};
 use crate::server::FileServer;
 use afs_disk::Disk;
 use afs_history::lines::Outs;
@@ -102,8 +102,7 @@ impl FileServer {
             granted: _,
         } = planned;
         keep_reply(&mut self.callers, head, kept);
-        self.promises.expire(now);
-        withdraw_each(&mut self.promises, changed.as_slice(), head.from);
+        withdraw_lasting(&mut self.promises, changed.as_slice(), head.from, now);
         let outs = self.keep(store, ended);
         Ok(outs)
     }

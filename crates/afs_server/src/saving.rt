@@ -232,7 +232,7 @@ fn waits_for(alloc: Global, breaks: &[OwedBreak], owed: &[OwedBreak]) -> Mem<Seq
 }
 
 /// The change of these fids by this node withdraws the promises of others. It takes no memory.
-pub fn withdraw_each(promises: &mut Promises, fids: &[Fid], except: Node)
+fn withdraw_each(promises: &mut Promises, fids: &[Fid], except: Node)
     requires { promises.old.last_owed + length promises.old.promises ≤ 4000000000 }
     ensures { promises.new ≡ withdraws_each except fids.now promises.old }
 {
@@ -242,6 +242,15 @@ pub fn withdraw_each(promises: &mut Promises, fids: &[Fid], except: Node)
             Err(_) => unreachable!(),
         }
     }
+}
+
+/// What lasts of the promises on these fids is withdrawn, but for those of this node. It takes no memory.
+pub fn withdraw_lasting(promises: &mut Promises, fids: &[Fid], except: Node, now: u32)
+    requires { promises.old.last_owed + length promises.old.promises ≤ 4000000000 }
+    ensures { promises.new ≡ withdraws_each except fids.now (expired now promises.old) }
+{
+    promises.expire(now);
+    withdraw_each(promises, fids, except);
 }
 
 // ---- lines
@@ -378,6 +387,25 @@ fn hold(alloc: Global, turn: &mut Turn, reply: SpelledMessage, breaks: &[OwedBre
     Ok(())
 }
 
+/// The reply to the call of this header, which is told this, with a promise where it has a place for one.
+fn reply_told(
+    alloc: Global,
+    boot: u32,
+    head: &Head,
+    told: FsReply,
+    expiry: u32,
+) -> Mem<SpelledMessage>
+    requires head { IsSoundHead head.now }
+    requires opcode { head.now.opcode ≡ reply_number (tell.File told) }
+    requires within { IsWithin cell_replies (tell.File told) }
+    ensures { IfOk result (λ m. m ≡ replied boot head.now (carried.Reply (tell.File (promised_in expiry told)))) }
+{
+    let told = promised(alloc, told, expiry)?;
+    let message = reply(boot, head, told);
+    let spelled = SpelledMessage::of(alloc, &message)?;
+    Ok(spelled)
+}
+
 impl FileServer {
     /// What comes of it that the reply to a change waits for these breaks, and for those on all.
     fn plan_held(
@@ -423,9 +451,7 @@ impl FileServer {
         ensures good { IfOk result (λ r. AreGoodCalls server r.ended.callees.items) }
         ensures kept { IfOk result (λ r. Spells (replied boot head.now (carried.Reply (tell.File (promised_in (now + 7200) told)))) r.kept) }
     {
-        let told = promised(self.alloc, told, now + PROMISE_TICKS)?;
-        let message = reply(boot, head, told);
-        let reply = SpelledMessage::of(self.alloc, &message)?;
+        let reply = reply_told(self.alloc, boot, head, told, now + PROMISE_TICKS)?;
         let kept = reply.bytes().copy(self.alloc)?;
         let ended = self.plan_held(server, boot, last, reply, breaks, now)?;
         Ok(Replied { ended, kept })

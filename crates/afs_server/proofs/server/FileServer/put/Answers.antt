@@ -1,14 +1,56 @@
 use Rattle.std.proofs.Common.{◌≡◌, ◌≤◌, ◌+◌, rules, None, Some, refl, ap, sym, subst, ◌∙◌}
 use Rattle.std.specs.Prelude.{Result, Ok, Err}
 use Rattle.afs_breaks.specs.Promises.{expired, grants_all, Lists}
-use Rattle.afs_records.specs.Durable.{folded}
-use Rattle.afs_server.specs.Saving.{IsPut, IsTaken}
+use Rattle.afs_model.specs.Calls.{call_seated}
+use Rattle.afs_records.specs.Durable.{folded, Durable}
+use Rattle.afs_rows.specs.ServerRow.{seat_for}
+use Rattle.afs_server.specs.Saving.{withdraws_each, IsPut, IsTaken}
+use Rattle.afs_server.specs.Seen.{Memory}
+use Rattle.afs_volstore.specs.Stores.{Store}
 use Rattle.afs_server.specs.declared.faults.NodeFault.TheVariants as faults
-use Rattle.afs_server.proofs.Holding.{granted_few}
-use Rattle.afs_server.proofs.Still.{is_same, with_fault, with_value}
+use Rattle.afs_server.proofs.Holding.{all_few}
+use Rattle.afs_server.proofs.Still.{is_same, with_fault, with_value, OfDisk}
 use Rattle.afs_server.proofs.server.FileServer.put.Goals as goal
 
-pub withdraw_each-requires : goal.withdraw_each-requires
-withdraw_each-requires g c =
-    let lists : c.expire.new.promises ≡ expired c.args.now (grants_all c.args.head.now.from (c.args.now + 7200) c.args.planned.granted c.args.self.now.lists) = search rules in
-    granted_few c.args.head.now.from (c.args.now + 7200) c.args.now c.args.planned.granted c.args.self.now.lists c.expire.new.promises lists c.requires.draws
+pub withdraw_lasting-requires : goal.withdraw_lasting-requires
+withdraw_lasting-requires g c =
+    let granted = c.in_ok-grant_all.ensures in
+    let lists : c.grant_all.new.self ≡ grants_all c.args.head.now.from (c.args.now + 7200) c.args.planned.granted c.args.self.now.lists = search (rules, granted) in
+    all_few c.args.head.now.from (c.args.now + 7200) c.args.planned.granted c.args.self.now.lists c.grant_all.new.self lists c.requires.draws
+
+pub returns-clause-puts : goal.returns-clause-puts
+returns-clause-puts g c =
+    let old = c.args.self.now in
+    let s = c.args.store.now in
+    let p = c.args.planned in
+    let head = c.args.head.now in
+    let mid = c.commit.new.store in
+    let t = c.keep-outs.new.store in
+    let lists : c.withdraw_lasting.new.promises ≡ withdraws_each head.from p.changed (expired c.args.now (grants_all head.from (c.args.now + 7200) p.granted old.lists)) = search rules in
+    let memory : c.keep-outs.new.self ≡ record old { seats = c.keep_reply.new.callers.seats; lists = c.withdraw_lasting.new.promises; callees = p.ended.callees.items; held = p.ended.held } = search rules in
+    let store : t ≡ record mid { drawn = p.ended.last } = search rules in
+    let commits = c.in_ok-commit.ensures.commits p.rec c.requires.prepared in
+    let durable : t.durable ≡ mid.durable = ap (λ (u : Store g.row.D.Denot). u.durable) store in
+    let disk : t.disk ≡ mid.disk = ap (λ (u : Store g.row.D.Denot). u.disk) store in
+    let reserved = c.in_ok-reserve.ensures.seats in (
+      record {
+        boot = ap (λ (m : Memory). m.boot) memory;
+        seats = λ m spells. ap (λ (k : Memory). k.seats) memory ∙ (c.keep_reply.ensures.seats m spells ∙ ap (call_seated (seat_for head m)) reserved);
+        lists = ap (λ (m : Memory). m.lists) memory ∙ lists;
+        callees = ap (λ (m : Memory). m.callees) memory;
+        held = ap (λ (m : Memory). m.held) memory;
+      },
+      (
+        record {
+          store =
+              store
+              ∙ ((λ i. record (commits.0 i) { drawn = p.ended.last })
+              ∙ (λ i. record s { durable = sym durable i; disk = sym disk i; prepared = None; count = s.count + 1; drawn = p.ended.last }));
+          folds = commits.1 ∙ ap (λ (d : Durable). Some d) (sym durable);
+        },
+        c.keep-outs.ensures.outs,
+      ),
+    )
+
+pub returns-clause-disk : goal.returns-clause-disk
+returns-clause-disk g c = ?

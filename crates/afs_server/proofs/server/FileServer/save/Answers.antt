@@ -15,3 +15,9 @@ prepare-room-requires-clause-taken g c =
     let made = c.requires.made in
     let plan = c.in_ok-planned.ensures in
     is_taken c.args.id c.args.now c.args.head.now made.0 c.args.change c.in_ok-planned.planned.kept c.args.store.now.durable c.in_ok-planned.planned.rec made.1.0 made.1.1 plan.rec
+
+pub returns-clause-does : goal.returns-clause-does
+returns-clause-does g c = ?
+
+pub returns-clause-disk : goal.returns-clause-disk
+returns-clause-disk g c = ?
