@@ -73,6 +73,7 @@ module _ {D : Type 0} (seen : D → Option (List ℕ)) (left_by : D → ℕ → 
   is_still {T} decided d old new result still same counts = record {
     quiet = λ is. (same, counts);
     any_moment = λ r is. absurd (not_written decided r result still is);
+    fits = λ r is. absurd (not_written decided r result still is);
     most = let e = counts.same_calls in (omega (arith, e), omega (arith, e));
     limited = counts.same_limit;
     called = none_more decided old new result still counts.same_calls;
@@ -118,6 +119,7 @@ module _ {D : Type 0} (seen : D → Option (List ℕ)) (left_by : D → ℕ → 
   behind {T} decided d old mid new result same counts then = record {
     quiet = λ is. let q = then.quiet is in (both_same old mid new same q.0, both_count old mid new counts q.1);
     any_moment = λ r is bytes told. moved old mid new (LeftAround (whole_records bytes) r d) same (then.any_moment r is bytes (same.same_seen ∙ told));
+    fits = then.fits;
     most = subst (λ (n : ℕ). (n ≤ calls new) × (calls new ≤ n + 4)) counts.same_calls then.most;
     limited = then.limited ∙ counts.same_limit;
     called = subst (λ (n : ℕ). OnOk result (calls new ≡ n + calls_for decided)) counts.same_calls then.called;
@@ -131,16 +133,16 @@ module _ {D : Type 0} (seen : D → Option (List ℕ)) (left_by : D → ℕ → 
 
   -- with another value at Ok
   pub with_value : {S T : Type 0} (decided : Option StoreRecord) (d : Durable) (old new : D) (x : S) (y : T) → OfDisk {T = S} decided d old new (Ok x) → OfDisk {T = T} decided d old new (Ok y)
-  with_value {S} {T} None d old new x y is = record { quiet = is.quiet; any_moment = is.any_moment; most = is.most; limited = is.limited; called = is.called; ran = record { never_falls = is.ran.never_falls; own_never_falls = is.ran.own_never_falls; down = λ z. absurd cc; passed = is.ran.passed }; set = is.set }
-  with_value {S} {T} (Some r) d old new x y is = record { quiet = is.quiet; any_moment = is.any_moment; most = is.most; limited = is.limited; called = is.called; ran = record { never_falls = is.ran.never_falls; own_never_falls = is.ran.own_never_falls; down = λ z. absurd cc; passed = is.ran.passed }; set = is.set }
+  with_value {S} {T} None d old new x y is = record { quiet = is.quiet; any_moment = is.any_moment; fits = is.fits; most = is.most; limited = is.limited; called = is.called; ran = record { never_falls = is.ran.never_falls; own_never_falls = is.ran.own_never_falls; down = λ z. absurd cc; passed = is.ran.passed }; set = is.set }
+  with_value {S} {T} (Some r) d old new x y is = record { quiet = is.quiet; any_moment = is.any_moment; fits = is.fits; most = is.most; limited = is.limited; called = is.called; ran = record { never_falls = is.ran.never_falls; own_never_falls = is.ran.own_never_falls; down = λ z. absurd cc; passed = is.ran.passed }; set = is.set }
 
   fault_by : {S T : Type 0} (decided : Option StoreRecord) (d : Durable) (old new : D) → OfDisk {T = S} decided d old new (Err faults.OutOfMemory) → OfDisk {T = T} decided d old new (Err faults.OutOfMemory)
-  fault_by {S} {T} None d old new is = record { quiet = is.quiet; any_moment = λ r z. absurd z; most = is.most; limited = is.limited; called = tt; ran = record { never_falls = is.ran.never_falls; own_never_falls = is.ran.own_never_falls; down = λ z. absurd cc; passed = tt }; set = is.set }
-  fault_by {S} {T} (Some r) d old new is = record { quiet = is.quiet; any_moment = λ r z. absurd z; most = is.most; limited = is.limited; called = tt; ran = record { never_falls = is.ran.never_falls; own_never_falls = is.ran.own_never_falls; down = λ z. absurd cc; passed = tt }; set = is.set }
+  fault_by {S} {T} None d old new is = record { quiet = is.quiet; any_moment = λ r z. absurd z; fits = λ r z. absurd z; most = is.most; limited = is.limited; called = tt; ran = record { never_falls = is.ran.never_falls; own_never_falls = is.ran.own_never_falls; down = λ z. absurd cc; passed = tt }; set = is.set }
+  fault_by {S} {T} (Some r) d old new is = record { quiet = is.quiet; any_moment = λ r z. absurd z; fits = λ r z. absurd z; most = is.most; limited = is.limited; called = tt; ran = record { never_falls = is.ran.never_falls; own_never_falls = is.ran.own_never_falls; down = λ z. absurd cc; passed = tt }; set = is.set }
 
   down_by : {S T : Type 0} (decided : Option StoreRecord) (d : Durable) (old new : D) → OfDisk {T = S} decided d old new (Err faults.Down) → OfDisk {T = T} decided d old new (Err faults.Down)
-  down_by {S} {T} None d old new is = record { quiet = is.quiet; any_moment = is.any_moment; most = is.most; limited = is.limited; called = tt; ran = record { never_falls = is.ran.never_falls; own_never_falls = is.ran.own_never_falls; down = λ z. is.ran.down refl; passed = tt }; set = is.set }
-  down_by {S} {T} (Some r) d old new is = record { quiet = is.quiet; any_moment = is.any_moment; most = is.most; limited = is.limited; called = tt; ran = record { never_falls = is.ran.never_falls; own_never_falls = is.ran.own_never_falls; down = λ z. is.ran.down refl; passed = tt }; set = is.set }
+  down_by {S} {T} None d old new is = record { quiet = is.quiet; any_moment = is.any_moment; fits = is.fits; most = is.most; limited = is.limited; called = tt; ran = record { never_falls = is.ran.never_falls; own_never_falls = is.ran.own_never_falls; down = λ z. is.ran.down refl; passed = tt }; set = is.set }
+  down_by {S} {T} (Some r) d old new is = record { quiet = is.quiet; any_moment = is.any_moment; fits = is.fits; most = is.most; limited = is.limited; called = tt; ran = record { never_falls = is.ran.never_falls; own_never_falls = is.ran.own_never_falls; down = λ z. is.ran.down refl; passed = tt }; set = is.set }
 
   pub with_fault : {S T : Type 0} (decided : Option StoreRecord) (d : Durable) (old new : D) (fault : NodeFault) → OfDisk {T = S} decided d old new (Err fault) → OfDisk {T = T} decided d old new (Err fault)
   with_fault {S} {T} decided d old new faults.OutOfMemory is = fault_by decided d old new is

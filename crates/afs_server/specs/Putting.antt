@@ -8,6 +8,7 @@ use Rattle.afs_history.specs.declared.lines.Outs.{Outs}
 use Rattle.afs_num.specs.declared.records.StoreRecord.{StoreRecord}
 use Rattle.afs_num.specs.declared.types.Node.{Node}
 use Rattle.afs_records.specs.Durable.{folded, Durable}
+use Rattle.afs_records.specs.Records.{FitsRecord}
 use Rattle.afs_rows.specs.Callbacks as row
 use Rattle.afs_rows.specs.ServerRow.{begun_after, does, shows, Decision}
 use Rattle.afs_rows.specs.ServerSteps.{stepped}
@@ -31,6 +32,7 @@ pub record OnDisk {D T : Type 0} (seen : D → Option (List ℕ)) (left_by : D �
     (faults own_faults calls : D → ℕ) (setting : D → Setting) (limit : D → ℕ) (decided : Option StoreRecord) (d : Durable) (old new : D) (result : Result T NodeFault) : Type 0 where
   pub quiet : IsQuiet decided result → SameDisk seen left_by size may_leave moment left_since old new × SameCounts faults own_faults calls setting limit old new
   pub any_moment : (r : StoreRecord) → IsWritten r decided result → (bytes : List ℕ) → seen old ≡ Some bytes → LeavesOnly moment left_since old new (LeftAround (whole_records bytes) r d)
+  pub fits : (r : StoreRecord) → IsWritten r decided result → FitsRecord r
   pub most : (calls old ≤ calls new) × (calls new ≤ calls old + 4)
   pub limited : limit new ≡ limit old
   pub called : OnOk result (calls new ≡ calls old + calls_for decided)

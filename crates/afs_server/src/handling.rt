@@ -11,6 +11,7 @@ ghost use Rattle.afs_model.specs.Calls.{call_seat, paired};
 ghost use Rattle.afs_model.specs.Heads.{IsSoundHead};
 ghost use Rattle.afs_model.specs.Messages.{received_by, FindsMessages, HasSpelling, IsSoundReceived};
 ghost use Rattle.afs_records.specs.Durable.{folded, Durable};
+ghost use Rattle.afs_records.specs.Records.{FitsRecord};
 ghost use Rattle.afs_rows.specs.Callbacks as row;
 ghost use Rattle.afs_rows.specs.Callbacks.{turn_for, turned_in};
 ghost use Rattle.afs_rows.specs.ServerRow.{begun_after, called, decides, device_calls, Decision};
@@ -221,6 +222,7 @@ impl FileServer {
         ensures any_moment { (r : records.StoreRecord) → IsWritten r (record_decided store.old.durable.boot now (decides store.old.node (server_seen self.old store.old) now (received_by calls_served bytes.now))) result
             → (bytes : List ℕ) → D.seen store.old.disk ≡ Some bytes → LeavesOnly D.moment D.left_since store.old.disk store.new.disk (LeftAround (whole_records bytes) r store.old.durable) }
 
+        ensures fits { (r : records.StoreRecord) → IsWritten r (record_decided store.old.durable.boot now (decides store.old.node (server_seen self.old store.old) now (received_by calls_served bytes.now))) result → FitsRecord r }
         ensures most { (D.calls store.old.disk ≤ D.calls store.new.disk) × (D.calls store.new.disk ≤ D.calls store.old.disk + 4) }
         ensures limit { D.limit store.new.disk ≡ D.limit store.old.disk }
         ensures calls { OnOk result (D.calls store.new.disk ≡ D.calls store.old.disk + device_calls (decides store.old.node (server_seen self.old store.old) now (received_by calls_served bytes.now))) }

@@ -61,6 +61,7 @@ fn prepare<D: Disk>(store: &mut VolStore<D>, rec: &StoreRecord) -> Mem<bool>
 /// Puts the prepared record on the disk.
 fn commit<D: Disk>(store: &mut VolStore<D>) -> Result<(), NodeFault>
     requires prepared { IsSome store.old.prepared }
+    requires fits { (r : records.StoreRecord) → store.old.prepared ≡ Some r → FitsRecord r }
     requires up { store.old.closed ≡ false }
     ensures commits { (r : records.StoreRecord) → store.old.prepared ≡ Some r → Commits r store.old store.new result }
     ensures disk { (r : records.StoreRecord) → store.old.prepared ≡ Some r → OnDisk D.seen D.left_by D.size D.may_leave D.moment D.left_since D.faults D.own_faults D.calls D.setting D.limit (Some r) store.old.durable store.old.disk store.new.disk result }
@@ -86,6 +87,7 @@ impl FileServer {
         requires spelling { IsSpelling planned.kept }
         requires up { store.old.closed ≡ false }
         requires prepared { store.old.prepared ≡ Some planned.rec }
+        requires fits { FitsRecord planned.rec }
         requires now { now ≤ 1000000000 }
         ensures puts { Puts head.now now planned self.old self.new store.old store.new result }
         ensures disk { OnDisk D.seen D.left_by D.size D.may_leave D.moment D.left_since D.faults D.own_faults D.calls D.setting D.limit (Some planned.rec) store.old.durable store.old.disk store.new.disk result }

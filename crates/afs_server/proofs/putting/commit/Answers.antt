@@ -7,6 +7,7 @@ pub returns-in-Ok-clause-disk : goal.returns-in-Ok-clause-disk
 returns-in-Ok-clause-disk g c r e = record {
   quiet = λ is. absurd is;
   any_moment = λ q is bytes told. c.commit.ensures.any_moment c.requires.up q (e ∙ is) bytes told;
+  fits = λ q is. c.requires.fits q (e ∙ is);
   most = c.commit.ensures.most;
   limited = c.commit.ensures.setting.0;
   called = c.in-Ok.ensures.calls;
@@ -18,6 +19,7 @@ pub returns-in-Err-clause-disk : goal.returns-in-Err-clause-disk
 returns-in-Err-clause-disk g c r e = record {
   quiet = λ is. absurd is;
   any_moment = λ q is bytes told. c.commit.ensures.any_moment c.requires.up q (e ∙ is) bytes told;
+  fits = λ q is. c.requires.fits q (e ∙ is);
   most = c.commit.ensures.most;
   limited = c.commit.ensures.setting.0;
   called = tt;

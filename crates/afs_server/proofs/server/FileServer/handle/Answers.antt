@@ -59,6 +59,9 @@ returns-clause-quiet g c = c.take_bytes.ensures.disk.quiet
 pub returns-clause-any_moment : goal.returns-clause-any_moment
 returns-clause-any_moment g c = c.take_bytes.ensures.disk.any_moment
 
+pub returns-clause-fits : goal.returns-clause-fits
+returns-clause-fits g c = c.take_bytes.ensures.disk.fits
+
 pub returns-clause-most : goal.returns-clause-most
 returns-clause-most g c = c.take_bytes.ensures.disk.most
 

@@ -1,8 +1,9 @@
-use Rattle.std.proofs.Common.{◌≡◌, ◌≤◌, ◌+◌, rules, None, Some, refl, ap, sym, subst, ◌∙◌}
+use Rattle.std.proofs.Common.{◌≡◌, ◌≤◌, ◌+◌, rules, Option, None, Some, refl, ap, sym, subst, ◌∙◌}
 use Rattle.std.specs.Prelude.{Result, Ok, Err}
 use Rattle.afs_breaks.specs.Promises.{expired, grants_all, Lists}
 use Rattle.afs_model.specs.Calls.{call_seated}
 use Rattle.afs_records.specs.Durable.{folded, Durable}
+use Rattle.afs_records.specs.Records.{FitsRecord}
 use Rattle.afs_rows.specs.ServerRow.{seat_for}
 use Rattle.afs_server.specs.Saving.{withdraws_each, IsPut, IsTaken}
 use Rattle.afs_server.specs.Seen.{Memory}
@@ -12,11 +13,17 @@ use Rattle.afs_server.proofs.Holding.{all_few}
 use Rattle.afs_server.proofs.Still.{is_same, with_fault, with_value, OfDisk}
 use Rattle.afs_server.proofs.server.FileServer.put.Goals as goal
 
+some_is : {A : Type 0} (x y : A) → ◌≡◌ {A = Option A} (Some x) (Some y) → x ≡ y
+some_is x y e = cc
+
 pub withdraw_lasting-requires : goal.withdraw_lasting-requires
 withdraw_lasting-requires g c =
     let granted = c.in_ok-grant_all.ensures in
     let lists : c.grant_all.new.self ≡ grants_all c.args.head.now.from (c.args.now + 7200) c.args.planned.granted c.args.self.now.lists = search (rules, granted) in
     all_few c.args.head.now.from (c.args.now + 7200) c.args.planned.granted c.args.self.now.lists c.grant_all.new.self lists c.requires.draws
+
+pub commit-requires-clause-fits : goal.commit-requires-clause-fits
+commit-requires-clause-fits g c = λ r is. let same : c.args.planned.rec ≡ r = some_is _ r (sym c.requires.prepared ∙ is) in subst FitsRecord same c.requires.fits
 
 pub returns-clause-puts : goal.returns-clause-puts
 returns-clause-puts g c =
