@@ -11,7 +11,7 @@ use Rattle.afs_volstore.specs.Stores.{LeftAround}
 use Rattle.afs_server.specs.Handling.{IsQuiet, IsWritten, Ran}
 use Rattle.afs_server.specs.Putting.{calls_for, IsStill, OnDisk}
 use Rattle.afs_server.specs.declared.faults.NodeFault.{NodeFault}
-use Rattle.afs_server.specs.declared.faults.NodeFault.TheVariants as faults
+use Rattle.afs_server.specs.declared.faults.NodeFault.TheVariants as nodes
 
 none_called : (setting : Setting) (n : ℕ) → PassesAll setting n n
 none_called setting n = λ call above within trips. absurd (omega (arith, above, within))
@@ -45,8 +45,8 @@ module _ {D : Type 0} (seen : D → Option (List ℕ)) (left_by : D → ℕ → 
   not_written : {T : Type 0} (decided : Option StoreRecord) (r : StoreRecord) (result : Result T NodeFault) → IsStill decided result → IsWritten r decided result → ⊥
   not_written {T} None r (Ok x) still is = absurd cc
   not_written {T} (Some q) r (Ok x) still is = absurd cc
-  not_written {T} decided r (Err faults.OutOfMemory) still is = is
-  not_written {T} decided r (Err faults.Down) still is = still
+  not_written {T} decided r (Err nodes.OutOfMemory) still is = is
+  not_written {T} decided r (Err nodes.Down) still is = still
 
   none_more : {T : Type 0} (decided : Option StoreRecord) (old new : D) (result : Result T NodeFault) → IsStill decided result → calls new ≡ calls old → OnOk result (calls new ≡ calls old + calls_for decided)
   none_more {T} None old new (Ok x) still same = omega (arith, same)
@@ -60,13 +60,13 @@ module _ {D : Type 0} (seen : D → Option (List ℕ)) (left_by : D → ℕ → 
     down = λ is. absurd cc;
     passed = subst (PassesAll (setting old) (calls old)) (sym counts.same_calls) (none_called (setting old) (calls old));
   }
-  ran_none {T} decided old new (Err faults.OutOfMemory) still counts = record {
+  ran_none {T} decided old new (Err nodes.OutOfMemory) still counts = record {
     never_falls = let e = counts.same_faults in omega (arith, e);
     own_never_falls = let e = counts.same_own_faults in omega (arith, e);
     down = λ is. absurd cc;
     passed = tt;
   }
-  ran_none {T} decided old new (Err faults.Down) still counts = absurd still
+  ran_none {T} decided old new (Err nodes.Down) still counts = absurd still
 
   -- nothing but the room changed
   pub is_still : {T : Type 0} (decided : Option StoreRecord) (d : Durable) (old new : D) (result : Result T NodeFault) → IsStill decided result → Same old new → Counts old new → OfDisk decided d old new result
@@ -136,14 +136,14 @@ module _ {D : Type 0} (seen : D → Option (List ℕ)) (left_by : D → ℕ → 
   with_value {S} {T} None d old new x y is = record { quiet = is.quiet; any_moment = is.any_moment; fits = is.fits; most = is.most; limited = is.limited; called = is.called; ran = record { never_falls = is.ran.never_falls; own_never_falls = is.ran.own_never_falls; down = λ z. absurd cc; passed = is.ran.passed }; set = is.set }
   with_value {S} {T} (Some r) d old new x y is = record { quiet = is.quiet; any_moment = is.any_moment; fits = is.fits; most = is.most; limited = is.limited; called = is.called; ran = record { never_falls = is.ran.never_falls; own_never_falls = is.ran.own_never_falls; down = λ z. absurd cc; passed = is.ran.passed }; set = is.set }
 
-  fault_by : {S T : Type 0} (decided : Option StoreRecord) (d : Durable) (old new : D) → OfDisk {T = S} decided d old new (Err faults.OutOfMemory) → OfDisk {T = T} decided d old new (Err faults.OutOfMemory)
+  fault_by : {S T : Type 0} (decided : Option StoreRecord) (d : Durable) (old new : D) → OfDisk {T = S} decided d old new (Err nodes.OutOfMemory) → OfDisk {T = T} decided d old new (Err nodes.OutOfMemory)
   fault_by {S} {T} None d old new is = record { quiet = is.quiet; any_moment = λ r z. absurd z; fits = λ r z. absurd z; most = is.most; limited = is.limited; called = tt; ran = record { never_falls = is.ran.never_falls; own_never_falls = is.ran.own_never_falls; down = λ z. absurd cc; passed = tt }; set = is.set }
   fault_by {S} {T} (Some r) d old new is = record { quiet = is.quiet; any_moment = λ r z. absurd z; fits = λ r z. absurd z; most = is.most; limited = is.limited; called = tt; ran = record { never_falls = is.ran.never_falls; own_never_falls = is.ran.own_never_falls; down = λ z. absurd cc; passed = tt }; set = is.set }
 
-  down_by : {S T : Type 0} (decided : Option StoreRecord) (d : Durable) (old new : D) → OfDisk {T = S} decided d old new (Err faults.Down) → OfDisk {T = T} decided d old new (Err faults.Down)
+  down_by : {S T : Type 0} (decided : Option StoreRecord) (d : Durable) (old new : D) → OfDisk {T = S} decided d old new (Err nodes.Down) → OfDisk {T = T} decided d old new (Err nodes.Down)
   down_by {S} {T} None d old new is = record { quiet = is.quiet; any_moment = is.any_moment; fits = is.fits; most = is.most; limited = is.limited; called = tt; ran = record { never_falls = is.ran.never_falls; own_never_falls = is.ran.own_never_falls; down = λ z. is.ran.down refl; passed = tt }; set = is.set }
   down_by {S} {T} (Some r) d old new is = record { quiet = is.quiet; any_moment = is.any_moment; fits = is.fits; most = is.most; limited = is.limited; called = tt; ran = record { never_falls = is.ran.never_falls; own_never_falls = is.ran.own_never_falls; down = λ z. is.ran.down refl; passed = tt }; set = is.set }
 
   pub with_fault : {S T : Type 0} (decided : Option StoreRecord) (d : Durable) (old new : D) (fault : NodeFault) → OfDisk {T = S} decided d old new (Err fault) → OfDisk {T = T} decided d old new (Err fault)
-  with_fault {S} {T} decided d old new faults.OutOfMemory is = fault_by decided d old new is
-  with_fault {S} {T} decided d old new faults.Down is = down_by decided d old new is
+  with_fault {S} {T} decided d old new nodes.OutOfMemory is = fault_by decided d old new is
+  with_fault {S} {T} decided d old new nodes.Down is = down_by decided d old new is

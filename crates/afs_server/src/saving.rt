@@ -190,8 +190,9 @@ fn new_breaks(
     now: u32,
 ) -> Mem<Vec<OwedBreak>>
     requires draws { promises.now.last_owed + length promises.now.promises < 4000000000 }
+    requires promised { All IsPromiseToNode promises.now.promises }
     ensures breaks { IfOk result (λ os. os.items ≡ breaks_new except fids.now now promises.now) }
-    ensures nodes { All IsPromiseToNode promises.now.promises → IfOk result (λ os. All IsBreakToNode os.items) }
+    ensures nodes { IfOk result (λ os. All IsBreakToNode os.items) }
 {
     let hits = new_hits(alloc, promises, fids, except, now)?;
     let mut breaks = Vec::new(alloc);

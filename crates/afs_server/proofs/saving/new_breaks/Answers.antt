@@ -13,7 +13,7 @@ owe_each-requires c =
     let few = few_lasting c.args.except c.args.fids.now c.args.now c.args.promises.now.promises in
     let long = ap length (c.in_ok-hits.ensures ∙ fresh_are c.args.except c.args.fids.now (lasting c.args.now c.args.promises.now.promises)) in
     let last : c.last.result ≡ c.args.promises.now.last_owed = search rules in
-    let draws = c.requires in
+    let draws = c.requires.draws in
     omega (arith, few, long, last, draws)
 
 pub returns-clause-breaks : goal.returns-clause-breaks
@@ -23,4 +23,4 @@ returns-clause-breaks c =
     owes ∙ ap (owes_from c.args.promises.now.last_owed) hits
 
 pub returns-clause-nodes : goal.returns-clause-nodes
-returns-clause-nodes c = λ nodes. subst (All IsBreakToNode) (sym (returns-clause-breaks c)) (new_to_nodes c.args.except c.args.fids.now c.args.now c.args.promises.now nodes)
+returns-clause-nodes c = subst (All IsBreakToNode) (sym (returns-clause-breaks c)) (new_to_nodes c.args.except c.args.fids.now c.args.now c.args.promises.now c.requires.promised)

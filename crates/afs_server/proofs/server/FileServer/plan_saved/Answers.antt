@@ -1,7 +1,11 @@
-use Rattle.std.proofs.Common.{◌++◌, false, sym, subst}
+use Rattle.std.proofs.Common.{◌+◌, ◌++◌, false, sym, subst}
 use Rattle.afs_num.specs.declared.messages.Message.{Message}
 use Rattle.afs_breaks.specs.Promises.{lasting_breaks}
 use Rattle.afs_rows.specs.Callbacks.{alls, numbers, pumped}
+use Rattle.afs_num.specs.declared.messages.Carried.TheVariants as carried
+use Rattle.afs_num.specs.declared.messages.Reply.TheVariants as tell
+use Rattle.afs_rows.specs.ServerRow.{promised_in, replied}
+use Rattle.afs_server_parts.specs.Kept.{Spells}
 use Rattle.afs_server.specs.Answering.{answer_turn, with_lists}
 use Rattle.afs_server.specs.Ending.{Ends}
 use Rattle.afs_server.specs.Seen.{backs_seen}
@@ -14,4 +18,6 @@ returns-clause-ends c l owes =
     record { backs = ends.backs; sent = ends.sent }
 
 pub returns-clause-kept : goal.returns-clause-kept
-returns-clause-kept c = ?
+returns-clause-kept c =
+    let spelled = subst (λ (m : Message). Spells m c.bytes.result.now) c.in_ok-reply.ensures c.bytes.ensures in
+    subst (Spells (replied c.args.boot c.args.head.now (carried.Reply (tell.File (promised_in (c.args.now + 7200) c.args.told))))) (sym c.in_ok-kept.ensures) spelled

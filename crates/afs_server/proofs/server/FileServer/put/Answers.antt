@@ -39,7 +39,7 @@ returns-clause-puts g c =
     let commits = c.in_ok-commit.ensures.commits p.rec c.requires.prepared in
     let durable : t.durable ≡ mid.durable = ap (λ (u : Store g.row.D.Denot). u.durable) store in
     let disk : t.disk ≡ mid.disk = ap (λ (u : Store g.row.D.Denot). u.disk) store in
-    let reserved = c.in_ok-reserve.ensures.seats in (
+    let reserved = c.in_ok-reserve.ensures.seats ∙ ap (λ (m : Memory). m.seats) c.self.view_is in (
       record {
         boot = ap (λ (m : Memory). m.boot) memory;
         seats = λ m spells. ap (λ (k : Memory). k.seats) memory ∙ (c.keep_reply.ensures.seats m spells ∙ ap (call_seated (seat_for head m)) reserved);
@@ -60,4 +60,11 @@ returns-clause-puts g c =
     )
 
 pub returns-clause-disk : goal.returns-clause-disk
-returns-clause-disk g c = ?
+returns-clause-disk g c =
+    let s = c.args.store.now in
+    let p = c.args.planned in
+    let store : c.keep-outs.new.store ≡ record c.commit.new.store { drawn = p.ended.last } = search rules in
+    let disk = ap (λ (u : Store g.row.D.Denot). u.disk) store in
+    let told = c.in_ok-commit.ensures.disk p.rec c.requires.prepared in
+    subst (λ (x : g.row.D.Denot). OfDisk g.D.Disk.seen g.D.Disk.left_by g.D.Disk.size g.D.Disk.may_leave g.D.Disk.moment g.D.Disk.left_since g.D.Disk.faults g.D.Disk.own_faults g.D.Disk.calls g.D.Disk.setting g.D.Disk.limit (Some p.rec) s.durable s.disk x (Ok c.keep-outs.result)) (sym disk)
+    (with_value g.D.Disk.seen g.D.Disk.left_by g.D.Disk.size g.D.Disk.may_leave g.D.Disk.moment g.D.Disk.left_since g.D.Disk.faults g.D.Disk.own_faults g.D.Disk.calls g.D.Disk.setting g.D.Disk.limit (Some p.rec) s.durable s.disk c.commit.new.store.disk tt c.keep-outs.result told)
