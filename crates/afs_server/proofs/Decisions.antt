@@ -1,11 +1,13 @@
 -- What a volume answers is what the row decides.
-use Rattle.std.proofs.Common.{◌≡◌, ℕ, Bool, true, false, cond, List, [], ◌∷◌, map, Option, Some, None, refl, sym, ap, subst, ◌∙◌}
+use Rattle.std.proofs.Common.{◌≡◌, ◌≤◌, ℕ, Bool, true, false, cond, List, [], ◌∷◌, map, length, Option, Some, None, refl, sym, ap, subst, ◌∙◌, arith}
 use Rattle.std.specs.Prelude as outcome
 use Rattle.std.specs.Prelude.{nat_eq, ℤ, pos, IfOk, Ok, Err}
 use Rattle.std.specs.Option.{option_map}
 use Rattle.afs_num.specs.declared.calls.FsCall.{FsCall}
 use Rattle.afs_num.specs.declared.calls.FsCall.TheVariants as calls
 use Rattle.afs_num.specs.declared.calls.FsReply.{FsReply}
+use Rattle.afs_num.specs.declared.calls.FsReply.TheVariants as replies
+use Rattle.afs_num.specs.declared.histories.Version.{Version}
 use Rattle.afs_num.specs.declared.messages.Call.TheVariants as ask
 use Rattle.afs_num.specs.declared.messages.Reply.TheVariants as tell
 use Rattle.afs_num.specs.declared.types.Fid.{Fid}
@@ -23,19 +25,22 @@ use Rattle.afs_model.specs.Heads.{is_zero}
 use Rattle.afs_records.specs.Durable as durable
 use Rattle.afs_records.specs.Durable.{or_zero, Stored}
 use Rattle.afs_rows.specs.ServerRow as row
-use Rattle.afs_rows.specs.ServerRow.{decided, granted_by, reading_in, refuses, shows, Decision}
+use Rattle.afs_rows.specs.ServerRow.{decided, granted_by, in_volume, reading_in, refuses, shows, Decision}
 use Rattle.afs_rows.specs.States.{ServerState}
 use Rattle.afs_server_parts.specs.Telling.{grants_seen}
 use Rattle.afs_volume.specs.Changes.{after, Applies}
 use Rattle.afs_volume.specs.Giving.{is_changing, is_reading, refusal_of, reply_of, time_in, times_of, volume_of, FitsReply, Replies}
-use Rattle.afs_volume.specs.Taking.{stored_of, times_in}
+use Rattle.afs_volume.specs.Taking.{stored_of, times_in, CanTakeIn}
 use Rattle.afs_volume.specs.declared.faults.OpFault.{OpFault}
 use Rattle.afs_volume.specs.declared.faults.OpFault.TheVariants as faults
 use Rattle.afs_volume.specs.declared.volume.Volume.{Volume}
-use Rattle.afs_server.specs.Deciding.{granted_in, CanBeTold, ChangesAs, Decides, IsReading, ReadsAs}
+use Rattle.afs_volume.proofs.Soundly.{volume_sound}
+use Rattle.afs_server.specs.Deciding.{granted_in, CanBeTold, ChangesAs, Decides, FitsDecided, IsReading, ReadsAs}
 use Rattle.afs_server.specs.declared.decided.Decided.{Decided}
 use Rattle.afs_server.proofs.Codes.{op_code}
 use Rattle.afs_server.proofs.Spelled.{fits_within}
+use Rattle.afs_server.proofs.Stamped.{told_times}
+use Rattle.afs_server.proofs.Written.{can_be_written}
 
 abbrev some : {A : Type 0} → A → Option A
 some x = Some x
@@ -163,12 +168,13 @@ module _ (s : ServerState) (clock : ℕ) (head : Head) (caller : Caller) (w : Vo
       subst (Decides s clock head (decided s clock head caller call w.head.id (stored_of w) (op w.head.id caller call (volume_of w)))) (sym is) (refused_as s clock head caller w call code.0 replies)
   read_decides (Err faults.OutOfMemory) d reading on replies is = absurd is
 
-  pub change_decides : (x : outcome.Result made.Change OpFault) (d : Decided) → get w.head.id s.lasting.volumes ≡ Some (stored_of w) → Applies w caller call clock (op w.head.id caller call (volume_of w)) x → ChangesAs w.head.id x d →
+  pub change_decides : (x : outcome.Result made.Change OpFault) (d : Decided) → volume_called call ≡ Some w.head.id → get w.head.id s.lasting.volumes ≡ Some (stored_of w) → Applies w caller call clock (op w.head.id caller call (volume_of w)) x → ChangesAs w.head.id x d →
       Decides s clock head (decided s clock head caller call w.head.id (stored_of w) (op w.head.id caller call (volume_of w))) d
-  change_decides (Ok x) d there applies is =
+  change_decides (Ok x) d on there applies is =
       let es = applies.0 in
       let n = applies.1.0 in
       let changed = applies.1.1.1.0 in
+      let sound = volume_sound w.head w.vnodes.table w.readable w.sound in
       let c : row.Change = record { id = w.head.id; caller = caller; call = call; before = stored_of w; edits = es; shown = n } in
       subst (Decides s clock head (decided s clock head caller call w.head.id (stored_of w) (op w.head.id caller call (volume_of w)))) (sym is) (
         c,
@@ -183,15 +189,18 @@ module _ (s : ServerState) (clock : ℕ) (head : Head) (caller : Caller) (w : Vo
               counter = changed.counter;
               unique = changed.unique;
               kept = applies.1.1.1.1.1;
-              reply = subst (λ (t : Fid → ℕ). change_reply w.head.id caller (stamped clock x.versions t) (after w es n) n call ≡ Some x.reply) (same_times w) applies.1.1.1.1.0;
+              reply =
+                  sym (told_times w.head.id clock caller call (stored_of w) es n sound (is_on call w.head.id on) applies.1.1.0)
+                  ∙ (ap (λ (vs : List Version). change_reply w.head.id caller (stamped clock vs (durable.time_in (stored_of w))) (after w es n) n call) (sym changed.versions)
+                  ∙ subst (λ (t : Fid → ℕ). change_reply w.head.id caller (stamped clock x.versions t) (after w es n) n call ≡ Some x.reply) (same_times w) applies.1.1.1.1.0);
             },
             ap (decided s clock head caller call w.head.id (stored_of w)) applies.1.1.0,
           ),
         ),
       )
-  change_decides (Err (faults.Code code)) d there applies is =
+  change_decides (Err (faults.Code code)) d on there applies is =
       subst (Decides s clock head (decided s clock head caller call w.head.id (stored_of w) (op w.head.id caller call (volume_of w)))) (sym is) (refused_as s clock head caller w call code.0 applies)
-  change_decides (Err faults.OutOfMemory) d there applies is = absurd is
+  change_decides (Err faults.OutOfMemory) d on there applies is = absurd is
 
 -- ---- and that it can be told
 
@@ -221,6 +230,38 @@ module _ (opcode clock : ℕ) (caller : Caller) (w : Volume) (call : FsCall) whe
       ChangesAs w.head.id x d → CanBeTold opcode d
   change_can_be_told (Ok x) d number applies fits is =
       let replies = applies.1.1.1.1.0 in
-      subst (CanBeTold opcode) (sym is) (number ∙ change_number w.head.id caller _ _ applies.1.0 call x.reply replies, fits_within x.reply fits)
+      subst (CanBeTold opcode) (sym is) (number ∙ change_number w.head.id caller (stamped clock x.versions (times_of w)) (after w applies.0 applies.1.0) applies.1.0 call x.reply replies, fits_within x.reply fits)
   change_can_be_told (Err (faults.Code code)) d number applies fits is = subst (CanBeTold opcode) (sym is) (coded w caller call code.0 applies)
   change_can_be_told (Err faults.OutOfMemory) d number applies fits is = absurd is
+
+-- ---- and that it is within its limits
+
+one_granted : (call : FsCall) (reply : FsReply) → length (granted_in call reply) ≤ 50
+one_granted (calls.FetchData f position wanted) (replies.FetchData contents status callback sync) = omega arith
+one_granted (calls.FetchData f position wanted) reply = omega arith
+one_granted (calls.FetchStatus f) (replies.FetchStatus status callback sync) = omega arith
+one_granted (calls.FetchStatus f) reply = omega arith
+one_granted call reply = omega arith
+
+pub read_fits : (call : FsCall) (x : outcome.Result FsReply OpFault) (d : Decided) → ReadsAs call x d → FitsDecided d
+read_fits call (Ok reply) d is = subst FitsDecided (sym is) (one_granted call reply)
+read_fits call (Err (faults.Code code)) d is = subst FitsDecided (sym is) tt
+read_fits call (Err faults.OutOfMemory) d is = absurd is
+
+module _ (clock : ℕ) (caller : Caller) (w : Volume) (call : FsCall) where
+  pub change_fits : (x : outcome.Result made.Change OpFault) (d : Decided) → volume_called call ≡ Some w.head.id → Applies w caller call clock (op w.head.id caller call (volume_of w)) x → IfOk x (λ c. CanTakeIn w c) → ChangesAs w.head.id x d → FitsDecided d
+  change_fits (Ok x) d on applies takes is =
+      subst FitsDecided (sym is)
+      (can_be_written w caller call clock applies.0 applies.1.0 x (stamped clock x.versions (times_of w)) (volume_sound w.head w.vnodes.table w.readable w.sound) (is_on call w.head.id on) applies.1.1.0 applies.1.1.1.0 applies.1.1.1.1.0 takes)
+  change_fits (Err (faults.Code code)) d on applies takes is = subst FitsDecided (sym is) tt
+  change_fits (Err faults.OutOfMemory) d on applies takes is = absurd is
+
+-- ---- by the volume that is found
+
+found_by : (s : ServerState) (clock : ℕ) (head : Head) (caller : Caller) (call : FsCall) (id : ℕ) (w : Volume) (d : Decided) → w.head.id ≡ id → Decides s clock head (decided s clock head caller call w.head.id (stored_of w) (op w.head.id caller call (volume_of w))) d
+    → Decides s clock head (in_volume s clock head caller call id (Some (stored_of w))) d
+found_by s clock head caller call id w d same is = subst (λ (k : ℕ). Decides s clock head (decided s clock head caller call k (stored_of w) (op k caller call (volume_of w))) d) same is
+
+pub found_decides : (s : ServerState) (clock : ℕ) (head : Head) (caller : Caller) (call : FsCall) (id : ℕ) (w : Volume) (d : Decided) → get id s.lasting.volumes ≡ Some (stored_of w) → w.head.id ≡ id
+    → Decides s clock head (decided s clock head caller call w.head.id (stored_of w) (op w.head.id caller call (volume_of w))) d → Decides s clock head (in_volume s clock head caller call id (get id s.lasting.volumes)) d
+found_decides s clock head caller call id w d there same is = subst (λ (o : Option Stored). Decides s clock head (in_volume s clock head caller call id o) d) (sym there) (found_by s clock head caller call id w d same is)

@@ -28,7 +28,7 @@ apart_by true p n keeps is e apart =
     let yes : same_node (or_loc (node_of p.0)) n ≡ true = ap (λ (x : Node). same_node x n) same ∙ same_node-refl n in
     absurd cc
 
-number_by : (t : Bool) (p : ℕ × Kept) (n : Node) → IsToNode p → IsNode n → same_node (or_loc (node_of p.0)) n ≡ t → nat_eq p.0 (node_number n) ≡ t
+pub number_by : (t : Bool) (p : ℕ × Kept) (n : Node) → IsToNode p → IsNode n → same_node (or_loc (node_of p.0)) n ≡ t → nat_eq p.0 (node_number n) ≡ t
 number_by true p n keeps is e = eq-eqb p.0 (node_number n) (sym (caller_number p keeps) ∙ ap node_number (same_node-true (or_loc (node_of p.0)) n e))
 number_by false p n keeps is e = apart_by (nat_eq p.0 (node_number n)) p n keeps is refl e
 

@@ -1,5 +1,6 @@
 -- What a server decides on a call.
-use Rattle.std.specs.Prelude.{◌≡◌, ℕ, List, [], ◌∷◌, Bool, false, Option, Some, None, Result, Ok, Err}
+use Rattle.std.specs.Prelude.{◌≡◌, ◌≤◌, ◌<◌, ◌^◌, ℕ, List, [], ◌∷◌, Bool, true, false, length, Option, Some, None, Result, Ok, Err}
+use Rattle.std.specs.List.{AllByRecursion}
 use Rattle.afs_num.specs.Nodes.{IsNode}
 use Rattle.afs_num.specs.declared.calls.AfsFetchStatus.{AfsFetchStatus}
 use Rattle.afs_num.specs.declared.calls.FsCall.{FsCall}
@@ -12,18 +13,20 @@ use Rattle.afs_num.specs.declared.messages.Received.TheVariants.{Whole}
 use Rattle.afs_num.specs.declared.messages.Reply.TheVariants as tell
 use Rattle.afs_num.specs.declared.types.Fid.{Fid}
 use Rattle.afs_num.specs.declared.types.Head.{Head}
+use Rattle.afs_num.specs.declared.vnodes.Vnode as image
 use Rattle.afs_num.specs.declared.volumes.Change as made
 use Rattle.afs_shape.specs.Rows.{IsWithin}
 use Rattle.afs_model.specs.CellRows.{cell_replies, reply_number}
 use Rattle.afs_model.specs.Calls.{runs, Admitted}
 use Rattle.afs_model.specs.Heads.{is_zero}
 use Rattle.afs_model.specs.Messages.{IsSoundCarried}
-use Rattle.afs_ideal.specs.Replies.{change_reply, stamped}
+use Rattle.afs_ideal.specs.Replies.{change_reply}
 use Rattle.afs_ideal.specs.Tables.{get}
+use Rattle.afs_ideal.specs.VnodeImage.{kind_fits, FitsImage}
 use Rattle.afs_records.specs.Changes.{images_left, numbers_gone}
 use Rattle.afs_records.specs.Durable.{changed_stored, time_in, Stored}
 use Rattle.afs_rows.specs.ServerRow as row
-use Rattle.afs_rows.specs.ServerRow.{drops, given_up_read, refuses, repeats, result, roomed, shows, stored_by, tells_boot, Decision}
+use Rattle.afs_rows.specs.ServerRow.{drops, given_up_read, is_client, refuses, repeats, result, roomed, shows, stored_by, tells_boot, Decision}
 use Rattle.afs_rows.specs.States.{ServerState}
 use Rattle.afs_server_parts.specs.Telling.{grants_seen}
 use Rattle.afs_server_parts.specs.declared.telling.Grant.{Grant}
@@ -51,6 +54,13 @@ granted_in (calls.FetchData f position wanted) reply = granted_data f reply
 granted_in (calls.FetchStatus f) reply = granted_status f reply
 granted_in call reply = []
 
+-- the call is served by one volume, or by none
+abbrev pub is_on_volume : FsCall → Bool
+is_on_volume (calls.GiveUpCallBacks fids callbacks) = false
+is_on_volume calls.GetTime = false
+is_on_volume (calls.BulkStatus fids) = false
+is_on_volume call = true
+
 -- ---- decisions
 
 -- a reading that the reply tells, and whose promises these grants are; no promise is given up in it
@@ -59,8 +69,8 @@ pub record IsReading (reply : FsReply) (grants : List Grant) (r : row.Reading) :
   pub grants_are : grants_seen r.granted ≡ grants
   pub nothing : r.given_up ≡ []
 
--- The change of the volume of this number that is made at this time: what its record says, and its reply, in which what it told
--- has this time. A disk that keeps the volume makes of the record the volume after the change.
+-- The change of the volume of this number that is made at this time: what its record says, and its reply. A disk that keeps the
+-- volume makes of the record the volume after the change.
 pub record IsMade (clock id : ℕ) (c : row.Change) (x : made.Change) : Type 0 where
   pub number : c.id ≡ id
   pub versions : x.versions ≡ row.made c
@@ -69,7 +79,7 @@ pub record IsMade (clock id : ℕ) (c : row.Change) (x : made.Change) : Type 0 w
   pub counter : x.counter ≡ (result c).counter
   pub unique : x.unique ≡ (result c).next
   pub kept : changed_stored x.counter x.unique x.vnodes x.removed c.before ≡ Some (stored_by clock c)
-  pub reply : change_reply c.id c.caller (stamped clock x.versions (time_in c.before)) (result c) c.shown c.call ≡ Some x.reply
+  pub reply : change_reply c.id c.caller (time_in (stored_by clock c)) (result c) c.shown c.call ≡ Some x.reply
 
 -- what is decided on the call of this header, at this time
 abbrev pub Decides : ServerState → ℕ → Head → Decision → Decided → Type 0
@@ -101,6 +111,47 @@ CanBeTold opcode (decided.GivesUp fids) = opcode ≡ 147
 CanBeTold opcode (decided.Changes id x) = (opcode ≡ reply_number (tell.File x.reply)) × IsWithin cell_replies (tell.File x.reply)
 CanBeTold opcode d = Unit {0}
 
+-- ---- limits
+
+-- the reply is one to a change: it has no list
+abbrev pub IsChanged : FsReply → Type 0
+IsChanged (replies.StoreData status sync) = Unit {0}
+IsChanged (replies.StoreAcl status sync) = Unit {0}
+IsChanged (replies.StoreStatus status sync) = Unit {0}
+IsChanged (replies.RemoveFile directory sync) = Unit {0}
+IsChanged (replies.CreateFile fid status directory callback sync) = Unit {0}
+IsChanged (replies.Rename old new sync) = Unit {0}
+IsChanged (replies.Symlink fid status directory sync) = Unit {0}
+IsChanged (replies.Link status directory sync) = Unit {0}
+IsChanged (replies.MakeDir fid status directory callback sync) = Unit {0}
+IsChanged (replies.RemoveDir directory sync) = Unit {0}
+IsChanged reply = ⊥
+
+abbrev pub HasKind : image.Vnode → Type 0
+HasKind i = kind_fits i.vnode i.kind ≡ true
+
+-- the change has a record
+pub record CanBeWritten (x : made.Change) : Type 0 where
+  pub few_versions : length x.versions < 2 ^ 32
+  pub few : length x.vnodes < 2 ^ 32
+  pub few_removed : length x.removed < 2 ^ 32
+  pub images : AllByRecursion FitsImage x.vnodes
+  pub kinds : AllByRecursion HasKind x.vnodes
+  pub reply : IsChanged x.reply
+
+-- few promises are granted, and a change has a record
+abbrev pub FitsDecided : Decided → Type 0
+FitsDecided (decided.Shows reply grants) = length grants ≤ 50
+FitsDecided (decided.Changes id x) = CanBeWritten x
+FitsDecided d = Unit {0}
+
+-- a change is one by a client
+abbrev pub IsByClient : Head → Decided → Type 0
+IsByClient head (decided.Changes id x) = is_client head.from ≡ true
+IsByClient head d = Unit {0}
+
+-- ---- what was received
+
 -- the header is that of what was received, and so of a call that has a spelling, where it was read whole
 abbrev pub IsUnder : Head → Received → Type 0
 IsUnder head (Whole m) = IsSoundCarried head.half head.opcode m.carried
@@ -112,6 +163,10 @@ Runs decided.Drops a = Unit {0}
 Runs decided.TellsBoot a = Unit {0}
 Runs (decided.Repeats reply) a = Unit {0}
 Runs d a = a ≡ runs
+
+abbrev pub leaves_disk : Decided → Bool
+leaves_disk (decided.Changes id x) = false
+leaves_disk d = true
 
 -- the decision leaves the disk as it is
 abbrev pub LeavesDisk : Decided → Type 0

@@ -84,19 +84,19 @@ IsDone {D} None s t = (t.durable ≡ s.durable) × (t.count ≡ s.count)
 IsDone {D} (Some r) s t = (folded r s.durable ≡ Some t.durable) × (t.count ≡ s.count + 1)
 
 -- no device call was made: the step makes no record, or memory was wanting
-abbrev pub IsQuiet : Option StoreRecord → Result Outs NodeFault → Type 0
-IsQuiet None result = Unit {0}
-IsQuiet (Some r) (Err faults.OutOfMemory) = Unit {0}
-IsQuiet (Some r) result = ⊥
+abbrev pub IsQuiet : {T : Type 0} → Option StoreRecord → Result T NodeFault → Type 0
+IsQuiet {T} None result = Unit {0}
+IsQuiet {T} (Some r) (Err faults.OutOfMemory) = Unit {0}
+IsQuiet {T} (Some r) result = ⊥
 
 -- the record was written, or begun
-abbrev pub IsWritten : StoreRecord → Option StoreRecord → Result Outs NodeFault → Type 0
-IsWritten r decided (Err faults.OutOfMemory) = ⊥
-IsWritten r decided result = decided ≡ Some r
+abbrev pub IsWritten : {T : Type 0} → StoreRecord → Option StoreRecord → Result T NodeFault → Type 0
+IsWritten {T} r decided (Err faults.OutOfMemory) = ⊥
+IsWritten {T} r decided result = decided ≡ Some r
 
 -- The device calls of a step, the first behind this number and the last of that one. No count of faults falls; the node goes
 -- down only where one of them failed, as it was set to or by the disk itself.
-pub record Ran (setting : Setting) (first last before now own_before own_now : ℕ) (result : Result Outs NodeFault) : Type 0 where
+pub record Ran {T : Type 0} (setting : Setting) (first last before now own_before own_now : ℕ) (result : Result T NodeFault) : Type 0 where
   pub never_falls : before ≤ now
   pub own_never_falls : own_before ≤ own_now
   pub down : IsErrOf result faults.Down → Rose before now × (Trips setting last ⊎ Rose own_before own_now)

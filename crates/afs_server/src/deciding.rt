@@ -4,14 +4,15 @@ ghost use Rattle.std.specs.Prelude.{◌≡◌, ◌≤◌, ◌∷◌, [], true, f
 ghost use Rattle.afs_num.specs.Nodes.{IsNode};
 ghost use Rattle.afs_num.specs.declared.messages.Call.TheVariants as ask;
 ghost use Rattle.afs_ideal.specs.Tables.{get};
-ghost use Rattle.afs_model.specs.Calls.{call_seat, paired};
+ghost use Rattle.afs_model.specs.Calls.{admitted, call_seat, paired};
 ghost use Rattle.afs_model.specs.CellRows.{call_number};
 ghost use Rattle.afs_model.specs.Messages.{IsSoundCarried};
 ghost use Rattle.afs_ideal.specs.Operations.{op, the_user, volume_called};
 ghost use Rattle.afs_volume.specs.Giving.{is_changing, is_reading, volume_of, FitsCall};
 ghost use Rattle.afs_volume.specs.Taking.{stored_of};
-ghost use Rattle.afs_rows.specs.ServerRow.{called, code_of_unreadable, decided, in_volume, is_client, runs, runs_carried, runs_received, serves, serves_call, with_volume};
-ghost use Rattle.afs_server.specs.Deciding.{granted_data, granted_in, granted_status, CanBeTold, ChangesAs, Decides, IsUnder, ReadsAs, Runs};
+ghost use Rattle.afs_server_parts.specs.Kept.{Says};
+ghost use Rattle.afs_rows.specs.ServerRow.{admits, called, code_of_unreadable, decided, in_volume, is_client, runs, runs_carried, runs_received, serves, serves_call, with_volume};
+ghost use Rattle.afs_server.specs.Deciding.{granted_data, granted_in, granted_status, is_on_volume, CanBeTold, ChangesAs, Decides, FitsDecided, IsByClient, IsUnder, ReadsAs, Runs};
 ghost use Rattle.afs_server.specs.Handling.{server_seen};
 ghost use Rattle.afs_server.specs.Seen.{Serves};
 
@@ -109,6 +110,16 @@ fn is_reading(call: &FsCall) -> bool
     }
 }
 
+/// Whether the call is one that a volume serves.
+fn is_on_volume(call: &FsCall) -> bool
+    ensures { result ≡ is_on_volume call.now }
+{
+    match call {
+        FsCall::GiveUpCallBacks { .. } | FsCall::GetTime | FsCall::BulkStatus { .. } => false,
+        _ => true,
+    }
+}
+
 /// A promise on this fid, of which this status is told.
 fn grant(alloc: Global, fid: Fid, status: &AfsFetchStatus) -> Mem<Sequence<Grant>>
     ensures { IfOk result (λ gs. gs ≡ record { fid = fid; index = status.now.sync_counter } ∷ []) }
@@ -202,6 +213,7 @@ impl FileServer {
         requires opcode { head.now.opcode ≡ call_number (ask.File call.now) }
         ensures decides { IfOk result (λ d. Decides (server_seen self.now store.now) now head.now (decided (server_seen self.now store.now) now head.now (the_user user.now) call.now volume.now.head.id (stored_of volume.now) (op volume.now.head.id (the_user user.now) call.now (volume_of volume.now))) d) }
         ensures told { IfOk result (λ d. CanBeTold head.now.opcode d) }
+        ensures fits { IfOk result FitsDecided }
     {
         let _ = store.boot_number();
         let _ = head.opcode;
@@ -228,6 +240,7 @@ impl FileServer {
         requires opcode { head.now.opcode ≡ call_number (ask.File call.now) }
         ensures decides { IfOk result (λ d. Decides (server_seen self.now store.now) now head.now (decided (server_seen self.now store.now) now head.now (the_user user.now) call.now volume.now.head.id (stored_of volume.now) (op volume.now.head.id (the_user user.now) call.now (volume_of volume.now))) d) }
         ensures told { IfOk result (λ d. CanBeTold head.now.opcode d) }
+        ensures fits { IfOk result FitsDecided }
     {
         let _ = store.boot_number();
         let _ = head.opcode;
@@ -253,6 +266,7 @@ impl FileServer {
         requires opcode { head.now.opcode ≡ call_number (ask.File call.now) }
         ensures decides { IfOk result (λ d. Decides (server_seen self.now store.now) now head.now (decided (server_seen self.now store.now) now head.now (the_user user.now) call.now volume.now.head.id (stored_of volume.now) (op volume.now.head.id (the_user user.now) call.now (volume_of volume.now))) d) }
         ensures told { IfOk result (λ d. CanBeTold head.now.opcode d) }
+        ensures fits { IfOk result FitsDecided }
     {
         if is_reading(call) {
             self.read_in(store, head, volume, user, call, now)
@@ -276,10 +290,14 @@ impl FileServer {
         requires opcode { head.now.opcode ≡ call_number (ask.File call.now) }
         ensures decides { IfOk result (λ d. Decides (server_seen self.now store.now) now head.now (in_volume (server_seen self.now store.now) now head.now (the_user user.now) call.now id (get id store.now.durable.volumes)) d) }
         ensures told { IfOk result (λ d. CanBeTold head.now.opcode d) }
+        ensures fits { IfOk result FitsDecided }
     {
         match store.volume(id) {
             None => Ok(Decided::Refuses(NO_VOLUME)),
-            Some(volume) => self.in_found(store, head, volume, user, call, now),
+            Some(volume) => {
+                let decided = self.in_found(store, head, volume, user, call, now)?;
+                Ok(decided)
+            }
         }
     }
 
@@ -296,10 +314,49 @@ impl FileServer {
         requires opcode { head.now.opcode ≡ call_number (ask.File call.now) }
         ensures decides { IfOk result (λ d. Decides (server_seen self.now store.now) now head.now (with_volume (server_seen self.now store.now) now head.now (the_user user.now) call.now (volume_called call.now)) d) }
         ensures told { IfOk result (λ d. CanBeTold head.now.opcode d) }
+        ensures fits { IfOk result FitsDecided }
     {
         match volume_called(call) {
             None => Ok(Decided::Refuses(NOT_SERVED)),
-            Some(id) => self.in_volume(store, head, id, user, call, now),
+            Some(id) => {
+                let decided = self.in_volume(store, head, id, user, call, now)?;
+                Ok(decided)
+            }
+        }
+    }
+
+    /// What is decided on a call that no one volume serves.
+    fn serve_else<D: Disk>(
+        &self,
+        store: &VolStore<D>,
+        head: &Head,
+        user: &[u8],
+        call: &FsCall,
+        now: u32,
+    ) -> Mem<Decided>
+        requires other { is_on_volume call.now ≡ false }
+        requires fits { FitsCall call.now }
+        requires opcode { head.now.opcode ≡ call_number (ask.File call.now) }
+        ensures decides { IfOk result (λ d. Decides (server_seen self.now store.now) now head.now (serves_call (server_seen self.now store.now) now head.now user.now call.now) d) }
+        ensures told { IfOk result (λ d. CanBeTold head.now.opcode d) }
+        ensures fits { IfOk result FitsDecided }
+    {
+        match call {
+            FsCall::GiveUpCallBacks { fids, .. } => {
+                Ok(Decided::GivesUp(copy_fids(self.alloc, fids.as_slice())?))
+            }
+            FsCall::GetTime => {
+                let reply = FsReply::GetTime {
+                    clock: now,
+                    microseconds: 0,
+                };
+                Ok(Decided::Shows(reply, Sequence::new(self.alloc)))
+            }
+            FsCall::BulkStatus { fids } => {
+                let decided = self.statuses(store, head, user, fids.as_slice(), now)?;
+                Ok(decided)
+            }
+            _ => unreachable!(),
         }
     }
 
@@ -316,20 +373,14 @@ impl FileServer {
         requires opcode { head.now.opcode ≡ call_number (ask.File call.now) }
         ensures decides { IfOk result (λ d. Decides (server_seen self.now store.now) now head.now (serves_call (server_seen self.now store.now) now head.now user.now call.now) d) }
         ensures told { IfOk result (λ d. CanBeTold head.now.opcode d) }
+        ensures fits { IfOk result FitsDecided }
     {
-        match call {
-            FsCall::GiveUpCallBacks { fids, .. } => {
-                Ok(Decided::GivesUp(copy_fids(self.alloc, fids.as_slice())?))
-            }
-            FsCall::GetTime => {
-                let reply = FsReply::GetTime {
-                    clock: now,
-                    microseconds: 0,
-                };
-                Ok(Decided::Shows(reply, Sequence::new(self.alloc)))
-            }
-            FsCall::BulkStatus { fids } => self.statuses(store, head, user, fids.as_slice(), now),
-            _ => self.with_volume(store, head, user, call, now),
+        if is_on_volume(call) {
+            let decided = self.with_volume(store, head, user, call, now)?;
+            Ok(decided)
+        } else {
+            let decided = self.serve_else(store, head, user, call, now)?;
+            Ok(decided)
         }
     }
 
@@ -344,12 +395,16 @@ impl FileServer {
         requires sound { IsSoundCarried head.now.half head.now.opcode carried.now }
         ensures decides { IfOk result (λ d. Decides (server_seen self.now store.now) now head.now (runs_carried (server_seen self.now store.now) now head.now carried.now) d) }
         ensures told { IfOk result (λ d. CanBeTold head.now.opcode d) }
+        ensures fits { IfOk result FitsDecided }
     {
         match carried {
             Carried::Call {
                 user,
                 call: Call::File(call),
-            } => self.serve(store, head, user.as_slice(), call, now),
+            } => {
+                let decided = self.serve(store, head, user.as_slice(), call, now)?;
+                Ok(decided)
+            }
             Carried::Call { .. } => Ok(Decided::Refuses(NOT_SERVED)),
             _ => Ok(Decided::Drops),
         }
@@ -366,12 +421,16 @@ impl FileServer {
         requires heard { IsUnder head.now received.now }
         ensures decides { IfOk result (λ d. Decides (server_seen self.now store.now) now head.now (runs_received (server_seen self.now store.now) now head.now received.now) d) }
         ensures told { IfOk result (λ d. CanBeTold head.now.opcode d) }
+        ensures fits { IfOk result FitsDecided }
     {
         match received {
             Received::Nothing => Ok(Decided::Drops),
             Received::Unserved { .. } => Ok(Decided::Refuses(NOT_SERVED)),
             Received::Unreadable { .. } => Ok(Decided::Refuses(code_of_unreadable(head.opcode))),
-            Received::Whole { message } => self.run_carried(store, head, &message.carried, now),
+            Received::Whole { message } => {
+                let decided = self.run_carried(store, head, &message.carried, now)?;
+                Ok(decided)
+            }
         }
     }
 
@@ -386,11 +445,45 @@ impl FileServer {
         requires heard { IsUnder head.now received.now }
         ensures decides { IfOk result (λ d. Decides (server_seen self.now store.now) now head.now (runs (server_seen self.now store.now) now head.now received.now) d) }
         ensures told { IfOk result (λ d. CanBeTold head.now.opcode d) }
+        ensures fits { IfOk result FitsDecided }
+        ensures client { IfOk result (IsByClient head.now) }
     {
-        if is_client(&head.from) {
-            self.run_received(store, head, received, now)
-        } else {
-            Ok(Decided::Refuses(NOT_SERVED))
+        if !is_client(&head.from) {
+            return Ok(Decided::Refuses(NOT_SERVED));
+        }
+        let decided = self.run_received(store, head, received, now)?;
+        Ok(decided)
+    }
+
+    /// What is decided on a call of which this becomes.
+    fn as_admitted<D: Disk>(
+        &self,
+        store: &VolStore<D>,
+        head: &Head,
+        received: &Received,
+        admit: Admit<'_>,
+        now: u32,
+    ) -> Mem<Decided>
+        requires heard { IsUnder head.now received.now }
+        requires says { Says admit (admitted store.now.durable.boot self.now.seats head.now) }
+        ensures decides { IfOk result (λ d. Decides (server_seen self.now store.now) now head.now (admits (server_seen self.now store.now) now head.now received.now (admitted store.now.durable.boot self.now.seats head.now)) d) }
+        ensures told { IfOk result (λ d. CanBeTold head.now.opcode d) }
+        ensures fits { IfOk result FitsDecided }
+        ensures client { IfOk result (IsByClient head.now) }
+        ensures runs { IfOk result (λ d. Runs d (paired head.now.epoch head.now.number (call_seat head.now.from self.now.seats))) }
+    {
+        match admit {
+            Admit::Run => {
+                let decided = self.run(store, head, received, now)?;
+                Ok(decided)
+            }
+            Admit::Kept(bytes) => {
+                let reply = SpelledMessage::read(self.alloc, bytes)?;
+                Ok(Decided::Repeats(reply))
+            }
+            Admit::InProgress => Ok(Decided::Drops),
+            Admit::Old => Ok(Decided::Drops),
+            Admit::WrongBoot(_) => Ok(Decided::TellsBoot),
         }
     }
 
@@ -406,17 +499,14 @@ impl FileServer {
         requires heard { IsUnder head.now received.now }
         ensures decides { IfOk result (λ d. Decides (server_seen self.now store.now) now head.now (called store.now.node (server_seen self.now store.now) now head.now received.now) d) }
         ensures told { IfOk result (λ d. CanBeTold head.now.opcode d) }
+        ensures fits { IfOk result FitsDecided }
+        ensures client { IfOk result (IsByClient head.now) }
         ensures runs { IfOk result (λ d. Runs d (paired head.now.epoch head.now.number (call_seat head.now.from self.now.seats))) }
     {
         if !head.to.is(&store.node()) {
             return Ok(Decided::Drops);
         }
-        match self.callers.admit(head) {
-            Admit::Run => self.run(store, head, received, now),
-            Admit::Kept(bytes) => Ok(Decided::Repeats(SpelledMessage::read(self.alloc, bytes)?)),
-            Admit::InProgress => Ok(Decided::Drops),
-            Admit::Old => Ok(Decided::Drops),
-            Admit::WrongBoot(_) => Ok(Decided::TellsBoot),
-        }
+        let decided = self.as_admitted(store, head, received, self.callers.admit(head), now)?;
+        Ok(decided)
     }
 }

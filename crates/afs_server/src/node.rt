@@ -32,55 +32,6 @@ use std::alloc::{AllocError, Global};
 const PROMISE_TICKS: u32 = 7200;
 
 impl FileServer {
-    /// What the server does with one message, at this time in ticks. It isn't told the message's place in the run, and
-    /// leaves out the line of that. A step makes at most one record. A server that goes down is to be thrown away: its
-    /// disk keeps what it kept before the step, or what it keeps after it.
-    pub fn handle<D: Disk>(
-        &mut self,
-        store: &mut VolStore<D>,
-        bytes: &[u8],
-        now: u32,
-    ) -> Result<Outs, NodeFault>
-        requires serves { Serves store.old.node self.old store.old.durable }
-        requires draws { CanDraw self.old store.old.drawn }
-        requires up { store.old.closed ≡ false }
-        requires now { now ≤ 1000000000 }
-        ensures step { (place : ℕ) → Handles (server_row store.old.node (server_seen self.old store.old) now place (received_by calls_served bytes.now)) (lines.Given place ∷ []) self.old self.new store.old store.new result }
-        ensures found { OnOk result (FindsMessages calls_served bytes.now) }
-        ensures serves { OnOk result (Serves store.new.node self.new store.new.durable) }
-        ensures store { OnOk result (store.new ≡ record store.old { durable = store.new.durable; disk = store.new.disk; prepared = store.new.prepared; count = store.new.count; drawn = store.new.drawn }) }
-        ensures kept { OnOk result (IsDone (record_decided store.old.durable.boot now (decides store.old.node (server_seen self.old store.old) now (received_by calls_served bytes.now))) store.old store.new) }
-
-        // A step draws few numbers: one for a node, and one for a promise that it grants.
-        ensures draws { OnOk result ((store.new.drawn ≤ store.old.drawn + 204) × (self.new.lists.last_owed + length self.new.lists.promises ≤ self.old.lists.last_owed + length self.old.lists.promises + 50)) }
-
-        // Where the disk fails, what may be left with the record is what the row leaves behind it.
-        ensures down { IsErrOf result faults.Down → record_decided store.old.durable.boot now (decides store.old.node (server_seen self.old store.old) now (received_by calls_served bytes.now)) ≡ None → ⊥ }
-        ensures interrupted { IsErrOf result faults.Down → (r : records.StoreRecord) → record_decided store.old.durable.boot now (decides store.old.node (server_seen self.old store.old) now (received_by calls_served bytes.now)) ≡ Some r → (e : Durable) → folded r store.old.durable ≡ Some e
-            → lasting_of e ≡ (begun_after store.old.node (server_seen self.old store.old) now (decides store.old.node (server_seen self.old store.old) now (received_by calls_served bytes.now))).state.lasting }
-
-        // Without a record the disk is left alone.
-        ensures quiet { IsQuiet (record_decided store.old.durable.boot now (decides store.old.node (server_seen self.old store.old) now (received_by calls_served bytes.now))) result
-            → SameDisk D.seen D.left_by D.size D.may_leave D.moment D.left_since store.old.disk store.new.disk
-            × SameCounts D.faults D.own_faults D.calls D.setting D.limit store.old.disk store.new.disk }
-
-        // Else a crash at any moment leaves what was kept before, or what is kept with this record.
-        ensures any_moment { (r : records.StoreRecord) → IsWritten r (record_decided store.old.durable.boot now (decides store.old.node (server_seen self.old store.old) now (received_by calls_served bytes.now))) result
-            → IsSome (D.seen store.old.disk) → LeavesOnly D.moment D.left_since store.old.disk store.new.disk (StandsAround r store.old.durable) }
-
-        ensures most { (D.calls store.old.disk ≤ D.calls store.new.disk) × (D.calls store.new.disk ≤ D.calls store.old.disk + 4) }
-        ensures limit { D.limit store.new.disk ≡ D.limit store.old.disk }
-        ensures calls { OnOk result (D.calls store.new.disk ≡ D.calls store.old.disk + device_calls (decides store.old.node (server_seen self.old store.old) now (received_by calls_served bytes.now))) }
-        ensures ran { Ran (D.setting store.old.disk) (D.calls store.old.disk) (D.calls store.new.disk) (D.faults store.old.disk) (D.faults store.new.disk) (D.own_faults store.old.disk) (D.own_faults store.new.disk) result }
-        ensures setting { D.setting store.new.disk ≡ D.setting store.old.disk }
-    {
-        let _ = &self.alloc;
-        let _ = store.boot_number();
-        let _ = bytes.len();
-        let _ = now;
-        Err(NodeFault::OutOfMemory)
-    }
-
     /// A copy of its unanswered call to this node.
     fn awaited(&self, callee: Node) -> Mem<BackCall>
         requires { IsSome (call_to self.now.callees callee) }

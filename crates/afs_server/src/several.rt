@@ -7,9 +7,9 @@ ghost use Rattle.afs_ideal.specs.Tables.{get};
 ghost use Rattle.afs_shape.specs.Rows.{no_callback, no_sync};
 ghost use Rattle.afs_volume.specs.Taking.{stored_of};
 ghost use Rattle.afs_rows.specs.ServerRow.{sight_in, sights, several, Sight};
-ghost use Rattle.afs_server.specs.Deciding.{CanBeTold, Decides};
+ghost use Rattle.afs_server.specs.Deciding.{CanBeTold, Decides, FitsDecided};
 ghost use Rattle.afs_server.specs.Handling.{server_seen};
-ghost use Rattle.afs_server.specs.Several.{or_first, seen_in, AreTold, IsStatusRead, Sees, SeesAll};
+ghost use Rattle.afs_server.specs.Several.{or_first, seen_in, sync_told, AreTold, IsStatusRead, Sees, SeesAll, TellsNext, ToldAs};
 
 use crate::decided::Decided;
 use crate::server::FileServer;
@@ -133,6 +133,20 @@ fn see<D: Disk>(store: &VolStore<D>, user: &[u8], fid: &Fid) -> Result<Seen, OpF
     }
 }
 
+/// The status of one more fid is told.
+fn see_next<D: Disk>(
+    store: &VolStore<D>,
+    user: &[u8],
+    fid: &Fid,
+    told: &mut Told,
+) -> Result<(), OpFault>
+    ensures { TellsNext (the_user user.now) (sight_in (the_user user.now) fid.now (get fid.now.volume store.now.durable.volumes)) told.old told.new result }
+{
+    let seen = see(store, user, fid)?;
+    told.add(*fid, &seen)?;
+    Ok(())
+}
+
 /// The statuses of these fids.
 fn see_all<D: Disk>(
     alloc: Global,
@@ -144,10 +158,37 @@ fn see_all<D: Disk>(
 {
     let mut told = Told::new(alloc);
     for fid in fids {
-        let seen = see(store, user, fid)?;
-        told.add(*fid, &seen)?;
+        see_next(store, user, fid, &mut told)?;
     }
     Ok(told)
+}
+
+/// The release that is told; none of no fids.
+fn sync_told(sync: Option<AfsVolSync>) -> AfsVolSync
+    ensures { result ≡ sync_told sync }
+{
+    match sync {
+        Some(sync) => sync,
+        None => no_sync(),
+    }
+}
+
+/// What is decided on a call for several statuses of which this is told.
+fn told_as(told: Result<Told, OpFault>) -> Mem<Decided>
+    ensures { IfOk result (λ d. ToldAs told d) }
+{
+    match told {
+        Ok(told) => {
+            let reply = FsReply::BulkStatus {
+                statuses: told.statuses,
+                callbacks: told.callbacks,
+                sync: sync_told(told.sync),
+            };
+            Ok(Decided::Shows(reply, told.grants))
+        }
+        Err(OpFault::Code(code)) => Ok(Decided::Refuses(code.0)),
+        Err(OpFault::OutOfMemory) => Err(AllocError),
+    }
 }
 
 impl FileServer {
@@ -164,31 +205,12 @@ impl FileServer {
         requires opcode { head.now.opcode ≡ 155 }
         ensures decides { IfOk result (λ d. Decides (server_seen self.now store.now) now head.now (several head.now (the_user user.now) (sights store.now.durable.volumes (the_user user.now) fids.now)) d) }
         ensures told { IfOk result (λ d. CanBeTold head.now.opcode d) }
+        ensures fits { IfOk result FitsDecided }
     {
         let _ = head.opcode;
         let _ = now;
-        match see_all(self.alloc, store, user, fids) {
-            Ok(
-                Told {
-                    statuses,
-                    callbacks,
-                    grants,
-                    sync,
-                },
-            ) => {
-                let sync = match sync {
-                    Some(sync) => sync,
-                    None => no_sync(),
-                };
-                let reply = FsReply::BulkStatus {
-                    statuses,
-                    callbacks,
-                    sync,
-                };
-                Ok(Decided::Shows(reply, grants))
-            }
-            Err(OpFault::Code(code)) => Ok(Decided::Refuses(code.0)),
-            Err(OpFault::OutOfMemory) => Err(AllocError),
-        }
+        let told = see_all(self.alloc, store, user, fids);
+        let decided = told_as(told)?;
+        Ok(decided)
     }
 }
