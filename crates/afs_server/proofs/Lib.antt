@@ -20,6 +20,7 @@ pub mod Sights
 pub mod Spelled
 pub mod Stamped
 pub mod Still
+pub mod Taken
 pub mod Turned
 pub mod Wholly
 pub mod Withdrawn

@@ -1,6 +1,6 @@
 //! What a file server does with a message.
 
-ghost use Rattle.std.specs.Prelude.{◌≡◌, ◌≤◌, ◌+◌, ◌∷◌, [], ℕ, List, false, None, Some, length, IsErrOf, OnOk};
+ghost use Rattle.std.specs.Prelude.{◌≡◌, ◌≤◌, ◌+◌, ◌∷◌, [], ℕ, List, false, true, None, Some, length, IsErrOf, OnOk};
 ghost use Rattle.afs_num.specs.declared.messages.Received.TheVariants as receives;
 ghost use Rattle.afs_num.specs.declared.records.StoreRecord as records;
 ghost use Rattle.afs_disk.specs.Disk.{LeavesOnly, SameDisk};
@@ -13,14 +13,15 @@ ghost use Rattle.afs_model.specs.Messages.{received_by, FindsMessages, HasSpelli
 ghost use Rattle.afs_records.specs.Durable.{folded, Durable};
 ghost use Rattle.afs_records.specs.Records.{FitsRecord};
 ghost use Rattle.afs_rows.specs.Callbacks as row;
-ghost use Rattle.afs_rows.specs.Callbacks.{turn_for, turned_in};
-ghost use Rattle.afs_rows.specs.ServerRow.{begun_after, called, decides, device_calls, Decision};
+ghost use Rattle.afs_rows.specs.Callbacks.{no_turn, turn_for, turned_in};
+ghost use Rattle.afs_rows.specs.ServerRow.{begun_after, called, decides, device_calls, drops, Decision};
 ghost use Rattle.afs_rows.specs.ServerSteps.{server_row};
 ghost use Rattle.afs_volstore.specs.Stores.{LeftAround};
 ghost use Rattle.afs_server.specs.Deciding.{leaves_disk, CanBeTold, Decides, FitsDecided, IsByClient, IsUnder, Runs};
 ghost use Rattle.afs_server.specs.Handling.{calls_served, record_decided, server_seen, Handles, IsDone, IsQuiet, IsWritten, Ran};
+ghost use Rattle.afs_server.specs.Hearing.{answered_turn, noticed_turn};
 ghost use Rattle.afs_server.specs.Putting.{DoesAll, OnDisk};
-ghost use Rattle.afs_server.specs.Seen.{lasting_of, CanDraw, Serves};
+ghost use Rattle.afs_server.specs.Seen.{backs_seen, lasting_of, CanDraw, Serves};
 ghost use Rattle.afs_server.specs.declared.faults.NodeFault.TheVariants as faults;
 
 use crate::decided::Decided;
@@ -45,6 +46,60 @@ fn leaves_disk(decided: &Decided) -> bool
 }
 
 impl FileServer {
+    /// What is decided on the call of this header is done, where that leaves the disk as it is.
+    fn take_answer<D: Disk>(
+        &mut self,
+        store: &mut VolStore<D>,
+        head: &Head,
+        decided: Decided,
+        now: u32,
+    ) -> Result<Outs, NodeFault>
+        requires leaves { leaves_disk decided ≡ true }
+        requires serves { Serves store.old.node self.old store.old.durable }
+        requires head { IsSoundHead head.now }
+        requires told { CanBeTold head.now.opcode decided }
+        requires fits { FitsDecided decided }
+        requires runs { Runs decided (paired head.now.epoch head.now.number (call_seat head.now.from self.old.seats)) }
+        requires now { now ≤ 1000000000 }
+        ensures does { (d : Decision) → Decides (server_seen self.old store.old) now head.now d decided →
+            DoesAll now d (turn_for store.old.node (server_seen self.old store.old) now (row.expired now (server_seen self.old store.old).backs) d) self.old self.new store.old store.new result }
+        ensures disk { (d : Decision) → Decides (server_seen self.old store.old) now head.now d decided →
+            OnDisk D.seen D.left_by D.size D.may_leave D.moment D.left_since D.faults D.own_faults D.calls D.setting D.limit (record_decided store.old.durable.boot now d) store.old.durable store.old.disk store.new.disk result }
+    {
+        let outs = self.answer(store, head, decided, now)?;
+        Ok(outs)
+    }
+
+    /// The change that is decided on is made.
+    fn take_change<D: Disk>(
+        &mut self,
+        store: &mut VolStore<D>,
+        head: &Head,
+        decided: Decided,
+        now: u32,
+    ) -> Result<Outs, NodeFault>
+        requires changes { leaves_disk decided ≡ false }
+        requires serves { Serves store.old.node self.old store.old.durable }
+        requires draws { CanDraw self.old store.old.drawn }
+        requires up { store.old.closed ≡ false }
+        requires head { IsSoundHead head.now }
+        requires decides { (d : Decision) × Decides (server_seen self.old store.old) now head.now d decided }
+        requires told { CanBeTold head.now.opcode decided }
+        requires fits { FitsDecided decided }
+        requires client { IsByClient head.now decided }
+        requires runs { Runs decided (paired head.now.epoch head.now.number (call_seat head.now.from self.old.seats)) }
+        requires now { now ≤ 1000000000 }
+        ensures does { (d : Decision) → Decides (server_seen self.old store.old) now head.now d decided →
+            DoesAll now d (turn_for store.old.node (server_seen self.old store.old) now (row.expired now (server_seen self.old store.old).backs) d) self.old self.new store.old store.new result }
+        ensures disk { (d : Decision) → Decides (server_seen self.old store.old) now head.now d decided →
+            OnDisk D.seen D.left_by D.size D.may_leave D.moment D.left_since D.faults D.own_faults D.calls D.setting D.limit (record_decided store.old.durable.boot now d) store.old.durable store.old.disk store.new.disk result }
+    {
+        match decided {
+            Decided::Changes(id, change) => self.save(store, head, id, change, now),
+            _other => unreachable!(),
+        }
+    }
+
     /// What is decided on the call of this header is done.
     fn take_decided<D: Disk>(
         &mut self,
@@ -69,12 +124,9 @@ impl FileServer {
             OnDisk D.seen D.left_by D.size D.may_leave D.moment D.left_since D.faults D.own_faults D.calls D.setting D.limit (record_decided store.old.durable.boot now d) store.old.durable store.old.disk store.new.disk result }
     {
         if leaves_disk(&decided) {
-            let outs = self.answer(store, head, decided, now)?;
-            return Ok(outs);
-        }
-        match decided {
-            Decided::Changes(id, change) => self.save(store, head, id, change, now),
-            _ => unreachable!(),
+            self.take_answer(store, head, decided, now)
+        } else {
+            self.take_change(store, head, decided, now)
         }
     }
 
@@ -101,6 +153,50 @@ impl FileServer {
         self.take_decided(store, head, decided, now)
     }
 
+    /// A message has come in which nothing can be read.
+    fn take_nothing<D: Disk>(
+        &mut self,
+        store: &mut VolStore<D>,
+        now: u32,
+    ) -> Result<Outs, NodeFault>
+        requires { Serves store.old.node self.old store.old.durable }
+        ensures does { DoesAll now drops (no_turn (row.expired now (backs_seen self.old store.old.drawn))) self.old self.new store.old store.new result }
+        ensures disk { OnDisk D.seen D.left_by D.size D.may_leave D.moment D.left_since D.faults D.own_faults D.calls D.setting D.limit None store.old.durable store.old.disk store.new.disk result }
+    {
+        let outs = self.pass(store, now)?;
+        Ok(outs)
+    }
+
+    /// A reply or a refusal has come, with this header.
+    fn take_reply<D: Disk>(
+        &mut self,
+        store: &mut VolStore<D>,
+        head: &Head,
+        now: u32,
+    ) -> Result<Outs, NodeFault>
+        requires { Serves store.old.node self.old store.old.durable }
+        ensures does { DoesAll now drops (answered_turn store.old.node store.old.durable.boot head.now (row.expired now (backs_seen self.old store.old.drawn))) self.old self.new store.old store.new result }
+        ensures disk { OnDisk D.seen D.left_by D.size D.may_leave D.moment D.left_since D.faults D.own_faults D.calls D.setting D.limit None store.old.durable store.old.disk store.new.disk result }
+    {
+        let outs = self.hear_answer(store, head, now)?;
+        Ok(outs)
+    }
+
+    /// A notice has come, with this header.
+    fn take_notice<D: Disk>(
+        &mut self,
+        store: &mut VolStore<D>,
+        head: &Head,
+        now: u32,
+    ) -> Result<Outs, NodeFault>
+        requires { Serves store.old.node self.old store.old.durable }
+        ensures does { DoesAll now drops (noticed_turn store.old.node store.old.durable.boot head.now (row.expired now (backs_seen self.old store.old.drawn))) self.old self.new store.old store.new result }
+        ensures disk { OnDisk D.seen D.left_by D.size D.may_leave D.moment D.left_since D.faults D.own_faults D.calls D.setting D.limit None store.old.durable store.old.disk store.new.disk result }
+    {
+        let outs = self.hear_notice(store, head, now)?;
+        Ok(outs)
+    }
+
     /// A message has come that can be read, as this.
     fn take_whole<D: Disk>(
         &mut self,
@@ -122,18 +218,9 @@ impl FileServer {
     {
         match &message.carried {
             Carried::Call { .. } => { self.take_call(store, &message.head, received, now) }
-            Carried::Reply { .. } => {
-                let outs = self.hear_answer(store, &message.head, now)?;
-                Ok(outs)
-            }
-            Carried::Refusal { .. } => {
-                let outs = self.hear_answer(store, &message.head, now)?;
-                Ok(outs)
-            }
-            Carried::Notice => {
-                let outs = self.hear_notice(store, &message.head, now)?;
-                Ok(outs)
-            }
+            Carried::Reply { .. } => self.take_reply(store, &message.head, now),
+            Carried::Refusal { .. } => self.take_reply(store, &message.head, now),
+            Carried::Notice => self.take_notice(store, &message.head, now),
         }
     }
 
@@ -155,10 +242,7 @@ impl FileServer {
             OnDisk D.seen D.left_by D.size D.may_leave D.moment D.left_since D.faults D.own_faults D.calls D.setting D.limit (record_decided store.old.durable.boot now d) store.old.durable store.old.disk store.new.disk result }
     {
         match received {
-            Received::Nothing => {
-                let outs = self.pass(store, now)?;
-                Ok(outs)
-            }
+            Received::Nothing => self.take_nothing(store, now),
             Received::Unserved { head } => { self.take_call(store, head, received, now) }
             Received::Unreadable { head } => { self.take_call(store, head, received, now) }
             Received::Whole { message } => { self.take_whole(store, received, message, now) }
