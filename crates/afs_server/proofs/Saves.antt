@@ -1,6 +1,6 @@
 -- A change whose record is prepared, or for which there is no room, is done as the row does it.
 use Rattle.std.proofs.Common.{◌≡◌, ◌≤◌, ◌+◌, ℕ, Bool, true, false, List, [], Option, Some, None, refl, sym, ap, subst, ◌∙◌, arith, length}
-use Rattle.std.specs.Prelude.{Result, Ok, Err, pos, IsSome, is_some}
+use Rattle.std.specs.Prelude.{Result, Ok, Err, pos, IsErrOf, IsSome}
 use Rattle.afs_num.specs.Nodes.{IsNode}
 use Rattle.afs_num.specs.declared.messages.Message.{Message}
 use Rattle.afs_num.specs.declared.records.StoreRecord.{StoreRecord}
@@ -18,7 +18,7 @@ use Rattle.afs_server_parts.specs.Kept.{Spells}
 use Rattle.afs_volstore.specs.Stores.{Store}
 use Rattle.afs_server.specs.Answering.{answer_turn}
 use Rattle.afs_server.specs.Deciding.{IsMade}
-use Rattle.afs_server.specs.Handling.{record_decided, server_seen, Answers, IsClosed, IsDone}
+use Rattle.afs_server.specs.Handling.{record_decided, server_seen, Answers, IsClosed, IsDone, SameStore}
 use Rattle.afs_server.specs.Putting.{DoesAll, IsInterrupted, IsMadeOf, Prepares}
 use Rattle.afs_server.specs.Saving.{change_kept, IsPlanned, IsPut, IsTaken, Puts}
 use Rattle.afs_server.specs.Seen.{lasting_of, Memory, Serves}
@@ -37,6 +37,18 @@ was_prepared {D} {E} r s t false e is = absurd cc
 pub was_full : {D E : Type 0} (r : StoreRecord) (s t : Store D) (b : Bool) → b ≡ false → Prepares {E = E} r s t (Ok b) → t ≡ record s { disk = t.disk }
 was_full {D} {E} r s t true e is = absurd cc
 was_full {D} {E} r s t false e is = is
+
+-- either way, what a store has besides is the same
+pub is_besides : {D E : Type 0} (r : StoreRecord) (s t : Store D) (b : Bool) → Prepares {E = E} r s t (Ok b) → (t.node ≡ s.node) × ((t.durable ≡ s.durable) × ((t.drawn ≡ s.drawn) × (t.closed ≡ s.closed)))
+is_besides {D} {E} r s t true is = (ap (λ (u : Store D). u.node) is, (ap (λ (u : Store D). u.durable) is, (ap (λ (u : Store D). u.drawn) is, ap (λ (u : Store D). u.closed) is)))
+is_besides {D} {E} r s t false is = (ap (λ (u : Store D). u.node) is, (ap (λ (u : Store D). u.durable) is, (ap (λ (u : Store D). u.drawn) is, ap (λ (u : Store D). u.closed) is)))
+
+pub same_store : {D : Type 0} (s t : Store D) → t ≡ record s { disk = t.disk } → SameStore s t
+same_store {D} s t is = is ∙ (λ i. record s { disk = t.disk; prepared = sym (ap (λ (u : Store D). u.prepared) is) i })
+
+-- memory was wanting
+pub wanting : {D : Type 0} (clock : ℕ) (d : Decision) (turn : row.Turn) (old : Memory) (s t : Store D) (result : Result Outs NodeFault) → result ≡ Err faults.OutOfMemory → SameStore s t → DoesAll clock d turn old old s t result
+wanting {D} clock d turn old s t result is same = subst (λ (r : Result Outs NodeFault). DoesAll clock d turn old old s t r) (sym is) (refl, same)
 
 module _ {D : Type 0} (clock id : ℕ) (head : Head) (c : Change) (x : made_of.Change) (old : Memory) (s : Store D) (p : Planned) where
   the_record : IsMade clock id c x → IsPlanned s.node s.durable.boot s.drawn clock head id x old p → record_of s.durable.boot head clock c ≡ p.rec
@@ -143,3 +155,27 @@ module _ {D : Type 0} (clock id : ℕ) (head : Head) (c : Change) (x : made_of.C
 
   pub refused_record : (b : Bool) → IsMade clock id c x → IsPlanned s.node s.durable.boot s.drawn clock head id x old p → b ≡ has_room s.durable p.rec → b ≡ false → record_decided s.durable.boot clock (roomed (server_seen old s) clock head c) ≡ None
   refused_record b is plan room no = ap (record_decided s.durable.boot clock) (is_full clock id head c x old s p b is plan room no)
+
+  same_full : mid ≡ record s { disk = mid.disk } → t ≡ mid → t ≡ record s { disk = t.disk; prepared = t.prepared }
+  same_full full is =
+      subst (λ (u : Store D). u ≡ record s { disk = u.disk; prepared = u.prepared }) (sym is)
+      (full ∙ (λ i. record s { disk = mid.disk; prepared = sym (ap (λ (u : Store D). u.prepared) full) i }))
+
+  refused_any : (result : Result Outs NodeFault) (b : Bool) → b ≡ has_room s.durable p.rec → b ≡ false → mid ≡ record s { disk = mid.disk } → IsMade clock id c x → IsPlanned s.node s.durable.boot s.drawn clock head id x old p →
+      Answers {E = NodeFault} head (refusal mid.durable.boot head (pos 108)) [] (answer_turn (refusal mid.durable.boot head (pos 108)) [] false (row.expired clock (server_seen old mid).backs)) old new mid t result →
+      (IsErrOf result faults.Down → ⊥) →
+      DoesAll clock (roomed (server_seen old s) clock head c) (turn_for s.node (server_seen old s) clock (row.expired clock (server_seen old s).backs) (roomed (server_seen old s) clock head c)) old new s t result
+  refused_any (Ok outs) b room no full is plan answers up = refused_all outs b room no full is plan answers
+  refused_any (Err faults.OutOfMemory) b room no full is plan answers up = (answers.0, same_full full answers.1)
+  refused_any (Err faults.Down) b room no full is plan answers up = absurd (up refl)
+
+  -- ---- either way
+
+  pub does_all : (result : Result Outs NodeFault) (b : Bool) → b ≡ has_room s.durable p.rec → Prepares {E = NodeFault} p.rec s mid (Ok b) → get id s.durable.volumes ≡ Some c.before → clock ≤ 1000000000 → IsMade clock id c x → IsNode head.from →
+      Serves s.node old s.durable → IsPlanned s.node s.durable.boot s.drawn clock head id x old p →
+      (b ≡ true → Puts head clock p old new mid t result) →
+      (b ≡ false → Answers {E = NodeFault} head (refusal mid.durable.boot head (pos 108)) [] (answer_turn (refusal mid.durable.boot head (pos 108)) [] false (row.expired clock (server_seen old mid).backs)) old new mid t result) →
+      (b ≡ false → IsErrOf result faults.Down → ⊥) →
+      DoesAll clock (roomed (server_seen old s) clock head c) (turn_for s.node (server_seen old s) clock (row.expired clock (server_seen old s).backs) (roomed (server_seen old s) clock head c)) old new s t result
+  does_all result true room prepares there small is node serves plan puts answers up = saved_all result true room refl prepares there small is node serves plan (puts refl)
+  does_all result false room prepares there small is node serves plan puts answers up = refused_any result false room refl prepares is plan (answers refl) (up refl)

@@ -1,6 +1,6 @@
 //! The record of a change is put on the disk, and then the change is done.
 
-ghost use Rattle.std.specs.Prelude.{◌≡◌, ◌≤◌, ◌<◌, ◌+◌, Some, false, true, length, IfOk, IsErrOf, IsSome};
+ghost use Rattle.std.specs.Prelude.{◌≡◌, ◌≤◌, ◌<◌, ◌+◌, [], Some, false, true, length, pos, IfOk, IsErrOf, IsSome};
 ghost use Rattle.afs_num.specs.declared.records.StoreRecord as records;
 ghost use Rattle.afs_disk.specs.Disk.{SameDisk};
 ghost use Rattle.afs_journal.specs.Log.{SameCounts};
@@ -12,14 +12,16 @@ ghost use Rattle.afs_records.specs.Records.{FitsRecord};
 ghost use Rattle.afs_rows.specs.Callbacks as row;
 ghost use Rattle.afs_rows.specs.Callbacks.{turn_for};
 ghost use Rattle.afs_rows.specs.ServerRow as rows;
-ghost use Rattle.afs_rows.specs.ServerRow.{is_client, roomed};
+ghost use Rattle.afs_rows.specs.ServerRow.{is_client, refusal, roomed};
 ghost use Rattle.afs_server_parts.specs.Kept.{IsSpelling};
+ghost use Rattle.afs_server.specs.Answering.{answer_turn};
 ghost use Rattle.afs_server.specs.Deciding.{CanBeTold, CanBeWritten, IsMade};
-ghost use Rattle.afs_server.specs.Handling.{record_decided, server_seen};
+ghost use Rattle.afs_server.specs.Handling.{record_decided, server_seen, Answers};
 ghost use Rattle.afs_server.specs.Putting.{Commits, DoesAll, OnDisk, Prepares};
 ghost use Rattle.afs_server.specs.Saving.{Puts};
-ghost use Rattle.afs_server.specs.Seen.{CanDraw, Serves};
+ghost use Rattle.afs_server.specs.Seen.{backs_seen, CanDraw, Serves};
 ghost use Rattle.afs_server.specs.declared.decided.Decided.TheVariants as decided;
+ghost use Rattle.afs_server.specs.declared.faults.NodeFault.TheVariants as faults;
 
 use crate::answering::keep_reply;
 use crate::faults::NodeFault;
@@ -109,6 +111,54 @@ impl FileServer {
         Ok(outs)
     }
 
+    /// The call of this header is refused, since there is no room for its record.
+    fn refuse_full<D: Disk>(
+        &mut self,
+        store: &mut VolStore<D>,
+        head: &Head,
+        now: u32,
+    ) -> Result<Outs, NodeFault>
+        requires serves { Serves store.old.node self.old store.old.durable }
+        requires head { IsSoundHead head.now }
+        requires runs { paired head.now.epoch head.now.number (call_seat head.now.from self.old.seats) ≡ runs }
+        ensures answers { Answers head.now (refusal store.old.durable.boot head.now (pos 108)) [] (answer_turn (refusal store.old.durable.boot head.now (pos 108)) [] false (row.expired now (backs_seen self.old store.old.drawn))) self.old self.new store.old store.new result }
+        ensures up { IsErrOf result faults.Down → ⊥ }
+    {
+        let outs = self.refuse(store, head, NO_ROOM, now)?;
+        Ok(outs)
+    }
+
+    /// What a change comes to is put on the disk where there is room for its record; else its call is refused.
+    fn put_or_refuse<D: Disk>(
+        &mut self,
+        store: &mut VolStore<D>,
+        head: &Head,
+        room: bool,
+        planned: Planned,
+        now: u32,
+    ) -> Result<Outs, NodeFault>
+        requires serves { Serves store.old.node self.old store.old.durable }
+        requires head { IsSoundHead head.now }
+        requires runs { paired head.now.epoch head.now.number (call_seat head.now.from self.old.seats) ≡ runs }
+        requires draws { self.old.lists.last_owed + length self.old.lists.promises + length planned.granted ≤ 4000000000 }
+        requires drawn { store.old.drawn ≤ planned.ended.last }
+        requires spelling { IsSpelling planned.kept }
+        requires up { store.old.closed ≡ false }
+        requires prepared { room ≡ true → store.old.prepared ≡ Some planned.rec }
+        requires fits { FitsRecord planned.rec }
+        requires now { now ≤ 1000000000 }
+        ensures puts { room ≡ true → Puts head.now now planned self.old self.new store.old store.new result }
+        ensures disk { room ≡ true → OnDisk D.seen D.left_by D.size D.may_leave D.moment D.left_since D.faults D.own_faults D.calls D.setting D.limit (Some planned.rec) store.old.durable store.old.disk store.new.disk result }
+        ensures answers { room ≡ false → Answers head.now (refusal store.old.durable.boot head.now (pos 108)) [] (answer_turn (refusal store.old.durable.boot head.now (pos 108)) [] false (row.expired now (backs_seen self.old store.old.drawn))) self.old self.new store.old store.new result }
+        ensures up { room ≡ false → IsErrOf result faults.Down → ⊥ }
+    {
+        if room {
+            self.put(store, head, planned, now)
+        } else {
+            self.refuse_full(store, head, now)
+        }
+    }
+
     /// The call of this header makes this change of the volume of this number, where there is room for its record.
     pub(crate) fn save<D: Disk>(
         &mut self,
@@ -143,10 +193,6 @@ impl FileServer {
             now,
         )?;
         let room = prepare(store, &planned.rec)?;
-        if !room {
-            let outs = self.refuse(store, head, NO_ROOM, now)?;
-            return Ok(outs);
-        }
-        self.put(store, head, planned, now)
+        self.put_or_refuse(store, head, room, planned, now)
     }
 }

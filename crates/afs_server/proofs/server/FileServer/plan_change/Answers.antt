@@ -30,12 +30,13 @@ returns c =
     let changed : c.in_ok-changed.changed ≡ fids_changed x.versions = search rules in
     let grants : c.in_ok-grants.grants ≡ new_grants x.reply = search rules in
     let breaks : c.in_ok-breaks.breaks.items ≡ breaks_new head.from (fids_changed x.versions) c.args.now m.lists = search (rules, changed) in
+    let given : c.deref.result.now ≡ c.in_ok-breaks.breaks.items = search rules in
     let ends = c.in_ok-saved.ensures.ends in
     let lines : c.in_ok-saved-2.field-0 ≡ change_lines c.args.server head (c.args.now + 7200) x (breaks_new head.from (fids_changed x.versions) c.args.now m.lists) = search (rules, grants, breaks) in
     record {
       ends =
           subst (λ (os : List OwedBreak). (l : Lists) → l.owed ≡ lasting_breaks c.args.now m.lists.owed ++ os → Ends l (pumped c.args.server c.args.boot (answer_turn (reply_told c.args.boot head (c.args.now + 7200) x) (numbers os ++ alls (lasting_breaks c.args.now m.lists.owed)) false (with_lists l (backs_seen m c.args.last)))) _)
-          breaks (λ l owes. let e = ends l owes in record { backs = e.backs; sent = e.sent });
+          (given ∙ breaks) (λ l owes. let e = ends l owes in record { backs = e.backs; sent = e.sent });
       lines = lines;
       drawn = c.in_ok-saved.ensures.drawn;
       good = c.in_ok-saved.ensures.good;

@@ -1,5 +1,6 @@
 use Rattle.std.proofs.Common.{◌≡◌, ◌≤◌, ◌+◌, rules, Option, None, Some, refl, ap, sym, subst, ◌∙◌}
 use Rattle.std.specs.Prelude.{Result, Ok, Err}
+use Rattle.afs_history.specs.declared.lines.Outs.{Outs}
 use Rattle.afs_breaks.specs.Promises.{expired, grants_all, Lists}
 use Rattle.afs_model.specs.Calls.{call_seated}
 use Rattle.afs_records.specs.Durable.{folded, Durable}
@@ -8,9 +9,10 @@ use Rattle.afs_rows.specs.ServerRow.{seat_for}
 use Rattle.afs_server.specs.Saving.{withdraws_each, IsPut, IsTaken}
 use Rattle.afs_server.specs.Seen.{Memory}
 use Rattle.afs_volstore.specs.Stores.{Store}
-use Rattle.afs_server.specs.declared.faults.NodeFault.TheVariants as faults
+use Rattle.afs_server.specs.declared.faults.NodeFault.{NodeFault}
+use Rattle.afs_server.specs.declared.faults.NodeFault.TheVariants as nodes
 use Rattle.afs_server.proofs.Holding.{all_few}
-use Rattle.afs_server.proofs.Still.{is_same, with_fault, with_value, OfDisk}
+use Rattle.afs_server.proofs.Still.{is_still, same_counts, same_disk, with_fault, with_value, OfDisk}
 use Rattle.afs_server.proofs.server.FileServer.put.Goals as goal
 
 some_is : {A : Type 0} (x y : A) → ◌≡◌ {A = Option A} (Some x) (Some y) → x ≡ y
@@ -68,3 +70,24 @@ returns-clause-disk g c =
     let told = c.in_ok-commit.ensures.disk p.rec c.requires.prepared in
     subst (λ (x : g.row.D.Denot). OfDisk g.D.Disk.seen g.D.Disk.left_by g.D.Disk.size g.D.Disk.may_leave g.D.Disk.moment g.D.Disk.left_since g.D.Disk.faults g.D.Disk.own_faults g.D.Disk.calls g.D.Disk.setting g.D.Disk.limit (Some p.rec) s.durable s.disk x (Ok c.keep-outs.result)) (sym disk)
     (with_value g.D.Disk.seen g.D.Disk.left_by g.D.Disk.size g.D.Disk.may_leave g.D.Disk.moment g.D.Disk.left_since g.D.Disk.faults g.D.Disk.own_faults g.D.Disk.calls g.D.Disk.setting g.D.Disk.limit (Some p.rec) s.durable s.disk c.commit.new.store.disk tt c.keep-outs.result told)
+
+pub returns-in_err-reserve-clause-disk : goal.returns-in_err-reserve-clause-disk
+returns-in_err-reserve-clause-disk g c =
+    let s = c.args.store.now in
+    let is : c.from_residual.result ≡ Err nodes.OutOfMemory = search rules in
+    subst (λ (r : Result Outs NodeFault). OfDisk g.D.Disk.seen g.D.Disk.left_by g.D.Disk.size g.D.Disk.may_leave g.D.Disk.moment g.D.Disk.left_since g.D.Disk.faults g.D.Disk.own_faults g.D.Disk.calls g.D.Disk.setting g.D.Disk.limit (Some c.args.planned.rec) s.durable s.disk s.disk r) (sym is)
+    (is_still g.D.Disk.seen g.D.Disk.left_by g.D.Disk.size g.D.Disk.may_leave g.D.Disk.moment g.D.Disk.left_since g.D.Disk.faults g.D.Disk.own_faults g.D.Disk.calls g.D.Disk.setting g.D.Disk.limit (Some c.args.planned.rec) s.durable s.disk s.disk (Err nodes.OutOfMemory) tt (same_disk g.D.Disk.seen g.D.Disk.left_by g.D.Disk.size g.D.Disk.may_leave g.D.Disk.moment g.D.Disk.left_since g.D.Disk.faults g.D.Disk.own_faults g.D.Disk.calls g.D.Disk.setting g.D.Disk.limit s.disk) (same_counts g.D.Disk.seen g.D.Disk.left_by g.D.Disk.size g.D.Disk.may_leave g.D.Disk.moment g.D.Disk.left_since g.D.Disk.faults g.D.Disk.own_faults g.D.Disk.calls g.D.Disk.setting g.D.Disk.limit s.disk))
+
+pub returns-in_err-grant_all-clause-disk : goal.returns-in_err-grant_all-clause-disk
+returns-in_err-grant_all-clause-disk g c =
+    let s = c.args.store.now in
+    let is : c.from_residual-in_err-grant_all.result ≡ Err nodes.OutOfMemory = search rules in
+    subst (λ (r : Result Outs NodeFault). OfDisk g.D.Disk.seen g.D.Disk.left_by g.D.Disk.size g.D.Disk.may_leave g.D.Disk.moment g.D.Disk.left_since g.D.Disk.faults g.D.Disk.own_faults g.D.Disk.calls g.D.Disk.setting g.D.Disk.limit (Some c.args.planned.rec) s.durable s.disk s.disk r) (sym is)
+    (is_still g.D.Disk.seen g.D.Disk.left_by g.D.Disk.size g.D.Disk.may_leave g.D.Disk.moment g.D.Disk.left_since g.D.Disk.faults g.D.Disk.own_faults g.D.Disk.calls g.D.Disk.setting g.D.Disk.limit (Some c.args.planned.rec) s.durable s.disk s.disk (Err nodes.OutOfMemory) tt (same_disk g.D.Disk.seen g.D.Disk.left_by g.D.Disk.size g.D.Disk.may_leave g.D.Disk.moment g.D.Disk.left_since g.D.Disk.faults g.D.Disk.own_faults g.D.Disk.calls g.D.Disk.setting g.D.Disk.limit s.disk) (same_counts g.D.Disk.seen g.D.Disk.left_by g.D.Disk.size g.D.Disk.may_leave g.D.Disk.moment g.D.Disk.left_since g.D.Disk.faults g.D.Disk.own_faults g.D.Disk.calls g.D.Disk.setting g.D.Disk.limit s.disk))
+
+pub returns-in_err-commit-clause-disk : goal.returns-in_err-commit-clause-disk
+returns-in_err-commit-clause-disk g c =
+    let s = c.args.store.now in
+    let is : c.from_residual-in_err-commit.result ≡ Err c.in_err-commit.field-0.0 = search rules in
+    subst (λ (r : Result Outs NodeFault). OfDisk g.D.Disk.seen g.D.Disk.left_by g.D.Disk.size g.D.Disk.may_leave g.D.Disk.moment g.D.Disk.left_since g.D.Disk.faults g.D.Disk.own_faults g.D.Disk.calls g.D.Disk.setting g.D.Disk.limit (Some c.args.planned.rec) s.durable s.disk c.commit.new.store.disk r) (sym is)
+    (with_fault g.D.Disk.seen g.D.Disk.left_by g.D.Disk.size g.D.Disk.may_leave g.D.Disk.moment g.D.Disk.left_since g.D.Disk.faults g.D.Disk.own_faults g.D.Disk.calls g.D.Disk.setting g.D.Disk.limit (Some c.args.planned.rec) s.durable s.disk c.commit.new.store.disk c.in_err-commit.field-0.0 (c.in_err-commit.ensures.disk c.args.planned.rec c.requires.prepared))

@@ -1,14 +1,29 @@
 use Rattle.std.proofs.Common.{◌≡◌, ◌≤◌, ◌+◌, true, false, Some, length, rules, arith, refl, ap, sym, subst, ◌∙◌}
-use Rattle.std.specs.Prelude.{Ok}
-use Rattle.afs_num.specs.declared.types.Fid.{Fid}
-use Rattle.afs_records.specs.Durable.{has_room}
-use Rattle.afs_server.specs.Saving.{reply_told, IsPlanned}
-use Rattle.afs_server.proofs.Saves.{is_taken, refused_all, refused_record, saved_all, saved_record, was_full, was_prepared}
+use Rattle.std.specs.Prelude.{Result, Err}
+use Rattle.afs_history.specs.declared.lines.Outs.{Outs}
+use Rattle.afs_num.specs.Nodes.{IsNode}
+use Rattle.afs_num.specs.declared.types.Node.{Node}
+use Rattle.afs_records.specs.Durable.{Durable}
+use Rattle.afs_rows.specs.Callbacks as row
+use Rattle.afs_rows.specs.Callbacks.{turn_for}
+use Rattle.afs_rows.specs.ServerRow.{roomed}
+use Rattle.afs_server.specs.Handling.{record_decided, server_seen}
+use Rattle.afs_server.specs.Saving.{reply_told}
+use Rattle.afs_server.specs.Seen.{Serves}
+use Rattle.afs_server.specs.declared.faults.NodeFault.{NodeFault}
+use Rattle.afs_server.specs.declared.faults.NodeFault.TheVariants as nodes
+use Rattle.afs_volstore.specs.Stores.{Store}
+use Rattle.afs_server.proofs.Roomed.{disk_all}
+use Rattle.afs_server.proofs.Saves.{does_all, is_besides, is_taken, same_store, wanting, was_prepared}
+use Rattle.afs_server.proofs.Still.{is_still, same_counts, same_disk, OfDisk}
 use Rattle.afs_server.proofs.Withdrawn.{few_granted}
 use Rattle.afs_server.proofs.server.FileServer.save.Goals as goal
 
 pub plan_change-requires-clause-nodes : goal.plan_change-requires-clause-nodes
 plan_change-requires-clause-nodes g c = record { node = search rules; owed = c.requires.serves.owed; calls = search rules }
+
+pub prepare-room-requires-clause-fits : goal.prepare-room-requires-clause-fits
+prepare-room-requires-clause-fits g c = c.in_ok-planned.ensures.fits
 
 pub prepare-room-requires-clause-taken : goal.prepare-room-requires-clause-taken
 prepare-room-requires-clause-taken g c =
@@ -16,8 +31,94 @@ prepare-room-requires-clause-taken g c =
     let plan = c.in_ok-planned.ensures in
     is_taken c.args.id c.args.now c.args.head.now made.0 c.args.change c.in_ok-planned.planned.kept c.args.store.now.durable c.in_ok-planned.planned.rec made.1.0 made.1.1 plan.rec
 
+pub put_or_refuse-requires-clause-serves : goal.put_or_refuse-requires-clause-serves
+put_or_refuse-requires-clause-serves g c =
+    let mid = c.prepare-room.new.store in
+    let besides = is_besides {E = NodeFault} c.in_ok-planned.planned.rec c.args.store.now mid c.in_ok-room.room c.in_ok-room.ensures.prepares in
+    subst (λ (d : Durable). Serves mid.node c.args.self.now d) (sym besides.1.0) (subst (λ (n : Node). Serves n c.args.self.now c.args.store.now.durable) (sym besides.0) c.requires.serves)
+
+pub put_or_refuse-requires-clause-draws : goal.put_or_refuse-requires-clause-draws
+put_or_refuse-requires-clause-draws g c =
+    let long = ap length c.in_ok-planned.ensures.granted in
+    let few = few_granted c.args.change.reply in
+    let draws = c.requires.draws.breaks in
+    omega (arith, long, few, draws)
+
+pub put_or_refuse-requires-clause-drawn : goal.put_or_refuse-requires-clause-drawn
+put_or_refuse-requires-clause-drawn g c =
+    let mid = c.prepare-room.new.store in
+    let besides = is_besides {E = NodeFault} c.in_ok-planned.planned.rec c.args.store.now mid c.in_ok-room.room c.in_ok-room.ensures.prepares in
+    let same = besides.1.1.0 in
+    let last = c.in_ok-planned.ensures.drawn in
+    omega (arith, same, last)
+
+pub put_or_refuse-requires-clause-spelling : goal.put_or_refuse-requires-clause-spelling
+put_or_refuse-requires-clause-spelling g c = (reply_told c.args.store.now.durable.boot c.args.head.now (c.args.now + 7200) c.args.change, c.in_ok-planned.ensures.kept)
+
+pub put_or_refuse-requires-clause-up : goal.put_or_refuse-requires-clause-up
+put_or_refuse-requires-clause-up g c =
+    let mid = c.prepare-room.new.store in
+    let besides = is_besides {E = NodeFault} c.in_ok-planned.planned.rec c.args.store.now mid c.in_ok-room.room c.in_ok-room.ensures.prepares in
+    besides.1.1.1 ∙ c.requires.up
+
+pub put_or_refuse-requires-clause-prepared : goal.put_or_refuse-requires-clause-prepared
+put_or_refuse-requires-clause-prepared g c =
+    λ yes. ap (λ (u : Store g.row.D.Denot). u.prepared) (was_prepared {E = NodeFault} c.in_ok-planned.planned.rec c.args.store.now c.prepare-room.new.store c.in_ok-room.room yes c.in_ok-room.ensures.prepares)
+
+pub put_or_refuse-requires-clause-fits : goal.put_or_refuse-requires-clause-fits
+put_or_refuse-requires-clause-fits g c = c.in_ok-planned.ensures.fits
+
+pub returns-in_err-planned-clause-does : goal.returns-in_err-planned-clause-does
+returns-in_err-planned-clause-does g c =
+    λ k there made.
+    let s = c.args.store.now in
+    let m = c.args.self.now in
+    let d = roomed (server_seen m s) c.args.now c.args.head.now k in
+    let is : c.from_residual.result ≡ Err nodes.OutOfMemory = search rules in
+    wanting c.args.now d (turn_for s.node (server_seen m s) c.args.now (row.expired c.args.now (server_seen m s).backs) d) m s s c.from_residual.result is refl
+
+pub returns-in_err-planned-clause-disk : goal.returns-in_err-planned-clause-disk
+returns-in_err-planned-clause-disk g c =
+    λ k there made.
+    let s = c.args.store.now in
+    let decided = record_decided s.durable.boot c.args.now (roomed (server_seen c.args.self.now s) c.args.now c.args.head.now k) in
+    let is : c.from_residual.result ≡ Err nodes.OutOfMemory = search rules in
+    subst (λ (r : Result Outs NodeFault). OfDisk g.D.Disk.seen g.D.Disk.left_by g.D.Disk.size g.D.Disk.may_leave g.D.Disk.moment g.D.Disk.left_since g.D.Disk.faults g.D.Disk.own_faults g.D.Disk.calls g.D.Disk.setting g.D.Disk.limit decided s.durable s.disk s.disk r) (sym is)
+    (is_still g.D.Disk.seen g.D.Disk.left_by g.D.Disk.size g.D.Disk.may_leave g.D.Disk.moment g.D.Disk.left_since g.D.Disk.faults g.D.Disk.own_faults g.D.Disk.calls g.D.Disk.setting g.D.Disk.limit decided s.durable s.disk s.disk (Err nodes.OutOfMemory) tt (same_disk g.D.Disk.seen g.D.Disk.left_by g.D.Disk.size g.D.Disk.may_leave g.D.Disk.moment g.D.Disk.left_since g.D.Disk.faults g.D.Disk.own_faults g.D.Disk.calls g.D.Disk.setting g.D.Disk.limit s.disk) (same_counts g.D.Disk.seen g.D.Disk.left_by g.D.Disk.size g.D.Disk.may_leave g.D.Disk.moment g.D.Disk.left_since g.D.Disk.faults g.D.Disk.own_faults g.D.Disk.calls g.D.Disk.setting g.D.Disk.limit s.disk))
+
+pub returns-in_err-room-clause-does : goal.returns-in_err-room-clause-does
+returns-in_err-room-clause-does g c =
+    λ k there made.
+    let s = c.args.store.now in
+    let m = c.args.self.now in
+    let mid = c.prepare-room.new.store in
+    let d = roomed (server_seen m s) c.args.now c.args.head.now k in
+    let is : c.from_residual-in_err-room.result ≡ Err nodes.OutOfMemory = search rules in
+    wanting c.args.now d (turn_for s.node (server_seen m s) c.args.now (row.expired c.args.now (server_seen m s).backs) d) m s mid c.from_residual-in_err-room.result is (same_store s mid c.in_err-room.ensures.prepares)
+
+pub returns-in_err-room-clause-disk : goal.returns-in_err-room-clause-disk
+returns-in_err-room-clause-disk g c =
+    λ k there made.
+    let s = c.args.store.now in
+    let mid = c.prepare-room.new.store in
+    let decided = record_decided s.durable.boot c.args.now (roomed (server_seen c.args.self.now s) c.args.now c.args.head.now k) in
+    let is : c.from_residual-in_err-room.result ≡ Err nodes.OutOfMemory = search rules in
+    subst (λ (r : Result Outs NodeFault). OfDisk g.D.Disk.seen g.D.Disk.left_by g.D.Disk.size g.D.Disk.may_leave g.D.Disk.moment g.D.Disk.left_since g.D.Disk.faults g.D.Disk.own_faults g.D.Disk.calls g.D.Disk.setting g.D.Disk.limit decided s.durable s.disk mid.disk r) (sym is)
+    (is_still g.D.Disk.seen g.D.Disk.left_by g.D.Disk.size g.D.Disk.may_leave g.D.Disk.moment g.D.Disk.left_since g.D.Disk.faults g.D.Disk.own_faults g.D.Disk.calls g.D.Disk.setting g.D.Disk.limit decided s.durable s.disk mid.disk (Err nodes.OutOfMemory) tt c.in_err-room.ensures.disk c.in_err-room.ensures.counts)
+
 pub returns-clause-does : goal.returns-clause-does
-returns-clause-does g c = ?
+returns-clause-does g c =
+    λ k there made.
+    let mid = c.prepare-room.new.store in
+    let node = c.requires.head.0 in
+    let put = c.put_or_refuse.ensures in
+    does_all c.args.now c.args.id c.args.head.now k c.args.change c.args.self.now c.put_or_refuse.new.self c.args.store.now mid c.put_or_refuse.new.store c.in_ok-planned.planned
+    c.put_or_refuse.result c.in_ok-room.room c.in_ok-room.ensures.room c.in_ok-room.ensures.prepares there c.requires.now made node c.requires.serves c.in_ok-planned.ensures put.puts put.answers put.up
 
 pub returns-clause-disk : goal.returns-clause-disk
-returns-clause-disk g c = ?
+returns-clause-disk g c =
+    λ k there made.
+    let mid = c.prepare-room.new.store in
+    let put = c.put_or_refuse.ensures in
+    disk_all g.D.Disk.seen g.D.Disk.left_by g.D.Disk.size g.D.Disk.may_leave g.D.Disk.moment g.D.Disk.left_since g.D.Disk.faults g.D.Disk.own_faults g.D.Disk.calls g.D.Disk.setting g.D.Disk.limit c.args.now c.args.id c.args.head.now k c.args.change c.args.self.now c.put_or_refuse.new.self c.args.store.now mid c.put_or_refuse.new.store c.in_ok-planned.planned
+    c.put_or_refuse.result c.in_ok-room.room c.in_ok-room.ensures.room c.in_ok-room.ensures.prepares c.in_ok-room.ensures.disk c.in_ok-room.ensures.counts made c.in_ok-planned.ensures put.disk put.answers put.up
