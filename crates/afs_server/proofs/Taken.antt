@@ -18,7 +18,7 @@ use Rattle.afs_num.specs.declared.messages.Carried.{Carried}
 use Rattle.afs_num.specs.declared.messages.Carried.TheVariants as carried
 use Rattle.afs_num.specs.declared.messages.Message.{Message}
 use Rattle.afs_num.specs.declared.messages.Received.{Received}
-use Rattle.afs_num.specs.declared.messages.Received.TheVariants.{Whole}
+use Rattle.afs_num.specs.declared.messages.Received.TheVariants.{Unreadable, Unserved, Whole}
 use Rattle.afs_num.specs.declared.types.Head.{Head}
 use Rattle.afs_num.specs.declared.types.Node.{Node}
 use Rattle.afs_rows.specs.Callbacks as row
@@ -41,6 +41,12 @@ module _ (P : Decision → row.Turn → Type 0) (me : Node) (s : ServerState) (c
   in_call r m user call e same p =
       let is : r ≡ whole m.head (carried.Call user call) = e ∙ ap (λ (k : Carried). whole m.head k) same in
       in_carried r m (carried.Call user call) e same (subst (λ (x : Received). P (called me s clock m.head x) (turn_for me s clock b (called me s clock m.head x))) is p)
+
+  pub in_unserved : (r : Received) (head : Head) → r ≡ Unserved head → P (called me s clock head r) (turn_for me s clock b (called me s clock head r)) → P (decides me s clock r) (turned_in me s clock b (decides me s clock r) r)
+  in_unserved r head e p = in_received r (Unserved head) e (subst (λ (x : Received). P (called me s clock head x) (turn_for me s clock b (called me s clock head x))) e p)
+
+  pub in_unreadable : (r : Received) (head : Head) → r ≡ Unreadable head → P (called me s clock head r) (turn_for me s clock b (called me s clock head r)) → P (decides me s clock r) (turned_in me s clock b (decides me s clock r) r)
+  in_unreadable r head e p = in_received r (Unreadable head) e (subst (λ (x : Received). P (called me s clock head x) (turn_for me s clock b (called me s clock head x))) e p)
 
 -- ---- memory was wanting, and nothing was done
 
