@@ -74,7 +74,7 @@ impl FileServer {
         }
         match decided {
             Decided::Changes(id, change) => self.save(store, head, id, change, now),
-            _ => unreachable!(),
+            _other => unreachable!(),
         }
     }
 
