@@ -1,5 +1,5 @@
 -- What a disk keeps with the record of a change is what the row leaves on it.
-use Rattle.std.proofs.Common.{◌≡◌, ℕ, Bool, true, false, List, [], ◌∷◌, map, Option, Some, None, refl, sym, ap, subst, ◌∙◌, if◌then◌else◌}
+use Rattle.std.proofs.Common.{◌+◌, ◌≡◌, ℕ, Bool, true, false, List, [], ◌∷◌, map, Option, Some, None, refl, sym, ap, subst, ◌∙◌, if◌then◌else◌}
 use Rattle.std.specs.Prelude.{nat_eq, nat_lt}
 use Rattle.afs_num.specs.Nodes.{node_number, node_of, same_node, IsNode}
 use Rattle.afs_num.specs.declared.calls.FsReply.{FsReply}

@@ -14,6 +14,7 @@ pub mod Making
 pub mod Placed
 pub mod Repeating
 pub mod Saved
+pub mod Roomed
 pub mod Saves
 pub mod Short
 pub mod Sights

@@ -30,18 +30,18 @@ use Rattle.afs_server.proofs.Saved.{saved_made}
 
 -- ---- whether there is room
 
-pub was_prepared : {D E : Type 0} (r : StoreRecord) (s t : Store D) (b : Bool) → b ≡ true → Prepares {E = E} r s t (Ok b) → t ≡ record s { prepared = Some r; disk = t.disk }
-was_prepared {D} {E} r s t true e is = is
-was_prepared {D} {E} r s t false e is = absurd cc
+pub was_prepared : {D : Type 0} (r : StoreRecord) (s t : Store D) (b : Bool) → b ≡ true → Prepares {E = NodeFault} r s t (Ok b) → t ≡ record s { prepared = Some r; disk = t.disk }
+was_prepared {D} r s t true e is = is
+was_prepared {D} r s t false e is = absurd cc
 
-pub was_full : {D E : Type 0} (r : StoreRecord) (s t : Store D) (b : Bool) → b ≡ false → Prepares {E = E} r s t (Ok b) → t ≡ record s { disk = t.disk }
-was_full {D} {E} r s t true e is = absurd cc
-was_full {D} {E} r s t false e is = is
+pub was_full : {D : Type 0} (r : StoreRecord) (s t : Store D) (b : Bool) → b ≡ false → Prepares {E = NodeFault} r s t (Ok b) → t ≡ record s { disk = t.disk }
+was_full {D} r s t true e is = absurd cc
+was_full {D} r s t false e is = is
 
 -- either way, what a store has besides is the same
-pub is_besides : {D E : Type 0} (r : StoreRecord) (s t : Store D) (b : Bool) → Prepares {E = E} r s t (Ok b) → (t.node ≡ s.node) × ((t.durable ≡ s.durable) × ((t.drawn ≡ s.drawn) × (t.closed ≡ s.closed)))
-is_besides {D} {E} r s t true is = (ap (λ (u : Store D). u.node) is, (ap (λ (u : Store D). u.durable) is, (ap (λ (u : Store D). u.drawn) is, ap (λ (u : Store D). u.closed) is)))
-is_besides {D} {E} r s t false is = (ap (λ (u : Store D). u.node) is, (ap (λ (u : Store D). u.durable) is, (ap (λ (u : Store D). u.drawn) is, ap (λ (u : Store D). u.closed) is)))
+pub is_besides : {D : Type 0} (r : StoreRecord) (s t : Store D) (b : Bool) → Prepares {E = NodeFault} r s t (Ok b) → (t.node ≡ s.node) × ((t.durable ≡ s.durable) × ((t.drawn ≡ s.drawn) × (t.closed ≡ s.closed)))
+is_besides {D} r s t true is = (ap (λ (u : Store D). u.node) is, (ap (λ (u : Store D). u.durable) is, (ap (λ (u : Store D). u.drawn) is, ap (λ (u : Store D). u.closed) is)))
+is_besides {D} r s t false is = (ap (λ (u : Store D). u.node) is, (ap (λ (u : Store D). u.durable) is, (ap (λ (u : Store D). u.drawn) is, ap (λ (u : Store D). u.closed) is)))
 
 pub same_store : {D : Type 0} (s t : Store D) → t ≡ record s { disk = t.disk } → SameStore s t
 same_store {D} s t is = is ∙ (λ i. record s { disk = t.disk; prepared = sym (ap (λ (u : Store D). u.prepared) is) i })
@@ -63,10 +63,10 @@ module _ {D : Type 0} (clock id : ℕ) (head : Head) (c : Change) (x : made_of.C
   full_by false e is = rw e refl
 
   pub is_roomed : (b : Bool) → IsMade clock id c x → IsPlanned s.node s.durable.boot s.drawn clock head id x old p → b ≡ has_room s.durable p.rec → b ≡ true → roomed (server_seen old s) clock head c ≡ saves head c
-  is_roomed b is plan room yes = room_by b (ap (has_room s.durable) (the_record is plan) ∙ sym room) yes
+  is_roomed b is plan room has = room_by b (ap (has_room s.durable) (the_record is plan) ∙ sym room) has
 
   pub is_full : (b : Bool) → IsMade clock id c x → IsPlanned s.node s.durable.boot s.drawn clock head id x old p → b ≡ has_room s.durable p.rec → b ≡ false → roomed (server_seen old s) clock head c ≡ refuses head no_room
-  is_full b is plan room no = full_by b (ap (has_room s.durable) (the_record is plan) ∙ sym room) no
+  is_full b is plan room lacks = full_by b (ap (has_room s.durable) (the_record is plan) ∙ sym room) lacks
 
 -- the fold takes the record
 pub is_taken : (id clock : ℕ) (head : Head) (c : Change) (x : made_of.Change) (bytes : List ℕ) (d : Durable) (r : StoreRecord) → get id d.volumes ≡ Some c.before → IsMade clock id c x → r ≡ change_kept head id x bytes → IsSome (folded r d)
@@ -121,12 +121,12 @@ module _ {D : Type 0} (clock id : ℕ) (head : Head) (c : Change) (x : made_of.C
   pub saved_all : (result : Result Outs NodeFault) (b : Bool) → b ≡ has_room s.durable p.rec → b ≡ true → mid ≡ record s { prepared = Some p.rec; disk = mid.disk } → get id s.durable.volumes ≡ Some c.before → clock ≤ 1000000000 → IsMade clock id c x → IsNode head.from →
       Serves s.node old s.durable → IsPlanned s.node s.durable.boot s.drawn clock head id x old p → Puts head clock p old new mid t result →
       DoesAll clock (roomed (server_seen old s) clock head c) (turn_for s.node (server_seen old s) clock (row.expired clock (server_seen old s).backs) (roomed (server_seen old s) clock head c)) old new s t result
-  saved_all result b room yes prepared there small is node serves plan puts =
-      subst (λ (d : Decision). DoesAll clock d (turn_for s.node (server_seen old s) clock (row.expired clock (server_seen old s).backs) d) old new s t result) (sym (is_roomed clock id head c x old s p b is plan room yes))
+  saved_all result b room has prepared there small is node serves plan puts =
+      subst (λ (d : Decision). DoesAll clock d (turn_for s.node (server_seen old s) clock (row.expired clock (server_seen old s).backs) d) old new s t result) (sym (is_roomed clock id head c x old s p b is plan room has))
       (saved_by result prepared there small is node serves plan puts)
 
   pub saved_record : (b : Bool) → IsMade clock id c x → IsPlanned s.node s.durable.boot s.drawn clock head id x old p → b ≡ has_room s.durable p.rec → b ≡ true → record_decided s.durable.boot clock (roomed (server_seen old s) clock head c) ≡ Some p.rec
-  saved_record b is plan room yes = ap (record_decided s.durable.boot clock) (is_roomed clock id head c x old s p b is plan room yes) ∙ ap (λ (r : StoreRecord). Some r) (the_record clock id head c x old s p is plan)
+  saved_record b is plan room has = ap (record_decided s.durable.boot clock) (is_roomed clock id head c x old s p b is plan room has) ∙ ap (λ (r : StoreRecord). Some r) (the_record clock id head c x old s p is plan)
 
   -- ---- without room
 
@@ -150,11 +150,11 @@ module _ {D : Type 0} (clock id : ℕ) (head : Head) (c : Change) (x : made_of.C
   pub refused_all : (outs : Outs) (b : Bool) → b ≡ has_room s.durable p.rec → b ≡ false → mid ≡ record s { disk = mid.disk } → IsMade clock id c x → IsPlanned s.node s.durable.boot s.drawn clock head id x old p →
       Answers {E = NodeFault} head (refusal mid.durable.boot head (pos 108)) [] (answer_turn (refusal mid.durable.boot head (pos 108)) [] false (row.expired clock (server_seen old mid).backs)) old new mid t (Ok outs) →
       DoesAll clock (roomed (server_seen old s) clock head c) (turn_for s.node (server_seen old s) clock (row.expired clock (server_seen old s).backs) (roomed (server_seen old s) clock head c)) old new s t (Ok outs)
-  refused_all outs b room no full is plan answers =
-      subst (λ (d : Decision). DoesAll clock d (turn_for s.node (server_seen old s) clock (row.expired clock (server_seen old s).backs) d) old new s t (Ok outs)) (sym (is_full clock id head c x old s p b is plan room no)) (refused_made outs full answers)
+  refused_all outs b room lacks full is plan answers =
+      subst (λ (d : Decision). DoesAll clock d (turn_for s.node (server_seen old s) clock (row.expired clock (server_seen old s).backs) d) old new s t (Ok outs)) (sym (is_full clock id head c x old s p b is plan room lacks)) (refused_made outs full answers)
 
   pub refused_record : (b : Bool) → IsMade clock id c x → IsPlanned s.node s.durable.boot s.drawn clock head id x old p → b ≡ has_room s.durable p.rec → b ≡ false → record_decided s.durable.boot clock (roomed (server_seen old s) clock head c) ≡ None
-  refused_record b is plan room no = ap (record_decided s.durable.boot clock) (is_full clock id head c x old s p b is plan room no)
+  refused_record b is plan room lacks = ap (record_decided s.durable.boot clock) (is_full clock id head c x old s p b is plan room lacks)
 
   same_full : mid ≡ record s { disk = mid.disk } → t ≡ mid → t ≡ record s { disk = t.disk; prepared = t.prepared }
   same_full full is =
@@ -165,9 +165,9 @@ module _ {D : Type 0} (clock id : ℕ) (head : Head) (c : Change) (x : made_of.C
       Answers {E = NodeFault} head (refusal mid.durable.boot head (pos 108)) [] (answer_turn (refusal mid.durable.boot head (pos 108)) [] false (row.expired clock (server_seen old mid).backs)) old new mid t result →
       (IsErrOf result faults.Down → ⊥) →
       DoesAll clock (roomed (server_seen old s) clock head c) (turn_for s.node (server_seen old s) clock (row.expired clock (server_seen old s).backs) (roomed (server_seen old s) clock head c)) old new s t result
-  refused_any (Ok outs) b room no full is plan answers up = refused_all outs b room no full is plan answers
-  refused_any (Err faults.OutOfMemory) b room no full is plan answers up = (answers.0, same_full full answers.1)
-  refused_any (Err faults.Down) b room no full is plan answers up = absurd (up refl)
+  refused_any (Ok outs) b room lacks full is plan answers up = refused_all outs b room lacks full is plan answers
+  refused_any (Err faults.OutOfMemory) b room lacks full is plan answers up = (answers.0, same_full full answers.1)
+  refused_any (Err faults.Down) b room lacks full is plan answers up = absurd (up refl)
 
   -- ---- either way
 

@@ -34,9 +34,11 @@ returns c =
     let ends = c.in_ok-saved.ensures.ends in
     let lines : c.in_ok-saved-2.field-0 ≡ change_lines c.args.server head (c.args.now + 7200) x (breaks_new head.from (fids_changed x.versions) c.args.now m.lists) = search (rules, grants, breaks) in
     record {
-      ends =
-          subst (λ (os : List OwedBreak). (l : Lists) → l.owed ≡ lasting_breaks c.args.now m.lists.owed ++ os → Ends l (pumped c.args.server c.args.boot (answer_turn (reply_told c.args.boot head (c.args.now + 7200) x) (numbers os ++ alls (lasting_breaks c.args.now m.lists.owed)) false (with_lists l (backs_seen m c.args.last)))) _)
-          (given ∙ breaks) (λ l owes. let e = ends l owes in record { backs = e.backs; sent = e.sent });
+      ends = λ l owes.
+          let here = given ∙ breaks in
+          let e = ends l (owes ∙ ap (λ (os : List OwedBreak). lasting_breaks c.args.now m.lists.owed ++ os) (sym here)) in
+          let t = subst (λ (os : List OwedBreak). Ends l (pumped c.args.server c.args.boot (answer_turn (reply_told c.args.boot head (c.args.now + 7200) x) (numbers os ++ alls (lasting_breaks c.args.now m.lists.owed)) false (with_lists l (backs_seen m c.args.last)))) c.in_ok-saved.saved.ended) here e in
+          record { backs = t.backs; sent = t.sent };
       lines = lines;
       drawn = c.in_ok-saved.ensures.drawn;
       good = c.in_ok-saved.ensures.good;
