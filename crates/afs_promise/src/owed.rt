@@ -149,6 +149,13 @@ impl OwedList {
         is_owed(&self.breaks, number)
     }
 
+    /// The number of the last break that became owed, 0 where none did. It takes no memory.
+    pub fn last(&self) -> u32
+        ensures { result ≡ self.now.last }
+    {
+        self.last
+    }
+
     /// The breaks, by ascending number.
     pub fn iter(&self) -> OwedBreaks<'_>
         ensures { result ≡ self.now.breaks }

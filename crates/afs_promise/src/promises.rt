@@ -86,7 +86,7 @@ fn put_each(grants: &mut Grants, client: Node, fids: &[Fid], expiry: u32) -> Mem
 /// Takes the promises on the fid but that of `except`, and owes their breaks, in the room that was made for them.
 fn withdraw_each(grants: &mut Grants, owed: &mut OwedList, fid: Fid, except: Node) -> Mem<()>
     requires room { length grants.old.promises ≤ owed.old.room }
-    requires number { owed.old.last + length grants.old.promises < 4000000000 }
+    requires number { owed.old.last + length grants.old.promises ≤ 4000000000 }
     ensures ok { IsOk result }
     ensures promises { grants.new.promises ≡ left except fid grants.old.promises }
     ensures breaks { owed.new.breaks ≡ owed.old.breaks ++ owes_from owed.old.last (hits except fid grants.old.promises) }
@@ -188,7 +188,7 @@ impl Promises {
     /// Withdraws the promises on the fid but that of `except`: their breaks become owed, in the order of granting. It
     /// takes no memory.
     pub fn withdraw(&mut self, fid: Fid, except: Node) -> Mem<()>
-        requires { self.old.last_owed + length self.old.promises < 4000000000 }
+        requires { self.old.last_owed + length self.old.promises ≤ 4000000000 }
         ensures ok { IsOk result }
         ensures lists { self.new ≡ withdraws except fid self.old }
     {

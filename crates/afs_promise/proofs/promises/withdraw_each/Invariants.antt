@@ -1,4 +1,4 @@
-use Rattle.std.proofs.Common.{◌≡◌, ◌≤◌, ◌<◌, ◌+◌, ◌++◌, length}
+use Rattle.std.proofs.Common.{◌≡◌, ◌≤◌, ◌+◌, ◌++◌, length}
 use Rattle.afs_breaks.specs.Promises.{owes_from, hits, left}
 use Rattle.afs_promise.proofs.promises.withdraw_each.Given as goal
 
@@ -8,7 +8,7 @@ invariant-loop-promise l = record {
   last : l.owed.last + length (hits l.except l.fid l.grants.promises) ≡ l.fn.owed.last + length (hits l.except l.fid l.fn.grants.promises);
   left : left l.except l.fid l.grants.promises ≡ left l.except l.fid l.fn.grants.promises;
   room : length l.grants.promises ≤ l.owed.room;
-  number : l.owed.last + length l.grants.promises < 4000000000;
+  number : l.owed.last + length l.grants.promises ≤ 4000000000;
   fewer : length l.grants.promises ≤ length l.fn.grants.promises;
 }
 

@@ -1,0 +1,104 @@
+-- What a disk keeps with the record of a change is what the row leaves on it.
+use Rattle.std.proofs.Common.{◌+◌, ◌≡◌, ℕ, Bool, true, false, List, [], ◌∷◌, map, Option, Some, None, refl, sym, ap, subst, ◌∙◌, if◌then◌else◌}
+use Rattle.std.specs.Prelude.{nat_eq, nat_lt}
+use Rattle.afs_num.specs.Nodes.{node_number, node_of, same_node, IsNode}
+use Rattle.afs_num.specs.declared.calls.FsReply.{FsReply}
+use Rattle.afs_num.specs.declared.messages.Message.{Message}
+use Rattle.afs_num.specs.declared.records.RecordBody.TheVariants as bodies
+use Rattle.afs_num.specs.declared.records.StoreRecord.{StoreRecord}
+use Rattle.afs_num.specs.declared.types.Head.{Head}
+use Rattle.afs_num.specs.declared.types.Node.{Node}
+use Rattle.afs_num.specs.declared.volumes.Change as made
+use Rattle.afs_ideal.specs.Tables.{get, set, Table}
+use Rattle.afs_records.specs.Changes.{keeping}
+use Rattle.afs_records.specs.Durable as disk
+use Rattle.afs_records.specs.Durable.{changed_stored, folded, longer, place_length, Durable, Stored}
+use Rattle.afs_rows.specs.ServerRow.{carried_by, change_reply_to, key_of, lasting_after, promise_ticks, record_of, replied, result, seat_for, seat_placed, stored_by, Change}
+use Rattle.afs_rows.specs.States.{Lasting, Seat}
+use Rattle.afs_server_parts.specs.Kept.{message_in, Spells}
+use Rattle.afs_server.specs.Deciding.{IsMade}
+use Rattle.afs_server.specs.Saving.{change_kept, reply_told}
+use Rattle.afs_server.specs.Seen.{lasting_of, or_loc, seat_kept, AreToNodes, IsToNode}
+use Rattle.afs_server.proofs.Kept.{caller_number}
+use Rattle.afs_server.proofs.Repeating.{number_by}
+
+abbrev some : {A : Type 0} → A → Option A
+some x = Some x
+
+some_is : {A : Type 0} (x y : A) → some x ≡ some y → x ≡ y
+some_is x y e = cc
+
+-- ---- the record and the reply of a change
+
+pub reply_is : (boot clock id : ℕ) (head : Head) (c : Change) (x : made.Change) → IsMade clock id c x → change_reply_to boot head clock c ≡ reply_told boot head (clock + 7200) x
+reply_is boot clock id head c x is = ap (λ (o : Option FsReply). replied boot head (carried_by (clock + promise_ticks) o)) is.reply
+
+pub record_is : (boot clock id : ℕ) (head : Head) (c : Change) (x : made.Change) (bytes : List ℕ) → IsMade clock id c x → Spells (change_reply_to boot head clock c) bytes → record_of boot head clock c ≡ change_kept head id x bytes
+record_is boot clock id head c x bytes is spells = λ i. record {
+  head = keeping (key_of head) (sym spells.spelled i);
+  body = bodies.Change (is.number i) (sym is.counter i) (sym is.unique i) (sym is.vnodes i) (sym is.removed i);
+}
+
+-- ---- the fold
+
+abbrev pub kept_reply : Head → List ℕ → disk.Kept
+kept_reply head bytes = record { epoch = head.epoch; number = head.number; reply = bytes }
+
+abbrev pub durable_saved : Head → ℕ → made.Change → List ℕ → Stored → Durable → Durable
+durable_saved head id x bytes st d =
+    longer (place_length (change_kept head id x bytes)) (record d { volumes = set id st d.volumes; kept = set (node_number head.from) (kept_reply head bytes) d.kept })
+
+pub folds : (head : Head) (id : ℕ) (x : made.Change) (bytes : List ℕ) (before st : Stored) (d : Durable) → get id d.volumes ≡ Some before → changed_stored x.counter x.unique x.vnodes x.removed before ≡ Some st → folded (change_kept head id x bytes) d ≡ Some (durable_saved head id x bytes st d)
+unfolding folded
+folds head id x bytes before st d there made = rw there (rw made refl)
+
+-- ---- kept replies
+
+placed_by : (a b : Bool) (n : Node) (k : disk.Kept) (seat : Seat) (p : ℕ × disk.Kept) (t : Table disk.Kept) → nat_eq p.0 (node_number n) ≡ a → same_node (or_loc (node_of p.0)) seat.caller ≡ a → nat_lt (node_number n) p.0 ≡ b → nat_lt (node_number seat.caller) (node_number (or_loc (node_of p.0))) ≡ b
+    → seat_kept (node_number n, k) ≡ seat → map seat_kept (set (node_number n) k t) ≡ seat_placed seat (map seat_kept t) → map seat_kept (set (node_number n) k (p ∷ t)) ≡ seat_placed seat (map seat_kept (p ∷ t))
+placed_by true b n k seat p t e f g h is more = rw (e, f) (ap (λ (s : Seat). s ∷ map seat_kept t) is)
+placed_by false true n k seat p t e f g h is more = rw (e, f, g, h) (ap (λ (s : Seat). s ∷ seat_kept p ∷ map seat_kept t) is)
+placed_by false false n k seat p t e f g h is more = rw (e, f, g, h) (ap (λ (ss : List Seat). seat_kept p ∷ ss) more)
+
+seats_set : (n : Node) (k : disk.Kept) (seat : Seat) (t : Table disk.Kept) → IsNode n → seat.caller ≡ n → seat_kept (node_number n, k) ≡ seat → AreToNodes t → map seat_kept (set (node_number n) k t) ≡ seat_placed seat (map seat_kept t)
+seats_set n k seat [] node own is are = ap (λ (s : Seat). s ∷ []) is
+seats_set n k seat (p ∷ t) node own is are =
+    placed_by (same_node (or_loc (node_of p.0)) n) (nat_lt (node_number n) p.0) n k seat p t (number_by (same_node (or_loc (node_of p.0)) n) p n are.0 node refl) (ap (same_node (or_loc (node_of p.0))) own) refl
+    (ap (λ (m : Node). nat_lt (node_number m) (node_number (or_loc (node_of p.0)))) own ∙ ap (nat_lt (node_number n)) (caller_number p are.0)) is (seats_set n k seat t node own is are.1)
+
+seat_is : (head : Head) (m : Message) (bytes : List ℕ) → IsNode head.from → Spells m bytes → seat_kept (node_number head.from, kept_reply head bytes) ≡ seat_for head m
+seat_is head m bytes node spells = λ i. record { caller = ap or_loc node i; epoch = head.epoch; number = head.number; reply = ap message_in spells.read i }
+
+to_nodes_by : (a b : Bool) (n : Node) (k : disk.Kept) (p : ℕ × disk.Kept) (t : Table disk.Kept) → nat_eq p.0 (node_number n) ≡ a → nat_lt (node_number n) p.0 ≡ b → IsToNode (node_number n, k) → IsToNode p → AreToNodes t → AreToNodes (set (node_number n) k t) → AreToNodes (set (node_number n) k (p ∷ t))
+to_nodes_by true b n k p t e f is first are more = rw e (is, are)
+to_nodes_by false true n k p t e f is first are more = rw (e, f) (is, (first, are))
+to_nodes_by false false n k p t e f is first are more = rw (e, f) (first, more)
+
+pub set_to_nodes : (n : Node) (k : disk.Kept) (t : Table disk.Kept) → IsNode n → AreToNodes t → AreToNodes (set (node_number n) k t)
+set_to_nodes n k [] node are = (record { caller = n; numbered = node }, tt)
+set_to_nodes n k (p ∷ t) node are =
+    to_nodes_by (nat_eq p.0 (node_number n)) (nat_lt (node_number n) p.0) n k p t refl refl (record { caller = n; numbered = node }) are.0 are.1 (set_to_nodes n k t node are.1)
+
+-- ---- what the row leaves
+
+pub lasting_saved : (clock id : ℕ) (head : Head) (c : Change) (x : made.Change) (bytes : List ℕ) (d : Durable) → IsMade clock id c x → Spells (change_reply_to d.boot head clock c) bytes → IsNode head.from → AreToNodes d.kept →
+    lasting_of (durable_saved head id x bytes (stored_by clock c) d) ≡ lasting_after head clock c (lasting_of d)
+lasting_saved clock id head c x bytes d is spells node are =
+    let m = change_reply_to d.boot head clock c in
+    let kept = seats_set head.from (kept_reply head bytes) (seat_for head m) d.kept node refl (seat_is head m bytes node spells) are in
+    let same = sym (record_is d.boot clock id head c x bytes is spells) in λ i. record {
+      boot = d.boot;
+      volumes = set (sym is.number i) (stored_by clock c) d.volumes;
+      stamps = d.stamps;
+      forwardings = d.forwardings;
+      kept = kept i;
+      journal = d.journal + place_length (same i);
+      capacity = d.capacity;
+    }
+
+-- whatever the disk keeps with the record
+pub lasting_left : (clock id : ℕ) (head : Head) (c : Change) (x : made.Change) (bytes : List ℕ) (d e : Durable) → get id d.volumes ≡ Some c.before → IsMade clock id c x → Spells (change_reply_to d.boot head clock c) bytes → IsNode head.from → AreToNodes d.kept →
+    folded (change_kept head id x bytes) d ≡ Some e → lasting_of e ≡ lasting_after head clock c (lasting_of d)
+lasting_left clock id head c x bytes d e there is spells node are folds_to =
+    let one = some_is _ e (sym (folds head id x bytes c.before (stored_by clock c) d there is.kept) ∙ folds_to) in
+    subst (λ (k : Durable). lasting_of k ≡ lasting_after head clock c (lasting_of d)) one (lasting_saved clock id head c x bytes d is spells node are)

@@ -1,0 +1,93 @@
+-- A step of the code is that of its row.
+use Rattle.std.proofs.Common.{◌≡◌, ℕ, Bool, true, false, cond, List, [], ◌∷◌, ◌++◌, refl, sym, ap, subst, ◌∙◌}
+use Rattle.std.specs.Prelude.{nat_lt}
+use Rattle.std.specs.List.{All}
+use Rattle.afs_num.specs.Nodes.{IsNode}
+use Rattle.afs_num.specs.declared.types.Node.{Node}
+use Rattle.afs_history.specs.declared.lines.Line.{Line}
+use Rattle.afs_history.specs.declared.lines.Outs.{Outs}
+use Rattle.afs_records.specs.Durable.{Durable}
+use Rattle.afs_model.specs.Messages.{messages_spelled, parcels_read}
+use Rattle.afs_breaks.specs.Promises.{Lists}
+use Rattle.afs_rows.specs.Callbacks as row
+use Rattle.afs_rows.specs.Callbacks.{ends_all, pumped, timed, Started}
+use Rattle.afs_rows.specs.States.{BackCall, Backs, Held, Lasting, Seat, ServerState}
+use Rattle.afs_rows.specs.ServerSteps.{stepped}
+use Rattle.afs_server_parts.specs.Called.{calls_seen, known_to, AreGoodCalls, Callee}
+use Rattle.afs_server_parts.specs.Turning.{IsBreakToNode}
+use Rattle.afs_volstore.specs.Stores.{Store}
+use Rattle.afs_server.specs.Ending.{backs_left, lists_timed, Ends}
+use Rattle.afs_server.specs.Handling.{server_seen, Makes}
+use Rattle.afs_server.specs.Seen.{backs_seen, lasting_of, IsPromiseToNode, KeepsForNodes, Memory, Serves}
+use Rattle.afs_server.specs.declared.ending.Ended.{Ended}
+
+-- what is in memory after a step
+pub record Leaves {D : Type 0} (old : ServerState) (e : Ended) (m : Memory) (s : Store D) : Type 0 where
+  pub lasting : lasting_of s.durable ≡ old.lasting
+  pub seats : m.seats ≡ old.seats
+  pub callees : m.callees ≡ e.callees.items
+  pub held : m.held ≡ e.held
+  pub drawn : s.drawn ≡ e.last
+
+pub makes_stepped : {D : Type 0} (me : Node) (old : ServerState) (before ls : List Line) (t : row.Turn) (e : Ended) (m : Memory) (s : Store D) →
+    Leaves old e m s → Ends m.lists (pumped me old.lasting.boot t) e → before ++ e.outs.lines ≡ ls → Makes (stepped me old ls t) before m s e.outs
+makes_stepped me old before ls t e m s left ends lines =
+    let seen : backs_seen m s.drawn ≡ backs_left m.lists e = λ i. record { lists = m.lists; last_call = left.drawn i; calls = calls_seen (left.callees i); known = known_to (left.callees i); held = left.held i } in
+    let backs : backs_seen m s.drawn ≡ (pumped me old.lasting.boot t).backs = seen ∙ ends.backs in
+    record {
+      state = λ i. record { lasting = left.lasting i; seats = left.seats i; backs = backs i };
+      lines = lines;
+      sent = ends.sent;
+    }
+
+timed_by : (b : Bool) (t u : row.Turn) (l : Lists) (k : Lists) → t.backs.lists ≡ l → u.backs.lists ≡ k → (cond b t u).backs.lists ≡ cond b l k
+timed_by true t u l k p q = p
+timed_by false t u l k p q = q
+
+pub timed_lists : (me : Node) (boot : ℕ) (n : Node) (c : BackCall) (b : Backs) → (timed me boot n c b).backs.lists ≡ lists_timed c b.lists
+timed_lists me boot n c b = timed_by (nat_lt c.tries 2) _ _ b.lists (ends_all c.breaks b.lists) refl refl
+
+last_by : (b : Bool) (t u : row.Turn) (k : ℕ) → t.backs.last_call ≡ k → u.backs.last_call ≡ k → (cond b t u).backs.last_call ≡ k
+last_by true t u k p q = p
+last_by false t u k p q = q
+
+pub timed_last : (me : Node) (boot : ℕ) (n : Node) (c : BackCall) (b : Backs) → (timed me boot n c b).backs.last_call ≡ b.last_call
+timed_last me boot n c b = last_by (nat_lt c.tries 2) _ _ b.last_call refl refl
+
+-- a step that leaves what is on the disk as it is
+pub steps : {D : Type 0} (state : ServerState) (ls : List Line) (t : row.Turn) (old new : Memory) (s u : Store D) (e : Ended) (l : Lists) (outs : Outs) →
+    state.lasting ≡ lasting_of s.durable → new ≡ record old { seats = state.seats; lists = l; callees = e.callees.items; held = e.held } → u ≡ record s { drawn = e.last } → outs ≡ e.outs →
+    Ends l (pumped s.node s.durable.boot t) e → e.outs.lines ≡ ls → Serves s.node old s.durable → All IsPromiseToNode l.promises → All IsBreakToNode l.owed → AreGoodCalls s.node e.callees.items →
+    Makes (stepped s.node state ls t) [] new u outs × (Serves u.node new u.durable × (u ≡ record s { drawn = u.drawn }))
+steps {D} state ls t old new s u e l outs lasting memory store given ends lines serves promises owed good =
+    let left : Leaves state e new u = record {
+      lasting = ap (λ (x : Store D). lasting_of x.durable) store ∙ sym lasting;
+      seats = ap (λ (m : Memory). m.seats) memory;
+      callees = ap (λ (m : Memory). m.callees) memory;
+      held = ap (λ (m : Memory). m.held) memory;
+      drawn = ap (λ (x : Store D). x.drawn) store;
+    } in
+    let is : new.lists ≡ l = ap (λ (m : Memory). m.lists) memory in
+    let kept : u.durable ≡ s.durable = ap (λ (x : Store D). x.durable) store in
+    let me : u.node ≡ s.node = ap (λ (x : Store D). x.node) store in
+    let boot : s.durable.boot ≡ state.lasting.boot = ap (λ (x : Lasting). x.boot) (sym lasting) in (
+      subst (λ (x : Outs). Makes (stepped s.node state ls t) [] new u x) (sym given)
+          (makes_stepped s.node state [] ls t e new u left (subst (λ (k : Lists). Ends k (pumped s.node state.lasting.boot t) e) (sym is) (subst (λ (k : ℕ). Ends l (pumped s.node k t) e) boot ends)) lines),
+      (
+        record {
+          node = subst IsNode (sym me) serves.node;
+          boot = ap (λ (m : Memory). m.boot) memory ∙ (serves.boot ∙ ap (λ (d : Durable). d.boot) (sym kept));
+          kept = subst KeepsForNodes (sym kept) serves.kept;
+          promises = subst (λ (k : Lists). All IsPromiseToNode k.promises) (sym is) promises;
+          owed = subst (λ (k : Lists). All IsBreakToNode k.owed) (sym is) owed;
+          calls = subst (λ (n : Node). AreGoodCalls n new.callees) (sym me) (subst (AreGoodCalls s.node) (sym left.callees) good);
+        },
+        subst (λ (k : ℕ). u ≡ record s { drawn = k }) (sym left.drawn) store,
+      ),
+    )
+
+-- one in which no call runs, as the same turn
+pub turned_as : {D : Type 0} (t u : row.Turn) (old new : Memory) (s v : Store D) (outs : Outs) → t ≡ u →
+    Makes (stepped s.node (server_seen old s) t.lines t) [] new v outs × (Serves v.node new v.durable × (v ≡ record s { drawn = v.drawn })) →
+    Makes (stepped s.node (server_seen old s) u.lines u) [] new v outs × (Serves v.node new v.durable × (v ≡ record s { drawn = v.drawn }))
+turned_as {D} t u old new s v outs same made = (subst (λ (x : row.Turn). Makes (stepped s.node (server_seen old s) x.lines x) [] new v outs) same made.0, made.1)

@@ -1,0 +1,149 @@
+-- What a step does to the disk: nothing, or what the commit of its record does.
+use Rattle.std.proofs.Common.{◌≡◌, ◌≤◌, ◌<◌, ◌+◌, inl, inr, ⊎_elim, ℕ, List, Option, Some, None, refl, sym, ap, subst, ◌∙◌, arith}
+use Rattle.std.specs.Prelude.{Result, Ok, Err, OnOk}
+use Rattle.afs_disk.specs.Disk.{LeavesOnly, PassesAll, SameDisk, Setting}
+use Rattle.afs_journal.specs.Log.{SameCounts}
+use Rattle.afs_journal.specs.Records.{whole_records}
+use Rattle.afs_history.specs.declared.lines.Outs.{Outs}
+use Rattle.afs_num.specs.declared.records.StoreRecord.{StoreRecord}
+use Rattle.afs_records.specs.Durable.{Durable}
+use Rattle.afs_volstore.specs.Stores.{LeftAround}
+use Rattle.afs_server.specs.Handling.{IsQuiet, IsWritten, Ran}
+use Rattle.afs_server.specs.Putting.{calls_for, IsStill, OnDisk}
+use Rattle.afs_server.specs.declared.faults.NodeFault.{NodeFault}
+use Rattle.afs_server.specs.declared.faults.NodeFault.TheVariants as nodes
+
+none_called : (setting : Setting) (n : ℕ) → PassesAll setting n n
+none_called setting n = λ call above within trips. absurd (omega (arith, above, within))
+
+module _ {D : Type 0} (seen : D → Option (List ℕ)) (left_by : D → ℕ → Option (List ℕ)) (size : D → ℕ) (may_leave : D → List ℕ → Type 0) (moment : D → ℕ) (left_since : D → ℕ → List ℕ → Type 0) (faults own_faults calls : D → ℕ) (setting : D → Setting)
+    (limit : D → ℕ) where
+  abbrev pub OfDisk : {T : Type 0} → Option StoreRecord → Durable → D → D → Result T NodeFault → Type 0
+  OfDisk {T} decided d old new result = OnDisk seen left_by size may_leave moment left_since faults own_faults calls setting limit decided d old new result
+
+  abbrev pub Same : D → D → Type 0
+  Same old new = SameDisk seen left_by size may_leave moment left_since old new
+
+  abbrev pub Counts : D → D → Type 0
+  Counts old new = SameCounts faults own_faults calls setting limit old new
+
+  pub same_disk : (old : D) → Same old old
+  same_disk old = record {
+    same_seen = refl;
+    same_picks = λ pick. refl;
+    same_size = refl;
+    leaves = λ c h. h;
+    left = λ c h. h;
+    same_moment = refl;
+    since = λ t c h. h;
+    was = λ t c h. h;
+  }
+
+  pub same_counts : (old : D) → Counts old old
+  same_counts old = record { same_faults = refl; same_own_faults = refl; same_calls = refl; same_setting = refl; same_limit = refl }
+
+  not_written : {T : Type 0} (decided : Option StoreRecord) (r : StoreRecord) (result : Result T NodeFault) → IsStill decided result → IsWritten r decided result → ⊥
+  not_written {T} None r (Ok x) still is = absurd cc
+  not_written {T} (Some q) r (Ok x) still is = absurd cc
+  not_written {T} decided r (Err nodes.OutOfMemory) still is = is
+  not_written {T} decided r (Err nodes.Down) still is = still
+
+  none_more : {T : Type 0} (decided : Option StoreRecord) (old new : D) (result : Result T NodeFault) → IsStill decided result → calls new ≡ calls old → OnOk result (calls new ≡ calls old + calls_for decided)
+  none_more {T} None old new (Ok x) still same = omega (arith, same)
+  none_more {T} (Some r) old new (Ok x) still same = absurd cc
+  none_more {T} decided old new (Err fault) still same = tt
+
+  ran_none : {T : Type 0} (decided : Option StoreRecord) (old new : D) (result : Result T NodeFault) → IsStill decided result → Counts old new → Ran (setting old) (calls old) (calls new) (faults old) (faults new) (own_faults old) (own_faults new) result
+  ran_none {T} decided old new (Ok x) still counts = record {
+    never_falls = let e = counts.same_faults in omega (arith, e);
+    own_never_falls = let e = counts.same_own_faults in omega (arith, e);
+    down = λ is. absurd cc;
+    passed = subst (PassesAll (setting old) (calls old)) (sym counts.same_calls) (none_called (setting old) (calls old));
+  }
+  ran_none {T} decided old new (Err nodes.OutOfMemory) still counts = record {
+    never_falls = let e = counts.same_faults in omega (arith, e);
+    own_never_falls = let e = counts.same_own_faults in omega (arith, e);
+    down = λ is. absurd cc;
+    passed = tt;
+  }
+  ran_none {T} decided old new (Err nodes.Down) still counts = absurd still
+
+  -- nothing but the room changed
+  pub is_still : {T : Type 0} (decided : Option StoreRecord) (d : Durable) (old new : D) (result : Result T NodeFault) → IsStill decided result → Same old new → Counts old new → OfDisk decided d old new result
+  is_still {T} decided d old new result still same counts = record {
+    quiet = λ is. (same, counts);
+    any_moment = λ r is. absurd (not_written decided r result still is);
+    fits = λ r is. absurd (not_written decided r result still is);
+    most = let e = counts.same_calls in (omega (arith, e), omega (arith, e));
+    limited = counts.same_limit;
+    called = none_more decided old new result still counts.same_calls;
+    ran = ran_none decided old new result still counts;
+    set = counts.same_setting;
+  }
+
+  -- the same disk
+  pub is_same : {T : Type 0} (decided : Option StoreRecord) (d : Durable) (old new : D) (result : Result T NodeFault) → IsStill decided result → new ≡ old → OfDisk decided d old new result
+  is_same {T} decided d old new result still same = subst (λ (x : D). OfDisk decided d old x result) (sym same) (is_still decided d old old result still (same_disk old) (same_counts old))
+
+  -- ---- behind what changed the room alone
+
+  both_same : (old mid new : D) → Same old mid → Same mid new → Same old new
+  both_same old mid new a b = record {
+    same_seen = b.same_seen ∙ a.same_seen;
+    same_picks = λ pick. b.same_picks pick ∙ a.same_picks pick;
+    same_size = b.same_size ∙ a.same_size;
+    leaves = λ c h. a.leaves c (b.leaves c h);
+    left = λ c h. b.left c (a.left c h);
+    same_moment = b.same_moment ∙ a.same_moment;
+    since = λ t c h. a.since t c (b.since t c h);
+    was = λ t c h. b.was t c (a.was t c h);
+  }
+
+  both_count : (old mid new : D) → Counts old mid → Counts mid new → Counts old new
+  both_count old mid new a b = record {
+    same_faults = b.same_faults ∙ a.same_faults;
+    same_own_faults = b.same_own_faults ∙ a.same_own_faults;
+    same_calls = b.same_calls ∙ a.same_calls;
+    same_setting = b.same_setting ∙ a.same_setting;
+    same_limit = b.same_limit ∙ a.same_limit;
+  }
+
+  moved : (old mid new : D) (P : List ℕ → Type 0) → Same old mid → LeavesOnly moment left_since mid new P → LeavesOnly moment left_since old new P
+  moved old mid new P same only = record {
+    later = subst (λ (m : ℕ). m ≤ moment new) same.same_moment only.later;
+    each = subst (λ (m : ℕ). (c : List ℕ) → left_since new m c → P c) same.same_moment only.each;
+    before = λ t c le left. ⊎_elim (λ was. inl (same.since t c was)) (λ held. inr held) (only.before t c (subst (λ (m : ℕ). t ≤ m) (sym same.same_moment) le) left);
+  }
+
+  pub behind : {T : Type 0} (decided : Option StoreRecord) (d : Durable) (old mid new : D) (result : Result T NodeFault) → Same old mid → Counts old mid → OfDisk decided d mid new result → OfDisk decided d old new result
+  behind {T} decided d old mid new result same counts then = record {
+    quiet = λ is. let q = then.quiet is in (both_same old mid new same q.0, both_count old mid new counts q.1);
+    any_moment = λ r is bytes told. moved old mid new (LeftAround (whole_records bytes) r d) same (then.any_moment r is bytes (same.same_seen ∙ told));
+    fits = then.fits;
+    most = subst (λ (n : ℕ). (n ≤ calls new) × (calls new ≤ n + 4)) counts.same_calls then.most;
+    limited = then.limited ∙ counts.same_limit;
+    called = subst (λ (n : ℕ). OnOk result (calls new ≡ n + calls_for decided)) counts.same_calls then.called;
+    ran =
+        subst (λ (s : Setting). Ran s (calls old) (calls new) (faults old) (faults new) (own_faults old) (own_faults new) result) counts.same_setting
+        (subst (λ (n : ℕ). Ran (setting mid) n (calls new) (faults old) (faults new) (own_faults old) (own_faults new) result) counts.same_calls
+        (subst (λ (n : ℕ). Ran (setting mid) (calls mid) (calls new) n (faults new) (own_faults old) (own_faults new) result) counts.same_faults
+        (subst (λ (n : ℕ). Ran (setting mid) (calls mid) (calls new) (faults mid) (faults new) n (own_faults new) result) counts.same_own_faults then.ran)));
+    set = then.set ∙ counts.same_setting;
+  }
+
+  -- with another value at Ok
+  pub with_value : {S T : Type 0} (decided : Option StoreRecord) (d : Durable) (old new : D) (x : S) (y : T) → OfDisk {T = S} decided d old new (Ok x) → OfDisk {T = T} decided d old new (Ok y)
+  with_value {S} {T} None d old new x y is = record { quiet = is.quiet; any_moment = is.any_moment; fits = is.fits; most = is.most; limited = is.limited; called = is.called; ran = record { never_falls = is.ran.never_falls; own_never_falls = is.ran.own_never_falls; down = λ z. absurd cc; passed = is.ran.passed }; set = is.set }
+  with_value {S} {T} (Some r) d old new x y is = record { quiet = is.quiet; any_moment = is.any_moment; fits = is.fits; most = is.most; limited = is.limited; called = is.called; ran = record { never_falls = is.ran.never_falls; own_never_falls = is.ran.own_never_falls; down = λ z. absurd cc; passed = is.ran.passed }; set = is.set }
+
+  fault_by : {S T : Type 0} (decided : Option StoreRecord) (d : Durable) (old new : D) → OfDisk {T = S} decided d old new (Err nodes.OutOfMemory) → OfDisk {T = T} decided d old new (Err nodes.OutOfMemory)
+  fault_by {S} {T} None d old new is = record { quiet = is.quiet; any_moment = λ r z. absurd z; fits = λ r z. absurd z; most = is.most; limited = is.limited; called = tt; ran = record { never_falls = is.ran.never_falls; own_never_falls = is.ran.own_never_falls; down = λ z. absurd cc; passed = tt }; set = is.set }
+  fault_by {S} {T} (Some r) d old new is = record { quiet = is.quiet; any_moment = λ r z. absurd z; fits = λ r z. absurd z; most = is.most; limited = is.limited; called = tt; ran = record { never_falls = is.ran.never_falls; own_never_falls = is.ran.own_never_falls; down = λ z. absurd cc; passed = tt }; set = is.set }
+
+  down_by : {S T : Type 0} (decided : Option StoreRecord) (d : Durable) (old new : D) → OfDisk {T = S} decided d old new (Err nodes.Down) → OfDisk {T = T} decided d old new (Err nodes.Down)
+  down_by {S} {T} None d old new is = record { quiet = is.quiet; any_moment = is.any_moment; fits = is.fits; most = is.most; limited = is.limited; called = tt; ran = record { never_falls = is.ran.never_falls; own_never_falls = is.ran.own_never_falls; down = λ z. is.ran.down refl; passed = tt }; set = is.set }
+  down_by {S} {T} (Some r) d old new is = record { quiet = is.quiet; any_moment = is.any_moment; fits = is.fits; most = is.most; limited = is.limited; called = tt; ran = record { never_falls = is.ran.never_falls; own_never_falls = is.ran.own_never_falls; down = λ z. is.ran.down refl; passed = tt }; set = is.set }
+
+  pub with_fault : {S T : Type 0} (decided : Option StoreRecord) (d : Durable) (old new : D) (fault : NodeFault) → OfDisk {T = S} decided d old new (Err fault) → OfDisk {T = T} decided d old new (Err fault)
+  with_fault {S} {T} decided d old new nodes.OutOfMemory is = fault_by decided d old new is
+  with_fault {S} {T} decided d old new nodes.Down is = down_by decided d old new is

@@ -1,0 +1,64 @@
+-- What is done with what was found in a message's bytes, by its parts.
+use Rattle.std.proofs.Common.{◌≡◌, ℕ, List, Option, refl, sym, ap, subst, ◌∙◌}
+use Rattle.std.specs.Prelude.{Result, Err}
+use Rattle.afs_disk.specs.Disk.{Setting}
+use Rattle.afs_history.specs.declared.lines.Outs.{Outs}
+use Rattle.afs_num.specs.declared.records.StoreRecord.{StoreRecord}
+use Rattle.afs_records.specs.Durable.{Durable}
+use Rattle.afs_volstore.specs.Stores.{Store}
+use Rattle.afs_server.specs.Handling.{SameStore}
+use Rattle.afs_server.specs.Putting.{DoesAll, OnDisk}
+use Rattle.afs_server.specs.Seen.{Memory}
+use Rattle.afs_server.specs.declared.faults.NodeFault.{NodeFault}
+use Rattle.afs_server.specs.declared.faults.NodeFault.TheVariants as faults
+use Rattle.afs_server.proofs.Still.{is_same}
+use Rattle.afs_num.specs.declared.messages.Call.{Call}
+use Rattle.afs_num.specs.declared.messages.Call.TheVariants as ask
+use Rattle.afs_num.specs.declared.messages.Carried.{Carried}
+use Rattle.afs_num.specs.declared.messages.Carried.TheVariants as carried
+use Rattle.afs_num.specs.declared.messages.Message.{Message}
+use Rattle.afs_num.specs.declared.messages.Received.{Received}
+use Rattle.afs_num.specs.declared.messages.Received.TheVariants.{Unreadable, Unserved, Whole}
+use Rattle.afs_num.specs.declared.types.Head.{Head}
+use Rattle.afs_num.specs.declared.types.Node.{Node}
+use Rattle.afs_rows.specs.Callbacks as row
+use Rattle.afs_rows.specs.Callbacks.{turn_for, turned_by, turned_in}
+use Rattle.afs_rows.specs.ServerRow.{called, decides, hears, whole, Decision}
+use Rattle.afs_rows.specs.States.{Backs, ServerState}
+
+module _ (P : Decision → row.Turn → Type 0) (me : Node) (s : ServerState) (clock : ℕ) (b : Backs) where
+  pub in_received : (r x : Received) → r ≡ x → P (decides me s clock x) (turned_in me s clock b (decides me s clock x) x) → P (decides me s clock r) (turned_in me s clock b (decides me s clock r) r)
+  in_received r x e p = subst (λ (y : Received). P (decides me s clock y) (turned_in me s clock b (decides me s clock y) y)) (sym e) p
+
+  pub in_carried : (r : Received) (m : Message) (k : Carried) → r ≡ Whole m → m.carried ≡ k → P (hears me s clock m.head k) (turned_by me s clock b (hears me s clock m.head k) m.head k) →
+      P (decides me s clock r) (turned_in me s clock b (decides me s clock r) r)
+  in_carried r m k e same p =
+      in_received r (Whole m) e
+      (subst (λ (l : Carried). P (hears me s clock m.head l) (turned_by me s clock b (hears me s clock m.head l) m.head l)) (sym same) p)
+
+  pub in_call : (r : Received) (m : Message) (user : List ℕ) (call : Call) → r ≡ Whole m → m.carried ≡ carried.Call user call → P (called me s clock m.head r) (turn_for me s clock b (called me s clock m.head r)) →
+      P (decides me s clock r) (turned_in me s clock b (decides me s clock r) r)
+  in_call r m user call e same p =
+      let is : r ≡ whole m.head (carried.Call user call) = e ∙ ap (λ (k : Carried). whole m.head k) same in
+      in_carried r m (carried.Call user call) e same (subst (λ (x : Received). P (called me s clock m.head x) (turn_for me s clock b (called me s clock m.head x))) is p)
+
+  pub in_unserved : (r : Received) (head : Head) → r ≡ Unserved head → P (called me s clock head r) (turn_for me s clock b (called me s clock head r)) → P (decides me s clock r) (turned_in me s clock b (decides me s clock r) r)
+  in_unserved r head e p = in_received r (Unserved head) e (subst (λ (x : Received). P (called me s clock head x) (turn_for me s clock b (called me s clock head x))) e p)
+
+  pub in_unreadable : (r : Received) (head : Head) → r ≡ Unreadable head → P (called me s clock head r) (turn_for me s clock b (called me s clock head r)) → P (decides me s clock r) (turned_in me s clock b (decides me s clock r) r)
+  in_unreadable r head e p = in_received r (Unreadable head) e (subst (λ (x : Received). P (called me s clock head x) (turn_for me s clock b (called me s clock head x))) e p)
+
+-- ---- memory was wanting, and nothing was done
+
+same_store : {D : Type 0} (s t : Store D) → t ≡ s → SameStore s t
+same_store {D} s t e = subst (λ (u : Store D). SameStore s u) (sym e) refl
+
+pub wants_all : {D : Type 0} (clock : ℕ) (d : Decision) (turn : row.Turn) (old new : Memory) (s t : Store D) (result : Result Outs NodeFault) → result ≡ Err faults.OutOfMemory → (new ≡ old) × (t ≡ s) → DoesAll clock d turn old new s t result
+wants_all {D} clock d turn old new s t result e same = subst (λ (r : Result Outs NodeFault). DoesAll clock d turn old new s t r) (sym e) (same.0, same_store s t same.1)
+
+pub wants_disk : {D : Type 0} (seen : D → Option (List ℕ)) (left_by : D → ℕ → Option (List ℕ)) (size : D → ℕ) (may_leave : D → List ℕ → Type 0) (moment : D → ℕ) (left_since : D → ℕ → List ℕ → Type 0) (fs own_faults calls : D → ℕ)
+    (setting : D → Setting) (limit : D → ℕ) (decided : Option StoreRecord) (d : Durable) (old new : D) (result : Result Outs NodeFault) → result ≡ Err faults.OutOfMemory → new ≡ old →
+    OnDisk seen left_by size may_leave moment left_since fs own_faults calls setting limit decided d old new result
+wants_disk {D} seen left_by size may_leave moment left_since fs own_faults calls setting limit decided d old new result e same =
+    subst (λ (r : Result Outs NodeFault). OnDisk seen left_by size may_leave moment left_since fs own_faults calls setting limit decided d old new r) (sym e)
+    (is_same seen left_by size may_leave moment left_since fs own_faults calls setting limit decided d old new (Err faults.OutOfMemory) tt same)

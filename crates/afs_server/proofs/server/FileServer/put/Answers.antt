@@ -1,0 +1,93 @@
+use Rattle.std.proofs.Common.{◌≡◌, ◌≤◌, ◌+◌, rules, Option, None, Some, refl, ap, sym, subst, ◌∙◌}
+use Rattle.std.specs.Prelude.{Result, Ok, Err}
+use Rattle.afs_history.specs.declared.lines.Outs.{Outs}
+use Rattle.afs_breaks.specs.Promises.{expired, grants_all, Lists}
+use Rattle.afs_model.specs.Calls.{call_seated}
+use Rattle.afs_records.specs.Durable.{folded, Durable}
+use Rattle.afs_records.specs.Records.{FitsRecord}
+use Rattle.afs_rows.specs.ServerRow.{seat_for}
+use Rattle.afs_server.specs.Saving.{withdraws_each, IsPut, IsTaken}
+use Rattle.afs_server.specs.Seen.{Memory}
+use Rattle.afs_volstore.specs.Stores.{Store}
+use Rattle.afs_server.specs.declared.faults.NodeFault.{NodeFault}
+use Rattle.afs_server.specs.declared.faults.NodeFault.TheVariants as nodes
+use Rattle.afs_server.proofs.Holding.{all_few}
+use Rattle.afs_server.proofs.Still.{is_still, same_counts, same_disk, with_fault, with_value, OfDisk}
+use Rattle.afs_server.proofs.server.FileServer.put.Goals as goal
+
+some_is : {A : Type 0} (x y : A) → ◌≡◌ {A = Option A} (Some x) (Some y) → x ≡ y
+some_is x y e = cc
+
+pub withdraw_lasting-requires : goal.withdraw_lasting-requires
+withdraw_lasting-requires g c =
+    let granted = c.in_ok-grant_all.ensures in
+    let lists : c.grant_all.new.self ≡ grants_all c.args.head.now.from (c.args.now + 7200) c.args.planned.granted c.args.self.now.lists = search (rules, granted) in
+    all_few c.args.head.now.from (c.args.now + 7200) c.args.planned.granted c.args.self.now.lists c.grant_all.new.self lists c.requires.draws
+
+pub commit-requires-clause-fits : goal.commit-requires-clause-fits
+commit-requires-clause-fits g c = λ r is. let same : c.args.planned.rec ≡ r = some_is _ r (sym c.requires.prepared ∙ is) in subst FitsRecord same c.requires.fits
+
+pub returns-clause-puts : goal.returns-clause-puts
+returns-clause-puts g c =
+    let old = c.args.self.now in
+    let s = c.args.store.now in
+    let p = c.args.planned in
+    let head = c.args.head.now in
+    let mid = c.commit.new.store in
+    let t = c.keep-outs.new.store in
+    let lists : c.withdraw_lasting.new.promises ≡ withdraws_each head.from p.changed (expired c.args.now (grants_all head.from (c.args.now + 7200) p.granted old.lists)) = search rules in
+    let memory : c.keep-outs.new.self ≡ record old { seats = c.keep_reply.new.callers.seats; lists = c.withdraw_lasting.new.promises; callees = p.ended.callees.items; held = p.ended.held } = search rules in
+    let store : t ≡ record mid { drawn = p.ended.last } = search rules in
+    let commits = c.in_ok-commit.ensures.commits p.rec c.requires.prepared in
+    let durable : t.durable ≡ mid.durable = ap (λ (u : Store g.row.D.Denot). u.durable) store in
+    let disk : t.disk ≡ mid.disk = ap (λ (u : Store g.row.D.Denot). u.disk) store in
+    let reserved = c.in_ok-reserve.ensures.seats ∙ ap (λ (m : Memory). m.seats) c.self.view_is in (
+      record {
+        boot = ap (λ (m : Memory). m.boot) memory;
+        seats = λ m spells. ap (λ (k : Memory). k.seats) memory ∙ (c.keep_reply.ensures.seats m spells ∙ ap (call_seated (seat_for head m)) reserved);
+        lists = ap (λ (m : Memory). m.lists) memory ∙ lists;
+        callees = ap (λ (m : Memory). m.callees) memory;
+        held = ap (λ (m : Memory). m.held) memory;
+      },
+      (
+        record {
+          store =
+              store
+              ∙ ((λ i. record (commits.0 i) { drawn = p.ended.last })
+              ∙ (λ i. record s { durable = sym durable i; disk = sym disk i; prepared = None; count = s.count + 1; drawn = p.ended.last }));
+          folds = commits.1 ∙ ap (λ (d : Durable). Some d) (sym durable);
+        },
+        c.keep-outs.ensures.outs,
+      ),
+    )
+
+pub returns-clause-disk : goal.returns-clause-disk
+returns-clause-disk g c =
+    let s = c.args.store.now in
+    let p = c.args.planned in
+    let store : c.keep-outs.new.store ≡ record c.commit.new.store { drawn = p.ended.last } = search rules in
+    let disk = ap (λ (u : Store g.row.D.Denot). u.disk) store in
+    let told = c.in_ok-commit.ensures.disk p.rec c.requires.prepared in
+    subst (λ (x : g.row.D.Denot). OfDisk g.D.Disk.seen g.D.Disk.left_by g.D.Disk.size g.D.Disk.may_leave g.D.Disk.moment g.D.Disk.left_since g.D.Disk.faults g.D.Disk.own_faults g.D.Disk.calls g.D.Disk.setting g.D.Disk.limit (Some p.rec) s.durable s.disk x (Ok c.keep-outs.result)) (sym disk)
+    (with_value g.D.Disk.seen g.D.Disk.left_by g.D.Disk.size g.D.Disk.may_leave g.D.Disk.moment g.D.Disk.left_since g.D.Disk.faults g.D.Disk.own_faults g.D.Disk.calls g.D.Disk.setting g.D.Disk.limit (Some p.rec) s.durable s.disk c.commit.new.store.disk tt c.keep-outs.result told)
+
+pub returns-in_err-reserve-clause-disk : goal.returns-in_err-reserve-clause-disk
+returns-in_err-reserve-clause-disk g c =
+    let s = c.args.store.now in
+    let is : c.from_residual.result ≡ Err nodes.OutOfMemory = search rules in
+    subst (λ (r : Result Outs NodeFault). OfDisk g.D.Disk.seen g.D.Disk.left_by g.D.Disk.size g.D.Disk.may_leave g.D.Disk.moment g.D.Disk.left_since g.D.Disk.faults g.D.Disk.own_faults g.D.Disk.calls g.D.Disk.setting g.D.Disk.limit (Some c.args.planned.rec) s.durable s.disk s.disk r) (sym is)
+    (is_still g.D.Disk.seen g.D.Disk.left_by g.D.Disk.size g.D.Disk.may_leave g.D.Disk.moment g.D.Disk.left_since g.D.Disk.faults g.D.Disk.own_faults g.D.Disk.calls g.D.Disk.setting g.D.Disk.limit (Some c.args.planned.rec) s.durable s.disk s.disk (Err nodes.OutOfMemory) tt (same_disk g.D.Disk.seen g.D.Disk.left_by g.D.Disk.size g.D.Disk.may_leave g.D.Disk.moment g.D.Disk.left_since g.D.Disk.faults g.D.Disk.own_faults g.D.Disk.calls g.D.Disk.setting g.D.Disk.limit s.disk) (same_counts g.D.Disk.seen g.D.Disk.left_by g.D.Disk.size g.D.Disk.may_leave g.D.Disk.moment g.D.Disk.left_since g.D.Disk.faults g.D.Disk.own_faults g.D.Disk.calls g.D.Disk.setting g.D.Disk.limit s.disk))
+
+pub returns-in_err-grant_all-clause-disk : goal.returns-in_err-grant_all-clause-disk
+returns-in_err-grant_all-clause-disk g c =
+    let s = c.args.store.now in
+    let is : c.from_residual-in_err-grant_all.result ≡ Err nodes.OutOfMemory = search rules in
+    subst (λ (r : Result Outs NodeFault). OfDisk g.D.Disk.seen g.D.Disk.left_by g.D.Disk.size g.D.Disk.may_leave g.D.Disk.moment g.D.Disk.left_since g.D.Disk.faults g.D.Disk.own_faults g.D.Disk.calls g.D.Disk.setting g.D.Disk.limit (Some c.args.planned.rec) s.durable s.disk s.disk r) (sym is)
+    (is_still g.D.Disk.seen g.D.Disk.left_by g.D.Disk.size g.D.Disk.may_leave g.D.Disk.moment g.D.Disk.left_since g.D.Disk.faults g.D.Disk.own_faults g.D.Disk.calls g.D.Disk.setting g.D.Disk.limit (Some c.args.planned.rec) s.durable s.disk s.disk (Err nodes.OutOfMemory) tt (same_disk g.D.Disk.seen g.D.Disk.left_by g.D.Disk.size g.D.Disk.may_leave g.D.Disk.moment g.D.Disk.left_since g.D.Disk.faults g.D.Disk.own_faults g.D.Disk.calls g.D.Disk.setting g.D.Disk.limit s.disk) (same_counts g.D.Disk.seen g.D.Disk.left_by g.D.Disk.size g.D.Disk.may_leave g.D.Disk.moment g.D.Disk.left_since g.D.Disk.faults g.D.Disk.own_faults g.D.Disk.calls g.D.Disk.setting g.D.Disk.limit s.disk))
+
+pub returns-in_err-commit-clause-disk : goal.returns-in_err-commit-clause-disk
+returns-in_err-commit-clause-disk g c =
+    let s = c.args.store.now in
+    let is : c.from_residual-in_err-commit.result ≡ Err c.in_err-commit.field-0.0 = search rules in
+    subst (λ (r : Result Outs NodeFault). OfDisk g.D.Disk.seen g.D.Disk.left_by g.D.Disk.size g.D.Disk.may_leave g.D.Disk.moment g.D.Disk.left_since g.D.Disk.faults g.D.Disk.own_faults g.D.Disk.calls g.D.Disk.setting g.D.Disk.limit (Some c.args.planned.rec) s.durable s.disk c.commit.new.store.disk r) (sym is)
+    (with_fault g.D.Disk.seen g.D.Disk.left_by g.D.Disk.size g.D.Disk.may_leave g.D.Disk.moment g.D.Disk.left_since g.D.Disk.faults g.D.Disk.own_faults g.D.Disk.calls g.D.Disk.setting g.D.Disk.limit (Some c.args.planned.rec) s.durable s.disk c.commit.new.store.disk c.in_err-commit.field-0.0 (c.in_err-commit.ensures.disk c.args.planned.rec c.requires.prepared))

@@ -1,0 +1,161 @@
+use Rattle.std.proofs.Common.{ℕ, ◌≡◌, ◌≤◌, ◌+◌, true, false, Some, length, rules, arith, refl, ap, sym, subst, ◌∙◌}
+use Rattle.std.specs.Prelude.{Result, Err}
+use Rattle.afs_history.specs.declared.lines.Outs.{Outs}
+use Rattle.afs_num.specs.Nodes.{IsNode}
+use Rattle.afs_num.specs.declared.types.Node.{Node}
+use Rattle.afs_records.specs.Durable.{Durable}
+use Rattle.afs_rows.specs.Callbacks as row
+use Rattle.afs_rows.specs.Callbacks.{turn_for}
+use Rattle.afs_rows.specs.ServerRow.{roomed}
+use Rattle.afs_server.specs.Handling.{record_decided, server_seen}
+use Rattle.afs_server.specs.Saving.{reply_told, IsPlanned}
+use Rattle.afs_server.specs.Seen.{Serves}
+use Rattle.afs_server.specs.declared.faults.NodeFault.{NodeFault}
+use Rattle.afs_server.specs.declared.faults.NodeFault.TheVariants as nodes
+use Rattle.afs_volstore.specs.Stores.{Store}
+use Rattle.afs_server.proofs.Roomed.{disk_all}
+use Rattle.afs_server.proofs.Saves.{does_all, is_besides, is_taken, same_store, wanting, was_prepared}
+use Rattle.afs_server.proofs.Still.{is_still, same_counts, same_disk, OfDisk}
+use Rattle.afs_server.proofs.Withdrawn.{few_granted}
+use Rattle.afs_server.proofs.server.FileServer.save.Goals as goal
+
+pub plan_change-requires-clause-nodes : goal.plan_change-requires-clause-nodes
+plan_change-requires-clause-nodes g c = record { node = search rules; owed = c.requires.serves.owed; calls = search rules }
+
+pub prepare-requires-clause-fits : goal.prepare-requires-clause-fits
+prepare-requires-clause-fits g c = c.in_ok-planned.ensures.fits
+
+pub prepare-requires-clause-taken : goal.prepare-requires-clause-taken
+prepare-requires-clause-taken g c =
+    let made = c.requires.made in
+    let plan = c.in_ok-planned.ensures in
+    is_taken c.args.id c.args.now c.args.head.now made.0 c.args.change c.in_ok-planned.planned.kept c.args.store.now.durable c.in_ok-planned.planned.rec made.1.0 made.1.1 plan.rec
+
+pub put_or_refuse-requires-clause-serves : goal.put_or_refuse-requires-clause-serves
+put_or_refuse-requires-clause-serves g c =
+    let mid = c.prepare.new.store in
+    let besides = is_besides c.in_ok-planned.planned.rec c.args.store.now mid c.in_ok-room.room c.in_ok-room.ensures.prepares in
+    subst (λ (d : Durable). Serves mid.node c.args.self.now d) (sym besides.1.0) (subst (λ (n : Node). Serves n c.args.self.now c.args.store.now.durable) (sym besides.0) c.requires.serves)
+
+pub put_or_refuse-requires-clause-draws : goal.put_or_refuse-requires-clause-draws
+put_or_refuse-requires-clause-draws g c =
+    let long = ap length c.in_ok-planned.ensures.granted in
+    let few = few_granted c.args.change.reply in
+    let draws = c.requires.draws.breaks in
+    omega (arith, long, few, draws)
+
+pub put_or_refuse-requires-clause-drawn : goal.put_or_refuse-requires-clause-drawn
+put_or_refuse-requires-clause-drawn g c =
+    let s = c.args.store.now in
+    let p = c.in_ok-planned.planned in
+    let node : c.node.result ≡ s.node = search rules in
+    let boot : c.boot_number.result ≡ s.durable.boot = search rules in
+    let last : c.last_number.result ≡ s.drawn = search rules in
+    let plan : IsPlanned s.node s.durable.boot s.drawn c.args.now c.args.head.now c.args.id c.args.change c.args.self.now p =
+    subst (λ (n : ℕ). IsPlanned s.node s.durable.boot n c.args.now c.args.head.now c.args.id c.args.change c.args.self.now p) last
+    (subst (λ (n : ℕ). IsPlanned s.node n c.last_number.result c.args.now c.args.head.now c.args.id c.args.change c.args.self.now p) boot
+    (subst (λ (n : Node). IsPlanned n c.boot_number.result c.last_number.result c.args.now c.args.head.now c.args.id c.args.change c.args.self.now p) node c.in_ok-planned.ensures)) in
+    let mid = c.prepare.new.store in
+    let besides = is_besides c.in_ok-planned.planned.rec c.args.store.now mid c.in_ok-room.room c.in_ok-room.ensures.prepares in
+    let same = besides.1.1.0 in
+    let least = plan.drawn in
+    omega (arith, same, least)
+
+pub put_or_refuse-requires-clause-spelling : goal.put_or_refuse-requires-clause-spelling
+put_or_refuse-requires-clause-spelling g c =
+    let s = c.args.store.now in
+    let p = c.in_ok-planned.planned in
+    let node : c.node.result ≡ s.node = search rules in
+    let boot : c.boot_number.result ≡ s.durable.boot = search rules in
+    let last : c.last_number.result ≡ s.drawn = search rules in
+    let plan : IsPlanned s.node s.durable.boot s.drawn c.args.now c.args.head.now c.args.id c.args.change c.args.self.now p =
+    subst (λ (n : ℕ). IsPlanned s.node s.durable.boot n c.args.now c.args.head.now c.args.id c.args.change c.args.self.now p) last
+    (subst (λ (n : ℕ). IsPlanned s.node n c.last_number.result c.args.now c.args.head.now c.args.id c.args.change c.args.self.now p) boot
+    (subst (λ (n : Node). IsPlanned n c.boot_number.result c.last_number.result c.args.now c.args.head.now c.args.id c.args.change c.args.self.now p) node c.in_ok-planned.ensures)) in
+    (reply_told c.args.store.now.durable.boot c.args.head.now (c.args.now + 7200) c.args.change, plan.kept)
+
+pub put_or_refuse-requires-clause-up : goal.put_or_refuse-requires-clause-up
+put_or_refuse-requires-clause-up g c =
+    let mid = c.prepare.new.store in
+    let besides = is_besides c.in_ok-planned.planned.rec c.args.store.now mid c.in_ok-room.room c.in_ok-room.ensures.prepares in
+    besides.1.1.1 ∙ c.requires.up
+
+pub put_or_refuse-requires-clause-prepared : goal.put_or_refuse-requires-clause-prepared
+put_or_refuse-requires-clause-prepared g c =
+    λ has. ap (λ (u : Store g.row.D.Denot). u.prepared) (was_prepared c.in_ok-planned.planned.rec c.args.store.now c.prepare.new.store c.in_ok-room.room has c.in_ok-room.ensures.prepares)
+
+pub put_or_refuse-requires-clause-fits : goal.put_or_refuse-requires-clause-fits
+put_or_refuse-requires-clause-fits g c = c.in_ok-planned.ensures.fits
+
+pub returns-in_err-planned-clause-does : goal.returns-in_err-planned-clause-does
+returns-in_err-planned-clause-does g c =
+    λ k there made.
+    let s = c.args.store.now in
+    let m = c.args.self.now in
+    let d = roomed (server_seen m s) c.args.now c.args.head.now k in
+    let is : c.from_residual.result ≡ Err nodes.OutOfMemory = search rules in
+    wanting c.args.now d (turn_for s.node (server_seen m s) c.args.now (row.expired c.args.now (server_seen m s).backs) d) m s s c.from_residual.result is refl
+
+pub returns-in_err-planned-clause-disk : goal.returns-in_err-planned-clause-disk
+returns-in_err-planned-clause-disk g c =
+    λ k there made.
+    let s = c.args.store.now in
+    let decided = record_decided s.durable.boot c.args.now (roomed (server_seen c.args.self.now s) c.args.now c.args.head.now k) in
+    let is : c.from_residual.result ≡ Err nodes.OutOfMemory = search rules in
+    subst (λ (r : Result Outs NodeFault). OfDisk g.D.Disk.seen g.D.Disk.left_by g.D.Disk.size g.D.Disk.may_leave g.D.Disk.moment g.D.Disk.left_since g.D.Disk.faults g.D.Disk.own_faults g.D.Disk.calls g.D.Disk.setting g.D.Disk.limit decided s.durable s.disk s.disk r) (sym is)
+    (is_still g.D.Disk.seen g.D.Disk.left_by g.D.Disk.size g.D.Disk.may_leave g.D.Disk.moment g.D.Disk.left_since g.D.Disk.faults g.D.Disk.own_faults g.D.Disk.calls g.D.Disk.setting g.D.Disk.limit decided s.durable s.disk s.disk (Err nodes.OutOfMemory) tt (same_disk g.D.Disk.seen g.D.Disk.left_by g.D.Disk.size g.D.Disk.may_leave g.D.Disk.moment g.D.Disk.left_since g.D.Disk.faults g.D.Disk.own_faults g.D.Disk.calls g.D.Disk.setting g.D.Disk.limit s.disk) (same_counts g.D.Disk.seen g.D.Disk.left_by g.D.Disk.size g.D.Disk.may_leave g.D.Disk.moment g.D.Disk.left_since g.D.Disk.faults g.D.Disk.own_faults g.D.Disk.calls g.D.Disk.setting g.D.Disk.limit s.disk))
+
+pub returns-in_err-room-clause-does : goal.returns-in_err-room-clause-does
+returns-in_err-room-clause-does g c =
+    λ k there made.
+    let s = c.args.store.now in
+    let m = c.args.self.now in
+    let mid = c.prepare.new.store in
+    let d = roomed (server_seen m s) c.args.now c.args.head.now k in
+    let is : c.from_residual-in_err-room.result ≡ Err nodes.OutOfMemory = search rules in
+    wanting c.args.now d (turn_for s.node (server_seen m s) c.args.now (row.expired c.args.now (server_seen m s).backs) d) m s mid c.from_residual-in_err-room.result is (same_store s mid c.in_err-room.ensures.prepares)
+
+pub returns-in_err-room-clause-disk : goal.returns-in_err-room-clause-disk
+returns-in_err-room-clause-disk g c =
+    λ k there made.
+    let s = c.args.store.now in
+    let mid = c.prepare.new.store in
+    let decided = record_decided s.durable.boot c.args.now (roomed (server_seen c.args.self.now s) c.args.now c.args.head.now k) in
+    let is : c.from_residual-in_err-room.result ≡ Err nodes.OutOfMemory = search rules in
+    subst (λ (r : Result Outs NodeFault). OfDisk g.D.Disk.seen g.D.Disk.left_by g.D.Disk.size g.D.Disk.may_leave g.D.Disk.moment g.D.Disk.left_since g.D.Disk.faults g.D.Disk.own_faults g.D.Disk.calls g.D.Disk.setting g.D.Disk.limit decided s.durable s.disk mid.disk r) (sym is)
+    (is_still g.D.Disk.seen g.D.Disk.left_by g.D.Disk.size g.D.Disk.may_leave g.D.Disk.moment g.D.Disk.left_since g.D.Disk.faults g.D.Disk.own_faults g.D.Disk.calls g.D.Disk.setting g.D.Disk.limit decided s.durable s.disk mid.disk (Err nodes.OutOfMemory) tt c.in_err-room.ensures.disk c.in_err-room.ensures.counts)
+
+pub returns-clause-does : goal.returns-clause-does
+returns-clause-does g c =
+    let s = c.args.store.now in
+    let p = c.in_ok-planned.planned in
+    let node : c.node.result ≡ s.node = search rules in
+    let boot : c.boot_number.result ≡ s.durable.boot = search rules in
+    let last : c.last_number.result ≡ s.drawn = search rules in
+    let plan : IsPlanned s.node s.durable.boot s.drawn c.args.now c.args.head.now c.args.id c.args.change c.args.self.now p =
+    subst (λ (n : ℕ). IsPlanned s.node s.durable.boot n c.args.now c.args.head.now c.args.id c.args.change c.args.self.now p) last
+    (subst (λ (n : ℕ). IsPlanned s.node n c.last_number.result c.args.now c.args.head.now c.args.id c.args.change c.args.self.now p) boot
+    (subst (λ (n : Node). IsPlanned n c.boot_number.result c.last_number.result c.args.now c.args.head.now c.args.id c.args.change c.args.self.now p) node c.in_ok-planned.ensures)) in
+    λ k there made.
+    let mid = c.prepare.new.store in
+    let node = c.requires.head.0 in
+    let put = c.put_or_refuse.ensures in
+    does_all c.args.now c.args.id c.args.head.now k c.args.change c.args.self.now c.put_or_refuse.new.self c.args.store.now mid c.put_or_refuse.new.store c.in_ok-planned.planned
+    c.put_or_refuse.result c.in_ok-room.room c.in_ok-room.ensures.room c.in_ok-room.ensures.prepares there c.requires.now made node c.requires.serves plan put.puts put.answers put.up
+
+pub returns-clause-disk : goal.returns-clause-disk
+returns-clause-disk g c =
+    let s = c.args.store.now in
+    let p = c.in_ok-planned.planned in
+    let node : c.node.result ≡ s.node = search rules in
+    let boot : c.boot_number.result ≡ s.durable.boot = search rules in
+    let last : c.last_number.result ≡ s.drawn = search rules in
+    let plan : IsPlanned s.node s.durable.boot s.drawn c.args.now c.args.head.now c.args.id c.args.change c.args.self.now p =
+    subst (λ (n : ℕ). IsPlanned s.node s.durable.boot n c.args.now c.args.head.now c.args.id c.args.change c.args.self.now p) last
+    (subst (λ (n : ℕ). IsPlanned s.node n c.last_number.result c.args.now c.args.head.now c.args.id c.args.change c.args.self.now p) boot
+    (subst (λ (n : Node). IsPlanned n c.boot_number.result c.last_number.result c.args.now c.args.head.now c.args.id c.args.change c.args.self.now p) node c.in_ok-planned.ensures)) in
+    λ k there made.
+    let mid = c.prepare.new.store in
+    let put = c.put_or_refuse.ensures in
+    disk_all g.D.Disk.seen g.D.Disk.left_by g.D.Disk.size g.D.Disk.may_leave g.D.Disk.moment g.D.Disk.left_since g.D.Disk.faults g.D.Disk.own_faults g.D.Disk.calls g.D.Disk.setting g.D.Disk.limit c.args.now c.args.id c.args.head.now k c.args.change c.args.self.now c.put_or_refuse.new.self c.args.store.now mid c.put_or_refuse.new.store c.in_ok-planned.planned
+    c.put_or_refuse.result c.in_ok-room.room c.in_ok-room.ensures.room c.in_ok-room.ensures.prepares c.in_ok-room.ensures.disk c.in_ok-room.ensures.counts made plan put.disk put.answers put.up

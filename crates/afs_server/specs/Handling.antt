@@ -1,0 +1,103 @@
+-- What a call of a server's node gives.
+use Rattle.std.specs.Prelude.{◌≡◌, ◌≤◌, ◌+◌, ◌⊎◌, ℕ, List, [], ◌∷◌, ◌++◌, true, Option, Some, None, Result, Ok, Err, IsErrOf, OnOk}
+use Rattle.afs_history.specs.declared.lines.Line.{Line}
+use Rattle.afs_history.specs.declared.lines.Outs.{Outs}
+use Rattle.afs_server.specs.declared.faults.NodeFault.{NodeFault}
+use Rattle.afs_server.specs.declared.faults.NodeFault.TheVariants as faults
+use Rattle.afs_num.specs.declared.records.StoreRecord.{StoreRecord}
+use Rattle.afs_model.specs.Messages.{parcels_read, messages_spelled}
+use Rattle.afs_disk.specs.Disk.{PassesAll, Rose, Setting, Trips}
+use Rattle.afs_records.specs.Durable.{folded}
+use Rattle.afs_volstore.specs.Stores.{Store}
+use Rattle.afs_rows.specs.Callbacks as row
+use Rattle.afs_num.specs.declared.types.Head.{Head}
+use Rattle.afs_num.specs.declared.messages.Message.{Message}
+use Rattle.afs_rows.specs.ServerRow.{does, keeps, saves, record_of, Decision}
+use Rattle.afs_rows.specs.ServerSteps.{stepped}
+use Rattle.afs_rows.specs.States.{ServerState}
+use Rattle.afs_rows.specs.Steps.{Step}
+use Rattle.afs_server.specs.Seen.{Memory, state_seen, Serves}
+
+-- the calls that it serves
+abbrev pub calls_served : List ℕ
+calls_served = 130 ∷ 131 ∷ 132 ∷ 133 ∷ 134 ∷ 135 ∷ 136 ∷ 137 ∷ 138 ∷ 139 ∷ 140 ∷ 141 ∷ 142 ∷ 147 ∷ 149 ∷ 153 ∷ 155 ∷ []
+
+abbrev pub server_seen : {D : Type 0} → Memory → Store D → ServerState
+server_seen {D} m s = state_seen m s.durable s.drawn
+
+-- The step was made: the new state is its, and so is what was given out. Its lines are these and then the node's.
+pub record Makes {D : Type 0} (step : Step ServerState) (before : List Line) (m : Memory) (s : Store D) (outs : Outs) : Type 0 where
+  pub state : server_seen m s ≡ step.state
+  pub lines : before ++ outs.lines ≡ step.lines
+  pub sent : parcels_read outs.parcels ≡ messages_spelled step.sent
+
+-- what a store has besides what it keeps and has drawn is the same, but for the disk and for a record that was prepared
+abbrev pub SameStore : {D : Type 0} → Store D → Store D → Type 0
+SameStore {D} s t = t ≡ record s { disk = t.disk; prepared = t.prepared }
+
+-- the store's device call failed; it is closed until its disk is attached anew
+abbrev pub IsClosed : {D : Type 0} → Store D → Store D → Type 0
+IsClosed {D} s t = t ≡ record s { disk = t.disk; prepared = None; closed = true }
+
+-- The step was made; or memory was wanting, and the server and what its store keeps are as before; or the disk failed while
+-- the step's record was written, and what the server had in memory is gone.
+abbrev pub Handles : {D : Type 0} → Step ServerState → List Line → Memory → Memory → Store D → Store D → Result Outs NodeFault → Type 0
+Handles {D} step before old new s t (Ok outs) = Makes step before new t outs
+Handles {D} step before old new s t (Err faults.OutOfMemory) = (new ≡ old) × SameStore s t
+Handles {D} step before old new s t (Err faults.Down) = IsClosed s t
+
+-- A step was made that leaves what is on the disk as it is. Its callers are those of this state, these are its lines, and this
+-- turn is all that it does else; what a server and its store keep together stays so. Or memory was wanting, and all is as before.
+abbrev pub Steps : {D E : Type 0} → ServerState → List Line → row.Turn → Memory → Memory → Store D → Store D → Result Outs E → Type 0
+Steps {D} {E} state ls turn old new s t (Ok outs) =
+    Makes (stepped s.node state ls turn) [] new t outs × (Serves t.node new t.durable × (t ≡ record s { drawn = t.drawn }))
+Steps {D} {E} state ls turn old new s t (Err e) = (new ≡ old) × (t ≡ s)
+
+-- no call runs in it
+abbrev pub Turns : {D E : Type 0} → row.Turn → Memory → Memory → Store D → Store D → Result Outs E → Type 0
+Turns {D} {E} turn old new s t result = Steps (server_seen old s) turn.lines turn old new s t result
+
+-- a call runs in it, and this is its reply
+abbrev pub Answers : {D E : Type 0} → Head → Message → List Line → row.Turn → Memory → Memory → Store D → Store D → Result Outs E → Type 0
+Answers {D} {E} head reply ls turn old new s t result = Steps (keeps head reply (server_seen old s)) ls turn old new s t result
+
+-- A step's lines behind that of its place.
+abbrev pub lines_behind : List Line → List Line
+lines_behind [] = []
+lines_behind (l ∷ ls) = ls
+
+-- what is decided is done, where that leaves the disk as it is
+abbrev pub Does : {D E : Type 0} → ℕ → Decision → row.Turn → Memory → Memory → Store D → Store D → Result Outs E → Type 0
+Does {D} {E} clock d turn old new s t result =
+    Steps (does s.node (server_seen old s) clock 0 d []).state (lines_behind (does s.node (server_seen old s) clock 0 d turn.lines).lines) turn old new s t result
+
+-- ---- the disk
+
+-- the record that a step makes, if it makes one
+abbrev pub record_decided : ℕ → ℕ → Decision → Option StoreRecord
+record_decided boot clock (saves head c) = Some (record_of boot head clock c)
+record_decided boot clock d = None
+
+-- what the store keeps after a step that makes this record, or none
+abbrev pub IsDone : {D : Type 0} → Option StoreRecord → Store D → Store D → Type 0
+IsDone {D} None s t = (t.durable ≡ s.durable) × (t.count ≡ s.count)
+IsDone {D} (Some r) s t = (folded r s.durable ≡ Some t.durable) × (t.count ≡ s.count + 1)
+
+-- no device call was made: the step makes no record, or memory was wanting
+abbrev pub IsQuiet : {T : Type 0} → Option StoreRecord → Result T NodeFault → Type 0
+IsQuiet {T} None result = Unit {0}
+IsQuiet {T} (Some r) (Err faults.OutOfMemory) = Unit {0}
+IsQuiet {T} (Some r) result = ⊥
+
+-- the record was written, or begun
+abbrev pub IsWritten : {T : Type 0} → StoreRecord → Option StoreRecord → Result T NodeFault → Type 0
+IsWritten {T} r decided (Err faults.OutOfMemory) = ⊥
+IsWritten {T} r decided result = decided ≡ Some r
+
+-- The device calls of a step, the first behind this number and the last of that one. No count of faults falls; the node goes
+-- down only where one of them failed, as it was set to or by the disk itself.
+pub record Ran {T : Type 0} (setting : Setting) (first last before now own_before own_now : ℕ) (result : Result T NodeFault) : Type 0 where
+  pub never_falls : before ≤ now
+  pub own_never_falls : own_before ≤ own_now
+  pub down : IsErrOf result faults.Down → Rose before now × (Trips setting last ⊎ Rose own_before own_now)
+  pub passed : OnOk result (PassesAll setting first last)

@@ -1,0 +1,87 @@
+-- What a step does to its store: what is decided is done, with its record or without one.
+use Rattle.std.specs.Prelude.{◌≡◌, ◌≤◌, ◌+◌, ℕ, List, [], Bool, true, false, Option, Some, None, Result, Ok, Err, OnOk, length}
+use Rattle.afs_disk.specs.Disk.{LeavesOnly, SameDisk, Setting}
+use Rattle.afs_journal.specs.Log.{SameCounts}
+use Rattle.afs_journal.specs.Records.{whole_records}
+use Rattle.afs_history.specs.declared.lines.Line.{Line}
+use Rattle.afs_history.specs.declared.lines.Outs.{Outs}
+use Rattle.afs_num.specs.declared.records.StoreRecord.{StoreRecord}
+use Rattle.afs_num.specs.declared.types.Node.{Node}
+use Rattle.afs_records.specs.Durable.{folded, Durable}
+use Rattle.afs_records.specs.Records.{FitsRecord}
+use Rattle.afs_rows.specs.Callbacks as row
+use Rattle.afs_rows.specs.ServerRow.{begun_after, does, shows, Decision}
+use Rattle.afs_rows.specs.ServerSteps.{stepped}
+use Rattle.afs_rows.specs.States.{ServerState}
+use Rattle.afs_volstore.specs.Stores.{LeftAround, Store}
+use Rattle.afs_server.specs.Handling.{lines_behind, record_decided, server_seen, IsClosed, IsDone, IsQuiet, IsWritten, Makes, Ran, SameStore}
+use Rattle.afs_server.specs.Seen.{lasting_of, Memory, Serves}
+use Rattle.afs_server.specs.declared.faults.NodeFault.{NodeFault}
+use Rattle.afs_server.specs.declared.faults.NodeFault.TheVariants as faults
+
+-- ---- the disk
+
+-- a record is put on it by four calls
+abbrev pub calls_for : Option StoreRecord → ℕ
+calls_for None = 0
+calls_for (Some r) = 4
+
+-- What a step that has this record, or none, does to the disk of a store that keeps this. Without a record, or where memory was
+-- wanting, it leaves the disk alone; else a crash at any moment leaves what was kept before, or what is kept with the record.
+pub record OnDisk {D T : Type 0} (seen : D → Option (List ℕ)) (left_by : D → ℕ → Option (List ℕ)) (size : D → ℕ) (may_leave : D → List ℕ → Type 0) (moment : D → ℕ) (left_since : D → ℕ → List ℕ → Type 0)
+    (faults own_faults calls : D → ℕ) (setting : D → Setting) (limit : D → ℕ) (decided : Option StoreRecord) (d : Durable) (old new : D) (result : Result T NodeFault) : Type 0 where
+  pub quiet : IsQuiet decided result → SameDisk seen left_by size may_leave moment left_since old new × SameCounts faults own_faults calls setting limit old new
+  pub any_moment : (r : StoreRecord) → IsWritten r decided result → (bytes : List ℕ) → seen old ≡ Some bytes → LeavesOnly moment left_since old new (LeftAround (whole_records bytes) r d)
+  pub fits : (r : StoreRecord) → IsWritten r decided result → FitsRecord r
+  pub most : (calls old ≤ calls new) × (calls new ≤ calls old + 4)
+  pub limited : limit new ≡ limit old
+  pub called : OnOk result (calls new ≡ calls old + calls_for decided)
+  pub ran : Ran (setting old) (calls old) (calls new) (faults old) (faults new) (own_faults old) (own_faults new) result
+  pub set : setting new ≡ setting old
+
+-- no device call was made: no record was due, or memory was wanting
+abbrev pub IsStill : {T : Type 0} → Option StoreRecord → Result T NodeFault → Type 0
+IsStill {T} decided (Ok x) = decided ≡ None
+IsStill {T} decided (Err faults.OutOfMemory) = Unit {0}
+IsStill {T} decided (Err faults.Down) = ⊥
+
+-- ---- room
+
+-- the record is prepared, or there is no room for it; what else a store has is the same, but for the room of its disk
+abbrev pub Prepares : {D E : Type 0} → StoreRecord → Store D → Store D → Result Bool E → Type 0
+Prepares {D} {E} r s t (Ok true) = t ≡ record s { prepared = Some r; disk = t.disk }
+Prepares {D} {E} r s t (Ok false) = t ≡ record s { disk = t.disk }
+Prepares {D} {E} r s t (Err e) = t ≡ record s { disk = t.disk }
+
+-- the record is on the disk, and the store keeps what it says; or the disk failed
+abbrev pub Commits : {D T : Type 0} → StoreRecord → Store D → Store D → Result T NodeFault → Type 0
+Commits {D} {T} r s t (Ok x) = (t ≡ record s { durable = t.durable; disk = t.disk; prepared = None; count = s.count + 1 }) × (folded r s.durable ≡ Some t.durable)
+Commits {D} {T} r s t (Err faults.OutOfMemory) = ⊥
+Commits {D} {T} r s t (Err faults.Down) = IsClosed s t
+
+-- ---- the step
+
+-- no more promises are granted than a message has room for
+abbrev pub IsFew : Decision → Type 0
+IsFew (shows head r) = length r.granted ≤ 50
+IsFew d = Unit {0}
+
+-- what is left of a step that was made
+pub record IsMadeOf {D : Type 0} (clock : ℕ) (d : Decision) (turn : row.Turn) (old new : Memory) (s t : Store D) (outs : Outs) : Type 0 where
+  pub makes : Makes (stepped s.node (does s.node (server_seen old s) clock 0 d []).state (lines_behind (does s.node (server_seen old s) clock 0 d turn.lines).lines) turn) [] new t outs
+  pub serves : Serves t.node new t.durable
+  pub store : t ≡ record s { durable = t.durable; disk = t.disk; prepared = t.prepared; count = t.count; drawn = t.drawn }
+  pub done : IsDone (record_decided s.durable.boot clock d) s t
+  pub few : IsFew d
+
+-- A disk that keeps the record of the step keeps what the row leaves of it.
+pub record IsInterrupted {D : Type 0} (me : Node) (clock : ℕ) (d : Decision) (old : Memory) (s t : Store D) : Type 0 where
+  pub closed : IsClosed s t
+  pub some : record_decided s.durable.boot clock d ≡ None → ⊥
+  pub left : (r : StoreRecord) → record_decided s.durable.boot clock d ≡ Some r → (e : Durable) → folded r s.durable ≡ Some e → lasting_of e ≡ (begun_after me (server_seen old s) clock d).state.lasting
+
+-- what is decided is done, and then this; or memory was wanting, and all is as before; or the disk failed while the record was written
+abbrev pub DoesAll : {D : Type 0} → ℕ → Decision → row.Turn → Memory → Memory → Store D → Store D → Result Outs NodeFault → Type 0
+DoesAll {D} clock d turn old new s t (Ok outs) = IsMadeOf clock d turn old new s t outs
+DoesAll {D} clock d turn old new s t (Err faults.OutOfMemory) = (new ≡ old) × SameStore s t
+DoesAll {D} clock d turn old new s t (Err faults.Down) = IsInterrupted s.node clock d old s t

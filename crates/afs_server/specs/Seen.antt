@@ -1,0 +1,138 @@
+-- A file server in memory, and the state of its row that it stands for beside what its store keeps.
+use Rattle.std.specs.Prelude.{◌≡◌, ◌<◌, ◌+◌, ℕ, List, [], ◌∷◌, ◌++◌, map, length, Option, Some, None, IsSome}
+use Rattle.std.specs.Borrow.{Bor}
+use Rattle.std.specs.List.{All}
+use Rattle.std.specs.Option.{option_map}
+use Rattle.afs_num.specs.Nodes.{node_number, node_of, IsNode}
+use Rattle.afs_num.specs.declared.types.Key.{Key}
+use Rattle.afs_num.specs.declared.types.Node.{Node}
+use Rattle.afs_num.specs.declared.types.Node.TheVariants.{Loc}
+use Rattle.afs_ideal.specs.Tables.{Table}
+use Rattle.afs_records.specs.Durable as disk
+use Rattle.afs_records.specs.Durable.{Durable}
+use Rattle.afs_breaks.specs.declared.types.Promise.{Promise}
+use Rattle.afs_breaks.specs.Promises.{Lists, no_lists}
+use Rattle.afs_model.specs.Calls.{call_seat}
+use Rattle.afs_rows.specs.Callbacks as row
+use Rattle.afs_rows.specs.Callbacks.{first_backs, owe_line, risen_turn}
+use Rattle.afs_rows.specs.ServerSteps.{stepped}
+use Rattle.afs_rows.specs.Steps.{Step}
+use Rattle.afs_rows.specs.States.{Backs, Held, Lasting, Seat, ServerState}
+use Rattle.afs_server_parts.specs.Called.{call_to, calls_seen, known_to, AreGoodCalls, Called, Callee}
+use Rattle.afs_server_parts.specs.Kept.{reply_in}
+use Rattle.afs_server_parts.specs.Turning.{IsBreakToNode}
+
+-- ---- what the disk keeps
+
+abbrev pub or_loc : Option Node → Node
+or_loc None = Loc
+or_loc (Some n) = n
+
+abbrev pub seat_kept : ℕ × disk.Kept → Seat
+seat_kept p = record { caller = or_loc (node_of p.0); epoch = p.1.epoch; number = p.1.number; reply = reply_in (Some p.1.reply) }
+
+-- a kept reply's bytes as the message that is read in them
+abbrev pub lasting_of : Durable → Lasting
+lasting_of d = record {
+  boot = d.boot;
+  volumes = d.volumes;
+  stamps = d.stamps;
+  forwardings = d.forwardings;
+  kept = map seat_kept d.kept;
+  journal = d.journal;
+  capacity = d.capacity;
+}
+
+-- a kept reply is one to a node of the cell
+pub record IsToNode (p : ℕ × disk.Kept) : Type 0 where
+  pub caller : Node
+  pub numbered : node_of p.0 ≡ Some caller
+
+abbrev pub AreToNodes : Table disk.Kept → Type 0
+AreToNodes [] = Unit {0}
+AreToNodes (p ∷ ps) = IsToNode p × AreToNodes ps
+
+abbrev pub KeepsForNodes : Durable → Type 0
+KeepsForNodes d = AreToNodes d.kept
+
+-- ---- a caller's kept reply, by its key and its bytes, as it is found
+
+abbrev pub kept_found : Key × Bor (List ℕ) → ℕ × disk.Kept
+kept_found k = (node_number k.0.node, record { epoch = k.0.epoch; number = k.0.number; reply = k.1.now })
+
+-- its caller has no seat yet
+abbrev pub CanFollow : List Seat → Option (Key × Bor (List ℕ)) → Type 0
+CanFollow seats None = Unit {0}
+CanFollow seats (Some k) = IsSome (node_of (node_number k.0.node)) × (call_seat (or_loc (node_of (node_number k.0.node))) seats ≡ None)
+
+abbrev pub seats_after : List Seat → Option (Key × Bor (List ℕ)) → List Seat
+seats_after seats None = seats
+seats_after seats (Some k) = seats ++ seat_kept (kept_found k) ∷ []
+
+-- ---- the server
+
+pub record Memory : Type 0 where
+  pub boot : ℕ
+  pub seats : List Seat
+  pub lists : Lists
+  pub callees : List Callee
+  pub held : List Held
+
+-- in the first boot, with no callers, no promises and nothing owed
+abbrev pub first_memory : Memory
+first_memory = record { boot = 1; seats = []; lists = no_lists; callees = []; held = [] }
+
+-- with the last number of its own calls, which its store draws
+abbrev pub backs_seen : Memory → ℕ → Backs
+backs_seen m drawn = record { lists = m.lists; last_call = drawn; calls = calls_seen m.callees; known = known_to m.callees; held = m.held }
+
+-- and with what is on the disk
+abbrev pub state_seen : Memory → Durable → ℕ → ServerState
+state_seen m d drawn = record { lasting = lasting_of d; seats = m.seats; backs = backs_seen m drawn }
+
+-- the key of an unanswered call
+abbrev pub key_called : ℕ → Called → Key
+key_called boot c = record { node = c.server; epoch = boot; number = c.number }
+
+abbrev pub waits_by : Memory → Node → Option Key
+waits_by m n = option_map (key_called m.boot) (call_to m.callees n)
+
+-- ---- a restart
+
+-- its callers are those whose replies are kept
+abbrev pub begun_state : Durable → ServerState
+begun_state d = record { lasting = lasting_of d; seats = (lasting_of d).kept; backs = first_backs }
+
+-- with these breaks on all
+abbrev pub risen_with : Node → Lists → row.Turn
+risen_with me l = record { backs = record first_backs { lists = l }; lines = map (owe_line me) l.owed; sent = []; outs = [] }
+
+-- what a start does over a store that has begun its boot
+abbrev pub begun_step : Node → Durable → ℕ → ℕ → Step ServerState
+begun_step me d clock count = stepped me (begun_state d) (risen_turn me clock count).lines (risen_turn me clock count)
+
+-- ---- what a server and its store keep together
+
+-- The numbers that a server draws in memory stand below four billion: those of its own calls, and those of owed breaks with the
+-- promises that are held added to them.
+pub record CanDraw (m : Memory) (drawn : ℕ) : Type 0 where
+  pub calls : drawn < 4000000000
+  pub breaks : m.lists.last_owed + length m.lists.promises < 4000000000
+
+abbrev pub IsPromiseToNode : Promise → Type 0
+IsPromiseToNode p = IsNode p.client
+
+-- The server `me` is in the boot that its store keeps; what it promised, owes, calls and keeps is of nodes of the cell.
+pub record Serves (me : Node) (m : Memory) (d : Durable) : Type 0 where
+  pub node : IsNode me
+  pub boot : m.boot ≡ d.boot
+  pub kept : KeepsForNodes d
+  pub promises : All IsPromiseToNode m.lists.promises
+  pub owed : All IsBreakToNode m.lists.owed
+  pub calls : AreGoodCalls me m.callees
+
+-- what it promised, owes and calls is of nodes of the cell
+pub record IsToNodes (me : Node) (m : Memory) : Type 0 where
+  pub node : IsNode me
+  pub owed : All IsBreakToNode m.lists.owed
+  pub calls : AreGoodCalls me m.callees

@@ -1,0 +1,66 @@
+//! What is decided on a call is done.
+
+ghost use Rattle.std.specs.Prelude.{◌≡◌, ◌≤◌};
+ghost use Rattle.afs_model.specs.Calls.{call_seat, paired};
+ghost use Rattle.afs_model.specs.Heads.{IsSoundHead};
+ghost use Rattle.afs_rows.specs.Callbacks.{turn_for};
+ghost use Rattle.afs_rows.specs.Callbacks as row;
+ghost use Rattle.afs_rows.specs.ServerRow.{Decision};
+ghost use Rattle.afs_server.specs.Deciding.{CanBeTold, Decides, LeavesDisk, Runs};
+ghost use Rattle.afs_server.specs.Handling.{server_seen, Does};
+ghost use Rattle.afs_server.specs.Seen.{Serves};
+
+use crate::decided::Decided;
+use crate::server::FileServer;
+use afs_disk::Disk;
+use afs_history::lines::Outs;
+use afs_num::types::{Head, Mem};
+use afs_volstore::VolStore;
+
+impl FileServer {
+    /// What is decided on the call of this header is done, where that leaves the disk as it is.
+    pub(crate) fn answer<D: Disk>(
+        &mut self,
+        store: &mut VolStore<D>,
+        head: &Head,
+        decided: Decided,
+        now: u32,
+    ) -> Mem<Outs>
+        requires serves { Serves store.old.node self.old store.old.durable }
+        requires head { IsSoundHead head.now }
+        requires told { CanBeTold head.now.opcode decided }
+        requires runs { Runs decided (paired head.now.epoch head.now.number (call_seat head.now.from self.old.seats)) }
+        requires leaves { LeavesDisk decided }
+        requires now { now ≤ 1000000000 }
+        ensures { (d : Decision) → Decides (server_seen self.old store.old) now head.now d decided →
+            Does now d (turn_for store.old.node (server_seen self.old store.old) now (row.expired now (server_seen self.old store.old).backs) d) self.old self.new store.old store.new result }
+    {
+        match decided {
+            Decided::Drops => {
+                let outs = self.pass(store, now)?;
+                Ok(outs)
+            }
+            Decided::TellsBoot => {
+                let outs = self.tell_boot(store, head, now)?;
+                Ok(outs)
+            }
+            Decided::Repeats(reply) => {
+                let outs = self.repeat(store, reply, now)?;
+                Ok(outs)
+            }
+            Decided::Refuses(code) => {
+                let outs = self.refuse(store, head, code, now)?;
+                Ok(outs)
+            }
+            Decided::Shows(reply, grants) => {
+                let outs = self.show(store, head, reply, grants.as_slice(), now)?;
+                Ok(outs)
+            }
+            Decided::GivesUp(fids) => {
+                let outs = self.give_up(store, head, fids.as_slice(), now)?;
+                Ok(outs)
+            }
+            Decided::Changes(..) => unreachable!(),
+        }
+    }
+}

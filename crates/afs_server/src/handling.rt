@@ -1,0 +1,318 @@
+//! What a file server does with a message.
+
+ghost use Rattle.std.specs.Prelude.{◌≡◌, ◌≤◌, ◌+◌, ◌∷◌, [], ℕ, List, false, true, None, Some, length, IsErrOf, OnOk};
+ghost use Rattle.afs_num.specs.declared.messages.Received.TheVariants as receives;
+ghost use Rattle.afs_num.specs.declared.records.StoreRecord as records;
+ghost use Rattle.afs_disk.specs.Disk.{LeavesOnly, SameDisk};
+ghost use Rattle.afs_history.specs.declared.lines.Line.TheVariants as lines;
+ghost use Rattle.afs_journal.specs.Log.{SameCounts};
+ghost use Rattle.afs_journal.specs.Records.{whole_records};
+ghost use Rattle.afs_model.specs.Calls.{call_seat, paired};
+ghost use Rattle.afs_model.specs.Heads.{IsSoundHead};
+ghost use Rattle.afs_model.specs.Messages.{received_by, FindsMessages, HasSpelling, IsSoundReceived};
+ghost use Rattle.afs_records.specs.Durable.{folded, Durable};
+ghost use Rattle.afs_records.specs.Records.{FitsRecord};
+ghost use Rattle.afs_rows.specs.Callbacks as row;
+ghost use Rattle.afs_rows.specs.Callbacks.{no_turn, turn_for, turned_in};
+ghost use Rattle.afs_rows.specs.ServerRow.{begun_after, called, decides, device_calls, drops, Decision};
+ghost use Rattle.afs_rows.specs.ServerSteps.{server_row};
+ghost use Rattle.afs_volstore.specs.Stores.{LeftAround};
+ghost use Rattle.afs_server.specs.Deciding.{leaves_disk, CanBeTold, Decides, FitsDecided, IsByClient, IsUnder, Runs};
+ghost use Rattle.afs_server.specs.Handling.{calls_served, record_decided, server_seen, Handles, IsDone, IsQuiet, IsWritten, Ran};
+ghost use Rattle.afs_server.specs.Hearing.{answered_turn, noticed_turn};
+ghost use Rattle.afs_server.specs.Putting.{DoesAll, OnDisk};
+ghost use Rattle.afs_server.specs.Seen.{backs_seen, lasting_of, CanDraw, Serves};
+ghost use Rattle.afs_server.specs.declared.faults.NodeFault.TheVariants as faults;
+
+use crate::decided::Decided;
+use crate::deciding::CALLS;
+use crate::faults::NodeFault;
+use crate::server::FileServer;
+use afs_disk::Disk;
+use afs_history::lines::Outs;
+use afs_message::messages::read_message;
+use afs_num::messages::{Carried, Message, Received};
+use afs_num::types::Head;
+use afs_volstore::VolStore;
+
+/// Whether what is decided leaves the disk as it is.
+fn leaves_disk(decided: &Decided) -> bool
+    ensures { result ≡ leaves_disk decided.now }
+{
+    match decided {
+        Decided::Changes(..) => false,
+        _ => true,
+    }
+}
+
+impl FileServer {
+    /// What is decided on the call of this header is done, where that leaves the disk as it is.
+    fn take_answer<D: Disk>(
+        &mut self,
+        store: &mut VolStore<D>,
+        head: &Head,
+        decided: Decided,
+        now: u32,
+    ) -> Result<Outs, NodeFault>
+        requires leaves { leaves_disk decided ≡ true }
+        requires serves { Serves store.old.node self.old store.old.durable }
+        requires head { IsSoundHead head.now }
+        requires told { CanBeTold head.now.opcode decided }
+        requires fits { FitsDecided decided }
+        requires runs { Runs decided (paired head.now.epoch head.now.number (call_seat head.now.from self.old.seats)) }
+        requires now { now ≤ 1000000000 }
+        ensures does { (d : Decision) → Decides (server_seen self.old store.old) now head.now d decided →
+            DoesAll now d (turn_for store.old.node (server_seen self.old store.old) now (row.expired now (server_seen self.old store.old).backs) d) self.old self.new store.old store.new result }
+        ensures disk { (d : Decision) → Decides (server_seen self.old store.old) now head.now d decided →
+            OnDisk D.seen D.left_by D.size D.may_leave D.moment D.left_since D.faults D.own_faults D.calls D.setting D.limit (record_decided store.old.durable.boot now d) store.old.durable store.old.disk store.new.disk result }
+    {
+        let outs = self.answer(store, head, decided, now)?;
+        Ok(outs)
+    }
+
+    /// The change that is decided on is made.
+    fn take_change<D: Disk>(
+        &mut self,
+        store: &mut VolStore<D>,
+        head: &Head,
+        decided: Decided,
+        now: u32,
+    ) -> Result<Outs, NodeFault>
+        requires changes { leaves_disk decided ≡ false }
+        requires serves { Serves store.old.node self.old store.old.durable }
+        requires draws { CanDraw self.old store.old.drawn }
+        requires up { store.old.closed ≡ false }
+        requires head { IsSoundHead head.now }
+        requires decides { (d : Decision) × Decides (server_seen self.old store.old) now head.now d decided }
+        requires told { CanBeTold head.now.opcode decided }
+        requires fits { FitsDecided decided }
+        requires client { IsByClient head.now decided }
+        requires runs { Runs decided (paired head.now.epoch head.now.number (call_seat head.now.from self.old.seats)) }
+        requires now { now ≤ 1000000000 }
+        ensures does { (d : Decision) → Decides (server_seen self.old store.old) now head.now d decided →
+            DoesAll now d (turn_for store.old.node (server_seen self.old store.old) now (row.expired now (server_seen self.old store.old).backs) d) self.old self.new store.old store.new result }
+        ensures disk { (d : Decision) → Decides (server_seen self.old store.old) now head.now d decided →
+            OnDisk D.seen D.left_by D.size D.may_leave D.moment D.left_since D.faults D.own_faults D.calls D.setting D.limit (record_decided store.old.durable.boot now d) store.old.durable store.old.disk store.new.disk result }
+    {
+        match decided {
+            Decided::Changes(id, change) => self.save(store, head, id, change, now),
+            _other => unreachable!(),
+        }
+    }
+
+    /// What is decided on the call of this header is done.
+    fn take_decided<D: Disk>(
+        &mut self,
+        store: &mut VolStore<D>,
+        head: &Head,
+        decided: Decided,
+        now: u32,
+    ) -> Result<Outs, NodeFault>
+        requires serves { Serves store.old.node self.old store.old.durable }
+        requires draws { CanDraw self.old store.old.drawn }
+        requires up { store.old.closed ≡ false }
+        requires head { IsSoundHead head.now }
+        requires decides { (d : Decision) × Decides (server_seen self.old store.old) now head.now d decided }
+        requires told { CanBeTold head.now.opcode decided }
+        requires fits { FitsDecided decided }
+        requires client { IsByClient head.now decided }
+        requires runs { Runs decided (paired head.now.epoch head.now.number (call_seat head.now.from self.old.seats)) }
+        requires now { now ≤ 1000000000 }
+        ensures does { (d : Decision) → Decides (server_seen self.old store.old) now head.now d decided →
+            DoesAll now d (turn_for store.old.node (server_seen self.old store.old) now (row.expired now (server_seen self.old store.old).backs) d) self.old self.new store.old store.new result }
+        ensures disk { (d : Decision) → Decides (server_seen self.old store.old) now head.now d decided →
+            OnDisk D.seen D.left_by D.size D.may_leave D.moment D.left_since D.faults D.own_faults D.calls D.setting D.limit (record_decided store.old.durable.boot now d) store.old.durable store.old.disk store.new.disk result }
+    {
+        if leaves_disk(&decided) {
+            self.take_answer(store, head, decided, now)
+        } else {
+            self.take_change(store, head, decided, now)
+        }
+    }
+
+    /// A call has come, with this header.
+    fn take_call<D: Disk>(
+        &mut self,
+        store: &mut VolStore<D>,
+        head: &Head,
+        received: &Received,
+        now: u32,
+    ) -> Result<Outs, NodeFault>
+        requires serves { Serves store.old.node self.old store.old.durable }
+        requires draws { CanDraw self.old store.old.drawn }
+        requires up { store.old.closed ≡ false }
+        requires head { IsSoundHead head.now }
+        requires heard { IsUnder head.now received.now }
+        requires now { now ≤ 1000000000 }
+        ensures does { let d = called store.old.node (server_seen self.old store.old) now head.now received.now in
+            DoesAll now d (turn_for store.old.node (server_seen self.old store.old) now (row.expired now (server_seen self.old store.old).backs) d) self.old self.new store.old store.new result }
+        ensures disk { let d = called store.old.node (server_seen self.old store.old) now head.now received.now in
+            OnDisk D.seen D.left_by D.size D.may_leave D.moment D.left_since D.faults D.own_faults D.calls D.setting D.limit (record_decided store.old.durable.boot now d) store.old.durable store.old.disk store.new.disk result }
+    {
+        let decided = self.called(store, head, received, now)?;
+        self.take_decided(store, head, decided, now)
+    }
+
+    /// A message has come in which nothing can be read.
+    fn take_nothing<D: Disk>(
+        &mut self,
+        store: &mut VolStore<D>,
+        now: u32,
+    ) -> Result<Outs, NodeFault>
+        requires { Serves store.old.node self.old store.old.durable }
+        ensures does { DoesAll now drops (no_turn (row.expired now (backs_seen self.old store.old.drawn))) self.old self.new store.old store.new result }
+        ensures disk { OnDisk D.seen D.left_by D.size D.may_leave D.moment D.left_since D.faults D.own_faults D.calls D.setting D.limit None store.old.durable store.old.disk store.new.disk result }
+    {
+        let outs = self.pass(store, now)?;
+        Ok(outs)
+    }
+
+    /// A reply or a refusal has come, with this header.
+    fn take_reply<D: Disk>(
+        &mut self,
+        store: &mut VolStore<D>,
+        head: &Head,
+        now: u32,
+    ) -> Result<Outs, NodeFault>
+        requires { Serves store.old.node self.old store.old.durable }
+        ensures does { DoesAll now drops (answered_turn store.old.node store.old.durable.boot head.now (row.expired now (backs_seen self.old store.old.drawn))) self.old self.new store.old store.new result }
+        ensures disk { OnDisk D.seen D.left_by D.size D.may_leave D.moment D.left_since D.faults D.own_faults D.calls D.setting D.limit None store.old.durable store.old.disk store.new.disk result }
+    {
+        let outs = self.hear_answer(store, head, now)?;
+        Ok(outs)
+    }
+
+    /// A notice has come, with this header.
+    fn take_notice<D: Disk>(
+        &mut self,
+        store: &mut VolStore<D>,
+        head: &Head,
+        now: u32,
+    ) -> Result<Outs, NodeFault>
+        requires { Serves store.old.node self.old store.old.durable }
+        ensures does { DoesAll now drops (noticed_turn store.old.node store.old.durable.boot head.now (row.expired now (backs_seen self.old store.old.drawn))) self.old self.new store.old store.new result }
+        ensures disk { OnDisk D.seen D.left_by D.size D.may_leave D.moment D.left_since D.faults D.own_faults D.calls D.setting D.limit None store.old.durable store.old.disk store.new.disk result }
+    {
+        let outs = self.hear_notice(store, head, now)?;
+        Ok(outs)
+    }
+
+    /// A message has come that can be read, as this.
+    fn take_whole<D: Disk>(
+        &mut self,
+        store: &mut VolStore<D>,
+        received: &Received,
+        message: &Message,
+        now: u32,
+    ) -> Result<Outs, NodeFault>
+        requires serves { Serves store.old.node self.old store.old.durable }
+        requires draws { CanDraw self.old store.old.drawn }
+        requires up { store.old.closed ≡ false }
+        requires whole { received.now ≡ receives.Whole message.now }
+        requires sound { HasSpelling message.now }
+        requires now { now ≤ 1000000000 }
+        ensures does { let d = decides store.old.node (server_seen self.old store.old) now received.now in
+            DoesAll now d (turned_in store.old.node (server_seen self.old store.old) now (row.expired now (server_seen self.old store.old).backs) d received.now) self.old self.new store.old store.new result }
+        ensures disk { let d = decides store.old.node (server_seen self.old store.old) now received.now in
+            OnDisk D.seen D.left_by D.size D.may_leave D.moment D.left_since D.faults D.own_faults D.calls D.setting D.limit (record_decided store.old.durable.boot now d) store.old.durable store.old.disk store.new.disk result }
+    {
+        match &message.carried {
+            Carried::Call { .. } => { self.take_call(store, &message.head, received, now) }
+            Carried::Reply { .. } => self.take_reply(store, &message.head, now),
+            Carried::Refusal { .. } => self.take_reply(store, &message.head, now),
+            Carried::Notice => self.take_notice(store, &message.head, now),
+        }
+    }
+
+    /// This was found in the bytes of a message.
+    fn take<D: Disk>(
+        &mut self,
+        store: &mut VolStore<D>,
+        received: &Received,
+        now: u32,
+    ) -> Result<Outs, NodeFault>
+        requires serves { Serves store.old.node self.old store.old.durable }
+        requires draws { CanDraw self.old store.old.drawn }
+        requires up { store.old.closed ≡ false }
+        requires sound { IsSoundReceived received.now }
+        requires now { now ≤ 1000000000 }
+        ensures does { let d = decides store.old.node (server_seen self.old store.old) now received.now in
+            DoesAll now d (turned_in store.old.node (server_seen self.old store.old) now (row.expired now (server_seen self.old store.old).backs) d received.now) self.old self.new store.old store.new result }
+        ensures disk { let d = decides store.old.node (server_seen self.old store.old) now received.now in
+            OnDisk D.seen D.left_by D.size D.may_leave D.moment D.left_since D.faults D.own_faults D.calls D.setting D.limit (record_decided store.old.durable.boot now d) store.old.durable store.old.disk store.new.disk result }
+    {
+        match received {
+            Received::Nothing => self.take_nothing(store, now),
+            Received::Unserved { head } => { self.take_call(store, head, received, now) }
+            Received::Unreadable { head } => { self.take_call(store, head, received, now) }
+            Received::Whole { message } => { self.take_whole(store, received, message, now) }
+        }
+    }
+
+    /// These are the bytes of a message.
+    fn take_bytes<D: Disk>(
+        &mut self,
+        store: &mut VolStore<D>,
+        bytes: &[u8],
+        now: u32,
+    ) -> Result<Outs, NodeFault>
+        requires serves { Serves store.old.node self.old store.old.durable }
+        requires draws { CanDraw self.old store.old.drawn }
+        requires up { store.old.closed ≡ false }
+        requires now { now ≤ 1000000000 }
+        ensures does { let d = decides store.old.node (server_seen self.old store.old) now (received_by calls_served bytes.now) in
+            DoesAll now d (turned_in store.old.node (server_seen self.old store.old) now (row.expired now (server_seen self.old store.old).backs) d (received_by calls_served bytes.now)) self.old self.new store.old store.new result }
+        ensures disk { let d = decides store.old.node (server_seen self.old store.old) now (received_by calls_served bytes.now) in
+            OnDisk D.seen D.left_by D.size D.may_leave D.moment D.left_since D.faults D.own_faults D.calls D.setting D.limit (record_decided store.old.durable.boot now d) store.old.durable store.old.disk store.new.disk result }
+        ensures found { FindsMessages calls_served bytes.now }
+    {
+        let received = read_message(self.alloc, &CALLS, bytes)?;
+        self.take(store, &received, now)
+    }
+
+    /// What the server does with one message, at this time in ticks. It isn't told the message's place in the run, and
+    /// leaves out the line of that. A step makes at most one record. A server that goes down is to be thrown away: its
+    /// disk keeps what it kept before the step, or what it keeps after it.
+    pub fn handle<D: Disk>(
+        &mut self,
+        store: &mut VolStore<D>,
+        bytes: &[u8],
+        now: u32,
+    ) -> Result<Outs, NodeFault>
+        requires serves { Serves store.old.node self.old store.old.durable }
+        requires draws { CanDraw self.old store.old.drawn }
+        requires up { store.old.closed ≡ false }
+        requires now { now ≤ 1000000000 }
+        ensures step { (place : ℕ) → Handles (server_row store.old.node (server_seen self.old store.old) now place (received_by calls_served bytes.now)) (lines.Given place ∷ []) self.old self.new store.old store.new result }
+        ensures found { FindsMessages calls_served bytes.now }
+        ensures serves { OnOk result (Serves store.new.node self.new store.new.durable) }
+        ensures store { OnOk result (store.new ≡ record store.old { durable = store.new.durable; disk = store.new.disk; prepared = store.new.prepared; count = store.new.count; drawn = store.new.drawn }) }
+        ensures kept { OnOk result (IsDone (record_decided store.old.durable.boot now (decides store.old.node (server_seen self.old store.old) now (received_by calls_served bytes.now))) store.old store.new) }
+
+        // A step draws few numbers: one for a node, and one for a promise that it grants.
+        ensures draws { OnOk result ((store.new.drawn ≤ store.old.drawn + 204) × (self.new.lists.last_owed + length self.new.lists.promises ≤ self.old.lists.last_owed + length self.old.lists.promises + 50)) }
+
+        // Where the disk fails, what may be left with the record is what the row leaves behind it.
+        ensures down { IsErrOf result faults.Down → record_decided store.old.durable.boot now (decides store.old.node (server_seen self.old store.old) now (received_by calls_served bytes.now)) ≡ None → ⊥ }
+        ensures interrupted { IsErrOf result faults.Down → (r : records.StoreRecord) → record_decided store.old.durable.boot now (decides store.old.node (server_seen self.old store.old) now (received_by calls_served bytes.now)) ≡ Some r → (e : Durable) → folded r store.old.durable ≡ Some e
+            → lasting_of e ≡ (begun_after store.old.node (server_seen self.old store.old) now (decides store.old.node (server_seen self.old store.old) now (received_by calls_served bytes.now))).state.lasting }
+
+        // Without a record the disk is left alone.
+        ensures quiet { IsQuiet (record_decided store.old.durable.boot now (decides store.old.node (server_seen self.old store.old) now (received_by calls_served bytes.now))) result
+            → SameDisk D.seen D.left_by D.size D.may_leave D.moment D.left_since store.old.disk store.new.disk
+            × SameCounts D.faults D.own_faults D.calls D.setting D.limit store.old.disk store.new.disk }
+
+        // Else a crash at any moment leaves what was kept before, or what is kept with this record.
+        ensures any_moment { (r : records.StoreRecord) → IsWritten r (record_decided store.old.durable.boot now (decides store.old.node (server_seen self.old store.old) now (received_by calls_served bytes.now))) result
+            → (bytes : List ℕ) → D.seen store.old.disk ≡ Some bytes → LeavesOnly D.moment D.left_since store.old.disk store.new.disk (LeftAround (whole_records bytes) r store.old.durable) }
+
+        ensures fits { (r : records.StoreRecord) → IsWritten r (record_decided store.old.durable.boot now (decides store.old.node (server_seen self.old store.old) now (received_by calls_served bytes.now))) result → FitsRecord r }
+        ensures most { (D.calls store.old.disk ≤ D.calls store.new.disk) × (D.calls store.new.disk ≤ D.calls store.old.disk + 4) }
+        ensures limit { D.limit store.new.disk ≡ D.limit store.old.disk }
+        ensures calls { OnOk result (D.calls store.new.disk ≡ D.calls store.old.disk + device_calls (decides store.old.node (server_seen self.old store.old) now (received_by calls_served bytes.now))) }
+        ensures ran { Ran (D.setting store.old.disk) (D.calls store.old.disk) (D.calls store.new.disk) (D.faults store.old.disk) (D.faults store.new.disk) (D.own_faults store.old.disk) (D.own_faults store.new.disk) result }
+        ensures setting { D.setting store.new.disk ≡ D.setting store.old.disk }
+    {
+        self.take_bytes(store, bytes, now)
+    }
+}

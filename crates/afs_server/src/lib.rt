@@ -1,0 +1,22 @@
+//! The file server: what it does with a message, at a timeout, as time passes, and as it begins again. Each is a step of its
+//! row, over the store of its disk.
+#![tactic(auto)]
+
+mod answering;
+mod decided;
+mod deciding;
+mod doing;
+mod ending;
+pub mod faults;
+mod handling;
+mod hearing;
+mod node;
+mod putting;
+mod restoring;
+mod saving;
+mod server;
+mod several;
+mod showing;
+mod waiting;
+
+pub use server::FileServer;

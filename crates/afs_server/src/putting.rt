@@ -1,0 +1,198 @@
+//! The record of a change is put on the disk, and then the change is done.
+
+ghost use Rattle.std.specs.Prelude.{◌≡◌, ◌≤◌, ◌<◌, ◌+◌, [], Some, false, true, length, pos, IfOk, IsErrOf, IsSome};
+ghost use Rattle.afs_num.specs.declared.records.StoreRecord as records;
+ghost use Rattle.afs_disk.specs.Disk.{SameDisk};
+ghost use Rattle.afs_journal.specs.Log.{SameCounts};
+ghost use Rattle.afs_ideal.specs.Tables.{get};
+ghost use Rattle.afs_model.specs.Calls.{call_seat, paired, runs};
+ghost use Rattle.afs_model.specs.Heads.{IsSoundHead};
+ghost use Rattle.afs_records.specs.Durable.{folded, has_room};
+ghost use Rattle.afs_records.specs.Records.{FitsRecord};
+ghost use Rattle.afs_rows.specs.Callbacks as row;
+ghost use Rattle.afs_rows.specs.Callbacks.{turn_for};
+ghost use Rattle.afs_rows.specs.ServerRow as rows;
+ghost use Rattle.afs_rows.specs.ServerRow.{is_client, refusal, roomed};
+ghost use Rattle.afs_server_parts.specs.Kept.{IsSpelling};
+ghost use Rattle.afs_server.specs.Answering.{answer_turn};
+ghost use Rattle.afs_server.specs.Deciding.{CanBeTold, CanBeWritten, IsMade};
+ghost use Rattle.afs_server.specs.Handling.{record_decided, server_seen, Answers};
+ghost use Rattle.afs_server.specs.Putting.{Commits, DoesAll, OnDisk, Prepares};
+ghost use Rattle.afs_server.specs.Saving.{Puts};
+ghost use Rattle.afs_server.specs.Seen.{backs_seen, CanDraw, Serves};
+ghost use Rattle.afs_server.specs.declared.decided.Decided.TheVariants as decided;
+ghost use Rattle.afs_server.specs.declared.faults.NodeFault.TheVariants as faults;
+
+use crate::answering::keep_reply;
+use crate::faults::NodeFault;
+use crate::saving::{Planned, withdraw_lasting};
+use crate::server::FileServer;
+use afs_disk::Disk;
+use afs_history::lines::Outs;
+use afs_num::faults::StoreFault;
+use afs_num::records::StoreRecord;
+use afs_num::types::{Head, Mem};
+use afs_num::volumes::Change;
+use afs_volstore::VolStore;
+use std::alloc::AllocError;
+
+/// A promise lasts so many ticks.
+const PROMISE_TICKS: u32 = 7200;
+
+/// The record doesn't fit.
+const NO_ROOM: i32 = 108;
+
+/// Prepares a record where there is room for it.
+fn prepare<D: Disk>(store: &mut VolStore<D>, rec: &StoreRecord) -> Mem<bool>
+    requires fits { FitsRecord rec.now }
+    requires taken { IsSome (folded rec.now store.old.durable) }
+    requires up { store.old.closed ≡ false }
+    ensures room { IfOk result (λ b. b ≡ has_room store.old.durable rec.now) }
+    ensures prepares { Prepares rec.now store.old store.new result }
+    ensures disk { SameDisk D.seen D.left_by D.size D.may_leave D.moment D.left_since store.old.disk store.new.disk }
+    ensures counts { SameCounts D.faults D.own_faults D.calls D.setting D.limit store.old.disk store.new.disk }
+{
+    match store.prepare(rec) {
+        Ok(()) => Ok(true),
+        Err(StoreFault::Full(..)) => Ok(false),
+        Err(StoreFault::OutOfMemory) => Err(AllocError),
+        Err(_) => unreachable!(),
+    }
+}
+
+/// Puts the prepared record on the disk.
+fn commit<D: Disk>(store: &mut VolStore<D>) -> Result<(), NodeFault>
+    requires prepared { IsSome store.old.prepared }
+    requires fits { (r : records.StoreRecord) → store.old.prepared ≡ Some r → FitsRecord r }
+    requires up { store.old.closed ≡ false }
+    ensures commits { (r : records.StoreRecord) → store.old.prepared ≡ Some r → Commits r store.old store.new result }
+    ensures disk { (r : records.StoreRecord) → store.old.prepared ≡ Some r → OnDisk D.seen D.left_by D.size D.may_leave D.moment D.left_since D.faults D.own_faults D.calls D.setting D.limit (Some r) store.old.durable store.old.disk store.new.disk result }
+{
+    match store.commit() {
+        Ok(()) => Ok(()),
+        Err(_) => Err(NodeFault::Down),
+    }
+}
+
+impl FileServer {
+    /// The record of a change, which is prepared, is put on the disk, and then the rest of the change is done.
+    fn put<D: Disk>(
+        &mut self,
+        store: &mut VolStore<D>,
+        head: &Head,
+        planned: Planned,
+        now: u32,
+    ) -> Result<Outs, NodeFault>
+        requires runs { paired head.now.epoch head.now.number (call_seat head.now.from self.old.seats) ≡ runs }
+        requires draws { self.old.lists.last_owed + length self.old.lists.promises + length planned.granted ≤ 4000000000 }
+        requires drawn { store.old.drawn ≤ planned.ended.last }
+        requires spelling { IsSpelling planned.kept }
+        requires up { store.old.closed ≡ false }
+        requires prepared { store.old.prepared ≡ Some planned.rec }
+        requires fits { FitsRecord planned.rec }
+        requires now { now ≤ 1000000000 }
+        ensures puts { Puts head.now now planned self.old self.new store.old store.new result }
+        ensures disk { OnDisk D.seen D.left_by D.size D.may_leave D.moment D.left_since D.faults D.own_faults D.calls D.setting D.limit (Some planned.rec) store.old.durable store.old.disk store.new.disk result }
+    {
+        self.callers.reserve(1)?;
+        self.promises
+            .grant_all(head.from, planned.granted.as_slice(), now + PROMISE_TICKS)?;
+        commit(store)?;
+        let Planned {
+            ended,
+            kept,
+            rec: _,
+            changed,
+            granted: _,
+        } = planned;
+        keep_reply(&mut self.callers, head, kept);
+        withdraw_lasting(&mut self.promises, changed.as_slice(), head.from, now);
+        let outs = self.keep(store, ended);
+        Ok(outs)
+    }
+
+    /// The call of this header is refused, since there is no room for its record.
+    fn refuse_full<D: Disk>(
+        &mut self,
+        store: &mut VolStore<D>,
+        head: &Head,
+        now: u32,
+    ) -> Result<Outs, NodeFault>
+        requires serves { Serves store.old.node self.old store.old.durable }
+        requires head { IsSoundHead head.now }
+        requires runs { paired head.now.epoch head.now.number (call_seat head.now.from self.old.seats) ≡ runs }
+        ensures answers { Answers head.now (refusal store.old.durable.boot head.now (pos 108)) [] (answer_turn (refusal store.old.durable.boot head.now (pos 108)) [] false (row.expired now (backs_seen self.old store.old.drawn))) self.old self.new store.old store.new result }
+        ensures up { IsErrOf result faults.Down → ⊥ }
+    {
+        let outs = self.refuse(store, head, NO_ROOM, now)?;
+        Ok(outs)
+    }
+
+    /// What a change comes to is put on the disk where there is room for its record; else its call is refused.
+    fn put_or_refuse<D: Disk>(
+        &mut self,
+        store: &mut VolStore<D>,
+        head: &Head,
+        room: bool,
+        planned: Planned,
+        now: u32,
+    ) -> Result<Outs, NodeFault>
+        requires serves { Serves store.old.node self.old store.old.durable }
+        requires head { IsSoundHead head.now }
+        requires runs { paired head.now.epoch head.now.number (call_seat head.now.from self.old.seats) ≡ runs }
+        requires draws { self.old.lists.last_owed + length self.old.lists.promises + length planned.granted ≤ 4000000000 }
+        requires drawn { store.old.drawn ≤ planned.ended.last }
+        requires spelling { IsSpelling planned.kept }
+        requires up { store.old.closed ≡ false }
+        requires prepared { room ≡ true → store.old.prepared ≡ Some planned.rec }
+        requires fits { FitsRecord planned.rec }
+        requires now { now ≤ 1000000000 }
+        ensures puts { room ≡ true → Puts head.now now planned self.old self.new store.old store.new result }
+        ensures disk { room ≡ true → OnDisk D.seen D.left_by D.size D.may_leave D.moment D.left_since D.faults D.own_faults D.calls D.setting D.limit (Some planned.rec) store.old.durable store.old.disk store.new.disk result }
+        ensures answers { room ≡ false → Answers head.now (refusal store.old.durable.boot head.now (pos 108)) [] (answer_turn (refusal store.old.durable.boot head.now (pos 108)) [] false (row.expired now (backs_seen self.old store.old.drawn))) self.old self.new store.old store.new result }
+        ensures up { room ≡ false → IsErrOf result faults.Down → ⊥ }
+    {
+        if room {
+            self.put(store, head, planned, now)
+        } else {
+            self.refuse_full(store, head, now)
+        }
+    }
+
+    /// The call of this header makes this change of the volume of this number, where there is room for its record.
+    pub(crate) fn save<D: Disk>(
+        &mut self,
+        store: &mut VolStore<D>,
+        head: &Head,
+        id: u32,
+        change: Change,
+        now: u32,
+    ) -> Result<Outs, NodeFault>
+        requires serves { Serves store.old.node self.old store.old.durable }
+        requires draws { CanDraw self.old store.old.drawn }
+        requires up { store.old.closed ≡ false }
+        requires head { IsSoundHead head.now }
+        requires client { is_client head.now.from ≡ true }
+        requires runs { paired head.now.epoch head.now.number (call_seat head.now.from self.old.seats) ≡ runs }
+        requires told { CanBeTold head.now.opcode (decided.Changes id change) }
+        requires fits { CanBeWritten change }
+        requires made { (c : rows.Change) × ((get id store.old.durable.volumes ≡ Some c.before) × IsMade now id c change) }
+        requires now { now ≤ 1000000000 }
+        ensures does { (c : rows.Change) → get id store.old.durable.volumes ≡ Some c.before → IsMade now id c change →
+            DoesAll now (roomed (server_seen self.old store.old) now head.now c) (turn_for store.old.node (server_seen self.old store.old) now (row.expired now (server_seen self.old store.old).backs) (roomed (server_seen self.old store.old) now head.now c)) self.old self.new store.old store.new result }
+        ensures disk { (c : rows.Change) → get id store.old.durable.volumes ≡ Some c.before → IsMade now id c change →
+            OnDisk D.seen D.left_by D.size D.may_leave D.moment D.left_since D.faults D.own_faults D.calls D.setting D.limit (record_decided store.old.durable.boot now (roomed (server_seen self.old store.old) now head.now c)) store.old.durable store.old.disk store.new.disk result }
+    {
+        let planned = self.plan_change(
+            store.node(),
+            store.boot_number(),
+            store.last_number(),
+            head,
+            id,
+            change,
+            now,
+        )?;
+        let room = prepare(store, &planned.rec)?;
+        self.put_or_refuse(store, head, room, planned, now)
+    }
+}
