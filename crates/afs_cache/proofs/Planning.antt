@@ -1,13 +1,11 @@
 -- What is planned is the row's step.
-use Rattle.std.proofs.Common.{◌≡◌, ◌<◌, ◌+◌, ℕ, Bool, true, false, List, [], ◌∷◌, ◌++◌, map, filter, length, Option, Some, None, Result, Ok, Err, pos, refl, ap, sym, subst, ◌∙◌, append_assoc}
+use Rattle.std.proofs.Common.{◌≡◌, ◌+◌, ℕ, List, [], ◌∷◌, ◌++◌, map, length, Option, Some, None, Result, Ok, Err, pos, refl, ap, sym, subst, ◌∙◌, append_assoc}
 use Rattle.std.proofs.lemmas.List.{append-nil}
 use Rattle.std.specs.Prelude.{IfOk}
 use Rattle.afs_num.specs.Nodes.{IsNode}
 use Rattle.afs_num.specs.declared.types.Code.{Code}
 use Rattle.afs_num.specs.declared.types.Node.{Node}
 use Rattle.afs_num.specs.declared.types.Fid.{Fid}
-use Rattle.afs_num.specs.declared.calls.FsCall.{FsCall}
-use Rattle.afs_num.specs.declared.messages.Message.{Message}
 use Rattle.afs_history.specs.declared.lines.Line.{Line}
 use Rattle.afs_history.specs.declared.lines.Line.TheVariants as lines
 use Rattle.afs_history.specs.declared.lines.Outs.{Outs}
@@ -15,10 +13,9 @@ use Rattle.afs_model.specs.Messages.{parcels_read, messages_spelled}
 use Rattle.afs_rows.specs.States.{CacheEntry, Gift}
 use Rattle.afs_rows.specs.Going as going
 use Rattle.afs_rows.specs.Going.{ClientState, Going, Need, next}
-use Rattle.afs_rows.specs.ClientRow.{Look, Walked, call_by, callee_by, call_message, asking, calls_step, ends_step, ended, stays, looked, dropped, drop_line, goes_by, goes_on, walked, walks_on, gives_by, boot_of, put_entries}
+use Rattle.afs_rows.specs.ClientRow.{Look, Walked, call_by, callee_by, calls_step, ends_step, stays, looked, dropped, drop_line, goes_by, goes_on, gives_by, boot_of, put_entries}
 use Rattle.afs_rows.specs.Steps.{Step}
 use Rattle.afs_entries.specs.Cached.{Kept, touched_all}
-use Rattle.afs_acts.specs.Acts.{FitsNeed}
 use Rattle.afs_cache.specs.Asking.{Asking, code_of, is_giving}
 use Rattle.afs_model.specs.Steps.{NodeState}
 use Rattle.afs_cache.specs.Managing.{Makes}

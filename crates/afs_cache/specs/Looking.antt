@@ -7,7 +7,7 @@ use Rattle.afs_num.specs.declared.histories.ReadSource.TheVariants.{Cached}
 use Rattle.afs_history.specs.declared.lines.Line.{Line}
 use Rattle.afs_history.specs.declared.lines.Line.TheVariants as lines
 use Rattle.afs_rows.specs.States.{CacheEntry}
-use Rattle.afs_rows.specs.Going.{Need, next, reads, reads_status, with_read}
+use Rattle.afs_rows.specs.Going.{Need, reads, reads_status, with_read}
 use Rattle.afs_rows.specs.ClientRow.{Look, Walked, find_cached, is_trusted, look_at, looked, shown_by, walked}
 use Rattle.afs_acts.specs.Acts.{IsShortAct}
 use Rattle.afs_entries.specs.Cached.{touched_all}
