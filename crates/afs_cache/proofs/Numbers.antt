@@ -1,0 +1,373 @@
+-- What a step of a client leaves: its user, its table, how many entries it may hold and its epoch stay; and it draws one number
+-- at most.
+use Rattle.std.proofs.Common.{◌≡◌, ◌≤◌, ◌+◌, ℕ, Bool, true, false, cond, not, ◌&&◌, List, [], ◌∷◌, map, filter, Option, Some, None, Result, Ok, Err, refl, ap, ◌∙◌, arith}
+use Rattle.std.specs.Prelude.{nat_lt, OnOk}
+use Rattle.std.specs.List.{list_any}
+use Rattle.afs_num.specs.Nodes.{same_node}
+use Rattle.afs_num.specs.declared.types.Code.{Code}
+use Rattle.afs_num.specs.declared.types.Fid.{Fid}
+use Rattle.afs_num.specs.declared.types.Head.{Head}
+use Rattle.afs_num.specs.declared.types.Node.{Node}
+use Rattle.afs_num.specs.declared.calls.AfsCallBack.{AfsCallBack}
+use Rattle.afs_num.specs.declared.calls.AfsFetchStatus.{AfsFetchStatus}
+use Rattle.afs_num.specs.declared.calls.AfsVolSync.{AfsVolSync}
+use Rattle.afs_num.specs.declared.calls.FsCall.{FsCall}
+use Rattle.afs_num.specs.declared.calls.FsCall.TheVariants as calls
+use Rattle.afs_num.specs.declared.calls.FsReply.{FsReply}
+use Rattle.afs_num.specs.declared.calls.FsReply.TheVariants as replies
+use Rattle.afs_num.specs.declared.messages.Call.TheVariants as ask
+use Rattle.afs_num.specs.declared.messages.Carried.{Carried}
+use Rattle.afs_num.specs.declared.messages.Carried.TheVariants as carried
+use Rattle.afs_num.specs.declared.messages.Message.{Message}
+use Rattle.afs_num.specs.declared.messages.Received.{Received}
+use Rattle.afs_num.specs.declared.messages.Received.TheVariants.{Nothing, Unserved, Unreadable, Whole}
+use Rattle.afs_num.specs.declared.messages.Reply.TheVariants as tell
+use Rattle.afs_num.specs.declared.histories.ReadBody.{ReadBody}
+use Rattle.afs_num.specs.declared.histories.ReadBody.TheVariants as seen
+use Rattle.afs_num.specs.declared.histories.ReadSource.TheVariants.{Fetched}
+use Rattle.afs_history.specs.declared.acts.Act.{Act}
+use Rattle.afs_history.specs.declared.lines.Line.{Line}
+use Rattle.afs_history.specs.declared.lines.Line.TheVariants as lines
+use Rattle.afs_model.specs.Calls.{Admitted, admitted}
+use Rattle.afs_model.specs.Calls as pairs
+use Rattle.afs_rows.specs.States.{CacheEntry, Gift}
+use Rattle.afs_rows.specs.Going as going
+use Rattle.afs_rows.specs.Going.{ClientState, Going, Need, next, began, with_read}
+use Rattle.afs_rows.specs.ClientRow.{Look, calls_again, gift_of, in_order, look_at, looked, put_entries, put_entry, read_lines, status_look, trusted_in, untrusted_in, with_statuses, Walked, admits_call, awaits, begin_row, begins_by, behind_batch, body_told, breaks, call_of, called, client_row, counts, dropped, entries_told, entry_told, find_cached, gives_by, given, gives_up, goes_by, hears, is_awaited, is_below, is_busy_code, is_older, is_spent, is_trusted, most_busy, most_reads, refuses, runs_call, runs_carried, status_told, takes, takes_bulk, takes_data, takes_entries, takes_entry, takes_given, takes_in, takes_list, takes_set, takes_shown, takes_status, timeout_row, tries_again, walked, walks_on, whole}
+use Rattle.afs_rows.specs.Steps.{Step}
+use Rattle.afs_history.specs.declared.lines.Outs.{Outs}
+use Rattle.afs_model.specs.Steps.{NodeState}
+use Rattle.afs_cache.specs.Managing.{Answers, times_out}
+use Rattle.afs_cache.specs.Lasting.{lasting}
+
+-- what lasts stays, and the last number rises by one at most
+abbrev pub Rises : ClientState → Step ClientState → Type 0
+Rises c s = (lasting s.state ≡ lasting c) × (s.state.last ≤ c.last + 1)
+
+stays : (n : ℕ) → n ≤ n + 1
+stays n = omega arith
+
+rises : (n : ℕ) → n + 1 ≤ n + 1
+rises n = omega arith
+
+either : (c : ClientState) (b : Bool) (s t : Step ClientState) → Rises c s → Rises c t → Rises c (cond b s t)
+either c true s t h k = h
+either c false s t h k = k
+
+goes_by_rises : (me : Node) (c : ClientState) (front : List Line → List Line) (w : Walked) (need : Need) → Rises c (goes_by me c front w need)
+goes_by_rises me c front w (going.reads f) = (refl, rises c.last)
+goes_by_rises me c front w (going.reads_status f) = (refl, rises c.last)
+goes_by_rises me c front w (going.reads_statuses fs) = (refl, rises c.last)
+goes_by_rises me c front w (going.reads_rights f) = (refl, rises c.last)
+goes_by_rises me c front w (going.asks_for call) = (refl, rises c.last)
+goes_by_rises me c front w going.gives_back = (refl, rises c.last)
+goes_by_rises me c front w (going.answers n) = (refl, stays c.last)
+
+walks_rises : (me : Node) (c : ClientState) (clock : ℕ) (front : List Line → List Line) (act : Going) (cache : List CacheEntry) → Rises c (walks_on me c clock front act cache)
+walks_rises me c clock front act cache =
+    let w : Walked = walked (most_reads act) clock act cache in
+    goes_by_rises me c front w (next w.act)
+
+gives_rises : (me : Node) (c : ClientState) (front : List Line → List Line) (act : Going) (gifts : List Gift) → Rises c (gives_by me c front act gifts)
+gives_rises me c front act [] = (refl, stays c.last)
+gives_rises me c front act (g ∷ gs) = (refl, rises c.last)
+
+begins_rises : (me : Node) (c : ClientState) (clock : ℕ) (front : List Line → List Line) (act : Going) (need : Need) → Rises c (begins_by me c clock front act need)
+begins_rises me c clock front act (going.reads f) = walks_rises me c clock front act c.cache
+begins_rises me c clock front act (going.reads_status f) = walks_rises me c clock front act c.cache
+begins_rises me c clock front act (going.reads_statuses fs) = walks_rises me c clock front act c.cache
+begins_rises me c clock front act (going.reads_rights f) = walks_rises me c clock front act c.cache
+begins_rises me c clock front act (going.asks_for call) = walks_rises me c clock front act c.cache
+begins_rises me c clock front act going.gives_back =
+    gives_rises me (record c { cache = untrusted_in clock c.cache }) (λ ls. front (dropped me (trusted_in clock c.cache) ls)) act (in_order (map gift_of (trusted_in clock c.cache)))
+begins_rises me c clock front act (going.answers n) = walks_rises me c clock front act c.cache
+
+pub begin_rises : (me : Node) (c : ClientState) (clock : ℕ) (act : Act) → Rises c (begin_row me c clock act)
+unfolding begin_row
+begin_rises me c clock act = begins_rises me (record c { busy = 0 }) clock (λ ls. lines.Begin me act ∷ ls) (began c.table act) (next (began c.table act))
+
+-- ---- replies
+
+entry_rises : (me : Node) (c : ClientState) (clock place : ℕ) (act : Going) (entry : CacheEntry) (body : ReadBody) → Rises c (takes_entry me c clock place act entry body)
+entry_rises me c clock place act entry body =
+    let front : List Line → List Line = read_lines me place (look_at Fetched entry body) in
+    let going : Going = with_read entry.fid body act in
+    let cache : List CacheEntry = put_entry c.capacity entry c.cache in
+    either c (is_trusted clock entry) (walks_on me c clock front going cache) (calls_again me c place act) (walks_rises me c clock front going cache) (refl, rises c.last)
+
+entries_rise : (me : Node) (c : ClientState) (clock place : ℕ) (act : Going) (es : List CacheEntry) → Rises c (takes_entries me c clock place act es)
+entries_rise me c clock place act es =
+    let front : List Line → List Line = λ ls. given place (looked me (map status_look es) ls) in
+    let going : Going = with_statuses es act in
+    let cache : List CacheEntry = put_entries c.capacity es c.cache in
+    either c (list_any (λ (e : CacheEntry). not (is_trusted clock e)) es) (calls_again me c place act) (walks_on me c clock front going cache) (refl, rises c.last) (walks_rises me c clock front going cache)
+
+status_rises : (me : Node) (c : ClientState) (clock place : ℕ) (fid : Fid) (status : AfsFetchStatus) (call : FsCall) → Rises c (takes_status me c clock place fid status call)
+status_rises me c clock place fid status call = either c (not c.spoiled && is_below clock status.sync_counter (find_cached fid c.cache)) _ _ (refl, stays c.last) (refl, stays c.last)
+
+data_rises : (me : Node) (c : ClientState) (clock place : ℕ) (act : Going) (contents : List ℕ) (status : AfsFetchStatus) (callback : AfsCallBack) (sync : AfsVolSync) (call : FsCall) → Rises c (takes_data me c clock place act contents status callback sync call)
+data_rises me c clock place act contents status callback sync (calls.FetchData fid position wanted) =
+    entry_rises me c clock place act (entry_told c.callee fid status callback sync (Some (body_told status.file_type contents))) (seen.Contents (body_told status.file_type contents))
+data_rises me c clock place act contents status callback sync (calls.FetchAcl fid) = (refl, stays c.last)
+data_rises me c clock place act contents status callback sync (calls.FetchStatus fid) = (refl, stays c.last)
+data_rises me c clock place act contents status callback sync (calls.StoreData fid set position wanted file_length stored) = (refl, stays c.last)
+data_rises me c clock place act contents status callback sync (calls.StoreAcl fid acl) = (refl, stays c.last)
+data_rises me c clock place act contents status callback sync (calls.StoreStatus fid set) = (refl, stays c.last)
+data_rises me c clock place act contents status callback sync (calls.RemoveFile d n) = (refl, stays c.last)
+data_rises me c clock place act contents status callback sync (calls.CreateFile d n s) = (refl, stays c.last)
+data_rises me c clock place act contents status callback sync (calls.Rename d n e m) = (refl, stays c.last)
+data_rises me c clock place act contents status callback sync (calls.Symlink d n t s) = (refl, stays c.last)
+data_rises me c clock place act contents status callback sync (calls.Link d n f) = (refl, stays c.last)
+data_rises me c clock place act contents status callback sync (calls.MakeDir d n s) = (refl, stays c.last)
+data_rises me c clock place act contents status callback sync (calls.RemoveDir d n) = (refl, stays c.last)
+data_rises me c clock place act contents status callback sync (calls.GiveUpCallBacks fs cs) = (refl, stays c.last)
+data_rises me c clock place act contents status callback sync (calls.GetVolumeStatus v) = (refl, stays c.last)
+data_rises me c clock place act contents status callback sync calls.GetTime = (refl, stays c.last)
+data_rises me c clock place act contents status callback sync (calls.BulkStatus fs) = (refl, stays c.last)
+data_rises me c clock place act contents status callback sync (calls.CallBack fs cs) = (refl, stays c.last)
+data_rises me c clock place act contents status callback sync calls.InitCallBackState = (refl, stays c.last)
+data_rises me c clock place act contents status callback sync calls.Probe = (refl, stays c.last)
+
+shown_rises : (me : Node) (c : ClientState) (clock place : ℕ) (act : Going) (status : AfsFetchStatus) (callback : AfsCallBack) (sync : AfsVolSync) (call : FsCall) → Rises c (takes_shown me c clock place act status callback sync call)
+shown_rises me c clock place act status callback sync (calls.FetchData fid position wanted) = (refl, stays c.last)
+shown_rises me c clock place act status callback sync (calls.FetchAcl fid) = (refl, stays c.last)
+shown_rises me c clock place act status callback sync (calls.FetchStatus fid) = entry_rises me c clock place act (entry_told c.callee fid status callback sync None) (seen.Status (status_told status))
+shown_rises me c clock place act status callback sync (calls.StoreData fid set position wanted file_length contents) = (refl, stays c.last)
+shown_rises me c clock place act status callback sync (calls.StoreAcl fid acl) = (refl, stays c.last)
+shown_rises me c clock place act status callback sync (calls.StoreStatus fid set) = (refl, stays c.last)
+shown_rises me c clock place act status callback sync (calls.RemoveFile d n) = (refl, stays c.last)
+shown_rises me c clock place act status callback sync (calls.CreateFile d n s) = (refl, stays c.last)
+shown_rises me c clock place act status callback sync (calls.Rename d n e m) = (refl, stays c.last)
+shown_rises me c clock place act status callback sync (calls.Symlink d n t s) = (refl, stays c.last)
+shown_rises me c clock place act status callback sync (calls.Link d n f) = (refl, stays c.last)
+shown_rises me c clock place act status callback sync (calls.MakeDir d n s) = (refl, stays c.last)
+shown_rises me c clock place act status callback sync (calls.RemoveDir d n) = (refl, stays c.last)
+shown_rises me c clock place act status callback sync (calls.GiveUpCallBacks fs cs) = (refl, stays c.last)
+shown_rises me c clock place act status callback sync (calls.GetVolumeStatus v) = (refl, stays c.last)
+shown_rises me c clock place act status callback sync calls.GetTime = (refl, stays c.last)
+shown_rises me c clock place act status callback sync (calls.BulkStatus fs) = (refl, stays c.last)
+shown_rises me c clock place act status callback sync (calls.CallBack fs cs) = (refl, stays c.last)
+shown_rises me c clock place act status callback sync calls.InitCallBackState = (refl, stays c.last)
+shown_rises me c clock place act status callback sync calls.Probe = (refl, stays c.last)
+
+bulk_rises : (me : Node) (c : ClientState) (clock place : ℕ) (act : Going) (statuses : List AfsFetchStatus) (callbacks : List AfsCallBack) (sync : AfsVolSync) (call : FsCall) → Rises c (takes_bulk me c clock place act statuses callbacks sync call)
+bulk_rises me c clock place act statuses callbacks sync (calls.FetchData fid position wanted) = (refl, stays c.last)
+bulk_rises me c clock place act statuses callbacks sync (calls.FetchAcl fid) = (refl, stays c.last)
+bulk_rises me c clock place act statuses callbacks sync (calls.FetchStatus fid) = (refl, stays c.last)
+bulk_rises me c clock place act statuses callbacks sync (calls.StoreData fid set position wanted file_length contents) = (refl, stays c.last)
+bulk_rises me c clock place act statuses callbacks sync (calls.StoreAcl fid acl) = (refl, stays c.last)
+bulk_rises me c clock place act statuses callbacks sync (calls.StoreStatus fid set) = (refl, stays c.last)
+bulk_rises me c clock place act statuses callbacks sync (calls.RemoveFile d n) = (refl, stays c.last)
+bulk_rises me c clock place act statuses callbacks sync (calls.CreateFile d n s) = (refl, stays c.last)
+bulk_rises me c clock place act statuses callbacks sync (calls.Rename d n e m) = (refl, stays c.last)
+bulk_rises me c clock place act statuses callbacks sync (calls.Symlink d n t s) = (refl, stays c.last)
+bulk_rises me c clock place act statuses callbacks sync (calls.Link d n f) = (refl, stays c.last)
+bulk_rises me c clock place act statuses callbacks sync (calls.MakeDir d n s) = (refl, stays c.last)
+bulk_rises me c clock place act statuses callbacks sync (calls.RemoveDir d n) = (refl, stays c.last)
+bulk_rises me c clock place act statuses callbacks sync (calls.GiveUpCallBacks fs cs) = (refl, stays c.last)
+bulk_rises me c clock place act statuses callbacks sync (calls.GetVolumeStatus v) = (refl, stays c.last)
+bulk_rises me c clock place act statuses callbacks sync calls.GetTime = (refl, stays c.last)
+bulk_rises me c clock place act statuses callbacks sync (calls.BulkStatus fs) = entries_rise me c clock place act (entries_told c.callee sync fs statuses callbacks)
+bulk_rises me c clock place act statuses callbacks sync (calls.CallBack fs cs) = (refl, stays c.last)
+bulk_rises me c clock place act statuses callbacks sync calls.InitCallBackState = (refl, stays c.last)
+bulk_rises me c clock place act statuses callbacks sync calls.Probe = (refl, stays c.last)
+
+list_rises : (me : Node) (c : ClientState) (clock place : ℕ) (act : Going) (text : List ℕ) (status : AfsFetchStatus) (sync : AfsVolSync) (call : FsCall) → Rises c (takes_list me c clock place act text status sync call)
+list_rises me c clock place act text status sync (calls.FetchData fid position wanted) = (refl, stays c.last)
+list_rises me c clock place act text status sync (calls.FetchAcl fid) =
+    let look : Look = record { fid = fid; index = status.sync_counter; source = Fetched; body = seen.AccessList text } in
+    let older : CacheEntry → Bool = is_older fid status.sync_counter sync.release in
+    walks_rises me c clock (λ ls. read_lines me place look (dropped me (filter older c.cache) ls)) (with_read fid (seen.AccessList text) act) (filter (λ e. not (older e)) c.cache)
+list_rises me c clock place act text status sync (calls.FetchStatus fid) = (refl, stays c.last)
+list_rises me c clock place act text status sync (calls.StoreData fid set position wanted file_length contents) = (refl, stays c.last)
+list_rises me c clock place act text status sync (calls.StoreAcl fid acl) = (refl, stays c.last)
+list_rises me c clock place act text status sync (calls.StoreStatus fid set) = (refl, stays c.last)
+list_rises me c clock place act text status sync (calls.RemoveFile d n) = (refl, stays c.last)
+list_rises me c clock place act text status sync (calls.CreateFile d n s) = (refl, stays c.last)
+list_rises me c clock place act text status sync (calls.Rename d n e m) = (refl, stays c.last)
+list_rises me c clock place act text status sync (calls.Symlink d n t s) = (refl, stays c.last)
+list_rises me c clock place act text status sync (calls.Link d n f) = (refl, stays c.last)
+list_rises me c clock place act text status sync (calls.MakeDir d n s) = (refl, stays c.last)
+list_rises me c clock place act text status sync (calls.RemoveDir d n) = (refl, stays c.last)
+list_rises me c clock place act text status sync (calls.GiveUpCallBacks fs cs) = (refl, stays c.last)
+list_rises me c clock place act text status sync (calls.GetVolumeStatus v) = (refl, stays c.last)
+list_rises me c clock place act text status sync calls.GetTime = (refl, stays c.last)
+list_rises me c clock place act text status sync (calls.BulkStatus fs) = (refl, stays c.last)
+list_rises me c clock place act text status sync (calls.CallBack fs cs) = (refl, stays c.last)
+list_rises me c clock place act text status sync calls.InitCallBackState = (refl, stays c.last)
+list_rises me c clock place act text status sync calls.Probe = (refl, stays c.last)
+
+set_rises : (me : Node) (c : ClientState) (clock place : ℕ) (status : AfsFetchStatus) (call : FsCall) → Rises c (takes_set me c clock place status call)
+set_rises me c clock place status (calls.FetchData fid position wanted) = (refl, stays c.last)
+set_rises me c clock place status (calls.FetchAcl fid) = (refl, stays c.last)
+set_rises me c clock place status (calls.FetchStatus fid) = (refl, stays c.last)
+set_rises me c clock place status (calls.StoreData fid set position wanted file_length contents) = either c c.spoiled _ _ (refl, stays c.last) (refl, stays c.last)
+set_rises me c clock place status (calls.StoreAcl fid acl) = status_rises me c clock place fid status (calls.StoreAcl fid acl)
+set_rises me c clock place status (calls.StoreStatus fid set) = status_rises me c clock place fid status (calls.StoreStatus fid set)
+set_rises me c clock place status (calls.RemoveFile d n) = (refl, stays c.last)
+set_rises me c clock place status (calls.CreateFile d n s) = (refl, stays c.last)
+set_rises me c clock place status (calls.Rename d n e m) = (refl, stays c.last)
+set_rises me c clock place status (calls.Symlink d n t s) = (refl, stays c.last)
+set_rises me c clock place status (calls.Link d n f) = (refl, stays c.last)
+set_rises me c clock place status (calls.MakeDir d n s) = (refl, stays c.last)
+set_rises me c clock place status (calls.RemoveDir d n) = (refl, stays c.last)
+set_rises me c clock place status (calls.GiveUpCallBacks fs cs) = (refl, stays c.last)
+set_rises me c clock place status (calls.GetVolumeStatus v) = (refl, stays c.last)
+set_rises me c clock place status calls.GetTime = (refl, stays c.last)
+set_rises me c clock place status (calls.BulkStatus fs) = (refl, stays c.last)
+set_rises me c clock place status (calls.CallBack fs cs) = (refl, stays c.last)
+set_rises me c clock place status calls.InitCallBackState = (refl, stays c.last)
+set_rises me c clock place status calls.Probe = (refl, stays c.last)
+
+given_rises : (me : Node) (c : ClientState) (place : ℕ) (act : Going) (call : FsCall) → Rises c (takes_given me c place act call)
+given_rises me c place act (calls.FetchData fid position wanted) = (refl, stays c.last)
+given_rises me c place act (calls.FetchAcl fid) = (refl, stays c.last)
+given_rises me c place act (calls.FetchStatus fid) = (refl, stays c.last)
+given_rises me c place act (calls.StoreData fid set position wanted file_length contents) = (refl, stays c.last)
+given_rises me c place act (calls.StoreAcl fid acl) = (refl, stays c.last)
+given_rises me c place act (calls.StoreStatus fid set) = (refl, stays c.last)
+given_rises me c place act (calls.RemoveFile d n) = (refl, stays c.last)
+given_rises me c place act (calls.CreateFile d n s) = (refl, stays c.last)
+given_rises me c place act (calls.Rename d n e m) = (refl, stays c.last)
+given_rises me c place act (calls.Symlink d n t s) = (refl, stays c.last)
+given_rises me c place act (calls.Link d n f) = (refl, stays c.last)
+given_rises me c place act (calls.MakeDir d n s) = (refl, stays c.last)
+given_rises me c place act (calls.RemoveDir d n) = (refl, stays c.last)
+given_rises me c place act (calls.GiveUpCallBacks fs cs) = gives_rises me c (given place) act (behind_batch c.gifts)
+given_rises me c place act (calls.GetVolumeStatus v) = (refl, stays c.last)
+given_rises me c place act calls.GetTime = (refl, stays c.last)
+given_rises me c place act (calls.BulkStatus fs) = (refl, stays c.last)
+given_rises me c place act (calls.CallBack fs cs) = (refl, stays c.last)
+given_rises me c place act calls.InitCallBackState = (refl, stays c.last)
+given_rises me c place act calls.Probe = (refl, stays c.last)
+
+takes_rises : (me : Node) (c : ClientState) (clock place : ℕ) (act : Going) (call : FsCall) (reply : FsReply) → Rises c (takes me c clock place act call reply)
+takes_rises me c clock place act call (replies.FetchData contents status callback sync) = data_rises me c clock place act contents status callback sync call
+takes_rises me c clock place act call (replies.FetchAcl text status sync) = list_rises me c clock place act text status sync call
+takes_rises me c clock place act call (replies.FetchStatus status callback sync) = shown_rises me c clock place act status callback sync call
+takes_rises me c clock place act call (replies.StoreData status sync) = set_rises me c clock place status call
+takes_rises me c clock place act call (replies.StoreAcl status sync) = set_rises me c clock place status call
+takes_rises me c clock place act call (replies.StoreStatus status sync) = set_rises me c clock place status call
+takes_rises me c clock place act call (replies.RemoveFile x0 x1) = (refl, stays c.last)
+takes_rises me c clock place act call (replies.CreateFile x0 x1 x2 x3 x4) = (refl, stays c.last)
+takes_rises me c clock place act call (replies.Rename x0 x1 x2) = (refl, stays c.last)
+takes_rises me c clock place act call (replies.Symlink x0 x1 x2 x3) = (refl, stays c.last)
+takes_rises me c clock place act call (replies.Link x0 x1 x2) = (refl, stays c.last)
+takes_rises me c clock place act call (replies.MakeDir x0 x1 x2 x3 x4) = (refl, stays c.last)
+takes_rises me c clock place act call (replies.RemoveDir x0 x1) = (refl, stays c.last)
+takes_rises me c clock place act call replies.GiveUpCallBacks = given_rises me c place act call
+takes_rises me c clock place act call (replies.GetVolumeStatus x0 x1 x2 x3 x4) = (refl, stays c.last)
+takes_rises me c clock place act call (replies.GetTime x0 x1) = (refl, stays c.last)
+takes_rises me c clock place act call (replies.BulkStatus statuses callbacks sync) = bulk_rises me c clock place act statuses callbacks sync call
+takes_rises me c clock place act call replies.CallBack = (refl, stays c.last)
+takes_rises me c clock place act call replies.InitCallBackState = (refl, stays c.last)
+takes_rises me c clock place act call replies.Probe = (refl, stays c.last)
+
+refuses_rises : (me : Node) (c : ClientState) (place : ℕ) (act : Going) (code : Code) → Rises c (refuses me c place act code)
+refuses_rises me c place act code = either c (is_busy_code code && nat_lt c.busy most_busy) _ _ (refl, rises c.last) (refl, stays c.last)
+
+counts_rise : (me : Node) (c : ClientState) (clock place : ℕ) (act : Going) (head : Head) (x : Carried) → Rises c (counts me c clock place act head x)
+counts_rise me c clock place act head (carried.Call user call) = (refl, stays c.last)
+counts_rise me c clock place act head (carried.Refusal code) = either c (is_spent c act) _ _ (refl, rises c.last) (refuses_rises me c place act code)
+counts_rise me c clock place act head (carried.Reply (tell.File reply)) = either c (is_spent c act) _ _ (refl, rises c.last) (takes_rises me c clock place act (call_of c act) reply)
+counts_rise me c clock place act head (carried.Reply (tell.Volume reply)) = (refl, stays c.last)
+counts_rise me c clock place act head (carried.Reply (tell.Location reply)) = (refl, stays c.last)
+counts_rise me c clock place act head carried.Notice = (refl, stays c.last)
+
+awaits_rises : (me : Node) (c : ClientState) (clock place : ℕ) (head : Head) (x : Carried) (o : Option Going) → Rises c (awaits me c clock place head x o)
+awaits_rises me c clock place head x None = (refl, stays c.last)
+awaits_rises me c clock place head x (Some act) = either c (is_awaited c act head) _ _ (counts_rise me c clock place act head x) (refl, stays c.last)
+
+-- ---- calls of servers
+
+breaks_rise : (me : Node) (c : ClientState) (place : ℕ) (head : Head) (call : FsCall) → Rises c (breaks me c place head call)
+breaks_rise me c place head (calls.FetchData fid position wanted) = (refl, stays c.last)
+breaks_rise me c place head (calls.FetchAcl fid) = (refl, stays c.last)
+breaks_rise me c place head (calls.FetchStatus fid) = (refl, stays c.last)
+breaks_rise me c place head (calls.StoreData fid set position wanted file_length contents) = (refl, stays c.last)
+breaks_rise me c place head (calls.StoreAcl fid acl) = (refl, stays c.last)
+breaks_rise me c place head (calls.StoreStatus fid set) = (refl, stays c.last)
+breaks_rise me c place head (calls.RemoveFile d n) = (refl, stays c.last)
+breaks_rise me c place head (calls.CreateFile d n s) = (refl, stays c.last)
+breaks_rise me c place head (calls.Rename d n e m) = (refl, stays c.last)
+breaks_rise me c place head (calls.Symlink d n t s) = (refl, stays c.last)
+breaks_rise me c place head (calls.Link d n f) = (refl, stays c.last)
+breaks_rise me c place head (calls.MakeDir d n s) = (refl, stays c.last)
+breaks_rise me c place head (calls.RemoveDir d n) = (refl, stays c.last)
+breaks_rise me c place head (calls.GiveUpCallBacks fs cs) = (refl, stays c.last)
+breaks_rise me c place head (calls.GetVolumeStatus v) = (refl, stays c.last)
+breaks_rise me c place head calls.GetTime = (refl, stays c.last)
+breaks_rise me c place head (calls.BulkStatus fs) = (refl, stays c.last)
+breaks_rise me c place head (calls.CallBack fs cs) = (refl, stays c.last)
+breaks_rise me c place head calls.InitCallBackState = (refl, stays c.last)
+breaks_rise me c place head calls.Probe = (refl, stays c.last)
+
+carried_rises : (me : Node) (c : ClientState) (place : ℕ) (head : Head) (x : Carried) → Rises c (runs_carried me c place head x)
+carried_rises me c place head (carried.Call user (ask.File call)) = breaks_rise me c place head call
+carried_rises me c place head (carried.Call user (ask.Volume call)) = (refl, stays c.last)
+carried_rises me c place head (carried.Call user (ask.Location call)) = (refl, stays c.last)
+carried_rises me c place head (carried.Refusal code) = (refl, stays c.last)
+carried_rises me c place head (carried.Reply reply) = (refl, stays c.last)
+carried_rises me c place head carried.Notice = (refl, stays c.last)
+
+runs_rises : (me : Node) (c : ClientState) (place : ℕ) (head : Head) (r : Received) → Rises c (runs_call me c place head r)
+runs_rises me c place head Nothing = (refl, stays c.last)
+runs_rises me c place head (Unserved other) = (refl, stays c.last)
+runs_rises me c place head (Unreadable other) = (refl, stays c.last)
+runs_rises me c place head (Whole m) = carried_rises me c place head m.carried
+
+admits_rises : (me : Node) (c : ClientState) (place : ℕ) (head : Head) (r : Received) (a : Admitted Message) → Rises c (admits_call me c place head r a)
+admits_rises me c place head r pairs.runs = runs_rises me c place head r
+admits_rises me c place head r (pairs.kept reply) = (refl, stays c.last)
+admits_rises me c place head r pairs.in_progress = (refl, stays c.last)
+admits_rises me c place head r pairs.older = (refl, stays c.last)
+admits_rises me c place head r (pairs.wrong_boot boot) = (refl, stays c.last)
+
+called_rises : (me : Node) (c : ClientState) (place : ℕ) (head : Head) (r : Received) → Rises c (called me c place head r)
+called_rises me c place head r = admits_rises me c place head r (admitted c.epoch c.seats head)
+
+hears_rises : (me : Node) (c : ClientState) (clock place : ℕ) (head : Head) (x : Carried) → Rises c (hears me c clock place head x)
+hears_rises me c clock place head (carried.Call user call) = called_rises me c place head (whole head (carried.Call user call))
+hears_rises me c clock place head (carried.Refusal code) = awaits_rises me c clock place head (carried.Refusal code) c.running
+hears_rises me c clock place head (carried.Reply reply) = awaits_rises me c clock place head (carried.Reply reply) c.running
+hears_rises me c clock place head carried.Notice = awaits_rises me c clock place head carried.Notice c.running
+
+in_rises : (me : Node) (c : ClientState) (clock place : ℕ) (r : Received) → Rises c (takes_in me c clock place r)
+in_rises me c clock place Nothing = (refl, stays c.last)
+in_rises me c clock place (Unserved head) = either c (same_node head.to me) _ _ (called_rises me c place head (Unserved head)) (refl, stays c.last)
+in_rises me c clock place (Unreadable head) = either c (same_node head.to me) _ _ (called_rises me c place head (Unreadable head)) (refl, stays c.last)
+in_rises me c clock place (Whole m) = either c (same_node m.head.to me) _ _ (hears_rises me c clock place m.head m.carried) (refl, stays c.last)
+
+pub row_rises : (me : Node) (c : ClientState) (clock place : ℕ) (r : Received) → Rises c (client_row me c clock place r)
+unfolding client_row
+row_rises me c clock place r = in_rises me c clock place r
+
+-- ---- timeouts draw none
+
+abbrev pub Keeps : ClientState → Step ClientState → Type 0
+Keeps c s = (lasting s.state ≡ lasting c) × (s.state.last ≡ c.last)
+
+kept_by : (c : ClientState) (b : Bool) (s t : Step ClientState) → Keeps c s → Keeps c t → Keeps c (cond b s t)
+kept_by c true s t h k = h
+kept_by c false s t h k = k
+
+pub timeout_keeps : (me : Node) (c : ClientState) (act : Going) → Keeps c (timeout_row me c act)
+timeout_keeps me c act = kept_by c (nat_lt c.tries 2) (tries_again me c act) (gives_up me c (call_of c act)) (refl, refl) (refl, refl)
+
+pub times_out_keeps : (me : Node) (c : ClientState) (running : Option Going) → Keeps c (times_out me c running)
+times_out_keeps me c None = (refl, refl)
+times_out_keeps me c (Some act) = timeout_keeps me c act
+
+-- ---- what the calls of the program tell
+
+pub answers_rise : {E : Type 0} (step : Step ClientState) (old new : NodeState ClientState) (r : Result Outs E) → Rises old.state step → Answers step old new r → OnOk r (new.state.last ≤ old.state.last + 1)
+answers_rise step old new (Ok outs) h a = rw a.1.state h.1
+answers_rise step old new (Err e) h a = tt
+
+pub answers_keep : {E : Type 0} (step : Step ClientState) (old new : NodeState ClientState) (r : Result Outs E) → Keeps old.state step → Answers step old new r → OnOk r (new.state.last ≡ old.state.last)
+answers_keep step old new (Ok outs) h a = ap (λ (c : ClientState). c.last) a.1.state ∙ h.1
+answers_keep step old new (Err e) h a = tt
+
+pub answers_last : {E : Type 0} (step : Step ClientState) (old new : NodeState ClientState) (r : Result Outs E) → lasting step.state ≡ lasting old.state → Answers step old new r → lasting new.state ≡ lasting old.state
+answers_last step old new (Ok outs) h a = ap lasting a.1.state ∙ h
+answers_last step old new (Err e) h a = ap (λ (n : NodeState ClientState). lasting n.state) a

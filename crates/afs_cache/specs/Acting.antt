@@ -1,0 +1,110 @@
+-- What an act does next: it is planned while the client is as it was, and then done without memory.
+use Rattle.std.specs.Prelude.{◌≡◌, ◌<◌, ℕ, ◌+◌, List, [], ◌∷◌, ◌++◌, Bool, true, false, Option, Some, None, map}
+use Rattle.afs_num.specs.Nodes.{IsNode}
+use Rattle.afs_num.specs.declared.types.Head.{Head}
+use Rattle.afs_num.specs.declared.types.Half.TheVariants as halves
+use Rattle.afs_num.specs.declared.types.Node.{Node}
+use Rattle.afs_num.specs.declared.types.Node.TheVariants as nodes
+use Rattle.afs_num.specs.declared.calls.FsCall.{FsCall}
+use Rattle.afs_num.specs.declared.messages.Call.TheVariants as ask
+use Rattle.afs_num.specs.declared.messages.Message.{Message}
+use Rattle.afs_history.specs.declared.lines.Line.{Line}
+use Rattle.afs_history.specs.declared.lines.Outs.{Outs}
+use Rattle.afs_model.specs.FsRows.{call_number}
+use Rattle.afs_model.specs.Messages.{parcels_read, messages_spelled}
+use Rattle.afs_rows.specs.States.{CacheEntry, Gift, Location}
+use Rattle.afs_rows.specs.Going.{ClientState, Going, next}
+use Rattle.afs_rows.specs.ClientRow.{Walked, boot_of, call_by, drop_line, first_server_of, goes_on, most_reads, server_at, volume_asked, walked}
+use Rattle.afs_rows.specs.Steps.{Step}
+use Rattle.afs_entries.specs.Cached.{in_sight, left, listed, touched_all, unlisted}
+use Rattle.afs_entries.specs.declared.cache.Fresh.{Fresh}
+use Rattle.afs_entries.specs.declared.drops.Drops.{Drops}
+use Rattle.afs_entries.specs.declared.drops.Drops.TheVariants as drops
+use Rattle.afs_cache.specs.Asking.{calling, is_giving}
+use Rattle.afs_cache.specs.Managing.{Makes, number_limit}
+use Rattle.afs_cache.specs.declared.acting.Asks.{Asks}
+use Rattle.afs_cache.specs.declared.acting.Dropping.{Dropping}
+use Rattle.afs_cache.specs.declared.acting.Plan.{Plan}
+use Rattle.afs_cache.specs.declared.acting.Plan.TheVariants as plans
+use Rattle.afs_cache.specs.declared.acting.Way.{Way}
+
+-- ---- a call
+
+abbrev pub head_of : Node → ℕ → ℕ → Node → ℕ → FsCall → Head
+head_of me epoch number callee boot call = record { half = halves.Call; from = me; to = callee; epoch = epoch; number = number; boot = boot; stamp = 0; opcode = call_number call }
+
+-- the call under this number to this callee, in its boot
+abbrev pub sent_to : Node → ClientState → ℕ → Node → ℕ → FsCall → Message
+sent_to me c number callee boot call = calling (head_of me c.epoch number callee boot call) c.user (ask.File call)
+
+abbrev pub called_by : Bool → List Location → List Gift → FsCall → Node
+called_by true table gifts call = first_server_of gifts
+called_by false table gifts call = nodes.Server (server_at table (volume_asked call))
+
+-- an act has asked for what it needs, and told these lines
+pub record IsAsking (me : Node) (c : ClientState) (act : Going) (given : List Gift) (told : List Line) (a : Asks) : Type 0 where
+  pub going : a.asked.going ≡ act
+  pub gifts : a.asked.gifts ≡ given
+  pub callee : a.callee ≡ called_by (is_giving (next act)) c.table given (call_by given (next act))
+  pub node : IsNode a.callee
+  pub lines : a.outs.lines ≡ told
+  pub sent : parcels_read a.outs.parcels ≡ messages_spelled (sent_to me c (c.last + 1) a.callee (boot_of a.callee c.boots) (call_by given (next act)) ∷ [])
+
+-- ---- plans
+
+abbrev pub waiting : ClientState → Asks → ClientState
+waiting c a = record c { last = c.last + 1; tries = 0; running = Some a.asked.going; callee = a.callee; spoiled = false; gifts = a.asked.gifts }
+
+-- the state in which a plan leaves the client, and what is given out
+abbrev pub followed : ClientState → Plan → ClientState
+followed c (plans.Ends outs) = record c { running = None; gifts = [] }
+followed c (plans.Asks asks) = waiting c asks
+
+abbrev pub outs_of : Plan → Outs
+outs_of (plans.Ends outs) = outs
+outs_of (plans.Asks asks) = asks.outs
+
+-- a call is for a node, and has a number behind the last one
+abbrev pub CanFollow : ℕ → Plan → Type 0
+CanFollow last (plans.Ends outs) = Unit {0}
+CanFollow last (plans.Asks asks) = IsNode asks.callee × (last < number_limit)
+
+-- the entries of the volume that a call may change
+abbrev pub changed_in : Option ℕ → Drops
+changed_in None = drops.Nothing
+changed_in (Some volume) = drops.Volume volume
+
+-- the client as it is but for its cache, and for how often the act was told to wait
+abbrev pub but_for : ClientState → List CacheEntry → ℕ → ClientState
+but_for c cache busy = record c { cache = cache; busy = busy }
+
+-- a plan for this step behind lines that were told before, whatever the cache is by then
+abbrev pub PlansFor : (ClientState → (List Line → List Line) → Step ClientState) → List Line → ClientState → Plan → Type 0
+PlansFor step told c plan = (cache : List CacheEntry) (busy : ℕ) (first : List Line) → Makes (step (but_for c cache busy) (λ ls. first ++ (told ++ ls))) (followed (but_for c cache busy) plan) (λ ls. first ++ ls) (outs_of plan)
+
+-- where an act came along its walk from the cache, with another cache
+abbrev pub over : Walked → List CacheEntry → Walked
+over w cache = record w { cache = cache }
+
+-- ---- entries that go
+
+-- these entries are to go, and it was told behind these lines
+pub record IsDropping (me : Node) (cache : List CacheEntry) (d : Drops) (told : List Line) (x : Dropping) : Type 0 where
+  pub fids : x.fids.items ≡ listed d cache
+  pub rest : unlisted x.fids.items cache ≡ left d cache
+  pub lines : x.lines ≡ told ++ map (drop_line me) x.fids.items
+
+-- ---- ways
+
+-- the cache as it will be with an entry that comes
+abbrev pub seen_with : ClientState → Option Fresh → List CacheEntry
+seen_with c fresh = in_sight (record { entries = c.cache; capacity = c.capacity }) fresh
+
+abbrev pub whole_walk : ℕ → Going → List CacheEntry → Walked
+whole_walk clock act entries = walked (most_reads act) clock act entries
+
+-- an act walks as far as these entries show what it needs, behind lines that were told before, and this is planned then
+pub record IsWay (me : Node) (c : ClientState) (w : Walked) (entries : List CacheEntry) (told : List Line) (way : Way) : Type 0 where
+  pub used : touched_all way.used.items entries ≡ w.cache
+  pub plan : PlansFor (λ d front. goes_on me d front (over w d.cache)) told c way.plan
+  pub follows : CanFollow c.last way.plan

@@ -1,0 +1,62 @@
+-- The act that runs at a client, and its call, as the program keeps them.
+use Rattle.std.specs.Prelude.{◌≡◌, ◌≤◌, ℕ, Bool, true, false, List, [], length, Option, Some, None, pos}
+use Rattle.std.specs.List.{All}
+use Rattle.afs_num.specs.Nodes.{IsNode}
+use Rattle.afs_num.specs.declared.types.Code.{Code}
+use Rattle.afs_num.specs.declared.types.Head.{Head}
+use Rattle.afs_num.specs.declared.types.Node.{Node}
+use Rattle.afs_num.specs.declared.messages.Call.{Call}
+use Rattle.afs_num.specs.declared.messages.Call.TheVariants as ask
+use Rattle.afs_num.specs.declared.messages.Carried.TheVariants as carried
+use Rattle.afs_num.specs.declared.messages.Message.{Message}
+use Rattle.afs_model.specs.Heads.{user_limit}
+use Rattle.afs_rows.specs.Going.{Going, Need, answers, gives_back, next}
+use Rattle.afs_rows.specs.States.{Gift}
+use Rattle.afs_rows.specs.ClientRow.{call_by}
+use Rattle.afs_acts.specs.Acts.{IsShortAct}
+
+abbrev pub calling : Head → List ℕ → Call → Message
+calling head user call = record { head = head; carried = carried.Call user call }
+
+abbrev pub IsGift : Gift → Type 0
+IsGift g = IsNode g.server
+
+-- an act, and what it gives back still
+pub record Asking : Type 0 where
+  pub going : Going
+  pub gifts : List Gift
+
+abbrev pub is_giving : Need → Bool
+is_giving gives_back = true
+is_giving need = false
+
+-- the code with which an act is answered now
+abbrev pub code_of : Need → Option Code
+code_of (answers n) = Some (record { 0 = pos n })
+code_of need = None
+
+-- the call is the one for what it needs
+pub record IsAsked (going : Going) (gifts : List Gift) (call : Call) (giving : Bool) : Type 0 where
+  pub short : IsShortAct going.act
+  pub nodes : All IsGift gifts
+  pub is : call ≡ ask.File (call_by gifts (next going))
+  pub gives : giving ≡ is_giving (next going)
+
+abbrev pub running_of : Option Asking → Option Going
+running_of None = None
+running_of (Some a) = Some a.going
+
+abbrev pub gifts_of : Option Asking → List Gift
+gifts_of None = []
+gifts_of (Some a) = a.gifts
+
+-- the act that runs, and what it gives back still
+abbrev pub asking_of : Option Going → List Gift → Option Asking
+asking_of None gifts = None
+asking_of (Some act) gifts = Some (record { going = act; gifts = gifts })
+
+-- its messages have a spelling
+pub record FitsClient (me : Node) (name : List ℕ) (callee : Node) : Type 0 where
+  pub node : IsNode me
+  pub user : length name ≤ user_limit
+  pub server : IsNode callee

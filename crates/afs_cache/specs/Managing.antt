@@ -1,0 +1,53 @@
+-- What the calls of a cache manager promise.
+use Rattle.std.specs.Prelude.{◌≡◌, ℕ, List, [], ◌++◌, Option, Some, None, Result, Ok, Err}
+use Rattle.afs_history.specs.declared.lines.Line.{Line}
+use Rattle.afs_history.specs.declared.lines.Outs.{Outs}
+use Rattle.afs_num.specs.declared.types.Node.{Node}
+use Rattle.afs_num.specs.declared.types.Key.{Key}
+use Rattle.afs_model.specs.Messages.{parcels_read, messages_spelled}
+use Rattle.afs_model.specs.Steps.{NodeState}
+use Rattle.afs_rows.specs.Going.{ClientState, Going}
+use Rattle.afs_rows.specs.ClientRow.{call_of, gives_up, timeout_row}
+use Rattle.afs_rows.specs.Steps.{Step}
+
+-- the new state and what is given out are those of this step
+pub record Makes (step : Step ClientState) (new : ClientState) (front : List Line → List Line) (outs : Outs) : Type 0 where
+  pub state : new ≡ step.state
+  pub lines : front outs.lines ≡ step.lines
+  pub sent : parcels_read outs.parcels ≡ messages_spelled step.sent
+
+-- the client made this step; or memory was wanting, and it is as before
+abbrev pub Answers : {E : Type 0} → Step ClientState → NodeState ClientState → NodeState ClientState → Result Outs E → Type 0
+Answers step old new (Ok outs) = (new.node ≡ old.node) × Makes step new.state (λ ls. ls) outs
+Answers step old new (Err e) = new ≡ old
+
+-- the same behind lines that were told before, which the program has in hand; what comes before them (the act's begin, or that a message was given) the caller adds
+abbrev pub Goes : {E : Type 0} → ((List Line → List Line) → Step ClientState) → List Line → NodeState ClientState → NodeState ClientState → Result Outs E → Type 0
+Goes step told old new (Ok outs) = (new.node ≡ old.node) × ((first : List Line) → Makes (step (λ ls. first ++ (told ++ ls))) new.state (λ ls. first ++ ls) outs)
+Goes step told old new (Err e) = new ≡ old
+
+-- nothing happens
+abbrev pub rests : ClientState → Step ClientState
+rests c = record { state = c; lines = []; sent = [] }
+
+-- the unanswered call: whom it is for, and its key
+abbrev pub waits_by : Node → ClientState → Option Going → Option (Node × Key)
+waits_by me c None = None
+waits_by me c (Some act) = Some (c.callee, record { node = me; epoch = c.epoch; number = c.last })
+
+abbrev pub waits : NodeState ClientState → Option (Node × Key)
+waits c = waits_by c.node c.state c.state.running
+
+-- the step of a timeout; one is told only while a call waits
+abbrev pub times_out : Node → ClientState → Option Going → Step ClientState
+times_out me c None = rests c
+times_out me c (Some act) = timeout_row me c act
+
+-- the call that waits is given up
+abbrev pub given_up : Node → ClientState → Option Going → Step ClientState
+given_up me c None = rests c
+given_up me c (Some act) = gives_up me c (call_of c act)
+
+-- the numbers of calls stand below this one
+abbrev pub number_limit : ℕ
+number_limit = 4000000000

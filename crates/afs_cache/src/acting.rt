@@ -1,0 +1,391 @@
+//! How an act begins, goes on and is answered.
+//!
+//! What a step does is planned first, while the client is as it was; what changes then takes no memory.
+
+ghost use Rattle.std.specs.Prelude.{◌≡◌, ◌+◌, ◌<◌, [], ◌++◌, ◌∷◌, filter, map, Some, IfOk, OnOk};
+ghost use Rattle.std.specs.List.{All};
+ghost use Rattle.std.specs.Option.{option_copied};
+ghost use Rattle.afs_num.specs.Nodes.{IsNode};
+ghost use Rattle.afs_model.specs.Messages.{messages_spelled, parcels_read};
+ghost use Rattle.afs_rows.specs.Going.{began, next};
+ghost use Rattle.afs_rows.specs.ClientRow.{begin_row, begins_by, boot_of, call_by, calls_step, drop_line, dropped, ends_step, gift_of, gives_all, gives_by, goes_on, in_order, stays, trusted_in, walks_on};
+ghost use Rattle.afs_history.specs.declared.lines.Line.TheVariants as told;
+ghost use Rattle.afs_acts.specs.Acts.{IsShortAct};
+ghost use Rattle.afs_entries.specs.Cached.{drops_of, HasBody, left};
+ghost use Rattle.afs_cache.specs.Asking.{asking_of, IsGift, is_giving};
+ghost use Rattle.afs_cache.specs.Acting.{called_by, CanFollow, followed, head_of, IsAsking, IsDropping, IsWay, outs_of, PlansFor, seen_with, sent_to, whole_walk};
+ghost use Rattle.afs_cache.specs.Managing.{Answers, Goes, number_limit, rests};
+
+use crate::asked::{Asked, code_now, gives_now};
+use crate::calls::boot_of;
+use crate::looks::{Walked, walk};
+use crate::messages::{outs_calling, quiet};
+use crate::node::CacheManager;
+use afs_acts::{Going, copy_act, opcode, server_at, volume_asked};
+use afs_entries::{Drops, Fresh, Gift, Sight, first_server_of, in_order};
+use afs_history::acts::Act;
+use afs_history::lines::{Line, Lines, Outs};
+use afs_num::sequences::Sequence;
+use afs_num::types::{Code, Fid, Half, Head, Mem, Node};
+use std::alloc::Global;
+
+/// What an act asks: this node, with these messages.
+#[derive(Drop)]
+pub struct Asks {
+    pub asked: Asked,
+    pub callee: Node,
+    pub outs: Outs,
+}
+
+/// What an act does next: it is answered, or asks.
+#[derive(Drop)]
+pub enum Plan {
+    Ends(Outs),
+    Asks(Asks),
+}
+
+/// What an act does as far as the cache shows what it needs: these entries are used, and then it goes on.
+#[derive(Drop)]
+pub struct Way {
+    pub used: Vec<Fid>,
+    pub plan: Plan,
+}
+
+/// Entries that go: their fids, and the lines up to those that tell of them.
+#[derive(Drop)]
+pub struct Dropping {
+    pub fids: Vec<Fid>,
+    pub lines: Lines,
+}
+
+impl CacheManager {
+    /// Nothing happens.
+    pub(crate) fn ignore(&self) -> Mem<Outs>
+        ensures { Answers (rests self.now.state) self.now self.now result }
+    {
+        Ok(quiet(self.alloc, Sequence::new(self.alloc)))
+    }
+
+    /// The act that runs, with its call.
+    pub(crate) fn running(&self) -> Option<&Asked>
+        ensures { option_copied result ≡ asking_of self.now.state.running self.now.state.gifts }
+    {
+        match &self.asked {
+            Some(asked) => Some(asked),
+            None => None,
+        }
+    }
+
+    /// The header of a call under this number.
+    fn head(&self, number: u32, callee: Node, boot: u32, asked: &Asked) -> Head
+        ensures { result ≡ head_of self.now.node self.now.state.epoch number callee boot (call_by asked.now.gifts (next asked.now.going)) }
+    {
+        Head {
+            half: Half::Call,
+            from: self.node,
+            to: callee,
+            epoch: self.calls.epoch,
+            number,
+            boot,
+            stamp: 0,
+            opcode: opcode(asked.file_call()),
+        }
+    }
+
+    /// What is given out with the call of an act.
+    pub(crate) fn outs(
+        &self,
+        number: u32,
+        callee: Node,
+        boot: u32,
+        asked: &Asked,
+        lines: Lines,
+    ) -> Mem<Outs>
+        requires { IsNode callee }
+        ensures lines { IfOk result (λ o. o.lines ≡ lines) }
+        ensures sent { IfOk result (λ o. parcels_read o.parcels ≡ messages_spelled (sent_to self.now.node self.now.state number callee boot (call_by asked.now.gifts (next asked.now.going)) ∷ [])) }
+    {
+        let head = self.head(number, callee, boot, asked);
+        outs_calling(self.alloc, lines, &head, self.user.as_slice(), asked.call())
+    }
+
+    /// Whom an act asks.
+    fn callee(&self, asked: &Asked) -> Node
+        ensures value { result ≡ called_by (is_giving (next asked.now.going)) self.now.state.table asked.now.gifts (call_by asked.now.gifts (next asked.now.going)) }
+        ensures node { IsNode result }
+    {
+        if asked.gives_back() {
+            first_server_of(asked.gifts())
+        } else {
+            Node::Server(server_at(&self.table, volume_asked(asked.file_call())))
+        }
+    }
+
+    /// What is given out behind these lines with the first call of what was asked.
+    fn first_outs(&self, callee: Node, asked: &Asked, lines: Lines) -> Mem<Outs>
+        requires node { IsNode callee }
+        requires last { self.now.state.last < number_limit }
+        ensures lines { IfOk result (λ o. o.lines ≡ lines) }
+        ensures sent { IfOk result (λ o. parcels_read o.parcels ≡ messages_spelled (sent_to self.now.node self.now.state (self.now.state.last + 1) callee (boot_of callee self.now.state.boots) (call_by asked.now.gifts (next asked.now.going)) ∷ [])) }
+    {
+        let boot = boot_of(&callee, &self.boots);
+        self.outs(self.calls.last + 1, callee, boot, asked, lines)
+    }
+
+    /// Behind these lines an act asks what it needs.
+    fn asks(&self, going: Going, gifts: Vec<Gift>, lines: Lines) -> Mem<Asks>
+        requires short { IsShortAct going.act }
+        requires nodes { All IsGift gifts.items }
+        requires last { self.now.state.last < number_limit }
+        ensures { IfOk result (λ a. IsAsking self.now.node self.now.state going gifts.items lines a) }
+    {
+        let asked = Asked::new(self.alloc, going, gifts)?;
+        let callee = self.callee(&asked);
+        let outs = self.first_outs(callee, &asked, lines)?;
+        Ok(Asks {
+            asked,
+            callee,
+            outs,
+        })
+    }
+
+    fn plan_asking(&self, going: Going, gifts: Vec<Gift>, lines: Lines) -> Mem<Plan>
+        requires short { IsShortAct going.act }
+        requires nodes { All IsGift gifts.items }
+        requires last { self.now.state.last < number_limit }
+        ensures plan { IfOk result (λ p. PlansFor (λ d front. calls_step self.now.node (record d { gifts = gifts.items }) going front) lines self.now.state p) }
+        ensures follows { IfOk result (CanFollow self.now.state.last) }
+    {
+        let asks = self.asks(going, gifts, lines)?;
+        Ok(Plan::Asks(asks))
+    }
+
+    /// Behind these lines an act is answered.
+    pub(crate) fn plan_ending(&self, code: Code, lines: Lines) -> Mem<Plan>
+        ensures plan { IfOk result (λ p. PlansFor (λ d front. ends_step self.now.node d d.cache front code) lines self.now.state p) }
+        ensures follows { IfOk result (CanFollow self.now.state.last) }
+    {
+        let mut lines = lines;
+        lines.push(Line::Answer {
+            node: self.node,
+            code,
+        })?;
+        Ok(Plan::Ends(quiet(self.alloc, lines)))
+    }
+
+    /// What the act that runs gives back still.
+    fn copy_gifts(&self) -> Mem<Vec<Gift>>
+        ensures value { IfOk result (λ gs. gs.items ≡ self.now.state.gifts) }
+        ensures nodes { IfOk result (λ gs. All IsGift gs.items) }
+    {
+        match &self.asked {
+            Some(asked) => asked.copy_gifts(self.alloc),
+            None => Ok(Vec::new(self.alloc)),
+        }
+    }
+
+    /// Behind these lines an act asks, and what it gives back still stays.
+    fn plan_next(&self, going: Going, lines: Lines) -> Mem<Plan>
+        requires short { IsShortAct going.act }
+        requires last { self.now.state.last < number_limit }
+        ensures plan { IfOk result (λ p. PlansFor (λ d front. calls_step self.now.node (record d { gifts = self.now.state.gifts }) going front) lines self.now.state p) }
+        ensures follows { IfOk result (CanFollow self.now.state.last) }
+    {
+        let gifts = self.copy_gifts()?;
+        self.plan_asking(going, gifts, lines)
+    }
+
+    /// Behind these lines an act has come so far: it is answered, or asks.
+    pub(crate) fn plan(&self, going: Going, lines: Lines) -> Mem<Plan>
+        requires short { IsShortAct going.act }
+        requires last { self.now.state.last < number_limit }
+        ensures plan { IfOk result (λ p. PlansFor (λ d front. goes_on self.now.node d front (stays going d.cache)) lines self.now.state p) }
+        ensures follows { IfOk result (CanFollow self.now.state.last) }
+    {
+        match code_now(self.alloc, &going)? {
+            Some(code) => self.plan_ending(code, lines),
+            None => self.plan_next(going, lines),
+        }
+    }
+
+    /// Behind these lines these promises are given back, or all of them were.
+    pub(crate) fn plan_giving(&self, going: Going, gifts: Vec<Gift>, lines: Lines) -> Mem<Plan>
+        requires short { IsShortAct going.act }
+        requires nodes { All IsGift gifts.items }
+        requires last { self.now.state.last < number_limit }
+        ensures plan { IfOk result (λ p. PlansFor (λ d front. gives_by self.now.node d front going gifts.items) lines self.now.state p) }
+        ensures follows { IfOk result (CanFollow self.now.state.last) }
+    {
+        if gifts.is_empty() {
+            self.plan_ending(Code(0), lines)
+        } else {
+            self.plan_asking(going, gifts, lines)
+        }
+    }
+
+    /// The act waits for what it asked.
+    fn wait(&mut self, asks: Asks) -> Outs
+        requires node { IsNode asks.callee }
+        requires last { self.old.state.last < number_limit }
+        ensures outs { result ≡ asks.outs }
+        ensures node { self.new.node ≡ self.old.node }
+        ensures state { self.new.state ≡ followed self.old.state (Plan.Asks asks) }
+    {
+        let Asks {
+            asked,
+            callee,
+            outs,
+        } = asks;
+        self.calls.start(callee);
+        self.asked = Some(asked);
+        outs
+    }
+
+    /// What was planned is done. It takes no memory.
+    pub(crate) fn follow(&mut self, plan: Plan) -> Outs
+        requires { CanFollow self.old.state.last plan }
+        ensures outs { result ≡ outs_of plan }
+        ensures node { self.new.node ≡ self.old.node }
+        ensures state { self.new.state ≡ followed self.old.state plan }
+    {
+        match plan {
+            Plan::Ends(outs) => {
+                self.asked = None;
+                outs
+            }
+            Plan::Asks(asks) => self.wait(asks),
+        }
+    }
+
+    /// An act goes on as far as the cache shows what it needs, behind these lines. The cache may be seen as it will be
+    /// with an entry that comes.
+    fn way(&self, fresh: Option<&Fresh>, going: Going, lines: Lines, now: u32) -> Mem<Way>
+        requires body { HasBody (option_copied fresh) }
+        requires short { IsShortAct going.act }
+        requires last { self.now.state.last < number_limit }
+        ensures { IfOk result (λ w. IsWay self.now.node self.now.state (whole_walk now going (seen_with self.now.state (option_copied fresh.entry))) (seen_with self.now.state (option_copied fresh.entry)) lines w) }
+    {
+        let mut lines = lines;
+        let sight = Sight {
+            cache: &self.cache,
+            fresh,
+        };
+        let Walked { going, used } = walk(self.alloc, self.node, sight, now, going, &mut lines)?;
+        let plan = self.plan(going, lines)?;
+        Ok(Way { used, plan })
+    }
+
+    /// An act begins to walk, behind these lines.
+    fn begin_walking(&mut self, going: Going, lines: Lines, now: u32) -> Mem<Outs>
+        requires short { IsShortAct going.act }
+        requires last { self.old.state.last < number_limit }
+        ensures { Goes (λ front. walks_on self.old.node (record self.old.state { busy = 0 }) now front going self.old.state.cache) lines self.old self.new result }
+    {
+        let Way { used, plan } = self.way(None, going, lines, now)?;
+        self.cache.touch_all(&used);
+        self.busy = 0;
+        Ok(self.follow(plan))
+    }
+
+    /// Tells of entries that are given up.
+    pub(crate) fn tell_dropped(&self, fids: &[Fid], lines: &mut Lines) -> Mem<()>
+        ensures { OnOk result (lines.new ≡ lines.old ++ map (drop_line self.now.node) fids.now) }
+    {
+        for fid in fids {
+            lines.push(Line::Drop {
+                client: self.node,
+                fid: *fid,
+            })?;
+        }
+        Ok(())
+    }
+
+    /// Behind these lines it is told that entries go.
+    pub(crate) fn dropping(&self, drops: &Drops, lines: Lines) -> Mem<Dropping>
+        ensures { IfOk result (IsDropping self.now.node self.now.state.cache drops.now lines) }
+    {
+        let mut lines = lines;
+        let fids = self.cache.listed(self.alloc, drops)?;
+        self.tell_dropped(&fids, &mut lines)?;
+        Ok(Dropping { fids, lines })
+    }
+
+    /// Behind these lines entries are given up, and the act is answered.
+    pub(crate) fn end_dropping(&mut self, drops: &Drops, lines: Lines, code: Code) -> Mem<Outs>
+        ensures { Goes (λ front. ends_step self.old.node self.old.state (left drops.now self.old.state.cache) (λ ls. front (dropped self.old.node (filter (drops_of drops.now) self.old.state.cache) ls)) code) lines self.old self.new result }
+    {
+        let Dropping { fids, lines } = self.dropping(drops, lines)?;
+        let plan = self.plan_ending(code, lines)?;
+        self.cache.drop_all(&fids);
+        Ok(self.follow(plan))
+    }
+
+    /// The promises that can be given back now, in the order of their servers.
+    fn promised(&self, now: u32) -> Mem<Vec<Gift>>
+        ensures value { IfOk result (λ gs. gs.items ≡ in_order (map gift_of (trusted_in now self.now.state.cache))) }
+        ensures nodes { IfOk result (λ gs. All IsGift gs.items) }
+    {
+        let promised = self.cache.promised(self.alloc, now)?;
+        in_order(self.alloc, &promised)
+    }
+
+    /// All entries that are trusted go, and then their servers are told.
+    fn begin_giving(&mut self, going: Going, lines: Lines, now: u32) -> Mem<Outs>
+        requires short { IsShortAct going.act }
+        requires last { self.old.state.last < number_limit }
+        ensures { Goes (λ front. gives_all self.old.node (record self.old.state { busy = 0 }) now going front) lines self.old self.new result }
+    {
+        let gifts = self.promised(now)?;
+        let Dropping { fids, lines } = self.dropping(&Drops::Trusted(now), lines)?;
+        let plan = self.plan_giving(going, gifts, lines)?;
+        self.cache.drop_all(&fids);
+        self.busy = 0;
+        Ok(self.follow(plan))
+    }
+
+    /// The line of an act that begins.
+    fn begin_lines(&self, act: &Act) -> Mem<Lines>
+        ensures { IfOk result (λ ls. ls ≡ told.Begin self.now.node act.now ∷ []) }
+    {
+        let mut lines = Sequence::new(self.alloc);
+        lines.push(Line::Begin {
+            node: self.node,
+            act: copy_act(self.alloc, act)?,
+        })?;
+        Ok(lines)
+    }
+
+    /// An act that has read nothing yet.
+    fn began(&self, act: &Act) -> Mem<Going>
+        requires { IsShortAct act.now }
+        ensures value { IfOk result (λ g. g ≡ began self.now.state.table act.now) }
+        ensures short { IfOk result (λ g. IsShortAct g.act) }
+    {
+        Going::began(self.alloc, &self.table, act)
+    }
+
+    /// What an act does first, behind the line of its begin.
+    fn begin_going(&mut self, going: Going, lines: Lines, now: u32) -> Mem<Outs>
+        requires short { IsShortAct going.act }
+        requires last { self.old.state.last < number_limit }
+        ensures { Goes (λ front. begins_by self.old.node (record self.old.state { busy = 0 }) now front going (next going)) lines self.old self.new result }
+    {
+        let gives = gives_now(self.alloc, &going)?;
+        if gives {
+            self.begin_giving(going, lines, now)
+        } else {
+            self.begin_walking(going, lines, now)
+        }
+    }
+
+    /// An act begins.
+    pub(crate) fn begin(&mut self, act: &Act, now: u32) -> Mem<Outs>
+        requires short { IsShortAct act.now }
+        requires last { self.old.state.last < number_limit }
+        ensures { Answers (begin_row self.old.node self.old.state now act.now) self.old self.new result }
+    {
+        let lines = self.begin_lines(act)?;
+        let going = self.began(act)?;
+        self.begin_going(going, lines, now)
+    }
+}

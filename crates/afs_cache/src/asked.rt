@@ -1,0 +1,160 @@
+//! The act that runs, with its unanswered call.
+
+ghost use Rattle.std.specs.Prelude.{◌≡◌, IfOk};
+ghost use Rattle.std.specs.List.{All};
+ghost use Rattle.afs_model.specs.CellRows.{cell_calls};
+ghost use Rattle.afs_shape.specs.Rows.{IsWithin};
+ghost use Rattle.afs_rows.specs.ClientRow.{call_by};
+ghost use Rattle.afs_rows.specs.Going.{next};
+ghost use Rattle.afs_acts.specs.Acts.{FitsNeed, IsShortAct};
+ghost use Rattle.afs_acts.specs.Walks.{need_of};
+ghost use Rattle.afs_cache.specs.Asking.{code_of, IsGift, is_giving};
+ghost use Rattle.afs_num.specs.declared.messages.Call.TheVariants as ask;
+
+use afs_acts::{Going, Need, next};
+use afs_entries::{Gift, copy_gifts, gift_batch, gift_call};
+use afs_num::calls::FsCall;
+use afs_num::messages::Call;
+use afs_num::types::{Code, Mem};
+use std::alloc::Global;
+use std::marker::Model;
+
+/// The act that runs, what it gives back still, its unanswered call, and whether that gives promises back.
+#[derive(Drop)]
+pub struct Asked {
+    going: Going,
+    gifts: Vec<Gift>,
+    call: Call,
+    gives_back: bool,
+}
+
+impl Model for Asked {
+    ghost use Rattle.afs_cache.specs.Asking.{Asking, IsAsked};
+
+    ghost Value = { Asking };
+
+    ghost view = { λ a. record { going = a.going; gifts = a.gifts.items } };
+
+    ghost invariant = { λ a. IsAsked a.going a.gifts.items a.call a.gives_back };
+}
+
+/// The code with which an act is answered now.
+fn code_in(need: &Need) -> Option<Code>
+    requires { FitsNeed (need_of need.now) }
+    ensures { result ≡ code_of (need_of need.now) }
+{
+    match need {
+        Need::Answer(code) => Some(Code(*code as i32)),
+        _ => None,
+    }
+}
+
+/// The code with which an act is answered now; it has none where it asks for something.
+pub fn code_now(alloc: Global, going: &Going) -> Mem<Option<Code>>
+    requires { IsShortAct going.now.act }
+    ensures { IfOk result (λ code. code ≡ code_of (next going.now)) }
+{
+    let need = next(alloc, going)?;
+    Ok(code_in(&need))
+}
+
+/// Whether promises are given back.
+fn is_giving(need: &Need) -> bool
+    ensures { result ≡ is_giving (need_of need.now) }
+{
+    matches!(need, Need::GiveBack)
+}
+
+/// Whether an act gives promises back now.
+pub fn gives_now(alloc: Global, going: &Going) -> Mem<bool>
+    requires { IsShortAct going.now.act }
+    ensures { IfOk result (λ gives. gives ≡ is_giving (next going.now)) }
+{
+    let need = next(alloc, going)?;
+    Ok(is_giving(&need))
+}
+
+/// The call for a need.
+fn call_for(alloc: Global, need: Need, gifts: &[Gift]) -> Mem<FsCall>
+    ensures { IfOk result (λ c. c ≡ call_by gifts.now (need_of need)) }
+{
+    match need {
+        Need::Body(fid) => Ok(FsCall::FetchData {
+            fid,
+            position: 0,
+            length: 2_147_483_647,
+        }),
+        Need::Status(fid) => Ok(FsCall::FetchStatus { fid }),
+        Need::Statuses(fids) => Ok(FsCall::BulkStatus { fids }),
+        Need::Rights(fid) => Ok(FsCall::FetchAcl { fid }),
+        Need::Call(call) => Ok(call),
+        Need::GiveBack => gift_call(alloc, gift_batch(gifts)),
+        Need::Answer(_) => Ok(FsCall::GetTime),
+    }
+}
+
+/// The call for what an act needs now.
+fn call_now(alloc: Global, going: &Going, gifts: &[Gift]) -> Mem<FsCall>
+    requires { IsShortAct going.now.act }
+    ensures { IfOk result (λ c. c ≡ call_by gifts.now (next going.now)) }
+{
+    let need = next(alloc, going)?;
+    call_for(alloc, need, gifts)
+}
+
+impl Asked {
+    /// An act that goes on with the call for what it needs now.
+    pub fn new(alloc: Global, going: Going, gifts: Vec<Gift>) -> Mem<Asked>
+        requires short { IsShortAct going.act }
+        requires nodes { All IsGift gifts.items }
+        ensures { IfOk result (λ a. a ≡ record { going = going; gifts = gifts.items }) }
+    {
+        let gives_back = gives_now(alloc, &going)?;
+        let call = Call::File(call_now(alloc, &going, &gifts)?);
+        Ok(Asked {
+            going,
+            gifts,
+            call,
+            gives_back,
+        })
+    }
+
+    /// Whether its call gives promises back.
+    pub fn gives_back(&self) -> bool
+        ensures { result ≡ is_giving (next self.now.going) }
+    {
+        self.gives_back
+    }
+
+    pub fn gifts(&self) -> &[Gift]
+        ensures value { result.now ≡ self.now.gifts }
+        ensures nodes { All IsGift self.now.gifts }
+    {
+        &self.gifts
+    }
+
+    pub fn call(&self) -> &Call
+        ensures value { result.now ≡ ask.File (call_by self.now.gifts (next self.now.going)) }
+        ensures within { IsWithin cell_calls (ask.File (call_by self.now.gifts (next self.now.going))) }
+    {
+        &self.call
+    }
+
+    /// A copy of what it gives back still.
+    pub fn copy_gifts(&self, alloc: Global) -> Mem<Vec<Gift>>
+        ensures value { IfOk result (λ gs. gs.items ≡ self.now.gifts) }
+        ensures nodes { All IsGift self.now.gifts }
+    {
+        copy_gifts(alloc, &self.gifts)
+    }
+
+    /// Its call: all calls of clients are of the interface of the file servers.
+    pub fn file_call(&self) -> &FsCall
+        ensures { result.now ≡ call_by self.now.gifts (next self.now.going) }
+    {
+        match &self.call {
+            Call::File(call) => call,
+            _ => unreachable!(),
+        }
+    }
+}

@@ -1,0 +1,126 @@
+//! The calls that a client makes, and those that it was made.
+
+ghost use Rattle.std.specs.Prelude.{◌≡◌, ◌+◌, ◌<◌, false};
+ghost use Rattle.afs_num.specs.Nodes.{same_node};
+ghost use Rattle.afs_rows.specs.ClientRow.{boot_of};
+
+use afs_num::keyed::{Keyed, find_keyed};
+use afs_num::messages::Message;
+use afs_num::types::Node;
+use std::marker::Model;
+
+/// The numbers of its calls: its epoch, and the last call's number in it, whom that is for, how often it was timed out, and
+/// whether a break spoils its reply.
+#[derive(Drop)]
+pub struct Calls {
+    pub epoch: u32,
+    pub last: u32,
+    pub callee: Node,
+    pub tries: u32,
+    pub spoiled: bool,
+}
+
+impl Calls {
+    /// No call was made in this epoch.
+    pub fn new(epoch: u32) -> Calls
+        ensures { result ≡ record { epoch = epoch; last = 0; callee = Node.Server 1; tries = 0; spoiled = false } }
+    {
+        Calls {
+            epoch,
+            last: 0,
+            callee: Node::Server(1),
+            tries: 0,
+            spoiled: false,
+        }
+    }
+
+    /// A call under the next number.
+    pub fn start(&mut self, callee: Node)
+        requires { self.old.last < 4294967295 }
+        ensures { self.new ≡ record self.old { last = self.old.last + 1; callee = callee; tries = 0; spoiled = false } }
+    {
+        self.last += 1;
+        self.callee = callee;
+        self.tries = 0;
+        self.spoiled = false;
+    }
+}
+
+/// The last call of a server, and the reply to it.
+#[derive(Drop)]
+pub struct Seat {
+    pub caller: Node,
+    pub epoch: u32,
+    pub number: u32,
+    pub reply: Option<Message>,
+}
+
+impl Model for Seat {
+    ghost use Rattle.std.specs.Prelude.{IfSome};
+    ghost use Rattle.afs_num.specs.declared.messages.Message.{Message};
+    ghost use Rattle.afs_model.specs.Calls.{CallSeat};
+    ghost use Rattle.afs_model.specs.Messages.{HasSpelling};
+
+    ghost Value = { CallSeat Message };
+
+    ghost view = { λ s. record { caller = s.caller; epoch = s.epoch; number = s.number; reply = s.reply } };
+
+    ghost invariant = { λ s. IfSome s.reply HasSpelling };
+}
+
+impl Keyed for Seat {
+    type Key = Node;
+
+    ghost key = { λ s. s.caller };
+
+    ghost same = { same_node };
+
+    fn key(&self) -> Node {
+        self.caller
+    }
+
+    fn is_under(&self, other: &Node) -> bool {
+        self.caller.is(other)
+    }
+}
+
+/// The boot number of a server, as it was told.
+#[derive(Drop)]
+pub struct KnownBoot {
+    pub server: Node,
+    pub boot: u32,
+}
+
+impl Model for KnownBoot {
+    ghost use Rattle.afs_rows.specs.States.{KnownBoot};
+
+    ghost Value = { KnownBoot };
+
+    ghost view = { λ k. record { server = k.server; boot = k.boot } };
+}
+
+impl Keyed for KnownBoot {
+    type Key = Node;
+
+    ghost key = { λ k. k.server };
+
+    ghost same = { same_node };
+
+    fn key(&self) -> Node {
+        self.server
+    }
+
+    fn is_under(&self, other: &Node) -> bool {
+        self.server.is(other)
+    }
+}
+
+/// The boot number of a server, which is 1 until it tells another.
+pub fn boot_of(server: &Node, boots: &[KnownBoot]) -> u32
+    ensures { result ≡ boot_of server.now boots.now }
+{
+    match find_keyed(boots, server) {
+        Some(known) => known.boot,
+        None => 1,
+    }
+}

@@ -1,0 +1,126 @@
+//! A cache manager, by its calls.
+
+ghost use Rattle.std.specs.Prelude.{◌≡◌, ◌≤◌, ◌<◌, ◌+◌, None, length, IfOk, IsSome, OnOk};
+ghost use Rattle.std.specs.List.{All};
+ghost use Rattle.afs_num.specs.Nodes.{IsNode};
+ghost use Rattle.afs_model.specs.Heads.{user_limit};
+ghost use Rattle.afs_rows.specs.ClientRow.{begin_row, new_client};
+ghost use Rattle.afs_rows.specs.Runs.{locations_in};
+ghost use Rattle.afs_acts.specs.Acts.{HasServer, IsShortAct};
+ghost use Rattle.afs_cache.specs.Managing.{Answers, number_limit, times_out, waits};
+ghost use Rattle.afs_cache.specs.Lasting.{lasting};
+
+use crate::asked::Asked;
+use crate::calls::{Calls, KnownBoot, Seat};
+use afs_acts::{Location, locations};
+use afs_entries::Cache;
+use afs_history::acts::Act;
+use afs_history::lines::Outs;
+use afs_history::scripts::VolumeLines;
+use afs_num::sequences::Octets;
+use afs_num::types::{Key, Mem, Node};
+use std::alloc::Global;
+use std::marker::Model;
+
+/// A client: one act at a time, and a cache of what servers promise to tell changes of.
+#[derive(Drop)]
+pub struct CacheManager {
+    pub(crate) alloc: Global,
+    pub(crate) node: Node,
+    pub(crate) user: Octets,
+    /// Where volumes are, and the boot numbers of servers.
+    pub(crate) table: Vec<Location>,
+    pub(crate) boots: Vec<KnownBoot>,
+    /// The servers that call.
+    pub(crate) seats: Vec<Seat>,
+    pub(crate) cache: Cache,
+    pub(crate) calls: Calls,
+    /// The act that runs, with its call, and how often it was told to wait.
+    pub(crate) asked: Option<Asked>,
+    pub(crate) busy: u32,
+}
+
+impl Model for CacheManager {
+    ghost use Rattle.afs_model.specs.Steps.{NodeState};
+    ghost use Rattle.afs_rows.specs.Going.{ClientState};
+    ghost use Rattle.afs_cache.specs.Asking.{FitsClient, gifts_of, running_of};
+
+    ghost Value = { NodeState ClientState };
+
+    ghost view = { λ c. record { node = c.node; state = record { epoch = c.calls.epoch; last = c.calls.last; user = c.user; capacity = c.cache.capacity; table = c.table.items; boots = c.boots.items; seats = c.seats.items; cache = c.cache.entries; running = running_of c.asked; busy = c.busy; callee = c.calls.callee; tries = c.calls.tries; spoiled = c.calls.spoiled; gifts = gifts_of c.asked } } };
+
+    ghost invariant = { λ c. FitsClient c.node c.user c.calls.callee };
+}
+
+impl CacheManager {
+    /// A client that has made no call in this epoch, and has cached nothing. It takes each server to be in its first
+    /// boot. The capacity is the number of entries of its cache.
+    pub fn new(
+        alloc: Global,
+        node: Node,
+        epoch: u32,
+        capacity: u16,
+        volumes: &VolumeLines,
+        user: &[u8],
+    ) -> Mem<CacheManager>
+        requires node { IsNode node }
+        requires some { 0 < capacity }
+        requires few { capacity ≤ 256 }
+        requires user { length user.now ≤ user_limit }
+        requires servers { All HasServer volumes.now }
+        ensures node { IfOk result (λ c. c.node ≡ node) }
+        ensures state { IfOk result (λ c. c.state ≡ new_client epoch capacity user.now (locations_in volumes.now)) }
+    {
+        Ok(CacheManager {
+            alloc,
+            node,
+            user: Octets::from_slice(alloc, user)?,
+            table: locations(alloc, volumes)?,
+            boots: Vec::new(alloc),
+            seats: Vec::new(alloc),
+            cache: Cache::new(alloc, capacity)?,
+            calls: Calls::new(epoch),
+            asked: None,
+            busy: 0,
+        })
+    }
+
+    /// Begins an act, at this time in ticks.
+    pub fn act(&mut self, act: &Act, now: u32) -> Mem<Outs>
+        requires idle { self.old.state.running ≡ None }
+        requires last { self.old.state.last < number_limit }
+        requires short { IsShortAct act.now }
+        ensures step { Answers (begin_row self.old.node self.old.state now act.now) self.old self.new result }
+        // It makes one call at most.
+        ensures last { OnOk result (self.new.state.last ≤ self.old.state.last + 1) }
+        ensures lasting { lasting self.new.state ≡ lasting self.old.state }
+    {
+        self.begin(act, now)
+    }
+
+    /// The unanswered call has waited too long. What becomes of it doesn't depend on the time.
+    pub fn timeout(&mut self, _now: u32) -> Mem<Outs>
+        requires waits { IsSome self.old.state.running }
+        ensures step { Answers (times_out self.old.node self.old.state self.old.state.running) self.old self.new result }
+        // The call stays the client's last one.
+        ensures last { OnOk result (self.new.state.last ≡ self.old.state.last) }
+        ensures lasting { lasting self.new.state ≡ lasting self.old.state }
+    {
+        self.time_out()
+    }
+
+    /// Whom the unanswered call is for, and its key. It takes no memory.
+    pub fn waits_on(&self) -> Option<(Node, Key)>
+        ensures { result ≡ waits self.now }
+    {
+        let _asked = self.asked.as_ref()?;
+        Some((
+            self.calls.callee,
+            Key {
+                node: self.node,
+                epoch: self.calls.epoch,
+                number: self.calls.last,
+            },
+        ))
+    }
+}
