@@ -1,4 +1,4 @@
-//! A crash at each device call of a commit, with each of the four images.
+//! A crash at each device call of the commit of a start, with each of the four images.
 
 ghost use Rattle.std.specs.Prelude.{◌≡◌, false, IfOk};
 
@@ -14,7 +14,7 @@ use std::fmt::Write;
 use std::test::Fail;
 
 /// A store with two records, which lets so many device calls pass.
-fn armed(alloc: Global, passes: u64) -> Result<VolStore<Fuse<MemDisk>>, StoreFault>
+pub(crate) fn armed(alloc: Global, passes: u64) -> Result<VolStore<Fuse<MemDisk>>, StoreFault>
     ensures { IfOk result (λ s. s.closed ≡ false) }
 {
     let Some(disk) = disk_with(alloc, &[First, Change]) else {

@@ -2,6 +2,7 @@
 
 ghost use Rattle.std.specs.Prelude.{◌≡◌, false, IfOk};
 
+use crate::full::{full, one_for_another, one_more};
 use crate::vectors::{boot, change, create, first};
 use afs_disk::{Disk, MemDisk};
 use afs_history::lines::Lines;
@@ -28,6 +29,12 @@ pub(crate) enum Rec {
     ChangeWith(usize, u8),
     /// A first record of so many volumes, each like the second of the first record.
     Many(u8),
+    /// A first record of a volume with as many vnodes as one may have.
+    Full,
+    /// A change of that volume by which there is a vnode more.
+    OneMore,
+    /// A change of that volume by which a vnode comes and another goes.
+    OneForAnother,
 }
 
 /// The place of the second volume of the first record, of its number there, and of their count.
@@ -80,6 +87,9 @@ fn bytes_of(alloc: Global, rec: Rec) -> Mem<Octets> {
         Rec::FirstWith(place, byte) => Ok(with(first(alloc)?, place, byte)),
         Rec::ChangeWith(place, byte) => Ok(with(change(alloc)?, place, byte)),
         Rec::Many(count) => many(alloc, first(alloc)?.as_slice(), count),
+        Rec::Full => full(alloc),
+        Rec::OneMore => one_more(alloc),
+        Rec::OneForAnother => one_for_another(alloc),
     }
 }
 
@@ -94,7 +104,7 @@ fn all_bytes(alloc: Global, records: &[Rec]) -> Mem<Records> {
 
 /// An empty journal in memory.
 fn journal(alloc: Global) -> Option<Journal<MemDisk>> {
-    let disk = MemDisk::new(alloc, 20_000, Octets::new(alloc));
+    let disk = MemDisk::new(alloc, 1_000_000, Octets::new(alloc));
     if disk.capacity() > 268_435_456 {
         return None;
     }

@@ -2,13 +2,19 @@
 #![tactic(auto)]
 
 #[cfg(test)]
+mod changes;
+#[cfg(test)]
 mod crashes;
 #[cfg(test)]
 mod creates;
 #[cfg(test)]
 mod disks;
 #[cfg(test)]
+mod full;
+#[cfg(test)]
 mod shown;
+#[cfg(test)]
+mod storing;
 #[cfg(test)]
 mod taken;
 #[cfg(test)]

@@ -1,4 +1,6 @@
-use crate::disks::Rec::{Boot, Change, ChangeWith, Create, First, FirstWith, Many, Short};
+use crate::disks::Rec::{
+    Boot, Change, ChangeWith, Create, First, FirstWith, Full, Many, OneForAnother, OneMore, Short,
+};
 use crate::shown::{bad, stood_for, told};
 use std::test::Fail;
 
@@ -71,5 +73,13 @@ fn a_server_has_at_most_64_volumes(rt: HostRuntime) -> Result<(), Fail> {
         bad(rt.alloc(), &[&[Many(64)], &[Many(65)]])?.as_str(),
         "none bad 1 "
     );
+    Ok(())
+}
+
+// With one vnode more the fold would have 4,097.
+#[test]
+fn a_volume_has_at_most_4096_vnodes(rt: HostRuntime) -> Result<(), Fail> {
+    let disks: [&[_]; 3] = [&[Full], &[Full, OneForAnother], &[Full, OneMore]];
+    assert_eq!(rt; bad(rt.alloc(), &disks)?.as_str(), "none none bad 2 ");
     Ok(())
 }
