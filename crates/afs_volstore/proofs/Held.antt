@@ -14,7 +14,7 @@ use Rattle.afs_records.specs.Records.{caller_number, caller_of, head_form, FitsR
 use Rattle.afs_records.specs.Durable.{Durable, Kept, booted, is_flagged, kept_by, noted, with_reply}
 use Rattle.afs_volume.specs.declared.volume.Volume.{Volume}
 use Rattle.afs_volstore.specs.declared.memory.KeptReply.{KeptReply}
-use Rattle.afs_volstore.specs.Called.{is_known, AreCalled, AreKnown, IsCaller}
+use Rattle.afs_volstore.specs.Called.{AreBytes, AreCalled, AreKnown, IsCalled, IsCaller}
 use Rattle.afs_volstore.specs.Numbered.{AreNumbered}
 use Rattle.afs_volstore.specs.States.{kept_in, kept_seen, parts_seen}
 use Rattle.afs_volume.specs.Taking.{stored_of}
@@ -50,33 +50,38 @@ nth_none {A} {B} f i t e = nth_seen f i t ∙ ap (option_map (λ (q : ℕ × A).
 
 called_nth : (i : ℕ) (t : Table KeptReply) (p : ℕ × KeptReply) → AreCalled t → slice_get t i ≡ Some p → node_number p.1.caller ≡ p.0
 called_nth i [] p are found = absurd cc
-called_nth zero (q ∷ qs) p are found = ap (λ (x : ℕ × KeptReply). node_number x.1.caller) (sym (same_item found)) ∙ (are.0 ∙ ap (λ (x : ℕ × KeptReply). x.0) (same_item found))
+called_nth zero (q ∷ qs) p are found = ap (λ (x : ℕ × KeptReply). node_number x.1.caller) (sym (same_item found)) ∙ (are.0.0 ∙ ap (λ (x : ℕ × KeptReply). x.0) (same_item found))
   where
     same_item : Some q ≡ Some p → q ≡ p
     same_item e = cc
-called_nth (suc i) (q ∷ qs) p are found = called_nth i qs p are.1.1 found
+called_nth (suc i) (q ∷ qs) p are found = called_nth i qs p are.1 found
 
 pub nth_reply : (i : ℕ) (t : Table KeptReply) (p : ℕ × KeptReply) → AreCalled t → Some p ≡ slice_get t i → slice_get (seen_as kept_seen t) i ≡ Some (node_number p.1.caller, kept_seen p.1)
 nth_reply i t p are e = nth_seen kept_seen i t ∙ (ap (option_map (λ (q : ℕ × KeptReply). (q.0, kept_seen q.1))) (sym e) ∙ ap (λ (n : ℕ). Some (n, kept_seen p.1)) (sym (called_nth i t p are (sym e))))
 
-called_by : (n : ℕ) (k : KeptReply) (p : ℕ × KeptReply) (ps rest : Table KeptReply) (same below : Bool) → node_number k.caller ≡ n → is_known n ≡ true → node_number p.1.caller ≡ p.0 → is_known p.0 ≡ true → AreCalled ps → AreCalled rest
-    → AreCalled (if same then (n, k) ∷ ps else (if below then (n, k) ∷ p ∷ ps else p ∷ rest))
-called_by n k p ps rest true below is known own its are later = (is, (known, are))
-called_by n k p ps rest false true is known own its are later = (is, (known, (own, (its, are))))
-called_by n k p ps rest false false is known own its are later = (own, (its, later))
+called_by : (q p : ℕ × KeptReply) (ps rest : Table KeptReply) (same below : Bool) → IsCalled q → IsCalled p → AreCalled ps → AreCalled rest
+    → AreCalled (if same then q ∷ ps else (if below then q ∷ p ∷ ps else p ∷ rest))
+called_by q p ps rest true below is its are later = (is, are)
+called_by q p ps rest false true is its are later = (is, (its, are))
+called_by q p ps rest false false is its are later = (its, later)
 
-called_set : (n : ℕ) (k : KeptReply) (t : Table KeptReply) → node_number k.caller ≡ n → is_known n ≡ true → AreCalled t → AreCalled (set n k t)
-called_set n k [] is known are = (is, (known, tt))
-called_set n k (p ∷ ps) is known are = called_by n k p ps (set n k ps) (nat_eq p.0 n) (nat_lt n p.0) is known are.0 are.1.0 are.1.1 (called_set n k ps is known are.1.1)
+called_set : (n : ℕ) (k : KeptReply) (t : Table KeptReply) → IsCalled (n, k) → AreCalled t → AreCalled (set n k t)
+called_set n k [] is are = (is, tt)
+called_set n k (p ∷ ps) is are = called_by (n, k) p ps (set n k ps) (nat_eq p.0 n) (nat_lt n p.0) is are.0 are.1 (called_set n k ps is are.1)
 
 -- a reply is put by its caller's number
-pub still_called : (n : ℕ) (k : KeptReply) (t u : Table KeptReply) → u ≡ set n k t → node_number k.caller ≡ n → is_known n ≡ true → AreCalled t → AreCalled u
-still_called n k t u e is known are = subst AreCalled (sym e) (called_set n k t is known are)
+pub still_called : (n : ℕ) (k : KeptReply) (t u : Table KeptReply) → u ≡ set n k t → IsCalled (n, k) → AreCalled t → AreCalled u
+still_called n k t u e is are = subst AreCalled (sym e) (called_set n k t is are)
 
 -- the numbers are those of nodes
 pub all_known : (t : Table KeptReply) → AreCalled t → AreKnown (seen_as kept_seen t)
 all_known [] are = tt
-all_known (p ∷ ps) are = (are.1.0, all_known ps are.1.1)
+all_known (p ∷ ps) are = (are.0.1.0, all_known ps are.1)
+
+-- the replies are bytes
+pub all_bytes : (t : Table KeptReply) → AreCalled t → AreBytes (seen_as kept_seen t)
+all_bytes [] are = tt
+all_bytes (p ∷ ps) are = (are.0.1.1, all_bytes ps are.1)
 
 -- a record within its limits has a caller that is a node
 known_by : (n : Node) (b : Bool) (o : Option Node) → (if b then Some None else (o >>= λ m. Some (Some m))) ≡ Some (Some n) → is_some o ≡ true

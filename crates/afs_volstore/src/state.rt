@@ -3,10 +3,11 @@
 ghost use Rattle.std.specs.Prelude.{◌≡◌, ◌≤◌, ◌<◌, ◌+◌, None, Some, [], length, IfSome, IfNone, OnOk, false, filter, nat_eq, not, slice_get, if◌then◌else◌};
 ghost use Rattle.std.specs.Option.{option_copied, option_map, option_map_or};
 ghost use Rattle.afs_num.specs.Nodes.{node_number};
+ghost use Rattle.afs_ideal.specs.DirectoryLaws.{IsBytes};
 ghost use Rattle.afs_ideal.specs.Tables.{get, set, AscendsFrom};
 ghost use Rattle.afs_records.specs.Durable.{booted, is_flagged, noted, or_zero};
 ghost use Rattle.afs_volume.specs.Taking.{stored_of};
-ghost use Rattle.afs_volstore.specs.Called.{AreKnown, IsCaller};
+ghost use Rattle.afs_volstore.specs.Called.{AreBytes, AreKnown, IsCaller};
 ghost use Rattle.afs_volstore.specs.States.{kept_in, kept_seen, parts_of};
 
 use crate::memory::{KeptReply, State};
@@ -38,6 +39,13 @@ fn unflagged(volumes: Seats<Volume>) -> Seats<Volume>
     let mut items = volumes.into_items();
     items.retain(|item| !is_flagged(&item.1));
     Seats::from_items(items)
+}
+
+/// Bytes are bytes.
+fn are_bytes(bytes: &[u8])
+    ensures { IsBytes bytes.now }
+{
+    let _ = bytes.len();
 }
 
 impl State {
@@ -101,6 +109,7 @@ impl State {
         ensures none { IfNone result (slice_get (parts_of self.now).kept place ≡ None) }
         ensures ordered { AscendsFrom 0 (parts_of self.now).kept }
         ensures nodes { AreKnown (parts_of self.now).kept }
+        ensures bytes { AreBytes (parts_of self.now).kept }
     {
         match self.kept.at(place as usize) {
             Some(item) => Some(&item.1),
@@ -172,6 +181,7 @@ impl State {
         let Some(caller) = caller else {
             return;
         };
+        are_bytes(reply.as_slice());
         let reply = KeptReply {
             caller,
             epoch,

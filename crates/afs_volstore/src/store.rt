@@ -12,7 +12,7 @@ ghost use Rattle.afs_records.specs.Changes.{boot_record, can_boot};
 ghost use Rattle.afs_records.specs.Durable.{effect_of, folded, has_room, stamp_of};
 ghost use Rattle.afs_records.specs.Laws.{started};
 ghost use Rattle.afs_volume.specs.Taking.{stored_of};
-ghost use Rattle.afs_volstore.specs.Called.{AreKnown};
+ghost use Rattle.afs_volstore.specs.Called.{AreBytes, AreKnown};
 ghost use Rattle.afs_volstore.specs.States.{parts_of, placed};
 ghost use Rattle.afs_volstore.specs.Stores.{IsCounted, IsEarly, IsFull, IsKept, SameBut, Served, StandsAround};
 
@@ -150,6 +150,7 @@ impl<D: Disk> VolStore<D> {
         ensures none { IfNone result (slice_get self.now.durable.kept place ≡ None) }
         ensures ordered { AscendsFrom 0 self.now.durable.kept }
         ensures nodes { AreKnown self.now.durable.kept }
+        ensures bytes { AreBytes self.now.durable.kept }
     {
         match self.state.kept_at(place) {
             Some(kept) => Some((

@@ -1,5 +1,7 @@
 //! Records of a volume with as many vnodes as one may have: its root, 63 directories there, and 64 files in each of these.
 
+ghost use Rattle.std.specs.Prelude.{◌<◌, ◌≤◌};
+
 use afs_num::sequences::Octets;
 use afs_num::types::Mem;
 use std::alloc::Global;
@@ -21,7 +23,9 @@ const VNODES: u32 = 4096;
 
 const LAST: u32 = 8064;
 
-/// The number of a further file.
+/// The next unique number, and the number of a further file, which has it.
+const NEXT: u32 = VNODES + 1;
+
 const FURTHER: u32 = LAST + 2;
 
 fn put_words(out: &mut Vec<u8>, words: &[u32]) -> Mem<()> {
@@ -57,6 +61,7 @@ fn holder(vnode: u32) -> u32 {
 /// The number of the first file in a directory.
 fn first_file(directory: u32) -> u32
     requires { directory < 128 }
+    ensures { result ≤ 10000 }
 {
     directory.saturating_sub(3) * 64 + 2
 }
@@ -159,7 +164,7 @@ pub(crate) fn full(alloc: Global) -> Mem<Octets> {
     let mut out = Vec::new(alloc);
     put_head(&mut out, 1)?;
     put_words(&mut out, &[1, 4, NAME, 0])?;
-    put_words(&mut out, &[2, ID, ID, 0, 0, unique(FURTHER), 1, 0])?;
+    put_words(&mut out, &[2, ID, ID, 0, 0, NEXT, 1, 0])?;
     put_numbers(&mut out)?;
     put_images(&mut out)?;
     Ok(Octets::from_vec(out))
@@ -180,7 +185,7 @@ fn further(alloc: Global, kept: u8, gone: &[u32]) -> Mem<Octets>
 {
     let mut out = Vec::new(alloc);
     put_head(&mut out, 2)?;
-    put_words(&mut out, &[ID, 2, unique(FURTHER) + 1, 2])?;
+    put_words(&mut out, &[ID, 2, NEXT + 1, 2])?;
     put_with_further(&mut out, kept)?;
     put_file(&mut out, FURTHER, 3)?;
     put_words(&mut out, gone)?;

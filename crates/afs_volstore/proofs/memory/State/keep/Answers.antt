@@ -1,5 +1,6 @@
 use Rattle.std.proofs.Common.{◌≡◌, ◌∙◌, true, ap, sym, subst, rules}
 use Rattle.afs_num.specs.Nodes.{node_number}
+use Rattle.afs_ideal.specs.DirectoryLaws.{IsBytes}
 use Rattle.afs_ideal.specs.Tables.{set}
 use Rattle.afs_volstore.specs.Called.{is_known, IsCaller}
 use Rattle.afs_volstore.specs.declared.memory.KeptReply.{KeptReply}
@@ -13,5 +14,5 @@ invariant_of-self c =
     let known : is_known (node_number c.in-Some.caller) ≡ true = subst IsCaller c.in-Some.is c.requires.caller in
     record {
       numbered = c.args.self.now.numbered;
-      called = still_called c.number.result reply c.args.self.now.kept.table c.put.new.self.table put (sym c.number.ensures) (ap is_known c.number.ensures ∙ known) c.args.self.now.called;
+      called = still_called c.number.result reply c.args.self.now.kept.table c.put.new.self.table put (sym c.number.ensures, (ap is_known c.number.ensures ∙ known, subst IsBytes c.as_slice.ensures c.are_bytes.ensures)) c.args.self.now.called;
     }

@@ -1,5 +1,5 @@
 use Rattle.afs_volstore.specs.States.{kept_seen}
-use Rattle.afs_volstore.proofs.Held.{all_known, nth_none, nth_reply}
+use Rattle.afs_volstore.proofs.Held.{all_bytes, all_known, nth_none, nth_reply}
 use Rattle.afs_volstore.proofs.Redone.{seen_up}
 use Rattle.afs_volstore.proofs.memory.State.kept_at.Goals as goal
 
@@ -20,3 +20,9 @@ returns-in-None-clause-ordered c = seen_up kept_seen 0 c.args.self.now.kept.tabl
 
 pub returns-in-None-clause-nodes : goal.returns-in-None-clause-nodes
 returns-in-None-clause-nodes c = all_known c.args.self.now.kept.table c.args.self.now.called
+
+pub returns-in-Some-clause-bytes : goal.returns-in-Some-clause-bytes
+returns-in-Some-clause-bytes c = all_bytes c.args.self.now.kept.table c.args.self.now.called
+
+pub returns-in-None-clause-bytes : goal.returns-in-None-clause-bytes
+returns-in-None-clause-bytes c = all_bytes c.args.self.now.kept.table c.args.self.now.called
