@@ -1,2 +1,5 @@
 pub mod ActText
+pub mod FinalText
+pub mod HistoryText
 pub mod RunText
+pub mod Telling

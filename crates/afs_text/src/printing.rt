@@ -123,7 +123,7 @@ fn put_parcel<K: Sink>(sink: &mut K, place: u64, parcel: &Parcel, wire: bool) ->
 }
 
 /// Writes the messages of these parcels, the first of which has this place.
-fn put_parcels<K: Sink>(
+pub(crate) fn put_parcels<K: Sink>(
     sink: &mut K,
     first_place: u64,
     parcels: &[Parcel],
@@ -155,9 +155,9 @@ impl Print for Actor {
 
 /// The number of an entry, and whose it is.
 #[derive(Drop)]
-struct Step {
-    number: u64,
-    actor: Actor,
+pub(crate) struct Step {
+    pub(crate) number: u64,
+    pub(crate) actor: Actor,
 }
 
 impl Print for Step {

@@ -1,0 +1,69 @@
+//! The history of a run whose clients take every act: its entries, each with its lines and the messages that it sent.
+
+ghost use Rattle.std.specs.Prelude.{◌≡◌, ◌+◌, ◌<◌, ◌≤◌, ◌^◌, ◌++◌, [], length};
+ghost use Rattle.afs_outside.specs.Outside.{Puts};
+ghost use Rattle.afs_model.specs.Text.{step_text};
+ghost use Rattle.afs_text.specs.HistoryText.{entry_text, history_text};
+ghost use Rattle.afs_text.specs.RunText.{lines_text};
+ghost use Rattle.afs_text.specs.Telling.{messages_of, AreRead, told, sent_by};
+
+use crate::pieces::{Each, Print};
+use crate::printing::{Step, put_parcels};
+use afs_history::lines::Entry;
+use afs_num::types::Parcel;
+use afs_outside::outside::{Failed, Sink};
+
+/// The number of an entry, whose it is, and its lines.
+#[tactic(auto, unfolding(crate::specs::RunText::lines_text))]
+fn put_lines<K: Sink>(sink: &mut K, number: u64, entry: &Entry) -> Result<(), Failed>
+    ensures { Puts (step_text number entry.now.actor ++ lines_text entry.now.lines) (K.held sink.old) (K.held sink.new) (K.faults sink.old) (K.faults sink.new) result }
+{
+    let step = Step {
+        number,
+        actor: entry.actor,
+    };
+    row!(step, Each(entry.lines.as_slice())).print(sink)
+}
+
+/// Writes an entry of this number, which sent these parcels, from this place on; with the bytes of each message where
+/// `wire` asks for them.
+#[tactic(auto, unfolding(crate::specs::HistoryText::entry_text))]
+pub fn print_entry<K: Sink>(
+    sink: &mut K,
+    entry: &Entry,
+    sent: &[Parcel],
+    number: u64,
+    first_place: u64,
+    wire: bool,
+) -> Result<(), Failed>
+    requires read { AreRead sent.now }
+    requires places { first_place + length sent.now ≤ 2 ^ 64 }
+    ensures { Puts (entry_text wire number first_place (record { actor = entry.now.actor; lines = entry.now.lines; sent = messages_of sent.now; volumes = [] })) (K.held sink.old) (K.held sink.new) (K.faults sink.old) (K.faults sink.new) result }
+{
+    put_lines(sink, number, entry)?;
+    put_parcels(sink, first_place, sent, wire)
+}
+
+/// Writes the history that these entries tell with these parcels. It takes no memory.
+#[tactic(auto, unfolding(crate::specs::HistoryText::history_text))]
+pub fn put_history<K: Sink>(
+    sink: &mut K,
+    parcels: &[Parcel],
+    history: &[Entry],
+    wire: bool,
+) -> Result<(), Failed>
+    requires read { AreRead parcels.now }
+    requires all { sent_by history.now ≡ length parcels.now }
+    requires places { length parcels.now < 2 ^ 63 }
+    ensures { Puts (history_text wire (told parcels.now history.now)) (K.held sink.old) (K.held sink.new) (K.faults sink.old) (K.faults sink.new) result }
+{
+    let mut place = 1u64;
+    let mut left = parcels;
+    for (i, entry) in history.iter().enumerate() {
+        let (sent, behind) = left.split_at(entry.sent);
+        print_entry(sink, entry, sent, i as u64 + 1, place, wire)?;
+        place += entry.sent as u64;
+        left = behind;
+    }
+    Ok(())
+}
