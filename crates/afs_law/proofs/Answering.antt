@@ -3,7 +3,7 @@ use Rattle.afs_law.proofs.Giving.{begin_lines, begun_not, gifts_later, gives_goe
 use Rattle.afs_law.proofs.Walking.{own_lines, back_again, lines_assoc, looked_begun, looked_given, looked_message}
 use Rattle.afs_law.proofs.Quiet.{quiet_grant, quiet_last, quiet_clock, reach_more}
 use Rattle.afs_law.proofs.Facts.{fids_of_gifts, AreApart, Held, IsNewest, IsNoRead, IsOpen, its_call, AreGifts}
-use Rattle.afs_law.proofs.Passing.{all_dropped_own, dropped_rest, all_dropped_onto, tried_idle, tried_kept, tried_new, PassesGrant, ran_over}
+use Rattle.afs_law.proofs.Passing.{dropped_rest, all_dropped_onto, tried_idle, tried_kept, tried_new, PassesGrant, ran_over}
 use Rattle.afs_law.specs.Grants.{IsDropped, IsWithdrawn}
 use Rattle.afs_law.specs.Ideal.{IsLast, clock_of, reach_over}
 use Rattle.afs_law.specs.Legal.{AreDropped, EndsAct, GoodRead, HasUsed, as_asked}
@@ -182,6 +182,7 @@ begun_answered s c past n act k h none is =
       asked = λ b z. absurd cc;
       late = λ b z. absurd cc;
       none = λ z. refl;
+      spared = λ b z. absurd cc;
       gave = λ b z. absurd cc;
       reached = walk_reached s c past n (h.floors n).held ls w.act w.cache tail [] W t ends;
     })
@@ -244,6 +245,7 @@ begun_calls s c past n act h none going =
       asked = λ b z. subst (λ (a : Going). CalledSince (last_key n v) (user_at s n) (its_call v.gifts a) (e ∷ past)) (some_of w.act b z) (inl (refl, inl (refl, carried_is y w.act kind.user)));
       late = λ b z. new_late s c past n y w.act e h refl refl;
       none = λ z. absurd cc;
+      spared = λ b z not. d.none none;
       gave = λ b z. gave;
       reached = walk_reached s c past n (h.floors n).held ls w.act w.cache [] ms W tt (ends_here n);
     })
@@ -502,6 +504,7 @@ ended_facts s c past n cache held e h le idle cur old r =
       asked = λ b y. absurd cc;
       late = λ b y. absurd cc;
       none = λ y. refl;
+      spared = λ b y. absurd cc;
       gave = λ b y. absurd cc;
       reached = r;
     }
@@ -556,13 +559,13 @@ takes_refused s c past n p act head code h d =
     (ended_calls s c past n p act m (c.clients n).cache held h d (λ k is. refl)) (ended_reply s c past n (c.clients n).cache held e h) (nothing_new _ _) (λ a x z. absurd cc) refl (tried_idle n _ _ refl)
 
 -- the client calls again, with these promises to give back
-pub again_with : (s : Script) (c : Cell) (past : List Entry) (n p : ℕ) (gs : List Gift) (act : Going) (m : Message) → (h : Holds s c past) → AreGifts gs → AreDropped (Client n) (fids_of_gifts gs) (lines_of past) → Due c h.floors past n p act m → volume_changed (asked act) ≡ None → Goes s past (client_moves c n (calls_step (Client n) (with_gifts gs (c.clients n)) act (λ ls. lines.Given p ∷ ls)))
-again_with s c past n p gs act m h given gave d shut =
-    asks s c past n gs act (lines.Given p) h given refl gave ((h.own n).needs act d.running) (refl, tt) (told_passes s c past n p _ _ h d.heard) (λ g. told_file n p g (actors.Node (Client n)) _ past) (λ g. told_reach n p g (actors.Node (Client n)) _ past) (λ g o. (h.clients n).made act d.running g o (inl shut)) (λ b y. ap (λ (z : Going). volume_changed (asked z)) (some_of b act (sym y ∙ d.running)) ∙ shut) ((h.clients n).runs act d.running) (λ z. d.running)
+pub again_with : (s : Script) (c : Cell) (past : List Entry) (n p : ℕ) (gs : List Gift) (act : Going) (m : Message) → (h : Holds s c past) → AreGifts gs → AreDropped (Client n) (fids_of_gifts gs) (lines_of past) → ((next act ≡ gives_back → ⊥) → gs ≡ []) → Due c h.floors past n p act m → volume_changed (asked act) ≡ None → Goes s past (client_moves c n (calls_step (Client n) (with_gifts gs (c.clients n)) act (λ ls. lines.Given p ∷ ls)))
+again_with s c past n p gs act m h given gave spared d shut =
+    asks s c past n gs act (lines.Given p) h given refl gave spared ((h.own n).needs act d.running) (refl, tt) (told_passes s c past n p _ _ h d.heard) (λ g. told_file n p g (actors.Node (Client n)) _ past) (λ g. told_reach n p g (actors.Node (Client n)) _ past) (λ g o. (h.clients n).made act d.running g o (inl shut)) (λ b y. ap (λ (z : Going). volume_changed (asked z)) (some_of b act (sym y ∙ d.running)) ∙ shut) ((h.clients n).runs act d.running) (λ z. d.running)
 
 -- as they are
 pub again_goes : (s : Script) (c : Cell) (past : List Entry) (n p : ℕ) (act : Going) (m : Message) → (h : Holds s c past) → Due c h.floors past n p act m → volume_changed (asked act) ≡ None → Goes s past (client_moves c n (calls_again (Client n) (c.clients n) p act))
-again_goes s c past n p act m h d shut = again_with s c past n p (c.clients n).gifts act m h (h.own n).gifts ((h.clients n).gave act d.running) d shut
+again_goes s c past n p act m h d shut = again_with s c past n p (c.clients n).gifts act m h (h.own n).gifts ((h.clients n).gave act d.running) ((h.clients n).spared act d.running) d shut
 
 -- ---- what was fetched is read, and the act goes on
 
@@ -734,9 +737,9 @@ gone_answered s c past n p act m front F w k h d not same used W apart old is =
     (walk_reached s c past n c.server.lasting.boot ls w.act w.cache tail [] W t ends))
     (ended_calls s c past n p act m w.cache held h d (λ code z. absurd (not code z))) (ended_reply s c past n w.cache held e h) (nothing_new _ _) (λ b y z. absurd cc) refl (tried_idle n _ _ refl))
 
-pub gone_calls : (s : Script) (c : Cell) (past : List Entry) (n p : ℕ) (act : Going) (m : Message) (front : List Line → List Line) (F : List Line) (w : Walked) → (h : Holds s c past) → Due c h.floors past n p act m → volume_changed (asked act) ≡ None → ((ls : List Line) → front ls ≡ F ++ ls) → IsUsed n m F past
+pub gone_calls : (s : Script) (c : Cell) (past : List Entry) (n p : ℕ) (act : Going) (m : Message) (front : List Line → List Line) (F : List Line) (w : Walked) → (h : Holds s c past) → Due c h.floors past n p act m → volume_changed (asked act) ≡ None → (next act ≡ gives_back → ⊥) → ((ls : List Line) → front ls ≡ F ++ ls) → IsUsed n m F past
     → Walks s c past n c.server.lasting.boot (F ++ looked (Client n) w.looks []) w.act w.cache → AreApart w.cache → HasOld w.cache (lines_of past) → IsOpen (next w.act) → Goes s past (client_moves c n (goes_by (Client n) (c.clients n) front w (asks_for calls.GetTime)))
-gone_calls s c past n p act m front F w h d shut same used W apart old going =
+gone_calls s c past n p act m front F w h d shut reading same used W apart old going =
     let x : ClientState = c.clients n in
     let ls : List Line = F ++ looked (Client n) w.looks [] in
     let k = h.clients n in
@@ -748,8 +751,7 @@ gone_calls s c past n p act m front F w h d shut same used W apart old going =
     let g : Ghost = record { floor = c.server.lasting.boot; held = c.server.lasting.boot } in
     let v : View = view_after c n g y in
     let never : LastRan v → ⊥ = λ ran. next_not _ _ _ _ (k.behind_durable ran.seat ran.at) ran.epoch ran.number in
-    let begun : has_begun (Client n) (onto [] (ls ++ [])) ≡ false = ap (λ (os : List Line). has_begun (Client n) (onto [] os)) (append-nil ls) ∙ (ap (has_begun (Client n)) (onto_front_of F (looked (Client n) w.looks [])) ∙ (looked_begun (Client n) (Client n) w.looks (onto [] F) ∙ used.begun)) in
-    let gave : AreDropped (Client n) (fids_of_gifts x.gifts) (onto (lines_of past) (ls ++ [])) = all_dropped_own (Client n) (fids_of_gifts x.gifts) (ls ++ []) (lines_of past) begun (k.gave act d.running) in
+    let gave : AreDropped (Client n) (fids_of_gifts x.gifts) (onto (lines_of past) (ls ++ [])) = subst (λ (gs : List Gift). AreDropped (Client n) (fids_of_gifts gs) (onto (lines_of past) (ls ++ []))) (sym (k.spared act d.running reading)) tt in
     let at : running s (Client n) (onto (lines_of past) (ls ++ [])) ≡ Some w.act = ap (λ (os : List Line). running s (Client n) (onto (lines_of past) os)) (append-nil ls) ∙ W.runs in
     let over : (q : Message) → ReplyFact n (view h.floors c n) past q → ReplyFact n v (e ∷ past) q = λ q r. record {
       behind = up_to_next _ _ _ _ r.behind;
@@ -781,6 +783,7 @@ gone_calls s c past n p act m front F w h d shut same used W apart old going =
       asked = λ b z. subst (λ (x : Going). CalledSince (last_key n v) (user_at s n) (its_call v.gifts x) (e ∷ past)) (some_of w.act b z) (inl (refl, inl (refl, carried_is y w.act its.user)));
       late = λ b z. new_late s c past n y w.act e h refl refl;
       none = λ z. absurd cc;
+      spared = λ b z not. k.spared act d.running reading;
       gave = λ b z. gave;
       reached = walk_reached s c past n c.server.lasting.boot ls w.act w.cache [] ms W tt (ends_here n);
     })
@@ -796,29 +799,29 @@ gone_calls s c past n p act m front F w h d shut same used W apart old going =
     })
     over (own_call h.floors c past n g y w.act (ls ++ []) k.known its refl at (new_one s c past n y w.act h refl refl) gave) (λ b x z. inr (record { act = act; runs = d.running; read = shut })) refl (tried_new n _ _ refl))
 
-gone_by : (need : Need) (s : Script) (c : Cell) (past : List Entry) (n p : ℕ) (act : Going) (m : Message) (front : List Line → List Line) (F : List Line) (w : Walked) → (h : Holds s c past) → Due c h.floors past n p act m → ((code : Code) → m.carried ≡ carried.Refusal code → ⊥) → volume_changed (asked act) ≡ None → ((ls : List Line) → front ls ≡ F ++ ls) → IsUsed n m F past
+gone_by : (need : Need) (s : Script) (c : Cell) (past : List Entry) (n p : ℕ) (act : Going) (m : Message) (front : List Line → List Line) (F : List Line) (w : Walked) → (h : Holds s c past) → Due c h.floors past n p act m → ((code : Code) → m.carried ≡ carried.Refusal code → ⊥) → volume_changed (asked act) ≡ None → (next act ≡ gives_back → ⊥) → ((ls : List Line) → front ls ≡ F ++ ls) → IsUsed n m F past
     → Walks s c past n c.server.lasting.boot (F ++ looked (Client n) w.looks []) w.act w.cache → AreApart w.cache → HasOld w.cache (lines_of past) → next w.act ≡ need → Goes s past (client_moves c n (goes_by (Client n) (c.clients n) front w need))
-gone_by (answers k) s c past n p act m front F w h d not shut same used W apart old e = gone_answered s c past n p act m front F w k h d not same used W apart old e
-gone_by (reads f) s c past n p act m front F w h d not shut same used W apart old e = gone_calls s c past n p act m front F w h d shut same used W apart old (subst IsOpen (sym e) tt)
-gone_by (reads_status f) s c past n p act m front F w h d not shut same used W apart old e = gone_calls s c past n p act m front F w h d shut same used W apart old (subst IsOpen (sym e) tt)
-gone_by (reads_statuses fs) s c past n p act m front F w h d not shut same used W apart old e = gone_calls s c past n p act m front F w h d shut same used W apart old (subst IsOpen (sym e) tt)
-gone_by (reads_rights f) s c past n p act m front F w h d not shut same used W apart old e = gone_calls s c past n p act m front F w h d shut same used W apart old (subst IsOpen (sym e) tt)
-gone_by (asks_for call) s c past n p act m front F w h d not shut same used W apart old e = gone_calls s c past n p act m front F w h d shut same used W apart old (subst IsOpen (sym e) tt)
-gone_by gives_back s c past n p act m front F w h d not shut same used W apart old e = gone_calls s c past n p act m front F w h d shut same used W apart old (subst IsOpen (sym e) tt)
+gone_by (answers k) s c past n p act m front F w h d not shut reading same used W apart old e = gone_answered s c past n p act m front F w k h d not same used W apart old e
+gone_by (reads f) s c past n p act m front F w h d not shut reading same used W apart old e = gone_calls s c past n p act m front F w h d shut reading same used W apart old (subst IsOpen (sym e) tt)
+gone_by (reads_status f) s c past n p act m front F w h d not shut reading same used W apart old e = gone_calls s c past n p act m front F w h d shut reading same used W apart old (subst IsOpen (sym e) tt)
+gone_by (reads_statuses fs) s c past n p act m front F w h d not shut reading same used W apart old e = gone_calls s c past n p act m front F w h d shut reading same used W apart old (subst IsOpen (sym e) tt)
+gone_by (reads_rights f) s c past n p act m front F w h d not shut reading same used W apart old e = gone_calls s c past n p act m front F w h d shut reading same used W apart old (subst IsOpen (sym e) tt)
+gone_by (asks_for call) s c past n p act m front F w h d not shut reading same used W apart old e = gone_calls s c past n p act m front F w h d shut reading same used W apart old (subst IsOpen (sym e) tt)
+gone_by gives_back s c past n p act m front F w h d not shut reading same used W apart old e = gone_calls s c past n p act m front F w h d shut reading same used W apart old (subst IsOpen (sym e) tt)
 
 -- from such reads on it reads from the cache
-gone_on : (s : Script) (c : Cell) (past : List Entry) (n p : ℕ) (act : Going) (m : Message) (front : List Line → List Line) (F : List Line) (k : ℕ) (a : Going) (cache : List CacheEntry) → (h : Holds s c past) → Due c h.floors past n p act m → ((code : Code) → m.carried ≡ carried.Refusal code → ⊥) → volume_changed (asked act) ≡ None → ((ls : List Line) → front ls ≡ F ++ ls) → IsUsed n m F past
+gone_on : (s : Script) (c : Cell) (past : List Entry) (n p : ℕ) (act : Going) (m : Message) (front : List Line → List Line) (F : List Line) (k : ℕ) (a : Going) (cache : List CacheEntry) → (h : Holds s c past) → Due c h.floors past n p act m → ((code : Code) → m.carried ≡ carried.Refusal code → ⊥) → volume_changed (asked act) ≡ None → (next act ≡ gives_back → ⊥) → ((ls : List Line) → front ls ≡ F ++ ls) → IsUsed n m F past
     → Walks s c past n c.server.lasting.boot F a cache → AreApart cache → HasOld cache (lines_of past) → Goes s past (client_moves c n (goes_on (Client n) (c.clients n) front (walked k c.clock a cache)))
-gone_on s c past n p act m front F k a cache h d not shut same used W apart old =
-    gone_by (next (walked k c.clock a cache).act) s c past n p act m front F (walked k c.clock a cache) h d not shut same used (walks_on k s c past n c.server.lasting.boot F a cache h W) (walked_apart k c.clock a cache apart) (old_within cache (walked k c.clock a cache).cache (lines_of past) (λ f u z. walked_found k c.clock a cache f u z) old) refl
+gone_on s c past n p act m front F k a cache h d not shut reading same used W apart old =
+    gone_by (next (walked k c.clock a cache).act) s c past n p act m front F (walked k c.clock a cache) h d not shut reading same used (walks_on k s c past n c.server.lasting.boot F a cache h W) (walked_apart k c.clock a cache apart) (old_within cache (walked k c.clock a cache).cache (lines_of past) (λ f u z. walked_found k c.clock a cache f u z) old) refl
 
-pub fetched_goes : (s : Script) (c : Cell) (past : List Entry) (n p : ℕ) (act : Going) (u : CacheEntry) (body : ReadBody) (m : Message) (t : Bool) → (h : Holds s c past) → Due c h.floors past n p act m → ((code : Code) → m.carried ≡ carried.Refusal code → ⊥) → volume_changed (asked act) ≡ None → is_promised body ≡ true → u.server ≡ the_server → Shows u.fid u.index body past (lines.Given p ∷ []) → IsFetched false n u.fid u.index u.status u.body u.expiry m past → nat_lt c.clock u.expiry ≡ t
+pub fetched_goes : (s : Script) (c : Cell) (past : List Entry) (n p : ℕ) (act : Going) (u : CacheEntry) (body : ReadBody) (m : Message) (t : Bool) → (h : Holds s c past) → Due c h.floors past n p act m → ((code : Code) → m.carried ≡ carried.Refusal code → ⊥) → volume_changed (asked act) ≡ None → (next act ≡ gives_back → ⊥) → is_promised body ≡ true → u.server ≡ the_server → Shows u.fid u.index body past (lines.Given p ∷ []) → IsFetched false n u.fid u.index u.status u.body u.expiry m past → nat_lt c.clock u.expiry ≡ t
     → Goes s past (client_moves c n (cond t (goes_on (Client n) (c.clients n) (read_lines (Client n) p (look_at Fetched u body)) (fetched_walk (c.clients n) c.clock act u body)) (calls_again (Client n) (c.clients n) p act)))
-fetched_goes s c past n p act u body m true h d not shut kind from shown a lasts =
-    gone_on s c past n p act m (read_lines (Client n) p (look_at Fetched u body)) (read_now n p u body) (most_reads act) (with_read u.fid body act) (put_entry (c.clients n).capacity u (c.clients n).cache) h d not shut (λ ls. refl) (record { given = d.at; begun = refl }) (fetched_walks s c past n p act m u body h d shut kind from shown a (ltb-true _ _ lasts))
+fetched_goes s c past n p act u body m true h d not shut reading kind from shown a lasts =
+    gone_on s c past n p act m (read_lines (Client n) p (look_at Fetched u body)) (read_now n p u body) (most_reads act) (with_read u.fid body act) (put_entry (c.clients n).capacity u (c.clients n).cache) h d not shut reading (λ ls. refl) (record { given = d.at; begun = refl }) (fetched_walks s c past n p act m u body h d shut kind from shown a (ltb-true _ _ lasts))
     (apart_put (c.clients n).capacity u (c.clients n).cache (h.own n).apart)
     (put_old (c.clients n).capacity u (c.clients n).cache past (kept_whole u.body (find_cached u.fid (c.clients n).cache) u.fid u.index u.status (c.clients n).cache past refl h.one (h.clients n).old a.held.whole) (h.clients n).old)
-fetched_goes s c past n p act u body m false h d not shut kind from shown a lasts = again_goes s c past n p act m h d shut
+fetched_goes s c past n p act u body m false h d not shut reading kind from shown a lasts = again_goes s c past n p act m h d shut
 
 not_same_by : (t : Bool) (f g : Fid) → same_fid f g ≡ t → (f ≡ g → ⊥) → t ≡ false
 not_same_by true f g e ne = absurd (ne (same_fid-true f g e))
@@ -1053,12 +1056,12 @@ reads_walks s c past n most m at ls a cache w = record {
   dull = λ tail t k boot y. w.dull k boot (subst (λ (o : Option Message). IsCallUnder the_server k boot o) (w.given tail) y);
 }
 
-pub several_goes : (t : Bool) (s : Script) (c : Cell) (past : List Entry) (n p : ℕ) (act : Going) (us : List CacheEntry) (at : Fid → ℕ) (m : Message) → (h : Holds s c past) → Due c h.floors past n p act m → ((code : Code) → m.carried ≡ carried.Refusal code → ⊥) → volume_changed (asked act) ≡ None → AllFetched n m at past us → list_any (λ e. not (is_trusted c.clock e)) us ≡ t
+pub several_goes : (t : Bool) (s : Script) (c : Cell) (past : List Entry) (n p : ℕ) (act : Going) (us : List CacheEntry) (at : Fid → ℕ) (m : Message) → (h : Holds s c past) → Due c h.floors past n p act m → ((code : Code) → m.carried ≡ carried.Refusal code → ⊥) → volume_changed (asked act) ≡ None → (next act ≡ gives_back → ⊥) → AllFetched n m at past us → list_any (λ e. not (is_trusted c.clock e)) us ≡ t
     → Goes s past (client_moves c n (cond t (calls_again (Client n) (c.clients n) p act) (goes_on (Client n) (c.clients n) (λ ls. lines.Given p ∷ looked (Client n) (map status_look us) ls) (walked (most_reads (with_statuses us act)) c.clock (with_statuses us act) (put_entries (c.clients n).capacity us (c.clients n).cache)))))
-several_goes true s c past n p act us at m h d not shut all last = again_goes s c past n p act m h d shut
-several_goes false s c past n p act us at m h d not shut all last =
+several_goes true s c past n p act us at m h d not shut reading all last = again_goes s c past n p act m h d shut
+several_goes false s c past n p act us at m h d not shut reading all last =
     let R = reads_all us s c past n (c.clients n).capacity m at (lines.Given p ∷ []) act (c.clients n).cache h (reads_none s c past n p act m at h d shut) d.fact.booted all last in
-    gone_on s c past n p act m (λ ls. lines.Given p ∷ looked (Client n) (map status_look us) ls) (lines.Given p ∷ looked (Client n) (map status_look us) []) (most_reads (with_statuses us act)) (with_statuses us act) (put_entries (c.clients n).capacity us (c.clients n).cache) h d not shut
+    gone_on s c past n p act m (λ ls. lines.Given p ∷ looked (Client n) (map status_look us) ls) (lines.Given p ∷ looked (Client n) (map status_look us) []) (most_reads (with_statuses us act)) (with_statuses us act) (put_entries (c.clients n).capacity us (c.clients n).cache) h d not shut reading
     (λ ls. ap (λ (o : List Line). lines.Given p ∷ o) (looked_more (Client n) (map status_look us) ls)) (record { given = looked_message (Client n) (map status_look us) (lines.Given p ∷ []) (sent_of past) ∙ d.at; begun = looked_begun (Client n) (Client n) (map status_look us) (lines.Given p ∷ []) }) (reads_walks s c past n c.server.lasting.boot m at (lines.Given p ∷ looked (Client n) (map status_look us) []) (with_statuses us act) (put_entries (c.clients n).capacity us (c.clients n).cache) R) R.apart R.old
 
 -- ---- an answered store
@@ -1367,7 +1370,7 @@ resends_goes s c past n p act m boot h d le runs =
     (subst (λ (k : ℕ). ClientFacts s n (record (view h.floors c n) { known = k }) (e ∷ past)) (sym known) (client_kept s c past n boot e h le (λ f. told_file n p f (actors.Node (Client n)) ms past) (λ f. told_reach n p f (actors.Node (Client n)) ms past) (told_act n p (actors.Node (Client n)) ms past) (λ f. refl)))
     (λ head call f. call_known (view h.floors c n) (boot_of the_server x.boots) head call f)
     (reply_still n (view h.floors c n) e past (λ f. told_file n p f (actors.Node (Client n)) ms past) (λ f. told_reach n p f (actors.Node (Client n)) ms past) (λ f. refl) refl)
-    (own_call h.floors c past n (h.floors n) x act (lines.Given p ∷ []) (subst (λ (k : ℕ). k ≤ c.server.lasting.boot) (sym known) le) kind runs ((h.clients n).runs act runs) (same_one s c past n act ms h runs) (all_dropped_onto (Client n) (fids_of_gifts old.gifts) (lines.Given p ∷ []) (lines_of past) refl ((h.clients n).gave act runs))) (λ a x z. inl (x, (refl, refl))) refl (tried_kept n (c.clients n) _ (lines_of past) (lines.Given p ∷ []) refl refl refl refl (h.tried n))
+    (own_call h.floors c past n (h.floors n) x act (lines.Given p ∷ []) (subst (λ (k : ℕ). k ≤ c.server.lasting.boot) (sym known) le) kind runs ((h.clients n).runs act runs) (same_one s c past n act ms h runs) (all_dropped_onto (Client n) (fids_of_gifts old.gifts) (lines.Given p ∷ []) (lines_of past) refl (λ f. refl) ((h.clients n).gave act runs))) (λ a x z. inl (x, (refl, refl))) refl (tried_kept n (c.clients n) _ (lines_of past) (lines.Given p ∷ []) refl refl refl refl (h.tried n))
 
 -- ---- the row, by its cases
 
@@ -1385,24 +1388,43 @@ fresh_of true None e q = absurd cc
 fresh_of true (Some id) e q = absurd cc
 fresh_of false o e q = refl
 
+-- a call that gives back what its client was promised
+abbrev IsGiving : FsCall → Type 0
+IsGiving (calls.GiveUpCallBacks fids callbacks) = ⊤
+IsGiving call = ⊥
+
+abbrev IsReading : FsCall → Type 0
+IsReading (calls.FetchData f position wanted) = ⊤
+IsReading (calls.FetchStatus f) = ⊤
+IsReading (calls.BulkStatus fids) = ⊤
+IsReading call = ⊥
+
+reading_not : (call : FsCall) → IsReading call → IsGiving call → ⊥
+reading_not (calls.GiveUpCallBacks fids callbacks) r g = absurd r
+reading_not call r g = absurd g
+
+-- an act that asks to read isn't one that gives back
+asks_not : (act : Going) (call : FsCall) → IsReading call → asked act ≡ call → next act ≡ gives_back → ⊥
+asks_not act call r asks gives = reading_not call r (subst IsGiving (sym (ap call_for gives) ∙ asks) tt)
+
 -- a reading reply is used
-pub entry_goes : (s : Script) (c : Cell) (past : List Entry) (n p : ℕ) (act : Going) (head : Head) (reply : FsReply) (u : CacheEntry) (body : ReadBody) → (h : Holds s c past) → Due c h.floors past n p act (record { head = head; carried = carried.Reply (tell.File reply) }) → is_spent (c.clients n) act ≡ false → volume_changed (asked act) ≡ None
+pub entry_goes : (s : Script) (c : Cell) (past : List Entry) (n p : ℕ) (act : Going) (head : Head) (reply : FsReply) (u : CacheEntry) (body : ReadBody) → (h : Holds s c past) → Due c h.floors past n p act (record { head = head; carried = carried.Reply (tell.File reply) }) → is_spent (c.clients n) act ≡ false → volume_changed (asked act) ≡ None → (next act ≡ gives_back → ⊥)
     → is_promised body ≡ true → u.server ≡ (c.clients n).callee → Shows u.fid u.index body past (lines.Given p ∷ []) → IsFetched (c.clients n).spoiled n u.fid u.index u.status u.body u.expiry (record { head = head; carried = carried.Reply (tell.File reply) }) past → Goes s past (client_moves c n (takes_entry (Client n) (c.clients n) c.clock p act u body))
-entry_goes s c past n p act head reply u body h d fresh shut kind at shown fits =
-    fetched_goes s c past n p act u body _ (nat_lt c.clock u.expiry) h d (λ code z. reply_not reply code z) shut kind (at ∙ (h.own n).callee act d.running) shown
+entry_goes s c past n p act head reply u body h d fresh shut reading kind at shown fits =
+    fetched_goes s c past n p act u body _ (nat_lt c.clock u.expiry) h d (λ code z. reply_not reply code z) shut reading kind (at ∙ (h.own n).callee act d.running) shown
     (subst (λ (sp : Bool). IsFetched sp n u.fid u.index u.status u.body u.expiry (record { head = head; carried = carried.Reply (tell.File reply) }) past) (fresh_of (c.clients n).spoiled (volume_changed (call_of (c.clients n) act)) fresh (asks_changed (c.clients n).gifts act ∙ shut)) fits) refl
 
 pub data_goes : (s : Script) (c : Cell) (past : List Entry) (n p : ℕ) (act : Going) (call : FsCall) (head : Head) (contents : List ℕ) (status : AfsFetchStatus) (callback : AfsCallBack) (sync : AfsVolSync) → (h : Holds s c past) → Due c h.floors past n p act (record { head = head; carried = carried.Reply (tell.File (replies.FetchData contents status callback sync)) })
     → is_spent (c.clients n) act ≡ false → call_of (c.clients n) act ≡ call → FitsData (c.clients n).spoiled n (spot (view h.floors c n)) (record { head = head; carried = carried.Reply (tell.File (replies.FetchData contents status callback sync)) }) past contents status callback call → Goes s past (client_moves c n (takes_data (Client n) (c.clients n) c.clock p act contents status callback sync call))
 data_goes s c past n p act (calls.FetchData f pp w) head contents status callback sync h d fresh same fits =
-    entry_goes s c past n p act head (replies.FetchData contents status callback sync) (entry_told (c.clients n).callee f status callback sync (Some (body_told status.file_type contents))) (seen.Contents (body_told status.file_type contents)) h d fresh (ap volume_changed (asks_just (c.clients n).gifts act (calls.FetchData f pp w) refl same)) refl refl
+    entry_goes s c past n p act head (replies.FetchData contents status callback sync) (entry_told (c.clients n).callee f status callback sync (Some (body_told status.file_type contents))) (seen.Contents (body_told status.file_type contents)) h d fresh (ap volume_changed (asks_just (c.clients n).gifts act (calls.FetchData f pp w) refl same)) (asks_not act (calls.FetchData f pp w) tt (asks_just (c.clients n).gifts act (calls.FetchData f pp w) refl same)) refl refl
     (fits.held.whole.holds.1, subst (λ (b : Body). HasVersion f status.sync_counter b (lines_of past)) (sym fits.held.whole.holds.0) fits.held.whole.told) fits
 data_goes s c past n p act call head contents status callback sync h d fresh same fits = plain_goes s c past n p act call _ (replies.FetchData contents status callback sync) h d refl same fits.0
 
 pub status_goes : (s : Script) (c : Cell) (past : List Entry) (n p : ℕ) (act : Going) (call : FsCall) (head : Head) (status : AfsFetchStatus) (callback : AfsCallBack) (sync : AfsVolSync) → (h : Holds s c past) → Due c h.floors past n p act (record { head = head; carried = carried.Reply (tell.File (replies.FetchStatus status callback sync)) })
     → is_spent (c.clients n) act ≡ false → call_of (c.clients n) act ≡ call → FitsShown (c.clients n).spoiled n (spot (view h.floors c n)) (record { head = head; carried = carried.Reply (tell.File (replies.FetchStatus status callback sync)) }) past status callback call → Goes s past (client_moves c n (takes_shown (Client n) (c.clients n) c.clock p act status callback sync call))
 status_goes s c past n p act (calls.FetchStatus f) head status callback sync h d fresh same fits =
-    entry_goes s c past n p act head (replies.FetchStatus status callback sync) (entry_told (c.clients n).callee f status callback sync None) (seen.Status (status_told status)) h d fresh (ap volume_changed (asks_just (c.clients n).gifts act (calls.FetchStatus f) refl same)) refl refl
+    entry_goes s c past n p act head (replies.FetchStatus status callback sync) (entry_told (c.clients n).callee f status callback sync None) (seen.Status (status_told status)) h d fresh (ap volume_changed (asks_just (c.clients n).gifts act (calls.FetchStatus f) refl same)) (asks_not act (calls.FetchStatus f) tt (asks_just (c.clients n).gifts act (calls.FetchStatus f) refl same)) refl refl
     ((fits.held.whole.is, fits.held.whole.told), fits.held.whole.been) fits
 status_goes s c past n p act call head status callback sync h d fresh same fits = plain_goes s c past n p act call _ (replies.FetchStatus status callback sync) h d refl same fits.0
 
@@ -1417,7 +1439,7 @@ pub bulk_goes : (s : Script) (c : Cell) (past : List Entry) (n p : ℕ) (act : G
     → is_spent (c.clients n) act ≡ false → call_of (c.clients n) act ≡ call → FitsBulk (c.clients n).spoiled n (spot (view h.floors c n)) (record { head = head; carried = carried.Reply (tell.File (replies.BulkStatus statuses callbacks sync)) }) past statuses callbacks call → Goes s past (client_moves c n (takes_bulk (Client n) (c.clients n) c.clock p act statuses callbacks sync call))
 bulk_goes s c past n p act (calls.BulkStatus fids) head statuses callbacks sync h d fresh same fits =
     let us : List CacheEntry = entries_told (c.clients n).callee sync fids statuses callbacks in
-    several_goes (list_any (λ e. not (is_trusted c.clock e)) us) s c past n p act us fits.at _ h d (λ code z. reply_not (replies.BulkStatus statuses callbacks sync) code z) (ap volume_changed (asks_just (c.clients n).gifts act (calls.BulkStatus fids) refl same))
+    several_goes (list_any (λ e. not (is_trusted c.clock e)) us) s c past n p act us fits.at _ h d (λ code z. reply_not (replies.BulkStatus statuses callbacks sync) code z) (ap volume_changed (asks_just (c.clients n).gifts act (calls.BulkStatus fids) refl same)) (asks_not act (calls.BulkStatus fids) tt (asks_just (c.clients n).gifts act (calls.BulkStatus fids) refl same))
     (told_fetched (c.clients n).spoiled n _ past fits.at (c.clients n).callee sync fids statuses callbacks (fresh_of (c.clients n).spoiled (volume_changed (call_of (c.clients n) act)) fresh (ap volume_changed same)) ((h.own n).callee act d.running) fits.all) refl
 bulk_goes s c past n p act call head statuses callbacks sync h d fresh same fits = plain_goes s c past n p act call _ (replies.BulkStatus statuses callbacks sync) h d refl same fits.0
 
@@ -1478,17 +1500,17 @@ not_true true w = absurd (w refl)
 not_true false w = refl
 
 -- the next ones are, or the act is done
-more_given : (gs : List Gift) (s : Script) (c : Cell) (past : List Entry) (n p : ℕ) (act : Going) (m : Message) (reply : FsReply) → (h : Holds s c past) → AreGifts gs → AreDropped (Client n) (fids_of_gifts gs) (lines_of past) → Due c h.floors past n p act m → m.carried ≡ carried.Reply (tell.File reply) → volume_changed (asked act) ≡ None → EndsAct (next act)
+more_given : (gs : List Gift) (s : Script) (c : Cell) (past : List Entry) (n p : ℕ) (act : Going) (m : Message) (reply : FsReply) → (h : Holds s c past) → AreGifts gs → AreDropped (Client n) (fids_of_gifts gs) (lines_of past) → ((next act ≡ gives_back → ⊥) → gs ≡ []) → Due c h.floors past n p act m → m.carried ≡ carried.Reply (tell.File reply) → volume_changed (asked act) ≡ None → EndsAct (next act)
     → Goes s past (client_moves c n (gives_by (Client n) (c.clients n) (given p) act gs))
-more_given [] s c past n p act m reply h some gave d is shut ends =
+more_given [] s c past n p act m reply h some gave spared d is shut ends =
     subst (λ (cs : List CacheEntry). Goes s past (client_moves c n (ends_step (Client n) (c.clients n) cs (given p) zero_code))) (all_left (c.clients n).cache)
     (subst (λ (es : List CacheEntry). Goes s past (client_moves c n (ends_step (Client n) (c.clients n) (filter (λ (e : CacheEntry). true) (c.clients n).cache) (λ ls. given p (dropped (Client n) es ls)) zero_code))) (none_dropped (c.clients n).cache)
     (takes_other s c past n p act calls.GetTime m reply h d is ends (λ f. not_true (is_in_scope (asked act) f) (no_scope (asked act) f shut))))
-more_given (g ∷ gs) s c past n p act m reply h some gave d is shut ends = again_with s c past n p (g ∷ gs) act m h some gave d shut
+more_given (g ∷ gs) s c past n p act m reply h some gave spared d is shut ends = again_with s c past n p (g ∷ gs) act m h some gave spared d shut
 
 given_goes : (s : Script) (c : Cell) (past : List Entry) (n p : ℕ) (act : Going) (call : FsCall) (m : Message) (reply : FsReply) → (h : Holds s c past) → Due c h.floors past n p act m → m.carried ≡ carried.Reply (tell.File reply) → call_of (c.clients n) act ≡ call → IsNoRead call → Goes s past (client_moves c n (takes_given (Client n) (c.clients n) p act call))
 given_goes s c past n p act (calls.GiveUpCallBacks fids callbacks) m reply h d is same unread =
-    more_given (behind_batch (c.clients n).gifts) s c past n p act m reply h (gifts_later (length (batch (c.clients n).gifts)) (c.clients n).gifts (h.own n).gifts) (dropped_rest (Client n) (length (batch (c.clients n).gifts)) (c.clients n).gifts (lines_of past) ((h.clients n).gave act d.running)) d is (sym (asks_changed (c.clients n).gifts act) ∙ ap volume_changed same)
+    more_given (behind_batch (c.clients n).gifts) s c past n p act m reply h (gifts_later (length (batch (c.clients n).gifts)) (c.clients n).gifts (h.own n).gifts) (dropped_rest (Client n) (length (batch (c.clients n).gifts)) (c.clients n).gifts (lines_of past) ((h.clients n).gave act d.running)) (λ not. ap behind_batch ((h.clients n).spared act d.running not)) d is (sym (asks_changed (c.clients n).gifts act) ∙ ap volume_changed same)
     (ends_by (c.clients n).gifts (next act) ((h.own n).needs act d.running) (subst IsNoRead (sym same) unread))
 given_goes s c past n p act call m reply h d is same unread = plain_goes s c past n p act call m reply h d is same unread
 

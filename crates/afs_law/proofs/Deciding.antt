@@ -560,6 +560,7 @@ revived_client {s} fl c past j h =
       asked = h.asked;
       late = h.late;
       none = h.none;
+      spared = h.spared;
       gave = h.gave;
       reached = h.reached;
     }

@@ -461,7 +461,8 @@ drops_goes s c past n p head user fs cbs h heard to from b =
       asked = λ act y. inr ((skips n fs).begins (Client n), d.asked act y);
       late = λ act y. late_over (Client n) (last_key n v) e past ((skips n fs).begins (Client n)) (d.late act y);
       none = d.none;
-      gave = λ act y. all_dropped_onto (Client n) (fids_of_gifts x.gifts) e.lines (lines_of past) ((skips n fs).begins (Client n)) (d.gave act y);
+      spared = d.spared;
+      gave = λ act y. all_dropped_onto (Client n) (fids_of_gifts x.gifts) e.lines (lines_of past) ((skips n fs).begins (Client n)) (λ f. (skips n fs).fetched (Client n) f) (d.gave act y);
       reached = reached_still s c past n e h (λ f. (broken_reach n n p fs (reply ∷ []) past f).both) last;
     })
     (λ hd call f. record { behind = f.behind; booted = f.booted; stale = f.stale; own = f.own; safe = λ q above. safe_cache call c.clock (c.clients n).epoch (c.clients n).last (c.clients n).running (c.clients n).cache st.state.cache (IsAged (view h.floors c n) hd) hd (λ g y u at lasts. y u (left_out (λ x. is_named x fs) g (c.clients n).cache u at).0 lasts) (f.safe q above) })
@@ -597,7 +598,8 @@ drops_all_goes s c past n p head user h heard to from b =
       asked = λ act y. inr (refl, d.asked act y);
       late = λ act y. late_over (Client n) (last_key n v) e past refl (d.late act y);
       none = d.none;
-      gave = λ act y. all_dropped_onto (Client n) (fids_of_gifts x.gifts) e.lines (lines_of past) refl (d.gave act y);
+      spared = d.spared;
+      gave = λ act y. all_dropped_onto (Client n) (fids_of_gifts x.gifts) e.lines (lines_of past) refl (λ f. refl) (d.gave act y);
       reached = reached_still s c past n e h (λ f. (r f).both) (λ f. refl);
     })
     (λ hd call f. record { behind = f.behind; booted = f.booted; stale = f.stale; own = f.own; safe = λ q above. safe_cache call c.clock (c.clients n).epoch (c.clients n).last (c.clients n).running (c.clients n).cache st.state.cache (IsAged (view h.floors c n) hd) hd (λ g y u at lasts. y u (gone g u at).0 lasts) (f.safe q above) })

@@ -899,6 +899,7 @@ saves_holds y s now c past after armed d n h user call time id st es shown H w q
         own = refl;
       };
       acts = saves_act y n k vs r past;
+      fetched = λ f. (saves_file y n k vs r past f).fetched;
       grows = λ f i b z. (saves_grant y n k vs r past f).version i b (lines_of past) z;
       current = λ f u found lasts. let cur : IsCurrent n f u (view fl c n) past = (H.clients n).current f u found lasts in
           record {

@@ -55,7 +55,7 @@ use Rattle.std.proofs.Math.Nat.{le_refl}
 use Rattle.afs_num.specs.Nodes.{same_node}
 use Rattle.afs_breaks.specs.declared.types.Promise.{Promise}
 use Rattle.afs_law.proofs.Promising.{Owed, without_promises, shows_turn, shows_turn_is}
-use Rattle.afs_law.specs.Grants.{IsDropped}
+use Rattle.afs_law.specs.Grants.{has_fetched, IsDropped}
 use Rattle.afs_law.specs.Breaks.{returned_in, returned_by, is_unheard, is_call_under, is_call, lines_at, fids_given_up, has_answer, drops_of, is_told}
 use Rattle.afs_rows.specs.ServerSteps.{stepped, done}
 use Rattle.afs_law.proofs.Keeping.{at_placed}
@@ -480,6 +480,7 @@ pub record Serves (good : Bool) (s : Script) (c : Cell) (fl : ℕ → Ghost) (pa
   pub is_reply : IsReply x
   pub answer : Answers (c.clients n).spoiled n call (record { durable = own_durable good (taken n h (replied c.server.lasting.boot (client_head n h) x)) (call_seat (Client n) c.server.lasting.kept); epoch = h.epoch; last = h.number }) c.server.lasting.boot (replied c.server.lasting.boot (client_head n h) x) (e ∷ past)
   pub acts : PassesAct n e past
+  pub fetched : (f : Fid) → has_fetched (Client n) f e.lines ≡ false
   pub grows : (f : Fid) (i : ℕ) (b : Body) → HasVersion f i b (lines_of past) → HasVersion f i b (lines_of (e ∷ past))
   pub current : HasCurrent n (caller_view good fl c n h (replied c.server.lasting.boot (client_head n h) x)) (e ∷ past)
   pub reached : (f : Fid) → Reached (Client n) f (index_in (last_version f (lines_of (e ∷ past)))) (e ∷ past)
@@ -544,7 +545,8 @@ caller_after good s c past n h user call x e st H w v =
       asked = λ b y. inr (v.acts.begins, d.asked b y);
       late = λ b y. late_over (Client n) (last_key n (view H.floors c n)) e past v.acts.begins (d.late b y);
       none = d.none;
-      gave = λ b y. all_dropped_onto (Client n) (fids_of_gifts (c.clients n).gifts) e.lines (lines_of past) v.acts.begins (d.gave b y);
+      spared = d.spared;
+      gave = λ b y. all_dropped_onto (Client n) (fids_of_gifts (c.clients n).gifts) e.lines (lines_of past) v.acts.begins v.fetched (d.gave b y);
       reached = v.reached;
     }
 
@@ -646,6 +648,7 @@ serves_still s c past n h user call x e H w pf pr pa l ideal home new before clo
       is_reply = is;
       answer = a;
       acts = pa n;
+      fetched = λ f. (pf n f).fetched;
       grows = λ f i b y. ((pf n f).grant).version i b (lines_of past) y;
       current = current_same s c past n h r e H (pf n) (pr n) l;
       made = λ a runs f o z. (pr n f).made ((H.clients n).made a runs f o z);

@@ -76,7 +76,7 @@ tries_goes s c past n act h runs =
     (client_kept s c past n (boot_of the_server x.boots) e h (h.clients n).known (timeout_file q n n x.epoch x.last (x.tries + 1) ms past) (timeout_reach q n n x.epoch x.last (x.tries + 1) ms past) (timeout_act q n n x.epoch x.last (x.tries + 1) ms past) (λ f. refl))
     (λ head call f. call_known (view h.floors c n) (boot_of the_server x.boots) head call f)
     (reply_still n (view h.floors c n) e past (timeout_file q n n x.epoch x.last (x.tries + 1) ms past) (timeout_reach q n n x.epoch x.last (x.tries + 1) ms past) (λ f. refl) refl)
-    (own_call h.floors c past n (h.floors n) y act (lines.Timeout (Client n) q x.epoch x.last (x.tries + 1) ∷ []) (h.clients n).known kind runs ((h.clients n).runs act runs) (same_one s c past n act ms h runs) (all_dropped_onto (Client n) (fids_of_gifts x.gifts) (lines.Timeout (Client n) q x.epoch x.last (x.tries + 1) ∷ []) (lines_of past) refl ((h.clients n).gave act runs))) (λ a x z. inl (x, (refl, refl))) refl (tried_once n x (lines_of past) q ((h.own n).callee act runs) (h.tried n))
+    (own_call h.floors c past n (h.floors n) y act (lines.Timeout (Client n) q x.epoch x.last (x.tries + 1) ∷ []) (h.clients n).known kind runs ((h.clients n).runs act runs) (same_one s c past n act ms h runs) (all_dropped_onto (Client n) (fids_of_gifts x.gifts) (lines.Timeout (Client n) q x.epoch x.last (x.tries + 1) ∷ []) (lines_of past) refl (λ f. refl) ((h.clients n).gave act runs))) (λ a x z. inl (x, (refl, refl))) refl (tried_once n x (lines_of past) q ((h.own n).callee act runs) (h.tried n))
 
 -- The clients' timeouts, and how a client stops and begins again.
 
@@ -255,6 +255,7 @@ client_stops_goes s c past n h =
       asked = λ b y. absurd cc;
       late = λ b y. absurd cc;
       none = λ y. refl;
+      spared = λ b y. absurd cc;
       gave = λ b y. absurd cc;
       reached = reached_still s c past n e h (λ f i r. record { made = r.made; seen = r.seen }) (λ f. refl);
     })

@@ -33,6 +33,7 @@ use Rattle.afs_law.specs.Ideal.{set_up}
 use Rattle.afs_law.specs.Once.{past_of}
 use Rattle.afs_law.specs.Past.{AreWithin, has_begun, IsUnheard, IsCallUnder, Ran, answered_key, code_told, given_message, lines_of, sent_of}
 use Rattle.afs_num.specs.declared.calls.FsCall.{FsCall}
+use Rattle.afs_num.specs.declared.calls.FsCall.TheVariants as calls
 use Rattle.afs_num.specs.declared.histories.Actor.TheVariants as actors
 use Rattle.afs_num.specs.declared.messages.Call.TheVariants as ask
 use Rattle.afs_num.specs.declared.types.Half.TheVariants as halves
@@ -487,6 +488,17 @@ read_when_gone h = h.1.1.1.1.1.1.1.0.0.0.1.0.1.whole.0
 gave_back_and_kept : Legal (alters 3 (λ e. record e { lines = lines.Begin (Client 1) acts.GiveUp ∷ [] }) (entries (start (script 1)) (begins 1 (acts.Open (operands.Fid file)) ∷ gives 1 steady ∷ gives 2 steady ∷ begins 1 acts.GiveUp ∷ []))) (script 1) → ⊥
 unfolding moved begin_row client_row server_row back_timeout_row wake_row start_row record_bytes head_form volume_form spelled opaque pad word laid_at led name_ok directory_bytes name_bytes rights_of image acl_text digits entry_text directory_of names_at opaque_at word_at counted_at whole_at count_at name_at spelled_at bytes_below
 gave_back_and_kept h = h.1.1.1.0.0.1.0.1.0
+
+-- a client drops a file, fetches it anew, and gives back what it was promised by that: it would be owed nothing, and show it for long
+abbrev open_front : List Input
+open_front = begins 1 (acts.Open (operands.Fid file)) ∷ gives 1 steady ∷ gives 2 steady ∷ []
+
+abbrev gift : Message
+gift = record { head = record { half = halves.Call; from = Client 1; to = Server 1; epoch = 1; number = 2; boot = 1; stamp = 0; opcode = 147 }; carried = carried.Call (codes "guest") (ask.File (calls.GiveUpCallBacks (file ∷ []) [])) }
+
+gave_back_what_is_new : Legal (alters 0 (λ e. record e { lines = begun 1 ∷ lines.Drop (Client 1) file ∷ [] }) (alters 2 (λ e. record e { lines = lines.Given 2 ∷ shown Fetched ∷ []; sent = gift ∷ [] }) (entries (start (script 1)) open_front))) (script 1) → ⊥
+unfolding moved begin_row client_row server_row back_timeout_row wake_row start_row record_bytes head_form volume_form spelled opaque pad word laid_at led name_ok directory_bytes name_bytes rights_of image acl_text digits entry_text directory_of names_at opaque_at word_at counted_at whole_at count_at name_at spelled_at bytes_below
+gave_back_what_is_new h = h.1.1.0.0.1.0.1.0
 
 -- ---- an entry is given one message
 

@@ -1,5 +1,6 @@
+use Rattle.afs_num.specs.Fids.{same_fid}
 use Rattle.afs_rows.specs.ServerRow.{promise_ticks}
-use Rattle.std.specs.Prelude.{◌+◌, Bool, true, ◌≡◌, ℕ, ◌≤◌, ◌<◌, List, [], ◌∷◌, ◌++◌, false, Option, Some, None, ℤ, pos, negsuc, length, ⊤, ◌⊎◌, if◌then◌else◌}
+use Rattle.std.specs.Prelude.{◌&&◌, ◌+◌, Bool, true, ◌≡◌, ℕ, ◌≤◌, ◌<◌, List, [], ◌∷◌, ◌++◌, false, Option, Some, None, ℤ, pos, negsuc, length, ⊤, ◌⊎◌, if◌then◌else◌}
 use Rattle.afs_num.specs.Nodes.{same_node}
 use Rattle.afs_num.specs.declared.types.Code.{Code}
 use Rattle.afs_num.specs.declared.types.Fid.{Fid}
@@ -369,18 +370,19 @@ pub record GoodCode (s : Script) (c : Node) (code : Code) (past : List Entry) (o
 
 -- ---- messages that are sent
 
--- the client dropped the fid since it last began an act, by these lines, the newest first
+-- the client dropped the fid since it last began an act, and fetched nothing of it since, by these lines, the newest first
 abbrev pub HasDropped : Node → Fid → List Line → Type 0
 HasDropped c f [] = ⊥
 HasDropped c f (lines.Drop m g ∷ older) = ((m ≡ c) × (g ≡ f)) ⊎ HasDropped c f older
 HasDropped c f (lines.Begin m act ∷ older) = Unless (same_node m c) (HasDropped c f older)
+HasDropped c f (lines.Read m g index Fetched body ∷ older) = Unless (is_promised body && (same_node m c && same_fid g f)) (HasDropped c f older)
 HasDropped c f (l ∷ older) = HasDropped c f older
 
 abbrev pub AreDropped : Node → List Fid → List Line → Type 0
 AreDropped c [] ls = ⊤
 AreDropped c (f ∷ fs) ls = HasDropped c f ls × AreDropped c fs ls
 
--- who tells that promises are given back dropped each of their fids in the same act
+-- who tells that promises are given back dropped each of their fids in the same act, and was promised none anew
 abbrev pub GoodGift : Head → Carried → List Line → Type 0
 GoodGift head (carried.Call user (ask.File (calls.GiveUpCallBacks fids callbacks))) ls = AreDropped head.from fids ls
 GoodGift head c ls = ⊤
