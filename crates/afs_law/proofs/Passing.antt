@@ -18,7 +18,7 @@ use Rattle.afs_num.specs.declared.calls.FsCall.{FsCall}
 use Rattle.afs_num.specs.declared.messages.Carried.{Carried}
 use Rattle.afs_num.specs.declared.messages.Message.{Message}
 use Rattle.afs_ideal.specs.Operations.{volume_changed, Result, changes}
-use Rattle.afs_law.proofs.Basics.{same_key-true, same_key-refl, some_of, Each, IfCall, IfReply, IfNotice, each_more, each_map, if_call, if_reply, if_notice, at_more, ByClient, OfClient, by_client, both, same_node-true, same_node-refl, client_number, OfCall}
+use Rattle.afs_law.proofs.Basics.{UpTo, same_key-true, same_key-refl, some_of, Each, IfCall, IfReply, IfNotice, each_more, each_map, if_call, if_reply, if_notice, at_more, ByClient, OfClient, by_client, both, same_node-true, same_node-refl, client_number, OfCall}
 use Rattle.afs_law.proofs.Edits.{index_in}
 use Rattle.afs_law.proofs.Facts.{FitsList, IsWhole, IsOld, HasOld, FitsShown, IsKeptBody, Seen, IsActs, IsLastCall, View, Spot, spot, Reached, Held, IsNewest, Stands, IsCurrent, IsFetched, Fits, Answers, ReplyFact, AreKept, ClientFacts, CallIn, ReplyIn, Origin, HeldIn, ToClient, SentFacts, HasFallen, Reading, FitsReply, FitsData, FitsSet, WasChanged, WasStored, IsOne, IsNoticed}
 use Rattle.afs_rows.specs.ClientRow.{batch, batch_to, most_given, call_by, body_told, find_cached, status_told}
@@ -27,7 +27,7 @@ use Rattle.afs_law.specs.Grants.{is_promised, has_fetched, fetch_reply, GrantOf,
 use Rattle.afs_law.specs.Ideal.{WasBefore, IsLast, WasLast, Unless, last_version, HasVersion, reach, change_in, call_in, call_under}
 use Rattle.afs_law.specs.Legal.{IsNew, IsNot, AreDropped, HasDropped, GoodGift, IsResult, IsKey, HasChange, Cause, answer_at, IsTold, as_asked}
 use Rattle.afs_history.specs.declared.lines.Line.{Line}
-use Rattle.afs_law.specs.Past.{is_late, begins_act, onto, lines_of, sent_of, given_message, running, has_begun, Ran, called_key, same_key, is_called, has_sent, is_sent_since, answered_key}
+use Rattle.afs_law.specs.Past.{IsCallUnder, IsCallFrom, IsToCome, IsUnheard, is_late, begins_act, onto, lines_of, sent_of, given_message, running, has_begun, Ran, called_key, same_key, is_called, has_sent, is_sent_since, answered_key}
 use Rattle.afs_rows.specs.Runs.{Entry, Fall, at_rest, in_step, in_boot}
 use Rattle.afs_law.proofs.OneCell.{the_server}
 use Rattle.afs_rows.specs.States.{Gift, CacheEntry, Seat, Lasting}
@@ -436,6 +436,17 @@ new_or_changed k (l ∷ ls) = new_or_by (change_in l) k (IsNew k ls) (HasChange 
 -- where a new key stays new, what changed something did so before
 pub changed_before : (k : Key) (o p : List Line) → (IsNew k o → IsNew k p) → HasChange k p → HasChange k o
 changed_before k o p w h = elim (new_or_changed k o) [ inl x ↦ absurd (no_change k p (w x) h) | inr y ↦ y ]
+
+-- ---- what is to come
+
+no_call_from : (s : Node) (k : Key) (b : ℕ) (o : Option Message) → ((l : Key) → l.node ≡ k.node → UpTo k.epoch k.number l.epoch l.number → IsCallUnder s l b o → ⊥) → IsCallFrom s k b o → ⊥
+no_call_from s k b None w x = x
+no_call_from s k b (Some m) w x = w (called_key m.head) x.1.0.0 x.1.0.1 (x.0, (refl, x.1.1))
+
+-- a call is to come where neither it was heard nor any later one of its node
+pub to_come : (s : Node) (k : Key) (b : ℕ) (past : List Entry) → ((l : Key) → l.node ≡ k.node → UpTo k.epoch k.number l.epoch l.number → IsUnheard s l b past) → IsToCome s k b past
+to_come s k b [] w = tt
+to_come s k b (e ∷ past) w = (no_call_from s k b (given_message e.lines (sent_of past)) (λ l node up. (w l node up).0), to_come s k b past (λ l node up. (w l node up).1))
 
 -- ---- a client that doesn't move
 

@@ -18,7 +18,7 @@ use Rattle.afs_law.proofs.Homes.{accepts_first}
 use Rattle.afs_law.specs.Grants.{GrantOf, until}
 use Rattle.afs_num.specs.declared.histories.Actor.{Actor}
 use Rattle.afs_num.specs.declared.types.Node.{Node}
-use Rattle.afs_law.proofs.OneCell.{the_server, server_waits, Input, begins, gives, moved, nothing, sets_stop, start, starts_again, waits}
+use Rattle.afs_law.proofs.OneCell.{stops, the_server, server_waits, Input, begins, gives, moved, nothing, sets_stop, start, starts_again, waits}
 use Rattle.afs_law.proofs.Worked.{alters, answer, begun, entries, file, root, script, six_front}
 use Rattle.afs_law.specs.Breaks.{HasTimeout, HasStopped}
 use Rattle.afs_law.specs.Legal.{Cause, EndsAct, IsResult, Legal, answer_at, code_given}
@@ -31,7 +31,7 @@ use Rattle.afs_rows.specs.Runs.{Entry, comes_up, steady}
 use Rattle.afs_xdr.specs.Words.{opaque, pad, word, opaque_at, word_at, counted_at}
 use Rattle.afs_law.specs.Ideal.{set_up}
 use Rattle.afs_law.specs.Once.{past_of}
-use Rattle.afs_law.specs.Past.{AreWithin, has_begun, IsUnheard, IsCallUnder, Ran, answered_key, code_told, given_message, lines_of, sent_of}
+use Rattle.afs_law.specs.Past.{IsToCome, called_key, AreWithin, has_begun, IsUnheard, IsCallUnder, Ran, answered_key, code_told, given_message, lines_of, sent_of}
 use Rattle.afs_num.specs.declared.calls.FsCall.{FsCall}
 use Rattle.afs_num.specs.declared.calls.FsCall.TheVariants as calls
 use Rattle.afs_num.specs.declared.histories.Actor.TheVariants as actors
@@ -259,22 +259,22 @@ run_when_down h =
 abbrev key_of_one : ℕ → Key
 key_of_one n = record { node = Client 1; epoch = 1; number = n }
 
-abbrev late_front : List Input
-late_front = begins 1 (acts.Close (operands.Fid file) (Hex (codes "def"))) ∷ waits 1 ∷ waits 1 ∷ waits 1 ∷ begins 1 (acts.Close (operands.Fid file) (Hex (codes "xyz"))) ∷ gives 4 steady ∷ gives 1 steady ∷ []
+abbrev to_boot_two : Entry → Entry
+to_boot_two e = record e { sent = map (λ (m : Message). record m { head = record m.head { boot = 2 } }) e.sent }
 
-changed_behind_a_later_one : Legal (alters 6 (instead (lines.Given 1 ∷ lines.Change (Server 1) (key_of_one 1) 1 ∷ lines.Version (record { fid = file; index = 3; data_version = 3; body = bodies.File (codes "def") }) ∷ [])) (entries (start (script 1)) late_front)) (script 1) → ⊥
+abbrev late_front : List Input
+late_front = begins 1 (acts.Close (operands.Fid file) (Hex (codes "def"))) ∷ waits 1 ∷ waits 1 ∷ waits 1 ∷ begins 1 (acts.Close (operands.Fid file) (Hex (codes "xyz"))) ∷ gives 4 steady ∷ gives 5 steady ∷ stops ∷ starts_again true comes_up ∷ gives 2 steady ∷ []
+
+changed_behind_a_later_one : Legal (alters 1 to_boot_two (alters 9 (instead (lines.Given 2 ∷ lines.Change (Server 1) (key_of_one 1) 1 ∷ lines.Version (record { fid = file; index = 3; data_version = 3; body = bodies.File (codes "def") }) ∷ [])) (entries (start (script 1)) late_front))) (script 1) → ⊥
 unfolding moved begin_row client_row server_row back_timeout_row wake_row start_row record_bytes head_form volume_form spelled opaque pad word laid_at led name_ok directory_bytes name_bytes rights_of image acl_text digits entry_text directory_of names_at opaque_at word_at counted_at whole_at count_at name_at spelled_at bytes_below
 changed_behind_a_later_one h =
-    let g = h.1.1.1.1.1.1.0.0.0.1.0.1 in
+    let g = h.1.1.1.1.1.1.1.1.1.0.0.0.1.0.1 in
     elim (g.latest (key_of_one 2) (inl (refl, refl)) refl) [
       | inl x ↦ let e : 1 < 1 = x in absurd (omega arith)
       | inr x ↦ let e : 2 < 1 = x.1 in absurd (omega arith)
     ]
 
 -- a server runs a call that is to another boot than its own
-abbrev to_boot_two : Entry → Entry
-to_boot_two e = record e { sent = map (λ (m : Message). record m { head = record m.head { boot = 2 } }) e.sent }
-
 run_in_another_boot : Legal (alters 0 to_boot_two (entries (start (script 1)) (begins 1 (acts.Close (operands.Fid file) (Hex (codes "def"))) ∷ gives 1 steady ∷ []))) (script 1) → ⊥
 unfolding moved begin_row client_row server_row back_timeout_row wake_row start_row record_bytes head_form volume_form spelled opaque pad word laid_at led name_ok directory_bytes name_bytes rights_of image acl_text digits entry_text directory_of names_at opaque_at word_at counted_at whole_at count_at name_at spelled_at bytes_below
 run_in_another_boot h =
@@ -371,6 +371,53 @@ no_room_but_stored h =
         | inr z ↦ elim z [
           | inl x ↦ let e : pos 108 ≡ negsuc 0 = x.is in absurd cc
           | inr x ↦ let e : pos 108 ≡ pos 0 = x.is in absurd cc
+        ]
+      ]
+    ]
+
+-- ---- a server runs a dead call behind a later one of its client, in one boot, and refuses it
+
+abbrev refusal_of_one : Message
+refusal_of_one = record { head = record { half = halves.Reply; from = Server 1; to = Client 1; epoch = 1; number = 1; boot = 1; stamp = 0; opcode = 130 }; carried = carried.Refusal (record { 0 = pos 13 }) }
+
+abbrev old_front : List Input
+old_front = begins 1 (acts.Open (operands.Fid file)) ∷ waits 1 ∷ waits 1 ∷ waits 1 ∷ begins 1 (acts.Open (operands.Fid file)) ∷ gives 4 steady ∷ gives 1 steady ∷ []
+
+-- what that says of the entry that ran it
+record RanOne (e : Entry) (older : List Entry) : Type 0 where
+  message : Message
+  given : given_message e.lines (sent_of older) ≡ Some message
+  key : called_key message.head ≡ key_of_one 1
+  first : IsToCome (Server 1) (key_of_one 1) 1 older
+
+ran_one : (past : List Entry) → Ran refusal_of_one.head past → Among RanOne past
+ran_one past r = subst (Among RanOne) (sym r.split) (is_among RanOne r.newer r.at r.older (record { message = r.message; given = r.given; key = r.key; first = r.first }))
+
+was_given_none : (e : Entry) (older : List Entry) → given_message e.lines (sent_of older) ≡ None → RanOne e older → ⊥
+was_given_none e older none x = let no_ : None ≡ Some x.message = sym none ∙ x.given in absurd cc
+
+was_given_another : (e : Entry) (older : List Entry) (m : Message) → given_message e.lines (sent_of older) ≡ Some m → m.head.number ≡ 2 → RanOne e older → ⊥
+was_given_another e older m at two x = let no_ : 2 ≡ 1 = sym two ∙ (ap (λ (q : Message). q.head.number) (some_of m x.message (sym at ∙ x.given)) ∙ ap (λ (k : Key). k.number) x.key) in absurd (omega (arith, no_))
+
+ran_behind_a_later_one : Legal (alters 6 (λ e. record e { sent = refusal_of_one ∷ [] }) (entries (start (script 1)) old_front)) (script 1) → ⊥
+unfolding moved begin_row client_row server_row back_timeout_row wake_row start_row record_bytes head_form volume_form spelled opaque pad word laid_at led name_ok directory_bytes name_bytes rights_of image acl_text digits entry_text directory_of names_at opaque_at word_at counted_at whole_at count_at name_at spelled_at bytes_below
+ran_behind_a_later_one h =
+    elim (ran_one _ (h.1.1.1.1.1.1.0.1.1.0 1 1 (refl, tt) refl refl)) [
+      | inl x ↦ x.first.0 ((tt, refl), ((refl, inr (refl, omega arith)), refl))
+      | inr y ↦ elim y [
+        | inl x ↦ was_given_another _ _ _ refl refl x
+        | inr z ↦ elim z [
+          | inl x ↦ was_given_none _ _ refl x
+          | inr w ↦ elim w [
+            | inl x ↦ was_given_none _ _ refl x
+            | inr v ↦ elim v [
+              | inl x ↦ was_given_none _ _ refl x
+              | inr u ↦ elim u [
+                | inl x ↦ was_given_none _ _ refl x
+                | inr t ↦ elim t [ inl x ↦ was_given_none _ _ refl x | inr r ↦ elim r [ inl x ↦ was_given_none _ _ refl x | inr q ↦ q ] ]
+              ]
+            ]
+          ]
         ]
       ]
     ]

@@ -26,7 +26,7 @@ use Rattle.afs_law.specs.Legal.{HasChangeBy, GoodRead, HasChange, Legal, Cause}
 use Rattle.afs_history.specs.declared.lines.Line.{Line}
 use Rattle.afs_law.specs.Once.{past_of, ChangesOnce}
 use Rattle.afs_law.specs.OneServer.{IsOneServer}
-use Rattle.afs_law.specs.Past.{CalledSince, HasCode, IsCall, lines_of, onto, running, IsUnheard, called_key, answered_key, Ran}
+use Rattle.afs_law.specs.Past.{IsUpTo, CalledSince, HasCode, IsCall, lines_of, onto, running, IsUnheard, called_key, answered_key, Ran}
 use Rattle.afs_rows.specs.Runs.{message_at, Leads, start, Input, Entry, Cell, RunsTo, Host, first_lasting, first_stored, volumes_at}
 use Rattle.afs_rows.specs.ServerRow.{Change, is_client, lasting_after, lasting_started, record_of, serves, runs, refuses, not_served, whole, is_client, no_room, key_of, made, versioned}
 use Rattle.afs_rows.specs.States.{CacheEntry, Seat, Lasting, durable_of, volume_in, ServerState, BackCall}
@@ -70,10 +70,6 @@ pub record IsHeld (id : ℕ) (volumes : Table Stored) (past : List Entry) : Type
 
 abbrev pub VolumesAreTold : Type 0
 VolumesAreTold = (s : Script) (history : List Entry) (end : Cell) → IsOneServer s → RunsTo history s end → (id : ℕ) → IsHeld id (end.hosts 1).state.lasting.volumes (past_of (set_up s ∷ []) history)
-
--- a pair of epoch and number is not above another
-abbrev pub IsUpTo : ℕ → ℕ → ℕ → ℕ → Type 0
-IsUpTo epoch number d m = (epoch < d) ⊎ ((epoch ≡ d) × (number ≤ m))
 
 abbrev pub IsKnownTo : ClientState → Head → Type 0
 IsKnownTo c head = IsUpTo head.epoch head.number c.epoch c.last

@@ -19,7 +19,7 @@ use Rattle.afs_rows.specs.Going.{Going, Need, answers, asks_for, next, asked, gi
 use Rattle.afs_law.specs.Grants.{is_promised, read_reply, GrantOf, since, until, IsWithdrawn, IsDropped}
 use Rattle.afs_law.specs.Ideal.{last_version, Unless, set_up, IsLast, WasLast, HasBeen, HasVersion, Accepts, clock_of, user_of, seen, change_in, change_key, call_under, volume_after}
 use Rattle.afs_history.specs.declared.lines.Line.{Line}
-use Rattle.afs_law.specs.Past.{is_of_act, AreWithin, lines_of, sent_of, given_message, answered_key, code_told, IsReply, running, has_begun, has_given, Called, CalledSince, IsCallUnder, IsUnheard, Ran, server_boot}
+use Rattle.afs_law.specs.Past.{IsToCome, is_of_act, AreWithin, lines_of, sent_of, given_message, answered_key, code_told, IsReply, running, has_begun, has_given, Called, CalledSince, IsCallUnder, Ran, server_boot}
 use Rattle.afs_rows.specs.Runs.{Entry}
 use Rattle.afs_history.specs.declared.scripts.Script.{Script}
 use Rattle.afs_num.specs.declared.histories.Actor.{Actor}
@@ -152,12 +152,13 @@ abbrev pub AreFailed : Node → List Entry → Type 0
 AreFailed s [] = ⊤
 AreFailed s (e ∷ past) = (e.actor ≡ actors.Node s → e.lines ≡ lines.Fault s ∷ []) × AreFailed s past
 
--- this entry was given a call of the key to the server and to the boot in which that is, the first in that boot
+-- this entry was given a call of the key to the server and to the boot in which that is, the first in that boot, and before any
+-- later call of its node
 pub record RunsHere (server : Node) (k : Key) (past : List Entry) (own : List Line) : Type 0 where
   pub boot : ℕ
   pub up : server_boot server (lines_of past) ≡ Some boot
   pub given : IsCallUnder server k boot (given_message own (sent_of past))
-  pub first : IsUnheard server k boot past
+  pub first : IsToCome server k boot past
 
 -- the server stopped in the entry that was given it; and this one is the restart that finds what that step left, which it tells
 -- first
