@@ -376,11 +376,11 @@ called_one n k user call S (e ∷ past) node (inr x) h = called_one n k user cal
 
 -- the message of a call that the client sends now
 pub own_call : {s : Script} → (fl : ℕ → Ghost) (c : Cell) (past : List Entry) (n : ℕ) (floor : Ghost) (x : ClientState) (act : Going) (ls : List Line) → boot_of the_server x.boots ≤ c.server.lasting.boot → IsClient s n x → x.running ≡ Some act → running s (Client n) (onto (lines_of past) ls) ≡ Some act
-    → call_under (called_key (call_head (Client n) x act)) (sent_of past ++ call_message (Client n) x act ∷ []) ≡ Some (x.user, call_of x act) → AreDropped (Client n) (fids_of_gifts x.gifts) (onto (lines_of past) ls) → Fresh s c n (views_after fl c n floor x) (step_entry n ls (call_message (Client n) x act ∷ []) ∷ past) (call_message (Client n) x act ∷ [])
-own_call {s} fl c past n floor x act ls le kind runs at one dropped =
+    → call_under (called_key (call_head (Client n) x act)) (sent_of past ++ call_message (Client n) x act ∷ []) ≡ Some (x.user, call_of x act) → AreDropped (Client n) (fids_of_gifts x.gifts) (onto (lines_of past) ls) → is_late (Client n) (called_key (call_head (Client n) x act)) (step_entry n ls (call_message (Client n) x act ∷ []) ∷ past) ≡ true → Fresh s c n (views_after fl c n floor x) (step_entry n ls (call_message (Client n) x act ∷ []) ∷ past) (call_message (Client n) x act ∷ [])
+own_call {s} fl c past n floor x act ls le kind runs at one dropped late =
     let to : x.callee ≡ the_server = kind.callee act runs in
     record {
-      good = ((call_good _ (call_head (Client n) x act) x.user (call_of x act), own_gift act x.gifts (call_head (Client n) x act) x.user (onto (lines_of past) ls) dropped), tt);
+      good = (record { sender = refl; reply = call_good _ (call_head (Client n) x act) x.user (call_of x act); gift = own_gift act x.gifts (call_head (Client n) x act) x.user (onto (lines_of past) ls) dropped; key = late }, tt);
       calls = (tt, tt);
       dones = (tt, tt);
       news = record {
@@ -533,7 +533,7 @@ asks s c past n gs act l h given begun gave spared going good p q r none shut at
       own = λ b y z w. absurd (next_not _ _ _ _ f.behind z w);
       safe = λ q above. safe_over call c.clock (c.clients n).epoch (c.clients n).last (c.clients n).epoch ((c.clients n).last + 1) (c.clients n).running (Some act) (c.clients n).cache (IsAged (view h.floors c n) head) (IsAged v head) head shut (λ y. (y.0, λ b z w u. next_not _ _ _ _ f.behind w u)) (f.safe q above);
     })
-    over (own_call h.floors c past n g x act (l ∷ []) d.known kind refl at (new_one s c past n x act h refl refl) (all_dropped_onto (Client n) (fids_of_gifts gs) (l ∷ []) (lines_of past) begun (λ f. (q f).fetched) gave)) (λ a x z. inr (record { act = act; runs = went z; read = shut act (went z) })) refl (tried_new n _ _ refl)
+    over (own_call h.floors c past n g x act (l ∷ []) d.known kind refl at (new_one s c past n x act h refl refl) (all_dropped_onto (Client n) (fids_of_gifts gs) (l ∷ []) (lines_of past) begun (λ f. (q f).fetched) gave) (new_late s c past n x act e h refl refl)) (λ a x z. inr (record { act = act; runs = went z; read = shut act (went z) })) refl (tried_new n _ _ refl)
 
 pub own_begun : (n : ℕ) (act : Going) (o : Option Going) → cond (same_node (Client n) (Client n)) (Some act) o ≡ Some act
 own_begun n act o = rw (same_node-refl (Client n)) refl

@@ -327,7 +327,7 @@ gives_some s c past n act fs gs h none given dropped by =
       safe = λ q above. safe_over call c.clock x.epoch x.last x.epoch (x.last + 1) x.running (Some a) cache (IsAged (view h.floors c n) head) (IsAged v head) head idle (λ z. (z.0, λ b k u r. next_not _ _ _ _ f.behind u r))
           (safe_cache call c.clock x.epoch x.last x.running x.cache cache (IsAged (view h.floors c n) head) head (λ f z u found lasts. z u (left_was s c past n h f u found) lasts) (f.safe q above));
     })
-    over (own_call h.floors c past n g y a ls d.known kind refl at (new_one s c past n y a h refl refl) dropped) (λ b z k. begun_not n _ _ k) refl (tried_new n _ _ refl)
+    over (own_call h.floors c past n g y a ls d.known kind refl at (new_one s c past n y a h refl refl) dropped (new_late s c past n y a e h refl refl)) (λ b z k. begun_not n _ _ k) refl (tried_new n _ _ refl)
 
 -- what is given back is dropped in that entry
 dropped_here : (n : ℕ) (es : List CacheEntry) (f : Fid) (o : List Line) → HasDropped (Client n) f o → HasDropped (Client n) f (onto o (drops_of n (map (λ (e : CacheEntry). e.fid) es)))

@@ -179,7 +179,7 @@ quiet s c past armed p m t h up at dull notes good turns loads =
     let e : Entry = told_entry p t.lines ms in
     let k : Skips t.lines = skips t.lines notes in
     let rest : Rests s e past = told_rests s p t.lines ms past k in
-    let pump : Pumps c.server.lasting.boot c.server.seats (seats_of c) c.clock c.sent (e ∷ past) t = let l = loads e refl in pumps c.server.lasting.boot c.server.seats (seats_of c) c.clock c.sent e past t refl (k.clock _ ∙ h.clock) l.backed l.sends (k.boot _ ∙ up_boots s c past h up) in
+    let pump : Pumps c.server.lasting.boot c.server.seats (seats_of c) c.clock c.sent (e ∷ past) t = let l = loads e refl in pumps c.server.lasting.boot c.server.seats (seats_of c) c.clock c.sent e past t refl refl (k.clock _ ∙ h.clock) l.backed l.sends (k.boot _ ∙ up_boots s c past h up) in
     record {
       good = (refl, good);
       replies = pump.good;
@@ -199,7 +199,7 @@ acts_alone s c past armed t h up notes good turns loads =
     let e : Entry = noted_entry t.lines ms in
     let k : Skips t.lines = skips t.lines notes in
     let rest : Rests s e past = noted_rests s t.lines ms past k in
-    let pump : Pumps c.server.lasting.boot c.server.seats (seats_of c) c.clock c.sent (e ∷ past) t = let l = loads e refl in pumps c.server.lasting.boot c.server.seats (seats_of c) c.clock c.sent e past t refl (k.clock _ ∙ h.clock) l.backed l.sends (k.boot _ ∙ up_boots s c past h up) in
+    let pump : Pumps c.server.lasting.boot c.server.seats (seats_of c) c.clock c.sent (e ∷ past) t = let l = loads e refl in pumps c.server.lasting.boot c.server.seats (seats_of c) c.clock c.sent e past t refl refl (k.clock _ ∙ h.clock) l.backed l.sends (k.boot _ ∙ up_boots s c past h up) in
     record {
       good = good;
       replies = pump.good;
@@ -262,7 +262,7 @@ renewed_goes s c past armed p n m k true H up at j is =
     (λ x over held. record { notes = tt; sent = news_break _ _ _ c.server.lasting.boot n m.head.boot k ((up_backed s c past H up).outs refl n k is).client; outs = tt; held = held })
     (λ x z. let old = still_backed b c.server.lasting.boot c.server.seats (seats_of c) c.clock c.sent x past (given_plain p x _ z) (up_backed s c past H up) in record {
       backed = none_loaded None (record b { known = put_at n m.head.boot b.known }) c.server.lasting.boot c.server.seats (seats_of c) c.clock c.sent (x ∷ past) (known_backed b (put_at n m.head.boot b.known) c.server.lasting.boot c.server.seats (seats_of c) c.clock c.sent (x ∷ past) old);
-      sends = record { good = break_good (x ∷ past) c.server.lasting.boot n m.head.boot k; calls = resent b c.server.lasting.boot c.server.seats (seats_of c) c.clock c.sent (x ∷ past) (x ∷ past) n m.head.boot k b.calls old is (λ y w. ap (λ (u : BackCall). u.breaks) (some_of y k (sym w ∙ is))); dones = (tt, tt) };
+      sends = record { good = break_good (x ∷ past) c.server.lasting.boot n m.head.boot k (ap (λ (y : Entry). y.actor) z); calls = resent b c.server.lasting.boot c.server.seats (seats_of c) c.clock c.sent (x ∷ past) (x ∷ past) n m.head.boot k b.calls old is (λ y w. ap (λ (u : BackCall). u.breaks) (some_of y k (sym w ∙ is))); dones = (tt, tt) };
     })
 
 pub renews_goes : (s : Script) (c : Cell) (past : List Entry) (armed : Armed) (p : ℕ) (m : Message) (o : Option BackCall) → (H : Holds s c past) → c.down ≡ None → message_at c.sent p ≡ Some m → Dull c.server.seats c.server.lasting.boot m → c.server.backs.calls m.head.from ≡ o
@@ -690,7 +690,7 @@ refuses_goes s c past armed p n h user call code H up at w nz result =
     let t : Turn = turn_for the_server c.server c.clock (expired c.clock c.server.backs) (refuses (client_head n h) code) in
     let ms : List Message = (pumped the_server c.server.lasting.boot t).sent in
     let e : Entry = record { actor = actors.Node the_server; lines = lines.Given p ∷ []; sent = ms; volumes = [] } in
-    let pump : Pumps c.server.lasting.boot (seats_after c n h r) (seats_of c) c.clock c.sent (e ∷ past) t = pumps c.server.lasting.boot (seats_after c n h r) (seats_of c) c.clock c.sent e past t refl H.clock (run_backed s c past n h user call x e (expired c.clock c.server.backs).lists.promises H up w (λ y. y) refl refl refl (granted_over e past (expired c.clock c.server.backs).lists.promises refl ((up_backed s c past H up).granted refl)) ((up_backed s c past H up).clients refl).promised (promised_over None (expired c.clock c.server.backs).lists.promises c.clock c.clock e past refl (le_refl _) (up_backed s c past H up).promised)) (record { good = tt; calls = tt; dones = tt }) (up_boots s c past H up) in
+    let pump : Pumps c.server.lasting.boot (seats_after c n h r) (seats_of c) c.clock c.sent (e ∷ past) t = pumps c.server.lasting.boot (seats_after c n h r) (seats_of c) c.clock c.sent e past t refl refl H.clock (run_backed s c past n h user call x e (expired c.clock c.server.backs).lists.promises H up w (λ y. y) refl refl refl (granted_over e past (expired c.clock c.server.backs).lists.promises refl ((up_backed s c past H up).granted refl)) ((up_backed s c past H up).clients refl).promised (promised_over None (expired c.clock c.server.backs).lists.promises c.clock c.clock e past refl (le_refl _) (up_backed s c past H up).promised)) (record { good = tt; calls = tt; dones = tt }) (up_boots s c past H up) in
     record {
       good = (refl, tt);
       holds = serves false s (Some c.server.lasting.boot) c past n h user call x e (stock c.server) (pumped the_server c.server.lasting.boot t).backs None armed H w
@@ -1013,7 +1013,7 @@ shows_by s c past armed p n h user call r H up at w is code done =
     ap (λ (o : Option Message). returned_in the_server e o past) (at_told s c past p _ H at) ∙ (ap (λ (b : Bool). returned_by the_server b (client_head n h) (carried.Call user (ask.File call))) (and_true _ _ first answered)
     ∙ ap (λ (gs : List Fid). drops_of (Client n) gs) (sym (gives_up_as c call r is))) in
     let given : Promised None (without_promises (Client n) r.given_up ps) c.clock (before_own e past) = subst (λ (ds : List Line). Promised None (without_promises (Client n) r.given_up ps) c.clock (onto (lines_at the_server past) ds)) (sym gave) (gone_promised (Client n) c.clock r.given_up (lines_at the_server past) ps B.promised) in
-    let pump : Pumps c.server.lasting.boot (seats_after c n h m) (seats_of c) c.clock c.sent (e ∷ past) turn = pumps c.server.lasting.boot (seats_after c n h m) (seats_of c) c.clock c.sent e past turn refl (k.clock (lines.Given p ∷ lines_of past) ∙ H.clock)
+    let pump : Pumps c.server.lasting.boot (seats_after c n h m) (seats_of c) c.clock c.sent (e ∷ past) turn = pumps c.server.lasting.boot (seats_after c n h m) (seats_of c) c.clock c.sent e past turn refl refl (k.clock (lines.Given p ∷ lines_of past) ∙ H.clock)
     (run_backed s c past n h user call z e turn.backs.lists.promises H up w (λ y. y) (granted_all is_up (Client n) t fs (λ f i. refl)) (granted_all is_oweless (Client n) t fs (λ f i. refl)) (granted_all is_unchanging (Client n) t fs (λ f i. refl))
     (all_granted (Client n) t fs (lines.Given p ∷ lines_of past) (without_promises (Client n) r.given_up ps) (gone_granted (Client n) r.given_up (lines_of past) ps (B.granted refl)))
     (granted_to_client t n fs (without_promises (Client n) r.given_up ps) (gone_to_clients (Client n) r.given_up ps (B.clients refl).promised))

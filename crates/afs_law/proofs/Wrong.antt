@@ -31,7 +31,7 @@ use Rattle.afs_rows.specs.Runs.{Entry, comes_up, steady}
 use Rattle.afs_xdr.specs.Words.{opaque, pad, word, opaque_at, word_at, counted_at}
 use Rattle.afs_law.specs.Ideal.{set_up}
 use Rattle.afs_law.specs.Once.{past_of}
-use Rattle.afs_law.specs.Past.{IsToCome, called_key, AreWithin, has_begun, IsUnheard, IsCallUnder, Ran, answered_key, code_told, given_message, lines_of, sent_of}
+use Rattle.afs_law.specs.Past.{CalledSince, IsToCome, called_key, AreWithin, has_begun, IsUnheard, IsCallUnder, Ran, answered_key, code_told, given_message, lines_of, sent_of}
 use Rattle.afs_num.specs.declared.calls.FsCall.{FsCall}
 use Rattle.afs_num.specs.declared.calls.FsCall.TheVariants as calls
 use Rattle.afs_num.specs.declared.histories.Actor.TheVariants as actors
@@ -119,7 +119,7 @@ shown_against_a_refusal h =
     elim g.cause [
       | inl x ↦ subst (λ (a : Going). EndsAct (next a)) (sym (some_of _ _ g.runs)) (x.ends refl)
       | inr y ↦ elim y [
-        | inl x ↦ elim x.last [ inl z ↦ let e : false ≡ true = z.0 in absurd cc | inr u ↦ let e : pos 102 ≡ pos 0 = of_reply _ _ u.reply _ refl u.by refl u.told in absurd cc ]
+        | inl x ↦ elim x.last [ inl z ↦ let e : false ≡ true = z.0 in absurd cc | inr u ↦ let e : pos 102 ≡ pos 0 = of_reply _ _ u.0.reply _ refl u.0.by refl u.0.told in absurd cc ]
         | inr z ↦ elim z [
           | inl x ↦ let e : pos 0 ≡ negsuc 0 = x.is in absurd cc
           | inr x ↦ given_back _ (ap next (some_of _ _ g.runs) ∙ x.by)
@@ -138,7 +138,7 @@ begun_with_a_reply h =
     elim g.cause [
       | inl x ↦ let e : true ≡ false = x.before in absurd cc
       | inr y ↦ elim y [
-        | inl x ↦ elim x.last [ inl z ↦ let e : true ≡ false = z.1 in absurd cc | inr u ↦ let e : true ≡ false = u.before in absurd cc ]
+        | inl x ↦ elim x.last [ inl z ↦ let e : true ≡ false = z.1 in absurd cc | inr u ↦ let e : true ≡ false = u.0.before in absurd cc ]
         | inr z ↦ elim z [
           | inl x ↦ let e : pos 0 ≡ negsuc 0 = x.is in absurd cc
           | inr x ↦ given_back _ (ap next (some_of _ _ g.runs) ∙ x.by)
@@ -238,7 +238,7 @@ stops_there e = record e { lines = e.lines ++ lines.Crash (Server 1) ∷ [] }
 
 answered_when_down : Legal (alters 1 stops_there (entries (start (script 1)) store_front)) (script 1) → ⊥
 unfolding moved begin_row client_row server_row back_timeout_row wake_row start_row record_bytes head_form volume_form spelled opaque pad word laid_at led name_ok directory_bytes name_bytes rights_of image acl_text digits entry_text directory_of names_at opaque_at word_at counted_at whole_at count_at name_at spelled_at bytes_below
-answered_when_down h = (h.1.0.0.1.0.0 (refl, tt) refl 1 refl).1 refl
+answered_when_down h = (h.1.0.0.1.0.reply (refl, tt) refl 1 refl).1 refl
 
 -- a server that is down runs a call
 abbrev after_a_stop : List Entry → List Entry
@@ -375,6 +375,37 @@ no_room_but_stored h =
       ]
     ]
 
+-- ---- what is fetched is of the running act, and answers it in the entry that reads it
+
+-- a client shows a file by the reply to an older act, while it opens a directory
+abbrev old_reply_front : List Input
+old_reply_front = begins 1 (acts.Open (operands.Fid file)) ∷ gives 1 steady ∷ gives 2 steady ∷ begins 1 (acts.Open (operands.Fid root)) ∷ gives 2 steady ∷ []
+
+read_of_an_old_reply : Legal (alters 4 (instead (lines.Given 2 ∷ shown Fetched ∷ [])) (entries (start (script 1)) old_reply_front)) (script 1) → ⊥
+unfolding moved begin_row client_row server_row back_timeout_row wake_row start_row record_bytes head_form volume_form spelled opaque pad word laid_at led name_ok directory_bytes name_bytes rights_of image acl_text digits entry_text directory_of names_at opaque_at word_at counted_at whole_at count_at name_at spelled_at bytes_below
+read_of_an_old_reply h =
+    let u = h.1.1.1.1.0.0.0.1.0.1.used refl in
+    elim (subst (λ (m : Message). CalledSince (answered_key m.head) (codes "guest") u.call (past_of (set_up (script 1) ∷ []) (entries (start (script 1)) (take 4 old_reply_front)))) (sym (some_of _ _ u.by)) u.called) [
+      | inl x ↦ elim x.1 [ inl y ↦ let e : 2 ≡ 1 = ap (λ (k : Key). k.number) y.0 in absurd (omega (arith, e)) | inr y ↦ y ]
+      | inr x ↦ let e : true ≡ false = x.0 in absurd cc
+    ]
+
+-- a client opens a file, and tells so only when the reply comes again
+answered_behind_its_read : Legal (alters 2 (instead (lines.Given 2 ∷ shown Fetched ∷ [])) (alters 3 (instead (lines.Given 2 ∷ answer 1 ∷ [])) (entries (start (script 1)) (begins 1 (acts.Open (operands.Fid file)) ∷ gives 1 steady ∷ gives 2 steady ∷ gives 2 steady ∷ [])))) (script 1) → ⊥
+unfolding moved begin_row client_row server_row back_timeout_row wake_row start_row record_bytes head_form volume_form spelled opaque pad word laid_at led name_ok directory_bytes name_bytes rights_of image acl_text digits entry_text directory_of names_at opaque_at word_at counted_at whole_at count_at name_at spelled_at bytes_below
+answered_behind_its_read h =
+    let g = h.1.1.1.0.0.0.1.0.1 in
+    elim g.cause [
+      | inl x ↦ subst (λ (a : Going). EndsAct (next a)) (sym (some_of _ _ g.runs)) (x.ends refl)
+      | inr y ↦ elim y [
+        | inl x ↦ elim x.last [ inl z ↦ let e : false ≡ true = z.0 in absurd cc | inr u ↦ let e : false ≡ true = u.1 in absurd cc ]
+        | inr z ↦ elim z [
+          | inl x ↦ let e : pos 0 ≡ negsuc 0 = x.is in absurd cc
+          | inr x ↦ let e : false ≡ true = x.begun in absurd cc
+        ]
+      ]
+    ]
+
 -- ---- a server runs a dead call behind a later one of its client, in one boot, and refuses it
 
 abbrev refusal_of_one : Message
@@ -422,33 +453,26 @@ ran_behind_a_later_one h =
       ]
     ]
 
--- ---- the second of two acts that ask the same is answered by the reply to the first, under one key for both
+-- ---- the second of two acts that ask the same sends its call under the key of the first, whose reply would answer it
 
 abbrev twice_front : List Input
-twice_front = begins 1 (acts.Close (operands.Fid file) (Hex (codes "def"))) ∷ gives 1 steady ∷ gives 2 steady ∷ begins 1 (acts.Close (operands.Fid file) (Hex (codes "def"))) ∷ gives 2 steady ∷ []
+twice_front = begins 1 (acts.Close (operands.Fid file) (Hex (codes "def"))) ∷ gives 1 steady ∷ gives 2 steady ∷ begins 1 (acts.Close (operands.Fid file) (Hex (codes "def"))) ∷ []
 
 abbrev under_the_old_key : Entry → Entry
 under_the_old_key e = record e { sent = map (λ (m : Message). record m { head = record m.head { number = 1 } }) e.sent }
 
--- no act begins behind the entry that ran the call
-begins_behind : (n : Node) (e : Entry) (past newer : List Entry) (at : Entry) (older : List Entry) → has_begun n e.lines ≡ true → e ∷ past ≡ newer ++ (at ∷ older) → AreWithin n (newer ++ at ∷ []) → ⊥
-begins_behind n e past [] at older begun split w = let one : e ≡ at = cc in let no_ : true ≡ false = sym begun ∙ (ap (λ (x : Entry). has_begun n x.lines) one ∙ w.0) in absurd cc
-begins_behind n e past (x ∷ newer) at older begun split w = let one : e ≡ x = cc in let no_ : true ≡ false = sym begun ∙ (ap (λ (y : Entry). has_begun n y.lines) one ∙ w.0) in absurd cc
-
-answered_by_an_older_act : Legal (alters 3 under_the_old_key (alters 4 (instead (lines.Given 2 ∷ answer 1 ∷ [])) (entries (start (script 1)) twice_front))) (script 1) → ⊥
+asked_under_an_old_key : Legal (alters 3 under_the_old_key (entries (start (script 1)) twice_front)) (script 1) → ⊥
 unfolding moved begin_row client_row server_row back_timeout_row wake_row start_row record_bytes head_form volume_form spelled opaque pad word laid_at led name_ok directory_bytes name_bytes rights_of image acl_text digits entry_text directory_of names_at opaque_at word_at counted_at whole_at count_at name_at spelled_at bytes_below
-answered_by_an_older_act h =
-    let g = h.1.1.1.1.0.0.0.1.0.1 in
-    elim g.cause [
-      | inl x ↦ begins_behind (Client 1) _ _ _ _ _ refl x.cause.ran.split x.lately
-      | inr y ↦ elim y [
-        | inl x ↦ no_answer_call _ x.number (ap next (some_of _ _ g.runs) ∙ x.by)
-        | inr z ↦ elim z [
-          | inl x ↦ let e : pos 0 ≡ negsuc 0 = x.is in absurd cc
-          | inr x ↦ let e : true ≡ false = sym x.begun in absurd cc
-        ]
-      ]
-    ]
+asked_under_an_old_key h = let e : false ≡ true = h.1.1.1.0.0.1.0.key in absurd cc
+
+-- ---- a client sends a call in another's name
+
+abbrev in_the_name_of_two : Entry → Entry
+in_the_name_of_two e = record e { sent = map (λ (m : Message). record m { head = record m.head { from = Client 2 } }) e.sent }
+
+sent_in_another_name : Legal (alters 0 in_the_name_of_two (entries (start (script 2)) (begins 1 (acts.Open (operands.Fid file)) ∷ []))) (script 2) → ⊥
+unfolding moved begin_row client_row server_row back_timeout_row wake_row start_row record_bytes head_form volume_form spelled opaque pad word laid_at led name_ok directory_bytes name_bytes rights_of image acl_text digits entry_text directory_of names_at opaque_at word_at counted_at whole_at count_at name_at spelled_at bytes_below
+sent_in_another_name h = let e : actors.Node (Client 1) ≡ actors.Node (Client 2) = h.0.0.1.0.sender in absurd cc
 
 -- ---- a call is dead at its third timeout
 
@@ -534,7 +558,7 @@ read_when_gone h = h.1.1.1.1.1.1.1.0.0.0.1.0.1.whole.0
 -- a client tells its server that it gives a promise back, and goes on holding what it was promised
 gave_back_and_kept : Legal (alters 3 (λ e. record e { lines = lines.Begin (Client 1) acts.GiveUp ∷ [] }) (entries (start (script 1)) (begins 1 (acts.Open (operands.Fid file)) ∷ gives 1 steady ∷ gives 2 steady ∷ begins 1 acts.GiveUp ∷ []))) (script 1) → ⊥
 unfolding moved begin_row client_row server_row back_timeout_row wake_row start_row record_bytes head_form volume_form spelled opaque pad word laid_at led name_ok directory_bytes name_bytes rights_of image acl_text digits entry_text directory_of names_at opaque_at word_at counted_at whole_at count_at name_at spelled_at bytes_below
-gave_back_and_kept h = h.1.1.1.0.0.1.0.1.0
+gave_back_and_kept h = h.1.1.1.0.0.1.0.gift.0
 
 -- a client drops a file, fetches it anew, and gives back what it was promised by that: it would be owed nothing, and show it for long
 abbrev open_front : List Input
@@ -545,7 +569,7 @@ gift = record { head = record { half = halves.Call; from = Client 1; to = Server
 
 gave_back_what_is_new : Legal (alters 0 (λ e. record e { lines = begun 1 ∷ lines.Drop (Client 1) file ∷ [] }) (alters 2 (λ e. record e { lines = lines.Given 2 ∷ shown Fetched ∷ []; sent = gift ∷ [] }) (entries (start (script 1)) open_front))) (script 1) → ⊥
 unfolding moved begin_row client_row server_row back_timeout_row wake_row start_row record_bytes head_form volume_form spelled opaque pad word laid_at led name_ok directory_bytes name_bytes rights_of image acl_text digits entry_text directory_of names_at opaque_at word_at counted_at whole_at count_at name_at spelled_at bytes_below
-gave_back_what_is_new h = h.1.1.0.0.1.0.1.0
+gave_back_what_is_new h = h.1.1.0.0.1.0.gift.0
 
 -- ---- an entry is given one message
 
